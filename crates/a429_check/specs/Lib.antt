@@ -1,0 +1,2 @@
+pub mod RunFault
+pub mod WordLines

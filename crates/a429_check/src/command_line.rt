@@ -1,0 +1,51 @@
+//! Reads the words after `a429`.
+
+use crate::fault::RunFault;
+use clap::error::ErrorKind;
+use clap::{Arg, ArgAction, Command as Parser};
+use commands::Command;
+use std::alloc::{AllocError, Global};
+
+pub mod commands;
+
+/// Reads the words after `a429`. The fault is `Memory` for want of memory, and else `Usage`: no
+/// command or an unknown one, too few or too many words, an option, or a wish for help.
+pub fn command<'a>(alloc: Global, words: &'a [String]) -> Result<Command<'a>, RunFault> {
+    let matches = match parser(alloc)?.try_get_matches_from(words) {
+        Ok(matches) => matches,
+        Err(error) if error.kind() == ErrorKind::OutOfMemory => return Err(RunFault::Memory),
+        Err(_) => return Err(RunFault::Usage),
+    };
+    match matches.subcommand() {
+        Some(("word", given)) => match given.get_str("HEX") {
+            Some(hex) => Ok(Command::Word(hex)),
+            None => Err(RunFault::Usage),
+        },
+        _ => Err(RunFault::Usage),
+    }
+}
+
+// The commands and the words that each takes.
+fn parser<'a>(alloc: Global) -> Result<Parser<'a>, AllocError> {
+    Parser::new(alloc, "a429")
+        .no_binary_name(true)
+        .subcommand_required(true)
+        .subcommand(with_words(alloc, "word", &["HEX"])?)
+}
+
+// A command that takes these words, each of them once.
+fn with_words<'a>(
+    alloc: Global,
+    name: &'a str,
+    words: &[&'a str],
+) -> Result<Parser<'a>, AllocError> {
+    let mut parser = Parser::new(alloc, name);
+    for word in words {
+        let arg = Arg::new(alloc, *word).required(true).action(ArgAction::Set);
+        parser = parser.arg(arg)?;
+    }
+    Ok(parser)
+}
+
+#[cfg(test)]
+mod tests;

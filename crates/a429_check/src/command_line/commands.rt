@@ -1,0 +1,8 @@
+//! The commands.
+
+/// A command of the program, with its words.
+#[derive(Clone, Copy, Debug, PartialEq, Eq)]
+pub enum Command<'a> {
+    /// `word HEX`: shows what a word holds.
+    Word(&'a str),
+}

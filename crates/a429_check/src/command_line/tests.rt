@@ -1,0 +1,57 @@
+//! Which words are a command's.
+
+use crate::{Command, RunFault, command};
+use std::alloc::{AllocError, Global};
+use std::test::Fail;
+
+fn strings(alloc: Global, words: &[&str]) -> Result<Vec<String>, AllocError> {
+    let mut all = Vec::new(alloc);
+    for word in words {
+        all.push(String::from_str(alloc, word)?)?;
+    }
+    Ok(all)
+}
+
+#[test]
+fn a_word_is_read(rt: HostRuntime) -> Result<(), Fail> {
+    let alloc = rt.alloc();
+    for hex in ["E13880C1", "help", "", "-"] {
+        let words = strings(alloc, &["word", hex])?;
+        assert!(rt;
+            command(alloc, words.as_slice()) == Ok(Command::Word(hex)),
+            "{hex}"
+        );
+    }
+    let after_options = strings(alloc, &["word", "--", "-5"])?;
+    assert!(rt; command(alloc, after_options.as_slice()) == Ok(Command::Word("-5")));
+    Ok(())
+}
+
+#[test]
+fn other_words_are_usage(rt: HostRuntime) -> Result<(), Fail> {
+    let alloc = rt.alloc();
+    let cases: [&[&str]; 14] = [
+        &[],
+        &[""],
+        &["word"],
+        &["word", "E13880C1", "E13880C1"],
+        &["wor", "E13880C1"],
+        &["Word", "E13880C1"],
+        &["E13880C1"],
+        &["help"],
+        &["help", "word"],
+        &["--help"],
+        &["-h"],
+        &["--version"],
+        &["word", "--help"],
+        &["word", "-5"],
+    ];
+    for case in cases {
+        let words = strings(alloc, case)?;
+        assert!(rt;
+            command(alloc, words.as_slice()) == Err(RunFault::Usage),
+            "{case:?}"
+        );
+    }
+    Ok(())
+}

@@ -1,0 +1,77 @@
+//! `a429 word HEX`: what a word holds, a line for each part.
+
+ghost use Rattle.std.specs.Prelude.{◌≡◌, ◌↔◌, true, false, IsOk, IsErr, IsErrOf, IfOk, OnOk, OnErr};
+ghost use Rattle.std.specs.Str.Parse.{digits_value};
+ghost use Rattle.std.specs.Io.KnownBytes.{Appends};
+ghost use Rattle.a429_word.specs.Tally.{inner_of, has_failed, AppendsPrefix};
+ghost use Rattle.a429_word.specs.Written.{IsHexWord};
+ghost use Rattle.a429_check.specs.WordLines.{line, bits_text, parity_text, word_lines};
+
+use crate::fault::RunFault;
+use a429_word::{Device, Tally, Word, octal};
+use itoa::Buffer;
+use std::io::Write;
+
+/// Writes what the word that `text` names holds, in seven lines, and answers status 0. A text that
+/// is not eight hexadecimal digits is `BadWord`, and then nothing is written.
+pub fn run_word<W: Write>(text: &str, out: &mut Tally<W>) -> Result<u8, RunFault>
+    ensures ok { IsOk result ↔ (IsHexWord text.now × (has_failed out.new ≡ false)) }
+    ensures lines { IfOk result (λ status. (status ≡ 0)
+        × Appends (W.contents (inner_of out.old)) (W.contents (inner_of out.new)) (word_lines (digits_value 16 text.now))) }
+    ensures bad { IsErrOf result RunFault.BadWord ↔ (¬ IsHexWord text.now) }
+    ensures silent { (¬ IsHexWord text.now) → out.new ≡ out.old }
+    ensures device { IsErrOf result RunFault.Device ↔ (IsHexWord text.now × (has_failed out.new ≡ true)) }
+{
+    let Some(word) = Word::parse_hex(text.as_bytes()) else {
+        return Err(RunFault::BadWord);
+    };
+    write_word(word, out)?;
+    Ok(0)
+}
+
+// The seven lines of a word.
+fn write_word<W: Write>(word: Word, out: &mut Tally<W>) -> Result<(), Device>
+    ensures ok { OnOk result (Appends (W.contents (inner_of out.old)) (W.contents (inner_of out.new)) (word_lines word)) }
+    ensures device { IsErr result ↔ (has_failed out.new ≡ true) }
+{
+    let mut bnr = Buffer::new();
+    put_line(out, "word", &word.hex())?;
+    put_line(out, "bits", &bits(word))?;
+    put_line(out, "label", &octal(word.label()))?;
+    put_line(out, "sdi", &[b'0' + word.sdi()])?;
+    put_line(out, "ssm", &[b'0' + word.ssm()])?;
+    put_line(out, "parity", parity(word).as_bytes())?;
+    put_line(out, "bnr", bnr.format(word.bnr_raw(18)).as_bytes())
+}
+
+// The bits from 32 down to 1, a digit each.
+fn bits(word: Word) -> [u8; 32]
+    ensures { result ≡ bits_text word 32 }
+{
+    let mut text = [0; 32];
+    for (i, digit) in text.iter_mut().enumerate() {
+        *digit = b'0' + u8::from(word.bit(32 - i as u8));
+    }
+    text
+}
+
+// Whether the parity is odd, as it is to be.
+fn parity(word: Word) -> &'static str
+    ensures { result.now ≡ parity_text word }
+{
+    if word.parity_ok() { "ok" } else { "bad" }
+}
+
+// A line: a name, a space and a value.
+fn put_line<W: Write>(out: &mut Tally<W>, name: &str, value: &[u8]) -> Result<(), Device>
+    ensures ok { OnOk result (Appends (W.contents (inner_of out.old)) (W.contents (inner_of out.new)) (line name.now value.now)) }
+    ensures device { IsErr result ↔ (has_failed out.new ≡ true) }
+{
+    out.put(name.as_bytes())?;
+    out.put(b" ")?;
+    out.put(value)?;
+    out.put(b"\n")
+}
+
+#[cfg(test)]
+mod tests;

@@ -1,0 +1,69 @@
+//! Why a command gave no answer, how it is told, and the exit status.
+
+ghost use Rattle.std.specs.Prelude.{◌≡◌};
+ghost use Rattle.a429_check.specs.RunFault.{status_of};
+ghost use Rattle.a429_check.specs.declared.fault.RunFault.TheVariants as fault;
+
+use a429_word::{Device, Tally};
+use std::alloc::AllocError;
+use std::io::Write;
+use thiserror::Error;
+
+/// Why a command gave no answer. Its text is the line that is written to standard error.
+#[derive(Clone, Copy, Debug, PartialEq, Eq, Error)]
+pub enum RunFault {
+    /// The word is not eight hexadecimal digits.
+    #[error("bad word")]
+    BadWord,
+    /// A reader or a writer failed, or a file could not be opened.
+    #[error("device")]
+    Device,
+    /// Memory was refused.
+    #[error("memory")]
+    Memory,
+    /// The words name no command, or are not those that the command takes.
+    #[error("usage")]
+    Usage,
+}
+
+impl From<Device> for RunFault {
+    ghost from_gives = { λ _ e. e ≡ fault.Device };
+
+    fn from(_: Device) -> RunFault {
+        RunFault::Device
+    }
+}
+
+impl From<AllocError> for RunFault {
+    ghost from_gives = { λ _ e. e ≡ fault.Memory };
+
+    fn from(_: AllocError) -> RunFault {
+        RunFault::Memory
+    }
+}
+
+impl RunFault {
+    /// The exit status that it ends the program with: 3 for input that is refused, 4 for a device or
+    /// want of memory, 5 for wrong usage.
+    pub fn status(self) -> u8
+        ensures { result ≡ status_of self }
+    {
+        match self {
+            RunFault::BadWord => 3,
+            RunFault::Device | RunFault::Memory => 4,
+            RunFault::Usage => 5,
+        }
+    }
+}
+
+/// Writes the fault's line to `err`, and answers its exit status, whatever the writer answered.
+pub fn report<W: Write>(fault: &RunFault, err: &mut Tally<W>) -> u8
+    ensures { result ≡ status_of fault.now }
+{
+    // Where standard error fails too, the status alone is left to tell the fault.
+    let _ = writeln!(err, "{fault}");
+    fault.status()
+}
+
+#[cfg(test)]
+mod tests;

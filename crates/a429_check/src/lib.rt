@@ -1,0 +1,12 @@
+//! The commands of `a429`: how the words on its command line are read, what each command writes and
+//! answers, and how a fault is reported.
+#![tactic(auto)]
+
+mod command_line;
+mod engines;
+mod fault;
+
+pub use crate::command_line::command;
+pub use crate::command_line::commands::Command;
+pub use crate::engines::word::run_word;
+pub use crate::fault::{RunFault, report};

@@ -1,0 +1,165 @@
+-- A word's bits, and what masks, shifts and folds make of them.
+use Rattle.std.proofs.Common.{◌≡◌, ℕ, zero, suc, ◌+◌, ◌-◌, ◌*◌, ◌/◌, ◌%◌, ◌^◌, ◌<◌, ◌≤◌, refl, sym, ap, ◌∙◌, arith, bit_and, bit_xor, inl, inr, pow-suc, mul-le-mul_right}
+use Rattle.std.specs.Int.{bit_at, reverse_bits_onto}
+use Rattle.std.proofs.lemmas.Nat.{mod-pow-add, shr-shr, and_mask, pow_pos, mod_below}
+use Rattle.std.proofs.lemmas.Bool.{cases_lt}
+use Rattle.std.proofs.lemmas.Nat.Bits.{bit_at_xor, bit_at_cat_low, bit_at_cat_high}
+use Rattle.a429_word.specs.Word.{sum_below, number_of, bit, number_at, label_of, sdi_of, ssm_of, count_of_ones, SameParts}
+
+-- a sum depends on its terms alone
+pub sum_below-same : (k : ℕ) (f g : ℕ → ℕ) → ((j : ℕ) → j < k → f j ≡ g j) → sum_below k f ≡ sum_below k g
+unfolding sum_below
+sum_below-same zero f g e = refl
+sum_below-same (suc k) f g e =
+    let low : sum_below k f ≡ sum_below k g = sum_below-same k f g (λ j h. e j (omega arith)) in
+    let top : f k ≡ g k = e k (omega arith) in
+    omega arith
+
+-- two runs of terms
+sum_below-add : (a b : ℕ) (f : ℕ → ℕ) → sum_below (a + b) f ≡ sum_below a f + sum_below b (λ j. f (a + j))
+unfolding sum_below
+sum_below-add a zero f = let e : a + 0 ≡ a = omega arith in rw e (omega arith)
+sum_below-add a (suc b) f =
+    let e : a + suc b ≡ suc (a + b) = omega arith in
+    let low = sum_below-add a b f in
+    rw e (omega arith)
+
+-- ---- runs of bits
+
+-- a run of bits is a quotient's remainder
+pub number_at-is : (w first count : ℕ) → number_at w (suc first) count ≡ w / 2 ^ first % 2 ^ count
+unfolding sum_below
+number_at-is w first zero = omega arith
+number_at-is w first (suc k) =
+    let low = number_at-is w first k in
+    let place : suc first + k - 1 ≡ first + k = omega arith in
+    let split : w / 2 ^ first % 2 ^ (1 + k) ≡ (w / 2 ^ first / 2 ^ k % 2) * 2 ^ k + w / 2 ^ first % 2 ^ k = mod-pow-add (w / 2 ^ first) 1 k in
+    let one : 1 + k ≡ suc k = omega arith in
+    rw (place, low, ← shr-shr w first k, ← one, split) (omega arith)
+
+pub number_at-lt : (w first count : ℕ) → number_at w (suc first) count < 2 ^ count
+number_at-lt w first count = let p = pow_pos count in rw (number_at-is w first count) (mod_below (w / 2 ^ first) (2 ^ count) p)
+
+-- what a shift and a mask read
+masked : (w first count : ℕ) → bit_and (w / 2 ^ first) (2 ^ count - 1) ≡ number_at w (suc first) count
+masked w first count = and_mask (w / 2 ^ first) count ∙ sym (number_at-is w first count)
+
+pub masked_from : (w from before count : ℕ) → from ≡ suc before → bit_and (w / 2 ^ before) (2 ^ count - 1) ≡ number_at w from count
+masked_from w from before count e = masked w before count ∙ ap (λ f. number_at w f count) (sym e)
+
+-- ---- the small fields
+
+-- the label is the lowest byte, reversed
+label-is : (w : ℕ) → reverse_bits_onto 8 (w % 256) 0 ≡ label_of w
+unfolding sum_below reverse_bits_onto
+label-is w = omega arith
+
+reversed_twice : (n : ℕ) → n < 256 → reverse_bits_onto 8 (reverse_bits_onto 8 n 0) 0 ≡ n
+unfolding reverse_bits_onto
+reversed_twice n h = omega arith
+
+pub label-masked : (w : ℕ) → reverse_bits_onto 8 (bit_and w 255) 0 ≡ label_of w
+label-masked w = ap (λ n. reverse_bits_onto 8 n 0) (and_mask w 8) ∙ label-is w
+
+pub sdi-masked : (w : ℕ) → bit_and (w / 256) 3 ≡ sdi_of w
+sdi-masked w = masked w 8 2
+
+pub ssm-masked : (w : ℕ) → bit_and (w / 536870912) 3 ≡ ssm_of w
+ssm-masked w = masked w 29 2
+
+pub ruleset fields = (label-masked, sdi-masked, ssm-masked)
+
+-- ---- parity
+
+-- the parity of a sum of sums
+sum_below-odd : (k : ℕ) (f g : ℕ → ℕ) → sum_below k (λ j. (f j + g j) % 2) % 2 ≡ (sum_below k f + sum_below k g) % 2
+unfolding sum_below
+sum_below-odd zero f g = refl
+sum_below-odd (suc k) f g = let low = sum_below-odd k f g in omega arith
+
+-- to fold a number's upper half onto its lower keeps the parity
+parity-fold : (k n : ℕ) → sum_below k (bit_at (bit_xor n (n / 2 ^ k))) % 2 ≡ sum_below (k + k) (bit_at n) % 2
+parity-fold k n =
+    let terms = sum_below-same k (bit_at (bit_xor n (n / 2 ^ k))) (λ j. (bit_at n j + bit_at n (k + j)) % 2) (λ j h. bit_at_xor n (n / 2 ^ k) j ∙ rw (shr-shr n k j) refl) in
+    ap (λ s. s % 2) terms ∙ sum_below-odd k (bit_at n) (λ j. bit_at n (k + j)) ∙ ap (λ s. s % 2) (sym (sum_below-add k k (bit_at n)))
+
+-- the parity, folded five times
+pub parity-folded : (n : ℕ) →
+    let a = bit_xor n (n / 65536) in
+    let b = bit_xor a (a / 256) in
+    let c = bit_xor b (b / 16) in
+    let d = bit_xor c (c / 4) in
+    bit_and (bit_xor d (d / 2)) 1 ≡ count_of_ones n % 2
+unfolding sum_below
+parity-folded n =
+    let a = bit_xor n (n / 65536) in
+    let b = bit_xor a (a / 256) in
+    let c = bit_xor b (b / 16) in
+    let d = bit_xor c (c / 4) in
+    let e = bit_xor d (d / 2) in
+    let whole : sum_below 32 (bit_at n) % 2 ≡ count_of_ones n % 2 = ap (λ s. s % 2) (sum_below-same 32 (bit_at n) (λ j. bit n (j + 1)) (λ j h. ap (bit_at n) (omega arith))) in
+    let one : sum_below 1 (bit_at e) % 2 ≡ e % 2 = omega arith in
+    and_mask e 1 ∙ sym one ∙ parity-fold 1 d ∙ parity-fold 2 c ∙ parity-fold 4 b ∙ parity-fold 8 a ∙ parity-fold 16 n ∙ whole
+
+-- ---- numbers and bits
+
+-- k bits make a number below 2 ^ k, which has these bits
+record IsMadeOf (k : ℕ) (f : ℕ → ℕ) (n : ℕ) : Type 0 where
+  within : n < 2 ^ k
+  bits : (i : ℕ) → i < k → bit_at n i ≡ f i
+
+bit_of_one : (b : ℕ) → b ≤ 1 → bit_at b 0 ≡ b
+bit_of_one b h = omega arith
+
+made_of_bits : (k : ℕ) (f : ℕ → ℕ) → ((j : ℕ) → f j ≤ 1) → IsMadeOf k f (sum_below k (λ j. f j * 2 ^ j))
+unfolding sum_below
+made_of_bits zero f h = record { within = omega arith; bits = λ i none. absurd (omega arith) }
+made_of_bits (suc k) f h =
+    let low = made_of_bits k f h in
+    let n = sum_below k (λ j. f j * 2 ^ j) in
+    let below : n < 2 ^ k = low.within in
+    let top : f k ≤ 1 = h k in
+    let turned : n + f k * 2 ^ k ≡ f k * 2 ^ k + n = omega arith in
+    let room : f k * 2 ^ k ≤ 1 * 2 ^ k = mul-le-mul_right (2 ^ k) top in
+    record {
+      within = rw pow-suc (omega arith);
+      bits = λ i inside. rw turned (elim (cases_lt i k) [
+        | inl lt ↦ bit_at_cat_low (f k) k n i lt ∙ low.bits i lt
+        | inr ge ↦
+            let last : i ≡ k = omega arith in
+            let zeroth : i - k ≡ 0 = omega arith in
+            bit_at_cat_high (f k) k n i below ge ∙ ap (bit_at (f k)) zeroth ∙ bit_of_one (f k) top ∙ ap f (sym last)
+      ]);
+    }
+
+-- a number below 2 ^ 32 is the sum of its bits
+pub number_of-bit : (w : ℕ) → w < 2 ^ 32 → number_of (bit w) ≡ w
+number_of-bit w h =
+    let terms = sum_below-same 32 (λ j. bit w (j + 1) * 2 ^ j) (λ j. bit w (1 + j) * 2 ^ j) (λ j _. ap (λ i. bit w i * 2 ^ j) (omega arith)) in
+    let whole : w / 2 ^ 0 % 2 ^ 32 ≡ w = omega arith in
+    terms ∙ number_at-is w 0 32 ∙ whole
+
+pub number_of-lt : (bits : ℕ → ℕ) → ((i : ℕ) → bits i ≤ 1) → number_of bits < 2 ^ 32
+number_of-lt bits h = (made_of_bits 32 (λ j. bits (j + 1)) (λ j. h (j + 1))).within
+
+pub bit-number_of : (bits : ℕ → ℕ) → ((i : ℕ) → bits i ≤ 1) → (i : ℕ) → 1 ≤ i → i ≤ 32 → bit (number_of bits) i ≡ bits i
+bit-number_of bits h i first last =
+    let place : i - 1 + 1 ≡ i = omega arith in
+    (made_of_bits 32 (λ j. bits (j + 1)) (λ j. h (j + 1))).bits (i - 1) (omega arith) ∙ ap bits place
+
+low_byte : (w : ℕ) → w % 256 ≡ reverse_bits_onto 8 (label_of w) 0
+low_byte w = let small : w % 256 < 256 = omega arith in sym (ap (λ n. reverse_bits_onto 8 n 0) (sym (label-is w)) ∙ reversed_twice (w % 256) small)
+
+from_fields : (v w : ℕ) → v < 4294967296 → w < 4294967296 → v % 256 ≡ w % 256 → v / 256 % 4 ≡ w / 256 % 4 → v / 1024 % 524288 ≡ w / 1024 % 524288
+    → v / 536870912 % 4 ≡ w / 536870912 % 4 → v / 2147483648 % 2 ≡ w / 2147483648 % 2 → v ≡ w
+from_fields v w hv hw label sdi field ssm top = omega arith
+
+-- words that are alike in each part are one
+pub same_from_parts : (v w : ℕ) → v < 2 ^ 32 → w < 2 ^ 32 → SameParts v w → v ≡ w
+same_from_parts v w hv hw same =
+    let label : v % 256 ≡ w % 256 = low_byte v ∙ ap (λ n. reverse_bits_onto 8 n 0) same.label ∙ sym (low_byte w) in
+    let sdi : v / 256 % 4 ≡ w / 256 % 4 = sym (number_at-is v 8 2) ∙ same.sdi ∙ number_at-is w 8 2 in
+    let field : v / 1024 % 524288 ≡ w / 1024 % 524288 = sym (number_at-is v 10 19) ∙ same.field ∙ number_at-is w 10 19 in
+    let ssm : v / 536870912 % 4 ≡ w / 536870912 % 4 = sym (number_at-is v 29 2) ∙ same.ssm ∙ number_at-is w 29 2 in
+    let top : v / 2147483648 % 2 ≡ w / 2147483648 % 2 = same.parity_bit in
+    from_fields v w hv hw label sdi field ssm top

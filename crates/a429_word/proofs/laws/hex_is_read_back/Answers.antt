@@ -1,0 +1,5 @@
+use Rattle.a429_word.proofs.Hex.{hex_text-read}
+use Rattle.a429_word.proofs.laws.hex_is_read_back.Goals as goal
+
+pub returns : goal.returns
+returns c = hex_text-read

@@ -1,0 +1,6 @@
+use Rattle.a429_word.specs.Written.{numeral}
+use Rattle.a429_word.proofs.word.Word.hex.Goals as goal
+
+pub returns : goal.returns
+unfolding numeral
+returns c = cc

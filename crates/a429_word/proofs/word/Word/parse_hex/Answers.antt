@@ -1,0 +1,26 @@
+use Rattle.std.proofs.Common.{◌≡◌, ◌<◌, arith, sym, ap, ◌∙◌, length, get_or}
+use Rattle.std.specs.Char.{digit_value}
+use Rattle.std.proofs.lemmas.Int.Digits.{digits_value_more, digits_more}
+use Rattle.a429_word.proofs.Hex.{digit_value-lt, room}
+use Rattle.a429_word.proofs.word.Word.parse_hex.Goals as goal
+
+pub returns-in_default : goal.returns-in_default
+returns-in_default c h =
+    c.in_default.ensures.value (rw c.from.ensures (digit_value-lt 16 c.args.text.now c.loop-digit.digit-index (omega arith) h.1))
+
+pub overflow_mul-number : goal.overflow_mul-number
+overflow_mul-number c =
+    omega (arith, room c.loop-digit.digit-index c.loop-digit.number c.args.text.now (omega arith) (omega arith) c.loop-digit.invariant.0 c.loop-digit.invariant.1)
+
+pub overflow_add-number : goal.overflow_add-number
+overflow_add-number c =
+    omega (arith, c.in-Some.ensures.value, room c.loop-digit.digit-index c.loop-digit.number c.args.text.now (omega arith) (omega arith) c.loop-digit.invariant.0 c.loop-digit.invariant.1)
+
+pub loop-digit-preserved : goal.loop-digit-preserved
+loop-digit-preserved c =
+    let i = c.loop-digit.digit-index in
+    let text = c.args.text.now in
+    let inside : i < length text = omega arith in
+    let same : c.in-Some.value ≡ digit_value (get_or text i 0) = c.in-Some.ensures.value.1 ∙ ap digit_value c.from.ensures in
+    let small : digit_value (get_or text i 0) < 16 = rw (← c.from.ensures) c.in-Some.ensures.value.0 in
+    (rw (same, c.loop-digit.invariant.0) (sym (digits_value_more 16 text i inside)), digits_more 16 text i inside c.loop-digit.invariant.1 small)

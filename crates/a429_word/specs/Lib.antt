@@ -1,0 +1,4 @@
+pub mod Word
+pub mod Bnr
+pub mod Written
+pub mod Tally

@@ -1,0 +1,20 @@
+-- What a clause reads of a `Tally`, and what a write that may stop early does (profile).
+use Rattle.std.specs.Prelude.{◌≤◌, ℕ, List, length, take, Option, Bool}
+use Rattle.std.specs.Io.KnownBytes.{Appends}
+use Rattle.a429_word.specs.declared.tally.Tally.{Tally}
+
+-- the reader or writer underneath
+abbrev pub inner_of : {T : Type 0} → Tally T → T
+inner_of t = t.inner
+
+-- how many bytes reads may still hand out
+abbrev pub left_of : {T : Type 0} → Tally T → ℕ
+left_of t = t.left
+
+-- whether it has failed
+abbrev pub has_failed : {T : Type 0} → Tally T → Bool
+has_failed t = t.is_failed
+
+-- known bytes grow by some front of bs
+abbrev pub AppendsPrefix : Option (List ℕ) → Option (List ℕ) → List ℕ → Type 0
+AppendsPrefix old new bs = (n : ℕ) × (n ≤ length bs) × Appends old new (take n bs)

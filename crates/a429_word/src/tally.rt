@@ -1,0 +1,238 @@
+//! A reader or writer over another, with a limit, that fails for good.
+
+ghost use Rattle.std.specs.Prelude.{◌≡◌, ◌↔◌, ◌≢◌, ◌+◌, ◌<◌, ◌≤◌, Bool, true, false, length, IsErr, IfOk, IfErr, OnOk, OnErr};
+ghost use Rattle.std.specs.IoError.{error_kind};
+ghost use Rattle.std.specs.Io.{ReadsAtMost, WritesAtMost};
+ghost use Rattle.std.specs.Io.KnownBytes.{Appends, Keeps, ReadConsumes, WriteAppends};
+
+use std::io;
+use std::io::{ErrorKind, Read, Write};
+
+/// A reader or a writer has failed.
+#[derive(Clone, Copy, Debug, PartialEq, Eq)]
+pub struct Device;
+
+/// What may fail for good.
+pub trait Failing {
+    ghost failed: { Self → Bool };
+
+    /// Whether it has failed.
+    fn failed(&self) -> bool
+        ensures { result ≡ failed self.now };
+}
+
+/// A reader or writer over another one, its inner one.
+///
+/// It has failed once a call of the inner one answered an error (`Interrupted` is one), a write of
+/// some bytes took none of them, or a read was asked for after `cap` bytes had been handed out.
+/// Once failed it stays so: every later call answers an error that is not `Interrupted`, and the
+/// inner one is not called again.
+#[derive(Debug, Drop)]
+pub struct Tally<T> {
+    inner: T,
+    left: u64,
+    is_failed: bool,
+}
+
+impl<T> Failing for Tally<T> {
+    ghost failed = { λ t. t.is_failed };
+
+    fn failed(&self) -> bool {
+        self.is_failed
+    }
+}
+
+impl<T> Tally<T> {
+    ghost use Rattle.a429_word.specs.Tally.{inner_of, left_of, has_failed};
+
+    /// A tally over `inner` whose reads hand out at most `cap` bytes. Writes have no limit.
+    pub fn new(inner: T, cap: u64) -> Self
+        ensures inner { inner_of result ≡ inner }
+        ensures left { left_of result ≡ cap }
+        ensures fresh { has_failed result ≡ false }
+    {
+        Tally {
+            inner,
+            left: cap,
+            is_failed: false,
+        }
+    }
+}
+
+impl<R: Read> Tally<R> {
+    ghost use Rattle.a429_word.specs.Tally.{inner_of, left_of, has_failed};
+
+    /// Reads up to as many bytes as `buf` has room for, and answers their number: 0 is the end.
+    pub fn pull(&mut self, buf: &mut [u8]) -> Result<usize, Device>
+        requires { 0 < length buf.old }
+        ensures bound { ReadsAtMost result buf.new }
+        ensures bytes { ReadConsumes (R.remaining (inner_of self.old)) (R.remaining (inner_of self.new)) result buf.new }
+        ensures left { IfOk result (λ n. left_of self.new + n ≡ left_of self.old) }
+        ensures same { OnErr result (left_of self.new ≡ left_of self.old) }
+        ensures device { IsErr result ↔ (has_failed self.new ≡ true) }
+        ensures capped { left_of self.old ≡ 0 → has_failed self.new ≡ true }
+        ensures stays { has_failed self.old ≡ true → self.new ≡ self.old }
+    {
+        if self.is_failed {
+            return Err(Device);
+        }
+        if self.left == 0 {
+            self.is_failed = true;
+            return Err(Device);
+        }
+        let most = at_most(buf.len(), self.left);
+        match self.inner.read(&mut buf[..most]) {
+            Ok(n) => {
+                self.left -= n as u64;
+                Ok(n)
+            }
+            Err(_) => {
+                self.is_failed = true;
+                Err(Device)
+            }
+        }
+    }
+}
+
+impl<W: Write> Tally<W> {
+    ghost use Rattle.a429_word.specs.Tally.{inner_of, left_of, has_failed, AppendsPrefix};
+
+    /// Writes all the bytes. After `Device` a front of them has been written.
+    pub fn put(&mut self, bytes: &[u8]) -> Result<(), Device>
+        ensures ok { OnOk result (Appends (W.contents (inner_of self.old)) (W.contents (inner_of self.new)) bytes.now) }
+        ensures err { OnErr result (AppendsPrefix (W.contents (inner_of self.old)) (W.contents (inner_of self.new)) bytes.now) }
+        ensures left { left_of self.new ≡ left_of self.old }
+        ensures device { IsErr result ↔ (has_failed self.new ≡ true) }
+        ensures stays { has_failed self.old ≡ true → self.new ≡ self.old }
+    {
+        if self.is_failed {
+            return Err(Device);
+        }
+        let mut at = 0;
+        while at < bytes.len() {
+            match self.inner.write(&bytes[at..]) {
+                Ok(0) | Err(_) => {
+                    self.is_failed = true;
+                    return Err(Device);
+                }
+                Ok(n) => at += n,
+            }
+        }
+        Ok(())
+    }
+}
+
+impl<R: Read> Read for Tally<R> {
+    ghost use Rattle.a429_word.specs.Tally.{inner_of, left_of, has_failed};
+
+    ghost remaining = { λ t. R.remaining (inner_of t) };
+
+    fn read(&mut self, buf: &mut [u8]) -> io::Result<usize>
+        ensures bound { ReadsAtMost result buf.new }
+        ensures bytes { ReadConsumes (R.remaining (inner_of self.old)) (R.remaining (inner_of self.new)) result buf.new }
+        ensures left { IfOk result (λ n. left_of self.new + n ≡ left_of self.old) }
+        ensures same { OnErr result (left_of self.new ≡ left_of self.old) }
+        ensures device { IsErr result ↔ (has_failed self.new ≡ true) }
+        ensures capped { left_of self.old ≡ 0 → has_failed self.new ≡ true }
+        ensures stays { has_failed self.old ≡ true → self.new ≡ self.old }
+        ensures kind { IfErr result (λ e. error_kind e ≢ ErrorKind.Interrupted) }
+    {
+        if buf.is_empty() {
+            return self.read_none();
+        }
+        match self.pull(buf) {
+            Ok(n) => Ok(n),
+            Err(Device) => Err(failure()),
+        }
+    }
+}
+
+impl<R: Read> Tally<R> {
+    ghost use Rattle.a429_word.specs.Tally.{inner_of, left_of, has_failed};
+
+    // A read that has no room for a byte.
+    fn read_none(&mut self) -> io::Result<usize>
+        ensures none { IfOk result (λ n. n ≡ 0) }
+        ensures inner { inner_of self.new ≡ inner_of self.old }
+        ensures left { left_of self.new ≡ left_of self.old }
+        ensures device { IsErr result ↔ (has_failed self.new ≡ true) }
+        ensures capped { left_of self.old ≡ 0 → has_failed self.new ≡ true }
+        ensures stays { has_failed self.old ≡ true → self.new ≡ self.old }
+        ensures kind { IfErr result (λ e. error_kind e ≢ ErrorKind.Interrupted) }
+    {
+        if self.left == 0 {
+            self.is_failed = true;
+        }
+        if self.is_failed {
+            return Err(failure());
+        }
+        Ok(0)
+    }
+}
+
+impl<W: Write> Write for Tally<W> {
+    ghost use Rattle.a429_word.specs.Tally.{inner_of, left_of, has_failed};
+
+    ghost contents = { λ t. W.contents (inner_of t) };
+
+    fn write(&mut self, buf: &[u8]) -> io::Result<usize>
+        ensures bound { WritesAtMost result buf.now }
+        ensures bytes { WriteAppends (W.contents (inner_of self.old)) (W.contents (inner_of self.new)) result buf.now }
+        ensures some { IfOk result (λ n. 0 < length buf.now → 0 < n) }
+        ensures left { left_of self.new ≡ left_of self.old }
+        ensures device { IsErr result ↔ (has_failed self.new ≡ true) }
+        ensures stays { has_failed self.old ≡ true → self.new ≡ self.old }
+        ensures kind { IfErr result (λ e. error_kind e ≢ ErrorKind.Interrupted) }
+    {
+        if self.is_failed {
+            return Err(failure());
+        }
+        match self.inner.write(buf) {
+            Ok(n) if n > 0 || buf.is_empty() => Ok(n),
+            _ => {
+                self.is_failed = true;
+                Err(failure())
+            }
+        }
+    }
+
+    fn flush(&mut self) -> io::Result<()>
+        ensures bytes { Keeps (W.contents (inner_of self.old)) (W.contents (inner_of self.new)) }
+        ensures left { left_of self.new ≡ left_of self.old }
+        ensures device { IsErr result ↔ (has_failed self.new ≡ true) }
+        ensures stays { has_failed self.old ≡ true → self.new ≡ self.old }
+        ensures kind { IfErr result (λ e. error_kind e ≢ ErrorKind.Interrupted) }
+    {
+        if self.is_failed {
+            return Err(failure());
+        }
+        if self.inner.flush().is_err() {
+            self.is_failed = true;
+            return Err(failure());
+        }
+        Ok(())
+    }
+}
+
+// The length, but no more than is left.
+fn at_most(len: usize, left: u64) -> usize
+    ensures len { result ≤ len }
+    ensures left { result ≤ left }
+    ensures some { 0 < len → 0 < left → 0 < result }
+{
+    if (len as u64) < left {
+        len
+    } else {
+        left as usize
+    }
+}
+
+// The error of a tally that has failed.
+fn failure() -> io::Error
+    ensures { error_kind result ≢ ErrorKind.Interrupted }
+{
+    io::Error::from(ErrorKind::Other)
+}
+
+#[cfg(test)]
+mod tests;

@@ -1,0 +1,152 @@
+//! A word of 32 bits: its label, SDI, SSM, parity, and how it is written.
+
+ghost use Rattle.std.specs.Prelude.{◌≡◌, ◌≤◌, ◌<◌, ◌↔◌, ◌^◌, ◌*◌, ◌/◌, ◌%◌, IsTrue, true};
+ghost use Rattle.std.specs.Fmt.{digit_glyph};
+ghost use Rattle.a429_word.specs.Word.{bit, label_of, sdi_of, ssm_of, count_of_ones, HasOddParity};
+ghost use Rattle.a429_word.specs.Written.{hex_text, octal_text, ReadsHex};
+
+use std::marker::Model;
+
+/// A word of 32 bits (ARINC 429 Part 1, word formats). Bits are numbered from 1 to 32; as a number,
+/// bit i counts `2^(i-1)`.
+#[derive(Clone, Copy, Debug, PartialEq, Eq)]
+pub struct Word(u32);
+
+impl Model for Word {
+    ghost use Rattle.std.specs.Prelude.{ℕ};
+
+    ghost Value = { ℕ };
+
+    ghost view = { λ w. w.0 };
+
+    ghost inverse = { λ n. record { 0 = n } };
+}
+
+impl Word {
+    /// The word with this number.
+    pub fn from_u32(number: u32) -> Word
+        ensures { result ≡ number }
+    {
+        Word(number)
+    }
+
+    /// The word's number.
+    pub fn to_u32(self) -> u32
+        ensures { result ≡ self }
+    {
+        self.0
+    }
+
+    /// The label, bits 1 to 8, of which bit 1 is the most significant (Part 1).
+    #[tactic(auto, using(crate::proofs::Bits::fields))]
+    pub fn label(self) -> u8
+        ensures { result ≡ label_of self }
+    {
+        ((self.0 & 0xff) as u8).reverse_bits()
+    }
+
+    /// The source/destination identifier, bits 9 and 10 (Part 1): 0 to 3, bit 9 its lower one.
+    #[tactic(auto, using(crate::proofs::Bits::fields))]
+    pub fn sdi(self) -> u8
+        ensures value { result ≡ sdi_of self }
+        ensures range { result ≤ 3 }
+    {
+        (self.0 >> 8 & 3) as u8
+    }
+
+    /// The sign/status matrix, bits 30 and 31 (Part 1): 0 to 3, bit 30 its lower one.
+    #[tactic(auto, using(crate::proofs::Bits::fields))]
+    pub fn ssm(self) -> u8
+        ensures value { result ≡ ssm_of self }
+        ensures range { result ≤ 3 }
+    {
+        (self.0 >> 29 & 3) as u8
+    }
+
+    /// Whether bit n is 1, n from 1 to 32.
+    pub fn bit(self, n: u8) -> bool
+        requires first { 1 ≤ n }
+        requires last { n ≤ 32 }
+        ensures { IsTrue result ↔ (bit self n ≡ 1) }
+    {
+        self.0 >> (n - 1) & 1 == 1
+    }
+
+    /// Whether an odd number of the 32 bits is 1, as in every good word (Part 1).
+    pub fn parity_ok(self) -> bool
+        ensures { IsTrue result ↔ HasOddParity self }
+    {
+        parity_of(self.0) == 1
+    }
+
+    /// Reads eight hexadecimal digits of either case. Any other text is `None`.
+    pub fn parse_hex(text: &[u8]) -> Option<Word>
+        ensures { ReadsHex text.now result }
+    {
+        if text.len() != 8 {
+            return None;
+        }
+        let mut number = 0;
+        for digit in text {
+            let Some(value) = char::from(*digit).to_digit(16) else {
+                return None;
+            };
+            number = number * 16 + value;
+        }
+        Some(Word(number))
+    }
+
+    /// The number as eight hexadecimal digits in upper case.
+    pub fn hex(self) -> [u8; 8]
+        ensures { result ≡ hex_text self }
+    {
+        [
+            self.hex_digit(7),
+            self.hex_digit(6),
+            self.hex_digit(5),
+            self.hex_digit(4),
+            self.hex_digit(3),
+            self.hex_digit(2),
+            self.hex_digit(1),
+            self.hex_digit(0),
+        ]
+    }
+
+    // The digit that counts 16^place.
+    fn hex_digit(self, place: u8) -> u8
+        requires { place < 8 }
+        ensures { result ≡ digit_glyph true (self / 2 ^ (4 * place) % 16) }
+    {
+        let digit = (self.0 >> (4 * place) & 15) as u8;
+        if digit < 10 {
+            b'0' + digit
+        } else {
+            b'A' + (digit - 10)
+        }
+    }
+}
+
+/// A label as it is written (Part 1): three octal digits, 000 to 377.
+pub fn octal(label: u8) -> [u8; 3]
+    ensures { result ≡ octal_text label }
+{
+    [
+        b'0' + (label >> 6 & 7),
+        b'0' + (label >> 3 & 7),
+        b'0' + (label & 7),
+    ]
+}
+
+// 1 where an odd number of the bits is 1, else 0: each half is folded onto the other.
+fn parity_of(number: u32) -> u32
+    ensures { result ≡ count_of_ones number % 2 }
+{
+    let halves = number ^ (number >> 16);
+    let quarters = halves ^ (halves >> 8);
+    let nibbles = quarters ^ (quarters >> 4);
+    let pairs = nibbles ^ (nibbles >> 2);
+    (pairs ^ (pairs >> 1)) & 1
+}
+
+#[cfg(test)]
+mod tests;
