@@ -1,5 +1,7 @@
 //! Reads the words after `a429`.
 
+ghost use Rattle.std.specs.Prelude.{◌≡◌, ◌⊎◌, IfErr};
+
 use crate::fault::RunFault;
 use clap::error::ErrorKind;
 use clap::{Arg, ArgAction, Command as Parser};
@@ -10,7 +12,9 @@ pub mod commands;
 
 /// Reads the words after `a429`. The fault is `Memory` for want of memory, and else `Usage`: no
 /// command or an unknown one, too few or too many words, an option, or a wish for help.
-pub fn command<'a>(alloc: Global, words: &'a [String]) -> Result<Command<'a>, RunFault> {
+pub fn command<'a>(alloc: Global, words: &'a [String]) -> Result<Command<'a>, RunFault>
+    ensures { IfErr result (λ e. (e ≡ RunFault.Memory) ⊎ (e ≡ RunFault.Usage)) }
+{
     let matches = match parser(alloc)?.try_get_matches_from(words) {
         Ok(matches) => matches,
         Err(error) if error.kind() == ErrorKind::OutOfMemory => return Err(RunFault::Memory),

@@ -1,3 +1,4 @@
 pub mod Bits
 pub mod Raw
 pub mod Hex
+pub mod Slices

@@ -3,7 +3,7 @@
 ghost use Rattle.std.specs.Prelude.{◌≡◌, ◌↔◌, ◌≢◌, ◌+◌, ◌<◌, ◌≤◌, Bool, true, false, length, IsErr, IfOk, IfErr, OnOk, OnErr};
 ghost use Rattle.std.specs.IoError.{error_kind};
 ghost use Rattle.std.specs.Io.{ReadsAtMost, WritesAtMost};
-ghost use Rattle.std.specs.Io.KnownBytes.{Appends, Keeps, ReadConsumes, WriteAppends};
+ghost use Rattle.std.specs.Io.KnownBytes.{Appends, Consumes, Keeps, ReadConsumes, WriteAppends};
 
 use std::io;
 use std::io::{ErrorKind, Read, Write};
@@ -145,6 +145,27 @@ impl<R: Read> Read for Tally<R> {
             Err(Device) => Err(failure()),
         }
     }
+
+    fn read_exact(&mut self, buf: &mut [u8]) -> io::Result<()>
+        ensures bytes { OnOk result (Consumes (R.remaining (inner_of self.old)) (R.remaining (inner_of self.new)) buf.new) }
+        ensures left { OnOk result (left_of self.new + length buf.new ≡ left_of self.old) }
+        ensures device { has_failed self.new ≡ true → IsErr result }
+        ensures stays { has_failed self.old ≡ true → self.new ≡ self.old }
+        ensures kind { IfErr result (λ e. error_kind e ≢ ErrorKind.Interrupted) }
+    {
+        if self.is_failed {
+            return Err(failure());
+        }
+        let mut at = 0;
+        while at < buf.len() {
+            match self.pull(&mut buf[at..]) {
+                Ok(0) => return Err(io::Error::from(ErrorKind::UnexpectedEof)),
+                Ok(n) => at += n,
+                Err(Device) => return Err(failure()),
+            }
+        }
+        Ok(())
+    }
 }
 
 impl<R: Read> Tally<R> {
@@ -171,7 +192,7 @@ impl<R: Read> Tally<R> {
 }
 
 impl<W: Write> Write for Tally<W> {
-    ghost use Rattle.a429_word.specs.Tally.{inner_of, left_of, has_failed};
+    ghost use Rattle.a429_word.specs.Tally.{inner_of, left_of, has_failed, AppendsPrefix};
 
     ghost contents = { λ t. W.contents (inner_of t) };
 
@@ -193,6 +214,20 @@ impl<W: Write> Write for Tally<W> {
                 self.is_failed = true;
                 Err(failure())
             }
+        }
+    }
+
+    fn write_all(&mut self, buf: &[u8]) -> io::Result<()>
+        ensures bytes { OnOk result (Appends (W.contents (inner_of self.old)) (W.contents (inner_of self.new)) buf.now) }
+        ensures err { OnErr result (AppendsPrefix (W.contents (inner_of self.old)) (W.contents (inner_of self.new)) buf.now) }
+        ensures left { left_of self.new ≡ left_of self.old }
+        ensures device { IsErr result ↔ (has_failed self.new ≡ true) }
+        ensures stays { has_failed self.old ≡ true → self.new ≡ self.old }
+        ensures kind { IfErr result (λ e. error_kind e ≢ ErrorKind.Interrupted) }
+    {
+        match self.put(buf) {
+            Ok(()) => Ok(()),
+            Err(Device) => Err(failure()),
         }
     }
 

@@ -93,7 +93,7 @@ impl Word {
             };
             number = number * 16 + value;
         }
-        Some(Word(number))
+        Some(Word::from_u32(number))
     }
 
     /// The number as eight hexadecimal digits in upper case.

@@ -1,9 +1,9 @@
 //! `a429 word HEX`: what a word holds, a line for each part.
 
-ghost use Rattle.std.specs.Prelude.{◌≡◌, ◌↔◌, true, false, IsOk, IsErr, IsErrOf, IfOk, OnOk, OnErr};
+ghost use Rattle.std.specs.Prelude.{◌≡◌, ◌↔◌, true, false, IsOk, IsErr, IsErrOf, IfOk, OnOk};
 ghost use Rattle.std.specs.Str.Parse.{digits_value};
 ghost use Rattle.std.specs.Io.KnownBytes.{Appends};
-ghost use Rattle.a429_word.specs.Tally.{inner_of, has_failed, AppendsPrefix};
+ghost use Rattle.a429_word.specs.Tally.{inner_of, has_failed};
 ghost use Rattle.a429_word.specs.Written.{IsHexWord};
 ghost use Rattle.a429_check.specs.WordLines.{line, bits_text, parity_text, word_lines};
 

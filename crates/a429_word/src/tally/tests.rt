@@ -91,6 +91,7 @@ fn interrupted_in_mid_stream_is_a_failure(rt: HostRuntime) -> Result<(), Fail> {
     let mut one = [0];
     assert_eq!(rt; tally.pull(&mut one), Err(Device));
     assert!(rt; tally.read(&mut []).is_err());
+    assert!(rt; tally.read_exact(&mut []).is_err());
     assert_eq!(rt; shaky.calls, 3, "a failed tally leaves its reader alone");
     Ok(())
 }
@@ -109,6 +110,13 @@ fn a_read_past_the_cap_is_a_failure(rt: HostRuntime) {
     assert_eq!(rt; exact.pull(&mut four), Ok(4));
     assert!(rt; !exact.failed());
     assert_eq!(rt; exact.pull(&mut four), Err(Device));
+
+    // An end that comes too early is no failure.
+    let mut short = Tally::new(b"abcdef".as_slice(), 100);
+    assert!(rt; short.read_exact(&mut four).is_ok());
+    assert_eq!(rt; four.as_slice(), b"abcd".as_slice());
+    assert!(rt; short.read_exact(&mut four).is_err());
+    assert!(rt; !short.failed());
 
     let mut below = Tally::new(b"abcd".as_slice(), 5);
     assert_eq!(rt; below.pull(&mut four), Ok(4));
@@ -130,6 +138,7 @@ fn a_writer_that_takes_nothing_is_a_failure(rt: HostRuntime) {
     assert_eq!(rt; tally.put(b"a"), Err(Device));
     assert!(rt; tally.failed());
     assert_eq!(rt; tally.put(b""), Err(Device));
+    assert!(rt; tally.write_all(b"").is_err());
 }
 
 #[test]

@@ -1,6 +1,5 @@
-use Rattle.std.proofs.Common.{◌≡◌, ◌<◌, ◌∙◌, sym, length, arith}
+use Rattle.std.proofs.Common.{◌<◌, ◌∙◌, sym, arith}
 use Rattle.std.proofs.lemmas.Grind.{same_number_lists}
-use Rattle.a429_check.specs.WordLines.{bits_text}
 use Rattle.a429_check.proofs.Texts.{length-bits_text, get_or-bits_text}
 use Rattle.a429_check.proofs.engines.word.bits.Goals as goal
 
