@@ -1,13 +1,18 @@
 //! The program `a429`: reads its words, opens what the command names, and ends with its status.
 #![tactic(auto)]
 
-use a429_check::{Command, RunFault, command, report, run_word};
-use a429_word::Tally;
+use a429_check::{Command, RunFault, command, report, run_labels, run_word};
+use a429_word::{Failing, Tally};
 use std::alloc::Global;
-use std::io::{BufWriter, ErrorKind, Write};
+use std::env;
+use std::fs;
+use std::io;
+use std::io::{BufWriter, ErrorKind, Read, Write};
 use std::process::ExitCode;
-use std::rt::Env;
-use std::{env, io};
+use std::rt::{Env, Files};
+
+// How many bytes of a profile are read at most.
+const PROFILE_CAP: u64 = 67_108_864;
 
 fn main(rt: HostRuntime) -> ExitCode {
     let status = match run(&rt) {
@@ -18,15 +23,17 @@ fn main(rt: HostRuntime) -> ExitCode {
 }
 
 // Runs the command that the words ask for, and answers the exit status.
-fn run(rt: &(impl Env + Print + AllocGlobal)) -> Result<u8, RunFault> {
+fn run(rt: &(impl Files + Env + Print + AllocGlobal)) -> Result<u8, RunFault> {
     let alloc = rt.alloc();
     let words = words_of(rt, alloc)?;
-    let mut out = Tally::new(
-        BufWriter::new(alloc, io::writer(rt)).map_err(|_| RunFault::Memory)?,
-        0,
-    );
+    let writer = BufWriter::new(alloc, io::writer(rt)).map_err(|_| RunFault::Memory)?;
+    let mut out = Tally::new(writer, 0);
     let status = match command(alloc, words.as_slice())? {
         Command::Word(hex) => run_word(hex, &mut out)?,
+        Command::Labels(profile) => {
+            let profile = read_whole(rt, alloc, profile)?;
+            run_labels(alloc, profile.as_slice(), &mut out)?
+        }
     };
     out.flush().map_err(|_| RunFault::Device)?;
     Ok(status)
@@ -39,4 +46,17 @@ fn words_of(rt: &(impl Env + AllocGlobal), alloc: Global) -> Result<Vec<String>,
         _ => RunFault::Memory,
     })?;
     Ok(args.skip(1).collect(alloc)?)
+}
+
+// The bytes of a file.
+fn read_whole(rt: &impl Files, alloc: Global, path: &str) -> Result<Vec<u8>, RunFault> {
+    let file = fs::open(rt, path).map_err(|_| RunFault::Device)?;
+    let mut file = Tally::new(file, PROFILE_CAP);
+    let mut bytes = Vec::new(alloc);
+    match file.read_to_end(&mut bytes) {
+        Ok(_) => Ok(bytes),
+        // A read that fails while the file has not failed was refused memory.
+        Err(_) if file.failed() => Err(RunFault::Device),
+        Err(_) => Err(RunFault::Memory),
+    }
 }

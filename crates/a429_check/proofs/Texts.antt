@@ -1,5 +1,5 @@
 -- What a word's texts are, digit by digit.
-use Rattle.std.proofs.Common.{◌≡◌, ℕ, zero, suc, ◌+◌, ◌-◌, ◌<◌, ◌≤◌, refl, sym, arith, ap, ◌∙◌, List, [], ◌∷◌, length, get_or, codes, Option, Result, Ok, Err, OnOk}
+use Rattle.std.proofs.Common.{◌≡◌, ℕ, zero, suc, ◌+◌, ◌-◌, ◌<◌, ◌≤◌, refl, sym, arith, ap, ◌∙◌, List, [], ◌∷◌, length, get_or, codes, Option}
 use Rattle.std.specs.Io.KnownBytes.{Appends}
 use Rattle.std.specs.Fmt.{decimal, signed_decimal}
 use Rattle.std.proofs.KnownBytes.{Appends-trans}
@@ -43,7 +43,3 @@ pub Appends-lines : (a b c d e f g h : Option (List ℕ)) (w : ℕ) (hex bits oc
 Appends-lines a b c d e f g h w hex bits octal sdi ssm parity bnr are p1 p2 p3 p4 p5 p6 p7 =
     rw (← are.hex_is, ← are.bits_is, ← are.octal_is, ← are.sdi_is, ← are.ssm_is, ← are.parity_is, ← are.bnr_is)
     (Appends-trans a g h _ _ (Appends-trans a f g _ _ (Appends-trans a e f _ _ (Appends-trans a d e _ _ (Appends-trans a c d _ _ (Appends-trans a b c _ _ p1 p2) p3) p4) p5) p6) p7)
-
-pub OnOk-then : {T E : Type 0} (r : Result T E) (P Q : Type 0) → (P → Q) → OnOk r P → OnOk r Q
-OnOk-then (Ok x) P Q f p = f p
-OnOk-then (Err e) P Q f p = tt

@@ -1,2 +1,4 @@
 pub mod RunFault
+pub mod ProfileBytes
 pub mod WordLines
+pub mod LabelLines

@@ -25,6 +25,10 @@ pub fn command<'a>(alloc: Global, words: &'a [String]) -> Result<Command<'a>, Ru
             Some(hex) => Ok(Command::Word(hex)),
             None => Err(RunFault::Usage),
         },
+        Some(("labels", given)) => match given.get_str("PROFILE") {
+            Some(profile) => Ok(Command::Labels(profile)),
+            None => Err(RunFault::Usage),
+        },
         _ => Err(RunFault::Usage),
     }
 }
@@ -34,7 +38,8 @@ fn parser<'a>(alloc: Global) -> Result<Parser<'a>, AllocError> {
     Parser::new(alloc, "a429")
         .no_binary_name(true)
         .subcommand_required(true)
-        .subcommand(with_words(alloc, "word", &["HEX"])?)
+        .subcommand(with_words(alloc, "word", &["HEX"])?)?
+        .subcommand(with_words(alloc, "labels", &["PROFILE"])?)
 }
 
 // A command that takes these words, each of them once.

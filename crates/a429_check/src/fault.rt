@@ -4,6 +4,7 @@ ghost use Rattle.std.specs.Prelude.{◌≡◌};
 ghost use Rattle.a429_check.specs.RunFault.{status_of};
 ghost use Rattle.a429_check.specs.declared.fault.RunFault.TheVariants as fault;
 
+use a429_profile::ProfileFault;
 use a429_word::{Device, Tally};
 use std::alloc::AllocError;
 use std::io::Write;
@@ -15,6 +16,9 @@ pub enum RunFault {
     /// The word is not eight hexadecimal digits.
     #[error("bad word")]
     BadWord,
+    /// The profile has this fault, its first one.
+    #[error("profile: {0}")]
+    Profile(ProfileFault),
     /// A reader or a writer failed, or a file could not be opened.
     #[error("device")]
     Device,
@@ -49,7 +53,7 @@ impl RunFault {
         ensures { result ≡ status_of self }
     {
         match self {
-            RunFault::BadWord => 3,
+            RunFault::BadWord | RunFault::Profile(_) => 3,
             RunFault::Device | RunFault::Memory => 4,
             RunFault::Usage => 5,
         }

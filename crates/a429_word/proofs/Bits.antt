@@ -1,10 +1,11 @@
 -- A word's bits, and what masks, shifts and folds make of them.
-use Rattle.std.proofs.Common.{◌≡◌, ℕ, zero, suc, ◌+◌, ◌-◌, ◌*◌, ◌/◌, ◌%◌, ◌^◌, ◌<◌, ◌≤◌, refl, sym, ap, ◌∙◌, arith, bit_and, bit_xor, inl, inr, pow-suc, mul-le-mul_right}
+use Rattle.std.proofs.Common.{◌≡◌, ℕ, zero, suc, ◌+◌, ◌-◌, ◌*◌, ◌/◌, ◌%◌, ◌^◌, ◌<◌, ◌≤◌, refl, sym, ap, ◌∙◌, arith, bit_and, bit_xor, inl, inr, pow-suc, mul-le-mul_right, add-zero}
 use Rattle.std.specs.Int.{bit_at, reverse_bits_onto}
-use Rattle.std.proofs.lemmas.Nat.{mod-pow-add, shr-shr, and_mask, pow_pos, mod_below}
+use Rattle.std.proofs.lemmas.Nat.{mod-pow-add, shr-shr, and_mask, pow_pos, mod_below, mod_low, field_of as nat_field_of}
+use Rattle.std.proofs.Math.Pow.{mod-mod-pow}
 use Rattle.std.proofs.lemmas.Bool.{cases_lt}
 use Rattle.std.proofs.lemmas.Nat.Bits.{bit_at_xor, bit_at_cat_low, bit_at_cat_high}
-use Rattle.a429_word.specs.Word.{sum_below, number_of, bit, number_at, label_of, sdi_of, ssm_of, count_of_ones, SameParts}
+use Rattle.a429_word.specs.Word.{sum_below, number_of, bit, number_at, label_of, sdi_of, field_of, ssm_of, count_of_ones, SameParts}
 
 -- a sum depends on its terms alone
 pub sum_below-same : (k : ℕ) (f g : ℕ → ℕ) → ((j : ℕ) → j < k → f j ≡ g j) → sum_below k f ≡ sum_below k g
@@ -47,14 +48,30 @@ masked w first count = and_mask (w / 2 ^ first) count ∙ sym (number_at-is w fi
 pub masked_from : (w from before count : ℕ) → from ≡ suc before → bit_and (w / 2 ^ before) (2 ^ count - 1) ≡ number_at w from count
 masked_from w from before count e = masked w before count ∙ ap (λ f. number_at w f count) (sym e)
 
+-- ---- the data field
+
+-- its bits from bit 11 + t on
+pub field_of-above : (w t count : ℕ) → count + t ≡ 19 → w / 2 ^ (10 + t) % 2 ^ count ≡ field_of w / 2 ^ t
+field_of-above w t count e =
+    let v = w / 2 ^ 10 in
+    ap (λ x. x % 2 ^ count) (sym (shr-shr w 10 t)) ∙ sym (nat_field_of v count t) ∙ ap (λ n. v % 2 ^ n / 2 ^ t) e ∙ ap (λ x. x / 2 ^ t) (sym (number_at-is w 10 19))
+
+-- its bits below a number that was moved up are 0
+pub field_of-below : (w p t : ℕ) → t ≤ 19 → field_of w ≡ p * 2 ^ t → number_at w 11 t ≡ 0
+field_of-below w p t h field =
+    let v = w / 2 ^ 10 in
+    let whole : 19 - t + t ≡ 19 = omega arith in
+    let moved : v % 2 ^ 19 ≡ p * 2 ^ t + 0 = sym (number_at-is w 10 19) ∙ field ∙ sym (add-zero (p * 2 ^ t)) in
+    number_at-is w 10 t ∙ sym (mod-mod-pow v (19 - t) t) ∙ ap (λ n. v % 2 ^ n % 2 ^ t) whole ∙ ap (λ x. x % 2 ^ t) moved ∙ mod_low p t 0 (pow_pos t)
+
 -- ---- the small fields
 
 -- the label is the lowest byte, reversed
-label-is : (w : ℕ) → reverse_bits_onto 8 (w % 256) 0 ≡ label_of w
+pub label-is : (w : ℕ) → reverse_bits_onto 8 (w % 256) 0 ≡ label_of w
 unfolding sum_below reverse_bits_onto
 label-is w = omega arith
 
-reversed_twice : (n : ℕ) → n < 256 → reverse_bits_onto 8 (reverse_bits_onto 8 n 0) 0 ≡ n
+pub reversed_twice : (n : ℕ) → n < 256 → reverse_bits_onto 8 (reverse_bits_onto 8 n 0) 0 ≡ n
 unfolding reverse_bits_onto
 reversed_twice n h = omega arith
 
@@ -147,19 +164,26 @@ bit-number_of bits h i first last =
     let place : i - 1 + 1 ≡ i = omega arith in
     (made_of_bits 32 (λ j. bits (j + 1)) (λ j. h (j + 1))).bits (i - 1) (omega arith) ∙ ap bits place
 
+-- the lowest byte is the label, reversed
 low_byte : (w : ℕ) → w % 256 ≡ reverse_bits_onto 8 (label_of w) 0
 low_byte w = let small : w % 256 < 256 = omega arith in sym (ap (λ n. reverse_bits_onto 8 n 0) (sym (label-is w)) ∙ reversed_twice (w % 256) small)
 
-from_fields : (v w : ℕ) → v < 4294967296 → w < 4294967296 → v % 256 ≡ w % 256 → v / 256 % 4 ≡ w / 256 % 4 → v / 1024 % 524288 ≡ w / 1024 % 524288
-    → v / 536870912 % 4 ≡ w / 536870912 % 4 → v / 2147483648 % 2 ≡ w / 2147483648 % 2 → v ≡ w
-from_fields v w hv hw label sdi field ssm top = omega arith
+-- the bits below the parity bit are those of the fields
+below_parity : (v w : ℕ) → v % 256 ≡ w % 256 → v / 256 % 4 ≡ w / 256 % 4 → v / 1024 % 524288 ≡ w / 1024 % 524288 → v / 536870912 % 4 ≡ w / 536870912 % 4 → v % 2147483648 ≡ w % 2147483648
+below_parity v w label sdi field ssm = omega arith
+
+-- the four fields are all that there is below the parity bit
+pub same_below_parity : (v w : ℕ) → label_of v ≡ label_of w → sdi_of v ≡ sdi_of w → field_of v ≡ field_of w → ssm_of v ≡ ssm_of w → v % 2147483648 ≡ w % 2147483648
+same_below_parity v w label sdi field ssm = below_parity v w
+    (low_byte v ∙ ap (λ n. reverse_bits_onto 8 n 0) label ∙ sym (low_byte w))
+    (sym (number_at-is v 8 2) ∙ sdi ∙ number_at-is w 8 2)
+    (sym (number_at-is v 10 19) ∙ field ∙ number_at-is w 10 19)
+    (sym (number_at-is v 29 2) ∙ ssm ∙ number_at-is w 29 2)
+
+-- and with the parity bit they are all
+pub same_from_halves : (v w : ℕ) → v < 4294967296 → w < 4294967296 → v % 2147483648 ≡ w % 2147483648 → v / 2147483648 % 2 ≡ w / 2147483648 % 2 → v ≡ w
+same_from_halves v w hv hw low top = omega arith
 
 -- words that are alike in each part are one
 pub same_from_parts : (v w : ℕ) → v < 2 ^ 32 → w < 2 ^ 32 → SameParts v w → v ≡ w
-same_from_parts v w hv hw same =
-    let label : v % 256 ≡ w % 256 = low_byte v ∙ ap (λ n. reverse_bits_onto 8 n 0) same.label ∙ sym (low_byte w) in
-    let sdi : v / 256 % 4 ≡ w / 256 % 4 = sym (number_at-is v 8 2) ∙ same.sdi ∙ number_at-is w 8 2 in
-    let field : v / 1024 % 524288 ≡ w / 1024 % 524288 = sym (number_at-is v 10 19) ∙ same.field ∙ number_at-is w 10 19 in
-    let ssm : v / 536870912 % 4 ≡ w / 536870912 % 4 = sym (number_at-is v 29 2) ∙ same.ssm ∙ number_at-is w 29 2 in
-    let top : v / 2147483648 % 2 ≡ w / 2147483648 % 2 = same.parity_bit in
-    from_fields v w hv hw label sdi field ssm top
+same_from_parts v w hv hw same = same_from_halves v w hv hw (same_below_parity v w same.label same.sdi same.field same.ssm) same.parity_bit

@@ -1,4 +1,12 @@
+pub mod Powers
 pub mod Bits
+pub mod Made
 pub mod Raw
+pub mod Encoded
+pub mod Digits
+pub mod Packed
 pub mod Hex
+pub mod Decimal
+pub mod Fraction
+pub mod OneSpelling
 pub mod Slices

@@ -1,4 +1,6 @@
 pub mod Word
 pub mod Bnr
+pub mod Bcd
 pub mod Written
 pub mod Tally
+pub mod Fixed

@@ -1,8 +1,11 @@
 //! Laws of the definitions that the contracts of this crate cite.
 
-ghost use Rattle.std.specs.Prelude.{◌≡◌, ℕ, ◌≤◌, ◌<◌, ◌^◌, Option, Some};
-ghost use Rattle.a429_word.specs.Word.{number_of, bit, SameParts};
+ghost use Rattle.std.specs.Prelude.{◌≡◌, ℕ, ◌≤◌, ◌<◌, ◌^◌, Option, Some, Result, Ok, IfOk, IfErr, List, ℤ};
+ghost use Rattle.a429_word.specs.Word.{number_of, bit, label_of, sdi_of, field_of, ssm_of, HasOddParity, SameParts};
+ghost use Rattle.a429_word.specs.declared.bcd.BadDigit.{BadDigit};
+ghost use Rattle.a429_word.specs.Bcd.{decimal_of, AreDecimal, IsFirstBad};
 ghost use Rattle.a429_word.specs.Written.{hex_text, ReadsHex};
+ghost use Rattle.a429_word.specs.Fixed.{Spells};
 
 /// A word's number is the sum of its bits, bit i counting `2^(i-1)`.
 pub fn number_is_the_sum_of_its_bits()
@@ -20,7 +23,27 @@ pub fn parts_make_the_word()
     ensures { (v w : ℕ) → v < 2 ^ 32 → w < 2 ^ 32 → SameParts v w → v ≡ w }
 {}
 
+/// A word of odd parity is told by its label, SDI, data field and SSM.
+pub fn fields_make_the_good_word()
+    ensures { (v w : ℕ) → v < 2 ^ 32 → w < 2 ^ 32 → HasOddParity v → HasOddParity w
+        → label_of v ≡ label_of w → sdi_of v ≡ sdi_of w → field_of v ≡ field_of w → ssm_of v ≡ ssm_of w → v ≡ w }
+{}
+
 /// What `Word::hex` writes of a word, `Word::parse_hex` reads as that word.
 pub fn hex_is_read_back()
     ensures { (w : ℕ) (read : Option ℕ) → w < 2 ^ 32 → ReadsHex (hex_text w) read → read ≡ Some w }
+{}
+
+/// A word that has a number in its first k digits, as `Word::bcd_word` promises, is one of which
+/// `Word::bcd_digits` answers that number.
+pub fn bcd_is_read_back()
+    ensures { (w k n : ℕ) (read : Result ℕ BadDigit) → AreDecimal w k → decimal_of w k ≡ n
+        → IfOk read (λ m. AreDecimal w k × (m ≡ decimal_of w k))
+        → IfErr read (λ e. IsFirstBad w k e.0) → read ≡ Ok n }
+{}
+
+/// A fraction has one spelling.
+pub fn a_fraction_has_one_spelling()
+    ensures { (v w : List ℕ) (number : ℤ) (decimals : ℕ)
+        → Spells v number decimals → Spells w number decimals → v ≡ w }
 {}

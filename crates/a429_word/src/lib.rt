@@ -1,12 +1,16 @@
 //! Words of an ARINC 429 bus, and readers and writers that fail for good.
 #![tactic(auto)]
 
+mod bcd;
 mod bnr;
 mod bus;
+mod fixed;
 pub mod laws;
 mod tally;
 mod word;
 
+pub use crate::bcd::BadDigit;
 pub use crate::bus::Bus;
+pub use crate::fixed::Fixed;
 pub use crate::tally::{Device, Failing, Tally};
 pub use crate::word::{Word, octal};

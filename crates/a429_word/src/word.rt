@@ -2,7 +2,7 @@
 
 ghost use Rattle.std.specs.Prelude.{◌≡◌, ◌≤◌, ◌<◌, ◌↔◌, ◌^◌, ◌*◌, ◌/◌, ◌%◌, IsTrue, true};
 ghost use Rattle.std.specs.Fmt.{digit_glyph};
-ghost use Rattle.a429_word.specs.Word.{bit, label_of, sdi_of, ssm_of, count_of_ones, HasOddParity};
+ghost use Rattle.a429_word.specs.Word.{bit, label_of, sdi_of, field_of, ssm_of, count_of_ones, HasOddParity};
 ghost use Rattle.a429_word.specs.Written.{hex_text, octal_text, ReadsHex};
 
 use std::marker::Model;
@@ -77,6 +77,26 @@ impl Word {
         ensures { IsTrue result ↔ HasOddParity self }
     {
         parity_of(self.0) == 1
+    }
+
+    /// The word with this label, SDI, data field and SSM, and with the parity bit that makes its parity
+    /// odd (Part 1). SDI and SSM are 0 to 3, the data field is below `2^19`, its lowest bit is bit 11.
+    pub fn with_parity(label: u8, sdi: u8, field: u32, ssm: u8) -> Word
+        requires sdi { sdi ≤ 3 }
+        requires field { field < 2 ^ 19 }
+        requires ssm { ssm ≤ 3 }
+        ensures label { label_of result ≡ label }
+        ensures sdi { sdi_of result ≡ sdi }
+        ensures field { field_of result ≡ field }
+        ensures ssm { ssm_of result ≡ ssm }
+        ensures parity { HasOddParity result }
+    {
+        let number = u32::from(ssm) << 29
+            | field << 10
+            | u32::from(sdi) << 8
+            | u32::from(label.reverse_bits());
+        let parity_bit = 1 - parity_of(number);
+        Word(number | parity_bit << 31)
     }
 
     /// Reads eight hexadecimal digits of either case. Any other text is `None`.

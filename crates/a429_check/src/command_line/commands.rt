@@ -5,4 +5,6 @@
 pub enum Command<'a> {
     /// `word HEX`: shows what a word holds.
     Word(&'a str),
+    /// `labels PROFILE`: lists the label table of a profile.
+    Labels(&'a str),
 }

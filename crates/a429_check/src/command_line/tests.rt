@@ -13,7 +13,7 @@ fn strings(alloc: Global, words: &[&str]) -> Result<Vec<String>, AllocError> {
 }
 
 #[test]
-fn a_word_is_read(rt: HostRuntime) -> Result<(), Fail> {
+fn words_of_a_command(rt: HostRuntime) -> Result<(), Fail> {
     let alloc = rt.alloc();
     for hex in ["E13880C1", "help", "", "-"] {
         let words = strings(alloc, &["word", hex])?;
@@ -22,6 +22,8 @@ fn a_word_is_read(rt: HostRuntime) -> Result<(), Fail> {
             "{hex}"
         );
     }
+    let words = strings(alloc, &["labels", "bench.toml"])?;
+    assert!(rt; command(alloc, words.as_slice()) == Ok(Command::Labels("bench.toml")));
     let after_options = strings(alloc, &["word", "--", "-5"])?;
     assert!(rt; command(alloc, after_options.as_slice()) == Ok(Command::Word("-5")));
     Ok(())
@@ -30,7 +32,9 @@ fn a_word_is_read(rt: HostRuntime) -> Result<(), Fail> {
 #[test]
 fn other_words_are_usage(rt: HostRuntime) -> Result<(), Fail> {
     let alloc = rt.alloc();
-    let cases: [&[&str]; 14] = [
+    let cases: [&[&str]; 16] = [
+        &["labels"],
+        &["labels", "bench.toml", "other.toml"],
         &[],
         &[""],
         &["word"],

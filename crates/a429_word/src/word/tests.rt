@@ -65,6 +65,39 @@ fn raw_numbers(rt: HostRuntime) {
 }
 
 #[test]
+fn words_of_known_raw_numbers(rt: HostRuntime) {
+    let cases = [
+        (0o203, 3, 18, 20000, 0xe138_80c1),
+        (0o203, 3, 17, 10000, 0xe138_80c1),
+        (0o203, 3, 17, -1000, 0x7fe0_c0c1),
+        (0o203, 3, 17, -131_072, 0xf000_00c1),
+        (0o314, 3, 18, 1, 0x6000_0433),
+        (0o314, 3, 18, -262_144, 0x7000_0033),
+        (0, 0, 1, -2, 0x1000_0000),
+        (0, 0, 1, 1, 0x0800_0000),
+    ];
+    for (label, ssm, s, raw, number) in cases {
+        let word = Word::bnr_word(label, 0, ssm, s, raw);
+        assert_eq!(rt; word.to_u32(), number, "{raw} in {s}");
+    }
+}
+
+#[test]
+fn words_of_their_parts(rt: HostRuntime) {
+    let cases = [
+        (0o203, 0, 20000, 3, 0xe138_80c1),
+        (0o304, 3, 0x5040, 2, 0x4141_0323),
+        (0o270, 1, 2, 0, 0x8000_091d),
+        (0, 0, 0, 0, 0x8000_0000),
+        (0o377, 3, 0x7_ffff, 3, 0x7fff_ffff),
+    ];
+    for (label, sdi, field, ssm, number) in cases {
+        let word = Word::with_parity(label, sdi, field, ssm);
+        assert_eq!(rt; word.to_u32(), number, "{number:x}");
+    }
+}
+
+#[test]
 fn hexadecimal(rt: HostRuntime) {
     let word = Word::from_u32(0xe138_80c1);
     assert_eq!(rt; word.hex().as_slice(), b"E13880C1".as_slice());

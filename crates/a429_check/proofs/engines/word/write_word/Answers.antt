@@ -3,14 +3,15 @@ use mir.Val.{SFits}
 use Rattle.std.proofs.lemmas.Int.{to_z-of_z}
 use Rattle.std.specs.Fmt.{signed_decimal}
 use Rattle.a429_word.specs.Written.{octal_text}
-use Rattle.a429_check.proofs.Texts.{Appends-lines, OnOk-then, one_digit}
+use Rattle.std.proofs.lemmas.Result.{on_ok_weaker}
+use Rattle.a429_check.proofs.Texts.{Appends-lines, one_digit}
 use Rattle.a429_check.proofs.engines.word.write_word.Goals as goal
 
 pub returns-clause-ok : goal.returns-clause-ok
 returns-clause-ok g c =
     let fits : SFits w32 c.bnr_raw.result = search rules in
     let text = simp to_z-of_z at c.format.ensures.text in
-    OnOk-then c.put_line-7.result _ _
+    on_ok_weaker c.put_line-7.result
     (Appends-lines _ _ _ _ _ _ _ _ c.args.word _ _ _ _ _ _ _
     record {
       hex_is = c.hex.ensures;

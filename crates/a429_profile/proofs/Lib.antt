@@ -1,0 +1,6 @@
+pub mod Elements
+pub mod Turns
+pub mod LabelArrays
+pub mod FirstFault
+pub mod Lookup
+pub mod Kept

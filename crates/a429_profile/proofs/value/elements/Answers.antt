@@ -1,0 +1,9 @@
+use Rattle.std.proofs.Common.{◌≡◌, ◌∙◌, Some, option_map, ap, sym}
+use Rattle.toml.specs.View.{items_view}
+use Rattle.a429_profile.proofs.Elements.{list_of-items_view}
+use Rattle.a429_profile.proofs.value.elements.Goals as goal
+
+pub returns-in-Some-clause-some : goal.returns-in-Some-clause-some
+returns-in-Some-clause-some c =
+    let found = rw c.in-Some.is at c.as_array.ensures in
+    rw (← found, c.as_slice.ensures.value) (list_of-items_view c.in-Some.array.now.items)

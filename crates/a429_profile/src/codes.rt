@@ -1,0 +1,269 @@
+//! The numbers of the file transfer, and of its check word.
+
+ghost use Rattle.std.specs.Prelude.{◌≡◌, ◌≢◌, ◌++◌, IfOk, IfErr, OnOk, Some, None};
+ghost use Rattle.toml.specs.View.{table_view};
+ghost use Rattle.a429_profile.specs.Rules.{octal, number, numbers, truth};
+ghost use Rattle.a429_profile.specs.Sections.{octal_at, number_at, numbers_at, truth_at, transfer_of, types_of, protocol_codes_of, check_of, codes_of};
+ghost use Rattle.a429_profile.specs.Keys.{section_row, section_fault, first_section_fault, transfer_keys, type_keys, code_keys, partial_keys, check_keys};
+
+use crate::entry::Numbers;
+use crate::fault::ProfileFault;
+use crate::key::{Key, SectionKey};
+use crate::value::{four_numbers, in_section, number, numbers, octal, small, truth};
+use std::alloc::Global;
+use toml::Table;
+
+/// The numbers of a file transfer's words (ARINC 429 Part 3; the numbers are the bench's own).
+#[derive(Debug, Drop)]
+pub struct Codes {
+    /// The address label of words to the sink, on bus A.
+    pub to_sink: u8,
+    /// The address label of words to the source, on bus B.
+    pub to_source: u8,
+    /// The destination code of requests and clear answers.
+    pub destination: u8,
+    /// The number of a file's first link data unit, 0 or 1.
+    pub first_ldu: u8,
+    /// The bit of an end word that tells a file's last link data unit, 25 to 28.
+    pub final_bit: u8,
+    /// The type of full data words, 0 to 7, and so for the next four.
+    pub full: u8,
+    pub partial: u8,
+    pub protocol: u8,
+    pub sot: u8,
+    pub eot: u8,
+    /// The code of requests to send, 0 to 15, and so for the next three.
+    pub rts: u8,
+    pub cts: u8,
+    pub ack: u8,
+    pub nak: u8,
+    /// Types of words that pass unjudged.
+    pub ignored_types: Numbers,
+    /// Codes of protocol words that pass unjudged.
+    pub ignored_codes: Numbers,
+    /// The codes of partial data words of 1, 2, 3 and 4 semi-octets, 0 to 15.
+    pub partial_codes: [u8; 4],
+}
+
+/// How a link data unit's check word is made.
+#[derive(Clone, Copy, Debug, PartialEq, Eq)]
+pub struct Check {
+    /// The polynomial without its highest term.
+    pub poly: u16,
+    /// What the register starts with.
+    pub init: u16,
+    /// What is exclusive-ored at the end.
+    pub xor: u16,
+    /// Whether each byte's lowest bit comes first.
+    pub low_first: bool,
+    /// Whether check words are compared at all.
+    pub compare: bool,
+}
+
+// The section `transfer`.
+#[derive(Clone, Copy)]
+struct Transfer {
+    to_sink: u8,
+    to_source: u8,
+    destination: u8,
+    first_ldu: u8,
+    final_bit: u8,
+}
+
+// The section `types`.
+#[derive(Drop)]
+struct Types {
+    full: u8,
+    partial: u8,
+    protocol: u8,
+    sot: u8,
+    eot: u8,
+    ignored: Numbers,
+}
+
+// The section `codes`.
+#[derive(Drop)]
+struct ProtocolCodes {
+    rts: u8,
+    cts: u8,
+    ack: u8,
+    nak: u8,
+    ignored: Numbers,
+}
+
+fn octal_at(doc: &Table, key: SectionKey) -> Result<u8, ProfileFault>
+    requires { (section_row key).rule ≡ octal }
+    ensures ok { OnOk result (section_fault (table_view doc.now) key ≡ None) }
+    ensures value { IfOk result (λ n. octal_at (table_view doc.now) key ≡ n) }
+    ensures err { IfErr result (λ f. section_fault (table_view doc.now) key ≡ Some f) }
+{
+    let value = in_section(doc, key)?;
+    octal(value, Key::Section(key))
+}
+
+fn small_at(doc: &Table, key: SectionKey, low: u8, high: u8) -> Result<u8, ProfileFault>
+    requires { (section_row key).rule ≡ number low high }
+    ensures ok { OnOk result (section_fault (table_view doc.now) key ≡ None) }
+    ensures value { IfOk result (λ n. number_at (table_view doc.now) key ≡ n) }
+    ensures err { IfErr result (λ f. section_fault (table_view doc.now) key ≡ Some f) }
+{
+    let value = in_section(doc, key)?;
+    small(value, Key::Section(key), low, high)
+}
+
+// A number of 16 bits.
+fn wide_at(doc: &Table, key: SectionKey) -> Result<u16, ProfileFault>
+    requires { (section_row key).rule ≡ number 0 65535 }
+    ensures ok { OnOk result (section_fault (table_view doc.now) key ≡ None) }
+    ensures value { IfOk result (λ n. number_at (table_view doc.now) key ≡ n) }
+    ensures err { IfErr result (λ f. section_fault (table_view doc.now) key ≡ Some f) }
+{
+    let value = in_section(doc, key)?;
+    let number = number(value, Key::Section(key), 0, 65535)?;
+    Ok(number as u16)
+}
+
+fn truth_at(doc: &Table, key: SectionKey) -> Result<bool, ProfileFault>
+    requires { (section_row key).rule ≡ truth }
+    ensures ok { OnOk result (section_fault (table_view doc.now) key ≡ None) }
+    ensures value { IfOk result (λ b. truth_at (table_view doc.now) key ≡ b) }
+    ensures err { IfErr result (λ f. section_fault (table_view doc.now) key ≡ Some f) }
+{
+    let value = in_section(doc, key)?;
+    truth(value, Key::Section(key))
+}
+
+fn numbers_at(
+    alloc: Global,
+    doc: &Table,
+    key: SectionKey,
+    low: u8,
+    high: u8,
+) -> Result<Numbers, ProfileFault>
+    requires { (section_row key).rule ≡ numbers low high }
+    ensures ok { OnOk result (section_fault (table_view doc.now) key ≡ None) }
+    ensures value { IfOk result (λ v. numbers_at (table_view doc.now) key ≡ v) }
+    ensures err { IfErr result (λ f. f ≢ ProfileFault.OutOfMemory → section_fault (table_view doc.now) key ≡ Some f) }
+{
+    let value = in_section(doc, key)?;
+    numbers(alloc, value, Key::Section(key), low, high)
+}
+
+fn read_transfer(doc: &Table) -> Result<Transfer, ProfileFault>
+    ensures ok { OnOk result (first_section_fault (table_view doc.now) transfer_keys ≡ None) }
+    ensures value { IfOk result (λ t. t ≡ transfer_of (table_view doc.now)) }
+    ensures err { IfErr result (λ f. first_section_fault (table_view doc.now) transfer_keys ≡ Some f) }
+{
+    let to_sink = octal_at(doc, SectionKey::ToSink)?;
+    let to_source = octal_at(doc, SectionKey::ToSource)?;
+    let destination = small_at(doc, SectionKey::Destination, 0, 255)?;
+    let first_ldu = small_at(doc, SectionKey::FirstLdu, 0, 1)?;
+    let final_bit = small_at(doc, SectionKey::FinalBit, 25, 28)?;
+    Ok(Transfer {
+        to_sink,
+        to_source,
+        destination,
+        first_ldu,
+        final_bit,
+    })
+}
+
+fn read_types(alloc: Global, doc: &Table) -> Result<Types, ProfileFault>
+    ensures ok { OnOk result (first_section_fault (table_view doc.now) type_keys ≡ None) }
+    ensures value { IfOk result (λ t. t ≡ types_of (table_view doc.now)) }
+    ensures err { IfErr result (λ f. f ≢ ProfileFault.OutOfMemory → first_section_fault (table_view doc.now) type_keys ≡ Some f) }
+{
+    let full = small_at(doc, SectionKey::Full, 0, 7)?;
+    let partial = small_at(doc, SectionKey::Partial, 0, 7)?;
+    let protocol = small_at(doc, SectionKey::Protocol, 0, 7)?;
+    let sot = small_at(doc, SectionKey::Sot, 0, 7)?;
+    let eot = small_at(doc, SectionKey::Eot, 0, 7)?;
+    let ignored = numbers_at(alloc, doc, SectionKey::IgnoredTypes, 0, 7)?;
+    Ok(Types {
+        full,
+        partial,
+        protocol,
+        sot,
+        eot,
+        ignored,
+    })
+}
+
+fn read_protocol_codes(alloc: Global, doc: &Table) -> Result<ProtocolCodes, ProfileFault>
+    ensures ok { OnOk result (first_section_fault (table_view doc.now) code_keys ≡ None) }
+    ensures value { IfOk result (λ t. t ≡ protocol_codes_of (table_view doc.now)) }
+    ensures err { IfErr result (λ f. f ≢ ProfileFault.OutOfMemory → first_section_fault (table_view doc.now) code_keys ≡ Some f) }
+{
+    let rts = small_at(doc, SectionKey::Rts, 0, 15)?;
+    let cts = small_at(doc, SectionKey::Cts, 0, 15)?;
+    let ack = small_at(doc, SectionKey::Ack, 0, 15)?;
+    let nak = small_at(doc, SectionKey::Nak, 0, 15)?;
+    let ignored = numbers_at(alloc, doc, SectionKey::IgnoredCodes, 0, 15)?;
+    Ok(ProtocolCodes {
+        rts,
+        cts,
+        ack,
+        nak,
+        ignored,
+    })
+}
+
+fn read_partial_codes(doc: &Table) -> Result<[u8; 4], ProfileFault>
+    ensures ok { OnOk result (first_section_fault (table_view doc.now) partial_keys ≡ None) }
+    ensures value { IfOk result (λ v. v ≡ numbers_at (table_view doc.now) SectionKey.PartialCodes) }
+    ensures err { IfErr result (λ f. first_section_fault (table_view doc.now) partial_keys ≡ Some f) }
+{
+    let key = SectionKey::PartialCodes;
+    let value = in_section(doc, key)?;
+    four_numbers(value, Key::Section(key), 0, 15)
+}
+
+pub(crate) fn read_check(doc: &Table) -> Result<Check, ProfileFault>
+    ensures ok { OnOk result (first_section_fault (table_view doc.now) check_keys ≡ None) }
+    ensures value { IfOk result (λ t. t ≡ check_of (table_view doc.now)) }
+    ensures err { IfErr result (λ f. first_section_fault (table_view doc.now) check_keys ≡ Some f) }
+{
+    let poly = wide_at(doc, SectionKey::Poly)?;
+    let init = wide_at(doc, SectionKey::Init)?;
+    let xor = wide_at(doc, SectionKey::Xor)?;
+    let low_first = truth_at(doc, SectionKey::LowFirst)?;
+    let compare = truth_at(doc, SectionKey::Compare)?;
+    Ok(Check {
+        poly,
+        init,
+        xor,
+        low_first,
+        compare,
+    })
+}
+
+/// The numbers of the file transfer, from four sections.
+pub(crate) fn read_codes(alloc: Global, doc: &Table) -> Result<Codes, ProfileFault>
+    ensures ok { OnOk result (first_section_fault (table_view doc.now) (transfer_keys ++ type_keys ++ code_keys ++ partial_keys) ≡ None) }
+    ensures value { IfOk result (λ c. c ≡ codes_of (table_view doc.now)) }
+    ensures err { IfErr result (λ f. f ≢ ProfileFault.OutOfMemory → first_section_fault (table_view doc.now) (transfer_keys ++ type_keys ++ code_keys ++ partial_keys) ≡ Some f) }
+{
+    let transfer = read_transfer(doc)?;
+    let types = read_types(alloc, doc)?;
+    let codes = read_protocol_codes(alloc, doc)?;
+    let partial_codes = read_partial_codes(doc)?;
+    Ok(Codes {
+        to_sink: transfer.to_sink,
+        to_source: transfer.to_source,
+        destination: transfer.destination,
+        first_ldu: transfer.first_ldu,
+        final_bit: transfer.final_bit,
+        full: types.full,
+        partial: types.partial,
+        protocol: types.protocol,
+        sot: types.sot,
+        eot: types.eot,
+        rts: codes.rts,
+        cts: codes.cts,
+        ack: codes.ack,
+        nak: codes.nak,
+        ignored_types: types.ignored,
+        ignored_codes: codes.ignored,
+        partial_codes,
+    })
+}

@@ -1,0 +1,132 @@
+//! An entry of the label table: how the words of one label are read.
+
+ghost use Rattle.std.specs.Prelude.{◌≡◌, string_bytes};
+
+use std::marker::Model;
+
+/// A short text: printable characters of ASCII.
+#[derive(Debug, Drop)]
+pub struct Text {
+    text: String,
+}
+
+impl Model for Text {
+    ghost use Rattle.std.specs.Prelude.{List, ℕ, string_bytes};
+
+    ghost Value = { List ℕ };
+
+    ghost view = { λ t. string_bytes t.text };
+}
+
+impl Text {
+    /// The same text, owned.
+    pub fn new(text: String) -> Text
+        ensures { result ≡ string_bytes text }
+    {
+        Text { text }
+    }
+
+    pub fn as_str(&self) -> &str
+        ensures { result.now ≡ self.now }
+    {
+        self.text.as_str()
+    }
+}
+
+/// A list of small numbers.
+#[derive(Debug, Drop)]
+pub struct Numbers {
+    numbers: Vec<u8>,
+}
+
+impl Model for Numbers {
+    ghost use Rattle.std.specs.Prelude.{List, ℕ};
+
+    ghost Value = { List ℕ };
+
+    ghost view = { λ n. n.numbers.items };
+}
+
+impl Numbers {
+    pub fn new(numbers: Vec<u8>) -> Numbers
+        ensures { result ≡ numbers.items }
+    {
+        Numbers { numbers }
+    }
+
+    pub fn as_slice(&self) -> &[u8]
+        ensures { result.now ≡ self.now }
+    {
+        self.numbers.as_slice()
+    }
+}
+
+/// A bit of a discrete word that has a meaning of its own.
+#[derive(Debug, Drop)]
+pub struct Flag {
+    /// 11 to 29.
+    pub bit: u8,
+    pub name: Text,
+}
+
+/// The flags of a discrete word, in the order of the file.
+#[derive(Debug, Drop)]
+pub struct Flags {
+    flags: Vec<Flag>,
+}
+
+impl Model for Flags {
+    ghost use Rattle.std.specs.Prelude.{List};
+    ghost use Rattle.a429_profile.specs.declared.entry.Flag.{Flag};
+
+    ghost Value = { List Flag };
+
+    ghost view = { λ f. f.flags.items };
+}
+
+impl Flags {
+    pub fn new(flags: Vec<Flag>) -> Flags
+        ensures { result ≡ flags.items }
+    {
+        Flags { flags }
+    }
+
+    pub fn as_slice(&self) -> &[Flag]
+        ensures { result.now ≡ self.now }
+    {
+        self.flags.as_slice()
+    }
+}
+
+/// How the data field of a label's words is read (ARINC 429 Part 1).
+#[derive(Debug, Drop)]
+pub enum Kind {
+    /// Two's complement with this many significant bits, 1 to 18, over this range, 1 to
+    /// 1,000,000,000, in units of `10^-decimals`, 0 to 6.
+    Bnr { bits: u8, range: u32, decimals: u8 },
+    /// This many decimal digits, 1 to 5, in units of `10^-decimals`, 0 to 6.
+    Bcd { digits: u8, decimals: u8 },
+    /// Single bits, 1 to 19 of them.
+    Discrete { flags: Flags },
+}
+
+/// The words for the kinds of labels.
+#[derive(Clone, Copy, Debug, PartialEq, Eq)]
+pub(crate) enum KindWord {
+    Bnr,
+    Bcd,
+    Discrete,
+}
+
+/// An entry of the label table.
+#[derive(Debug, Drop)]
+pub struct LabelEntry {
+    pub label: u8,
+    /// The SDI of the words that it is for, 0 to 3; `None` where it is for any.
+    pub sdi: Option<u8>,
+    /// 1 to 32 printable characters.
+    pub name: Text,
+    /// 0 to 16 printable characters.
+    pub unit: Text,
+    pub kind: Kind,
+}

@@ -1,0 +1,35 @@
+//! What is wrong with a profile.
+
+use crate::key::{Key, SectionKey};
+use thiserror::Error;
+
+/// The first thing wrong with a profile, in the order in which it is tested. Its text is the line that
+/// tells it.
+#[derive(Clone, Copy, Debug, PartialEq, Eq, Error)]
+pub enum ProfileFault {
+    /// The text is no TOML document.
+    #[error("not toml")]
+    NotToml,
+    /// The key is not there, or its section is not.
+    #[error("missing {0}")]
+    Missing(Key),
+    /// The key holds another kind of value, or its section is no table.
+    #[error("wrong kind {0}")]
+    WrongKind(Key),
+    /// The value lies outside the key's range.
+    #[error("out of range {0}")]
+    OutOfRange(Key),
+    /// An entry of this label stands where another one has the label already, or the label is an
+    /// address label of the transfer.
+    #[error("label clash {0:03o}")]
+    LabelClash(u8),
+    /// The second key gives a number that the first one has given.
+    #[error("code clash {0} {1}")]
+    CodeClash(SectionKey, SectionKey),
+    /// Two flags of an entry of this label have this bit.
+    #[error("bit clash {0:03o} {1}")]
+    BitClash(u8, u8),
+    /// Memory was refused.
+    #[error("memory")]
+    OutOfMemory,
+}

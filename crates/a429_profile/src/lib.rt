@@ -1,0 +1,18 @@
+//! A bench's profile: the numbers of its file transfer, its check word, and its table of labels.
+#![tactic(auto)]
+
+mod clash;
+mod codes;
+mod entry;
+mod fault;
+mod flags;
+mod key;
+mod labels;
+mod profile;
+mod value;
+
+pub use crate::codes::{Check, Codes};
+pub use crate::entry::{Flag, Flags, Kind, LabelEntry, Numbers, Text};
+pub use crate::fault::ProfileFault;
+pub use crate::key::{Key, LabelKey, SectionKey};
+pub use crate::profile::{Profile, read_profile};

@@ -1,0 +1,158 @@
+//! A profile: what its text says, and its entries by label.
+
+ghost use Rattle.std.specs.Prelude.{◌≡◌, ◌≢◌, [], ◌∷◌, ◌++◌, false, Some, None, Err, IfOk, IfErr, OnOk, option_map, slice_get, length};
+ghost use Rattle.std.specs.List.{find, list_any};
+ghost use Rattle.a429_profile.specs.Clash.{entries_meet};
+ghost use Rattle.toml.specs.Parse.{parse_document};
+ghost use Rattle.toml.specs.View.{table_view};
+ghost use Rattle.a429_profile.specs.Contents.{Answers, IsProfile, contents_of, fault_of, is_for};
+ghost use Rattle.a429_profile.specs.Table.{entries_of, AreKeyed, ApartAfter};
+
+use crate::clash::first_clash;
+use crate::codes::{Check, Codes, read_check, read_codes};
+use crate::entry::LabelEntry;
+use crate::fault::ProfileFault;
+use crate::labels::read_labels;
+use indexmap::IndexMap;
+use std::alloc::{AllocError, Global};
+use std::marker::Model;
+use toml::Table;
+
+/// A bench's profile. It is that of some text: each number lies in its range, and nothing clashes.
+#[derive(Debug, Drop)]
+pub struct Profile {
+    codes: Codes,
+    check: Check,
+    labels: IndexMap<(u8, Option<u8>), LabelEntry>,
+}
+
+impl Model for Profile {
+    ghost use Rattle.a429_profile.specs.Contents.{Contents, IsProfile};
+    ghost use Rattle.a429_profile.specs.Table.{entries_of, AreKeyed};
+
+    ghost Value = { Contents };
+
+    ghost view = { λ p. record { codes = p.codes; check = p.check; labels = entries_of p.labels.entries } };
+
+    ghost invariant = { λ p. AreKeyed p.labels.entries × IsProfile (record { codes = p.codes; check = p.check; labels = entries_of p.labels.entries }) };
+}
+
+/// Reads a profile from its text. The fault is the first one in the order of the keys, and then the
+/// first clash.
+pub fn read_profile(alloc: Global, text: &str) -> Result<Profile, ProfileFault>
+    ensures { result ≢ Err ProfileFault.OutOfMemory → Answers (parse_document text.now) result }
+{
+    match toml::table_from_str(alloc, text) {
+        Ok(doc) => read_document(alloc, &doc),
+        Err(error) => {
+            if error.is_memory() {
+                Err(ProfileFault::OutOfMemory)
+            } else {
+                Err(ProfileFault::NotToml)
+            }
+        }
+    }
+}
+
+// The profile that a document says.
+fn read_document(alloc: Global, doc: &Table) -> Result<Profile, ProfileFault>
+    ensures ok { OnOk result (fault_of (table_view doc.now) ≡ None) }
+    ensures value { IfOk result (λ p. p ≡ contents_of (table_view doc.now)) }
+    ensures err { IfErr result (λ f. f ≢ ProfileFault.OutOfMemory → fault_of (table_view doc.now) ≡ Some f) }
+{
+    let codes = read_codes(alloc, doc)?;
+    let check = read_check(doc)?;
+    let entries = read_labels(alloc, doc)?;
+    let Ok(clash) = first_clash(alloc, &codes, entries.as_slice()) else {
+        return Err(ProfileFault::OutOfMemory);
+    };
+    if let Some(fault) = clash {
+        return Err(fault);
+    }
+    match keyed(alloc, entries) {
+        Ok(labels) => Ok(Profile {
+            codes,
+            check,
+            labels,
+        }),
+        Err(_) => Err(ProfileFault::OutOfMemory),
+    }
+}
+
+// Entries of which no two meet, each at its label and SDI.
+fn keyed(
+    alloc: Global,
+    entries: Vec<LabelEntry>,
+) -> Result<IndexMap<(u8, Option<u8>), LabelEntry>, AllocError>
+    requires { ApartAfter [] entries.items }
+    ensures entries { IfOk result (λ m. entries_of m.entries ≡ entries.items) }
+    ensures keyed { IfOk result (λ m. AreKeyed m.entries) }
+{
+    let mut labels = IndexMap::new(alloc);
+    for entry in entries {
+        keep(&mut labels, entry)?;
+    }
+    Ok(labels)
+}
+
+// Keeps an entry, at the end, that meets none that is kept.
+fn keep(
+    labels: &mut IndexMap<(u8, Option<u8>), LabelEntry>,
+    entry: LabelEntry,
+) -> Result<(), AllocError>
+    requires keyed { AreKeyed labels.old.entries }
+    requires apart { list_any (λ o. entries_meet o entry) (entries_of labels.old.entries) ≡ false }
+    ensures entries { OnOk result (entries_of labels.new.entries ≡ entries_of labels.old.entries ++ entry ∷ []) }
+    ensures keyed { OnOk result (AreKeyed labels.new.entries) }
+{
+    labels.insert((entry.label, entry.sdi), entry)?;
+    Ok(())
+}
+
+impl Profile {
+    /// The numbers of the file transfer.
+    pub fn codes(&self) -> &Codes
+        ensures codes { result.now ≡ self.now.codes }
+        ensures sound { IsProfile self.now }
+    {
+        &self.codes
+    }
+
+    /// How a check word is made.
+    pub fn check(&self) -> &Check
+        ensures { result.now ≡ self.now.check }
+    {
+        &self.check
+    }
+
+    /// How many entries the label table has.
+    pub fn entry_count(&self) -> usize
+        ensures { result ≡ length self.now.labels }
+    {
+        self.labels.len()
+    }
+
+    /// The entry at a place from 0 in the file's order; `None` past the last.
+    pub fn entries(&self, i: usize) -> Option<&LabelEntry>
+        ensures { option_map (λ e. e.now) result ≡ slice_get self.now.labels i }
+    {
+        match self.labels.get_index(i) {
+            Some((_, entry)) => Some(entry),
+            None => None,
+        }
+    }
+
+    /// The entry for words of this label and SDI, 0 to 3: the one with this label whose SDI is this
+    /// one or not stated.
+    pub fn entry(&self, label: u8, sdi: u8) -> Option<&LabelEntry>
+        ensures { option_map (λ e. e.now) result ≡ find (is_for label sdi) self.now.labels }
+    {
+        match self.labels.get(&(label, None)) {
+            Some(entry) => Some(entry),
+            None => self.labels.get(&(label, Some(sdi))),
+        }
+    }
+}
+
+#[cfg(test)]
+mod tests;

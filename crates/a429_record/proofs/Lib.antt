@@ -1,0 +1,9 @@
+pub mod Digits
+pub mod Records
+pub mod PlainLines
+pub mod LineEnds
+pub mod Told
+pub mod Written
+pub mod Whole
+pub mod ReadBack
+pub mod Times

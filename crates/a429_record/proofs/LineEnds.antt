@@ -1,0 +1,58 @@
+-- A text in pieces, and its lines.
+use Rattle.std.proofs.Common.{◌≡◌, ◌∙◌, ◌+◌, ◌-◌, ◌<◌, ◌≤◌, ℕ, length, take, drop, get_or, arith, List, [], ◌∷◌, ◌++◌, Option, Some, None, refl, sym, ap, append_assoc}
+use Rattle.std.proofs.lemmas.List.{append-nil, drop-take, drop_more, take-append-drop}
+use Rattle.std.specs.Io.KnownBytes.{Consumes, IsAtEnd, prepend_known}
+use Rattle.std.proofs.KnownBytes.{Consumes-trans}
+use Rattle.a429_record.specs.Ends.{HasNoEnd}
+use Rattle.a429_record.specs.Recording.{lines_of, with_first}
+use Rattle.a429_record.specs.Pending.{TakesLine}
+
+pub HasNoEnd-append : (xs ys : List ℕ) → HasNoEnd xs → HasNoEnd ys → HasNoEnd (xs ++ ys)
+HasNoEnd-append [] ys p q = q
+HasNoEnd-append (x ∷ xs) ys p q = (p.0, HasNoEnd-append xs ys p.1 q)
+
+-- ---- the first line of known bytes
+
+pub lines_of-ended : (line rest : List ℕ) → HasNoEnd line → lines_of (line ++ (10 ∷ rest)) ≡ line ∷ lines_of rest
+lines_of-ended [] rest h = refl
+lines_of-ended (x ∷ xs) rest h = rw h.0 (ap (with_first x) (lines_of-ended xs rest h.1))
+
+lines_of-last : (x : ℕ) (xs : List ℕ) → HasNoEnd (x ∷ xs) → lines_of (x ∷ xs) ≡ (x ∷ xs) ∷ []
+lines_of-last x [] h = rw h.0 refl
+lines_of-last x (y ∷ ys) h = rw h.0 (ap (with_first x) (lines_of-last y ys h.1))
+
+-- the bytes so far and a line feed are the first line
+pub takes_ended : (a b : Option (List ℕ)) (line : List ℕ) → HasNoEnd line → Consumes a b (line ++ (10 ∷ [])) → TakesLine a b line
+takes_ended None b line h p = tt
+takes_ended (Some a) None line h p = absurd p
+takes_ended (Some a) (Some b) line h p =
+    (b, refl, ap lines_of (p ∙ append_assoc line (10 ∷ []) b) ∙ lines_of-ended line b h)
+
+-- the bytes so far are the last line, where there are any
+pub takes_last : (a b : Option (List ℕ)) (line : List ℕ) → 0 < length line → HasNoEnd line → Consumes a b line → IsAtEnd b → TakesLine a b line
+takes_last a b [] some h p q = absurd (omega arith)
+takes_last None b (x ∷ xs) some h p q = tt
+takes_last (Some a) None (x ∷ xs) some h p q = absurd p
+takes_last (Some a) (Some b) (x ∷ xs) some h p q =
+    let e : a ≡ x ∷ xs = rw q at p ∙ append-nil (x ∷ xs) in
+    (b, refl, rw q (ap lines_of e ∙ lines_of-last x xs h))
+
+-- ---- the bytes that were read
+
+-- the bytes between two places, cut the other way
+pub ahead_slice : (xs : List ℕ) (at filled : ℕ) → at ≤ filled → take (filled - at) (drop at xs) ≡ drop at (take filled xs)
+ahead_slice xs at filled h =
+    let e : at + (filled - at) ≡ filled = omega arith in
+    sym (ap (λ (n : ℕ). drop at (take n xs)) (sym e) ∙ drop-take at (filled - at) xs)
+
+gives : (k : Option (List ℕ)) (ahead part rest : List ℕ) → ahead ≡ part ++ rest → Consumes (prepend_known ahead k) (prepend_known rest k) part
+gives None ahead part rest e = tt
+gives (Some z) ahead part rest e = ap (λ (l : List ℕ). l ++ z) e ∙ append_assoc part rest z
+
+-- a part of the bytes that were read is given behind those given before
+pub given : (a k : Option (List ℕ)) (ahead part rest line : List ℕ) → Consumes a (prepend_known ahead k) line → ahead ≡ part ++ rest
+    → Consumes a (prepend_known rest k) (line ++ part)
+given a k ahead part rest line h e = Consumes-trans a (prepend_known ahead k) (prepend_known rest k) line part h (gives k ahead part rest e)
+
+pub split_end : (xs : List ℕ) (n : ℕ) → n < length xs → get_or xs n 0 ≡ 10 → xs ≡ (take n xs ++ (10 ∷ [])) ++ drop (n + 1) xs
+split_end xs n h e = sym (append_assoc (take n xs) (10 ∷ []) (drop (n + 1) xs) ∙ ap (λ (l : List ℕ). take n xs ++ l) (sym (drop_more xs n 0 h ∙ ap (λ (b : ℕ). b ∷ drop (n + 1) xs) e)) ∙ take-append-drop n xs)

@@ -1,0 +1,72 @@
+-- The rows of a line that was taken, and what they tell.
+use Rattle.std.proofs.Common.{◌≡◌, ◌∙◌, ℕ, List, [], ◌∷◌, ◌++◌, map, Option, Some, None, Ok, Result, IfSome, refl, sym, ap, subst, append_assoc, option_map}
+use Rattle.std.specs.Io.KnownBytes.{prepend_known}
+use Rattle.std.specs.List.{flat_map}
+use Rattle.a429_record.specs.declared.entry.Entry.{Entry}
+use Rattle.a429_record.specs.declared.fault.ReadFault.{ReadFault}
+use Rattle.a429_record.specs.Row.{Row, entry_in}
+use Rattle.a429_record.specs.Row.{line_rows}
+use Rattle.a429_record.specs.Recording.{Recording, rows_of, told, stands_for}
+use Rattle.a429_record.specs.Pending.{TakesLine}
+use Rattle.a429_record.specs.Left.{TakesHeader, Tells}
+
+-- rows are those of the known bytes
+abbrev pub AreRows : Option (List Row) → Option (List ℕ) → Type 0
+AreRows rows bytes = IfSome rows (λ all. option_map rows_of bytes ≡ Some all)
+
+-- rows are those of a line, and then those of the known bytes
+abbrev pub AreRowsAfter : Option (List Row) → List ℕ → Option (List ℕ) → Type 0
+AreRowsAfter rows line bytes = IfSome rows (λ all. (more : List Row) × (option_map rows_of bytes ≡ Some more) × (all ≡ line_rows line ++ more))
+
+pub taken : (rows : Option (List Row)) (a b : Option (List ℕ)) (line : List ℕ) → AreRows rows a → TakesLine a b line → AreRowsAfter rows line b
+taken None a b line h took = tt
+taken (Some all) None b line h took = cc h
+taken (Some all) (Some xs) b line h took =
+    let e : rows_of xs ≡ all = cc h in
+    (rows_of took.0, rw took.1 refl, sym e ∙ ap (flat_map line_rows) took.2)
+
+-- ---- the header
+
+-- after the header the rows that are left tell what the bytes stand for
+pub begun : (bytes : Option (List ℕ)) (ahead : List ℕ) (new : Option (List Row)) (n last : ℕ) (u : Unit {0}) → ahead ≡ [] → n ≡ 0 → last ≡ 0
+    → TakesHeader (option_map rows_of (prepend_known ahead bytes)) new (Ok u)
+    → IfSome bytes (λ b. (rest : Recording) × (option_map (told n last) new ≡ Some rest) × (stands_for b ≡ rest))
+begun None ahead new n last u none zero start h = tt
+begun (Some b) ahead new n last u none zero start h =
+    let took = rw none at h in (told 0 0 took.0, rw (zero, start, took.1) refl, took.2)
+
+-- ---- entries
+
+-- the row of a line with one entry, or one that is none
+pub one_row : (rows : List Row) (o : Option Entry) → o ∷ [] ≡ map entry_in rows → (r : Row) × (r ∷ [] ≡ rows) × (entry_in r ≡ o)
+one_row [] o e = cc e
+one_row (r ∷ []) o e = (r, refl, cc e)
+one_row (r ∷ s ∷ rows) o e = cc e
+
+-- what is told of the row and of the rows after it
+pub tells_row : (n last n' last' : ℕ) (rows : Option (List Row)) (b : Option (List ℕ)) (line : List ℕ) (r : Row) (answer : Result (Option Entry) ReadFault)
+    → r ∷ [] ≡ line_rows line → AreRowsAfter rows line b
+    → ((more : List Row) → Tells (Some (told n last (r ∷ more))) (Some (told n' last' more)) answer)
+    → Tells (option_map (told n last) rows) (option_map (told n' last') (option_map rows_of b)) answer
+tells_row n last n' last' None b line r answer one h more = tt
+tells_row n last n' last' (Some all) b line r answer one h more =
+    let e : all ≡ r ∷ h.0 = rw (← one) at h.2 in
+    let Before : List Row → Type 0 = λ x. Tells (Some (told n last x)) (option_map (told n' last') (option_map rows_of b)) answer in
+    let After : Option (List Row) → Type 0 = λ o. Tells (Some (told n last (r ∷ h.0))) (option_map (told n' last') o) answer in
+    subst Before (sym e) (subst After (sym h.1) (more h.0))
+
+-- ---- all entries
+
+-- entries were given, and the rest is told
+abbrev pub Given : Option (List ℕ) → List Entry → Option Recording → Type 0
+Given bytes es left = IfSome bytes (λ b. (rest : Recording) × (left ≡ Some rest) × (stands_for b ≡ record { entries = es ++ rest.entries; fault = rest.fault }))
+
+pub given_more : (bytes : Option (List ℕ)) (left new : Option Recording) (es more : List Entry) (e : Entry) → more ≡ es ++ (e ∷ [])
+    → Tells left new (Ok (Some e)) → Given bytes es left → Given bytes more new
+given_more None left new es more e is t h = tt
+given_more (Some b) left new es more e is t h =
+    let next = rw h.1 at t in
+    let u = next.0 in
+    let first = ap (λ (r : Recording). record { entries = es ++ r.entries; fault = r.fault }) next.2 in
+    let grown = sym (append_assoc es (e ∷ []) u.entries) ∙ ap (λ (l : List Entry). l ++ u.entries) (sym is) in
+    (u, next.1, h.2 ∙ first ∙ ap (λ (l : List Entry). record { entries = l; fault = u.fault }) grown)

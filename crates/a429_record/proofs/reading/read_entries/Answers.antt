@@ -1,0 +1,36 @@
+use Rattle.std.proofs.Common.{◌≡◌, ◌∙◌, ◌≤◌, ◌++◌, ◌∷◌, [], arith, length-append, refl, sym, rules}
+use Rattle.a429_word.specs.Tally.{inner_of}
+use Rattle.a429_record.specs.Pending.{ahead_of}
+use Rattle.a429_record.specs.Left.{rows_left}
+use Rattle.a429_record.proofs.Told.{begun, given_more}
+use Rattle.a429_record.proofs.Times.{last_time, NeverFalls-push, last_time-push}
+use Rattle.a429_record.proofs.reading.read_entries.Goals as goal
+
+pub entries-init : goal.entries-init
+entries-init g c =
+    let count = c.in_ok-header.ensures.count ∙ c.new-reader.ensures.count in
+    let last = c.in_ok-header.ensures.last ∙ c.new-reader.ensures.last in
+    record {
+      told = rw c.new-entries.ensures.items (begun (g.R.Read.remaining (inner_of c.args.rec.now)) (ahead_of c.new-reader.result.lines) (rows_left g.R.Read.remaining c.header.new.self c.header.new.rec)
+          c.header.new.self.count c.header.new.self.last c.in_ok-header.field-0 c.new-reader.ensures.ahead count last c.in_ok-header.ensures.takes);
+      times = rw c.new-entries.ensures.items tt;
+      last = rw (c.new-entries.ensures.items, last) refl;
+      count = rw (c.new-entries.ensures.items, count) refl;
+      works = search rules;
+    }
+
+pub entries-preserved : goal.entries-preserved
+entries-preserved g c =
+    let e = c.in-Some.entry in
+    let before = c.entries.entries.items in
+    let items : c.push.new.self.items ≡ before ++ (e ∷ []) = search rules in
+    let follows = rw c.in-Some.is at c.in_ok-entry.ensures.follows in
+    let tells = rw c.in-Some.is at c.in_ok-entry.ensures.tells in
+    let late : last_time 0 before ≤ e.time = rw c.entries.invariant.last follows.0 in
+    record {
+      told = given_more _ _ _ before _ e items tells c.entries.invariant.told;
+      times = rw items (NeverFalls-push 0 before e c.entries.invariant.times late);
+      last = rw items (last_time-push 0 before e ∙ sym follows.1);
+      count = rw items (simp length-append (omega (arith, follows.2, c.entries.invariant.count)));
+      works = search rules;
+    }

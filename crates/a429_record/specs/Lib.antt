@@ -1,0 +1,9 @@
+pub mod Row
+pub mod Line
+pub mod Recording
+pub mod Answer
+pub mod Written
+pub mod Whole
+pub mod Ends
+pub mod Pending
+pub mod Left

@@ -1,0 +1,19 @@
+//! Laws of the definitions that the contracts of this crate cite.
+
+ghost use Rattle.std.specs.Prelude.{◌≡◌, ℕ, List};
+ghost use Rattle.a429_record.specs.declared.entry.Entry.{Entry};
+ghost use Rattle.a429_record.specs.Recording.{stands_for, whole, IsRecordable};
+ghost use Rattle.a429_record.specs.Whole.{IsWhole, AreEntries};
+ghost use Rattle.a429_record.specs.Written.{written_form};
+
+/// Bytes stand for entries with no fault where they are the header and the entries' rows, at most
+/// 1,000,000 whose times never fall, and nowhere else.
+pub fn whole_recordings()
+    ensures there { (bytes : List ℕ) (es : List Entry) → IsWhole bytes es → stands_for bytes ≡ whole es }
+    ensures only { (bytes : List ℕ) (es : List Entry) → stands_for bytes ≡ whole es → IsWhole bytes es }
+{}
+
+/// What is written of entries stands for these entries.
+pub fn written_is_read_back()
+    ensures { (es : List Entry) → AreEntries es → IsRecordable es → stands_for (written_form es) ≡ whole es }
+{}

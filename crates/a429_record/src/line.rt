@@ -1,0 +1,126 @@
+//! What one line holds: its row, by `csv`, and its entry.
+
+ghost use Rattle.std.specs.Prelude.{◌≡◌, ◌⊎◌, ◌∷◌, ◌++◌, [], ◌==◌, IfOk, IfErr, IfSome};
+ghost use Rattle.std.specs.List.{list_all};
+ghost use Rattle.a429_record.specs.Line.{line_entries, found_rows, found_entries};
+ghost use Rattle.a429_record.specs.Row.{line_rows};
+ghost use Rattle.a429_record.specs.declared.fault.ReadFault.TheVariants as fault;
+
+use crate::entry::Entry;
+use crate::fault::ReadFault;
+use crate::row::{entry_from, entry_of};
+use csv::{ByteRecord, ReaderBuilder};
+use std::alloc::Global;
+
+/// The row of a line.
+#[derive(Drop)]
+pub enum LineRow {
+    /// No record.
+    Blank,
+    /// One record.
+    One(ByteRecord),
+    /// Two records or more.
+    Several,
+}
+
+/// The row of a line as an entry.
+#[derive(Clone, Copy, Drop)]
+pub enum LineEntry {
+    /// No record.
+    Blank,
+    /// An entry.
+    One(Entry),
+    /// A row that is no entry.
+    Bad,
+}
+
+/// The row of a line, which comes without its line feed.
+pub fn row_in_line(alloc: Global, line: &[u8]) -> Result<LineRow, ReadFault>
+    ensures ok { IfOk result (λ r. found_rows r ≡ line_rows line.now) }
+    ensures err { IfErr result (λ f. f ≡ fault.OutOfMemory) }
+{
+    if is_blank(line) {
+        Ok(LineRow::Blank)
+    } else {
+        row_by_csv(alloc, line)
+    }
+}
+
+/// The entry of a line, which comes without its line feed.
+pub fn entry_in_line(alloc: Global, line: &[u8]) -> Result<LineEntry, ReadFault>
+    ensures ok { IfOk result (λ e. found_entries e ≡ line_entries line.now) }
+    ensures err { IfErr result (λ f. f ≡ fault.OutOfMemory) }
+{
+    if let Some(entry) = plain_entry(line) {
+        return Ok(LineEntry::One(entry));
+    }
+    match row_in_line(alloc, line) {
+        Ok(LineRow::Blank) => Ok(LineEntry::Blank),
+        Ok(LineRow::One(row)) => match entry_of(&row) {
+            Some(entry) => Ok(LineEntry::One(entry)),
+            None => Ok(LineEntry::Bad),
+        },
+        Ok(LineRow::Several) => Ok(LineEntry::Bad),
+        Err(fault) => Err(fault),
+    }
+}
+
+// The row of a line, read by `csv` as a text of its own.
+fn row_by_csv(alloc: Global, line: &[u8]) -> Result<LineRow, ReadFault>
+    ensures ok { IfOk result (λ r. found_rows r ≡ line_rows line.now) }
+    ensures err { IfErr result (λ f. f ≡ fault.OutOfMemory) }
+{
+    let mut reader = ReaderBuilder::new()
+        .has_headers(false)
+        .flexible(true)
+        .from_reader(alloc, line);
+    let mut row = ByteRecord::new(alloc);
+    let Ok(found) = reader.read_byte_record(&mut row) else {
+        return Err(ReadFault::OutOfMemory);
+    };
+    if !found {
+        return Ok(LineRow::Blank);
+    }
+    let mut next = ByteRecord::new(alloc);
+    let Ok(more) = reader.read_byte_record(&mut next) else {
+        return Err(ReadFault::OutOfMemory);
+    };
+    if more {
+        return Ok(LineRow::Several);
+    }
+    Ok(LineRow::One(row))
+}
+
+// Whether the line has nothing but carriage returns. `csv` takes long to start, and such lines are
+// many in some recordings.
+fn is_blank(line: &[u8]) -> bool
+    ensures { result ≡ list_all (λ b. b == 13) line.now }
+{
+    line.iter().all(|byte| *byte == b'\r')
+}
+
+// The entry of a line that has nothing but three plain fields and at most a carriage return after
+// them: the last eleven bytes are a bus and a word, each after a comma.
+fn plain_entry(line: &[u8]) -> Option<Entry>
+    ensures { IfSome result (λ e. line_entries line.now ≡ Some e ∷ []) }
+{
+    let row = without_return(line);
+    if row.len() < 12 {
+        return None;
+    }
+    let (time, rest) = row.split_at(row.len() - 11);
+    if rest[0] != b',' || rest[2] != b',' {
+        return None;
+    }
+    entry_from(time, &rest[1..2], &rest[3..])
+}
+
+// The line without a carriage return at its end.
+fn without_return(line: &[u8]) -> &[u8]
+    ensures { (line.now ≡ result.now) ⊎ (line.now ≡ result.now ++ 13 ∷ []) }
+{
+    match line {
+        [row @ .., b'\r'] => row,
+        _ => line,
+    }
+}

@@ -1,0 +1,116 @@
+//! The lines of a reader, by a buffer of a fixed size.
+
+ghost use Rattle.std.specs.Prelude.{◌≡◌, ◌↔◌, ◌⊎◌, ◌∷◌, ◌++◌, ◌+◌, ◌<◌, ◌≤◌, [], true, false, length, take, slice_index, if◌then◌else◌, IsErr, IsErrOf, IfOk, IfErr, IfSome, IfNone, OnOk, List, ℕ};
+ghost use Rattle.std.specs.Io.KnownBytes.{Consumes, Keeps, IsAtEnd};
+ghost use Rattle.a429_word.specs.Tally.{left_of, has_failed};
+ghost use Rattle.a429_record.specs.Ends.{HasNoEnd};
+
+use crate::fault::ReadFault;
+use a429_word::{Device, Tally};
+use std::alloc::AllocError;
+use std::io::Read;
+
+/// What was read of a reader and not yet given: the bytes from `at` to `filled`.
+#[derive(Drop)]
+pub struct Lines {
+    buffer: [u8; 4096],
+    at: usize,
+    filled: usize,
+    ghost ordered: { at ≤ filled },
+    ghost in_range: { filled ≤ 4096 },
+}
+
+impl Lines {
+    ghost use Rattle.a429_record.specs.Pending.{ahead_of, pending_of, room_of, TakesLine};
+    ghost use Rattle.a429_record.specs.declared.fault.ReadFault.TheVariants as fault;
+
+    /// Nothing was read.
+    pub fn new() -> Self
+        ensures { ahead_of result ≡ [] }
+    {
+        Lines {
+            buffer: [0; 4096],
+            at: 0,
+            filled: 0,
+        }
+    }
+
+    /// Reads the next line, without its line feed, into `line`, and answers whether there was one.
+    pub fn next_line<R: Read>(
+        &mut self,
+        rec: &mut Tally<R>,
+        line: &mut Vec<u8>,
+    ) -> Result<bool, ReadFault>
+        requires { has_failed rec.old ≡ false }
+        ensures takes { IfOk result (λ found. found ≡ true → TakesLine (pending_of R.remaining self.old rec.old) (pending_of R.remaining self.new rec.new) line.new.items) }
+        ensures end { IfOk result (λ found. found ≡ false → IsAtEnd (pending_of R.remaining self.old rec.old)) }
+        ensures room { IfOk result (λ found. found ≡ true → room_of self.new rec.new < room_of self.old rec.old) }
+        ensures err { IfErr result (λ f. (f ≡ fault.Device) ⊎ (f ≡ fault.OutOfMemory)) }
+        ensures device { IsErrOf result fault.Device ↔ (has_failed rec.new ≡ true) }
+    {
+        line.clear();
+        'parts: loop {
+            let Ok(ended) = self.take_part(line) else {
+                return Err(ReadFault::OutOfMemory);
+            };
+            if ended {
+                return Ok(true);
+            }
+            let Ok(more) = self.refill(rec) else {
+                return Err(ReadFault::Device);
+            };
+            if !more {
+                return Ok(!line.is_empty());
+            }
+        }
+    }
+
+    // Gives what was read of the line, and answers whether the line ends there.
+    fn take_part(&mut self, line: &mut Vec<u8>) -> Result<bool, AllocError>
+        ensures part { IfOk result (λ ended. (part : List ℕ) × HasNoEnd part × (line.new.items ≡ line.old.items ++ part)
+            × (ahead_of self.old ≡ part ++ (if ended then 10 ∷ [] else []) ++ ahead_of self.new)) }
+        ensures ahead { IfOk result (λ ended. ended ≡ false → ahead_of self.new ≡ []) }
+    {
+        let ahead = &self.buffer[self.at..self.filled];
+        match line_end(ahead) {
+            Some(n) => {
+                line.extend_from_slice(&ahead[..n])?;
+                self.at += n + 1;
+                Ok(true)
+            }
+            None => {
+                line.extend_from_slice(ahead)?;
+                self.at = self.filled;
+                Ok(false)
+            }
+        }
+    }
+
+    // Reads on, where all that was read is given, and answers whether there was more.
+    fn refill<R: Read>(&mut self, rec: &mut Tally<R>) -> Result<bool, Device>
+        requires { ahead_of self.old ≡ [] }
+        ensures keeps { OnOk result (Keeps (pending_of R.remaining self.old rec.old) (pending_of R.remaining self.new rec.new)) }
+        ensures end { IfOk result (λ more. more ≡ false → IsAtEnd (pending_of R.remaining self.new rec.new)) }
+        ensures left { IfOk result (λ more. more ≡ true → left_of rec.new < left_of rec.old) }
+        ensures room { OnOk result (room_of self.new rec.new ≡ room_of self.old rec.old) }
+        ensures device { IsErr result ↔ (has_failed rec.new ≡ true) }
+    {
+        let n = rec.pull(&mut self.buffer)?;
+        self.at = 0;
+        self.filled = n;
+        Ok(n > 0)
+    }
+}
+
+// Where the first line feed is.
+fn line_end(bytes: &[u8]) -> Option<usize>
+    ensures found { IfSome result (λ n. (n < length bytes.now) × HasNoEnd (take n bytes.now) × (slice_index bytes.now n ≡ 10)) }
+    ensures none { IfNone result (HasNoEnd bytes.now) }
+{
+    for (i, byte) in bytes.iter().enumerate() {
+        if *byte == b'\n' {
+            return Some(i);
+        }
+    }
+    None
+}

@@ -1,0 +1,123 @@
+//! The text form of a recording, read entry by entry.
+
+ghost use Rattle.std.specs.Prelude.{◌≡◌, ◌≢◌, ◌↔◌, ◌∷◌, ◌<◌, ◌≤◌, [], false, true, IsErrOf, IfOk, IfErr, IfSome, OnOk, Some, List};
+ghost use Rattle.a429_word.specs.Tally.{has_failed};
+ghost use Rattle.a429_record.specs.Row.{Row, entry_in};
+ghost use Rattle.a429_record.specs.Recording.{told, most_entries};
+
+use crate::entry::Entry;
+use crate::fault::ReadFault;
+use crate::line::{LineEntry, LineRow, entry_in_line, row_in_line};
+use crate::lines::Lines;
+use crate::row::is_header_row;
+use a429_word::Tally;
+use std::alloc::Global;
+use std::io::Read;
+
+// How many entries a recording may have.
+const MOST_ENTRIES: usize = 1_000_000;
+
+/// How far a text recording was read: what was read of the reader and not yet given, how many
+/// entries were given, and the time of the last of them.
+#[derive(Drop)]
+pub struct TextReader {
+    alloc: Global,
+    lines: Lines,
+    line: Vec<u8>,
+    count: usize,
+    last: u64,
+    ghost in_range: { count ≤ most_entries },
+}
+
+impl TextReader {
+    ghost use Rattle.a429_record.specs.Pending.{ahead_of, room_of};
+    ghost use Rattle.a429_record.specs.Left.{rows_left, left_of, TakesHeader, Tells, Follows};
+    ghost use Rattle.a429_record.specs.declared.fault.ReadFault.TheVariants as fault;
+
+    /// Nothing was read.
+    pub fn new(alloc: Global) -> Self
+        ensures ahead { ahead_of result.lines ≡ [] }
+        ensures count { result.count ≡ 0 }
+        ensures last { result.last ≡ 0 }
+    {
+        TextReader {
+            alloc,
+            lines: Lines::new(),
+            line: Vec::new(alloc),
+            count: 0,
+            last: 0,
+        }
+    }
+
+    /// Reads the header, which comes before the first entry.
+    pub fn header<R: Read>(&mut self, rec: &mut Tally<R>) -> Result<(), ReadFault>
+        requires { has_failed rec.old ≡ false }
+        ensures takes { TakesHeader (rows_left R.remaining self.old rec.old) (rows_left R.remaining self.new rec.new) result }
+        ensures count { self.new.count ≡ self.old.count }
+        ensures last { self.new.last ≡ self.old.last }
+        ensures device { IsErrOf result fault.Device ↔ (has_failed rec.new ≡ true) }
+    {
+        'lines: loop {
+            match self.lines.next_line(rec, &mut self.line) {
+                Ok(true) => {}
+                Ok(false) => return Err(ReadFault::Header),
+                Err(fault) => return Err(fault),
+            }
+            match row_in_line(self.alloc, self.line.as_slice()) {
+                Ok(LineRow::Blank) => {}
+                Ok(LineRow::One(row)) => {
+                    if is_header_row(&row) {
+                        return Ok(());
+                    }
+                    return Err(ReadFault::Header);
+                }
+                Ok(LineRow::Several) => return Err(ReadFault::Header),
+                Err(fault) => return Err(fault),
+            }
+        }
+    }
+
+    /// Reads the next entry, where there is one. The header was read before.
+    pub fn next<R: Read>(&mut self, rec: &mut Tally<R>) -> Result<Option<Entry>, ReadFault>
+        requires { has_failed rec.old ≡ false }
+        ensures tells { Tells (left_of R.remaining self.old rec.old) (left_of R.remaining self.new rec.new) result }
+        ensures follows { IfOk result (λ o. IfSome o (λ e. Follows self.old self.new e)) }
+        ensures room { IfOk result (λ o. IfSome o (λ _. room_of self.new.lines rec.new < room_of self.old.lines rec.old)) }
+        ensures device { IsErrOf result fault.Device ↔ (has_failed rec.new ≡ true) }
+    {
+        'lines: loop {
+            match self.lines.next_line(rec, &mut self.line) {
+                Ok(true) => {}
+                Ok(false) => return Ok(None),
+                Err(fault) => return Err(fault),
+            }
+            match entry_in_line(self.alloc, self.line.as_slice()) {
+                Ok(LineEntry::Blank) => {}
+                Ok(LineEntry::One(entry)) => return self.take_row(Some(entry)),
+                Ok(LineEntry::Bad) => return self.take_row(None),
+                Err(fault) => return Err(fault),
+            }
+        }
+    }
+
+    // Takes a row for the next entry, which it may not be.
+    fn take_row(&mut self, row: Option<Entry>) -> Result<Option<Entry>, ReadFault>
+        ensures tells { (r : Row) (rows : List Row) → entry_in r ≡ row → Tells (Some (told self.old.count self.old.last (r ∷ rows))) (Some (told self.new.count self.new.last rows)) result }
+        ensures follows { IfOk result (λ o. IfSome o (λ e. Follows self.old self.new e)) }
+        ensures lines { self.new.lines ≡ self.old.lines }
+        ensures err { IfErr result (λ f. f ≢ fault.Device) }
+    {
+        if self.count == MOST_ENTRIES {
+            return Err(ReadFault::TooMany);
+        }
+        let Some(entry) = row else {
+            return Err(ReadFault::Row(self.count));
+        };
+        if entry.time < self.last {
+            return Err(ReadFault::TimeBack(self.count));
+        }
+        self.count += 1;
+        self.last = entry.time;
+        Ok(Some(entry))
+    }
+}

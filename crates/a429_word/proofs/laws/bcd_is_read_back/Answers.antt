@@ -1,0 +1,5 @@
+use Rattle.a429_word.proofs.Digits.{bcd-read}
+use Rattle.a429_word.proofs.laws.bcd_is_read_back.Goals as goal
+
+pub returns : goal.returns
+returns c = bcd-read

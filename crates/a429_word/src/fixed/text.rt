@@ -1,0 +1,112 @@
+//! A short text that is put together from its end, without taking memory.
+
+ghost use Rattle.std.specs.Prelude.{◌≡◌, ◌+◌, ◌/◌, ◌%◌, ◌^◌, ◌<◌, ◌≤◌, [], ◌∷◌, ◌++◌, length};
+ghost use Rattle.std.specs.Fmt.{decimal};
+ghost use Rattle.a429_word.specs.Written.{numeral};
+ghost use Rattle.a429_word.specs.Fixed.{sign_text, with_point};
+
+use std::marker::Model;
+
+// More than a sign, the 39 digits of the largest number, a point and 24 decimals.
+const ROOM: usize = 72;
+
+/// The bytes from `start` on.
+#[derive(Drop)]
+pub struct Text {
+    bytes: [u8; ROOM],
+    start: usize,
+}
+
+impl Model for Text {
+    ghost use Rattle.std.specs.Prelude.{List, ℕ, drop, ◌≤◌};
+
+    ghost Value = { List ℕ };
+
+    ghost view = { λ t. drop t.start t.bytes };
+
+    ghost invariant = { λ t. t.start ≤ 72 };
+}
+
+impl Text {
+    /// A text of no bytes.
+    pub fn new() -> Text
+        ensures { result ≡ [] }
+    {
+        Text {
+            bytes: [0; ROOM],
+            start: ROOM,
+        }
+    }
+
+    /// The whole text.
+    pub fn as_slice(&self) -> &[u8]
+        ensures { result.now ≡ self.now }
+    {
+        &self.bytes[self.start..]
+    }
+
+    /// Puts the number's last digits in front, count of them, and answers the number without them.
+    pub fn push_decimals(&mut self, number: u128, count: u8) -> u128
+        requires { length self.old + count ≤ 72 }
+        ensures text { self.new ≡ numeral 10 count number ++ self.old }
+        ensures len { length self.new ≡ length self.old + count }
+        ensures rest { result ≡ number / 10 ^ count }
+    {
+        let mut rest = number;
+        for _ in 0..count {
+            self.push_digit(rest);
+            rest /= 10;
+        }
+        rest
+    }
+
+    /// Puts a point in front, where there is something behind it.
+    pub fn push_point(&mut self)
+        requires { length self.old < 72 }
+        ensures { self.new ≡ with_point self.old }
+    {
+        if self.start < ROOM {
+            self.push_front(b'.');
+        }
+    }
+
+    /// Puts the number in front, in as few digits as it needs.
+    pub fn push_whole(&mut self, number: u128)
+        requires { length self.old ≤ 32 }
+        ensures text { self.new ≡ decimal number ++ self.old }
+        ensures len { length self.new ≤ length self.old + 39 }
+    {
+        self.push_digit(number);
+        let mut rest = number / 10;
+        while rest > 0 {
+            self.push_digit(rest);
+            rest /= 10;
+        }
+    }
+
+    /// Puts a minus sign in front, where there is to be one.
+    pub fn push_sign(&mut self, is_negative: bool)
+        requires { length self.old < 72 }
+        ensures { self.new ≡ sign_text is_negative ++ self.old }
+    {
+        if is_negative {
+            self.push_front(b'-');
+        }
+    }
+
+    // Puts the number's last digit in front.
+    fn push_digit(&mut self, number: u128)
+        requires { length self.old < 72 }
+        ensures { self.new ≡ (48 + number % 10) ∷ self.old }
+    {
+        self.push_front(b'0' + (number % 10) as u8);
+    }
+
+    fn push_front(&mut self, byte: u8)
+        requires { length self.old < 72 }
+        ensures { self.new ≡ byte ∷ self.old }
+    {
+        self.start -= 1;
+        self.bytes[self.start] = byte;
+    }
+}
