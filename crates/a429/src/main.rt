@@ -4,12 +4,10 @@
 use a429_check::{Command, RunFault, command, report, run_labels, run_word};
 use a429_word::{Failing, Tally};
 use std::alloc::Global;
-use std::env;
-use std::fs;
-use std::io;
 use std::io::{BufWriter, ErrorKind, Read, Write};
 use std::process::ExitCode;
 use std::rt::{Env, Files};
+use std::{env, fs, io};
 
 // How many bytes of a profile are read at most.
 const PROFILE_CAP: u64 = 67_108_864;

@@ -4,3 +4,5 @@ pub mod LabelArrays
 pub mod FirstFault
 pub mod Lookup
 pub mod Kept
+pub mod OneEntry
+pub mod Distinct

@@ -1,5 +1,5 @@
 -- The entry of a label and an SDI, looked up and sought.
-use Rattle.std.proofs.Common.{◌≡◌, ℕ, List, [], ◌∷◌, ◌++◌, map, Bool, true, false, ◌&&◌, ◌||◌, ◌==◌, Option, Some, None, if◌then◌else◌, refl, sym, ap, ◌∙◌, rules}
+use Rattle.std.proofs.Common.{◌≡◌, ℕ, List, [], ◌∷◌, ◌++◌, Bool, true, false, ◌&&◌, ◌||◌, ◌==◌, Option, Some, None, if◌then◌else◌, refl, sym, ap, ◌∙◌}
 use Rattle.std.specs.List.{list_any, find}
 use Rattle.std.specs.Map.{lookup}
 use Rattle.std.proofs.lemmas.Bool.{and_parts, eqb-true}
@@ -32,7 +32,7 @@ ApartAfter-no_clash c earlier (e ∷ es) h =
     (or_parts (e.label == c.to_sink) (e.label == c.to_source) _ parts.0, ApartAfter-no_clash c (earlier ++ e ∷ []) es parts.1)
 
 -- an entry meets none of some others
-abbrev MeetsNone : LabelEntry → List LabelEntry → Type 0
+abbrev pub MeetsNone : LabelEntry → List LabelEntry → Type 0
 MeetsNone e [] = Unit {0}
 MeetsNone e (o ∷ os) = (entries_meet e o ≡ false) × MeetsNone e os
 
@@ -40,7 +40,7 @@ abbrev Clear : List LabelEntry → List LabelEntry → Type 0
 Clear [] es = Unit {0}
 Clear (o ∷ os) es = MeetsNone o es × Clear os es
 
-abbrev Apart : List LabelEntry → Type 0
+abbrev pub Apart : List LabelEntry → Type 0
 Apart [] = Unit {0}
 Apart (e ∷ es) = MeetsNone e es × Apart es
 
@@ -66,7 +66,7 @@ clear_of : (earlier es : List LabelEntry) → ApartAfter earlier es → Clear ea
 clear_of earlier [] h = clear_nil earlier
 clear_of earlier (e ∷ es) h = clear_cons earlier e es h.0 (clear_of (earlier ++ e ∷ []) es h.1)
 
-apart_of : (earlier es : List LabelEntry) → ApartAfter earlier es → Apart es
+pub apart_of : (earlier es : List LabelEntry) → ApartAfter earlier es → Apart es
 apart_of earlier [] h = tt
 apart_of earlier (e ∷ es) h = (clear_last earlier e es (clear_of (earlier ++ e ∷ []) es h.1), apart_of (earlier ++ e ∷ []) es h.1)
 
@@ -83,7 +83,7 @@ pub record AreTests (label sdi : ℕ) (open_at stated_at : ℕ × Option ℕ →
   pub stated_none : (l : ℕ) → stated_at (l, None) ≡ false
   pub stated_some : (l s : ℕ) → stated_at (l, Some s) ≡ ((label == l) && (sdi == s))
 
-and_true_false : (a b : Bool) → b ≡ true → (a && b) ≡ false → a ≡ false
+pub and_true_false : (a b : Bool) → b ≡ true → (a && b) ≡ false → a ≡ false
 and_true_false true b e h = absurd (cc)
 and_true_false false b e h = refl
 
@@ -159,7 +159,7 @@ and_false false = refl
 
 -- ---- what a profile's document says of its clashes
 
-first_or_none : (a b : Option ProfileFault) → first_or a b ≡ None → (a ≡ None) × (b ≡ None)
+pub first_or_none : (a b : Option ProfileFault) → first_or a b ≡ None → (a ≡ None) × (b ≡ None)
 first_or_none (Some f) b h = absurd (cc)
 first_or_none None b h = (refl, h)
 

@@ -1,5 +1,5 @@
 -- A loop a turn further.
-use Rattle.std.proofs.Common.{◌≡◌, ℕ, suc, ◌+◌, ◌<◌, List, ◌∷◌, ◌++◌, [], length, get_or, take, drop, map, Bool, true, false, ◌&&◌, ◌==◌, if◌then◌else◌, Some, None, sym, ap, ◌∙◌, arith, append_assoc}
+use Rattle.std.proofs.Common.{◌≡◌, ℕ, suc, ◌+◌, ◌<◌, List, ◌∷◌, ◌++◌, [], length, get_or, take, drop, map, Bool, true, false, ◌==◌, if◌then◌else◌, Some, None, sym, ap, ◌∙◌, arith, append_assoc}
 use Rattle.std.specs.List.{list_all, list_any}
 use Rattle.std.proofs.lemmas.Bool.{and_parts}
 use Rattle.std.proofs.lemmas.List.{drop_more, take_more}

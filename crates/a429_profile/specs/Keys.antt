@@ -1,5 +1,5 @@
 -- The keys of a profile as data, and what is wrong at a key (profile).
-use Rattle.std.specs.Prelude.{ℕ, suc, List, [], ◌∷◌, ◌++◌, Bool, true, false, nat_eq, codes, Option, Some, None, if◌then◌else◌}
+use Rattle.std.specs.Prelude.{ℕ, List, [], ◌∷◌, Bool, true, false, codes, Option, Some, None, if◌then◌else◌}
 use Rattle.toml.specs.Data.{Data, Members, get_member, as_table}
 use Rattle.a429_profile.specs.declared.key.Key.{Key}
 use Rattle.a429_profile.specs.declared.key.Key.TheVariants as at

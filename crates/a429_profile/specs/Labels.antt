@@ -1,6 +1,5 @@
 -- What the label table of a profile says, and what is wrong with it (profile).
-use Rattle.std.specs.Prelude.{ℕ, suc, List, [], ◌∷◌, map, Bool, true, false, codes, Option, Some, None, option_map, unwrap_or, if◌then◌else◌}
-use Rattle.std.specs.List.{list_all}
+use Rattle.std.specs.Prelude.{ℕ, suc, List, [], ◌∷◌, map, Bool, true, codes, Option, Some, None, unwrap_or, if◌then◌else◌}
 use Rattle.toml.specs.Data.{Data, Members, no_members, get_member, as_table}
 use Rattle.a429_profile.specs.declared.entry.Kind.{Kind}
 use Rattle.a429_profile.specs.declared.entry.Kind.TheVariants as kind
@@ -12,8 +11,8 @@ use Rattle.a429_profile.specs.declared.key.LabelKey.{LabelKey}
 use Rattle.a429_profile.specs.declared.key.LabelKey.TheVariants as label
 use Rattle.a429_profile.specs.declared.fault.ProfileFault.{ProfileFault}
 use Rattle.a429_profile.specs.declared.fault.ProfileFault.TheVariants.{WrongKind}
-use Rattle.a429_profile.specs.Rules.{Rule, text_of, number_of, octal_number, elements_of, flag_of, kind_word_of, is_table, is_array_of}
-use Rattle.a429_profile.specs.Keys.{Place, nothing, no_section, value, place_fault, label_row, label_place, first_or}
+use Rattle.a429_profile.specs.Rules.{text_of, number_of, octal_number, elements_of, flag_of, kind_word_of, is_table, is_array_of}
+use Rattle.a429_profile.specs.Keys.{Place, nothing, value, place_fault, label_row, label_place, first_or}
 use Rattle.a429_profile.specs.Sections.{value_in}
 
 -- ---- one table of `label`

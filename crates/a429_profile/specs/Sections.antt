@@ -1,5 +1,5 @@
 -- What the sections of a profile say (profile).
-use Rattle.std.specs.Prelude.{ℕ, List, [], map, Bool, false}
+use Rattle.std.specs.Prelude.{ℕ, List, map, Bool, false}
 use Rattle.toml.specs.Data.{Data, boolean, Members}
 use Rattle.a429_profile.specs.declared.codes.Codes.{Codes}
 use Rattle.a429_profile.specs.declared.codes.Check.{Check}
@@ -9,7 +9,7 @@ use Rattle.a429_profile.specs.declared.codes.ProtocolCodes.{ProtocolCodes}
 use Rattle.a429_profile.specs.declared.key.SectionKey.{SectionKey}
 use Rattle.a429_profile.specs.declared.key.SectionKey.TheVariants as key
 use Rattle.a429_profile.specs.Rules.{text_of, octal_number, number_of, truth_of, elements_of}
-use Rattle.a429_profile.specs.Keys.{Place, nothing, no_section, value, section_place}
+use Rattle.a429_profile.specs.Keys.{Place, value, section_place}
 
 -- the value at a place; where there is none, one that says nothing
 abbrev pub value_in : Place → Data

@@ -8,6 +8,7 @@ mod fault;
 mod flags;
 mod key;
 mod labels;
+pub mod laws;
 mod profile;
 mod value;
 

@@ -1,4 +1,4 @@
-use Rattle.std.proofs.Common.{◌≡◌, ◌∙◌, sym, arith}
+use Rattle.std.proofs.Common.{◌∙◌, sym, arith}
 use Rattle.a429_profile.proofs.Turns.{bit_after-next, bit_after-here}
 use Rattle.a429_profile.proofs.clash.bit_twin.Goals as goal
 

@@ -1,4 +1,4 @@
-use Rattle.std.proofs.Common.{◌≡◌, ◌++◌, [], take, drop}
+use Rattle.std.proofs.Common.{◌≡◌, [], take, drop}
 use Rattle.a429_profile.specs.Clash.{bit_after}
 use Rattle.a429_profile.proofs.clash.bit_twin.Given as goal
 

@@ -1,4 +1,4 @@
-use Rattle.std.proofs.Common.{◌≡◌, ◌++◌, [], take, drop}
+use Rattle.std.proofs.Common.{◌≡◌, drop}
 use Rattle.a429_profile.specs.Clash.{key_of}
 use Rattle.a429_profile.proofs.clash.key_of.Given as goal
 

@@ -1,4 +1,4 @@
-use Rattle.std.proofs.Common.{◌≡◌, ◌++◌, [], take, drop}
+use Rattle.std.proofs.Common.{◌≡◌, ◌++◌, take}
 use Rattle.a429_profile.specs.Clash.{all_named}
 use Rattle.a429_profile.proofs.clash.named.Given as goal
 

@@ -1,4 +1,4 @@
-use Rattle.std.proofs.Common.{◌≡◌, ◌++◌, [], take, drop}
+use Rattle.std.proofs.Common.{◌≡◌, [], take, drop}
 use Rattle.a429_profile.specs.Clash.{twins_after}
 use Rattle.a429_profile.proofs.clash.twins.Given as goal
 

@@ -1,5 +1,4 @@
-use Rattle.std.proofs.Common.{◌≡◌, ◌∙◌, ap, sym, refl, map}
-use Rattle.std.proofs.lemmas.Bool.{and_parts}
+use Rattle.std.proofs.Common.{◌∙◌, ap, sym, refl, map}
 use Rattle.toml.specs.View.{view}
 use Rattle.a429_profile.specs.Rules.{flag_of}
 use Rattle.a429_profile.proofs.Elements.{value_fault-flags, map-flag_of}

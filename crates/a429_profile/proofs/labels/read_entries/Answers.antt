@@ -1,4 +1,4 @@
-use Rattle.std.proofs.Common.{◌≡◌, ◌<◌, ◌∙◌, ap, sym, length, arith, map, drop, ◌++◌, ◌+◌}
+use Rattle.std.proofs.Common.{◌<◌, ◌∙◌, sym, length, arith}
 use Rattle.toml.specs.View.{view}
 use Rattle.a429_profile.specs.Rules.{is_table}
 use Rattle.a429_profile.specs.Labels.{entry_in_table, table_of}

@@ -1,6 +1,5 @@
-use Rattle.std.proofs.Common.{◌≡◌, ◌∙◌, ap, sym}
+use Rattle.std.proofs.Common.{◌∙◌, sym}
 use Rattle.toml.specs.View.{view}
-use Rattle.a429_profile.specs.Labels.{array_fault, entries_in}
 use Rattle.a429_profile.proofs.LabelArrays.{array_fault-tables, entries_in-tables}
 use Rattle.a429_profile.proofs.labels.read_labels.Goals as goal
 

@@ -1,5 +1,5 @@
 use Rattle.std.proofs.Common.{◌∙◌, ap}
-use Rattle.a429_profile.specs.Table.{entries_of, AreKeyed}
+use Rattle.a429_profile.specs.Table.{entries_of}
 use Rattle.a429_profile.proofs.Kept.{key_of, insert_entry-apart, entries_of-end, AreKeyed-end}
 use Rattle.a429_profile.proofs.profile.keep.Goals as goal
 

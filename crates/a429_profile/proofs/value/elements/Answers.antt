@@ -1,5 +1,3 @@
-use Rattle.std.proofs.Common.{◌≡◌, ◌∙◌, Some, option_map, ap, sym}
-use Rattle.toml.specs.View.{items_view}
 use Rattle.a429_profile.proofs.Elements.{list_of-items_view}
 use Rattle.a429_profile.proofs.value.elements.Goals as goal
 

@@ -1,4 +1,4 @@
-use Rattle.std.proofs.Common.{◌≡◌, ◌∙◌, ap, sym, arith, map}
+use Rattle.std.proofs.Common.{◌∙◌, ap, sym, arith, map}
 use Rattle.toml.specs.View.{view}
 use Rattle.a429_profile.specs.Rules.{number_of, byte_of}
 use Rattle.a429_profile.proofs.Elements.{value_fault-not_between, map-byte_of, map-four}

@@ -1,4 +1,4 @@
-use Rattle.std.proofs.Common.{◌≡◌, ◌∙◌, ap, sym, option_map}
+use Rattle.std.proofs.Common.{ap, option_map}
 use Rattle.std.proofs.lemmas.Option.{slice_get-map}
 use Rattle.a429_profile.specs.Table.{Kept}
 use Rattle.a429_profile.proofs.profile.Profile.entries.Goals as goal

@@ -1,5 +1,4 @@
-use Rattle.std.proofs.Common.{◌≡◌, ◌∙◌, ap, refl, sym}
-use Rattle.a429_profile.specs.Contents.{Contents}
+use Rattle.std.proofs.Common.{refl}
 use Rattle.a429_profile.proofs.Lookup.{find-open, find-stated, and_true, and_false, ApartAfter-IsProfile}
 use Rattle.a429_profile.proofs.profile.Profile.entry.Goals as goal
 

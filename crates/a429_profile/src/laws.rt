@@ -1,0 +1,18 @@
+//! Laws of the definitions that the contracts of this crate cite.
+
+ghost use Rattle.std.specs.Prelude.{ℕ, ◌≤◌, ◌∷◌, ◌++◌, [], length, nat_eq};
+ghost use Rattle.std.specs.List.{filter, IsDistinct};
+ghost use Rattle.a429_profile.specs.Contents.{Contents, IsProfile, is_for};
+
+/// At most one entry of a profile is for words of one label and SDI.
+pub fn a_word_has_one_entry()
+    ensures { (contents : Contents) (label sdi : ℕ) → IsProfile contents → length (filter (is_for label sdi) contents.labels) ≤ 1 }
+{}
+
+/// The types of a profile differ from one another and from the ignored ones, and so do its codes and
+/// its codes of partial words.
+pub fn no_number_is_given_twice()
+    ensures types { (c : Contents) → IsProfile c → IsDistinct nat_eq ((c.codes.full ∷ c.codes.partial ∷ c.codes.protocol ∷ c.codes.sot ∷ c.codes.eot ∷ []) ++ c.codes.ignored_types) }
+    ensures codes { (c : Contents) → IsProfile c → IsDistinct nat_eq ((c.codes.rts ∷ c.codes.cts ∷ c.codes.ack ∷ c.codes.nak ∷ []) ++ c.codes.ignored_codes) }
+    ensures partial_codes { (c : Contents) → IsProfile c → IsDistinct nat_eq c.codes.partial_codes }
+{}
