@@ -1,7 +1,7 @@
 //! The program `a429`: reads its words, opens what the command names, and ends with its status.
 #![tactic(auto)]
 
-use a429_check::{Command, RunFault, command, report, run_labels, run_word};
+use a429_check::{Command, RunFault, command, report, run_labels, run_show, run_word};
 use a429_word::{Failing, Tally};
 use std::alloc::Global;
 use std::io::{BufWriter, ErrorKind, Read, Write};
@@ -9,8 +9,8 @@ use std::process::ExitCode;
 use std::rt::{Env, Files};
 use std::{env, fs, io};
 
-// How many bytes of a profile are read at most.
-const PROFILE_CAP: u64 = 67_108_864;
+// How many bytes of a profile or a recording are read at most.
+const CAP: u64 = 67_108_864;
 
 fn main(rt: HostRuntime) -> ExitCode {
     let status = match run(&rt) {
@@ -32,6 +32,11 @@ fn run(rt: &(impl Files + Env + Print + AllocGlobal)) -> Result<u8, RunFault> {
             let profile = read_whole(rt, alloc, profile)?;
             run_labels(alloc, profile.as_slice(), &mut out)?
         }
+        Command::Show { profile, recording } => {
+            let profile = read_whole(rt, alloc, profile)?;
+            let mut rec = opened(rt, recording)?;
+            run_show(alloc, profile.as_slice(), &mut rec, &mut out)?
+        }
     };
     out.flush().map_err(|_| RunFault::Device)?;
     Ok(status)
@@ -46,10 +51,15 @@ fn words_of(rt: &(impl Env + AllocGlobal), alloc: Global) -> Result<Vec<String>,
     Ok(args.skip(1).collect(alloc)?)
 }
 
+// A file to read. One that cannot be opened is told as one that fails.
+fn opened<F: Files>(rt: &F, path: &str) -> Result<Tally<F::File>, RunFault> {
+    let file = fs::open(rt, path).map_err(|_| RunFault::Device)?;
+    Ok(Tally::new(file, CAP))
+}
+
 // The bytes of a file.
 fn read_whole(rt: &impl Files, alloc: Global, path: &str) -> Result<Vec<u8>, RunFault> {
-    let file = fs::open(rt, path).map_err(|_| RunFault::Device)?;
-    let mut file = Tally::new(file, PROFILE_CAP);
+    let mut file = opened(rt, path)?;
     let mut bytes = Vec::new(alloc);
     match file.read_to_end(&mut bytes) {
         Ok(_) => Ok(bytes),

@@ -2,3 +2,5 @@ pub mod RunFault
 pub mod ProfileBytes
 pub mod WordLines
 pub mod LabelLines
+pub mod ShowLines
+pub mod RecordingBytes

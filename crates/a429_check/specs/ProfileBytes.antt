@@ -9,7 +9,7 @@ use Rattle.a429_profile.specs.Contents.{Contents, Answers, fault_of}
 use Rattle.a429_profile.specs.declared.fault.ProfileFault.{ProfileFault}
 use Rattle.a429_profile.specs.declared.fault.ProfileFault.TheVariants.{NotToml}
 use Rattle.a429_check.specs.declared.fault.RunFault.{RunFault}
-use Rattle.a429_check.specs.declared.fault.RunFault.TheVariants.{BadWord, Profile, Device, Memory, Usage}
+use Rattle.a429_check.specs.declared.fault.RunFault.TheVariants.{BadWord, Profile, Read, Device, Memory, Usage}
 
 -- the bytes are the text of a profile that says this
 abbrev pub IsProfileOf : List ℕ → Contents → Type 0
@@ -24,21 +24,13 @@ abbrev pub IsProfileFault : List ℕ → RunFault → Type 0
 IsProfileFault bytes (Profile f) = HasFault bytes f
 IsProfileFault bytes Memory = Unit {0}
 IsProfileFault bytes BadWord = ⊥
+IsProfileFault bytes (Read f) = ⊥
 IsProfileFault bytes Device = ⊥
 IsProfileFault bytes Usage = ⊥
 
--- the document of a profile without a fault, and the label table that it says
-abbrev pub HasNoFault : Option Members → Type 0
-HasNoFault None = ⊥
-HasNoFault (Some doc) = fault_of doc ≡ None
-
-abbrev pub labels_in : Option Members → List LabelEntry
-labels_in None = []
-labels_in (Some doc) = labels_of doc
-
 -- the bytes are the text of some profile
 abbrev pub IsSound : List ℕ → Type 0
-IsSound bytes = IsUtf8 bytes × HasNoFault (parse_document bytes)
+IsSound bytes = (contents : Contents) × IsProfileOf bytes contents
 
 -- why `labels` may fail: the profile's own fault, a writer that failed after the profile was read, or want of memory
 abbrev pub IsLabelsFault : List ℕ → Bool → RunFault → Type 0
@@ -46,4 +38,5 @@ IsLabelsFault bytes failed (Profile f) = HasFault bytes f
 IsLabelsFault bytes failed Device = IsSound bytes × (failed ≡ true)
 IsLabelsFault bytes failed Memory = Unit {0}
 IsLabelsFault bytes failed BadWord = ⊥
+IsLabelsFault bytes failed (Read f) = ⊥
 IsLabelsFault bytes failed Usage = ⊥

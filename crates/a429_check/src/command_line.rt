@@ -29,6 +29,10 @@ pub fn command<'a>(alloc: Global, words: &'a [String]) -> Result<Command<'a>, Ru
             Some(profile) => Ok(Command::Labels(profile)),
             None => Err(RunFault::Usage),
         },
+        Some(("show", given)) => match (given.get_str("PROFILE"), given.get_str("REC")) {
+            (Some(profile), Some(recording)) => Ok(Command::Show { profile, recording }),
+            _ => Err(RunFault::Usage),
+        },
         _ => Err(RunFault::Usage),
     }
 }
@@ -39,7 +43,8 @@ fn parser<'a>(alloc: Global) -> Result<Parser<'a>, AllocError> {
         .no_binary_name(true)
         .subcommand_required(true)
         .subcommand(with_words(alloc, "word", &["HEX"])?)?
-        .subcommand(with_words(alloc, "labels", &["PROFILE"])?)
+        .subcommand(with_words(alloc, "labels", &["PROFILE"])?)?
+        .subcommand(with_words(alloc, "show", &["PROFILE", "REC"])?)
 }
 
 // A command that takes these words, each of them once.

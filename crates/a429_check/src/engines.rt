@@ -3,4 +3,6 @@
 pub mod labels;
 mod output;
 mod profile;
+mod recording;
+pub mod show;
 pub mod word;

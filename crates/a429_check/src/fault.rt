@@ -5,6 +5,7 @@ ghost use Rattle.a429_check.specs.RunFault.{status_of};
 ghost use Rattle.a429_check.specs.declared.fault.RunFault.TheVariants as fault;
 
 use a429_profile::ProfileFault;
+use a429_record::ReadFault;
 use a429_word::{Device, Tally};
 use std::alloc::AllocError;
 use std::io::Write;
@@ -19,6 +20,9 @@ pub enum RunFault {
     /// The profile has this fault, its first one.
     #[error("profile: {0}")]
     Profile(ProfileFault),
+    /// The recording has this fault, its first one.
+    #[error("recording: {0}")]
+    Read(ReadFault),
     /// A reader or a writer failed, or a file could not be opened.
     #[error("device")]
     Device,
@@ -53,7 +57,7 @@ impl RunFault {
         ensures { result ≡ status_of self }
     {
         match self {
-            RunFault::BadWord | RunFault::Profile(_) => 3,
+            RunFault::BadWord | RunFault::Profile(_) | RunFault::Read(_) => 3,
             RunFault::Device | RunFault::Memory => 4,
             RunFault::Usage => 5,
         }

@@ -6,3 +6,6 @@ pub mod Lookup
 pub mod Kept
 pub mod OneEntry
 pub mod Distinct
+pub mod Values
+pub mod Ranges
+pub mod EntryRanges

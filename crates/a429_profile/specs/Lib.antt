@@ -5,3 +5,5 @@ pub mod Labels
 pub mod Clash
 pub mod Contents
 pub mod Table
+pub mod Shown
+pub mod Ranges

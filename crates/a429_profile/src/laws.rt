@@ -3,6 +3,7 @@
 ghost use Rattle.std.specs.Prelude.{ℕ, ◌≤◌, ◌∷◌, ◌++◌, [], length, nat_eq};
 ghost use Rattle.std.specs.List.{filter, IsDistinct};
 ghost use Rattle.a429_profile.specs.Contents.{Contents, IsProfile, is_for};
+ghost use Rattle.a429_profile.specs.Ranges.{AreInRange};
 
 /// At most one entry of a profile is for words of one label and SDI.
 pub fn a_word_has_one_entry()
@@ -15,4 +16,9 @@ pub fn no_number_is_given_twice()
     ensures types { (c : Contents) → IsProfile c → IsDistinct nat_eq ((c.codes.full ∷ c.codes.partial ∷ c.codes.protocol ∷ c.codes.sot ∷ c.codes.eot ∷ []) ++ c.codes.ignored_types) }
     ensures codes { (c : Contents) → IsProfile c → IsDistinct nat_eq ((c.codes.rts ∷ c.codes.cts ∷ c.codes.ack ∷ c.codes.nak ∷ []) ++ c.codes.ignored_codes) }
     ensures partial_codes { (c : Contents) → IsProfile c → IsDistinct nat_eq c.codes.partial_codes }
+{}
+
+/// Each number of a profile lies in its range.
+pub fn each_number_lies_in_its_range()
+    ensures { (c : Contents) → IsProfile c → AreInRange c }
 {}

@@ -10,6 +10,7 @@ mod key;
 mod labels;
 pub mod laws;
 mod profile;
+mod shown;
 mod value;
 
 pub use crate::codes::{Check, Codes};
@@ -17,3 +18,4 @@ pub use crate::entry::{Flag, Flags, Kind, LabelEntry, Numbers, Text};
 pub use crate::fault::ProfileFault;
 pub use crate::key::{Key, LabelKey, SectionKey};
 pub use crate::profile::{Profile, read_profile};
+pub use crate::shown::{Shown, Status};

@@ -1,11 +1,12 @@
 //! A profile: what its text says, and its entries by label.
 
-ghost use Rattle.std.specs.Prelude.{◌≡◌, ◌≢◌, [], ◌∷◌, ◌++◌, false, Some, None, Err, IfOk, IfErr, OnOk, option_map, slice_get, length};
+ghost use Rattle.std.specs.Prelude.{◌≡◌, ◌≢◌, [], ◌∷◌, ◌++◌, false, Some, None, Err, IfOk, IfErr, IfSome, OnOk, option_map, slice_get, length};
 ghost use Rattle.std.specs.List.{find, list_any};
 ghost use Rattle.a429_profile.specs.Clash.{entries_meet};
 ghost use Rattle.toml.specs.Parse.{parse_document};
 ghost use Rattle.toml.specs.View.{table_view};
 ghost use Rattle.a429_profile.specs.Contents.{Answers, IsProfile, contents_of, fault_of, is_for};
+ghost use Rattle.a429_profile.specs.Shown.{IsInRange};
 ghost use Rattle.a429_profile.specs.Table.{entries_of, AreKeyed, ApartAfter};
 
 use crate::clash::first_clash;
@@ -145,7 +146,8 @@ impl Profile {
     /// The entry for words of this label and SDI, 0 to 3: the one with this label whose SDI is this
     /// one or not stated.
     pub fn entry(&self, label: u8, sdi: u8) -> Option<&LabelEntry>
-        ensures { option_map (λ e. e.now) result ≡ find (is_for label sdi) self.now.labels }
+        ensures entry { option_map (λ e. e.now) result ≡ find (is_for label sdi) self.now.labels }
+        ensures range { IfSome result (λ e. IsInRange e.now.kind) }
     {
         match self.labels.get(&(label, None)) {
             Some(entry) => Some(entry),

@@ -20,7 +20,8 @@ use Rattle.a429_record.specs.Row.{line_rows}
 use Rattle.a429_record.specs.Line.{line_entries}
 use Rattle.a429_record.specs.Recording.{lines_of, rows_of, stands_for, whole, IsRecordable}
 use Rattle.a429_record.specs.Whole.{AreEntries}
-use Rattle.a429_record.specs.Written.{bus_text, line_text, written_form}
+use Rattle.a429_word.specs.Written.{bus_text}
+use Rattle.a429_record.specs.Written.{line_text, written_form}
 use Rattle.a429_record.proofs.Digits.{time_in-is, word_in-reads}
 use Rattle.a429_record.proofs.PlainLines.{AllHigh, high, plain_line}
 use Rattle.a429_record.proofs.LineEnds.{HasNoEnd-append, lines_of-ended}

@@ -10,7 +10,8 @@ use Rattle.a429_word.specs.declared.bus.Bus.{Bus}
 use Rattle.a429_word.specs.declared.bus.Bus.TheVariants.{A, B}
 use Rattle.a429_word.specs.Written.{numeral, hex_text}
 use Rattle.a429_record.specs.declared.entry.Entry.{Entry}
-use Rattle.a429_record.specs.Written.{bus_text, line_text}
+use Rattle.a429_word.specs.Written.{bus_text}
+use Rattle.a429_record.specs.Written.{line_text}
 use Rattle.a429_record.proofs.Digits.{all_digits-from}
 use Rattle.a429_record.proofs.PlainLines.{AllHigh, plain, digits_high}
 

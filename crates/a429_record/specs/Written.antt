@@ -3,15 +3,8 @@ use Rattle.std.specs.Prelude.{◌≡◌, ℕ, List, ◌++◌, flat_map, codes, f
 use Rattle.std.specs.Fmt.{decimal}
 use Rattle.csv.specs.Writing.{default_writer, writer_setup, fields_written, has_written}
 use Rattle.csv.specs.declared.writer.Writer.{Writer}
-use Rattle.a429_word.specs.declared.bus.Bus.{Bus}
-use Rattle.a429_word.specs.declared.bus.Bus.TheVariants.{A, B}
-use Rattle.a429_word.specs.Written.{hex_text}
+use Rattle.a429_word.specs.Written.{bus_text, hex_text}
 use Rattle.a429_record.specs.declared.entry.Entry.{Entry}
-
--- the letter of a bus
-abbrev pub bus_text : Bus → List ℕ
-bus_text A = codes "A"
-bus_text B = codes "B"
 
 -- the line of an entry
 abbrev pub line_text : Entry → List ℕ

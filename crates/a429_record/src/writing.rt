@@ -4,14 +4,15 @@ ghost use Rattle.std.specs.Prelude.{◌≡◌, ◌↔◌, true, Some, codes, map
 ghost use Rattle.std.specs.Io.KnownBytes.{Appends};
 ghost use Rattle.csv.specs.Writing.{text_written, row_text, default_writer};
 ghost use Rattle.a429_word.specs.Tally.{inner_of, has_failed};
-ghost use Rattle.a429_record.specs.Written.{bus_text, line_text, written_form, IsBetween};
+ghost use Rattle.a429_record.specs.Written.{line_text, written_form, IsBetween};
 ghost use Rattle.a429_record.specs.Recording.{IsRecordable};
 ghost use Rattle.a429_record.specs.declared.fault.WriteFault.TheVariants as fault;
 
 use crate::entry::Entry;
 use crate::fault::WriteFault;
-use a429_word::{Bus, Device, Failing, Tally};
+use a429_word::{Device, Failing, Tally};
 use csv::Writer;
+use itoa::Buffer;
 use std::alloc::Global;
 use std::io::Write;
 
@@ -45,7 +46,7 @@ fn text_of(alloc: Global, entries: &[Entry]) -> Result<Vec<u8>, WriteFault>
     let mut writer = Writer::from_writer(Vec::new(alloc));
     put_row(&mut writer, &[b"time", b"bus", b"word"])?;
     for entry in entries {
-        put_entry(alloc, &mut writer, *entry)?;
+        put_entry(&mut writer, *entry)?;
     }
     match writer.into_inner() {
         Ok(text) => Ok(text),
@@ -54,20 +55,17 @@ fn text_of(alloc: Global, entries: &[Entry]) -> Result<Vec<u8>, WriteFault>
 }
 
 // Writes the line of an entry.
-fn put_entry(alloc: Global, writer: &mut Writer<Vec<u8>>, entry: Entry) -> Result<(), WriteFault>
+fn put_entry(writer: &mut Writer<Vec<u8>>, entry: Entry) -> Result<(), WriteFault>
     requires { IsBetween writer.old }
     ensures ok { OnOk result (Appends (text_written (λ v. Some v.items) writer.old) (text_written (λ v. Some v.items) writer.new) (line_text entry)) }
     ensures between { OnOk result (IsBetween writer.new) }
     ensures err { IfErr result (λ f. f ≡ fault.OutOfMemory) }
 {
-    let Ok(time) = format!(in alloc; "{}", entry.time) else {
-        return Err(WriteFault::OutOfMemory);
-    };
+    let mut buffer = Buffer::new();
+    let time = buffer.format(entry.time).as_bytes();
+    let bus = entry.bus.letter().as_bytes();
     let hex = entry.word.hex();
-    put_row(
-        writer,
-        &[time.as_str().as_bytes(), bus_letter(entry.bus), &hex],
-    )
+    put_row(writer, &[time, bus, &hex])
 }
 
 // Writes a record of these fields.
@@ -80,15 +78,6 @@ fn put_row(writer: &mut Writer<Vec<u8>>, fields: &[&[u8]]) -> Result<(), WriteFa
     match writer.write_fields(fields) {
         Ok(()) => Ok(()),
         Err(_) => Err(WriteFault::OutOfMemory),
-    }
-}
-
-fn bus_letter(bus: Bus) -> &'static [u8]
-    ensures { result.now ≡ bus_text bus }
-{
-    match bus {
-        Bus::A => b"A",
-        Bus::B => b"B",
     }
 }
 

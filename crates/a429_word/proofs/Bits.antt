@@ -81,10 +81,13 @@ label-masked w = ap (λ n. reverse_bits_onto 8 n 0) (and_mask w 8) ∙ label-is 
 pub sdi-masked : (w : ℕ) → bit_and (w / 256) 3 ≡ sdi_of w
 sdi-masked w = masked w 8 2
 
+pub field-masked : (w : ℕ) → bit_and (w / 1024) 524287 ≡ field_of w
+field-masked w = masked w 10 19
+
 pub ssm-masked : (w : ℕ) → bit_and (w / 536870912) 3 ≡ ssm_of w
 ssm-masked w = masked w 29 2
 
-pub ruleset fields = (label-masked, sdi-masked, ssm-masked)
+pub ruleset fields = (label-masked, sdi-masked, field-masked, ssm-masked)
 
 -- ---- parity
 

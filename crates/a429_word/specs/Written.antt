@@ -1,7 +1,9 @@
--- How words and labels are written: words in hexadecimal (profile), labels in octal (ARINC 429 Part 1).
-use Rattle.std.specs.Prelude.{ℕ, zero, suc, ◌/◌, ◌%◌, ◌^◌, ◌≡◌, List, [], ◌∷◌, length, true, Option, Some, None}
+-- How words and labels are written: words in hexadecimal and buses by a letter (profile), labels in octal (ARINC 429 Part 1).
+use Rattle.std.specs.Prelude.{ℕ, zero, suc, ◌/◌, ◌%◌, ◌^◌, ◌≡◌, List, [], ◌∷◌, length, true, codes, Option, Some, None}
 use Rattle.std.specs.Fmt.{digit_glyph}
 use Rattle.std.specs.Str.Parse.{digits_value, AllDigits}
+use Rattle.a429_word.specs.declared.bus.Bus.{Bus}
+use Rattle.a429_word.specs.declared.bus.Bus.TheVariants.{A, B}
 
 -- the last count digits of n in a base, the most significant first, in upper case
 unfoldable pub numeral : ℕ → ℕ → ℕ → List ℕ
@@ -15,6 +17,11 @@ hex_text w = numeral 16 8 w
 -- a label in three octal digits
 abbrev pub octal_text : ℕ → List ℕ
 octal_text label = numeral 8 3 label
+
+-- the letter of a bus
+abbrev pub bus_text : Bus → List ℕ
+bus_text A = codes "A"
+bus_text B = codes "B"
 
 -- eight hexadecimal digits, of either case
 abbrev pub IsHexWord : List ℕ → Type 0

@@ -1,5 +1,8 @@
 //! The two buses of a pair.
 
+ghost use Rattle.std.specs.Prelude.{◌≡◌};
+ghost use Rattle.a429_word.specs.Written.{bus_text};
+
 /// A bus carries the words of one transmitter (ARINC 429 Part 1).
 #[derive(Clone, Copy, Debug, PartialEq, Eq)]
 pub enum Bus {
@@ -7,4 +10,16 @@ pub enum Bus {
     A,
     /// From the sink back to the source.
     B,
+}
+
+impl Bus {
+    /// The bus's letter, as recordings and commands write it.
+    pub fn letter(self) -> &'static str
+        ensures { result.now ≡ bus_text self }
+    {
+        match self {
+            Bus::A => "A",
+            Bus::B => "B",
+        }
+    }
 }

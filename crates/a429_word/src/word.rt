@@ -54,6 +54,14 @@ impl Word {
         (self.0 >> 8 & 3) as u8
     }
 
+    /// The data field, bits 11 to 29 (Part 1), of which bit 11 is its lowest.
+    #[tactic(auto, using(crate::proofs::Bits::fields))]
+    pub fn field(self) -> u32
+        ensures { result ≡ field_of self }
+    {
+        self.0 >> 10 & 0x7_FFFF
+    }
+
     /// The sign/status matrix, bits 30 and 31 (Part 1): 0 to 3, bit 30 its lower one.
     #[tactic(auto, using(crate::proofs::Bits::fields))]
     pub fn ssm(self) -> u8

@@ -7,4 +7,9 @@ pub enum Command<'a> {
     Word(&'a str),
     /// `labels PROFILE`: lists the label table of a profile.
     Labels(&'a str),
+    /// `show PROFILE REC`: shows the words of a recording by a profile.
+    Show {
+        profile: &'a str,
+        recording: &'a str,
+    },
 }

@@ -24,6 +24,12 @@ fn words_of_a_command(rt: HostRuntime) -> Result<(), Fail> {
     }
     let words = strings(alloc, &["labels", "bench.toml"])?;
     assert!(rt; command(alloc, words.as_slice()) == Ok(Command::Labels("bench.toml")));
+    let words = strings(alloc, &["show", "bench.toml", "bench.csv"])?;
+    let show = Command::Show {
+        profile: "bench.toml",
+        recording: "bench.csv",
+    };
+    assert!(rt; command(alloc, words.as_slice()) == Ok(show));
     let after_options = strings(alloc, &["word", "--", "-5"])?;
     assert!(rt; command(alloc, after_options.as_slice()) == Ok(Command::Word("-5")));
     Ok(())
@@ -32,8 +38,10 @@ fn words_of_a_command(rt: HostRuntime) -> Result<(), Fail> {
 #[test]
 fn other_words_are_usage(rt: HostRuntime) -> Result<(), Fail> {
     let alloc = rt.alloc();
-    let cases: [&[&str]; 16] = [
+    let cases: [&[&str]; 18] = [
         &["labels"],
+        &["show", "bench.toml"],
+        &["show", "bench.toml", "bench.csv", "other.csv"],
         &["labels", "bench.toml", "other.toml"],
         &[],
         &[""],

@@ -3,8 +3,8 @@
 ghost use Rattle.std.specs.Prelude.{◌≡◌, ◌≢◌, ◌↔◌, true, IsErr, IfOk, IfErr, OnOk};
 ghost use Rattle.std.specs.Io.KnownBytes.{Appends};
 ghost use Rattle.a429_word.specs.Tally.{inner_of, has_failed};
-ghost use Rattle.toml.specs.Parse.{parse_document};
-ghost use Rattle.a429_check.specs.ProfileBytes.{IsSound, IsLabelsFault, labels_in};
+ghost use Rattle.a429_profile.specs.Contents.{Contents};
+ghost use Rattle.a429_check.specs.ProfileBytes.{IsProfileOf, IsLabelsFault};
 ghost use Rattle.a429_check.specs.LabelLines.{sdi_text, kind_text, address_text, label_line, label_lines};
 
 use crate::engines::output::put_decimal;
@@ -22,8 +22,9 @@ pub fn run_labels<W: Write>(
     profile: &[u8],
     out: &mut Tally<W>,
 ) -> Result<u8, RunFault>
-    ensures ok { IfOk result (λ status. (status ≡ 0) × IsSound profile.now) }
-    ensures lines { OnOk result (Appends (W.contents (inner_of out.old)) (W.contents (inner_of out.new)) (label_lines (labels_in (parse_document profile.now)))) }
+    ensures ok { IfOk result (λ status. status ≡ 0) }
+    ensures lines { OnOk result ((contents : Contents) × IsProfileOf profile.now contents
+        × Appends (W.contents (inner_of out.old)) (W.contents (inner_of out.new)) (label_lines contents.labels)) }
     ensures err { IfErr result (IsLabelsFault profile.now (has_failed out.new)) }
     ensures silent { IfErr result (λ e. e ≢ RunFault.Device → out.new ≡ out.old) }
 {

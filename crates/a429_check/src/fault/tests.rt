@@ -2,14 +2,31 @@
 
 use crate::{RunFault, report};
 use a429_profile::{Key, LabelKey, ProfileFault, SectionKey};
+use a429_record::ReadFault;
 use a429_word::Tally;
 
 #[test]
 fn each_fault_has_its_line_and_status(rt: HostRuntime) {
     let in_section = Key::Section(SectionKey::ToSink);
     let in_label = Key::Label(12, LabelKey::Octal);
-    let cases: [(RunFault, &[u8], u8); 14] = [
+    let cases: [(RunFault, &[u8], u8); 18] = [
         (RunFault::BadWord, b"bad word\n", 3),
+        (RunFault::Read(ReadFault::Header), b"recording: header\n", 3),
+        (
+            RunFault::Read(ReadFault::Row(12)),
+            b"recording: row 12\n",
+            3,
+        ),
+        (
+            RunFault::Read(ReadFault::TimeBack(1)),
+            b"recording: time back 1\n",
+            3,
+        ),
+        (
+            RunFault::Read(ReadFault::TooMany),
+            b"recording: too many\n",
+            3,
+        ),
         (
             RunFault::Profile(ProfileFault::NotToml),
             b"profile: not toml\n",

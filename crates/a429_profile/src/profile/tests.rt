@@ -8,6 +8,7 @@ use std::test::Fail;
 mod clashes;
 mod label_keys;
 mod section_keys;
+mod shown_words;
 
 const SAMPLE: &str = r#"[transfer]
 to_sink = "304"

@@ -9,6 +9,7 @@ fn fields_of_known_words(rt: HostRuntime) {
     assert_eq!(rt; altitude.to_u32(), 0xe138_80c1);
     assert_eq!(rt; altitude.label(), 0o203);
     assert_eq!(rt; altitude.sdi(), 0);
+    assert_eq!(rt; altitude.field(), 0x4e20);
     assert_eq!(rt; altitude.ssm(), 3);
     assert!(rt; altitude.parity_ok());
 

@@ -1,0 +1,41 @@
+-- The lines of a recording, entry by entry.
+use Rattle.std.proofs.Common.{◌≡◌, ℕ, ◌+◌, ◌<◌, List, [], ◌∷◌, ◌++◌, length, take, get_or, sym, ap, ◌∙◌, append-nil, append_assoc, refl, Bool, true, false, ◌≢◌, ◌⊎◌, inl, inr, Option, Some, None}
+use Rattle.std.specs.List.{flat_map}
+use Rattle.std.specs.Option.{IfSome}
+use Rattle.std.specs.Io.KnownBytes.{Appends}
+use Rattle.std.proofs.lemmas.Grind.{flat_map-append}
+use Rattle.std.proofs.lemmas.List.{take_more}
+use Rattle.a429_profile.specs.declared.entry.Flag.{Flag}
+use Rattle.a429_profile.specs.Contents.{Contents}
+use Rattle.a429_record.specs.declared.entry.Entry.{Entry}
+use Rattle.a429_record.specs.Recording.{stands_for, whole}
+use Rattle.a429_check.specs.ShowLines.{flag_text, IsShowLine, AreShowLines, Shows}
+use Rattle.a429_check.specs.ProfileBytes.{IsProfileOf}
+
+pub flags_text-more : (field : ℕ) (fs : List Flag) (i : ℕ) (f : Flag) → i < length fs → f ≡ get_or fs i f → flat_map (flag_text field) (take (i + 1) fs) ≡ flat_map (flag_text field) (take i fs) ++ flag_text field f
+flags_text-more field fs i f h found =
+    ap (flat_map (flag_text field)) (take_more fs i f h ∙ ap (λ x. take i fs ++ x ∷ []) (sym found))
+    ∙ flat_map-append (flag_text field) (take i fs) (f ∷ []) ∙ ap (λ t. flat_map (flag_text field) (take i fs) ++ t) (append-nil (flag_text field f))
+
+-- a further entry's line
+pub AreShowLines-more : (p : Contents) (es : List Entry) (e : Entry) (text line : List ℕ) → AreShowLines p es text → IsShowLine p e line → AreShowLines p (es ++ e ∷ []) (text ++ line)
+AreShowLines-more p [] e text line none is = (line, [], is, refl, ap (λ t. t ++ line) none ∙ sym (append-nil line))
+AreShowLines-more p (x ∷ xs) e text line lines is =
+    let first = lines.0 in
+    let rest = lines.1 in
+    (first, rest ++ line, lines.2, AreShowLines-more p xs e rest line lines.3 is, ap (λ t. t ++ line) lines.4 ∙ append_assoc first rest line)
+
+-- the lines up to an entry, and those with it
+pub AreShowLines-next : (p : Contents) (es : List Entry) (i : ℕ) (e : Entry) (text line : List ℕ) → i < length es → e ≡ get_or es i e → AreShowLines p (take i es) text → IsShowLine p e line → AreShowLines p (take (i + 1) es) (text ++ line)
+AreShowLines-next p es i e text line h found lines is = rw (take_more es i e h ∙ ap (λ x. take i es ++ x ∷ []) (sym found)) (AreShowLines-more p (take i es) e text line lines is)
+
+-- where a reader has not failed, a fault of the device is the writer's
+pub not_the_reader : {E P : Type 0} (e : E) (failed : Bool) → failed ≡ false → (e ≢ e) ⊎ (failed ≡ true) → P
+not_the_reader e failed h (inl other) = absurd (other refl)
+not_the_reader e failed h (inr is) = absurd (cc)
+
+-- what was written is what the recording's bytes show
+pub shows_told : (profile : List ℕ) (contents : Contents) (entries : List Entry) (written : List ℕ) (old new told : Option (List ℕ)) → IsProfileOf profile contents → AreShowLines contents entries written → Appends old new written
+    → IfSome told (λ bytes. stands_for bytes ≡ whole entries) → IfSome told (λ bytes. (text : List ℕ) × Shows profile bytes text × Appends old new text)
+shows_told profile contents entries written old new None of lines appended stand = tt
+shows_told profile contents entries written old new (Some bytes) of lines appended stand = (written, record { contents = contents; entries = entries; is_profile = of; stand = stand; lines = lines }, appended)

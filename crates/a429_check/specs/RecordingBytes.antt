@@ -1,0 +1,32 @@
+-- What is wrong with the bytes of a recording (profile).
+use Rattle.std.specs.Prelude.{◌≡◌, ◌≢◌, ◌⊎◌, ℕ, List, Bool, true, Option, Some, IfSome}
+use Rattle.a429_record.specs.declared.fault.ReadFault.{ReadFault}
+use Rattle.a429_record.specs.declared.fault.ReadFault.TheVariants as read
+use Rattle.a429_record.specs.Recording.{stands_for}
+use Rattle.a429_check.specs.declared.fault.RunFault.{RunFault}
+use Rattle.a429_check.specs.declared.fault.RunFault.TheVariants.{BadWord, Profile, Read, Device, Memory, Usage}
+use Rattle.a429_check.specs.ProfileBytes.{IsSound, HasFault}
+
+-- the first fault of a recording's bytes, where the reader tells them; a failed reader and want of memory are no faults of a recording
+abbrev pub IsFaultOf : Option (List ℕ) → ReadFault → Type 0
+IsFaultOf told read.Device = ⊥
+IsFaultOf told read.OutOfMemory = ⊥
+IsFaultOf told f = IfSome told (λ bytes. (stands_for bytes).fault ≡ Some f)
+
+-- why a recording could not be read: its own fault, a reader that failed, or want of memory
+abbrev pub IsReadFault : Option (List ℕ) → Bool → RunFault → Type 0
+IsReadFault told failed (Read f) = IsFaultOf told f
+IsReadFault told failed Device = failed ≡ true
+IsReadFault told failed Memory = Unit {0}
+IsReadFault told failed BadWord = ⊥
+IsReadFault told failed (Profile f) = ⊥
+IsReadFault told failed Usage = ⊥
+
+-- why `show` may fail: the profile's own fault, then the recording's, a reader or writer that failed after the profile was read, or want of memory
+abbrev pub IsShowFault : List ℕ → Option (List ℕ) → Bool → Bool → RunFault → Type 0
+IsShowFault profile told rec_failed out_failed (Profile f) = HasFault profile f
+IsShowFault profile told rec_failed out_failed (Read f) = IsSound profile × IsFaultOf told f
+IsShowFault profile told rec_failed out_failed Device = IsSound profile × ((rec_failed ≡ true) ⊎ (out_failed ≡ true))
+IsShowFault profile told rec_failed out_failed Memory = Unit {0}
+IsShowFault profile told rec_failed out_failed BadWord = ⊥
+IsShowFault profile told rec_failed out_failed Usage = ⊥
