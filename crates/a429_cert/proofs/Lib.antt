@@ -1,0 +1,9 @@
+pub mod Options
+pub mod Digits
+pub mod Fields
+pub mod Numbers
+pub mod Letters
+pub mod WordFields
+pub mod Lines
+pub mod Kept
+pub mod Shape

@@ -1,0 +1,5 @@
+use Rattle.a429_cert.proofs.Lines.{one-text, one-line}
+use Rattle.a429_cert.proofs.laws.a_line_has_one_spelling.Goals as goal
+
+pub returns : goal.returns
+returns c = record { text = one-text; line = one-line }

@@ -1,0 +1,5 @@
+use Rattle.a429_cert.proofs.Lines.{read-back}
+use Rattle.a429_cert.proofs.laws.read_is_written_back.Goals as goal
+
+pub returns : goal.returns
+returns c = read-back

@@ -1,0 +1,5 @@
+use Rattle.a429_cert.proofs.Lines.{written-back}
+use Rattle.a429_cert.proofs.laws.written_is_read_back.Goals as goal
+
+pub returns : goal.returns
+returns c = written-back

@@ -1,0 +1,28 @@
+//! Laws of the definitions that the contracts of this crate cite.
+
+ghost use Rattle.std.specs.Prelude.{◌≡◌, ◌≤◌, ℕ, List, length, Option, Some};
+ghost use Rattle.std.specs.List.{AllByRecursion};
+ghost use Rattle.a429_cert.specs.declared.line.CertLine.{CertLine};
+ghost use Rattle.a429_cert.specs.Line.{spelling, IsLine, IsHeld, Spells, Reads};
+
+/// A line has one spelling, and no two lines have the same.
+pub fn a_line_has_one_spelling()
+    ensures text { (v w : List ℕ) (l : CertLine) → Spells v l → Spells w l → v ≡ w }
+    ensures line { (text : List ℕ) (l m : CertLine) → Spells text l → Spells text m → l ≡ m }
+{}
+
+/// What `write_line` appends of a line, `read_line` reads as that line.
+pub fn written_is_read_back()
+    ensures { (l : CertLine) (read : Option CertLine) → IsLine l → IsHeld l → Reads (spelling l) read → read ≡ Some l }
+{}
+
+/// What `read_line` reads as a line, `write_line` appends of it.
+pub fn read_is_written_back()
+    ensures { (text : List ℕ) (l : CertLine) → Reads text (Some l) → IsLine l × (spelling l ≡ text) }
+{}
+
+/// A line has no control characters, so no line feed, and at most 2,287 bytes.
+pub fn lines_are_short_ascii()
+    ensures ascii { (l : CertLine) → IsLine l → IsHeld l → AllByRecursion (λ b. (32 ≤ b) × (b ≤ 126)) (spelling l) }
+    ensures short { (l : CertLine) → IsLine l → IsHeld l → length (spelling l) ≤ 2287 }
+{}

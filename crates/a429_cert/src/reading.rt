@@ -1,0 +1,138 @@
+//! Lines, read.
+
+ghost use Rattle.std.specs.Prelude.{◌≡◌, codes, take, IfOk, OnErr};
+ghost use Rattle.a429_cert.specs.Line.{Reads};
+ghost use Rattle.a429_cert.specs.Reading.{words_at, words_in, first_in, load_in, moved_in, line_in};
+
+use crate::fault::OutOfMemory;
+use crate::field::{cut, hex_at, number_at};
+use crate::line::CertLine;
+use crate::states::{act_of, sink_at, source_at};
+use crate::words::Words;
+use a429_word::Word;
+use std::alloc::Global;
+
+// How many bytes a word takes in a line: a space and eight digits.
+const WORD_LEN: usize = 9;
+
+// How many words a link data unit has at most.
+const MOST_WORDS: usize = 253;
+
+/// Reads a line of a certificate, which comes without its line feed: the one line whose spelling the
+/// bytes are, and `None` where they spell no line. Only the words of a link data unit take memory.
+pub fn read_line(alloc: Global, line: &[u8]) -> Result<Option<CertLine>, OutOfMemory>
+    ensures ok { IfOk result (λ read. Reads line.now read) }
+    ensures err { OnErr result (take 1 line.now ≡ codes "L") }
+{
+    line_of(alloc, line)
+}
+
+// A line, by its first field.
+#[tactic(auto, unfolding(crate::specs::Reading::line_in))]
+fn line_of(alloc: Global, line: &[u8]) -> Result<Option<CertLine>, OutOfMemory>
+    ensures ok { IfOk result (λ read. read ≡ line_in line.now) }
+    ensures err { OnErr result (take 1 line.now ≡ codes "L") }
+{
+    let (head, rest) = cut(line);
+    if head == b"first".as_slice() {
+        Ok(first_of(rest))
+    } else if head == b"L".as_slice() {
+        load_of(alloc, rest)
+    } else {
+        Ok(moved_of(head, rest))
+    }
+}
+
+// The number of the first file.
+#[tactic(auto, unfolding(crate::specs::Reading::first_in))]
+fn first_of(text: &[u8]) -> Option<CertLine>
+    ensures { result ≡ first_in text.now }
+{
+    let (file, rest) = number_at(text)?;
+    if rest.is_empty() {
+        Some(CertLine::First(file))
+    } else {
+        None
+    }
+}
+
+// A link data unit.
+#[tactic(auto, unfolding(crate::specs::Reading::load_in))]
+fn load_of(alloc: Global, text: &[u8]) -> Result<Option<CertLine>, OutOfMemory>
+    ensures { IfOk result (λ read. read ≡ load_in text.now) }
+{
+    let Some((gfi, rest)) = hex_at(text, 1) else {
+        return Ok(None);
+    };
+    let Some((flags, rest)) = hex_at(rest, 1) else {
+        return Ok(None);
+    };
+    let Some((check, rest)) = hex_at(rest, 4) else {
+        return Ok(None);
+    };
+    let Some(words) = words_of(alloc, rest)? else {
+        return Ok(None);
+    };
+    Ok(Some(CertLine::Load {
+        gfi: gfi as u8,
+        flags: flags as u8,
+        check: check as u16,
+        words,
+    }))
+}
+
+// 1 to 253 words.
+#[tactic(auto, unfolding(crate::specs::Reading::words_in))]
+fn words_of(alloc: Global, text: &[u8]) -> Result<Option<Words>, OutOfMemory>
+    ensures { IfOk result (λ read. read ≡ words_in text.now) }
+{
+    let count = text.len() / WORD_LEN;
+    if 1 <= count && count <= MOST_WORDS {
+        words_at(alloc, count, text)
+    } else {
+        Ok(None)
+    }
+}
+
+// So many words, and nothing behind them.
+fn words_at(alloc: Global, count: usize, text: &[u8]) -> Result<Option<Words>, OutOfMemory>
+    ensures { IfOk result (λ read. read ≡ words_at count text.now) }
+{
+    let mut words = Vec::with_capacity(alloc, count)?;
+    let mut rest = text;
+    'words: for _ in 0..count {
+        let Some((number, after)) = hex_at(rest, 8) else {
+            return Ok(None);
+        };
+        words.push(Word::from_u32(number))?;
+        rest = after;
+    }
+    if rest.is_empty() {
+        Ok(Some(Words::new(words)))
+    } else {
+        Ok(None)
+    }
+}
+
+// A step, by its letter, and what it leaves.
+#[tactic(auto, unfolding(crate::specs::Reading::moved_in))]
+fn moved_of(letter: &[u8], text: &[u8]) -> Option<CertLine>
+    ensures { result ≡ moved_in letter.now text.now }
+{
+    let act = act_of(letter)?;
+    let (source, rest) = source_at(text)?;
+    let (sink, rest) = sink_at(rest)?;
+    let (to_sink, rest) = number_at(rest)?;
+    let (to_source, rest) = number_at(rest)?;
+    if rest.is_empty() {
+        Some(CertLine::Moved {
+            act,
+            source,
+            sink,
+            to_sink,
+            to_source,
+        })
+    } else {
+        None
+    }
+}

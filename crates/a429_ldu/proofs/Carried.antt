@@ -1,0 +1,248 @@
+-- The bytes that data words carry, word by word.
+use Rattle.std.proofs.Common.{◌≡◌, ℕ, zero, suc, ◌+◌, ◌*◌, ◌/◌, ◌%◌, ◌^◌, ◌<◌, ◌≤◌, Bool, true, false, cond, ◌||◌, nat_le, List, [], ◌∷◌, ◌++◌, length, take, get_or, Option, Some, None, IfSome, is_some, refl, sym, ap, ◌∙◌, arith, subst, append_assoc, append-nil, bit_or}
+use Rattle.std.specs.List.{AllByRecursion, concat}
+use Rattle.std.specs.Option.{option_to_list, option_map, option_and_then}
+use Rattle.std.proofs.lemmas.List.{take_more, take_all}
+use Rattle.std.proofs.lemmas.Nat.{or_shifted}
+use Rattle.a429_word.specs.declared.bus.Bus.{Bus}
+use Rattle.a429_word.specs.declared.bus.Bus.TheVariants as bus
+use Rattle.a429_profile.specs.declared.codes.Codes.{Codes}
+use Rattle.a429_profile.specs.Contents.{Contents, IsProfile}
+use Rattle.a429_ldu.specs.declared.forms.Form.{Form}
+use Rattle.a429_ldu.specs.declared.forms.Form.TheVariants.{Rts, Cts, Ack, Nak, Sot, Part, Eot}
+use Rattle.a429_ldu.specs.declared.sight.Sight.{Sight}
+use Rattle.a429_ldu.specs.declared.sight.Sight.TheVariants as sight
+use Rattle.a429_ldu.specs.Semis.{semis_of_bytes}
+use Rattle.a429_ldu.specs.Form.{fields_of, is_free, form_on, form_of, sight_in, sight_of}
+use Rattle.a429_ldu.specs.Carried.{AreDataWords, CarryBytes, semis_in, joined_to, semis_of_words, paired, if_some, bytes_carried}
+use Rattle.a429_ldu.proofs.Joined.{form_of-is, form_is_not_free}
+
+-- ---- a word's form, from what it is
+
+abbrev pub form_in : Sight → Option Form
+form_in (sight.Form x) = Some x
+form_in _ = None
+
+form_in-sight_in : (o : Option Form) → form_in (sight_in o) ≡ o
+form_in-sight_in (Some x) = refl
+form_in-sight_in None = refl
+
+pub form_of-sight : (c : Codes) (b : Bus) (w : ℕ) → form_in (sight_of c b w) ≡ form_of c b w
+form_of-sight c b w = by_test (is_free c b w)
+  where
+    by_test : (t : Bool) → form_in (cond t sight.Free (sight_in (cond (t || nat_le (2 ^ 32) w) None (form_on c b (fields_of w))))) ≡ cond (t || nat_le (2 ^ 32) w) None (form_on c b (fields_of w))
+    by_test true = refl
+    by_test false = form_in-sight_in _
+
+-- ---- semi-octets of words, one word more
+
+joined_nil : (o : Option (List ℕ)) → joined_to o (Some []) ≡ o
+joined_nil (Some xs) = ap Some (append-nil xs)
+joined_nil None = refl
+
+joined_assoc : (a b c : Option (List ℕ)) → joined_to (joined_to a b) c ≡ joined_to a (joined_to b c)
+joined_assoc (Some xs) (Some ys) (Some zs) = ap Some (append_assoc xs ys zs)
+joined_assoc (Some xs) (Some ys) None = refl
+joined_assoc (Some xs) None c = refl
+joined_assoc None b c = refl
+
+joined_from_nil : (o : Option (List ℕ)) → joined_to (Some []) o ≡ o
+joined_from_nil (Some xs) = refl
+joined_from_nil None = refl
+
+words-append : (c : Codes) (vs ws : List ℕ) → semis_of_words c (vs ++ ws) ≡ joined_to (semis_of_words c vs) (semis_of_words c ws)
+words-append c [] ws = sym (joined_from_nil (semis_of_words c ws))
+words-append c (v ∷ vs) ws =
+    ap (joined_to (semis_in (form_of c bus.A v))) (words-append c vs ws) ∙ sym (joined_assoc (semis_in (form_of c bus.A v)) (semis_of_words c vs) (semis_of_words c ws))
+
+words-more : (c : Codes) (ws : List ℕ) (i w : ℕ) → i < length ws → w ≡ get_or ws i w → semis_of_words c (take (i + 1) ws) ≡ joined_to (semis_of_words c (take i ws)) (semis_in (form_of c bus.A w))
+words-more c ws i w h e =
+    ap (semis_of_words c) (take_more ws i w h ∙ ap (λ v. take i ws ++ v ∷ []) (sym e)) ∙ words-append c (take i ws) (w ∷ []) ∙ ap (joined_to (semis_of_words c (take i ws))) (joined_nil (semis_in (form_of c bus.A w)))
+
+-- a data word more
+pub word-more : (c : Codes) (ws : List ℕ) (i w : ℕ) (read semis next : List ℕ) → i < length ws → w ≡ get_or ws i w → semis_of_words c (take i ws) ≡ Some read → Some semis ≡ semis_in (form_of c bus.A w) → next ≡ read ++ semis → semis_of_words c (take (i + 1) ws) ≡ Some next
+word-more c ws i w read semis next h e er es en =
+    words-more c ws i w h e ∙ ap (λ o. joined_to o (semis_in (form_of c bus.A w))) er ∙ ap (joined_to (Some read)) (sym es) ∙ ap Some (sym en)
+
+-- no semi-octets where a word is no data word
+words-none : (c : Codes) (ws : List ℕ) (i w : ℕ) → i < length ws → w ≡ get_or ws i w → semis_in (form_of c bus.A w) ≡ None → semis_of_words c ws ≡ None
+words-none c [] i w h e n = absurd (omega arith)
+words-none c (v ∷ ws) zero w h e n = ap (λ u. joined_to (semis_in (form_of c bus.A u)) (semis_of_words c ws)) (sym e) ∙ ap (λ o. joined_to o (semis_of_words c ws)) n
+words-none c (v ∷ ws) (suc i) w h e n = ap (joined_to (semis_in (form_of c bus.A v))) (words-none c ws i w (omega arith) e n) ∙ nothing (semis_in (form_of c bus.A v))
+  where
+    nothing : (o : Option (List ℕ)) → joined_to o None ≡ None
+    nothing (Some xs) = refl
+    nothing None = refl
+
+-- ---- bytes of semi-octets
+
+byte_again : (b : ℕ) → b % 16 + 16 * (b / 16) ≡ b
+byte_again b = omega arith
+
+paired-bytes : (bs : List ℕ) → paired (semis_of_bytes bs) ≡ Some bs
+paired-bytes [] = refl
+paired-bytes (b ∷ bs) = ap (option_map (λ ns. (b % 16 + 16 * (b / 16)) ∷ ns)) (paired-bytes bs) ∙ ap (λ n. Some (n ∷ bs)) (byte_again b)
+
+paired-odd : (bs : List ℕ) (d : ℕ) → paired (semis_of_bytes bs ++ d ∷ []) ≡ None
+paired-odd [] d = refl
+paired-odd (b ∷ bs) d = ap (option_map (λ ns. (b % 16 + 16 * (b / 16)) ∷ ns)) (paired-odd bs d)
+
+-- one semi-octet more
+pub digit-low : (bs : List ℕ) (low : Option ℕ) (d : ℕ) → low ≡ None → semis_of_bytes bs ++ d ∷ [] ≡ (semis_of_bytes bs ++ option_to_list low) ++ d ∷ []
+digit-low bs low d e = ap (λ xs. xs ++ d ∷ []) (sym (ap (λ o. semis_of_bytes bs ++ option_to_list o) e ∙ append-nil (semis_of_bytes bs)))
+
+semis-append : (bs cs : List ℕ) → semis_of_bytes (bs ++ cs) ≡ semis_of_bytes bs ++ semis_of_bytes cs
+semis-append [] cs = refl
+semis-append (b ∷ bs) cs = ap (λ xs. b % 16 ∷ b / 16 ∷ xs) (semis-append bs cs)
+
+byte_low : (n l h : ℕ) → l < 16 → n ≡ h * 16 + l → n % 16 ≡ l
+byte_low n l h small e = omega arith
+
+byte_high : (n l h : ℕ) → l < 16 → n ≡ h * 16 + l → n / 16 ≡ h
+byte_high n l h small e = omega arith
+
+shifted : (l d : ℕ) → l < 16 → d < 16 → bit_or (d * 16 % 256) l ≡ d * 16 + l
+shifted l d hl hd = let e : d * 16 % 256 ≡ d * 2 ^ 4 = omega arith in rw e (or_shifted d 4 l hl)
+
+pub digit-high : (bs : List ℕ) (low : Option ℕ) (l d : ℕ) → low ≡ Some l → l < 16 → d < 16 → semis_of_bytes (bs ++ bit_or (d * 16 % 256) l ∷ []) ++ [] ≡ (semis_of_bytes bs ++ option_to_list low) ++ d ∷ []
+digit-high bs low l d e hl hd =
+    let n = bit_or (d * 16 % 256) l in
+    let sum = shifted l d hl hd in
+    append-nil (semis_of_bytes (bs ++ n ∷ [])) ∙ semis-append bs (n ∷ []) ∙ ap (λ m. semis_of_bytes bs ++ m ∷ n / 16 ∷ []) (byte_low n l d hl sum) ∙ ap (λ m. semis_of_bytes bs ++ l ∷ m ∷ []) (byte_high n l d hl sum)
+    ∙ sym (append_assoc (semis_of_bytes bs) (l ∷ []) (d ∷ [])) ∙ sym (ap (λ o. (semis_of_bytes bs ++ option_to_list o) ++ d ∷ []) e)
+
+-- ---- what the code has read, at its end
+
+if_some-from : (bs : List ℕ) → 1 ≤ length bs → if_some (Some bs) ≡ Some bs
+if_some-from [] h = absurd (omega arith)
+if_some-from (b ∷ bs) h = refl
+
+pub left_over : (bs : List ℕ) (low : Option ℕ) → true ≡ is_some low → None ≡ if_some (paired (semis_of_bytes bs ++ option_to_list low))
+left_over bs None e = absurd (cc)
+left_over bs (Some d) e = sym (ap if_some (paired-odd bs d))
+
+pub none_left : (bs : List ℕ) (low : Option ℕ) → false ≡ is_some low → if_some (paired (semis_of_bytes bs ++ option_to_list low)) ≡ if_some (Some bs)
+none_left bs None e = ap (λ ss. if_some (paired ss)) (append-nil (semis_of_bytes bs)) ∙ ap if_some (paired-bytes bs)
+none_left bs (Some d) e = absurd (cc)
+
+pub kept_whole : (bs : List ℕ) (low : Option ℕ) → false ≡ is_some low → 1 ≤ length bs → Some bs ≡ if_some (paired (semis_of_bytes bs ++ option_to_list low))
+kept_whole bs low e h = sym (none_left bs low e ∙ if_some-from bs h)
+
+pub carried-none : (c : Codes) (ws : List ℕ) (i w : ℕ) → i < length ws → w ≡ get_or ws i w → semis_in (form_of c bus.A w) ≡ None → bytes_carried c ws ≡ None
+carried-none c ws i w h e n = ap (λ o. if_some (option_and_then paired o)) (words-none c ws i w h e n)
+
+carried-some : (c : Codes) (ws ss : List ℕ) → semis_of_words c ws ≡ Some ss → bytes_carried c ws ≡ if_some (paired ss)
+carried-some c ws ss e = ap (λ o. if_some (option_and_then paired o)) e
+
+pub carried-read : (c d : Codes) (ws ss : List ℕ) (i : ℕ) → c ≡ d → length ws ≤ i → semis_of_words c (take i ws) ≡ Some ss → if_some (paired ss) ≡ bytes_carried d ws
+carried-read c d ws ss i same all e = sym (carried-some d ws ss (ap (λ k. semis_of_words k ws) (sym same) ∙ ap (semis_of_words c) (sym (take_all i ws all)) ∙ e))
+
+-- ---- the bytes carried, as they are computed and as they are defined
+
+some_same : {A : Type 0} {x y : A} → Some x ≡ Some y → x ≡ y
+some_same e = cc
+
+record Joins (a b : Option (List ℕ)) (zs : List ℕ) : Type 0 where
+  xs : List ℕ
+  ys : List ℕ
+  first : a ≡ Some xs
+  second : b ≡ Some ys
+  whole : zs ≡ xs ++ ys
+
+joins : (a b : Option (List ℕ)) (zs : List ℕ) → joined_to a b ≡ Some zs → Joins a b zs
+joins (Some xs) (Some ys) zs e = record { xs = xs; ys = ys; first = refl; second = refl; whole = sym (some_same e) }
+joins (Some xs) None zs e = absurd (cc)
+joins None b zs e = absurd (cc)
+
+semis_in-some : (o : Option Form) (xs : List ℕ) → semis_in o ≡ Some xs → o ≡ Some (Part xs)
+semis_in-some (Some (Part ys)) xs e = ap (λ zs. Some (Part zs)) (some_same e)
+semis_in-some (Some (Rts n)) xs e = absurd (cc)
+semis_in-some (Some (Cts n)) xs e = absurd (cc)
+semis_in-some (Some (Ack file ldu)) xs e = absurd (cc)
+semis_in-some (Some (Nak bits)) xs e = absurd (cc)
+semis_in-some (Some (Sot gfi file ldu)) xs e = absurd (cc)
+semis_in-some (Some (Eot flags check)) xs e = absurd (cc)
+semis_in-some None xs e = absurd (cc)
+
+abbrev AreDigits : List ℕ → Type 0
+AreDigits ss = AllByRecursion (λ s. s < 16) ss
+
+digits-append : (xs ys : List ℕ) → AreDigits xs → AreDigits ys → AreDigits (xs ++ ys)
+digits-append [] ys h k = k
+digits-append (x ∷ xs) ys h k = (h.0, digits-append xs ys h.1 k)
+
+record AreRead (c : Codes) (ws ss : List ℕ) : Type 0 where
+  semis : List (List ℕ)
+  words : AreDataWords c ws semis
+  joined : concat semis ≡ ss
+  digits : AreDigits ss
+
+read : (p : Contents) → IsProfile p → (ws ss : List ℕ) → semis_of_words p.codes ws ≡ Some ss → AreRead p.codes ws ss
+read p is [] ss e = let e0 = some_same e in record { semis = []; words = tt; joined = e0; digits = subst AreDigits e0 tt }
+read p is (w ∷ ws) ss e =
+    let j = joins (semis_in (form_of p.codes bus.A w)) (semis_of_words p.codes ws) ss e in
+    let form = ((form_of-is p is bus.A w (Part j.xs)).0 (semis_in-some (form_of p.codes bus.A w) j.xs j.first)).1 in
+    let rest = read p is ws j.ys j.second in
+    record {
+      semis = j.xs ∷ rest.semis;
+      words = (form, rest.words);
+      joined = ap (λ ys. j.xs ++ ys) rest.joined ∙ sym j.whole;
+      digits = subst AreDigits (sym j.whole) (digits-append j.xs j.ys form.range.2 rest.digits);
+    }
+
+mapped : (n : ℕ) (o : Option (List ℕ)) (bs : List ℕ) → option_map (λ bytes. n ∷ bytes) o ≡ Some bs → (rest : List ℕ) × (o ≡ Some rest) × (bs ≡ n ∷ rest)
+mapped n (Some xs) bs e = (xs, refl, sym (some_same e))
+mapped n None bs e = absurd (cc)
+
+pair : (l h : ℕ) → l < 16 → ((l + 16 * h) % 16 ≡ l) × ((l + 16 * h) / 16 ≡ h)
+pair l h small = (omega arith, omega arith)
+
+paired_back : (ss bs : List ℕ) → AreDigits ss → paired ss ≡ Some bs → ss ≡ semis_of_bytes bs
+paired_back [] bs small e = ap semis_of_bytes (some_same e)
+paired_back (l ∷ []) bs small e = absurd (cc)
+paired_back (l ∷ h ∷ ss) bs small e =
+    let m = mapped (l + 16 * h) (paired ss) bs e in
+    let again = pair l h small.0 in
+    ap (λ xs. l ∷ h ∷ xs) (paired_back ss m.0 small.1.1 m.1) ∙ ap (λ n. n ∷ h ∷ semis_of_bytes m.0) (sym again.0) ∙ ap (λ n. (l + 16 * h) % 16 ∷ n ∷ semis_of_bytes m.0) (sym again.1) ∙ ap semis_of_bytes (sym m.2)
+
+if_some-some : (o : Option (List ℕ)) (bs : List ℕ) → if_some o ≡ Some bs → (o ≡ Some bs) × (1 ≤ length bs)
+if_some-some (Some (b ∷ bs)) cs e = (e, subst (λ (xs : List ℕ). 1 ≤ length xs) (some_same e) (omega arith))
+if_some-some (Some []) cs e = absurd (cc)
+if_some-some None cs e = absurd (cc)
+
+chained : (o : Option (List ℕ)) (bs : List ℕ) → option_and_then paired o ≡ Some bs → (ss : List ℕ) × (o ≡ Some ss) × (paired ss ≡ Some bs)
+chained (Some ss) bs e = (ss, refl, e)
+chained None bs e = absurd (cc)
+
+-- what is computed is carried
+pub carries_of : (p : Contents) → IsProfile p → (ws bs : List ℕ) → bytes_carried p.codes ws ≡ Some bs → CarryBytes p.codes ws bs
+carries_of p is ws bs e =
+    let some = if_some-some (option_and_then paired (semis_of_words p.codes ws)) bs e in
+    let ch = chained (semis_of_words p.codes ws) bs some.0 in
+    let r = read p is ws ch.0 ch.1 in
+    record { semis = r.semis; words = r.words; carries = record { some = some.1; semi_octets = r.joined ∙ paired_back ch.0 bs r.digits ch.2 } }
+
+data_read : (p : Contents) → IsProfile p → (ws : List ℕ) (semis : List (List ℕ)) → AreDataWords p.codes ws semis → semis_of_words p.codes ws ≡ Some (concat semis)
+data_read p is [] [] h = refl
+data_read p is [] (s ∷ ss) h = absurd h
+data_read p is (w ∷ ws) [] h = absurd h
+data_read p is (w ∷ ws) (s ∷ ss) h =
+    let form = (form_of-is p is bus.A w (Part s)).1 (form_is_not_free p is bus.A w (Part s) h.0, h.0) in
+    ap (λ o. joined_to (semis_in o) (semis_of_words p.codes ws)) form ∙ ap (joined_to (Some s)) (data_read p is ws ss h.1)
+
+-- what is carried is computed
+pub carried_of : (p : Contents) → IsProfile p → (ws bs : List ℕ) → CarryBytes p.codes ws bs → bytes_carried p.codes ws ≡ Some bs
+carried_of p is ws bs h =
+    carried-some p.codes ws (semis_of_bytes bs) (data_read p is ws h.semis h.words ∙ ap Some h.carries.semi_octets) ∙ ap if_some (paired-bytes bs) ∙ if_some-from bs h.carries.some
+
+-- an answer that is what is computed
+pub answer_some : {V : Type 0} (f : V → List ℕ) (p : Contents) → IsProfile p → (ws : List ℕ) (r : Option V) → option_map f r ≡ bytes_carried p.codes ws → IfSome r (λ v. CarryBytes p.codes ws (f v))
+answer_some f p is ws (Some v) e = carries_of p is ws (f v) (sym e)
+answer_some f p is ws None e = tt
+
+pub answer_none : (p : Contents) → IsProfile p → (ws : List ℕ) → bytes_carried p.codes ws ≡ None → (bs : List ℕ) → ¬ CarryBytes p.codes ws bs
+answer_none p is ws e bs h = absurd (let some = carried_of p is ws bs h in cc)
+
+-- an answer of no bytes
+pub answer_left : {V : Type 0} (f : V → List ℕ) (p : Contents) → IsProfile p → (ws : List ℕ) (r : Option V) → option_map f r ≡ bytes_carried p.codes ws → r ≡ None → (bs : List ℕ) → ¬ CarryBytes p.codes ws bs
+answer_left f p is ws r e none = answer_none p is ws (sym e ∙ ap (option_map f) none)

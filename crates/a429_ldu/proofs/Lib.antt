@@ -1,0 +1,14 @@
+pub mod Distinct
+pub mod Told
+pub mod Free
+pub mod Made
+pub mod Joined
+pub mod Packed
+pub mod Seen
+pub mod Division
+pub mod Nibbles
+pub mod CheckWord
+pub mod Carried
+pub mod Units
+pub mod Pieces
+pub mod Cuts

@@ -1,0 +1,52 @@
+-- How a file is cut into link data units (profile).
+use Rattle.std.specs.Prelude.{ℕ, zero, suc, ◌+◌, ◌-◌, ◌*◌, ◌/◌, ◌^◌, ◌≤◌, ◌≡◌, nat_le, if◌then◌else◌, true, false, List, [], ◌∷◌, length, take, drop, map}
+use Rattle.a429_profile.specs.declared.codes.Codes.{Codes}
+use Rattle.a429_profile.specs.Contents.{Contents}
+use Rattle.a429_ldu.specs.declared.forms.Form.TheVariants.{Part}
+use Rattle.a429_ldu.specs.Semis.{semis_of_bytes}
+use Rattle.a429_ldu.specs.Form.{word_number}
+use Rattle.a429_ldu.specs.CheckWord.{check_of}
+use Rattle.a429_ldu.specs.Ldu.{LduValue, is_final}
+
+-- semi-octets, five to a word; the last word may have fewer
+abbrev pub fives : List ℕ → List (List ℕ)
+fives (p ∷ q ∷ r ∷ s ∷ t ∷ rest) = (p ∷ q ∷ r ∷ s ∷ t ∷ []) ∷ fives rest
+fives [] = []
+fives rest = rest ∷ []
+
+-- the data words of bytes: full words, and then at most one partial word
+abbrev pub data_words : Codes → List ℕ → List ℕ
+data_words c bytes = map (λ semis. word_number c (Part semis)) (fives (semis_of_bytes bytes))
+
+-- the link data unit of bytes
+abbrev pub unit_of : Contents → List ℕ → ℕ → LduValue
+unit_of p bytes flags = record { gfi = 0; flags = flags; check = check_of p.check bytes; words = data_words p.codes bytes }
+
+-- the largest whole number of bytes that the data words of a unit hold, which has two words more
+abbrev pub room : ℕ → ℕ
+room max_words = (max_words - 2) * 5 / 2
+
+-- bytes in pieces of so many, the last of which may have fewer; no more than a number of pieces
+abbrev pub pieces : ℕ → ℕ → List ℕ → List (List ℕ)
+pieces zero size bytes = []
+pieces (suc most) size bytes = if nat_le (length bytes) size then bytes ∷ [] else take size bytes ∷ pieces most size (drop size bytes)
+
+-- the flag that says that a file ends
+abbrev pub final_flag : Codes → ℕ
+final_flag c = 2 ^ (c.final_bit - 25)
+
+-- the last unit has this flag, and no other unit has one
+abbrev pub units_in : Contents → List (List ℕ) → List LduValue
+units_in p [] = []
+units_in p (piece ∷ []) = unit_of p piece (final_flag p.codes) ∷ []
+units_in p (piece ∷ next ∷ rest) = unit_of p piece 0 ∷ units_in p (next ∷ rest)
+
+-- the link data units of a file, at most 255
+abbrev pub units_of : Contents → ℕ → List ℕ → List LduValue
+units_of p max_words bytes = units_in p (pieces 255 (room max_words) bytes)
+
+-- of some link data units the last is final, and no other
+abbrev pub OnlyLastIsFinal : Codes → List LduValue → Type 0
+OnlyLastIsFinal c [] = ⊥
+OnlyLastIsFinal c (u ∷ []) = is_final c u.flags ≡ true
+OnlyLastIsFinal c (u ∷ next ∷ rest) = (is_final c u.flags ≡ false) × OnlyLastIsFinal c (next ∷ rest)

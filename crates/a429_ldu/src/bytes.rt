@@ -1,0 +1,99 @@
+//! The bytes that data words carry.
+
+ghost use Rattle.std.specs.Prelude.{◌≡◌, ◌<◌, ◌++◌, [], ◌∷◌, List, ℕ, Ok, Some, None, IfOk, IfSome, option_map, option_to_list};
+ghost use Rattle.a429_word.specs.declared.bus.Bus.TheVariants as bus;
+ghost use Rattle.a429_ldu.specs.Semis.{semis_of_bytes};
+ghost use Rattle.a429_ldu.specs.Form.{form_of};
+ghost use Rattle.a429_ldu.specs.Carried.{CarryBytes, semis_in, paired, if_some, bytes_carried};
+
+use crate::forms::Form;
+use crate::semis::Semis;
+use crate::sight::{Sight, seen};
+use a429_profile::{Codes, Profile};
+use a429_word::{Bus, Word};
+use std::alloc::{AllocError, Global};
+
+/// The bytes that words carry (ARINC 429 Part 3): their semi-octets make bytes, of each the low one
+/// first (profile). `None` where one is no data word of bus A, or the semi-octets are odd in number, or
+/// there are no words.
+pub fn bytes_of(
+    alloc: Global,
+    profile: &Profile,
+    words: &[Word],
+) -> Result<Option<Vec<u8>>, AllocError>
+    ensures some { IfOk result (λ found. IfSome found (λ bytes. CarryBytes profile.now.codes words.now bytes.items)) }
+    ensures none { result ≡ Ok None → (bytes : List ℕ) → ¬ CarryBytes profile.now.codes words.now bytes }
+    ensures computed { IfOk result (λ found. option_map (λ bytes. bytes.items) found ≡ bytes_carried profile.now.codes words.now) }
+{
+    let codes = profile.codes();
+    let mut bytes = Vec::new(alloc);
+    let mut low = None;
+    for word in words {
+        let Some(semis) = semis_of(codes, *word) else {
+            return Ok(None);
+        };
+        low = push_semis(&mut bytes, low, &semis)?;
+    }
+    Ok(whole(bytes, low))
+}
+
+/// The semi-octets of a data word of bus A; `None` for any other word.
+pub(crate) fn semis_of(codes: &Codes, word: Word) -> Option<Semis>
+    ensures { result ≡ semis_in (form_of codes.now bus.A word) }
+{
+    match seen(codes, Bus::A, word) {
+        Sight::Form(form) => semis_in(&form),
+        Sight::Free | Sight::NoForm => None,
+    }
+}
+
+fn semis_in(form: &Form) -> Option<Semis>
+    ensures { result ≡ semis_in (Some form.now) }
+{
+    match form {
+        Form::Part(semis) => Some(*semis),
+        _ => None,
+    }
+}
+
+// Makes bytes of semi-octets. A low one that no high one has followed is given back, and handed in with
+// the next ones.
+fn push_semis(bytes: &mut Vec<u8>, low: Option<u8>, semis: &Semis) -> Result<Option<u8>, AllocError>
+    requires { IfSome low (λ digit. digit < 16) }
+    ensures bytes { IfOk result (λ rest. semis_of_bytes bytes.new.items ++ option_to_list rest ≡ (semis_of_bytes bytes.old.items ++ option_to_list low) ++ semis.now) }
+    ensures low { IfOk result (λ rest. IfSome rest (λ digit. digit < 16)) }
+{
+    let mut waiting = low;
+    for digit in semis.as_slice() {
+        waiting = push_digit(bytes, waiting, *digit)?;
+    }
+    Ok(waiting)
+}
+
+fn push_digit(bytes: &mut Vec<u8>, low: Option<u8>, digit: u8) -> Result<Option<u8>, AllocError>
+    requires low { IfSome low (λ digit. digit < 16) }
+    requires digit { digit < 16 }
+    ensures bytes { IfOk result (λ rest. semis_of_bytes bytes.new.items ++ option_to_list rest ≡ (semis_of_bytes bytes.old.items ++ option_to_list low) ++ digit ∷ []) }
+    ensures low { IfOk result (λ rest. IfSome rest (λ digit. digit < 16)) }
+{
+    match low {
+        None => Ok(Some(digit)),
+        Some(low) => {
+            bytes.push(digit << 4 | low)?;
+            Ok(None)
+        }
+    }
+}
+
+// The bytes, where there are some and no semi-octet is left over.
+fn whole(bytes: Vec<u8>, low: Option<u8>) -> Option<Vec<u8>>
+    ensures { option_map (λ bytes. bytes.items) result ≡ if_some (paired (semis_of_bytes bytes.items ++ option_to_list low)) }
+{
+    if low.is_some() {
+        return None;
+    }
+    if bytes.is_empty() {
+        return None;
+    }
+    Some(bytes)
+}

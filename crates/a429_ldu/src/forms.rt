@@ -1,0 +1,39 @@
+//! What the words of a file transfer say.
+
+use crate::semis::Semis;
+use a429_word::Bus;
+
+/// The form of a transfer word: which message it is, with the numbers that it carries (ARINC 429
+/// Part 3).
+#[derive(Clone, Copy, Debug, PartialEq, Eq)]
+pub enum Form {
+    /// The source asks to send so many words, 3 to 255, the start and end words among them.
+    Rts { count: u8 },
+    /// The sink clears this many words, 3 to 255.
+    Cts { count: u8 },
+    /// The sink has accepted the link data unit of this number.
+    Ack { file: u8, ldu: u8 },
+    /// The sink refuses what it has taken. The bits are its own.
+    Nak { bits: u16 },
+    /// A block begins. The general format identifier is 0 to 15.
+    Sot { gfi: u8, file: u8, ldu: u8 },
+    /// Data.
+    Part(Semis),
+    /// A block ends. The flags are 0 to 15, their lowest bit being bit 25 of the word.
+    Eot { flags: u8, check: u16 },
+}
+
+impl Form {
+    ghost use Rattle.std.specs.Prelude.{◌≡◌};
+    ghost use Rattle.a429_ldu.specs.Form.{bus_of};
+
+    /// The bus that carries it: what the source says goes on A, what the sink says on B.
+    pub fn bus(&self) -> Bus
+        ensures { result ≡ bus_of self.now }
+    {
+        match self {
+            Form::Rts { .. } | Form::Sot { .. } | Form::Part(_) | Form::Eot { .. } => Bus::A,
+            Form::Cts { .. } | Form::Ack { .. } | Form::Nak { .. } => Bus::B,
+        }
+    }
+}

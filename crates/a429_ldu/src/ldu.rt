@@ -1,0 +1,147 @@
+//! Link data units: the parts in which a file is sent.
+
+ghost use Rattle.std.specs.Prelude.{◌≡◌, ◌≢◌, ◌≤◌, ◌<◌, IfOk, IfErr, slice_index, true, false};
+ghost use Rattle.a429_ldu.specs.CheckWord.{check_of};
+ghost use Rattle.a429_ldu.specs.Ldu.{count_of, block_of, IsLdu, IsFirstFault};
+
+use crate::bytes::bytes_of;
+use crate::fault::LduFault;
+use crate::forms::Form;
+use crate::register::check_word;
+use crate::writing::word_of;
+use a429_profile::{Check, Profile};
+use a429_word::Word;
+use std::alloc::Global;
+use std::marker::Model;
+
+/// A link data unit (ARINC 429 Part 3): 1 to 253 data words, and the numbers of the start and end words
+/// that stand round them.
+#[derive(Debug, Drop)]
+pub struct Ldu {
+    gfi: u8,
+    flags: u8,
+    check: u16,
+    words: Vec<Word>,
+}
+
+impl Model for Ldu {
+    ghost use Rattle.std.specs.Prelude.{◌≤◌, length};
+    ghost use Rattle.a429_ldu.specs.Ldu.{LduValue};
+
+    ghost Value = { LduValue };
+
+    ghost view = { λ u. record { gfi = u.gfi; flags = u.flags; check = u.check; words = u.words.items } };
+
+    ghost invariant = { λ u. (u.gfi ≤ 15) × (u.flags ≤ 15) × (1 ≤ length u.words.items) × (length u.words.items ≤ 253) };
+}
+
+impl Ldu {
+    /// The link data unit with these data words. GFI and flags are 0 to 15. The fault is the first that
+    /// holds.
+    pub fn new(
+        alloc: Global,
+        profile: &Profile,
+        gfi: u8,
+        flags: u8,
+        check: u16,
+        words: &[Word],
+    ) -> Result<Ldu, LduFault>
+        requires gfi { gfi ≤ 15 }
+        requires flags { flags ≤ 15 }
+        ensures value { IfOk result (λ u. u ≡ record { gfi = gfi; flags = flags; check = check; words = words.now }) }
+        ensures sound { IfOk result (λ u. IsLdu profile.now u) }
+        ensures err { IfErr result (λ f. f ≢ LduFault.OutOfMemory → IsFirstFault profile.now check words.now f) }
+    {
+        if words.is_empty() || words.len() > 253 {
+            return Err(LduFault::Count);
+        }
+        let Ok(carried) = bytes_of(alloc, profile, words) else {
+            return Err(LduFault::OutOfMemory);
+        };
+        let Some(bytes) = carried else {
+            return Err(LduFault::NotBytes);
+        };
+        if !agrees(profile.check(), &bytes, check) {
+            return Err(LduFault::CheckWrong);
+        }
+        match Vec::from_slice(alloc, words) {
+            Ok(words) => Ok(Ldu {
+                gfi,
+                flags,
+                check,
+                words,
+            }),
+            Err(_) => Err(LduFault::OutOfMemory),
+        }
+    }
+
+    /// The general format identifier, 0 to 15.
+    pub fn gfi(&self) -> u8
+        ensures value { result ≡ self.now.gfi }
+        ensures range { result ≤ 15 }
+    {
+        self.gfi
+    }
+
+    /// The flags of the end word, 0 to 15, the lowest being bit 25 of that word.
+    pub fn flags(&self) -> u8
+        ensures value { result ≡ self.now.flags }
+        ensures range { result ≤ 15 }
+    {
+        self.flags
+    }
+
+    /// The check word.
+    pub fn check(&self) -> u16
+        ensures { result ≡ self.now.check }
+    {
+        self.check
+    }
+
+    /// The data words, 1 to 253.
+    pub fn words(&self) -> &[Word]
+        ensures { result.now ≡ self.now.words }
+    {
+        self.words.as_slice()
+    }
+
+    /// How many words its block has, 3 to 255: the data words, a start word and an end word.
+    pub fn count(&self) -> u8
+        ensures value { result ≡ count_of self.now }
+        ensures least { 3 ≤ result }
+    {
+        self.words.len() as u8 + 2
+    }
+    /// Word k of its block, k from 0 and below its count, under a file number and a number of its own:
+    /// the start word, the data words, the end word.
+    pub fn word(&self, profile: &Profile, k: u8, file: u8, ldu: u8) -> Word
+        requires { k < count_of self.now }
+        ensures { result ≡ slice_index (block_of profile.now.codes self.now file ldu) k }
+    {
+        let at = k as usize;
+        if at == 0 {
+            let start = Form::Sot {
+                gfi: self.gfi,
+                file,
+                ldu,
+            };
+            word_of(profile, &start)
+        } else if at <= self.words.len() {
+            self.words[at - 1]
+        } else {
+            let end = Form::Eot {
+                flags: self.flags(),
+                check: self.check(),
+            };
+            word_of(profile, &end)
+        }
+    }
+}
+
+// Whether a check word is that of the bytes, or is not compared.
+fn agrees(how: &Check, bytes: &[u8], check: u16) -> bool
+    ensures yes { result ≡ true → how.now.compare ≡ true → check ≡ check_of how.now bytes.now }
+    ensures no { result ≡ false → (how.now.compare ≡ true) × (check ≢ check_of how.now bytes.now) }
+{
+    !how.compare || check_word(how, bytes) == check
+}

@@ -1,0 +1,27 @@
+-- Blocks by their places.
+use Rattle.std.proofs.Common.{◌≡◌, ℕ, suc, ◌+◌, ◌≤◌, ◌<◌, List, [], ◌∷◌, ◌++◌, length, Option, Some, None, IsSome, is_some, slice_get, inl, inr, sym, ap, ◌∙◌, subst, arith, length-append}
+use Rattle.std.proofs.lemmas.Bool.{cases_lt}
+use Rattle.std.proofs.lemmas.Option.{slice_get_past}
+use Rattle.a429_ldu.specs.Form.{word_number}
+use Rattle.a429_ldu.specs.Ldu.{LduValue, block_of, count_of}
+use Rattle.a429_link.proofs.Said.{Eot}
+use Rattle.a429_link.specs.Source.{next_word}
+use Rattle.a429_link.specs.declared.state.SourceState.{SourceState}
+use Rattle.a429_link.specs.declared.state.SourceState.TheVariants.{Sending}
+use Rattle.a429_profile.specs.declared.codes.Codes.{Codes}
+use Rattle.a429_ldu.specs.declared.forms.Form.TheVariants as form
+
+pub block_length : (c : Codes) (u : LduValue) (file ldu : ℕ) → length (block_of c u file ldu) ≡ count_of u
+block_length c u file ldu = omega (arith, length-append u.words (word_number c (form.Eot u.flags u.check) ∷ []))
+
+-- past its end a block has no word
+pub past_block : (c : Codes) (u : LduValue) (file ldu k : ℕ) → count_of u ≤ k → slice_get (block_of c u file ldu) k ≡ None
+past_block c u file ldu k h = slice_get_past (block_of c u file ldu) k (omega (arith, block_length c u file ldu))
+
+-- a source that has a next word has not sent the whole block
+pub in_block : (c : Codes) (u : LduValue) (file ldu k : ℕ) → IsSome (slice_get (block_of c u file ldu) k) → k < count_of u
+in_block c u file ldu k h = elim (cases_lt k (count_of u)) [ inl l ↦ l | inr g ↦ absurd (let none = ap is_some (past_block c u file ldu k g) in cc) ]
+
+pub sending_room : (c : Codes) (file ldu : ℕ) (cur : Option LduValue) (state : SourceState) (u : LduValue) (k : ℕ) → cur ≡ Some u → state ≡ Sending k → IsSome (next_word c file ldu cur state) → k < count_of u
+sending_room c file ldu cur state u k e h has =
+    in_block c u file ldu k (subst (λ (o : Option LduValue). IsSome (next_word c file ldu o (Sending k))) e (subst (λ (q : SourceState). IsSome (next_word c file ldu cur q)) h has))

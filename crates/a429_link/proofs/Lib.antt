@@ -1,0 +1,14 @@
+pub mod Said
+pub mod Subs
+pub mod Phases
+pub mod Holds
+pub mod Ideal
+pub mod Crossing
+pub mod Recorded
+pub mod Impossible
+pub mod Sound
+pub mod SampleRun
+pub mod Blocks
+pub mod Good
+pub mod KeptStates
+pub mod CleanRuns

@@ -1,0 +1,7 @@
+use Rattle.std.proofs.Common.{sym, subst}
+use Rattle.a429_link.specs.Link.{IsKept}
+use Rattle.a429_link.proofs.KeptStates.{kept_taken}
+use Rattle.a429_link.proofs.link.Link.take_delivered.Goals as goal
+
+pub invariant_of-self : goal.invariant_of-self
+invariant_of-self c = subst (IsKept c.self.inside.profile.now) (sym c.take_delivered.ensures.rest) (kept_taken c.self.inside.profile.now c.self.inside.transfer c.self.invariant)

@@ -1,0 +1,91 @@
+-- What a run without loss records, and the steps that give it (profile: each link data unit is asked for, cleared, sent
+-- and acknowledged once).
+use Rattle.std.specs.Prelude.{◌≡◌, ℕ, ◌+◌, ◌%◌, ◌≤◌, Bool, true, false, if◌then◌else◌, List, [], ◌∷◌, ◌++◌, map}
+use Rattle.a429_word.specs.declared.bus.Bus.TheVariants as bus
+use Rattle.a429_profile.specs.declared.codes.Codes.{Codes}
+use Rattle.a429_profile.specs.Contents.{Contents}
+use Rattle.a429_ldu.specs.declared.forms.Form.TheVariants.{Rts, Cts, Ack}
+use Rattle.a429_ldu.specs.Form.{word_number, is_free}
+use Rattle.a429_ldu.specs.Ldu.{LduValue, IsLdu, count_of, block_of, bytes_of, is_final}
+use Rattle.a429_link.specs.declared.step.Seen.{Seen}
+use Rattle.a429_link.specs.declared.step.Step.{Step}
+use Rattle.a429_link.specs.declared.step.Step.TheVariants.{Load, Sent, TakeAnswer, SinkTakes, Answered, FreeSeen}
+use Rattle.a429_link.specs.Sink.{Shelf, put}
+use Rattle.a429_link.specs.Step.{start}
+use Rattle.a429_link.specs.Run.{IsRun, trace, delivered}
+
+abbrev pub on_a : ℕ → Seen
+on_a w = record { bus = bus.A; word = w }
+
+abbrev pub on_b : ℕ → Seen
+on_b w = record { bus = bus.B; word = w }
+
+-- ---- the words
+
+-- the numbers after a link data unit: the next one of its file, or the first of the next file
+abbrev pub next_file : Codes → ℕ → LduValue → ℕ
+next_file c file u = if is_final c u.flags then (file + 1) % 256 else file
+
+abbrev pub next_ldu : Codes → ℕ → LduValue → ℕ
+next_ldu c ldu u = if is_final c u.flags then c.first_ldu else ldu + 1
+
+-- the recorded words of a link data unit: the request, the clear answer, its block, the acknowledgement
+abbrev pub clean_block : Codes → ℕ → ℕ → LduValue → List Seen
+clean_block c file ldu u = on_a (word_number c (Rts (count_of u))) ∷ (on_b (word_number c (Cts (count_of u))) ∷ (map on_a (block_of c u file ldu) ++ on_b (word_number c (Ack file ldu)) ∷ []))
+
+-- those of link data units that begin under these numbers
+abbrev pub clean : Codes → ℕ → ℕ → List LduValue → List Seen
+clean c file ldu [] = []
+clean c file ldu (u ∷ us) = clean_block c file ldu u ++ clean c (next_file c file u) (next_ldu c ldu u) us
+
+-- each is one of the profile, and may be loaded under its number
+abbrev pub AllFit : Contents → ℕ → List LduValue → Type 0
+AllFit p ldu [] = Unit {0}
+AllFit p ldu (u ∷ us) = IsLdu p u × (ldu ≤ p.codes.first_ldu + 254) × AllFit p (next_ldu p.codes ldu u) us
+
+-- the shelf with these link data units put on it
+abbrev pub shelved : Codes → ℕ → List LduValue → Shelf → Shelf
+shelved c file [] o = o
+shelved c file (u ∷ us) o = shelved c (next_file c file u) us (put file (bytes_of c u) (is_final c u.flags) o)
+
+-- the words that are not free
+abbrev pub thin : Codes → List Seen → List Seen
+thin c [] = []
+thin c (i ∷ items) = if is_free c i.bus i.word then thin c items else i ∷ thin c items
+
+-- ---- the steps, in a group for each word
+
+abbrev pub asks : Codes → LduValue → List Step
+asks c u = Load u ∷ (Sent (on_a (word_number c (Rts (count_of u)))) ∷ (SinkTakes ∷ []))
+
+abbrev pub replies : ℕ → List Step
+replies w = Answered (on_b w) ∷ (TakeAnswer ∷ [])
+
+abbrev pub sends : ℕ → List Step
+sends w = Sent (on_a w) ∷ (SinkTakes ∷ [])
+
+abbrev pub block_steps : Codes → ℕ → ℕ → LduValue → List (List Step)
+block_steps c file ldu u = asks c u ∷ (replies (word_number c (Cts (count_of u))) ∷ (map sends (block_of c u file ldu) ++ replies (word_number c (Ack file ldu)) ∷ []))
+
+abbrev pub clean_steps : Codes → ℕ → ℕ → List LduValue → List (List Step)
+clean_steps c file ldu [] = []
+clean_steps c file ldu (u ∷ us) = block_steps c file ldu u ++ clean_steps c (next_file c file u) (next_ldu c ldu u) us
+
+abbrev pub first_of : List (List Step) → List Step
+first_of [] = []
+first_of (g ∷ gs) = g
+
+abbrev pub rest_of : List (List Step) → List (List Step)
+rest_of [] = []
+rest_of (g ∷ gs) = gs
+
+-- the steps of a recording: those of its words in order, and of the free words between them
+abbrev pub weave : Codes → List Seen → List (List Step) → List Step
+weave c [] gs = []
+weave c (i ∷ items) gs = if is_free c i.bus i.word then FreeSeen i ∷ weave c items gs else first_of gs ++ weave c items (rest_of gs)
+
+-- the steps are a run from the start that records these words and delivers the files of this shelf
+pub record IsRunOf (p : Contents) (file : ℕ) (steps : List Step) (items : List Seen) (shelf : Shelf) : Type 0 where
+  pub run : IsRun p steps (start p file)
+  pub told : trace steps ≡ items
+  pub gives : delivered p file steps ≡ shelf.files

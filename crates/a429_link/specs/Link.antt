@@ -1,0 +1,31 @@
+-- A link as its callers see it.
+use Rattle.std.specs.Prelude.{ℕ, List, [], ◌∷◌, ◌++◌, length}
+use Rattle.a429_profile.specs.Contents.{Contents, IsProfile}
+use Rattle.a429_link.specs.declared.state.SourceState.{SourceState}
+use Rattle.a429_link.specs.declared.state.SinkState.{SinkState}
+use Rattle.a429_link.specs.declared.file.FileBytes.{FileBytes}
+use Rattle.a429_link.specs.Step.{State, shown_sink}
+use Rattle.a429_link.specs.Run.{IsReached}
+
+-- the profile, and the state, whose delivered files are those that are not handed out yet
+pub record LinkValue : Type 0 where
+  pub profile : Contents
+  pub state : State
+
+-- the state, with files that were delivered before
+abbrev pub with_earlier : List FileBytes → State → State
+with_earlier files s = record s { sink = record (s.sink) { shelf = record (s.sink.shelf) { files = files ++ s.sink.shelf.files } } }
+
+-- the state with its delivered files handed out
+abbrev pub handed_out : State → State
+handed_out s = record s { sink = record (s.sink) { shelf = record (s.sink.shelf) { files = [] } } }
+
+-- some run of the profile leads here, where files that were handed out count as delivered
+pub record IsKept (p : Contents) (s : State) : Type 0 where
+  pub sound : IsProfile p
+  pub earlier : List FileBytes
+  pub reached : IsReached p (with_earlier earlier s)
+
+-- what a certificate writes of a state: the phases, and how many words are on their way to the sink and to the source
+abbrev pub shown : State → SourceState × SinkState × ℕ × ℕ
+shown s = (s.source.phase, shown_sink s.sink.phase, length s.to_sink, length s.to_source)

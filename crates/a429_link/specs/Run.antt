@@ -1,0 +1,114 @@
+-- Runs of a source and a sink: what they record, deliver, offer and settle.
+use Rattle.std.specs.Prelude.{ℕ, ◌≡◌, ◌+◌, ◌≤◌, Bool, true, false, ◌&&◌, if◌then◌else◌, List, [], ◌∷◌, ◌++◌, length, Option, Some, None}
+use Rattle.a429_word.specs.declared.bus.Bus.TheVariants as bus
+use Rattle.a429_profile.specs.declared.codes.Codes.{Codes}
+use Rattle.a429_profile.specs.Contents.{Contents}
+use Rattle.a429_ldu.specs.declared.forms.Form.{Form}
+use Rattle.a429_ldu.specs.Form.{form_of}
+use Rattle.a429_ldu.specs.Ldu.{LduValue, bytes_of, is_final}
+use Rattle.a429_link.specs.declared.file.FileBytes.{FileBytes}
+use Rattle.a429_link.specs.declared.step.Seen.{Seen}
+use Rattle.a429_link.specs.declared.step.Step.{Step}
+use Rattle.a429_link.specs.declared.step.Step.TheVariants.{Load, TakeAnswer}
+use Rattle.a429_link.specs.Source.{Source, is_own_ack}
+use Rattle.a429_link.specs.Sink.{Shelf, put, held}
+use Rattle.a429_link.specs.Step.{State, start, Can, after, label}
+
+-- each step may be made where the ones before it lead
+abbrev pub IsRun : Contents → List Step → State → Type 0
+IsRun p [] s = Unit {0}
+IsRun p (a ∷ steps) s = Can p a s × IsRun p steps (after p a s)
+
+abbrev pub end_of : Contents → List Step → State → State
+end_of p [] s = s
+end_of p (a ∷ steps) s = end_of p steps (after p a s)
+
+-- the recorded words, in order
+abbrev pub with_label : Option Seen → List Seen → List Seen
+with_label None items = items
+with_label (Some i) items = i ∷ items
+
+abbrev pub trace : List Step → List Seen
+trace [] = []
+trace (a ∷ steps) = with_label (label a) (trace steps)
+
+-- the files that the sink has delivered at the end of a run from the start
+abbrev pub delivered : Contents → ℕ → List Step → List FileBytes
+delivered p first steps = (end_of p steps (start p first)).sink.shelf.files
+
+-- ---- offered: the link data units that were loaded, in order, cut after each final one
+
+abbrev pub nothing : Shelf
+nothing = record { files = []; open_bytes = [] }
+
+-- a loaded link data unit joins its file, under the source's number; a final one closes it
+abbrev pub offers : Contents → Step → State → Shelf → Shelf
+offers p (Load u) s o = put s.source.file (bytes_of p.codes u) (is_final p.codes u.flags) o
+offers p _ s o = o
+
+abbrev pub offered_from : Contents → List Step → State → Shelf → Shelf
+offered_from p [] s o = o
+offered_from p (a ∷ steps) s o = offered_from p steps (after p a s) (offers p a s o)
+
+abbrev pub offered : Contents → ℕ → List Step → List FileBytes
+offered p first steps = (offered_from p steps (start p first) nothing).files
+
+-- ---- settled: the offered files whose final link data unit the source takes as acknowledged
+
+abbrev pub is_own_ack_form : Source → Option Form → Bool
+is_own_ack_form s None = false
+is_own_ack_form s (Some x) = is_own_ack s.file s.ldu s.phase x
+
+abbrev pub is_final_unit : Codes → Option LduValue → Bool
+is_final_unit c None = false
+is_final_unit c (Some u) = is_final c u.flags
+
+-- the first of these answers is the acknowledgement of a final link data unit that is current
+abbrev pub ends_file : Codes → Source → List ℕ → Bool
+ends_file c s [] = false
+ends_file c s (w ∷ ws) = is_own_ack_form s (form_of c bus.B w) && is_final_unit c s.current
+
+-- the file that was offered last
+abbrev pub newest : List FileBytes → List FileBytes
+newest [] = []
+newest (x ∷ []) = x ∷ []
+newest (x ∷ (y ∷ ys)) = newest (y ∷ ys)
+
+abbrev pub settles : Contents → Step → State → Shelf → List FileBytes → List FileBytes
+settles p TakeAnswer s o xs = if ends_file p.codes s.source s.to_source then xs ++ newest o.files else xs
+settles p _ s o xs = xs
+
+abbrev pub settled_from : Contents → List Step → State → Shelf → List FileBytes → List FileBytes
+settled_from p [] s o xs = xs
+settled_from p (a ∷ steps) s o xs = settled_from p steps (after p a s) (offers p a s o) (settles p a s o xs)
+
+abbrev pub settled : Contents → ℕ → List Step → List FileBytes
+settled p first steps = settled_from p steps (start p first) nothing []
+
+-- ---- what is said of runs
+
+abbrev pub IsPrefixOf : List FileBytes → List FileBytes → Type 0
+IsPrefixOf xs ys = (more : List FileBytes) × (xs ++ more ≡ ys)
+
+-- what a state keeps at most, its delivered files aside (it has one link data unit, or none)
+pub record IsBounded (s : State) : Type 0 where
+  pub words : length s.to_sink + held s.sink.phase ≤ 255
+  pub answers : length s.to_source ≤ 1
+  pub bytes : length s.sink.shelf.open_bytes ≤ 161160
+
+-- some run from the start leads here
+pub record IsReached (p : Contents) (s : State) : Type 0 where
+  pub first : ℕ
+  pub byte : first ≤ 255
+  pub steps : List Step
+  pub run : IsRun p steps (start p first)
+  pub ends : end_of p steps (start p first) ≡ s
+
+-- some run's trace begins so
+pub record BeginsARun (p : Contents) (items : List Seen) : Type 0 where
+  pub first : ℕ
+  pub byte : first ≤ 255
+  pub steps : List Step
+  pub run : IsRun p steps (start p first)
+  pub more : List Seen
+  pub told : trace steps ≡ items ++ more

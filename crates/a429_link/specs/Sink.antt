@@ -1,0 +1,194 @@
+-- The sink of a file transfer (ARINC 429 Part 3; which blocks are in sequence: profile).
+use Rattle.std.specs.Prelude.{ℕ, ◌≡◌, ◌+◌, ◌%◌, Bool, true, false, not, ◌==◌, ◌&&◌, ◌||◌, nat_le, if◌then◌else◌, List, [], ◌∷◌, ◌++◌, length, Option, Some, None, is_some, unwrap_or}
+use Rattle.a429_word.specs.declared.bus.Bus.TheVariants as bus
+use Rattle.a429_profile.specs.declared.codes.Codes.{Codes}
+use Rattle.a429_profile.specs.declared.codes.Check.{Check}
+use Rattle.a429_profile.specs.Contents.{Contents}
+use Rattle.a429_ldu.specs.declared.forms.Form.{Form}
+use Rattle.a429_ldu.specs.declared.forms.Form.TheVariants.{Rts, Cts, Ack, Nak, Sot, Part, Eot}
+use Rattle.a429_ldu.specs.Form.{form_of}
+use Rattle.a429_ldu.specs.Carried.{bytes_carried}
+use Rattle.a429_ldu.specs.CheckWord.{check_of}
+use Rattle.a429_ldu.specs.Ldu.{is_final}
+use Rattle.a429_link.specs.declared.file.FileBytes.{FileBytes}
+
+-- the words taken since a start word: its numbers, and the data words
+pub record Block : Type 0 where
+  pub gfi : ℕ
+  pub file : ℕ
+  pub ldu : ℕ
+  pub words : List ℕ
+
+pub data SinkPhase : Type 0 where
+  Quiet : SinkPhase
+  -- a request was taken
+  OwesClear : SinkPhase
+  -- the clear answer was given
+  Granted : SinkPhase
+  InBlock : (block : Block) → SinkPhase
+  -- the block is good; these are the flags of its end word
+  OwesAck : (block : Block) (flags : ℕ) → SinkPhase
+  -- it is not, or there is none; its words are not looked at again
+  OwesNak : SinkPhase
+
+-- the numbers of a link data unit, and whether it is its file's last
+pub record Number : Type 0 where
+  pub file : ℕ
+  pub ldu : ℕ
+  pub final : Bool
+
+-- the files that are delivered, and the bytes of one that is not whole
+pub record Shelf : Type 0 where
+  pub files : List FileBytes
+  pub open_bytes : List ℕ
+
+pub record Sink : Type 0 where
+  -- the link data unit accepted last
+  pub last : Option Number
+  pub shelf : Shelf
+  -- the count of the last request taken
+  pub count : ℕ
+  pub phase : SinkPhase
+
+-- ---- which blocks are good
+
+-- the bytes that data words carry, none where they carry none
+abbrev pub bytes_in : Codes → List ℕ → List ℕ
+bytes_in c words = unwrap_or (bytes_carried c words) []
+
+-- the check word is that of these bytes, or check words are not compared
+abbrev pub agrees : Check → List ℕ → ℕ → Bool
+agrees k bytes check = not k.compare || (check == check_of k bytes)
+
+-- the numbers are those of the link data unit accepted last: it comes again
+abbrev pub is_same : Option Number → ℕ → ℕ → Bool
+is_same None file ldu = false
+is_same (Some n) file ldu = (n.file == file) && (n.ldu == ldu)
+
+-- the numbers come after these: after a file's last link data unit the first of the next file, else the next one
+abbrev pub comes_after : Codes → Number → ℕ → ℕ → Bool
+comes_after c n file ldu =
+    if n.final
+    then (file == (n.file + 1) % 256) && (ldu == c.first_ldu)
+    else (file == n.file) && (ldu == n.ldu + 1) && nat_le ldu (c.first_ldu + 254)
+
+abbrev pub in_sequence : Codes → Option Number → ℕ → ℕ → Bool
+in_sequence c None file ldu = ldu == c.first_ldu
+in_sequence c (Some n) file ldu = comes_after c n file ldu
+
+-- the block has as many words as were asked for, carries bytes, ends by their check word, and comes again or in sequence
+abbrev pub is_good : Contents → Option Number → ℕ → Block → ℕ → Bool
+is_good p last count b check =
+    (length b.words + 2 == count)
+    && (is_some (bytes_carried p.codes b.words)
+    && (agrees p.check (bytes_in p.codes b.words) check
+    && (is_same last b.file b.ldu || in_sequence p.codes last b.file b.ldu)))
+
+-- ---- taking words
+
+-- a start word begins a block where the sink is granted, or in a block; a data word joins a block;
+-- an end word ends a block, or the grant without one
+abbrev pub at_start : Block → SinkPhase → SinkPhase
+at_start b Granted = InBlock b
+at_start b (InBlock old) = InBlock b
+at_start b phase = phase
+
+abbrev pub at_part : ℕ → SinkPhase → SinkPhase
+at_part word (InBlock b) = InBlock (record b { words = b.words ++ word ∷ [] })
+at_part word phase = phase
+
+abbrev pub at_end : Contents → Option Number → ℕ → ℕ → ℕ → SinkPhase → SinkPhase
+at_end p last count flags check Granted = OwesNak
+at_end p last count flags check (InBlock b) = if is_good p last count b check then OwesAck b flags else OwesNak
+at_end p last count flags check phase = phase
+
+-- the sink after a word of this form; a request is taken in each phase, and ends a block
+abbrev pub takes : Contents → ℕ → Form → Sink → Sink
+takes p word (Rts n) k = record k { count = n; phase = OwesClear }
+takes p word (Sot gfi file ldu) k = record k { phase = at_start (record { gfi = gfi; file = file; ldu = ldu; words = [] }) k.phase }
+takes p word (Part semis) k = record k { phase = at_part word k.phase }
+takes p word (Eot flags check) k = record k { phase = at_end p k.last k.count flags check k.phase }
+takes p word _ k = k
+
+abbrev pub takes_form : Contents → ℕ → Option Form → Sink → Sink
+takes_form p word None k = k
+takes_form p word (Some x) k = takes p word x k
+
+-- the sink after a word of bus A
+abbrev pub takes_word : Contents → ℕ → Sink → Sink
+takes_word p word k = takes_form p word (form_of p.codes bus.A word) k
+
+-- the sink after the first of these words
+abbrev pub takes_first : Contents → List ℕ → Sink → Sink
+takes_first p [] k = k
+takes_first p (w ∷ ws) k = takes_word p w k
+
+-- ---- answering
+
+-- the bytes join those of the file; its last link data unit closes the file, and a new one begins empty
+abbrev pub put : ℕ → List ℕ → Bool → Shelf → Shelf
+put file bytes true shelf = record { files = shelf.files ++ record { number = file; bytes = shelf.open_bytes ++ bytes } ∷ []; open_bytes = [] }
+put file bytes false shelf = record { files = shelf.files; open_bytes = shelf.open_bytes ++ bytes }
+
+-- the sink that accepts a block with these flags; one that comes again changes nothing
+abbrev pub accepts : Codes → Block → ℕ → Sink → Sink
+accepts c b flags k =
+    if is_same k.last b.file b.ldu
+    then k
+    else record k { last = Some (record { file = b.file; ldu = b.ldu; final = is_final c flags }); shelf = put b.file (bytes_in c b.words) (is_final c flags) k.shelf }
+
+abbrev pub accepts_owed : Codes → SinkPhase → Sink → Sink
+accepts_owed c (OwesAck b flags) k = accepts c b flags k
+accepts_owed c phase k = k
+
+-- the sink after it has given an answer of this form: an acknowledgement accepts its block
+abbrev pub answers : Codes → Form → Sink → Sink
+answers c (Cts n) k = record k { phase = Granted }
+answers c (Ack file ldu) k = record (accepts_owed c k.phase k) { phase = Quiet }
+answers c (Nak bits) k = record k { phase = Quiet }
+answers c _ k = k
+
+abbrev pub answers_form : Codes → Option Form → Sink → Sink
+answers_form c None k = k
+answers_form c (Some x) k = answers c x k
+
+-- the sink after it has given this word of bus B
+abbrev pub answers_word : Codes → ℕ → Sink → Sink
+answers_word c word k = answers_form c (form_of c bus.B word) k
+
+-- a sink in this phase, whose last request had this count, may give an answer of this form: the clear
+-- answer with that count; the acknowledgement with the block's numbers; a negative answer with any bits,
+-- in place of an acknowledgement too
+abbrev pub MayAnswer : ℕ → SinkPhase → Form → Type 0
+MayAnswer count OwesClear (Cts n) = n ≡ count
+MayAnswer count (OwesAck b flags) (Ack file ldu) = (file ≡ b.file) × (ldu ≡ b.ldu)
+MayAnswer count (OwesAck b flags) (Nak bits) = Unit {0}
+MayAnswer count OwesNak (Nak bits) = Unit {0}
+MayAnswer count _ _ = ⊥
+
+-- a word that is free or has no form is no answer
+abbrev pub MayAnswerForm : ℕ → SinkPhase → Option Form → Type 0
+MayAnswerForm count phase None = ⊥
+MayAnswerForm count phase (Some x) = MayAnswer count phase x
+
+-- ---- where it stands
+
+-- it takes words
+abbrev pub Listens : SinkPhase → Type 0
+Listens Quiet = Unit {0}
+Listens Granted = Unit {0}
+Listens (InBlock b) = Unit {0}
+Listens _ = ⊥
+
+-- it owes an answer
+abbrev pub Owes : SinkPhase → Type 0
+Owes OwesClear = Unit {0}
+Owes (OwesAck b flags) = Unit {0}
+Owes OwesNak = Unit {0}
+Owes _ = ⊥
+
+-- how many words of its block it keeps
+abbrev pub held : SinkPhase → ℕ
+held (InBlock b) = length b.words + 1
+held (OwesAck b flags) = length b.words + 2
+held _ = 0

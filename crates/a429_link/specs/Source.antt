@@ -1,0 +1,75 @@
+-- The source of a file transfer (ARINC 429 Part 3; how files and link data units are numbered: profile).
+use Rattle.std.specs.Prelude.{ℕ, suc, ◌+◌, ◌%◌, Bool, true, false, ◌==◌, ◌&&◌, if◌then◌else◌, List, [], ◌∷◌, Option, Some, None, slice_get}
+use Rattle.a429_word.specs.declared.bus.Bus.TheVariants as bus
+use Rattle.a429_profile.specs.declared.codes.Codes.{Codes}
+use Rattle.a429_ldu.specs.declared.forms.Form.{Form}
+use Rattle.a429_ldu.specs.declared.forms.Form.TheVariants.{Rts, Cts, Ack, Nak}
+use Rattle.a429_ldu.specs.Form.{form_of, word_number}
+use Rattle.a429_ldu.specs.Ldu.{LduValue, count_of, block_of, is_final}
+use Rattle.a429_link.specs.declared.state.SourceState.{SourceState}
+use Rattle.a429_link.specs.declared.state.SourceState.TheVariants.{Idle, Awaiting, Sending, Waiting}
+
+pub record Source : Type 0 where
+  -- the number of the file, and of its link data unit that is current or next
+  pub file : ℕ
+  pub ldu : ℕ
+  -- the link data unit that is to cross, if one is loaded
+  pub current : Option LduValue
+  pub phase : SourceState
+
+-- ---- sending
+
+-- the next word of a source in this phase: its request, or word k of the block
+abbrev pub next_word : Codes → ℕ → ℕ → Option LduValue → SourceState → Option ℕ
+next_word c file ldu (Some u) Idle = Some (word_number c (Rts (count_of u)))
+next_word c file ldu (Some u) (Sending k) = slice_get (block_of c u file ldu) k
+next_word c file ldu _ _ = None
+
+-- its phase after that word: it waits after the request, and after the last word of the block
+abbrev pub after_word : Option LduValue → SourceState → SourceState
+after_word (Some u) Idle = Awaiting
+after_word (Some u) (Sending k) = if suc k == count_of u then Waiting else Sending (suc k)
+after_word _ phase = phase
+
+-- ---- taking answers
+
+-- the source once its link data unit is acknowledged: the next one of the file, or the first of the next file
+abbrev pub acknowledged : Codes → LduValue → Source → Source
+acknowledged c u s =
+    if is_final c u.flags
+    then record { file = (s.file + 1) % 256; ldu = c.first_ldu; current = None; phase = Idle }
+    else record { file = s.file; ldu = s.ldu + 1; current = None; phase = Idle }
+
+-- the form is the acknowledgement of the current link data unit, and the source waits for it
+abbrev pub is_own_ack : ℕ → ℕ → SourceState → Form → Bool
+is_own_ack file ldu Waiting (Ack f l) = (f == file) && (l == ldu)
+is_own_ack file ldu _ _ = false
+
+-- the source after an answer of this form: the clear answer to its request lets it send; the
+-- acknowledgement ends the link data unit; a negative answer lets it ask again; no other answer counts
+abbrev pub hears : Codes → Option LduValue → SourceState → Form → Source → Source
+hears c (Some u) Awaiting (Cts n) s = if n == count_of u then record s { phase = Sending 0 } else s
+hears c (Some u) Waiting (Ack f l) s = if is_own_ack s.file s.ldu Waiting (Ack f l) then acknowledged c u s else s
+hears c (Some u) Waiting (Nak bits) s = record s { phase = Idle }
+hears c _ _ _ s = s
+
+abbrev pub hears_form : Codes → Option Form → Source → Source
+hears_form c None s = s
+hears_form c (Some x) s = hears c s.current s.phase x s
+
+-- the source after the first of these answers, which are words of bus B
+abbrev pub hears_first : Codes → List ℕ → Source → Source
+hears_first c [] s = s
+hears_first c (w ∷ ws) s = hears_form c (form_of c bus.B w) s
+
+-- ---- where it stands
+
+abbrev pub IsIdle : SourceState → Type 0
+IsIdle Idle = Unit {0}
+IsIdle _ = ⊥
+
+-- it waits for an answer
+abbrev pub Waits : SourceState → Type 0
+Waits Awaiting = Unit {0}
+Waits Waiting = Unit {0}
+Waits _ = ⊥

@@ -1,0 +1,75 @@
+//! A block as the sink takes it.
+
+ghost use Rattle.std.specs.Prelude.{◌≡◌, [], ◌∷◌, ◌++◌, OnOk, OnErr};
+
+use a429_word::Word;
+use std::alloc::{AllocError, Global};
+use std::marker::Model;
+
+/// The numbers of a start word, and the data words taken since it (ARINC 429 Part 3).
+#[derive(Debug, Drop)]
+pub(crate) struct Block {
+    gfi: u8,
+    file: u8,
+    ldu: u8,
+    words: Vec<Word>,
+}
+
+impl Model for Block {
+    ghost use Rattle.a429_link.specs.Sink as model;
+
+    ghost Value = { model.Block };
+
+    ghost view = { λ b. record { gfi = b.gfi; file = b.file; ldu = b.ldu; words = b.words.items } };
+}
+
+impl Block {
+    /// A block that stands for none.
+    pub(crate) fn new(alloc: Global) -> Block
+        ensures { result ≡ record { gfi = 0; file = 0; ldu = 0; words = [] } }
+    {
+        Block {
+            gfi: 0,
+            file: 0,
+            ldu: 0,
+            words: Vec::new(alloc),
+        }
+    }
+
+    /// Begins anew with a start word of these numbers.
+    pub(crate) fn begin(&mut self, gfi: u8, file: u8, ldu: u8)
+        ensures { self.new ≡ record { gfi = gfi; file = file; ldu = ldu; words = [] } }
+    {
+        self.gfi = gfi;
+        self.file = file;
+        self.ldu = ldu;
+        self.words.clear();
+    }
+
+    /// Takes a data word.
+    pub(crate) fn push(&mut self, word: Word) -> Result<(), AllocError>
+        ensures done { OnOk result (self.new ≡ record (self.old) { words = self.old.words ++ word ∷ [] }) }
+        ensures unchanged { OnErr result (self.new ≡ self.old) }
+    {
+        self.words.push(word)?;
+        Ok(())
+    }
+
+    pub(crate) fn file(&self) -> u8
+        ensures { result ≡ self.now.file }
+    {
+        self.file
+    }
+
+    pub(crate) fn ldu(&self) -> u8
+        ensures { result ≡ self.now.ldu }
+    {
+        self.ldu
+    }
+
+    pub(crate) fn words(&self) -> &[Word]
+        ensures { result.now ≡ self.now.words }
+    {
+        self.words.as_slice()
+    }
+}

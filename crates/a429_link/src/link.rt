@@ -1,0 +1,87 @@
+//! A link: one run of a source and a sink, step by step.
+
+ghost use Rattle.std.specs.Prelude.{◌≡◌, [], IfErr, OnOk, OnErr};
+ghost use Rattle.a429_link.specs.Step.{start, Can, after, LoadsLdu, IsFault};
+ghost use Rattle.a429_link.specs.Link.{handed_out, shown};
+
+use crate::file::FileBytes;
+use crate::state::{SinkState, SourceState};
+use crate::step::{Step, StepFault};
+use crate::transfer::Transfer;
+use a429_profile::Profile;
+use std::alloc::Global;
+use std::marker::Model;
+
+/// The source and the sink of a file transfer and the words between them, under a bench's profile
+/// (ARINC 429 Part 3). It is always where some run of the profile leads.
+#[derive(Debug, Drop)]
+pub struct Link<'a> {
+    alloc: Global,
+    profile: &'a Profile,
+    transfer: Transfer,
+}
+
+impl<'a> Model for Link<'a> {
+    ghost use Rattle.a429_link.specs.Link.{LinkValue, IsKept};
+
+    ghost Value = { LinkValue };
+
+    ghost view = { λ l. record { profile = l.profile.now; state = l.transfer } };
+
+    ghost invariant = { λ l. IsKept l.profile.now l.transfer };
+}
+
+impl<'a> Link<'a> {
+    /// A link on which nothing has happened. Its first file has this number.
+    pub fn start(alloc: Global, profile: &'a Profile, first_file: u8) -> Link<'a>
+        ensures { result ≡ record { profile = profile.now; state = start profile.now first_file } }
+    {
+        Link {
+            alloc,
+            profile,
+            transfer: Transfer::start(alloc, profile, first_file),
+        }
+    }
+
+    /// Makes one step. A step that is refused changes nothing: `NotAllowed` where there is no step of its
+    /// name, `WordDiffers` where there is one, but not with this bus and word, and `OutOfMemory` where it
+    /// may be made and there is no memory. What is loaded is a link data unit of the link's profile.
+    pub fn apply(&mut self, step: Step) -> Result<(), StepFault>
+        requires { LoadsLdu self.old.profile step }
+        ensures allowed { OnOk result (Can self.old.profile step self.old.state) }
+        ensures done { OnOk result (self.new ≡ record (self.old) { state = after self.old.profile step self.old.state }) }
+        ensures fault { IfErr result (λ e. IsFault self.old.profile step self.old.state e) }
+        ensures unchanged { OnErr result (self.new ≡ self.old) }
+    {
+        self.transfer.apply(self.alloc, self.profile, step)
+    }
+
+    /// What the source and the sink are doing, and how many words are on their way to the sink and how
+    /// many to the source.
+    pub fn states(&self) -> (SourceState, SinkState, usize, usize)
+        ensures { result ≡ shown self.now.state }
+    {
+        let transfer = &self.transfer;
+        (
+            transfer.source(),
+            transfer.sink(),
+            transfer.to_sink(),
+            transfer.to_source(),
+        )
+    }
+
+    /// The files that the sink has delivered since they were last taken.
+    pub fn delivered(&self) -> &[FileBytes]
+        ensures { result.now ≡ self.now.state.sink.shelf.files }
+    {
+        self.transfer.delivered()
+    }
+
+    /// Hands out the files that the sink has delivered since they were last taken.
+    pub fn take_delivered(&mut self) -> Vec<FileBytes>
+        ensures files { result.items ≡ self.old.state.sink.shelf.files }
+        ensures rest { self.new ≡ record (self.old) { state = handed_out self.old.state } }
+    {
+        self.transfer.take_delivered(self.alloc)
+    }
+}

@@ -1,0 +1,321 @@
+//! The sink of a file transfer.
+
+ghost use Rattle.std.specs.Prelude.{◌≡◌, ◌≤◌, ◌↔◌, ◌||◌, [], None, option_map, IsTrue, IfOk, OnOk, OnErr};
+ghost use Rattle.a429_link.specs.Sink as model;
+ghost use Rattle.a429_link.specs.Sink.{agrees, takes, at_start, at_part, at_end, is_good, is_same, in_sequence, accepts_owed, answers, MayAnswer, Listens, Owes, held};
+ghost use Rattle.a429_link.specs.Step.{shown_sink};
+ghost use Rattle.a429_link.specs.Run.{nothing};
+ghost use Rattle.a429_link.specs.View.{number_of};
+
+use crate::block::Block;
+use crate::file::FileBytes;
+use crate::number::is_final;
+use crate::shelf::Shelf;
+use crate::state::SinkState;
+use a429_ldu::{Form, bytes_of, check_word};
+use a429_profile::{Check, Profile};
+use a429_word::Word;
+use std::alloc::{AllocError, Global};
+use std::marker::Model;
+
+/// The numbers of the link data unit accepted last, and whether it was its file's last.
+#[derive(Clone, Copy, Debug)]
+pub(crate) struct Latest {
+    pub file: u8,
+    pub ldu: u8,
+    pub is_final: bool,
+}
+
+/// What the sink is doing (ARINC 429 Part 3).
+#[derive(Clone, Copy, Debug, PartialEq, Eq)]
+pub(crate) enum Phase {
+    Quiet,
+    OwesClear,
+    Granted,
+    InBlock,
+    /// The end word of its block had these flags.
+    OwesAck { flags: u8 },
+    OwesNak,
+}
+
+/// The sink: what it accepted last, its files, the count of the last request, and what it is doing.
+#[derive(Debug, Drop)]
+pub(crate) struct Sink {
+    last: Option<Latest>,
+    shelf: Shelf,
+    count: u8,
+    phase: Phase,
+    // Looked at only in a block and where an acknowledgement is owed.
+    block: Block,
+}
+
+impl Model for Sink {
+    ghost use Rattle.std.specs.Prelude.{option_map};
+    ghost use Rattle.a429_link.specs.Sink as model;
+    ghost use Rattle.a429_link.specs.View.{number_of, phase_of};
+
+    ghost Value = { model.Sink };
+
+    ghost view = { λ s. record { last = option_map number_of s.last; shelf = s.shelf; count = s.count; phase = phase_of s.phase s.block } };
+}
+
+// The block comes again, or in sequence.
+fn may_come(profile: &Profile, last: &Option<Latest>, file: u8, ldu: u8) -> bool
+    ensures { result ≡ (is_same (option_map number_of last.now) file ldu || in_sequence profile.now.codes (option_map number_of last.now) file ldu) }
+{
+    let first_ldu = profile.codes().first_ldu;
+    let Some(last) = last else {
+        return ldu == first_ldu;
+    };
+    let comes_again = last.file == file && last.ldu == ldu;
+    comes_again
+        || if last.is_final {
+            file == last.file.wrapping_add(1) && ldu == first_ldu
+        } else {
+            file == last.file
+                && u16::from(ldu) == u16::from(last.ldu) + 1
+                && u16::from(ldu) <= u16::from(first_ldu) + 254
+        }
+}
+
+// The block that ends by a word with this check word is good, where the last request had this count.
+fn ends_well(
+    alloc: Global,
+    profile: &Profile,
+    last: &Option<Latest>,
+    count: u8,
+    block: &Block,
+    check: u16,
+) -> Result<bool, AllocError>
+    ensures { IfOk result (λ good. good ≡ is_good profile.now (option_map number_of last.now) count block.now check) }
+{
+    if block.words().len() + 2 != usize::from(count) {
+        return Ok(false);
+    }
+    let Some(bytes) = bytes_of(alloc, profile, block.words())? else {
+        return Ok(false);
+    };
+    if !agrees(profile.check(), bytes.as_slice(), check) {
+        return Ok(false);
+    }
+    Ok(may_come(profile, last, block.file(), block.ldu()))
+}
+
+// The check word is that of the bytes, or the profile compares none.
+fn agrees(rule: &Check, bytes: &[u8], check: u16) -> bool
+    ensures { result ≡ agrees rule.now bytes.now check }
+{
+    !rule.compare || check == check_word(rule, bytes)
+}
+
+// The number is that of the link data unit accepted last.
+fn is_last(last: &Option<Latest>, file: u8, ldu: u8) -> bool
+    ensures { result ≡ is_same (option_map number_of last.now) file ldu }
+{
+    match last {
+        None => false,
+        Some(last) => last.file == file && last.ldu == ldu,
+    }
+}
+
+impl Sink {
+    /// A sink that has taken nothing.
+    pub(crate) fn new(alloc: Global) -> Sink
+        ensures { result ≡ record { last = None; shelf = nothing; count = 0; phase = model.Quiet } }
+    {
+        Sink {
+            last: None,
+            shelf: Shelf::new(alloc),
+            count: 0,
+            phase: Phase::Quiet,
+            block: Block::new(alloc),
+        }
+    }
+
+    /// It takes words.
+    pub(crate) fn listens(&self) -> bool
+        ensures { IsTrue result ↔ Listens self.now.phase }
+    {
+        matches!(self.phase, Phase::Quiet | Phase::Granted | Phase::InBlock)
+    }
+
+    /// It owes an answer.
+    pub(crate) fn owes(&self) -> bool
+        ensures { IsTrue result ↔ Owes self.now.phase }
+    {
+        matches!(
+            self.phase,
+            Phase::OwesClear | Phase::OwesAck { .. } | Phase::OwesNak
+        )
+    }
+
+    /// What it is doing, with the count of words of its block.
+    pub(crate) fn state(&self) -> SinkState
+        requires { held self.now.phase ≤ 255 }
+        ensures { result ≡ shown_sink self.now.phase }
+    {
+        match self.phase {
+            Phase::Quiet => SinkState::Quiet,
+            Phase::OwesClear => SinkState::OwesClear,
+            Phase::Granted => SinkState::Granted,
+            Phase::InBlock => SinkState::InBlock(self.block.words().len() as u8 + 1),
+            Phase::OwesAck { .. } => SinkState::OwesAck,
+            Phase::OwesNak => SinkState::OwesNak,
+        }
+    }
+
+    /// Takes a word of bus A that has this form.
+    pub(crate) fn take(
+        &mut self,
+        alloc: Global,
+        profile: &Profile,
+        word: Word,
+        form: &Form,
+    ) -> Result<(), AllocError>
+        ensures done { OnOk result (self.new ≡ takes profile.now word form.now self.old) }
+        ensures unchanged { OnErr result (self.new ≡ self.old) }
+    {
+        match *form {
+            Form::Rts { count } => {
+                self.count = count;
+                self.phase = Phase::OwesClear;
+                Ok(())
+            }
+            Form::Sot { gfi, file, ldu } => {
+                self.start_block(gfi, file, ldu);
+                Ok(())
+            }
+            Form::Part(_) => self.add_word(word),
+            Form::Eot { flags, check } => self.end_block(alloc, profile, flags, check),
+            Form::Cts { .. } | Form::Ack { .. } | Form::Nak { .. } => Ok(()),
+        }
+    }
+
+    fn start_block(&mut self, gfi: u8, file: u8, ldu: u8)
+        ensures { self.new ≡ record (self.old) { phase = at_start (record { gfi = gfi; file = file; ldu = ldu; words = [] }) self.old.phase } }
+    {
+        if matches!(self.phase, Phase::Granted | Phase::InBlock) {
+            self.block.begin(gfi, file, ldu);
+            self.phase = Phase::InBlock;
+        }
+    }
+
+    fn add_word(&mut self, word: Word) -> Result<(), AllocError>
+        ensures done { OnOk result (self.new ≡ record (self.old) { phase = at_part word self.old.phase }) }
+        ensures unchanged { OnErr result (self.new ≡ self.old) }
+    {
+        if self.phase == Phase::InBlock {
+            self.block.push(word)?;
+        }
+        Ok(())
+    }
+
+    fn end_block(
+        &mut self,
+        alloc: Global,
+        profile: &Profile,
+        flags: u8,
+        check: u16,
+    ) -> Result<(), AllocError>
+        ensures done { OnOk result (self.new ≡ record (self.old) { phase = at_end profile.now self.old.last self.old.count flags check self.old.phase }) }
+        ensures unchanged { OnErr result (self.new ≡ self.old) }
+    {
+        match self.phase {
+            Phase::Granted => self.phase = Phase::OwesNak,
+            Phase::InBlock => {
+                let good = ends_well(alloc, profile, &self.last, self.count, &self.block, check)?;
+                self.phase = if good {
+                    Phase::OwesAck { flags }
+                } else {
+                    Phase::OwesNak
+                };
+            }
+            Phase::Quiet | Phase::OwesClear | Phase::OwesAck { .. } | Phase::OwesNak => {}
+        }
+        Ok(())
+    }
+
+    /// It may give an answer of this form now.
+    pub(crate) fn may_answer(&self, answer: &Form) -> bool
+        ensures { IsTrue result ↔ MayAnswer self.now.count self.now.phase answer.now }
+    {
+        match (self.phase, *answer) {
+            (Phase::OwesClear, Form::Cts { count }) => count == self.count,
+            (Phase::OwesAck { .. }, Form::Ack { file, ldu }) => {
+                file == self.block.file() && ldu == self.block.ldu()
+            }
+            (Phase::OwesAck { .. } | Phase::OwesNak, Form::Nak { .. }) => true,
+            _ => false,
+        }
+    }
+
+    /// Gives an answer of this form.
+    pub(crate) fn answer(
+        &mut self,
+        alloc: Global,
+        profile: &Profile,
+        answer: &Form,
+    ) -> Result<(), AllocError>
+        ensures done { OnOk result (self.new ≡ answers profile.now.codes answer.now self.old) }
+        ensures unchanged { OnErr result (self.new ≡ self.old) }
+    {
+        match *answer {
+            Form::Cts { .. } => self.phase = Phase::Granted,
+            Form::Ack { .. } => {
+                self.accept(alloc, profile)?;
+                self.phase = Phase::Quiet;
+            }
+            Form::Nak { .. } => self.phase = Phase::Quiet,
+            Form::Rts { .. } | Form::Sot { .. } | Form::Part(_) | Form::Eot { .. } => {}
+        }
+        Ok(())
+    }
+
+    // Accepts the block that an acknowledgement is owed for. One that comes again is not put again.
+    fn accept(&mut self, alloc: Global, profile: &Profile) -> Result<(), AllocError>
+        ensures done { OnOk result (self.new ≡ accepts_owed profile.now.codes self.old.phase self.old) }
+        ensures unchanged { OnErr result (self.new ≡ self.old) }
+    {
+        let Phase::OwesAck { flags } = self.phase else {
+            return Ok(());
+        };
+        let file = self.block.file();
+        let ldu = self.block.ldu();
+        if is_last(&self.last, file, ldu) {
+            return Ok(());
+        }
+        let is_final = is_final(profile, flags);
+        match bytes_of(alloc, profile, self.block.words())? {
+            Some(bytes) => self.shelf.put(alloc, file, bytes.as_slice(), is_final)?,
+            None => self.shelf.put(alloc, file, &[], is_final)?,
+        }
+        self.last = Some(Latest {
+            file,
+            ldu,
+            is_final,
+        });
+        Ok(())
+    }
+
+    /// Leaves its answer out.
+    pub(crate) fn silence(&mut self)
+        ensures { self.new ≡ record (self.old) { phase = model.Quiet } }
+    {
+        self.phase = Phase::Quiet;
+    }
+
+    /// The files delivered since they were last taken.
+    pub(crate) fn delivered(&self) -> &[FileBytes]
+        ensures { result.now ≡ self.now.shelf.files }
+    {
+        self.shelf.files()
+    }
+
+    /// Hands these files out.
+    pub(crate) fn take_delivered(&mut self, alloc: Global) -> Vec<FileBytes>
+        ensures files { result.items ≡ self.old.shelf.files }
+        ensures rest { self.new ≡ record (self.old) { shelf = record (self.old.shelf) { files = [] } } }
+    {
+        self.shelf.take_files(alloc)
+    }
+}

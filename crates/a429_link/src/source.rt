@@ -1,0 +1,161 @@
+//! The source of a file transfer.
+
+ghost use Rattle.std.specs.Prelude.{◌≡◌, ◌≤◌, ◌+◌, ◌↔◌, IsTrue, IsSome, None, Some};
+ghost use Rattle.a429_ldu.specs.Ldu.{IsLdu};
+ghost use Rattle.a429_link.specs.Source as model;
+ghost use Rattle.a429_link.specs.Source.{next_word, hears, IsIdle, Waits};
+ghost use Rattle.a429_link.specs.Step.{next_of, gone_on};
+
+use crate::number::is_final;
+use crate::state::SourceState;
+use a429_ldu::{Form, Ldu, word_of};
+use a429_profile::Profile;
+use a429_word::Word;
+use std::marker::Model;
+
+/// The source: the number of its file, that of the link data unit that is current or next, this one if
+/// it is loaded, and what the source is doing.
+#[derive(Debug, Drop)]
+pub(crate) struct Source {
+    file: u8,
+    // 256 only past a file's 255th, where nothing can be loaded.
+    ldu: u16,
+    current: Option<Ldu>,
+    state: SourceState,
+}
+
+impl Model for Source {
+    ghost use Rattle.std.specs.Prelude.{◌≤◌, IsSome};
+    ghost use Rattle.a429_link.specs.Source as model;
+
+    ghost Value = { model.Source };
+
+    ghost view = { λ s. record { file = s.file; ldu = s.ldu; current = s.current; phase = s.state } };
+
+    ghost invariant = { λ s. (s.ldu ≤ 256) × (IsSome s.current → s.ldu ≤ 255) };
+}
+
+impl Source {
+    /// A source that has loaded nothing.
+    pub(crate) fn new(file: u8, first_ldu: u8) -> Source
+        ensures { result ≡ record { file = file; ldu = first_ldu; current = None; phase = SourceState.Idle } }
+    {
+        Source {
+            file,
+            ldu: u16::from(first_ldu),
+            current: None,
+            state: SourceState::Idle,
+        }
+    }
+
+    pub(crate) fn state(&self) -> SourceState
+        ensures { result ≡ self.now.phase }
+    {
+        self.state
+    }
+
+    /// It waits for an answer.
+    pub(crate) fn waits(&self) -> bool
+        ensures { IsTrue result ↔ Waits self.now.phase }
+    {
+        matches!(self.state, SourceState::Awaiting | SourceState::Waiting)
+    }
+
+    /// It can load a link data unit.
+    pub(crate) fn may_load(&self, first_ldu: u8) -> bool
+        ensures { IsTrue result ↔ (IsIdle self.now.phase × (self.now.current ≡ None) × (self.now.ldu ≤ first_ldu + 254)) }
+    {
+        self.state == SourceState::Idle
+            && self.current.is_none()
+            && self.ldu <= u16::from(first_ldu) + 254
+    }
+
+    /// Loads a link data unit.
+    pub(crate) fn load(&mut self, unit: Ldu)
+        requires { self.old.ldu ≤ 255 }
+        ensures { self.new ≡ record (self.old) { current = Some unit } }
+    {
+        self.current = Some(unit);
+    }
+
+    /// Its next word, if it sends one now.
+    pub(crate) fn next(&self, profile: &Profile) -> Option<Word>
+        ensures { result ≡ next_of profile.now self.now }
+    {
+        let Some(unit) = &self.current else {
+            return None;
+        };
+        match self.state {
+            SourceState::Idle => {
+                let count = unit.count();
+                Some(word_of(profile, &Form::Rts { count }))
+            }
+            SourceState::Sending(sent) => {
+                if sent >= unit.count() {
+                    return None;
+                }
+                Some(unit.word(profile, sent, self.file, self.ldu as u8))
+            }
+            SourceState::Awaiting | SourceState::Waiting => None,
+        }
+    }
+
+    /// Goes on after its next word.
+    pub(crate) fn go_on(&mut self, profile: &Profile)
+        requires { IsSome (next_of profile.now self.old) }
+        ensures { self.new ≡ gone_on self.old }
+    {
+        let Some(unit) = &self.current else {
+            return;
+        };
+        match self.state {
+            SourceState::Idle => self.state = SourceState::Awaiting,
+            SourceState::Sending(sent) => {
+                let count = unit.count();
+                self.state = if sent + 1 == count {
+                    SourceState::Waiting
+                } else {
+                    SourceState::Sending(sent + 1)
+                };
+            }
+            SourceState::Awaiting | SourceState::Waiting => {}
+        }
+    }
+
+    /// It no longer waits, and keeps its link data unit.
+    pub(crate) fn time_out(&mut self)
+        ensures { self.new ≡ record (self.old) { phase = SourceState.Idle } }
+    {
+        self.state = SourceState::Idle;
+    }
+
+    /// Takes an answer of this form.
+    pub(crate) fn hear(&mut self, profile: &Profile, answer: &Form)
+        ensures { self.new ≡ hears profile.now.codes self.old.current self.old.phase answer.now self.old }
+    {
+        let Some(unit) = &self.current else {
+            return;
+        };
+        match (self.state, *answer) {
+            (SourceState::Awaiting, Form::Cts { count }) => {
+                if count == unit.count() {
+                    self.state = SourceState::Sending(0);
+                }
+            }
+            (SourceState::Waiting, Form::Ack { file, ldu }) => {
+                if file == self.file && u16::from(ldu) == self.ldu {
+                    if is_final(profile, unit.flags()) {
+                        self.file = self.file.wrapping_add(1);
+                        self.ldu = u16::from(profile.codes().first_ldu);
+                    } else {
+                        self.ldu += 1;
+                    }
+                    self.current = None;
+                    self.state = SourceState::Idle;
+                }
+            }
+            (SourceState::Waiting, Form::Nak { .. }) => self.state = SourceState::Idle,
+            _ => {}
+        }
+    }
+}
