@@ -70,10 +70,14 @@ IsLine (First file) = ⊤
 IsLine (Load gfi flags check words) = (gfi ≤ 15) × (flags ≤ 15) × (1 ≤ length words) × (length words ≤ 253)
 IsLine (Moved act source sink to_sink to_source) = IsSource source × IsSink sink
 
--- the numbers are those that the types of a line hold: bytes, a check word of 16 bits, words of 32 (ARINC 429 Part 1)
+-- words of 32 bits (ARINC 429 Part 1)
+abbrev pub AreHeld : List ℕ → Type 0
+AreHeld words = AllByRecursion (λ w. w < 2 ^ 32) words
+
+-- the numbers are those that the types of a line hold: bytes, a check word of 16 bits, and words
 abbrev pub IsHeld : CertLine → Type 0
 IsHeld (First file) = file < 2 ^ 8
-IsHeld (Load gfi flags check words) = (check < 2 ^ 16) × AllByRecursion (λ w. w < 2 ^ 32) words
+IsHeld (Load gfi flags check words) = (check < 2 ^ 16) × AreHeld words
 IsHeld (Moved act source sink to_sink to_source) = (to_sink < 2 ^ 8) × (to_source < 2 ^ 8)
 
 -- bytes spell a line

@@ -3,7 +3,7 @@
 ghost use Rattle.std.specs.Prelude.{◌≡◌, ◌≤◌, ◌<◌, ◌+◌, ◌++◌, flat_map, length, vec_len, vec_capacity, OnOk, OnErr};
 ghost use Rattle.std.specs.Fmt.{decimal};
 ghost use Rattle.a429_word.specs.Written.{numeral, hex_text};
-ghost use Rattle.a429_cert.specs.Line.{field, act_text, source_text, sink_text, spelling, IsLine};
+ghost use Rattle.a429_cert.specs.Line.{field, act_text, source_text, sink_text, spelling, IsLine, AreHeld, IsHeld};
 ghost use Rattle.a429_cert.specs.Writing.{IsFrontOf};
 
 use crate::act::Act;
@@ -19,6 +19,7 @@ pub fn write_line(line: &CertLine, out: &mut Vec<u8>) -> Result<(), OutOfMemory>
     requires { IsLine line.now }
     ensures ok { OnOk result (out.new.items ≡ out.old.items ++ spelling line.now) }
     ensures err { OnErr result (out.new.items ≡ out.old.items) }
+    ensures held { OnOk result (IsHeld line.now) }
     ensures full { OnErr result (vec_capacity out.old < vec_len out.old + length (spelling line.now)) }
 {
     let start = out.len();
@@ -34,6 +35,7 @@ pub fn write_line(line: &CertLine, out: &mut Vec<u8>) -> Result<(), OutOfMemory>
 // Appends the spelling of a line, or for want of memory a front of it.
 fn put_line(line: &CertLine, out: &mut Vec<u8>) -> Result<(), OutOfMemory>
     ensures ok { OnOk result (out.new.items ≡ out.old.items ++ spelling line.now) }
+    ensures held { OnOk result (IsHeld line.now) }
     ensures full { OnErr result (vec_capacity out.old < vec_len out.old + length (spelling line.now)) }
     ensures room { vec_capacity out.old ≤ vec_capacity out.new }
     ensures front { IsFrontOf out.old.items out.new.items }
@@ -130,6 +132,7 @@ fn put_hex(number: u32, digits: usize, out: &mut Vec<u8>) -> Result<(), OutOfMem
 // Appends a field for each word.
 fn put_words(words: &[Word], out: &mut Vec<u8>) -> Result<(), OutOfMemory>
     ensures ok { OnOk result (out.new.items ≡ out.old.items ++ flat_map (λ w. field (hex_text w)) words.now) }
+    ensures held { OnOk result (AreHeld words.now) }
     ensures full { OnErr result (vec_capacity out.old < vec_len out.old + length (flat_map (λ w. field (hex_text w)) words.now)) }
     ensures room { vec_capacity out.old ≤ vec_capacity out.new }
     ensures front { IsFrontOf out.old.items out.new.items }

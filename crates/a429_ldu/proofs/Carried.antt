@@ -246,3 +246,7 @@ answer_none p is ws e bs h = absurd (let some = carried_of p is ws bs h in cc)
 -- an answer of no bytes
 pub answer_left : {V : Type 0} (f : V → List ℕ) (p : Contents) → IsProfile p → (ws : List ℕ) (r : Option V) → option_map f r ≡ bytes_carried p.codes ws → r ≡ None → (bs : List ℕ) → ¬ CarryBytes p.codes ws bs
 answer_left f p is ws r e none = answer_none p is ws (sym e ∙ ap (option_map f) none)
+
+-- words carry one list of bytes
+pub one_list : (p : Contents) → IsProfile p → (ws xs ys : List ℕ) → CarryBytes p.codes ws xs → CarryBytes p.codes ws ys → xs ≡ ys
+one_list p is ws xs ys hx hy = some_same (sym (carried_of p is ws xs hx) ∙ carried_of p is ws ys hy)

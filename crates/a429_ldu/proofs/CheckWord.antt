@@ -1,5 +1,5 @@
 -- The check word of bytes, by a register.
-use Rattle.std.proofs.Common.{◌≡◌, ℕ, zero, suc, ◌+◌, ◌*◌, ◌%◌, ◌^◌, ◌<◌, Bool, true, false, List, [], ◌∷◌, ◌++◌, sym, ap, ◌∙◌, arith, take, get_or, length, fold, append-nil, bit_xor, pow-suc, mul-le-mul_right, ◌≤◌, reverse}
+use Rattle.std.proofs.Common.{◌≡◌, ℕ, zero, suc, ◌+◌, ◌*◌, ◌%◌, ◌^◌, ◌<◌, Bool, true, false, List, [], ◌∷◌, ◌++◌, sym, ap, ◌∙◌, arith, take, get_or, length, fold, append-nil, bit_xor, pow-suc, mul-le-mul_right, ◌≤◌, reverse, refl, cond, eqb}
 use Rattle.std.specs.List.{flat_map}
 use Rattle.std.specs.Int.{bit_at, reverse_bits_onto}
 use Rattle.std.specs.Int.Digits.{number_from_digits_after}
@@ -9,7 +9,7 @@ use Rattle.std.proofs.lemmas.Nat.{mod-pow-add, pow-add, xor_lt}
 use Rattle.std.proofs.lemmas.Nat.Bits.{bit_at-lt}
 use Rattle.a429_profile.specs.declared.codes.Check.{Check}
 use Rattle.a429_ldu.specs.CheckWord.{top_bits, fed_bits, remainder_number, check_of}
-use Rattle.a429_ldu.specs.Register.{fed, register_after}
+use Rattle.a429_ldu.specs.Register.{fed, register_after, check_by_register}
 use Rattle.a429_ldu.proofs.Division.{AreBits, AreBits-append, register-divides}
 
 AreBits-top_bits : (k n : ℕ) → AreBits (top_bits k n)
@@ -121,3 +121,26 @@ check_of-lt k bytes h =
     let small = remainder_number-lt k.low_first (register_after k bytes) in
     let below : check_of k bytes < 2 ^ 16 = rw divided (xor_lt 16 (remainder_number k.low_first (top_bits 16 (register_after k bytes))) k.xor small (omega arith)) in
     omega arith
+
+-- ---- the register ends with the check word
+
+fed-lt : (poly r b : ℕ) → poly < 65536 → fed poly r b < 65536
+fed-lt poly r b h = by_test (eqb ((bit_at r 15 + b) % 2) 1)
+  where
+    by_test : (t : Bool) → cond t (bit_xor (r * 2 % 65536) poly) (r * 2 % 65536) < 65536
+    by_test true = xor_lt 16 (r * 2 % 65536) poly (omega arith) h
+    by_test false = omega arith
+
+fold-fed-lt : (poly r : ℕ) (bs : List ℕ) → poly < 65536 → r < 65536 → fold (fed poly) r bs < 65536
+fold-fed-lt poly r [] h k = k
+fold-fed-lt poly r (b ∷ bs) h k = fold-fed-lt poly (fed poly r b) bs h (fed-lt poly r b h)
+
+reversed : (low_first : Bool) (r : ℕ) → r < 65536 → cond low_first (reverse_bits_onto 16 r 0) r ≡ remainder_number low_first (top_bits 16 r)
+reversed true r h = number-reversed r
+reversed false r h = sym (number-16 r h)
+
+pub check-by-register : (k : Check) (bytes : List ℕ) → k.poly < 2 ^ 16 → k.init < 2 ^ 16 → check_by_register k bytes ≡ check_of k bytes
+check-by-register k bytes hp hi =
+    let r = register_after k bytes in
+    let small : r < 65536 = fold-fed-lt k.poly k.init (flat_map (fed_bits k.low_first) bytes) hp hi in
+    whole k r (cond k.low_first (reverse_bits_onto 16 r 0) r) bytes refl (reversed k.low_first r small)

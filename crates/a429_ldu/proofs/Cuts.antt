@@ -1,16 +1,21 @@
 -- The link data units of a file: each is one of the profile, their bytes are the file, and only the last is final.
-use Rattle.std.proofs.Common.{◌≡◌, ℕ, zero, suc, ◌+◌, ◌-◌, ◌*◌, ◌^◌, ◌<◌, ◌≤◌, true, false, ◌==◌, List, [], ◌∷◌, ◌++◌, length, take, drop, map, All, Option, Some, nat_le, cond, unwrap_or, refl, sym, ap, ◌∙◌, arith}
+use Rattle.std.proofs.Common.{◌≡◌, ℕ, zero, suc, ◌+◌, ◌-◌, ◌*◌, ◌%◌, ◌^◌, ◌<◌, ◌≤◌, true, false, ◌==◌, List, [], ◌∷◌, ◌++◌, length, take, drop, map, All, nat_le, cond, unwrap_or, Bool, inl, inr, get_or, append_assoc, length-append, length-drop, refl, sym, ap, ◌∙◌, arith}
 use Rattle.std.specs.Int.{bit_at}
 use Rattle.std.specs.List.{AllByRecursion, concat}
+use Rattle.std.proofs.lemmas.Bool.{lt-leb, le-leb, cases_lt}
+use Rattle.std.proofs.lemmas.List.{get_or_default}
 use Rattle.std.proofs.lemmas.List.Elements.{All-from_recursion, recursion_from_All}
 use Rattle.a429_profile.specs.declared.codes.Codes.{Codes}
+use Rattle.a429_profile.specs.declared.codes.Check.{Check}
 use Rattle.a429_profile.specs.Contents.{Contents, IsProfile}
+use Rattle.a429_ldu.specs.CheckWord.{check_of}
+use Rattle.a429_profile.specs.Ranges.{AreInRange}
 use Rattle.a429_profile.proofs.Ranges.{in_range}
 use Rattle.a429_ldu.specs.Ldu.{LduValue, IsLdu, count_of, is_final, bytes_of}
-use Rattle.a429_ldu.specs.Cut.{unit_of, room, pieces, final_flag, units_in, units_of, OnlyLastIsFinal}
+use Rattle.a429_ldu.specs.Cut.{data_words, unit_of, room, pieces, final_flag, units_in, units_of, OnlyLastIsFinal}
 use Rattle.a429_ldu.proofs.Carried.{carried_of}
 use Rattle.a429_ldu.proofs.CheckWord.{check_of-lt}
-use Rattle.a429_ldu.proofs.Pieces.{AreBytes, IsPiece, AreCut, carry, room-most, unit-words, unit-sound, pieces-cut}
+use Rattle.a429_ldu.proofs.Pieces.{IsPiece, carry, room-most, unit-words, unit-sound, pieces-cut}
 
 -- ---- flags
 
@@ -28,6 +33,28 @@ flag (suc (suc (suc (suc k)))) h = absurd (omega arith)
 
 final : (p : Contents) → IsProfile p → IsFlag (p.codes.final_bit - 25)
 final p is = let r = in_range p is in flag (p.codes.final_bit - 25) (omega (arith, r.final_high))
+
+-- as a body computes it
+pub record HasFlag (p : Contents) (c : Codes) : Type 0 where
+  pub low : 25 ≤ c.final_bit
+  pub high : c.final_bit - 25 < 8
+  pub value : 1 * 2 ^ (c.final_bit - 25) % 256 ≡ final_flag p.codes
+  pub range : 1 * 2 ^ (c.final_bit - 25) % 256 ≤ 15
+
+small_power : (n : ℕ) → n ≤ 15 → 1 * n % 256 ≡ n
+small_power n h = omega arith
+
+pub flag_made : (p : Contents) → IsProfile p → (c : Codes) → c ≡ p.codes → HasFlag p c
+flag_made p is c e = rw e (record { low = r.final_low; high = omega (arith, r.final_high); value = same; range = let small = f.small in omega arith })
+  where
+    r : AreInRange p
+    r = in_range p is
+
+    f : IsFlag (p.codes.final_bit - 25)
+    f = final p is
+
+    same : 1 * 2 ^ (p.codes.final_bit - 25) % 256 ≡ final_flag p.codes
+    same = small_power (2 ^ (p.codes.final_bit - 25)) f.small
 
 -- ---- unit by unit
 
@@ -73,6 +100,10 @@ pub record AreUnits (p : Contents) (max_words : ℕ) (bytes : List ℕ) (us : Li
   pub joined : concat (map (bytes_of p.codes) us) ≡ bytes
   pub last : OnlyLastIsFinal p.codes us
 
+-- bytes as a body knows them
+pub all_small : (bs : List ℕ) → ((i : ℕ) → get_or bs i 0 < 256) → All (λ b. b < 256) bs
+all_small bs h k d room = rw (get_or_default bs k d 0 room) (h k)
+
 room-some : (max_words : ℕ) → 3 ≤ max_words → 1 ≤ room max_words
 room-some w h = omega arith
 
@@ -86,3 +117,93 @@ units p is w bytes hw ww small some most =
       joined = units-bytes p is (room w) ps cut.each ∙ cut.whole;
       last = units-last p is ps cut.some;
     }
+
+-- ---- unit after unit
+
+pub unit_made : (p : Contents) (bs : List ℕ) (flags check : ℕ) (words : List ℕ) (k : Check) → k ≡ p.check → check ≡ check_of k bs → words ≡ data_words p.codes bs → ◌≡◌ {A = LduValue} (record { gfi = 0; flags = flags; check = check; words = words }) (unit_of p bs flags)
+unit_made p bs flags check words k ek ec ew = rw (ec, ek, ew) refl
+
+-- what is still to come, after so many units
+abbrev pub rest_of : Contents → ℕ → ℕ → List ℕ → List LduValue
+rest_of p size count rest = units_in p (pieces (255 - count) size rest)
+
+one_more : (p : Contents) (piece : List ℕ) (ps : List (List ℕ)) → 1 ≤ length ps → units_in p (piece ∷ ps) ≡ unit_of p piece 0 ∷ units_in p ps
+one_more p piece [] h = absurd (omega arith)
+one_more p piece (q ∷ qs) h = refl
+
+some_pieces : (f size : ℕ) (bs : List ℕ) → 1 ≤ f → 1 ≤ length (pieces f size bs)
+unfolding pieces
+some_pieces zero size bs h = absurd (omega arith)
+some_pieces (suc f) size bs h = by_test (nat_le (length bs) size)
+  where
+    by_test : (t : Bool) → 1 ≤ length (cond t (bs ∷ []) (take size bs ∷ pieces f size (drop size bs)))
+    by_test true = omega arith
+    by_test false = omega arith
+
+units_more : (p : Contents) (f g size : ℕ) (bs : List ℕ) → f ≡ suc g → 1 ≤ g → size < length bs → units_in p (pieces f size bs) ≡ unit_of p (take size bs) 0 ∷ units_in p (pieces g size (drop size bs))
+unfolding pieces
+units_more p f g size bs ef hg h =
+    ap (λ n. units_in p (pieces n size bs)) ef ∙ ap (λ t. units_in p (cond t (bs ∷ []) (take size bs ∷ pieces g size (drop size bs)))) (lt-leb (length bs) size h)
+    ∙ one_more p (take size bs) (pieces g size (drop size bs)) (some_pieces g size (drop size bs) hg)
+
+units_end : (p : Contents) (f g size : ℕ) (bs : List ℕ) → f ≡ suc g → length bs ≤ size → units_in p (pieces f size bs) ≡ unit_of p bs (final_flag p.codes) ∷ []
+unfolding pieces
+units_end p f g size bs ef h =
+    ap (λ n. units_in p (pieces n size bs)) ef ∙ ap (λ t. units_in p (cond t (bs ∷ []) (take size bs ∷ pieces g size (drop size bs)))) (le-leb (length bs) size h)
+
+-- more pieces are left where bytes are
+left : (n size l : ℕ) → 1 ≤ l → l ≤ (255 - n) * size → n < 255
+left n size l h k = elim (cases_lt n 255) [
+  | inl lt ↦ lt
+  | inr ge ↦ let none : 255 - n ≡ 0 = omega arith in let few : l ≤ 0 * size = rw none at k in absurd (omega arith)
+]
+
+left_more : (n size l : ℕ) → size < l → l ≤ (255 - n) * size → suc n < 255
+left_more n size l h k = elim (cases_lt (suc n) 255) [
+  | inl lt ↦ lt
+  | inr ge ↦ absurd (at_most_one (255 - n) (omega arith) k)
+]
+  where
+    at_most_one : (f : ℕ) → f ≤ 1 → l ≤ f * size → ⊥
+    at_most_one zero hf few = omega arith
+    at_most_one (suc zero) hf few = omega arith
+    at_most_one (suc (suc f)) hf few = absurd (omega arith)
+
+-- a unit more
+pub record IsMore (p : Contents) (size : ℕ) (us : List LduValue) (rest : List ℕ) (total : List LduValue) : Type 0 where
+  pub units : us ++ rest_of p size (length us) rest ≡ total
+  pub some : 1 ≤ length rest
+  pub most : length rest ≤ (255 - length us) * size
+
+pub unit_more : (p : Contents) (size : ℕ) (done us total : List LduValue) (rest piece later : List ℕ) (u : LduValue) → size < length rest → length rest ≤ (255 - length done) * size → piece ≡ take size rest → later ≡ drop size rest → u ≡ unit_of p piece 0 → us ≡ done ++ u ∷ [] →
+    done ++ rest_of p size (length done) rest ≡ total → IsMore p size us later total
+unit_more p size done us total rest piece later u h most ep el eu eus e = rw (eus, el) (record {
+  units = append_assoc done (u ∷ []) _ ∙ ap (λ us. done ++ us) (sym step) ∙ e;
+  some = omega (arith, length-drop size rest);
+  most = less;
+})
+  where
+    n : ℕ
+    n = length done
+
+    count : length (done ++ u ∷ []) ≡ suc n
+    count = length-append done (u ∷ []) ∙ omega arith
+
+    below : suc n < 255
+    below = left_more n size (length rest) h most
+
+    step : rest_of p size n rest ≡ u ∷ rest_of p size (length (done ++ u ∷ [])) (drop size rest)
+    step = units_more p (255 - n) (255 - suc n) size rest (omega (arith, below)) (omega (arith, below)) h ∙ ap (λ v. v ∷ units_in p (pieces (255 - suc n) size (drop size rest))) (sym (eu ∙ ap (λ bs. unit_of p bs 0) ep)) ∙ ap (λ k. u ∷ units_in p (pieces (255 - k) size (drop size rest))) (sym count)
+
+    one : (255 - n) * size ≡ (255 - suc n) * size + size
+    one = let e : 255 - n ≡ suc (255 - suc n) = omega (arith, below) in rw e (omega arith)
+
+    less : length (drop size rest) ≤ (255 - length (done ++ u ∷ [])) * size
+    less = rw count (omega (arith, length-drop size rest, one))
+
+-- the last unit
+pub unit_last : (p : Contents) (size : ℕ) (done us total : List LduValue) (rest : List ℕ) (u : LduValue) (flag : ℕ) → length rest ≤ size → 1 ≤ length rest → length rest ≤ (255 - length done) * size → flag ≡ final_flag p.codes → u ≡ unit_of p rest flag → us ≡ done ++ u ∷ [] →
+    done ++ rest_of p size (length done) rest ≡ total → us ≡ total
+unit_last p size done us total rest u flag h some most ef eu eus e =
+    let below = left (length done) size (length rest) some most in
+    eus ∙ ap (λ v. done ++ v ∷ []) (eu ∙ ap (unit_of p rest) ef) ∙ ap (λ us. done ++ us) (sym (units_end p (255 - length done) (254 - length done) size rest (omega arith) h)) ∙ e

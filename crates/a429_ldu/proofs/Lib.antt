@@ -12,3 +12,4 @@ pub mod Carried
 pub mod Units
 pub mod Pieces
 pub mod Cuts
+pub mod Digits

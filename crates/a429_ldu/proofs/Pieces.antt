@@ -1,17 +1,16 @@
 -- Semi-octets in words, bytes in pieces.
-use Rattle.std.proofs.Common.{◌≡◌, ℕ, zero, suc, ◌+◌, ◌-◌, ◌*◌, ◌/◌, ◌%◌, ◌^◌, ◌<◌, ◌≤◌, Bool, true, false, cond, nat_le, List, [], ◌∷◌, ◌++◌, length, take, drop, map, All, refl, sym, ap, ◌∙◌, arith, subst, append-nil, length-drop, length-take}
+use Rattle.std.proofs.Common.{◌≡◌, ◌/◌, ℕ, zero, suc, ◌+◌, ◌-◌, ◌*◌, ◌<◌, ◌≤◌, Bool, true, false, cond, nat_le, List, [], ◌∷◌, ◌++◌, length, take, drop, map, refl, ap, ◌∙◌, arith, append-nil, length-drop, length-take, ◌↔◌}
 use Rattle.std.specs.List.{AllByRecursion, concat}
 use Rattle.std.proofs.lemmas.Bool.{leb-true, leb-false}
 use Rattle.std.proofs.lemmas.List.{take-append-drop}
-use Rattle.a429_word.specs.declared.bus.Bus.TheVariants as bus
 use Rattle.a429_profile.specs.Contents.{Contents, IsProfile}
 use Rattle.a429_ldu.specs.declared.forms.Form.TheVariants.{Part}
-use Rattle.a429_ldu.specs.Semis.{AreSemis, semis_of_bytes}
-use Rattle.a429_ldu.specs.Form.{IsForm, word_number}
-use Rattle.a429_ldu.specs.Carried.{Carries, AreDataWords, CarryBytes, bytes_carried}
+use Rattle.a429_ldu.specs.Semis.{semis_of_bytes}
+use Rattle.a429_ldu.specs.Form.{word_number}
+use Rattle.a429_ldu.specs.Carried.{AreDataWords, CarryBytes}
 use Rattle.a429_ldu.specs.CheckWord.{check_of}
-use Rattle.a429_ldu.specs.Ldu.{LduValue, HasLength, IsLdu, count_of, is_final, bytes_of}
-use Rattle.a429_ldu.specs.Cut.{fives, data_words, unit_of, room, pieces, final_flag, units_in, units_of, OnlyLastIsFinal}
+use Rattle.a429_ldu.specs.Ldu.{IsLdu, count_of}
+use Rattle.a429_ldu.specs.Cut.{fives, data_words, unit_of, room, pieces, HaveSizes}
 use Rattle.a429_ldu.proofs.Joined.{word_number-is}
 
 abbrev pub AreDigits : List ℕ → Type 0
@@ -24,7 +23,7 @@ digits_of_bytes : (bs : List ℕ) → AreBytes bs → AreDigits (semis_of_bytes 
 digits_of_bytes [] h = tt
 digits_of_bytes (b ∷ bs) h = let small = h.0 in (omega arith, (omega arith, digits_of_bytes bs h.1))
 
-length-semis : (bs : List ℕ) → length (semis_of_bytes bs) ≡ 2 * length bs
+pub length-semis : (bs : List ℕ) → length (semis_of_bytes bs) ≡ 2 * length bs
 length-semis [] = refl
 length-semis (b ∷ bs) = let e = length-semis bs in omega arith
 
@@ -71,14 +70,14 @@ length-words p (ss ∷ sss) = ap suc (length-words p sss)
 -- ---- a unit
 
 -- so many semi-octets fill so many words
-words-most : (p : Contents) (bs : List ℕ) (n : ℕ) → 2 * length bs ≤ 5 * n → length (data_words p.codes bs) ≤ n
+pub words-most : (p : Contents) (bs : List ℕ) (n : ℕ) → 2 * length bs ≤ 5 * n → length (data_words p.codes bs) ≤ n
 words-most p bs n h =
     let e = length-words p (fives (semis_of_bytes bs)) in
     let most = fives-most (semis_of_bytes bs) in
     let two = length-semis bs in
     omega arith
 
-words-least : (p : Contents) (bs : List ℕ) → 1 ≤ length bs → 1 ≤ length (data_words p.codes bs)
+pub words-least : (p : Contents) (bs : List ℕ) → 1 ≤ length bs → 1 ≤ length (data_words p.codes bs)
 words-least p bs h =
     let e = length-words p (fives (semis_of_bytes bs)) in
     let least = fives-least (semis_of_bytes bs) in
@@ -150,7 +149,38 @@ cut_step m bs qs false e hm small some later =
     }
 
 pub pieces-cut : (f m : ℕ) (bs : List ℕ) → 1 ≤ m → AreBytes bs → 1 ≤ length bs → length bs ≤ f * m → AreCut m bs (pieces f m bs)
+unfolding pieces
 pieces-cut zero m bs hm small some most = absurd (omega arith)
 pieces-cut (suc f) m bs hm small some most =
     cut_step m bs (pieces f m (drop m bs)) (nat_le (length bs) m) refl hm small some
     (λ above. let left = length-drop m bs in let one : suc f * m ≡ f * m + m = omega arith in pieces-cut f m (drop m bs) hm (small-drop m bs small) (omega arith) (omega arith))
+
+-- ---- sizes of pieces
+
+first_size : (size : ℕ) (piece : List ℕ) (ps : List (List ℕ)) → length piece ≡ size → HaveSizes size ps → HaveSizes size (piece ∷ ps)
+first_size size piece [] e h = absurd h
+first_size size piece (q ∷ qs) e h = (e, h)
+
+size_step : (m : ℕ) (bs : List ℕ) (qs : List (List ℕ)) (t : Bool) → nat_le (length bs) m ≡ t → 1 ≤ length bs → (m < length bs → (concat qs ≡ drop m bs) × HaveSizes m qs) → (concat (cond t (bs ∷ []) (take m bs ∷ qs)) ≡ bs) × HaveSizes m (cond t (bs ∷ []) (take m bs ∷ qs))
+size_step m bs qs true e some later = (append-nil bs, (some, leb-true (length bs) m e))
+size_step m bs qs false e some later =
+    let above : m < length bs = leb-false (length bs) m e in
+    let rest = later above in
+    let front = length-take m bs in
+    (ap (λ xs. take m bs ++ xs) rest.0 ∙ take-append-drop m bs, first_size m (take m bs) qs (omega arith) rest.1)
+
+pub pieces-sized : (f m : ℕ) (bs : List ℕ) → 1 ≤ m → 1 ≤ length bs → length bs ≤ f * m → (concat (pieces f m bs) ≡ bs) × HaveSizes m (pieces f m bs)
+unfolding pieces
+pieces-sized zero m bs hm some most = absurd (omega arith)
+pieces-sized (suc f) m bs hm some most =
+    size_step m bs (pieces f m (drop m bs)) (nat_le (length bs) m) refl some
+    (λ above. let left = length-drop m bs in let one : suc f * m ≡ f * m + m = omega arith in pieces-sized f m (drop m bs) hm (omega arith) (omega arith))
+
+pub room-is : (w n : ℕ) → (n ≤ room w) ↔ (2 * n ≤ 5 * (w - 2))
+room-is w n = (λ h. room_to (w - 2) n h, λ h. room_from (w - 2) n h)
+  where
+    room_to : (k n : ℕ) → n ≤ k * 5 / 2 → 2 * n ≤ 5 * k
+    room_to k n h = omega arith
+
+    room_from : (k n : ℕ) → 2 * n ≤ 5 * k → n ≤ k * 5 / 2
+    room_from k n h = omega arith

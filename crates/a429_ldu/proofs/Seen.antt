@@ -33,7 +33,7 @@ told-form true o x e = absurd (cc)
 told-form false (Some y) x e = cc
 told-form false None x e = absurd (cc)
 
-sees : (p : Contents) → IsProfile p → (b : Bus) (w : ℕ) → Sees p b w (sight_of p.codes b w)
+pub sees : (p : Contents) → IsProfile p → (b : Bus) (w : ℕ) → Sees p b w (sight_of p.codes b w)
 sees p is b w =
     let t = is_free p.codes b w in
     let o = form_of p.codes b w in

@@ -1,5 +1,5 @@
 -- How a file is cut into link data units (profile).
-use Rattle.std.specs.Prelude.{ℕ, zero, suc, ◌+◌, ◌-◌, ◌*◌, ◌/◌, ◌^◌, ◌≤◌, ◌≡◌, nat_le, if◌then◌else◌, true, false, List, [], ◌∷◌, length, take, drop, map}
+use Rattle.std.specs.Prelude.{ℕ, zero, suc, ◌-◌, ◌*◌, ◌/◌, ◌^◌, ◌≡◌, nat_le, if◌then◌else◌, true, false, List, [], ◌∷◌, length, take, drop, map, ◌≤◌}
 use Rattle.a429_profile.specs.declared.codes.Codes.{Codes}
 use Rattle.a429_profile.specs.Contents.{Contents}
 use Rattle.a429_ldu.specs.declared.forms.Form.TheVariants.{Part}
@@ -27,9 +27,15 @@ abbrev pub room : ℕ → ℕ
 room max_words = (max_words - 2) * 5 / 2
 
 -- bytes in pieces of so many, the last of which may have fewer; no more than a number of pieces
-abbrev pub pieces : ℕ → ℕ → List ℕ → List (List ℕ)
+unfoldable pub pieces : ℕ → ℕ → List ℕ → List (List ℕ)
 pieces zero size bytes = []
 pieces (suc most) size bytes = if nat_le (length bytes) size then bytes ∷ [] else take size bytes ∷ pieces most size (drop size bytes)
+
+-- each piece but the last has so many bytes, and the last has some, and no more
+abbrev pub HaveSizes : ℕ → List (List ℕ) → Type 0
+HaveSizes size [] = ⊥
+HaveSizes size (piece ∷ []) = (1 ≤ length piece) × (length piece ≤ size)
+HaveSizes size (piece ∷ next ∷ rest) = (length piece ≡ size) × HaveSizes size (next ∷ rest)
 
 -- the flag that says that a file ends
 abbrev pub final_flag : Codes → ℕ

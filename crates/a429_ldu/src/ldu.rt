@@ -2,7 +2,7 @@
 
 ghost use Rattle.std.specs.Prelude.{◌≡◌, ◌≢◌, ◌≤◌, ◌<◌, IfOk, IfErr, slice_index, true, false};
 ghost use Rattle.a429_ldu.specs.CheckWord.{check_of};
-ghost use Rattle.a429_ldu.specs.Ldu.{count_of, block_of, IsLdu, IsFirstFault};
+ghost use Rattle.a429_ldu.specs.Ldu.{count_of, block_of, HasLength, IsLdu, IsFirstFault};
 
 use crate::bytes::bytes_of;
 use crate::fault::LduFault;
@@ -72,6 +72,20 @@ impl Ldu {
                 words,
             }),
             Err(_) => Err(LduFault::OutOfMemory),
+        }
+    }
+
+    /// The link data unit of these parts, with a GFI of 0.
+    pub(crate) fn of_parts(flags: u8, check: u16, words: Vec<Word>) -> Ldu
+        requires flags { flags ≤ 15 }
+        requires words { HasLength words.items }
+        ensures { result ≡ record { gfi = 0; flags = flags; check = check; words = words.items } }
+    {
+        Ldu {
+            gfi: 0,
+            flags,
+            check,
+            words,
         }
     }
 

@@ -3,9 +3,12 @@
 #![tactic(auto)]
 
 mod bytes;
+mod cutting;
 mod fault;
 mod fields;
+mod filling;
 mod forms;
+pub mod laws;
 mod ldu;
 mod reading;
 mod register;
@@ -14,6 +17,7 @@ mod sight;
 mod writing;
 
 pub use crate::bytes::bytes_of;
+pub use crate::cutting::cut;
 pub use crate::fault::{CutFault, LduFault};
 pub use crate::forms::Form;
 pub use crate::ldu::Ldu;

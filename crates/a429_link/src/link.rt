@@ -85,3 +85,6 @@ impl<'a> Link<'a> {
         self.transfer.take_delivered(self.alloc)
     }
 }
+
+#[cfg(test)]
+mod tests;

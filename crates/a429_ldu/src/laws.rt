@@ -1,0 +1,57 @@
+//! Laws of the definitions that the contracts of this crate cite.
+
+ghost use Rattle.std.specs.Prelude.{◌≡◌, ◌↔◌, ◌≤◌, ◌<◌, ◌*◌, ◌-◌, ◌^◌, ℕ, List, Some, All, length, IsTrue};
+ghost use Rattle.std.specs.List.{concat};
+ghost use Rattle.a429_word.specs.declared.bus.Bus.{Bus};
+ghost use Rattle.a429_profile.specs.declared.codes.Codes.{Codes};
+ghost use Rattle.a429_profile.specs.declared.codes.Check.{Check};
+ghost use Rattle.a429_profile.specs.Contents.{Contents, IsProfile};
+ghost use Rattle.a429_ldu.specs.declared.forms.Form.{Form};
+ghost use Rattle.a429_ldu.specs.declared.sight.Sight.TheVariants as sight;
+ghost use Rattle.a429_ldu.specs.Form.{IsForm, IsFree, IsInRange, bus_of, word_number, is_free, form_of, sight_of};
+ghost use Rattle.a429_ldu.specs.Carried.{CarryBytes, bytes_carried};
+ghost use Rattle.a429_ldu.specs.CheckWord.{check_of};
+ghost use Rattle.a429_ldu.specs.Register.{check_by_register};
+ghost use Rattle.a429_ldu.specs.Cut.{room, pieces, HaveSizes};
+
+/// The word of a form is seen as this form on the form's bus, and so is not free, for each profile.
+pub fn a_form_is_read_back()
+    ensures seen { (p : Contents) (x : Form) → IsProfile p → IsInRange x → sight_of p.codes (bus_of x) (word_number p.codes x) ≡ sight.Form x }
+    ensures form { (p : Contents) (x : Form) → IsProfile p → IsInRange x → IsForm p.codes (bus_of x) (word_number p.codes x) x }
+    ensures kept { (p : Contents) (x : Form) → IsProfile p → IsInRange x → ¬ IsFree p.codes (bus_of x) (word_number p.codes x) }
+{}
+
+/// A word has one form on a bus.
+pub fn a_word_has_one_form()
+    ensures { (p : Contents) (b : Bus) (w : ℕ) (x y : Form) → IsProfile p → IsForm p.codes b w x → IsForm p.codes b w y → x ≡ y }
+{}
+
+/// A form has one word.
+pub fn a_form_has_one_word()
+    ensures { (c : Codes) (b : Bus) (v w : ℕ) (x : Form) → IsForm c b v x → IsForm c b w x → v ≡ w }
+{}
+
+/// What is computed of a word is what the table says of it.
+pub fn forms_are_computed()
+    ensures free { (c : Codes) (b : Bus) (w : ℕ) → IsTrue (is_free c b w) ↔ IsFree c b w }
+    ensures form { (p : Contents) (b : Bus) (w : ℕ) (x : Form) → IsProfile p → (form_of p.codes b w ≡ Some x) ↔ ((¬ IsFree p.codes b w) × IsForm p.codes b w x) }
+{}
+
+/// What is computed of words is what they carry, and they carry one list of bytes.
+pub fn bytes_are_computed()
+    ensures carried { (p : Contents) (ws bytes : List ℕ) → IsProfile p → (bytes_carried p.codes ws ≡ Some bytes) ↔ CarryBytes p.codes ws bytes }
+    ensures one { (p : Contents) (ws xs ys : List ℕ) → IsProfile p → CarryBytes p.codes ws xs → CarryBytes p.codes ws ys → xs ≡ ys }
+{}
+
+/// A register that takes bit after bit ends with the check word.
+pub fn a_register_divides()
+    ensures { (k : Check) (bytes : List ℕ) → k.poly < 2 ^ 16 → k.init < 2 ^ 16 → check_by_register k bytes ≡ check_of k bytes }
+{}
+
+/// The pieces of a file are the file, and each but the last takes as many bytes as there is room for,
+/// which is the most that the semi-octets of full words make.
+pub fn pieces_are_the_file()
+    ensures whole { (most size : ℕ) (bytes : List ℕ) → 1 ≤ size → 1 ≤ length bytes → length bytes ≤ most * size → concat (pieces most size bytes) ≡ bytes }
+    ensures sizes { (most size : ℕ) (bytes : List ℕ) → 1 ≤ size → 1 ≤ length bytes → length bytes ≤ most * size → HaveSizes size (pieces most size bytes) }
+    ensures room { (max_words n : ℕ) → (n ≤ room max_words) ↔ (2 * n ≤ 5 * (max_words - 2)) }
+{}
