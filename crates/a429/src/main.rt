@@ -1,7 +1,7 @@
 //! The program `a429`: reads its words, opens what the command names, and ends with its status.
 #![tactic(auto)]
 
-use a429_check::{Command, RunFault, command, report, run_labels, run_show, run_word};
+use a429_check::{Command, RunFault, command, report, run_labels, run_make, run_show, run_word};
 use a429_word::{Failing, Tally};
 use std::alloc::Global;
 use std::io::{BufWriter, ErrorKind, Read, Write};
@@ -9,7 +9,7 @@ use std::process::ExitCode;
 use std::rt::{Env, Files};
 use std::{env, fs, io};
 
-// How many bytes of a profile or a recording are read at most.
+// How many bytes of a profile, of a recording or of a file to send are read at most.
 const CAP: u64 = 67_108_864;
 
 fn main(rt: HostRuntime) -> ExitCode {
@@ -37,9 +37,26 @@ fn run(rt: &(impl Files + Env + Print + AllocGlobal)) -> Result<u8, RunFault> {
             let mut rec = opened(rt, recording)?;
             run_show(alloc, profile.as_slice(), &mut rec, &mut out)?
         }
+        Command::Make { profile, files } => {
+            let profile = read_whole(rt, alloc, profile)?;
+            let files = read_all(rt, alloc, files.as_slice())?;
+            run_make(alloc, profile.as_slice(), files.as_slice(), &mut out)?
+        }
     };
     out.flush().map_err(|_| RunFault::Device)?;
     Ok(status)
+}
+
+// The bytes of each of these files.
+fn read_all(rt: &impl Files, alloc: Global, paths: &[&str]) -> Result<Vec<Vec<u8>>, RunFault> {
+    let mut files = Vec::new(alloc);
+    for path in paths {
+        let bytes = read_whole(rt, alloc, path)?;
+        if files.push(bytes).is_err() {
+            return Err(RunFault::Memory);
+        }
+    }
+    Ok(files)
 }
 
 // The words after the program's name. One that is no text is no word of any command.

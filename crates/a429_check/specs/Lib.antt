@@ -4,3 +4,4 @@ pub mod WordLines
 pub mod LabelLines
 pub mod ShowLines
 pub mod RecordingBytes
+pub mod Made

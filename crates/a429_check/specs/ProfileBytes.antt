@@ -9,7 +9,7 @@ use Rattle.a429_profile.specs.Contents.{Contents, Answers, fault_of}
 use Rattle.a429_profile.specs.declared.fault.ProfileFault.{ProfileFault}
 use Rattle.a429_profile.specs.declared.fault.ProfileFault.TheVariants.{NotToml}
 use Rattle.a429_check.specs.declared.fault.RunFault.{RunFault}
-use Rattle.a429_check.specs.declared.fault.RunFault.TheVariants.{BadWord, Profile, Read, Device, Memory, Usage}
+use Rattle.a429_check.specs.declared.fault.RunFault.TheVariants.{BadWord, Profile, Read, Cut, Device, Memory, Usage}
 
 -- the bytes are the text of a profile that says this
 abbrev pub IsProfileOf : List ℕ → Contents → Type 0
@@ -25,6 +25,7 @@ IsProfileFault bytes (Profile f) = HasFault bytes f
 IsProfileFault bytes Memory = Unit {0}
 IsProfileFault bytes BadWord = ⊥
 IsProfileFault bytes (Read f) = ⊥
+IsProfileFault bytes (Cut k f) = ⊥
 IsProfileFault bytes Device = ⊥
 IsProfileFault bytes Usage = ⊥
 
@@ -39,4 +40,5 @@ IsLabelsFault bytes failed Device = IsSound bytes × (failed ≡ true)
 IsLabelsFault bytes failed Memory = Unit {0}
 IsLabelsFault bytes failed BadWord = ⊥
 IsLabelsFault bytes failed (Read f) = ⊥
+IsLabelsFault bytes failed (Cut k f) = ⊥
 IsLabelsFault bytes failed Usage = ⊥

@@ -4,7 +4,7 @@ use Rattle.a429_record.specs.declared.fault.ReadFault.{ReadFault}
 use Rattle.a429_record.specs.declared.fault.ReadFault.TheVariants as read
 use Rattle.a429_record.specs.Recording.{stands_for}
 use Rattle.a429_check.specs.declared.fault.RunFault.{RunFault}
-use Rattle.a429_check.specs.declared.fault.RunFault.TheVariants.{BadWord, Profile, Read, Device, Memory, Usage}
+use Rattle.a429_check.specs.declared.fault.RunFault.TheVariants.{BadWord, Profile, Read, Cut, Device, Memory, Usage}
 use Rattle.a429_check.specs.ProfileBytes.{IsSound, HasFault}
 
 -- the first fault of a recording's bytes, where the reader tells them; a failed reader and want of memory are no faults of a recording
@@ -20,6 +20,7 @@ IsReadFault told failed Device = failed ≡ true
 IsReadFault told failed Memory = Unit {0}
 IsReadFault told failed BadWord = ⊥
 IsReadFault told failed (Profile f) = ⊥
+IsReadFault told failed (Cut k f) = ⊥
 IsReadFault told failed Usage = ⊥
 
 -- why `show` may fail: the profile's own fault, then the recording's, a reader or writer that failed after the profile was read, or want of memory
@@ -29,4 +30,5 @@ IsShowFault profile told rec_failed out_failed (Read f) = IsSound profile × IsF
 IsShowFault profile told rec_failed out_failed Device = IsSound profile × ((rec_failed ≡ true) ⊎ (out_failed ≡ true))
 IsShowFault profile told rec_failed out_failed Memory = Unit {0}
 IsShowFault profile told rec_failed out_failed BadWord = ⊥
+IsShowFault profile told rec_failed out_failed (Cut k f) = ⊥
 IsShowFault profile told rec_failed out_failed Usage = ⊥

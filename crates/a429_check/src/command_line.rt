@@ -33,6 +33,13 @@ pub fn command<'a>(alloc: Global, words: &'a [String]) -> Result<Command<'a>, Ru
             (Some(profile), Some(recording)) => Ok(Command::Show { profile, recording }),
             _ => Err(RunFault::Usage),
         },
+        Some(("make", given)) => match given.get_str("PROFILE") {
+            Some(profile) => Ok(Command::Make {
+                profile,
+                files: all_of(alloc, given.get_strs("FILE"))?,
+            }),
+            None => Err(RunFault::Usage),
+        },
         _ => Err(RunFault::Usage),
     }
 }
@@ -44,7 +51,8 @@ fn parser<'a>(alloc: Global) -> Result<Parser<'a>, AllocError> {
         .subcommand_required(true)
         .subcommand(with_words(alloc, "word", &["HEX"])?)?
         .subcommand(with_words(alloc, "labels", &["PROFILE"])?)?
-        .subcommand(with_words(alloc, "show", &["PROFILE", "REC"])?)
+        .subcommand(with_words(alloc, "show", &["PROFILE", "REC"])?)?
+        .subcommand(with_words(alloc, "make", &["PROFILE"])?.arg(any_number(alloc, "FILE"))?)
 }
 
 // A command that takes these words, each of them once.
@@ -59,6 +67,21 @@ fn with_words<'a>(
         parser = parser.arg(arg)?;
     }
     Ok(parser)
+}
+
+// A word that may come any number of times, none too.
+fn any_number<'a>(alloc: Global, name: &'a str) -> Arg<'a> {
+    Arg::new(alloc, name)
+        .num_args(0..)
+        .action(ArgAction::Append)
+}
+
+// The words that were given, if any were.
+fn all_of<'a>(alloc: Global, given: Option<&[&'a str]>) -> Result<Vec<&'a str>, AllocError> {
+    match given {
+        Some(words) => Vec::from_slice(alloc, words),
+        None => Ok(Vec::new(alloc)),
+    }
 }
 
 #[cfg(test)]

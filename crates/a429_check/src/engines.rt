@@ -1,8 +1,11 @@
 //! What each command writes and answers, a file for each.
 
 pub mod labels;
+pub mod make;
 mod output;
 mod profile;
 mod recording;
+#[cfg(test)]
+mod sample;
 pub mod show;
 pub mod word;

@@ -4,6 +4,7 @@ ghost use Rattle.std.specs.Prelude.{◌≡◌};
 ghost use Rattle.a429_check.specs.RunFault.{status_of};
 ghost use Rattle.a429_check.specs.declared.fault.RunFault.TheVariants as fault;
 
+use a429_ldu::CutFault;
 use a429_profile::ProfileFault;
 use a429_record::ReadFault;
 use a429_word::{Device, Tally};
@@ -23,6 +24,9 @@ pub enum RunFault {
     /// The recording has this fault, its first one.
     #[error("recording: {0}")]
     Read(ReadFault),
+    /// The file at this place, from 0, can not be cut into link data units: it is `Empty` or `TooLong`.
+    #[error("file {}: {}", .0.saturating_add(1), cut_text(.1))]
+    Cut(usize, CutFault),
     /// A reader or a writer failed, or a file could not be opened.
     #[error("device")]
     Device,
@@ -32,6 +36,15 @@ pub enum RunFault {
     /// The words name no command, or are not those that the command takes.
     #[error("usage")]
     Usage,
+}
+
+// What the line of a file that can not be cut says of it.
+fn cut_text(fault: &CutFault) -> &'static str {
+    match fault {
+        CutFault::Empty => "empty",
+        CutFault::TooLong => "too long",
+        CutFault::OutOfMemory => "memory",
+    }
 }
 
 impl From<Device> for RunFault {
@@ -57,7 +70,7 @@ impl RunFault {
         ensures { result ≡ status_of self }
     {
         match self {
-            RunFault::BadWord | RunFault::Profile(_) | RunFault::Read(_) => 3,
+            RunFault::BadWord | RunFault::Profile(_) | RunFault::Read(_) | RunFault::Cut(..) => 3,
             RunFault::Device | RunFault::Memory => 4,
             RunFault::Usage => 5,
         }

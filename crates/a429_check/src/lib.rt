@@ -9,6 +9,7 @@ mod fault;
 pub use crate::command_line::command;
 pub use crate::command_line::commands::Command;
 pub use crate::engines::labels::run_labels;
+pub use crate::engines::make::run_make;
 pub use crate::engines::show::run_show;
 pub use crate::engines::word::run_word;
 pub use crate::fault::{RunFault, report};

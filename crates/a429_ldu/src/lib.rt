@@ -25,3 +25,6 @@ pub use crate::register::check_word;
 pub use crate::semis::Semis;
 pub use crate::sight::{Sight, form};
 pub use crate::writing::word_of;
+
+#[cfg(test)]
+mod tests;

@@ -23,7 +23,7 @@ use Rattle.a429_ldu.specs.declared.forms.Form.TheVariants as form
 use Rattle.a429_ldu.specs.Carried.{bytes_carried}
 use Rattle.a429_ldu.specs.CheckWord.{check_of}
 use Rattle.a429_ldu.proofs.Carried.{carried_of}
-use Rattle.a429_link.specs.Clean.{on_a, on_b, next_file, next_ldu, clean_block, clean, AllFit, shelved, thin, asks, replies, sends, block_steps, clean_steps, first_of, rest_of, weave, IsRunOf}
+use Rattle.a429_link.specs.Clean.{on_a, on_b, next_file, next_ldu, clean_block, clean, AllFit, shelved, thin, asks, replies, sends, block_steps, clean_steps, all_steps, first_of, rest_of, weave, IsRunOf}
 use Rattle.a429_link.proofs.Sound.{is_read}
 
 -- ---- steps one after another
@@ -47,13 +47,9 @@ goes_append p xs ys s t r h k = record {
   ends = end_append p xs ys s ∙ ap (end_of p ys) h.ends ∙ k.ends;
 }
 
-abbrev joined : List (List Step) → List Step
-joined [] = []
-joined (g ∷ gs) = g ++ joined gs
-
-joined_append : (xs ys : List (List Step)) → joined (xs ++ ys) ≡ joined xs ++ joined ys
+joined_append : (xs ys : List (List Step)) → all_steps (xs ++ ys) ≡ all_steps xs ++ all_steps ys
 joined_append [] ys = refl
-joined_append (x ∷ xs) ys = ap (λ (l : List Step). x ++ l) (joined_append xs ys) ∙ sym (append_assoc x (joined xs) (joined ys))
+joined_append (x ∷ xs) ys = ap (λ (l : List Step). x ++ l) (joined_append xs ys) ∙ sym (append_assoc x (all_steps xs) (all_steps ys))
 
 -- ---- a word crosses
 
@@ -158,7 +154,7 @@ sound p is u h =
 holding : LduValue → ℕ → ℕ → List ℕ → SinkPhase
 holding u file ldu qs = InBlock (record { gfi = u.gfi; file = file; ldu = ldu; words = qs })
 
-parts_goes : (p : Contents) → IsRead p → (file ldu : ℕ) (u : LduValue) → Sound p u → (last : Option Number) (shelf : Shelf) → Comes p file ldu last → (qs ps : List ℕ) → qs ++ ps ≡ u.words → AllParts p ps → (k : ℕ) → k ≡ suc (length qs) → Goes p (joined (map sends (ps ++ word_of p (last_said u) ∷ []))) (at file ldu (Some u) (Sending k) (sink_at last shelf (count_of u) (holding u file ldu qs))) (at file ldu (Some u) Waiting (sink_at last shelf (count_of u) (OwesAck (record { gfi = u.gfi; file = file; ldu = ldu; words = u.words }) u.flags)))
+parts_goes : (p : Contents) → IsRead p → (file ldu : ℕ) (u : LduValue) → Sound p u → (last : Option Number) (shelf : Shelf) → Comes p file ldu last → (qs ps : List ℕ) → qs ++ ps ≡ u.words → AllParts p ps → (k : ℕ) → k ≡ suc (length qs) → Goes p (all_steps (map sends (ps ++ word_of p (last_said u) ∷ []))) (at file ldu (Some u) (Sending k) (sink_at last shelf (count_of u) (holding u file ldu qs))) (at file ldu (Some u) Waiting (sink_at last shelf (count_of u) (OwesAck (record { gfi = u.gfi; file = file; ldu = ldu; words = u.words }) u.flags)))
 unfolding holding
 parts_goes p good file ldu u s last shelf c qs [] e a k ek =
     let same : qs ≡ u.words = sym (append-nil qs) ∙ e in
@@ -205,11 +201,11 @@ map_append : (xs ys : List ℕ) → map sends (xs ++ ys) ≡ map sends xs ++ map
 map_append [] ys = refl
 map_append (x ∷ xs) ys = ap (λ (l : List (List Step)). sends x ∷ l) (map_append xs ys)
 
-joined_words : (ws : List ℕ) (ack : ℕ) → joined (map sends ws ++ replies ack ∷ []) ≡ joined (map sends ws) ++ replies ack
-joined_words ws ack = joined_append (map sends ws) (replies ack ∷ []) ∙ ap (λ (l : List Step). joined (map sends ws) ++ l) (append-nil (replies ack))
+joined_words : (ws : List ℕ) (ack : ℕ) → all_steps (map sends ws ++ replies ack ∷ []) ≡ all_steps (map sends ws) ++ replies ack
+joined_words ws ack = joined_append (map sends ws) (replies ack ∷ []) ∙ ap (λ (l : List Step). all_steps (map sends ws) ++ l) (append-nil (replies ack))
 
 -- one link data unit crosses without loss
-block_goes : (p : Contents) → IsRead p → (file ldu : ℕ) (u : LduValue) → IsLdu p u → Sound p u → (last : Option Number) (shelf : Shelf) (count : ℕ) → Comes p file ldu last → Goes p (joined (block_steps p.codes file ldu u)) (idle_at file ldu last shelf count) (idle_at (next_file p.codes file u) (next_ldu p.codes ldu u) (Some (number_of p.codes file ldu u)) (put file (bytes_in p.codes u.words) (is_final p.codes u.flags) shelf) (count_of u))
+block_goes : (p : Contents) → IsRead p → (file ldu : ℕ) (u : LduValue) → IsLdu p u → Sound p u → (last : Option Number) (shelf : Shelf) (count : ℕ) → Comes p file ldu last → Goes p (all_steps (block_steps p.codes file ldu u)) (idle_at file ldu last shelf count) (idle_at (next_file p.codes file u) (next_ldu p.codes ldu u) (Some (number_of p.codes file ldu u)) (put file (bytes_in p.codes u.words) (is_final p.codes u.flags) shelf) (count_of u))
 unfolding holding
 block_goes p good file ldu u is s last shelf count c =
     let h = s.fit in
@@ -266,24 +262,24 @@ next_comes p file ldu u byte room = record { new = new (is_final p.codes u.flags
     small true = omega arith
     small false = byte
 
-abbrev last_after : Codes → ℕ → ℕ → Option Number → List LduValue → Option Number
+abbrev pub last_after : Codes → ℕ → ℕ → Option Number → List LduValue → Option Number
 last_after c file ldu last [] = last
 last_after c file ldu last (u ∷ us) = last_after c (next_file c file u) (next_ldu c ldu u) (Some (number_of c file ldu u)) us
 
-abbrev count_after : ℕ → List LduValue → ℕ
+abbrev pub count_after : ℕ → List LduValue → ℕ
 count_after count [] = count
 count_after count (u ∷ us) = count_after (count_of u) us
 
-abbrev file_after : Codes → ℕ → List LduValue → ℕ
+abbrev pub file_after : Codes → ℕ → List LduValue → ℕ
 file_after c file [] = file
 file_after c file (u ∷ us) = file_after c (next_file c file u) us
 
-abbrev ldu_after : Codes → ℕ → List LduValue → ℕ
+abbrev pub ldu_after : Codes → ℕ → List LduValue → ℕ
 ldu_after c ldu [] = ldu
 ldu_after c ldu (u ∷ us) = ldu_after c (next_ldu c ldu u) us
 
 -- the numbers of the next one come after the last one, if there is a next one
-abbrev Ready : Contents → ℕ → ℕ → Option Number → List LduValue → Type 0
+abbrev pub Ready : Contents → ℕ → ℕ → Option Number → List LduValue → Type 0
 Ready p file ldu last [] = Unit {0}
 Ready p file ldu last (u ∷ us) = Comes p file ldu last
 
@@ -292,7 +288,7 @@ ready_next p file ldu u [] byte h = tt
 ready_next p file ldu u (v ∷ us) byte h = next_comes p file ldu u byte h.1
 
 -- all cross
-clean_goes : (p : Contents) → IsProfile p → (us : List LduValue) (file ldu : ℕ) (last : Option Number) (shelf : Shelf) (count : ℕ) → AllFit p ldu us → Ready p file ldu last us → Goes p (joined (clean_steps p.codes file ldu us)) (idle_at file ldu last shelf count) (idle_at (file_after p.codes file us) (ldu_after p.codes ldu us) (last_after p.codes file ldu last us) (shelved p.codes file us shelf) (count_after count us))
+pub clean_goes : (p : Contents) → IsProfile p → (us : List LduValue) (file ldu : ℕ) (last : Option Number) (shelf : Shelf) (count : ℕ) → AllFit p ldu us → Ready p file ldu last us → Goes p (all_steps (clean_steps p.codes file ldu us)) (idle_at file ldu last shelf count) (idle_at (file_after p.codes file us) (ldu_after p.codes ldu us) (last_after p.codes file ldu last us) (shelved p.codes file us shelf) (count_after count us))
 clean_goes p is [] file ldu last shelf count h r = record { run = tt; ends = refl }
 clean_goes p is (u ∷ us) file ldu last shelf count h r =
     let one = block_goes p (is_read p is) file ldu u h.0 (sound p is u h.0) last shelf count r in
@@ -303,12 +299,12 @@ clean_goes p is (u ∷ us) file ldu last shelf count h r =
 -- ---- free words between
 
 -- each group of steps records the word beside it
-abbrev Records : List (List Step) → List Seen → Type 0
+abbrev pub Records : List (List Step) → List Seen → Type 0
 Records [] [] = Unit {0}
 Records (g ∷ gs) (i ∷ items) = (trace g ≡ i ∷ []) × Records gs items
 Records _ _ = ⊥
 
-trace_append : (xs ys : List Step) → trace (xs ++ ys) ≡ trace xs ++ trace ys
+pub trace_append : (xs ys : List Step) → trace (xs ++ ys) ≡ trace xs ++ trace ys
 trace_append [] ys = refl
 trace_append (x ∷ xs) ys = with (label x) (trace_append xs ys)
   where
@@ -329,12 +325,12 @@ words_record (w ∷ ws) = (refl, words_record ws)
 block_records : (c : Codes) (file ldu : ℕ) (u : LduValue) → Records (block_steps c file ldu u) (clean_block c file ldu u)
 block_records c file ldu u = (refl, (refl, records_append (map sends (block_of c u file ldu)) (replies (word_number c (form.Ack file ldu)) ∷ []) (map on_a (block_of c u file ldu)) (on_b (word_number c (form.Ack file ldu)) ∷ []) (words_record (block_of c u file ldu)) (refl, tt)))
 
-clean_records : (c : Codes) (us : List LduValue) (file ldu : ℕ) → Records (clean_steps c file ldu us) (clean c file ldu us)
+pub clean_records : (c : Codes) (us : List LduValue) (file ldu : ℕ) → Records (clean_steps c file ldu us) (clean c file ldu us)
 clean_records c [] file ldu = tt
 clean_records c (u ∷ us) file ldu = records_append (block_steps c file ldu u) (clean_steps c (next_file c file u) (next_ldu c ldu u) us) (clean_block c file ldu u) (clean c (next_file c file u) (next_ldu c ldu u) us) (block_records c file ldu u) (clean_records c us (next_file c file u) (next_ldu c ldu u))
 
 record Woven (p : Contents) (items : List Seen) (gs : List (List Step)) (s : State) : Type 0 where
-  goes : Goes p (weave p.codes items gs) s (end_of p (joined gs) s)
+  goes : Goes p (weave p.codes items gs) s (end_of p (all_steps gs) s)
   told : trace (weave p.codes items gs) ≡ items
 
 none_left : (gs : List (List Step)) → Records gs [] → gs ≡ []
@@ -345,25 +341,25 @@ run_split : (p : Contents) (xs ys : List Step) (s : State) → IsRun p (xs ++ ys
 run_split p [] ys s h = (tt, h)
 run_split p (x ∷ xs) ys s h = let more = run_split p xs ys (after p x s) h.1 in ((h.0, more.0), more.1)
 
-woven_group : (p : Contents) (i : Seen) (items : List Seen) (gs : List (List Step)) (s : State) → Records gs (i ∷ thin p.codes items) → IsRun p (joined gs) s → ((hs : List (List Step)) (t : State) → Records hs (thin p.codes items) → IsRun p (joined hs) t → Woven p items hs t) → Goes p (first_of gs ++ weave p.codes items (rest_of gs)) s (end_of p (joined gs) s) × (trace (first_of gs ++ weave p.codes items (rest_of gs)) ≡ i ∷ items)
+woven_group : (p : Contents) (i : Seen) (items : List Seen) (gs : List (List Step)) (s : State) → Records gs (i ∷ thin p.codes items) → IsRun p (all_steps gs) s → ((hs : List (List Step)) (t : State) → Records hs (thin p.codes items) → IsRun p (all_steps hs) t → Woven p items hs t) → Goes p (first_of gs ++ weave p.codes items (rest_of gs)) s (end_of p (all_steps gs) s) × (trace (first_of gs ++ weave p.codes items (rest_of gs)) ≡ i ∷ items)
 woven_group p i items [] s r h more = absurd r
 woven_group p i items (g ∷ gs) s r h more =
-    let parts = run_split p g (joined gs) s h in
+    let parts = run_split p g (all_steps gs) s h in
     let next = more gs (end_of p g s) r.1 parts.1 in
-    let all : Goes p (g ++ weave p.codes items gs) s (end_of p (joined gs) (end_of p g s)) = goes_append p g (weave p.codes items gs) _ _ _ (record { run = parts.0; ends = refl }) next.goes in
-    (record { run = all.run; ends = all.ends ∙ sym (end_append p g (joined gs) s) }, trace_append g (weave p.codes items gs) ∙ ap (λ (l : List Seen). l ++ trace (weave p.codes items gs)) r.0 ∙ ap (λ (l : List Seen). i ∷ l) next.told)
+    let all : Goes p (g ++ weave p.codes items gs) s (end_of p (all_steps gs) (end_of p g s)) = goes_append p g (weave p.codes items gs) _ _ _ (record { run = parts.0; ends = refl }) next.goes in
+    (record { run = all.run; ends = all.ends ∙ sym (end_append p g (all_steps gs) s) }, trace_append g (weave p.codes items gs) ∙ ap (λ (l : List Seen). l ++ trace (weave p.codes items gs)) r.0 ∙ ap (λ (l : List Seen). i ∷ l) next.told)
 
-woven_item : (p : Contents) (i : Seen) (items : List Seen) (gs : List (List Step)) (s : State) (b : Bool) → is_free p.codes i.bus i.word ≡ b → Records gs (cond b (thin p.codes items) (i ∷ thin p.codes items)) → IsRun p (joined gs) s → ((hs : List (List Step)) (t : State) → Records hs (thin p.codes items) → IsRun p (joined hs) t → Woven p items hs t) → Goes p (cond b (FreeSeen i ∷ weave p.codes items gs) (first_of gs ++ weave p.codes items (rest_of gs))) s (end_of p (joined gs) s) × (trace (cond b (FreeSeen i ∷ weave p.codes items gs) (first_of gs ++ weave p.codes items (rest_of gs))) ≡ i ∷ items)
+woven_item : (p : Contents) (i : Seen) (items : List Seen) (gs : List (List Step)) (s : State) (b : Bool) → is_free p.codes i.bus i.word ≡ b → Records gs (cond b (thin p.codes items) (i ∷ thin p.codes items)) → IsRun p (all_steps gs) s → ((hs : List (List Step)) (t : State) → Records hs (thin p.codes items) → IsRun p (all_steps hs) t → Woven p items hs t) → Goes p (cond b (FreeSeen i ∷ weave p.codes items gs) (first_of gs ++ weave p.codes items (rest_of gs))) s (end_of p (all_steps gs) s) × (trace (cond b (FreeSeen i ∷ weave p.codes items gs) (first_of gs ++ weave p.codes items (rest_of gs))) ≡ i ∷ items)
 woven_item p i items gs s true e r h more = let next = more gs s r h in (record { run = (e, next.goes.run); ends = next.goes.ends }, ap (λ (l : List Seen). i ∷ l) next.told)
 woven_item p i items gs s false e r h more = woven_group p i items gs s r h more
 
-weave_goes : (p : Contents) (items : List Seen) (gs : List (List Step)) (s : State) → Records gs (thin p.codes items) → IsRun p (joined gs) s → Woven p items gs s
+weave_goes : (p : Contents) (items : List Seen) (gs : List (List Step)) (s : State) → Records gs (thin p.codes items) → IsRun p (all_steps gs) s → Woven p items gs s
 weave_goes p [] gs s r h = rw (none_left gs r) (record { goes = record { run = tt; ends = refl }; told = refl })
 weave_goes p (i ∷ items) gs s r h =
     let both = woven_item p i items gs s (is_free p.codes i.bus i.word) refl r h (weave_goes p items) in
     record { goes = both.0; told = both.1 }
 
-start_ready : (p : Contents) (file : ℕ) (us : List LduValue) → file ≤ 255 → AllFit p p.codes.first_ldu us → Ready p file p.codes.first_ldu None us
+pub start_ready : (p : Contents) (file : ℕ) (us : List LduValue) → file ≤ 255 → AllFit p p.codes.first_ldu us → Ready p file p.codes.first_ldu None us
 start_ready p file [] f h = tt
 start_ready p file (u ∷ us) f h = record { new = refl; follows = eqb_same p.codes.first_ldu; byte = f; room = h.1 }
 

@@ -12,3 +12,4 @@ pub mod Blocks
 pub mod Good
 pub mod KeptStates
 pub mod CleanRuns
+pub mod CleanFiles

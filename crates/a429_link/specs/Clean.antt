@@ -1,12 +1,18 @@
 -- What a run without loss records, and the steps that give it (profile: each link data unit is asked for, cleared, sent
 -- and acknowledged once).
-use Rattle.std.specs.Prelude.{◌≡◌, ℕ, ◌+◌, ◌%◌, ◌≤◌, Bool, true, false, if◌then◌else◌, List, [], ◌∷◌, ◌++◌, map}
+use Rattle.std.specs.Prelude.{◌≡◌, ℕ, ◌+◌, ◌*◌, ◌%◌, ◌≤◌, ◌==◌, nat_lt, Bool, true, false, if◌then◌else◌, Option, Some, None, List, [], ◌∷◌, ◌++◌, map, length}
 use Rattle.a429_word.specs.declared.bus.Bus.TheVariants as bus
 use Rattle.a429_profile.specs.declared.codes.Codes.{Codes}
 use Rattle.a429_profile.specs.Contents.{Contents}
 use Rattle.a429_ldu.specs.declared.forms.Form.TheVariants.{Rts, Cts, Ack}
 use Rattle.a429_ldu.specs.Form.{word_number, is_free}
+use Rattle.a429_ldu.specs.declared.fault.CutFault.{CutFault}
+use Rattle.a429_ldu.specs.declared.fault.CutFault.TheVariants as cut
+use Rattle.a429_ldu.specs.Cut.{room, units_of}
 use Rattle.a429_ldu.specs.Ldu.{LduValue, IsLdu, count_of, block_of, bytes_of, is_final}
+use Rattle.a429_link.specs.declared.clean.CleanFault.{CleanFault}
+use Rattle.a429_link.specs.declared.clean.CleanFault.TheVariants.{Cut}
+use Rattle.a429_link.specs.declared.file.FileBytes.{FileBytes}
 use Rattle.a429_link.specs.declared.step.Seen.{Seen}
 use Rattle.a429_link.specs.declared.step.Step.{Step}
 use Rattle.a429_link.specs.declared.step.Step.TheVariants.{Load, Sent, TakeAnswer, SinkTakes, Answered, FreeSeen}
@@ -89,3 +95,43 @@ pub record IsRunOf (p : Contents) (file : ℕ) (steps : List Step) (items : List
   pub run : IsRun p steps (start p file)
   pub told : trace steps ≡ items
   pub gives : delivered p file steps ≡ shelf.files
+
+-- ---- files (profile: they are numbered upwards, 255 is followed by 0)
+
+-- the link data units of files, in order
+abbrev pub units_of_files : Contents → ℕ → List (List ℕ) → List LduValue
+units_of_files p max_words [] = []
+units_of_files p max_words (bytes ∷ files) = units_of p max_words bytes ++ units_of_files p max_words files
+
+-- what a run without loss records that carries these files, the first under this number
+abbrev pub clean_words : Contents → ℕ → ℕ → List (List ℕ) → List Seen
+clean_words p max_words first files = clean p.codes first p.codes.first_ldu (units_of_files p max_words files)
+
+abbrev pub all_steps : List (List Step) → List Step
+all_steps [] = []
+all_steps (g ∷ gs) = g ++ all_steps gs
+
+-- its steps
+abbrev pub clean_run_steps : Contents → ℕ → ℕ → List (List ℕ) → List Step
+clean_run_steps p max_words first files = all_steps (clean_steps p.codes first p.codes.first_ldu (units_of_files p max_words files))
+
+-- the files under their numbers
+abbrev pub numbered : ℕ → List (List ℕ) → List FileBytes
+numbered first [] = []
+numbered first (bytes ∷ files) = record { number = first; bytes = bytes } ∷ numbered ((first + 1) % 256) files
+
+-- why a file is refused, if it is: it has no bytes, or needs more than 255 link data units
+abbrev pub cut_fault : ℕ → List ℕ → Option CutFault
+cut_fault max_words bytes =
+    if length bytes == 0 then Some cut.Empty
+    else (if nat_lt (255 * room max_words) (length bytes) then Some cut.TooLong
+    else None)
+
+abbrev pub refused_or : ℕ → Option CutFault → Option CleanFault → Option CleanFault
+refused_or k (Some fault) later = Some (Cut k fault)
+refused_or k None later = later
+
+-- the first file that is refused, places counted from k
+abbrev pub first_refused : ℕ → ℕ → List (List ℕ) → Option CleanFault
+first_refused max_words k [] = None
+first_refused max_words k (bytes ∷ files) = refused_or k (cut_fault max_words bytes) (first_refused max_words (k + 1) files)

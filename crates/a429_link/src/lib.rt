@@ -2,6 +2,7 @@
 #![tactic(auto)]
 
 mod block;
+mod clean;
 mod file;
 pub mod laws;
 mod link;
@@ -14,6 +15,7 @@ mod state;
 mod step;
 mod transfer;
 
+pub use crate::clean::{CleanFault, clean_run};
 pub use crate::file::{Bytes, FileBytes};
 pub use crate::link::Link;
 pub use crate::state::{SinkState, SourceState};

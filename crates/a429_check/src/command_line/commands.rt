@@ -1,7 +1,7 @@
 //! The commands.
 
 /// A command of the program, with its words.
-#[derive(Clone, Copy, Debug, PartialEq, Eq)]
+#[derive(Debug, PartialEq, Eq, Drop)]
 pub enum Command<'a> {
     /// `word HEX`: shows what a word holds.
     Word(&'a str),
@@ -11,5 +11,10 @@ pub enum Command<'a> {
     Show {
         profile: &'a str,
         recording: &'a str,
+    },
+    /// `make PROFILE FILE..`: writes the recording of a transfer of these files.
+    Make {
+        profile: &'a str,
+        files: Vec<&'a str>,
     },
 }

@@ -36,10 +36,29 @@ fn words_of_a_command(rt: HostRuntime) -> Result<(), Fail> {
 }
 
 #[test]
+fn make_takes_any_number_of_files(rt: HostRuntime) -> Result<(), Fail> {
+    let alloc = rt.alloc();
+    let words = strings(alloc, &["make", "bench.toml"])?;
+    let none = Command::Make {
+        profile: "bench.toml",
+        files: Vec::new(alloc),
+    };
+    assert!(rt; command(alloc, words.as_slice()) == Ok(none));
+    let words = strings(alloc, &["make", "bench.toml", "one.bin", "two.bin"])?;
+    let two = Command::Make {
+        profile: "bench.toml",
+        files: Vec::from_slice(alloc, &["one.bin", "two.bin"])?,
+    };
+    assert!(rt; command(alloc, words.as_slice()) == Ok(two));
+    Ok(())
+}
+
+#[test]
 fn other_words_are_usage(rt: HostRuntime) -> Result<(), Fail> {
     let alloc = rt.alloc();
-    let cases: [&[&str]; 18] = [
+    let cases: [&[&str]; 19] = [
         &["labels"],
+        &["make"],
         &["show", "bench.toml"],
         &["show", "bench.toml", "bench.csv", "other.csv"],
         &["labels", "bench.toml", "other.toml"],

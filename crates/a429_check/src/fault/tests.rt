@@ -1,6 +1,7 @@
 //! The lines that tell a fault.
 
 use crate::{RunFault, report};
+use a429_ldu::CutFault;
 use a429_profile::{Key, LabelKey, ProfileFault, SectionKey};
 use a429_record::ReadFault;
 use a429_word::Tally;
@@ -9,8 +10,14 @@ use a429_word::Tally;
 fn each_fault_has_its_line_and_status(rt: HostRuntime) {
     let in_section = Key::Section(SectionKey::ToSink);
     let in_label = Key::Label(12, LabelKey::Octal);
-    let cases: [(RunFault, &[u8], u8); 18] = [
+    let cases: [(RunFault, &[u8], u8); 20] = [
         (RunFault::BadWord, b"bad word\n", 3),
+        (RunFault::Cut(0, CutFault::Empty), b"file 1: empty\n", 3),
+        (
+            RunFault::Cut(11, CutFault::TooLong),
+            b"file 12: too long\n",
+            3,
+        ),
         (RunFault::Read(ReadFault::Header), b"recording: header\n", 3),
         (
             RunFault::Read(ReadFault::Row(12)),

@@ -1,0 +1,246 @@
+-- Files that cross without loss.
+use Rattle.std.proofs.Common.{◌≡◌, ◌≢◌, ◌⊎◌, All, Vec, eq-eqb, ℕ, zero, suc, ◌+◌, ◌%◌, ◌*◌, ◌≤◌, ◌<◌, Bool, true, false, cond, eqb, nat_lt, nat_le, List, [], ◌∷◌, ◌++◌, map, length, take, drop, get_or, Option, Some, None, refl, sym, ap, ◌∙◌, subst, inl, inr, arith, append_assoc, append-nil, length-append}
+use Rattle.std.specs.List.{concat, AllByRecursion}
+use Rattle.std.proofs.lemmas.Bool.{ne_eqb, lt-ltb, le-ltb}
+use Rattle.std.proofs.lemmas.List.{drop_more, drop_all, get_or-map, length-map}
+use Rattle.a429_ldu.specs.declared.fault.CutFault.TheVariants as cut
+use Rattle.std.proofs.lemmas.List.Elements.{recursion_from_All}
+use Rattle.a429_ldu.specs.Ldu.{IsLdu, LduValue, bytes_of, is_final, count_of}
+use Rattle.a429_link.specs.Run.{nothing, trace}
+use Rattle.a429_link.specs.Sink.{Shelf, put}
+use Rattle.a429_link.specs.Step.{State}
+use Rattle.a429_link.specs.declared.file.FileBytes.{FileBytes}
+use Rattle.a429_link.specs.declared.step.Seen.{Seen}
+use Rattle.a429_link.specs.declared.step.Step.{Step}
+use Rattle.a429_profile.specs.Contents.{Contents}
+use Rattle.a429_profile.specs.Contents.{IsProfile}
+use Rattle.a429_profile.specs.declared.codes.Codes.{Codes}
+use Rattle.a429_ldu.specs.Cut.{pieces, room, units_in, units_of, OnlyLastIsFinal}
+use Rattle.a429_ldu.proofs.Cuts.{AreUnits}
+use Rattle.a429_link.specs.Clean.{next_file, next_ldu, clean_block, clean, AllFit, shelved, clean_steps, all_steps, units_of_files, clean_words, clean_run_steps, numbered, cut_fault, refused_or, first_refused, IsRunOf}
+use Rattle.a429_ldu.specs.declared.fault.CutFault.{CutFault}
+use Rattle.a429_link.specs.declared.clean.CleanFault.{CleanFault}
+use Rattle.a429_link.specs.declared.clean.CleanFault.TheVariants.{Cut}
+use Rattle.a429_link.proofs.CleanRuns.{clean_goes, clean_records, start_ready, Records, trace_append}
+
+-- ---- one file
+
+-- at the last link data unit of a file the next file begins
+file_ends : (c : Codes) (file : ℕ) (u : LduValue) → is_final c u.flags ≡ true → next_file c file u ≡ (file + 1) % 256
+file_ends c file u e = rw e refl
+
+ldu_ends : (c : Codes) (ldu : ℕ) (u : LduValue) → is_final c u.flags ≡ true → next_ldu c ldu u ≡ c.first_ldu
+ldu_ends c ldu u e = rw e refl
+
+-- at another the file goes on
+pub file_goes : (c : Codes) (file : ℕ) (u : LduValue) → is_final c u.flags ≡ false → next_file c file u ≡ file
+file_goes c file u e = rw e refl
+
+pub ldu_goes : (c : Codes) (ldu : ℕ) (u : LduValue) → is_final c u.flags ≡ false → next_ldu c ldu u ≡ ldu + 1
+ldu_goes c ldu u e = rw e refl
+
+-- the words of a file, and of those behind it
+pub clean_append : (c : Codes) (file ldu : ℕ) (us vs : List LduValue) → OnlyLastIsFinal c us → clean c file ldu (us ++ vs) ≡ clean c file ldu us ++ clean c ((file + 1) % 256) c.first_ldu vs
+clean_append c file ldu [] vs h = absurd h
+clean_append c file ldu (u ∷ []) vs h =
+    ap (λ f. clean_block c file ldu u ++ clean c f (next_ldu c ldu u) vs) (file_ends c file u h)
+    ∙ ap (λ l. clean_block c file ldu u ++ clean c ((file + 1) % 256) l vs) (ldu_ends c ldu u h)
+    ∙ ap (λ (b : List Seen). b ++ clean c ((file + 1) % 256) c.first_ldu vs) (sym (append-nil (clean_block c file ldu u)))
+clean_append c file ldu (u ∷ (v ∷ us)) vs h =
+    ap (λ (b : List Seen). clean_block c file ldu u ++ b) (ap (λ f. clean c f (next_ldu c ldu u) ((v ∷ us) ++ vs)) (file_goes c file u h.0) ∙ clean_append c file (next_ldu c ldu u) (v ∷ us) vs h.1)
+    ∙ sym (append_assoc (clean_block c file ldu u) (clean c file (next_ldu c ldu u) (v ∷ us)) (clean c ((file + 1) % 256) c.first_ldu vs))
+    ∙ ap (λ f. (clean_block c file ldu u ++ clean c f (next_ldu c ldu u) (v ∷ us)) ++ clean c ((file + 1) % 256) c.first_ldu vs) (sym (file_goes c file u h.0))
+
+-- the files on a shelf, with one more
+abbrev closed : ℕ → List ℕ → Shelf → Shelf
+closed file bytes o = record { files = o.files ++ record { number = file; bytes = o.open_bytes ++ bytes } ∷ []; open_bytes = [] }
+
+put_last : (c : Codes) (file : ℕ) (bytes : List ℕ) (u : LduValue) (o : Shelf) → is_final c u.flags ≡ true → put file bytes (is_final c u.flags) o ≡ closed file bytes o
+put_last c file bytes u o e = rw e refl
+
+put_more : (c : Codes) (file : ℕ) (bytes : List ℕ) (u : LduValue) (o : Shelf) → is_final c u.flags ≡ false → put file bytes (is_final c u.flags) o ≡ record { files = o.files; open_bytes = o.open_bytes ++ bytes }
+put_more c file bytes u o e = rw e refl
+
+pub shelved_append : (c : Codes) (file : ℕ) (us vs : List LduValue) (o : Shelf) → OnlyLastIsFinal c us → shelved c file (us ++ vs) o ≡ shelved c ((file + 1) % 256) vs (closed file (concat (map (bytes_of c) us)) o)
+shelved_append c file [] vs o h = absurd h
+shelved_append c file (u ∷ []) vs o h =
+    ap (λ f. shelved c f vs (put file (bytes_of c u) (is_final c u.flags) o)) (file_ends c file u h)
+    ∙ ap (λ s. shelved c ((file + 1) % 256) vs s) (put_last c file (bytes_of c u) u o h ∙ ap (λ b. closed file b o) (sym (append-nil (bytes_of c u))))
+shelved_append c file (u ∷ (v ∷ us)) vs o h =
+    ap (λ f. shelved c f ((v ∷ us) ++ vs) (put file (bytes_of c u) (is_final c u.flags) o)) (file_goes c file u h.0)
+    ∙ ap (λ s. shelved c file ((v ∷ us) ++ vs) s) (put_more c file (bytes_of c u) u o h.0)
+    ∙ shelved_append c file (v ∷ us) vs (record { files = o.files; open_bytes = o.open_bytes ++ bytes_of c u }) h.1
+    ∙ ap (λ (b : List ℕ). shelved c ((file + 1) % 256) vs (on b)) (append_assoc o.open_bytes (bytes_of c u) (concat (map (bytes_of c) (v ∷ us))))
+  where
+    on : List ℕ → Shelf
+    on b = record { files = o.files ++ record { number = file; bytes = b } ∷ []; open_bytes = [] }
+
+-- the link data units of a file may be loaded, and then those behind it
+pub fit_append : (p : Contents) (ldu : ℕ) (us vs : List LduValue) → AllByRecursion (IsLdu p) us → OnlyLastIsFinal p.codes us → ldu + length us ≤ p.codes.first_ldu + 255 → AllFit p p.codes.first_ldu vs → AllFit p ldu (us ++ vs)
+fit_append p ldu [] vs h l n k = absurd l
+fit_append p ldu (u ∷ []) vs h l n k = (h.0, omega arith, subst (λ q. AllFit p q vs) (sym (ldu_ends p.codes ldu u l)) k)
+fit_append p ldu (u ∷ (v ∷ us)) vs h l n k = (h.0, omega arith, subst (λ q. AllFit p q ((v ∷ us) ++ vs)) (sym (ldu_goes p.codes ldu u l.0)) (fit_append p (ldu + 1) (v ∷ us) vs h.1 l.1 (omega arith) k))
+
+-- how many there are
+in_length : (p : Contents) (ps : List (List ℕ)) → length (units_in p ps) ≡ length ps
+in_length p [] = refl
+in_length p (a ∷ []) = refl
+in_length p (a ∷ (b ∷ ps)) = ap suc (in_length p (b ∷ ps))
+
+pieces_length : (most size : ℕ) (bytes : List ℕ) → length (pieces most size bytes) ≤ most
+unfolding pieces
+pieces_length zero size bytes = omega arith
+pieces_length (suc most) size bytes = by_size (nat_le (length bytes) size) (pieces_length most size (drop size bytes))
+  where
+    by_size : (b : Bool) → length (pieces most size (drop size bytes)) ≤ most → length (cond b (bytes ∷ []) (take size bytes ∷ pieces most size (drop size bytes))) ≤ suc most
+    by_size true h = omega arith
+    by_size false h = omega arith
+
+pub units_length : (p : Contents) (w : ℕ) (bytes : List ℕ) → length (units_of p w bytes) ≤ 255
+units_length p w bytes = omega (arith, in_length p (pieces 255 (room w) bytes), pieces_length 255 (room w) bytes)
+
+-- ---- all files
+
+-- each was cut
+abbrev pub EachCut : Contents → ℕ → List (List ℕ) → Type 0
+EachCut p w [] = Unit {0}
+EachCut p w (bytes ∷ files) = AreUnits p w bytes (units_of p w bytes) × EachCut p w files
+
+all_fit : (p : Contents) (w : ℕ) (files : List (List ℕ)) → EachCut p w files → AllFit p p.codes.first_ldu (units_of_files p w files)
+all_fit p w [] h = tt
+all_fit p w (bytes ∷ files) h =
+    fit_append p p.codes.first_ldu (units_of p w bytes) (units_of_files p w files) (recursion_from_All (IsLdu p) (units_of p w bytes) h.0.sound) h.0.last (omega (arith, units_length p w bytes)) (all_fit p w files h.1)
+
+all_shelved : (p : Contents) (w first : ℕ) (files : List (List ℕ)) (done : List FileBytes) → EachCut p w files → (shelved p.codes first (units_of_files p w files) (record { files = done; open_bytes = [] })).files ≡ done ++ numbered first files
+all_shelved p w first [] done h = sym (append-nil done)
+all_shelved p w first (bytes ∷ files) done h =
+    ap files_of (shelved_append p.codes first (units_of p w bytes) (units_of_files p w files) (record { files = done; open_bytes = [] }) h.0.last)
+    ∙ ap (λ (b : List ℕ). files_of (shelved p.codes ((first + 1) % 256) (units_of_files p w files) (record { files = done ++ record { number = first; bytes = b } ∷ []; open_bytes = [] }))) h.0.joined
+    ∙ all_shelved p w ((first + 1) % 256) files (done ++ record { number = first; bytes = bytes } ∷ []) h.1
+    ∙ append_assoc done (record { number = first; bytes = bytes } ∷ []) (numbered ((first + 1) % 256) files)
+  where
+    files_of : Shelf → List FileBytes
+    files_of s = s.files
+
+trace_all : (gs : List (List Step)) (items : List Seen) → Records gs items → trace (all_steps gs) ≡ items
+trace_all [] [] h = refl
+trace_all (g ∷ gs) (i ∷ items) h = trace_append g (all_steps gs) ∙ ap (λ (l : List Seen). l ++ trace (all_steps gs)) h.0 ∙ ap (λ (l : List Seen). i ∷ l) (trace_all gs items h.1)
+trace_all [] (i ∷ items) h = absurd h
+trace_all (g ∷ gs) [] h = absurd h
+
+pub files_cross : (p : Contents) (w first : ℕ) (files : List (List ℕ)) → IsProfile p → first ≤ 255 → EachCut p w files → IsRunOf p first (clean_run_steps p w first files) (clean_words p w first files) (record { files = numbered first files; open_bytes = [] })
+files_cross p w first files is l h =
+    let us = units_of_files p w files in
+    let fit = all_fit p w files h in
+    let goes = clean_goes p is us first p.codes.first_ldu None nothing 0 fit (start_ready p first us l fit) in
+    record {
+      run = goes.run;
+      told = trace_all (clean_steps p.codes first p.codes.first_ldu us) (clean p.codes first p.codes.first_ldu us) (clean_records p.codes us first p.codes.first_ldu);
+      gives = ap (λ (s : State). s.sink.shelf.files) goes.ends ∙ all_shelved p w first files [] h;
+    }
+
+-- ---- the link data units still to come
+
+abbrev pub IsTail : Codes → List LduValue → Type 0
+IsTail c [] = Unit {0}
+IsTail c (u ∷ us) = OnlyLastIsFinal c (u ∷ us)
+
+tail_step : (c : Codes) (file ldu : ℕ) (u : LduValue) (us : List LduValue) → OnlyLastIsFinal c (u ∷ us) → (clean c file ldu (u ∷ us) ≡ clean_block c file ldu u ++ clean c file (ldu + 1) us) × IsTail c us
+tail_step c file ldu u [] h = (refl, tt)
+tail_step c file ldu u (v ∷ us) h = (ap (λ f. clean_block c file ldu u ++ clean c f (next_ldu c ldu u) (v ∷ us)) (file_goes c file u h.0) ∙ ap (λ l. clean_block c file ldu u ++ clean c file l (v ∷ us)) (ldu_goes c ldu u h.0), h.1)
+
+-- the words so far, and those still to come, are all
+pub record AreWords (c : Codes) (file first ldu i : ℕ) (us : List LduValue) (old now : List Seen) : Type 0 where
+  pub number : ldu ≡ first + i
+  pub told : now ++ clean c file ldu (drop i us) ≡ old ++ clean c file first us
+  pub rest : IsTail c (drop i us)
+
+pub words_start : (c : Codes) (file first : ℕ) (us : List LduValue) (old : List Seen) → OnlyLastIsFinal c us → AreWords c file first first 0 us old old
+words_start c file first [] old h = absurd h
+words_start c file first (u ∷ us) old h = record { number = omega arith; told = refl; rest = h }
+
+pub words_more : (c : Codes) (file first ldu i : ℕ) (us : List LduValue) (old now new : List Seen) (u : LduValue) → i < length us → u ≡ get_or us i u → new ≡ now ++ clean_block c file ldu u → AreWords c file first ldu i us old now → AreWords c file first (ldu + 1) (i + 1) us old new
+words_more c file first ldu i us old now new u l eu en h =
+    let split : drop i us ≡ u ∷ drop (i + 1) us = drop_more us i u l ∙ ap (λ (v : LduValue). v ∷ drop (i + 1) us) (sym eu) in
+    let step = tail_step c file ldu u (drop (i + 1) us) (subst (IsTail c) split h.rest) in
+    let number = h.number in
+    record {
+      number = omega arith;
+      told =
+          ap (λ (s : List Seen). s ++ clean c file (ldu + 1) (drop (i + 1) us)) en
+          ∙ append_assoc now (clean_block c file ldu u) (clean c file (ldu + 1) (drop (i + 1) us))
+          ∙ ap (λ (s : List Seen). now ++ s) (sym step.0)
+          ∙ ap (λ (vs : List LduValue). now ++ clean c file ldu vs) (sym split)
+          ∙ h.told;
+      rest = step.1;
+    }
+
+pub words_end : (c : Codes) (file first ldu i : ℕ) (us : List LduValue) (old now : List Seen) → length us ≤ i → AreWords c file first ldu i us old now → now ≡ old ++ clean c file first us
+words_end c file first ldu i us old now l h = sym (append-nil now) ∙ ap (λ (vs : List LduValue). now ++ clean c file ldu vs) (sym (drop_all i us l)) ∙ h.told
+
+-- ---- the files still to come
+
+-- the words so far with those still to come are all; no file so far is refused; and each was cut
+pub record AreFiles (p : Contents) (w first file k : ℕ) (files : List (List ℕ)) (now : List Seen) : Type 0 where
+  pub told : now ++ clean_words p w file (drop k files) ≡ clean_words p w first files
+  pub refused : first_refused w k (drop k files) ≡ first_refused w 0 files
+  pub each : EachCut p w (drop k files) → EachCut p w files
+
+pub files_start : (p : Contents) (w first : ℕ) (files : List (List ℕ)) → AreFiles p w first first 0 files []
+files_start p w first [] = record { told = refl; refused = refl; each = λ h. h }
+files_start p w first (f ∷ files) = record { told = refl; refused = refl; each = λ h. h }
+
+-- one more file is cut
+pub files_more : (p : Contents) (w first file k : ℕ) (files : List (List ℕ)) (now new : List Seen) (f : List ℕ) → k < length files → f ≡ get_or files k f → cut_fault w f ≡ None → AreUnits p w f (units_of p w f) → new ≡ now ++ clean p.codes file p.codes.first_ldu (units_of p w f) → AreFiles p w first file k files now → AreFiles p w first ((file + 1) % 256) (k + 1) files new
+files_more p w first file k files now new f l ef none made en h =
+    let split : drop k files ≡ f ∷ drop (k + 1) files = drop_more files k f l ∙ ap (λ (g : List ℕ). g ∷ drop (k + 1) files) (sym ef) in
+    let rest = drop (k + 1) files in
+    record {
+      told =
+          ap (λ (s : List Seen). s ++ clean_words p w ((file + 1) % 256) rest) en
+          ∙ append_assoc now (clean p.codes file p.codes.first_ldu (units_of p w f)) (clean_words p w ((file + 1) % 256) rest)
+          ∙ ap (λ (s : List Seen). now ++ s) (sym (clean_append p.codes file p.codes.first_ldu (units_of p w f) (units_of_files p w rest) made.last))
+          ∙ ap (λ (fs : List (List ℕ)). now ++ clean_words p w file fs) (sym split)
+          ∙ h.told;
+      refused = sym (ap (λ (fs : List (List ℕ)). first_refused w k fs) split ∙ ap (λ o. refused_or k o (first_refused w (k + 1) rest)) none) ∙ h.refused;
+      each = λ e. h.each (subst (EachCut p w) (sym split) (made, e));
+    }
+
+-- the next file is refused
+pub files_refused : (p : Contents) (w first file k : ℕ) (files : List (List ℕ)) (now : List Seen) (f : List ℕ) (e : CutFault) → k < length files → f ≡ get_or files k f → cut_fault w f ≡ Some e → AreFiles p w first file k files now → first_refused w 0 files ≡ Some (Cut k e)
+files_refused p w first file k files now f e l ef some h =
+    let split : drop k files ≡ f ∷ drop (k + 1) files = drop_more files k f l ∙ ap (λ (g : List ℕ). g ∷ drop (k + 1) files) (sym ef) in
+    sym h.refused ∙ ap (λ (fs : List (List ℕ)). first_refused w k fs) split ∙ ap (λ o. refused_or k o (first_refused w (k + 1) (drop (k + 1) files))) some
+
+-- none is left
+pub files_end : (p : Contents) (w first file k : ℕ) (files : List (List ℕ)) (now : List Seen) → length files ≤ k → AreFiles p w first file k files now → (now ≡ clean_words p w first files) × (first_refused w 0 files ≡ None) × EachCut p w files
+files_end p w first file k files now l h =
+    let none : drop k files ≡ [] = drop_all k files l in
+    (sym (append-nil now) ∙ ap (λ (fs : List (List ℕ)). now ++ clean_words p w file fs) (sym none) ∙ h.told, sym h.refused ∙ ap (λ (fs : List (List ℕ)). first_refused w k fs) none, h.each (subst (EachCut p w) (sym none) tt))
+
+-- ---- what cutting a file answers
+
+pub empty_refused : (w : ℕ) (f : List ℕ) → length f ≡ 0 → cut_fault w f ≡ Some cut.Empty
+empty_refused w f e = rw (eq-eqb (length f) 0 e) refl
+
+not_zero : (a b : ℕ) → a < b → b ≢ 0
+not_zero a b l = λ e. omega arith
+
+pub long_refused : (w : ℕ) (f : List ℕ) → 255 * room w < length f → cut_fault w f ≡ Some cut.TooLong
+long_refused w f l = rw (ne_eqb (length f) 0 (not_zero _ _ l)) (rw (lt-ltb (255 * room w) (length f) l) refl)
+
+not_less : (a b : ℕ) → (a < b → ⊥) → b ≤ a
+not_less a b h = omega arith
+
+pub fine_cut : (w : ℕ) (f : List ℕ) → (length f ≡ 0 → ⊥) → (255 * room w < length f → ⊥) → cut_fault w f ≡ None
+fine_cut w f some few = rw (ne_eqb (length f) 0 some) (rw (le-ltb (255 * room w) (length f) (not_less _ _ few)) refl)
+
+pub are_units : (p : Contents) (w : ℕ) (f : List ℕ) (us : List LduValue) → us ≡ units_of p w f → All (IsLdu p) us → All (λ u. count_of u ≤ w) us → concat (map (bytes_of p.codes) us) ≡ f → OnlyLastIsFinal p.codes us → AreUnits p w f (units_of p w f)
+are_units p w f us e s n j l = subst (AreUnits p w f) e (record { sound = s; fits = n; joined = j; last = l })
+
+-- the file at a place
+pub file_at : {Z : Type 0} (xs : List (Vec ℕ Z)) (k : ℕ) (v : Vec ℕ Z) (f : List ℕ) → k < length xs → v ≡ get_or xs k v → f ≡ v.items → (k < length (map (λ (x : Vec ℕ Z). x.items) xs)) × (f ≡ get_or (map (λ (x : Vec ℕ Z). x.items) xs) k f)
+file_at {Z} xs k v f l ev ef = (omega (arith, length-map xs (λ (x : Vec ℕ Z). x.items)), ef ∙ ap (λ (x : Vec ℕ Z). x.items) ev ∙ sym (get_or-map (λ (x : Vec ℕ Z). x.items) xs k v f l))
+
+pub past_files : {Z : Type 0} (xs : List (Vec ℕ Z)) (k : ℕ) → length xs ≤ k → length (map (λ (x : Vec ℕ Z). x.items) xs) ≤ k
+past_files {Z} xs k l = omega (arith, length-map xs (λ (x : Vec ℕ Z). x.items))
