@@ -1,5 +1,5 @@
 -- The bytes that data words carry, word by word.
-use Rattle.std.proofs.Common.{◌≡◌, ℕ, zero, suc, ◌+◌, ◌*◌, ◌/◌, ◌%◌, ◌^◌, ◌<◌, ◌≤◌, Bool, true, false, cond, ◌||◌, nat_le, List, [], ◌∷◌, ◌++◌, length, take, get_or, Option, Some, None, IfSome, is_some, refl, sym, ap, ◌∙◌, arith, subst, append_assoc, append-nil, bit_or}
+use Rattle.std.proofs.Common.{◌≡◌, ℕ, zero, suc, ◌+◌, ◌*◌, ◌/◌, ◌%◌, ◌^◌, ◌<◌, ◌≤◌, Bool, true, false, cond, ◌||◌, nat_le, List, [], ◌∷◌, ◌++◌, length, take, get_or, Option, Some, None, IfSome, is_some, refl, sym, ap, ◌∙◌, arith, subst, append_assoc, append-nil, bit_or, length-append}
 use Rattle.std.specs.List.{AllByRecursion, concat}
 use Rattle.std.specs.Option.{option_to_list, option_map, option_and_then}
 use Rattle.std.proofs.lemmas.List.{take_more, take_all}
@@ -250,3 +250,26 @@ answer_left f p is ws r e none = answer_none p is ws (sym e ∙ ap (option_map f
 -- words carry one list of bytes
 pub one_list : (p : Contents) → IsProfile p → (ws xs ys : List ℕ) → CarryBytes p.codes ws xs → CarryBytes p.codes ws ys → xs ≡ ys
 one_list p is ws xs ys hx hy = some_same (sym (carried_of p is ws xs hx) ∙ carried_of p is ws ys hy)
+
+-- ---- how many bytes
+
+data-count : (c : Codes) (ws : List ℕ) (ss : List (List ℕ)) → AreDataWords c ws ss → length (concat ss) ≤ 5 * length ws
+data-count c [] [] h = omega arith
+data-count c [] (s ∷ ss) h = absurd h
+data-count c (w ∷ ws) [] h = absurd h
+data-count c (w ∷ ws) (s ∷ ss) h =
+    let rest = data-count c ws ss h.1 in
+    let here : length s ≤ 5 = h.0.range.1 in
+    omega (arith, length-append s (concat ss))
+
+semis-twice : (bs : List ℕ) → length (semis_of_bytes bs) ≡ 2 * length bs
+semis-twice [] = refl
+semis-twice (b ∷ bs) = let e = semis-twice bs in omega arith
+
+-- a word carries at most five semi-octets
+pub carried-most : (c : Codes) (ws bytes : List ℕ) → CarryBytes c ws bytes → 2 * length bytes ≤ 5 * length ws
+carried-most c ws bytes h =
+    let most = data-count c ws h.semis h.words in
+    let twice = semis-twice bytes in
+    let same = ap length h.carries.semi_octets in
+    omega arith

@@ -11,6 +11,7 @@ ghost use Rattle.a429_ldu.specs.declared.sight.Sight.TheVariants as sight;
 ghost use Rattle.a429_ldu.specs.Form.{IsForm, IsFree, IsInRange, bus_of, word_number, is_free, form_of, sight_of};
 ghost use Rattle.a429_ldu.specs.Carried.{CarryBytes, bytes_carried};
 ghost use Rattle.a429_ldu.specs.CheckWord.{check_of};
+ghost use Rattle.a429_ldu.specs.Ldu.{LduValue, IsLdu, bytes_of};
 ghost use Rattle.a429_ldu.specs.Register.{check_by_register};
 ghost use Rattle.a429_ldu.specs.Cut.{room, pieces, HaveSizes};
 
@@ -41,6 +42,11 @@ pub fn forms_are_computed()
 pub fn bytes_are_computed()
     ensures carried { (p : Contents) (ws bytes : List ℕ) → IsProfile p → (bytes_carried p.codes ws ≡ Some bytes) ↔ CarryBytes p.codes ws bytes }
     ensures one { (p : Contents) (ws xs ys : List ℕ) → IsProfile p → CarryBytes p.codes ws xs → CarryBytes p.codes ws ys → xs ≡ ys }
+{}
+
+/// A link data unit has 1 to 632 bytes.
+pub fn units_have_few_bytes()
+    ensures { (p : Contents) (u : LduValue) → IsProfile p → IsLdu p u → (1 ≤ length (bytes_of p.codes u)) × (length (bytes_of p.codes u) ≤ 632) }
 {}
 
 /// A register that takes bit after bit ends with the check word.
