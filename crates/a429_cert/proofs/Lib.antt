@@ -7,3 +7,7 @@ pub mod WordFields
 pub mod Lines
 pub mod Kept
 pub mod Shape
+pub mod TextLines
+pub mod ByLetter
+pub mod Steps
+pub mod NoFault

@@ -1,3 +1,7 @@
 pub mod Line
 pub mod Reading
 pub mod Writing
+pub mod Lines
+pub mod Explained
+pub mod Fault
+pub mod Passing

@@ -1,4 +1,4 @@
-//! Why a line was not read or not written.
+//! Why a line was not read or not written, and why a certificate is refused.
 
 use std::alloc::{AllocError, AllocFailed};
 
@@ -16,4 +16,23 @@ impl<T: Drop> From<AllocFailed<T>> for OutOfMemory {
     fn from(_: AllocFailed<T>) -> OutOfMemory {
         OutOfMemory
     }
+}
+
+/// Why a certificate is refused. Lines are counted from 1, entries from 0.
+#[derive(Clone, Copy, Debug, PartialEq, Eq)]
+pub enum CertFault {
+    /// The first line is not the version's.
+    Version,
+    /// This line does not end, spells no line, or is none that may stand there.
+    Line(usize),
+    /// No step of this line's name may be made there.
+    NotAllowed(usize),
+    /// The step of this line may be made, and leads to another state than the line writes.
+    StateDiffers(usize),
+    /// A step of this line's name may be made, but not with the next entry, or none is left.
+    WordDiffers { line: usize, entry: usize },
+    /// This entry is the first that no line uses.
+    Unfinished(usize),
+    /// Memory was refused.
+    OutOfMemory,
 }

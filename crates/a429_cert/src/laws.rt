@@ -2,8 +2,14 @@
 
 ghost use Rattle.std.specs.Prelude.{◌≡◌, ◌≤◌, ℕ, List, length, Option, Some};
 ghost use Rattle.std.specs.List.{AllByRecursion};
+ghost use Rattle.a429_profile.specs.Contents.{Contents};
+ghost use Rattle.a429_link.specs.declared.seen.Seen.{Seen};
+ghost use Rattle.a429_link.specs.declared.step.Step.{Step};
+ghost use Rattle.a429_cert.specs.declared.fault.CertFault.{CertFault};
 ghost use Rattle.a429_cert.specs.declared.line.CertLine.{CertLine};
 ghost use Rattle.a429_cert.specs.Line.{spelling, IsLine, IsHeld, Spells, Reads};
+ghost use Rattle.a429_cert.specs.Explained.{Explains};
+ghost use Rattle.a429_cert.specs.Fault.{IsFirstFault};
 
 /// A line has one spelling, and no two lines have the same.
 pub fn a_line_has_one_spelling()
@@ -25,4 +31,9 @@ pub fn read_is_written_back()
 pub fn lines_are_short_ascii()
     ensures ascii { (l : CertLine) → IsLine l → IsHeld l → AllByRecursion (λ b. (32 ≤ b) × (b ≤ 126)) (spelling l) }
     ensures short { (l : CertLine) → IsLine l → IsHeld l → length (spelling l) ≤ 2287 }
+{}
+
+/// What explains a recording has no fault, so `verify` refuses it for want of memory alone.
+pub fn what_explains_has_no_fault()
+    ensures { (p : Contents) (certificate : List ℕ) (items : List Seen) (first : ℕ) (steps : List Step) (f : CertFault) → Explains p certificate items first steps → IsFirstFault p certificate items f → ⊥ }
 {}

@@ -1,5 +1,8 @@
 -- The lines of a recording, entry by entry.
-use Rattle.std.proofs.Common.{◌≡◌, ℕ, ◌+◌, ◌<◌, List, [], ◌∷◌, ◌++◌, length, take, get_or, sym, ap, ◌∙◌, append-nil, append_assoc, refl, Bool, true, false, ◌≢◌, ◌⊎◌, inl, inr, Option, Some, None}
+use Rattle.std.proofs.Common.{◌≡◌, ℕ, ◌+◌, ◌<◌, List, [], ◌∷◌, ◌++◌, length, take, get_or, sym, ap, ◌∙◌, append-nil, append_assoc, refl, Bool, true, false, ◌≢◌, ◌⊎◌, inl, inr, Option, Some, None, codes, ◌-◌}
+use Rattle.std.specs.Int.{bit_at}
+use Rattle.std.specs.Fmt.{decimal}
+use Rattle.std.proofs.lemmas.Fmt.{decimal_digit}
 use Rattle.std.specs.List.{flat_map}
 use Rattle.std.specs.Option.{IfSome}
 use Rattle.std.specs.Io.KnownBytes.{Appends}
@@ -16,6 +19,11 @@ pub flags_text-more : (field : ℕ) (fs : List Flag) (i : ℕ) (f : Flag) → i 
 flags_text-more field fs i f h found =
     ap (flat_map (flag_text field)) (take_more fs i f h ∙ ap (λ x. take i fs ++ x ∷ []) (sym found))
     ∙ flat_map-append (flag_text field) (take i fs) (f ∷ []) ∙ ap (λ t. flat_map (flag_text field) (take i fs) ++ t) (append-nil (flag_text field f))
+
+-- a flag's text, of which the last two bytes are written at once
+pub flag_text-is : (field digit : ℕ) (f : Flag) → bit_at field (f.bit - 11) ≡ digit → digit < 10 → codes " " ++ f.name ++ (61 ∷ (48 + digit) ∷ []) ≡ flag_text field f
+flag_text-is field digit f e small =
+    ap (λ t. codes " " ++ f.name ++ (61 ∷ t)) (sym (decimal_digit digit small) ∙ ap decimal (sym e)) ∙ sym (append_assoc (codes " " ++ f.name) (codes "=") (decimal (bit_at field (f.bit - 11))))
 
 -- a further entry's line
 pub AreShowLines-more : (p : Contents) (es : List Entry) (e : Entry) (text line : List ℕ) → AreShowLines p es text → IsShowLine p e line → AreShowLines p (es ++ e ∷ []) (text ++ line)

@@ -1,7 +1,7 @@
 -- Words as entries of a recording, one after the other.
 use Rattle.std.proofs.Common.{◌≡◌, ℕ, zero, suc, ◌+◌, ◌*◌, ◌<◌, ◌≤◌, List, [], ◌∷◌, ◌++◌, length, take, get_or, refl, sym, ap, ◌∙◌, arith}
 use Rattle.std.proofs.lemmas.List.{take_more}
-use Rattle.a429_link.specs.declared.step.Seen.{Seen}
+use Rattle.a429_link.specs.declared.seen.Seen.{Seen}
 use Rattle.a429_record.specs.declared.entry.Entry.{Entry}
 use Rattle.a429_record.specs.Recording.{NeverFalls, IsRecordable, most_entries}
 use Rattle.a429_check.specs.Made.{timed}

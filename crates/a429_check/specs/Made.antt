@@ -1,8 +1,8 @@
 -- What `a429 make` writes, and why it may write nothing (profile).
 use Rattle.std.specs.Prelude.{◌≡◌, ◌+◌, ◌*◌, ◌<◌, ◌≤◌, ℕ, List, [], ◌∷◌, length, Bool, true, Option, Some, None}
 use Rattle.a429_profile.specs.Contents.{Contents}
-use Rattle.a429_link.specs.declared.clean.CleanFault.TheVariants as clean
-use Rattle.a429_link.specs.declared.step.Seen.{Seen}
+use Rattle.a429_link.specs.declared.fault.CleanFault.TheVariants as clean
+use Rattle.a429_link.specs.declared.seen.Seen.{Seen}
 use Rattle.a429_link.specs.Clean.{clean_words, first_refused}
 use Rattle.a429_record.specs.declared.entry.Entry.{Entry}
 use Rattle.a429_record.specs.declared.fault.ReadFault.TheVariants as read

@@ -1,5 +1,5 @@
 -- What a link data unit is made of.
-use Rattle.std.proofs.Common.{◌≡◌, ◌≢◌, ℕ, ◌≤◌, List, length, true, sym, ap, ◌∙◌, subst, [], ◌*◌, unwrap_or, arith}
+use Rattle.std.proofs.Common.{◌≡◌, ◌≢◌, ℕ, ◌≤◌, List, length, true, sym, ap, ◌∙◌, subst, [], unwrap_or, arith}
 use Rattle.a429_profile.specs.declared.codes.Check.{Check}
 use Rattle.a429_profile.specs.Contents.{Contents, IsProfile}
 use Rattle.a429_ldu.specs.Carried.{CarryBytes}

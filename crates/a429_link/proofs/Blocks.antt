@@ -1,10 +1,9 @@
 -- Blocks by their places.
-use Rattle.std.proofs.Common.{◌≡◌, ℕ, suc, ◌+◌, ◌≤◌, ◌<◌, List, [], ◌∷◌, ◌++◌, length, Option, Some, None, IsSome, is_some, slice_get, inl, inr, sym, ap, ◌∙◌, subst, arith, length-append}
+use Rattle.std.proofs.Common.{◌≡◌, ℕ, ◌≤◌, ◌<◌, [], ◌∷◌, length, Option, Some, None, IsSome, is_some, slice_get, inl, inr, ap, subst, arith, length-append}
 use Rattle.std.proofs.lemmas.Bool.{cases_lt}
 use Rattle.std.proofs.lemmas.Option.{slice_get_past}
 use Rattle.a429_ldu.specs.Form.{word_number}
 use Rattle.a429_ldu.specs.Ldu.{LduValue, block_of, count_of}
-use Rattle.a429_link.proofs.Said.{Eot}
 use Rattle.a429_link.specs.Source.{next_word}
 use Rattle.a429_link.specs.declared.state.SourceState.{SourceState}
 use Rattle.a429_link.specs.declared.state.SourceState.TheVariants.{Sending}

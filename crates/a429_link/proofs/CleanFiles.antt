@@ -1,5 +1,5 @@
 -- Files that cross without loss.
-use Rattle.std.proofs.Common.{◌≡◌, ◌≢◌, ◌⊎◌, All, Vec, eq-eqb, ℕ, zero, suc, ◌+◌, ◌%◌, ◌*◌, ◌≤◌, ◌<◌, Bool, true, false, cond, eqb, nat_lt, nat_le, List, [], ◌∷◌, ◌++◌, map, length, take, drop, get_or, Option, Some, None, refl, sym, ap, ◌∙◌, subst, inl, inr, arith, append_assoc, append-nil, length-append}
+use Rattle.std.proofs.Common.{◌≡◌, ◌≢◌, All, Vec, eq-eqb, ℕ, zero, suc, ◌+◌, ◌%◌, ◌*◌, ◌≤◌, ◌<◌, Bool, true, false, cond, nat_le, List, [], ◌∷◌, ◌++◌, map, length, take, drop, get_or, Some, None, refl, sym, ap, ◌∙◌, subst, arith, append_assoc, append-nil}
 use Rattle.std.specs.List.{concat, AllByRecursion}
 use Rattle.std.proofs.lemmas.Bool.{ne_eqb, lt-ltb, le-ltb}
 use Rattle.std.proofs.lemmas.List.{drop_more, drop_all, get_or-map, length-map}
@@ -10,7 +10,7 @@ use Rattle.a429_link.specs.Run.{nothing, trace}
 use Rattle.a429_link.specs.Sink.{Shelf, put}
 use Rattle.a429_link.specs.Step.{State}
 use Rattle.a429_link.specs.declared.file.FileBytes.{FileBytes}
-use Rattle.a429_link.specs.declared.step.Seen.{Seen}
+use Rattle.a429_link.specs.declared.seen.Seen.{Seen}
 use Rattle.a429_link.specs.declared.step.Step.{Step}
 use Rattle.a429_profile.specs.Contents.{Contents}
 use Rattle.a429_profile.specs.Contents.{IsProfile}
@@ -19,8 +19,7 @@ use Rattle.a429_ldu.specs.Cut.{pieces, room, units_in, units_of, OnlyLastIsFinal
 use Rattle.a429_ldu.proofs.Cuts.{AreUnits}
 use Rattle.a429_link.specs.Clean.{next_file, next_ldu, clean_block, clean, AllFit, shelved, clean_steps, all_steps, units_of_files, clean_words, clean_run_steps, numbered, cut_fault, refused_or, first_refused, IsRunOf}
 use Rattle.a429_ldu.specs.declared.fault.CutFault.{CutFault}
-use Rattle.a429_link.specs.declared.clean.CleanFault.{CleanFault}
-use Rattle.a429_link.specs.declared.clean.CleanFault.TheVariants.{Cut}
+use Rattle.a429_link.specs.declared.fault.CleanFault.TheVariants.{Cut}
 use Rattle.a429_link.proofs.CleanRuns.{clean_goes, clean_records, start_ready, Records, trace_append}
 
 -- ---- one file

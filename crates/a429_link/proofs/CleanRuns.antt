@@ -1,23 +1,22 @@
 -- A run without loss goes through, and free words may stand anywhere in its recording.
-use Rattle.std.proofs.Common.{◌≡◌, ◌⊎◌, ℕ, zero, suc, ◌+◌, ◌%◌, ◌≤◌, ◌<◌, Bool, true, false, cond, not, eqb, ◌&&◌, ◌||◌, nat_le, List, [], ◌∷◌, ◌++◌, map, length, Option, Some, None, is_some, unwrap_or, slice_get, refl, sym, ap, ◌∙◌, subst, arith, append_assoc, append-nil, length-append, eqb-true, eq-eqb}
+use Rattle.std.proofs.Common.{◌≡◌, ℕ, zero, suc, ◌+◌, ◌%◌, ◌≤◌, ◌<◌, Bool, true, false, cond, not, eqb, ◌&&◌, ◌||◌, List, [], ◌∷◌, ◌++◌, map, length, Option, Some, None, is_some, unwrap_or, slice_get, refl, sym, ap, ◌∙◌, subst, arith, append_assoc, append-nil, length-append, eqb-true, eq-eqb}
 use Rattle.std.proofs.lemmas.Bool.{ne_eqb, le-leb}
 use Rattle.a429_word.specs.declared.bus.Bus.TheVariants as bus
 use Rattle.a429_ldu.specs.Form.{form_of, is_free, word_number}
 use Rattle.a429_ldu.specs.Ldu.{IsLdu, LduValue, block_of, count_of, is_final}
 use Rattle.a429_link.proofs.Said.{Ack, AllParts, Cts, Eot, IsFit, IsRead, MaySay, Nak, Part, Rts, Said, Sot, answers_as, answers_said, block_said, block_words, hears_as, hears_said, last_said, next_said, said_form, said_of, takes_as, takes_said, word_of}
-use Rattle.a429_link.specs.Run.{IsRun, end_of, nothing, settled, trace, with_label}
+use Rattle.a429_link.specs.Run.{IsRun, end_of, nothing, trace, with_label}
 use Rattle.a429_link.specs.Sink.{Block, Granted, InBlock, Listens, MayAnswerForm, Number, OwesAck, OwesClear, OwesNak, Quiet, Shelf, Sink, SinkPhase, agrees, answers_word, bytes_in, in_sequence, is_good, is_same, put}
 use Rattle.a429_link.specs.Source.{Source, acknowledged, after_word, next_word}
 use Rattle.a429_link.specs.Step.{State, after, label, start}
 use Rattle.a429_link.specs.declared.state.SourceState.{SourceState}
 use Rattle.a429_link.specs.declared.state.SourceState.TheVariants.{Awaiting, Idle, Sending, Waiting}
-use Rattle.a429_link.specs.declared.step.Seen.{Seen}
+use Rattle.a429_link.specs.declared.seen.Seen.{Seen}
 use Rattle.a429_link.specs.declared.step.Step.{Step}
 use Rattle.a429_link.specs.declared.step.Step.TheVariants.{FreeSeen}
 use Rattle.a429_profile.specs.Contents.{Contents}
 use Rattle.a429_profile.specs.Contents.{IsProfile}
 use Rattle.a429_profile.specs.declared.codes.Codes.{Codes}
-use Rattle.a429_profile.specs.declared.codes.Check.{Check}
 use Rattle.a429_ldu.specs.declared.forms.Form.{Form}
 use Rattle.a429_ldu.specs.declared.forms.Form.TheVariants as form
 use Rattle.a429_ldu.specs.Carried.{bytes_carried}

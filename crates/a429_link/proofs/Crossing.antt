@@ -1,25 +1,23 @@
 -- What has crossed: the LDUs that the sink accepted are those that were loaded, all but perhaps the current one.
-use Rattle.std.proofs.Common.{◌≡◌, ◌⊎◌, ℕ, zero, suc, ◌+◌, ◌*◌, ◌%◌, ◌≤◌, ◌<◌, Bool, true, false, cond, eqb, ◌&&◌, List, [], ◌∷◌, ◌++◌, map, length, Option, Some, None, refl, sym, ap, ◌∙◌, subst, inl, inr, arith, append-nil, length-append, eq-eqb}
+use Rattle.std.proofs.Common.{◌≡◌, ◌⊎◌, ℕ, ◌+◌, ◌*◌, ◌%◌, ◌≤◌, Bool, true, false, cond, eqb, ◌&&◌, List, [], ◌∷◌, ◌++◌, length, Option, Some, None, refl, sym, ap, ◌∙◌, subst, inl, inr, arith, append-nil, length-append, eq-eqb}
 use Rattle.std.proofs.lemmas.Bool.{and_from, and_left, and_right, ne_eqb}
-use Rattle.std.proofs.lemmas.List.{length-map}
 use Rattle.a429_word.specs.declared.bus.Bus.TheVariants as bus
 use Rattle.a429_ldu.specs.Form.{form_of}
 use Rattle.a429_ldu.specs.Ldu.{LduValue, count_of, is_final}
-use Rattle.a429_link.proofs.Said.{Ack, AllSay, Cts, IsRead, MaySay, Nak, Rts, Said, answers_as, answers_said, hears_as, hears_said, is_own_ack_seen, none_say, own_ack_join, said_of, say_length}
+use Rattle.a429_link.proofs.Said.{Ack, AllSay, Cts, IsRead, MaySay, Nak, Said, answers_as, answers_said, hears_as, hears_said, is_own_ack_seen, none_say, own_ack_join, said_of, say_length}
 use Rattle.a429_link.specs.Run.{IsBounded, IsPrefixOf, IsRun, delivered, end_of, ends_file, is_final_unit, is_own_ack_form, newest, nothing, offered, offered_from, offers, settled, settled_from, settles}
-use Rattle.a429_link.specs.Sink.{Block, Number, Shelf, Sink, SinkPhase, accepts, accepts_owed, answers, bytes_in, is_same, put, takes_first, takes_form, takes_word}
+use Rattle.a429_link.specs.Sink.{Block, Number, Shelf, Sink, SinkPhase, accepts, accepts_owed, bytes_in, is_same, put, takes_first, takes_form, takes_word}
 use Rattle.a429_link.specs.Source.{IsIdle, Source, acknowledged, hears_first}
 use Rattle.a429_link.specs.Step.{Can, IsNonEmpty, State, after, rest, start}
 use Rattle.a429_link.specs.declared.file.FileBytes.{FileBytes}
 use Rattle.a429_link.specs.declared.state.SourceState.{SourceState}
 use Rattle.a429_link.specs.declared.state.SourceState.TheVariants.{Awaiting, Idle, Sending, Waiting}
-use Rattle.a429_link.specs.declared.step.Seen.{Seen}
+use Rattle.a429_link.specs.declared.seen.Seen.{Seen}
 use Rattle.a429_link.specs.declared.step.Step.{Step}
 use Rattle.a429_link.specs.declared.step.Step.TheVariants.{Answered, FreeSeen, Load, LoseAnswer, Sent, SentLost, Silent, SinkTakes, TakeAnswer, TimeOut}
 use Rattle.a429_profile.specs.Contents.{Contents}
-use Rattle.a429_link.proofs.Subs.{Each}
-use Rattle.a429_link.proofs.Phases.{Config, idle, asked, unasked, heard, cleared, sending, waiting, whole, spoiled, over, refused, acked, Whole, may_owes, owes_stale, owes_grant, may_answer, config_bounded}
-use Rattle.a429_link.proofs.Holds.{Holds, HoldsAt, step_holds, start_holds, owed_form, alone_on_the_way}
+use Rattle.a429_link.proofs.Phases.{Config, idle, asked, unasked, cleared, sending, waiting, whole, refused, acked, Whole, may_owes, owes_stale, owes_grant, may_answer, config_bounded}
+use Rattle.a429_link.proofs.Holds.{HoldsAt, step_holds, start_holds, owed_form, alone_on_the_way}
 use Rattle.a429_link.proofs.Ideal.{takes_shelf}
 use Rattle.a429_ldu.specs.declared.forms.Form.{Form}
 use Rattle.a429_ldu.specs.declared.forms.Form.TheVariants as form

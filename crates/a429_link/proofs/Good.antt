@@ -1,5 +1,5 @@
 -- When a block is good.
-use Rattle.std.proofs.Common.{◌≡◌, ℕ, ◌+◌, Bool, ◌&&◌, ◌||◌, List, [], length, Option, Some, is_some, unwrap_or, option_map, Vec, sym, ap, ◌∙◌, eq-eqb}
+use Rattle.std.proofs.Common.{◌≡◌, ℕ, ◌+◌, ◌&&◌, ◌||◌, List, [], length, Option, Some, is_some, unwrap_or, option_map, Vec, sym, ap, ◌∙◌, eq-eqb}
 use Rattle.a429_link.specs.Sink.{Block, Number, agrees, bytes_in, in_sequence, is_good, is_same}
 use Rattle.a429_profile.specs.Contents.{Contents}
 use Rattle.a429_ldu.specs.Carried.{bytes_carried}

@@ -1,5 +1,5 @@
 -- The words on the way say what the phases want: the invariant of a run's states.
-use Rattle.std.proofs.Common.{◌≡◌, ◌⊎◌, ℕ, zero, suc, ◌+◌, ◌%◌, ◌≤◌, ◌<◌, Bool, true, false, cond, List, [], ◌∷◌, ◌++◌, map, length, Option, Some, None, slice_get, refl, sym, ap, ◌∙◌, subst, inl, inr, arith}
+use Rattle.std.proofs.Common.{◌≡◌, ℕ, zero, suc, ◌+◌, ◌%◌, ◌≤◌, Bool, true, false, cond, List, [], ◌∷◌, ◌++◌, map, Option, Some, None, slice_get, refl, sym, ap, ◌∙◌, subst, arith}
 use Rattle.a429_word.specs.declared.bus.Bus.TheVariants as bus
 use Rattle.a429_ldu.specs.Form.{form_of}
 use Rattle.a429_ldu.specs.Ldu.{IsLdu, LduValue, count_of}
@@ -9,12 +9,12 @@ use Rattle.a429_link.specs.Source.{Source, Waits, hears_first}
 use Rattle.a429_link.specs.Step.{Can, IsNonEmpty, State, after, next_of, rest, start}
 use Rattle.a429_link.specs.declared.state.SourceState.{SourceState}
 use Rattle.a429_link.specs.declared.state.SourceState.TheVariants.{Awaiting, Idle, Sending, Waiting}
-use Rattle.a429_link.specs.declared.step.Seen.{Seen}
+use Rattle.a429_link.specs.declared.seen.Seen.{Seen}
 use Rattle.a429_link.specs.declared.step.Step.{Step}
 use Rattle.a429_link.specs.declared.step.Step.TheVariants.{Answered, FreeSeen, Load, LoseAnswer, Sent, SentLost, Silent, SinkTakes, TakeAnswer, TimeOut}
 use Rattle.a429_profile.specs.Contents.{Contents}
 use Rattle.a429_link.proofs.Subs.{Each, each_push}
-use Rattle.a429_link.proofs.Phases.{Config, idle, asked, unasked, heard, cleared, sending, waiting, whole, spoiled, over, refused, acked, Whole, load_fits, sent_fits, lost_fits, late_fits, unheard_fits, silent_fits, answer_fits, taken_fits, heard_fits, phase_answered, acks_count, At, may_owes, may_answer, owes_stale, owes_grant, owes_alone}
+use Rattle.a429_link.proofs.Phases.{Config, idle, cleared, refused, acked, load_fits, sent_fits, lost_fits, late_fits, unheard_fits, silent_fits, answer_fits, taken_fits, heard_fits, phase_answered, acks_count, may_answer, owes_alone}
 
 -- the current link data unit is one of the profile, under a number that an answer can carry
 abbrev pub Current : Contents → Option LduValue → ℕ → Type 0

@@ -1,5 +1,5 @@
 -- What a trace alone tells of the sink.
-use Rattle.std.proofs.Common.{◌≡◌, ◌⊎◌, ℕ, zero, suc, ◌+◌, ◌≤◌, Bool, true, List, [], ◌∷◌, ◌++◌, Option, Some, None, IsSome, refl, sym, ap, ◌∙◌, subst, inl, inr, ⊎_elim}
+use Rattle.std.proofs.Common.{◌≡◌, ◌⊎◌, ℕ, ◌≤◌, true, List, [], ◌∷◌, ◌++◌, Option, Some, None, IsSome, refl, sym, ap, ◌∙◌, subst, inl, inr, ⊎_elim}
 use Rattle.a429_word.specs.declared.bus.Bus.TheVariants as bus
 use Rattle.a429_ldu.specs.Form.{form_of, is_free}
 use Rattle.a429_ldu.specs.Ldu.{LduValue, count_of}
@@ -10,12 +10,12 @@ use Rattle.a429_link.specs.Source.{Waits, after_word}
 use Rattle.a429_link.specs.Step.{Can, IsNonEmpty, State, after, label, rest, start}
 use Rattle.a429_link.specs.declared.state.SourceState.{SourceState}
 use Rattle.a429_link.specs.declared.state.SourceState.TheVariants.{Awaiting, Idle, Sending, Waiting}
-use Rattle.a429_link.specs.declared.step.Seen.{Seen}
+use Rattle.a429_link.specs.declared.seen.Seen.{Seen}
 use Rattle.a429_link.specs.declared.step.Step.{Step}
 use Rattle.a429_link.specs.declared.step.Step.TheVariants.{Answered, FreeSeen, Load, LoseAnswer, Sent, SentLost, Silent, SinkTakes, TakeAnswer, TimeOut}
 use Rattle.a429_profile.specs.Contents.{Contents}
 use Rattle.a429_word.specs.declared.bus.Bus.{Bus}
-use Rattle.a429_link.proofs.Phases.{owes_alone, may_owes}
+use Rattle.a429_link.proofs.Phases.{may_owes}
 use Rattle.a429_link.proofs.Holds.{HoldsAt, step_holds, start_holds, sends, owed_form, alone_on_the_way}
 use Rattle.a429_ldu.specs.declared.forms.Form.{Form}
 use Rattle.a429_ldu.specs.declared.forms.Form.TheVariants as form

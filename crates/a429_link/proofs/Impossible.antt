@@ -1,13 +1,13 @@
 -- A word that the observer does not allow begins no run's trace.
-use Rattle.std.proofs.Common.{◌≡◌, ◌⊎◌, ℕ, zero, suc, ◌+◌, ◌<◌, Bool, true, false, cond, List, [], ◌∷◌, ◌++◌, take, Option, Some, None, slice_get, refl, sym, ap, ◌∙◌, subst, inl, inr}
+use Rattle.std.proofs.Common.{◌≡◌, ℕ, zero, suc, Bool, true, false, cond, List, [], ◌∷◌, ◌++◌, take, Option, Some, None, slice_get, refl, sym, ap, ◌∙◌, subst, inl, inr}
 use Rattle.a429_word.specs.declared.bus.Bus.TheVariants as bus
 use Rattle.a429_ldu.specs.Form.{form_of}
 use Rattle.a429_ldu.specs.Ldu.{is_final}
-use Rattle.a429_link.proofs.Said.{Ack, Cts, Eot, IsRead, MaySay, Nak, Part, Rts, Said, Sot, said_form}
+use Rattle.a429_link.proofs.Said.{IsRead, MaySay, Part, Said, Sot, said_form}
 use Rattle.a429_link.specs.Observer.{Allows, AllowsForm, AllowsNext, HasGrant, IsRefused, Observer, at_first, observed, sees, sees_form, watching}
 use Rattle.a429_link.specs.Run.{BeginsARun, nothing}
 use Rattle.a429_link.specs.Sink.{Granted, InBlock, Number, OwesAck, OwesClear, OwesNak, Quiet, Sink, SinkPhase, accepts_owed, answers, answers_form, bytes_in, is_same, put, takes_form}
-use Rattle.a429_link.specs.declared.step.Seen.{Seen}
+use Rattle.a429_link.specs.declared.seen.Seen.{Seen}
 use Rattle.a429_profile.specs.Contents.{Contents}
 use Rattle.a429_word.specs.declared.bus.Bus.{Bus}
 use Rattle.a429_ldu.specs.declared.forms.Form.{Form}

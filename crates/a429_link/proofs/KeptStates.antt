@@ -1,12 +1,12 @@
 -- The states of a link: files that were handed out change no step.
-use Rattle.std.proofs.Common.{◌≡◌, ◌⊎◌, ℕ, zero, suc, ◌+◌, ◌≤◌, Bool, true, false, cond, List, [], ◌∷◌, ◌++◌, length, Option, Some, None, IsSome, is_some, Result, Ok, Err, OnOk, OnErr, IfErr, refl, sym, ap, ◌∙◌, subst, arith, append_assoc, append-nil}
+use Rattle.std.proofs.Common.{◌≡◌, ℕ, ◌≤◌, Bool, true, false, cond, List, [], ◌∷◌, ◌++◌, Option, Some, None, IsSome, is_some, Result, Ok, Err, OnOk, OnErr, IfErr, refl, sym, ap, ◌∙◌, subst, arith, append_assoc, append-nil}
 use Rattle.a429_word.specs.Word.{sum_below}
 use Rattle.a429_word.specs.declared.bus.Bus.TheVariants as bus
 use Rattle.a429_ldu.specs.Form.{form_of, is_free, word_number}
 use Rattle.a429_ldu.specs.Ldu.{LduValue, is_final}
-use Rattle.a429_link.proofs.Said.{Ack, Cts, Eot, IsRead, Nak, Part, Rts, Said, Sot}
+use Rattle.a429_link.proofs.Said.{IsRead, Said}
 use Rattle.a429_link.specs.Run.{IsBounded, IsRun, end_of}
-use Rattle.a429_link.specs.Sink.{Block, Granted, InBlock, MayAnswerForm, Owes, OwesAck, OwesClear, OwesNak, Quiet, Shelf, Sink, SinkPhase, accepts, accepts_owed, answers, answers_form, bytes_in, is_same, put, takes_first, takes_form}
+use Rattle.a429_link.specs.Sink.{Block, Granted, InBlock, MayAnswerForm, Owes, OwesAck, OwesClear, OwesNak, Quiet, Shelf, Sink, SinkPhase, accepts, accepts_owed, answers_form, bytes_in, is_same, put, takes_first, takes_form}
 use Rattle.a429_link.specs.Step.{Can, Named, State, after, next_of, rest, start}
 use Rattle.a429_link.specs.declared.file.FileBytes.{FileBytes}
 use Rattle.a429_link.specs.declared.state.SourceState.{SourceState}
@@ -18,12 +18,12 @@ use Rattle.a429_profile.specs.Contents.{IsProfile}
 use Rattle.a429_ldu.specs.declared.forms.Form.{Form}
 use Rattle.a429_ldu.specs.declared.forms.Form.TheVariants as form
 use Rattle.a429_ldu.proofs.Joined.{form_of-word_number}
-use Rattle.a429_link.specs.declared.step.StepFault.{StepFault}
-use Rattle.a429_link.specs.declared.step.StepFault.TheVariants as fault
+use Rattle.a429_link.specs.declared.fault.StepFault.{StepFault}
+use Rattle.a429_link.specs.declared.fault.StepFault.TheVariants as fault
 use Rattle.a429_link.specs.Step.{IsReady, IsFault, IsPlainFault}
 use Rattle.a429_link.specs.Link.{with_earlier, handed_out, IsKept}
-use Rattle.a429_link.proofs.Phases.{Config, idle, asked, unasked, heard, cleared, sending, waiting, whole, spoiled, over, refused, acked, owes_stale, owes_grant}
-use Rattle.a429_link.proofs.Holds.{Holds, HoldsAt, Current, step_holds, start_holds}
+use Rattle.a429_link.proofs.Phases.{Config, idle, asked, unasked, heard, sending, waiting}
+use Rattle.a429_link.proofs.Holds.{HoldsAt, Current, step_holds, start_holds}
 use Rattle.a429_link.proofs.Crossing.{run_bounded}
 use Rattle.a429_link.proofs.Sound.{is_read}
 

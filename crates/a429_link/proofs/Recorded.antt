@@ -1,5 +1,5 @@
 -- What no trace holds: each recorded word is one that the trace before it allows.
-use Rattle.std.proofs.Common.{◌≡◌, ◌⊎◌, ℕ, zero, suc, ◌+◌, ◌≤◌, ◌<◌, Bool, true, false, cond, eqb, ◌&&◌, ◌%◌, List, [], ◌∷◌, ◌++◌, map, length, take, Option, Some, None, IsSome, slice_get, refl, sym, ap, ◌∙◌, subst, inl, inr, arith, length-append, eq-eqb}
+use Rattle.std.proofs.Common.{◌≡◌, ◌⊎◌, ℕ, zero, suc, ◌+◌, ◌≤◌, ◌<◌, Bool, true, false, cond, eqb, ◌&&◌, ◌%◌, List, [], ◌∷◌, ◌++◌, map, length, take, Option, Some, None, IsSome, slice_get, refl, sym, ap, ◌∙◌, subst, inl, inr, arith, eq-eqb}
 use Rattle.a429_word.specs.declared.bus.Bus.TheVariants as bus
 use Rattle.a429_ldu.specs.Form.{is_free}
 use Rattle.a429_ldu.specs.Ldu.{LduValue, count_of, is_final}
@@ -10,15 +10,15 @@ use Rattle.a429_link.specs.Source.{Source, acknowledged, after_word, hears_first
 use Rattle.a429_link.specs.Step.{Can, IsNonEmpty, State, after, label, rest, start}
 use Rattle.a429_link.specs.declared.state.SourceState.{SourceState}
 use Rattle.a429_link.specs.declared.state.SourceState.TheVariants.{Awaiting, Idle, Sending, Waiting}
-use Rattle.a429_link.specs.declared.step.Seen.{Seen}
+use Rattle.a429_link.specs.declared.seen.Seen.{Seen}
 use Rattle.a429_link.specs.declared.step.Step.{Step}
 use Rattle.a429_link.specs.declared.step.Step.TheVariants.{Answered, FreeSeen, Load, LoseAnswer, Sent, SentLost, Silent, SinkTakes, TakeAnswer, TimeOut}
 use Rattle.a429_profile.specs.Contents.{Contents}
 use Rattle.a429_word.specs.declared.bus.Bus.{Bus}
-use Rattle.a429_link.proofs.Subs.{Sub, Each, IsFrontWord, IsBlockWord, sub_none, sub_push, sub_length, sub_take, take_next, get_front, sub_each, each_at}
-use Rattle.a429_link.proofs.Phases.{Config, idle, asked, unasked, heard, cleared, sending, waiting, whole, spoiled, over, refused, acked, InGrant, taken, front_words, block_words_each, each_take, lost_front, length-front, may_owes, owes_alone, owes_stale, owes_grant}
-use Rattle.a429_link.proofs.Holds.{Holds, HoldsAt, step_holds, start_holds, sends, owed_form, alone_on_the_way}
-use Rattle.a429_link.proofs.Ideal.{sees, take_all, Alike, Rests, IsStill, step_alike, blank}
+use Rattle.a429_link.proofs.Subs.{Sub, Each, IsFrontWord, IsBlockWord, sub_push, take_next, get_front, sub_each}
+use Rattle.a429_link.proofs.Phases.{Config, idle, asked, unasked, heard, cleared, sending, waiting, whole, spoiled, refused, acked, InGrant, taken, front_words, block_words_each, each_take, lost_front, length-front, may_owes, owes_stale, owes_grant}
+use Rattle.a429_link.proofs.Holds.{HoldsAt, step_holds, start_holds, sends, owed_form, alone_on_the_way}
+use Rattle.a429_link.proofs.Ideal.{sees, take_all, Alike, IsStill, step_alike, blank}
 
 abbrev pub parts_in : List Said → ℕ
 parts_in [] = 0

@@ -1,10 +1,8 @@
 -- What a profile's link data units are known to be, and that its words are read as they are written.
-use Rattle.std.proofs.Common.{◌≡◌, ℕ, zero, suc, ◌+◌, ◌*◌, ◌^◌, ◌≤◌, Bool, true, false, cond, ◌||◌, nat_le, List, [], ◌∷◌, ◌++◌, length, Option, Some, None, option_map, option_and_then, unwrap_or, refl, sym, ap, ◌∙◌, subst, arith, length-append}
+use Rattle.std.proofs.Common.{◌≡◌, ℕ, ◌^◌, Bool, true, false, cond, ◌||◌, nat_le, List, [], ◌∷◌, Option, Some, None, refl, ap}
 use Rattle.a429_word.specs.declared.bus.Bus.TheVariants as bus
 use Rattle.a429_ldu.specs.Form.{form_of, is_free}
 use Rattle.a429_link.proofs.Said.{Ack, AllParts, Cts, Eot, InRange, IsRead, Nak, Part, Rts, Said, Sot, said_form, said_of, word_of}
-use Rattle.a429_link.specs.Sink.{bytes_in}
-use Rattle.a429_link.specs.Step.{rest}
 use Rattle.a429_profile.specs.Contents.{Contents}
 use Rattle.a429_word.specs.declared.bus.Bus.{Bus}
 use Rattle.a429_profile.specs.Contents.{IsProfile}
@@ -13,8 +11,9 @@ use Rattle.a429_profile.specs.declared.codes.Codes.{Codes}
 use Rattle.a429_ldu.specs.declared.forms.Form.{Form}
 use Rattle.a429_ldu.specs.declared.forms.Form.TheVariants as form
 use Rattle.a429_ldu.specs.Form.{IsFree, IsForm, form_on, fields_of}
-use Rattle.a429_ldu.specs.Carried.{AreDataWords, semis_in, joined_to, semis_of_words, paired, if_some, bytes_carried}
+use Rattle.a429_ldu.specs.Carried.{AreDataWords}
 use Rattle.a429_ldu.proofs.Free.{is_free-decides}
+use Rattle.a429_ldu.proofs.Units.{few_bytes}
 use Rattle.a429_ldu.proofs.Joined.{form_of-is, form_of-word_number, form_is_not_free}
 
 -- what is said is read
@@ -63,67 +62,6 @@ data_parts p is (w ∷ ws) (s ∷ ss) h = (ap (said_form w) (data_form p is w s 
 data_parts p is [] (s ∷ ss) h = absurd h
 data_parts p is (w ∷ ws) [] h = absurd h
 
--- ---- how many bytes data words carry
-
--- there are at most n, if any
-abbrev Most : ℕ → Option (List ℕ) → Type 0
-Most n None = Unit {0}
-Most n (Some xs) = length xs ≤ n
-
-abbrev Half : ℕ → Option (List ℕ) → Type 0
-Half n None = Unit {0}
-Half n (Some xs) = 2 * length xs ≤ n
-
-five : (p : Contents) → IsProfile p → (w : ℕ) (o : Option Form) → form_of p.codes bus.A w ≡ o → Most 5 (semis_in o)
-five p is w (Some (form.Part s)) e = ((form_of-is p is bus.A w (form.Part s)).0 e).1.range.1
-five p is w None e = tt
-five p is w (Some (form.Rts n)) e = tt
-five p is w (Some (form.Cts n)) e = tt
-five p is w (Some (form.Ack f l)) e = tt
-five p is w (Some (form.Nak b)) e = tt
-five p is w (Some (form.Sot g f l)) e = tt
-five p is w (Some (form.Eot f c)) e = tt
-
-both : (m n : ℕ) (a b : Option (List ℕ)) → Most m a → Most n b → Most (m + n) (joined_to a b)
-both m n (Some xs) (Some ys) h k = omega (arith, length-append xs ys)
-both m n None b h k = tt
-both m n (Some xs) None h k = tt
-
-semis_most : (p : Contents) → IsProfile p → (ws : List ℕ) → Most (5 * length ws) (semis_of_words p.codes ws)
-semis_most p is [] = omega arith
-semis_most p is (w ∷ ws) =
-    let e : 5 * suc (length ws) ≡ 5 + 5 * length ws = omega arith in
-    subst (λ n. Most n (joined_to (semis_in (form_of p.codes bus.A w)) (semis_of_words p.codes ws))) (sym e) (both 5 (5 * length ws) (semis_in (form_of p.codes bus.A w)) (semis_of_words p.codes ws) (five p is w (form_of p.codes bus.A w) refl) (semis_most p is ws))
-
-half_more : (n b : ℕ) (o : Option (List ℕ)) → Half n o → Half (suc (suc n)) (option_map (λ bytes. b ∷ bytes) o)
-half_more n b None h = tt
-half_more n b (Some xs) h = omega arith
-
-paired_half : (ss : List ℕ) → Half (length ss) (paired ss)
-paired_half [] = omega arith
-paired_half (low ∷ []) = tt
-paired_half (low ∷ (high ∷ rest)) = half_more (length rest) (low + 16 * high) (paired rest) (paired_half rest)
-
-half_of : (n : ℕ) (o : Option (List ℕ)) → Most n o → Half n (option_and_then paired o)
-half_of n None h = tt
-half_of n (Some ss) h = less (paired ss) (paired_half ss)
-  where
-    less : (o : Option (List ℕ)) → Half (length ss) o → Half n o
-    less None k = tt
-    less (Some bs) k = omega arith
-
-half_some : (n : ℕ) (o : Option (List ℕ)) → Half n o → Half n (if_some o)
-half_some n None h = tt
-half_some n (Some []) h = tt
-half_some n (Some (b ∷ bs)) h = h
-
-few : (n : ℕ) (o : Option (List ℕ)) → n ≤ 1265 → Half n o → length (unwrap_or o []) ≤ 632
-few n None l h = omega arith
-few n (Some bs) l h = omega arith
-
-pub bytes_room : (p : Contents) → IsProfile p → (ws : List ℕ) → length ws ≤ 253 → length (bytes_in p.codes ws) ≤ 632
-bytes_room p is ws l = few (5 * length ws) (bytes_carried p.codes ws) (omega arith) (half_some _ (option_and_then paired (semis_of_words p.codes ws)) (half_of _ (semis_of_words p.codes ws) (semis_most p is ws)))
-
 pub is_read : (p : Contents) → IsProfile p → IsRead p
 is_read p is = record {
   first = (in_range p is).first_ldu;
@@ -136,6 +74,6 @@ is_read p is = record {
     parts = data_parts p is u.words h.carries.semis h.carries.words;
     room = h.length.1;
     some = h.length.0;
-    bytes_room = bytes_room p is u.words h.length.1;
+    bytes_room = (few_bytes p u is h).1;
   };
 }

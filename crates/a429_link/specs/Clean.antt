@@ -1,6 +1,6 @@
 -- What a run without loss records, and the steps that give it (profile: each link data unit is asked for, cleared, sent
 -- and acknowledged once).
-use Rattle.std.specs.Prelude.{◌≡◌, ℕ, ◌+◌, ◌*◌, ◌%◌, ◌≤◌, ◌==◌, nat_lt, Bool, true, false, if◌then◌else◌, Option, Some, None, List, [], ◌∷◌, ◌++◌, map, length}
+use Rattle.std.specs.Prelude.{◌≡◌, ℕ, ◌+◌, ◌*◌, ◌%◌, ◌≤◌, ◌==◌, nat_lt, if◌then◌else◌, Option, Some, None, List, [], ◌∷◌, ◌++◌, map, length}
 use Rattle.a429_word.specs.declared.bus.Bus.TheVariants as bus
 use Rattle.a429_profile.specs.declared.codes.Codes.{Codes}
 use Rattle.a429_profile.specs.Contents.{Contents}
@@ -10,10 +10,10 @@ use Rattle.a429_ldu.specs.declared.fault.CutFault.{CutFault}
 use Rattle.a429_ldu.specs.declared.fault.CutFault.TheVariants as cut
 use Rattle.a429_ldu.specs.Cut.{room, units_of}
 use Rattle.a429_ldu.specs.Ldu.{LduValue, IsLdu, count_of, block_of, bytes_of, is_final}
-use Rattle.a429_link.specs.declared.clean.CleanFault.{CleanFault}
-use Rattle.a429_link.specs.declared.clean.CleanFault.TheVariants.{Cut}
+use Rattle.a429_link.specs.declared.fault.CleanFault.{CleanFault}
+use Rattle.a429_link.specs.declared.fault.CleanFault.TheVariants.{Cut}
 use Rattle.a429_link.specs.declared.file.FileBytes.{FileBytes}
-use Rattle.a429_link.specs.declared.step.Seen.{Seen}
+use Rattle.a429_link.specs.declared.seen.Seen.{Seen}
 use Rattle.a429_link.specs.declared.step.Step.{Step}
 use Rattle.a429_link.specs.declared.step.Step.TheVariants.{Load, Sent, TakeAnswer, SinkTakes, Answered, FreeSeen}
 use Rattle.a429_link.specs.Sink.{Shelf, put}

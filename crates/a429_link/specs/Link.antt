@@ -1,5 +1,5 @@
 -- A link as its callers see it.
-use Rattle.std.specs.Prelude.{ℕ, List, [], ◌∷◌, ◌++◌, length}
+use Rattle.std.specs.Prelude.{ℕ, List, [], ◌++◌, length}
 use Rattle.a429_profile.specs.Contents.{Contents, IsProfile}
 use Rattle.a429_link.specs.declared.state.SourceState.{SourceState}
 use Rattle.a429_link.specs.declared.state.SinkState.{SinkState}

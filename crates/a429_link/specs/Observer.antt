@@ -5,10 +5,10 @@ use Rattle.a429_word.specs.declared.bus.Bus.{Bus}
 use Rattle.a429_word.specs.declared.bus.Bus.TheVariants as bus
 use Rattle.a429_profile.specs.Contents.{Contents}
 use Rattle.a429_ldu.specs.declared.forms.Form.{Form}
-use Rattle.a429_ldu.specs.declared.forms.Form.TheVariants.{Rts, Cts, Ack, Nak, Sot, Part, Eot}
+use Rattle.a429_ldu.specs.declared.forms.Form.TheVariants.{Rts, Cts, Sot, Part, Eot}
 use Rattle.a429_ldu.specs.Form.{form_of, is_free}
-use Rattle.a429_link.specs.declared.step.Seen.{Seen}
-use Rattle.a429_link.specs.Sink.{Sink, SinkPhase, Quiet, OwesClear, Granted, InBlock, OwesAck, OwesNak, Number, takes, answers, MayAnswer}
+use Rattle.a429_link.specs.declared.seen.Seen.{Seen}
+use Rattle.a429_link.specs.Sink.{Sink, SinkPhase, Quiet, Granted, InBlock, Number, takes, answers, MayAnswer}
 use Rattle.a429_link.specs.Run.{nothing}
 
 pub record Observer : Type 0 where

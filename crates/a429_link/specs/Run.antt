@@ -1,5 +1,5 @@
 -- Runs of a source and a sink: what they record, deliver, offer and settle.
-use Rattle.std.specs.Prelude.{ℕ, ◌≡◌, ◌+◌, ◌≤◌, Bool, true, false, ◌&&◌, if◌then◌else◌, List, [], ◌∷◌, ◌++◌, length, Option, Some, None}
+use Rattle.std.specs.Prelude.{ℕ, ◌≡◌, ◌+◌, ◌≤◌, Bool, false, ◌&&◌, if◌then◌else◌, List, [], ◌∷◌, ◌++◌, length, Option, Some, None}
 use Rattle.a429_word.specs.declared.bus.Bus.TheVariants as bus
 use Rattle.a429_profile.specs.declared.codes.Codes.{Codes}
 use Rattle.a429_profile.specs.Contents.{Contents}
@@ -7,7 +7,7 @@ use Rattle.a429_ldu.specs.declared.forms.Form.{Form}
 use Rattle.a429_ldu.specs.Form.{form_of}
 use Rattle.a429_ldu.specs.Ldu.{LduValue, bytes_of, is_final}
 use Rattle.a429_link.specs.declared.file.FileBytes.{FileBytes}
-use Rattle.a429_link.specs.declared.step.Seen.{Seen}
+use Rattle.a429_link.specs.declared.seen.Seen.{Seen}
 use Rattle.a429_link.specs.declared.step.Step.{Step}
 use Rattle.a429_link.specs.declared.step.Step.TheVariants.{Load, TakeAnswer}
 use Rattle.a429_link.specs.Source.{Source, is_own_ack}

@@ -4,15 +4,14 @@ use Rattle.std.specs.Prelude.{ℕ, ◌≡◌, ◌+◌, ◌≤◌, true, List, []
 use Rattle.a429_word.specs.declared.bus.Bus.TheVariants as bus
 use Rattle.a429_profile.specs.Contents.{Contents}
 use Rattle.a429_ldu.specs.Form.{form_of, is_free}
-use Rattle.a429_ldu.specs.Ldu.{LduValue, IsLdu}
-use Rattle.a429_link.specs.declared.state.SourceState.{SourceState}
+use Rattle.a429_ldu.specs.Ldu.{IsLdu}
 use Rattle.a429_link.specs.declared.state.SourceState.TheVariants.{Idle}
 use Rattle.a429_link.specs.declared.state.SinkState.{SinkState}
 use Rattle.a429_link.specs.declared.state.SinkState.TheVariants as shown
-use Rattle.a429_link.specs.declared.step.Seen.{Seen}
+use Rattle.a429_link.specs.declared.seen.Seen.{Seen}
 use Rattle.a429_link.specs.declared.step.Step.{Step}
-use Rattle.a429_link.specs.declared.step.StepFault.{StepFault}
-use Rattle.a429_link.specs.declared.step.StepFault.TheVariants as fault
+use Rattle.a429_link.specs.declared.fault.StepFault.{StepFault}
+use Rattle.a429_link.specs.declared.fault.StepFault.TheVariants as fault
 use Rattle.a429_link.specs.declared.step.Step.TheVariants.{Load, Sent, SentLost, TimeOut, TakeAnswer, LoseAnswer, SinkTakes, Silent, Answered, FreeSeen}
 use Rattle.a429_link.specs.Source.{Source, IsIdle, Waits, next_word, after_word, hears_first}
 use Rattle.a429_link.specs.Sink.{Sink, SinkPhase, Quiet, OwesClear, Granted, InBlock, OwesAck, OwesNak, Listens, Owes, MayAnswerForm, takes_first, answers_word}
@@ -103,10 +102,6 @@ label (Sent i) = Some i
 label (Answered i) = Some i
 label (FreeSeen i) = Some i
 label _ = None
-
--- a step leads from one state to another, with this label
-abbrev pub Leads : Contents → State → Step → Option Seen → State → Type 0
-Leads p s a l t = Can p a s × (l ≡ label a) × (t ≡ after p a s)
 
 -- a step of this name may be made, perhaps with another word
 abbrev pub Named : Contents → Step → State → Type 0

@@ -1,5 +1,4 @@
 -- How the sink's fields are seen.
-use Rattle.std.specs.Prelude.{ℕ, Bool, Option}
 use Rattle.a429_link.specs.declared.sink.Phase.{Phase}
 use Rattle.a429_link.specs.declared.sink.Phase.TheVariants as phase
 use Rattle.a429_link.specs.declared.sink.Latest.{Latest}

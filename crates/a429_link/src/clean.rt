@@ -5,21 +5,13 @@ ghost use Rattle.a429_ldu.specs.Cut.{OnlyLastIsFinal};
 ghost use Rattle.a429_link.specs.Run.{nothing};
 ghost use Rattle.a429_link.specs.Clean.{clean, clean_block, clean_words, clean_run_steps, numbered, first_refused, AllFit, IsRunOf};
 
-use crate::step::Seen;
+use crate::fault::CleanFault;
+use crate::seen::Seen;
 use a429_ldu::{CutFault, Form, Ldu, cut, word_of};
 use a429_profile::Profile;
 use a429_profile::laws::each_number_lies_in_its_range;
 use a429_word::{Bus, Word};
 use std::alloc::{AllocError, Global};
-
-/// Why there is no run.
-#[derive(Clone, Copy, Debug, PartialEq, Eq)]
-pub enum CleanFault {
-    /// The file at this place, from 0, is the first that can not be cut, being `Empty` or `TooLong`.
-    Cut(usize, CutFault),
-    /// Memory was refused.
-    OutOfMemory,
-}
 
 fn push(run: &mut Vec<Seen>, bus: Bus, word: Word) -> Result<(), AllocError>
     ensures { OnOk result (run.new.items ≡ run.old.items ++ record { bus = bus; word = word } ∷ []) }
@@ -102,3 +94,6 @@ pub fn clean_run(
     }
     Ok(run)
 }
+
+#[cfg(test)]
+mod tests;

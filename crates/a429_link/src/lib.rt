@@ -3,11 +3,14 @@
 
 mod block;
 mod clean;
+mod fault;
 mod file;
 pub mod laws;
 mod link;
 mod number;
+mod observer;
 mod reading;
+mod seen;
 mod shelf;
 mod sink;
 mod source;
@@ -15,8 +18,11 @@ mod state;
 mod step;
 mod transfer;
 
-pub use crate::clean::{CleanFault, clean_run};
+pub use crate::clean::clean_run;
+pub use crate::fault::{CleanFault, StepFault};
 pub use crate::file::{Bytes, FileBytes};
 pub use crate::link::Link;
+pub use crate::observer::Observer;
+pub use crate::seen::Seen;
 pub use crate::state::{SinkState, SourceState};
-pub use crate::step::{Seen, Step, StepFault};
+pub use crate::step::Step;

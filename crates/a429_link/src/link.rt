@@ -4,9 +4,10 @@ ghost use Rattle.std.specs.Prelude.{◌≡◌, [], IfErr, OnOk, OnErr};
 ghost use Rattle.a429_link.specs.Step.{start, Can, after, LoadsLdu, IsFault};
 ghost use Rattle.a429_link.specs.Link.{handed_out, shown};
 
+use crate::fault::StepFault;
 use crate::file::FileBytes;
 use crate::state::{SinkState, SourceState};
-use crate::step::{Step, StepFault};
+use crate::step::Step;
 use crate::transfer::Transfer;
 use a429_profile::Profile;
 use std::alloc::Global;
@@ -87,4 +88,4 @@ impl<'a> Link<'a> {
 }
 
 #[cfg(test)]
-mod tests;
+pub(crate) mod tests;

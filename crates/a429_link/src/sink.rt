@@ -5,6 +5,7 @@ ghost use Rattle.a429_link.specs.Sink as model;
 ghost use Rattle.a429_link.specs.Sink.{agrees, takes, at_start, at_part, at_end, is_good, is_same, in_sequence, accepts_owed, answers, MayAnswer, Listens, Owes, held};
 ghost use Rattle.a429_link.specs.Step.{shown_sink};
 ghost use Rattle.a429_link.specs.Run.{nothing};
+ghost use Rattle.a429_link.specs.Observer.{HasGrant};
 ghost use Rattle.a429_link.specs.View.{number_of};
 
 use crate::block::Block;
@@ -295,6 +296,54 @@ impl Sink {
             is_final,
         });
         Ok(())
+    }
+
+    /// Gives an answer of this form, and leaves the files as they are.
+    pub(crate) fn answer_unfiled(&mut self, profile: &Profile, answer: &Form)
+        ensures { self.new ≡ record (answers profile.now.codes answer.now self.old) { shelf = self.old.shelf } }
+    {
+        match *answer {
+            Form::Cts { .. } => self.phase = Phase::Granted,
+            Form::Ack { .. } => {
+                self.accept_unfiled(profile);
+                self.phase = Phase::Quiet;
+            }
+            Form::Nak { .. } => self.phase = Phase::Quiet,
+            Form::Rts { .. } | Form::Sot { .. } | Form::Part(_) | Form::Eot { .. } => {}
+        }
+    }
+
+    // Accepts the block that an acknowledgement is owed for, without its bytes.
+    fn accept_unfiled(&mut self, profile: &Profile)
+        ensures { self.new ≡ record (accepts_owed profile.now.codes self.old.phase self.old) { shelf = self.old.shelf } }
+    {
+        let Phase::OwesAck { flags } = self.phase else {
+            return;
+        };
+        let file = self.block.file();
+        let ldu = self.block.ldu();
+        if !is_last(&self.last, file, ldu) {
+            let is_final = is_final(profile, flags);
+            self.last = Some(Latest {
+                file,
+                ldu,
+                is_final,
+            });
+        }
+    }
+
+    /// It takes the words of a block.
+    pub(crate) fn has_grant(&self) -> bool
+        ensures { IsTrue result ↔ HasGrant self.now.phase }
+    {
+        matches!(self.phase, Phase::Granted | Phase::InBlock)
+    }
+
+    /// The count of the last request.
+    pub(crate) fn count(&self) -> u8
+        ensures { result ≡ self.now.count }
+    {
+        self.count
     }
 
     /// Leaves its answer out.

@@ -1,14 +1,7 @@
-//! The steps of a transfer, and why one is refused.
+//! The steps of a transfer.
 
+use crate::seen::Seen;
 use a429_ldu::Ldu;
-use a429_word::{Bus, Word};
-
-/// A word and the bus that it was recorded on.
-#[derive(Clone, Copy, Debug, PartialEq, Eq)]
-pub struct Seen {
-    pub bus: Bus,
-    pub word: Word,
-}
 
 /// A step of the source, of the sink, or of a word between them (ARINC 429 Part 3; what is lost, and
 /// where the recorder listens: profile).
@@ -34,15 +27,4 @@ pub enum Step {
     Answered(Seen),
     /// A word that is none of the transfer's is recorded.
     FreeSeen(Seen),
-}
-
-/// Why a step is refused.
-#[derive(Clone, Copy, Debug, PartialEq, Eq)]
-pub enum StepFault {
-    /// There is no step of this name here.
-    NotAllowed,
-    /// There is one, but not with this bus and word.
-    WordDiffers,
-    /// There is no memory.
-    OutOfMemory,
 }

@@ -7,12 +7,14 @@ ghost use Rattle.a429_link.specs.declared.step.Step.TheVariants as step;
 ghost use Rattle.a429_link.specs.Sink.{held};
 ghost use Rattle.a429_link.specs.Step.{start, Can, after, shown_sink, IsPlainFault, LoadsLdu};
 
+use crate::fault::StepFault;
 use crate::file::FileBytes;
 use crate::reading::{form_of, is_free};
+use crate::seen::Seen;
 use crate::sink::Sink;
 use crate::source::Source;
 use crate::state::{SinkState, SourceState};
-use crate::step::{Seen, Step, StepFault};
+use crate::step::Step;
 use a429_ldu::Ldu;
 use a429_profile::Profile;
 use a429_word::{Bus, Word};

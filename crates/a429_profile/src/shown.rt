@@ -1,6 +1,6 @@
 //! What is shown of a word.
 
-ghost use Rattle.std.specs.Prelude.{◌≡◌, ◌≤◌, ◌*◌, ◌^◌, pos};
+ghost use Rattle.std.specs.Prelude.{◌≡◌, ◌≤◌};
 ghost use Rattle.a429_word.specs.Word.{ssm_of};
 ghost use Rattle.a429_profile.specs.Shown.{sense_of, signed_by, HasValue, IsBnrValue, IsEntryOf, IsShown, IsInRange, HasItsRanges};
 ghost use Rattle.a429_profile.specs.Contents.{Contents};
@@ -73,8 +73,7 @@ impl Profile {
         };
         match sense_at(&entry.kind, word.ssm()) {
             Sense::NoValue(status) => Shown::Status { entry, status },
-            Sense::Test => with_value(entry, *word, true),
-            Sense::Normal => with_value(entry, *word, false),
+            sense => with_value(entry, *word, matches!(sense, Sense::Test)),
         }
     }
 }
@@ -123,7 +122,7 @@ fn with_value(entry: &LabelEntry, word: Word, is_test: bool) -> Shown<'_>
     }
 }
 
-// The value of a BNR word: over 2^bits is the same as times 5^bits, with so many more decimals.
+// The value of a BNR word: its raw number times the range, over `2^bits * 10^decimals`.
 fn bnr_value(word: Word, bits: u8, range: u32, decimals: u8) -> Fixed
     requires least { 1 ≤ bits }
     requires most { bits ≤ 18 }
@@ -131,30 +130,8 @@ fn bnr_value(word: Word, bits: u8, range: u32, decimals: u8) -> Fixed
     requires decimals { decimals ≤ 6 }
     ensures { IsBnrValue word bits range decimals result }
 {
-    Fixed {
-        number: i128::from(word.bnr_raw(bits)) * in_fives(range, bits),
-        decimals: bits + decimals,
-    }
-}
-
-// A range times 5^bits.
-fn in_fives(range: u32, bits: u8) -> i128
-    requires most { bits ≤ 18 }
-    requires range { range ≤ 1000000000 }
-    ensures { result ≡ pos (range * 5 ^ bits) }
-{
-    i128::from(range) * i128::from(power_of_five(bits))
-}
-
-fn power_of_five(exponent: u8) -> u64
-    requires { exponent ≤ 18 }
-    ensures { result ≡ 5 ^ exponent }
-{
-    let mut power = 1;
-    for _ in 0..exponent {
-        power *= 5;
-    }
-    power
+    let number = i64::from(word.bnr_raw(bits)) * i64::from(range);
+    Fixed::over_power_of_two(number, bits, decimals)
 }
 
 // The value of a BCD word, with this number in its digits.

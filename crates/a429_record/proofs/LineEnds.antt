@@ -1,6 +1,9 @@
 -- A text in pieces, and its lines.
-use Rattle.std.proofs.Common.{◌≡◌, ◌∙◌, ◌+◌, ◌-◌, ◌<◌, ◌≤◌, ℕ, length, take, drop, get_or, arith, List, [], ◌∷◌, ◌++◌, Option, Some, None, refl, sym, ap, append_assoc}
-use Rattle.std.proofs.lemmas.List.{append-nil, drop-take, drop_more, take-append-drop}
+use Rattle.std.specs.Option.{IfSome, IfNone}
+use Rattle.memchr.specs.Find.{is_byte, Passes, IsFirstByte}
+use Rattle.a429_record.proofs.Digits.{not_true}
+use Rattle.std.proofs.Common.{◌≡◌, ◌∙◌, ◌+◌, ◌-◌, ◌<◌, ◌≤◌, ℕ, length, take, drop, get_or, arith, List, [], ◌∷◌, ◌++◌, Option, Some, None, refl, sym, ap, append_assoc, zero, suc, ◌==◌, eqb-true, slice_index}
+use Rattle.std.proofs.lemmas.List.{append-nil, drop-take, drop_more, take-append-drop, take_all}
 use Rattle.std.specs.Io.KnownBytes.{Consumes, IsAtEnd, prepend_known}
 use Rattle.std.proofs.KnownBytes.{Consumes-trans}
 use Rattle.a429_record.specs.Ends.{HasNoEnd}
@@ -10,6 +13,21 @@ use Rattle.a429_record.specs.Pending.{TakesLine}
 pub HasNoEnd-append : (xs ys : List ℕ) → HasNoEnd xs → HasNoEnd ys → HasNoEnd (xs ++ ys)
 HasNoEnd-append [] ys p q = q
 HasNoEnd-append (x ∷ xs) ys p q = (p.0, HasNoEnd-append xs ys p.1 q)
+
+-- ---- the first line feed, as a search gives it
+
+none_passes : (bs : List ℕ) (n : ℕ) → ((k : ℕ) → 0 ≤ k → k < n → Passes (is_byte 10) bs k → ⊥) → HasNoEnd (take n bs)
+none_passes bs zero h = tt
+none_passes [] (suc n) h = tt
+none_passes (b ∷ bs) (suc n) h = (not_true (b == 10) (h 0 (omega arith) (omega arith)), none_passes bs n (λ k least below. h (suc k) (omega arith) (omega arith)))
+
+pub end_found : (bs : List ℕ) (r : Option ℕ) → IsFirstByte (is_byte 10) bs r → IfSome r (λ n. (n < length bs) × HasNoEnd (take n bs) × (slice_index bs n ≡ 10))
+end_found bs (Some n) h = (h.0.high, none_passes bs n h.0.before, eqb-true _ _ h.1)
+end_found bs None h = tt
+
+pub no_end : (bs : List ℕ) (r : Option ℕ) → IsFirstByte (is_byte 10) bs r → IfNone r (HasNoEnd bs)
+no_end bs (Some n) h = tt
+no_end bs None h = rw (take_all (length bs) bs (omega arith)) at (none_passes bs (length bs) h)
 
 -- ---- the first line of known bytes
 

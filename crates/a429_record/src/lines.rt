@@ -7,17 +7,18 @@ ghost use Rattle.a429_record.specs.Ends.{HasNoEnd};
 
 use crate::fault::ReadFault;
 use a429_word::{Device, Tally};
+use memchr::memchr;
 use std::alloc::AllocError;
 use std::io::Read;
 
 /// What was read of a reader and not yet given: the bytes from `at` to `filled`.
 #[derive(Drop)]
 pub struct Lines {
-    buffer: [u8; 4096],
+    buffer: [u8; 16384],
     at: usize,
     filled: usize,
     ghost ordered: { at ≤ filled },
-    ghost in_range: { filled ≤ 4096 },
+    ghost in_range: { filled ≤ 16384 },
 }
 
 impl Lines {
@@ -29,7 +30,7 @@ impl Lines {
         ensures { ahead_of result ≡ [] }
     {
         Lines {
-            buffer: [0; 4096],
+            buffer: [0; 16384],
             at: 0,
             filled: 0,
         }
@@ -107,10 +108,5 @@ fn line_end(bytes: &[u8]) -> Option<usize>
     ensures found { IfSome result (λ n. (n < length bytes.now) × HasNoEnd (take n bytes.now) × (slice_index bytes.now n ≡ 10)) }
     ensures none { IfNone result (HasNoEnd bytes.now) }
 {
-    for (i, byte) in bytes.iter().enumerate() {
-        if *byte == b'\n' {
-            return Some(i);
-        }
-    }
-    None
+    memchr(b'\n', bytes)
 }

@@ -1,6 +1,8 @@
 //! The fields of a row, and the entry that they name.
 
-ghost use Rattle.std.specs.Prelude.{◌≡◌, ◌≢◌, ◌∷◌, [], Some, IfSome, IfNone, length};
+ghost use Rattle.std.specs.Prelude.{◌≡◌, ◌≢◌, ◌<◌, ◌≤◌, ◌∷◌, [], Some, IfSome, IfNone, length};
+ghost use Rattle.std.specs.Char.{digit_value};
+ghost use Rattle.std.specs.Str.Parse.{digits_value, AllDigits};
 ghost use Rattle.csv.specs.Records.{fields_of};
 ghost use Rattle.a429_record.specs.Row.{time_in, bus_in, word_in, entry_in, is_header};
 
@@ -8,22 +10,40 @@ use crate::entry::Entry;
 use a429_word::{Bus, Word};
 use csv::ByteRecord;
 
-// A time: 1 to 20 decimal digits, below 2^64.
+// A time: 1 to 20 decimal digits, below 2^64. Only a twentieth digit may be too much for 64 bits.
 fn time_of(text: &[u8]) -> Option<u64>
     ensures { result ≡ time_in text.now }
 {
-    if text.is_empty() || text.len() > 20 {
+    let [front @ .., last] = text else {
+        return None;
+    };
+    if front.len() > 19 {
         return None;
     }
-    let mut number: u128 = 0;
-    for digit in text {
-        let Some(value) = char::from(*digit).to_digit(10) else {
-            return None;
-        };
-        number = number * 10 + u128::from(value);
+    let tens = number_of(front)?.checked_mul(10)?;
+    tens.checked_add(digit_of(*last)?)
+}
+
+// The number that decimal digits write.
+fn number_of(digits: &[u8]) -> Option<u64>
+    requires { length digits.now ≤ 19 }
+    ensures some { IfSome result (λ n. AllDigits 10 digits.now × (n ≡ digits_value 10 digits.now)) }
+    ensures none { IfNone result (¬ AllDigits 10 digits.now) }
+{
+    let mut number = 0;
+    for digit in digits {
+        number = number * 10 + digit_of(*digit)?;
     }
-    if number <= u128::from(u64::MAX) {
-        Some(number as u64)
+    Some(number)
+}
+
+// The number of a decimal digit.
+fn digit_of(byte: u8) -> Option<u64>
+    ensures some { IfSome result (λ d. (d < 10) × (d ≡ digit_value byte)) }
+    ensures none { IfNone result (10 ≤ digit_value byte) }
+{
+    if byte.is_ascii_digit() {
+        Some(u64::from(byte - b'0'))
     } else {
         None
     }
@@ -45,7 +65,8 @@ fn word_of(text: &[u8]) -> Option<Word>
     Word::parse_hex(text)
 }
 
-// The entry of three fields.
+// The entry of three fields. It is handed on in registers where this is inlined.
+#[inline(always)]
 pub fn entry_from(time: &[u8], bus: &[u8], word: &[u8]) -> Option<Entry>
     ensures { result ≡ entry_in (Some (time.now ∷ bus.now ∷ word.now ∷ [])) }
 {

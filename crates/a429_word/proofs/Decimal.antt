@@ -1,5 +1,5 @@
 -- Decimal texts, digit by digit from their end.
-use Rattle.std.proofs.Common.{◌≡◌, ◌≢◌, ℕ, zero, suc, ◌+◌, ◌*◌, ◌/◌, ◌%◌, ◌^◌, ◌<◌, ◌≤◌, List, [], ◌∷◌, ◌++◌, length, refl, sym, ap, ◌∙◌, arith, inl, inr, ◌⊎◌, append_assoc, length-append, append-nil, pow-suc, true}
+use Rattle.std.proofs.Common.{◌≡◌, ◌≢◌, ℕ, zero, suc, ◌+◌, ◌*◌, ◌/◌, ◌%◌, ◌^◌, ◌<◌, ◌≤◌, List, [], ◌∷◌, ◌++◌, length, refl, sym, ap, ◌∙◌, arith, inl, inr, ◌⊎◌, append_assoc, length-append, append-nil, pow-suc, true, drop}
 use Rattle.std.specs.Fmt.{decimal, digit_glyph}
 use Rattle.std.specs.Char.{digit_value}
 use Rattle.std.specs.Str.Parse.{digits_value, AllDigits}
@@ -7,8 +7,9 @@ use Rattle.std.proofs.lemmas.Bool.{cases_lt}
 use Rattle.std.proofs.lemmas.Bool.Decides.{nat_tests}
 use Rattle.std.proofs.lemmas.Fmt.{decimal_digit, decimal_step_wide, decimal_by_steps_wide, decimal_is_IsNumeral_wide, length-decimal-le_wide}
 use Rattle.std.proofs.lemmas.Int.Digits.{digits_push, digits_value_push}
+use Rattle.std.proofs.lemmas.List.{drop-drop}
 use Rattle.std.proofs.lemmas.Nat.{mod-mul-add, div-add-mod', pow-add}
-use Rattle.std.proofs.Math.Nat.{pow-succ', div-div-eq-div-mul}
+use Rattle.std.proofs.Math.Nat.{pow-succ', div-div-eq-div-mul, pow-le-pow_right}
 use Rattle.a429_word.specs.Written.{numeral}
 use Rattle.a429_word.specs.Fixed.{IsWhole, EndsWell}
 use Rattle.a429_word.proofs.Powers.{pow-10_pos}
@@ -34,12 +35,13 @@ numeral-last (suc k) n =
 pub numeral-moves : (j k n : ℕ) (text : List ℕ) → j ≡ suc k → numeral 10 j n ++ text ≡ numeral 10 k (n / 10) ++ ((48 + n % 10) ∷ text)
 numeral-moves j k n text e = ap (λ i. numeral 10 i n ++ text) e ∙ ap (λ t. t ++ text) (numeral-last k n) ∙ append_assoc (numeral 10 k (n / 10)) ((48 + n % 10) ∷ []) text
 
--- no digit is left
-pub numeral-none : (k n : ℕ) (text : List ℕ) → k ≡ 0 → numeral 10 k n ++ text ≡ text
-numeral-none k n text e = ap (λ i. numeral 10 i n ++ text) e ∙ ap (λ t. t ++ text) (numeral-empty n)
+-- no digits
+pub numeral-none : (k n : ℕ) (text : List ℕ) → k ≡ 0 → text ≡ numeral 10 k n ++ text
+numeral-none k n text e = sym (ap (λ i. numeral 10 i n ++ text) e ∙ ap (λ t. t ++ text) (numeral-empty n))
 
-pub quotient-more : (n i : ℕ) → n / 10 ^ i / 10 ≡ n / 10 ^ (i + 1)
-quotient-more n i = rw (pow-add 10 i 1) (div-div-eq-div-mul n (10 ^ i) 10)
+-- the last digits left out, some and then more
+pub quotient-more : (n i j : ℕ) → n / 10 ^ i / 10 ^ j ≡ n / 10 ^ (i + j)
+quotient-more n i j = rw (pow-add 10 i j) (div-div-eq-div-mul n (10 ^ i) (10 ^ j))
 
 pub length-numeral : (k n : ℕ) → length (numeral 10 k n) ≡ k
 unfolding numeral
@@ -84,6 +86,38 @@ digits_value-numeral_after xs (suc k) n =
     rw (numeral-last k n, ← append_assoc xs (numeral 10 k (n / 10)) ((48 + n % 10) ∷ []))
     (digits_value-push (xs ++ numeral 10 k (n / 10)) n ∙ rw (digits_value-numeral_after xs k (n / 10), mod-next k n, pow-suc) (omega arith))
 
+tens_le : (k : ℕ) → k ≤ 18 → 10 ^ k ≤ 10 ^ 18
+tens_le k h = pow-le-pow_right (omega arith) h
+
+-- a 1 before the digits keeps the zeros that they begin with
+pub one_before : (k n : ℕ) → k ≤ 18 → decimal (10 ^ k + n % 10 ^ k) ≡ 49 ∷ numeral 10 k n
+one_before zero n h =
+    let one : 10 ^ 0 + n % 10 ^ 0 ≡ 1 = omega arith in
+    ap decimal one ∙ decimal_digit 1 (omega arith) ∙ ap (λ t. 49 ∷ t) (sym (numeral-empty n))
+one_before (suc k) n h =
+    let low = n / 10 % 10 ^ k in
+    let some = pow-10_pos k in
+    let most : 10 ^ k ≤ 10 ^ 18 = tens_le k (omega arith) in
+    let below : low < 10 ^ k = omega arith in
+    let is : 10 ^ suc k + n % 10 ^ suc k ≡ (10 ^ k + low) * 10 + n % 10 = rw (mod-next k n, pow-suc) (omega arith) in
+    let m = (10 ^ k + low) * 10 + n % 10 in
+    let front : m / 10 ≡ 10 ^ k + low = omega arith in
+    let last : m % 10 ≡ n % 10 = omega arith in
+    let step : decimal m ≡ decimal (m / 10) ++ (48 + m % 10) ∷ [] = decimal_step_wide m (omega arith) (omega arith) in
+    ap decimal is ∙ step ∙ rw (front, last) (ap (λ t. t ++ (48 + n % 10) ∷ []) (one_before k (n / 10) (omega arith)) ∙ ap (λ t. 49 ∷ t) (sym (numeral-last k n)))
+
+pub one_and_part : (k rest one part : ℕ) → k ≤ 18 → one ≡ 10 ^ k → part ≡ rest % one → (decimal (one + part) ≡ 49 ∷ numeral 10 k rest) × (one + part < 2 ^ 64) × (0 < one)
+one_and_part k rest one part h e is =
+    let most = tens_le k h in
+    let some = pow-10_pos k in
+    let below : rest % 10 ^ k < 10 ^ k = omega arith in
+    let same : one + part ≡ 10 ^ k + rest % 10 ^ k = rw (is, e) refl in
+    (ap decimal same ∙ one_before k rest h, omega arith, omega arith)
+
+-- the text that starts behind the 1
+pub behind_one : (bytes digits text : List ℕ) (start : ℕ) → drop start bytes ≡ (49 ∷ digits) ++ text → drop (start + 1) bytes ≡ digits ++ text
+behind_one bytes digits text start e = sym (drop-drop 1 start bytes) ∙ ap (drop 1) e
+
 -- the last digit is not 0
 EndsWell-push : (cs : List ℕ) (c : ℕ) → digit_value c ≢ 0 → EndsWell (cs ++ c ∷ [])
 EndsWell-push [] c h = h
@@ -98,42 +132,20 @@ EndsWell-numeral (suc k) n h =
 
 -- ---- as many digits as are needed
 
--- what is still to come of a number's text: nothing of 0
-abbrev pub rest_text : ℕ → List ℕ
-rest_text zero = []
-rest_text (suc n) = decimal (suc n)
-
-rest_text-some : (n : ℕ) → 0 < n → rest_text n ≡ decimal n
-rest_text-some zero h = absurd (omega arith)
-rest_text-some (suc n) h = refl
-
--- the last digit apart
-decimal-last : (n : ℕ) → n < 10 ^ 64 → decimal n ≡ rest_text (n / 10) ++ (48 + n % 10) ∷ []
-decimal-last n fits = elim (cases_lt n 10) [
-  | inl lt ↦
-      let none : n / 10 ≡ 0 = omega arith in
-      let same : n % 10 ≡ n = omega arith in
-      decimal_digit n lt ∙ ap (λ d. (48 + d) ∷ []) (sym same) ∙ ap (λ q. rest_text q ++ (48 + n % 10) ∷ []) (sym none)
-  | inr ge ↦ decimal_step_wide n ge fits ∙ ap (λ t. t ++ (48 + n % 10) ∷ []) (sym (rest_text-some (n / 10) (omega arith)))
-]
-
 -- the last digit goes in front of what stands there
-pub decimal-moves : (n : ℕ) (text : List ℕ) → n < 2 ^ 128 → rest_text (n / 10) ++ ((48 + n % 10) ∷ text) ≡ decimal n ++ text
-decimal-moves n text fits = sym (ap (λ t. t ++ text) (decimal-last n (omega arith)) ∙ append_assoc (rest_text (n / 10)) ((48 + n % 10) ∷ []) text)
-
-pub rest_text-moves : (n : ℕ) (text : List ℕ) → 0 < n → n < 2 ^ 128 → rest_text (n / 10) ++ ((48 + n % 10) ∷ text) ≡ rest_text n ++ text
-rest_text-moves n text some fits = decimal-moves n text fits ∙ ap (λ t. t ++ text) (sym (rest_text-some n some))
+pub decimal-moves : (n : ℕ) (text : List ℕ) → 10 ≤ n → n < 2 ^ 128 → decimal (n / 10) ++ ((48 + n % 10) ∷ text) ≡ decimal n ++ text
+decimal-moves n text more fits = sym (ap (λ t. t ++ text) (decimal_step_wide n more (omega arith)) ∙ append_assoc (decimal (n / 10)) ((48 + n % 10) ∷ []) text)
 
 pub length-decimal : (n : ℕ) → n < 2 ^ 128 → length (decimal n) ≤ 39
 length-decimal n fits = length-decimal-le_wide 39 n (omega arith) (omega arith) (omega arith)
 
-one-le-rest_text : (n : ℕ) → 0 < n → n < 2 ^ 128 → 1 ≤ length (rest_text n)
-one-le-rest_text n some fits = rw (rest_text-some n some) (decimal_is_IsNumeral_wide n (omega arith)).0.0
+one-le-decimal : (n : ℕ) → n < 2 ^ 128 → 1 ≤ length (decimal n)
+one-le-decimal n fits = (decimal_is_IsNumeral_wide n (omega arith)).0.0
 
--- room for a digit more
-pub room : (n rest : ℕ) (text old : List ℕ) → n < 2 ^ 128 → 0 < rest → rest < 2 ^ 128 → length old ≤ 32 → rest_text rest ++ text ≡ decimal n ++ old → length text < 72
-room n rest text old fits some small short e =
-    omega (arith, ap length e, length-decimal n fits, one-le-rest_text rest some small, length-append (rest_text rest) text, length-append (decimal n) old)
+-- room for what is left of a number, and for a byte more
+pub room : (n rest : ℕ) (text old : List ℕ) → n < 2 ^ 128 → rest ≤ n → length old ≤ 32 → decimal rest ++ text ≡ decimal n ++ old → length (decimal rest) + length text < 72
+room n rest text old fits less short e =
+    omega (arith, ap length e, length-decimal n fits, length-append (decimal rest) text, length-append (decimal n) old)
 
 pub AllDigits-decimal : (n : ℕ) → n < 2 ^ 128 → AllDigits 10 (decimal n)
 AllDigits-decimal n fits = (decimal_is_IsNumeral_wide n (omega arith)).0.1

@@ -33,9 +33,6 @@ room i n text h long e all =
 pub digit_glyph-low : (d : ℕ) → d < 10 → 48 + d ≡ digit_glyph true d
 digit_glyph-low d h = grind (arith, nat_tests)
 
-pub digit_glyph-high : (d : ℕ) → 10 ≤ d → 65 + (d - 10) ≡ digit_glyph true d
-digit_glyph-high d h = grind (arith, nat_tests)
-
 octal_digit : (n : ℕ) → 48 + bit_and n 7 ≡ digit_glyph true (n % 8)
 octal_digit n = let e = digit_glyph-low (n % 8) (omega arith) in ap (λ d. 48 + d) (and_mask n 3) ∙ e
 

@@ -1,4 +1,5 @@
 pub mod Powers
+pub mod Tables
 pub mod Bits
 pub mod Made
 pub mod Raw
@@ -7,6 +8,8 @@ pub mod Digits
 pub mod Packed
 pub mod Hex
 pub mod Decimal
+pub mod Zeros
+pub mod Halves
 pub mod Fraction
 pub mod OneSpelling
 pub mod Slices

@@ -1,12 +1,14 @@
 //! Fractions, and how they are written.
 
-ghost use Rattle.std.specs.Prelude.{◌≡◌, ◌≢◌, ◌↔◌, ◌⊎◌, ◌*◌, ◌-◌, ◌%◌, ◌^◌, ◌≤◌, ℕ, List, true, IsErr, OnOk, OnErr};
+ghost use Rattle.std.specs.Prelude.{◌≡◌, ◌≢◌, ◌↔◌, ◌⊎◌, ◌+◌, ◌*◌, ◌-◌, ◌/◌, ◌%◌, ◌^◌, ◌≤◌, ℕ, List, [], true, IsErr, OnOk, OnErr, pos, ◌*ℤ◌};
 ghost use Rattle.std.specs.Io.KnownBytes.{Appends};
 ghost use Rattle.a429_word.specs.Tally.{inner_of, left_of, has_failed, AppendsPrefix};
 ghost use Rattle.a429_word.specs.Fixed.{Spells};
 
+mod division;
 mod text;
 
+use crate::fixed::division::{divided, power_of_five};
 use crate::fixed::text::Text;
 use crate::tally::{Device, Tally};
 use std::io::Write;
@@ -21,6 +23,19 @@ pub struct Fixed {
 }
 
 impl Fixed {
+    /// The fraction `number / (2^halvings * 10^decimals)` (profile). Over a power of two is the same as
+    /// times that power of five, with as many more decimals.
+    pub fn over_power_of_two(number: i64, halvings: u8, decimals: u8) -> Fixed
+        requires { halvings + decimals ≤ 24 }
+        ensures value { result.number *ℤ pos (2 ^ halvings * 10 ^ decimals) ≡ number *ℤ pos (10 ^ result.decimals) }
+        ensures decimals { result.decimals ≡ halvings + decimals }
+    {
+        Fixed {
+            number: i128::from(number) * i128::from(power_of_five(halvings)),
+            decimals: halvings + decimals,
+        }
+    }
+
     /// Writes the fraction in decimal digits (profile): a minus sign where the number is below zero, the
     /// whole part without leading zeros, then a point and the decimals without trailing zeros, and no
     /// point where none remain. After `Device` a front of this text has been written.
@@ -34,26 +49,59 @@ impl Fixed {
         ensures device { IsErr result ↔ (has_failed out.new ≡ true) }
         ensures stays { has_failed out.old ≡ true → out.new ≡ out.old }
     {
-        out.put(self.text().as_slice())
+        let mut text = Text::new();
+        self.put_into(&mut text);
+        out.put(text.as_slice())
     }
 
-    // The text, put together from its end.
-    fn text(&self) -> Text
-        requires { self.now.decimals ≤ 24 }
-        ensures { Spells result self.now.number self.now.decimals }
+    // Puts the text together from its end.
+    fn put_into(&self, text: &mut Text)
+        requires decimals { self.now.decimals ≤ 24 }
+        requires empty { text.old ≡ [] }
+        ensures { Spells text.new self.now.number self.now.decimals }
     {
         let (number, decimals) = shortest(self.number.unsigned_abs(), self.decimals);
-        let mut text = Text::new();
         let whole = text.push_decimals(number, decimals);
         text.push_point();
         text.push_whole(whole);
         text.push_sign(self.number < 0);
-        text
     }
 }
 
-// The same fraction without trailing zeros.
+// The same fraction without trailing zeros. Each is a factor of 2 and one of 5: the twos are counted,
+// and as many fives divided out at once where there are so many.
 fn shortest(number: u128, decimals: u8) -> (u128, u8)
+    requires { decimals ≤ 24 }
+    ensures fewer { result.1 ≤ decimals }
+    ensures value { number ≡ result.0 * 10 ^ (decimals - result.1) }
+    ensures ends { (result.1 ≡ 0) ⊎ (result.0 % 10 ≢ 0) }
+{
+    let twos = twos_of(number, decimals);
+    let (rest, remainder) = divided(number >> twos, power_of_five(twos));
+    if remainder == 0 {
+        (rest, decimals - twos)
+    } else {
+        shortened(number, decimals)
+    }
+}
+
+// How many factors of 2 a number has, or `most` where it has more.
+fn twos_of(number: u128, most: u8) -> u8
+    requires { most ≤ 24 }
+    ensures within { result ≤ most }
+    ensures factors { number % 2 ^ result ≡ 0 }
+    ensures all { (result ≡ most) ⊎ (number / 2 ^ result % 2 ≡ 1) }
+{
+    let zeros = number.trailing_zeros();
+    if zeros < u32::from(most) {
+        zeros as u8
+    } else {
+        most
+    }
+}
+
+// The same fraction without trailing zeros, dropped one by one.
+fn shortened(number: u128, decimals: u8) -> (u128, u8)
     ensures fewer { result.1 ≤ decimals }
     ensures value { number ≡ result.0 * 10 ^ (decimals - result.1) }
     ensures ends { (result.1 ≡ 0) ⊎ (result.0 % 10 ≢ 0) }

@@ -1,11 +1,29 @@
 //! A word of 32 bits: its label, SDI, SSM, parity, and how it is written.
 
 ghost use Rattle.std.specs.Prelude.{◌≡◌, ◌≤◌, ◌<◌, ◌↔◌, ◌^◌, ◌*◌, ◌/◌, ◌%◌, IsTrue, true};
+ghost use Rattle.std.specs.Char.{digit_value};
 ghost use Rattle.std.specs.Fmt.{digit_glyph};
 ghost use Rattle.a429_word.specs.Word.{bit, label_of, sdi_of, field_of, ssm_of, count_of_ones, HasOddParity};
 ghost use Rattle.a429_word.specs.Written.{hex_text, octal_text, ReadsHex};
 
 use std::marker::Model;
+
+const HEX_DIGITS: [u8; 16] = *b"0123456789ABCDEF";
+
+// The value of each byte as a digit, letters of either case from 10 on, and 36 of a byte that is none.
+const DIGIT_VALUES: [u8; 256] = [
+    36, 36, 36, 36, 36, 36, 36, 36, 36, 36, 36, 36, 36, 36, 36, 36, 36, 36, 36, 36, 36, 36, 36, 36,
+    36, 36, 36, 36, 36, 36, 36, 36, 36, 36, 36, 36, 36, 36, 36, 36, 36, 36, 36, 36, 36, 36, 36, 36,
+    0, 1, 2, 3, 4, 5, 6, 7, 8, 9, 36, 36, 36, 36, 36, 36, 36, 10, 11, 12, 13, 14, 15, 16, 17, 18,
+    19, 20, 21, 22, 23, 24, 25, 26, 27, 28, 29, 30, 31, 32, 33, 34, 35, 36, 36, 36, 36, 36, 36, 10,
+    11, 12, 13, 14, 15, 16, 17, 18, 19, 20, 21, 22, 23, 24, 25, 26, 27, 28, 29, 30, 31, 32, 33, 34,
+    35, 36, 36, 36, 36, 36, 36, 36, 36, 36, 36, 36, 36, 36, 36, 36, 36, 36, 36, 36, 36, 36, 36, 36,
+    36, 36, 36, 36, 36, 36, 36, 36, 36, 36, 36, 36, 36, 36, 36, 36, 36, 36, 36, 36, 36, 36, 36, 36,
+    36, 36, 36, 36, 36, 36, 36, 36, 36, 36, 36, 36, 36, 36, 36, 36, 36, 36, 36, 36, 36, 36, 36, 36,
+    36, 36, 36, 36, 36, 36, 36, 36, 36, 36, 36, 36, 36, 36, 36, 36, 36, 36, 36, 36, 36, 36, 36, 36,
+    36, 36, 36, 36, 36, 36, 36, 36, 36, 36, 36, 36, 36, 36, 36, 36, 36, 36, 36, 36, 36, 36, 36, 36,
+    36, 36, 36, 36, 36, 36, 36, 36, 36, 36, 36, 36, 36, 36,
+];
 
 /// A word of 32 bits (ARINC 429 Part 1, word formats). Bits are numbered from 1 to 32; as a number,
 /// bit i counts `2^(i-1)`.
@@ -116,10 +134,11 @@ impl Word {
         }
         let mut number = 0;
         for digit in text {
-            let Some(value) = char::from(*digit).to_digit(16) else {
+            let value = digit_of(*digit);
+            if value > 15 {
                 return None;
-            };
-            number = number * 16 + value;
+            }
+            number = number * 16 + u32::from(value);
         }
         Some(Word::from_u32(number))
     }
@@ -145,13 +164,15 @@ impl Word {
         requires { place < 8 }
         ensures { result ≡ digit_glyph true (self / 2 ^ (4 * place) % 16) }
     {
-        let digit = (self.0 >> (4 * place) & 15) as u8;
-        if digit < 10 {
-            b'0' + digit
-        } else {
-            b'A' + (digit - 10)
-        }
+        HEX_DIGITS[(self.0 >> (4 * place) & 15) as usize]
     }
+}
+
+// The value of a byte as a digit.
+fn digit_of(byte: u8) -> u8
+    ensures { result ≡ digit_value byte }
+{
+    DIGIT_VALUES[usize::from(byte)]
 }
 
 /// A label as it is written (Part 1): three octal digits, 000 to 377.

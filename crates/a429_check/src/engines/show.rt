@@ -6,6 +6,7 @@ ghost use Rattle.a429_word.specs.Tally.{inner_of, has_failed};
 ghost use Rattle.std.specs.Fmt.{decimal};
 ghost use Rattle.std.specs.List.{flat_map, AllByRecursion};
 ghost use Rattle.a429_word.specs.Fixed.{Spells};
+ghost use Rattle.a429_word.specs.Written.{bus_text, hex_text};
 ghost use Rattle.a429_profile.specs.Shown.{HasItsRanges, IsInRange, IsFlagBit};
 ghost use Rattle.a429_check.specs.RecordingBytes.{IsShowFault};
 ghost use Rattle.a429_check.specs.ShowLines.{status_text, unit_text, test_text, flag_text, flags_text, IsShownText, recorded_text, fields_text, IsShowLine, AreShowLines, Shows};
@@ -16,9 +17,13 @@ use crate::engines::recording::entries_of;
 use crate::fault::RunFault;
 use a429_profile::{Flag, Kind, LabelEntry, Profile, Shown, Status};
 use a429_record::Entry;
-use a429_word::{Device, Fixed, Tally, Word, octal};
+use a429_word::{Bus, Device, Fixed, Tally, Word, octal};
+use itoa::write_digits;
 use std::alloc::Global;
 use std::io::{Read, Write};
+
+// How many digits the longest time has.
+const LONGEST_TIME: usize = 20;
 
 /// Writes what each word of a recording shows by a profile, a line for each, and answers status 0.
 /// `profile` is the bytes of its text. The recording is read to its end first: nothing is written where
@@ -61,35 +66,51 @@ fn put_entry<W: Write>(out: &mut Tally<W>, profile: &Profile, entry: &Entry) -> 
     ensures device { IsErr result ↔ (has_failed out.new ≡ true) }
 {
     put_recorded(out, entry)?;
-    put_fields(out, entry.word)?;
     put_shown(out, &profile.shown(&entry.word))?;
     out.put(b"\n")
 }
 
-// When, on which bus and which word.
+// When, on which bus and which word, and the word's label, SDI and SSM: all of it in one piece, of
+// which the columns after the time have a fixed length.
 fn put_recorded<W: Write>(out: &mut Tally<W>, entry: &Entry) -> Result<(), Device>
-    ensures ok { OnOk result (Appends (W.contents (inner_of out.old)) (W.contents (inner_of out.new)) (recorded_text entry.now)) }
+    ensures ok { OnOk result (Appends (W.contents (inner_of out.old)) (W.contents (inner_of out.new)) (recorded_text entry.now ++ fields_text entry.now.word)) }
     ensures device { IsErr result → has_failed out.new ≡ true }
 {
-    put_decimal(out, entry.time)?;
-    out.put(b" ")?;
-    out.put(entry.bus.letter().as_bytes())?;
-    out.put(b" ")?;
-    out.put(&entry.word.hex())?;
-    out.put(b" ")
+    let mut bytes = [b' '; LONGEST_TIME + 20];
+    bytes[LONGEST_TIME..].copy_from_slice(&columns(entry.bus, entry.word));
+    let start = write_digits(entry.time, &mut bytes, LONGEST_TIME);
+    out.put(&bytes[start..])
 }
 
-// A word's label, SDI and SSM.
-fn put_fields<W: Write>(out: &mut Tally<W>, word: Word) -> Result<(), Device>
-    ensures ok { OnOk result (Appends (W.contents (inner_of out.old)) (W.contents (inner_of out.new)) (fields_text word)) }
-    ensures device { IsErr result → has_failed out.new ≡ true }
+// The bus, the word and its fields, each after a space, and a space behind them.
+fn columns(bus: Bus, word: Word) -> [u8; 20]
+    ensures { result ≡ codes " " ++ bus_text bus ++ codes " " ++ hex_text word ++ codes " " ++ fields_text word }
 {
-    out.put(&octal(word.label()))?;
-    out.put(b" ")?;
-    put_decimal(out, u64::from(word.sdi()))?;
-    out.put(b" ")?;
-    put_decimal(out, u64::from(word.ssm()))?;
-    out.put(b" ")
+    let letter = bus.letter().as_bytes()[0];
+    let hex = word.hex();
+    let label = octal(word.label());
+    [
+        b' ',
+        letter,
+        b' ',
+        hex[0],
+        hex[1],
+        hex[2],
+        hex[3],
+        hex[4],
+        hex[5],
+        hex[6],
+        hex[7],
+        b' ',
+        label[0],
+        label[1],
+        label[2],
+        b' ',
+        b'0' + word.sdi(),
+        b' ',
+        b'0' + word.ssm(),
+        b' ',
+    ]
 }
 
 fn put_shown<W: Write>(out: &mut Tally<W>, shown: &Shown<'_>) -> Result<(), Device>
@@ -212,8 +233,8 @@ fn put_flag<W: Write>(out: &mut Tally<W>, field: u32, flag: &Flag) -> Result<(),
 {
     out.put(b" ")?;
     out.put(flag.name.as_str().as_bytes())?;
-    out.put(b"=")?;
-    put_decimal(out, u64::from(field >> (flag.bit - 11) & 1))
+    let is_set = field >> (flag.bit - 11) & 1 == 1;
+    out.put(if is_set { b"=1" } else { b"=0" })
 }
 
 #[cfg(test)]

@@ -40,35 +40,35 @@ low_first = true
 "#;
 
 // The one byte 41 under the sample profile, file 1.
-const RTS: u32 = 0x4141_0323;
+pub(crate) const RTS: u32 = 0x4141_0323;
 
-const CTS: u32 = 0xC241_03A3;
+pub(crate) const CTS: u32 = 0xC241_03A3;
 
-const SOT: u32 = 0x6001_0123;
+pub(crate) const SOT: u32 = 0x6001_0123;
 
-const PART: u32 = 0x1200_4123;
+pub(crate) const PART: u32 = 0x1200_4123;
 
-const EOT: u32 = 0x71A3_F523;
+pub(crate) const EOT: u32 = 0x71A3_F523;
 
-const ACK: u32 = 0x4501_01A3;
+pub(crate) const ACK: u32 = 0x4501_01A3;
 
-const NAK: u32 = 0x4600_00A3;
+pub(crate) const NAK: u32 = 0x4600_00A3;
 
-fn on_a(word: u32) -> Seen {
+pub(crate) fn on_a(word: u32) -> Seen {
     Seen {
         bus: Bus::A,
         word: Word::from_u32(word),
     }
 }
 
-fn on_b(word: u32) -> Seen {
+pub(crate) fn on_b(word: u32) -> Seen {
     Seen {
         bus: Bus::B,
         word: Word::from_u32(word),
     }
 }
 
-fn sample(rt: &(impl Abort + AllocGlobal), compare: &str) -> Result<Profile, Fail> {
+pub(crate) fn sample(rt: &(impl Abort + AllocGlobal), compare: &str) -> Result<Profile, Fail> {
     let mut text = String::from_str(rt.alloc(), SAMPLE)?;
     text.push_str(compare)?;
     Ok(read_profile(rt.alloc(), text.as_str()).expect(rt, "a profile"))

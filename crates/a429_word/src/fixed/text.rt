@@ -5,6 +5,8 @@ ghost use Rattle.std.specs.Fmt.{decimal};
 ghost use Rattle.a429_word.specs.Written.{numeral};
 ghost use Rattle.a429_word.specs.Fixed.{sign_text, with_point};
 
+use crate::fixed::division::{divided, power_of_ten};
+use itoa::write_digits;
 use std::marker::Model;
 
 // More than a sign, the 39 digits of the largest number, a point and 24 decimals.
@@ -47,17 +49,25 @@ impl Text {
 
     /// Puts the number's last digits in front, count of them, and answers the number without them.
     pub fn push_decimals(&mut self, number: u128, count: u8) -> u128
-        requires { length self.old + count ≤ 72 }
+        requires { length self.old + count < 72 }
         ensures text { self.new ≡ numeral 10 count number ++ self.old }
         ensures len { length self.new ≡ length self.old + count }
         ensures rest { result ≡ number / 10 ^ count }
     {
-        let mut rest = number;
-        for _ in 0..count {
-            self.push_digit(rest);
-            rest /= 10;
+        if count == 0 {
+            return number;
         }
-        rest
+        let mut rest = number;
+        let mut left = count;
+        while left > 18 {
+            rest = self.push_last_digit(rest);
+            left -= 1;
+        }
+        // A 1 before the digits keeps the zeros that they may begin with. The text starts behind it.
+        let one = power_of_ten(left);
+        let (whole, decimals) = divided(rest, one);
+        self.start = write_digits(one + decimals, &mut self.bytes, self.start) + 1;
+        whole
     }
 
     /// Puts a point in front, where there is something behind it.
@@ -76,12 +86,11 @@ impl Text {
         ensures text { self.new ≡ decimal number ++ self.old }
         ensures len { length self.new ≤ length self.old + 39 }
     {
-        self.push_digit(number);
-        let mut rest = number / 10;
-        while rest > 0 {
-            self.push_digit(rest);
-            rest /= 10;
+        let mut rest = number;
+        while rest > u128::from(u64::MAX) {
+            rest = self.push_last_digit(rest);
         }
+        self.start = write_digits(rest as u64, &mut self.bytes, self.start);
     }
 
     /// Puts a minus sign in front, where there is to be one.
@@ -94,12 +103,16 @@ impl Text {
         }
     }
 
-    // Puts the number's last digit in front.
-    fn push_digit(&mut self, number: u128)
+    // Puts the number's last digit in front, and answers the number without it.
+    #[inline(always)]
+    fn push_last_digit(&mut self, number: u128) -> u128
         requires { length self.old < 72 }
-        ensures { self.new ≡ (48 + number % 10) ∷ self.old }
+        ensures text { self.new ≡ (48 + number % 10) ∷ self.old }
+        ensures rest { result ≡ number / 10 }
     {
-        self.push_front(b'0' + (number % 10) as u8);
+        let (rest, digit) = divided(number, 10);
+        self.push_front(b'0' + digit as u8);
+        rest
     }
 
     fn push_front(&mut self, byte: u8)

@@ -1,4 +1,4 @@
-use Rattle.std.proofs.Common.{◌≡◌, List, ◌++◌, length, map, ap, ◌∙◌, sym, subst, arith}
+use Rattle.std.proofs.Common.{List, ◌++◌, length, ap, ◌∙◌, arith}
 use Rattle.a429_ldu.specs.declared.fault.CutFault.TheVariants as cut
 use Rattle.a429_ldu.specs.Ldu.{LduValue}
 use Rattle.a429_link.specs.Clean.{clean}

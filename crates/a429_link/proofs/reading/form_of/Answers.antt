@@ -1,4 +1,4 @@
-use Rattle.std.proofs.Common.{◌≡◌, inl, inr, sym}
+use Rattle.std.proofs.Common.{inl, inr, sym}
 use Rattle.a429_link.proofs.Sound.{its_form, free_form, no_form}
 use Rattle.a429_link.proofs.reading.form_of.Goals as goal
 

@@ -1,22 +1,21 @@
-use Rattle.std.proofs.Common.{◌≡◌, ◌*◌, ◌^◌, ◌∙◌, refl}
-use Rattle.std.specs.Int.{w32, w128}
+use Rattle.std.proofs.Common.{◌∙◌, ◌^◌}
+use Rattle.std.specs.Int.{w32, w64}
 use Rattle.std.proofs.Math.Facts.{sfits_lit, yes_ltb}
 use Rattle.std.proofs.lemmas.Int.{to_z-of_z}
-use mir.Val.{SFits}
-use Rattle.a429_profile.proofs.Values.{bnr_fits, bnr_value-is, in_fives-le}
+use Rattle.a429_word.specs.Bnr.{raw_of}
+use Rattle.a429_word.proofs.Halves.{times_twice}
+use Rattle.a429_profile.proofs.Values.{times_range-fits}
 use Rattle.a429_profile.proofs.shown.bnr_value.Goals as goal
 
-pub overflow_mul-result : goal.overflow_mul-result
-overflow_mul-result c =
+pub overflow_mul-number : goal.overflow_mul-number
+overflow_mul-number c =
     let raw = c.from.ensures ∙ to_z-of_z w32 c.bnr_raw.result (sfits_lit (yes_ltb c.bnr_raw.type_inv)) in
-    rw (to_z-of_z w128 c.from.result (sfits_lit (yes_ltb c.from.type_inv)), to_z-of_z w128 c.in_fives.result (sfits_lit (yes_ltb c.in_fives.type_inv)), raw, c.in_fives.ensures)
-    (bnr_fits c.bnr_raw.result (c.args.range * 5 ^ c.args.bits) c.bnr_raw.type_inv (in_fives-le c.args.range c.args.bits c.requires.range c.requires.most))
+    rw (to_z-of_z w64 c.from.result (sfits_lit (yes_ltb c.from.type_inv)), to_z-of_z w64 c.from-2.result (sfits_lit (yes_ltb c.from-2.type_inv)), raw, c.from-2.ensures)
+    (times_range-fits c.bnr_raw.result c.args.range c.bnr_raw.type_inv c.requires.range)
 
 pub returns : goal.returns
 returns c =
     let raw = c.from.ensures ∙ to_z-of_z w32 c.bnr_raw.result (sfits_lit (yes_ltb c.bnr_raw.type_inv)) in
-    let fits = bnr_fits c.bnr_raw.result (c.args.range * 5 ^ c.args.bits) c.bnr_raw.type_inv (in_fives-le c.args.range c.args.bits c.requires.range c.requires.most) in (
-      rw (to_z-of_z w128 c.from.result (sfits_lit (yes_ltb c.from.type_inv)), to_z-of_z w128 c.in_fives.result (sfits_lit (yes_ltb c.in_fives.type_inv)), raw, c.in_fives.ensures, to_z-of_z w128 _ fits, ← c.bnr_raw.ensures)
-          (bnr_value-is c.bnr_raw.result c.args.range c.args.bits c.args.decimals),
-      refl,
-    )
+    let fits = times_range-fits c.bnr_raw.result c.args.range c.bnr_raw.type_inv c.requires.range in
+    let value = rw (to_z-of_z w64 c.from.result (sfits_lit (yes_ltb c.from.type_inv)), to_z-of_z w64 c.from-2.result (sfits_lit (yes_ltb c.from-2.type_inv)), raw, c.from-2.ensures, to_z-of_z w64 _ fits, c.bnr_raw.ensures) at c.over_power_of_two.ensures.value in
+    (value ∙ times_twice (raw_of c.args.word c.args.bits) c.args.range (10 ^ c.over_power_of_two.result.decimals), c.over_power_of_two.ensures.decimals)

@@ -1,30 +1,20 @@
-use Rattle.std.proofs.Common.{◌≡◌, ◌<◌, arith, rules, sym, ap, ◌∙◌, length, get_or}
-use Rattle.std.specs.Char.{digit_value}
-use Rattle.std.proofs.lemmas.Int.Digits.{digits_value_more, digits_more}
-use Rattle.std.proofs.lemmas.List.{take_all}
-use Rattle.a429_record.proofs.Digits.{room, time_in-is}
+use Rattle.std.proofs.Common.{◌-◌, ◌∙◌, arith, length}
+use Rattle.std.proofs.lemmas.List.{length-take-le}
+use Rattle.a429_record.proofs.Digits.{not_front-time_in, front_above-time_in, sum-time_in}
 use Rattle.a429_record.proofs.row.time_of.Goals as goal
 
-pub overflow_mul-number : goal.overflow_mul-number
-overflow_mul-number c =
-    omega (arith, room c.loop-digit.digit-index c.loop-digit.number c.args.text.now (omega arith) (omega arith) c.loop-digit.invariant.0 c.loop-digit.invariant.1)
+pub returns-in_err-number_of : goal.returns-in_err-number_of
+returns-in_err-number_of c = c.from_residual.ensures ∙ not_front-time_in c.args.text.now (length c.args.text.now - 1) c.in_err-number_of.ensures.none
 
-pub overflow_add-number : goal.overflow_add-number
-overflow_add-number c =
-    omega (arith, c.in-Some.ensures.value, c.from-in-loop-digit.ensures, room c.loop-digit.digit-index c.loop-digit.number c.args.text.now (omega arith) (omega arith) c.loop-digit.invariant.0 c.loop-digit.invariant.1)
+pub returns-in_err-tens : goal.returns-in_err-tens
+returns-in_err-tens c =
+    c.from_residual-in_err-tens.ensures
+    ∙ front_above-time_in c.args.text.now (length c.args.text.now - 1) c.in_ok-number_of.field-0 (omega arith) c.in_ok-number_of.ensures.some.1 c.in_err-tens.ensures
 
-pub loop-digit-preserved : goal.loop-digit-preserved
-loop-digit-preserved c =
-    let i = c.loop-digit.digit-index in
-    let text = c.args.text.now in
-    let inside : i < length text = omega arith in
-    let same : c.from-in-loop-digit.result ≡ digit_value (get_or text i 0) = c.from-in-loop-digit.ensures ∙ c.in-Some.ensures.value.1 ∙ ap digit_value c.from.ensures in
-    let small : digit_value (get_or text i 0) < 10 = rw (← c.from.ensures) c.in-Some.ensures.value.0 in
-    (rw (same, c.loop-digit.invariant.0) (sym (digits_value_more 10 text i inside)), digits_more 10 text i inside c.loop-digit.invariant.1 small)
-
-pub returns-then-number-from : goal.returns-then-number-from
-returns-then-number-from c =
-    let text = c.args.text.now in
-    let whole = take_all c.loop-digit.digit-index text (omega arith) in
-    time_in-is text c.loop-digit.number (search rules) (omega arith) (rw whole at c.loop-digit.invariant.1)
-    (rw whole at c.loop-digit.invariant.0) (omega (arith, c.from-2.ensures))
+pub returns : goal.returns
+returns c =
+    let digit = c.in_ok-digit_of.ensures.some in
+    let front = length-take-le (length c.args.text.now - 1) c.args.text.now (omega arith) in
+    sum-time_in c.args.text.now (length c.args.text.now - 1) c.in_ok-number_of.field-0 c.in_ok-digit_of.field-0 c.checked_add.result
+    (omega arith) (omega (arith, front)) c.in_ok-number_of.ensures.some.0 c.in_ok-number_of.ensures.some.1 digit.0 digit.1
+    (rw c.in_ok-tens.ensures.1 at c.checked_add.ensures)

@@ -10,6 +10,6 @@ returns-clause-ok g c =
     (λ last. (
       _,
       record { what = c.shown.result; text = shown.0; is_shown = c.shown.ensures.shown; is_text = shown.1; layout = refl },
-      Appends-trans _ _ _ _ _ (Appends-trans _ _ _ _ _ (Appends-trans _ _ _ _ _ c.in_ok-put_recorded.ensures.ok c.in_ok-put_fields.ensures.ok) shown.2) last,
+      Appends-trans _ _ _ _ _ (Appends-trans _ _ _ _ _ c.in_ok-put_recorded.ensures.ok shown.2) last,
     ))
     c.put.ensures.ok

@@ -4,7 +4,7 @@ use Rattle.std.specs.Prelude.{unsigned_abs}
 use mir.Val.{SFits}
 use Rattle.std.proofs.lemmas.Int.{to_z-of_z}
 use Rattle.a429_word.proofs.Fraction.{put_together, tells_sign}
-use Rattle.a429_word.proofs.fixed.Fixed.text.Goals as goal
+use Rattle.a429_word.proofs.fixed.Fixed.put_into.Goals as goal
 
 pub returns : goal.returns
 returns c =
@@ -12,6 +12,6 @@ returns c =
     let fits : SFits w128 z = search rules in
     let size = ap unsigned_abs (sym (to_z-of_z w128 z fits)) ∙ sym c.unsigned_abs.ensures.value ∙ c.shortest-number.ensures.value in
     put_together z _ c.args.self.now.decimals c.shortest-number.result.0 c.shortest-number.result.1 c.push_decimals-whole.result
-    c.new-text.result c.push_decimals-whole.new.self c.push_point.new.self c.push_whole.new.self c.push_sign.new.self
+    c.args.text.now c.push_decimals-whole.new.self c.push_point.new.self c.push_whole.new.self c.push_sign.new.self
     (omega arith) (tells_sign z fits) size c.shortest-number.ensures.fewer c.shortest-number.ensures.ends
-    c.new-text.ensures c.push_decimals-whole.ensures.text c.push_decimals-whole.ensures.rest c.push_point.ensures c.push_whole.ensures.text c.push_sign.ensures
+    c.requires.empty c.push_decimals-whole.ensures.text c.push_decimals-whole.ensures.rest c.push_point.ensures c.push_whole.ensures.text c.push_sign.ensures

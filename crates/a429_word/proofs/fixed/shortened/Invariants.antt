@@ -1,5 +1,5 @@
 use Rattle.std.proofs.Common.{◌≡◌, ◌≤◌, ◌*◌, ◌^◌, ◌-◌}
-use Rattle.a429_word.proofs.fixed.shortest.Given as goal
+use Rattle.a429_word.proofs.fixed.shortened.Given as goal
 
 abbrev pub invariant-loop-left : goal.invariant-loop-left
 invariant-loop-left l = (l.left ≤ l.decimals) × (l.number ≡ l.rest * 10 ^ (l.decimals - l.left))

@@ -1,0 +1,5 @@
+use Rattle.a429_cert.proofs.NoFault.{no_fault}
+use Rattle.a429_cert.proofs.laws.what_explains_has_no_fault.Goals as goal
+
+pub returns : goal.returns
+returns c = no_fault

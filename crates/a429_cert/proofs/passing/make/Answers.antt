@@ -1,0 +1,7 @@
+use Rattle.std.proofs.Common.{IfErr, ◌∙◌, sym}
+use Rattle.a429_cert.specs.Passing.{IsFaultOf}
+use Rattle.a429_cert.proofs.ByLetter.{faults_of}
+use Rattle.a429_cert.proofs.passing.make.Goals as goal
+
+pub returns-in-Some-clause-refused : goal.returns-in-Some-clause-refused
+returns-in-Some-clause-refused c = faults_of c.args.link.now.profile c.args.act c.args.next c.in-Some.step c.args.link.now.state c.apply.result (sym c.step_with.ensures ∙ c.in-Some.is) c.apply.ensures.fault

@@ -1,0 +1,28 @@
+-- The lines of a certificate (profile).
+use Rattle.a429_cert.specs.declared.certificate.TextLine.{TextLine}
+use Rattle.a429_cert.specs.declared.certificate.TextLine.TheVariants.{Ended, Unended}
+use Rattle.std.specs.Prelude.{ℕ, suc, List, [], ◌∷◌, ◌==◌, if◌then◌else◌, codes, Option, Some, None, option_map}
+
+-- a text of this byte and of what these lines are the lines of; behind its last line feed it is in a line that has no end
+abbrev pub begun_with : ℕ → List (Option (List ℕ)) → List (Option (List ℕ))
+begun_with b [] = None ∷ []
+begun_with b (line ∷ lines) = option_map (λ text. b ∷ text) line ∷ lines
+
+-- the lines of a text, each without its line feed, and none for a last line that has no line feed
+abbrev pub lines_of : List ℕ → List (Option (List ℕ))
+lines_of [] = []
+lines_of (b ∷ bs) = if b == 10 then Some [] ∷ lines_of bs else begun_with b (lines_of bs)
+
+-- where the first line feed of a text is
+abbrev pub line_end : List ℕ → Option ℕ
+line_end [] = None
+line_end (b ∷ bs) = if b == 10 then Some 0 else option_map suc (line_end bs)
+
+-- the first line of each certificate
+abbrev pub version : List ℕ
+version = codes "arinc429-cert 1"
+
+-- the text of a line that ends
+abbrev pub text_of : TextLine → Option (List ℕ)
+text_of (Ended text) = Some text.now
+text_of Unended = None

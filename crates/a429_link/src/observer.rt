@@ -1,0 +1,143 @@
+//! The observer of a recording.
+
+ghost use Rattle.std.specs.Prelude.{◌≡◌, ◌≢◌, ◌↔◌, Ok, Some, true, IsTrue, IfOk, OnOk, OnErr};
+ghost use Rattle.a429_link.specs.Observer as model;
+ghost use Rattle.a429_link.specs.Observer.{at_first, sees, sees_form, Allows, AllowsForm};
+
+use crate::reading::{form_of, is_free};
+use crate::seen::Seen;
+use crate::sink::Sink;
+use a429_ldu::Form;
+use a429_profile::Profile;
+use a429_word::{Bus, Word};
+use std::alloc::{AllocError, Global};
+use std::marker::Model;
+
+/// A sink that takes each recorded word of bus A, and gives each recorded answer of bus B, at the moment
+/// it is recorded. It tells which words a recording can go on with. It keeps the block that it is in, and
+/// no files.
+#[derive(Debug, Drop)]
+pub struct Observer {
+    sink: Sink,
+    begun: bool,
+    parts: u8,
+}
+
+impl Model for Observer {
+    ghost use Rattle.std.specs.Prelude.{◌≡◌};
+    ghost use Rattle.a429_link.specs.Observer as model;
+    ghost use Rattle.a429_link.specs.Run.{nothing};
+
+    ghost Value = { model.Observer };
+
+    ghost view = { λ o. record { last = o.sink.last; count = o.sink.count; phase = o.sink.phase; begun = o.begun; parts = o.parts } };
+
+    ghost invariant = { λ o. o.sink.shelf ≡ nothing };
+}
+
+impl Observer {
+    /// The observer of a recording at its start.
+    pub fn new(alloc: Global) -> Observer
+        ensures { result ≡ at_first }
+    {
+        Observer {
+            sink: Sink::new(alloc),
+            begun: false,
+            parts: 0,
+        }
+    }
+
+    /// Takes the next recorded word, and answers true, where the words before it allow it. Else the answer
+    /// is false: no run records this word after those. After that, and where memory was refused, the
+    /// observer is unchanged.
+    pub fn see(&mut self, alloc: Global, profile: &Profile, seen: Seen) -> Result<bool, AllocError>
+        ensures answer { IfOk result (λ allowed. IsTrue allowed ↔ Allows profile.now self.old seen) }
+        ensures taken { result ≡ Ok true → self.new ≡ sees profile.now seen self.old }
+        ensures unchanged { result ≢ Ok true → self.new ≡ self.old }
+    {
+        let Some(form) = form_of(profile, seen.bus, seen.word) else {
+            return Ok(is_free(profile, seen.bus, seen.word));
+        };
+        if !self.allows(seen.bus, &form) {
+            return Ok(false);
+        }
+        self.take(alloc, profile, seen.bus, seen.word, &form)?;
+        Ok(true)
+    }
+
+    // The words so far allow a word of this form.
+    fn allows(&self, bus: Bus, form: &Form) -> bool
+        ensures { IsTrue result ↔ AllowsForm self.now bus (Some form.now) }
+    {
+        match (bus, *form) {
+            (Bus::A, Form::Rts { .. }) => true,
+            (Bus::A, Form::Sot { .. }) => self.sink.has_grant() && !self.begun,
+            (Bus::A, Form::Part(_)) => {
+                self.sink.has_grant() && u16::from(self.parts) + 2 < u16::from(self.sink.count())
+            }
+            (Bus::A, Form::Eot { .. }) => self.sink.has_grant(),
+            (Bus::A, Form::Cts { .. } | Form::Ack { .. } | Form::Nak { .. }) => false,
+            (Bus::B, _) => self.sink.may_answer(form),
+        }
+    }
+
+    fn take(
+        &mut self,
+        alloc: Global,
+        profile: &Profile,
+        bus: Bus,
+        word: Word,
+        form: &Form,
+    ) -> Result<(), AllocError>
+        requires { AllowsForm self.old bus (Some form.now) }
+        ensures done { OnOk result (self.new ≡ sees_form profile.now bus word (Some form.now) self.old) }
+        ensures unchanged { OnErr result (self.new ≡ self.old) }
+    {
+        match bus {
+            Bus::A => self.take_word(alloc, profile, word, form),
+            Bus::B => {
+                self.take_answer(profile, form);
+                Ok(())
+            }
+        }
+    }
+
+    fn take_word(
+        &mut self,
+        alloc: Global,
+        profile: &Profile,
+        word: Word,
+        form: &Form,
+    ) -> Result<(), AllocError>
+        requires { AllowsForm self.old Bus.A (Some form.now) }
+        ensures done { OnOk result (self.new ≡ sees_form profile.now Bus.A word (Some form.now) self.old) }
+        ensures unchanged { OnErr result (self.new ≡ self.old) }
+    {
+        let count = self.sink.count();
+        self.sink.take(alloc, profile, word, form)?;
+        match *form {
+            Form::Sot { .. } => self.begun = true,
+            Form::Part(_) => {
+                self.begun = true;
+                if self.parts < count {
+                    self.parts += 1;
+                }
+            }
+            _ => {}
+        }
+        Ok(())
+    }
+
+    fn take_answer(&mut self, profile: &Profile, form: &Form)
+        ensures { self.new ≡ sees_form profile.now Bus.B 0 (Some form.now) self.old }
+    {
+        self.sink.answer_unfiled(profile, form);
+        if let Form::Cts { .. } = *form {
+            self.begun = false;
+            self.parts = 0;
+        }
+    }
+}
+
+#[cfg(test)]
+mod tests;
