@@ -1,10 +1,10 @@
 -- Trailing zeros of a number, as factors of 2 and of 5.
-use Rattle.std.proofs.Common.{◌≡◌, ◌≢◌, ℕ, zero, suc, ◌+◌, ◌*◌, ◌/◌, ◌%◌, ◌-◌, ◌^◌, ◌<◌, ◌≤◌, List, [], ◌∷◌, get_or, refl, sym, ap, ◌∙◌, arith, mul_assoc, mul_comm, ◌⊎◌, inl, inr}
+use Rattle.std.proofs.Common.{◌≡◌, ◌≢◌, ℕ, zero, suc, ◌+◌, ◌*◌, ◌/◌, ◌%◌, ◌-◌, ◌^◌, ◌<◌, ◌≤◌, sym, ap, ◌∙◌, arith, mul_assoc}
 use Rattle.std.specs.Int.{bit_at, w128}
 use Rattle.std.specs.Int.Count.{count_trailing_zeros, trailing_of_zero}
 use Rattle.std.proofs.lemmas.Nat.Bits.{bit_at-trailing_zeros}
 use Rattle.std.proofs.lemmas.Nat.{mod-pow-add, div-add-mod', mul-pow}
-use Rattle.std.proofs.Math.Nat.{pow-succ', zero-mod, one-le-pow, pow-le-pow_right}
+use Rattle.std.proofs.Math.Nat.{zero-mod, one-le-pow, pow-le-pow_right}
 
 -- ---- powers of five
 

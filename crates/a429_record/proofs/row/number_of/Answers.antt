@@ -1,7 +1,5 @@
-use Rattle.std.proofs.Common.{◌≡◌, ◌<◌, arith, sym, ap, ◌∙◌, length, get_or}
-use Rattle.std.specs.Char.{digit_value}
+use Rattle.std.proofs.Common.{◌<◌, arith, sym, length}
 use Rattle.std.proofs.lemmas.Int.Digits.{digits_value_more, digits_more}
-use Rattle.std.proofs.lemmas.List.{take_all}
 use Rattle.a429_record.proofs.Digits.{room, not_a_digit}
 use Rattle.a429_record.proofs.row.number_of.Goals as goal
 

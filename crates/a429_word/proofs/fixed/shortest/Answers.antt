@@ -1,4 +1,4 @@
-use Rattle.std.proofs.Common.{◌≡◌, ◌-◌, ◌*◌, ◌%◌, ◌/◌, ◌^◌, ◌∙◌, ap, sym, arith, inl, inr, zero}
+use Rattle.std.proofs.Common.{◌%◌, ◌/◌, ◌^◌, ◌∙◌, ap, sym, arith, inl, inr}
 use Rattle.a429_word.proofs.Zeros.{five_pos, tens_dropped, odd_ends}
 use Rattle.a429_word.proofs.fixed.shortest.Goals as goal
 

@@ -1,5 +1,4 @@
-use Rattle.std.proofs.Common.{◌≡◌, ◌∙◌, ◌-◌, ◌<◌, ◌++◌, ◌∷◌, [], codes, arith, subst}
-use Rattle.std.specs.Int.{bit_at}
+use Rattle.std.proofs.Common.{◌≡◌, ◌∙◌, ◌-◌, ◌++◌, codes, arith, subst}
 use Rattle.std.specs.Io.KnownBytes.{Appends}
 use Rattle.a429_word.specs.Tally.{inner_of}
 use Rattle.std.proofs.KnownBytes.{Appends-trans}

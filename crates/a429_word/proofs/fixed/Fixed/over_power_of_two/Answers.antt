@@ -1,4 +1,4 @@
-use Rattle.std.proofs.Common.{◌*◌, ◌^◌, ◌∙◌, ap, pos, arith}
+use Rattle.std.proofs.Common.{◌∙◌, ap, pos, arith}
 use Rattle.std.specs.Int.{w64, w128}
 use Rattle.std.proofs.Math.Facts.{sfits_lit, yes_ltb}
 use Rattle.std.proofs.lemmas.Int.{to_z-of_z}
