@@ -1,7 +1,9 @@
 //! The program `a429`: reads its words, opens what the command names, and ends with its status.
 #![tactic(auto)]
 
-use a429_check::{Command, RunFault, command, report, run_labels, run_make, run_show, run_word};
+use a429_check::{
+    Command, RunFault, command, report, run_labels, run_make, run_show, run_verify, run_word,
+};
 use a429_word::{Failing, Tally};
 use std::alloc::Global;
 use std::io::{BufWriter, ErrorKind, Read, Write};
@@ -11,6 +13,9 @@ use std::{env, fs, io};
 
 // How many bytes of a profile, of a recording or of a file to send are read at most.
 const CAP: u64 = 67_108_864;
+
+// How many bytes of a certificate are read at most.
+const CERTIFICATE_CAP: u64 = 4_294_967_296;
 
 fn main(rt: HostRuntime) -> ExitCode {
     let status = match run(&rt) {
@@ -34,8 +39,18 @@ fn run(rt: &(impl Files + Env + Print + AllocGlobal)) -> Result<u8, RunFault> {
         }
         Command::Show { profile, recording } => {
             let profile = read_whole(rt, alloc, profile)?;
-            let mut rec = opened(rt, recording)?;
+            let mut rec = opened(rt, recording, CAP)?;
             run_show(alloc, profile.as_slice(), &mut rec, &mut out)?
+        }
+        Command::Verify {
+            profile,
+            recording,
+            certificate,
+        } => {
+            let profile = read_whole(rt, alloc, profile)?;
+            let mut rec = opened(rt, recording, CAP)?;
+            let mut cert = opened(rt, certificate, CERTIFICATE_CAP)?;
+            run_verify(alloc, profile.as_slice(), &mut rec, &mut cert, &mut out)?
         }
         Command::Make { profile, files } => {
             let profile = read_whole(rt, alloc, profile)?;
@@ -69,14 +84,14 @@ fn words_of(rt: &(impl Env + AllocGlobal), alloc: Global) -> Result<Vec<String>,
 }
 
 // A file to read. One that cannot be opened is told as one that fails.
-fn opened<F: Files>(rt: &F, path: &str) -> Result<Tally<F::File>, RunFault> {
+fn opened<F: Files>(rt: &F, path: &str, cap: u64) -> Result<Tally<F::File>, RunFault> {
     let file = fs::open(rt, path).map_err(|_| RunFault::Device)?;
-    Ok(Tally::new(file, CAP))
+    Ok(Tally::new(file, cap))
 }
 
 // The bytes of a file.
 fn read_whole(rt: &impl Files, alloc: Global, path: &str) -> Result<Vec<u8>, RunFault> {
-    let mut file = opened(rt, path)?;
+    let mut file = opened(rt, path, CAP)?;
     let mut bytes = Vec::new(alloc);
     match file.read_to_end(&mut bytes) {
         Ok(_) => Ok(bytes),

@@ -18,16 +18,16 @@ use Rattle.a429_link.specs.declared.step.Step.{Step}
 use Rattle.a429_link.specs.declared.step.Step.TheVariants as step
 use Rattle.a429_link.specs.declared.fault.StepFault.{StepFault}
 use Rattle.a429_link.specs.declared.fault.StepFault.TheVariants as fault
-use Rattle.a429_link.specs.Step.{State, Can, after, Named, LoadsLdu, IsFault}
+use Rattle.a429_link.specs.Step.{State, Can, Named, LoadsLdu, IsFault}
 use Rattle.a429_cert.specs.declared.act.Act.{Act}
 use Rattle.a429_cert.specs.declared.act.Act.TheVariants as act
 use Rattle.a429_cert.specs.Explained.{step_with}
 use Rattle.a429_cert.specs.declared.line.CertLine.{CertLine}
-use Rattle.a429_cert.specs.declared.line.CertLine.TheVariants.{First, Load, Moved}
+use Rattle.a429_cert.specs.declared.line.CertLine.TheVariants.{Load, Moved}
 use Rattle.a429_cert.specs.declared.fault.CertFault.{CertFault}
 use Rattle.a429_cert.specs.declared.fault.CertFault.TheVariants as of
 use Rattle.a429_cert.specs.Fault.{IsNamed}
-use Rattle.a429_cert.specs.Passing.{CanBeOf, IsNamedOf, IsFaultOf, IsFaultOfRead, Makes, Passes, no_unit, no_step, uses_of}
+use Rattle.a429_cert.specs.Passing.{IsNamedOf, IsFaultOf, IsFaultOfRead, Makes, Passes, no_unit, no_step, uses_of}
 
 some_is : {X : Type 0} (a b : X) → Some a ≡ Some b → a ≡ b
 some_is a b e = cc

@@ -4,7 +4,7 @@ use Rattle.a429_profile.specs.Contents.{Contents}
 use Rattle.a429_link.specs.declared.seen.Seen.{Seen}
 use Rattle.a429_link.specs.declared.step.Step.{Step}
 use Rattle.a429_link.specs.declared.step.Step.TheVariants as step
-use Rattle.a429_link.specs.Step.{State, start, Can, after, label}
+use Rattle.a429_link.specs.Step.{State, start, after, label}
 use Rattle.a429_link.specs.Run.{end_of, with_label, trace}
 use Rattle.a429_cert.specs.declared.act.Act.{Act}
 use Rattle.a429_cert.specs.declared.act.Act.TheVariants as act
@@ -13,9 +13,9 @@ use Rattle.a429_cert.specs.declared.line.CertLine.TheVariants.{First, Load, Move
 use Rattle.a429_cert.specs.declared.fault.CertFault.{CertFault}
 use Rattle.a429_cert.specs.declared.fault.CertFault.TheVariants as of
 use Rattle.a429_cert.specs.Line.{spelling, Spells}
-use Rattle.a429_cert.specs.Lines.{lines_of, version}
+use Rattle.a429_cert.specs.Lines.{lines_of}
 use Rattle.a429_cert.specs.Explained.{step_with, step_of, Shows, TellsStep, Tells, Explains}
-use Rattle.a429_cert.specs.Fault.{HasVersion, HasFirst, Says, IsOfAStep, IsFaultOfStep, IsFaultOfLine, IsFaultAt, IsLaterFault, IsFirstFault}
+use Rattle.a429_cert.specs.Fault.{HasVersion, HasFirst, IsOfAStep, IsFaultOfStep, IsFaultOfLine, IsFaultAt, IsLaterFault, IsFirstFault}
 use Rattle.a429_cert.proofs.Lines.{one-line}
 
 some_is : {X : Type 0} (a b : X) → Some a ≡ Some b → a ≡ b

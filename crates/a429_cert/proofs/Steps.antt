@@ -1,12 +1,11 @@
 -- One more line of a run.
-use Rattle.std.proofs.Common.{◌≡◌, ◌≢◌, ◌⊎◌, inl, inr, ℕ, zero, suc, ◌+◌, ◌≤◌, ◌<◌, List, [], ◌∷◌, ◌++◌, take, drop, length, Option, Some, None, IsSome, option_map, option_and_then, ok_or, Result, IfErr, slice_get, refl, sym, ap, ◌∙◌, subst, arith, append-nil, append_assoc}
-use Rattle.std.proofs.lemmas.Option.{slice_get_within, slice_get_past}
+use Rattle.std.proofs.Common.{◌≡◌, ◌≢◌, inl, inr, ℕ, zero, suc, ◌+◌, ◌≤◌, ◌<◌, List, [], ◌∷◌, ◌++◌, take, drop, length, Option, Some, None, IsSome, option_map, option_and_then, ok_or, Result, IfErr, slice_get, refl, sym, ap, ◌∙◌, subst, arith, append-nil}
+use Rattle.std.proofs.lemmas.Option.{slice_get_within}
 use Rattle.std.proofs.lemmas.List.{take_all, drop-drop}
 use Rattle.a429_profile.specs.Contents.{Contents, IsProfile}
 use Rattle.a429_link.specs.declared.file.FileBytes.{FileBytes}
 use Rattle.a429_link.specs.declared.seen.Seen.{Seen}
 use Rattle.a429_link.specs.declared.step.Step.{Step}
-use Rattle.a429_link.specs.declared.step.Step.TheVariants as step
 use Rattle.a429_link.specs.Step.{State, start, Can, after, label}
 use Rattle.a429_link.specs.Run.{IsRun, end_of, with_label, trace, delivered, offered, settled, IsPrefixOf}
 use Rattle.a429_link.proofs.Sound.{is_read}
@@ -22,9 +21,9 @@ use Rattle.a429_cert.specs.declared.fault.CertFault.TheVariants as of
 use Rattle.a429_cert.specs.Line.{spelling, Spells, Reads}
 use Rattle.a429_cert.proofs.Lines.{one-line}
 use Rattle.a429_cert.specs.Lines.{lines_of, version}
-use Rattle.a429_cert.specs.Explained.{step_with, step_of, Shows, TellsStep, Tells, Reaches, Explains, IsExplained, AreInEveryRun}
-use Rattle.a429_cert.specs.Fault.{HasVersion, HasFirst, Says, IsOfAStep, IsFaultOfStep, IsFaultOfLine, IsFaultAt, IsLaterFault, IsFirstFault}
-use Rattle.a429_cert.specs.Passing.{uses_of, uses, Makes, Passes, TextPasses, Begins, IsFaultOfHead, file_in}
+use Rattle.a429_cert.specs.Explained.{step_with, step_of, Shows, TellsStep, Tells, Reaches, IsExplained, AreInEveryRun}
+use Rattle.a429_cert.specs.Fault.{HasVersion, HasFirst, IsFaultOfLine, IsFaultAt, IsLaterFault, IsFirstFault}
+use Rattle.a429_cert.specs.Passing.{uses_of, uses, Makes, TextPasses, Begins, IsFaultOfHead, file_in}
 
 some_is : {X : Type 0} (a b : X) → Some a ≡ Some b → a ≡ b
 some_is a b e = cc

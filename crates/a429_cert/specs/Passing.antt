@@ -11,7 +11,7 @@ use Rattle.a429_link.specs.Step.{State, Can, after}
 use Rattle.a429_cert.specs.declared.act.Act.{Act}
 use Rattle.a429_cert.specs.declared.act.Act.TheVariants as act
 use Rattle.a429_cert.specs.declared.line.CertLine.{CertLine}
-use Rattle.a429_cert.specs.declared.line.CertLine.TheVariants.{First, Load, Moved}
+use Rattle.a429_cert.specs.declared.line.CertLine.TheVariants.{First, Moved}
 use Rattle.a429_cert.specs.declared.fault.CertFault.{CertFault}
 use Rattle.a429_cert.specs.declared.fault.CertFault.TheVariants as of
 use Rattle.a429_cert.specs.Explained.{step_with, step_of, Shows}

@@ -59,7 +59,8 @@ pub fn verify(
     if used < entries.len() {
         return Err(CertFault::Unfinished(used));
     }
-    Ok(Verified::new(link.take_delivered()))
+    let files = link.take_delivered();
+    Ok(Verified::new(files))
 }
 
 // The number of the first file, by the two lines that begin a certificate.

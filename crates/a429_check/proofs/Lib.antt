@@ -3,3 +3,4 @@ pub mod Labels
 pub mod Shows
 pub mod Timed
 pub mod Columns
+pub mod Verdicts

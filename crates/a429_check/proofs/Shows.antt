@@ -15,10 +15,11 @@ use Rattle.a429_record.specs.Recording.{stands_for, whole}
 use Rattle.a429_check.specs.ShowLines.{flag_text, IsShowLine, AreShowLines, Shows}
 use Rattle.a429_check.specs.ProfileBytes.{IsProfileOf}
 
-pub flags_text-more : (field : ℕ) (fs : List Flag) (i : ℕ) (f : Flag) → i < length fs → f ≡ get_or fs i f → flat_map (flag_text field) (take (i + 1) fs) ≡ flat_map (flag_text field) (take i fs) ++ flag_text field f
-flags_text-more field fs i f h found =
-    ap (flat_map (flag_text field)) (take_more fs i f h ∙ ap (λ x. take i fs ++ x ∷ []) (sym found))
-    ∙ flat_map-append (flag_text field) (take i fs) (f ∷ []) ∙ ap (λ t. flat_map (flag_text field) (take i fs) ++ t) (append-nil (flag_text field f))
+-- a further element's text
+pub flat_map-more : {X : Type 0} (text : X → List ℕ) (xs : List X) (i : ℕ) (x : X) → i < length xs → x ≡ get_or xs i x → flat_map text (take (i + 1) xs) ≡ flat_map text (take i xs) ++ text x
+flat_map-more text xs i x h found =
+    ap (flat_map text) (take_more xs i x h ∙ ap (λ y. take i xs ++ y ∷ []) (sym found))
+    ∙ flat_map-append text (take i xs) (x ∷ []) ∙ ap (λ t. flat_map text (take i xs) ++ t) (append-nil (text x))
 
 -- a flag's text, of which the last two bytes are written at once
 pub flag_text-is : (field digit : ℕ) (f : Flag) → bit_at field (f.bit - 11) ≡ digit → digit < 10 → codes " " ++ f.name ++ (61 ∷ (48 + digit) ∷ []) ≡ flag_text field f

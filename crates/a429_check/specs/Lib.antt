@@ -5,3 +5,4 @@ pub mod LabelLines
 pub mod ShowLines
 pub mod RecordingBytes
 pub mod Made
+pub mod Verdict

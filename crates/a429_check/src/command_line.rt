@@ -33,6 +33,17 @@ pub fn command<'a>(alloc: Global, words: &'a [String]) -> Result<Command<'a>, Ru
             (Some(profile), Some(recording)) => Ok(Command::Show { profile, recording }),
             _ => Err(RunFault::Usage),
         },
+        Some(("verify", given)) => {
+            let certificate = given.get_str("CERT");
+            match (given.get_str("PROFILE"), given.get_str("REC"), certificate) {
+                (Some(profile), Some(recording), Some(certificate)) => Ok(Command::Verify {
+                    profile,
+                    recording,
+                    certificate,
+                }),
+                _ => Err(RunFault::Usage),
+            }
+        }
         Some(("make", given)) => match given.get_str("PROFILE") {
             Some(profile) => Ok(Command::Make {
                 profile,
@@ -52,6 +63,7 @@ fn parser<'a>(alloc: Global) -> Result<Parser<'a>, AllocError> {
         .subcommand(with_words(alloc, "word", &["HEX"])?)?
         .subcommand(with_words(alloc, "labels", &["PROFILE"])?)?
         .subcommand(with_words(alloc, "show", &["PROFILE", "REC"])?)?
+        .subcommand(with_words(alloc, "verify", &["PROFILE", "REC", "CERT"])?)?
         .subcommand(with_words(alloc, "make", &["PROFILE"])?.arg(any_number(alloc, "FILE"))?)
 }
 

@@ -8,4 +8,6 @@ mod recording;
 #[cfg(test)]
 mod sample;
 pub mod show;
+mod verdict;
+pub mod verify;
 pub mod word;

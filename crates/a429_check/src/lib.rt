@@ -11,5 +11,6 @@ pub use crate::command_line::commands::Command;
 pub use crate::engines::labels::run_labels;
 pub use crate::engines::make::run_make;
 pub use crate::engines::show::run_show;
+pub use crate::engines::verify::run_verify;
 pub use crate::engines::word::run_word;
 pub use crate::fault::{RunFault, report};

@@ -20,7 +20,8 @@ use Rattle.a429_ldu.specs.declared.forms.Form.TheVariants as form
 use Rattle.a429_ldu.proofs.Joined.{form_of-word_number}
 use Rattle.a429_link.specs.declared.fault.StepFault.{StepFault}
 use Rattle.a429_link.specs.declared.fault.StepFault.TheVariants as fault
-use Rattle.a429_link.specs.Step.{IsReady, IsFault, IsPlainFault}
+use Rattle.a429_link.specs.Step.{IsFault}
+use Rattle.a429_link.specs.Ready.{IsReady, IsPlainFault}
 use Rattle.a429_link.specs.Link.{with_earlier, handed_out, IsKept}
 use Rattle.a429_link.proofs.Phases.{Config, idle, asked, unasked, heard, sending, waiting}
 use Rattle.a429_link.proofs.Holds.{HoldsAt, Current, step_holds, start_holds}

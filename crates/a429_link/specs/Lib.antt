@@ -1,6 +1,7 @@
 pub mod Source
 pub mod Sink
 pub mod Step
+pub mod Ready
 pub mod Run
 pub mod Observer
 pub mod View

@@ -129,20 +129,6 @@ IsFault p a s fault.NotAllowed = ¬ Named p a s
 IsFault p a s fault.WordDiffers = Named p a s × (¬ Can p a s)
 IsFault p a s fault.OutOfMemory = Can p a s × Grows a
 
--- ---- the same, as it is seen without a search for a word
-
--- a step of this name may be made
-abbrev pub IsReady : Contents → Step → State → Type 0
-IsReady p (Sent i) s = IsSome (next_of p s.source)
-IsReady p (Answered i) s = Owes s.sink.phase
-IsReady p (FreeSeen i) s = Unit {0}
-IsReady p a s = Can p a s
-
-abbrev pub IsPlainFault : Contents → Step → State → StepFault → Type 0
-IsPlainFault p a s fault.NotAllowed = ¬ IsReady p a s
-IsPlainFault p a s fault.WordDiffers = IsReady p a s × (¬ Can p a s)
-IsPlainFault p a s fault.OutOfMemory = Can p a s × Grows a
-
 -- ---- a state as a certificate writes it (profile)
 
 abbrev pub shown_sink : SinkPhase → SinkState

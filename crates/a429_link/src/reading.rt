@@ -8,7 +8,7 @@ use a429_profile::Profile;
 use a429_word::{Bus, Word};
 
 /// The form of a word that is not free and has one.
-pub(crate) fn form_of(profile: &Profile, bus: Bus, word: Word) -> Option<Form>
+pub fn form_of(profile: &Profile, bus: Bus, word: Word) -> Option<Form>
     ensures { result ≡ form_of profile.now.codes bus word }
 {
     let _codes = profile.codes();

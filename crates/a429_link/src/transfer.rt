@@ -5,7 +5,8 @@ ghost use Rattle.a429_profile.specs.Contents.{IsProfile};
 ghost use Rattle.a429_ldu.specs.Ldu.{IsLdu};
 ghost use Rattle.a429_link.specs.declared.step.Step.TheVariants as step;
 ghost use Rattle.a429_link.specs.Sink.{held};
-ghost use Rattle.a429_link.specs.Step.{start, Can, after, shown_sink, IsPlainFault, LoadsLdu};
+ghost use Rattle.a429_link.specs.Step.{start, Can, after, shown_sink, LoadsLdu};
+ghost use Rattle.a429_link.specs.Ready.{IsPlainFault};
 
 use crate::fault::StepFault;
 use crate::file::FileBytes;

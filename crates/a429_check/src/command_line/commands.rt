@@ -12,6 +12,12 @@ pub enum Command<'a> {
         profile: &'a str,
         recording: &'a str,
     },
+    /// `verify PROFILE REC CERT`: holds a certificate against a recording.
+    Verify {
+        profile: &'a str,
+        recording: &'a str,
+        certificate: &'a str,
+    },
     /// `make PROFILE FILE..`: writes the recording of a transfer of these files.
     Make {
         profile: &'a str,

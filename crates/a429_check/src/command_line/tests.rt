@@ -36,6 +36,21 @@ fn words_of_a_command(rt: HostRuntime) -> Result<(), Fail> {
 }
 
 #[test]
+fn verify_takes_three_words(rt: HostRuntime) -> Result<(), Fail> {
+    let alloc = rt.alloc();
+    let words = strings(alloc, &["verify", "bench.toml", "bench.csv", "bench.cert"])?;
+    let verify = Command::Verify {
+        profile: "bench.toml",
+        recording: "bench.csv",
+        certificate: "bench.cert",
+    };
+    assert!(rt; command(alloc, words.as_slice()) == Ok(verify));
+    let words = strings(alloc, &["verify", "bench.toml", "bench.csv"])?;
+    assert!(rt; command(alloc, words.as_slice()) == Err(RunFault::Usage));
+    Ok(())
+}
+
+#[test]
 fn make_takes_any_number_of_files(rt: HostRuntime) -> Result<(), Fail> {
     let alloc = rt.alloc();
     let words = strings(alloc, &["make", "bench.toml"])?;

@@ -1,5 +1,4 @@
-use Rattle.std.proofs.Common.{IfErr, ◌∙◌, sym}
-use Rattle.a429_cert.specs.Passing.{IsFaultOf}
+use Rattle.std.proofs.Common.{◌∙◌, sym}
 use Rattle.a429_cert.proofs.ByLetter.{faults_of}
 use Rattle.a429_cert.proofs.passing.make.Goals as goal
 

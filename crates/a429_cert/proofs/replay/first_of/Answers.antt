@@ -1,4 +1,4 @@
-use Rattle.std.proofs.Common.{◌≡◌, Some, ap, rules}
+use Rattle.std.proofs.Common.{◌≡◌, Some, rules}
 use Rattle.a429_cert.specs.Lines.{text_of}
 use Rattle.a429_cert.proofs.Steps.{first_err}
 use Rattle.a429_cert.proofs.replay.first_of.Goals as goal

@@ -1,4 +1,4 @@
-use Rattle.std.proofs.Common.{◌≡◌, ◌∙◌, ℕ, suc, ◌+◌, List, take, drop, length, refl, sym, ap, subst, arith}
+use Rattle.std.proofs.Common.{◌≡◌, ◌∙◌, suc, drop, refl, sym, ap, subst, arith}
 use Rattle.a429_profile.specs.Contents.{IsProfile}
 use Rattle.a429_link.specs.Link.{LinkValue}
 use Rattle.a429_cert.specs.Lines.{lines_of, text_of}
@@ -51,12 +51,12 @@ pub returns-clause-ok : goal.returns-clause-ok
 returns-clause-ok c =
     let head = begun c.new-lines.result c.args.certificate.now c.in-Ok.first c.begin.new.lines c.new-lines.ensures c.in-Ok.ensures.ok in
     let end = none_here text_of (drop 2 (lines_of c.args.certificate.now)) c.loop-line.lines c.loop-line.invariant.k c.next_line.result c.loop-line.invariant.rest c.next_line.ensures.given (none_of c.next_line.result c.in_default.not-Some) in
-    let these : c.new.result ≡ c.loop-line.link.state.sink.shelf.files = c.new.ensures ∙ c.take_delivered.ensures.files in
+    let these : c.new.result ≡ c.loop-line.link.state.sink.shelf.files = c.new.ensures ∙ c.take_delivered-files.ensures.files in
     subst (IsExplained c.args.profile.now c.args.certificate.now (items_of c.args.entries.now)) (sym these) (explained c.args.profile.now c.args.certificate.now (items_of c.args.entries.now) c.in-Ok.first c.loop-line.invariant.k c.loop-line.used c.loop-line.link.state head.version head.first_file end (omega (arith, c.if-used-entries.false, length-map c.args.entries.now seen_of)) c.loop-line.invariant.reached)
 
 pub returns-clause-every_run : goal.returns-clause-every_run
 returns-clause-every_run c =
     let head = begun c.new-lines.result c.args.certificate.now c.in-Ok.first c.begin.new.lines c.new-lines.ensures c.in-Ok.ensures.ok in
     let end = none_here text_of (drop 2 (lines_of c.args.certificate.now)) c.loop-line.lines c.loop-line.invariant.k c.next_line.result c.loop-line.invariant.rest c.next_line.ensures.given (none_of c.next_line.result c.in_default.not-Some) in
-    let these : c.new.result ≡ c.loop-line.link.state.sink.shelf.files = c.new.ensures ∙ c.take_delivered.ensures.files in
+    let these : c.new.result ≡ c.loop-line.link.state.sink.shelf.files = c.new.ensures ∙ c.take_delivered-files.ensures.files in
     subst (AreInEveryRun c.args.profile.now (items_of c.args.entries.now)) (sym these) (in_every_run c.args.profile.now (subst IsProfile (ap (λ (l : LinkValue). l.profile) c.link-2.view_is ∙ c.loop-line.invariant.profile) c.link-2.invariant.sound) c.args.certificate.now (items_of c.args.entries.now) c.loop-line.link.state.sink.shelf.files (explained c.args.profile.now c.args.certificate.now (items_of c.args.entries.now) c.in-Ok.first c.loop-line.invariant.k c.loop-line.used c.loop-line.link.state head.version head.first_file end (omega (arith, c.if-used-entries.false, length-map c.args.entries.now seen_of)) c.loop-line.invariant.reached))

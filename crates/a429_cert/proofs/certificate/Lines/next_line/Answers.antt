@@ -1,4 +1,4 @@
-use Rattle.std.proofs.Common.{◌∙◌, ap, sym, drop, arith}
+use Rattle.std.proofs.Common.{◌∙◌, ap, arith}
 use Rattle.a429_cert.specs.Lines.{lines_of}
 use Rattle.a429_cert.proofs.TextLines.{ends_at, unended, given_line, left_lines, left_shorter, given_unended, left_none}
 use Rattle.a429_cert.proofs.certificate.Lines.next_line.Goals as goal

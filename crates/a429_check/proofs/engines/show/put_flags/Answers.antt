@@ -1,8 +1,9 @@
 use Rattle.std.proofs.KnownBytes.{Appends-trans}
-use Rattle.a429_check.proofs.Shows.{flags_text-more}
+use Rattle.a429_check.proofs.Shows.{flat_map-more}
+use Rattle.a429_check.specs.ShowLines.{flag_text}
 use Rattle.a429_check.proofs.engines.show.put_flags.Goals as goal
 
 pub loop-flag-preserved : goal.loop-flag-preserved
 loop-flag-preserved g c =
-    rw (flags_text-more c.args.field c.args.flags.now c.loop-flag.flag-index c.flag-item.result c.loop-flag-test.true c.flag-item.is)
+    rw (flat_map-more (flag_text c.args.field) c.args.flags.now c.loop-flag.flag-index c.flag-item.result c.loop-flag-test.true c.flag-item.is)
     (Appends-trans _ _ _ _ _ c.loop-flag.invariant c.in_ok-put_flag.ensures.ok)

@@ -1,0 +1,4 @@
+pub mod Walked
+pub mod Roles
+pub mod Units
+pub mod Matched

@@ -1,0 +1,5 @@
+use Rattle.std.proofs.Common.{◌≡◌}
+use Rattle.a429_explain.proofs.scribe.Scribe.lose_rest.Given as goal
+
+abbrev pub invariant-loop : goal.invariant-loop
+invariant-loop l = l.self.link.profile ≡ l.fn.self.link.profile

@@ -1,0 +1,5 @@
+use Rattle.a429_explain.proofs.Walked.{Walks}
+use Rattle.a429_explain.proofs.walk.walk.Given as goal
+
+abbrev pub invariant-loop-n : goal.invariant-loop-n
+invariant-loop-n l = Walks l.profile l.entries l.n l.observer

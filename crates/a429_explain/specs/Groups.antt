@@ -1,0 +1,13 @@
+-- Where a group ends (profile).
+use Rattle.std.specs.Prelude.{ℕ, suc, Bool, false, if◌then◌else◌, List, [], ◌∷◌}
+use Rattle.a429_explain.specs.declared.attempts.Role.{Role}
+use Rattle.a429_explain.specs.declared.attempts.Role.TheVariants.{Acknowledged}
+
+abbrev pub ends_group : Role → Bool
+ends_group (Acknowledged ends) = ends
+ends_group _ = false
+
+-- how many words a group has that begins with these: those up to the acknowledgement that ends it
+abbrev pub group_length : List Role → ℕ
+group_length [] = 0
+group_length (r ∷ more) = if ends_group r then 1 else suc (group_length more)

@@ -1,0 +1,9 @@
+pub mod Walk
+pub mod Attempts
+pub mod Ahead
+pub mod Said
+pub mod Doubt
+pub mod Units
+pub mod Verdict
+pub mod Groups
+pub mod Matching

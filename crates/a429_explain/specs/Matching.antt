@@ -1,0 +1,46 @@
+-- The words of a group against the block of its link data unit (profile).
+use Rattle.std.specs.Prelude.{ℕ, zero, suc, ◌%◌, ◌==◌, nat_le, Bool, not, ◌&&◌, ◌||◌, if◌then◌else◌, Option, Some, None, slice_index, slice_range, ◌-◌, List, [], ◌∷◌, IsSome, option_and_then}
+use Rattle.a429_profile.specs.declared.codes.Codes.{Codes}
+use Rattle.a429_ldu.specs.declared.forms.Form.{Form}
+use Rattle.a429_ldu.specs.declared.forms.Form.TheVariants.{Rts, Sot, Part, Eot}
+use Rattle.a429_ldu.specs.Form.{form_of}
+use Rattle.a429_ldu.specs.Ldu.{LduValue, count_of, block_of}
+use Rattle.a429_link.specs.declared.seen.Seen.{Seen}
+use Rattle.a429_explain.specs.declared.matching.Place.{Place}
+
+-- word k of the block; a start word has no number above 255
+abbrev pub is_word : Codes → LduValue → Place → ℕ → ℕ → Bool
+is_word c u place word k = (nat_le place.ldu 255 || not (k == 0)) && (word == slice_index (block_of c u place.file (place.ldu % 256)) k)
+
+-- how many words of the block are passed with the first of the next n that is this one
+abbrev pub passed_with : (ℕ → Bool) → ℕ → ℕ → Option ℕ
+passed_with is passed zero = None
+passed_with is passed (suc n) = if is passed then Some (suc passed) else passed_with is (suc passed) n
+
+-- how many are passed with a word of this form: a request begins anew, and a word of the block is matched with the
+-- first equal one that is not passed, or with none
+abbrev pub passing_as : Option Form → Option ℕ → ℕ → Option ℕ
+passing_as (Some (Rts n)) matched passed = Some 0
+passing_as (Some (Sot gfi file ldu)) matched passed = matched
+passing_as (Some (Part semis)) matched passed = matched
+passing_as (Some (Eot flags check)) matched passed = matched
+passing_as _ matched passed = Some passed
+
+abbrev pub passing : Codes → LduValue → Place → Seen → ℕ → Option ℕ
+passing c u place i passed = passing_as (form_of c i.bus i.word) (passed_with (is_word c u place i.word) passed (count_of u - passed)) passed
+
+-- with these words in their order; none where one is not matched
+abbrev pub passed_after : Codes → LduValue → Place → List Seen → Option ℕ → Option ℕ
+passed_after c u place [] passed = passed
+passed_after c u place (i ∷ items) passed = passed_after c u place items (option_and_then (passing c u place i) passed)
+
+-- all words of a group from place `from` to place `to` are matched
+abbrev pub AreMatched : Codes → LduValue → Place → List Seen → ℕ → ℕ → Type 0
+AreMatched c u place items from to = IsSome (passed_after c u place (slice_range items from to) (Some 0))
+
+-- a word of a block
+abbrev pub IsOfBlock : Option Form → Type 0
+IsOfBlock (Some (Sot gfi file ldu)) = Unit {0}
+IsOfBlock (Some (Part semis)) = Unit {0}
+IsOfBlock (Some (Eot flags check)) = Unit {0}
+IsOfBlock _ = ⊥

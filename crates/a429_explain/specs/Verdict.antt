@@ -1,0 +1,38 @@
+-- What the verdict on a recording says (profile).
+use Rattle.std.specs.Prelude.{◌≡◌, ◌+◌, ◌<◌, ◌⊎◌, List, [], ◌∷◌, take, slice_get, length}
+use Rattle.a429_profile.specs.declared.codes.Codes.{Codes}
+use Rattle.a429_profile.specs.Contents.{Contents}
+use Rattle.a429_ldu.specs.declared.sight.Sight.TheVariants as sight
+use Rattle.a429_ldu.specs.Form.{sight_of}
+use Rattle.a429_link.specs.declared.seen.Seen.{Seen}
+use Rattle.a429_link.specs.Run.{BeginsARun}
+use Rattle.a429_cert.specs.Explained.{IsExplained, AreInEveryRun}
+use Rattle.a429_explain.specs.declared.verdict.Verdict.{Verdict}
+use Rattle.a429_explain.specs.declared.verdict.Verdict.TheVariants.{Explained, Impossible, Unexplained}
+use Rattle.a429_explain.specs.Walk.{FitsAt}
+use Rattle.a429_explain.specs.Doubt.{IsDoubtAt}
+
+-- a certificate explains the recorded words by a run that delivers the files, and every run that records them
+-- delivers these
+abbrev pub IsSound : Contents → List Seen → Verdict → Type 0
+IsSound p items (Explained certificate files) = IsExplained p certificate items files × AreInEveryRun p items files
+IsSound p items _ = Unit {0}
+
+-- no run's trace begins with the words up to this one, and the reason fits it
+abbrev pub IsImpossible : Contents → List Seen → Verdict → Type 0
+IsImpossible p items (Impossible i reason) = (i < length items) × FitsAt p.codes (slice_get items i) reason × (BeginsARun p (take (i + 1) items) → ⊥)
+IsImpossible p items _ = Unit {0}
+
+-- a word that claims to be one of the transfer and has none of its forms is recorded
+abbrev pub HasNoForm : Codes → List Seen → Type 0
+HasNoForm c [] = ⊥
+HasNoForm c (i ∷ items) = (sight_of c i.bus i.word ≡ sight.NoForm) ⊎ HasNoForm c items
+
+abbrev pub IsRefusal : Verdict → Type 0
+IsRefusal (Impossible i reason) = Unit {0}
+IsRefusal _ = ⊥
+
+-- the doubt fits the word at this place
+abbrev pub IsDoubted : Contents → List Seen → Verdict → Type 0
+IsDoubted p items (Unexplained i doubt) = IsDoubtAt p.codes items i doubt
+IsDoubted p items _ = Unit {0}

@@ -1,0 +1,119 @@
+//! Attempts, and the groups that they make.
+
+ghost use Rattle.std.specs.Prelude.{◌≡◌, ◌∷◌, List, Option, IfOk, not};
+ghost use Rattle.a429_ldu.specs.declared.forms.Form.{Form};
+ghost use Rattle.a429_cert.specs.Explained.{items_of};
+ghost use Rattle.a429_explain.specs.Attempts.{forms_of, sends, next_start, are_numbers, role_of, roles};
+ghost use Rattle.a429_explain.specs.Ahead.{IsAhead};
+
+use a429_ldu::Form;
+use a429_link::form_of;
+use a429_profile::Profile;
+use a429_record::Entry;
+use std::alloc::{AllocError, Global};
+
+/// The file number of a link data unit, and its own number in that file.
+#[derive(Clone, Copy, Debug, PartialEq, Eq)]
+pub(crate) struct Numbers {
+    pub file: u8,
+    pub ldu: u8,
+}
+
+/// What a recorded word is to the steps that are guessed.
+#[derive(Clone, Copy, Debug, PartialEq, Eq)]
+pub(crate) enum Role {
+    /// The transfer passes over it.
+    Free,
+    /// A request: an attempt begins, whose block has so many words.
+    Request { count: u8 },
+    /// The clear answer, and whether a word of the block was recorded in its attempt.
+    Clear { is_used: bool },
+    /// A start, data or end word.
+    OfBlock,
+    /// The negative answer.
+    Refused,
+    /// The acknowledgement, and whether it ends its group.
+    Acknowledged { ends_group: bool },
+}
+
+// What is recorded behind a word.
+#[derive(Clone, Copy, Debug)]
+pub(crate) struct Ahead {
+    /// A word of a block comes before the next request.
+    pub sends: bool,
+    /// The numbers of the next start word.
+    pub start: Option<Numbers>,
+}
+
+/// The role of each entry of a recording that no word is refused of.
+pub(crate) fn roles(
+    alloc: Global,
+    profile: &Profile,
+    entries: &[Entry],
+) -> Result<Vec<Role>, AllocError>
+    ensures { IfOk result (λ found. found.items ≡ roles (forms_of profile.now.codes (items_of entries.now))) }
+{
+    let mut found = Vec::new(alloc);
+    let mut ahead = Ahead {
+        sends: false,
+        start: None,
+    };
+    let mut left = entries.len();
+    while left > 0 {
+        left -= 1;
+        let entry = entries[left];
+        let said = form_of(profile, entry.bus, entry.word);
+        match found.push(role_of(&said, ahead)) {
+            Ok(()) => {}
+            Err(_) => return Err(AllocError),
+        }
+        ahead = before(&said, ahead);
+    }
+    found.reverse();
+    Ok(found)
+}
+
+fn role_of(said: &Option<Form>, ahead: Ahead) -> Role
+    ensures { (more : List (Option Form)) → IsAhead more ahead → result ≡ role_of said.now more }
+{
+    match *said {
+        None => Role::Free,
+        Some(Form::Rts { count }) => Role::Request { count },
+        Some(Form::Cts { .. }) => Role::Clear {
+            is_used: ahead.sends,
+        },
+        Some(Form::Ack { file, ldu }) => Role::Acknowledged {
+            ends_group: !are_numbers(ahead.start, file, ldu),
+        },
+        Some(Form::Nak { .. }) => Role::Refused,
+        Some(Form::Sot { .. } | Form::Part(_) | Form::Eot { .. }) => Role::OfBlock,
+    }
+}
+
+fn are_numbers(start: Option<Numbers>, file: u8, ldu: u8) -> bool
+    ensures { result ≡ are_numbers start file ldu }
+{
+    match start {
+        None => false,
+        Some(start) => start.file == file && start.ldu == ldu,
+    }
+}
+
+// What is ahead of the word before this one.
+fn before(said: &Option<Form>, ahead: Ahead) -> Ahead
+    ensures { (more : List (Option Form)) → IsAhead more ahead → IsAhead (said.now ∷ more) result }
+{
+    let start = ahead.start;
+    match *said {
+        None | Some(Form::Cts { .. } | Form::Ack { .. } | Form::Nak { .. }) => ahead,
+        Some(Form::Rts { .. }) => Ahead {
+            sends: false,
+            start,
+        },
+        Some(Form::Sot { file, ldu, .. }) => Ahead {
+            sends: true,
+            start: Some(Numbers { file, ldu }),
+        },
+        Some(Form::Part(_) | Form::Eot { .. }) => Ahead { sends: true, start },
+    }
+}

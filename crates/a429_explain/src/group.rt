@@ -1,0 +1,53 @@
+//! Where a group of attempts stands in a recording, and what is recorded there.
+
+ghost use Rattle.std.specs.Prelude.{◌≡◌, ◌<◌, ◌≤◌, ◌+◌, drop, length, slice_get};
+ghost use Rattle.a429_cert.specs.Explained.{items_of};
+ghost use Rattle.a429_explain.specs.Groups.{ends_group, group_length};
+ghost use Rattle.a429_explain.specs.Said.{said_at, IsSightInRange};
+
+use crate::attempts::Role;
+use a429_ldu::{Sight, form};
+use a429_profile::Profile;
+use a429_record::Entry;
+
+/// The entries of a group: those from its first request on, and before this one.
+#[derive(Clone, Copy, Debug)]
+pub(crate) struct Group {
+    pub from: usize,
+    pub to: usize,
+}
+
+/// The group that begins at this request: it goes up to the acknowledgement that ends it.
+pub(crate) fn group_at(roles: &[Role], from: usize) -> Group
+    requires { from < length roles.now }
+    ensures from { result.from ≡ from }
+    ensures to { result.to ≡ from + group_length (drop from roles.now) }
+    ensures some { from < result.to }
+    ensures inside { result.to ≤ length roles.now }
+{
+    for at in from..roles.len() {
+        if ends_group(roles[at]) {
+            return Group { from, to: at + 1 };
+        }
+    }
+    Group {
+        from,
+        to: roles.len(),
+    }
+}
+
+fn ends_group(role: Role) -> bool
+    ensures { result ≡ ends_group role }
+{
+    matches!(role, Role::Acknowledged { ends_group: true })
+}
+
+/// What an entry says.
+pub(crate) fn said_at(profile: &Profile, entries: &[Entry], at: usize) -> Sight
+    requires { at < length entries.now }
+    ensures said { result ≡ said_at profile.now.codes (slice_get (items_of entries.now) at) }
+    ensures range { IsSightInRange result }
+{
+    let entry = entries[at];
+    form(profile, entry.bus, entry.word)
+}
