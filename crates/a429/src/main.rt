@@ -2,8 +2,10 @@
 #![tactic(auto)]
 
 use a429_check::{
-    Command, RunFault, command, report, run_labels, run_make, run_show, run_verify, run_word,
+    Command, RunFault, command, report, run_check, run_extract, run_labels, run_make, run_show,
+    run_verify, run_word,
 };
+use a429_link::FileBytes;
 use a429_word::{Failing, Tally};
 use std::alloc::Global;
 use std::io::{BufWriter, ErrorKind, Read, Write};
@@ -41,6 +43,40 @@ fn run(rt: &(impl Files + Env + Print + AllocGlobal)) -> Result<u8, RunFault> {
             let profile = read_whole(rt, alloc, profile)?;
             let mut rec = opened(rt, recording, CAP)?;
             run_show(alloc, profile.as_slice(), &mut rec, &mut out)?
+        }
+        Command::Check {
+            profile,
+            recording,
+            certificate,
+        } => {
+            let profile = read_whole(rt, alloc, profile)?;
+            let mut rec = opened(rt, recording, CAP)?;
+            let mut cert = created(rt, certificate)?;
+            run_check(alloc, profile.as_slice(), &mut rec, &mut cert, &mut out)?
+        }
+        Command::Extract {
+            profile,
+            recording,
+            certificate,
+            folder,
+        } => {
+            let profile = read_whole(rt, alloc, profile)?;
+            let mut rec = opened(rt, recording, CAP)?;
+            let mut cert = opened(rt, certificate, CERTIFICATE_CAP)?;
+            let mut files = Vec::new(alloc);
+            let mut verdict = Vec::new(alloc);
+            let status = run_extract(
+                alloc,
+                profile.as_slice(),
+                &mut rec,
+                &mut cert,
+                &mut files,
+                &mut Tally::new(&mut verdict, 0),
+            )?;
+            // A yes is told only where its files are there.
+            write_files(rt, alloc, folder, files.as_slice())?;
+            out.put(verdict.as_slice())?;
+            status
         }
         Command::Verify {
             profile,
@@ -87,6 +123,28 @@ fn words_of(rt: &(impl Env + AllocGlobal), alloc: Global) -> Result<Vec<String>,
 fn opened<F: Files>(rt: &F, path: &str, cap: u64) -> Result<Tally<F::File>, RunFault> {
     let file = fs::open(rt, path).map_err(|_| RunFault::Device)?;
     Ok(Tally::new(file, cap))
+}
+
+// A file to write, which is emptied first.
+fn created<F: Files>(rt: &F, path: &str) -> Result<Tally<F::File>, RunFault> {
+    let file = fs::create(rt, path).map_err(|_| RunFault::Device)?;
+    Ok(Tally::new(file, 0))
+}
+
+// Writes each file that crossed into a folder, under its place from 1 in six digits.
+fn write_files(
+    rt: &impl Files,
+    alloc: Global,
+    folder: &str,
+    files: &[FileBytes],
+) -> Result<(), RunFault> {
+    for (i, file) in files.iter().enumerate() {
+        let Ok(path) = format!(in alloc; "{folder}/{:06}.bin", i + 1) else {
+            return Err(RunFault::Memory);
+        };
+        created(rt, path.as_str())?.put(file.bytes.as_slice())?;
+    }
+    Ok(())
 }
 
 // The bytes of a file.

@@ -6,3 +6,4 @@ pub mod ShowLines
 pub mod RecordingBytes
 pub mod Made
 pub mod Verdict
+pub mod Checked

@@ -33,6 +33,37 @@ pub fn command<'a>(alloc: Global, words: &'a [String]) -> Result<Command<'a>, Ru
             (Some(profile), Some(recording)) => Ok(Command::Show { profile, recording }),
             _ => Err(RunFault::Usage),
         },
+        Some(("check", given)) => {
+            let certificate = given.get_str("CERT");
+            match (given.get_str("PROFILE"), given.get_str("REC"), certificate) {
+                (Some(profile), Some(recording), Some(certificate)) => Ok(Command::Check {
+                    profile,
+                    recording,
+                    certificate,
+                }),
+                _ => Err(RunFault::Usage),
+            }
+        }
+        Some(("extract", given)) => {
+            let folder = given.get_str("DIR");
+            let certificate = given.get_str("CERT");
+            match (
+                given.get_str("PROFILE"),
+                given.get_str("REC"),
+                certificate,
+                folder,
+            ) {
+                (Some(profile), Some(recording), Some(certificate), Some(folder)) => {
+                    Ok(Command::Extract {
+                        profile,
+                        recording,
+                        certificate,
+                        folder,
+                    })
+                }
+                _ => Err(RunFault::Usage),
+            }
+        }
         Some(("verify", given)) => {
             let certificate = given.get_str("CERT");
             match (given.get_str("PROFILE"), given.get_str("REC"), certificate) {
@@ -63,7 +94,9 @@ fn parser<'a>(alloc: Global) -> Result<Parser<'a>, AllocError> {
         .subcommand(with_words(alloc, "word", &["HEX"])?)?
         .subcommand(with_words(alloc, "labels", &["PROFILE"])?)?
         .subcommand(with_words(alloc, "show", &["PROFILE", "REC"])?)?
+        .subcommand(with_words(alloc, "check", &["PROFILE", "REC", "CERT"])?)?
         .subcommand(with_words(alloc, "verify", &["PROFILE", "REC", "CERT"])?)?
+        .subcommand(with_words(alloc, "extract", &["PROFILE", "REC", "CERT", "DIR"])?)?
         .subcommand(with_words(alloc, "make", &["PROFILE"])?.arg(any_number(alloc, "FILE"))?)
 }
 

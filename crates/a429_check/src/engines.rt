@@ -1,5 +1,7 @@
 //! What each command writes and answers, a file for each.
 
+pub mod check;
+pub mod extract;
 pub mod labels;
 pub mod make;
 mod output;

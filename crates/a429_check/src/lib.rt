@@ -8,6 +8,8 @@ mod fault;
 
 pub use crate::command_line::command;
 pub use crate::command_line::commands::Command;
+pub use crate::engines::check::run_check;
+pub use crate::engines::extract::run_extract;
 pub use crate::engines::labels::run_labels;
 pub use crate::engines::make::run_make;
 pub use crate::engines::show::run_show;

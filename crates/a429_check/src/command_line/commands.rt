@@ -12,6 +12,19 @@ pub enum Command<'a> {
         profile: &'a str,
         recording: &'a str,
     },
+    /// `check PROFILE REC CERT`: finds a certificate for a recording, and writes it to CERT.
+    Check {
+        profile: &'a str,
+        recording: &'a str,
+        certificate: &'a str,
+    },
+    /// `extract PROFILE REC CERT DIR`: takes out the files that crossed, into the folder DIR.
+    Extract {
+        profile: &'a str,
+        recording: &'a str,
+        certificate: &'a str,
+        folder: &'a str,
+    },
     /// `verify PROFILE REC CERT`: holds a certificate against a recording.
     Verify {
         profile: &'a str,

@@ -2,6 +2,7 @@
 
 use crate::{Command, RunFault, command};
 use std::alloc::{AllocError, Global};
+use std::process::Abort;
 use std::test::Fail;
 
 fn strings(alloc: Global, words: &[&str]) -> Result<Vec<String>, AllocError> {
@@ -36,6 +37,30 @@ fn words_of_a_command(rt: HostRuntime) -> Result<(), Fail> {
 }
 
 #[test]
+fn check_and_extract(rt: HostRuntime) -> Result<(), Fail> {
+    let alloc = rt.alloc();
+    let words = strings(alloc, &["check", "bench.toml", "bench.csv", "bench.cert"])?;
+    let check = Command::Check {
+        profile: "bench.toml",
+        recording: "bench.csv",
+        certificate: "bench.cert",
+    };
+    assert!(rt; command(alloc, words.as_slice()) == Ok(check));
+    let words = strings(
+        alloc,
+        &["extract", "bench.toml", "bench.csv", "bench.cert", "files"],
+    )?;
+    let extract = Command::Extract {
+        profile: "bench.toml",
+        recording: "bench.csv",
+        certificate: "bench.cert",
+        folder: "files",
+    };
+    assert!(rt; command(alloc, words.as_slice()) == Ok(extract));
+    Ok(())
+}
+
+#[test]
 fn verify_takes_three_words(rt: HostRuntime) -> Result<(), Fail> {
     let alloc = rt.alloc();
     let words = strings(alloc, &["verify", "bench.toml", "bench.csv", "bench.cert"])?;
@@ -50,29 +75,32 @@ fn verify_takes_three_words(rt: HostRuntime) -> Result<(), Fail> {
     Ok(())
 }
 
+// The command is to make the recording of so many files.
+fn makes(rt: &(impl Abort + AllocGlobal), words: &[&str], count: usize) -> Result<(), Fail> {
+    let words = strings(rt.alloc(), words)?;
+    match command(rt.alloc(), words.as_slice()) {
+        Ok(Command::Make { profile, files }) => {
+            assert_eq!(rt; profile, "bench.toml");
+            assert_eq!(rt; files.len(), count);
+        }
+        _ => panic!(rt; "another command"),
+    }
+    Ok(())
+}
+
 #[test]
 fn make_takes_any_number_of_files(rt: HostRuntime) -> Result<(), Fail> {
-    let alloc = rt.alloc();
-    let words = strings(alloc, &["make", "bench.toml"])?;
-    let none = Command::Make {
-        profile: "bench.toml",
-        files: Vec::new(alloc),
-    };
-    assert!(rt; command(alloc, words.as_slice()) == Ok(none));
-    let words = strings(alloc, &["make", "bench.toml", "one.bin", "two.bin"])?;
-    let two = Command::Make {
-        profile: "bench.toml",
-        files: Vec::from_slice(alloc, &["one.bin", "two.bin"])?,
-    };
-    assert!(rt; command(alloc, words.as_slice()) == Ok(two));
-    Ok(())
+    makes(&rt, &["make", "bench.toml"], 0)?;
+    makes(&rt, &["make", "bench.toml", "one.bin", "two.bin"], 2)
 }
 
 #[test]
 fn other_words_are_usage(rt: HostRuntime) -> Result<(), Fail> {
     let alloc = rt.alloc();
-    let cases: [&[&str]; 19] = [
+    let cases: [&[&str]; 21] = [
         &["labels"],
+        &["check", "bench.toml", "bench.csv"],
+        &["extract", "bench.toml", "bench.csv", "bench.cert"],
         &["make"],
         &["show", "bench.toml"],
         &["show", "bench.toml", "bench.csv", "other.csv"],

@@ -37,7 +37,7 @@ fn a_file_of_one_byte(rt: HostRuntime) -> Result<(), Fail> {
 
 // The line of an entry, counted from 0.
 fn line_is(rt: &impl Abort, text: &str, entry: usize, line: &str) -> Result<(), Fail> {
-    let found = text.lines().nth(entry + 1).ok_or("no such line")?;
+    let found = text.lines().skip(1).nth(entry).ok_or("no such line")?;
     assert_eq!(rt; found, line);
     Ok(())
 }

@@ -1,0 +1,131 @@
+//! `a429 check PROFILE REC CERT`: finds a certificate for a recording, or says why there is none.
+
+ghost use Rattle.std.specs.Prelude.{◌≡◌, ◌++◌, ℕ, List, codes, true, false, IsErr, IfOk, IfErr, IfSome, OnOk};
+ghost use Rattle.std.specs.Fmt.{decimal};
+ghost use Rattle.std.specs.Io.KnownBytes.{Appends};
+ghost use Rattle.a429_word.specs.Tally.{inner_of, has_failed};
+ghost use Rattle.a429_check.specs.ProfileBytes.{IsSound};
+ghost use Rattle.a429_check.specs.Verdict.{IsVerifyFault};
+ghost use Rattle.a429_check.specs.Checked.{reason_text, doubt_text, verdict_text, certificate_text, verdict_status, IsVerdictOn, IsChecked};
+
+use crate::engines::output::put_decimal;
+use crate::engines::profile::profile_of;
+use crate::engines::recording::entries_of;
+use crate::engines::verdict::put_yes;
+use crate::fault::RunFault;
+use a429_explain::{Doubt, Reason, Verdict, check};
+use a429_word::{Device, Tally};
+use std::alloc::Global;
+use std::io::{Read, Write};
+
+/// Writes the verdict on a recording to `out`, and where it is explained the certificate to
+/// `certificate` before, and answers the verdict's status: 0 explained, 1 impossible, 2 unexplained.
+/// `profile` is the bytes of its text.
+pub fn run_check<R: Read, C: Write, W: Write>(
+    alloc: Global,
+    profile: &[u8],
+    rec: &mut Tally<R>,
+    certificate: &mut Tally<C>,
+    out: &mut Tally<W>,
+) -> Result<u8, RunFault>
+    ensures verdict { IfOk result (λ status. IfSome (R.remaining (inner_of rec.old)) (λ bytes. (text : List ℕ) × (proof : List ℕ) × IsChecked profile.now bytes status text proof
+        × Appends (C.contents (inner_of certificate.old)) (C.contents (inner_of certificate.new)) proof × Appends (W.contents (inner_of out.old)) (W.contents (inner_of out.new)) text)) }
+    ensures err { IfErr result (IsVerifyFault profile.now (R.remaining (inner_of rec.old)) (has_failed rec.new) (has_failed certificate.new) (has_failed out.new)) }
+{
+    let verdict = verdict_on(alloc, profile, rec)?;
+    put_certificate(certificate, &verdict)?;
+    put_verdict(out, &verdict)?;
+    Ok(status_of(&verdict))
+}
+
+// The verdict on a recording.
+fn verdict_on<R: Read>(
+    alloc: Global,
+    profile: &[u8],
+    rec: &mut Tally<R>,
+) -> Result<Verdict, RunFault>
+    ensures verdict { IfOk result (λ v. IfSome (R.remaining (inner_of rec.old)) (λ bytes. IsVerdictOn profile.now bytes v)) }
+    ensures sound { OnOk result (IsSound profile.now) }
+    ensures err { IfErr result (IsVerifyFault profile.now (R.remaining (inner_of rec.old)) (has_failed rec.new) false false) }
+{
+    let profile = profile_of(alloc, profile)?;
+    let entries = entries_of(alloc, rec)?;
+    match check(alloc, &profile, entries.as_slice()) {
+        Ok(verdict) => Ok(verdict),
+        Err(_) => Err(RunFault::Memory),
+    }
+}
+
+fn status_of(verdict: &Verdict) -> u8
+    ensures { result ≡ verdict_status verdict.now }
+{
+    match verdict {
+        Verdict::Explained { .. } => 0,
+        Verdict::Impossible { .. } => 1,
+        Verdict::Unexplained { .. } => 2,
+    }
+}
+
+fn put_certificate<W: Write>(out: &mut Tally<W>, verdict: &Verdict) -> Result<(), Device>
+    ensures ok { OnOk result (Appends (W.contents (inner_of out.old)) (W.contents (inner_of out.new)) (certificate_text verdict.now)) }
+    ensures device { IsErr result → has_failed out.new ≡ true }
+{
+    match verdict {
+        Verdict::Explained { certificate, .. } => out.put(certificate.as_slice()),
+        Verdict::Impossible { .. } | Verdict::Unexplained { .. } => Ok(()),
+    }
+}
+
+fn put_verdict<W: Write>(out: &mut Tally<W>, verdict: &Verdict) -> Result<(), Device>
+    ensures ok { OnOk result (Appends (W.contents (inner_of out.old)) (W.contents (inner_of out.new)) (verdict_text verdict.now)) }
+    ensures device { IsErr result → has_failed out.new ≡ true }
+{
+    match verdict {
+        Verdict::Explained { files, .. } => put_yes(out, files.files()),
+        Verdict::Impossible { entry, reason } => put_impossible(out, *entry, *reason),
+        Verdict::Unexplained { entry, doubt } => put_unexplained(out, *entry, *doubt),
+    }
+}
+
+fn put_impossible<W: Write>(out: &mut Tally<W>, entry: usize, reason: Reason) -> Result<(), Device>
+    ensures ok { OnOk result (Appends (W.contents (inner_of out.old)) (W.contents (inner_of out.new)) (verdict_text (Verdict.Impossible entry reason))) }
+    ensures device { IsErr result → has_failed out.new ≡ true }
+{
+    out.put(b"IMPOSSIBLE ")?;
+    put_decimal(out, entry as u64)?;
+    put_reason(out, reason)
+}
+
+fn put_unexplained<W: Write>(out: &mut Tally<W>, entry: usize, doubt: Doubt) -> Result<(), Device>
+    ensures ok { OnOk result (Appends (W.contents (inner_of out.old)) (W.contents (inner_of out.new)) (verdict_text (Verdict.Unexplained entry doubt))) }
+    ensures device { IsErr result → has_failed out.new ≡ true }
+{
+    out.put(b"UNEXPLAINED ")?;
+    put_decimal(out, entry as u64)?;
+    put_doubt(out, doubt)
+}
+
+fn put_reason<W: Write>(out: &mut Tally<W>, reason: Reason) -> Result<(), Device>
+    ensures ok { OnOk result (Appends (W.contents (inner_of out.old)) (W.contents (inner_of out.new)) (reason_text reason)) }
+    ensures device { IsErr result → has_failed out.new ≡ true }
+{
+    match reason {
+        Reason::NoForm => out.put(b" NoForm\n"),
+        Reason::NotGranted => out.put(b" NotGranted\n"),
+        Reason::WrongAnswer => out.put(b" WrongAnswer\n"),
+    }
+}
+
+fn put_doubt<W: Write>(out: &mut Tally<W>, doubt: Doubt) -> Result<(), Device>
+    ensures ok { OnOk result (Appends (W.contents (inner_of out.old)) (W.contents (inner_of out.new)) (doubt_text doubt)) }
+    ensures device { IsErr result → has_failed out.new ≡ true }
+{
+    match doubt {
+        Doubt::NeverWhole => out.put(b" NeverWhole\n"),
+        Doubt::NotOneBlock => out.put(b" NotOneBlock\n"),
+        Doubt::NotReplayed => out.put(b" NotReplayed\n"),
+    }
+}
+
+#[cfg(test)]
+mod tests;
