@@ -39,62 +39,106 @@ fn run(rt: &(impl Files + Env + Print + AllocGlobal)) -> Result<u8, RunFault> {
             let profile = read_whole(rt, alloc, profile)?;
             run_labels(alloc, profile.as_slice(), &mut out)?
         }
-        Command::Show { profile, recording } => {
-            let profile = read_whole(rt, alloc, profile)?;
-            let mut rec = opened(rt, recording, CAP)?;
-            run_show(alloc, profile.as_slice(), &mut rec, &mut out)?
-        }
+        Command::Show { profile, recording } => show(rt, alloc, profile, recording, &mut out)?,
+        Command::Make { profile, files } => make(rt, alloc, profile, files.as_slice(), &mut out)?,
         Command::Check {
             profile,
             recording,
             certificate,
-        } => {
-            let profile = read_whole(rt, alloc, profile)?;
-            let mut rec = opened(rt, recording, CAP)?;
-            let mut cert = created(rt, certificate)?;
-            run_check(alloc, profile.as_slice(), &mut rec, &mut cert, &mut out)?
-        }
+        } => check(rt, alloc, profile, recording, certificate, &mut out)?,
+        Command::Verify {
+            profile,
+            recording,
+            certificate,
+        } => verify(rt, alloc, profile, recording, certificate, &mut out)?,
         Command::Extract {
             profile,
             recording,
             certificate,
             folder,
-        } => {
-            let profile = read_whole(rt, alloc, profile)?;
-            let mut rec = opened(rt, recording, CAP)?;
-            let mut cert = opened(rt, certificate, CERTIFICATE_CAP)?;
-            let mut files = Vec::new(alloc);
-            let mut verdict = Vec::new(alloc);
-            let status = run_extract(
-                alloc,
-                profile.as_slice(),
-                &mut rec,
-                &mut cert,
-                &mut files,
-                &mut Tally::new(&mut verdict, 0),
-            )?;
-            // A yes is told only where its files are there.
-            write_files(rt, alloc, folder, files.as_slice())?;
-            out.put(verdict.as_slice())?;
-            status
-        }
-        Command::Verify {
-            profile,
-            recording,
-            certificate,
-        } => {
-            let profile = read_whole(rt, alloc, profile)?;
-            let mut rec = opened(rt, recording, CAP)?;
-            let mut cert = opened(rt, certificate, CERTIFICATE_CAP)?;
-            run_verify(alloc, profile.as_slice(), &mut rec, &mut cert, &mut out)?
-        }
-        Command::Make { profile, files } => {
-            let profile = read_whole(rt, alloc, profile)?;
-            let files = read_all(rt, alloc, files.as_slice())?;
-            run_make(alloc, profile.as_slice(), files.as_slice(), &mut out)?
-        }
+        } => extract(rt, alloc, profile, recording, certificate, folder, &mut out)?,
     };
     out.flush().map_err(|_| RunFault::Device)?;
+    Ok(status)
+}
+
+fn show<W: Write>(
+    rt: &impl Files,
+    alloc: Global,
+    profile: &str,
+    recording: &str,
+    out: &mut Tally<W>,
+) -> Result<u8, RunFault> {
+    let profile = read_whole(rt, alloc, profile)?;
+    let mut rec = opened(rt, recording, CAP)?;
+    run_show(alloc, profile.as_slice(), &mut rec, out)
+}
+
+fn make<W: Write>(
+    rt: &impl Files,
+    alloc: Global,
+    profile: &str,
+    files: &[&str],
+    out: &mut Tally<W>,
+) -> Result<u8, RunFault> {
+    let profile = read_whole(rt, alloc, profile)?;
+    let files = read_all(rt, alloc, files)?;
+    run_make(alloc, profile.as_slice(), files.as_slice(), out)
+}
+
+fn check<W: Write>(
+    rt: &impl Files,
+    alloc: Global,
+    profile: &str,
+    recording: &str,
+    certificate: &str,
+    out: &mut Tally<W>,
+) -> Result<u8, RunFault> {
+    let profile = read_whole(rt, alloc, profile)?;
+    let mut rec = opened(rt, recording, CAP)?;
+    let mut cert = created(rt, certificate)?;
+    run_check(alloc, profile.as_slice(), &mut rec, &mut cert, out)
+}
+
+fn verify<W: Write>(
+    rt: &impl Files,
+    alloc: Global,
+    profile: &str,
+    recording: &str,
+    certificate: &str,
+    out: &mut Tally<W>,
+) -> Result<u8, RunFault> {
+    let profile = read_whole(rt, alloc, profile)?;
+    let mut rec = opened(rt, recording, CAP)?;
+    let mut cert = opened(rt, certificate, CERTIFICATE_CAP)?;
+    run_verify(alloc, profile.as_slice(), &mut rec, &mut cert, out)
+}
+
+fn extract<W: Write>(
+    rt: &impl Files,
+    alloc: Global,
+    profile: &str,
+    recording: &str,
+    certificate: &str,
+    folder: &str,
+    out: &mut Tally<W>,
+) -> Result<u8, RunFault> {
+    let profile = read_whole(rt, alloc, profile)?;
+    let mut rec = opened(rt, recording, CAP)?;
+    let mut cert = opened(rt, certificate, CERTIFICATE_CAP)?;
+    let mut files = Vec::new(alloc);
+    let mut verdict = Vec::new(alloc);
+    let status = run_extract(
+        alloc,
+        profile.as_slice(),
+        &mut rec,
+        &mut cert,
+        &mut files,
+        &mut Tally::new(&mut verdict, 0),
+    )?;
+    // A yes is told only where its files are there.
+    write_files(rt, alloc, folder, files.as_slice())?;
+    out.put(verdict.as_slice())?;
     Ok(status)
 }
 

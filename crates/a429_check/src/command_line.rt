@@ -4,7 +4,7 @@ ghost use Rattle.std.specs.Prelude.{◌≡◌, ◌⊎◌, IfErr};
 
 use crate::fault::RunFault;
 use clap::error::ErrorKind;
-use clap::{Arg, ArgAction, Command as Parser};
+use clap::{Arg, ArgAction, ArgMatches, Command as Parser};
 use commands::Command;
 use std::alloc::{AllocError, Global};
 
@@ -29,52 +29,6 @@ pub fn command<'a>(alloc: Global, words: &'a [String]) -> Result<Command<'a>, Ru
             Some(profile) => Ok(Command::Labels(profile)),
             None => Err(RunFault::Usage),
         },
-        Some(("show", given)) => match (given.get_str("PROFILE"), given.get_str("REC")) {
-            (Some(profile), Some(recording)) => Ok(Command::Show { profile, recording }),
-            _ => Err(RunFault::Usage),
-        },
-        Some(("check", given)) => {
-            let certificate = given.get_str("CERT");
-            match (given.get_str("PROFILE"), given.get_str("REC"), certificate) {
-                (Some(profile), Some(recording), Some(certificate)) => Ok(Command::Check {
-                    profile,
-                    recording,
-                    certificate,
-                }),
-                _ => Err(RunFault::Usage),
-            }
-        }
-        Some(("extract", given)) => {
-            let folder = given.get_str("DIR");
-            let certificate = given.get_str("CERT");
-            match (
-                given.get_str("PROFILE"),
-                given.get_str("REC"),
-                certificate,
-                folder,
-            ) {
-                (Some(profile), Some(recording), Some(certificate), Some(folder)) => {
-                    Ok(Command::Extract {
-                        profile,
-                        recording,
-                        certificate,
-                        folder,
-                    })
-                }
-                _ => Err(RunFault::Usage),
-            }
-        }
-        Some(("verify", given)) => {
-            let certificate = given.get_str("CERT");
-            match (given.get_str("PROFILE"), given.get_str("REC"), certificate) {
-                (Some(profile), Some(recording), Some(certificate)) => Ok(Command::Verify {
-                    profile,
-                    recording,
-                    certificate,
-                }),
-                _ => Err(RunFault::Usage),
-            }
-        }
         Some(("make", given)) => match given.get_str("PROFILE") {
             Some(profile) => Ok(Command::Make {
                 profile,
@@ -82,6 +36,44 @@ pub fn command<'a>(alloc: Global, words: &'a [String]) -> Result<Command<'a>, Ru
             }),
             None => Err(RunFault::Usage),
         },
+        Some((name, given)) => of_recording(name, given),
+        None => Err(RunFault::Usage),
+    }
+}
+
+// The commands that take a profile and a recording, and then more.
+fn of_recording<'a>(name: &str, given: &ArgMatches<'a>) -> Result<Command<'a>, RunFault>
+    ensures { IfErr result (λ e. e ≡ RunFault.Usage) }
+{
+    let Some(profile) = given.get_str("PROFILE") else {
+        return Err(RunFault::Usage);
+    };
+    let Some(recording) = given.get_str("REC") else {
+        return Err(RunFault::Usage);
+    };
+    if name == "show" {
+        return Ok(Command::Show { profile, recording });
+    }
+    let Some(certificate) = given.get_str("CERT") else {
+        return Err(RunFault::Usage);
+    };
+    match (name, given.get_str("DIR")) {
+        ("check", _) => Ok(Command::Check {
+            profile,
+            recording,
+            certificate,
+        }),
+        ("verify", _) => Ok(Command::Verify {
+            profile,
+            recording,
+            certificate,
+        }),
+        ("extract", Some(folder)) => Ok(Command::Extract {
+            profile,
+            recording,
+            certificate,
+            folder,
+        }),
         _ => Err(RunFault::Usage),
     }
 }
