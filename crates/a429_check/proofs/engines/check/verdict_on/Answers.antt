@@ -9,4 +9,5 @@ returns-in-Ok-clause-verdict g c =
       impossible = rw slice at c.in-Ok.ensures.impossible;
       doubted = rw slice at c.in-Ok.ensures.doubted;
       no_form = rw slice at c.in-Ok.ensures.no_form;
+      without_loss = rw slice at c.in-Ok.ensures.without_loss;
     }
