@@ -1,5 +1,5 @@
 -- A recording without loss is that of a run, and its files' link data units fit.
-use Rattle.std.proofs.Common.{Result, Ok, Err, IsErr, IfOk, ◌≡◌, ◌≢◌, ◌≤◌, ◌<◌, ◌*◌, ◌+◌, ℕ, Bool, true, false, cond, List, [], ◌∷◌, length, take, drop, ◌==◌, nat_lt, Option, Some, None, All, refl, sym, ◌∙◌, arith}
+use Rattle.std.proofs.Common.{map, ◌++◌, ap, Result, Ok, Err, IsErr, IfOk, ◌≡◌, ◌≢◌, ◌≤◌, ◌<◌, ◌*◌, ◌+◌, ℕ, Bool, true, false, cond, List, [], ◌∷◌, length, take, drop, ◌==◌, nat_lt, Option, Some, None, All, refl, sym, ◌∙◌, arith}
 use Rattle.std.specs.List.{AllByRecursion}
 use Rattle.std.proofs.lemmas.Bool.{eqb-false, ltb-false}
 use Rattle.std.proofs.lemmas.List.{take-append-drop}
@@ -8,11 +8,14 @@ use Rattle.a429_profile.specs.Contents.{Contents, IsProfile}
 use Rattle.a429_ldu.specs.declared.fault.CutFault.{CutFault}
 use Rattle.a429_ldu.specs.declared.fault.CutFault.TheVariants as cut
 use Rattle.a429_ldu.specs.Cut.{room}
-use Rattle.a429_ldu.specs.Ldu.{LduValue}
+use Rattle.a429_word.specs.declared.bus.Bus.TheVariants as bus
+use Rattle.a429_ldu.specs.declared.forms.Form.{Form}
+use Rattle.a429_ldu.specs.Form.{form_of, is_free}
+use Rattle.a429_ldu.specs.Ldu.{LduValue, block_of}
 use Rattle.a429_ldu.proofs.Cuts.{units}
 use Rattle.a429_link.specs.declared.fault.CleanFault.{CleanFault}
 use Rattle.a429_link.specs.declared.seen.Seen.{Seen}
-use Rattle.a429_link.specs.Clean.{AllFit, thin, clean, clean_steps, weave, units_of_files, cut_fault, refused_or, first_refused}
+use Rattle.a429_link.specs.Clean.{AllFit, on_a, next_file, next_ldu, clean_block, clean_words, thin, clean, clean_steps, weave, units_of_files, cut_fault, refused_or, first_refused}
 use Rattle.a429_link.specs.Run.{BeginsARun}
 use Rattle.a429_link.proofs.CleanFiles.{EachCut, all_fit}
 use Rattle.a429_link.proofs.CleanRuns.{clean_is_run}
@@ -34,7 +37,9 @@ use Rattle.a429_explain.specs.Told.{IsCertificateOf}
 use Rattle.a429_explain.specs.Verdict.{IsExplanation}
 use Rattle.a429_explain.specs.Crossed.{first_file_of}
 use Rattle.a429_explain.specs.WithoutLoss.{IsWithoutLoss}
-use Rattle.a429_explain.proofs.CleanGroups.{clean_from_first}
+use Rattle.a429_explain.specs.Matching.{IsOfBlock}
+use Rattle.a429_explain.proofs.CleanBlock.{AreSaid, AreOfBlock, block_said, formed_free}
+use Rattle.a429_explain.proofs.CleanGroups.{clean_from_first, unit_said, file_small}
 use Rattle.a429_explain.proofs.Planned.{OnPlan, plan_starts}
 
 -- none of some files is refused: the first is not, and none of the others
@@ -116,3 +121,46 @@ only_memory p items text f h first = by f first
 pub no_ok : {E : Type 0} (r : Result Verdict E) → IsErr r → IfOk r IsExplanation
 no_ok (Ok x) h = absurd (cc h)
 no_ok (Err e) h = tt
+
+-- ---- what a run without loss records is a recording without loss
+
+abbrev AreKept : Codes → List Seen → Type 0
+AreKept c [] = Unit {0}
+AreKept c (i ∷ items) = (is_free c i.bus i.word ≡ false) × AreKept c items
+
+thin_kept : (c : Codes) (items : List Seen) → AreKept c items → thin c items ≡ items
+thin_kept c [] h = refl
+thin_kept c (i ∷ items) h = rw h.0 (ap (λ (xs : List Seen). i ∷ xs) (thin_kept c items h.1))
+
+kept_append : (c : Codes) (xs ys : List Seen) → AreKept c xs → AreKept c ys → AreKept c (xs ++ ys)
+kept_append c [] ys h k = k
+kept_append c (x ∷ xs) ys h k = (h.0, kept_append c xs ys h.1 k)
+
+word_kept : (c : Codes) (w : ℕ) (o : Option Form) → form_of c bus.A w ≡ o → IsOfBlock o → is_free c bus.A w ≡ false
+word_kept c w None e h = absurd h
+word_kept c w (Some x) e h = formed_free c bus.A w x e
+
+words_kept : (c : Codes) (ws : List ℕ) → AreOfBlock c ws → AreKept c (map on_a ws)
+words_kept c [] h = tt
+words_kept c (w ∷ ws) h = (word_kept c w (form_of c bus.A w) refl h.0, words_kept c ws h.1)
+
+block_kept : (p : Contents) (file ldu : ℕ) (u : LduValue) → AreSaid p file ldu u → AreKept p.codes (clean_block p.codes file ldu u)
+block_kept p file ldu u s =
+    (formed_free p.codes bus.A _ _ s.request, (formed_free p.codes bus.B _ _ s.clear, kept_append p.codes (map on_a (block_of p.codes u file ldu)) _ (words_kept p.codes (block_of p.codes u file ldu) (block_said p file ldu u s)) (formed_free p.codes bus.B _ _ s.settled, tt)))
+
+clean_kept : (p : Contents) → IsProfile p → (us : List LduValue) (file ldu : ℕ) → file ≤ 255 → AllFit p ldu us → AreKept p.codes (clean p.codes file ldu us)
+clean_kept p is [] file ldu f h = tt
+clean_kept p is (u ∷ us) file ldu f h = kept_append p.codes (clean_block p.codes file ldu u) _ (block_kept p file ldu u (unit_said p is file ldu u f h.1 h.0)) (clean_kept p is us (next_file p.codes file u) (next_ldu p.codes ldu u) (file_small p.codes file u f) h.2)
+
+pub clean_without_loss : (p : Contents) (first w : ℕ) (files : List (List ℕ)) → IsProfile p → first ≤ 255 → 3 ≤ w → w ≤ 255 → AllByRecursion (All (λ b. b < 256)) files → first_refused w 0 files ≡ None → IsWithoutLoss p (clean_words p w first files)
+clean_without_loss p first w files is byte least most small whole = record {
+  first = first;
+  byte = byte;
+  max_words = w;
+  least = least;
+  most = most;
+  files = files;
+  bytes = small;
+  cut = whole;
+  words = thin_kept p.codes (clean_words p w first files) (clean_kept p is (units_of_files p w files) first p.codes.first_ldu byte (all_fit p w files (each_cut p is w 0 files least most small whole)));
+}

@@ -7,6 +7,7 @@ mod certificate;
 mod checking;
 mod filler;
 mod group;
+pub mod laws;
 mod matching;
 mod scribe;
 mod stop;
