@@ -87,10 +87,6 @@ paired-odd : (bs : List ℕ) (d : ℕ) → paired (semis_of_bytes bs ++ d ∷ []
 paired-odd [] d = refl
 paired-odd (b ∷ bs) d = ap (option_map (λ ns. (b % 16 + 16 * (b / 16)) ∷ ns)) (paired-odd bs d)
 
--- one semi-octet more
-pub digit-low : (bs : List ℕ) (low : Option ℕ) (d : ℕ) → low ≡ None → semis_of_bytes bs ++ d ∷ [] ≡ (semis_of_bytes bs ++ option_to_list low) ++ d ∷ []
-digit-low bs low d e = ap (λ xs. xs ++ d ∷ []) (sym (ap (λ o. semis_of_bytes bs ++ option_to_list o) e ∙ append-nil (semis_of_bytes bs)))
-
 semis-append : (bs cs : List ℕ) → semis_of_bytes (bs ++ cs) ≡ semis_of_bytes bs ++ semis_of_bytes cs
 semis-append [] cs = refl
 semis-append (b ∷ bs) cs = ap (λ xs. b % 16 ∷ b / 16 ∷ xs) (semis-append bs cs)

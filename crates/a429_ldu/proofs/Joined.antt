@@ -141,8 +141,3 @@ form_of-is p is b w x = (
 
 pub form_of-word_number : (p : Contents) → IsProfile p → (x : Form) → IsInRange x → form_of p.codes (bus_of x) (word_number p.codes x) ≡ Some x
 form_of-word_number p is x h = form_of-from p.codes (bus_of x) (word_number p.codes x) x (distinct p is) (word_number-is p is x h)
-
-pub word_number-form_of : (p : Contents) → IsProfile p → (b : Bus) (w : ℕ) (x : Form) → form_of p.codes b w ≡ Some x → word_number p.codes x ≡ w
-word_number-form_of p is b w x e =
-    let h = (form_of-to p.codes b w x e).1 in
-    one_word p.codes (bus_of x) (word_number p.codes x) w x (word_number-is p is x h.range) (form_of_put p.codes w x h.range (put_of_form p.codes b w x h))

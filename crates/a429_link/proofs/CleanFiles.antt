@@ -154,10 +154,6 @@ pub record AreWords (c : Codes) (file first ldu i : ℕ) (us : List LduValue) (o
   pub told : now ++ clean c file ldu (drop i us) ≡ old ++ clean c file first us
   pub rest : IsTail c (drop i us)
 
-pub words_start : (c : Codes) (file first : ℕ) (us : List LduValue) (old : List Seen) → OnlyLastIsFinal c us → AreWords c file first first 0 us old old
-words_start c file first [] old h = absurd h
-words_start c file first (u ∷ us) old h = record { number = omega arith; told = refl; rest = h }
-
 pub words_more : (c : Codes) (file first ldu i : ℕ) (us : List LduValue) (old now new : List Seen) (u : LduValue) → i < length us → u ≡ get_or us i u → new ≡ now ++ clean_block c file ldu u → AreWords c file first ldu i us old now → AreWords c file first (ldu + 1) (i + 1) us old new
 words_more c file first ldu i us old now new u l eu en h =
     let split : drop i us ≡ u ∷ drop (i + 1) us = drop_more us i u l ∙ ap (λ (v : LduValue). v ∷ drop (i + 1) us) (sym eu) in
@@ -184,10 +180,6 @@ pub record AreFiles (p : Contents) (w first file k : ℕ) (files : List (List �
   pub told : now ++ clean_words p w file (drop k files) ≡ clean_words p w first files
   pub refused : first_refused w k (drop k files) ≡ first_refused w 0 files
   pub each : EachCut p w (drop k files) → EachCut p w files
-
-pub files_start : (p : Contents) (w first : ℕ) (files : List (List ℕ)) → AreFiles p w first first 0 files []
-files_start p w first [] = record { told = refl; refused = refl; each = λ h. h }
-files_start p w first (f ∷ files) = record { told = refl; refused = refl; each = λ h. h }
 
 -- one more file is cut
 pub files_more : (p : Contents) (w first file k : ℕ) (files : List (List ℕ)) (now new : List Seen) (f : List ℕ) → k < length files → f ≡ get_or files k f → cut_fault w f ≡ None → AreUnits p w f (units_of p w f) → new ≡ now ++ clean p.codes file p.codes.first_ldu (units_of p w f) → AreFiles p w first file k files now → AreFiles p w first ((file + 1) % 256) (k + 1) files new

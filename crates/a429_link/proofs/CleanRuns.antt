@@ -196,10 +196,6 @@ source_next c file ldu u = by_final (is_final c u.flags)
     by_final true = refl
     by_final false = refl
 
-map_append : (xs ys : List ℕ) → map sends (xs ++ ys) ≡ map sends xs ++ map sends ys
-map_append [] ys = refl
-map_append (x ∷ xs) ys = ap (λ (l : List (List Step)). sends x ∷ l) (map_append xs ys)
-
 joined_words : (ws : List ℕ) (ack : ℕ) → all_steps (map sends ws ++ replies ack ∷ []) ≡ all_steps (map sends ws) ++ replies ack
 joined_words ws ack = joined_append (map sends ws) (replies ack ∷ []) ∙ ap (λ (l : List Step). all_steps (map sends ws) ++ l) (append-nil (replies ack))
 

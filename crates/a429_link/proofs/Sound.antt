@@ -7,12 +7,10 @@ use Rattle.a429_profile.specs.Contents.{Contents}
 use Rattle.a429_word.specs.declared.bus.Bus.{Bus}
 use Rattle.a429_profile.specs.Contents.{IsProfile}
 use Rattle.a429_profile.proofs.Ranges.{in_range}
-use Rattle.a429_profile.specs.declared.codes.Codes.{Codes}
 use Rattle.a429_ldu.specs.declared.forms.Form.{Form}
 use Rattle.a429_ldu.specs.declared.forms.Form.TheVariants as form
-use Rattle.a429_ldu.specs.Form.{IsFree, IsForm, form_on, fields_of}
+use Rattle.a429_ldu.specs.Form.{IsForm, form_on, fields_of}
 use Rattle.a429_ldu.specs.Carried.{AreDataWords}
-use Rattle.a429_ldu.proofs.Free.{is_free-decides}
 use Rattle.a429_ldu.proofs.Units.{few_bytes}
 use Rattle.a429_ldu.proofs.Joined.{form_of-is, form_of-word_number, form_is_not_free}
 
@@ -38,23 +36,9 @@ none_where : (t u : Bool) (o : Option Form) → t ≡ true → cond (t || u) Non
 none_where true u o e = refl
 none_where false u o e = absurd (cc e)
 
--- a word that is free, one that has a form, and one that has none
-pub free_form : (c : Codes) (b : Bus) (w : ℕ) → IsFree c b w → form_of c b w ≡ None
-free_form c b w h = none_where (is_free c b w) (nat_le (2 ^ 32) w) (form_on c b (fields_of w)) ((is_free-decides c b w).1 h)
-
-pub its_form : (p : Contents) → IsProfile p → (b : Bus) (w : ℕ) (x : Form) → IsForm p.codes b w x → form_of p.codes b w ≡ Some x
-its_form p is b w x h = (form_of-is p is b w x).1 (form_is_not_free p is b w x h, h)
-
-pub no_form : (p : Contents) → IsProfile p → (b : Bus) (w : ℕ) → ((x : Form) → ¬ IsForm p.codes b w x) → form_of p.codes b w ≡ None
-no_form p is b w h = by_form (form_of p.codes b w) refl
-  where
-    by_form : (o : Option Form) → form_of p.codes b w ≡ o → form_of p.codes b w ≡ None
-    by_form None e = e
-    by_form (Some x) e = absurd (h x ((form_of-is p is b w x).0 e).1)
-
 -- data words are read as data words
 data_form : (p : Contents) → IsProfile p → (w : ℕ) (s : List ℕ) → IsForm p.codes bus.A w (form.Part s) → form_of p.codes bus.A w ≡ Some (form.Part s)
-data_form p is w s h = its_form p is bus.A w (form.Part s) h
+data_form p is w s h = (form_of-is p is bus.A w (form.Part s)).1 (form_is_not_free p is bus.A w (form.Part s) h, h)
 
 data_parts : (p : Contents) → IsProfile p → (ws : List ℕ) (ss : List (List ℕ)) → AreDataWords p.codes ws ss → AllParts p ws
 data_parts p is [] [] h = tt

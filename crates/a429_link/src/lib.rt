@@ -10,6 +10,8 @@ mod link;
 mod number;
 mod observer;
 mod reading;
+#[cfg(test)]
+mod runs;
 mod seen;
 mod shelf;
 mod sink;

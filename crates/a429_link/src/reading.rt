@@ -11,7 +11,6 @@ use a429_word::{Bus, Word};
 pub fn form_of(profile: &Profile, bus: Bus, word: Word) -> Option<Form>
     ensures { result ≡ form_of profile.now.codes bus word }
 {
-    let _codes = profile.codes();
     match form(profile, bus, word) {
         Sight::Form(form) => Some(form),
         Sight::Free | Sight::NoForm => None,

@@ -11,11 +11,10 @@ use a429_word::{Bus, Word};
 use std::process::Abort;
 use std::test::Fail;
 
-const SAMPLE: &str = r#"[transfer]
+const SAMPLE: &str = r#"
 to_sink = "304"
 to_source = "305"
 destination = 0x41
-first_ldu = 1
 final_bit = 25
 [types]
 full = 0
@@ -69,7 +68,18 @@ pub(crate) fn on_b(word: u32) -> Seen {
 }
 
 pub(crate) fn sample(rt: &(impl Abort + AllocGlobal), compare: &str) -> Result<Profile, Fail> {
-    let mut text = String::from_str(rt.alloc(), SAMPLE)?;
+    bench(rt, "first_ldu = 1", compare)
+}
+
+// The sample profile with another first number, or with or without check words.
+pub(crate) fn bench(
+    rt: &(impl Abort + AllocGlobal),
+    first_ldu: &str,
+    compare: &str,
+) -> Result<Profile, Fail> {
+    let mut text = String::from_str(rt.alloc(), "[transfer]\n")?;
+    text.push_str(first_ldu)?;
+    text.push_str(SAMPLE)?;
     text.push_str(compare)?;
     Ok(read_profile(rt.alloc(), text.as_str()).expect(rt, "a profile"))
 }

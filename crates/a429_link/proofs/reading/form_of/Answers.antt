@@ -1,13 +1,13 @@
-use Rattle.std.proofs.Common.{inl, inr, sym}
-use Rattle.a429_link.proofs.Sound.{its_form, free_form, no_form}
+use Rattle.std.proofs.Common.{ap, inl, inr, sym, ◌∙◌}
+use Rattle.a429_ldu.proofs.Carried.{form_in, form_of-sight}
 use Rattle.a429_link.proofs.reading.form_of.Goals as goal
 
 pub returns-in-Form : goal.returns-in-Form
-returns-in-Form c = sym (its_form c.args.profile.now c.codes-codes.ensures.sound c.args.bus c.args.word c.in-Form.form (c.form.ensures.found c.in-Form.form c.in-Form.is))
+returns-in-Form c = ap form_in (sym c.in-Form.is ∙ c.form.ensures.computed) ∙ form_of-sight c.args.profile.now.codes c.args.bus c.args.word
 
 pub returns-in-Free : goal.returns-in-Free
 returns-in-Free c =
-    sym (elim c.in-Free.is [
-      | inl e ↦ free_form c.args.profile.now.codes c.args.bus c.args.word (c.form.ensures.free.0 e)
-      | inr e ↦ no_form c.args.profile.now c.codes-codes.ensures.sound c.args.bus c.args.word (λ x h. let found = c.form.ensures.only x h in cc)
-    ])
+    elim c.in-Free.is [
+      | inl e ↦ ap form_in (sym e ∙ c.form.ensures.computed) ∙ form_of-sight c.args.profile.now.codes c.args.bus c.args.word
+      | inr e ↦ ap form_in (sym e ∙ c.form.ensures.computed) ∙ form_of-sight c.args.profile.now.codes c.args.bus c.args.word
+    ]
