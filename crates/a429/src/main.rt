@@ -2,13 +2,13 @@
 #![tactic(auto)]
 
 use a429_check::{
-    Command, RunFault, command, report, run_check, run_extract, run_labels, run_make, run_show,
-    run_verify, run_word,
+    Command, RunFault, command, read_whole, report, run_check, run_extract, run_labels, run_make,
+    run_show, run_verify, run_word,
 };
 use a429_link::FileBytes;
-use a429_word::{Failing, Tally};
+use a429_word::Tally;
 use std::alloc::Global;
-use std::io::{BufWriter, ErrorKind, Read, Write};
+use std::io::{BufWriter, ErrorKind, Write};
 use std::process::ExitCode;
 use std::rt::{Env, Files};
 use std::{env, fs, io};
@@ -36,7 +36,7 @@ fn run(rt: &(impl Files + Env + Print + AllocGlobal)) -> Result<u8, RunFault> {
     let status = match command(alloc, words.as_slice())? {
         Command::Word(hex) => run_word(hex, &mut out)?,
         Command::Labels(profile) => {
-            let profile = read_whole(rt, alloc, profile)?;
+            let profile = bytes_of(rt, alloc, profile)?;
             run_labels(alloc, profile.as_slice(), &mut out)?
         }
         Command::Show { profile, recording } => show(rt, alloc, profile, recording, &mut out)?,
@@ -69,7 +69,7 @@ fn show<W: Write>(
     recording: &str,
     out: &mut Tally<W>,
 ) -> Result<u8, RunFault> {
-    let profile = read_whole(rt, alloc, profile)?;
+    let profile = bytes_of(rt, alloc, profile)?;
     let mut rec = opened(rt, recording, CAP)?;
     run_show(alloc, profile.as_slice(), &mut rec, out)
 }
@@ -81,7 +81,7 @@ fn make<W: Write>(
     files: &[&str],
     out: &mut Tally<W>,
 ) -> Result<u8, RunFault> {
-    let profile = read_whole(rt, alloc, profile)?;
+    let profile = bytes_of(rt, alloc, profile)?;
     let files = read_all(rt, alloc, files)?;
     run_make(alloc, profile.as_slice(), files.as_slice(), out)
 }
@@ -94,7 +94,7 @@ fn check<W: Write>(
     certificate: &str,
     out: &mut Tally<W>,
 ) -> Result<u8, RunFault> {
-    let profile = read_whole(rt, alloc, profile)?;
+    let profile = bytes_of(rt, alloc, profile)?;
     let mut rec = opened(rt, recording, CAP)?;
     let mut cert = created(rt, certificate)?;
     run_check(alloc, profile.as_slice(), &mut rec, &mut cert, out)
@@ -108,7 +108,7 @@ fn verify<W: Write>(
     certificate: &str,
     out: &mut Tally<W>,
 ) -> Result<u8, RunFault> {
-    let profile = read_whole(rt, alloc, profile)?;
+    let profile = bytes_of(rt, alloc, profile)?;
     let mut rec = opened(rt, recording, CAP)?;
     let mut cert = opened(rt, certificate, CERTIFICATE_CAP)?;
     run_verify(alloc, profile.as_slice(), &mut rec, &mut cert, out)
@@ -123,7 +123,7 @@ fn extract<W: Write>(
     folder: &str,
     out: &mut Tally<W>,
 ) -> Result<u8, RunFault> {
-    let profile = read_whole(rt, alloc, profile)?;
+    let profile = bytes_of(rt, alloc, profile)?;
     let mut rec = opened(rt, recording, CAP)?;
     let mut cert = opened(rt, certificate, CERTIFICATE_CAP)?;
     let mut files = Vec::new(alloc);
@@ -146,7 +146,7 @@ fn extract<W: Write>(
 fn read_all(rt: &impl Files, alloc: Global, paths: &[&str]) -> Result<Vec<Vec<u8>>, RunFault> {
     let mut files = Vec::new(alloc);
     for path in paths {
-        let bytes = read_whole(rt, alloc, path)?;
+        let bytes = bytes_of(rt, alloc, path)?;
         if files.push(bytes).is_err() {
             return Err(RunFault::Memory);
         }
@@ -192,13 +192,6 @@ fn write_files(
 }
 
 // The bytes of a file.
-fn read_whole(rt: &impl Files, alloc: Global, path: &str) -> Result<Vec<u8>, RunFault> {
-    let mut file = opened(rt, path, CAP)?;
-    let mut bytes = Vec::new(alloc);
-    match file.read_to_end(&mut bytes) {
-        Ok(_) => Ok(bytes),
-        // A read that fails while the file has not failed was refused memory.
-        Err(_) if file.failed() => Err(RunFault::Device),
-        Err(_) => Err(RunFault::Memory),
-    }
+fn bytes_of(rt: &impl Files, alloc: Global, path: &str) -> Result<Vec<u8>, RunFault> {
+    read_whole(alloc, &mut opened(rt, path, CAP)?)
 }

@@ -1,5 +1,5 @@
 -- Digits, and the numbers that they write.
-use Rattle.std.proofs.Common.{◌≡◌, ◌==◌, ◌∙◌, ◌+◌, ◌-◌, ◌*◌, ◌/◌, ◌%◌, ◌^◌, ◌<◌, ◌≤◌, ℕ, zero, suc, List, [], ◌∷◌, length, take, drop, zero-add, get_or, Some, None, true, false, not, refl, sym, ap, arith, pow-suc}
+use Rattle.std.proofs.Common.{◌≡◌, ◌∙◌, ◌+◌, ◌-◌, ◌*◌, ◌/◌, ◌%◌, ◌^◌, ◌<◌, ◌≤◌, ℕ, zero, suc, List, [], ◌∷◌, length, take, drop, zero-add, get_or, Some, None, true, false, refl, sym, ap, arith, pow-suc}
 use Rattle.std.specs.Char.{digit_value}
 use Rattle.std.specs.Fmt.{digit_glyph}
 use Rattle.std.specs.List.{list_all}
@@ -10,7 +10,7 @@ use Rattle.std.proofs.lemmas.Int.Digits.{digits_value-lt, digits_value_more}
 use Rattle.std.proofs.lemmas.Nat.{div-add-mod', mod-mul-add, div-mul-add, mul-add-lt}
 use Rattle.std.proofs.lemmas.List.{length-take-le, take_all}
 use Rattle.std.proofs.lemmas.List.Folds.{list_all_at, list_all_more}
-use Rattle.std.proofs.Math.Nat.{mod-eq_of_lt, pow-le-pow_left, pow-le-pow_right}
+use Rattle.std.proofs.Math.Nat.{mod-eq_of_lt, pow-le-pow_right}
 use Rattle.a429_word.specs.Written.{numeral, hex_text}
 use Rattle.a429_cert.specs.Reading.{is_digit, digit_in, digits_in}
 use Rattle.a429_cert.proofs.Options.{when_some, when_none}
@@ -33,10 +33,6 @@ is_digit-glyph d h = grind (arith, nat_tests)
 decimal_digit : (b : ℕ) → digit_value b < 10 → is_digit 10 b ≡ true
 decimal_digit b h = grind (arith, nat_tests)
 
--- a space is no digit
-digit-no_space : (base b : ℕ) → base ≤ 16 → is_digit base b ≡ true → not (b == 32) ≡ true
-digit-no_space base b h is = grind (arith, nat_tests)
-
 pow-pos : (k : ℕ) → 0 < 16 ^ k
 pow-pos zero = omega arith
 pow-pos (suc k) = rw pow-suc (omega (arith, pow-pos k))
@@ -52,12 +48,6 @@ AllDigits-from base (b ∷ bs) h =
 pub decimal_digits : (text : List ℕ) → AllDigits 10 text → list_all (is_digit 10) text ≡ true
 decimal_digits [] h = refl
 decimal_digits (b ∷ bs) h = rw (decimal_digit b h.0) (decimal_digits bs h.1)
-
-pub digits-no_space : (base : ℕ) (text : List ℕ) → base ≤ 16 → list_all (is_digit base) text ≡ true → list_all (λ b. not (b == 32)) text ≡ true
-digits-no_space base [] most h = refl
-digits-no_space base (b ∷ bs) most h =
-    let (here, more) = and_parts (is_digit base b) (list_all (is_digit base) bs) h in
-    rw (digit-no_space base b most here) (digits-no_space base bs most more)
 
 -- the first digit counts most
 digits_after : (n : ℕ) (ds : List ℕ) → digits_value_after 16 n ds ≡ n * 16 ^ length ds + digits_value 16 ds
@@ -140,59 +130,55 @@ numeral-value text all =
 -- ---- the loop over digits
 
 -- n is what the first i bytes write, each of which is a digit
-pub record IsRead (base i n : ℕ) (text : List ℕ) : Type 0 where
-  pub value : n ≡ digits_value base (take i text)
-  pub digits : list_all (is_digit base) (take i text) ≡ true
+pub record IsRead (i n : ℕ) (text : List ℕ) : Type 0 where
+  pub value : n ≡ digits_value 16 (take i text)
+  pub digits : list_all (is_digit 16) (take i text) ≡ true
 
-pub read-none : (base : ℕ) (text : List ℕ) → IsRead base 0 0 text
-read-none base text = record { value = refl; digits = refl }
+digit-some : (b d : ℕ) → Some d ≡ digit_in b → (is_digit 16 b ≡ true) × (digit_value b ≡ d)
+digit-some b d e = when_some (is_digit 16 b) (digit_value b) d (sym e)
 
-digit-some : (base b d : ℕ) → Some d ≡ digit_in base b → (is_digit base b ≡ true) × (digit_value b ≡ d)
-digit-some base b d e = when_some (is_digit base b) (digit_value b) d (sym e)
+pub digit-small : (b d : ℕ) → Some d ≡ digit_in b → d < 16
+digit-small b d e =
+    let is = digit-some b d e in
+    rw (← is.1) (is_digit-value 16 b is.0)
 
-pub digit-small : (base b d : ℕ) → Some d ≡ digit_in base b → d < base
-digit-small base b d e =
-    let is = digit-some base b d e in
-    rw (← is.1) (is_digit-value base b is.0)
-
-pub read-more : (base i n d : ℕ) (text : List ℕ) → i < length text → IsRead base i n text → Some d ≡ digit_in base (get_or text i 0) → IsRead base (i + 1) (n * base + d) text
-read-more base i n d text h read e =
-    let is = digit-some base (get_or text i 0) d e in
+pub read-more : (i n d : ℕ) (text : List ℕ) → i < length text → IsRead i n text → Some d ≡ digit_in (get_or text i 0) → IsRead (i + 1) (n * 16 + d) text
+read-more i n d text h read e =
+    let is = digit-some (get_or text i 0) d e in
     record {
-      value = rw (read.value, ← is.1) (sym (digits_value_more base text i h));
-      digits = list_all_more (is_digit base) text i 0 h ∙ rw (read.digits, is.0) refl;
+      value = rw (read.value, ← is.1) (sym (digits_value_more 16 text i h));
+      digits = list_all_more (is_digit 16) text i 0 h ∙ rw (read.digits, is.0) refl;
     }
 
 -- at most seven digits leave room for one more
-pub read-room : (base i n : ℕ) (text : List ℕ) → base ≤ 16 → i < length text → length text ≤ 8 → IsRead base i n text → n < 268435456
-read-room base i n text most h long read =
+pub read-room : (i n : ℕ) (text : List ℕ) → i < length text → length text ≤ 8 → IsRead i n text → n < 268435456
+read-room i n text h long read =
     let short = length-take-le i text (omega arith) in
     let few : i ≤ 7 = omega arith in
-    let below = digits_value-lt base (take i text) (AllDigits-from base (take i text) read.digits) in
-    let under : n < base ^ i = rw short at (rw (← read.value) at below) in
-    let wide : base ^ i ≤ 16 ^ i = pow-le-pow_left most i in
+    let below = digits_value-lt 16 (take i text) (AllDigits-from 16 (take i text) read.digits) in
+    let under : n < 16 ^ i = rw short at (rw (← read.value) at below) in
     let most_digits : 16 ^ i ≤ 16 ^ 7 = pow-le-pow_right (omega arith) few in
     omega arith
 
-digit-none : (base b : ℕ) → None ≡ digit_in base b → is_digit base b ≡ false
-digit-none base b e = when_none (is_digit base b) (digit_value b) (sym e)
+digit-none : (b : ℕ) → None ≡ digit_in b → is_digit 16 b ≡ false
+digit-none b e = when_none (is_digit 16 b) (digit_value b) (sym e)
 
 -- a byte that is no digit
-pub read-stops : (base i : ℕ) (text : List ℕ) → i < length text → None ≡ digit_in base (get_or text i 0) → None ≡ digits_in base text
+pub read-stops : (i : ℕ) (text : List ℕ) → i < length text → None ≡ digit_in (get_or text i 0) → None ≡ digits_in text
 unfolding digits_in
-read-stops base i text h e = rw (list_all_at (is_digit base) text i 0 h (digit-none base (get_or text i 0) e)) refl
+read-stops i text h e = rw (list_all_at (is_digit 16) text i 0 h (digit-none (get_or text i 0) e)) refl
 
 -- all digits
-pub read-all : (base i n : ℕ) (text : List ℕ) → length text ≤ i → IsRead base i n text → Some n ≡ digits_in base text
+pub read-all : (i n : ℕ) (text : List ℕ) → length text ≤ i → IsRead i n text → Some n ≡ digits_in text
 unfolding digits_in
-read-all base i n text h read =
+read-all i n text h read =
     let whole = take_all i text h in
     rw (rw whole at read.digits, rw whole at read.value) refl
 
-pub read-small : (base i n : ℕ) (text : List ℕ) → length text ≤ i → IsRead base i n text → n < base ^ length text
-read-small base i n text h read =
+pub read-small : (i n : ℕ) (text : List ℕ) → length text ≤ i → IsRead i n text → n < 16 ^ length text
+read-small i n text h read =
     let whole = take_all i text h in
-    rw (rw whole at read.value) (digits_value-lt base text (AllDigits-from base text (rw whole at read.digits)))
+    rw (rw whole at read.value) (digits_value-lt 16 text (AllDigits-from 16 text (rw whole at read.digits)))
 
 -- ---- the last digits of a word
 

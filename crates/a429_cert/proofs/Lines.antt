@@ -1,10 +1,10 @@
 -- Lines are read as they are spelled.
-use Rattle.std.proofs.Common.{◌≡◌, take, ◌==◌, ◌∙◌, ◌/◌, ◌*◌, ◌^◌, ◌≤◌, ◌<◌, inl, inr, if◌then◌else◌, ℕ, zero, suc, List, [], ◌∷◌, ◌++◌, length, true, false, ◌&&◌, nat_le, Option, Some, None, refl, sym, ap, subst, arith, append_assoc, codes, flat_map}
+use Rattle.std.proofs.Common.{◌≡◌, take, drop, ◌==◌, ◌∙◌, ◌/◌, ◌*◌, ◌^◌, ◌≤◌, ◌<◌, inl, inr, ℕ, zero, suc, List, [], ◌∷◌, ◌++◌, length, true, ◌&&◌, nat_le, Option, Some, None, refl, sym, ap, subst, arith, append_assoc, codes, flat_map}
 use Rattle.std.specs.Fmt.{decimal}
 use Rattle.std.specs.List.{AllByRecursion}
 use Rattle.std.specs.Str.{bytes_eq}
 use Rattle.std.proofs.lemmas.Bool.{and_parts}
-use Rattle.std.proofs.lemmas.List.{append-nil, length-append}
+use Rattle.std.proofs.lemmas.List.{append-nil, length-append, take-append-drop}
 use Rattle.std.proofs.lemmas.Slice.Eq.{bytes_eq-Decides}
 use Rattle.a429_word.specs.Written.{numeral, hex_text}
 use Rattle.a429_link.specs.declared.state.SourceState.{SourceState}
@@ -14,11 +14,11 @@ use Rattle.a429_cert.specs.declared.act.Act.TheVariants.{Sent, SentLost, TimeOut
 use Rattle.a429_cert.specs.declared.line.CertLine.{CertLine}
 use Rattle.a429_cert.specs.declared.line.CertLine.TheVariants.{First, Load, Moved}
 use Rattle.a429_cert.specs.Line.{field, act_text, source_text, sink_text, spelling, IsSource, IsSink, IsLine, IsHeld, Spells, Reads}
-use Rattle.a429_cert.specs.Reading.{when, cut, with_rest, number_in, hex_in, act_in, source_in, sink_in, words_at, words_in, first_in, load_in, moved_in, line_in}
+use Rattle.a429_cert.specs.Reading.{when, with_rest, number_in, hex_in, act_in, source_in, sink_in, words_at, words_in, first_in, load_in, moved_in, line_in}
 use Rattle.a429_cert.proofs.Digits.{length-numeral}
-use Rattle.a429_cert.proofs.Fields.{IsNext, cut-back, cut-is, field-back, last-back, field-only}
+use Rattle.a429_cert.proofs.Fields.{IsNext, field-back, last-back, field-only}
 use Rattle.a429_cert.proofs.Options.{bind_some, when_some, some_is, split}
-use Rattle.a429_cert.proofs.Letters.{acts, sources, sinks}
+use Rattle.a429_cert.proofs.Letters.{letter_of, act-back, act-only, sources, sinks}
 use Rattle.a429_cert.proofs.Numbers.{decimals, numerals, fits, below, is_same}
 
 -- ---- the words of a link data unit
@@ -92,7 +92,7 @@ grouped a b c d e = simp append_assoc
 first-back : (file : ℕ) → file < 2 ^ 8 → line_in (spelling (First file)) ≡ Some (First file)
 unfolding line_in first_in
 first-back file h =
-    rw (cut-back (codes "first") (field (decimal file)) refl refl, last-back number_in decimal (λ n. n < 256) decimals file h) refl
+    rw (last-back number_in decimal (λ n. n < 256) decimals file h) refl
 
 load-text : (gfi flags check : ℕ) (words : List ℕ)
     → spelling (Load gfi flags check words) ≡ codes "L" ++ (field (numeral 16 1 gfi) ++ (field (numeral 16 1 flags) ++ (field (numeral 16 4 check) ++ words_text words)))
@@ -105,9 +105,8 @@ unfolding line_in load_in
 load-back gfi flags check words is held =
     let last = field (numeral 16 4 check) ++ words_text words in
     let more = field (numeral 16 1 flags) ++ last in
-    rw (
-      load-text gfi flags check words,
-      cut-back (codes "L") (field (numeral 16 1 gfi) ++ more) refl refl,
+    ap line_in (load-text gfi flags check words)
+    ∙ rw (
       field-back (hex_in 1) (numeral 16 1) (λ n. n < 16 ^ 1) (numerals 1) gfi more (omega (arith, is.0)) refl,
       field-back (hex_in 1) (numeral 16 1) (λ n. n < 16 ^ 1) (numerals 1) flags last (omega (arith, is.1)) refl,
       field-back (hex_in 4) (numeral 16 4) (λ n. n < 16 ^ 4) (numerals 4) check (words_text words) held.0 (words-next words),
@@ -118,31 +117,30 @@ moved-text : (act : Act) (source : SourceState) (sink : SinkState) (to_sink to_s
     → spelling (Moved act source sink to_sink to_source) ≡ act_text act ++ (field (source_text source) ++ (field (sink_text sink) ++ (field (decimal to_sink) ++ field (decimal to_source))))
 moved-text act source sink to_sink to_source = grouped (act_text act) (field (source_text source)) (field (sink_text sink)) (field (decimal to_sink)) (field (decimal to_source))
 
-act-other : (act : Act) → (bytes_eq (act_text act) (codes "first") ≡ false) × (bytes_eq (act_text act) (codes "L") ≡ false)
-act-other Sent = (refl, refl)
-act-other SentLost = (refl, refl)
-act-other TimeOut = (refl, refl)
-act-other TakeAnswer = (refl, refl)
-act-other LoseAnswer = (refl, refl)
-act-other SinkTakes = (refl, refl)
-act-other Silent = (refl, refl)
-act-other Answered = (refl, refl)
-act-other FreeSeen = (refl, refl)
+-- the letter of a step is none of another line
+act-line : (act : Act) (more : List ℕ) → line_in (act_text act ++ more) ≡ moved_in (letter_of act) more
+unfolding line_in
+act-line Sent more = refl
+act-line SentLost more = refl
+act-line TimeOut more = refl
+act-line TakeAnswer more = refl
+act-line LoseAnswer more = refl
+act-line SinkTakes more = refl
+act-line Silent more = refl
+act-line Answered more = refl
+act-line FreeSeen more = refl
 
 -- a step
 moved-back : (act : Act) (source : SourceState) (sink : SinkState) (to_sink to_source : ℕ) → IsLine (Moved act source sink to_sink to_source) → IsHeld (Moved act source sink to_sink to_source)
     → line_in (spelling (Moved act source sink to_sink to_source)) ≡ Some (Moved act source sink to_sink to_source)
-unfolding line_in moved_in
+unfolding moved_in
 moved-back act source sink to_sink to_source is held =
     let third = field (decimal to_sink) ++ field (decimal to_source) in
     let second = field (sink_text sink) ++ third in
-    let others = act-other act in
     rw (
       moved-text act source sink to_sink to_source,
-      cut-back (act_text act) (field (source_text source) ++ second) (acts.plain act tt) refl,
-      others.0,
-      others.1,
-      acts.back act tt,
+      act-line act (field (source_text source) ++ second),
+      act-back act,
       field-back source_in source_text IsSource sources source second is.0 refl,
       field-back sink_in sink_text IsSink sinks sink third is.1 refl,
       field-back number_in decimal (λ n. n < 256) decimals to_sink (field (decimal to_source)) held.0 refl,
@@ -159,16 +157,19 @@ line-back (Moved act source sink to_sink to_source) is held = moved-back act sou
 same_text : (xs ys : List ℕ) → bytes_eq xs ys ≡ true → xs ≡ ys
 same_text xs ys h = (bytes_eq-Decides xs ys).0 h
 
-first-only : (bytes : List ℕ) (l : CertLine) → first_in bytes ≡ Some l → Spells (codes "first" ++ bytes) l
+first-only : (bytes : List ℕ) (l : CertLine) → first_in bytes ≡ Some l → Spells bytes l
 unfolding first_in
 first-only bytes l e =
-    let file = bind_some (with_rest number_in bytes) _ l e in
-    let here = field-only number_in decimal (λ n. n < 256) decimals bytes file.0 file.1 in
+    let name = bind_some (when (bytes_eq (take 5 bytes) (codes "first")) (drop 5 bytes)) _ l e in
+    let is = when_some (bytes_eq (take 5 bytes) (codes "first")) (drop 5 bytes) name.0 name.1 in
+    let file = bind_some (with_rest number_in name.0) _ l name.2 in
+    let here = field-only number_in decimal (λ n. n < 256) decimals name.0 file.0 file.1 in
     let w = when_some (length file.0.1 == 0) (First file.0.0) l file.2 in
-    subst (Spells (codes "first" ++ bytes)) w.1 (record {
+    let text : drop 5 bytes ≡ field (decimal file.0.0) = is.1 ∙ here.0 ∙ ap (λ t. field (decimal file.0.0) ++ t) (nothing file.0.1 w.0) ∙ append-nil (field (decimal file.0.0)) in
+    subst (Spells bytes) w.1 (record {
       line = tt;
       held = here.1;
-      spelled = ap (λ t. codes "first" ++ t) (here.0 ∙ ap (λ t. field (decimal file.0.0) ++ t) (nothing file.0.1 w.0) ∙ append-nil (field (decimal file.0.0)));
+      spelled = sym (take-append-drop 5 bytes) ∙ ap (λ t. t ++ drop 5 bytes) (same_text (take 5 bytes) (codes "first") is.0) ∙ ap (λ t. codes "first" ++ t) text;
     })
 
 load-only : (bytes : List ℕ) (l : CertLine) → load_in bytes ≡ Some l → Spells (codes "L" ++ bytes) l
@@ -190,7 +191,7 @@ load-only bytes l e =
       spelled = ap (λ t. codes "L" ++ t) text ∙ sym (load-text gfi.0.0 flags.0.0 check.0.0 words.0);
     })
 
-moved-only : (letter bytes : List ℕ) (l : CertLine) → moved_in letter bytes ≡ Some l → Spells (letter ++ bytes) l
+moved-only : (letter : ℕ) (bytes : List ℕ) (l : CertLine) → moved_in letter bytes ≡ Some l → Spells (letter ∷ bytes) l
 unfolding moved_in
 moved-only letter bytes l e =
     let act = bind_some (act_in letter) _ l e in
@@ -199,7 +200,7 @@ moved-only letter bytes l e =
     let to_sink = bind_some (with_rest number_in sink.0.1) _ l sink.2 in
     let to_source = bind_some (with_rest number_in to_sink.0.1) _ l to_sink.2 in
     let w = when_some (length to_source.0.1 == 0) (Moved act.0 source.0.0 sink.0.0 to_sink.0.0 to_source.0.0) l to_source.2 in
-    let head = acts.only letter act.0 act.1 in
+    let head = act-only letter act.0 act.1 in
     let first = field-only source_in source_text IsSource sources bytes source.0 source.1 in
     let second = field-only sink_in sink_text IsSink sinks source.0.1 sink.0 sink.1 in
     let third = field-only number_in decimal (λ n. n < 256) decimals sink.0.1 to_sink.0 to_sink.1 in
@@ -207,23 +208,21 @@ moved-only letter bytes l e =
     let last : to_sink.0.1 ≡ field (decimal to_source.0.0) = fourth.0 ∙ ap (λ t. field (decimal to_source.0.0) ++ t) (nothing to_source.0.1 w.0) ∙ append-nil (field (decimal to_source.0.0)) in
     let text : bytes ≡ field (source_text source.0.0) ++ (field (sink_text sink.0.0) ++ (field (decimal to_sink.0.0) ++ field (decimal to_source.0.0))) =
     first.0 ∙ ap (λ t. field (source_text source.0.0) ++ t) (second.0 ∙ ap (λ t. field (sink_text sink.0.0) ++ t) (third.0 ∙ ap (λ t. field (decimal to_sink.0.0) ++ t) last)) in
-    subst (Spells (letter ++ bytes)) w.1 (record {
+    subst (Spells (letter ∷ bytes)) w.1 (record {
       line = (first.1, second.1);
       held = (third.1, fourth.1);
-      spelled = ap (λ t. t ++ bytes) head.0 ∙ ap (λ t. act_text act.0 ++ t) text ∙ sym (moved-text act.0 source.0.0 sink.0.0 to_sink.0.0 to_source.0.0);
+      spelled = ap (λ t. t ++ bytes) head ∙ ap (λ t. act_text act.0 ++ t) text ∙ sym (moved-text act.0 source.0.0 sink.0.0 to_sink.0.0 to_source.0.0);
     })
 
 pub line-only : (text : List ℕ) (l : CertLine) → line_in text ≡ Some l → Spells text l
 unfolding line_in
-line-only text l e =
-    let head = (cut text).0 in
-    let rest = (cut text).1 in
-    let whole : head ++ rest ≡ text = sym (cut-is text) in
-    elim (split (bytes_eq head (codes "first")) (first_in rest) (if bytes_eq head (codes "L") then load_in rest else moved_in head rest) l e) [
-      | inl p ↦ subst (λ (t : List ℕ). Spells t l) (ap (λ t. t ++ rest) (sym (same_text head (codes "first") p.0)) ∙ whole) (first-only rest l p.1)
-      | inr r ↦ elim (split (bytes_eq head (codes "L")) (load_in rest) (moved_in head rest) l r) [
-        | inl p ↦ subst (λ (t : List ℕ). Spells t l) (ap (λ t. t ++ rest) (sym (same_text head (codes "L") p.0)) ∙ whole) (load-only rest l p.1)
-        | inr q ↦ subst (λ (t : List ℕ). Spells t l) whole (moved-only head rest l q)
+line-only [] l e = absurd cc
+line-only (b ∷ bytes) l e =
+    elim (split (b == 76) (load_in bytes) _ l e) [
+      | inl p ↦ subst (λ (c : ℕ). Spells (c ∷ bytes) l) (sym (is_same b 76 p.0)) (load-only bytes l p.1)
+      | inr r ↦ elim (split (b == 102) (first_in (b ∷ bytes)) (moved_in b bytes) l r) [
+        | inl p ↦ first-only (b ∷ bytes) l p.1
+        | inr q ↦ moved-only b bytes l q
       ]
     ]
 
@@ -238,10 +237,6 @@ reads-by text None e = λ l spells. absurd (none-some l (sym e ∙ ap line_in sp
 
 pub line-reads : (text : List ℕ) (read : Option CertLine) → read ≡ line_in text → Reads text read
 line-reads text read e = reads-by text read (sym e)
-
--- only a line that begins with `L` is a unit's
-pub unit-first : (text head : List ℕ) → head ≡ (cut text).0 → bytes_eq head (codes "L") ≡ true → take 1 text ≡ codes "L"
-unit-first text head e h = ap (take 1) (cut-is text ∙ ap (λ t. t ++ (cut text).1) (sym e ∙ same_text head (codes "L") h)) ∙ refl
 
 -- ---- one spelling
 

@@ -1,29 +1,21 @@
 -- Numbers in fields are read as they are spelled.
-use Rattle.std.proofs.Common.{◌≡◌, ◌==◌, ◌∙◌, ◌≤◌, ◌<◌, ◌^◌, ◌+◌, ℕ, zero, suc, List, [], ◌∷◌, length, get_or, true, ◌&&◌, nat_le, Some, refl, sym, ap, arith}
+use Rattle.std.proofs.Common.{◌≡◌, ◌==◌, ◌∙◌, inl, inr, ◌≤◌, ◌<◌, ◌^◌, ◌+◌, ◌-◌, ◌*◌, ◌/◌, ◌%◌, ℕ, List, [], ◌∷◌, ◌++◌, length, take, drop, true, false, ◌&&◌, nat_le, Option, Some, None, refl, sym, ap, subst, arith, append_assoc}
 use Rattle.std.specs.Fmt.{decimal}
 use Rattle.std.specs.List.{list_all}
-use Rattle.std.specs.Str.Parse.{digits_value, AllDigits}
-use Rattle.std.proofs.lemmas.Bool.{and_parts}
+use Rattle.std.specs.Str.Parse.{digits_value}
+use Rattle.std.proofs.lemmas.Bool.{and_parts, cases_lt}
 use Rattle.std.proofs.lemmas.Bool.Decides.{nat_tests}
-use Rattle.std.proofs.lemmas.Fmt.{decimal_is_IsNumeral, length-decimal-le, first_decimal, decimal_digit, decimal-digits_value}
+use Rattle.std.proofs.lemmas.Fmt.{decimal_digit, decimal_step}
 use Rattle.std.proofs.lemmas.Int.Digits.{digits_value-lt}
-use Rattle.std.proofs.lemmas.Str.Parse.{IsNumeralModel}
+use Rattle.std.proofs.lemmas.List.{length-append, length-take-le, take-append-drop, take_at, drop_at}
 use Rattle.std.proofs.Math.Nat.{mod-eq_of_lt}
 use Rattle.a429_word.specs.Written.{numeral}
-use Rattle.a429_cert.specs.Reading.{when, is_digit, digits_in, leads, number_in, hex_in}
-use Rattle.a429_cert.proofs.Digits.{AllDigits-from, decimal_digits, digits-no_space, length-numeral, digits-numeral, value-numeral, numeral-value}
-use Rattle.a429_cert.proofs.Fields.{IsSpelling}
-use Rattle.a429_cert.proofs.Options.{bind_some, when_some}
+use Rattle.a429_cert.specs.Reading.{when, is_digit, digits_in, hex_in, decimal_at, gone_on, goes_on, number_in}
+use Rattle.a429_cert.proofs.Digits.{AllDigits-from, length-numeral, digits-numeral, value-numeral, numeral-value}
+use Rattle.a429_cert.proofs.Fields.{IsNext, IsSpelling}
+use Rattle.a429_cert.proofs.Options.{bind_some, when_some, some_is, parted, either}
 
--- ---- all the digits of a text
-
-digits_in-only : (base : ℕ) (text : List ℕ) (n : ℕ) → digits_in base text ≡ Some n → (list_all (is_digit base) text ≡ true) × (digits_value base text ≡ n)
-unfolding digits_in
-digits_in-only base text n e = when_some (list_all (is_digit base) text) (digits_value base text) n e
-
-digits_in-back : (base : ℕ) (text : List ℕ) → list_all (is_digit base) text ≡ true → digits_in base text ≡ Some (digits_value base text)
-unfolding digits_in
-digits_in-back base text h = rw h refl
+-- ---- tests
 
 pub fits : (m n : ℕ) → m ≤ n → nat_le m n ≡ true
 fits m n h = grind (arith, nat_tests)
@@ -31,85 +23,165 @@ fits m n h = grind (arith, nat_tests)
 pub below : (m n : ℕ) → nat_le m n ≡ true → m < n + 1
 below m n h = grind (arith, nat_tests)
 
-pub same : (m n : ℕ) → m ≡ n → (m == n) ≡ true
-same m n h = grind (arith, nat_tests)
-
 pub is_same : (m n : ℕ) → (m == n) ≡ true → m ≡ n
 is_same m n h = grind (arith, nat_tests)
 
--- ---- decimal numbers
+-- ---- one decimal digit
 
-own : IsNumeralModel (AllDigits 10) (digits_value 10)
-own = record { to = λ ds h. h; from = λ ds h. h; same = λ ds h. refl }
+digit-test : (d : ℕ) → d < 10 → (nat_le 48 (48 + d) && nat_le (48 + d) 57) ≡ true
+digit-test d h = grind (arith, nat_tests)
 
-leads-some : (text : List ℕ) → leads text ≡ true → 0 < length text
-leads-some [] h = absurd cc
-leads-some (b ∷ bs) h = omega arith
+digit-back : (d : ℕ) (rest : List ℕ) → d < 10 → decimal_at ((48 + d) ∷ rest) ≡ Some (d, rest)
+unfolding decimal_at
+digit-back d rest h = let value : 48 + d - 48 ≡ d = omega arith in rw (digit-test d h, value) refl
 
-leads-alone : (text : List ℕ) → leads text ≡ true → get_or text 0 0 ≡ 48 → length text ≡ 1
-leads-alone [] h e = absurd cc
-leads-alone (b ∷ []) h e = refl
-leads-alone (b ∷ c ∷ more) h e = absurd (grind (arith, nat_tests))
+no-digit : (rest : List ℕ) → IsNext rest → decimal_at rest ≡ None
+unfolding decimal_at
+no-digit [] next = refl
+no-digit (b ∷ bs) next = rw next refl
 
-leads-back : (text : List ℕ) → 0 < length text → 48 < get_or text 0 0 → leads text ≡ true
-leads-back [] h first = absurd (omega arith)
-leads-back (b ∷ []) h first = refl
-leads-back (b ∷ c ∷ more) h first = grind (arith, nat_tests)
+digit-only : (bytes : List ℕ) (digit : ℕ × List ℕ) → decimal_at bytes ≡ Some digit → (bytes ≡ (48 + digit.0) ∷ digit.1) × (digit.0 < 10)
+unfolding decimal_at
+digit-only [] digit e = absurd cc
+digit-only (b ∷ bs) digit e =
+    let w = when_some (nat_le 48 b && nat_le b 57) (b - 48, bs) digit e in
+    let parts = and_parts (nat_le 48 b) (nat_le b 57) w.0 in
+    let least : 48 ≤ b = omega (arith, below 48 b parts.0) in
+    let most : b ≤ 57 = omega (arith, below b 57 parts.1) in
+    let is : b ≡ 48 + (b - 48) = omega arith in
+    let P : ℕ × List ℕ → Type 0 = λ x. (b ∷ bs ≡ (48 + x.0) ∷ x.1) × (x.0 < 10) in
+    subst P w.1 (ap (λ n. n ∷ bs) is, omega arith)
 
-leads-decimal : (n : ℕ) → n < 256 → leads (decimal n) ≡ true
-leads-decimal zero h = rw (decimal_digit 0 (omega arith)) refl
-leads-decimal (suc n) h = leads-back (decimal (suc n)) (decimal_is_IsNumeral (suc n) (omega arith)).0.0 (first_decimal (suc n) (omega arith) (omega arith))
+-- ---- decimal numbers, as they are spelled
 
-number-back : (n : ℕ) → n < 256 → number_in (decimal n) ≡ Some n
+goes-back : (n d : ℕ) (rest : List ℕ) → d < 10 → n * 10 + d ≤ 255 → goes_on (n, (48 + d) ∷ rest) ≡ Some (n * 10 + d, rest)
+unfolding goes_on
+goes-back n d rest h most = rw (digit-back d rest h, fits (n * 10 + d) 255 most) refl
+
+ends-back : (n : ℕ) (rest : List ℕ) → IsNext rest → goes_on (n, rest) ≡ Some (n, rest)
+unfolding goes_on
+ends-back n rest next = rw (no-digit rest next) refl
+
+some-digit : (d : ℕ) → 1 ≤ d → (d == 0) ≡ false
+some-digit d h = grind (arith, nat_tests)
+
+one-back : (a : ℕ) (rest : List ℕ) → a < 10 → IsNext rest → number_in ((48 + a) ∷ rest) ≡ Some (a, rest)
 unfolding number_in
-number-back n h =
-    let is = decimal_is_IsNumeral n (omega arith) in
-    let short : nat_le (length (decimal n)) 3 ≡ true = fits (length (decimal n)) 3 (length-decimal-le 3 n (omega arith) (omega arith) (omega arith)) in
-    let small : nat_le n 255 ≡ true = fits n 255 (omega arith) in
-    rw (leads-decimal n h, short, digits_in-back 10 (decimal n) (decimal_digits (decimal n) is.0.1), is.1, small) refl
+one-back a rest h next =
+    rw (digit-back a rest h, ends-back a rest next, ends-back a rest next) (either (a == 0) (Some (a, rest)) (Some (a, rest)) (Some (a, rest)) refl refl)
 
-number-only : (text : List ℕ) (n : ℕ) → number_in text ≡ Some n → (text ≡ decimal n) × (n < 256)
+two-back : (a b : ℕ) (rest : List ℕ) → 1 ≤ a → a < 10 → b < 10 → IsNext rest → number_in ((48 + a) ∷ (48 + b) ∷ rest) ≡ Some (a * 10 + b, rest)
 unfolding number_in
-number-only text n e =
-    let a = bind_some (when (leads text && nat_le (length text) 3) text) _ n e in
-    let tests = when_some (leads text && nat_le (length text) 3) text a.0 a.1 in
-    let parts = and_parts (leads text) (nat_le (length text) 3) tests.0 in
-    let b = bind_some (digits_in 10 a.0) _ n a.2 in
-    let digits = digits_in-only 10 text b.0 (ap (digits_in 10) tests.1 ∙ b.1) in
-    let small = when_some (nat_le b.0 255) b.0 n b.2 in
-    let value : digits_value 10 text ≡ n = digits.1 ∙ small.1 in
-    let low : n < 256 = below n 255 (ap (λ m. nat_le m 255) (sym small.1) ∙ small.0) in
-    let spelled = decimal-digits_value own text (AllDigits-from 10 text digits.0) (leads-some text parts.0) (leads-alone text parts.0) (omega (arith, value)) in
-    (sym spelled ∙ ap decimal value, low)
+two-back a b rest some h i next =
+    rw (digit-back a ((48 + b) ∷ rest) h, some-digit a some, goes-back a b rest i (omega arith), ends-back (a * 10 + b) rest next) refl
+
+three-back : (a b c : ℕ) (rest : List ℕ) → 1 ≤ a → a < 10 → b < 10 → c < 10 → (a * 10 + b) * 10 + c ≤ 255 → number_in ((48 + a) ∷ (48 + b) ∷ (48 + c) ∷ rest) ≡ Some ((a * 10 + b) * 10 + c, rest)
+unfolding number_in
+three-back a b c rest some h i j most =
+    rw (digit-back a ((48 + b) ∷ (48 + c) ∷ rest) h, some-digit a some, goes-back a b ((48 + c) ∷ rest) i (omega arith), goes-back (a * 10 + b) c rest j most) refl
+
+number-back : (n : ℕ) (rest : List ℕ) → n < 256 → IsNext rest → number_in (decimal n ++ rest) ≡ Some (n, rest)
+number-back n rest h next =
+    elim (cases_lt n 10) [
+      | inl one ↦ rw (decimal_digit n one) (one-back n rest one next)
+      | inr more ↦
+          let a = n / 10 in
+          let b = n % 10 in
+          let is : a * 10 + b ≡ n = omega arith in
+          elim (cases_lt a 10) [
+            | inl two ↦
+                rw (decimal_step n more (omega arith), decimal_digit a two) (two-back a b rest (omega arith) two (omega arith) next ∙ ap (λ m. Some (m, rest)) is)
+            | inr three ↦
+                let c = a / 10 in
+                let d = a % 10 in
+                let high : c * 10 + d ≡ a = omega arith in
+                let low : (c * 10 + d) * 10 + b ≡ n = omega arith in
+                rw (decimal_step n more (omega arith), decimal_step a three (omega arith), decimal_digit c (omega arith))
+                (three-back c d b rest (omega arith) (omega arith) (omega arith) (omega arith) (omega arith) ∙ ap (λ m. Some (m, rest)) low)
+          ]
+    ]
+
+-- ---- what is read is spelled so
+
+-- bytes that begin with a decimal number
+record Begins (bytes : List ℕ) (number : ℕ × List ℕ) : Type 0 where
+  pub spelled : bytes ≡ decimal number.0 ++ number.1
+  pub least : 1 ≤ number.0
+  pub most : number.0 ≤ 255
+
+longer : (n d : ℕ) → 1 ≤ n → n ≤ 255 → d < 10 → decimal (n * 10 + d) ≡ decimal n ++ (48 + d) ∷ []
+longer n d some most h =
+    let high : (n * 10 + d) / 10 ≡ n = omega arith in
+    let low : (n * 10 + d) % 10 ≡ d = omega arith in
+    decimal_step (n * 10 + d) (omega arith) (omega arith) ∙ rw (high, low) refl
+
+goes-only : (bytes : List ℕ) (n v : ℕ × List ℕ) → Begins bytes n → goes_on n ≡ Some v → Begins bytes v
+unfolding goes_on
+goes-only bytes n v is e = by (decimal_at n.1) refl e
+  where
+    by : (o : Option (ℕ × List ℕ)) → decimal_at n.1 ≡ o → gone_on n.0 n.1 o ≡ Some v → Begins bytes v
+    by None f g = subst (Begins bytes) (some_is (n.0, n.1) v g) is
+    by (Some x) f g =
+        let w = when_some (nat_le (n.0 * 10 + x.0) 255) (n.0 * 10 + x.0, x.1) v g in
+        let here = digit-only n.1 x f in
+        let most : n.0 * 10 + x.0 ≤ 255 = omega (arith, below (n.0 * 10 + x.0) 255 w.0) in
+        subst (Begins bytes) w.1 (record {
+          spelled = is.spelled ∙ ap (λ t. decimal n.0 ++ t) here.0 ∙ sym (append_assoc (decimal n.0) ((48 + x.0) ∷ []) x.1) ∙ ap (λ t. t ++ x.1) (sym (longer n.0 x.0 is.least is.most here.1));
+          least = omega (arith, is.least);
+          most = most;
+        })
+
+number-only : (bytes : List ℕ) (v : ℕ × List ℕ) → number_in bytes ≡ Some v → (bytes ≡ decimal v.0 ++ v.1) × (v.0 < 256)
+unfolding number_in
+number-only bytes v e =
+    let first = bind_some (decimal_at bytes) _ v e in
+    let here = digit-only bytes first.0 first.1 in
+    let spelled : bytes ≡ decimal first.0.0 ++ first.0.1 = here.0 ∙ ap (λ t. t ++ first.0.1) (sym (decimal_digit first.0.0 here.1)) in
+    elim (parted (first.0.0 == 0) (Some first.0) _ v first.2) [
+      | inl p ↦ let P : ℕ × List ℕ → Type 0 = λ x. (bytes ≡ decimal x.0 ++ x.1) × (x.0 < 256) in subst P (some_is first.0 v p.1) (spelled, omega (arith, here.1))
+      | inr r ↦
+          let second = bind_some (goes_on first.0) goes_on v r.1 in
+          let one = goes-only bytes first.0 second.0 (record { spelled = spelled; least = not-zero first.0.0 r.0; most = omega (arith, here.1) }) second.1 in
+          let two = goes-only bytes second.0 v one second.2 in
+          (two.spelled, omega (arith, two.most))
+    ]
+  where
+    not-zero : (d : ℕ) → (d == 0) ≡ false → 1 ≤ d
+    not-zero d h = grind (arith, nat_tests)
 
 pub decimals : IsSpelling number_in decimal (λ n. n < 256)
-decimals = record {
-  back = number-back;
-  only = number-only;
-  plain = λ n h. digits-no_space 10 (decimal n) (omega arith) (decimal_digits (decimal n) (decimal_is_IsNumeral n (omega arith)).0.1);
-}
+decimals = record { back = number-back; only = number-only }
 
 -- ---- hexadecimal numbers
 
-hex-back : (k n : ℕ) → n < 16 ^ k → hex_in k (numeral 16 k n) ≡ Some n
-unfolding hex_in
-hex-back k n h =
-    let value : digits_value 16 (numeral 16 k n) ≡ n = value-numeral k n ∙ mod-eq_of_lt h in
-    rw (same (length (numeral 16 k n)) k (length-numeral k n), digits_in-back 16 (numeral 16 k n) (digits-numeral k n), value) refl
+digits_in-only : (text : List ℕ) (n : ℕ) → digits_in text ≡ Some n → (list_all (is_digit 16) text ≡ true) × (digits_value 16 text ≡ n)
+unfolding digits_in
+digits_in-only text n e = when_some (list_all (is_digit 16) text) (digits_value 16 text) n e
 
-hex-only : (k : ℕ) (text : List ℕ) (n : ℕ) → hex_in k text ≡ Some n → (text ≡ numeral 16 k n) × (n < 16 ^ k)
+digits_in-back : (text : List ℕ) → list_all (is_digit 16) text ≡ true → digits_in text ≡ Some (digits_value 16 text)
+unfolding digits_in
+digits_in-back text h = rw h refl
+
+hex-back : (k n : ℕ) (rest : List ℕ) → n < 16 ^ k → IsNext rest → hex_in k (numeral 16 k n ++ rest) ≡ Some (n, rest)
 unfolding hex_in
-hex-only k text n e =
-    let a = bind_some (when (length text == k) text) _ n e in
-    let tests = when_some (length text == k) text a.0 a.1 in
-    let digits = digits_in-only 16 text n (ap (digits_in 16) tests.1 ∙ a.2) in
-    let len : length text ≡ k = is_same (length text) k tests.0 in
-    let spelled : text ≡ numeral 16 k n = numeral-value text digits.0 ∙ ap (λ j. numeral 16 j (digits_value 16 text)) len ∙ ap (numeral 16 k) digits.1 in
-    (spelled, rw (← digits.1, ← len) (digits_value-lt 16 text (AllDigits-from 16 text digits.0)))
+hex-back k n rest h next =
+    let value : digits_value 16 (numeral 16 k n) ≡ n = value-numeral k n ∙ mod-eq_of_lt h in
+    let room : nat_le k (length (numeral 16 k n ++ rest)) ≡ true = fits k (length (numeral 16 k n ++ rest)) (omega (arith, length-append (numeral 16 k n) rest, length-numeral k n)) in
+    rw (room, take_at (numeral 16 k n) rest k (length-numeral k n), drop_at (numeral 16 k n) rest k (length-numeral k n), digits_in-back (numeral 16 k n) (digits-numeral k n), value) refl
+
+hex-only : (k : ℕ) (text : List ℕ) (v : ℕ × List ℕ) → hex_in k text ≡ Some v → (text ≡ numeral 16 k v.0 ++ v.1) × (v.0 < 16 ^ k)
+unfolding hex_in
+hex-only k text v e =
+    let a = bind_some (when (nat_le k (length text)) (take k text)) _ v e in
+    let tests = when_some (nat_le k (length text)) (take k text) a.0 a.1 in
+    let b = bind_some (digits_in a.0) _ v a.2 in
+    let digits = digits_in-only (take k text) b.0 (ap digits_in tests.1 ∙ b.1) in
+    let len : length (take k text) ≡ k = length-take-le k text (omega (arith, below k (length text) tests.0)) in
+    let here : take k text ≡ numeral 16 k b.0 = numeral-value (take k text) digits.0 ∙ ap (λ j. numeral 16 j (digits_value 16 (take k text))) len ∙ ap (numeral 16 k) digits.1 in
+    let low = digits_value-lt 16 (take k text) (AllDigits-from 16 (take k text) digits.0) in
+    let small : b.0 < 16 ^ k = rw len at (rw digits.1 at low) in
+    let P : ℕ × List ℕ → Type 0 = λ x. (text ≡ numeral 16 k x.0 ++ x.1) × (x.0 < 16 ^ k) in
+    subst P (some_is (b.0, drop k text) v b.2) (sym (take-append-drop k text) ∙ ap (λ t. t ++ drop k text) here, small)
 
 pub numerals : (k : ℕ) → IsSpelling (hex_in k) (numeral 16 k) (λ n. n < 16 ^ k)
-numerals k = record {
-  back = hex-back k;
-  only = hex-only k;
-  plain = λ n h. digits-no_space 16 (numeral 16 k n) (omega arith) (digits-numeral k n);
-}
+numerals k = record { back = hex-back k; only = hex-only k }

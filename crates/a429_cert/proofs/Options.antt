@@ -23,6 +23,16 @@ pub split : {A : Type 0} (test : Bool) (x rest : Option A) (v : A) → (if test 
 split true x rest v e = inl (refl, e)
 split false x rest v e = inr e
 
+-- the same, where the test matters for the other
+pub parted : {A : Type 0} (test : Bool) (x rest : Option A) (v : A) → (if test then x else rest) ≡ Some v → ((test ≡ true) × (x ≡ Some v)) ⊎ ((test ≡ false) × (rest ≡ Some v))
+parted true x rest v e = inl (refl, e)
+parted false x rest v e = inr (refl, e)
+
+-- a choice of two that are the same
+pub either : {A : Type 0} (test : Bool) (x rest v : A) → x ≡ v → rest ≡ v → (if test then x else rest) ≡ v
+either true x rest v e f = e
+either false x rest v e f = f
+
 -- a fact on an error, where it always holds
 pub on_err : {T E P : Type 0} (r : Result T E) → P → OnErr r P
 on_err (Ok x) h = tt

@@ -68,7 +68,7 @@ first_err f q x text l None r e g reads is same = rw same (λ h. (refl, λ first
 
 -- ---- runs
 
-trace_push : (steps : List Step) (a : Step) → trace (steps ++ a ∷ []) ≡ trace steps ++ trace (a ∷ [])
+pub trace_push : (steps : List Step) (a : Step) → trace (steps ++ a ∷ []) ≡ trace steps ++ trace (a ∷ [])
 trace_push [] a = refl
 trace_push (b ∷ steps) a = labelled (label b) (trace steps) (trace (a ∷ [])) (trace (steps ++ a ∷ [])) (trace_push steps a)
   where
@@ -76,7 +76,7 @@ trace_push (b ∷ steps) a = labelled (label b) (trace steps) (trace (a ∷ []))
     labelled None xs ys zs e = e
     labelled (Some i) xs ys zs e = ap (λ (l : List Seen). i ∷ l) e
 
-tells_push : (p : Contents) (lines : List (Option (List ℕ))) (steps : List Step) (s : State) (text : List ℕ) (a : Step) → Tells p lines steps s → TellsStep p text a (end_of p steps s) → Tells p (lines ++ Some text ∷ []) (steps ++ a ∷ []) s
+pub tells_push : (p : Contents) (lines : List (Option (List ℕ))) (steps : List Step) (s : State) (text : List ℕ) (a : Step) → Tells p lines steps s → TellsStep p text a (end_of p steps s) → Tells p (lines ++ Some text ∷ []) (steps ++ a ∷ []) s
 tells_push p [] [] s text a h t = (t, tt)
 tells_push p [] (b ∷ steps) s text a h t = absurd h
 tells_push p (None ∷ lines) steps s text a h t = absurd h

@@ -1,35 +1,31 @@
 -- The lines of a text, one after the other.
-use Rattle.std.proofs.Common.{◌≡◌, ◌⊎◌, inl, inr, ℕ, suc, ◌+◌, ◌<◌, ◌==◌, List, [], ◌∷◌, length, take, drop, cond, ltb, Bool, true, false, if◌then◌else◌, Option, Some, None, option_map, slice_get, refl, sym, ap, ◌∙◌, subst, arith}
-use Rattle.std.specs.List.{position_or_len}
-use Rattle.std.proofs.lemmas.Bool.Decides.{nat_tests}
+use Rattle.std.proofs.Common.{◌≡◌, ◌⊎◌, inl, inr, ℕ, zero, suc, ◌+◌, ◌≤◌, ◌<◌, ◌==◌, List, [], ◌∷◌, length, take, drop, Bool, true, false, Option, Some, None, slice_get, refl, ap, subst, arith}
 use Rattle.std.proofs.lemmas.List.{drop-drop, length-drop}
-use Rattle.std.proofs.lemmas.List.Recursion.{is_position_or_len}
-use Rattle.a429_cert.specs.Lines.{lines_of, line_end}
+use Rattle.memchr.specs.Find.{is_byte, Passes, IsFirstByte}
+use Rattle.a429_cert.specs.Lines.{lines_of}
 
 -- ---- where a line ends
 
--- the first line feed, or the end
-abbrev place : List ℕ → ℕ
-place [] = 0
-place (b ∷ bs) = cond (b == 10) 0 (1 + place bs)
+not_true : (b : Bool) → (b ≡ true → ⊥) → b ≡ false
+not_true true h = absurd (h refl)
+not_true false h = refl
 
-later : (n len : ℕ) → option_map suc (cond (ltb n len) (Some n) None) ≡ cond (ltb (1 + n) (suc len)) (Some (1 + n)) None
-later n len = by (ltb n len) refl
-  where
-    by : (t : Bool) → ltb n len ≡ t → option_map suc (cond t (Some n) None) ≡ cond (ltb (1 + n) (suc len)) (Some (1 + n)) None
-    by true e = let up : ltb (1 + n) (suc len) ≡ true = grind (arith, nat_tests) in let same : 1 + n ≡ suc n = omega arith in rw (up, same) refl
-    by false e = let up : ltb (1 + n) (suc len) ≡ false = grind (arith, nat_tests) in rw up refl
+-- the line before the first line feed
+first_line : (bs : List ℕ) (n : ℕ) → n < length bs → ((k : ℕ) → 0 ≤ k → k < n → Passes (is_byte 10) bs k → ⊥) → Passes (is_byte 10) bs n → lines_of bs ≡ Some (take n bs) ∷ lines_of (drop (suc n) bs)
+first_line [] n h before here = absurd (omega arith)
+first_line (b ∷ bs) zero h before here = rw here refl
+first_line (b ∷ bs) (suc n) h before here =
+    let other : (b == 10) ≡ false = not_true (b == 10) (before 0 (omega arith) (omega arith)) in
+    rw (other, first_line bs n (omega arith) (λ k least below. before (suc k) (omega arith) (omega arith)) here) refl
 
-here_or : (n len : ℕ) (b : Bool) (r : Option ℕ) → r ≡ cond (ltb n len) (Some n) None → (if b then Some 0 else option_map suc r) ≡ cond (ltb (cond b 0 (1 + n)) (suc len)) (Some (cond b 0 (1 + n))) None
-here_or n len true r e = let first : ltb 0 (suc len) ≡ true = grind (arith, nat_tests) in rw first refl
-here_or n len false r e = rw e (later n len)
+longer : (b : ℕ) (bs : List ℕ) → (b == 10) ≡ false → (bs ≡ []) ⊎ (lines_of bs ≡ None ∷ []) → lines_of (b ∷ bs) ≡ None ∷ []
+longer b bs other (inl none) = rw (other, none) refl
+longer b bs other (inr line) = rw (other, line) refl
 
-by_place : (bs : List ℕ) → line_end bs ≡ cond (ltb (place bs) (length bs)) (Some (place bs)) None
-by_place [] = refl
-by_place (b ∷ bs) = here_or (place bs) (length bs) (b == 10) (line_end bs) (by_place bs)
-
-pub line_end-is : (bs : List ℕ) → line_end bs ≡ cond (ltb (position_or_len (λ b. b == 10) bs) (length bs)) (Some (position_or_len (λ b. b == 10) bs)) None
-line_end-is bs = subst (λ n. line_end bs ≡ cond (ltb n (length bs)) (Some n) None) (is_position_or_len place (λ b. b == 10) refl (λ x xs. refl) bs) (by_place bs)
+-- a text without a line feed
+no_line : (bs : List ℕ) → ((k : ℕ) → 0 ≤ k → k < length bs → Passes (is_byte 10) bs k → ⊥) → (bs ≡ []) ⊎ (lines_of bs ≡ None ∷ [])
+no_line [] before = inl refl
+no_line (b ∷ bs) before = inr (longer b bs (not_true (b == 10) (before 0 (omega arith) (omega arith))) (no_line bs (λ k least below. before (suc k) (omega arith) (omega arith))))
 
 -- ---- the line that ends there
 
@@ -38,33 +34,17 @@ pub record BeginsAt (bs : List ℕ) (n : ℕ) : Type 0 where
   pub inside : n < length bs
   pub lines : lines_of bs ≡ Some (take n bs) ∷ lines_of (drop (suc n) bs)
 
--- what the place of the first line feed tells
-abbrev pub Ends : List ℕ → Option ℕ → Type 0
-Ends bs (Some n) = BeginsAt bs n
-Ends bs None = (bs ≡ []) ⊎ (lines_of bs ≡ None ∷ [])
+pub ends_at : (bs : List ℕ) (r : Option ℕ) (n : ℕ) → IsFirstByte (is_byte 10) bs r → r ≡ Some n → BeginsAt bs n
+ends_at bs r n h e =
+    let found = subst (IsFirstByte (is_byte 10) bs) e h in
+    record { inside = found.0.high; lines = first_line bs n found.0.high found.0.before found.1 }
 
-goes_on : (b : ℕ) (bs : List ℕ) (o : Option ℕ) → (b == 10) ≡ false → Ends bs o → Ends (b ∷ bs) (option_map suc o)
-goes_on b bs (Some n) other at = record { inside = omega (arith, at.inside); lines = rw (other, at.lines) refl }
-goes_on b bs None other (inl none) = rw (other, none) (inr refl)
-goes_on b bs None other (inr unended) = rw (other, unended) (inr refl)
-
-step : (b : ℕ) (bs : List ℕ) (is : Bool) → (b == 10) ≡ is → Ends bs (line_end bs) → Ends (b ∷ bs) (if is then Some 0 else option_map suc (line_end bs))
-step b bs true here rest = record { inside = omega arith; lines = rw here refl }
-step b bs false here rest = goes_on b bs (line_end bs) here rest
-
-pub ends : (bs : List ℕ) → Ends bs (line_end bs)
-ends [] = inl refl
-ends (b ∷ bs) = step b bs (b == 10) refl (ends bs)
-
-pub ends_at : (bs : List ℕ) (r : Option ℕ) (n : ℕ) → r ≡ line_end bs → r ≡ Some n → BeginsAt bs n
-ends_at bs r n e s = subst (Ends bs) (sym e ∙ s) (ends bs)
-
-pub unended : (bs : List ℕ) (r : Option ℕ) (empty : Bool) → r ≡ line_end bs → r ≡ None → empty ≡ (length bs == 0) → empty ≡ false → lines_of bs ≡ None ∷ []
-unended bs r empty e s is h = only (subst (Ends bs) (sym e ∙ s) (ends bs))
+pub unended : (bs : List ℕ) (r : Option ℕ) (empty : Bool) → IsFirstByte (is_byte 10) bs r → r ≡ None → empty ≡ (length bs == 0) → empty ≡ false → lines_of bs ≡ None ∷ []
+unended bs r empty h e is not = only (no_line bs (subst (IsFirstByte (is_byte 10) bs) e h))
   where
     only : (bs ≡ []) ⊎ (lines_of bs ≡ None ∷ []) → lines_of bs ≡ None ∷ []
-    only (inl none) = let all : (length bs == 0) ≡ true = rw none refl in absurd (cc (all, is, h))
-    only (inr is') = is'
+    only (inl none) = let all : (length bs == 0) ≡ true = rw none refl in absurd (cc (all, is, not))
+    only (inr line) = line
 
 -- ---- what the reader gives
 

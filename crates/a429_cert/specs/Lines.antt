@@ -1,7 +1,7 @@
 -- The lines of a certificate (profile).
 use Rattle.a429_cert.specs.declared.certificate.TextLine.{TextLine}
 use Rattle.a429_cert.specs.declared.certificate.TextLine.TheVariants.{Ended, Unended}
-use Rattle.std.specs.Prelude.{ℕ, suc, List, [], ◌∷◌, ◌==◌, if◌then◌else◌, codes, Option, Some, None, option_map}
+use Rattle.std.specs.Prelude.{ℕ, List, [], ◌∷◌, ◌==◌, if◌then◌else◌, codes, Option, Some, None, option_map}
 
 -- a text of this byte and of what these lines are the lines of; behind its last line feed it is in a line that has no end
 abbrev pub begun_with : ℕ → List (Option (List ℕ)) → List (Option (List ℕ))
@@ -12,11 +12,6 @@ begun_with b (line ∷ lines) = option_map (λ text. b ∷ text) line ∷ lines
 abbrev pub lines_of : List ℕ → List (Option (List ℕ))
 lines_of [] = []
 lines_of (b ∷ bs) = if b == 10 then Some [] ∷ lines_of bs else begun_with b (lines_of bs)
-
--- where the first line feed of a text is
-abbrev pub line_end : List ℕ → Option ℕ
-line_end [] = None
-line_end (b ∷ bs) = if b == 10 then Some 0 else option_map suc (line_end bs)
 
 -- the first line of each certificate
 abbrev pub version : List ℕ

@@ -1,8 +1,9 @@
 //! The lines of a certificate, one after the other.
 
 ghost use Rattle.std.specs.Prelude.{◌≡◌, ◌<◌, IsSome, drop, length, option_map, slice_get};
-ghost use Rattle.a429_cert.specs.Lines.{lines_of, line_end, text_of};
+ghost use Rattle.a429_cert.specs.Lines.{lines_of, text_of};
 
+use memchr::memchr;
 use std::marker::Model;
 
 /// A line of a certificate's text.
@@ -45,7 +46,7 @@ impl<'a> Lines<'a> {
         if self.rest.is_empty() {
             return None;
         }
-        match line_end(self.rest) {
+        match memchr(b'\n', self.rest) {
             Some(end) => {
                 let (line, rest) = self.rest.split_at(end);
                 self.rest = behind_first(rest);
@@ -67,11 +68,4 @@ fn behind_first(text: &[u8]) -> &[u8]
         [_, behind @ ..] => behind,
         [] => text,
     }
-}
-
-// Where the first line feed is.
-fn line_end(text: &[u8]) -> Option<usize>
-    ensures { result ≡ line_end text.now }
-{
-    text.iter().position(|byte| *byte == b'\n')
 }

@@ -1,98 +1,106 @@
 //! The fields of a line, and the numbers in them.
 
 ghost use Rattle.std.specs.Prelude.{◌≡◌, ◌<◌, ◌≤◌, ◌^◌, length, IfSome, option_map};
-ghost use Rattle.a429_cert.specs.Reading.{cut, field_at, digit_in, digits_in, number_in, hex_in, with_rest};
+ghost use Rattle.a429_cert.specs.Reading.{behind_space, digit_in, digits_in, hex_in, decimal_at, goes_on, number_in, with_rest};
 
-/// The bytes up to the first space, and the rest from there on.
-pub fn cut(text: &[u8]) -> (&[u8], &[u8])
-    ensures { (result.0.now, result.1.now) ≡ cut text.now }
-{
-    let end = text
-        .iter()
-        .position(|byte| *byte == b' ')
-        .unwrap_or(text.len());
-    text.split_at(end)
-}
-
-/// A field behind the first, and what stands behind it.
-#[tactic(auto, unfolding(crate::specs::Reading::field_at))]
-pub fn field_at(text: &[u8]) -> Option<(&[u8], &[u8])>
-    ensures { option_map (λ x. (x.0.now, x.1.now)) result ≡ field_at text.now }
+/// What stands behind a space.
+pub fn behind_space(text: &[u8]) -> Option<&[u8]>
+    ensures { option_map (λ x. x.now) result ≡ behind_space text.now }
 {
     match text {
-        [b' ', rest @ ..] => Some(cut(rest)),
+        [b' ', field @ ..] => Some(field),
         _ => None,
     }
 }
 
-// The value of a digit of a base, a letter in upper case.
-fn digit_of(byte: u8, base: u32) -> Option<u32>
-    requires least { 2 ≤ base }
-    requires most { base ≤ 16 }
-    ensures { result ≡ digit_in base byte }
+// The value of a hexadecimal digit, a letter in upper case.
+fn digit_of(byte: u8) -> Option<u32>
+    ensures { result ≡ digit_in byte }
 {
-    if byte.is_ascii_lowercase() {
-        None
-    } else {
-        char::from(byte).to_digit(base)
+    match byte {
+        b'0'..=b'9' => Some(u32::from(byte - b'0')),
+        b'A'..=b'F' => Some(u32::from(byte - b'A') + 10),
+        _ => None,
     }
 }
 
-// The number that at most eight digits of a base write.
-fn digits_of(text: &[u8], base: u32) -> Option<u32>
-    requires least { 2 ≤ base }
-    requires most { base ≤ 16 }
-    requires len { length text.now ≤ 8 }
-    ensures value { result ≡ digits_in base text.now }
-    ensures small { IfSome result (λ n. n < base ^ length text.now) }
+// The number that at most eight hexadecimal digits write.
+fn digits_of(text: &[u8]) -> Option<u32>
+    requires { length text.now ≤ 8 }
+    ensures value { result ≡ digits_in text.now }
+    ensures small { IfSome result (λ n. n < 16 ^ length text.now) }
 {
     let mut number = 0;
     for byte in text {
-        let Some(digit) = digit_of(*byte, base) else {
+        let Some(digit) = digit_of(*byte) else {
             return None;
         };
-        number = number * base + digit;
+        number = number * 16 + digit;
     }
     Some(number)
 }
 
-/// A decimal number up to 255, without leading zeros.
-#[tactic(auto, unfolding(crate::specs::Reading::number_in))]
-pub fn number_of(text: &[u8]) -> Option<u8>
-    ensures { result ≡ number_in text.now }
+// A hexadecimal number of so many digits, at most eight, and what stands behind it.
+#[tactic(auto, unfolding(crate::specs::Reading::hex_in))]
+fn hex_of(text: &[u8], count: usize) -> Option<(u32, &[u8])>
+    requires { count ≤ 8 }
+    ensures value { option_map (λ x. (x.0, x.1.now)) result ≡ hex_in count text.now }
+    ensures small { IfSome result (λ x. x.0 < 16 ^ count) }
 {
-    let leads = match text {
-        [] => false,
-        [_] => true,
-        [first, ..] => *first != b'0',
-    };
-    if !leads || text.len() > 3 {
+    if text.len() < count {
         return None;
     }
-    let number = digits_of(text, 10)?;
-    u8::try_from(number).ok()
+    let (digits, rest) = text.split_at(count);
+    let number = digits_of(digits)?;
+    Some((number, rest))
 }
 
-// A hexadecimal number of so many digits, at most eight.
-#[tactic(auto, unfolding(crate::specs::Reading::hex_in))]
-fn hex_of(text: &[u8], count: usize) -> Option<u32>
-    requires { count ≤ 8 }
-    ensures value { result ≡ hex_in count text.now }
-    ensures small { IfSome result (λ n. n < 16 ^ count) }
+// A decimal digit, and what stands behind it.
+#[tactic(auto, unfolding(crate::specs::Reading::decimal_at))]
+fn decimal_at(text: &[u8]) -> Option<(u8, &[u8])>
+    ensures { option_map (λ x. (x.0, x.1.now)) result ≡ decimal_at text.now }
 {
-    if text.len() == count {
-        digits_of(text, 16)
+    match text {
+        [byte @ b'0'..=b'9', rest @ ..] => Some((*byte - b'0', rest)),
+        _ => None,
+    }
+}
+
+// A number up to 255 with the digit that stands behind it, if there is one, and what stands behind that.
+#[tactic(auto, unfolding(crate::specs::Reading::goes_on))]
+fn goes_on(number: u8, text: &[u8]) -> Option<(u8, &[u8])>
+    ensures { option_map (λ x. (x.0, x.1.now)) result ≡ goes_on (number, text.now) }
+{
+    let Some((digit, rest)) = decimal_at(text) else {
+        return Some((number, text));
+    };
+    let longer = u16::from(number) * 10 + u16::from(digit);
+    if longer <= 255 {
+        Some((longer as u8, rest))
     } else {
         None
     }
 }
 
+/// A decimal number up to 255, without leading zeros, and what stands behind it.
+#[tactic(auto, unfolding(crate::specs::Reading::number_in))]
+pub fn number_of(text: &[u8]) -> Option<(u8, &[u8])>
+    ensures { option_map (λ x. (x.0, x.1.now)) result ≡ number_in text.now }
+{
+    let (first, rest) = decimal_at(text)?;
+    if first == 0 {
+        return Some((first, rest));
+    }
+    let (second, rest) = goes_on(first, rest)?;
+    goes_on(second, rest)
+}
+
 /// The decimal number in the next field, and what stands behind it.
+#[inline(always)]
 pub fn number_at(text: &[u8]) -> Option<(u8, &[u8])>
     ensures { option_map (λ x. (x.0, x.1.now)) result ≡ with_rest number_in text.now }
 {
-    let (field, rest) = field_at(text)?;
-    Some((number_of(field)?, rest))
+    number_of(behind_space(text)?)
 }
 
 /// The hexadecimal number of so many digits in the next field, and what stands behind it.
@@ -101,6 +109,5 @@ pub fn hex_at(text: &[u8], count: usize) -> Option<(u32, &[u8])>
     ensures value { option_map (λ x. (x.0, x.1.now)) result ≡ with_rest (hex_in count) text.now }
     ensures small { IfSome result (λ x. x.0 < 16 ^ count) }
 {
-    let (field, rest) = field_at(text)?;
-    Some((hex_of(field, count)?, rest))
+    hex_of(behind_space(text)?, count)
 }

@@ -5,7 +5,7 @@ ghost use Rattle.a429_cert.specs.Line.{Reads};
 ghost use Rattle.a429_cert.specs.Reading.{words_at, words_in, first_in, load_in, moved_in, line_in};
 
 use crate::fault::OutOfMemory;
-use crate::field::{cut, hex_at, number_at};
+use crate::field::{hex_at, number_at};
 use crate::line::CertLine;
 use crate::states::{act_of, sink_at, source_at};
 use crate::words::Words;
@@ -27,27 +27,26 @@ pub fn read_line(alloc: Global, line: &[u8]) -> Result<Option<CertLine>, OutOfMe
     line_of(alloc, line)
 }
 
-// A line, by its first field.
+// A line, by its first letter.
 #[tactic(auto, unfolding(crate::specs::Reading::line_in))]
 fn line_of(alloc: Global, line: &[u8]) -> Result<Option<CertLine>, OutOfMemory>
     ensures ok { IfOk result (λ read. read ≡ line_in line.now) }
     ensures err { OnErr result (take 1 line.now ≡ codes "L") }
 {
-    let (head, rest) = cut(line);
-    if head == b"first".as_slice() {
-        Ok(first_of(rest))
-    } else if head == b"L".as_slice() {
-        load_of(alloc, rest)
-    } else {
-        Ok(moved_of(head, rest))
+    match line {
+        [b'L', rest @ ..] => load_of(alloc, rest),
+        [b'f', ..] => Ok(first_of(line)),
+        [letter, rest @ ..] => Ok(moved_of(*letter, rest)),
+        [] => Ok(None),
     }
 }
 
 // The number of the first file.
 #[tactic(auto, unfolding(crate::specs::Reading::first_in))]
-fn first_of(text: &[u8]) -> Option<CertLine>
-    ensures { result ≡ first_in text.now }
+fn first_of(line: &[u8]) -> Option<CertLine>
+    ensures { result ≡ first_in line.now }
 {
+    let text = line.strip_prefix(b"first")?;
     let (file, rest) = number_at(text)?;
     if rest.is_empty() {
         Some(CertLine::First(file))
@@ -56,7 +55,7 @@ fn first_of(text: &[u8]) -> Option<CertLine>
     }
 }
 
-// A link data unit.
+// A link data unit, behind its letter.
 #[tactic(auto, unfolding(crate::specs::Reading::load_in))]
 fn load_of(alloc: Global, text: &[u8]) -> Result<Option<CertLine>, OutOfMemory>
     ensures { IfOk result (λ read. read ≡ load_in text.now) }
@@ -116,8 +115,8 @@ fn words_at(alloc: Global, count: usize, text: &[u8]) -> Result<Option<Words>, O
 
 // A step, by its letter, and what it leaves.
 #[tactic(auto, unfolding(crate::specs::Reading::moved_in))]
-fn moved_of(letter: &[u8], text: &[u8]) -> Option<CertLine>
-    ensures { result ≡ moved_in letter.now text.now }
+fn moved_of(letter: u8, text: &[u8]) -> Option<CertLine>
+    ensures { result ≡ moved_in letter text.now }
 {
     let act = act_of(letter)?;
     let (source, rest) = source_at(text)?;

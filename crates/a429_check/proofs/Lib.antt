@@ -3,4 +3,3 @@ pub mod Labels
 pub mod Shows
 pub mod Timed
 pub mod Columns
-pub mod Verdicts

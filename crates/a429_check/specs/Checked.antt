@@ -1,5 +1,5 @@
 -- The verdict on a recording, and how it is written (profile).
-use Rattle.std.specs.Prelude.{◌≡◌, ◌++◌, ℕ, List, [], codes}
+use Rattle.std.specs.Prelude.{◌≡◌, ◌++◌, ℕ, List, [], codes, Option}
 use Rattle.std.specs.Fmt.{decimal}
 use Rattle.a429_profile.specs.Contents.{Contents}
 use Rattle.a429_cert.specs.Explained.{items_of}
@@ -42,18 +42,10 @@ verdict_status (Unexplained i doubt) = 2
 
 -- ---- what it stands for
 
--- the verdict is one on the recording by the profile whose text the bytes are
-pub record IsVerdictOn (profile recording : List ℕ) (v : Verdict) : Type 0 where
+-- the verdict is one on the recording by the profile whose text the bytes are; the recording's bytes are known where its reader tells them
+pub record IsVerdictOn (profile : List ℕ) (recording : Option (List ℕ)) (v : Verdict) : Type 0 where
   pub says : Says profile recording
   pub sound : IsSound (says.contents) (items_of (says.entries)) v
   pub impossible : IsImpossible (says.contents) (items_of (says.entries)) v
   pub doubted : IsDoubted (says.contents) (items_of (says.entries)) v
   pub no_form : HasNoForm (says.contents.codes) (items_of (says.entries)) → IsRefusal v
-
--- a verdict with its status, its text and the certificate's
-pub record IsChecked (profile recording : List ℕ) (status : ℕ) (text certificate : List ℕ) : Type 0 where
-  pub verdict : Verdict
-  pub is : IsVerdictOn profile recording verdict
-  pub status_is : status ≡ verdict_status verdict
-  pub text_is : text ≡ verdict_text verdict
-  pub certificate_is : certificate ≡ certificate_text verdict

@@ -1,5 +1,5 @@
 -- The verdict of a certificate, and how it is written (profile).
-use Rattle.std.specs.Prelude.{◌≡◌, ◌⊎◌, ◌++◌, ℕ, List, [], length, codes, Bool, true, Option, Result, Ok, Err}
+use Rattle.std.specs.Prelude.{◌≡◌, ◌⊎◌, ◌++◌, ℕ, List, [], length, codes, Bool, true, false, Option, IfSome, Result, Ok, Err}
 use Rattle.std.specs.List.{flat_map}
 use Rattle.std.specs.Fmt.{decimal}
 use Rattle.a429_profile.specs.Contents.{Contents}
@@ -36,46 +36,50 @@ no_text cert.OutOfMemory = []
 
 -- ---- what it stands for
 
--- a profile's text and a recording say these contents and entries
-pub record Says (profile recording : List ℕ) : Type 0 where
+-- a profile's text and a recording say these contents and entries; the recording's bytes are known where its reader tells them
+pub record Says (profile : List ℕ) (recording : Option (List ℕ)) : Type 0 where
   pub contents : Contents
   pub entries : List Entry
   pub is_profile : IsProfileOf profile contents
-  pub stand : stands_for recording ≡ whole entries
+  pub stand : IfSome recording (λ bytes. stands_for bytes ≡ whole entries)
 
 -- the certificate explains the recording: some run gives exactly its words, and each run that gives them delivers these files
-pub record Accepts (profile recording certificate : List ℕ) (files : List FileBytes) : Type 0 where
+pub record Accepts (profile : List ℕ) (recording certificate : Option (List ℕ)) (files : List FileBytes) : Type 0 where
   pub says : Says profile recording
-  pub explained : IsExplained (says.contents) certificate (items_of (says.entries)) files
+  pub text : List ℕ
+  pub told : IfSome certificate (λ bytes. text ≡ bytes)
+  pub explained : IsExplained (says.contents) text (items_of (says.entries)) files
   pub every_run : AreInEveryRun (says.contents) (items_of (says.entries)) files
 
 -- it does not, and this is the first fault
-pub record Refuses (profile recording certificate : List ℕ) (f : CertFault) : Type 0 where
+pub record Refuses (profile : List ℕ) (recording certificate : Option (List ℕ)) (f : CertFault) : Type 0 where
   pub says : Says profile recording
-  pub fault : IsFirstFault (says.contents) certificate (items_of (says.entries)) f
+  pub text : List ℕ
+  pub told : IfSome certificate (λ bytes. text ≡ bytes)
+  pub fault : IsFirstFault (says.contents) text (items_of (says.entries)) f
 
 -- the answer to a certificate
-abbrev pub IsAnswer : List ℕ → List ℕ → List ℕ → Result (List FileBytes) CertFault → Type 0
+abbrev pub IsAnswer : List ℕ → Option (List ℕ) → Option (List ℕ) → Result (List FileBytes) CertFault → Type 0
 IsAnswer profile recording certificate (Ok files) = Accepts profile recording certificate files
 IsAnswer profile recording certificate (Err f) = Refuses profile recording certificate f
 
--- the status and the text of an answer: 0 and yes, or 2 and no
-abbrev pub IsTold : Result (List FileBytes) CertFault → ℕ → List ℕ → Type 0
-IsTold (Ok files) status text = (status ≡ 0) × (text ≡ yes_text files)
-IsTold (Err f) status text = (status ≡ 2) × (text ≡ no_text f)
+-- an answer, told: 0, yes and its files, or 2, no and no files
+abbrev pub IsTold : Result (List FileBytes) CertFault → List FileBytes → ℕ → List ℕ → Type 0
+IsTold (Ok files) crossed status text = (crossed ≡ files) × (status ≡ 0) × (text ≡ yes_text files)
+IsTold (Err f) crossed status text = (crossed ≡ []) × (status ≡ 2) × (text ≡ no_text f)
 
--- a verdict: an answer, told
-pub record IsVerdict (profile recording certificate : List ℕ) (status : ℕ) (text : List ℕ) : Type 0 where
+-- a verdict: the files that crossed, the status and the text of an answer
+pub record IsVerdict (profile : List ℕ) (recording certificate : Option (List ℕ)) (files : List FileBytes) (status : ℕ) (text : List ℕ) : Type 0 where
   pub answer : Result (List FileBytes) CertFault
   pub is : IsAnswer profile recording certificate answer
-  pub told : IsTold answer status text
+  pub told : IsTold answer files status text
 
 -- ---- why there is none
 
--- why a certificate could not be read: its reader failed, or want of memory
+-- why bytes could not be read to their end: their reader failed, or it did not, and memory was refused
 abbrev pub IsWholeFault : Bool → RunFault → Type 0
 IsWholeFault failed Device = failed ≡ true
-IsWholeFault failed Memory = Unit {0}
+IsWholeFault failed Memory = failed ≡ false
 IsWholeFault failed _ = ⊥
 
 -- the profile's own fault, then the recording's; a reader or writer that failed after the profile was read; want of memory

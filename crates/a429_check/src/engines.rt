@@ -8,8 +8,9 @@ mod output;
 mod profile;
 mod recording;
 #[cfg(test)]
-mod sample;
+pub(crate) mod sample;
 pub mod show;
 mod verdict;
 pub mod verify;
+pub mod whole;
 pub mod word;

@@ -5,6 +5,8 @@
 mod command_line;
 mod engines;
 mod fault;
+#[cfg(test)]
+mod trials;
 
 pub use crate::command_line::command;
 pub use crate::command_line::commands::Command;
@@ -14,5 +16,6 @@ pub use crate::engines::labels::run_labels;
 pub use crate::engines::make::run_make;
 pub use crate::engines::show::run_show;
 pub use crate::engines::verify::run_verify;
+pub use crate::engines::whole::read_whole;
 pub use crate::engines::word::run_word;
 pub use crate::fault::{RunFault, report};

@@ -2,3 +2,12 @@ pub mod Walked
 pub mod Roles
 pub mod Units
 pub mod Matched
+pub mod Telling
+pub mod Planned
+pub mod WithoutLoss
+pub mod Thinned
+pub mod CleanBlock
+pub mod CleanGroups
+pub mod Found
+pub mod CrossedUnit
+pub mod CrossedUnits

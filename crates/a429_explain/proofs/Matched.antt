@@ -25,7 +25,7 @@ after_all : (c : Codes) (u : LduValue) (place : Place) (xs ys : List Seen) (o : 
 after_all c u place [] ys o = refl
 after_all c u place (x ∷ xs) ys o = after_all c u place xs ys (option_and_then (passing c u place x) o)
 
-get_item : (es : List Entry) (n : ℕ) (d : Entry) → get_or (items_of es) n (seen_of d) ≡ seen_of (get_or es n d)
+pub get_item : (es : List Entry) (n : ℕ) (d : Entry) → get_or (items_of es) n (seen_of d) ≡ seen_of (get_or es n d)
 get_item [] n d = refl
 get_item (e ∷ es) zero d = refl
 get_item (e ∷ es) (suc n) d = get_item es n d

@@ -1,5 +1,5 @@
 -- The roles of a recording's words, from the last to the first.
-use Rattle.std.proofs.Common.{◌≡◌, ℕ, suc, ◌+◌, ◌<◌, ◌≤◌, List, [], ◌∷◌, length, drop, get_or, reverse, Option, refl, ap, arith, drop-cons}
+use Rattle.std.proofs.Common.{◌≡◌, ℕ, suc, ◌+◌, ◌<◌, ◌≤◌, List, [], ◌∷◌, length, drop, get_or, reverse, Option, refl, ap, ◌∙◌, arith, drop-cons}
 use Rattle.a429_profile.specs.declared.codes.Codes.{Codes}
 use Rattle.a429_ldu.specs.declared.forms.Form.{Form}
 use Rattle.a429_ldu.specs.Form.{form_of}
@@ -34,3 +34,6 @@ all_behind c (e ∷ es) = refl
 pub length-roles : (c : Codes) (es : List Entry) → length (roles (forms_of c (items_of es))) ≡ length es
 length-roles c [] = refl
 length-roles c (e ∷ es) = ap suc (length-roles c es)
+
+pub roles_long : (c : Codes) (es : List Entry) (rs : List Role) → rs ≡ roles (forms_of c (items_of es)) → length rs ≡ length es
+roles_long c es rs e = ap length e ∙ length-roles c es

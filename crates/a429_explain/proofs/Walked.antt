@@ -77,7 +77,7 @@ free_form c b w e = rw (by (is_free c b w) (form_of c b w) e) refl
     by false None e = cc e
     by false (Some y) e = cc e
 
-free_none : (c : Codes) (b : Bus) (w : ℕ) → is_free c b w ≡ true → form_of c b w ≡ None
+pub free_none : (c : Codes) (b : Bus) (w : ℕ) → is_free c b w ≡ true → form_of c b w ≡ None
 free_none c b w e = rw e refl
 
 -- a request is always allowed

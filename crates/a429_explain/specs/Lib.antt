@@ -7,3 +7,8 @@ pub mod Units
 pub mod Verdict
 pub mod Groups
 pub mod Matching
+pub mod Told
+pub mod Plain
+pub mod WithoutLoss
+pub mod Whole
+pub mod Crossed

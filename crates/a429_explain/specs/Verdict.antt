@@ -32,6 +32,10 @@ abbrev pub IsRefusal : Verdict → Type 0
 IsRefusal (Impossible i reason) = Unit {0}
 IsRefusal _ = ⊥
 
+abbrev pub IsExplanation : Verdict → Type 0
+IsExplanation (Explained certificate files) = Unit {0}
+IsExplanation _ = ⊥
+
 -- the doubt fits the word at this place
 abbrev pub IsDoubted : Contents → List Seen → Verdict → Type 0
 IsDoubted p items (Unexplained i doubt) = IsDoubtAt p.codes items i doubt

@@ -1,28 +1,63 @@
 //! The link data unit of a group.
 
-ghost use Rattle.std.specs.Prelude.{◌≡◌, ◌<◌, ◌≤◌, Some, IfOk, IfErr, IfSome, length, slice_get};
-ghost use Rattle.a429_ldu.specs.declared.forms.Form.TheVariants as form;
-ghost use Rattle.a429_ldu.specs.declared.sight.Sight.TheVariants as sight;
-ghost use Rattle.a429_ldu.specs.Ldu.{IsLdu, count_of};
+ghost use Rattle.std.specs.Prelude.{◌≡◌, ◌≢◌, ◌<◌, ◌≤◌, ℕ, Some, None, Err, IfOk, IfErr, IfSome, length, slice_get};
+ghost use Rattle.a429_ldu.specs.Ldu.{LduValue, IsLdu, count_of};
 ghost use Rattle.a429_explain.specs.declared.verdict.Doubt.TheVariants as doubt;
 ghost use Rattle.a429_cert.specs.Explained.{items_of};
+ghost use Rattle.a429_explain.specs.Groups.{words_in};
 ghost use Rattle.a429_explain.specs.Said.{said_at};
 ghost use Rattle.a429_explain.specs.Doubt.{IsDoubtAt, IsStop};
+ghost use Rattle.a429_explain.specs.Whole.{nothing_yet, first_whole, wanted, other_request};
+ghost use Rattle.a429_explain.specs.Units.{IsUnitOf};
+ghost use Rattle.a429_explain.specs.Crossed.{HasCrossed};
 
 use crate::filler::filled_unit;
-use crate::group::{Group, said_at};
+use crate::group::{Group, wanted_at};
+use crate::matching::{Place, first_unmatched};
 use crate::stop::Stop;
 use crate::verdict::Doubt;
-use a429_ldu::{Form, Ldu, LduFault, Sight};
+use crate::whole::whole_unit;
+use a429_ldu::Ldu;
 use a429_profile::Profile;
 use a429_record::Entry;
-use a429_word::Word;
-use std::alloc::{AllocError, Global};
+use std::alloc::Global;
 
-/// The link data unit of a group whose first request wants this many words. The first whole attempt
-/// gives it. Where there is none, and no end word was recorded, it is one of the data words of the last
-/// attempt that recorded any, and of filler words behind them.
-pub(crate) fn unit_of(
+/// The link data unit of a group, where each word of the group stands in its block under these numbers.
+pub(crate) fn matched_unit(
+    alloc: Global,
+    profile: &Profile,
+    entries: &[Entry],
+    group: Group,
+    count: u8,
+    place: Place,
+) -> Result<Ldu, Stop>
+    requires inside { group.to ≤ length entries.now }
+    requires some { group.from < group.to }
+    requires request { wanted (said_at profile.now.codes (slice_get (items_of entries.now) group.from)) ≡ Some count }
+    ensures unit { IfOk result (λ u. IsUnitOf profile.now (items_of entries.now) group count place u) }
+    ensures fits { IfErr result (λ s. IsStop profile.now.codes (items_of entries.now) s) }
+    ensures other { (i : ℕ) → other_request profile.now.codes count (words_in (items_of entries.now) group) group.from ≡ Some i → result ≡ Err (Stop.Unexplained i doubt.NotOneBlock) }
+    ensures crossed { (u : LduValue) → HasCrossed profile.now (words_in (items_of entries.now) group) place u → IfOk result (λ v. v ≡ u) }
+    ensures crossed_err { (u : LduValue) → HasCrossed profile.now (words_in (items_of entries.now) group) place u → IfErr result (λ s. s ≡ Stop.OutOfMemory) }
+{
+    let _codes = profile.codes();
+    let unit = match unit_of(alloc, profile, entries, group, count) {
+        Ok(unit) => unit,
+        Err(stop) => return Err(stop),
+    };
+    match first_unmatched(profile, entries, group, &unit, place) {
+        Some(entry) => {
+            let doubt = Doubt::NotOneBlock;
+            Err(Stop::Unexplained { entry, doubt })
+        }
+        None => Ok(unit),
+    }
+}
+
+// The link data unit of a group whose first request wants this many words. The first whole attempt
+// gives it. Where there is none, and no end word was recorded, it is one of the data words of the last
+// attempt that recorded any, and of filler words behind them.
+fn unit_of(
     alloc: Global,
     profile: &Profile,
     entries: &[Entry],
@@ -31,10 +66,15 @@ pub(crate) fn unit_of(
 ) -> Result<Ldu, Stop>
     requires inside { group.to ≤ length entries.now }
     requires some { group.from < group.to }
-    requires request { said_at profile.now.codes (slice_get (items_of entries.now) group.from) ≡ sight.Form (form.Rts count) }
+    requires request { wanted (said_at profile.now.codes (slice_get (items_of entries.now) group.from)) ≡ Some count }
     ensures unit { IfOk result (λ u. IsLdu profile.now u) }
     ensures count { IfOk result (λ u. count_of u ≡ count) }
     ensures fits { IfErr result (λ s. IsStop profile.now.codes (items_of entries.now) s) }
+    ensures others { IfOk result (λ u. other_request profile.now.codes count (words_in (items_of entries.now) group) group.from ≡ None) }
+    ensures other { (i : ℕ) → other_request profile.now.codes count (words_in (items_of entries.now) group) group.from ≡ Some i → result ≡ Err (Stop.Unexplained i doubt.NotOneBlock) }
+    ensures whole { IfOk result (λ u. IfSome (first_whole profile.now count (words_in (items_of entries.now) group) nothing_yet) (λ v. u ≡ v)) }
+    ensures whole_err { (u : LduValue) → other_request profile.now.codes count (words_in (items_of entries.now) group) group.from ≡ None → first_whole profile.now count (words_in (items_of entries.now) group) nothing_yet ≡ Some u → IfErr result (λ s. s ≡ Stop.OutOfMemory) }
+    ensures never { other_request profile.now.codes count (words_in (items_of entries.now) group) group.from ≡ None → IfErr result (λ s. s ≢ Stop.OutOfMemory → s ≡ Stop.Unexplained group.from doubt.NeverWhole) }
 {
     if let Some(entry) = other_request(profile, entries, group, count) {
         let doubt = Doubt::NotOneBlock;
@@ -61,85 +101,15 @@ pub(crate) fn unit_of(
 // The first request of a group that wants another number of words.
 fn other_request(profile: &Profile, entries: &[Entry], group: Group, count: u8) -> Option<usize>
     requires { group.to ≤ length entries.now }
-    ensures { IfSome result (λ i. IsDoubtAt profile.now.codes (items_of entries.now) i doubt.NotOneBlock) }
+    ensures first { result ≡ other_request profile.now.codes count (words_in (items_of entries.now) group) group.from }
+    ensures fits { IfSome result (λ i. IsDoubtAt profile.now.codes (items_of entries.now) i doubt.NotOneBlock) }
 {
     for at in group.from..group.to {
-        if let Sight::Form(Form::Rts { count: other }) = said_at(profile, entries, at) {
-            if other != count {
+        if let Some(wanted) = wanted_at(profile, entries, at) {
+            if wanted != count {
                 return Some(at);
             }
         }
     }
     None
-}
-
-// The link data unit of the first whole attempt.
-fn whole_unit(
-    alloc: Global,
-    profile: &Profile,
-    entries: &[Entry],
-    group: Group,
-    count: u8,
-) -> Result<Option<Ldu>, AllocError>
-    requires { group.to ≤ length entries.now }
-    ensures unit { IfOk result (λ found. IfSome found (λ u. IsLdu profile.now u)) }
-    ensures count { IfOk result (λ found. IfSome found (λ u. count_of u ≡ count)) }
-{
-    let mut start = None;
-    let mut words = Vec::new(alloc);
-    for at in group.from..group.to {
-        match said_at(profile, entries, at) {
-            Sight::Form(Form::Rts { .. }) => {
-                start = None;
-                words.clear();
-            }
-            Sight::Form(Form::Sot { gfi, .. }) => start = Some(gfi),
-            Sight::Form(Form::Part(_)) => words.push(entries[at].word)?,
-            Sight::Form(Form::Eot { flags, check }) => {
-                let end = End { flags, check };
-                match unit_with(alloc, profile, start, end, words.as_slice(), count) {
-                    Ok(Some(unit)) => return Ok(Some(unit)),
-                    Ok(None) => {}
-                    Err(error) => return Err(error),
-                }
-            }
-            _ => {}
-        }
-    }
-    Ok(None)
-}
-
-/// What an end word says.
-#[derive(Clone, Copy, Debug)]
-pub(crate) struct End {
-    pub flags: u8,
-    pub check: u16,
-}
-
-/// The link data unit that a start word with this general format identifier, data words and an end word
-/// make, where its requests want this many words.
-pub(crate) fn unit_with(
-    alloc: Global,
-    profile: &Profile,
-    start: Option<u8>,
-    end: End,
-    words: &[Word],
-    count: u8,
-) -> Result<Option<Ldu>, AllocError>
-    requires start { IfSome start (λ gfi. gfi ≤ 15) }
-    requires flags { end.flags ≤ 15 }
-    ensures unit { IfOk result (λ found. IfSome found (λ u. IsLdu profile.now u)) }
-    ensures count { IfOk result (λ found. IfSome found (λ u. count_of u ≡ count)) }
-{
-    let Some(gfi) = start else {
-        return Ok(None);
-    };
-    if words.len() + 2 != usize::from(count) {
-        return Ok(None);
-    }
-    match Ldu::new(alloc, profile, gfi, end.flags, end.check, words) {
-        Ok(unit) => Ok(Some(unit)),
-        Err(LduFault::OutOfMemory) => Err(AllocError),
-        Err(_) => Ok(None),
-    }
 }

@@ -1,18 +1,24 @@
 //! The certificate that is guessed for a recording.
 
-ghost use Rattle.std.specs.Prelude.{◌≡◌, ◌≤◌, IfOk, IfErr, length};
+ghost use Rattle.std.specs.Prelude.{◌≡◌, ◌≢◌, List, IfOk, IfErr};
+ghost use Rattle.a429_ldu.specs.Ldu.{LduValue};
+ghost use Rattle.a429_link.specs.Clean.{AllFit, thin, clean};
 ghost use Rattle.a429_cert.specs.Explained.{items_of};
+ghost use Rattle.a429_explain.specs.Attempts.{forms_of, roles as roles_of};
+ghost use Rattle.a429_explain.specs.Crossed.{started, first_file_of};
 ghost use Rattle.a429_explain.specs.Doubt.{IsStop};
-ghost use Rattle.a429_explain.specs.Units.{AreUnits};
+ghost use Rattle.a429_explain.specs.Told.{IsCertificateOf};
+ghost use Rattle.a429_explain.specs.Units.{AreUnits, AreUnitsOf};
+ghost use Rattle.a429_explain.specs.WithoutLoss.{IsWithoutLoss};
 
 use crate::attempts::{Role, roles};
-use crate::block::unit_of;
-use crate::group::{group_at, said_at};
-use crate::matching::{Place, first_unmatched};
+use crate::block::matched_unit;
+use crate::group::{form_in, group_at, wanted_at};
+use crate::matching::Place;
 use crate::scribe::Scribe;
 use crate::stop::Stop;
 use crate::verdict::Doubt;
-use a429_ldu::{Form, Ldu, Sight};
+use a429_ldu::{Form, Ldu};
 use a429_link::{Seen, StepFault};
 use a429_profile::Profile;
 use a429_record::Entry;
@@ -20,14 +26,18 @@ use std::alloc::Global;
 use std::collections::VecDeque;
 
 /// The certificate of the steps that are guessed for a recording that no word is refused of, or why there
-/// is none: the doubts of all groups come before those of the steps.
+/// is none: the doubts of all groups come before those of the steps. Of a recording without loss there is
+/// always one.
 pub(crate) fn certificate_of(
     alloc: Global,
     profile: &Profile,
     entries: &[Entry],
 ) -> Result<Vec<u8>, Stop>
-    ensures { IfErr result (λ s. IsStop profile.now.codes (items_of entries.now) s) }
+    ensures told { IfOk result (λ text. IsCertificateOf profile.now (items_of entries.now) text.items) }
+    ensures fits { IfErr result (λ s. IsStop profile.now.codes (items_of entries.now) s) }
+    ensures clean { IsWithoutLoss profile.now (items_of entries.now) → IfErr result (λ s. s ≡ Stop.OutOfMemory) }
 {
+    let _codes = profile.codes();
     let Ok(roles) = roles(alloc, profile, entries) else {
         return Err(Stop::OutOfMemory);
     };
@@ -45,29 +55,51 @@ pub(crate) fn certificate_of(
         let word = entry.word;
         match scribe.tell(Seen { bus, word }, roles[at], &mut units) {
             Ok(()) => {}
-            Err(StepFault::OutOfMemory) => return Err(Stop::OutOfMemory),
-            Err(_) => {
-                return Err(Stop::Unexplained {
-                    entry: at,
-                    doubt: Doubt::NotReplayed,
-                });
-            }
+            Err(fault) => return Err(stopped_at(at, fault)),
         }
     }
     Ok(scribe.into_text())
 }
 
+// Why the steps of an entry are not made.
+fn stopped_at(entry: usize, fault: StepFault) -> Stop
+    ensures memory { fault ≡ StepFault.OutOfMemory → result ≡ Stop.OutOfMemory }
+    ensures step { fault ≢ StepFault.OutOfMemory → result ≡ Stop.Unexplained entry Doubt.NotReplayed }
+{
+    match fault {
+        StepFault::OutOfMemory => Stop::OutOfMemory,
+        StepFault::NotAllowed | StepFault::WordDiffers => Stop::Unexplained {
+            entry,
+            doubt: Doubt::NotReplayed,
+        },
+    }
+}
+
 // The file number of the first start word, or 0.
-fn first_file(profile: &Profile, entries: &[Entry]) -> u8 {
+fn first_file(profile: &Profile, entries: &[Entry]) -> u8
+    ensures { result ≡ first_file_of (forms_of profile.now.codes (items_of entries.now)) }
+{
     for at in 0..entries.len() {
-        if let Sight::Form(Form::Sot { file, .. }) = said_at(profile, entries, at) {
+        let entry = entries[at];
+        if let Some(file) = started(&form_in(profile, &entry)) {
             return file;
         }
     }
     0
 }
 
-// The link data units of the groups, in their order.
+// The file number of a start word.
+fn started(said: &Option<Form>) -> Option<u8>
+    ensures { result ≡ started said.now }
+{
+    match *said {
+        Some(Form::Sot { file, .. }) => Some(file),
+        _ => None,
+    }
+}
+
+// The link data units of the groups, in their order. Those of a recording without loss are those that
+// crossed.
 fn units_of(
     alloc: Global,
     profile: &Profile,
@@ -75,9 +107,12 @@ fn units_of(
     roles: &[Role],
     first_file: u8,
 ) -> Result<VecDeque<Ldu>, Stop>
-    requires { length roles.now ≡ length entries.now }
+    requires { roles.now ≡ roles_of (forms_of profile.now.codes (items_of entries.now)) }
     ensures units { IfOk result (λ units. AreUnits profile.now units.items) }
+    ensures groups { IfOk result (λ units. AreUnitsOf profile.now (items_of entries.now) roles.now (record { file = first_file; ldu = profile.now.codes.first_ldu }) 0 units.items) }
     ensures fits { IfErr result (λ s. IsStop profile.now.codes (items_of entries.now) s) }
+    ensures clean { (us : List LduValue) → AllFit profile.now profile.now.codes.first_ldu us → thin profile.now.codes (items_of entries.now) ≡ clean profile.now.codes first_file profile.now.codes.first_ldu us → IfOk result (λ units. units.items ≡ us) }
+    ensures clean_err { (us : List LduValue) → AllFit profile.now profile.now.codes.first_ldu us → thin profile.now.codes (items_of entries.now) ≡ clean profile.now.codes first_file profile.now.codes.first_ldu us → IfErr result (λ s. s ≡ Stop.OutOfMemory) }
 {
     let mut units = VecDeque::new(alloc);
     let mut place = Place {
@@ -86,16 +121,12 @@ fn units_of(
     };
     let mut at = 0;
     while at < roles.len() {
-        if let Sight::Form(Form::Rts { count }) = said_at(profile, entries, at) {
+        if let Some(count) = wanted_at(profile, entries, at) {
             let group = group_at(roles, at);
-            let unit = match unit_of(alloc, profile, entries, group, count) {
+            let unit = match matched_unit(alloc, profile, entries, group, count, place) {
                 Ok(unit) => unit,
                 Err(stop) => return Err(stop),
             };
-            if let Some(entry) = first_unmatched(profile, entries, group, &unit, place) {
-                let doubt = Doubt::NotOneBlock;
-                return Err(Stop::Unexplained { entry, doubt });
-            }
             place = place.after(profile, &unit);
             match units.push_back(unit) {
                 Ok(()) => {}

@@ -3,8 +3,8 @@
 ghost use Rattle.std.specs.Prelude.{◌≡◌, ◌≤◌, IfOk, IfSome, length};
 ghost use Rattle.a429_ldu.specs.Ldu.{IsLdu, count_of};
 
-use crate::block::{End, unit_with};
 use crate::group::{Group, said_at};
+use crate::whole::{End, unit_with};
 use a429_ldu::{Form, Ldu, Semis, Sight, bytes_of, check_word, word_of};
 use a429_profile::Profile;
 use a429_record::Entry;

@@ -12,6 +12,7 @@ mod scribe;
 mod stop;
 mod verdict;
 mod walk;
+mod whole;
 
 pub use crate::checking::check;
 pub use crate::verdict::{Certificate, Doubt, Reason, Verdict};

@@ -3,7 +3,7 @@
 ghost use Rattle.std.specs.Prelude.{◌≡◌, ◌<◌, ◌≤◌, ◌-◌, ◌+◌, None, IfSome, length};
 ghost use Rattle.a429_ldu.specs.Form.{form_of};
 ghost use Rattle.a429_ldu.specs.Ldu.{count_of};
-ghost use Rattle.a429_link.specs.Clean.{next_file, next_ldu};
+ghost use Rattle.a429_explain.specs.Units.{place_after};
 ghost use Rattle.a429_explain.specs.Matching.{is_word, passed_with, passing, AreMatched, IsOfBlock};
 ghost use Rattle.a429_explain.specs.declared.verdict.Doubt.TheVariants as doubt;
 ghost use Rattle.a429_cert.specs.Explained.{items_of, seen_of};
@@ -28,8 +28,7 @@ impl Place {
     /// The numbers behind this link data unit: those of the next one of its file, or of the next file's
     /// first.
     pub(crate) fn after(self, profile: &Profile, unit: &Ldu) -> Place
-        ensures file { result.file ≡ next_file profile.now.codes self.file unit.now }
-        ensures ldu { self.ldu < 65535 → result.ldu ≡ next_ldu profile.now.codes self.ldu unit.now }
+        ensures { result ≡ place_after profile.now.codes self unit.now }
     {
         if is_final(profile, unit.flags()) {
             Place {
@@ -57,6 +56,7 @@ pub(crate) fn first_unmatched(
     requires some { group.from ≤ group.to }
     requires inside { group.to ≤ length entries.now }
     ensures fits { IfSome result (λ i. IsDoubtAt profile.now.codes (items_of entries.now) i doubt.NotOneBlock) }
+    ensures within { IfSome result (λ i. i < group.to) }
     ensures none { result ≡ None → AreMatched profile.now.codes unit.now place (items_of entries.now) group.from group.to }
     ensures before { IfSome result (λ i. AreMatched profile.now.codes unit.now place (items_of entries.now) group.from i) }
     ensures unmatched { IfSome result (λ i. ¬ AreMatched profile.now.codes unit.now place (items_of entries.now) group.from (i + 1)) }

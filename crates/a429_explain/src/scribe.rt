@@ -1,9 +1,15 @@
 //! The lines of a certificate, each written as a link makes its step.
 
-ghost use Rattle.std.specs.Prelude.{◌≡◌, ◌≤◌, IfSome, IfOk};
-ghost use Rattle.a429_ldu.specs.Ldu.{IsLdu};
-ghost use Rattle.a429_link.specs.Step.{LoadsLdu};
-ghost use Rattle.a429_cert.specs.Line.{IsLine};
+ghost use Rattle.std.specs.Prelude.{◌≡◌, ◌≢◌, List, ◌++◌, ◌∷◌, [], Ok, None, Some, true, false, IfOk, IfErr, OnOk};
+ghost use Rattle.a429_ldu.specs.Ldu.{LduValue, IsLdu};
+ghost use Rattle.a429_link.specs.declared.step.Step.TheVariants as step;
+ghost use Rattle.a429_link.specs.Run.{IsRun};
+ghost use Rattle.a429_link.specs.Sink.{Listens};
+ghost use Rattle.a429_link.specs.Source.{IsIdle};
+ghost use Rattle.a429_link.specs.Step.{Can, LoadsLdu, label, start};
+ghost use Rattle.a429_cert.specs.Line.{IsLine, IsHeld, spelling};
+ghost use Rattle.a429_explain.specs.Plain.{IsPlain, plain_steps, units_left, loaded_after};
+ghost use Rattle.a429_explain.specs.Told.{Told, TellsOn, led, letter_of};
 ghost use Rattle.a429_explain.specs.Units.{AreUnits};
 
 use crate::attempts::Role;
@@ -31,17 +37,21 @@ impl<'a> Scribe<'a> {
         profile: &'a Profile,
         first_file: u8,
     ) -> Result<Scribe<'a>, StepFault>
-        ensures { IfOk result (λ s. s.link.profile ≡ profile.now) }
+        ensures start { IfOk result (λ s. s.link ≡ record { profile = profile.now; state = start profile.now first_file }) }
+        ensures told { IfOk result (λ s. Told first_file [] s.text.items s.link) }
+        ensures loaded { IfOk result (λ s. s.is_loaded ≡ false) }
     {
+        let mut text = Vec::new(alloc);
+        match text.extend_from_slice(b"arinc429-cert 1\n") {
+            Ok(()) => {}
+            Err(_) => return Err(StepFault::OutOfMemory),
+        }
         let mut scribe = Scribe {
             alloc,
             link: Link::start(alloc, profile, first_file),
-            text: Vec::new(alloc),
+            text,
             is_loaded: false,
         };
-        if scribe.text.extend_from_slice(b"arinc429-cert 1\n").is_err() {
-            return Err(StepFault::OutOfMemory);
-        }
         scribe.write(&CertLine::First(first_file))?;
         Ok(scribe)
     }
@@ -65,13 +75,20 @@ impl<'a> Scribe<'a> {
         requires { AreUnits self.old.link.profile units.old.items }
         ensures profile { self.new.link.profile ≡ self.old.link.profile }
         ensures units { AreUnits self.old.link.profile units.new.items }
+        ensures told { OnOk result (TellsOn (Some seen) self.old.text.items self.old.link self.new.text.items self.new.link) }
+        ensures plain { IsPlain role self.old.is_loaded units.old.items → IsRun self.old.link.profile (plain_steps role seen units.old.items) self.old.link.state → IfErr result (λ e. e ≡ StepFault.OutOfMemory) }
+        ensures led { IsPlain role self.old.is_loaded units.old.items → IsRun self.old.link.profile (plain_steps role seen units.old.items) self.old.link.state → OnOk result (self.new.link ≡ led (plain_steps role seen units.old.items) self.old.link) }
+        ensures left { IsPlain role self.old.is_loaded units.old.items → OnOk result (units.new.items ≡ units_left role units.old.items) }
+        ensures loaded { IsPlain role self.old.is_loaded units.old.items → OnOk result (self.new.is_loaded ≡ loaded_after role self.old.is_loaded) }
     {
         match role {
             Role::Free => self.make(Act::FreeSeen, Step::FreeSeen(seen)),
             Role::Request { .. } => {
                 self.close()?;
-                self.load_next(units)?;
-                self.send(seen)
+                match self.load_next(units) {
+                    Ok(()) => self.send(seen),
+                    Err(fault) => Err(fault),
+                }
             }
             Role::OfBlock => self.send_of_block(seen),
             Role::Clear { is_used } => self.answer(seen, is_used),
@@ -87,29 +104,58 @@ impl<'a> Scribe<'a> {
 
     // Ends the attempt before a request: what is left of the block is lost, and the answer is left out.
     fn close(&mut self) -> Result<(), StepFault>
-        ensures { self.new.link.profile ≡ self.old.link.profile }
+        ensures profile { self.new.link.profile ≡ self.old.link.profile }
+        ensures loaded { self.new.is_loaded ≡ self.old.is_loaded }
+        ensures told { OnOk result (TellsOn None self.old.text.items self.old.link self.new.text.items self.new.link) }
+        ensures idle { IsIdle self.old.link.state.source.phase → Listens self.old.link.state.sink.phase → (result ≡ Ok tt) × (self.new.link ≡ self.old.link) }
     {
-        self.lose_rest()?;
-        let (source, sink, _, _) = self.link.states();
-        if matches!(
-            sink,
-            SinkState::OwesClear | SinkState::OwesAck | SinkState::OwesNak
-        ) {
+        if self.is_sending() {
+            self.lose_rest()?;
+        }
+        if self.owes_answer() {
             self.make(Act::Silent, Step::Silent)?;
         }
-        if matches!(source, SourceState::Awaiting | SourceState::Waiting) {
+        if self.waits() {
             self.make(Act::TimeOut, Step::TimeOut)?;
         }
         Ok(())
     }
 
+    // The source has words of a block to send.
+    fn is_sending(&self) -> bool
+        ensures { result ≡ true → ¬ IsIdle self.now.link.state.source.phase }
+    {
+        let (source, _, _, _) = self.link.states();
+        matches!(source, SourceState::Sending(_))
+    }
+
+    // The source waits for an answer.
+    fn waits(&self) -> bool
+        ensures { result ≡ true → ¬ IsIdle self.now.link.state.source.phase }
+    {
+        let (source, _, _, _) = self.link.states();
+        matches!(source, SourceState::Awaiting | SourceState::Waiting)
+    }
+
+    // The sink owes an answer.
+    fn owes_answer(&self) -> bool
+        ensures { result ≡ true → ¬ Listens self.now.link.state.sink.phase }
+    {
+        let (_, sink, _, _) = self.link.states();
+        matches!(
+            sink,
+            SinkState::OwesClear | SinkState::OwesAck | SinkState::OwesNak
+        )
+    }
+
     // Loses the words of a block that the source has still to send.
     fn lose_rest(&mut self) -> Result<(), StepFault>
-        ensures { self.new.link.profile ≡ self.old.link.profile }
+        ensures profile { self.new.link.profile ≡ self.old.link.profile }
+        ensures loaded { self.new.is_loaded ≡ self.old.is_loaded }
+        ensures told { OnOk result (TellsOn None self.old.text.items self.old.link self.new.text.items self.new.link) }
     {
         for _ in 0..=u8::MAX {
-            let (source, _, _, _) = self.link.states();
-            if !matches!(source, SourceState::Sending(_)) {
+            if !self.is_sending() {
                 return Ok(());
             }
             self.make(Act::SentLost, Step::SentLost)?;
@@ -119,22 +165,48 @@ impl<'a> Scribe<'a> {
 
     // A word of the source is recorded, and the sink takes it.
     fn send(&mut self, seen: Seen) -> Result<(), StepFault>
-        ensures { self.new.link.profile ≡ self.old.link.profile }
+        ensures profile { self.new.link.profile ≡ self.old.link.profile }
+        ensures loaded { self.new.is_loaded ≡ self.old.is_loaded }
+        ensures told { OnOk result (TellsOn (Some seen) self.old.text.items self.old.link self.new.text.items self.new.link) }
+        ensures plain { IsRun self.old.link.profile (step.Sent seen ∷ step.SinkTakes ∷ []) self.old.link.state → IfErr result (λ e. e ≡ StepFault.OutOfMemory) }
+        ensures led { OnOk result (self.new.link ≡ led (step.Sent seen ∷ step.SinkTakes ∷ []) self.old.link) }
     {
-        self.make(Act::Sent, Step::Sent(seen))?;
-        self.make(Act::SinkTakes, Step::SinkTakes)
+        match self.make(Act::Sent, Step::Sent(seen)) {
+            Ok(()) => self.make(Act::SinkTakes, Step::SinkTakes),
+            Err(fault) => Err(fault),
+        }
     }
 
     // A word of a block is recorded, and the sink takes it. The words of the block before it are lost.
     fn send_of_block(&mut self, seen: Seen) -> Result<(), StepFault>
-        ensures { self.new.link.profile ≡ self.old.link.profile }
+        ensures profile { self.new.link.profile ≡ self.old.link.profile }
+        ensures loaded { self.new.is_loaded ≡ self.old.is_loaded }
+        ensures told { OnOk result (TellsOn (Some seen) self.old.text.items self.old.link self.new.text.items self.new.link) }
+        ensures plain { IsRun self.old.link.profile (step.Sent seen ∷ step.SinkTakes ∷ []) self.old.link.state → IfErr result (λ e. e ≡ StepFault.OutOfMemory) }
+        ensures led { IsRun self.old.link.profile (step.Sent seen ∷ step.SinkTakes ∷ []) self.old.link.state → OnOk result (self.new.link ≡ led (step.Sent seen ∷ step.SinkTakes ∷ []) self.old.link) }
+    {
+        let bus = seen.bus;
+        let word = seen.word;
+        match self.make(Act::Sent, Step::Sent(Seen { bus, word })) {
+            Ok(()) => self.make(Act::SinkTakes, Step::SinkTakes),
+            Err(StepFault::WordDiffers) => self.send_later(seen),
+            Err(fault) => Err(fault),
+        }
+    }
+
+    // Loses words of a block until this one comes.
+    fn send_later(&mut self, seen: Seen) -> Result<(), StepFault>
+        ensures profile { self.new.link.profile ≡ self.old.link.profile }
+        ensures loaded { self.new.is_loaded ≡ self.old.is_loaded }
+        ensures told { OnOk result (TellsOn (Some seen) self.old.text.items self.old.link self.new.text.items self.new.link) }
     {
         let bus = seen.bus;
         let word = seen.word;
         for _ in 0..=u8::MAX {
+            self.make(Act::SentLost, Step::SentLost)?;
             match self.make(Act::Sent, Step::Sent(Seen { bus, word })) {
                 Ok(()) => return self.make(Act::SinkTakes, Step::SinkTakes),
-                Err(StepFault::WordDiffers) => self.make(Act::SentLost, Step::SentLost)?,
+                Err(StepFault::WordDiffers) => {}
                 Err(fault) => return Err(fault),
             }
         }
@@ -143,9 +215,16 @@ impl<'a> Scribe<'a> {
 
     // An answer of the sink is recorded, and the source takes it, or it is lost behind the recorder.
     fn answer(&mut self, seen: Seen, is_taken: bool) -> Result<(), StepFault>
-        ensures { self.new.link.profile ≡ self.old.link.profile }
+        ensures profile { self.new.link.profile ≡ self.old.link.profile }
+        ensures loaded { self.new.is_loaded ≡ self.old.is_loaded }
+        ensures told { OnOk result (TellsOn (Some seen) self.old.text.items self.old.link self.new.text.items self.new.link) }
+        ensures plain { is_taken ≡ true → IsRun self.old.link.profile (step.Answered seen ∷ step.TakeAnswer ∷ []) self.old.link.state → IfErr result (λ e. e ≡ StepFault.OutOfMemory) }
+        ensures led { is_taken ≡ true → OnOk result (self.new.link ≡ led (step.Answered seen ∷ step.TakeAnswer ∷ []) self.old.link) }
     {
-        self.make(Act::Answered, Step::Answered(seen))?;
+        match self.make(Act::Answered, Step::Answered(seen)) {
+            Ok(()) => {}
+            Err(fault) => return Err(fault),
+        }
         if is_taken {
             self.make(Act::TakeAnswer, Step::TakeAnswer)
         } else {
@@ -158,6 +237,11 @@ impl<'a> Scribe<'a> {
         requires { AreUnits self.old.link.profile units.old.items }
         ensures profile { self.new.link.profile ≡ self.old.link.profile }
         ensures units { AreUnits self.old.link.profile units.new.items }
+        ensures told { OnOk result (TellsOn None self.old.text.items self.old.link self.new.text.items self.new.link) }
+        ensures plain { (u : LduValue) (us : List LduValue) → units.old.items ≡ u ∷ us → self.old.is_loaded ≡ false → Can self.old.link.profile (step.Load u) self.old.link.state → IfErr result (λ e. e ≡ StepFault.OutOfMemory) }
+        ensures led { (u : LduValue) (us : List LduValue) → units.old.items ≡ u ∷ us → self.old.is_loaded ≡ false → OnOk result (self.new.link ≡ led (step.Load u ∷ []) self.old.link) }
+        ensures left { (u : LduValue) (us : List LduValue) → units.old.items ≡ u ∷ us → self.old.is_loaded ≡ false → OnOk result (units.new.items ≡ us) }
+        ensures loaded { OnOk result (self.new.is_loaded ≡ true) }
     {
         if self.is_loaded {
             return Ok(());
@@ -171,7 +255,11 @@ impl<'a> Scribe<'a> {
     // The source is given a link data unit.
     fn load(&mut self, unit: Ldu) -> Result<(), StepFault>
         requires { IsLdu self.old.link.profile unit }
-        ensures { self.new.link.profile ≡ self.old.link.profile }
+        ensures profile { self.new.link.profile ≡ self.old.link.profile }
+        ensures told { OnOk result (TellsOn None self.old.text.items self.old.link self.new.text.items self.new.link) }
+        ensures plain { Can self.old.link.profile (step.Load unit) self.old.link.state → IfErr result (λ e. e ≡ StepFault.OutOfMemory) }
+        ensures led { OnOk result (self.new.link ≡ led (step.Load unit ∷ []) self.old.link) }
+        ensures loaded { OnOk result (self.new.is_loaded ≡ true) }
     {
         let Ok(words) = Vec::from_slice(self.alloc, unit.words()) else {
             return Err(StepFault::OutOfMemory);
@@ -182,61 +270,51 @@ impl<'a> Scribe<'a> {
             check: unit.check(),
             words: Words::new(words),
         };
-        self.link.apply(Step::Load(unit))?;
+        match self.link.apply(Step::Load(unit)) {
+            Ok(()) => {}
+            Err(fault) => return Err(fault),
+        }
         self.is_loaded = true;
         self.write(&line)
     }
 
     // Makes a step, and writes its line with the state that it leads to.
     fn make(&mut self, act: Act, step: Step) -> Result<(), StepFault>
-        requires { LoadsLdu self.old.link.profile step }
-        ensures { self.new.link.profile ≡ self.old.link.profile }
+        requires loads { LoadsLdu self.old.link.profile step }
+        requires letter { letter_of step ≡ Some act }
+        ensures profile { self.new.link.profile ≡ self.old.link.profile }
+        ensures loaded { self.new.is_loaded ≡ self.old.is_loaded }
+        ensures told { OnOk result (TellsOn (label step) self.old.text.items self.old.link self.new.text.items self.new.link) }
+        ensures led { OnOk result (self.new.link ≡ led (step ∷ []) self.old.link) }
+        ensures plain { Can self.old.link.profile step self.old.link.state → IfErr result (λ e. e ≡ StepFault.OutOfMemory) }
+        ensures unchanged { IfErr result (λ e. e ≢ StepFault.OutOfMemory → (self.new.link ≡ self.old.link) × (self.new.text.items ≡ self.old.text.items)) }
     {
-        self.link.apply(step)?;
-        let (source, sink, to_sink, to_source) = self.link.states();
-        match moved(act, source, sink, to_sink, to_source) {
-            Some(line) => self.write(&line),
-            None => Err(StepFault::NotAllowed),
+        match self.link.apply(step) {
+            Ok(()) => {}
+            Err(fault) => return Err(fault),
         }
+        let (source, sink, to_sink, to_source) = self.link.states();
+        self.write(&CertLine::Moved {
+            act,
+            source,
+            sink,
+            to_sink: to_sink as u8,
+            to_source: to_source as u8,
+        })
     }
 
+    // Writes a line and its line feed.
     fn write(&mut self, line: &CertLine) -> Result<(), StepFault>
         requires { IsLine line.now }
-        ensures { self.new.link ≡ self.old.link }
+        ensures link { self.new.link ≡ self.old.link }
+        ensures loaded { self.new.is_loaded ≡ self.old.is_loaded }
+        ensures ok { OnOk result (self.new.text.items ≡ self.old.text.items ++ (spelling line.now ++ 10 ∷ [])) }
+        ensures held { OnOk result (IsHeld line.now) }
+        ensures err { IfErr result (λ e. e ≡ StepFault.OutOfMemory) }
     {
         if write_line(line, &mut self.text).is_err() || self.text.push(b'\n').is_err() {
             return Err(StepFault::OutOfMemory);
         }
         Ok(())
     }
-}
-
-// The line of a step that leads to this state; none where the state's numbers are none of a line's.
-fn moved(
-    act: Act,
-    source: SourceState,
-    sink: SinkState,
-    to_sink: usize,
-    to_source: usize,
-) -> Option<CertLine>
-    ensures { IfSome result IsLine }
-{
-    if source == SourceState::Sending(255) {
-        return None;
-    }
-    if let SinkState::InBlock(taken) = sink {
-        if taken == 0 || taken == 255 {
-            return None;
-        }
-    }
-    let (Ok(to_sink), Ok(to_source)) = (u8::try_from(to_sink), u8::try_from(to_source)) else {
-        return None;
-    };
-    Some(CertLine::Moved {
-        act,
-        source,
-        sink,
-        to_sink,
-        to_source,
-    })
 }

@@ -4,6 +4,7 @@ ghost use Rattle.std.specs.Prelude.{◌≡◌, ◌<◌, ◌+◌, Ok, Some, None,
 ghost use Rattle.a429_link.specs.Run.{BeginsARun};
 ghost use Rattle.a429_cert.specs.Explained.{items_of};
 ghost use Rattle.a429_explain.specs.Verdict.{HasNoForm};
+ghost use Rattle.a429_explain.specs.WithoutLoss.{IsWithoutLoss};
 ghost use Rattle.a429_explain.specs.Walk.{IsFirstRefused, AreAllowed, IsRefusable, IsRequest, Fits, FitsSight, FitsAt};
 
 use crate::verdict::Reason;
@@ -33,6 +34,7 @@ pub(crate) fn walk(
     ensures inside { IfOk result (λ found. IfSome found (λ r. r.entry < length entries.now)) }
     ensures fits { IfOk result (λ found. IfSome found (λ r. FitsAt profile.now.codes (slice_get (items_of entries.now) r.entry) r.reason)) }
     ensures allowed { result ≡ Ok None → AreAllowed profile.now (items_of entries.now) (length entries.now) }
+    ensures without_loss { IsWithoutLoss profile.now (items_of entries.now) → IfOk result (λ found. found ≡ None) }
     ensures formed { result ≡ Ok None → ¬ HasNoForm profile.now.codes (items_of entries.now) }
 {
     refused_is_impossible();

@@ -105,7 +105,7 @@ abbrev pub EachCut : Contents → ℕ → List (List ℕ) → Type 0
 EachCut p w [] = Unit {0}
 EachCut p w (bytes ∷ files) = AreUnits p w bytes (units_of p w bytes) × EachCut p w files
 
-all_fit : (p : Contents) (w : ℕ) (files : List (List ℕ)) → EachCut p w files → AllFit p p.codes.first_ldu (units_of_files p w files)
+pub all_fit : (p : Contents) (w : ℕ) (files : List (List ℕ)) → EachCut p w files → AllFit p p.codes.first_ldu (units_of_files p w files)
 all_fit p w [] h = tt
 all_fit p w (bytes ∷ files) h =
     fit_append p p.codes.first_ldu (units_of p w bytes) (units_of_files p w files) (recursion_from_All (IsLdu p) (units_of p w bytes) h.0.sound) h.0.last (omega (arith, units_length p w bytes)) (all_fit p w files h.1)

@@ -16,7 +16,7 @@ use Rattle.a429_link.specs.declared.seen.Seen.{Seen}
 use Rattle.a429_link.specs.declared.step.Step.{Step}
 use Rattle.a429_link.specs.declared.step.Step.TheVariants.{Answered, FreeSeen, Load, LoseAnswer, Sent, SentLost, Silent, SinkTakes, TakeAnswer, TimeOut}
 use Rattle.a429_profile.specs.Contents.{Contents}
-use Rattle.a429_link.proofs.Phases.{Config, idle, asked, unasked, cleared, sending, waiting, whole, refused, acked, Whole, may_owes, owes_stale, owes_grant, may_answer, config_bounded}
+use Rattle.a429_link.proofs.Phases.{Config, idle, asked, unasked, cleared, sending, waiting, whole, refused, acked, Whole, may_owes, owes_stale, owes_grant, may_answer, config_bounded, config_few}
 use Rattle.a429_link.proofs.Holds.{HoldsAt, step_holds, start_holds, owed_form, alone_on_the_way}
 use Rattle.a429_link.proofs.Ideal.{takes_shelf}
 use Rattle.a429_ldu.specs.declared.forms.Form.{Form}
@@ -337,7 +337,10 @@ pub run_bounded : (p : Contents) (f : ℕ) (xs : List Step) → IsRead p → f �
 run_bounded p f xs good l h =
     let b = all_books p f xs good l h in
     let few = config_bounded _ _ _ _ _ _ _ _ b.holds.fits in
+    let left = config_few _ _ _ _ _ _ _ _ b.holds.fits in
     record {
+      sent = left.0;
+      took = left.1;
       words = omega (arith, few.0, say_length p bus.A _ _ b.holds.sink_words);
       answers = omega (arith, few.1, say_length p bus.B _ _ b.holds.source_words);
       bytes = stand_bytes p _ _ _ _ _ _ b.crosses.stand b.crosses.room;

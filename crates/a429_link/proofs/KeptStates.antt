@@ -175,7 +175,7 @@ pub kept_bounded : (p : Contents) (s : State) → IsKept p s → IsBounded s
 kept_bounded p s h =
     let r = h.reached in
     let b = subst IsBounded r.ends (run_bounded p r.first r.steps (is_read p h.sound) r.byte r.run) in
-    record { words = b.words; answers = b.answers; bytes = b.bytes }
+    record { sent = b.sent; took = b.took; words = b.words; answers = b.answers; bytes = b.bytes }
 
 pub kept_holds : (p : Contents) (s : State) → IsKept p s → HoldsAt p s
 kept_holds p s h =

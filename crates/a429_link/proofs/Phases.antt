@@ -5,13 +5,14 @@ use Rattle.std.proofs.lemmas.List.{map_push}
 use Rattle.a429_ldu.specs.Ldu.{LduValue, count_of, is_final}
 use Rattle.a429_link.proofs.Said.{Ack, Cts, Eot, MaySay, Nak, Part, Rts, Said, Sot, block_said, front, hears_said, last_said, next_said, takes_said, words_said}
 use Rattle.a429_link.specs.Sink.{Block, Granted, InBlock, Listens, Number, Owes, OwesAck, OwesClear, OwesNak, Quiet, Shelf, Sink, SinkPhase, accepts_owed, bytes_in, held, is_good, is_same, put}
+use Rattle.a429_link.specs.Run.{SentFew, TookFew}
 use Rattle.a429_link.specs.Source.{IsIdle, Source, Waits, acknowledged, after_word}
 use Rattle.a429_link.specs.Step.{IsNonEmpty, rest}
 use Rattle.a429_link.specs.declared.state.SourceState.{SourceState}
 use Rattle.a429_link.specs.declared.state.SourceState.TheVariants.{Awaiting, Idle, Sending, Waiting}
 use Rattle.a429_profile.specs.Contents.{Contents}
 use Rattle.a429_profile.specs.declared.codes.Codes.{Codes}
-use Rattle.a429_link.proofs.Subs.{Sub, Each, IsFrontWord, IsBlockWord, sub_none, sub_rest, sub_back, sub_take, sub_push, sub_lost, take_next, get_front, sub_length, sub_each, each_at, each_push, parts_front, parts_block, sub_end, sub_no_end, length-parts, same_parts, sub_start}
+use Rattle.a429_link.proofs.Subs.{Sub, Each, IsFrontWord, IsBlockWord, sub_none, sub_rest, sub_back, sub_forth, sub_take, sub_push, sub_lost, take_next, get_front, sub_length, sub_each, each_at, each_push, parts_front, parts_block, sub_end, sub_no_end, length-parts, same_parts, sub_start}
 
 -- the sink has room left: what it holds of an old block
 abbrev pub Stale : SinkPhase → Type 0
@@ -346,3 +347,31 @@ config_bounded file ldu cur sp count kp xs ys (spoiled r) = (omega arith, omega 
 config_bounded file ldu cur sp count kp xs ys (over r) = (omega arith, omega arith)
 config_bounded file ldu cur sp count kp xs ys (refused r) = (omega arith, omega arith)
 config_bounded file ldu cur sp count kp xs ys (acked r f l) = (omega arith, omega arith)
+
+stale_few : (kp : SinkPhase) → Stale kp → TookFew kp
+stale_few Quiet i = tt
+stale_few Granted i = tt
+stale_few (InBlock b) i = omega arith
+stale_few OwesClear i = absurd i
+stale_few (OwesAck b f) i = absurd i
+stale_few OwesNak i = absurd i
+
+-- a block that is still taken lacks its last word
+grant_few : (file ldu : ℕ) (u : LduValue) (kp : SinkPhase) (xs : List Said) → length u.words ≤ 253 → InGrant kp → Sub (taken kp ++ xs) (block_said u file ldu) → TookFew kp
+grant_few file ldu u kp xs r g h = stale_few kp (cut_short file ldu u kp r g (subst (λ x. Sub x (block_said u file ldu)) (sym (append-nil (taken kp))) (sub_forth (taken kp) xs (block_said u file ldu) h)))
+
+-- a block that is still on its way lacks its last word
+pub config_few : (file ldu : ℕ) (cur : Option LduValue) (sp : SourceState) (count : ℕ) (kp : SinkPhase) (xs ys : List Said) → Config file ldu cur sp count kp xs ys → SentFew sp × TookFew kp
+config_few file ldu cur sp count kp xs ys (idle f s) = (tt, stale_few kp s)
+config_few file ldu cur sp count kp xs ys (asked r s q) = (tt, stale_few kp s)
+config_few file ldu cur sp count kp xs ys (unasked r s) = (tt, stale_few kp s)
+config_few file ldu cur sp count kp xs ys (heard r q) = (tt, tt)
+config_few file ldu cur sp count kp xs ys (cleared r q) = (tt, tt)
+config_few file ldu cur sp count kp xs ys (sending {u} {k} r g c le h) =
+    (omega arith, grant_few file ldu u kp xs r g (sub_lost (last_said u) (taken kp ++ xs) (front u file ldu) (sub_take k (taken kp ++ xs) (front u file ldu) h)))
+config_few file ldu cur sp count kp xs ys (waiting {u} r g c h) = (tt, grant_few file ldu u kp xs r g h)
+config_few file ldu cur sp count kp xs ys (whole r h) = (tt, tt)
+config_few file ldu cur sp count kp xs ys (spoiled r) = (tt, tt)
+config_few file ldu cur sp count kp xs ys (over r) = (tt, tt)
+config_few file ldu cur sp count kp xs ys (refused r) = (tt, tt)
+config_few file ldu cur sp count kp xs ys (acked r f l) = (tt, tt)

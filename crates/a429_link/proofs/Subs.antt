@@ -25,6 +25,16 @@ pub sub_back : (ws xs ys : List Said) → Sub (ws ++ xs) ys → Sub xs ys
 sub_back [] xs ys h = h
 sub_back (w ∷ ws) xs ys h = sub_back ws xs ys (sub_rest w (ws ++ xs) ys h)
 
+-- without a back
+pub sub_forth : (xs ws ys : List Said) → Sub (xs ++ ws) ys → Sub xs ys
+sub_forth [] ws ys h = sub_none ys
+sub_forth (x ∷ xs) ws [] h = absurd (cc h)
+sub_forth (x ∷ xs) ws (y ∷ ys) (inl h) = inl (sub_forth (x ∷ xs) ws ys h)
+sub_forth (x ∷ xs) ws (y ∷ ys) (inr (zs, e, h)) =
+    let same : zs ≡ xs ++ ws = cc in
+    let first : x ≡ y = cc in
+    inr (xs, ap (λ (z : Said). z ∷ xs) first, sub_forth xs ws ys (subst (λ l. Sub l ys) same h))
+
 -- of a front, of all
 pub sub_take : (k : ℕ) (xs ys : List Said) → Sub xs (take k ys) → Sub xs ys
 sub_take zero xs ys h = rw h (sub_none ys)

@@ -11,7 +11,9 @@ use Rattle.a429_link.specs.declared.seen.Seen.{Seen}
 use Rattle.a429_link.specs.declared.step.Step.{Step}
 use Rattle.a429_link.specs.declared.step.Step.TheVariants.{Load, TakeAnswer}
 use Rattle.a429_link.specs.Source.{Source, is_own_ack}
-use Rattle.a429_link.specs.Sink.{Shelf, put, held}
+use Rattle.a429_link.specs.declared.state.SourceState.{SourceState}
+use Rattle.a429_link.specs.declared.state.SourceState.TheVariants.{Sending}
+use Rattle.a429_link.specs.Sink.{Shelf, SinkPhase, InBlock, put, held}
 use Rattle.a429_link.specs.Step.{State, start, Can, after, label}
 
 -- each step may be made where the ones before it lead
@@ -90,8 +92,20 @@ settled p first steps = settled_from p steps (start p first) nothing []
 abbrev pub IsPrefixOf : List FileBytes → List FileBytes → Type 0
 IsPrefixOf xs ys = (more : List FileBytes) × (xs ++ more ≡ ys)
 
+-- of a block that it still sends, the source has sent at most 254 words
+abbrev pub SentFew : SourceState → Type 0
+SentFew (Sending k) = k ≤ 254
+SentFew _ = Unit {0}
+
+-- of a block that it still takes, the sink has taken at most 254 words
+abbrev pub TookFew : SinkPhase → Type 0
+TookFew (InBlock b) = held (InBlock b) ≤ 254
+TookFew _ = Unit {0}
+
 -- what a state keeps at most, its delivered files aside (it has one link data unit, or none)
 pub record IsBounded (s : State) : Type 0 where
+  pub sent : SentFew s.source.phase
+  pub took : TookFew s.sink.phase
   pub words : length s.to_sink + held s.sink.phase ≤ 255
   pub answers : length s.to_source ≤ 1
   pub bytes : length s.sink.shelf.open_bytes ≤ 161160

@@ -27,7 +27,8 @@ pub fn settled_was_delivered()
 {}
 
 /// After each run at most 255 words to the sink are untaken or in its block, one answer is on its way,
-/// and an unfinished file has at most 161,160 bytes.
+/// an unfinished file has at most 161,160 bytes, and of a block that is still on its way source and sink
+/// have sent and taken at most 254 words.
 pub fn every_state_is_bounded()
     ensures { (p : Contents) (first : ℕ) (steps : List Step) → IsProfile p → first ≤ 255 → IsRun p steps (start p first) → IsBounded (end_of p steps (start p first)) }
 {}

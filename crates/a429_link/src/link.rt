@@ -3,6 +3,7 @@
 ghost use Rattle.std.specs.Prelude.{◌≡◌, [], IfErr, OnOk, OnErr};
 ghost use Rattle.a429_link.specs.Step.{start, Can, after, LoadsLdu, IsFault};
 ghost use Rattle.a429_link.specs.Link.{handed_out, shown};
+ghost use Rattle.a429_link.specs.Run.{IsBounded};
 
 use crate::fault::StepFault;
 use crate::file::FileBytes;
@@ -57,10 +58,12 @@ impl<'a> Link<'a> {
         self.transfer.apply(self.alloc, self.profile, step)
     }
 
-    /// What the source and the sink are doing, and how many words are on their way to the sink and how
-    /// many to the source.
+    /// What the source and the sink are doing, and how many words are on their way to the sink, 0 to 255,
+    /// and how many to the source, 0 or 1. Of a block that is still on its way, source and sink count at
+    /// most 254 words.
     pub fn states(&self) -> (SourceState, SinkState, usize, usize)
-        ensures { result ≡ shown self.now.state }
+        ensures shown { result ≡ shown self.now.state }
+        ensures bounds { IsBounded self.now.state }
     {
         let transfer = &self.transfer;
         (

@@ -1,12 +1,13 @@
 //! `a429 check PROFILE REC CERT`: finds a certificate for a recording, or says why there is none.
 
-ghost use Rattle.std.specs.Prelude.{◌≡◌, ◌++◌, ℕ, List, codes, true, false, IsErr, IfOk, IfErr, IfSome, OnOk};
+ghost use Rattle.std.specs.Prelude.{◌≡◌, ◌≢◌, ◌⊎◌, ◌↔◌, true, false, IsErr, IfOk, IfErr, OnOk, OnErr};
 ghost use Rattle.std.specs.Fmt.{decimal};
 ghost use Rattle.std.specs.Io.KnownBytes.{Appends};
 ghost use Rattle.a429_word.specs.Tally.{inner_of, has_failed};
+ghost use Rattle.a429_explain.specs.declared.verdict.Verdict.{Verdict};
 ghost use Rattle.a429_check.specs.ProfileBytes.{IsSound};
 ghost use Rattle.a429_check.specs.Verdict.{IsVerifyFault};
-ghost use Rattle.a429_check.specs.Checked.{reason_text, doubt_text, verdict_text, certificate_text, verdict_status, IsVerdictOn, IsChecked};
+ghost use Rattle.a429_check.specs.Checked.{reason_text, doubt_text, verdict_text, certificate_text, verdict_status, IsVerdictOn};
 
 use crate::engines::output::put_decimal;
 use crate::engines::profile::profile_of;
@@ -28,9 +29,14 @@ pub fn run_check<R: Read, C: Write, W: Write>(
     certificate: &mut Tally<C>,
     out: &mut Tally<W>,
 ) -> Result<u8, RunFault>
-    ensures verdict { IfOk result (λ status. IfSome (R.remaining (inner_of rec.old)) (λ bytes. (text : List ℕ) × (proof : List ℕ) × IsChecked profile.now bytes status text proof
-        × Appends (C.contents (inner_of certificate.old)) (C.contents (inner_of certificate.new)) proof × Appends (W.contents (inner_of out.old)) (W.contents (inner_of out.new)) text)) }
+    ensures verdict { IfOk result (λ status. (v : Verdict) × IsVerdictOn profile.now (R.remaining (inner_of rec.old)) v × (status ≡ verdict_status v)
+        × Appends (C.contents (inner_of certificate.old)) (C.contents (inner_of certificate.new)) (certificate_text v)
+        × Appends (W.contents (inner_of out.old)) (W.contents (inner_of out.new)) (verdict_text v)) }
+    ensures none { IfOk result (λ status. status ≢ 0 → certificate.new ≡ certificate.old) }
+    ensures device { IfOk result (λ status. (has_failed rec.new ≡ false) × (status ≡ 0 → has_failed certificate.new ≡ false) × (has_failed out.new ≡ false)) }
     ensures err { IfErr result (IsVerifyFault profile.now (R.remaining (inner_of rec.old)) (has_failed rec.new) (has_failed certificate.new) (has_failed out.new)) }
+    ensures silent { IfErr result (λ e. (e ≢ RunFault.Device) ⊎ (has_failed rec.new ≡ true) → (certificate.new ≡ certificate.old) × (out.new ≡ out.old)) }
+    ensures last { OnErr result (has_failed out.new ≡ false → out.new ≡ out.old) }
 {
     let verdict = verdict_on(alloc, profile, rec)?;
     put_certificate(certificate, &verdict)?;
@@ -44,8 +50,9 @@ fn verdict_on<R: Read>(
     profile: &[u8],
     rec: &mut Tally<R>,
 ) -> Result<Verdict, RunFault>
-    ensures verdict { IfOk result (λ v. IfSome (R.remaining (inner_of rec.old)) (λ bytes. IsVerdictOn profile.now bytes v)) }
+    ensures verdict { IfOk result (IsVerdictOn profile.now (R.remaining (inner_of rec.old))) }
     ensures sound { OnOk result (IsSound profile.now) }
+    ensures device { OnOk result (has_failed rec.new ≡ false) }
     ensures err { IfErr result (IsVerifyFault profile.now (R.remaining (inner_of rec.old)) (has_failed rec.new) false false) }
 {
     let profile = profile_of(alloc, profile)?;
@@ -68,6 +75,8 @@ fn status_of(verdict: &Verdict) -> u8
 
 fn put_certificate<W: Write>(out: &mut Tally<W>, verdict: &Verdict) -> Result<(), Device>
     ensures ok { OnOk result (Appends (W.contents (inner_of out.old)) (W.contents (inner_of out.new)) (certificate_text verdict.now)) }
+    ensures none { verdict_status verdict.now ≢ 0 → out.new ≡ out.old }
+    ensures explained { verdict_status verdict.now ≡ 0 → (IsErr result ↔ (has_failed out.new ≡ true)) }
     ensures device { IsErr result → has_failed out.new ≡ true }
 {
     match verdict {
@@ -78,7 +87,7 @@ fn put_certificate<W: Write>(out: &mut Tally<W>, verdict: &Verdict) -> Result<()
 
 fn put_verdict<W: Write>(out: &mut Tally<W>, verdict: &Verdict) -> Result<(), Device>
     ensures ok { OnOk result (Appends (W.contents (inner_of out.old)) (W.contents (inner_of out.new)) (verdict_text verdict.now)) }
-    ensures device { IsErr result → has_failed out.new ≡ true }
+    ensures device { IsErr result ↔ (has_failed out.new ≡ true) }
 {
     match verdict {
         Verdict::Explained { files, .. } => put_yes(out, files.files()),
@@ -89,7 +98,7 @@ fn put_verdict<W: Write>(out: &mut Tally<W>, verdict: &Verdict) -> Result<(), De
 
 fn put_impossible<W: Write>(out: &mut Tally<W>, entry: usize, reason: Reason) -> Result<(), Device>
     ensures ok { OnOk result (Appends (W.contents (inner_of out.old)) (W.contents (inner_of out.new)) (verdict_text (Verdict.Impossible entry reason))) }
-    ensures device { IsErr result → has_failed out.new ≡ true }
+    ensures device { IsErr result ↔ (has_failed out.new ≡ true) }
 {
     out.put(b"IMPOSSIBLE ")?;
     put_decimal(out, entry as u64)?;
@@ -98,7 +107,7 @@ fn put_impossible<W: Write>(out: &mut Tally<W>, entry: usize, reason: Reason) ->
 
 fn put_unexplained<W: Write>(out: &mut Tally<W>, entry: usize, doubt: Doubt) -> Result<(), Device>
     ensures ok { OnOk result (Appends (W.contents (inner_of out.old)) (W.contents (inner_of out.new)) (verdict_text (Verdict.Unexplained entry doubt))) }
-    ensures device { IsErr result → has_failed out.new ≡ true }
+    ensures device { IsErr result ↔ (has_failed out.new ≡ true) }
 {
     out.put(b"UNEXPLAINED ")?;
     put_decimal(out, entry as u64)?;
@@ -107,7 +116,7 @@ fn put_unexplained<W: Write>(out: &mut Tally<W>, entry: usize, doubt: Doubt) -> 
 
 fn put_reason<W: Write>(out: &mut Tally<W>, reason: Reason) -> Result<(), Device>
     ensures ok { OnOk result (Appends (W.contents (inner_of out.old)) (W.contents (inner_of out.new)) (reason_text reason)) }
-    ensures device { IsErr result → has_failed out.new ≡ true }
+    ensures device { IsErr result ↔ (has_failed out.new ≡ true) }
 {
     match reason {
         Reason::NoForm => out.put(b" NoForm\n"),
@@ -118,7 +127,7 @@ fn put_reason<W: Write>(out: &mut Tally<W>, reason: Reason) -> Result<(), Device
 
 fn put_doubt<W: Write>(out: &mut Tally<W>, doubt: Doubt) -> Result<(), Device>
     ensures ok { OnOk result (Appends (W.contents (inner_of out.old)) (W.contents (inner_of out.new)) (doubt_text doubt)) }
-    ensures device { IsErr result → has_failed out.new ≡ true }
+    ensures device { IsErr result ↔ (has_failed out.new ≡ true) }
 {
     match doubt {
         Doubt::NeverWhole => out.put(b" NeverWhole\n"),

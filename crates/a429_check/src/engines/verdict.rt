@@ -1,20 +1,21 @@
 //! Holds a certificate against a recording, and tells the verdict, as each command that takes one does.
 
-ghost use Rattle.std.specs.Prelude.{◌≡◌, ◌↔◌, ◌≢◌, true, false, Err, codes, ◌++◌, IsErr, IfOk, IfErr, IfSome, OnOk};
+ghost use Rattle.std.specs.Prelude.{◌≡◌, ◌↔◌, ◌≢◌, true, false, Err, codes, ◌++◌, IsErr, IfOk, IfErr, OnOk};
 ghost use Rattle.std.specs.List.{flat_map};
 ghost use Rattle.std.specs.Io.KnownBytes.{Appends};
 ghost use Rattle.a429_word.specs.Tally.{inner_of, has_failed};
-ghost use Rattle.a429_check.specs.Verdict.{file_line, yes_text, no_text, IsAnswer, IsVerifyFault, IsWholeFault};
+ghost use Rattle.a429_check.specs.Verdict.{file_line, yes_text, no_text, IsAnswer, IsVerifyFault};
 ghost use Rattle.a429_check.specs.ProfileBytes.{IsSound};
 ghost use Rattle.std.specs.Fmt.{decimal};
 
 use crate::engines::output::put_decimal;
 use crate::engines::profile::profile_of;
 use crate::engines::recording::entries_of;
+use crate::engines::whole::read_whole;
 use crate::fault::RunFault;
 use a429_cert::{CertFault, Verified, verify};
 use a429_link::FileBytes;
-use a429_word::{Device, Failing, Tally};
+use a429_word::{Device, Tally};
 use std::alloc::Global;
 use std::io::{Read, Write};
 
@@ -26,14 +27,15 @@ pub(crate) fn answer_of<R: Read, C: Read>(
     rec: &mut Tally<R>,
     certificate: &mut Tally<C>,
 ) -> Result<Result<Verified, CertFault>, RunFault>
-    ensures answer { IfOk result (λ a. IfSome (R.remaining (inner_of rec.old)) (λ bytes. IfSome (C.remaining (inner_of certificate.old)) (λ text. IsAnswer profile.now bytes text a))) }
+    ensures answer { IfOk result (IsAnswer profile.now (R.remaining (inner_of rec.old)) (C.remaining (inner_of certificate.old))) }
     ensures sound { OnOk result (IsSound profile.now) }
     ensures verdict { IfOk result (λ a. a ≢ Err CertFault.OutOfMemory) }
+    ensures device { OnOk result ((has_failed rec.new ≡ false) × (has_failed certificate.new ≡ false)) }
     ensures err { IfErr result (IsVerifyFault profile.now (R.remaining (inner_of rec.old)) (has_failed rec.new) (has_failed certificate.new) false) }
 {
     let profile = profile_of(alloc, profile)?;
     let entries = entries_of(alloc, rec)?;
-    let text = whole(alloc, certificate)?;
+    let text = read_whole(alloc, certificate)?;
     match verify(alloc, &profile, entries.as_slice(), text.as_slice()) {
         Ok(verified) => Ok(Ok(verified)),
         Err(fault) => match of_certificate(fault) {
@@ -54,24 +56,10 @@ fn of_certificate(fault: CertFault) -> Result<CertFault, RunFault>
     }
 }
 
-// The bytes of a reader, to its end.
-fn whole<R: Read>(alloc: Global, reader: &mut Tally<R>) -> Result<Vec<u8>, RunFault>
-    ensures bytes { IfOk result (λ v. IfSome (R.remaining (inner_of reader.old)) (λ bytes. v.items ≡ bytes)) }
-    ensures err { IfErr result (IsWholeFault (has_failed reader.new)) }
-{
-    let mut bytes = Vec::new(alloc);
-    match reader.read_to_end(&mut bytes) {
-        Ok(_) => Ok(bytes),
-        // A read that fails while the reader has not failed was refused memory.
-        Err(_) if reader.failed() => Err(RunFault::Device),
-        Err(_) => Err(RunFault::Memory),
-    }
-}
-
 /// Writes that the certificate is accepted, with its files.
 pub(crate) fn put_yes<W: Write>(out: &mut Tally<W>, files: &[FileBytes]) -> Result<(), Device>
     ensures ok { OnOk result (Appends (W.contents (inner_of out.old)) (W.contents (inner_of out.new)) (yes_text files.now)) }
-    ensures device { IsErr result → has_failed out.new ≡ true }
+    ensures device { IsErr result ↔ (has_failed out.new ≡ true) }
 {
     out.put(b"YES files ")?;
     put_decimal(out, files.len() as u64)?;
@@ -82,6 +70,7 @@ pub(crate) fn put_yes<W: Write>(out: &mut Tally<W>, files: &[FileBytes]) -> Resu
 fn put_files<W: Write>(out: &mut Tally<W>, files: &[FileBytes]) -> Result<(), Device>
     ensures ok { OnOk result (Appends (W.contents (inner_of out.old)) (W.contents (inner_of out.new)) (flat_map file_line files.now)) }
     ensures device { IsErr result → has_failed out.new ≡ true }
+    ensures goes_on { OnOk result (has_failed out.old ≡ false → has_failed out.new ≡ false) }
 {
     for file in files {
         put_file(out, file)?;

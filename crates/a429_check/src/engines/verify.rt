@@ -1,8 +1,9 @@
 //! `a429 verify PROFILE REC CERT`: whether a certificate explains a recording.
 
-ghost use Rattle.std.specs.Prelude.{◌≡◌, ◌⊎◌, ℕ, List, IfOk, IfErr, IfSome};
+ghost use Rattle.std.specs.Prelude.{◌≡◌, ◌≢◌, ◌⊎◌, ℕ, List, true, false, IfOk, IfErr, OnOk};
 ghost use Rattle.std.specs.Io.KnownBytes.{Appends};
 ghost use Rattle.a429_word.specs.Tally.{inner_of, has_failed};
+ghost use Rattle.a429_link.specs.declared.file.FileBytes.{FileBytes};
 ghost use Rattle.a429_check.specs.Verdict.{IsVerdict, IsVerifyFault};
 
 use crate::engines::verdict::{answer_of, put_no, put_yes};
@@ -22,10 +23,12 @@ pub fn run_verify<R: Read, C: Read, W: Write>(
     certificate: &mut Tally<C>,
     out: &mut Tally<W>,
 ) -> Result<u8, RunFault>
-    ensures status { IfOk result (λ status. (status ≡ 0) ⊎ (status ≡ 2)) }
-    ensures verdict { IfOk result (λ status. IfSome (R.remaining (inner_of rec.old)) (λ bytes. IfSome (C.remaining (inner_of certificate.old)) (λ text.
-        (written : List ℕ) × IsVerdict profile.now bytes text status written × Appends (W.contents (inner_of out.old)) (W.contents (inner_of out.new)) written))) }
+    ensures verdict { IfOk result (λ status. (files : List FileBytes) × (text : List ℕ)
+        × IsVerdict profile.now (R.remaining (inner_of rec.old)) (C.remaining (inner_of certificate.old)) files status text
+        × Appends (W.contents (inner_of out.old)) (W.contents (inner_of out.new)) text) }
+    ensures device { OnOk result ((has_failed rec.new ≡ false) × (has_failed certificate.new ≡ false) × (has_failed out.new ≡ false)) }
     ensures err { IfErr result (IsVerifyFault profile.now (R.remaining (inner_of rec.old)) (has_failed rec.new) (has_failed certificate.new) (has_failed out.new)) }
+    ensures silent { IfErr result (λ e. (e ≢ RunFault.Device) ⊎ ((has_failed rec.new ≡ true) ⊎ (has_failed out.new ≡ false)) → out.new ≡ out.old) }
 {
     match answer_of(alloc, profile, rec, certificate)? {
         Ok(verified) => {

@@ -2,4 +2,4 @@ use Rattle.a429_cert.proofs.Digits.{IsRead}
 use Rattle.a429_cert.proofs.field.digits_of.Given as goal
 
 abbrev pub invariant-loop-byte : goal.invariant-loop-byte
-invariant-loop-byte l = IsRead l.base l.byte-index l.number l.text
+invariant-loop-byte l = IsRead l.byte-index l.number l.text

@@ -1,6 +1,6 @@
 //! The recordings of small files, and files that are refused.
 
-use crate::engines::sample::PROFILE;
+use crate::engines::sample::{PROFILE, RECORDING};
 use crate::{RunFault, run_make};
 use a429_ldu::CutFault;
 use a429_profile::{Key, ProfileFault, SectionKey};
@@ -23,15 +23,7 @@ fn a_file_of_one_byte(rt: HostRuntime) -> Result<(), Fail> {
     let files = vec![in rt.alloc(); vec![in rt.alloc(); 0x41]?]?;
     let (answer, written) = made(&rt, files.as_slice())?;
     assert_eq!(rt; answer, Ok(0));
-    let text = b"time,bus,word
-0,A,41410323
-1000,B,C24103A3
-2000,A,60010123
-3000,A,12004123
-4000,A,71A3F523
-5000,B,450101A3
-";
-    assert_eq!(rt; written.as_slice(), text.as_slice());
+    assert_eq!(rt; written.as_slice(), RECORDING.as_bytes());
     Ok(())
 }
 

@@ -1,98 +1,94 @@
 //! The certificate of a file of one byte, and changes of it.
 
-use crate::engines::sample::PROFILE;
+use crate::engines::sample::{CERTIFICATE, PROFILE, RECORDING, YES, verified};
 use crate::{RunFault, run_verify};
 use a429_profile::{Key, ProfileFault, SectionKey};
 use a429_record::ReadFault;
 use a429_word::Tally;
+use std::alloc::{AllocError, Global};
 use std::process::Abort;
 use std::test::Fail;
 
-const RECORDING: &str = "time,bus,word
-0,A,41410323
-1000,B,C24103A3
-2000,A,60010123
-3000,A,12004123
-4000,A,71A3F523
-5000,B,450101A3
-";
+// The certificate with another line n, counted from 1.
+fn changed(alloc: Global, n: usize, line: &str) -> Result<String, AllocError> {
+    let mut text = String::new(alloc);
+    for (i, found) in CERTIFICATE.lines().enumerate() {
+        text.push_str(if i + 1 == n { line } else { found })?;
+        text.push('\n')?;
+    }
+    Ok(text)
+}
 
-const BEGUN: &str = "arinc429-cert 1
-first 1
-L 0 1 A3F5 12004123
-";
-
-const GONE_ON: &str = "a C Q 1 0
-k C c 0 0
-b C G 0 1
-g S0 G 0 0
-a S1 G 1 0
-k S1 B1 0 0
-a S2 B1 1 0
-k S2 B2 0 0
-a W B2 1 0
-k W A 0 0
-";
-
-const ENDED: &str = "b W Q 0 1
-g I Q 0 0
-";
-
-// The verdict of a certificate of two parts.
+// The verdict of a certificate on a recording.
 fn verdict_is(
     rt: &(impl Abort + AllocGlobal),
     recording: &str,
-    certificate: [&str; 3],
-    answer: Result<u8, RunFault>,
-    text: &[u8],
-) -> Result<(), Fail> {
-    let mut whole = String::new(rt.alloc());
-    for part in certificate {
-        whole.push_str(part)?;
-    }
-    let mut written = Vec::new(rt.alloc());
-    let mut rec = Tally::new(recording.as_bytes(), 1000);
-    let mut cert = Tally::new(whole.as_bytes(), 1000);
-    let mut out = Tally::new(&mut written, 0);
-    let found = run_verify(
-        rt.alloc(),
-        PROFILE.as_bytes(),
-        &mut rec,
-        &mut cert,
-        &mut out,
-    );
-    assert_eq!(rt; found, answer);
-    assert_eq!(rt; written.as_slice(), text);
+    certificate: &str,
+    status: Result<u8, RunFault>,
+    text: &str,
+) {
+    let found = verified(rt.alloc(), recording, certificate.as_bytes());
+    assert_eq!(rt; found.status, status);
+    assert_eq!(rt; found.verdict.as_slice(), text.as_bytes());
+}
+
+// The verdict of the certificate with another line n.
+fn refuses(rt: &(impl Abort + AllocGlobal), n: usize, line: &str, text: &str) -> Result<(), Fail> {
+    let certificate = changed(rt.alloc(), n, line)?;
+    verdict_is(rt, RECORDING, certificate.as_str(), Ok(2), text);
     Ok(())
 }
 
 #[test]
 fn accepted(rt: HostRuntime) -> Result<(), Fail> {
-    let whole = [BEGUN, GONE_ON, ENDED];
-    verdict_is(&rt, RECORDING, whole, Ok(0), b"YES files 1\nfile 1 1\n")?;
-    let none = ["arinc429-cert 1\n", "first 0\n", ""];
-    verdict_is(&rt, "time,bus,word\n", none, Ok(0), b"YES files 0\n")
+    verdict_is(&rt, RECORDING, CERTIFICATE, Ok(0), YES);
+    let none = "arinc429-cert 1\nfirst 0\n";
+    verdict_is(&rt, "time,bus,word\n", none, Ok(0), "YES files 0\n");
+    // A first request was lost, before the one that is recorded.
+    let lost = "L 0 1 A3F5 12004123\nl C Q 0 0\nt I Q 0 0";
+    let other = changed(rt.alloc(), 3, lost)?;
+    verdict_is(&rt, RECORDING, other.as_str(), Ok(0), YES);
+    Ok(())
 }
 
 #[test]
 fn refused(rt: HostRuntime) -> Result<(), Fail> {
-    let left_out = [BEGUN, GONE_ON, ""];
-    verdict_is(&rt, RECORDING, left_out, Ok(2), b"NO unfinished 5\n")?;
-    let other_state = [BEGUN, "a S0 Q 1 0\n", ""];
-    verdict_is(&rt, RECORDING, other_state, Ok(2), b"NO state differs 4\n")?;
-    let free = [BEGUN, "n I Q 0 0\n", ""];
-    verdict_is(&rt, RECORDING, free, Ok(2), b"NO word differs 4 0\n")?;
-    let early = [BEGUN, "b C G 0 1\n", ""];
-    verdict_is(&rt, RECORDING, early, Ok(2), b"NO not allowed 4\n")?;
-    let unended = [BEGUN, "a C Q 1 0", ""];
-    verdict_is(&rt, RECORDING, unended, Ok(2), b"NO line 4\n")?;
-    verdict_is(&rt, RECORDING, ["", "", ""], Ok(2), b"NO version\n")
+    refuses(&rt, 1, "arinc429-cert 3", "NO version\n")?;
+    refuses(&rt, 3, "L 0 1 A3F4 12004123", "NO not allowed 3\n")?;
+    refuses(&rt, 4, "a  C Q 1 0", "NO line 4\n")?;
+    refuses(&rt, 4, "a S0 Q 1 0", "NO state differs 4\n")?;
+    refuses(&rt, 4, "n I Q 0 0", "NO word differs 4 0\n")?;
+    refuses(&rt, 4, "b C G 0 1", "NO not allowed 4\n")?;
+    refuses(&rt, 5, "t I Q 0 0", "NO not allowed 5\n")
+}
+
+// The verdict of the certificate without its end.
+fn without(rt: &(impl Abort + AllocGlobal), end: &str, status: u8, text: &str) -> Result<(), Fail> {
+    let front = CERTIFICATE.strip_suffix(end).ok_or("another end")?;
+    verdict_is(rt, RECORDING, front, Ok(status), text);
+    Ok(())
+}
+
+// The answer is recorded in the last line but one, and taken in the last.
+#[test]
+fn cut_off(rt: HostRuntime) -> Result<(), Fail> {
+    without(&rt, CERTIFICATE, 2, "NO version\n")?;
+    without(&rt, "\n", 2, "NO line 15\n")?;
+    without(&rt, "g I Q 0 0\n", 0, YES)?;
+    without(&rt, "b W Q 0 1\ng I Q 0 0\n", 2, "NO unfinished 5\n")
+}
+
+// The recording begins with another request.
+#[test]
+fn another_recording(rt: HostRuntime) {
+    let other = "time,bus,word\n0,A,4141FF23\n";
+    verdict_is(&rt, other, CERTIFICATE, Ok(2), "NO word differs 4 0\n");
 }
 
 #[test]
-fn no_verdict(rt: HostRuntime) -> Result<(), Fail> {
+fn no_verdict(rt: HostRuntime) {
     let header = Err(RunFault::Read(ReadFault::Header));
-    verdict_is(&rt, "", ["", "", ""], header, b"")?;
+    verdict_is(&rt, "", "", header, "");
     let mut rec = Tally::new(b"".as_slice(), 0);
     let mut cert = Tally::new(b"".as_slice(), 0);
     let mut written = Vec::new(rt.alloc());
@@ -102,13 +98,8 @@ fn no_verdict(rt: HostRuntime) -> Result<(), Fail> {
     assert_eq!(rt; found, Err(RunFault::Profile(missing)));
     // The certificate has as many bytes as may be read: its end is not seen.
     let mut rec = Tally::new(b"time,bus,word\n".as_slice(), 100);
-    let found = run_verify(
-        rt.alloc(),
-        PROFILE.as_bytes(),
-        &mut rec,
-        &mut cert,
-        &mut out,
-    );
+    let profile = PROFILE.as_bytes();
+    let found = run_verify(rt.alloc(), profile, &mut rec, &mut cert, &mut out);
     assert_eq!(rt; found, Err(RunFault::Device));
-    Ok(())
+    assert!(rt; written.is_empty());
 }

@@ -1,13 +1,62 @@
-use Rattle.std.proofs.Common.{ap, ◌∙◌, length}
+use Rattle.std.proofs.Common.{◌≡◌, List, ◌+◌, take, drop, length, take_all, ap, subst, ◌∙◌, arith}
+use Rattle.a429_link.specs.declared.seen.Seen.{Seen}
+use Rattle.a429_link.specs.Link.{LinkValue}
+use Rattle.a429_cert.specs.Explained.{seen_of, items_of}
+use Rattle.a429_explain.specs.Told.{Told, IsCertificateOf}
+use Rattle.a429_explain.specs.Units.{AreUnits}
+use Rattle.a429_explain.proofs.Matched.{length-items_of}
+use Rattle.a429_explain.proofs.Planned.{told_next, entry_next, goes_run, plan_kept}
 use Rattle.a429_explain.proofs.Roles.{length-roles}
+use Rattle.a429_explain.proofs.Telling.{certificate_told}
+use Rattle.a429_explain.proofs.WithoutLoss.{its_units, units_fit, units_found, plan_begun, stop_fits}
 use Rattle.a429_explain.proofs.certificate.certificate_of.Goals as goal
 
-pub units_of-requires : goal.units_of-requires
-units_of-requires c = ap length c.as_slice.ensures.value ∙ ap length c.in-Ok.ensures ∙ length-roles c.args.profile.now.codes c.args.entries.now
+pub returns-in-Err-clause-clean : goal.returns-in-Err-clause-clean
+returns-in-Err-clause-clean c = λ h.
+    let p = c.args.profile.now in
+    let items = items_of c.args.entries.now in
+    let is = c.codes-codes.ensures.sound in
+    c.in-Err.ensures.clean_err (its_units p items h) (units_fit p is items h) (units_found p is items h c.first_file-first.result c.first_file-first.ensures)
 
 pub loop-at-init : goal.loop-at-init
-loop-at-init c = record {
-  profile = c.in-Ok-new.ensures;
-  roles = ap length c.in-Ok.ensures ∙ length-roles c.args.profile.now.codes c.args.entries.now;
-  units = c.in-Ok-units_of.ensures.units;
-}
+loop-at-init c =
+    let p = c.args.profile.now in
+    let items = items_of c.args.entries.now in
+    let is = c.codes-codes.ensures.sound in
+    let told = c.in-Ok-new.ensures.told in
+    record {
+      profile = ap {A = LinkValue} (λ l. l.profile) c.in-Ok-new.ensures.start;
+      roles = c.in-Ok.ensures;
+      many = ap length c.in-Ok.ensures ∙ length-roles p.codes c.args.entries.now;
+      units = c.in-Ok-units_of.ensures.units;
+      told = told;
+      plan = λ h. plan_begun p is items h c.first_file-first.result c.in-Ok-units_of.units.items c.in-Ok-new.scribe.is_loaded c.in-Ok-new.scribe.link told.byte c.first_file-first.ensures (c.in-Ok-units_of.ensures.clean (its_units p items h) (units_fit p is items h) (units_found p is items h c.first_file-first.result c.first_file-first.ensures)) c.in-Ok-new.ensures.loaded c.in-Ok-new.ensures.start;
+    }
+
+pub returns-in-Err-tell-clause-clean : goal.returns-in-Err-tell-clause-clean
+returns-in-Err-tell-clause-clean c = λ h.
+    let goes = entry_next c.args.profile.now c.args.entries.now c.loop-at.at c.index-entries-at.result c.index.result.now c.in-Ok.roles.items c.loop-at.units.items c.loop-at.scribe.is_loaded c.loop-at.scribe.link c.loop-at-test.true c.index-entries-at.is c.loop-at.invariant.roles c.index.ensures (c.loop-at.invariant.plan h) in
+    c.stopped_at.ensures.memory (c.in-Err-tell.ensures.plain goes.plain (goes_run c.args.profile.now (seen_of c.index-entries-at.result) (drop (c.loop-at.at + 1) (items_of c.args.entries.now)) c.index.result.now c.loop-at.units.items c.loop-at.scribe.is_loaded c.loop-at.scribe.link c.loop-at.invariant.profile goes))
+
+pub returns-in-Err-tell-clause-fits : goal.returns-in-Err-tell-clause-fits
+returns-in-Err-tell-clause-fits c = stop_fits c.args.profile.now.codes (items_of c.args.entries.now) c.loop-at.at c.in-Err-tell.fault c.stopped_at.result (omega (arith, c.loop-at-test.true, length-items_of c.args.entries.now)) c.stopped_at.ensures.memory c.stopped_at.ensures.step
+
+pub loop-at-preserved : goal.loop-at-preserved
+loop-at-preserved c =
+    let es = c.args.entries.now in
+    record {
+      profile = c.in-Ok-tell.ensures.profile ∙ c.loop-at.invariant.profile;
+      roles = c.loop-at.invariant.roles;
+      many = c.loop-at.invariant.many;
+      units = subst (λ q. AreUnits q c.tell.new.units.items) c.loop-at.invariant.profile c.in-Ok-tell.ensures.units;
+      told = subst (λ (items : List Seen). Told c.first_file-first.result items c.tell.new.self.text.items c.tell.new.self.link) (told_next es c.loop-at.at c.index-entries-at.result c.loop-at-test.true c.index-entries-at.is) (c.in-Ok-tell.ensures.told c.first_file-first.result (take c.loop-at.at (items_of es)) c.loop-at.invariant.told);
+      plan = λ h.
+          let goes = entry_next c.args.profile.now c.args.entries.now c.loop-at.at c.index-entries-at.result c.index.result.now c.in-Ok.roles.items c.loop-at.units.items c.loop-at.scribe.is_loaded c.loop-at.scribe.link c.loop-at-test.true c.index-entries-at.is c.loop-at.invariant.roles c.index.ensures (c.loop-at.invariant.plan h) in
+          plan_kept c.args.profile.now (seen_of c.index-entries-at.result) (drop (c.loop-at.at + 1) (items_of es)) c.index.result.now c.loop-at.units.items c.tell.new.units.items c.loop-at.scribe.is_loaded c.tell.new.self.is_loaded c.loop-at.scribe.link c.tell.new.self.link goes (c.in-Ok-tell.ensures.left goes.plain) (c.in-Ok-tell.ensures.loaded goes.plain) (c.in-Ok-tell.ensures.led goes.plain (goes_run c.args.profile.now (seen_of c.index-entries-at.result) (drop (c.loop-at.at + 1) (items_of c.args.entries.now)) c.index.result.now c.loop-at.units.items c.loop-at.scribe.is_loaded c.loop-at.scribe.link c.loop-at.invariant.profile goes));
+    }
+
+pub returns-clause-told : goal.returns-clause-told
+returns-clause-told c =
+    let items = items_of c.args.entries.now in
+    let all : take c.loop-at.at items ≡ items = take_all c.loop-at.at items (omega (arith, c.loop-at-test.false, length-items_of c.args.entries.now)) in
+    subst (λ q. IsCertificateOf q items c.into_text.result.items) c.loop-at.invariant.profile (certificate_told items c.first_file-first.result c.into_text.result.items c.loop-at.scribe.link (subst (λ (xs : List Seen). Told c.first_file-first.result xs c.into_text.result.items c.loop-at.scribe.link) all (rw c.into_text.ensures c.loop-at.invariant.told)))

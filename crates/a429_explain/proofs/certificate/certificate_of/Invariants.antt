@@ -1,10 +1,18 @@
-use Rattle.std.proofs.Common.{◌≡◌, length}
+use Rattle.std.proofs.Common.{◌≡◌, length, take, drop}
+use Rattle.a429_cert.specs.Explained.{items_of}
+use Rattle.a429_explain.specs.Attempts.{forms_of, roles}
+use Rattle.a429_explain.specs.Told.{Told}
 use Rattle.a429_explain.specs.Units.{AreUnits}
+use Rattle.a429_explain.specs.WithoutLoss.{IsWithoutLoss}
+use Rattle.a429_explain.proofs.Planned.{OnPlan}
 use Rattle.a429_explain.proofs.certificate.certificate_of.Given as goal
 
 abbrev pub invariant-loop-at : goal.invariant-loop-at
 invariant-loop-at l = record {
   profile : l.scribe.link.profile ≡ l.profile;
-  roles : length l.roles.items ≡ length l.entries;
+  roles : l.roles.items ≡ roles (forms_of l.profile.codes (items_of l.entries));
+  many : length l.roles.items ≡ length l.entries;
   units : AreUnits l.profile l.units.items;
+  told : Told l.first (take l.at (items_of l.entries)) l.scribe.text.items l.scribe.link;
+  plan : IsWithoutLoss l.profile (items_of l.entries) → OnPlan l.profile (drop l.at (items_of l.entries)) l.units.items l.scribe.is_loaded l.scribe.link;
 }

@@ -1,9 +1,10 @@
 use Rattle.std.proofs.Common.{◌-◌, length}
-use Rattle.a429_explain.specs.Units.{AreUnits}
+use Rattle.a429_cert.specs.Explained.{items_of}
+use Rattle.a429_explain.proofs.CrossedUnits.{Finds}
 use Rattle.a429_explain.proofs.certificate.units_of.Given as goal
 
 abbrev pub invariant-loop-at : goal.invariant-loop-at
-invariant-loop-at l = AreUnits l.profile l.units.items
+invariant-loop-at l = Finds l.profile (items_of l.entries) l.roles l.fn.first_file l.units.items l.place l.at
 
 abbrev pub decreases-loop-at : goal.decreases-loop-at
 decreases-loop-at l = length l.roles - l.at

@@ -1,7 +1,8 @@
-use Rattle.std.proofs.Common.{ℕ, subst, take, ap, Bool, Ok, arith}
+use Rattle.std.proofs.Common.{ℕ, ◌+◌, subst, take, ap, Bool, Ok, arith}
 use Rattle.a429_link.specs.Run.{BeginsARun}
 use Rattle.a429_cert.specs.Explained.{items_of}
 use Rattle.a429_explain.proofs.Walked.{formed, not_both, seen_is, is_refused, walks_on, fits_at, next_is}
+use Rattle.a429_explain.proofs.WithoutLoss.{begins}
 use Rattle.a429_explain.proofs.walk.walk.Goals as goal
 
 pub returns-then-not-allowed-clause-impossible : goal.returns-then-not-allowed-clause-impossible
@@ -17,3 +18,6 @@ loop-n-preserved c = walks_on c.args.profile.now c.args.entries.now c.loop-n.n c
 
 pub returns-clause-formed : goal.returns-clause-formed
 returns-clause-formed c = λ none bad. formed c.args.profile.now c.args.entries.now (λ k l. c.loop-n.invariant.allowed k (omega (arith, l, c.loop-n-test.false))) bad
+
+pub returns-then-not-allowed-clause-without_loss : goal.returns-then-not-allowed-clause-without_loss
+returns-then-not-allowed-clause-without_loss c = λ h. absurd (returns-then-not-allowed-clause-impossible c (begins c.args.profile.now c.codes-codes.ensures.sound (items_of c.args.entries.now) (c.loop-n.n + 1) h))

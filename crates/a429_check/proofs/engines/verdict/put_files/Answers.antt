@@ -1,3 +1,4 @@
+use Rattle.std.proofs.Common.{rules}
 use Rattle.std.proofs.KnownBytes.{Appends-trans}
 use Rattle.a429_check.specs.Verdict.{file_line}
 use Rattle.a429_check.proofs.Shows.{flat_map-more}
@@ -5,5 +6,8 @@ use Rattle.a429_check.proofs.engines.verdict.put_files.Goals as goal
 
 pub loop-file-preserved : goal.loop-file-preserved
 loop-file-preserved g c =
-    rw (flat_map-more file_line c.args.files.now c.loop-file.file-index c.file-item.result c.loop-file-test.true c.file-item.is)
-    (Appends-trans _ _ _ _ _ c.loop-file.invariant c.in_ok-put_file.ensures.ok)
+    record {
+      written = rw (flat_map-more file_line c.args.files.now c.loop-file.file-index c.file-item.result c.loop-file-test.true c.file-item.is)
+          (Appends-trans _ _ _ _ _ c.loop-file.invariant.written c.in_ok-put_file.ensures.ok);
+      goes_on = search rules;
+    }

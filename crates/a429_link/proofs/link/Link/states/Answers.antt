@@ -1,6 +1,11 @@
-use Rattle.std.proofs.Common.{arith}
+use Rattle.std.proofs.Common.{subst, arith}
+use Rattle.a429_link.specs.Link.{LinkValue}
+use Rattle.a429_link.specs.Run.{IsBounded}
 use Rattle.a429_link.proofs.KeptStates.{kept_bounded}
 use Rattle.a429_link.proofs.link.Link.states.Goals as goal
 
 pub sink-requires : goal.sink-requires
 sink-requires c = omega (arith, (kept_bounded c.self.inside.profile.now c.self.inside.transfer c.self.invariant).words)
+
+pub returns-clause-bounds : goal.returns-clause-bounds
+returns-clause-bounds c = subst (λ (l : LinkValue). IsBounded l.state) c.self.view_is (kept_bounded c.self.inside.profile.now c.self.inside.transfer c.self.invariant)

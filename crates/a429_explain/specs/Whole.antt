@@ -1,0 +1,63 @@
+-- Which link data unit a group carries (profile). A whole attempt has a start word, as many data words as its request
+-- wants, that carry bytes, and an end word whose check word agrees.
+use Rattle.std.specs.Prelude.{ℕ, ◌+◌, ◌==◌, Bool, false, not, ◌&&◌, if◌then◌else◌, Option, Some, None, is_some, List, [], ◌∷◌, ◌++◌, length}
+use Rattle.std.specs.Option.{option_or}
+use Rattle.a429_profile.specs.declared.codes.Codes.{Codes}
+use Rattle.a429_profile.specs.Contents.{Contents}
+use Rattle.a429_ldu.specs.declared.forms.Form.{Form}
+use Rattle.a429_ldu.specs.declared.forms.Form.TheVariants.{Rts, Sot, Part, Eot}
+use Rattle.a429_ldu.specs.declared.sight.Sight.{Sight}
+use Rattle.a429_ldu.specs.declared.sight.Sight.TheVariants as sight
+use Rattle.a429_ldu.specs.Form.{form_of, sight_of}
+use Rattle.a429_ldu.specs.Carried.{bytes_carried}
+use Rattle.a429_ldu.specs.Ldu.{LduValue}
+use Rattle.a429_link.specs.Sink.{agrees, bytes_in}
+use Rattle.a429_link.specs.declared.seen.Seen.{Seen}
+
+-- what an attempt has recorded: the general format identifier of its start word, and its data words
+pub record Recorded : Type 0 where
+  pub start : Option ℕ
+  pub words : List ℕ
+
+abbrev pub nothing_yet : Recorded
+nothing_yet = record { start = None; words = [] }
+
+-- with one more word of this form; a request begins anew
+abbrev pub gathered_with : Option Form → ℕ → Recorded → Recorded
+gathered_with (Some (Rts n)) word r = nothing_yet
+gathered_with (Some (Sot gfi file ldu)) word r = record { start = Some gfi; words = r.words }
+gathered_with (Some (Part semis)) word r = record { start = r.start; words = r.words ++ word ∷ [] }
+gathered_with _ word r = r
+
+-- data words and a check word are those that such a request wants
+abbrev pub is_whole : Contents → ℕ → List ℕ → ℕ → Bool
+is_whole p count words check = (length words + 2 == count) && (is_some (bytes_carried p.codes words) && agrees p.check (bytes_in p.codes words) check)
+
+-- the link data unit that an end word makes of what was recorded before it
+abbrev pub unit_made : Contents → ℕ → Option ℕ → List ℕ → ℕ → ℕ → Option LduValue
+unit_made p count None words flags check = None
+unit_made p count (Some gfi) words flags check = if is_whole p count words check then Some (record { gfi = gfi; flags = flags; check = check; words = words }) else None
+
+-- the same of a word of any form
+abbrev pub ended_by : Contents → ℕ → Option Form → Recorded → Option LduValue
+ended_by p count (Some (Eot flags check)) r = unit_made p count r.start r.words flags check
+ended_by p count _ r = None
+
+-- that of the first whole attempt of these words, of which so much was recorded before them
+abbrev pub first_whole : Contents → ℕ → List Seen → Recorded → Option LduValue
+first_whole p count [] r = None
+first_whole p count (i ∷ items) r = option_or (ended_by p count (form_of p.codes i.bus i.word) r) (first_whole p count items (gathered_with (form_of p.codes i.bus i.word) i.word r))
+
+-- how many words a request wants
+abbrev pub wanted : Sight → Option ℕ
+wanted (sight.Form (Rts n)) = Some n
+wanted _ = None
+
+abbrev pub is_other : ℕ → Option ℕ → Bool
+is_other count None = false
+is_other count (Some n) = not (n == count)
+
+-- the place of the first request that wants another number of words, the places counted from k
+abbrev pub other_request : Codes → ℕ → List Seen → ℕ → Option ℕ
+other_request c count [] k = None
+other_request c count (i ∷ items) k = if is_other count (wanted (sight_of c i.bus i.word)) then Some k else other_request c count items (k + 1)
