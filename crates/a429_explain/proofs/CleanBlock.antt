@@ -14,8 +14,7 @@ use Rattle.a429_ldu.specs.Carried.{AreDataWords}
 use Rattle.a429_ldu.specs.CheckWord.{check_of}
 use Rattle.a429_ldu.specs.Ldu.{LduValue, IsLdu, count_of, block_of}
 use Rattle.a429_ldu.proofs.Carried.{carried_of}
-use Rattle.a429_ldu.proofs.Joined.{form_of-word_number}
-use Rattle.a429_link.proofs.Sound.{its_form}
+use Rattle.a429_ldu.proofs.Joined.{form_of-is, form_is_not_free, form_of-word_number}
 use Rattle.a429_link.specs.declared.seen.Seen.{Seen}
 use Rattle.a429_link.specs.Clean.{on_a, on_b, clean_block}
 use Rattle.a429_explain.specs.declared.matching.Place.{Place}
@@ -46,7 +45,7 @@ pub record AreSaid (p : Contents) (file ldu : ℕ) (u : LduValue) : Type 0 where
 
 data_parts : (p : Contents) → IsProfile p → (ws : List ℕ) (ss : List (List ℕ)) → AreDataWords p.codes ws ss → AreParts p.codes ws
 data_parts p is [] [] h = tt
-data_parts p is (w ∷ ws) (s ∷ ss) h = (subst IsPart (sym (its_form p is bus.A w (Part s) h.0)) tt, data_parts p is ws ss h.1)
+data_parts p is (w ∷ ws) (s ∷ ss) h = (subst IsPart (sym ((form_of-is p is bus.A w (Part s)).1 (form_is_not_free p is bus.A w (Part s) h.0, h.0))) tt, data_parts p is ws ss h.1)
 data_parts p is [] (s ∷ ss) h = absurd h
 data_parts p is (w ∷ ws) [] h = absurd h
 
