@@ -2,5 +2,4 @@ pub mod Texts
 pub mod Labels
 pub mod Shows
 pub mod Timed
-pub mod Columns
 pub mod Verdicts
