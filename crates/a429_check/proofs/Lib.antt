@@ -2,4 +2,3 @@ pub mod Texts
 pub mod Labels
 pub mod Shows
 pub mod Timed
-pub mod Columns

@@ -3,10 +3,8 @@ use Rattle.std.proofs.Common.{◌≡◌, ℕ, ◌+◌, ◌<◌, List, [], ◌∷
 use Rattle.std.specs.Int.{bit_at}
 use Rattle.std.specs.Fmt.{decimal}
 use Rattle.std.proofs.lemmas.Fmt.{decimal_digit}
-use Rattle.std.specs.List.{flat_map}
 use Rattle.std.specs.Option.{IfSome}
 use Rattle.std.specs.Io.KnownBytes.{Appends}
-use Rattle.std.proofs.lemmas.Grind.{flat_map-append}
 use Rattle.std.proofs.lemmas.List.{take_more}
 use Rattle.a429_profile.specs.declared.entry.Flag.{Flag}
 use Rattle.a429_profile.specs.Contents.{Contents}
@@ -14,12 +12,6 @@ use Rattle.a429_record.specs.declared.entry.Entry.{Entry}
 use Rattle.a429_record.specs.Recording.{stands_for, whole}
 use Rattle.a429_check.specs.ShowLines.{flag_text, IsShowLine, AreShowLines, Shows}
 use Rattle.a429_check.specs.ProfileBytes.{IsProfileOf}
-
--- a further element's text
-pub flat_map-more : {X : Type 0} (text : X → List ℕ) (xs : List X) (i : ℕ) (x : X) → i < length xs → x ≡ get_or xs i x → flat_map text (take (i + 1) xs) ≡ flat_map text (take i xs) ++ text x
-flat_map-more text xs i x h found =
-    ap (flat_map text) (take_more xs i x h ∙ ap (λ y. take i xs ++ y ∷ []) (sym found))
-    ∙ flat_map-append text (take i xs) (x ∷ []) ∙ ap (λ t. flat_map text (take i xs) ++ t) (append-nil (text x))
 
 -- a flag's text, of which the last two bytes are written at once
 pub flag_text-is : (field digit : ℕ) (f : Flag) → bit_at field (f.bit - 11) ≡ digit → digit < 10 → codes " " ++ f.name ++ (61 ∷ (48 + digit) ∷ []) ≡ flag_text field f

@@ -1,9 +1,11 @@
 -- Words as entries of a recording, one after the other.
-use Rattle.std.proofs.Common.{◌≡◌, ℕ, zero, suc, ◌+◌, ◌*◌, ◌<◌, ◌≤◌, List, [], ◌∷◌, ◌++◌, length, take, get_or, refl, sym, ap, ◌∙◌, arith}
+use Rattle.std.proofs.Common.{◌≡◌, ℕ, zero, suc, ◌+◌, ◌*◌, ◌<◌, ◌≤◌, List, [], ◌∷◌, ◌++◌, length, take, get_or, refl, sym, ap, ◌∙◌, arith, append-nil}
+use Rattle.std.specs.List.{flat_map}
+use Rattle.std.proofs.lemmas.Grind.{flat_map-append}
 use Rattle.std.proofs.lemmas.List.{take_more}
 use Rattle.a429_link.specs.declared.seen.Seen.{Seen}
 use Rattle.a429_record.specs.declared.entry.Entry.{Entry}
-use Rattle.a429_record.specs.Recording.{NeverFalls, IsRecordable, most_entries}
+use Rattle.a429_record.specs.Written.{line_text}
 use Rattle.a429_check.specs.Made.{timed}
 
 abbrev pub entry_at : ℕ → Seen → Entry
@@ -21,7 +23,7 @@ length-take_inside [] (suc i) h = absurd (omega arith)
 length-take_inside (x ∷ xs) (suc i) h = ap suc (length-take_inside xs i (omega arith))
 
 -- a further word
-pub timed-more : (xs : List Seen) (i : ℕ) (s : Seen) → i < length xs → s ≡ get_or xs i s → timed 0 (take (i + 1) xs) ≡ timed 0 (take i xs) ++ entry_at i s ∷ []
+timed-more : (xs : List Seen) (i : ℕ) (s : Seen) → i < length xs → s ≡ get_or xs i s → timed 0 (take (i + 1) xs) ≡ timed 0 (take i xs) ++ entry_at i s ∷ []
 timed-more xs i s h found =
     ap (timed 0) (take_more xs i s h ∙ ap (λ x. take i xs ++ x ∷ []) (sym found))
     ∙ timed-last 0 (take i xs) s ∙ ap (λ n. timed 0 (take i xs) ++ entry_at n s ∷ []) (at (length (take i xs)) (length-take_inside xs i (omega arith)))
@@ -29,13 +31,10 @@ timed-more xs i s h found =
     at : (n : ℕ) → n ≡ i → 0 + n ≡ i
     at n e = omega arith
 
-length-timed : (k : ℕ) (xs : List Seen) → length (timed k xs) ≡ length xs
-length-timed k [] = refl
-length-timed k (x ∷ xs) = ap suc (length-timed (k + 1) xs)
-
-NeverFalls-timed : (last k : ℕ) (xs : List Seen) → last ≤ 1000 * k → NeverFalls last (timed k xs)
-NeverFalls-timed last k [] h = tt
-NeverFalls-timed last k (x ∷ xs) h = (h, NeverFalls-timed (1000 * k) (k + 1) xs (omega arith))
-
-pub IsRecordable-timed : (xs : List Seen) → length xs ≤ most_entries → IsRecordable (timed 0 xs)
-IsRecordable-timed xs h = (rw (length-timed 0 xs) h, NeverFalls-timed 0 0 xs (omega arith))
+-- and its line
+pub lines-more : (xs : List Seen) (i : ℕ) (s : Seen) → i < length xs → s ≡ get_or xs i s
+    → flat_map line_text (timed 0 (take (i + 1) xs)) ≡ flat_map line_text (timed 0 (take i xs)) ++ line_text (entry_at i s)
+lines-more xs i s h found =
+    let before = timed 0 (take i xs) in
+    ap (flat_map line_text) (timed-more xs i s h found) ∙ flat_map-append line_text before (entry_at i s ∷ [])
+    ∙ ap (λ t. flat_map line_text before ++ t) (append-nil (line_text (entry_at i s)))

@@ -7,3 +7,4 @@ pub mod Written
 pub mod Whole
 pub mod ReadBack
 pub mod Times
+pub mod FlatMaps

@@ -63,7 +63,7 @@ ahead_slice xs at filled h =
     let e : at + (filled - at) ≡ filled = omega arith in
     sym (ap (λ (n : ℕ). drop at (take n xs)) (sym e) ∙ drop-take at (filled - at) xs)
 
-gives : (k : Option (List ℕ)) (ahead part rest : List ℕ) → ahead ≡ part ++ rest → Consumes (prepend_known ahead k) (prepend_known rest k) part
+pub gives : (k : Option (List ℕ)) (ahead part rest : List ℕ) → ahead ≡ part ++ rest → Consumes (prepend_known ahead k) (prepend_known rest k) part
 gives None ahead part rest e = tt
 gives (Some z) ahead part rest e = ap (λ (l : List ℕ). l ++ z) e ∙ append_assoc part rest z
 

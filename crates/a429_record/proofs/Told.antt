@@ -18,6 +18,10 @@ AreRows rows bytes = IfSome rows (λ all. option_map rows_of bytes ≡ Some all)
 abbrev pub AreRowsAfter : Option (List Row) → List ℕ → Option (List ℕ) → Type 0
 AreRowsAfter rows line bytes = IfSome rows (λ all. (more : List Row) × (option_map rows_of bytes ≡ Some more) × (all ≡ line_rows line ++ more))
 
+pub own_rows : (a : Option (List ℕ)) → AreRows (option_map rows_of a) a
+own_rows None = tt
+own_rows (Some xs) = refl
+
 pub taken : (rows : Option (List Row)) (a b : Option (List ℕ)) (line : List ℕ) → AreRows rows a → TakesLine a b line → AreRowsAfter rows line b
 taken None a b line h took = tt
 taken (Some all) None b line h took = cc h

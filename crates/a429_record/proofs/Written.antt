@@ -11,7 +11,7 @@ use Rattle.a429_word.specs.declared.bus.Bus.TheVariants.{A, B}
 use Rattle.a429_word.specs.Written.{numeral, hex_text}
 use Rattle.a429_record.specs.declared.entry.Entry.{Entry}
 use Rattle.a429_word.specs.Written.{bus_text}
-use Rattle.a429_record.specs.Written.{line_text}
+use Rattle.a429_record.specs.Written.{header_text, line_text}
 use Rattle.a429_record.proofs.Digits.{all_digits-from}
 use Rattle.a429_record.proofs.PlainLines.{AllHigh, plain, digits_high}
 
@@ -39,11 +39,9 @@ plain_row : (t b w : List ℕ) → AllHigh t → AllHigh b → AllHigh w
 unfolding fields_text is_blank
 plain_row t b w ht hb hw = rw (plain t ht, plain b hb, plain w hw, append-nil) (simp append_assoc)
 
-pub entry_line : (e : Entry) (t b w : List ℕ) → e.time < 2 ^ 64 → t ≡ decimal e.time → b ≡ bus_text e.bus → w ≡ hex_text e.word
-    → row_text default_writer (t ∷ b ∷ w ∷ []) ≡ line_text e
-entry_line e t b w small time bus word =
-    rw (time, bus, word) (plain_row (decimal e.time) (bus_text e.bus) (hex_text e.word) (AllHigh-decimal e.time small) (AllHigh-bus e.bus) (AllHigh-numeral 8 e.word))
+pub entry_line : (e : Entry) → e.time < 2 ^ 64 → row_text default_writer (decimal e.time ∷ bus_text e.bus ∷ hex_text e.word ∷ []) ≡ line_text e
+entry_line e small = plain_row (decimal e.time) (bus_text e.bus) (hex_text e.word) (AllHigh-decimal e.time small) (AllHigh-bus e.bus) (AllHigh-numeral 8 e.word)
 
-pub header_line : row_text default_writer (codes "time" ∷ codes "bus" ∷ codes "word" ∷ []) ≡ codes "time,bus,word\n"
+pub header_line : row_text default_writer (codes "time" ∷ codes "bus" ∷ codes "word" ∷ []) ≡ header_text
 unfolding fields_text is_blank
 header_line = refl

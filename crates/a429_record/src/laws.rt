@@ -1,10 +1,13 @@
 //! Laws of the definitions that the contracts of this crate cite.
 
-ghost use Rattle.std.specs.Prelude.{◌≡◌, ℕ, List};
+ghost use Rattle.std.specs.Prelude.{◌≡◌, ◌<◌, ◌^◌, ◌∷◌, [], ℕ, List, codes};
+ghost use Rattle.std.specs.Fmt.{decimal};
+ghost use Rattle.csv.specs.Writing.{row_text, default_writer};
+ghost use Rattle.a429_word.specs.Written.{bus_text, hex_text};
 ghost use Rattle.a429_record.specs.declared.entry.Entry.{Entry};
 ghost use Rattle.a429_record.specs.Recording.{stands_for, whole, IsRecordable};
 ghost use Rattle.a429_record.specs.Whole.{IsWhole, AreEntries};
-ghost use Rattle.a429_record.specs.Written.{written_form};
+ghost use Rattle.a429_record.specs.Written.{header_text, line_text, written_form};
 
 /// Bytes stand for entries with no fault where they are the header and the entries' rows, at most
 /// 1,000,000 whose times never fall, and nowhere else.
@@ -16,4 +19,10 @@ pub fn whole_recordings()
 /// What is written of entries stands for these entries.
 pub fn written_is_read_back()
     ensures { (es : List Entry) → AreEntries es → IsRecordable es → stands_for (written_form es) ≡ whole es }
+{}
+
+/// The lines are those that `csv` writes of the same fields: none of them needs quotes.
+pub fn lines_are_those_of_csv()
+    ensures header { row_text default_writer (codes "time" ∷ codes "bus" ∷ codes "word" ∷ []) ≡ header_text }
+    ensures entry { (e : Entry) → e.time < 2 ^ 64 → row_text default_writer (decimal e.time ∷ bus_text e.bus ∷ hex_text e.word ∷ []) ≡ line_text e }
 {}

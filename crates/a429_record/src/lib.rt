@@ -14,4 +14,4 @@ mod writing;
 pub use crate::entry::Entry;
 pub use crate::fault::{ReadFault, WriteFault};
 pub use crate::reading::read_entries;
-pub use crate::writing::write_entries;
+pub use crate::writing::{put_header, put_line, put_parts, write_entries};

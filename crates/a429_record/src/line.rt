@@ -99,9 +99,10 @@ fn is_blank(line: &[u8]) -> bool
     line.iter().all(|byte| *byte == b'\r')
 }
 
-// The entry of a line that has nothing but three plain fields and at most a carriage return after
-// them: the last eleven bytes are a bus and a word, each after a comma.
-fn plain_entry(line: &[u8]) -> Option<Entry>
+/// The entry of a line that has nothing but three plain fields and at most a carriage return after
+/// them: the last eleven bytes are a bus and a word, each after a comma.
+#[inline(always)]
+pub fn plain_entry(line: &[u8]) -> Option<Entry>
     ensures { IfSome result (λ e. line_entries line.now ≡ Some e ∷ []) }
 {
     let row = without_return(line);

@@ -1,6 +1,6 @@
 //! The lines of a reader, by a buffer of a fixed size.
 
-ghost use Rattle.std.specs.Prelude.{◌≡◌, ◌↔◌, ◌⊎◌, ◌∷◌, ◌++◌, ◌+◌, ◌<◌, ◌≤◌, [], true, false, length, take, slice_index, if◌then◌else◌, IsErr, IsErrOf, IfOk, IfErr, IfSome, IfNone, OnOk, List, ℕ};
+ghost use Rattle.std.specs.Prelude.{◌≡◌, ◌↔◌, ◌⊎◌, ◌∷◌, ◌++◌, ◌+◌, ◌<◌, ◌≤◌, [], true, false, length, take, drop, slice_index, if◌then◌else◌, IsErr, IsErrOf, IfOk, IfErr, IfSome, IfNone, OnOk, List, ℕ};
 ghost use Rattle.std.specs.Io.KnownBytes.{Consumes, Keeps, IsAtEnd};
 ghost use Rattle.a429_word.specs.Tally.{left_of, has_failed};
 ghost use Rattle.a429_record.specs.Ends.{HasNoEnd};
@@ -64,6 +64,26 @@ impl Lines {
                 return Ok(!line.is_empty());
             }
         }
+    }
+
+    /// The next line, without its line feed, where both were read.
+    #[inline(always)]
+    pub fn whole_line(&self) -> Option<&[u8]>
+        ensures { IfSome result (λ l. HasNoEnd l.now × (length l.now < length (ahead_of self.now))
+            × (ahead_of self.now ≡ (l.now ++ 10 ∷ []) ++ drop (length l.now + 1) (ahead_of self.now))) }
+    {
+        let ahead = &self.buffer[self.at..self.filled];
+        let n = line_end(ahead)?;
+        Some(&ahead[..n])
+    }
+
+    /// Gives a line of this length and its line feed, which were read.
+    #[inline(always)]
+    pub fn pass(&mut self, len: usize)
+        requires { len < length (ahead_of self.old) }
+        ensures { ahead_of self.new ≡ drop (len + 1) (ahead_of self.old) }
+    {
+        self.at += len + 1;
     }
 
     // Gives what was read of the line, and answers whether the line ends there.

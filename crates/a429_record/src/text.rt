@@ -1,13 +1,13 @@
 //! The text form of a recording, read entry by entry.
 
-ghost use Rattle.std.specs.Prelude.{◌≡◌, ◌≢◌, ◌↔◌, ◌∷◌, ◌<◌, ◌≤◌, [], false, true, IsErrOf, IfOk, IfErr, IfSome, OnOk, Some, List};
+ghost use Rattle.std.specs.Prelude.{◌≡◌, ◌≢◌, ◌↔◌, ◌∷◌, ◌<◌, ◌≤◌, [], false, true, IsErrOf, IfOk, IfErr, IfSome, IfNone, OnOk, Some, List};
 ghost use Rattle.a429_word.specs.Tally.{has_failed};
 ghost use Rattle.a429_record.specs.Row.{Row, entry_in};
 ghost use Rattle.a429_record.specs.Recording.{told, most_entries};
 
 use crate::entry::Entry;
 use crate::fault::ReadFault;
-use crate::line::{LineEntry, LineRow, entry_in_line, row_in_line};
+use crate::line::{LineEntry, LineRow, entry_in_line, plain_entry, row_in_line};
 use crate::lines::Lines;
 use crate::row::is_header_row;
 use a429_word::Tally;
@@ -31,6 +31,7 @@ pub struct TextReader {
 
 impl TextReader {
     ghost use Rattle.a429_record.specs.Pending.{ahead_of, room_of};
+    ghost use Rattle.a429_record.specs.Line.{GivesEntry};
     ghost use Rattle.a429_record.specs.Left.{rows_left, left_of, TakesHeader, Tells, Follows};
     ghost use Rattle.a429_record.specs.declared.fault.ReadFault.TheVariants as fault;
 
@@ -85,6 +86,9 @@ impl TextReader {
         ensures room { IfOk result (λ o. IfSome o (λ _. room_of self.new.lines rec.new < room_of self.old.lines rec.old)) }
         ensures device { IsErrOf result fault.Device ↔ (has_failed rec.new ≡ true) }
     {
+        if let Some(entry) = self.plain_entry() {
+            return self.take_row(Some(entry));
+        }
         'lines: loop {
             match self.lines.next_line(rec, &mut self.line) {
                 Ok(true) => {}
@@ -98,6 +102,21 @@ impl TextReader {
                 Err(fault) => return Err(fault),
             }
         }
+    }
+
+    // The entry of the next line, where all of the line was read and it is plain. The line is given then.
+    #[inline(always)]
+    fn plain_entry(&mut self) -> Option<Entry>
+        ensures some { IfSome result (λ e. GivesEntry (ahead_of self.old.lines) (ahead_of self.new.lines) e) }
+        ensures none { IfNone result (self.new ≡ self.old) }
+        ensures count { self.new.count ≡ self.old.count }
+        ensures last { self.new.last ≡ self.old.last }
+    {
+        let line = self.lines.whole_line()?;
+        let entry = plain_entry(line)?;
+        let len = line.len();
+        self.lines.pass(len);
+        Some(entry)
     }
 
     // Takes a row for the next entry, which it may not be.

@@ -1,24 +1,23 @@
-//! Recordings, written whole.
+//! Recordings, written whole, and their lines.
 
-ghost use Rattle.std.specs.Prelude.{◌≡◌, ◌↔◌, true, Some, codes, map, IsErrOf, IfOk, IfErr, OnOk};
+ghost use Rattle.std.specs.Prelude.{◌≡◌, ◌↔◌, ◌++◌, ◌∷◌, [], ℕ, List, true, codes, IsErr, IsErrOf, OnOk};
+ghost use Rattle.std.specs.Fmt.{decimal};
 ghost use Rattle.std.specs.Io.KnownBytes.{Appends};
-ghost use Rattle.csv.specs.Writing.{text_written, row_text, default_writer};
 ghost use Rattle.a429_word.specs.Tally.{inner_of, has_failed};
-ghost use Rattle.a429_record.specs.Written.{line_text, written_form, IsBetween};
+ghost use Rattle.a429_word.specs.Page.{paged};
+ghost use Rattle.a429_word.specs.Written.{bus_text, hex_text};
+ghost use Rattle.a429_record.specs.Written.{header_text, line_text, entry_text, written_form};
 ghost use Rattle.a429_record.specs.Recording.{IsRecordable};
 ghost use Rattle.a429_record.specs.declared.fault.WriteFault.TheVariants as fault;
 
 use crate::entry::Entry;
 use crate::fault::WriteFault;
-use a429_word::{Device, Failing, Tally};
-use csv::Writer;
-use itoa::Buffer;
+use a429_word::{Bus, Device, Failing, Page, Tally, Word};
 use std::alloc::Global;
 use std::io::Write;
 
 /// Writes entries, at most 1,000,000 whose times never fall, as a text recording: the header, and a
-/// line for each. The text is made whole first, so that nothing is written for want of memory.
-/// After `Device` a front of it has been written.
+/// line for each. Nothing is written for want of memory. After `Device` a front of it has been written.
 pub fn write_entries<W: Write>(
     alloc: Global,
     out: &mut Tally<W>,
@@ -27,58 +26,78 @@ pub fn write_entries<W: Write>(
     requires { IsRecordable entries.now }
     ensures ok { OnOk result (Appends (W.contents (inner_of out.old)) (W.contents (inner_of out.new)) (written_form entries.now)) }
     ensures device { IsErrOf result fault.Device ↔ (has_failed out.new ≡ true) }
+    ensures memory { IsErrOf result fault.OutOfMemory → out.new ≡ out.old }
 {
     if out.failed() {
         return Err(WriteFault::Device);
     }
-    let text = text_of(alloc, entries)?;
-    match out.put(text.as_slice()) {
+    let Ok(page) = Page::new(alloc) else {
+        return Err(WriteFault::OutOfMemory);
+    };
+    match put_entries(page, out, entries) {
         Ok(()) => Ok(()),
         Err(Device) => Err(WriteFault::Device),
     }
 }
 
-// The text of entries.
-fn text_of(alloc: Global, entries: &[Entry]) -> Result<Vec<u8>, WriteFault>
-    ensures ok { IfOk result (λ text. text.items ≡ written_form entries.now) }
-    ensures err { IfErr result (λ f. f ≡ fault.OutOfMemory) }
+// Writes entries by an empty page.
+fn put_entries<W: Write>(page: Page, out: &mut Tally<W>, entries: &[Entry]) -> Result<(), Device>
+    requires { page ≡ [] }
+    ensures ok { OnOk result (Appends (W.contents (inner_of out.old)) (W.contents (inner_of out.new)) (written_form entries.now)) }
+    ensures device { IsErr result ↔ (has_failed out.new ≡ true) }
 {
-    let mut writer = Writer::from_writer(Vec::new(alloc));
-    put_row(&mut writer, &[b"time", b"bus", b"word"])?;
+    let mut page = page;
+    put_header(&mut page, out)?;
     for entry in entries {
-        put_entry(&mut writer, *entry)?;
+        put_line(&mut page, out, *entry)?;
     }
-    match writer.into_inner() {
-        Ok(text) => Ok(text),
-        Err(_) => Err(WriteFault::OutOfMemory),
-    }
+    page.finish(out)
 }
 
-// Writes the line of an entry.
-fn put_entry(writer: &mut Writer<Vec<u8>>, entry: Entry) -> Result<(), WriteFault>
-    requires { IsBetween writer.old }
-    ensures ok { OnOk result (Appends (text_written (λ v. Some v.items) writer.old) (text_written (λ v. Some v.items) writer.new) (line_text entry)) }
-    ensures between { OnOk result (IsBetween writer.new) }
-    ensures err { IfErr result (λ f. f ≡ fault.OutOfMemory) }
+/// Puts the header of a recording on a page.
+pub fn put_header<W: Write>(page: &mut Page, out: &mut Tally<W>) -> Result<(), Device>
+    ensures ok { OnOk result (Appends (paged W.contents out.old page.old) (paged W.contents out.new page.new) header_text) }
+    ensures device { IsErr result → has_failed out.new ≡ true }
 {
-    let mut buffer = Buffer::new();
-    let time = buffer.format(entry.time).as_bytes();
-    let bus = entry.bus.letter().as_bytes();
-    let hex = entry.word.hex();
-    put_row(writer, &[time, bus, &hex])
+    page.put(out, b"time,bus,word\n")
 }
 
-// Writes a record of these fields.
-fn put_row(writer: &mut Writer<Vec<u8>>, fields: &[&[u8]]) -> Result<(), WriteFault>
-    requires { IsBetween writer.old }
-    ensures ok { OnOk result (Appends (text_written (λ v. Some v.items) writer.old) (text_written (λ v. Some v.items) writer.new) (row_text default_writer (map (λ f. f.now) fields.now))) }
-    ensures between { OnOk result (IsBetween writer.new) }
-    ensures err { IfErr result (λ f. f ≡ fault.OutOfMemory) }
+/// Puts the line of an entry on a page.
+pub fn put_line<W: Write>(page: &mut Page, out: &mut Tally<W>, entry: Entry) -> Result<(), Device>
+    ensures ok { OnOk result (Appends (paged W.contents out.old page.old) (paged W.contents out.new page.new) (line_text entry)) }
+    ensures device { IsErr result → has_failed out.new ≡ true }
 {
-    match writer.write_fields(fields) {
-        Ok(()) => Ok(()),
-        Err(_) => Err(WriteFault::OutOfMemory),
-    }
+    put_parts(page, out, entry, b',', b'\n')
+}
+
+/// Puts the time, the bus and the word of an entry on a page, with one byte between them and one behind
+/// them.
+#[inline(always)]
+pub fn put_parts<W: Write>(
+    page: &mut Page,
+    out: &mut Tally<W>,
+    entry: Entry,
+    between: u8,
+    behind: u8,
+) -> Result<(), Device>
+    ensures ok { OnOk result (Appends (paged W.contents out.old page.old) (paged W.contents out.new page.new) (entry_text between behind entry)) }
+    ensures device { IsErr result → has_failed out.new ≡ true }
+{
+    page.put_number(out, entry.time)?;
+    page.put(out, &bus_and_word(entry.bus, entry.word, between, behind))
+}
+
+// A bus and a word, one byte before each and one behind them.
+#[inline(always)]
+fn bus_and_word(bus: Bus, word: Word, before: u8, behind: u8) -> [u8; 12]
+    ensures { result ≡ before ∷ (bus_text bus ++ (before ∷ (hex_text word ++ behind ∷ []))) }
+{
+    let letter = bus.letter().as_bytes()[0];
+    let hex = word.hex();
+    [
+        before, letter, before, hex[0], hex[1], hex[2], hex[3], hex[4], hex[5], hex[6], hex[7],
+        behind,
+    ]
 }
 
 #[cfg(test)]

@@ -13,3 +13,4 @@ pub mod Halves
 pub mod Fraction
 pub mod OneSpelling
 pub mod Slices
+pub mod Pages

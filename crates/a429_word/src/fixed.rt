@@ -1,15 +1,17 @@
 //! Fractions, and how they are written.
 
-ghost use Rattle.std.specs.Prelude.{◌≡◌, ◌≢◌, ◌↔◌, ◌⊎◌, ◌+◌, ◌*◌, ◌-◌, ◌/◌, ◌%◌, ◌^◌, ◌≤◌, ℕ, List, [], true, IsErr, OnOk, OnErr, pos, ◌*ℤ◌};
+ghost use Rattle.std.specs.Prelude.{◌≡◌, ◌≢◌, ◌↔◌, ◌⊎◌, ◌+◌, ◌*◌, ◌-◌, ◌/◌, ◌%◌, ◌^◌, ◌≤◌, ◌++◌, ℕ, List, [], true, IsErr, OnOk, OnErr, pos, ◌*ℤ◌};
 ghost use Rattle.std.specs.Io.KnownBytes.{Appends};
 ghost use Rattle.a429_word.specs.Tally.{inner_of, left_of, has_failed, AppendsPrefix};
 ghost use Rattle.a429_word.specs.Fixed.{Spells};
+ghost use Rattle.a429_word.specs.Page.{paged};
 
 mod division;
 mod text;
 
 use crate::fixed::division::{divided, power_of_five};
 use crate::fixed::text::Text;
+use crate::page::Page;
 use crate::tally::{Device, Tally};
 use std::io::Write;
 
@@ -52,6 +54,22 @@ impl Fixed {
         let mut text = Text::new();
         self.put_into(&mut text);
         out.put(text.as_slice())
+    }
+
+    /// Puts the same text on a page of output. After `Device` a front of what was on the page and of this
+    /// text has been written.
+    pub fn put_on<W: Write>(&self, page: &mut Page, out: &mut Tally<W>) -> Result<(), Device>
+        requires { self.now.decimals ≤ 24 }
+        ensures ok { OnOk result ((text : List ℕ) × Spells text self.now.number self.now.decimals
+            × Appends (paged W.contents out.old page.old) (paged W.contents out.new page.new) text) }
+        ensures err { OnErr result ((text : List ℕ) × Spells text self.now.number self.now.decimals
+            × AppendsPrefix (W.contents (inner_of out.old)) (W.contents (inner_of out.new)) (page.old ++ text)) }
+        ensures device { IsErr result → has_failed out.new ≡ true }
+        ensures works { OnOk result (has_failed out.new ≡ has_failed out.old) }
+    {
+        let mut text = Text::new();
+        self.put_into(&mut text);
+        page.put(out, text.as_slice())
     }
 
     // Puts the text together from its end.

@@ -6,11 +6,13 @@ mod bnr;
 mod bus;
 mod fixed;
 pub mod laws;
+mod page;
 mod tally;
 mod word;
 
 pub use crate::bcd::BadDigit;
 pub use crate::bus::Bus;
 pub use crate::fixed::Fixed;
+pub use crate::page::Page;
 pub use crate::tally::{Device, Failing, Tally};
 pub use crate::word::{Word, octal};

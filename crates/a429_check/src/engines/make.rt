@@ -1,19 +1,20 @@
 //! `a429 make PROFILE FILE..`: the recording of a transfer of files without loss.
 
-ghost use Rattle.std.specs.Prelude.{◌≡◌, ◌≢◌, ℕ, List, map, true, IfOk, IfErr, OnOk, ◌≤◌, length};
+ghost use Rattle.std.specs.Prelude.{◌≡◌, ◌≢◌, ◌↔◌, [], ℕ, List, map, true, IsErr, IfOk, IfErr, OnOk, ◌≤◌, length};
 ghost use Rattle.std.specs.Io.KnownBytes.{Appends};
 ghost use Rattle.a429_word.specs.Tally.{inner_of, has_failed};
 ghost use Rattle.a429_profile.specs.Contents.{IsProfile};
 ghost use Rattle.a429_link.specs.Clean.{first_refused};
-ghost use Rattle.a429_record.specs.Recording.{IsRecordable, most_entries};
+ghost use Rattle.a429_record.specs.Recording.{most_entries};
+ghost use Rattle.a429_record.specs.Written.{written_form};
 ghost use Rattle.a429_check.specs.Made.{timed, words_made, Makes, IsMakeFault};
 
 use crate::engines::profile::profile_of;
 use crate::fault::RunFault;
 use a429_link::{CleanFault, Seen, clean_run};
-use a429_record::{Entry, ReadFault, WriteFault, write_entries};
-use a429_word::Tally;
-use std::alloc::{AllocError, Global};
+use a429_record::{Entry, ReadFault, put_header, put_line};
+use a429_word::{Device, Page, Tally};
+use std::alloc::Global;
 use std::io::Write;
 
 // How many entries a recording may have.
@@ -48,29 +49,29 @@ pub fn run_make<W: Write>(
     if words.len() > MOST_ENTRIES {
         return Err(RunFault::Read(ReadFault::TooMany));
     }
-    let entries = timed(alloc, words.as_slice())?;
-    match write_entries(alloc, out, entries.as_slice()) {
-        Ok(()) => Ok(0),
-        Err(WriteFault::Device) => Err(RunFault::Device),
-        Err(WriteFault::OutOfMemory) => Err(RunFault::Memory),
-    }
+    let page = Page::new(alloc)?;
+    put_timed(page, out, words.as_slice())?;
+    Ok(0)
 }
 
-// Words as entries, a thousandth of a second apart.
-fn timed(alloc: Global, words: &[Seen]) -> Result<Vec<Entry>, AllocError>
-    requires { length words.now ≤ most_entries }
-    ensures entries { IfOk result (λ v. v.items ≡ timed 0 words.now) }
-    ensures recordable { IfOk result (λ v. IsRecordable v.items) }
+// The recording of words, a thousandth of a second apart, by an empty page.
+fn put_timed<W: Write>(page: Page, out: &mut Tally<W>, words: &[Seen]) -> Result<(), Device>
+    requires empty { page ≡ [] }
+    requires most { length words.now ≤ most_entries }
+    ensures ok { OnOk result (Appends (W.contents (inner_of out.old)) (W.contents (inner_of out.new)) (written_form (timed 0 words.now))) }
+    ensures device { IsErr result ↔ (has_failed out.new ≡ true) }
 {
-    let mut entries = Vec::with_capacity(alloc, words.len())?;
+    let mut page = page;
+    put_header(&mut page, out)?;
     for (i, seen) in words.iter().enumerate() {
-        entries.push(Entry {
+        let entry = Entry {
             time: 1000 * i as u64,
             bus: seen.bus,
             word: seen.word,
-        })?;
+        };
+        put_line(&mut page, out, entry)?;
     }
-    Ok(entries)
+    page.finish(out)
 }
 
 #[cfg(test)]

@@ -75,7 +75,7 @@ fn no_entries(rt: HostRuntime) -> Result<(), Fail> {
 #[test]
 fn writers_that_fail(rt: HostRuntime) {
     let entries = [entry(0, Bus::A, 0x4141_0323)];
-    for room in 0..30 {
+    for room in [0, 13, 14, 26, 27, 29] {
         let mut out = Tally::new(Narrow { room }, 0);
         let written = write_entries(rt.alloc(), &mut out, &entries);
         if room < 27 {

@@ -1,11 +1,13 @@
-use Rattle.std.proofs.Common.{[], refl, rules}
-use Rattle.std.proofs.KnownBytes.{Appends-trans}
+use Rattle.std.proofs.Common.{[], refl}
+use Rattle.std.proofs.KnownBytes.{Appends-trans, Appends-kept}
 use Rattle.std.proofs.lemmas.List.{take_all}
+use Rattle.std.proofs.lemmas.Result.{on_ok_weaker}
+use Rattle.a429_word.proofs.Pages.{Appends-empty}
 use Rattle.a429_check.proofs.Shows.{AreShowLines-next}
 use Rattle.a429_check.proofs.engines.show.put_entries.Goals as goal
 
 pub loop-entry-init : goal.loop-entry-init
-loop-entry-init g c = ([], refl, search rules)
+loop-entry-init g c = ([], refl, Appends-empty _ c.args.page c.requires)
 
 pub loop-entry-preserved : goal.loop-entry-preserved
 loop-entry-preserved g c =
@@ -17,4 +19,6 @@ loop-entry-preserved g c =
     )
 
 pub returns-clause-ok : goal.returns-clause-ok
-returns-clause-ok g c = rw (take_all c.loop-entry.entry-index c.args.entries.now c.loop-entry-test.false) at c.loop-entry.invariant
+returns-clause-ok g c =
+    let all = rw (take_all c.loop-entry.entry-index c.args.entries.now c.loop-entry-test.false) at c.loop-entry.invariant in
+    on_ok_weaker c.finish.result (λ kept. (all.0, all.1, Appends-kept _ _ _ _ all.2 kept)) c.finish.ensures.ok

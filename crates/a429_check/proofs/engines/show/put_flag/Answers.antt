@@ -1,6 +1,6 @@
 use Rattle.std.proofs.Common.{◌≡◌, ◌∙◌, ◌-◌, ◌++◌, codes, arith, subst}
 use Rattle.std.specs.Io.KnownBytes.{Appends}
-use Rattle.a429_word.specs.Tally.{inner_of}
+use Rattle.a429_word.specs.Page.{paged}
 use Rattle.std.proofs.KnownBytes.{Appends-trans}
 use Rattle.std.proofs.lemmas.Nat.Bits.{shr_and_one, bit_at-lt}
 use Rattle.std.proofs.lemmas.Result.{on_ok_weaker}
@@ -21,6 +21,6 @@ returns-clause-ok g c =
       | else-is_set w ↦ rw w.put-is (flag_text-is c.args.field 0 flag (omega (arith, bit, low, w.if-is_set.false)) (omega arith))
     ] in
     on_ok_weaker c.put-3.result
-    (λ last. subst (λ t. Appends (g.W.Write.contents (inner_of c.args.out.now)) (g.W.Write.contents (inner_of c.put-3.new.self)) t) text
+    (λ last. subst (λ t. Appends (paged g.W.Write.contents c.args.out.now c.args.page.now) (paged g.W.Write.contents c.put-3.new.out c.put-3.new.self) t) text
     (Appends-trans _ _ _ _ _ (Appends-trans _ _ _ _ _ c.in_ok-put.ensures.ok named) last))
     c.put-3.ensures.ok

@@ -1,5 +1,5 @@
 use Rattle.std.proofs.KnownBytes.{Appends-trans}
-use Rattle.a429_check.proofs.Shows.{flat_map-more}
+use Rattle.a429_record.proofs.FlatMaps.{flat_map-more}
 use Rattle.a429_check.specs.ShowLines.{flag_text}
 use Rattle.a429_check.proofs.engines.show.put_flags.Goals as goal
 

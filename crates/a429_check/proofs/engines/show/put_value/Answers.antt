@@ -7,7 +7,7 @@ pub returns-clause-ok : goal.returns-clause-ok
 returns-clause-ok g c =
     let named = rw (c.as_bytes.ensures.value ∙ c.as_str.ensures) at c.in_ok-put.ensures.ok in
     let unit = rw c.as_str-2.ensures at c.in_ok-put_unit.ensures.ok in
-    let digits = c.in_ok-write_text.ensures.ok in
+    let digits = c.in_ok-put_on.ensures.ok in
     on_ok_weaker c.put_test.result
     (λ last. (digits.0, digits.1, Appends-trans _ _ _ _ _ (Appends-trans _ _ _ _ _ (Appends-trans _ _ _ _ _ (Appends-trans _ _ _ _ _ named c.in_ok-put-2.ensures.ok) digits.2) unit) last))
     c.put_test.ensures.ok

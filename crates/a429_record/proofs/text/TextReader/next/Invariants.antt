@@ -7,10 +7,10 @@ use Rattle.a429_record.proofs.text.TextReader.next.Given as goal
 
 abbrev pub invariant-lines : goal.invariant-lines
 invariant-lines g l = record {
-  rows : AreRows (rows_left g.R.Read.remaining l.initial.self l.initial.rec) (pending_of g.R.Read.remaining l.self.lines l.rec);
-  count : l.self.count ≡ l.initial.self.count;
-  last : l.self.last ≡ l.initial.self.last;
-  room : room_of l.self.lines l.rec ≤ room_of l.initial.self.lines l.initial.rec;
+  rows : AreRows (rows_left g.R.Read.remaining l.fn.self l.initial.rec) (pending_of g.R.Read.remaining l.self.lines l.rec);
+  count : l.self.count ≡ l.fn.self.count;
+  last : l.self.last ≡ l.fn.self.last;
+  room : room_of l.self.lines l.rec ≤ room_of l.fn.self.lines l.initial.rec;
   works : has_failed l.rec ≡ false;
 }
 
