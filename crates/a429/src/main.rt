@@ -6,7 +6,7 @@ use a429_check::{
     run_show, run_verify, run_word,
 };
 use a429_link::FileBytes;
-use a429_word::Tally;
+use a429_word::{Failing, Tally};
 use std::alloc::Global;
 use std::io::{BufWriter, ErrorKind, Write};
 use std::process::ExitCode;
@@ -128,14 +128,20 @@ fn extract<W: Write>(
     let mut cert = opened(rt, certificate, CERTIFICATE_CAP)?;
     let mut files = Vec::new(alloc);
     let mut verdict = Vec::new(alloc);
-    let status = run_extract(
+    let mut told = Tally::new(&mut verdict, 0);
+    let answered = run_extract(
         alloc,
         profile.as_slice(),
         &mut rec,
         &mut cert,
         &mut files,
-        &mut Tally::new(&mut verdict, 0),
-    )?;
+        &mut told,
+    );
+    // The verdict is kept in memory, so that is what its writer wants where it fails.
+    if told.failed() {
+        return Err(RunFault::Memory);
+    }
+    let status = answered?;
     // A yes is told only where its files are there.
     write_files(rt, alloc, folder, files.as_slice())?;
     out.put(verdict.as_slice())?;
