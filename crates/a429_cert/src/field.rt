@@ -96,7 +96,6 @@ pub fn number_of(text: &[u8]) -> Option<(u8, &[u8])>
 }
 
 /// The decimal number in the next field, and what stands behind it.
-#[inline(always)]
 pub fn number_at(text: &[u8]) -> Option<(u8, &[u8])>
     ensures { option_map (λ x. (x.0, x.1.now)) result ≡ with_rest number_in text.now }
 {

@@ -133,7 +133,6 @@ fn no_step(fault: StepFault, n: usize, i: usize) -> CertFault
 }
 
 // Whether the source could load a link data unit.
-#[inline(never)]
 fn load(link: &mut Link<'_>, unit: Ldu) -> bool
     requires { LoadsLdu link.old.profile (step.Load unit) }
     ensures yes { result ≡ true → Makes link.old.profile (Some (step.Load unit)) link.old.state link.new.state }
@@ -196,7 +195,6 @@ fn may_record(link: &mut Link<'_>, act: Act) -> bool
 
 // Whether there is a step of this name. With its own word, which is on the other bus, it can't be made,
 // so the link stays as it is.
-#[inline(never)]
 fn is_named(link: &mut Link<'_>, step: Step) -> bool
     requires loads { LoadsLdu link.old.profile step }
     requires other { Can link.old.profile step link.old.state → ⊥ }

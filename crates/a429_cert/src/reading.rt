@@ -20,8 +20,6 @@ const MOST_WORDS: usize = 253;
 
 /// Reads a line of a certificate, which comes without its line feed: the one line whose spelling the
 /// bytes are, and `None` where they spell no line. Only the words of a link data unit take memory.
-// A step is handed on in registers where this is inlined.
-#[inline(always)]
 pub fn read_line(alloc: Global, line: &[u8]) -> Result<Option<CertLine>, OutOfMemory>
     ensures ok { IfOk result (λ read. Reads line.now read) }
     ensures err { OnErr result (take 1 line.now ≡ codes "L") }
@@ -30,7 +28,6 @@ pub fn read_line(alloc: Global, line: &[u8]) -> Result<Option<CertLine>, OutOfMe
 }
 
 // A line, by its first letter.
-#[inline(always)]
 #[tactic(auto, unfolding(crate::specs::Reading::line_in))]
 fn line_of(alloc: Global, line: &[u8]) -> Result<Option<CertLine>, OutOfMemory>
     ensures ok { IfOk result (λ read. read ≡ line_in line.now) }
@@ -45,7 +42,6 @@ fn line_of(alloc: Global, line: &[u8]) -> Result<Option<CertLine>, OutOfMemory>
 }
 
 // The number of the first file.
-#[inline(never)]
 #[tactic(auto, unfolding(crate::specs::Reading::first_in))]
 fn first_of(line: &[u8]) -> Option<CertLine>
     ensures { result ≡ first_in line.now }
@@ -60,7 +56,6 @@ fn first_of(line: &[u8]) -> Option<CertLine>
 }
 
 // A link data unit, behind its letter.
-#[inline(never)]
 #[tactic(auto, unfolding(crate::specs::Reading::load_in))]
 fn load_of(alloc: Global, text: &[u8]) -> Result<Option<CertLine>, OutOfMemory>
     ensures { IfOk result (λ read. read ≡ load_in text.now) }
@@ -119,7 +114,6 @@ fn words_at(alloc: Global, count: usize, text: &[u8]) -> Result<Option<Words>, O
 }
 
 // A step, by its letter, and what it leaves.
-#[inline(always)]
 #[tactic(auto, unfolding(crate::specs::Reading::moved_in))]
 fn moved_of(letter: u8, text: &[u8]) -> Option<CertLine>
     ensures { result ≡ moved_in letter text.now }

@@ -26,7 +26,6 @@ pub fn act_of(letter: u8) -> Option<Act>
 }
 
 // The source's state, and what stands behind it.
-#[inline(always)]
 fn source_of(field: &[u8]) -> Option<(SourceState, &[u8])>
     ensures { option_map (λ x. (x.0, x.1.now)) result ≡ source_in field.now }
 {
@@ -52,7 +51,6 @@ fn sending_of(count: &[u8]) -> Option<(SourceState, &[u8])>
 }
 
 // The sink's state, and what stands behind it.
-#[inline(always)]
 fn sink_of(field: &[u8]) -> Option<(SinkState, &[u8])>
     ensures { option_map (λ x. (x.0, x.1.now)) result ≡ sink_in field.now }
 {
@@ -80,7 +78,6 @@ fn block_of(count: &[u8]) -> Option<(SinkState, &[u8])>
 }
 
 /// The source's state in the next field, and what stands behind it.
-#[inline(always)]
 pub fn source_at(text: &[u8]) -> Option<(SourceState, &[u8])>
     ensures { option_map (λ x. (x.0, x.1.now)) result ≡ with_rest source_in text.now }
 {
@@ -88,7 +85,6 @@ pub fn source_at(text: &[u8]) -> Option<(SourceState, &[u8])>
 }
 
 /// The sink's state in the next field, and what stands behind it.
-#[inline(always)]
 pub fn sink_at(text: &[u8]) -> Option<(SinkState, &[u8])>
     ensures { option_map (λ x. (x.0, x.1.now)) result ≡ with_rest sink_in text.now }
 {
