@@ -15,7 +15,7 @@ use Rattle.a429_link.specs.Clean.{on_a, on_b, next_file, next_ldu, clean, AllFit
 use Rattle.a429_link.specs.Link.{LinkValue}
 use Rattle.a429_link.specs.Run.{IsRun, end_of}
 use Rattle.a429_link.specs.Step.{State, Can, after, start}
-use Rattle.a429_link.proofs.CleanRuns.{clean_is_run}
+use Rattle.a429_link.proofs.CleanRuns.{clean_is_run, run_split}
 use Rattle.a429_record.specs.declared.entry.Entry.{Entry}
 use Rattle.a429_cert.specs.Explained.{seen_of, items_of}
 use Rattle.a429_explain.specs.declared.attempts.Numbers.{Numbers}
@@ -85,10 +85,6 @@ pub record OnPlan (p : Contents) (items : List Seen) (units : List LduValue) (lo
   groups : List (List Step)
   run : IsRun p (weave p.codes items groups) l.state
   planned : Planned p.codes (thin p.codes items) groups units loaded
-
-run_split : (p : Contents) (xs ys : List Step) (s : State) → IsRun p (xs ++ ys) s → IsRun p xs s × IsRun p ys (end_of p xs s)
-run_split p [] ys s h = (tt, h)
-run_split p (x ∷ xs) ys s h = let more = run_split p xs ys (after p x s) h.1 in ((h.0, more.0), more.1)
 
 -- the next word is told by its steps, and the plan goes on behind them
 pub record Goes (p : Contents) (i : Seen) (items : List Seen) (r : Role) (units : List LduValue) (loaded : Bool) (l : LinkValue) : Type 0 where

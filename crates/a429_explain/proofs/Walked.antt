@@ -20,6 +20,7 @@ use Rattle.a429_explain.specs.declared.verdict.Doubt.TheVariants.{NotOneBlock}
 use Rattle.a429_explain.specs.Said.{said_at}
 use Rattle.a429_explain.specs.Doubt.{IsDoubtOf, IsDoubtAt}
 use Rattle.a429_explain.specs.Matching.{IsOfBlock}
+use Rattle.a429_explain.proofs.Matched.{length-items_of}
 use Rattle.a429_explain.specs.Walk.{AreAllowed, IsRequest, Fits, FitsAt}
 
 abbrev pub seen_at : List Entry → ℕ → Entry → Seen
@@ -125,12 +126,8 @@ formed_from p [] o h n = n
 formed_from p (i ∷ items) o h (inl e) = not_allowed p o i e (h 0 (omega arith))
 formed_from p (i ∷ items) o h (inr n) = formed_from p items (sees p i o) (λ k l. h (suc k) (omega arith)) n
 
-length-items : (es : List Entry) → length (items_of es) ≡ length es
-length-items [] = refl
-length-items (e ∷ es) = ap suc (length-items es)
-
 pub formed : (p : Contents) (es : List Entry) → AreAllowed p (items_of es) (length es) → HasNoForm p.codes (items_of es) → ⊥
-formed p es h = formed_from p (items_of es) at_first (λ k l. h k (subst (λ (n : ℕ). k < n) (length-items es) l))
+formed p es h = formed_from p (items_of es) at_first (λ k l. h k (subst (λ (n : ℕ). k < n) (length-items_of es) l))
 
 -- a word of a block can be doubted
 pub block_doubt : (c : Codes) (es : List Entry) (n : ℕ) (e : Entry) → n < length es → e ≡ get_or es n e → IsOfBlock (form_of c e.bus e.word) → IsDoubtAt c (items_of es) n NotOneBlock

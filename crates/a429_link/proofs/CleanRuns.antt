@@ -332,7 +332,7 @@ none_left : (gs : List (List Step)) → Records gs [] → gs ≡ []
 none_left [] h = refl
 none_left (g ∷ gs) h = absurd h
 
-run_split : (p : Contents) (xs ys : List Step) (s : State) → IsRun p (xs ++ ys) s → IsRun p xs s × IsRun p ys (end_of p xs s)
+pub run_split : (p : Contents) (xs ys : List Step) (s : State) → IsRun p (xs ++ ys) s → IsRun p xs s × IsRun p ys (end_of p xs s)
 run_split p [] ys s h = (tt, h)
 run_split p (x ∷ xs) ys s h = let more = run_split p xs ys (after p x s) h.1 in ((h.0, more.0), more.1)
 
