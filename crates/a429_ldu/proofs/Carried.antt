@@ -107,6 +107,32 @@ digit-high bs low l d e hl hd =
     append-nil (semis_of_bytes (bs ++ n ∷ [])) ∙ semis-append bs (n ∷ []) ∙ ap (λ m. semis_of_bytes bs ++ m ∷ n / 16 ∷ []) (byte_low n l d hl sum) ∙ ap (λ m. semis_of_bytes bs ++ l ∷ m ∷ []) (byte_high n l d hl sum)
     ∙ sym (append_assoc (semis_of_bytes bs) (l ∷ []) (d ∷ [])) ∙ sym (ap (λ o. (semis_of_bytes bs ++ option_to_list o) ++ d ∷ []) e)
 
+-- a full word's two bytes, and the semi-octet that waits
+pub full_first : (bs : List ℕ) (low : Option ℕ) (l m u : ℕ) → low ≡ None → semis_of_bytes (bs ++ l ∷ m ∷ []) ++ u ∷ [] ≡ (semis_of_bytes bs ++ option_to_list low) ++ l % 16 ∷ l / 16 ∷ m % 16 ∷ m / 16 ∷ u ∷ []
+full_first bs low l m u e =
+    let five = l % 16 ∷ l / 16 ∷ m % 16 ∷ m / 16 ∷ u ∷ [] in
+    ap (λ ss. ss ++ u ∷ []) (semis-append bs (l ∷ m ∷ [])) ∙ append_assoc (semis_of_bytes bs) (semis_of_bytes (l ∷ m ∷ [])) (u ∷ [])
+    ∙ ap (λ ss. ss ++ five) (sym (append-nil (semis_of_bytes bs))) ∙ sym (ap (λ o. (semis_of_bytes bs ++ option_to_list o) ++ five) e)
+
+low_shifted : (d : ℕ) → d * 16 % 256 ≡ d % 16 * 2 ^ 4
+low_shifted d = omega arith
+
+-- the low semi-octet of a byte above another semi-octet
+raised : (l d : ℕ) → l < 16 → bit_or (d * 16 % 256) l ≡ d % 16 * 16 + l
+raised l d hl = rw (low_shifted d) (or_shifted (d % 16) 4 l hl)
+
+-- the semi-octet that has waited and a full word's five, in three bytes
+pub full_joined : (bs : List ℕ) (low : Option ℕ) (w l m u : ℕ) → low ≡ Some w → w < 16 → l < 256 → m < 256 → u < 16 →
+    semis_of_bytes (bs ++ bit_or (l * 16 % 256) w ∷ bit_or (m * 16 % 256) (l / 16) ∷ bit_or (u * 16 % 256) (m / 16) ∷ []) ++ [] ≡ (semis_of_bytes bs ++ option_to_list low) ++ l % 16 ∷ l / 16 ∷ m % 16 ∷ m / 16 ∷ u ∷ []
+full_joined bs low w l m u e hw hl hm hu =
+    let five = l % 16 ∷ l / 16 ∷ m % 16 ∷ m / 16 ∷ u ∷ [] in
+    let first = raised w l hw in
+    let second = raised (l / 16) m (omega arith) in
+    let third = shifted (m / 16) u (omega arith) hu in
+    append-nil _ ∙ semis-append bs _
+    ∙ ap (λ ss. semis_of_bytes bs ++ ss) (rw (byte_low _ w (l % 16) hw first, byte_high _ w (l % 16) hw first, byte_low _ (l / 16) (m % 16) (omega arith) second, byte_high _ (l / 16) (m % 16) (omega arith) second, byte_low _ (m / 16) u (omega arith) third, byte_high _ (m / 16) u (omega arith) third) refl)
+    ∙ sym (append_assoc (semis_of_bytes bs) (w ∷ []) five) ∙ sym (ap (λ o. (semis_of_bytes bs ++ option_to_list o) ++ five) e)
+
 -- ---- what the code has read, at its end
 
 if_some-from : (bs : List ℕ) → 1 ≤ length bs → if_some (Some bs) ≡ Some bs

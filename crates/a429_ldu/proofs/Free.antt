@@ -46,10 +46,10 @@ none_any n [] h = refl
 none_any n (m ∷ ms) h = or_from (m == n) (list_any (λ m. m == n) ms) (turned n m h.0) (none_any n ms h.1)
 
 -- whether a row's type or code is ignored
-abbrev is_ignored : Codes → Fields → Bool
+abbrev pub is_ignored : Codes → Fields → Bool
 is_ignored c f = list_any (λ n. n == f.kind) c.ignored_types || (f.kind == c.protocol && list_any (λ n. n == f.upper) c.ignored_codes)
 
-type_kept : (c : Codes) (f : Fields) → IsNone f.kind c.ignored_types → nat_eq f.kind c.protocol ≡ false → is_ignored c f ≡ false
+pub type_kept : (c : Codes) (f : Fields) → IsNone f.kind c.ignored_types → nat_eq f.kind c.protocol ≡ false → is_ignored c f ≡ false
 type_kept c f none other = or_from (list_any (λ n. n == f.kind) c.ignored_types) _ (none_any f.kind c.ignored_types none) (and_left (f.kind == c.protocol) _ other)
 
 code_kept : (c : Codes) (f : Fields) → IsNone f.kind c.ignored_types → IsNone f.upper c.ignored_codes → is_ignored c f ≡ false

@@ -13,7 +13,7 @@ use Rattle.a429_ldu.proofs.Distinct.{AreDistinct}
 
 -- ---- a row is told
 
-yes : (n : ℕ) → nat_eq n n ≡ true
+pub yes : (n : ℕ) → nat_eq n n ≡ true
 yes n = eq-eqb n n refl
 
 pub turned : (m n : ℕ) → nat_eq m n ≡ false → nat_eq n m ≡ false

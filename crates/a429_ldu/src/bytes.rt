@@ -1,14 +1,16 @@
 //! The bytes that data words carry.
 
-ghost use Rattle.std.specs.Prelude.{◌≡◌, ◌<◌, ◌++◌, [], ◌∷◌, List, ℕ, Ok, Some, None, IfOk, IfSome, option_map, option_to_list};
+ghost use Rattle.std.specs.Prelude.{◌≡◌, ◌≤◌, ◌<◌, ◌^◌, ◌/◌, ◌%◌, ◌++◌, [], ◌∷◌, List, ℕ, Ok, Some, None, IfOk, IfSome, option_map, option_to_list};
+ghost use Rattle.a429_word.specs.Word.{label_of, HasOddParity};
 ghost use Rattle.a429_word.specs.declared.bus.Bus.TheVariants as bus;
 ghost use Rattle.a429_ldu.specs.Semis.{semis_of_bytes};
-ghost use Rattle.a429_ldu.specs.Form.{form_of};
+ghost use Rattle.a429_ldu.specs.Form.{fields_of, form_of};
 ghost use Rattle.a429_ldu.specs.Carried.{CarryBytes, semis_in, paired, if_some, bytes_carried};
 
+use crate::fields::{Parts, parts_of};
 use crate::forms::Form;
 use crate::semis::Semis;
-use crate::sight::{Sight, seen};
+use crate::sight::{Sight, form, is_addressed};
 use a429_profile::{Codes, Profile};
 use a429_word::{Bus, Word};
 use std::alloc::{AllocError, Global};
@@ -26,22 +28,42 @@ pub fn bytes_of(
     ensures computed { IfOk result (λ found. option_map (λ bytes. bytes.items) found ≡ bytes_carried profile.now.codes words.now) }
 {
     let codes = profile.codes();
-    let mut bytes = Vec::new(alloc);
+    let mut bytes = Vec::with_capacity(alloc, words.len() * 5 / 2)?;
     let mut low = None;
     for word in words {
-        let Some(semis) = semis_of(codes, *word) else {
-            return Ok(None);
-        };
-        low = push_semis(&mut bytes, low, &semis)?;
+        if let Some(parts) = full_parts(codes, *word) {
+            low = push_full(&mut bytes, low, parts)?;
+        } else {
+            let Some(semis) = semis_of(profile, *word) else {
+                return Ok(None);
+            };
+            low = push_semis(&mut bytes, low, &semis)?;
+        }
     }
     Ok(whole(bytes, low))
 }
 
-/// The semi-octets of a data word of bus A; `None` for any other word.
-pub(crate) fn semis_of(codes: &Codes, word: Word) -> Option<Semis>
-    ensures { result ≡ semis_in (form_of codes.now bus.A word) }
+// The numbers in a word, where it is a full data word of bus A.
+fn full_parts(codes: &Codes, word: Word) -> Option<Parts>
+    ensures fields { IfSome result (λ parts. fields_of word ≡ record { kind = codes.now.full; upper = parts.upper; middle = parts.middle; lower = parts.lower }) }
+    ensures upper { IfSome result (λ parts. parts.upper ≤ 15) }
+    ensures label { IfSome result (λ _. label_of word ≡ codes.now.to_sink) }
+    ensures parity { IfSome result (λ _. HasOddParity word) }
+    ensures word { word < 2 ^ 32 }
 {
-    match seen(codes, Bus::A, word) {
+    let parts = parts_of(word);
+    if parts.kind == codes.full && is_addressed(codes, Bus::A, word) {
+        Some(parts)
+    } else {
+        None
+    }
+}
+
+// The semi-octets of a data word of bus A; `None` for any other word.
+fn semis_of(profile: &Profile, word: Word) -> Option<Semis>
+    ensures { result ≡ semis_in (form_of profile.now.codes bus.A word) }
+{
+    match form(profile, Bus::A, word) {
         Sight::Form(form) => semis_in(&form),
         Sight::Free | Sight::NoForm => None,
     }
@@ -53,6 +75,30 @@ fn semis_in(form: &Form) -> Option<Semis>
     match form {
         Form::Part(semis) => Some(*semis),
         _ => None,
+    }
+}
+
+// Makes bytes of the semi-octets of a full word: two, and the last semi-octet waits for the next word's
+// first, or three, where one has waited.
+fn push_full(bytes: &mut Vec<u8>, low: Option<u8>, parts: Parts) -> Result<Option<u8>, AllocError>
+    requires low { IfSome low (λ digit. digit < 16) }
+    requires upper { parts.upper ≤ 15 }
+    ensures bytes { IfOk result (λ rest. semis_of_bytes bytes.new.items ++ option_to_list rest ≡ (semis_of_bytes bytes.old.items ++ option_to_list low) ++ parts.lower % 16 ∷ parts.lower / 16 ∷ parts.middle % 16 ∷ parts.middle / 16 ∷ parts.upper ∷ []) }
+    ensures low { IfOk result (λ rest. IfSome rest (λ digit. digit < 16)) }
+{
+    match low {
+        None => {
+            bytes.extend_from_slice(&[parts.lower, parts.middle])?;
+            Ok(Some(parts.upper))
+        }
+        Some(low) => {
+            bytes.extend_from_slice(&[
+                parts.lower << 4 | low,
+                parts.middle << 4 | parts.lower >> 4,
+                parts.upper << 4 | parts.middle >> 4,
+            ])?;
+            Ok(None)
+        }
     }
 }
 

@@ -1,7 +1,8 @@
 //! Which form the numbers in a transfer word have.
 
-ghost use Rattle.std.specs.Prelude.{◌≡◌, ◌≤◌, ◌+◌, ◌*◌};
+ghost use Rattle.std.specs.Prelude.{◌≡◌, ◌≤◌, ◌+◌, ◌*◌, ◌/◌, ◌%◌, [], ◌∷◌};
 ghost use Rattle.a429_word.specs.declared.bus.Bus.TheVariants as bus;
+ghost use Rattle.a429_ldu.specs.declared.forms.Form.TheVariants.{Part};
 ghost use Rattle.a429_ldu.specs.Form.{partial_on, form_on};
 
 use crate::fields::Parts;
@@ -43,14 +44,7 @@ fn form_on_a(codes: &Codes, parts: Parts) -> Option<Form>
             check: sixteen_bits(parts),
         })
     } else if parts.kind == codes.full {
-        let digits = [
-            parts.lower % 16,
-            parts.lower / 16,
-            parts.middle % 16,
-            parts.middle / 16,
-            parts.upper,
-        ];
-        Some(Form::Part(Semis::kept(digits, 5)))
+        Some(full_form(parts))
     } else if parts.kind == codes.partial {
         partial_form(codes, parts)
     } else {
@@ -77,6 +71,22 @@ fn form_on_b(codes: &Codes, parts: Parts) -> Option<Form>
     } else {
         None
     }
+}
+
+/// The form of a full word: its five semi-octets.
+#[inline]
+pub(crate) fn full_form(parts: Parts) -> Form
+    requires { parts.upper ≤ 15 }
+    ensures { result ≡ Part (parts.lower % 16 ∷ parts.lower / 16 ∷ parts.middle % 16 ∷ parts.middle / 16 ∷ parts.upper ∷ []) }
+{
+    let digits = [
+        parts.lower % 16,
+        parts.lower / 16,
+        parts.middle % 16,
+        parts.middle / 16,
+        parts.upper,
+    ];
+    Form::Part(Semis::kept(digits, 5))
 }
 
 // The form of a partial word: its code tells how many semi-octets it has, and the others are 0.

@@ -1,12 +1,14 @@
 //! What a word says on a bus.
 
-ghost use Rattle.std.specs.Prelude.{◌≡◌, ◌↔◌, IsTrue};
+ghost use Rattle.std.specs.Prelude.{◌≡◌, ◌↔◌, ◌⊎◌, IsTrue, Contains};
+ghost use Rattle.a429_word.specs.Word.{label_of, HasOddParity};
+ghost use Rattle.a429_profile.specs.Contents.{IsProfile};
 ghost use Rattle.a429_ldu.specs.declared.forms.Form.{Form};
-ghost use Rattle.a429_ldu.specs.Form.{address_of, IsFree, IsForm, is_free, form_on, fields_of, sight_of};
+ghost use Rattle.a429_ldu.specs.Form.{address_of, IsFree, IsForm, sight_of};
 
 use crate::fields::{Parts, parts_of};
 use crate::forms::Form;
-use crate::reading::form_on;
+use crate::reading::{form_on, full_form};
 use crate::writing::address;
 use a429_profile::{Codes, Profile};
 use a429_word::{Bus, Word};
@@ -30,15 +32,45 @@ pub fn form(profile: &Profile, bus: Bus, word: Word) -> Sight
     ensures only { (x : Form) → IsForm profile.now.codes bus word x → result ≡ Sight.Form x }
     ensures computed { result ≡ sight_of profile.now.codes bus word }
 {
-    seen(profile.codes(), bus, word)
+    seen(profile, bus, word)
 }
 
-/// The same, of a profile's codes.
-pub(crate) fn seen(codes: &Codes, bus: Bus, word: Word) -> Sight
+// Most words of a recording are full data words. These are told first: no other word has their type,
+// and it is none of those that are ignored.
+fn seen(profile: &Profile, bus: Bus, word: Word) -> Sight
+    ensures sight { result ≡ sight_of profile.now.codes bus word }
+    ensures sound { IsProfile profile.now }
+{
+    let codes = profile.codes();
+    if !is_addressed(codes, bus, word) {
+        return Sight::Free;
+    }
+    let parts = parts_of(word);
+    if parts.kind != codes.full {
+        return other_sight(codes, bus, word);
+    }
+    match bus {
+        Bus::A => Sight::Form(full_form(parts)),
+        Bus::B => Sight::NoForm,
+    }
+}
+
+/// Whether a word has odd parity and the address label of its bus.
+#[inline]
+pub(crate) fn is_addressed(codes: &Codes, bus: Bus, word: Word) -> bool
+    ensures { IsTrue result ↔ (HasOddParity word × (label_of word ≡ address_of codes.now bus)) }
+{
+    word.parity_ok() && word.label() == address(codes, bus)
+}
+
+// What a word says that has odd parity and the address label of its bus.
+#[inline(never)]
+fn other_sight(codes: &Codes, bus: Bus, word: Word) -> Sight
+    requires { HasOddParity word × (label_of word ≡ address_of codes.now bus) }
     ensures { result ≡ sight_of codes.now bus word }
 {
     let parts = parts_of(word);
-    if is_free(codes, bus, word, parts) {
+    if is_ignored(codes, parts) {
         return Sight::Free;
     }
     match form_on(codes, bus, parts) {
@@ -47,13 +79,10 @@ pub(crate) fn seen(codes: &Codes, bus: Bus, word: Word) -> Sight
     }
 }
 
-// Whether the transfer passes over a word with these numbers.
-fn is_free(codes: &Codes, bus: Bus, word: Word, parts: Parts) -> bool
-    requires { fields_of word ≡ record { kind = parts.kind; upper = parts.upper; middle = parts.middle; lower = parts.lower } }
-    ensures { IsTrue result ↔ IsFree codes.now bus word }
+// Whether the profile ignores words with these numbers.
+fn is_ignored(codes: &Codes, parts: Parts) -> bool
+    ensures { IsTrue result ↔ (Contains codes.now.ignored_types parts.kind ⊎ ((parts.kind ≡ codes.now.protocol) × Contains codes.now.ignored_codes parts.upper)) }
 {
-    !word.parity_ok()
-        || word.label() != address(codes, bus)
-        || codes.ignored_types.as_slice().contains(&parts.kind)
+    codes.ignored_types.as_slice().contains(&parts.kind)
         || parts.kind == codes.protocol && codes.ignored_codes.as_slice().contains(&parts.upper)
 }

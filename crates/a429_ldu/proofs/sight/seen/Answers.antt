@@ -1,12 +1,14 @@
-use Rattle.std.proofs.Common.{Some, None, sym, ◌∙◌}
-use Rattle.a429_ldu.proofs.Seen.{seen_free, seen_told}
+use Rattle.std.proofs.Common.{ap, ◌∙◌}
+use Rattle.a429_ldu.specs.declared.sight.Sight.TheVariants as sight
+use Rattle.a429_ldu.proofs.Seen.{seen_full_a, seen_full_b}
 use Rattle.a429_ldu.proofs.sight.seen.Goals as goal
 
-pub returns-then-is_free : goal.returns-then-is_free
-returns-then-is_free c = seen_free c.args.codes.now c.args.bus c.args.word _ c.is_free.result c.parts_of-parts.ensures.word c.parts_of-parts.ensures.fields c.is_free.ensures c.if-is_free.true
+pub returns-in-A-clause-sight : goal.returns-in-A-clause-sight
+returns-in-A-clause-sight c =
+    let parts = c.parts_of-parts.ensures in
+    ap sight.Form c.full_form.ensures ∙ seen_full_a c.args.profile.now c.codes-codes.result.now c.args.bus c.args.word _ (record { profile = c.codes-codes.ensures.sound; codes = c.codes-codes.ensures.codes; addressed = c.is_addressed.ensures.0 c.if-not-is_addressed.false; word = parts.word; fields = parts.fields; kind = c.if-parts-codes.false }) c.in-A.is
 
-pub returns-in-Some : goal.returns-in-Some
-returns-in-Some c = seen_told c.args.codes.now c.args.bus c.args.word _ c.is_free.result (Some c.in-Some.form) c.parts_of-parts.ensures.word c.parts_of-parts.ensures.fields c.is_free.ensures c.if-is_free.false (sym c.in-Some.is ∙ c.form_on.ensures)
-
-pub returns-in-None : goal.returns-in-None
-returns-in-None c = seen_told c.args.codes.now c.args.bus c.args.word _ c.is_free.result None c.parts_of-parts.ensures.word c.parts_of-parts.ensures.fields c.is_free.ensures c.if-is_free.false (sym c.in-None.is ∙ c.form_on.ensures)
+pub returns-in-B-clause-sight : goal.returns-in-B-clause-sight
+returns-in-B-clause-sight c =
+    let parts = c.parts_of-parts.ensures in
+    seen_full_b c.args.profile.now c.codes-codes.result.now c.args.bus c.args.word _ (record { profile = c.codes-codes.ensures.sound; codes = c.codes-codes.ensures.codes; addressed = c.is_addressed.ensures.0 c.if-not-is_addressed.false; word = parts.word; fields = parts.fields; kind = c.if-parts-codes.false }) c.in-B.is
