@@ -1,15 +1,15 @@
 -- Free words, by tests; and that the words of the table are none of them.
-use Rattle.std.proofs.Common.{◌≡◌, ℕ, zero, suc, ◌%◌, ◌<◌, inl, inr, Bool, true, false, not, nat_eq, ◌&&◌, ◌||◌, ◌==◌, List, [], ◌∷◌, length, Contains, refl, ap, ◌∙◌, arith, slice_index_or}
+use Rattle.std.proofs.Common.{◌≡◌, ℕ, zero, suc, ◌%◌, ◌<◌, inl, inr, Bool, true, false, not, nat_eq, ◌&&◌, ◌||◌, ◌==◌, List, [], ◌∷◌, length, Contains, refl, sym, ap, ◌∙◌, subst, arith, slice_index_or}
 use Rattle.std.specs.Bool.{Decides}
 use Rattle.std.specs.List.{list_any}
 use Rattle.std.proofs.lemmas.Bool.{eq-eqb, eqb-true, or_cases, or_left, or_right, or_from, and_left, and_right, not_from_true}
 use Rattle.std.proofs.lemmas.Bool.Decides.{Decides-eqb, Decides-not, Decides-or, Decides-and}
-use Rattle.a429_word.specs.Word.{number_at, label_of, count_of_ones}
+use Rattle.a429_word.specs.Word.{number_at, label_of, count_of_ones, HasOddParity}
 use Rattle.a429_word.specs.declared.bus.Bus.{Bus}
 use Rattle.a429_profile.specs.declared.codes.Codes.{Codes}
 use Rattle.a429_ldu.specs.declared.forms.Form.{Form}
 use Rattle.a429_ldu.specs.declared.forms.Form.TheVariants.{Rts, Cts, Ack, Nak, Sot, Part, Eot}
-use Rattle.a429_ldu.specs.Form.{Fields, row, data_row, IsInRange, address_of, IsForm, IsFree, is_free}
+use Rattle.a429_ldu.specs.Form.{Fields, fields_of, row, data_row, IsInRange, address_of, IsForm, IsFree, is_free}
 use Rattle.a429_ldu.specs.Semis.{AreSemis}
 use Rattle.a429_ldu.proofs.Distinct.{AreDistinct, IsNone}
 use Rattle.a429_ldu.proofs.Told.{turned}
@@ -46,10 +46,10 @@ none_any n [] h = refl
 none_any n (m ∷ ms) h = or_from (m == n) (list_any (λ m. m == n) ms) (turned n m h.0) (none_any n ms h.1)
 
 -- whether a row's type or code is ignored
-abbrev pub is_ignored : Codes → Fields → Bool
+abbrev is_ignored : Codes → Fields → Bool
 is_ignored c f = list_any (λ n. n == f.kind) c.ignored_types || (f.kind == c.protocol && list_any (λ n. n == f.upper) c.ignored_codes)
 
-pub type_kept : (c : Codes) (f : Fields) → IsNone f.kind c.ignored_types → nat_eq f.kind c.protocol ≡ false → is_ignored c f ≡ false
+type_kept : (c : Codes) (f : Fields) → IsNone f.kind c.ignored_types → nat_eq f.kind c.protocol ≡ false → is_ignored c f ≡ false
 type_kept c f none other = or_from (list_any (λ n. n == f.kind) c.ignored_types) _ (none_any f.kind c.ignored_types none) (and_left (f.kind == c.protocol) _ other)
 
 code_kept : (c : Codes) (f : Fields) → IsNone f.kind c.ignored_types → IsNone f.upper c.ignored_codes → is_ignored c f ≡ false
@@ -73,8 +73,16 @@ row_kept c d (Sot gfi file ldu) h = type_kept c (row c (Sot gfi file ldu)) d.sot
 row_kept c d (Part semis) h = data_kept c d semis h
 row_kept c d (Eot flags check) h = type_kept c (row c (Eot flags check)) d.eot_kept (turned c.protocol c.eot d.protocol_eot)
 
+-- a word of good parity with the label of its bus is not free where it is not ignored
+not_free : (c : Codes) (b : Bus) (w : ℕ) (f : Fields) → HasOddParity w → label_of w ≡ address_of c b → fields_of w ≡ f → is_ignored c f ≡ false → is_free c b w ≡ false
+not_free c b w f parity label fields kept =
+    or_from (not (count_of_ones w % 2 == 1)) _ (not_from_true _ (eq-eqb (count_of_ones w % 2) 1 parity))
+    (or_from (not (label_of w == address_of c b)) _ (not_from_true _ (eq-eqb (label_of w) (address_of c b) label)) (ap (is_ignored c) fields ∙ kept))
+
 pub form_not_free : (c : Codes) (b : Bus) (w : ℕ) (x : Form) → AreDistinct c → IsForm c b w x → is_free c b w ≡ false
-form_not_free c b w x d h =
-    or_from (not (count_of_ones w % 2 == 1)) _ (not_from_true _ (eq-eqb (count_of_ones w % 2) 1 h.parity))
-    (or_from (not (label_of w == address_of c b)) _ (not_from_true _ (eq-eqb (label_of w) (address_of c b) h.label))
-    (ap (is_ignored c) h.fields ∙ row_kept c d x h.range))
+form_not_free c b w x d h = not_free c b w (row c x) h.parity h.label h.fields (row_kept c d x h.range)
+
+-- a full word is not free
+pub full_not_free : (c : Codes) (b : Bus) (w : ℕ) (f : Fields) → AreDistinct c → HasOddParity w → label_of w ≡ address_of c b → fields_of w ≡ f → f.kind ≡ c.full → is_free c b w ≡ false
+full_not_free c b w f d parity label fields kind =
+    not_free c b w f parity label fields (type_kept c f (subst (λ (n : ℕ). IsNone n c.ignored_types) (sym kind) d.full_kept) (ap (λ n. nat_eq n c.protocol) kind ∙ d.full_protocol))

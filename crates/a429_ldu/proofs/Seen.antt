@@ -1,9 +1,9 @@
 -- What a word is, as its relation to forms says and as it is computed.
-use Rattle.std.proofs.Common.{◌≡◌, ◌↔◌, ◌⊎◌, inl, inr, ℕ, ◌^◌, ◌/◌, ◌%◌, ◌<◌, Bool, true, false, cond, not, nat_eq, ◌&&◌, ◌||◌, ◌==◌, nat_le, List, [], ◌∷◌, Contains, Option, Some, None, refl, sym, ap, ◌∙◌, subst}
+use Rattle.std.proofs.Common.{◌≡◌, ◌↔◌, ◌⊎◌, inl, inr, ℕ, ◌^◌, ◌/◌, ◌%◌, ◌<◌, Bool, true, false, cond, ◌||◌, nat_le, List, [], ◌∷◌, Contains, Option, Some, None, refl, sym, ap, ◌∙◌, subst}
 use Rattle.std.specs.Bool.{Decides}
 use Rattle.std.proofs.lemmas.Bool.{lt-leb}
-use Rattle.std.proofs.lemmas.Bool.Decides.{same_from_decides, Decides-eqb, Decides-and}
-use Rattle.a429_word.specs.Word.{label_of, count_of_ones, HasOddParity}
+use Rattle.std.proofs.lemmas.Bool.Decides.{same_from_decides}
+use Rattle.a429_word.specs.Word.{label_of, HasOddParity}
 use Rattle.a429_word.specs.declared.bus.Bus.{Bus}
 use Rattle.a429_word.specs.declared.bus.Bus.TheVariants as bus
 use Rattle.a429_profile.specs.Contents.{Contents, IsProfile}
@@ -14,9 +14,9 @@ use Rattle.a429_ldu.specs.declared.sight.Sight.{Sight}
 use Rattle.a429_ldu.specs.declared.sight.Sight.TheVariants as sight
 use Rattle.a429_ldu.specs.Form.{Fields, fields_of, address_of, IsForm, IsFree, is_free, form_on, form_of, sight_in, sight_of}
 use Rattle.a429_ldu.specs.Carried.{semis_in}
-use Rattle.a429_ldu.proofs.Distinct.{AreDistinct, IsNone, distinct}
+use Rattle.a429_ldu.proofs.Distinct.{AreDistinct, distinct}
 use Rattle.a429_ldu.proofs.Told.{yes}
-use Rattle.a429_ldu.proofs.Free.{is_free-decides, is_ignored, type_kept}
+use Rattle.a429_ldu.proofs.Free.{is_free-decides, full_not_free}
 use Rattle.a429_ldu.proofs.Joined.{form_of-is, form_is_not_free}
 
 -- what `form` promises
@@ -76,30 +76,7 @@ seen_free c b w f t word fields decides e = sym (ap (λ u. told u (form_on c b f
 pub seen_told : (c : Codes) (b : Bus) (w : ℕ) (f : Fields) (t : Bool) (o : Option Form) → w < 2 ^ 32 → fields_of w ≡ f → Decides t (IsFree c b w) → t ≡ false → o ≡ form_on c b f → sight_in o ≡ sight_of c b w
 seen_told c b w f t o word fields decides e eo = ap sight_in eo ∙ sym (ap (λ u. told u (form_on c b f)) e) ∙ sight_tested c b w f t word fields decides
 
--- ---- words by their parity and label, full words, and the others
-
--- what a transfer word of a bus has
-abbrev pub IsAddressed : Codes → Bus → ℕ → Type 0
-IsAddressed c b w = HasOddParity w × (label_of w ≡ address_of c b)
-
-addressed-decides : (c : Codes) (b : Bus) (w : ℕ) → Decides (count_of_ones w % 2 == 1 && label_of w == address_of c b) (IsAddressed c b w)
-addressed-decides c b w = Decides-and _ _ (Decides-eqb (count_of_ones w % 2) 1) (Decides-eqb (label_of w) (address_of c b))
-
-not_both : (p q r : Bool) → (not p || (not q || r)) ≡ (not (p && q) || r)
-not_both true true r = refl
-not_both true false r = refl
-not_both false q r = refl
-
-free_by : (c : Codes) (b : Bus) (w : ℕ) (t : Bool) → Decides t (IsAddressed c b w) → is_free c b w ≡ (not t || is_ignored c (fields_of w))
-free_by c b w t decides =
-    not_both (count_of_ones w % 2 == 1) (label_of w == address_of c b) (is_ignored c (fields_of w))
-    ∙ ap (λ u. not u || is_ignored c (fields_of w)) (same_from_decides _ t (addressed-decides c b w) decides)
-
--- a full word is not ignored
-full_kept : (c : Codes) (b : Bus) (w : ℕ) (f : Fields) → AreDistinct c → IsAddressed c b w → fields_of w ≡ f → f.kind ≡ c.full → is_free c b w ≡ false
-full_kept c b w f d at fields kind =
-    free_by c b w true (λ _. at, λ _. refl) ∙ ap (is_ignored c) fields
-    ∙ type_kept c f (subst (λ (n : ℕ). IsNone n c.ignored_types) (sym kind) d.full_kept) (ap (λ n. nat_eq n c.protocol) kind ∙ d.full_protocol)
+-- ---- full words
 
 form_of_kept : (c : Codes) (b : Bus) (w : ℕ) → w < 2 ^ 32 → is_free c b w ≡ false → form_of c b w ≡ form_on c b (fields_of w)
 form_of_kept c b w word free = rw (free, lt-leb (2 ^ 32) w word) refl
@@ -118,13 +95,17 @@ full_on_b c f d kind = rw (kind, d.full_protocol) refl
 pub record IsFull (p : Contents) (c : Codes) (b : Bus) (w : ℕ) (f : Fields) : Type 0 where
   pub profile : IsProfile p
   pub codes : c ≡ p.codes
-  pub addressed : IsAddressed c b w
+  pub parity : HasOddParity w
+  pub label : label_of w ≡ address_of c b
   pub word : w < 2 ^ 32
   pub fields : fields_of w ≡ f
   pub kind : f.kind ≡ c.full
 
+full_distinct : (p : Contents) (c : Codes) (b : Bus) (w : ℕ) (f : Fields) → IsFull p c b w f → AreDistinct c
+full_distinct p c b w f is = subst AreDistinct (sym is.codes) (distinct p is.profile)
+
 full_free : (p : Contents) (c : Codes) (b : Bus) (w : ℕ) (f : Fields) → IsFull p c b w f → is_free c b w ≡ false
-full_free p c b w f is = full_kept c b w f (subst AreDistinct (sym is.codes) (distinct p is.profile)) is.addressed is.fields is.kind
+full_free p c b w f is = full_not_free c b w f (full_distinct p c b w f is) is.parity is.label is.fields is.kind
 
 full_form_of : (p : Contents) (c : Codes) (b : Bus) (w : ℕ) (f : Fields) → IsFull p c b w f → form_of c b w ≡ form_on c b f
 full_form_of p c b w f is = form_of_kept c b w is.word (full_free p c b w f is) ∙ ap (form_on c b) is.fields
@@ -135,23 +116,25 @@ full_sight p c b w f is =
 
 pub seen_full_a : (p : Contents) (c : Codes) (b : Bus) (w : ℕ) (f : Fields) → IsFull p c b w f → b ≡ bus.A → sight.Form (Part (five f)) ≡ sight_of p.codes b w
 seen_full_a p c b w f is e =
-    ap sight_in (sym (full_on_a c f (subst AreDistinct (sym is.codes) (distinct p is.profile)) is.kind)) ∙ ap (λ a. sight_in (form_on c a f)) (sym e) ∙ full_sight p c b w f is
+    ap sight_in (sym (full_on_a c f (full_distinct p c b w f is) is.kind)) ∙ ap (λ a. sight_in (form_on c a f)) (sym e) ∙ full_sight p c b w f is
 
 pub seen_full_b : (p : Contents) (c : Codes) (b : Bus) (w : ℕ) (f : Fields) → IsFull p c b w f → b ≡ bus.B → sight.NoForm ≡ sight_of p.codes b w
 seen_full_b p c b w f is e =
-    ap sight_in (sym (full_on_b c f (subst AreDistinct (sym is.codes) (distinct p is.profile)) is.kind)) ∙ ap (λ a. sight_in (form_on c a f)) (sym e) ∙ full_sight p c b w f is
+    ap sight_in (sym (full_on_b c f (full_distinct p c b w f is) is.kind)) ∙ ap (λ a. sight_in (form_on c a f)) (sym e) ∙ full_sight p c b w f is
 
 -- its semi-octets
 pub full_semis : (p : Contents) (c : Codes) (w : ℕ) (f : Fields) → IsFull p c bus.A w f → semis_in (form_of p.codes bus.A w) ≡ Some (five f)
 full_semis p c w f is =
     ap (λ k. semis_in (form_of k bus.A w)) (sym is.codes) ∙ ap semis_in (full_form_of p c bus.A w f is)
-    ∙ ap semis_in (full_on_a c f (subst AreDistinct (sym is.codes) (distinct p is.profile)) is.kind)
+    ∙ ap semis_in (full_on_a c f (full_distinct p c bus.A w f is) is.kind)
 
--- a word with its bus's label is free where its type or its code is ignored
+-- ---- other words
+
+-- a word of good parity with the label of its bus is free where its type or its code is ignored
 abbrev pub IsIgnored : Codes → Fields → Type 0
 IsIgnored c f = Contains c.ignored_types f.kind ⊎ ((f.kind ≡ c.protocol) × Contains c.ignored_codes f.upper)
 
-pub ignored_free : (c : Codes) (b : Bus) (w : ℕ) (f : Fields) (t : Bool) → IsAddressed c b w → fields_of w ≡ f → Decides t (IsIgnored c f) → Decides t (IsFree c b w)
+pub ignored_free : (c : Codes) (b : Bus) (w : ℕ) (f : Fields) (t : Bool) → HasOddParity w × (label_of w ≡ address_of c b) → fields_of w ≡ f → Decides t (IsIgnored c f) → Decides t (IsFree c b w)
 ignored_free c b w f t at fields decides =
     let here = subst (λ (g : Fields). Decides t (IsIgnored c g)) (sym fields) decides in (
       λ e. inr (inr (here.0 e)),

@@ -1,10 +1,11 @@
 -- A word's bits, and what masks, shifts and folds make of them.
-use Rattle.std.proofs.Common.{◌≡◌, ℕ, zero, suc, ◌+◌, ◌-◌, ◌*◌, ◌/◌, ◌%◌, ◌^◌, ◌<◌, ◌≤◌, refl, sym, ap, ◌∙◌, arith, bit_and, bit_xor, inl, inr, pow-suc, mul-le-mul_right, add-zero}
+use Rattle.std.proofs.Common.{◌≡◌, ℕ, zero, suc, ◌+◌, ◌-◌, ◌*◌, ◌/◌, ◌%◌, ◌^◌, ◌<◌, ◌≤◌, refl, sym, ap, ◌∙◌, subst, arith, bit_and, inl, inr, pow-suc, mul-le-mul_right, add-zero}
 use Rattle.std.specs.Int.{bit_at, reverse_bits_onto}
-use Rattle.std.proofs.lemmas.Nat.{mod-pow-add, shr-shr, and_mask, pow_pos, mod_below, mod_low, field_of as nat_field_of}
+use Rattle.std.specs.Int.Count.{ones, ones_in}
+use Rattle.std.proofs.lemmas.Nat.{mod-pow-add, shr-shr, shr_split, shr_below, ones_cat, and_mask, pow_pos, mod_below, mod_low, field_of as nat_field_of}
 use Rattle.std.proofs.Math.Pow.{mod-mod-pow}
 use Rattle.std.proofs.lemmas.Bool.{cases_lt}
-use Rattle.std.proofs.lemmas.Nat.Bits.{bit_at_xor, bit_at_cat_low, bit_at_cat_high}
+use Rattle.std.proofs.lemmas.Nat.Bits.{bit_at_cat_low, bit_at_cat_high}
 use Rattle.a429_word.specs.Word.{sum_below, number_of, bit, number_at, label_of, sdi_of, field_of, ssm_of, count_of_ones, SameParts}
 
 -- a sum depends on its terms alone
@@ -15,15 +16,6 @@ sum_below-same (suc k) f g e =
     let low : sum_below k f ≡ sum_below k g = sum_below-same k f g (λ j h. e j (omega arith)) in
     let top : f k ≡ g k = e k (omega arith) in
     omega arith
-
--- two runs of terms
-sum_below-add : (a b : ℕ) (f : ℕ → ℕ) → sum_below (a + b) f ≡ sum_below a f + sum_below b (λ j. f (a + j))
-unfolding sum_below
-sum_below-add a zero f = let e : a + 0 ≡ a = omega arith in rw e (omega arith)
-sum_below-add a (suc b) f =
-    let e : a + suc b ≡ suc (a + b) = omega arith in
-    let low = sum_below-add a b f in
-    rw e (omega arith)
 
 -- ---- runs of bits
 
@@ -75,6 +67,14 @@ pub reversed_twice : (n : ℕ) → n < 256 → reverse_bits_onto 8 (reverse_bits
 unfolding reverse_bits_onto
 reversed_twice n h = omega arith
 
+-- a byte's bits in the opposite order, one by one
+abbrev pub reversed : ℕ → ℕ
+reversed n = n % 2 * 128 + n / 2 % 2 * 64 + n / 4 % 2 * 32 + n / 8 % 2 * 16 + n / 16 % 2 * 8 + n / 32 % 2 * 4 + n / 64 % 2 * 2 + n / 128 % 2
+
+pub reversed-is : (n : ℕ) → reversed n ≡ reverse_bits_onto 8 n 0
+unfolding reverse_bits_onto
+reversed-is n = omega arith
+
 pub label-masked : (w : ℕ) → reverse_bits_onto 8 (bit_and w 255) 0 ≡ label_of w
 label-masked w = ap (λ n. reverse_bits_onto 8 n 0) (and_mask w 8) ∙ label-is w
 
@@ -91,35 +91,30 @@ pub ruleset fields = (label-masked, sdi-masked, field-masked, ssm-masked)
 
 -- ---- parity
 
--- the parity of a sum of sums
-sum_below-odd : (k : ℕ) (f g : ℕ → ℕ) → sum_below k (λ j. (f j + g j) % 2) % 2 ≡ (sum_below k f + sum_below k g) % 2
-unfolding sum_below
-sum_below-odd zero f g = refl
-sum_below-odd (suc k) f g = let low = sum_below-odd k f g in omega arith
+one_bit : (d : ℕ) → d < 2 → ones d ≡ d
+unfolding ones ones_in
+one_bit zero h = refl
+one_bit (suc zero) h = refl
+one_bit (suc (suc d)) h = absurd (omega arith)
 
--- to fold a number's upper half onto its lower keeps the parity
-parity-fold : (k n : ℕ) → sum_below k (bit_at (bit_xor n (n / 2 ^ k))) % 2 ≡ sum_below (k + k) (bit_at n) % 2
-parity-fold k n =
-    let terms = sum_below-same k (bit_at (bit_xor n (n / 2 ^ k))) (λ j. (bit_at n j + bit_at n (k + j)) % 2) (λ j h. bit_at_xor n (n / 2 ^ k) j ∙ rw (shr-shr n k j) refl) in
-    ap (λ s. s % 2) terms ∙ sum_below-odd k (bit_at n) (λ j. bit_at n (k + j)) ∙ ap (λ s. s % 2) (sym (sum_below-add k k (bit_at n)))
-
--- the parity, folded five times
-pub parity-folded : (n : ℕ) →
-    let a = bit_xor n (n / 65536) in
-    let b = bit_xor a (a / 256) in
-    let c = bit_xor b (b / 16) in
-    let d = bit_xor c (c / 4) in
-    bit_and (bit_xor d (d / 2)) 1 ≡ count_of_ones n % 2
+-- the ones of a number below 2 ^ k are its first k bits
+ones_below : (k n : ℕ) → n < 2 ^ k → ones n ≡ sum_below k (bit_at n)
 unfolding sum_below
-parity-folded n =
-    let a = bit_xor n (n / 65536) in
-    let b = bit_xor a (a / 256) in
-    let c = bit_xor b (b / 16) in
-    let d = bit_xor c (c / 4) in
-    let e = bit_xor d (d / 2) in
-    let whole : sum_below 32 (bit_at n) % 2 ≡ count_of_ones n % 2 = ap (λ s. s % 2) (sum_below-same 32 (bit_at n) (λ j. bit n (j + 1)) (λ j h. ap (bit_at n) (omega arith))) in
-    let one : sum_below 1 (bit_at e) % 2 ≡ e % 2 = omega arith in
-    and_mask e 1 ∙ sym one ∙ parity-fold 1 d ∙ parity-fold 2 c ∙ parity-fold 4 b ∙ parity-fold 8 a ∙ parity-fold 16 n ∙ whole
+ones_below zero n h = let e : n ≡ 0 = omega arith in ap ones e ∙ one_bit 0 (omega arith)
+ones_below (suc k) n h =
+    let top = n / 2 ^ k in
+    let rest = n % 2 ^ k in
+    let split = shr_split n k in
+    let more : suc k ≡ 1 + k = omega arith in
+    let small : top < 2 = shr_below n 1 k (subst (λ (m : ℕ). n < 2 ^ m) more h) in
+    let bits = sum_below-same k (bit_at rest) (bit_at n) (λ j hj. sym (bit_at_cat_low top k rest j hj) ∙ ap (λ m. bit_at m j) split) in
+    let low = ones_below k rest (mod_below n (2 ^ k) (pow_pos k)) ∙ bits in
+    let high : ones top ≡ top % 2 = one_bit top small ∙ omega arith in
+    ap ones (sym split) ∙ ones_cat k top rest (mod_below n (2 ^ k) (pow_pos k)) ∙ omega (arith, low, high)
+
+-- the parity, by all ones
+pub parity-counted : (n : ℕ) → n < 2 ^ 32 → ones n % 2 ≡ count_of_ones n % 2
+parity-counted n h = ap (λ s. s % 2) (ones_below 32 n h ∙ sum_below-same 32 (bit_at n) (λ j. bit n (j + 1)) (λ j hj. ap (bit_at n) (omega arith)))
 
 -- ---- numbers and bits
 

@@ -2,6 +2,7 @@
 
 ghost use Rattle.std.specs.Prelude.{◌≡◌, ◌≤◌, ◌<◌, ◌↔◌, ◌^◌, ◌*◌, ◌/◌, ◌%◌, IsTrue, true};
 ghost use Rattle.std.specs.Char.{digit_value};
+ghost use Rattle.std.specs.Int.{reverse_bits_onto};
 ghost use Rattle.std.specs.Fmt.{digit_glyph};
 ghost use Rattle.a429_word.specs.Word.{bit, label_of, sdi_of, field_of, ssm_of, count_of_ones, HasOddParity};
 ghost use Rattle.a429_word.specs.Written.{hex_text, octal_text, ReadsHex};
@@ -23,6 +24,23 @@ const DIGIT_VALUES: [u8; 256] = [
     36, 36, 36, 36, 36, 36, 36, 36, 36, 36, 36, 36, 36, 36, 36, 36, 36, 36, 36, 36, 36, 36, 36, 36,
     36, 36, 36, 36, 36, 36, 36, 36, 36, 36, 36, 36, 36, 36, 36, 36, 36, 36, 36, 36, 36, 36, 36, 36,
     36, 36, 36, 36, 36, 36, 36, 36, 36, 36, 36, 36, 36, 36,
+];
+
+// Each byte with its bits in the opposite order.
+const REVERSED: [u8; 256] = [
+    0, 128, 64, 192, 32, 160, 96, 224, 16, 144, 80, 208, 48, 176, 112, 240, 8, 136, 72, 200, 40,
+    168, 104, 232, 24, 152, 88, 216, 56, 184, 120, 248, 4, 132, 68, 196, 36, 164, 100, 228, 20,
+    148, 84, 212, 52, 180, 116, 244, 12, 140, 76, 204, 44, 172, 108, 236, 28, 156, 92, 220, 60,
+    188, 124, 252, 2, 130, 66, 194, 34, 162, 98, 226, 18, 146, 82, 210, 50, 178, 114, 242, 10, 138,
+    74, 202, 42, 170, 106, 234, 26, 154, 90, 218, 58, 186, 122, 250, 6, 134, 70, 198, 38, 166, 102,
+    230, 22, 150, 86, 214, 54, 182, 118, 246, 14, 142, 78, 206, 46, 174, 110, 238, 30, 158, 94,
+    222, 62, 190, 126, 254, 1, 129, 65, 193, 33, 161, 97, 225, 17, 145, 81, 209, 49, 177, 113, 241,
+    9, 137, 73, 201, 41, 169, 105, 233, 25, 153, 89, 217, 57, 185, 121, 249, 5, 133, 69, 197, 37,
+    165, 101, 229, 21, 149, 85, 213, 53, 181, 117, 245, 13, 141, 77, 205, 45, 173, 109, 237, 29,
+    157, 93, 221, 61, 189, 125, 253, 3, 131, 67, 195, 35, 163, 99, 227, 19, 147, 83, 211, 51, 179,
+    115, 243, 11, 139, 75, 203, 43, 171, 107, 235, 27, 155, 91, 219, 59, 187, 123, 251, 7, 135, 71,
+    199, 39, 167, 103, 231, 23, 151, 87, 215, 55, 183, 119, 247, 15, 143, 79, 207, 47, 175, 111,
+    239, 31, 159, 95, 223, 63, 191, 127, 255,
 ];
 
 /// A word of 32 bits (ARINC 429 Part 1, word formats). Bits are numbered from 1 to 32; as a number,
@@ -60,7 +78,7 @@ impl Word {
     pub fn label(self) -> u8
         ensures { result ≡ label_of self }
     {
-        ((self.0 & 0xff) as u8).reverse_bits()
+        reversed((self.0 & 0xff) as u8)
     }
 
     /// The source/destination identifier, bits 9 and 10 (Part 1): 0 to 3, bit 9 its lower one.
@@ -120,7 +138,7 @@ impl Word {
         let number = u32::from(ssm) << 29
             | field << 10
             | u32::from(sdi) << 8
-            | u32::from(label.reverse_bits());
+            | u32::from(reversed(label));
         let parity_bit = 1 - parity_of(number);
         Word(number | parity_bit << 31)
     }
@@ -186,15 +204,18 @@ pub fn octal(label: u8) -> [u8; 3]
     ]
 }
 
-// 1 where an odd number of the bits is 1, else 0: each half is folded onto the other.
+// A byte with its bits in the opposite order.
+fn reversed(byte: u8) -> u8
+    ensures { result ≡ reverse_bits_onto 8 byte 0 }
+{
+    REVERSED[usize::from(byte)]
+}
+
+// 1 where an odd number of the bits is 1, else 0.
 fn parity_of(number: u32) -> u32
     ensures { result ≡ count_of_ones number % 2 }
 {
-    let halves = number ^ (number >> 16);
-    let quarters = halves ^ (halves >> 8);
-    let nibbles = quarters ^ (quarters >> 4);
-    let pairs = nibbles ^ (nibbles >> 2);
-    (pairs ^ (pairs >> 1)) & 1
+    number.count_ones() % 2
 }
 
 #[cfg(test)]

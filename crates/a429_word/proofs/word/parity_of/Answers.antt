@@ -1,5 +1,6 @@
-use Rattle.a429_word.proofs.Bits.{parity-folded}
+use Rattle.std.proofs.Common.{arith}
+use Rattle.a429_word.proofs.Bits.{parity-counted}
 use Rattle.a429_word.proofs.word.parity_of.Goals as goal
 
 pub returns : goal.returns
-returns c = parity-folded c.args.number
+returns c = parity-counted c.args.number (omega arith)
