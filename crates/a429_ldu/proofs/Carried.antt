@@ -12,7 +12,7 @@ use Rattle.a429_ldu.specs.declared.forms.Form.{Form}
 use Rattle.a429_ldu.specs.declared.forms.Form.TheVariants.{Rts, Cts, Ack, Nak, Sot, Part, Eot}
 use Rattle.a429_ldu.specs.declared.sight.Sight.{Sight}
 use Rattle.a429_ldu.specs.declared.sight.Sight.TheVariants as sight
-use Rattle.a429_ldu.specs.Semis.{semis_of_bytes}
+use Rattle.a429_ldu.specs.Semis.{semis_of_bytes, five_of}
 use Rattle.a429_ldu.specs.Form.{fields_of, is_free, form_on, form_of, sight_in, sight_of}
 use Rattle.a429_ldu.specs.Carried.{AreDataWords, CarryBytes, semis_in, joined_to, semis_of_words, paired, if_some, bytes_carried}
 use Rattle.a429_ldu.proofs.Joined.{form_of-is, form_is_not_free}
@@ -107,31 +107,34 @@ digit-high bs low l d e hl hd =
     append-nil (semis_of_bytes (bs ++ n ∷ [])) ∙ semis-append bs (n ∷ []) ∙ ap (λ m. semis_of_bytes bs ++ m ∷ n / 16 ∷ []) (byte_low n l d hl sum) ∙ ap (λ m. semis_of_bytes bs ++ l ∷ m ∷ []) (byte_high n l d hl sum)
     ∙ sym (append_assoc (semis_of_bytes bs) (l ∷ []) (d ∷ [])) ∙ sym (ap (λ o. (semis_of_bytes bs ++ option_to_list o) ++ d ∷ []) e)
 
--- a full word's two bytes, and the semi-octet that waits
-pub full_first : (bs : List ℕ) (low : Option ℕ) (l m u : ℕ) → low ≡ None → semis_of_bytes (bs ++ l ∷ m ∷ []) ++ u ∷ [] ≡ (semis_of_bytes bs ++ option_to_list low) ++ l % 16 ∷ l / 16 ∷ m % 16 ∷ m / 16 ∷ u ∷ []
-full_first bs low l m u e =
-    let five = l % 16 ∷ l / 16 ∷ m % 16 ∷ m / 16 ∷ u ∷ [] in
-    ap (λ ss. ss ++ u ∷ []) (semis-append bs (l ∷ m ∷ [])) ∙ append_assoc (semis_of_bytes bs) (semis_of_bytes (l ∷ m ∷ [])) (u ∷ [])
-    ∙ ap (λ ss. ss ++ five) (sym (append-nil (semis_of_bytes bs))) ∙ sym (ap (λ o. (semis_of_bytes bs ++ option_to_list o) ++ five) e)
+-- two bytes of five semi-octets, and the one that waits
+pub five_first : (bs : List ℕ) (low : Option ℕ) (n x y : ℕ) → low ≡ None → n < 2 ^ 20 → x ≡ n % 256 → y ≡ n / 256 % 256 →
+    semis_of_bytes (bs ++ x ∷ y ∷ []) ++ n / 65536 ∷ [] ≡ (semis_of_bytes bs ++ option_to_list low) ++ five_of n
+five_first bs low n x y e h ex ey =
+    let first : x % 16 ≡ n % 16 = omega arith in
+    let second : x / 16 ≡ n / 16 % 16 = omega arith in
+    let third : y % 16 ≡ n / 256 % 16 = omega arith in
+    let fourth : y / 16 ≡ n / 4096 % 16 = omega arith in
+    let last : n / 65536 ≡ n / 65536 % 16 = omega arith in
+    ap (λ ss. ss ++ n / 65536 ∷ []) (semis-append bs (x ∷ y ∷ [])) ∙ append_assoc (semis_of_bytes bs) (semis_of_bytes (x ∷ y ∷ [])) (n / 65536 ∷ [])
+    ∙ ap (λ ss. semis_of_bytes bs ++ ss) (rw (first, second, third, fourth, ← last) refl)
+    ∙ ap (λ ss. ss ++ five_of n) (sym (append-nil (semis_of_bytes bs))) ∙ sym (ap (λ o. (semis_of_bytes bs ++ option_to_list o) ++ five_of n) e)
 
-low_shifted : (d : ℕ) → d * 16 % 256 ≡ d % 16 * 2 ^ 4
-low_shifted d = omega arith
+pub above_waiting : (n r w : ℕ) → n < 2 ^ 20 → r ≡ w → w < 16 → bit_or (n * 16 % 4294967296) r ≡ n * 16 + w
+above_waiting n r w h e hw = let room : n * 16 % 4294967296 ≡ n * 2 ^ 4 = omega arith in rw (e, room) (or_shifted n 4 w hw)
 
--- the low semi-octet of a byte above another semi-octet
-raised : (l d : ℕ) → l < 16 → bit_or (d * 16 % 256) l ≡ d % 16 * 16 + l
-raised l d hl = rw (low_shifted d) (or_shifted (d % 16) 4 l hl)
-
--- the semi-octet that has waited and a full word's five, in three bytes
-pub full_joined : (bs : List ℕ) (low : Option ℕ) (w l m u : ℕ) → low ≡ Some w → w < 16 → l < 256 → m < 256 → u < 16 →
-    semis_of_bytes (bs ++ bit_or (l * 16 % 256) w ∷ bit_or (m * 16 % 256) (l / 16) ∷ bit_or (u * 16 % 256) (m / 16) ∷ []) ++ [] ≡ (semis_of_bytes bs ++ option_to_list low) ++ l % 16 ∷ l / 16 ∷ m % 16 ∷ m / 16 ∷ u ∷ []
-full_joined bs low w l m u e hw hl hm hu =
-    let five = l % 16 ∷ l / 16 ∷ m % 16 ∷ m / 16 ∷ u ∷ [] in
-    let first = raised w l hw in
-    let second = raised (l / 16) m (omega arith) in
-    let third = shifted (m / 16) u (omega arith) hu in
-    append-nil _ ∙ semis-append bs _
-    ∙ ap (λ ss. semis_of_bytes bs ++ ss) (rw (byte_low _ w (l % 16) hw first, byte_high _ w (l % 16) hw first, byte_low _ (l / 16) (m % 16) (omega arith) second, byte_high _ (l / 16) (m % 16) (omega arith) second, byte_low _ (m / 16) u (omega arith) third, byte_high _ (m / 16) u (omega arith) third) refl)
-    ∙ sym (append_assoc (semis_of_bytes bs) (w ∷ []) five) ∙ sym (ap (λ o. (semis_of_bytes bs ++ option_to_list o) ++ five) e)
+-- three bytes of a semi-octet that has waited and five more
+pub five_joined : (bs : List ℕ) (low : Option ℕ) (w n x y z : ℕ) → low ≡ Some w → w < 16 → n < 2 ^ 20 → x ≡ (n * 16 + w) % 256 → y ≡ (n * 16 + w) / 256 % 256 → z ≡ (n * 16 + w) / 65536 →
+    semis_of_bytes (bs ++ x ∷ y ∷ z ∷ []) ++ [] ≡ (semis_of_bytes bs ++ option_to_list low) ++ five_of n
+five_joined bs low w n x y z e hw h ex ey ez =
+    let waited : x % 16 ≡ w = omega arith in
+    let first : x / 16 ≡ n % 16 = omega arith in
+    let second : y % 16 ≡ n / 16 % 16 = omega arith in
+    let third : y / 16 ≡ n / 256 % 16 = omega arith in
+    let fourth : z % 16 ≡ n / 4096 % 16 = omega arith in
+    let last : z / 16 ≡ n / 65536 % 16 = omega arith in
+    append-nil _ ∙ semis-append bs _ ∙ ap (λ ss. semis_of_bytes bs ++ ss) (rw (waited, first, second, third, fourth, last) refl)
+    ∙ sym (append_assoc (semis_of_bytes bs) (w ∷ []) (five_of n)) ∙ sym (ap (λ o. (semis_of_bytes bs ++ option_to_list o) ++ five_of n) e)
 
 -- ---- what the code has read, at its end
 

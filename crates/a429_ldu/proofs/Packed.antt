@@ -3,7 +3,7 @@ use Rattle.std.proofs.Common.{◌≡◌, ℕ, suc, ◌+◌, ◌*◌, ◌/◌, �
 use Rattle.std.proofs.lemmas.Nat.{or_shifted, and_mask}
 use Rattle.a429_word.specs.Word.{number_at, sdi_of, field_of, ssm_of}
 use Rattle.a429_word.proofs.Bits.{number_at-is, masked_from}
-use Rattle.a429_ldu.specs.Form.{fields_of}
+use Rattle.a429_ldu.specs.Form.{Fields, fields_of}
 use Rattle.a429_ldu.proofs.Told.{alike}
 
 -- ---- read
@@ -11,6 +11,27 @@ use Rattle.a429_ldu.proofs.Told.{alike}
 pub fields_masked : (w v : ℕ) → v ≡ w → fields_of w ≡ record { kind = bit_and (v / 268435456) 7; upper = bit_and (v / 16777216) 15; middle = bit_and (v / 65536) 255; lower = bit_and (v / 256) 255 }
 fields_masked w v e =
     ap fields_of (sym e) ∙ alike _ _ _ _ _ _ _ _ (sym (masked_from v 29 28 3 refl)) (sym (masked_from v 25 24 4 refl)) (sym (masked_from v 17 16 8 refl)) (sym (masked_from v 9 8 8 refl))
+
+upper_in : (v : ℕ) → v / 16777216 % 16 ≡ v / 256 % 1048576 / 65536
+upper_in v = omega arith
+
+middle_in : (v : ℕ) → v / 65536 % 256 ≡ v / 256 % 1048576 / 256 % 256
+middle_in v = omega arith
+
+lower_in : (v : ℕ) → v / 256 % 256 ≡ v / 256 % 1048576 % 256
+lower_in v = omega arith
+
+-- all but the type, read as one number of 20 bits
+pub fields_joined : (w v k : ℕ) (f : Fields) → v ≡ w → fields_of w ≡ f → f.kind ≡ k →
+    let n = bit_and (v / 256) 1048575 in
+    fields_of w ≡ record { kind = k; upper = n / 65536; middle = n / 256 % 256; lower = n % 256 }
+fields_joined w v k f e fields kind =
+    let n : bit_and (v / 256) 1048575 ≡ v / 256 % 1048576 = and_mask (v / 256) 20 in
+    ap fields_of (sym e) ∙ alike _ _ _ _ _ _ _ _
+    (ap (λ u. number_at u 29 3) e ∙ ap (λ g. g.kind) fields ∙ kind)
+    (number_at-is v 24 4 ∙ upper_in v ∙ sym (ap (λ m. m / 65536) n))
+    (number_at-is v 16 8 ∙ middle_in v ∙ sym (ap (λ m. m / 256 % 256) n))
+    (number_at-is v 8 8 ∙ lower_in v ∙ sym (ap (λ m. m % 256) n))
 
 -- ---- put together
 

@@ -1,5 +1,5 @@
 -- What a word is, as its relation to forms says and as it is computed.
-use Rattle.std.proofs.Common.{◌≡◌, ◌↔◌, ◌⊎◌, inl, inr, ℕ, ◌^◌, ◌/◌, ◌%◌, ◌<◌, Bool, true, false, cond, ◌||◌, nat_le, List, [], ◌∷◌, Contains, Option, Some, None, refl, sym, ap, ◌∙◌, subst}
+use Rattle.std.proofs.Common.{◌≡◌, ◌↔◌, ◌⊎◌, inl, inr, ℕ, ◌^◌, ◌/◌, ◌%◌, ◌<◌, Bool, true, false, cond, ◌||◌, nat_le, List, [], ◌∷◌, Contains, Option, Some, None, refl, sym, ap, ◌∙◌, subst, arith}
 use Rattle.std.specs.Bool.{Decides}
 use Rattle.std.proofs.lemmas.Bool.{lt-leb}
 use Rattle.std.proofs.lemmas.Bool.Decides.{same_from_decides}
@@ -13,6 +13,7 @@ use Rattle.a429_ldu.specs.declared.forms.Form.TheVariants.{Part}
 use Rattle.a429_ldu.specs.declared.sight.Sight.{Sight}
 use Rattle.a429_ldu.specs.declared.sight.Sight.TheVariants as sight
 use Rattle.a429_ldu.specs.Form.{Fields, fields_of, address_of, IsForm, IsFree, is_free, form_on, form_of, sight_in, sight_of}
+use Rattle.a429_ldu.specs.Semis.{five_of}
 use Rattle.a429_ldu.specs.Carried.{semis_in}
 use Rattle.a429_ldu.proofs.Distinct.{AreDistinct, distinct}
 use Rattle.a429_ldu.proofs.Told.{yes}
@@ -122,11 +123,20 @@ pub seen_full_b : (p : Contents) (c : Codes) (b : Bus) (w : ℕ) (f : Fields) �
 seen_full_b p c b w f is e =
     ap sight_in (sym (full_on_b c f (full_distinct p c b w f is) is.kind)) ∙ ap (λ a. sight_in (form_on c a f)) (sym e) ∙ full_sight p c b w f is
 
--- its semi-octets
-pub full_semis : (p : Contents) (c : Codes) (w : ℕ) (f : Fields) → IsFull p c bus.A w f → semis_in (form_of p.codes bus.A w) ≡ Some (five f)
-full_semis p c w f is =
-    ap (λ k. semis_in (form_of k bus.A w)) (sym is.codes) ∙ ap semis_in (full_form_of p c bus.A w f is)
-    ∙ ap semis_in (full_on_a c f (full_distinct p c bus.A w f is) is.kind)
+-- the semi-octets of a full word, from its bits 9 to 28
+five-same : (n : ℕ) → n < 2 ^ 20 → five (record { kind = 0; upper = n / 65536; middle = n / 256 % 256; lower = n % 256 }) ≡ five_of n
+five-same n h =
+    let low : n % 256 % 16 ≡ n % 16 = omega arith in
+    let second : n % 256 / 16 ≡ n / 16 % 16 = omega arith in
+    let third : n / 256 % 256 % 16 ≡ n / 256 % 16 = omega arith in
+    let fourth : n / 256 % 256 / 16 ≡ n / 4096 % 16 = omega arith in
+    let last : n / 65536 ≡ n / 65536 % 16 = omega arith in
+    rw (low, second, third, fourth, ← last) refl
+
+pub full_semis : (p : Contents) (c : Codes) (w n : ℕ) → n < 2 ^ 20 → IsFull p c bus.A w (record { kind = c.full; upper = n / 65536; middle = n / 256 % 256; lower = n % 256 }) → semis_in (form_of p.codes bus.A w) ≡ Some (five_of n)
+full_semis p c w n h is =
+    ap (λ k. semis_in (form_of k bus.A w)) (sym is.codes) ∙ ap semis_in (full_form_of p c bus.A w _ is)
+    ∙ ap semis_in (full_on_a c _ (full_distinct p c bus.A w _ is) is.kind) ∙ ap Some (five-same n h)
 
 -- ---- other words
 

@@ -10,3 +10,7 @@ AreSemis semis = (1 ≤ length semis) × (length semis ≤ 5) × AllByRecursion 
 abbrev pub semis_of_bytes : List ℕ → List ℕ
 semis_of_bytes [] = []
 semis_of_bytes (b ∷ bs) = b % 16 ∷ b / 16 ∷ semis_of_bytes bs
+
+-- the five of a number of 20 bits, the lowest first
+abbrev pub five_of : ℕ → List ℕ
+five_of n = n % 16 ∷ n / 16 % 16 ∷ n / 256 % 16 ∷ n / 4096 % 16 ∷ n / 65536 % 16 ∷ []

@@ -3,11 +3,11 @@
 ghost use Rattle.std.specs.Prelude.{◌≡◌, ◌≤◌, ◌<◌, ◌^◌, ◌/◌, ◌%◌, ◌++◌, [], ◌∷◌, List, ℕ, Ok, Some, None, IfOk, IfSome, option_map, option_to_list};
 ghost use Rattle.a429_word.specs.Word.{label_of, HasOddParity};
 ghost use Rattle.a429_word.specs.declared.bus.Bus.TheVariants as bus;
-ghost use Rattle.a429_ldu.specs.Semis.{semis_of_bytes};
+ghost use Rattle.a429_ldu.specs.Semis.{semis_of_bytes, five_of};
 ghost use Rattle.a429_ldu.specs.Form.{fields_of, form_of};
 ghost use Rattle.a429_ldu.specs.Carried.{CarryBytes, semis_in, paired, if_some, bytes_carried};
 
-use crate::fields::{Parts, parts_of};
+use crate::fields::parts_of;
 use crate::forms::Form;
 use crate::semis::Semis;
 use crate::sight::{Sight, form, is_addressed};
@@ -31,8 +31,8 @@ pub fn bytes_of(
     let mut bytes = Vec::with_capacity(alloc, words.len() * 5 / 2)?;
     let mut low = None;
     for word in words {
-        if let Some(parts) = full_parts(codes, *word) {
-            low = push_full(&mut bytes, low, parts)?;
+        if let Some(number) = full_number(codes, *word) {
+            low = push_full(&mut bytes, low, number)?;
         } else {
             let Some(semis) = semis_of(profile, *word) else {
                 return Ok(None);
@@ -43,23 +43,24 @@ pub fn bytes_of(
     Ok(whole(bytes, low))
 }
 
-// The numbers in a word, where it is a full data word of bus A.
-fn full_parts(codes: &Codes, word: Word) -> Option<Parts>
-    ensures fields { IfSome result (λ parts. fields_of word ≡ record { kind = codes.now.full; upper = parts.upper; middle = parts.middle; lower = parts.lower }) }
-    ensures upper { IfSome result (λ parts. parts.upper ≤ 15) }
+// Bits 9 to 28 of a full data word of bus A as one number: its five semi-octets. `None` for any other
+// word.
+fn full_number(codes: &Codes, word: Word) -> Option<u32>
+    ensures fields { IfSome result (λ n. fields_of word ≡ record { kind = codes.now.full; upper = n / 65536; middle = n / 256 % 256; lower = n % 256 }) }
+    ensures range { IfSome result (λ n. n < 2 ^ 20) }
     ensures label { IfSome result (λ _. label_of word ≡ codes.now.to_sink) }
     ensures parity { IfSome result (λ _. HasOddParity word) }
     ensures word { word < 2 ^ 32 }
 {
-    let parts = parts_of(word);
-    if parts.kind == codes.full && is_addressed(codes, Bus::A, word) {
-        Some(parts)
+    if parts_of(word).kind == codes.full && is_addressed(codes, Bus::A, word) {
+        Some(word.to_u32() >> 8 & 0xF_FFFF)
     } else {
         None
     }
 }
 
 // The semi-octets of a data word of bus A; `None` for any other word.
+#[inline(never)]
 fn semis_of(profile: &Profile, word: Word) -> Option<Semis>
     ensures { result ≡ semis_in (form_of profile.now.codes bus.A word) }
 {
@@ -78,24 +79,25 @@ fn semis_in(form: &Form) -> Option<Semis>
     }
 }
 
-// Makes bytes of the semi-octets of a full word: two, and the last semi-octet waits for the next word's
-// first, or three, where one has waited.
-fn push_full(bytes: &mut Vec<u8>, low: Option<u8>, parts: Parts) -> Result<Option<u8>, AllocError>
+// Makes bytes of five semi-octets: two, and the last semi-octet waits for the next word's first, or
+// three, where one has waited.
+fn push_full(bytes: &mut Vec<u8>, low: Option<u8>, number: u32) -> Result<Option<u8>, AllocError>
     requires low { IfSome low (λ digit. digit < 16) }
-    requires upper { parts.upper ≤ 15 }
-    ensures bytes { IfOk result (λ rest. semis_of_bytes bytes.new.items ++ option_to_list rest ≡ (semis_of_bytes bytes.old.items ++ option_to_list low) ++ parts.lower % 16 ∷ parts.lower / 16 ∷ parts.middle % 16 ∷ parts.middle / 16 ∷ parts.upper ∷ []) }
+    requires number { number < 2 ^ 20 }
+    ensures bytes { IfOk result (λ rest. semis_of_bytes bytes.new.items ++ option_to_list rest ≡ (semis_of_bytes bytes.old.items ++ option_to_list low) ++ five_of number) }
     ensures low { IfOk result (λ rest. IfSome rest (λ digit. digit < 16)) }
 {
     match low {
         None => {
-            bytes.extend_from_slice(&[parts.lower, parts.middle])?;
-            Ok(Some(parts.upper))
+            bytes.extend_from_slice(&[(number & 0xff) as u8, (number >> 8 & 0xff) as u8])?;
+            Ok(Some((number >> 16) as u8))
         }
         Some(low) => {
+            let joined = number << 4 | u32::from(low);
             bytes.extend_from_slice(&[
-                parts.lower << 4 | low,
-                parts.middle << 4 | parts.lower >> 4,
-                parts.upper << 4 | parts.middle >> 4,
+                (joined & 0xff) as u8,
+                (joined >> 8 & 0xff) as u8,
+                (joined >> 16) as u8,
             ])?;
             Ok(None)
         }
@@ -104,6 +106,7 @@ fn push_full(bytes: &mut Vec<u8>, low: Option<u8>, parts: Parts) -> Result<Optio
 
 // Makes bytes of semi-octets. A low one that no high one has followed is given back, and handed in with
 // the next ones.
+#[inline(never)]
 fn push_semis(bytes: &mut Vec<u8>, low: Option<u8>, semis: &Semis) -> Result<Option<u8>, AllocError>
     requires { IfSome low (λ digit. digit < 16) }
     ensures bytes { IfOk result (λ rest. semis_of_bytes bytes.new.items ++ option_to_list rest ≡ (semis_of_bytes bytes.old.items ++ option_to_list low) ++ semis.now) }

@@ -7,10 +7,10 @@ use Rattle.a429_ldu.proofs.bytes.bytes_of.Goals.{in-Some+in_ok-low, in_default+i
 pub loop-word-preserved : goal.loop-word-preserved
 loop-word-preserved c =
     let codes = c.args.profile.now.codes in
-    elim c.match-full_parts.branch [
+    elim c.match-full_number.branch [
       | in-Some+in_ok-low w ↦
           let word = w.in-Some.ensures in
-          let full = full_semis c.args.profile.now c.codes-codes.result.now c.word-item.result _ (record { profile = c.codes-codes.ensures.sound; codes = c.codes-codes.ensures.codes; parity = word.parity; label = word.label; word = word.word; fields = word.fields; kind = refl }) in
+          let full = full_semis c.args.profile.now c.codes-codes.result.now c.word-item.result w.in-Some.number word.range (record { profile = c.codes-codes.ensures.sound; codes = c.codes-codes.ensures.codes; parity = word.parity; label = word.label; word = word.word; fields = word.fields; kind = refl }) in
           rw (w.bytes-is, w.low-is) (record {
             semis = word-more codes c.args.words.now c.loop-word.word-index c.word-item.result _ _ _ (omega arith) c.word-item.is c.loop-word.invariant.semis (sym full) w.in_ok-low.ensures.bytes;
             low = w.in_ok-low.ensures.low;
