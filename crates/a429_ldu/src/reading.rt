@@ -12,6 +12,7 @@ use a429_profile::Codes;
 use a429_word::Bus;
 
 /// The form that a word of this bus with these numbers has.
+#[inline(never)]
 pub(crate) fn form_on(codes: &Codes, bus: Bus, parts: Parts) -> Option<Form>
     requires { parts.upper ≤ 15 }
     ensures { result ≡ form_on codes.now bus (record { kind = parts.kind; upper = parts.upper; middle = parts.middle; lower = parts.lower }) }

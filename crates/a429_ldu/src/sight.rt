@@ -26,6 +26,7 @@ pub enum Sight {
 }
 
 /// What a word says on a bus (ARINC 429 Part 3; where its numbers stand is the profile's).
+#[inline(always)]
 pub fn form(profile: &Profile, bus: Bus, word: Word) -> Sight
     ensures free { (result ≡ Sight.Free) ↔ IsFree profile.now.codes bus word }
     ensures found { (x : Form) → result ≡ Sight.Form x → IsForm profile.now.codes bus word x }
@@ -37,6 +38,7 @@ pub fn form(profile: &Profile, bus: Bus, word: Word) -> Sight
 
 // Most words of a recording are full data words. These are told first: no other word has their type,
 // and it is none of those that are ignored.
+#[inline(always)]
 fn seen(profile: &Profile, bus: Bus, word: Word) -> Sight
     ensures sight { result ≡ sight_of profile.now.codes bus word }
     ensures sound { IsProfile profile.now }
@@ -46,12 +48,18 @@ fn seen(profile: &Profile, bus: Bus, word: Word) -> Sight
         return Sight::Free;
     }
     let parts = parts_of(word);
-    if parts.kind != codes.full {
-        return other_sight(codes, bus, word);
+    if parts.kind == codes.full {
+        return match bus {
+            Bus::A => Sight::Form(full_form(parts)),
+            Bus::B => Sight::NoForm,
+        };
     }
-    match bus {
-        Bus::A => Sight::Form(full_form(parts)),
-        Bus::B => Sight::NoForm,
+    if is_ignored(codes, parts) {
+        return Sight::Free;
+    }
+    match form_on(codes, bus, parts) {
+        Some(form) => Sight::Form(form),
+        None => Sight::NoForm,
     }
 }
 
@@ -63,23 +71,8 @@ pub(crate) fn is_addressed(codes: &Codes, bus: Bus, word: Word) -> bool
     word.parity_ok() && word.label() == address(codes, bus)
 }
 
-// What a word says that has odd parity and the address label of its bus.
-#[inline(never)]
-fn other_sight(codes: &Codes, bus: Bus, word: Word) -> Sight
-    requires { HasOddParity word × (label_of word ≡ address_of codes.now bus) }
-    ensures { result ≡ sight_of codes.now bus word }
-{
-    let parts = parts_of(word);
-    if is_ignored(codes, parts) {
-        return Sight::Free;
-    }
-    match form_on(codes, bus, parts) {
-        Some(form) => Sight::Form(form),
-        None => Sight::NoForm,
-    }
-}
-
 // Whether the profile ignores words with these numbers.
+#[inline(never)]
 fn is_ignored(codes: &Codes, parts: Parts) -> bool
     ensures { IsTrue result ↔ (Contains codes.now.ignored_types parts.kind ⊎ ((parts.kind ≡ codes.now.protocol) × Contains codes.now.ignored_codes parts.upper)) }
 {
