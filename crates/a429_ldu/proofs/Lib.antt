@@ -6,7 +6,7 @@ pub mod Joined
 pub mod Packed
 pub mod Seen
 pub mod Division
-pub mod Nibbles
+pub mod Down
 pub mod CheckWord
 pub mod Carried
 pub mod Units
