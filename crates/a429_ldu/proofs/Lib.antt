@@ -13,3 +13,4 @@ pub mod Units
 pub mod Pieces
 pub mod Cuts
 pub mod Digits
+pub mod Fulls
