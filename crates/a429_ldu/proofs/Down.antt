@@ -1,11 +1,12 @@
 -- A register whose bits stand in the other order, and a table for eight bits.
-use Rattle.std.proofs.Common.{◌≡◌, ℕ, zero, suc, ◌+◌, ◌*◌, ◌/◌, ◌%◌, ◌^◌, ◌<◌, cond, eqb, refl, sym, ap, ◌∙◌, arith, bit_and, bit_xor, fold, replicate, List, [], ◌∷◌, true, false, Bool, pow-suc}
+use Rattle.std.proofs.lemmas.Bool.{cases_lt}
+use Rattle.std.proofs.Common.{◌≡◌, ℕ, get_or, inl, inr, ◌-◌, zero, suc, ◌+◌, ◌*◌, ◌/◌, ◌%◌, ◌^◌, ◌<◌, cond, eqb, refl, sym, ap, ◌∙◌, arith, bit_and, bit_xor, fold, replicate, List, [], ◌∷◌, true, false, Bool, pow-suc}
 use Rattle.std.specs.Int.{bit_at, reverse_bits_onto}
 use Rattle.std.proofs.lemmas.Nat.{xor_mod, xor_lt, and_le_r, xor_shr, xor_block, xor_comm, and_mask, mod-pow-add}
 use Rattle.std.specs.Int.Bits.{xor_assoc, xor_self, xor_zero_r, xor_shifted}
 use Rattle.std.proofs.lemmas.Nat.Bits.{bit_at_xor, bit_at-suc}
 use Rattle.a429_ldu.specs.CheckWord.{fed_bits}
-use Rattle.a429_ldu.specs.Register.{fed, fed_down}
+use Rattle.a429_ldu.specs.Register.{fed, fed_down, IsTable}
 
 by_tests : (s t a b p : ℕ) → s < 2 → t < 2 → cond (eqb ((s + t) % 2) 1) (bit_xor (bit_xor a b) p) (bit_xor a b) ≡ bit_xor (cond (eqb s 1) (bit_xor a p) a) (cond (eqb t 1) (bit_xor b p) b)
 by_tests zero zero a b p h k = refl
@@ -55,6 +56,29 @@ moves (suc k) p x i =
     let half : fed_down p (x * 2 ^ suc k) 0 ≡ x * 2 ^ k = quiet p (x * 2 ^ suc k) 0 (omega arith) ∙ omega arith in
     ap (λ s. fold (fed_down p) s (replicate k 0)) (fed_down-xor p (x * 2 ^ suc k) i 0 0 0 refl ∙ ap (λ y. bit_xor y (fed_down p i 0)) half)
     ∙ moves k p x (fed_down p i 0)
+
+-- bits 0 that are fed to an exclusive or
+zeros-xor : (k p a b : ℕ) → fold (fed_down p) (bit_xor a b) (replicate k 0) ≡ bit_xor (fold (fed_down p) a (replicate k 0)) (fold (fed_down p) b (replicate k 0))
+zeros-xor zero p a b = refl
+zeros-xor (suc k) p a b = ap (λ s. fold (fed_down p) s (replicate k 0)) (fed_down-xor p a b 0 0 0 refl) ∙ zeros-xor k p (fed_down p a 0) (fed_down p b 0)
+
+-- an entry of a table by two shorter ones
+pub entry : (p h i : ℕ) → i < 16 → fold (fed_down p) (16 * h + i) (replicate 8 0) ≡ bit_xor (fold (fed_down p) i (replicate 8 0)) (fold (fed_down p) h (replicate 4 0))
+entry p h i less =
+    let apart : 16 * h + i ≡ bit_xor (h * 2 ^ 4) i = omega arith ∙ sym (xor_shifted h 4 i less) in
+    ap (λ s. fold (fed_down p) s (replicate 8 0)) apart ∙ ap (λ s. fold (fed_down p) s (replicate 4 0)) (moves 4 p h i) ∙ zeros-xor 4 p (fold (fed_down p) i (replicate 4 0)) h
+
+-- sixteen entries more
+pub row_more : (p h : ℕ) (low old new : List ℕ) (v : ℕ) → IsTable 16 p low → v ≡ fold (fed_down p) h (replicate 4 0) → ((i : ℕ) → i < 16 → get_or new (16 * h + i) 0 ≡ bit_xor (get_or low i 0) v) → ((i : ℕ) → i < 16 * h → get_or new i 0 ≡ get_or old i 0) →
+    IsTable (16 * h) p old → IsTable (16 * (h + 1)) p new
+row_more p h low old new v table ev filled kept before = λ i less. elim (cases_lt i (16 * h)) [
+  | inl below ↦ kept i below ∙ before i below
+  | inr above ↦
+      let j = i - 16 * h in
+      let small : j < 16 = omega arith in
+      let place : 16 * h + j ≡ i = omega arith in
+      ap (λ m. get_or new m 0) (sym place) ∙ filled j small ∙ ap (λ m. bit_xor m v) (table j small) ∙ ap (bit_xor (fold (fed_down p) j (replicate 8 0))) ev ∙ sym (entry p h j small) ∙ ap (λ m. fold (fed_down p) m (replicate 8 0)) place
+]
 
 low_bits-8 : (n : ℕ) → low_bits 8 n ≡ fed_bits true n
 low_bits-8 n =

@@ -21,6 +21,6 @@ check_by_register k bytes = bit_xor (if k.low_first then reverse_bits_onto 16 (r
 abbrev pub fed_down : ℕ → ℕ → ℕ → ℕ
 fed_down poly register b = if (register + b) % 2 == 1 then bit_xor (register / 2) poly else register / 2
 
--- what eight bits 0 make of each register below 256
-abbrev pub IsTable : ℕ → List ℕ → Type 0
-IsTable poly table = (i : ℕ) → i < 256 → slice_index table i ≡ fold (fed_down poly) i (replicate 8 0)
+-- what eight bits 0 make of each register below a number
+abbrev pub IsTable : ℕ → ℕ → List ℕ → Type 0
+IsTable count poly table = (i : ℕ) → i < count → slice_index table i ≡ fold (fed_down poly) i (replicate 8 0)

@@ -1,6 +1,6 @@
 //! The check word of bytes, by a register that takes eight bits at a time.
 
-ghost use Rattle.std.specs.Prelude.{◌≡◌, true, fold, replicate, if◌then◌else◌};
+ghost use Rattle.std.specs.Prelude.{◌≡◌, ◌≤◌, ◌<◌, ◌+◌, ℕ, true, bit_xor, fold, replicate, slice_index, if◌then◌else◌};
 ghost use Rattle.std.specs.Int.{reverse_bits_onto};
 ghost use Rattle.a429_ldu.specs.CheckWord.{fed_bits, check_of};
 ghost use Rattle.a429_ldu.specs.Register.{fed_down, IsTable};
@@ -26,17 +26,22 @@ pub fn check_word(check: &Check, bytes: &[u8]) -> u16
 struct Table {
     poly: u16,
     entries: [u16; 256],
-    ghost is_table: { IsTable poly entries },
+    ghost is_table: { IsTable 256 poly entries },
 }
 
 impl Table {
     fn new(poly: u16) -> Table
         ensures { result.poly ≡ poly }
     {
+        let low = low_entries(poly);
         let mut entries = [0; 256];
-        for i in 0..256 {
-            let halfway = after_four(poly, i);
-            entries[i as usize] = after_four(poly, halfway);
+        for high in 0..16 {
+            fill(
+                &mut entries,
+                16 * high as usize,
+                &low,
+                after_four(poly, high),
+            );
         }
         Table { poly, entries }
     }
@@ -47,6 +52,29 @@ impl Table {
     {
         let lowest = (register & 255) as u8 ^ byte;
         self.entries[usize::from(lowest)] ^ (register >> 8)
+    }
+}
+
+// The first sixteen entries of a table.
+fn low_entries(poly: u16) -> [u16; 16]
+    ensures { IsTable 16 poly result }
+{
+    let mut entries = [0; 16];
+    for i in 0..16 {
+        let halfway = after_four(poly, i);
+        entries[i as usize] = after_four(poly, halfway);
+    }
+    entries
+}
+
+// Fills sixteen entries, from a place on, with the low ones, each exclusive-ored with a number.
+fn fill(entries: &mut [u16; 256], at: usize, low: &[u16; 16], high: u16)
+    requires { at + 16 ≤ 256 }
+    ensures filled { (i : ℕ) → i < 16 → slice_index entries.new (at + i) ≡ bit_xor (slice_index low.now i) high }
+    ensures kept { (i : ℕ) → i < at → slice_index entries.new i ≡ slice_index entries.old i }
+{
+    for i in 0..16 {
+        entries[at + i] = low[i] ^ high;
     }
 }
 
