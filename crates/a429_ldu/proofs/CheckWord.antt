@@ -9,8 +9,9 @@ use Rattle.std.proofs.lemmas.Nat.{mod-pow-add, pow-add, xor_lt}
 use Rattle.std.proofs.lemmas.Nat.Bits.{bit_at-lt}
 use Rattle.a429_profile.specs.declared.codes.Check.{Check}
 use Rattle.a429_ldu.specs.CheckWord.{top_bits, fed_bits, remainder_number, check_of}
-use Rattle.a429_ldu.specs.Register.{fed, register_after, check_by_register}
+use Rattle.a429_ldu.specs.Register.{fed, fed_down, register_after, check_by_register}
 use Rattle.a429_ldu.proofs.Division.{AreBits, AreBits-append, register-divides}
+use Rattle.a429_ldu.proofs.Down.{turned, turned-fold, turned_back}
 
 AreBits-top_bits : (k n : ℕ) → AreBits (top_bits k n)
 AreBits-top_bits zero n = tt
@@ -25,13 +26,13 @@ AreBits-fed low_first [] = tt
 AreBits-fed low_first (b ∷ bytes) = AreBits-append (fed_bits low_first b) (flat_map (fed_bits low_first) bytes) (AreBits-fed_bits low_first b) (AreBits-fed low_first bytes)
 
 -- one byte more
-pub byte_more : (p init r s byte i : ℕ) (low_first : Bool) (bytes : List ℕ) → i < length bytes → r ≡ fold (fed p) init (flat_map (fed_bits low_first) (take i bytes)) →
-    top_bits 8 byte ≡ fed_bits low_first (get_or bytes i 0) → s ≡ fold (fed p) r (top_bits 8 byte) → s ≡ fold (fed p) init (flat_map (fed_bits low_first) (take (i + 1) bytes))
-byte_more p init r s byte i low_first bytes room er eb es =
+pub byte_more : (g : ℕ → ℕ → ℕ) (init r s i : ℕ) (low_first : Bool) (bytes bits : List ℕ) → i < length bytes → r ≡ fold g init (flat_map (fed_bits low_first) (take i bytes)) →
+    bits ≡ fed_bits low_first (get_or bytes i 0) → s ≡ fold g r bits → s ≡ fold g init (flat_map (fed_bits low_first) (take (i + 1) bytes))
+byte_more g init r s i low_first bytes bits room er eb es =
     let f = fed_bits low_first in
     let b = get_or bytes i 0 in
     let more : flat_map f (take (i + 1) bytes) ≡ flat_map f (take i bytes) ++ f b = ap (flat_map f) (take_more bytes i 0 room) ∙ flat_map-append f (take i bytes) (b ∷ []) ∙ ap (λ xs. flat_map f (take i bytes) ++ xs) (append-nil (f b)) in
-    es ∙ ap (fold (fed p) r) eb ∙ ap (λ x. fold (fed p) x (f b)) er ∙ sym (ap (fold (fed p) init) more ∙ fold-append (fed p) init (flat_map f (take i bytes)) (f b))
+    es ∙ ap (fold g r) eb ∙ ap (λ x. fold g x (f b)) er ∙ sym (ap (fold g init) more ∙ fold-append g init (flat_map f (take i bytes)) (f b))
 
 number-top_bits : (k n a : ℕ) → number_from_digits_after 2 a (top_bits k n) ≡ a * 2 ^ k + n % 2 ^ k
 number-top_bits zero n a = omega arith
@@ -78,19 +79,14 @@ reversed_7 : (n : ℕ) → bit_at (reverse_bits_onto 8 n 0) 7 ≡ bit_at n 0
 unfolding reverse_bits_onto
 reversed_7 n = omega arith
 
-pub reversed-byte : (n : ℕ) → top_bits 8 (reverse_bits_onto 8 n 0) ≡ fed_bits true n
-reversed-byte n = cc (reversed_0 n, reversed_1 n, reversed_2 n, reversed_3 n, reversed_4 n, reversed_5 n, reversed_6 n, reversed_7 n)
+-- a byte whose bits are reversed, the lowest first, is the byte, the highest first
+pub reversed-byte : (t : Bool) (n r : ℕ) → t ≡ false → r ≡ reverse_bits_onto 8 n 0 → fed_bits true r ≡ fed_bits t n
+reversed-byte t n r et er = ap (fed_bits true) er ∙ turned ∙ ap (λ b. fed_bits b n) (sym et)
+  where
+    turned : fed_bits true (reverse_bits_onto 8 n 0) ≡ fed_bits false n
+    turned = cc (reversed_0 n, reversed_1 n, reversed_2 n, reversed_3 n, reversed_4 n, reversed_5 n, reversed_6 n, reversed_7 n)
 
-pub ordered-then : (t : Bool) (n r : ℕ) → t ≡ true → r ≡ reverse_bits_onto 8 n 0 → top_bits 8 r ≡ fed_bits t n
-ordered-then t n r et er = ap (top_bits 8) er ∙ reversed-byte n ∙ ap (λ b. fed_bits b n) (sym et)
-
-pub finished-then : (t : Bool) (n r : ℕ) → t ≡ true → r ≡ reverse_bits_onto 16 n 0 → r ≡ remainder_number t (top_bits 16 n)
-finished-then t n r et er = er ∙ number-reversed n ∙ ap (λ b. remainder_number b (top_bits 16 n)) (sym et)
-
-pub finished-else : (t : Bool) (n : ℕ) → t ≡ false → n < 65536 → n ≡ remainder_number t (top_bits 16 n)
-finished-else t n et h = sym (number-16 n h) ∙ ap (λ b. remainder_number b (top_bits 16 n)) (sym et)
-
-pub whole : (k : Check) (r s : ℕ) (bytes : List ℕ) → r ≡ register_after k bytes → s ≡ remainder_number k.low_first (top_bits 16 r) → bit_xor s k.xor ≡ check_of k bytes
+whole : (k : Check) (r s : ℕ) (bytes : List ℕ) → r ≡ register_after k bytes → s ≡ remainder_number k.low_first (top_bits 16 r) → bit_xor s k.xor ≡ check_of k bytes
 whole k r s bytes er es =
     ap (λ x. bit_xor x k.xor) (es ∙ ap (λ x. remainder_number k.low_first (top_bits 16 x)) er
     ∙ ap (remainder_number k.low_first) (sym (register-divides k.poly k.init (flat_map (fed_bits k.low_first) bytes) (AreBits-fed k.low_first bytes))))
@@ -144,3 +140,20 @@ check-by-register k bytes hp hi =
     let r = register_after k bytes in
     let small : r < 65536 = fold-fed-lt k.poly k.init (flat_map (fed_bits k.low_first) bytes) hp hi in
     whole k r (cond k.low_first (reverse_bits_onto 16 r 0) r) bytes refl (reversed k.low_first r small)
+
+-- ---- the same by a register whose bits stand in the other order
+
+pub by_down : (k : Check) (r s : ℕ) (bytes : List ℕ) → k.poly < 2 ^ 16 → k.init < 2 ^ 16 → r ≡ fold (fed_down (turned k.poly)) (turned k.init) (flat_map (fed_bits k.low_first) bytes) → s ≡ cond k.low_first r (turned r) →
+    bit_xor s k.xor ≡ check_of k bytes
+by_down k r s bytes hp hi er es =
+    ap (λ x. bit_xor x k.xor) (es ∙ ordered k.low_first) ∙ check-by-register k bytes hp hi
+  where
+    after : ℕ
+    after = register_after k bytes
+
+    same : r ≡ turned after
+    same = er ∙ turned-fold k.poly k.init (flat_map (fed_bits k.low_first) bytes)
+
+    ordered : (t : Bool) → cond t r (turned r) ≡ cond t (turned after) after
+    ordered true = same
+    ordered false = ap turned same ∙ turned_back after (fold-fed-lt k.poly k.init (flat_map (fed_bits k.low_first) bytes) hp hi)

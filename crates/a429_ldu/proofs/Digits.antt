@@ -6,7 +6,7 @@ use Rattle.a429_ldu.specs.declared.forms.Form.TheVariants.{Part}
 use Rattle.a429_ldu.specs.Semis.{semis_of_bytes}
 use Rattle.a429_ldu.specs.Kept.{AreKept}
 use Rattle.a429_ldu.specs.Form.{word_number}
-use Rattle.a429_ldu.specs.Cut.{fives, data_words}
+use Rattle.a429_ldu.specs.Cut.{fives}
 use Rattle.a429_ldu.proofs.Pieces.{length-semis}
 
 -- ---- a semi-octet at its place
@@ -86,8 +86,8 @@ fives_more (a ∷ b ∷ c ∷ d ∷ e ∷ rest) h = refl
 abbrev pub words_from : Codes → List ℕ → ℕ → List ℕ
 words_from c bs at = map (λ semis. word_number c (Part semis)) (fives (drop at (semis_of_bytes bs)))
 
-pub word_more : (c : Codes) (bs done words semis : List ℕ) (at word : ℕ) → at < 2 * length bs → semis ≡ take 5 (drop at (semis_of_bytes bs)) → word ≡ word_number c (Part semis) → words ≡ done ++ word ∷ [] → done ++ words_from c bs at ≡ data_words c bs → words ++ words_from c bs (at + 5) ≡ data_words c bs
-word_more c bs done words semis at word h es ew eq e =
+pub word_more : (c : Codes) (bs done words semis total : List ℕ) (at word : ℕ) → at < 2 * length bs → semis ≡ take 5 (drop at (semis_of_bytes bs)) → word ≡ word_number c (Part semis) → words ≡ done ++ word ∷ [] → done ++ words_from c bs at ≡ total → words ++ words_from c bs (at + 5) ≡ total
+word_more c bs done words semis total at word h es ew eq e =
     let ss = semis_of_bytes bs in
     let left : length (drop at ss) ≡ 2 * length bs - at = length-drop at ss ∙ ap (λ l. l - at) (length-semis bs) in
     let step : words_from c bs at ≡ word ∷ words_from c bs (at + 5) =
@@ -95,8 +95,8 @@ word_more c bs done words semis at word h es ew eq e =
     ∙ ap (λ xs. word ∷ map (λ semis. word_number c (Part semis)) (fives xs)) (drop-drop 5 at ss) in
     ap (λ ws. ws ++ words_from c bs (at + 5)) eq ∙ append_assoc done (word ∷ []) (words_from c bs (at + 5)) ∙ ap (λ ws. done ++ ws) (sym step) ∙ e
 
-pub words_end : (c : Codes) (bs done : List ℕ) (at : ℕ) → 2 * length bs ≤ at → done ++ words_from c bs at ≡ data_words c bs → done ≡ data_words c bs
-words_end c bs done at h e =
+pub words_end : (c : Codes) (bs done total : List ℕ) (at : ℕ) → 2 * length bs ≤ at → done ++ words_from c bs at ≡ total → done ≡ total
+words_end c bs done total at h e =
     let ss = semis_of_bytes bs in
     let all : length ss ≤ at = let two = length-semis bs in omega arith in
     sym (ap (λ xs. done ++ map (λ semis. word_number c (Part semis)) (fives xs)) (drop_all at ss all) ∙ append-nil done) ∙ e

@@ -6,10 +6,11 @@ pub mod Joined
 pub mod Packed
 pub mod Seen
 pub mod Division
-pub mod Nibbles
+pub mod Down
 pub mod CheckWord
 pub mod Carried
 pub mod Units
 pub mod Pieces
 pub mod Cuts
 pub mod Digits
+pub mod Fulls

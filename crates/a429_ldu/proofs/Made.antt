@@ -13,7 +13,7 @@ small_fields w = record { kind = number_at-lt w 28 3; upper = number_at-lt w 24 
 
 -- ---- label and fields of a word that is put together
 
-label_bits-reversed : (l : ℕ) → label_bits l ≡ reverse_bits_onto 8 l 0
+pub label_bits-reversed : (l : ℕ) → label_bits l ≡ reverse_bits_onto 8 l 0
 unfolding sum_below reverse_bits_onto
 label_bits-reversed l = omega arith
 
@@ -21,7 +21,7 @@ reversed-lt : (l : ℕ) → reverse_bits_onto 8 l 0 < 256
 unfolding reverse_bits_onto
 reversed-lt l = omega arith
 
-label_bits-lt : (l : ℕ) → label_bits l < 256
+pub label_bits-lt : (l : ℕ) → label_bits l < 256
 label_bits-lt l = let small = reversed-lt l in let e = label_bits-reversed l in omega arith
 
 label_read : (w l : ℕ) → l < 256 → w % 256 ≡ label_bits l → label_of w ≡ l

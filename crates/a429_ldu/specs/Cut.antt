@@ -1,10 +1,10 @@
 -- How a file is cut into link data units (profile).
-use Rattle.std.specs.Prelude.{ℕ, zero, suc, ◌-◌, ◌*◌, ◌/◌, ◌^◌, ◌≡◌, nat_le, if◌then◌else◌, true, false, List, [], ◌∷◌, length, take, drop, map, ◌≤◌}
+use Rattle.std.specs.Prelude.{ℕ, zero, suc, ◌+◌, ◌-◌, ◌*◌, ◌/◌, ◌^◌, ◌≡◌, nat_le, if◌then◌else◌, true, false, List, [], ◌∷◌, length, take, drop, map, ◌≤◌}
 use Rattle.a429_profile.specs.declared.codes.Codes.{Codes}
 use Rattle.a429_profile.specs.Contents.{Contents}
 use Rattle.a429_ldu.specs.declared.forms.Form.TheVariants.{Part}
 use Rattle.a429_ldu.specs.Semis.{semis_of_bytes}
-use Rattle.a429_ldu.specs.Form.{word_number}
+use Rattle.a429_ldu.specs.Form.{label_bits, word_number}
 use Rattle.a429_ldu.specs.CheckWord.{check_of}
 use Rattle.a429_ldu.specs.Ldu.{LduValue, is_final}
 
@@ -17,6 +17,10 @@ fives rest = rest ∷ []
 -- the data words of bytes: full words, and then at most one partial word
 abbrev pub data_words : Codes → List ℕ → List ℕ
 data_words c bytes = map (λ semis. word_number c (Part semis)) (fives (semis_of_bytes bytes))
+
+-- the label and the type of a full data word, where they stand in it
+abbrev pub full_frame : Codes → ℕ
+full_frame c = label_bits c.to_sink + c.full * 2 ^ 28
 
 -- the link data unit of bytes
 abbrev pub unit_of : Contents → List ℕ → ℕ → LduValue

@@ -1,5 +1,5 @@
 -- The check word of bytes, by a register of 16 bits that takes bit after bit (profile).
-use Rattle.std.specs.Prelude.{ℕ, ◌+◌, ◌*◌, ◌%◌, ◌<◌, ◌≡◌, ◌==◌, if◌then◌else◌, List, [], ◌∷◌, bit_xor, fold, slice_index}
+use Rattle.std.specs.Prelude.{ℕ, ◌+◌, ◌*◌, ◌/◌, ◌%◌, ◌<◌, ◌≡◌, ◌==◌, if◌then◌else◌, List, replicate, bit_xor, fold, slice_index}
 use Rattle.std.specs.Int.{bit_at, reverse_bits_onto}
 use Rattle.std.specs.List.{flat_map}
 use Rattle.a429_profile.specs.declared.codes.Check.{Check}
@@ -17,6 +17,10 @@ register_after k bytes = fold (fed k.poly) k.init (flat_map (fed_bits k.low_firs
 abbrev pub check_by_register : Check → List ℕ → ℕ
 check_by_register k bytes = bit_xor (if k.low_first then reverse_bits_onto 16 (register_after k bytes) 0 else register_after k bytes) k.xor
 
--- what four bits 0 make of a register that has a number of four bits at its top and zeros below
-abbrev pub IsTable : ℕ → List ℕ → Type 0
-IsTable poly table = (i : ℕ) → i < 16 → slice_index table i ≡ fold (fed poly) (i * 4096) (0 ∷ 0 ∷ 0 ∷ 0 ∷ [])
+-- one bit more of a register whose bits stand in the other order, as do those of the polynomial: it moves down one place
+abbrev pub fed_down : ℕ → ℕ → ℕ → ℕ
+fed_down poly register b = if (register + b) % 2 == 1 then bit_xor (register / 2) poly else register / 2
+
+-- what eight bits 0 make of each register below a number
+abbrev pub IsTable : ℕ → ℕ → List ℕ → Type 0
+IsTable count poly table = (i : ℕ) → i < count → slice_index table i ≡ fold (fed_down poly) i (replicate 8 0)

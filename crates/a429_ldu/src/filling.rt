@@ -1,8 +1,10 @@
 //! The data words of bytes.
 
-ghost use Rattle.std.specs.Prelude.{◌≡◌, ◌≤◌, ◌<◌, ◌*◌, min, IfOk, length, take, drop, slice_index};
+ghost use Rattle.std.specs.Prelude.{◌≡◌, ◌≤◌, ◌<◌, ◌+◌, ◌*◌, ◌^◌, ◌++◌, min, IfOk, OnOk, length, take, drop, slice_index};
+ghost use Rattle.a429_profile.specs.declared.codes.Codes.{Codes};
 ghost use Rattle.a429_ldu.specs.Semis.{semis_of_bytes};
-ghost use Rattle.a429_ldu.specs.Cut.{data_words};
+ghost use Rattle.a429_ldu.specs.Form.{with_parity_bit};
+ghost use Rattle.a429_ldu.specs.Cut.{data_words, full_frame};
 
 use crate::forms::Form;
 use crate::semis::Semis;
@@ -20,13 +22,66 @@ pub(crate) fn data_words(
     requires { length bytes.now ≤ 632 }
     ensures { IfOk result (λ words. words.items ≡ data_words profile.now.codes bytes.now) }
 {
-    let mut words = Vec::new(alloc);
+    let frame = full_frame(profile);
+    let mut words = Vec::with_capacity(alloc, (2 * bytes.len()).div_ceil(5))?;
+    let mut rest = bytes;
+    while let [first, second, third, fourth, fifth, later @ ..] = rest {
+        let [low, high] = two_words(frame, [*first, *second, *third, *fourth, *fifth]);
+        words.push(low)?;
+        words.push(high)?;
+        rest = later;
+    }
+    add_words(&mut words, profile, rest)?;
+    Ok(words)
+}
+
+// What stands in each full data word beside its semi-octets and its parity bit.
+fn full_frame(profile: &Profile) -> u32
+    ensures value { result ≡ full_frame profile.now.codes }
+    ensures room { result < 7 * 2 ^ 28 + 2 ^ 8 }
+{
+    let codes = profile.codes();
+    u32::from(codes.to_sink.reverse_bits()) + (u32::from(codes.full) << 28)
+}
+
+// The two full data words of five bytes.
+fn two_words(frame: u32, bytes: [u8; 5]) -> [Word; 2]
+    requires { frame < 7 * 2 ^ 28 + 2 ^ 8 }
+    ensures { (codes : Codes) → frame ≡ full_frame codes → result ≡ data_words codes bytes }
+{
+    let [first, second, third, fourth, fifth] = bytes;
+    let low = u32::from(first)
+        + (u32::from(second) << 8)
+        + (u32::from(third) << 16)
+        + (u32::from(fourth) << 24);
+    [
+        full_word(frame, low % (1 << 20)),
+        full_word(frame, (low >> 20) + (u32::from(fifth) << 12)),
+    ]
+}
+
+// The full data word with these semi-octets, of which the first stands lowest.
+fn full_word(frame: u32, semis: u32) -> Word
+    requires frame { frame < 7 * 2 ^ 28 + 2 ^ 8 }
+    requires semis { semis < 2 ^ 20 }
+    ensures { result ≡ with_parity_bit (frame + semis * 2 ^ 8) }
+{
+    let number = frame + (semis << 8);
+    let parity_bit = 1 - number.count_ones() % 2;
+    Word::from_u32(number + (parity_bit << 31))
+}
+
+// Adds the data words of bytes.
+fn add_words(words: &mut Vec<Word>, profile: &Profile, bytes: &[u8]) -> Result<(), AllocError>
+    requires { length bytes.now ≤ 632 }
+    ensures { OnOk result (words.new.items ≡ words.old.items ++ data_words profile.now.codes bytes.now) }
+{
     let mut at = 0;
     while at < 2 * bytes.len() {
         words.push(word_of(profile, &Form::Part(semis_at(bytes, at))))?;
         at += 5;
     }
-    Ok(words)
+    Ok(())
 }
 
 // The semi-octets from a place on, at most five.

@@ -1,12 +1,10 @@
-use Rattle.std.proofs.Common.{arith}
-use Rattle.a429_ldu.proofs.Digits.{word_more, words_end}
+use Rattle.a429_ldu.specs.Cut.{data_words}
+use Rattle.a429_ldu.proofs.Fulls.{two_more, most_left}
 use Rattle.a429_ldu.proofs.filling.data_words.Goals as goal
 
-pub loop-at-preserved : goal.loop-at-preserved
-loop-at-preserved c = record {
-  words = word_more c.args.profile.now.codes c.args.bytes.now c.loop-at.words.items c.push.new.self.items c.semis_at.result c.loop-at.at c.word_of.result c.loop-at-test.true c.semis_at.ensures c.word_of.ensures.number c.in_ok-push.ensures.items c.loop-at.invariant.words;
-  at = omega arith;
+pub loop-rest-preserved : goal.loop-rest-preserved
+loop-rest-preserved c = record {
+  words = two_more c.args.profile.now.codes c.loop-rest.words.items c.push.new.self.items c.push-in-len5-up.new.self.items c.loop-rest.rest.now c.two_words.result (data_words c.args.profile.now.codes c.args.bytes.now) c.index-two_words-0.result c.index-two_words-1.result
+      c.in-len5-up.len_at_least (c.two_words.ensures c.args.profile.now.codes c.full_frame-frame.ensures.value) c.in_ok-push.ensures.items c.in_ok-push-2.ensures.items c.loop-rest.invariant.words;
+  most = most_left c.loop-rest.rest.now c.loop-rest.invariant.most;
 }
-
-pub returns : goal.returns
-returns c = words_end c.args.profile.now.codes c.args.bytes.now c.loop-at.words.items c.loop-at.at c.loop-at-test.false c.loop-at.invariant.words

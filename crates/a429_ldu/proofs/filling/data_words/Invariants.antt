@@ -1,13 +1,12 @@
-use Rattle.std.proofs.Common.{◌≡◌, ◌++◌, ◌*◌, ◌-◌, ◌≤◌, ◌+◌, length}
+use Rattle.std.proofs.Common.{◌≡◌, ◌++◌, ◌≤◌, length}
 use Rattle.a429_ldu.specs.Cut.{data_words}
-use Rattle.a429_ldu.proofs.Digits.{words_from}
 use Rattle.a429_ldu.proofs.filling.data_words.Given as goal
 
-abbrev pub invariant-loop-at : goal.invariant-loop-at
-invariant-loop-at l = record {
-  words : l.words.items ++ words_from l.profile.codes l.bytes l.at ≡ data_words l.profile.codes l.bytes;
-  at : l.at ≤ 2 * length l.bytes + 4;
+abbrev pub invariant-loop-rest : goal.invariant-loop-rest
+invariant-loop-rest l = record {
+  words : l.words.items ++ data_words l.profile.codes l.rest ≡ data_words l.profile.codes l.bytes;
+  most : length l.rest ≤ 632;
 }
 
-abbrev pub decreases-loop-at : goal.decreases-loop-at
-decreases-loop-at l = 2 * length l.bytes + 5 - l.at
+abbrev pub decreases-loop-rest : goal.decreases-loop-rest
+decreases-loop-rest l = length l.rest

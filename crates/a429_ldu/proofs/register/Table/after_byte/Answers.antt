@@ -1,6 +1,10 @@
-use Rattle.a429_ldu.proofs.Nibbles.{two_nibbles}
+use Rattle.std.proofs.Common.{arith}
+use Rattle.a429_ldu.proofs.Down.{by_table, place_below}
 use Rattle.a429_ldu.proofs.register.Table.after_byte.Goals as goal
 
 pub returns : goal.returns
 returns c =
-    two_nibbles c.args.self.now.poly c.args.register c.args.byte c.from.result c.from-2.result c.after_four-halfway.result c.after_four.result c.from.ensures c.from-2.ensures c.after_four-halfway.ensures c.after_four.ensures
+    let r = c.args.register in
+    let v = c.args.byte in
+    let i = c.from.result in
+    by_table c.args.self.now.poly r v i _ (omega arith) c.from.ensures (c.args.self.now.is_table i (place_below r v i (omega arith) c.from.ensures))
