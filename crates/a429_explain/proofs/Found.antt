@@ -1,7 +1,7 @@
 -- Searches through the words of a group, one word after the other.
 use Rattle.std.proofs.Common.{◌≡◌, ◌≢◌, ℕ, zero, suc, ◌+◌, ◌-◌, ◌≤◌, ◌<◌, Bool, true, false, cond, not, ◌&&◌, List, [], ◌∷◌, length, take, drop, slice_get, slice_range, Option, Some, None, IfSome, is_some, refl, sym, ap, ◌∙◌, subst, arith, eq-eqb}
 use Rattle.std.proofs.lemmas.Bool.{ne_eqb}
-use Rattle.std.proofs.lemmas.List.{drop_more}
+use Rattle.std.proofs.lemmas.List.{drop_more, drop_all}
 use Rattle.std.proofs.lemmas.Option.{slice_get_within, get_or_from_slice_get}
 use Rattle.std.proofs.Common.{get_or}
 use Rattle.std.specs.Option.{option_or}
@@ -21,7 +21,7 @@ use Rattle.a429_ldu.proofs.Joined.{form_of-is}
 use Rattle.a429_link.specs.declared.seen.Seen.{Seen}
 use Rattle.a429_link.specs.Sink.{agrees, bytes_in}
 use Rattle.a429_cert.specs.Explained.{items_of}
-use Rattle.a429_explain.specs.Attempts.{forms_of, next_start}
+use Rattle.a429_explain.specs.Attempts.{next_start}
 use Rattle.a429_explain.specs.Said.{said_at}
 use Rattle.a429_explain.specs.Whole.{Recorded, gathered_with, is_whole, unit_made, ended_by, first_whole, wanted, is_other, other_request}
 use Rattle.a429_explain.specs.Crossed.{started, file_of}
@@ -96,27 +96,14 @@ next_past (Some (Nak b)) xs e = refl
 next_past (Some (Part s)) xs e = refl
 next_past (Some (Eot f k)) xs e = refl
 
-pub start_here : (c : Codes) (es : List Entry) (n : ℕ) (e : Entry) (o : Option Form) (file : ℕ) → n < length es → e ≡ get_or es n e → o ≡ form_of c e.bus e.word → Some file ≡ started o → file_of (next_start (forms_of c (drop n (items_of es)))) ≡ file
-start_here c es n e o file l h f s =
-    ap (λ (xs : List Seen). file_of (next_start (forms_of c xs))) (drop_next (items_of es) n (seen_in e) (entry_item es n e l h))
-    ∙ next_of (form_of c e.bus e.word) (forms_of c (drop (n + 1) (items_of es))) file (s ∙ ap started f)
+pub start_here : (said : List (Option Form)) (n : ℕ) (o : Option Form) (file : ℕ) → n < length said → o ≡ get_or said n o → Some file ≡ started o → file_of (next_start (drop n said)) ≡ file
+start_here said n o file l h s = ap (λ (xs : List (Option Form)). file_of (next_start xs)) (drop_more said n o l ∙ ap (λ (x : Option Form). x ∷ drop (n + 1) said) (sym h)) ∙ next_of o (drop (n + 1) said) file s
 
-pub start_past : (c : Codes) (es : List Entry) (n : ℕ) (e : Entry) (o : Option Form) → n < length es → e ≡ get_or es n e → o ≡ form_of c e.bus e.word → None ≡ started o → next_start (forms_of c (drop n (items_of es))) ≡ next_start (forms_of c (drop (n + 1) (items_of es)))
-start_past c es n e o l h f s =
-    ap (λ (xs : List Seen). next_start (forms_of c xs)) (drop_next (items_of es) n (seen_in e) (entry_item es n e l h))
-    ∙ next_past (form_of c e.bus e.word) (forms_of c (drop (n + 1) (items_of es))) (s ∙ ap started f)
+pub start_past : (said : List (Option Form)) (n : ℕ) (o : Option Form) → n < length said → o ≡ get_or said n o → None ≡ started o → next_start (drop n said) ≡ next_start (drop (n + 1) said)
+start_past said n o l h s = ap next_start (drop_more said n o l ∙ ap (λ (x : Option Form). x ∷ drop (n + 1) said) (sym h)) ∙ next_past o (drop (n + 1) said) s
 
-no_items : (es : List Entry) (n : ℕ) → length es ≤ n → drop n (items_of es) ≡ []
-no_items [] zero l = refl
-no_items [] (suc n) l = refl
-no_items (e ∷ es) zero l = absurd (omega arith)
-no_items (e ∷ es) (suc n) l = no_items es n (omega arith)
-
-pub start_none : (c : Codes) (es : List Entry) (n : ℕ) → length es ≤ n → file_of (next_start (forms_of c (drop n (items_of es)))) ≡ 0
-start_none c es n l = ap (λ (xs : List Seen). file_of (next_start (forms_of c xs))) (no_items es n l)
-
-pub from_first : (c : Codes) (es : List Entry) → next_start (forms_of c (items_of es)) ≡ next_start (forms_of c (drop 0 (items_of es)))
-from_first c es = refl
+pub start_none : (said : List (Option Form)) (n : ℕ) → length said ≤ n → file_of (next_start (drop n said)) ≡ 0
+start_none said n l = ap (λ (xs : List (Option Form)). file_of (next_start xs)) (drop_all n said l)
 
 -- ---- the first whole attempt
 
