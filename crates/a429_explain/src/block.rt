@@ -4,6 +4,7 @@ ghost use Rattle.std.specs.Prelude.{◌≡◌, ◌≢◌, ◌<◌, ◌≤◌, �
 ghost use Rattle.a429_ldu.specs.Ldu.{LduValue, IsLdu, count_of};
 ghost use Rattle.a429_explain.specs.declared.verdict.Doubt.TheVariants as doubt;
 ghost use Rattle.a429_cert.specs.Explained.{items_of};
+ghost use Rattle.a429_explain.specs.Attempts.{forms_of};
 ghost use Rattle.a429_explain.specs.Groups.{words_in};
 ghost use Rattle.a429_explain.specs.Said.{said_at};
 ghost use Rattle.a429_explain.specs.Doubt.{IsDoubtAt, IsStop};
@@ -17,7 +18,7 @@ use crate::matching::{Place, first_unmatched};
 use crate::stop::Stop;
 use crate::verdict::Doubt;
 use crate::whole::whole_unit;
-use a429_ldu::Ldu;
+use a429_ldu::{Form, Ldu};
 use a429_profile::Profile;
 use a429_record::Entry;
 use std::alloc::Global;
@@ -27,10 +28,12 @@ pub(crate) fn matched_unit(
     alloc: Global,
     profile: &Profile,
     entries: &[Entry],
+    said: &[Option<Form>],
     group: Group,
     count: u8,
     place: Place,
 ) -> Result<Ldu, Stop>
+    requires said { said.now ≡ forms_of profile.now.codes (items_of entries.now) }
     requires inside { group.to ≤ length entries.now }
     requires some { group.from < group.to }
     requires request { wanted (said_at profile.now.codes (slice_get (items_of entries.now) group.from)) ≡ Some count }
@@ -45,7 +48,7 @@ pub(crate) fn matched_unit(
         Ok(unit) => unit,
         Err(stop) => return Err(stop),
     };
-    match first_unmatched(profile, entries, group, &unit, place) {
+    match first_unmatched(profile, entries, said, group, &unit, place) {
         Some(entry) => {
             let doubt = Doubt::NotOneBlock;
             Err(Stop::Unexplained { entry, doubt })

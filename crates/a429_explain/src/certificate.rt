@@ -47,7 +47,7 @@ pub(crate) fn certificate_of(
         return Err(Stop::OutOfMemory);
     };
     let first = first_file(said);
-    let mut units = match units_of(alloc, profile, entries, roles.as_slice(), first) {
+    let mut units = match units_of(alloc, profile, entries, said, roles.as_slice(), first) {
         Ok(units) => units,
         Err(stop) => return Err(stop),
     };
@@ -108,10 +108,12 @@ fn units_of(
     alloc: Global,
     profile: &Profile,
     entries: &[Entry],
+    said: &[Option<Form>],
     roles: &[Role],
     first_file: u8,
 ) -> Result<VecDeque<Ldu>, Stop>
-    requires { roles.now ≡ roles_of (forms_of profile.now.codes (items_of entries.now)) }
+    requires said { said.now ≡ forms_of profile.now.codes (items_of entries.now) }
+    requires roles { roles.now ≡ roles_of (forms_of profile.now.codes (items_of entries.now)) }
     ensures units { IfOk result (λ units. AreUnits profile.now units.items) }
     ensures groups { IfOk result (λ units. AreUnitsOf profile.now (items_of entries.now) roles.now (record { file = first_file; ldu = profile.now.codes.first_ldu }) 0 units.items) }
     ensures fits { IfErr result (λ s. IsStop profile.now.codes (items_of entries.now) s) }
@@ -127,7 +129,7 @@ fn units_of(
     while at < roles.len() {
         if let Some(count) = wanted_at(profile, entries, at) {
             let group = group_at(roles, at);
-            let unit = match matched_unit(alloc, profile, entries, group, count, place) {
+            let unit = match matched_unit(alloc, profile, entries, said, group, count, place) {
                 Ok(unit) => unit,
                 Err(stop) => return Err(stop),
             };

@@ -12,19 +12,19 @@ use Rattle.a429_explain.proofs.certificate.units_of.Goals.{After-group_at-group}
 -- the group that begins here, where the recording is one without loss
 next : (c : After-group_at-group) (us : List LduValue) → AllFit c.args.profile.now c.args.profile.now.codes.first_ldu us → thin c.args.profile.now.codes (items_of c.args.entries.now) ≡ clean c.args.profile.now.codes c.args.first_file c.args.profile.now.codes.first_ldu us → IsNext c.args.profile.now (items_of c.args.entries.now) c.loop-at.units.items us c.loop-at.place c.group_at-group.result.from c.group_at-group.result.to
 next c =
-    let long = roles_long c.args.profile.now.codes c.args.entries.now c.args.roles.now c.requires in
+    let long = roles_long c.args.profile.now.codes c.args.entries.now c.args.roles.now c.requires.roles in
     let items = length-items_of c.args.entries.now in
     let inside : c.loop-at.at < length (items_of c.args.entries.now) = omega (arith, long, items, c.loop-at-test.true) in
-    finds_group c.args.profile.now c.codes.ensures.sound (items_of c.args.entries.now) c.args.roles.now c.args.first_file c.loop-at.units.items c.loop-at.place c.loop-at.at c.group_at-group.result.from c.group_at-group.result.to c.in-Some.count c.requires inside c.group_at-group.ensures.from c.group_at-group.ensures.to (sym c.in-Some.is ∙ c.wanted_at.ensures) c.loop-at.invariant
+    finds_group c.args.profile.now c.codes.ensures.sound (items_of c.args.entries.now) c.args.roles.now c.args.first_file c.loop-at.units.items c.loop-at.place c.loop-at.at c.group_at-group.result.from c.group_at-group.result.to c.in-Some.count c.requires.roles inside c.group_at-group.ensures.from c.group_at-group.ensures.to (sym c.in-Some.is ∙ c.wanted_at.ensures) c.loop-at.invariant
 
 pub wanted_at-requires : goal.wanted_at-requires
 wanted_at-requires c =
-    let long = roles_long c.args.profile.now.codes c.args.entries.now c.args.roles.now c.requires in
+    let long = roles_long c.args.profile.now.codes c.args.entries.now c.args.roles.now c.requires.roles in
     omega (arith, long, c.loop-at-test.true)
 
 pub matched_unit-requires-clause-inside : goal.matched_unit-requires-clause-inside
 matched_unit-requires-clause-inside c =
-    let long = roles_long c.args.profile.now.codes c.args.entries.now c.args.roles.now c.requires in
+    let long = roles_long c.args.profile.now.codes c.args.entries.now c.args.roles.now c.requires.roles in
     omega (arith, long, c.group_at-group.ensures.inside)
 
 pub returns-in-Err-clause-clean_err : goal.returns-in-Err-clause-clean_err
@@ -38,21 +38,21 @@ loop-at-preserved-in-Some c = finds_next c.args.profile.now c.codes.ensures.soun
 
 pub loop-at-preserved : goal.loop-at-preserved
 loop-at-preserved c =
-    let long = roles_long c.args.profile.now.codes c.args.entries.now c.args.roles.now c.requires in
+    let long = roles_long c.args.profile.now.codes c.args.entries.now c.args.roles.now c.requires.roles in
     let items = length-items_of c.args.entries.now in
     let inside : c.loop-at.at < length (items_of c.args.entries.now) = omega (arith, long, items, c.loop-at-test.true) in
     finds_free c.args.profile.now c.codes.ensures.sound (items_of c.args.entries.now) c.args.roles.now c.args.first_file c.loop-at.units.items c.loop-at.place c.loop-at.at inside (sym c.in_default.is ∙ c.wanted_at.ensures) c.loop-at.invariant
 
 pub returns-clause-groups : goal.returns-clause-groups
 returns-clause-groups c =
-    let long = roles_long c.args.profile.now.codes c.args.entries.now c.args.roles.now c.requires in
+    let long = roles_long c.args.profile.now.codes c.args.entries.now c.args.roles.now c.requires.roles in
     let items = length-items_of c.args.entries.now in
     let past : length (items_of c.args.entries.now) ≤ c.loop-at.at = omega (arith, long, items, c.loop-at-test.false) in
     finds_groups c.args.profile.now (items_of c.args.entries.now) c.args.roles.now c.args.first_file c.loop-at.units.items c.loop-at.place c.loop-at.at past c.loop-at.invariant
 
 pub returns-clause-clean : goal.returns-clause-clean
 returns-clause-clean c =
-    let long = roles_long c.args.profile.now.codes c.args.entries.now c.args.roles.now c.requires in
+    let long = roles_long c.args.profile.now.codes c.args.entries.now c.args.roles.now c.requires.roles in
     let items = length-items_of c.args.entries.now in
     let past : length (items_of c.args.entries.now) ≤ c.loop-at.at = omega (arith, long, items, c.loop-at-test.false) in
     finds_all c.args.profile.now (items_of c.args.entries.now) c.args.roles.now c.args.first_file c.loop-at.units.items c.loop-at.place c.loop-at.at past c.loop-at.invariant
