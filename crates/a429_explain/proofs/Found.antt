@@ -22,6 +22,10 @@ use Rattle.a429_link.specs.declared.seen.Seen.{Seen}
 use Rattle.a429_link.specs.Sink.{agrees, bytes_in}
 use Rattle.a429_cert.specs.Explained.{items_of}
 use Rattle.a429_explain.specs.Attempts.{next_start}
+use Rattle.a429_ldu.specs.declared.sight.Sight.{Sight}
+use Rattle.a429_ldu.specs.declared.sight.Sight.TheVariants as sight
+use Rattle.a429_explain.specs.declared.verdict.Doubt.TheVariants.{NotOneBlock}
+use Rattle.a429_explain.specs.Doubt.{IsDoubtOf, IsDoubtAt}
 use Rattle.a429_explain.specs.Said.{said_at}
 use Rattle.a429_explain.specs.Whole.{Recorded, gathered_with, is_whole, unit_made, ended_by, first_whole, wanted, is_other, other_request}
 use Rattle.a429_explain.specs.Crossed.{started, file_of}
@@ -73,6 +77,21 @@ other_none c count items at to l m e = other_next c count items at to false l m 
 
 pub other_end : (c : Codes) (count : ℕ) (items : List Seen) (at to : ℕ) → to ≤ at → other_request c count (slice_range items at to) at ≡ None
 other_end c count items at to l = ap (λ (xs : List Seen). other_request c count xs at) (range_end items at to l)
+
+-- a request can be doubted
+pub request_doubt : (c : Codes) (items : List Seen) (n wants : ℕ) → Some wants ≡ wanted (said_at c (slice_get items n)) → IsDoubtAt c items n NotOneBlock
+request_doubt c items n wants = by (said_at c (slice_get items n))
+  where
+    by : (s : Sight) → Some wants ≡ wanted s → IsDoubtOf s NotOneBlock
+    by (sight.Form (Rts n)) e = tt
+    by (sight.Form (Cts n)) e = absurd (cc e)
+    by (sight.Form (Ack f l)) e = absurd (cc e)
+    by (sight.Form (Nak b)) e = absurd (cc e)
+    by (sight.Form (Sot g f l)) e = absurd (cc e)
+    by (sight.Form (Part s)) e = absurd (cc e)
+    by (sight.Form (Eot f k)) e = absurd (cc e)
+    by sight.Free e = absurd (cc e)
+    by sight.NoForm e = absurd (cc e)
 
 -- ---- the first start word
 

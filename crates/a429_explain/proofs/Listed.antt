@@ -1,8 +1,15 @@
 -- The list of what each recorded word says.
-use Rattle.std.proofs.Common.{◌≡◌, ℕ, zero, suc, ◌+◌, ◌<◌, List, [], ◌∷◌, ◌++◌, length, take, get_or, Option, refl, ap, sym, ◌∙◌, arith}
+use Rattle.std.proofs.Common.{Bool, true, false, cond, None, slice_get, subst, ◌≡◌, ℕ, zero, suc, ◌+◌, ◌<◌, List, [], ◌∷◌, ◌++◌, length, take, get_or, Option, refl, ap, sym, ◌∙◌, arith}
 use Rattle.a429_profile.specs.declared.codes.Codes.{Codes}
 use Rattle.a429_ldu.specs.declared.forms.Form.{Form}
-use Rattle.a429_ldu.specs.Form.{form_of}
+use Rattle.a429_ldu.specs.declared.sight.Sight.TheVariants as sight
+use Rattle.a429_ldu.specs.Form.{is_free, form_of, sight_in, sight_of}
+use Rattle.a429_word.specs.declared.bus.Bus.{Bus}
+use Rattle.a429_link.specs.declared.seen.Seen.{Seen}
+use Rattle.a429_explain.specs.Said.{said_at}
+use Rattle.a429_explain.specs.Whole.{wanted}
+use Rattle.a429_explain.proofs.Matched.{length-items_of}
+use Rattle.a429_explain.proofs.Walked.{free_none}
 use Rattle.a429_record.specs.declared.entry.Entry.{Entry}
 use Rattle.a429_cert.specs.Explained.{items_of}
 use Rattle.a429_explain.specs.Attempts.{forms_of}
@@ -25,10 +32,29 @@ said_here c es said n e o all l is at = at ∙ ap (λ (xs : List (Option Form)).
     by (x ∷ es) zero l = refl
     by (x ∷ es) (suc n) l = by es n (omega arith)
 
--- each entry says one thing
-pub said_long : (c : Codes) (es : List Entry) (said : List (Option Form)) → said ≡ forms_of c (items_of es) → length said ≡ length es
-said_long c es said all = ap length all ∙ by es
+-- each word says one thing
+pub items_long : (c : Codes) (items : List Seen) (said : List (Option Form)) → said ≡ forms_of c items → length said ≡ length items
+items_long c items said all = ap length all ∙ by items
   where
-    by : (es : List Entry) → length (forms_of c (items_of es)) ≡ length es
+    by : (items : List Seen) → length (forms_of c items) ≡ length items
     by [] = refl
-    by (x ∷ es) = ap suc (by es)
+    by (i ∷ items) = ap suc (by items)
+
+pub said_long : (c : Codes) (es : List Entry) (said : List (Option Form)) → said ≡ forms_of c (items_of es) → length said ≡ length es
+said_long c es said all = items_long c (items_of es) said all ∙ length-items_of es
+
+-- how many words are wanted of a request in the list
+pub wants_here : (c : Codes) (items : List Seen) (said : List (Option Form)) (n : ℕ) (o : Option Form) → said ≡ forms_of c items → n < length said → o ≡ get_or said n o → wanted (sight_in o) ≡ wanted (said_at c (slice_get items n))
+wants_here c items said n o all l at = ap (λ (x : Option Form). wanted (sight_in x)) (at ∙ ap (λ (xs : List (Option Form)). get_or xs n o) all) ∙ by items n (subst (λ (xs : List (Option Form)). n < length xs) all l)
+  where
+    same : (b : Bus) (w : ℕ) → wanted (sight_in (form_of c b w)) ≡ wanted (sight_of c b w)
+    same b w = of (is_free c b w) (form_of c b w) (free_none c b w)
+      where
+        of : (t : Bool) (x : Option Form) → (t ≡ true → x ≡ None) → wanted (sight_in x) ≡ wanted (cond t sight.Free (sight_in x))
+        of true x h = rw (h refl) refl
+        of false x h = refl
+
+    by : (items : List Seen) (n : ℕ) → n < length (forms_of c items) → wanted (sight_in (get_or (forms_of c items) n o)) ≡ wanted (said_at c (slice_get items n))
+    by [] n l = absurd (omega arith)
+    by (i ∷ items) zero l = same i.bus i.word
+    by (i ∷ items) (suc n) l = by items n (omega arith)

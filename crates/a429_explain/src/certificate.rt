@@ -13,7 +13,7 @@ ghost use Rattle.a429_explain.specs.WithoutLoss.{IsWithoutLoss};
 
 use crate::attempts::{Role, roles};
 use crate::block::matched_unit;
-use crate::group::{group_at, wanted_at};
+use crate::group::{group_at, wanted};
 use crate::matching::Place;
 use crate::said::forms_of;
 use crate::scribe::Scribe;
@@ -126,8 +126,8 @@ fn units_of(
         ldu: u16::from(profile.codes().first_ldu),
     };
     let mut at = 0;
-    while at < roles.len() {
-        if let Some(count) = wanted_at(profile, entries, at) {
+    while at < said.len() {
+        if let Some(count) = wanted(&said[at]) {
             let group = group_at(roles, at);
             let unit = match matched_unit(alloc, profile, entries, said, group, count, place) {
                 Ok(unit) => unit,
