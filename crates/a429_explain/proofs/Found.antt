@@ -21,7 +21,7 @@ use Rattle.a429_ldu.proofs.Joined.{form_of-is}
 use Rattle.a429_link.specs.declared.seen.Seen.{Seen}
 use Rattle.a429_link.specs.Sink.{agrees, bytes_in}
 use Rattle.a429_cert.specs.Explained.{items_of}
-use Rattle.a429_explain.specs.Attempts.{next_start}
+use Rattle.a429_explain.specs.Attempts.{forms_of, next_start}
 use Rattle.a429_ldu.specs.declared.sight.Sight.{Sight}
 use Rattle.a429_ldu.specs.declared.sight.Sight.TheVariants as sight
 use Rattle.a429_explain.specs.declared.verdict.Doubt.TheVariants.{NotOneBlock}
@@ -130,6 +130,15 @@ start_none said n l = ap (λ (xs : List (Option Form)). file_of (next_start xs))
 pub formed_range : (p : Contents) → IsProfile p → (b : Bus) (w : ℕ) (o : Option Form) → o ≡ form_of p.codes b w → IfSome o IsInRange
 formed_range p is b w None e = tt
 formed_range p is b w (Some x) e = ((form_of-is p is b w x).0 (sym e)).1.range
+
+-- those of the list's forms are
+pub said_range : (p : Contents) → IsProfile p → (items : List Seen) (said : List (Option Form)) (n : ℕ) (o : Option Form) → said ≡ forms_of p.codes items → n < length said → o ≡ get_or said n o → IfSome o IsInRange
+said_range p is items said n o all l at = subst (λ (x : Option Form). IfSome x IsInRange) (sym (at ∙ ap (λ (xs : List (Option Form)). get_or xs n o) all)) (by items n (subst (λ (xs : List (Option Form)). n < length xs) all l))
+  where
+    by : (items : List Seen) (n : ℕ) → n < length (forms_of p.codes items) → IfSome (get_or (forms_of p.codes items) n o) IsInRange
+    by [] n l = absurd (omega arith)
+    by (i ∷ items) zero l = formed_range p is i.bus i.word (form_of p.codes i.bus i.word) refl
+    by (i ∷ items) (suc n) l = by items n (omega arith)
 
 pub unit_is_made : (p : Contents) → IsProfile p → (count : ℕ) (start : Option ℕ) (gfi flags check : ℕ) (words : List ℕ) (u : LduValue) → start ≡ Some gfi → u ≡ record { gfi = gfi; flags = flags; check = check; words = words } → IsLdu p u → length words + 2 ≡ count → Some u ≡ unit_made p count start words flags check
 unit_is_made p is count start gfi flags check words u s e h n =

@@ -87,7 +87,7 @@ fn unit_of(
         let doubt = Doubt::NotOneBlock;
         return Err(Stop::Unexplained { entry, doubt });
     }
-    let Ok(whole) = whole_unit(alloc, profile, entries, group, count) else {
+    let Ok(whole) = whole_unit(alloc, profile, entries, said, group, count) else {
         return Err(Stop::OutOfMemory);
     };
     if let Some(unit) = whole {

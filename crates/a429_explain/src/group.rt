@@ -1,7 +1,7 @@
 //! Where a group of attempts stands in a recording, and what is recorded there.
 
 ghost use Rattle.std.specs.Prelude.{◌≡◌, ◌<◌, ◌≤◌, ◌+◌, IfSome, drop, length, slice_get};
-ghost use Rattle.a429_ldu.specs.Form.{IsInRange, form_of, sight_in};
+ghost use Rattle.a429_ldu.specs.Form.{sight_in};
 ghost use Rattle.a429_cert.specs.Explained.{items_of};
 ghost use Rattle.a429_explain.specs.Groups.{ends_group, group_length};
 ghost use Rattle.a429_explain.specs.Said.{said_at, IsSightInRange};
@@ -9,7 +9,6 @@ ghost use Rattle.a429_explain.specs.Whole.{wanted};
 
 use crate::attempts::Role;
 use a429_ldu::{Form, Sight, form};
-use a429_link::form_of;
 use a429_profile::Profile;
 use a429_record::Entry;
 
@@ -63,13 +62,4 @@ pub(crate) fn wanted(said: &Option<Form>) -> Option<u8>
         Some(Form::Rts { count }) => Some(count),
         _ => None,
     }
-}
-
-/// The form of an entry's word, if it has one.
-pub(crate) fn form_in(profile: &Profile, entry: &Entry) -> Option<Form>
-    ensures form { result ≡ form_of profile.now.codes entry.now.bus entry.now.word }
-    ensures range { IfSome result IsInRange }
-{
-    let _codes = profile.codes();
-    form_of(profile, entry.bus, entry.word)
 }
