@@ -1,7 +1,7 @@
 -- Searches through the words of a group, one word after the other.
 use Rattle.std.proofs.Common.{◌≡◌, ◌≢◌, ℕ, zero, suc, ◌+◌, ◌-◌, ◌≤◌, ◌<◌, Bool, true, false, cond, not, ◌&&◌, List, [], ◌∷◌, length, take, drop, slice_get, slice_range, Option, Some, None, IfSome, is_some, refl, sym, ap, ◌∙◌, subst, arith, eq-eqb}
 use Rattle.std.proofs.lemmas.Bool.{ne_eqb}
-use Rattle.std.proofs.lemmas.List.{drop_more}
+use Rattle.std.proofs.lemmas.List.{drop_more, drop_all}
 use Rattle.std.proofs.lemmas.Option.{slice_get_within, get_or_from_slice_get}
 use Rattle.std.proofs.Common.{get_or}
 use Rattle.std.specs.Option.{option_or}
@@ -22,6 +22,10 @@ use Rattle.a429_link.specs.declared.seen.Seen.{Seen}
 use Rattle.a429_link.specs.Sink.{agrees, bytes_in}
 use Rattle.a429_cert.specs.Explained.{items_of}
 use Rattle.a429_explain.specs.Attempts.{forms_of, next_start}
+use Rattle.a429_ldu.specs.declared.sight.Sight.{Sight}
+use Rattle.a429_ldu.specs.declared.sight.Sight.TheVariants as sight
+use Rattle.a429_explain.specs.declared.verdict.Doubt.TheVariants.{NotOneBlock}
+use Rattle.a429_explain.specs.Doubt.{IsDoubtOf, IsDoubtAt}
 use Rattle.a429_explain.specs.Said.{said_at}
 use Rattle.a429_explain.specs.Whole.{Recorded, gathered_with, is_whole, unit_made, ended_by, first_whole, wanted, is_other, other_request}
 use Rattle.a429_explain.specs.Crossed.{started, file_of}
@@ -74,6 +78,21 @@ other_none c count items at to l m e = other_next c count items at to false l m 
 pub other_end : (c : Codes) (count : ℕ) (items : List Seen) (at to : ℕ) → to ≤ at → other_request c count (slice_range items at to) at ≡ None
 other_end c count items at to l = ap (λ (xs : List Seen). other_request c count xs at) (range_end items at to l)
 
+-- a request can be doubted
+pub request_doubt : (c : Codes) (items : List Seen) (n wants : ℕ) → Some wants ≡ wanted (said_at c (slice_get items n)) → IsDoubtAt c items n NotOneBlock
+request_doubt c items n wants = by (said_at c (slice_get items n))
+  where
+    by : (s : Sight) → Some wants ≡ wanted s → IsDoubtOf s NotOneBlock
+    by (sight.Form (Rts n)) e = tt
+    by (sight.Form (Cts n)) e = absurd (cc e)
+    by (sight.Form (Ack f l)) e = absurd (cc e)
+    by (sight.Form (Nak b)) e = absurd (cc e)
+    by (sight.Form (Sot g f l)) e = absurd (cc e)
+    by (sight.Form (Part s)) e = absurd (cc e)
+    by (sight.Form (Eot f k)) e = absurd (cc e)
+    by sight.Free e = absurd (cc e)
+    by sight.NoForm e = absurd (cc e)
+
 -- ---- the first start word
 
 next_of : (o : Option Form) (xs : List (Option Form)) (file : ℕ) → Some file ≡ started o → file_of (next_start (o ∷ xs)) ≡ file
@@ -96,27 +115,14 @@ next_past (Some (Nak b)) xs e = refl
 next_past (Some (Part s)) xs e = refl
 next_past (Some (Eot f k)) xs e = refl
 
-pub start_here : (c : Codes) (es : List Entry) (n : ℕ) (e : Entry) (o : Option Form) (file : ℕ) → n < length es → e ≡ get_or es n e → o ≡ form_of c e.bus e.word → Some file ≡ started o → file_of (next_start (forms_of c (drop n (items_of es)))) ≡ file
-start_here c es n e o file l h f s =
-    ap (λ (xs : List Seen). file_of (next_start (forms_of c xs))) (drop_next (items_of es) n (seen_in e) (entry_item es n e l h))
-    ∙ next_of (form_of c e.bus e.word) (forms_of c (drop (n + 1) (items_of es))) file (s ∙ ap started f)
+pub start_here : (said : List (Option Form)) (n : ℕ) (o : Option Form) (file : ℕ) → n < length said → o ≡ get_or said n o → Some file ≡ started o → file_of (next_start (drop n said)) ≡ file
+start_here said n o file l h s = ap (λ (xs : List (Option Form)). file_of (next_start xs)) (drop_more said n o l ∙ ap (λ (x : Option Form). x ∷ drop (n + 1) said) (sym h)) ∙ next_of o (drop (n + 1) said) file s
 
-pub start_past : (c : Codes) (es : List Entry) (n : ℕ) (e : Entry) (o : Option Form) → n < length es → e ≡ get_or es n e → o ≡ form_of c e.bus e.word → None ≡ started o → next_start (forms_of c (drop n (items_of es))) ≡ next_start (forms_of c (drop (n + 1) (items_of es)))
-start_past c es n e o l h f s =
-    ap (λ (xs : List Seen). next_start (forms_of c xs)) (drop_next (items_of es) n (seen_in e) (entry_item es n e l h))
-    ∙ next_past (form_of c e.bus e.word) (forms_of c (drop (n + 1) (items_of es))) (s ∙ ap started f)
+pub start_past : (said : List (Option Form)) (n : ℕ) (o : Option Form) → n < length said → o ≡ get_or said n o → None ≡ started o → next_start (drop n said) ≡ next_start (drop (n + 1) said)
+start_past said n o l h s = ap next_start (drop_more said n o l ∙ ap (λ (x : Option Form). x ∷ drop (n + 1) said) (sym h)) ∙ next_past o (drop (n + 1) said) s
 
-no_items : (es : List Entry) (n : ℕ) → length es ≤ n → drop n (items_of es) ≡ []
-no_items [] zero l = refl
-no_items [] (suc n) l = refl
-no_items (e ∷ es) zero l = absurd (omega arith)
-no_items (e ∷ es) (suc n) l = no_items es n (omega arith)
-
-pub start_none : (c : Codes) (es : List Entry) (n : ℕ) → length es ≤ n → file_of (next_start (forms_of c (drop n (items_of es)))) ≡ 0
-start_none c es n l = ap (λ (xs : List Seen). file_of (next_start (forms_of c xs))) (no_items es n l)
-
-pub from_first : (c : Codes) (es : List Entry) → next_start (forms_of c (items_of es)) ≡ next_start (forms_of c (drop 0 (items_of es)))
-from_first c es = refl
+pub start_none : (said : List (Option Form)) (n : ℕ) → length said ≤ n → file_of (next_start (drop n said)) ≡ 0
+start_none said n l = ap (λ (xs : List (Option Form)). file_of (next_start xs)) (drop_all n said l)
 
 -- ---- the first whole attempt
 
@@ -124,6 +130,15 @@ from_first c es = refl
 pub formed_range : (p : Contents) → IsProfile p → (b : Bus) (w : ℕ) (o : Option Form) → o ≡ form_of p.codes b w → IfSome o IsInRange
 formed_range p is b w None e = tt
 formed_range p is b w (Some x) e = ((form_of-is p is b w x).0 (sym e)).1.range
+
+-- those of the list's forms are
+pub said_range : (p : Contents) → IsProfile p → (items : List Seen) (said : List (Option Form)) (n : ℕ) (o : Option Form) → said ≡ forms_of p.codes items → n < length said → o ≡ get_or said n o → IfSome o IsInRange
+said_range p is items said n o all l at = subst (λ (x : Option Form). IfSome x IsInRange) (sym (at ∙ ap (λ (xs : List (Option Form)). get_or xs n o) all)) (by items n (subst (λ (xs : List (Option Form)). n < length xs) all l))
+  where
+    by : (items : List Seen) (n : ℕ) → n < length (forms_of p.codes items) → IfSome (get_or (forms_of p.codes items) n o) IsInRange
+    by [] n l = absurd (omega arith)
+    by (i ∷ items) zero l = formed_range p is i.bus i.word (form_of p.codes i.bus i.word) refl
+    by (i ∷ items) (suc n) l = by items n (omega arith)
 
 pub unit_is_made : (p : Contents) → IsProfile p → (count : ℕ) (start : Option ℕ) (gfi flags check : ℕ) (words : List ℕ) (u : LduValue) → start ≡ Some gfi → u ≡ record { gfi = gfi; flags = flags; check = check; words = words } → IsLdu p u → length words + 2 ≡ count → Some u ≡ unit_made p count start words flags check
 unit_is_made p is count start gfi flags check words u s e h n =

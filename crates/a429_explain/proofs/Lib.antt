@@ -1,4 +1,5 @@
 pub mod Walked
+pub mod Listed
 pub mod Roles
 pub mod Units
 pub mod Matched

@@ -4,12 +4,14 @@ use Rattle.std.proofs.Common.{zero, List, [], ◌∷◌, ◌++◌, ◌≤◌, le
 use Rattle.std.proofs.Math.Seq.{take-suc}
 use Rattle.std.proofs.lemmas.List.{get_or-drop}
 use Rattle.a429_profile.specs.declared.codes.Codes.{Codes}
-use Rattle.a429_ldu.specs.Ldu.{LduValue}
+use Rattle.a429_ldu.specs.declared.forms.Form.{Form}
+use Rattle.a429_ldu.specs.Form.{form_of}
+use Rattle.a429_ldu.specs.Ldu.{LduValue, count_of}
 use Rattle.a429_link.specs.declared.seen.Seen.{Seen}
 use Rattle.a429_record.specs.declared.entry.Entry.{Entry}
 use Rattle.a429_cert.specs.Explained.{seen_of, items_of}
 use Rattle.a429_explain.specs.declared.matching.Place.{Place}
-use Rattle.a429_explain.specs.Matching.{passed_with, passing, passed_after}
+use Rattle.a429_explain.specs.Matching.{is_word, passed_with, passing_as, passing, passed_after}
 
 passed_one : (is : ℕ → Bool) (k n : ℕ) → is k ≡ false → passed_with is k (suc n) ≡ passed_with is (suc k) n
 passed_one is k n e = rw e refl
@@ -56,8 +58,8 @@ passed_next c u place es a n d passed m l h =
 pub passed_none : (c : Codes) (u : LduValue) (place : Place) (items : List Seen) (a : ℕ) → passed_after c u place (slice_range items a a) (Some 0) ≡ Some 0
 passed_none c u place items a = let none : a - a ≡ 0 = omega arith in ap (λ (k : ℕ). passed_after c u place (take k (drop a items)) (Some 0)) none
 
-pub passed_step : (c : Codes) (u : LduValue) (place : Place) (es : List Entry) (a n : ℕ) (e : Entry) (passed : ℕ) (r : Option ℕ) → a ≤ n → n < length es → e ≡ get_or es n e → passed_after c u place (slice_range (items_of es) a n) (Some 0) ≡ Some passed → r ≡ passing c u place (seen_of e) passed → passed_after c u place (slice_range (items_of es) a (n + 1)) (Some 0) ≡ r
-passed_step c u place es a n e passed r m l is h k = passed_next c u place es a n e passed m l h ∙ ap (λ (x : Entry). passing c u place (seen_of x) passed) (sym is) ∙ sym k
+pub passed_step : (c : Codes) (u : LduValue) (place : Place) (es : List Entry) (a n : ℕ) (e : Entry) (o : Option Form) (passed : ℕ) (r : Option ℕ) → a ≤ n → n < length es → e ≡ get_or es n e → o ≡ form_of c e.bus e.word → passed_after c u place (slice_range (items_of es) a n) (Some 0) ≡ Some passed → r ≡ passing_as o (passed_with (is_word c u place e.word) passed (count_of u - passed)) passed → passed_after c u place (slice_range (items_of es) a (n + 1)) (Some 0) ≡ r
+passed_step c u place es a n e o passed r m l is said h k = passed_next c u place es a n e passed m l h ∙ ap (λ (x : Entry). passing c u place (seen_of x) passed) (sym is) ∙ sym (k ∙ ap (λ (x : Option Form). passing_as x (passed_with (is_word c u place e.word) passed (count_of u - passed)) passed) said)
 
 pub no_some : (o : Option ℕ) → o ≡ None → IsSome o → ⊥
 no_some None e h = cc h

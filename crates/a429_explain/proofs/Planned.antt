@@ -14,7 +14,7 @@ use Rattle.a429_link.specs.declared.step.Step.TheVariants.{FreeSeen}
 use Rattle.a429_link.specs.Clean.{on_a, on_b, next_file, next_ldu, clean, AllFit, thin, asks, sends, replies, clean_steps, first_of, rest_of, weave}
 use Rattle.a429_link.specs.Link.{LinkValue}
 use Rattle.a429_link.specs.Run.{IsRun, end_of}
-use Rattle.a429_link.specs.Step.{State, Can, after, start}
+use Rattle.a429_link.specs.Step.{Can, start}
 use Rattle.a429_link.proofs.CleanRuns.{clean_is_run, run_split}
 use Rattle.a429_record.specs.declared.entry.Entry.{Entry}
 use Rattle.a429_cert.specs.Explained.{seen_of, items_of}

@@ -2,14 +2,10 @@
 
 ghost use Rattle.std.specs.Prelude.{◌≡◌, ◌∷◌, List, Option, IfOk, not};
 ghost use Rattle.a429_ldu.specs.declared.forms.Form.{Form};
-ghost use Rattle.a429_cert.specs.Explained.{items_of};
-ghost use Rattle.a429_explain.specs.Attempts.{forms_of, sends, next_start, are_numbers, role_of, roles};
+ghost use Rattle.a429_explain.specs.Attempts.{sends, next_start, are_numbers, role_of, roles};
 ghost use Rattle.a429_explain.specs.Ahead.{IsAhead};
 
 use a429_ldu::Form;
-use a429_link::form_of;
-use a429_profile::Profile;
-use a429_record::Entry;
 use std::alloc::{AllocError, Global};
 
 /// The file number of a link data unit, and its own number in that file.
@@ -45,29 +41,20 @@ pub(crate) struct Ahead {
     pub start: Option<Numbers>,
 }
 
-/// The role of each entry of a recording that no word is refused of.
-pub(crate) fn roles(
-    alloc: Global,
-    profile: &Profile,
-    entries: &[Entry],
-) -> Result<Vec<Role>, AllocError>
-    ensures { IfOk result (λ found. found.items ≡ roles (forms_of profile.now.codes (items_of entries.now))) }
+/// The role of each recorded word, where these are the forms of all.
+pub(crate) fn roles(alloc: Global, said: &[Option<Form>]) -> Result<Vec<Role>, AllocError>
+    ensures { IfOk result (λ found. found.items ≡ roles said.now) }
 {
-    let mut found = Vec::new(alloc);
+    let mut found = Vec::with_capacity(alloc, said.len())?;
     let mut ahead = Ahead {
         sends: false,
         start: None,
     };
-    let mut left = entries.len();
+    let mut left = said.len();
     while left > 0 {
         left -= 1;
-        let entry = entries[left];
-        let said = form_of(profile, entry.bus, entry.word);
-        match found.push(role_of(&said, ahead)) {
-            Ok(()) => {}
-            Err(_) => return Err(AllocError),
-        }
-        ahead = before(&said, ahead);
+        found.push(role_of(&said[left], ahead))?;
+        ahead = before(&said[left], ahead);
     }
     found.reverse();
     Ok(found)

@@ -1,9 +1,12 @@
 //! The link data unit of a group.
 
-ghost use Rattle.std.specs.Prelude.{◌≡◌, ◌≢◌, ◌<◌, ◌≤◌, ℕ, Some, None, Err, IfOk, IfErr, IfSome, length, slice_get};
+ghost use Rattle.std.specs.Prelude.{◌≡◌, ◌≢◌, ◌<◌, ◌≤◌, ℕ, Some, None, Err, IfOk, IfErr, IfSome, List, length, slice_get};
+ghost use Rattle.a429_profile.specs.declared.codes.Codes.{Codes};
+ghost use Rattle.a429_link.specs.declared.seen.Seen.{Seen};
 ghost use Rattle.a429_ldu.specs.Ldu.{LduValue, IsLdu, count_of};
 ghost use Rattle.a429_explain.specs.declared.verdict.Doubt.TheVariants as doubt;
 ghost use Rattle.a429_cert.specs.Explained.{items_of};
+ghost use Rattle.a429_explain.specs.Attempts.{forms_of};
 ghost use Rattle.a429_explain.specs.Groups.{words_in};
 ghost use Rattle.a429_explain.specs.Said.{said_at};
 ghost use Rattle.a429_explain.specs.Doubt.{IsDoubtAt, IsStop};
@@ -12,12 +15,12 @@ ghost use Rattle.a429_explain.specs.Units.{IsUnitOf};
 ghost use Rattle.a429_explain.specs.Crossed.{HasCrossed};
 
 use crate::filler::filled_unit;
-use crate::group::{Group, wanted_at};
+use crate::group::{Group, wanted};
 use crate::matching::{Place, first_unmatched};
 use crate::stop::Stop;
 use crate::verdict::Doubt;
 use crate::whole::whole_unit;
-use a429_ldu::Ldu;
+use a429_ldu::{Form, Ldu};
 use a429_profile::Profile;
 use a429_record::Entry;
 use std::alloc::Global;
@@ -27,10 +30,12 @@ pub(crate) fn matched_unit(
     alloc: Global,
     profile: &Profile,
     entries: &[Entry],
+    said: &[Option<Form>],
     group: Group,
     count: u8,
     place: Place,
 ) -> Result<Ldu, Stop>
+    requires said { said.now ≡ forms_of profile.now.codes (items_of entries.now) }
     requires inside { group.to ≤ length entries.now }
     requires some { group.from < group.to }
     requires request { wanted (said_at profile.now.codes (slice_get (items_of entries.now) group.from)) ≡ Some count }
@@ -41,11 +46,11 @@ pub(crate) fn matched_unit(
     ensures crossed_err { (u : LduValue) → HasCrossed profile.now (words_in (items_of entries.now) group) place u → IfErr result (λ s. s ≡ Stop.OutOfMemory) }
 {
     let _codes = profile.codes();
-    let unit = match unit_of(alloc, profile, entries, group, count) {
+    let unit = match unit_of(alloc, profile, entries, said, group, count) {
         Ok(unit) => unit,
         Err(stop) => return Err(stop),
     };
-    match first_unmatched(profile, entries, group, &unit, place) {
+    match first_unmatched(profile, entries, said, group, &unit, place) {
         Some(entry) => {
             let doubt = Doubt::NotOneBlock;
             Err(Stop::Unexplained { entry, doubt })
@@ -61,9 +66,11 @@ fn unit_of(
     alloc: Global,
     profile: &Profile,
     entries: &[Entry],
+    said: &[Option<Form>],
     group: Group,
     count: u8,
 ) -> Result<Ldu, Stop>
+    requires said { said.now ≡ forms_of profile.now.codes (items_of entries.now) }
     requires inside { group.to ≤ length entries.now }
     requires some { group.from < group.to }
     requires request { wanted (said_at profile.now.codes (slice_get (items_of entries.now) group.from)) ≡ Some count }
@@ -76,11 +83,11 @@ fn unit_of(
     ensures whole_err { (u : LduValue) → other_request profile.now.codes count (words_in (items_of entries.now) group) group.from ≡ None → first_whole profile.now count (words_in (items_of entries.now) group) nothing_yet ≡ Some u → IfErr result (λ s. s ≡ Stop.OutOfMemory) }
     ensures never { other_request profile.now.codes count (words_in (items_of entries.now) group) group.from ≡ None → IfErr result (λ s. s ≢ Stop.OutOfMemory → s ≡ Stop.Unexplained group.from doubt.NeverWhole) }
 {
-    if let Some(entry) = other_request(profile, entries, group, count) {
+    if let Some(entry) = other_request(said, group, count) {
         let doubt = Doubt::NotOneBlock;
         return Err(Stop::Unexplained { entry, doubt });
     }
-    let Ok(whole) = whole_unit(alloc, profile, entries, group, count) else {
+    let Ok(whole) = whole_unit(alloc, profile, entries, said, group, count) else {
         return Err(Stop::OutOfMemory);
     };
     if let Some(unit) = whole {
@@ -99,13 +106,13 @@ fn unit_of(
 }
 
 // The first request of a group that wants another number of words.
-fn other_request(profile: &Profile, entries: &[Entry], group: Group, count: u8) -> Option<usize>
-    requires { group.to ≤ length entries.now }
-    ensures first { result ≡ other_request profile.now.codes count (words_in (items_of entries.now) group) group.from }
-    ensures fits { IfSome result (λ i. IsDoubtAt profile.now.codes (items_of entries.now) i doubt.NotOneBlock) }
+fn other_request(said: &[Option<Form>], group: Group, count: u8) -> Option<usize>
+    requires { group.to ≤ length said.now }
+    ensures first { (c : Codes) (items : List Seen) → said.now ≡ forms_of c items → result ≡ other_request c count (words_in items group) group.from }
+    ensures fits { (c : Codes) (items : List Seen) → said.now ≡ forms_of c items → IfSome result (λ i. IsDoubtAt c items i doubt.NotOneBlock) }
 {
     for at in group.from..group.to {
-        if let Some(wanted) = wanted_at(profile, entries, at) {
+        if let Some(wanted) = wanted(&said[at]) {
             if wanted != count {
                 return Some(at);
             }

@@ -13,8 +13,9 @@ ghost use Rattle.a429_explain.specs.WithoutLoss.{IsWithoutLoss};
 
 use crate::attempts::{Role, roles};
 use crate::block::matched_unit;
-use crate::group::{form_in, group_at, wanted_at};
+use crate::group::{group_at, wanted};
 use crate::matching::Place;
+use crate::said::forms_of;
 use crate::scribe::Scribe;
 use crate::stop::Stop;
 use crate::verdict::Doubt;
@@ -38,11 +39,15 @@ pub(crate) fn certificate_of(
     ensures clean { IsWithoutLoss profile.now (items_of entries.now) → IfErr result (λ s. s ≡ Stop.OutOfMemory) }
 {
     let _codes = profile.codes();
-    let Ok(roles) = roles(alloc, profile, entries) else {
+    let Ok(said) = forms_of(alloc, profile, entries) else {
         return Err(Stop::OutOfMemory);
     };
-    let first = first_file(profile, entries);
-    let mut units = match units_of(alloc, profile, entries, roles.as_slice(), first) {
+    let said = said.as_slice();
+    let Ok(roles) = roles(alloc, said) else {
+        return Err(Stop::OutOfMemory);
+    };
+    let first = first_file(said);
+    let mut units = match units_of(alloc, profile, entries, said, roles.as_slice(), first) {
         Ok(units) => units,
         Err(stop) => return Err(stop),
     };
@@ -76,12 +81,11 @@ fn stopped_at(entry: usize, fault: StepFault) -> Stop
 }
 
 // The file number of the first start word, or 0.
-fn first_file(profile: &Profile, entries: &[Entry]) -> u8
-    ensures { result ≡ first_file_of (forms_of profile.now.codes (items_of entries.now)) }
+fn first_file(said: &[Option<Form>]) -> u8
+    ensures { result ≡ first_file_of said.now }
 {
-    for at in 0..entries.len() {
-        let entry = entries[at];
-        if let Some(file) = started(&form_in(profile, &entry)) {
+    for at in 0..said.len() {
+        if let Some(file) = started(&said[at]) {
             return file;
         }
     }
@@ -104,10 +108,12 @@ fn units_of(
     alloc: Global,
     profile: &Profile,
     entries: &[Entry],
+    said: &[Option<Form>],
     roles: &[Role],
     first_file: u8,
 ) -> Result<VecDeque<Ldu>, Stop>
-    requires { roles.now ≡ roles_of (forms_of profile.now.codes (items_of entries.now)) }
+    requires said { said.now ≡ forms_of profile.now.codes (items_of entries.now) }
+    requires roles { roles.now ≡ roles_of (forms_of profile.now.codes (items_of entries.now)) }
     ensures units { IfOk result (λ units. AreUnits profile.now units.items) }
     ensures groups { IfOk result (λ units. AreUnitsOf profile.now (items_of entries.now) roles.now (record { file = first_file; ldu = profile.now.codes.first_ldu }) 0 units.items) }
     ensures fits { IfErr result (λ s. IsStop profile.now.codes (items_of entries.now) s) }
@@ -120,10 +126,10 @@ fn units_of(
         ldu: u16::from(profile.codes().first_ldu),
     };
     let mut at = 0;
-    while at < roles.len() {
-        if let Some(count) = wanted_at(profile, entries, at) {
+    while at < said.len() {
+        if let Some(count) = wanted(&said[at]) {
             let group = group_at(roles, at);
-            let unit = match matched_unit(alloc, profile, entries, group, count, place) {
+            let unit = match matched_unit(alloc, profile, entries, said, group, count, place) {
                 Ok(unit) => unit,
                 Err(stop) => return Err(stop),
             };

@@ -1,7 +1,7 @@
 //! Where a group of attempts stands in a recording, and what is recorded there.
 
 ghost use Rattle.std.specs.Prelude.{◌≡◌, ◌<◌, ◌≤◌, ◌+◌, IfSome, drop, length, slice_get};
-ghost use Rattle.a429_ldu.specs.Form.{IsInRange, form_of};
+ghost use Rattle.a429_ldu.specs.Form.{sight_in};
 ghost use Rattle.a429_cert.specs.Explained.{items_of};
 ghost use Rattle.a429_explain.specs.Groups.{ends_group, group_length};
 ghost use Rattle.a429_explain.specs.Said.{said_at, IsSightInRange};
@@ -9,7 +9,6 @@ ghost use Rattle.a429_explain.specs.Whole.{wanted};
 
 use crate::attempts::Role;
 use a429_ldu::{Form, Sight, form};
-use a429_link::form_of;
 use a429_profile::Profile;
 use a429_record::Entry;
 
@@ -55,22 +54,12 @@ pub(crate) fn said_at(profile: &Profile, entries: &[Entry], at: usize) -> Sight
     form(profile, entry.bus, entry.word)
 }
 
-/// How many words the request wants that an entry is, if it is one.
-pub(crate) fn wanted_at(profile: &Profile, entries: &[Entry], at: usize) -> Option<u8>
-    requires { at < length entries.now }
-    ensures { result ≡ wanted (said_at profile.now.codes (slice_get (items_of entries.now) at)) }
+/// How many words a request of this form wants, if it is one.
+pub(crate) fn wanted(said: &Option<Form>) -> Option<u8>
+    ensures { result ≡ wanted (sight_in said.now) }
 {
-    match said_at(profile, entries, at) {
-        Sight::Form(Form::Rts { count }) => Some(count),
+    match *said {
+        Some(Form::Rts { count }) => Some(count),
         _ => None,
     }
-}
-
-/// The form of an entry's word, if it has one.
-pub(crate) fn form_in(profile: &Profile, entry: &Entry) -> Option<Form>
-    ensures form { result ≡ form_of profile.now.codes entry.now.bus entry.now.word }
-    ensures range { IfSome result IsInRange }
-{
-    let _codes = profile.codes();
-    form_of(profile, entry.bus, entry.word)
 }

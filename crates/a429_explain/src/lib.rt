@@ -9,6 +9,7 @@ mod filler;
 mod group;
 pub mod laws;
 mod matching;
+mod said;
 mod scribe;
 mod stop;
 mod verdict;

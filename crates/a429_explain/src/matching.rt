@@ -1,17 +1,17 @@
 //! The words of a group, held against the block of its link data unit.
 
 ghost use Rattle.std.specs.Prelude.{◌≡◌, ◌<◌, ◌≤◌, ◌-◌, ◌+◌, None, IfSome, length};
-ghost use Rattle.a429_ldu.specs.Form.{form_of};
 ghost use Rattle.a429_ldu.specs.Ldu.{count_of};
 ghost use Rattle.a429_explain.specs.Units.{place_after};
-ghost use Rattle.a429_explain.specs.Matching.{is_word, passed_with, passing, AreMatched, IsOfBlock};
+ghost use Rattle.a429_explain.specs.Matching.{is_word, passed_with, passing_as, AreMatched, IsOfBlock};
 ghost use Rattle.a429_explain.specs.declared.verdict.Doubt.TheVariants as doubt;
-ghost use Rattle.a429_cert.specs.Explained.{items_of, seen_of};
+ghost use Rattle.a429_cert.specs.Explained.{items_of};
+ghost use Rattle.a429_explain.specs.Attempts.{forms_of};
 ghost use Rattle.a429_explain.specs.Doubt.{IsDoubtAt};
 
 use crate::group::Group;
 use a429_ldu::{Form, Ldu};
-use a429_link::{form_of, is_final};
+use a429_link::is_final;
 use a429_profile::Profile;
 use a429_record::Entry;
 use a429_word::Word;
@@ -49,10 +49,12 @@ impl Place {
 pub(crate) fn first_unmatched(
     profile: &Profile,
     entries: &[Entry],
+    said: &[Option<Form>],
     group: Group,
     unit: &Ldu,
     place: Place,
 ) -> Option<usize>
+    requires said { said.now ≡ forms_of profile.now.codes (items_of entries.now) }
     requires some { group.from ≤ group.to }
     requires inside { group.to ≤ length entries.now }
     ensures fits { IfSome result (λ i. IsDoubtAt profile.now.codes (items_of entries.now) i doubt.NotOneBlock) }
@@ -63,7 +65,8 @@ pub(crate) fn first_unmatched(
 {
     let mut passed = 0;
     for at in group.from..group.to {
-        match passing(profile, unit, place, &entries[at], passed) {
+        let entry = entries[at];
+        match passing(profile, unit, place, &said[at], entry.word, passed) {
             Some(more) => passed = more,
             None => return Some(at),
         }
@@ -71,18 +74,24 @@ pub(crate) fn first_unmatched(
     None
 }
 
-// How many words of the block are passed with this entry, where so many are passed before it.
-fn passing(profile: &Profile, unit: &Ldu, place: Place, entry: &Entry, passed: u8) -> Option<u8>
+// How many words of the block are passed with a word of this form, where so many are passed before it.
+fn passing(
+    profile: &Profile,
+    unit: &Ldu,
+    place: Place,
+    said: &Option<Form>,
+    word: Word,
+    passed: u8,
+) -> Option<u8>
     requires { passed ≤ count_of unit.now }
-    ensures passed { result ≡ passing profile.now.codes unit.now place (seen_of entry.now) passed }
+    ensures passed { result ≡ passing_as said.now (passed_with (is_word profile.now.codes unit.now place word) passed (count_of unit.now - passed)) passed }
     ensures inside { IfSome result (λ more. more ≤ count_of unit.now) }
-    ensures fits { result ≡ None → IsOfBlock (form_of profile.now.codes entry.now.bus entry.now.word) }
+    ensures fits { result ≡ None → IsOfBlock said.now }
 {
-    let said = form_of(profile, entry.bus, entry.word);
-    match said {
+    match *said {
         Some(Form::Rts { .. }) => Some(0),
         Some(Form::Sot { .. } | Form::Part(_) | Form::Eot { .. }) => {
-            passed_with(profile, unit, place, passed, entry.word)
+            passed_with(profile, unit, place, passed, word)
         }
         Some(Form::Cts { .. } | Form::Ack { .. } | Form::Nak { .. }) => Some(passed),
         None => Some(passed),

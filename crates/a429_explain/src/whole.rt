@@ -4,10 +4,11 @@ ghost use Rattle.std.specs.Prelude.{◌≡◌, ◌≤◌, IfOk, IfSome, OnOk, le
 ghost use Rattle.a429_ldu.specs.Form.{IsInRange};
 ghost use Rattle.a429_ldu.specs.Ldu.{IsLdu, count_of};
 ghost use Rattle.a429_cert.specs.Explained.{items_of};
+ghost use Rattle.a429_explain.specs.Attempts.{forms_of};
 ghost use Rattle.a429_explain.specs.Groups.{words_in};
 ghost use Rattle.a429_explain.specs.Whole.{nothing_yet, gathered_with, unit_made, ended_by, first_whole};
 
-use crate::group::{Group, form_in};
+use crate::group::Group;
 use a429_ldu::{Form, Ldu, LduFault};
 use a429_profile::Profile;
 use a429_record::Entry;
@@ -20,24 +21,27 @@ pub(crate) fn whole_unit(
     alloc: Global,
     profile: &Profile,
     entries: &[Entry],
+    said: &[Option<Form>],
     group: Group,
     count: u8,
 ) -> Result<Option<Ldu>, AllocError>
-    requires { group.to ≤ length entries.now }
+    requires said { said.now ≡ forms_of profile.now.codes (items_of entries.now) }
+    requires inside { group.to ≤ length entries.now }
     ensures first { IfOk result (λ found. found ≡ first_whole profile.now count (words_in (items_of entries.now) group) nothing_yet) }
     ensures unit { IfOk result (λ found. IfSome found (λ u. IsLdu profile.now u)) }
     ensures count { IfOk result (λ found. IfSome found (λ u. count_of u ≡ count)) }
 {
+    let _codes = profile.codes();
     let mut attempt = Attempt::new(alloc);
     for at in group.from..group.to {
         let entry = entries[at];
-        let said = form_in(profile, &entry);
-        match attempt.ended_by(alloc, profile, &said, count) {
+        let form = &said[at];
+        match attempt.ended_by(alloc, profile, form, count) {
             Ok(Some(unit)) => return Ok(Some(unit)),
             Ok(None) => {}
             Err(error) => return Err(error),
         }
-        match attempt.take(&said, entry.word) {
+        match attempt.take(form, entry.word) {
             Ok(()) => {}
             Err(error) => return Err(error),
         }

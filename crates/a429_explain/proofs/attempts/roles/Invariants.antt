@@ -2,7 +2,7 @@ use Rattle.a429_explain.proofs.Roles.{Stands}
 use Rattle.a429_explain.proofs.attempts.roles.Given as goal
 
 abbrev pub invariant-loop-left : goal.invariant-loop-left
-invariant-loop-left l = Stands l.profile.codes l.entries l.left l.found.items l.ahead
+invariant-loop-left l = Stands l.said l.left l.found.items l.ahead
 
 abbrev pub decreases-loop-left : goal.decreases-loop-left
 decreases-loop-left l = l.left

@@ -2,6 +2,8 @@ use Rattle.std.proofs.Common.{◌≡◌, List, ◌+◌, take, drop, length, take
 use Rattle.a429_link.specs.declared.seen.Seen.{Seen}
 use Rattle.a429_link.specs.Link.{LinkValue}
 use Rattle.a429_cert.specs.Explained.{seen_of, items_of}
+use Rattle.a429_explain.specs.Attempts.{roles}
+use Rattle.a429_explain.specs.Crossed.{first_file_of}
 use Rattle.a429_explain.specs.Told.{Told, IsCertificateOf}
 use Rattle.a429_explain.specs.Units.{AreUnits}
 use Rattle.a429_explain.proofs.Matched.{length-items_of}
@@ -16,7 +18,8 @@ returns-in-Err-clause-clean c = λ h.
     let p = c.args.profile.now in
     let items = items_of c.args.entries.now in
     let is = c.codes-codes.ensures.sound in
-    c.in-Err.ensures.clean_err (its_units p items h) (units_fit p is items h) (units_found p is items h c.first_file-first.result c.first_file-first.ensures)
+    let said = c.as_slice-said.ensures.value ∙ c.in-Ok.ensures in
+    c.in-Err.ensures.clean_err (its_units p items h) (units_fit p is items h) (units_found p is items h c.first_file-first.result (c.first_file-first.ensures ∙ ap first_file_of said))
 
 pub loop-at-init : goal.loop-at-init
 loop-at-init c =
@@ -24,18 +27,21 @@ loop-at-init c =
     let items = items_of c.args.entries.now in
     let is = c.codes-codes.ensures.sound in
     let told = c.in-Ok-new.ensures.told in
+    let said = c.as_slice-said.ensures.value ∙ c.in-Ok.ensures in
+    let first = c.first_file-first.ensures ∙ ap first_file_of said in
+    let are = c.in-Ok-roles.ensures ∙ ap roles said in
     record {
       profile = ap {A = LinkValue} (λ l. l.profile) c.in-Ok-new.ensures.start;
-      roles = c.in-Ok.ensures;
-      many = ap length c.in-Ok.ensures ∙ length-roles p.codes c.args.entries.now;
+      roles = are;
+      many = ap length are ∙ length-roles p.codes c.args.entries.now;
       units = c.in-Ok-units_of.ensures.units;
       told = told;
-      plan = λ h. plan_begun p is items h c.first_file-first.result c.in-Ok-units_of.units.items c.in-Ok-new.scribe.is_loaded c.in-Ok-new.scribe.link told.byte c.first_file-first.ensures (c.in-Ok-units_of.ensures.clean (its_units p items h) (units_fit p is items h) (units_found p is items h c.first_file-first.result c.first_file-first.ensures)) c.in-Ok-new.ensures.loaded c.in-Ok-new.ensures.start;
+      plan = λ h. plan_begun p is items h c.first_file-first.result c.in-Ok-units_of.units.items c.in-Ok-new.scribe.is_loaded c.in-Ok-new.scribe.link told.byte first (c.in-Ok-units_of.ensures.clean (its_units p items h) (units_fit p is items h) (units_found p is items h c.first_file-first.result first)) c.in-Ok-new.ensures.loaded c.in-Ok-new.ensures.start;
     }
 
 pub returns-in-Err-tell-clause-clean : goal.returns-in-Err-tell-clause-clean
 returns-in-Err-tell-clause-clean c = λ h.
-    let goes = entry_next c.args.profile.now c.args.entries.now c.loop-at.at c.index-entries-at.result c.index.result.now c.in-Ok.roles.items c.loop-at.units.items c.loop-at.scribe.is_loaded c.loop-at.scribe.link c.loop-at-test.true c.index-entries-at.is c.loop-at.invariant.roles c.index.ensures (c.loop-at.invariant.plan h) in
+    let goes = entry_next c.args.profile.now c.args.entries.now c.loop-at.at c.index-entries-at.result c.index.result.now c.in-Ok-roles.roles.items c.loop-at.units.items c.loop-at.scribe.is_loaded c.loop-at.scribe.link c.loop-at-test.true c.index-entries-at.is c.loop-at.invariant.roles c.index.ensures (c.loop-at.invariant.plan h) in
     c.stopped_at.ensures.memory (c.in-Err-tell.ensures.plain goes.plain (goes_run c.args.profile.now (seen_of c.index-entries-at.result) (drop (c.loop-at.at + 1) (items_of c.args.entries.now)) c.index.result.now c.loop-at.units.items c.loop-at.scribe.is_loaded c.loop-at.scribe.link c.loop-at.invariant.profile goes))
 
 pub returns-in-Err-tell-clause-fits : goal.returns-in-Err-tell-clause-fits
@@ -51,7 +57,7 @@ loop-at-preserved c =
       units = subst (λ q. AreUnits q c.tell.new.units.items) c.loop-at.invariant.profile c.in-Ok-tell.ensures.units;
       told = subst (λ (items : List Seen). Told c.first_file-first.result items c.tell.new.self.text.items c.tell.new.self.link) (told_next es c.loop-at.at c.index-entries-at.result c.loop-at-test.true c.index-entries-at.is) (c.in-Ok-tell.ensures.told c.first_file-first.result (take c.loop-at.at (items_of es)) c.loop-at.invariant.told);
       plan = λ h.
-          let goes = entry_next c.args.profile.now c.args.entries.now c.loop-at.at c.index-entries-at.result c.index.result.now c.in-Ok.roles.items c.loop-at.units.items c.loop-at.scribe.is_loaded c.loop-at.scribe.link c.loop-at-test.true c.index-entries-at.is c.loop-at.invariant.roles c.index.ensures (c.loop-at.invariant.plan h) in
+          let goes = entry_next c.args.profile.now c.args.entries.now c.loop-at.at c.index-entries-at.result c.index.result.now c.in-Ok-roles.roles.items c.loop-at.units.items c.loop-at.scribe.is_loaded c.loop-at.scribe.link c.loop-at-test.true c.index-entries-at.is c.loop-at.invariant.roles c.index.ensures (c.loop-at.invariant.plan h) in
           plan_kept c.args.profile.now (seen_of c.index-entries-at.result) (drop (c.loop-at.at + 1) (items_of es)) c.index.result.now c.loop-at.units.items c.tell.new.units.items c.loop-at.scribe.is_loaded c.tell.new.self.is_loaded c.loop-at.scribe.link c.tell.new.self.link goes (c.in-Ok-tell.ensures.left goes.plain) (c.in-Ok-tell.ensures.loaded goes.plain) (c.in-Ok-tell.ensures.led goes.plain (goes_run c.args.profile.now (seen_of c.index-entries-at.result) (drop (c.loop-at.at + 1) (items_of c.args.entries.now)) c.index.result.now c.loop-at.units.items c.loop-at.scribe.is_loaded c.loop-at.scribe.link c.loop-at.invariant.profile goes));
     }
 

@@ -7,4 +7,4 @@ abbrev pub invariant-loop-at : goal.invariant-loop-at
 invariant-loop-at l = Finds l.profile (items_of l.entries) l.roles l.fn.first_file l.units.items l.place l.at
 
 abbrev pub decreases-loop-at : goal.decreases-loop-at
-decreases-loop-at l = length l.roles - l.at
+decreases-loop-at l = length l.said - l.at
