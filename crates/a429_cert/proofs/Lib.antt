@@ -8,6 +8,7 @@ pub mod Lines
 pub mod Kept
 pub mod Shape
 pub mod TextLines
+pub mod ByFirst
 pub mod ByLetter
 pub mod Steps
 pub mod NoFault

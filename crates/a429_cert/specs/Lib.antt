@@ -1,4 +1,5 @@
 pub mod Line
+pub mod Parts
 pub mod Reading
 pub mod Writing
 pub mod Lines
