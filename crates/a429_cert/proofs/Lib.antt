@@ -1,5 +1,6 @@
 pub mod Options
 pub mod Digits
+pub mod Decimals
 pub mod Fields
 pub mod Numbers
 pub mod Letters
