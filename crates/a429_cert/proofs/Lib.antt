@@ -2,6 +2,7 @@ pub mod Options
 pub mod Digits
 pub mod Decimals
 pub mod Fields
+pub mod Parts
 pub mod Numbers
 pub mod Letters
 pub mod WordFields

@@ -1,6 +1,6 @@
 pub mod Line
-pub mod Parts
 pub mod Reading
+pub mod Parts
 pub mod Writing
 pub mod Lines
 pub mod Explained

@@ -1,6 +1,7 @@
 //! The fields of a line, and the numbers in them.
 
 ghost use Rattle.std.specs.Prelude.{◌≡◌, ◌<◌, ◌≤◌, ◌^◌, length, IfSome, option_map};
+ghost use Rattle.a429_cert.specs.Parts.{last_number_in};
 ghost use Rattle.a429_cert.specs.Reading.{behind_space, digit_in, digits_in, hex_in, decimal_at, goes_on, number_in, with_rest};
 
 /// What stands behind a space.
@@ -105,6 +106,16 @@ pub fn number_at(text: &[u8]) -> Option<(u8, &[u8])>
     ensures { option_map (λ x. (x.0, x.1.now)) result ≡ with_rest number_in text.now }
 {
     number_of(behind_space(text)?)
+}
+
+/// The decimal number in the next field, where nothing stands behind it.
+#[inline(always)]
+#[tactic(auto, unfolding(crate::specs::Parts::last_number_in))]
+pub fn last_number_at(text: &[u8]) -> Option<u8>
+    ensures { result ≡ last_number_in text.now }
+{
+    let (number, rest) = number_at(text)?;
+    if rest.is_empty() { Some(number) } else { None }
 }
 
 /// The hexadecimal number of so many digits in the next field, and what stands behind it.

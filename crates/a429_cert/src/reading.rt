@@ -6,7 +6,7 @@ ghost use Rattle.a429_cert.specs.Parts.{load_line, moved_line};
 ghost use Rattle.a429_cert.specs.Reading.{words_at, words_in, first_in, load_in, moved_in, line_in};
 
 use crate::fault::OutOfMemory;
-use crate::field::{hex_at, number_at};
+use crate::field::{hex_at, last_number_at, number_at};
 use crate::line::{CertLine, LoadLine, MovedLine};
 use crate::states::{act_of, sink_at, source_at};
 use crate::words::Words;
@@ -162,16 +162,12 @@ pub fn moved_of(letter: u8, text: &[u8]) -> Option<MovedLine>
     let (source, rest) = source_at(text)?;
     let (sink, rest) = sink_at(rest)?;
     let (to_sink, rest) = number_at(rest)?;
-    let (to_source, rest) = number_at(rest)?;
-    if rest.is_empty() {
-        Some(MovedLine {
-            act,
-            source,
-            sink,
-            to_sink,
-            to_source,
-        })
-    } else {
-        None
-    }
+    let to_source = last_number_at(rest)?;
+    Some(MovedLine {
+        act,
+        source,
+        sink,
+        to_sink,
+        to_source,
+    })
 }

@@ -135,9 +135,31 @@ fn put_words(words: &[Word], out: &mut Vec<u8>) -> Result<(), OutOfMemory>
     ensures front { IsFrontOf out.old.items out.new.items }
 {
     for word in words {
-        put_hex(word.to_u32(), 8, out)?;
+        put_word(word.to_u32(), out)?;
     }
     Ok(())
+}
+
+// Appends the field of a word.
+#[inline(always)]
+fn put_word(number: u32, out: &mut Vec<u8>) -> Result<(), OutOfMemory>
+    ensures ok { OnOk result (out.new.items ≡ out.old.items ++ field (hex_text number)) }
+    ensures full { OnErr result (vec_capacity out.old < vec_len out.old + length (field (hex_text number))) }
+    ensures room { vec_capacity out.old ≤ vec_capacity out.new }
+    ensures front { IsFrontOf out.old.items out.new.items }
+{
+    put(&word_field(number), out)
+}
+
+// The field of a word.
+#[inline(always)]
+fn word_field(number: u32) -> [u8; 9]
+    ensures { result ≡ field (hex_text number) }
+{
+    let hex = Word::from_u32(number).hex();
+    [
+        b' ', hex[0], hex[1], hex[2], hex[3], hex[4], hex[5], hex[6], hex[7],
+    ]
 }
 
 // The letter of a step.
