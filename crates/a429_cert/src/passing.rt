@@ -127,7 +127,7 @@ fn pass_moved(
     ensures refused { IfErr result (λ f. f ≢ CertFault.OutOfMemory → IsFaultOfLine link.old.profile link.old.state next n i (Some (letter ∷ text.now)) f) }
 {
     match moved_of(letter, text) {
-        Some(line) => pass_step(link, line, n, next, i),
+        Some(line) => pass_step(link, &line, n, next, i),
         None => Err(CertFault::Line(n)),
     }
 }
@@ -136,14 +136,14 @@ fn pass_moved(
 #[inline(always)]
 fn pass_step(
     link: &mut Link<'_>,
-    line: MovedLine,
+    line: &MovedLine,
     n: usize,
     next: Option<Seen>,
     i: usize,
 ) -> Result<usize, CertFault>
-    ensures passed { IfOk result (λ used. Passes link.old.profile (moved_line line) next link.old.state used link.new.state) }
+    ensures passed { IfOk result (λ used. Passes link.old.profile (moved_line line.now) next link.old.state used link.new.state) }
     ensures kept { link.new.profile ≡ link.old.profile }
-    ensures refused { IfErr result (λ f. f ≢ CertFault.OutOfMemory → IsFaultOfRead link.old.profile link.old.state next n i (moved_line line) f) }
+    ensures refused { IfErr result (λ f. f ≢ CertFault.OutOfMemory → IsFaultOfRead link.old.profile link.old.state next n i (moved_line line.now) f) }
 {
     match make(link, line.act, next) {
         Ok(()) => {
@@ -158,9 +158,9 @@ fn pass_step(
 }
 
 // Whether a link stands as a line writes.
-fn stands(link: &Link<'_>, line: MovedLine) -> bool
-    ensures yes { result ≡ true → shown link.now.state ≡ (line.source, line.sink, line.to_sink, line.to_source) }
-    ensures no { result ≡ false → shown link.now.state ≢ (line.source, line.sink, line.to_sink, line.to_source) }
+fn stands(link: &Link<'_>, line: &MovedLine) -> bool
+    ensures yes { result ≡ true → shown link.now.state ≡ (line.now.source, line.now.sink, line.now.to_sink, line.now.to_source) }
+    ensures no { result ≡ false → shown link.now.state ≢ (line.now.source, line.now.sink, line.now.to_sink, line.now.to_source) }
 {
     let now = link.states();
     now.0 == line.source

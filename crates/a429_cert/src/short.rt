@@ -1,6 +1,6 @@
 //! A short text that is put together without taking memory.
 
-ghost use Rattle.std.specs.Prelude.{◌≡◌, ◌+◌, ◌<◌, ◌≤◌, [], ◌∷◌, ◌++◌, length};
+ghost use Rattle.std.specs.Prelude.{◌≡◌, ◌+◌, ◌/◌, ◌%◌, ◌<◌, ◌≤◌, [], ◌∷◌, ◌++◌, length};
 ghost use Rattle.std.specs.Fmt.{decimal};
 ghost use Rattle.a429_cert.specs.Line.{field, source_text, sink_text};
 
@@ -79,13 +79,26 @@ impl ShortText {
         if number < 10 {
             self.push(b'0' + number);
         } else if number < 100 {
-            self.push(b'0' + number / 10);
-            self.push(b'0' + number % 10);
+            self.push_pair(number);
+        } else if number < 200 {
+            self.push(b'1');
+            self.push_pair(number - 100);
         } else {
-            self.push(b'0' + number / 100);
-            self.push(b'0' + number / 10 % 10);
-            self.push(b'0' + number % 10);
+            self.push(b'2');
+            self.push_pair(number - 200);
         }
+    }
+
+    // Appends a number below 100 in two digits.
+    #[inline(always)]
+    fn push_pair(&mut self, number: u8)
+        requires room { length self.old < 23 }
+        requires small { number < 100 }
+        ensures text { self.new ≡ self.old ++ (48 + number / 10) ∷ (48 + number % 10) ∷ [] }
+        ensures len { length self.new ≡ length self.old + 2 }
+    {
+        self.push(b'0' + number / 10);
+        self.push(b'0' + number % 10);
     }
 
     /// Appends a field with a decimal number.

@@ -65,23 +65,24 @@ fn put_line(line: &CertLine, out: &mut Vec<u8>) -> Result<(), OutOfMemory>
             sink,
             to_sink,
             to_source,
-        } => {
-            let text = moved_text(*act, *source, *sink, *to_sink, *to_source);
-            put(text.as_slice(), out)
-        }
+        } => { put_moved(*act, *source, *sink, *to_sink, *to_source, out) }
     }
 }
 
-// The line of a step that is no load.
+// Appends the line of a step that is no load.
 #[inline(always)]
-fn moved_text(
+fn put_moved(
     act: Act,
     source: SourceState,
     sink: SinkState,
     to_sink: u8,
     to_source: u8,
-) -> ShortText
-    ensures { result ≡ spelling (Moved act source sink to_sink to_source) }
+    out: &mut Vec<u8>,
+) -> Result<(), OutOfMemory>
+    ensures ok { OnOk result (out.new.items ≡ out.old.items ++ spelling (Moved act source sink to_sink to_source)) }
+    ensures full { OnErr result (vec_capacity out.old < vec_len out.old + length (spelling (Moved act source sink to_sink to_source))) }
+    ensures room { vec_capacity out.old ≤ vec_capacity out.new }
+    ensures front { IsFrontOf out.old.items out.new.items }
 {
     let mut text = ShortText::new();
     text.push(act_letter(act));
@@ -89,7 +90,7 @@ fn moved_text(
     text.push_sink(sink);
     text.push_number(to_sink);
     text.push_number(to_source);
-    text
+    put(text.as_slice(), out)
 }
 
 // Appends text, or for want of memory nothing.

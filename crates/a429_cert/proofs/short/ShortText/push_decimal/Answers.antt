@@ -8,8 +8,12 @@ returns-then-number-lt10-clause-text c =
 
 pub returns-then-number-lt100-clause-text : goal.returns-then-number-lt100-clause-text
 returns-then-number-lt100-clause-text c =
-    two_digits c.args.number c.args.self.now c.push-then-number-lt100.new.self c.push-then-number-lt100-2.new.self c.if-number-lt10.false c.if-number-lt100.true c.push-then-number-lt100.ensures.text c.push-then-number-lt100-2.ensures.text
+    two_digits c.args.number c.args.self.now c.push_pair.new.self c.if-number-lt10.false c.if-number-lt100.true c.push_pair.ensures.text
 
-pub returns-else-number-lt100-clause-text : goal.returns-else-number-lt100-clause-text
-returns-else-number-lt100-clause-text c =
-    three_digits c.args.number c.args.self.now c.push-else-number-lt100.new.self c.push-else-number-lt100-2.new.self c.push-else-number-lt100-3.new.self c.if-number-lt100.false (omega arith) c.push-else-number-lt100.ensures.text c.push-else-number-lt100-2.ensures.text c.push-else-number-lt100-3.ensures.text
+pub returns-then-number-lt200-clause-text : goal.returns-then-number-lt200-clause-text
+returns-then-number-lt200-clause-text c =
+    three_digits c.args.number 1 c.args.self.now c.push-then-number-lt200.new.self c.push_pair-then-number-lt200.new.self (omega arith) (omega arith) (omega arith) (omega arith) c.push-then-number-lt200.ensures.text c.push_pair-then-number-lt200.ensures.text
+
+pub returns-else-number-lt200-clause-text : goal.returns-else-number-lt200-clause-text
+returns-else-number-lt200-clause-text c =
+    three_digits c.args.number 2 c.args.self.now c.push-else-number-lt200.new.self c.push_pair-else-number-lt200.new.self (omega arith) (omega arith) (omega arith) (omega arith) c.push-else-number-lt200.ensures.text c.push_pair-else-number-lt200.ensures.text
