@@ -1,6 +1,8 @@
 pub mod Options
 pub mod Digits
+pub mod Decimals
 pub mod Fields
+pub mod Parts
 pub mod Numbers
 pub mod Letters
 pub mod WordFields
@@ -8,6 +10,7 @@ pub mod Lines
 pub mod Kept
 pub mod Shape
 pub mod TextLines
+pub mod ByFirst
 pub mod ByLetter
 pub mod Steps
 pub mod NoFault

@@ -172,7 +172,7 @@ first-only bytes l e =
       spelled = sym (take-append-drop 5 bytes) ∙ ap (λ t. t ++ drop 5 bytes) (same_text (take 5 bytes) (codes "first") is.0) ∙ ap (λ t. codes "first" ++ t) text;
     })
 
-load-only : (bytes : List ℕ) (l : CertLine) → load_in bytes ≡ Some l → Spells (codes "L" ++ bytes) l
+pub load-only : (bytes : List ℕ) (l : CertLine) → load_in bytes ≡ Some l → Spells (codes "L" ++ bytes) l
 unfolding load_in
 load-only bytes l e =
     let gfi = bind_some (with_rest (hex_in 1) bytes) _ l e in
@@ -191,7 +191,7 @@ load-only bytes l e =
       spelled = ap (λ t. codes "L" ++ t) text ∙ sym (load-text gfi.0.0 flags.0.0 check.0.0 words.0);
     })
 
-moved-only : (letter : ℕ) (bytes : List ℕ) (l : CertLine) → moved_in letter bytes ≡ Some l → Spells (letter ∷ bytes) l
+pub moved-only : (letter : ℕ) (bytes : List ℕ) (l : CertLine) → moved_in letter bytes ≡ Some l → Spells (letter ∷ bytes) l
 unfolding moved_in
 moved-only letter bytes l e =
     let act = bind_some (act_in letter) _ l e in

@@ -1,5 +1,6 @@
 pub mod Line
 pub mod Reading
+pub mod Parts
 pub mod Writing
 pub mod Lines
 pub mod Explained

@@ -1,9 +1,11 @@
 //! The fields of a line, and the numbers in them.
 
 ghost use Rattle.std.specs.Prelude.{◌≡◌, ◌<◌, ◌≤◌, ◌^◌, length, IfSome, option_map};
+ghost use Rattle.a429_cert.specs.Parts.{last_number_in};
 ghost use Rattle.a429_cert.specs.Reading.{behind_space, digit_in, digits_in, hex_in, decimal_at, goes_on, number_in, with_rest};
 
 /// What stands behind a space.
+#[inline(always)]
 pub fn behind_space(text: &[u8]) -> Option<&[u8]>
     ensures { option_map (λ x. x.now) result ≡ behind_space text.now }
 {
@@ -56,6 +58,7 @@ fn hex_of(text: &[u8], count: usize) -> Option<(u32, &[u8])>
 }
 
 // A decimal digit, and what stands behind it.
+#[inline(always)]
 #[tactic(auto, unfolding(crate::specs::Reading::decimal_at))]
 fn decimal_at(text: &[u8]) -> Option<(u8, &[u8])>
     ensures { option_map (λ x. (x.0, x.1.now)) result ≡ decimal_at text.now }
@@ -67,6 +70,7 @@ fn decimal_at(text: &[u8]) -> Option<(u8, &[u8])>
 }
 
 // A number up to 255 with the digit that stands behind it, if there is one, and what stands behind that.
+#[inline(always)]
 #[tactic(auto, unfolding(crate::specs::Reading::goes_on))]
 fn goes_on(number: u8, text: &[u8]) -> Option<(u8, &[u8])>
     ensures { option_map (λ x. (x.0, x.1.now)) result ≡ goes_on (number, text.now) }
@@ -83,6 +87,7 @@ fn goes_on(number: u8, text: &[u8]) -> Option<(u8, &[u8])>
 }
 
 /// A decimal number up to 255, without leading zeros, and what stands behind it.
+#[inline(always)]
 #[tactic(auto, unfolding(crate::specs::Reading::number_in))]
 pub fn number_of(text: &[u8]) -> Option<(u8, &[u8])>
     ensures { option_map (λ x. (x.0, x.1.now)) result ≡ number_in text.now }
@@ -96,10 +101,21 @@ pub fn number_of(text: &[u8]) -> Option<(u8, &[u8])>
 }
 
 /// The decimal number in the next field, and what stands behind it.
+#[inline(always)]
 pub fn number_at(text: &[u8]) -> Option<(u8, &[u8])>
     ensures { option_map (λ x. (x.0, x.1.now)) result ≡ with_rest number_in text.now }
 {
     number_of(behind_space(text)?)
+}
+
+/// The decimal number in the next field, where nothing stands behind it.
+#[inline(always)]
+#[tactic(auto, unfolding(crate::specs::Parts::last_number_in))]
+pub fn last_number_at(text: &[u8]) -> Option<u8>
+    ensures { result ≡ last_number_in text.now }
+{
+    let (number, rest) = number_at(text)?;
+    if rest.is_empty() { Some(number) } else { None }
 }
 
 /// The hexadecimal number of so many digits in the next field, and what stands behind it.

@@ -10,6 +10,7 @@ mod line;
 mod passing;
 mod reading;
 mod replay;
+mod short;
 mod states;
 mod verified;
 mod words;

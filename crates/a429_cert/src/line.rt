@@ -34,3 +34,31 @@ pub enum CertLine {
         to_source: u8,
     },
 }
+
+/// The line of a link data unit.
+#[derive(Debug, Drop)]
+pub struct LoadLine {
+    /// The general format identifier of its start word.
+    pub gfi: u8,
+    /// The flags of its end word.
+    pub flags: u8,
+    /// The check word of its end word.
+    pub check: u16,
+    /// Its data words.
+    pub words: Words,
+}
+
+/// The line of a step that is no load. It takes no memory.
+#[derive(Clone, Copy, Debug)]
+pub struct MovedLine {
+    /// The step.
+    pub act: Act,
+    /// Where the source stands after it.
+    pub source: SourceState,
+    /// Where the sink stands after it.
+    pub sink: SinkState,
+    /// How many recorded words the sink has not taken.
+    pub to_sink: u8,
+    /// How many recorded answers the source has not taken.
+    pub to_source: u8,
+}

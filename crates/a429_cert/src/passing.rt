@@ -1,11 +1,13 @@
 //! One line of a certificate, held against a link and the next entry of a recording.
 
-ghost use Rattle.std.specs.Prelude.{◌≡◌, ◌≢◌, Option, Some, None, IfOk, IfErr, OnOk, true, false};
+ghost use Rattle.std.specs.Prelude.{◌≡◌, ◌≢◌, ◌∷◌, ℕ, Option, Some, None, IfOk, IfErr, OnOk, true, false};
 ghost use Rattle.a429_profile.specs.Contents.{IsProfile};
 ghost use Rattle.a429_link.specs.Step.{Can, Named, LoadsLdu, after};
 ghost use Rattle.a429_link.specs.Link.{shown};
 ghost use Rattle.a429_link.specs.declared.step.Step.TheVariants as step;
+ghost use Rattle.a429_link.specs.declared.seen.Seen.{Seen};
 ghost use Rattle.a429_cert.specs.Line.{IsLine};
+ghost use Rattle.a429_cert.specs.Parts.{load_line, moved_line};
 ghost use Rattle.a429_cert.specs.Lines.{text_of};
 ghost use Rattle.a429_cert.specs.Explained.{step_with};
 ghost use Rattle.a429_cert.specs.Fault.{IsFaultOfLine};
@@ -14,16 +16,17 @@ ghost use Rattle.a429_cert.specs.Passing.{IsNamedOf, IsFaultOf, IsFaultOfRead, M
 use crate::act::Act;
 use crate::certificate::TextLine;
 use crate::fault::CertFault;
-use crate::line::CertLine;
-use crate::reading::read_line;
+use crate::line::{LoadLine, MovedLine};
+use crate::reading::{load_of, moved_of};
 use a429_ldu::{Ldu, LduFault};
-use a429_link::{Link, Seen, SinkState, SourceState, Step, StepFault};
+use a429_link::{Link, Seen, Step, StepFault};
 use a429_profile::Profile;
 use a429_word::{Bus, Word};
 use std::alloc::Global;
 
 /// Takes line n of a certificate, where `next` is the next entry, number i: the link makes its step.
 /// Answers how many entries it uses, 0 or 1.
+#[inline(always)]
 pub fn pass(
     alloc: Global,
     profile: &Profile,
@@ -42,73 +45,128 @@ pub fn pass(
     let TextLine::Ended(text) = line else {
         return Err(CertFault::Line(n));
     };
-    match read_line(alloc, text) {
-        Ok(Some(line)) => pass_step(alloc, profile, link, line, n, next, i),
+    match text {
+        [b'L', rest @ ..] => match pass_load(alloc, profile, link, rest, n) {
+            Ok(()) => Ok(0),
+            Err(fault) => Err(fault),
+        },
+        [letter, rest @ ..] => pass_moved(link, *letter, rest, n, next, i),
+        [] => Err(CertFault::Line(n)),
+    }
+}
+
+// Takes line n, that of a link data unit, behind its letter.
+fn pass_load(
+    alloc: Global,
+    profile: &Profile,
+    link: &mut Link<'_>,
+    text: &[u8],
+    n: usize,
+) -> Result<(), CertFault>
+    requires sound { IsProfile profile.now }
+    requires profile { link.old.profile ≡ profile.now }
+    ensures passed { OnOk result ((next : Option Seen) → TextPasses profile.now (Some (76 ∷ text.now)) next link.old.state 0 link.new.state) }
+    ensures kept { link.new.profile ≡ profile.now }
+    ensures refused { IfErr result (λ f. f ≢ CertFault.OutOfMemory → (next : Option Seen) (i : ℕ) → IsFaultOfLine profile.now link.old.state next n i (Some (76 ∷ text.now)) f) }
+{
+    match load_of(alloc, text) {
+        Ok(Some(line)) => pass_unit(alloc, profile, link, line, n),
         Ok(None) => Err(CertFault::Line(n)),
         Err(_) => Err(CertFault::OutOfMemory),
     }
 }
 
-// Takes line n, which was read, where `next` is the next entry, number i. Answers how many it uses.
-fn pass_step(
+// Takes line n, which was read as that of a link data unit.
+fn pass_unit(
     alloc: Global,
     profile: &Profile,
     link: &mut Link<'_>,
-    line: CertLine,
+    line: LoadLine,
+    n: usize,
+) -> Result<(), CertFault>
+    requires range { IsLine (load_line line) }
+    requires sound { IsProfile profile.now }
+    requires profile { link.old.profile ≡ profile.now }
+    ensures passed { OnOk result ((next : Option Seen) → Passes profile.now (load_line line) next link.old.state 0 link.new.state) }
+    ensures kept { link.new.profile ≡ profile.now }
+    ensures refused { IfErr result (λ f. f ≢ CertFault.OutOfMemory → (next : Option Seen) (i : ℕ) → IsFaultOfRead profile.now link.old.state next n i (load_line line) f) }
+{
+    match Ldu::new(
+        alloc,
+        profile,
+        line.gfi,
+        line.flags,
+        line.check,
+        line.words.as_slice(),
+    ) {
+        Ok(unit) => {
+            if load(link, unit) {
+                Ok(())
+            } else {
+                Err(CertFault::NotAllowed(n))
+            }
+        }
+        Err(fault) => Err(no_unit(fault, n)),
+    }
+}
+
+// Takes line n, its letter and what stands behind it, where `next` is the next entry, number i. Answers
+// how many it uses.
+#[inline(always)]
+fn pass_moved(
+    link: &mut Link<'_>,
+    letter: u8,
+    text: &[u8],
     n: usize,
     next: Option<Seen>,
     i: usize,
 ) -> Result<usize, CertFault>
-    requires range { IsLine line }
-    requires sound { IsProfile profile.now }
-    requires profile { link.old.profile ≡ profile.now }
-    ensures passed { IfOk result (λ used. Passes profile.now line next link.old.state used link.new.state) }
-    ensures kept { link.new.profile ≡ profile.now }
-    ensures refused { IfErr result (λ f. f ≢ CertFault.OutOfMemory → IsFaultOfRead profile.now link.old.state next n i line f) }
+    requires { letter ≢ 76 }
+    ensures passed { IfOk result (λ used. TextPasses link.old.profile (Some (letter ∷ text.now)) next link.old.state used link.new.state) }
+    ensures kept { link.new.profile ≡ link.old.profile }
+    ensures refused { IfErr result (λ f. f ≢ CertFault.OutOfMemory → IsFaultOfLine link.old.profile link.old.state next n i (Some (letter ∷ text.now)) f) }
 {
-    match line {
-        CertLine::First(_) => Err(CertFault::Line(n)),
-        CertLine::Load {
-            gfi,
-            flags,
-            check,
-            words,
-        } => match Ldu::new(alloc, profile, gfi, flags, check, words.as_slice()) {
-            Ok(unit) => {
-                if load(link, unit) {
-                    Ok(0)
-                } else {
-                    Err(CertFault::NotAllowed(n))
-                }
+    match moved_of(letter, text) {
+        Some(line) => pass_step(link, &line, n, next, i),
+        None => Err(CertFault::Line(n)),
+    }
+}
+
+// Takes line n, which was read, where `next` is the next entry, number i. Answers how many it uses.
+#[inline(always)]
+fn pass_step(
+    link: &mut Link<'_>,
+    line: &MovedLine,
+    n: usize,
+    next: Option<Seen>,
+    i: usize,
+) -> Result<usize, CertFault>
+    ensures passed { IfOk result (λ used. Passes link.old.profile (moved_line line.now) next link.old.state used link.new.state) }
+    ensures kept { link.new.profile ≡ link.old.profile }
+    ensures refused { IfErr result (λ f. f ≢ CertFault.OutOfMemory → IsFaultOfRead link.old.profile link.old.state next n i (moved_line line.now) f) }
+{
+    match make(link, line.act, next) {
+        Ok(()) => {
+            if stands(link, line) {
+                Ok(used_by(line.act))
+            } else {
+                Err(CertFault::StateDiffers(n))
             }
-            Err(fault) => Err(no_unit(fault, n)),
-        },
-        CertLine::Moved {
-            act,
-            source,
-            sink,
-            to_sink,
-            to_source,
-        } => match make(link, act, next) {
-            Ok(()) => {
-                if stands(link, source, sink, to_sink, to_source) {
-                    Ok(used_by(act))
-                } else {
-                    Err(CertFault::StateDiffers(n))
-                }
-            }
-            Err(fault) => Err(no_step(fault, n, i)),
-        },
+        }
+        Err(fault) => Err(no_step(fault, n, i)),
     }
 }
 
 // Whether a link stands as a line writes.
-fn stands(link: &Link<'_>, source: SourceState, sink: SinkState, to_sink: u8, to_source: u8) -> bool
-    ensures yes { result ≡ true → shown link.now.state ≡ (source, sink, to_sink, to_source) }
-    ensures no { result ≡ false → shown link.now.state ≢ (source, sink, to_sink, to_source) }
+fn stands(link: &Link<'_>, line: &MovedLine) -> bool
+    ensures yes { result ≡ true → shown link.now.state ≡ (line.now.source, line.now.sink, line.now.to_sink, line.now.to_source) }
+    ensures no { result ≡ false → shown link.now.state ≢ (line.now.source, line.now.sink, line.now.to_sink, line.now.to_source) }
 {
     let now = link.states();
-    now.0 == source && now.1 == sink && now.2 == to_sink as usize && now.3 == to_source as usize
+    now.0 == line.source
+        && now.1 == line.sink
+        && now.2 == line.to_sink as usize
+        && now.3 == line.to_source as usize
 }
 
 // The fault of line n, whose words and check word make no link data unit.

@@ -1,12 +1,13 @@
 //! Lines, read.
 
-ghost use Rattle.std.specs.Prelude.{◌≡◌, codes, take, IfOk, OnErr};
+ghost use Rattle.std.specs.Prelude.{◌≡◌, codes, take, option_map, IfOk, OnErr};
 ghost use Rattle.a429_cert.specs.Line.{Reads};
+ghost use Rattle.a429_cert.specs.Parts.{load_line, moved_line};
 ghost use Rattle.a429_cert.specs.Reading.{words_at, words_in, first_in, load_in, moved_in, line_in};
 
 use crate::fault::OutOfMemory;
-use crate::field::{hex_at, number_at};
-use crate::line::CertLine;
+use crate::field::{hex_at, last_number_at, number_at};
+use crate::line::{CertLine, LoadLine, MovedLine};
 use crate::states::{act_of, sink_at, source_at};
 use crate::words::Words;
 use a429_word::Word;
@@ -34,11 +35,49 @@ fn line_of(alloc: Global, line: &[u8]) -> Result<Option<CertLine>, OutOfMemory>
     ensures err { OnErr result (take 1 line.now ≡ codes "L") }
 {
     match line {
-        [b'L', rest @ ..] => load_of(alloc, rest),
+        [b'L', rest @ ..] => Ok(unit_line(load_of(alloc, rest)?)),
         [b'f', ..] => Ok(first_of(line)),
-        [letter, rest @ ..] => Ok(moved_of(*letter, rest)),
+        [letter, rest @ ..] => Ok(step_line(moved_of(*letter, rest))),
         [] => Ok(None),
     }
+}
+
+// The line of a link data unit, if there is one.
+fn unit_line(read: Option<LoadLine>) -> Option<CertLine>
+    ensures { result ≡ option_map load_line read }
+{
+    let LoadLine {
+        gfi,
+        flags,
+        check,
+        words,
+    } = read?;
+    Some(CertLine::Load {
+        gfi,
+        flags,
+        check,
+        words,
+    })
+}
+
+// The line of a step, if there is one.
+fn step_line(read: Option<MovedLine>) -> Option<CertLine>
+    ensures { result ≡ option_map moved_line read }
+{
+    let MovedLine {
+        act,
+        source,
+        sink,
+        to_sink,
+        to_source,
+    } = read?;
+    Some(CertLine::Moved {
+        act,
+        source,
+        sink,
+        to_sink,
+        to_source,
+    })
 }
 
 // The number of the first file.
@@ -55,10 +94,10 @@ fn first_of(line: &[u8]) -> Option<CertLine>
     }
 }
 
-// A link data unit, behind its letter.
+/// The line of a link data unit, behind its letter.
 #[tactic(auto, unfolding(crate::specs::Reading::load_in))]
-fn load_of(alloc: Global, text: &[u8]) -> Result<Option<CertLine>, OutOfMemory>
-    ensures { IfOk result (λ read. read ≡ load_in text.now) }
+pub fn load_of(alloc: Global, text: &[u8]) -> Result<Option<LoadLine>, OutOfMemory>
+    ensures { IfOk result (λ read. option_map load_line read ≡ load_in text.now) }
 {
     let Some((gfi, rest)) = hex_at(text, 1) else {
         return Ok(None);
@@ -72,7 +111,7 @@ fn load_of(alloc: Global, text: &[u8]) -> Result<Option<CertLine>, OutOfMemory>
     let Some(words) = words_of(alloc, rest)? else {
         return Ok(None);
     };
-    Ok(Some(CertLine::Load {
+    Ok(Some(LoadLine {
         gfi: gfi as u8,
         flags: flags as u8,
         check: check as u16,
@@ -113,25 +152,22 @@ fn words_at(alloc: Global, count: usize, text: &[u8]) -> Result<Option<Words>, O
     }
 }
 
-// A step, by its letter, and what it leaves.
+/// The line of another step, its letter and what stands behind it.
+#[inline(always)]
 #[tactic(auto, unfolding(crate::specs::Reading::moved_in))]
-fn moved_of(letter: u8, text: &[u8]) -> Option<CertLine>
-    ensures { result ≡ moved_in letter text.now }
+pub fn moved_of(letter: u8, text: &[u8]) -> Option<MovedLine>
+    ensures { option_map moved_line result ≡ moved_in letter text.now }
 {
     let act = act_of(letter)?;
     let (source, rest) = source_at(text)?;
     let (sink, rest) = sink_at(rest)?;
     let (to_sink, rest) = number_at(rest)?;
-    let (to_source, rest) = number_at(rest)?;
-    if rest.is_empty() {
-        Some(CertLine::Moved {
-            act,
-            source,
-            sink,
-            to_sink,
-            to_source,
-        })
-    } else {
-        None
-    }
+    let to_source = last_number_at(rest)?;
+    Some(MovedLine {
+        act,
+        source,
+        sink,
+        to_sink,
+        to_source,
+    })
 }

@@ -8,6 +8,7 @@ use crate::field::{behind_space, number_of};
 use a429_link::{SinkState, SourceState};
 
 /// The step of a letter.
+#[inline(always)]
 pub fn act_of(letter: u8) -> Option<Act>
     ensures { result ≡ act_in letter }
 {
@@ -26,6 +27,7 @@ pub fn act_of(letter: u8) -> Option<Act>
 }
 
 // The source's state, and what stands behind it.
+#[inline(always)]
 fn source_of(field: &[u8]) -> Option<(SourceState, &[u8])>
     ensures { option_map (λ x. (x.0, x.1.now)) result ≡ source_in field.now }
 {
@@ -39,6 +41,7 @@ fn source_of(field: &[u8]) -> Option<(SourceState, &[u8])>
 }
 
 // The source sends, and has sent so many words.
+#[inline(always)]
 fn sending_of(count: &[u8]) -> Option<(SourceState, &[u8])>
     ensures { option_map (λ x. (x.0, x.1.now)) result ≡ sending_in (number_in count.now) }
 {
@@ -51,6 +54,7 @@ fn sending_of(count: &[u8]) -> Option<(SourceState, &[u8])>
 }
 
 // The sink's state, and what stands behind it.
+#[inline(always)]
 fn sink_of(field: &[u8]) -> Option<(SinkState, &[u8])>
     ensures { option_map (λ x. (x.0, x.1.now)) result ≡ sink_in field.now }
 {
@@ -66,6 +70,7 @@ fn sink_of(field: &[u8]) -> Option<(SinkState, &[u8])>
 }
 
 // The sink is in a block, of which it has taken so many words.
+#[inline(always)]
 fn block_of(count: &[u8]) -> Option<(SinkState, &[u8])>
     ensures { option_map (λ x. (x.0, x.1.now)) result ≡ block_in (number_in count.now) }
 {
@@ -78,6 +83,7 @@ fn block_of(count: &[u8]) -> Option<(SinkState, &[u8])>
 }
 
 /// The source's state in the next field, and what stands behind it.
+#[inline(always)]
 pub fn source_at(text: &[u8]) -> Option<(SourceState, &[u8])>
     ensures { option_map (λ x. (x.0, x.1.now)) result ≡ with_rest source_in text.now }
 {
@@ -85,6 +91,7 @@ pub fn source_at(text: &[u8]) -> Option<(SourceState, &[u8])>
 }
 
 /// The sink's state in the next field, and what stands behind it.
+#[inline(always)]
 pub fn sink_at(text: &[u8]) -> Option<(SinkState, &[u8])>
     ensures { option_map (λ x. (x.0, x.1.now)) result ≡ with_rest sink_in text.now }
 {

@@ -1,17 +1,17 @@
 //! Lines, written.
 
-ghost use Rattle.std.specs.Prelude.{◌≡◌, ◌≤◌, ◌<◌, ◌+◌, ◌++◌, flat_map, length, vec_len, vec_capacity, OnOk, OnErr};
-ghost use Rattle.std.specs.Fmt.{decimal};
+ghost use Rattle.std.specs.Prelude.{◌≡◌, ◌≤◌, ◌<◌, ◌+◌, [], ◌∷◌, ◌++◌, flat_map, length, vec_len, vec_capacity, OnOk, OnErr};
 ghost use Rattle.a429_word.specs.Written.{numeral, hex_text};
-ghost use Rattle.a429_cert.specs.Line.{field, act_text, source_text, sink_text, spelling, IsLine, AreHeld, IsHeld};
+ghost use Rattle.a429_cert.specs.declared.line.CertLine.TheVariants.{Moved};
+ghost use Rattle.a429_cert.specs.Line.{field, act_text, spelling, IsLine, AreHeld, IsHeld};
 ghost use Rattle.a429_cert.specs.Writing.{IsFrontOf};
 
 use crate::act::Act;
 use crate::fault::OutOfMemory;
 use crate::line::CertLine;
+use crate::short::ShortText;
 use a429_link::{SinkState, SourceState};
 use a429_word::Word;
-use itoa::Buffer;
 
 /// Appends the spelling of a line whose fields are in their ranges, without a line feed. Memory can be
 /// refused only where `out` has no room for it; `out` then has what it had.
@@ -43,7 +43,9 @@ fn put_line(line: &CertLine, out: &mut Vec<u8>) -> Result<(), OutOfMemory>
     match line {
         CertLine::First(file) => {
             put(b"first", out)?;
-            put_number(*file, out)
+            let mut text = ShortText::new();
+            text.push_number(*file);
+            put(text.as_slice(), out)
         }
         CertLine::Load {
             gfi,
@@ -63,14 +65,32 @@ fn put_line(line: &CertLine, out: &mut Vec<u8>) -> Result<(), OutOfMemory>
             sink,
             to_sink,
             to_source,
-        } => {
-            put(act_letter(*act), out)?;
-            put_source(*source, out)?;
-            put_sink(*sink, out)?;
-            put_number(*to_sink, out)?;
-            put_number(*to_source, out)
-        }
+        } => { put_moved(*act, *source, *sink, *to_sink, *to_source, out) }
     }
+}
+
+// Appends the line of a step that is no load.
+#[inline(always)]
+fn put_moved(
+    act: Act,
+    source: SourceState,
+    sink: SinkState,
+    to_sink: u8,
+    to_source: u8,
+    out: &mut Vec<u8>,
+) -> Result<(), OutOfMemory>
+    ensures ok { OnOk result (out.new.items ≡ out.old.items ++ spelling (Moved act source sink to_sink to_source)) }
+    ensures full { OnErr result (vec_capacity out.old < vec_len out.old + length (spelling (Moved act source sink to_sink to_source))) }
+    ensures room { vec_capacity out.old ≤ vec_capacity out.new }
+    ensures front { IsFrontOf out.old.items out.new.items }
+{
+    let mut text = ShortText::new();
+    text.push(act_letter(act));
+    text.push_source(source);
+    text.push_sink(sink);
+    text.push_number(to_sink);
+    text.push_number(to_source);
+    put(text.as_slice(), out)
 }
 
 // Appends text, or for want of memory nothing.
@@ -95,28 +115,6 @@ fn put_field(text: &[u8], out: &mut Vec<u8>) -> Result<(), OutOfMemory>
     put(text, out)
 }
 
-// Appends a number in decimal.
-fn put_decimal(number: u8, out: &mut Vec<u8>) -> Result<(), OutOfMemory>
-    ensures ok { OnOk result (out.new.items ≡ out.old.items ++ decimal number) }
-    ensures full { OnErr result (vec_capacity out.old < vec_len out.old + length (decimal number)) }
-    ensures room { vec_capacity out.old ≤ vec_capacity out.new }
-    ensures front { IsFrontOf out.old.items out.new.items }
-{
-    let mut buffer = Buffer::new();
-    put(buffer.format(number).as_bytes(), out)
-}
-
-// Appends a field with a decimal number.
-fn put_number(number: u8, out: &mut Vec<u8>) -> Result<(), OutOfMemory>
-    ensures ok { OnOk result (out.new.items ≡ out.old.items ++ field (decimal number)) }
-    ensures full { OnErr result (vec_capacity out.old < vec_len out.old + length (field (decimal number))) }
-    ensures room { vec_capacity out.old ≤ vec_capacity out.new }
-    ensures front { IsFrontOf out.old.items out.new.items }
-{
-    put(b" ", out)?;
-    put_decimal(number, out)
-}
-
 // Appends a field with the last digits of a number in hexadecimal, at most eight.
 fn put_hex(number: u32, digits: usize, out: &mut Vec<u8>) -> Result<(), OutOfMemory>
     requires { digits ≤ 8 }
@@ -138,62 +136,46 @@ fn put_words(words: &[Word], out: &mut Vec<u8>) -> Result<(), OutOfMemory>
     ensures front { IsFrontOf out.old.items out.new.items }
 {
     for word in words {
-        put_hex(word.to_u32(), 8, out)?;
+        put_word(word.to_u32(), out)?;
     }
     Ok(())
 }
 
-// Appends the field of the source's state.
-fn put_source(source: SourceState, out: &mut Vec<u8>) -> Result<(), OutOfMemory>
-    ensures ok { OnOk result (out.new.items ≡ out.old.items ++ field (source_text source)) }
-    ensures full { OnErr result (vec_capacity out.old < vec_len out.old + length (field (source_text source))) }
+// Appends the field of a word.
+#[inline(always)]
+fn put_word(number: u32, out: &mut Vec<u8>) -> Result<(), OutOfMemory>
+    ensures ok { OnOk result (out.new.items ≡ out.old.items ++ field (hex_text number)) }
+    ensures full { OnErr result (vec_capacity out.old < vec_len out.old + length (field (hex_text number))) }
     ensures room { vec_capacity out.old ≤ vec_capacity out.new }
     ensures front { IsFrontOf out.old.items out.new.items }
 {
-    match source {
-        SourceState::Idle => put(b" I", out),
-        SourceState::Awaiting => put(b" C", out),
-        SourceState::Sending(sent) => {
-            put(b" S", out)?;
-            put_decimal(sent, out)
-        }
-        SourceState::Waiting => put(b" W", out),
-    }
+    put(&word_field(number), out)
 }
 
-// Appends the field of the sink's state.
-fn put_sink(sink: SinkState, out: &mut Vec<u8>) -> Result<(), OutOfMemory>
-    ensures ok { OnOk result (out.new.items ≡ out.old.items ++ field (sink_text sink)) }
-    ensures full { OnErr result (vec_capacity out.old < vec_len out.old + length (field (sink_text sink))) }
-    ensures room { vec_capacity out.old ≤ vec_capacity out.new }
-    ensures front { IsFrontOf out.old.items out.new.items }
+// The field of a word.
+#[inline(always)]
+fn word_field(number: u32) -> [u8; 9]
+    ensures { result ≡ field (hex_text number) }
 {
-    match sink {
-        SinkState::Quiet => put(b" Q", out),
-        SinkState::OwesClear => put(b" c", out),
-        SinkState::Granted => put(b" G", out),
-        SinkState::InBlock(taken) => {
-            put(b" B", out)?;
-            put_decimal(taken, out)
-        }
-        SinkState::OwesAck => put(b" A", out),
-        SinkState::OwesNak => put(b" N", out),
-    }
+    let hex = Word::from_u32(number).hex();
+    [
+        b' ', hex[0], hex[1], hex[2], hex[3], hex[4], hex[5], hex[6], hex[7],
+    ]
 }
 
 // The letter of a step.
-fn act_letter(act: Act) -> &'static [u8]
-    ensures { result.now ≡ act_text act }
+fn act_letter(act: Act) -> u8
+    ensures { result ∷ [] ≡ act_text act }
 {
     match act {
-        Act::Sent => b"a",
-        Act::SentLost => b"l",
-        Act::TimeOut => b"t",
-        Act::TakeAnswer => b"g",
-        Act::LoseAnswer => b"d",
-        Act::SinkTakes => b"k",
-        Act::Silent => b"s",
-        Act::Answered => b"b",
-        Act::FreeSeen => b"n",
+        Act::Sent => b'a',
+        Act::SentLost => b'l',
+        Act::TimeOut => b't',
+        Act::TakeAnswer => b'g',
+        Act::LoseAnswer => b'd',
+        Act::SinkTakes => b'k',
+        Act::Silent => b's',
+        Act::Answered => b'b',
+        Act::FreeSeen => b'n',
     }
 }
