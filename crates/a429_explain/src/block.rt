@@ -93,7 +93,7 @@ fn unit_of(
     if let Some(unit) = whole {
         return Ok(unit);
     }
-    let Ok(filled) = filled_unit(alloc, profile, entries, group, count) else {
+    let Ok(filled) = filled_unit(alloc, profile, entries, said, group, count) else {
         return Err(Stop::OutOfMemory);
     };
     match filled {

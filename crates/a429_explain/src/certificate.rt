@@ -39,10 +39,10 @@ pub(crate) fn certificate_of(
     ensures clean { IsWithoutLoss profile.now (items_of entries.now) → IfErr result (λ s. s ≡ Stop.OutOfMemory) }
 {
     let _codes = profile.codes();
-    let Ok(said) = forms_of(alloc, profile, entries) else {
+    let Ok(forms) = forms_of(alloc, profile, entries) else {
         return Err(Stop::OutOfMemory);
     };
-    let said = said.as_slice();
+    let said = forms.as_slice();
     let Ok(roles) = roles(alloc, said) else {
         return Err(Stop::OutOfMemory);
     };
@@ -51,6 +51,8 @@ pub(crate) fn certificate_of(
         Ok(units) => units,
         Err(stop) => return Err(stop),
     };
+    // The lines are told by the roles: what the words say is not needed beside the text.
+    drop(forms);
     let Ok(mut scribe) = Scribe::new(alloc, profile, first) else {
         return Err(Stop::OutOfMemory);
     };

@@ -1,11 +1,16 @@
 //! A link data unit of which no attempt was recorded to its end.
 
-ghost use Rattle.std.specs.Prelude.{◌≡◌, ◌≤◌, IfOk, IfSome, length};
+ghost use Rattle.std.specs.Prelude.{◌≡◌, ◌≤◌, IfOk, IfSome, List, length};
+ghost use Rattle.a429_profile.specs.Contents.{Contents, IsProfile};
+ghost use Rattle.a429_ldu.specs.Form.{IsInRange};
 ghost use Rattle.a429_ldu.specs.Ldu.{IsLdu, count_of};
+ghost use Rattle.a429_link.specs.declared.seen.Seen.{Seen};
+ghost use Rattle.a429_cert.specs.Explained.{items_of};
+ghost use Rattle.a429_explain.specs.Attempts.{forms_of};
 
-use crate::group::{Group, said_at};
+use crate::group::Group;
 use crate::whole::{End, unit_with};
-use a429_ldu::{Form, Ldu, Semis, Sight, bytes_of, check_word, word_of};
+use a429_ldu::{Form, Ldu, Semis, bytes_of, check_word, word_of};
 use a429_profile::Profile;
 use a429_record::Entry;
 use a429_word::Word;
@@ -18,18 +23,21 @@ pub(crate) fn filled_unit(
     alloc: Global,
     profile: &Profile,
     entries: &[Entry],
+    said: &[Option<Form>],
     group: Group,
     count: u8,
 ) -> Result<Option<Ldu>, AllocError>
-    requires { group.to ≤ length entries.now }
+    requires said { said.now ≡ forms_of profile.now.codes (items_of entries.now) }
+    requires inside { group.to ≤ length entries.now }
     ensures unit { IfOk result (λ found. IfSome found (λ u. IsLdu profile.now u)) }
     ensures count { IfOk result (λ found. IfSome found (λ u. count_of u ≡ count)) }
 {
-    if has_end(profile, entries, group) {
+    let _codes = profile.codes();
+    if has_end(said, group) {
         return Ok(None);
     }
     let mut words = Vec::new(alloc);
-    last_words(profile, entries, group, &mut words)?;
+    last_words(entries, said, group, &mut words)?;
     let is_odd = !words.is_empty() && bytes_of(alloc, profile, words.as_slice())?.is_none();
     fill(profile, &mut words, is_odd, count)?;
     let Some(bytes) = bytes_of(alloc, profile, words.as_slice())? else {
@@ -39,16 +47,16 @@ pub(crate) fn filled_unit(
         flags: 0,
         check: check_word(profile.check(), bytes.as_slice()),
     };
-    let gfi = first_gfi(profile, entries, group);
+    let gfi = first_gfi(said, group);
     unit_with(alloc, profile, Some(gfi), end, words.as_slice(), count)
 }
 
 // An end word was recorded.
-fn has_end(profile: &Profile, entries: &[Entry], group: Group) -> bool
-    requires { group.to ≤ length entries.now }
+fn has_end(said: &[Option<Form>], group: Group) -> bool
+    requires { group.to ≤ length said.now }
 {
     for at in group.from..group.to {
-        if let Sight::Form(Form::Eot { .. }) = said_at(profile, entries, at) {
+        if let Some(Form::Eot { .. }) = said[at] {
             return true;
         }
     }
@@ -56,32 +64,43 @@ fn has_end(profile: &Profile, entries: &[Entry], group: Group) -> bool
 }
 
 // The general format identifier of the first start word, or 0.
-fn first_gfi(profile: &Profile, entries: &[Entry], group: Group) -> u8
-    requires { group.to ≤ length entries.now }
-    ensures { result ≤ 15 }
+fn first_gfi(said: &[Option<Form>], group: Group) -> u8
+    requires { group.to ≤ length said.now }
+    ensures { (p : Contents) (items : List Seen) → IsProfile p → said.now ≡ forms_of p.codes items → result ≤ 15 }
 {
     for at in group.from..group.to {
-        if let Sight::Form(Form::Sot { gfi, .. }) = said_at(profile, entries, at) {
+        if let Some(gfi) = gfi_of(&said[at]) {
             return gfi;
         }
     }
     0
 }
 
+// The general format identifier of a start word.
+fn gfi_of(said: &Option<Form>) -> Option<u8>
+    ensures { IfSome said.now IsInRange → IfSome result (λ gfi. gfi ≤ 15) }
+{
+    match *said {
+        Some(Form::Sot { gfi, .. }) => Some(gfi),
+        _ => None,
+    }
+}
+
 // The data words of the last attempt that recorded any.
 fn last_words(
-    profile: &Profile,
     entries: &[Entry],
+    said: &[Option<Form>],
     group: Group,
     words: &mut Vec<Word>,
 ) -> Result<(), AllocError>
-    requires { group.to ≤ length entries.now }
+    requires entries { group.to ≤ length entries.now }
+    requires said { group.to ≤ length said.now }
 {
     let mut begins = true;
     for at in group.from..group.to {
-        match said_at(profile, entries, at) {
-            Sight::Form(Form::Rts { .. }) => begins = true,
-            Sight::Form(Form::Part(_)) => {
+        match said[at] {
+            Some(Form::Rts { .. }) => begins = true,
+            Some(Form::Part(_)) => {
                 if begins {
                     words.clear();
                     begins = false;

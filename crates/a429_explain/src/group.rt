@@ -1,16 +1,12 @@
-//! Where a group of attempts stands in a recording, and what is recorded there.
+//! Where a group of attempts stands in a recording, and how many words its requests want.
 
-ghost use Rattle.std.specs.Prelude.{◌≡◌, ◌<◌, ◌≤◌, ◌+◌, IfSome, drop, length, slice_get};
+ghost use Rattle.std.specs.Prelude.{◌≡◌, ◌<◌, ◌≤◌, ◌+◌, drop, length};
 ghost use Rattle.a429_ldu.specs.Form.{sight_in};
-ghost use Rattle.a429_cert.specs.Explained.{items_of};
 ghost use Rattle.a429_explain.specs.Groups.{ends_group, group_length};
-ghost use Rattle.a429_explain.specs.Said.{said_at, IsSightInRange};
 ghost use Rattle.a429_explain.specs.Whole.{wanted};
 
 use crate::attempts::Role;
-use a429_ldu::{Form, Sight, form};
-use a429_profile::Profile;
-use a429_record::Entry;
+use a429_ldu::Form;
 
 /// The entries of a group: those from its first request on, and before this one.
 #[derive(Clone, Copy, Debug)]
@@ -42,16 +38,6 @@ fn ends_group(role: Role) -> bool
     ensures { result ≡ ends_group role }
 {
     matches!(role, Role::Acknowledged { ends_group: true })
-}
-
-/// What an entry says.
-pub(crate) fn said_at(profile: &Profile, entries: &[Entry], at: usize) -> Sight
-    requires { at < length entries.now }
-    ensures said { result ≡ said_at profile.now.codes (slice_get (items_of entries.now) at) }
-    ensures range { IsSightInRange result }
-{
-    let entry = entries[at];
-    form(profile, entry.bus, entry.word)
 }
 
 /// How many words a request of this form wants, if it is one.
