@@ -8,6 +8,7 @@ use a429_profile::Profile;
 use a429_word::{Bus, Word};
 
 /// The form of a word that is not free and has one.
+#[inline(always)]
 pub fn form_of(profile: &Profile, bus: Bus, word: Word) -> Option<Form>
     ensures { result ≡ form_of profile.now.codes bus word }
 {

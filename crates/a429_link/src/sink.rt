@@ -166,6 +166,7 @@ impl Sink {
     }
 
     /// Takes a word of bus A that has this form.
+    #[inline(always)]
     pub(crate) fn take(
         &mut self,
         alloc: Global,
