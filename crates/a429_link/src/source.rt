@@ -79,6 +79,7 @@ impl Source {
     }
 
     /// Its next word, if it sends one now.
+    #[inline(always)]
     pub(crate) fn next(&self, profile: &Profile) -> Option<Word>
         ensures { result ≡ next_of profile.now self.now }
     {

@@ -54,6 +54,7 @@ impl Transfer {
     }
 
     /// Makes a step, or refuses it and changes nothing.
+    #[inline(always)]
     pub(crate) fn apply(
         &mut self,
         alloc: Global,
