@@ -1,12 +1,7 @@
 -- Full data words: label and type, the semi-octets between them, and the parity bit.
-use Rattle.std.proofs.Common.{◌≡◌, ℕ, zero, suc, ◌+◌, ◌-◌, ◌*◌, ◌/◌, ◌%◌, ◌^◌, ◌<◌, ◌≤◌, List, [], ◌∷◌, ◌++◌, length, take, drop, get_or, refl, sym, ap, ◌∙◌, arith, count_ones, append_assoc, pow-suc, length-drop, length-take}
+use Rattle.std.proofs.Common.{◌≡◌, ℕ, ◌+◌, ◌-◌, ◌*◌, ◌/◌, ◌%◌, ◌<◌, ◌≤◌, List, [], ◌∷◌, ◌++◌, length, take, drop, get_or, refl, sym, ap, ◌∙◌, arith, append_assoc, length-drop, length-take}
 use Rattle.std.proofs.lemmas.List.{take_all}
-use Rattle.std.specs.Int.{bit_at, reverse_bits_onto}
-use Rattle.std.proofs.lemmas.Nat.{ones_cat, shr_split, pow_pos, mod_below, div_below}
-use lib.Count.{ones-ones}
-use Rattle.std.proofs.lemmas.Nat.Bits.{bit_at_cat_low}
-use Rattle.a429_word.specs.Word.{sum_below, bit, count_of_ones}
-use Rattle.a429_word.proofs.Bits.{sum_below-same}
+use Rattle.std.specs.Int.{reverse_bits_onto}
 use Rattle.a429_profile.specs.declared.codes.Codes.{Codes}
 use Rattle.a429_profile.specs.Contents.{Contents, IsProfile}
 use Rattle.a429_profile.proofs.Ranges.{in_range}
@@ -15,38 +10,10 @@ use Rattle.a429_ldu.specs.Form.{with_parity_bit, label_bits, word_number}
 use Rattle.a429_ldu.specs.Cut.{data_words, full_frame}
 use Rattle.a429_ldu.proofs.Made.{label_bits-reversed, label_bits-lt}
 
--- ---- parity
+-- ---- semi-octets above the frame
 
-one_bit : (b : ℕ) → b < 2 → count_ones b ≡ b
-one_bit zero h = ones-ones 0
-one_bit (suc zero) h = ones-ones 1
-one_bit (suc (suc b)) h = absurd (omega arith)
-
-ones-counted : (k n : ℕ) → n < 2 ^ k → count_ones n ≡ sum_below k (bit_at n)
-unfolding sum_below
-ones-counted zero n h = let none : n ≡ 0 = omega arith in ap count_ones none ∙ one_bit 0 (omega arith)
-ones-counted (suc k) n h =
-    let twice : 2 ^ suc k ≡ 2 ^ k * 2 = pow-suc 2 k in
-    let positive = pow_pos k in
-    let rest : n % 2 ^ k < 2 ^ k = mod_below n (2 ^ k) positive in
-    let split = shr_split n k in
-    let top : n / 2 ^ k < 2 = div_below n (2 ^ k) 2 positive (omega arith) in
-    let high : n / 2 ^ k ≡ bit_at n k = omega arith in
-    let low : sum_below k (bit_at (n % 2 ^ k)) ≡ sum_below k (bit_at n) = sum_below-same k (bit_at (n % 2 ^ k)) (bit_at n) (λ i less. sym (bit_at_cat_low (n / 2 ^ k) k (n % 2 ^ k) i less) ∙ ap (λ m. bit_at m i) split) in
-    let here = one_bit (n / 2 ^ k) top in
-    let there = ones-counted k (n % 2 ^ k) rest in
-    ap count_ones (sym split) ∙ ones_cat k (n / 2 ^ k) (n % 2 ^ k) rest ∙ omega arith
-
-counted : (n : ℕ) → n < 2 ^ 32 → count_ones n ≡ count_of_ones n
-counted n h = ones-counted 32 n h ∙ sum_below-same 32 (bit_at n) (λ j. bit n (j + 1)) (λ j less. ap (bit_at n) (omega arith))
-
--- a word of shifts and sums
-pub full_made : (frame s w : ℕ) → frame < 1879048448 → s < 1048576 → w ≡ frame + s * 256 % 4294967296 + (1 - count_ones (frame + s * 256 % 4294967296) % 2) * 2147483648 % 4294967296 → w ≡ with_parity_bit (frame + s * 256)
-full_made frame s w hf hs e =
-    let kept : s * 256 % 4294967296 ≡ s * 256 = omega arith in
-    let n = frame + s * 256 in
-    let small : n < 4294967296 = omega arith in
-    e ∙ ap (λ m. frame + m + (1 - count_ones (frame + m) % 2) * 2147483648 % 4294967296) kept ∙ ap (λ m. n + (1 - m % 2) * 2147483648 % 4294967296) (counted n small) ∙ omega arith
+pub semis_put : (frame s w : ℕ) → s < 1048576 → w ≡ with_parity_bit (frame + s * 256 % 4294967296) → w ≡ with_parity_bit (frame + s * 256)
+semis_put frame s w hs e = let kept : s * 256 % 4294967296 ≡ s * 256 = omega arith in e ∙ ap (λ m. with_parity_bit (frame + m)) kept
 
 -- ---- label and type
 

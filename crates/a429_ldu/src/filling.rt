@@ -66,9 +66,7 @@ fn full_word(frame: u32, semis: u32) -> Word
     requires semis { semis < 2 ^ 20 }
     ensures { result ≡ with_parity_bit (frame + semis * 2 ^ 8) }
 {
-    let number = frame + (semis << 8);
-    let parity_bit = 1 - number.count_ones() % 2;
-    Word::from_u32(number + (parity_bit << 31))
+    Word::with_odd_parity(frame + (semis << 8))
 }
 
 // Adds the data words of bytes.

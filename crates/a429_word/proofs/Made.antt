@@ -66,32 +66,37 @@ parity-topped n t h ht =
 odd_with_top : (p : ℕ) → p < 2 → (p + (1 - p)) % 2 ≡ 1
 odd_with_top p h = omega arith
 
--- a word that is the sum of its parts
-made_of_sum : (l d f s t w : ℕ) → l < 256 → d ≤ 3 → f < 2 ^ 19 → s ≤ 3 → t ≡ 1 - count_of_ones (s * 536870912 + f * 1024 + d * 256 + reverse_bits_onto 8 l 0) % 2 →
-    w ≡ t * 2147483648 + (s * 536870912 + f * 1024 + d * 256 + reverse_bits_onto 8 l 0) → HasParts w l d f s
-made_of_sum l d f s t w hl hd hf hs ht e =
+-- the parts as shifts and ors put them together
+pub parts_joined : (l d f s a b r : ℕ) → d ≤ 3 → f < 2 ^ 19 → s ≤ 3 → a ≡ s → b ≡ d → r ≡ reverse_bits_onto 8 l 0 →
+    bit_or (bit_or (bit_or (a * 536870912 % 4294967296) (f * 1024 % 4294967296)) (b * 256 % 4294967296)) r ≡ s * 536870912 + f * 1024 + d * 256 + reverse_bits_onto 8 l 0
+parts_joined l d f s a b r hd hf hs ea eb er = rw (ea, eb, er) (joined (reverse_bits_onto 8 l 0) d f s (reversed-lt l) hd hf hs)
+
+pub parts_below : (l d f s n : ℕ) → d ≤ 3 → f < 2 ^ 19 → s ≤ 3 → n ≡ s * 536870912 + f * 1024 + d * 256 + reverse_bits_onto 8 l 0 → n < 2 ^ 31
+parts_below l d f s n hd hf hs e = let small = reversed-lt l in omega arith
+
+-- a number and the parity bit above it
+pub odd_topped : (n t : ℕ) → n < 2 ^ 31 → t ≡ count_of_ones n % 2 → bit_or n ((1 - t) * 2147483648 % 4294967296) ≡ n + (1 - count_of_ones n % 2) * 2147483648
+odd_topped n t h e = topped n (1 - t) h (omega arith) ∙ ap (λ p. (1 - p) * 2147483648 + n) e ∙ omega arith
+
+pub odd_made : (n w : ℕ) → n < 2 ^ 31 → w ≡ n + (1 - count_of_ones n % 2) * 2147483648 → HasOddParity w
+odd_made n w h e =
+    let t = 1 - count_of_ones n % 2 in
+    let order : w ≡ t * 2147483648 + n = omega arith in
+    ap (λ x. count_of_ones x % 2) order ∙ parity-topped n t h (omega arith) ∙ odd_with_top (count_of_ones n % 2) (omega arith)
+
+-- a word of parts and the parity bit
+pub made : (l d f s n w : ℕ) → l < 256 → d ≤ 3 → f < 2 ^ 19 → s ≤ 3 → n ≡ s * 536870912 + f * 1024 + d * 256 + reverse_bits_onto 8 l 0 → w ≡ n + (1 - count_of_ones n % 2) * 2147483648 → HasParts w l d f s
+made l d f s n w hl hd hf hs en ew =
     let r = reverse_bits_onto 8 l 0 in
-    let n = s * 536870912 + f * 1024 + d * 256 + r in
+    let t = 1 - count_of_ones n % 2 in
     let hr : r < 256 = reversed-lt l in
-    let small : count_of_ones n % 2 < 2 = omega arith in
-    let t1 : t ≤ 1 = omega arith in
     record {
       label = label-made w (t * 8388608 + s * 2097152 + f * 4 + d) l hl (omega arith);
       sdi = number_at-made w (t * 2097152 + s * 524288 + f) 8 2 d r hr (omega arith) (omega arith);
       field = number_at-made w (t * 4 + s) 10 19 f (d * 256 + r) (omega arith) hf (omega arith);
       ssm = number_at-made w t 29 2 s (f * 1024 + d * 256 + r) (omega arith) (omega arith) (omega arith);
-      parity = ap (λ x. count_of_ones x % 2) e ∙ parity-topped n t (omega arith) t1 ∙ ap (λ x. (count_of_ones n % 2 + x) % 2) ht ∙ odd_with_top (count_of_ones n % 2) small;
+      parity = odd_made n w (parts_below l d f s n hd hf hs en) ew;
     }
-
--- a word as shifts and ors put it together
-pub made : (l d f s a b r t : ℕ) → l < 256 → d ≤ 3 → f < 2 ^ 19 → s ≤ 3 → a ≡ s → b ≡ d → r ≡ reverse_bits_onto 8 l 0 →
-    t ≡ count_of_ones (bit_or (bit_or (bit_or (a * 536870912 % 4294967296) (f * 1024 % 4294967296)) (b * 256 % 4294967296)) r) % 2 →
-    HasParts (bit_or (bit_or (bit_or (bit_or (a * 536870912 % 4294967296) (f * 1024 % 4294967296)) (b * 256 % 4294967296)) r) ((1 - t) * 2147483648 % 4294967296)) l d f s
-made l d f s a b r t hl hd hf hs ea eb er et =
-    let small : r < 256 = rw er (reversed-lt l) in
-    let sum : bit_or (bit_or (bit_or (a * 536870912 % 4294967296) (f * 1024 % 4294967296)) (b * 256 % 4294967296)) r ≡ s * 536870912 + f * 1024 + d * 256 + r = rw (ea, eb) (joined r d f s small hd hf hs) in
-    made_of_sum l d f s (1 - t) _ hl hd hf hs (rw (et, sum, er) refl)
-    (rw sum (topped (s * 536870912 + f * 1024 + d * 256 + r) (1 - t) (omega arith) (omega arith) ∙ rw er refl))
 
 -- ---- what the parts leave
 

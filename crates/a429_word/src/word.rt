@@ -1,6 +1,6 @@
 //! A word of 32 bits: its label, SDI, SSM, parity, and how it is written.
 
-ghost use Rattle.std.specs.Prelude.{◌≡◌, ◌≤◌, ◌<◌, ◌↔◌, ◌^◌, ◌*◌, ◌/◌, ◌%◌, IsTrue, true};
+ghost use Rattle.std.specs.Prelude.{◌≡◌, ◌≤◌, ◌<◌, ◌↔◌, ◌^◌, ◌+◌, ◌-◌, ◌*◌, ◌/◌, ◌%◌, IsTrue, true};
 ghost use Rattle.std.specs.Char.{digit_value};
 ghost use Rattle.std.specs.Int.{reverse_bits_onto};
 ghost use Rattle.std.specs.Fmt.{digit_glyph};
@@ -139,6 +139,17 @@ impl Word {
             | field << 10
             | u32::from(sdi) << 8
             | u32::from(reversed(label));
+        Word::with_odd_parity(number)
+    }
+
+    /// The word whose bits 1 to 31 are this number, below `2^31`, with the parity bit that makes its
+    /// parity odd (Part 1).
+    #[inline(always)]
+    pub fn with_odd_parity(number: u32) -> Word
+        requires { number < 2 ^ 31 }
+        ensures value { result ≡ number + (1 - count_of_ones number % 2) * 2 ^ 31 }
+        ensures parity { HasOddParity result }
+    {
         let parity_bit = 1 - parity_of(number);
         Word(number | parity_bit << 31)
     }
