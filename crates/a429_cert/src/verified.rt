@@ -21,8 +21,8 @@ impl Model for Verified {
 }
 
 impl Verified {
-    // These files.
-    pub(crate) fn new(files: Vec<FileBytes>) -> Verified
+    /// These files, which a link has delivered.
+    pub fn new(files: Vec<FileBytes>) -> Verified
         ensures { result ≡ files.items }
     {
         Verified { files }

@@ -10,7 +10,7 @@ use Rattle.a429_link.specs.declared.step.Step.TheVariants as step
 use Rattle.a429_link.specs.declared.state.SourceState.{SourceState}
 use Rattle.a429_link.specs.declared.state.SourceState.TheVariants as source
 use Rattle.a429_link.specs.Link.{LinkValue, shown}
-use Rattle.a429_link.specs.Run.{IsRun, IsBounded, SentFew, TookFew, trace, delivered, with_label}
+use Rattle.a429_link.specs.Run.{IsRun, IsBounded, SentFew, TookFew, trace, with_label}
 use Rattle.a429_link.specs.Sink.{SinkPhase, Quiet, OwesClear, Granted, InBlock, OwesAck, OwesNak, Listens}
 use Rattle.a429_link.specs.Source.{IsIdle}
 use Rattle.a429_link.specs.Step.{State, Can, after, label, start, shown_sink}
@@ -21,13 +21,13 @@ use Rattle.a429_cert.specs.declared.line.CertLine.{CertLine}
 use Rattle.a429_cert.specs.declared.line.CertLine.TheVariants.{First, Load, Moved}
 use Rattle.a429_cert.specs.Line.{spelling, IsLine, IsHeld, IsSource, IsSink}
 use Rattle.a429_cert.specs.Lines.{lines_of, begun_with, version}
-use Rattle.a429_cert.specs.Explained.{step_with, step_of, Shows, Tells}
+use Rattle.a429_cert.specs.Explained.{step_with, step_of, Shows, Tells, IsExplained}
 use Rattle.a429_cert.proofs.Shape.{IsVisible, line-visible}
 use Rattle.a429_cert.proofs.Steps.{trace_push, tells_push}
 use Rattle.a429_explain.specs.declared.attempts.Role.{Role}
 use Rattle.a429_explain.specs.declared.attempts.Role.TheVariants.{Request}
 use Rattle.a429_explain.specs.Plain.{IsPlain, plain_steps}
-use Rattle.a429_explain.specs.Told.{joined, Told, with_next, TellsOn, led, letter_of, IsCertificateOf}
+use Rattle.a429_explain.specs.Told.{joined, Told, with_next, TellsOn, led, letter_of}
 
 -- ---- the lines of a text
 
@@ -101,25 +101,23 @@ told_on items first text more l m a line next h same e is held of can shows =
       ends = ap (after p a) h.ends ∙ sym (end_push p h.steps a s);
     })
 
--- the text is a certificate of the words told
-pub certificate_told : (items : List Seen) (first : ℕ) (text : List ℕ) (l : LinkValue) → Told first items text l → IsCertificateOf l.profile items text
+-- the text explains the words told, by a run that delivers what the link has delivered
+pub certificate_told : (items : List Seen) (first : ℕ) (text : List ℕ) (l : LinkValue) → Told first items text l → IsExplained l.profile text items l.state.sink.shelf.files
 certificate_told items first text l h =
     let p = l.profile in
-    let visible = tells_visible p h.lines h.steps (start p first) h.tells in (
-      delivered p first h.steps,
-      record {
-        first = first;
-        steps = h.steps;
-        explains = record {
-          lines = ended h.lines;
-          byte = h.byte;
-          header = ap lines_of h.written ∙ lines_joined (version ∷ spelling (First first) ∷ h.lines) (version_visible, (line-visible (First first) tt (omega (arith, h.byte)), visible));
-          tells = h.tells;
-          used = h.used;
-        };
-        delivers = refl;
-      },
-    )
+    let visible = tells_visible p h.lines h.steps (start p first) h.tells in
+    record {
+      first = first;
+      steps = h.steps;
+      explains = record {
+        lines = ended h.lines;
+        byte = h.byte;
+        header = ap lines_of h.written ∙ lines_joined (version ∷ spelling (First first) ∷ h.lines) (version_visible, (line-visible (First first) tt (omega (arith, h.byte)), visible));
+        tells = h.tells;
+        used = h.used;
+      };
+      delivers = ap (λ (s : State). s.sink.shelf.files) h.ends;
+    }
 
 -- ---- the line of a step
 

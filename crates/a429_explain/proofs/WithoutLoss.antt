@@ -1,5 +1,5 @@
 -- A recording without loss is that of a run, and its files' link data units fit.
-use Rattle.std.proofs.Common.{map, ◌++◌, ap, Result, Ok, Err, IsErr, IfOk, ◌≡◌, ◌≢◌, ◌≤◌, ◌<◌, ◌*◌, ◌+◌, ℕ, Bool, true, false, cond, List, [], ◌∷◌, length, take, drop, ◌==◌, nat_lt, Option, Some, None, All, refl, sym, ◌∙◌, arith}
+use Rattle.std.proofs.Common.{map, ◌++◌, ap, ◌≡◌, ◌≢◌, ◌≤◌, ◌<◌, ◌*◌, ◌+◌, ℕ, Bool, true, false, cond, List, [], ◌∷◌, length, take, drop, ◌==◌, nat_lt, Option, Some, None, All, refl, sym, ◌∙◌, arith}
 use Rattle.std.specs.List.{AllByRecursion}
 use Rattle.std.proofs.lemmas.Bool.{eqb-false, ltb-false}
 use Rattle.std.proofs.lemmas.List.{take-append-drop}
@@ -23,18 +23,11 @@ use Rattle.a429_link.specs.Link.{LinkValue}
 use Rattle.a429_link.specs.Step.{start}
 use Rattle.a429_link.specs.declared.fault.StepFault.{StepFault}
 use Rattle.a429_link.specs.declared.fault.StepFault.TheVariants as step
-use Rattle.a429_cert.specs.declared.fault.CertFault.{CertFault}
-use Rattle.a429_cert.specs.declared.fault.CertFault.TheVariants as of
-use Rattle.a429_cert.specs.Fault.{IsFirstFault}
-use Rattle.a429_cert.proofs.NoFault.{no_fault}
 use Rattle.a429_explain.specs.declared.stop.Stop.{Stop}
 use Rattle.a429_explain.specs.declared.stop.Stop.TheVariants.{Unexplained, OutOfMemory}
 use Rattle.a429_explain.specs.declared.verdict.Doubt.TheVariants.{NotReplayed}
 use Rattle.a429_explain.specs.Attempts.{forms_of}
 use Rattle.a429_explain.specs.Doubt.{IsStop}
-use Rattle.a429_explain.specs.declared.verdict.Verdict.{Verdict}
-use Rattle.a429_explain.specs.Told.{IsCertificateOf}
-use Rattle.a429_explain.specs.Verdict.{IsExplanation}
 use Rattle.a429_explain.specs.Crossed.{first_file_of}
 use Rattle.a429_explain.specs.WithoutLoss.{IsWithoutLoss}
 use Rattle.a429_explain.specs.Matching.{IsOfBlock}
@@ -101,26 +94,6 @@ pub stop_fits : (c : Codes) (items : List Seen) (n : ℕ) (f : StepFault) (r : S
 stop_fits c items n step.OutOfMemory r l memory other = rw (memory refl) tt
 stop_fits c items n step.NotAllowed r l memory other = rw (other (λ e. cc e)) l
 stop_fits c items n step.WordDiffers r l memory other = rw (other (λ e. cc e)) l
-
--- a text that explains is refused for want of memory alone
-pub only_memory : (p : Contents) (items : List Seen) (text : List ℕ) (f : CertFault) → IsCertificateOf p items text → (f ≢ of.OutOfMemory → IsFirstFault p text items f) → f ≡ of.OutOfMemory
-only_memory p items text f h first = by f first
-  where
-    never : (g : CertFault) → g ≢ of.OutOfMemory → (g ≢ of.OutOfMemory → IsFirstFault p text items g) → g ≡ of.OutOfMemory
-    never g n k = absurd (no_fault p text items h.1.first h.1.steps g h.1.explains (k n))
-
-    by : (g : CertFault) → (g ≢ of.OutOfMemory → IsFirstFault p text items g) → g ≡ of.OutOfMemory
-    by of.OutOfMemory k = refl
-    by of.Version k = never of.Version (λ e. cc e) k
-    by (of.Line n) k = never (of.Line n) (λ e. cc e) k
-    by (of.NotAllowed n) k = never (of.NotAllowed n) (λ e. cc e) k
-    by (of.StateDiffers n) k = never (of.StateDiffers n) (λ e. cc e) k
-    by (of.WordDiffers n i) k = never (of.WordDiffers n i) (λ e. cc e) k
-    by (of.Unfinished i) k = never (of.Unfinished i) (λ e. cc e) k
-
-pub no_ok : {E : Type 0} (r : Result Verdict E) → IsErr r → IfOk r IsExplanation
-no_ok (Ok x) h = absurd (cc h)
-no_ok (Err e) h = tt
 
 -- ---- what a run without loss records is a recording without loss
 

@@ -11,9 +11,7 @@ use Rattle.a429_cert.specs.declared.act.Act.TheVariants as act
 use Rattle.a429_cert.specs.declared.line.CertLine.TheVariants.{First}
 use Rattle.a429_cert.specs.Line.{spelling}
 use Rattle.a429_cert.specs.Lines.{version}
-use Rattle.a429_cert.specs.Explained.{Tells, IsExplained}
-use Rattle.a429_link.specs.declared.file.FileBytes.{FileBytes}
-use Rattle.a429_profile.specs.Contents.{Contents}
+use Rattle.a429_cert.specs.Explained.{Tells}
 
 -- the text of these lines, each with a line feed behind it
 abbrev pub joined : List (List ℕ) → List ℕ
@@ -55,7 +53,3 @@ letter_of step.SinkTakes = Some act.SinkTakes
 letter_of step.Silent = Some act.Silent
 letter_of (step.Answered i) = Some act.Answered
 letter_of (step.FreeSeen i) = Some act.FreeSeen
-
--- a certificate that explains these words, whichever files its run delivers
-abbrev pub IsCertificateOf : Contents → List Seen → List ℕ → Type 0
-IsCertificateOf p items text = (files : List FileBytes) × IsExplained p text items files

@@ -7,6 +7,8 @@ use Rattle.a429_ldu.specs.Form.{sight_of}
 use Rattle.a429_link.specs.declared.seen.Seen.{Seen}
 use Rattle.a429_link.specs.Run.{BeginsARun}
 use Rattle.a429_cert.specs.Explained.{IsExplained, AreInEveryRun}
+use Rattle.a429_cert.specs.declared.fault.CertFault.{CertFault}
+use Rattle.a429_cert.specs.Fault.{IsFirstFault}
 use Rattle.a429_explain.specs.declared.verdict.Verdict.{Verdict}
 use Rattle.a429_explain.specs.declared.verdict.Verdict.TheVariants.{Explained, Impossible, Unexplained}
 use Rattle.a429_explain.specs.Walk.{FitsAt}
@@ -17,6 +19,11 @@ use Rattle.a429_explain.specs.Doubt.{IsDoubtAt}
 abbrev pub IsSound : Contents → List Seen → Verdict → Type 0
 IsSound p items (Explained certificate files) = IsExplained p certificate items files × AreInEveryRun p items files
 IsSound p items _ = Unit {0}
+
+-- in the certificate there is no fault, so `verify` accepts it, want of memory aside
+abbrev pub IsAccepted : Contents → List Seen → Verdict → Type 0
+IsAccepted p items (Explained certificate files) = (f : CertFault) → ¬ IsFirstFault p certificate items f
+IsAccepted p items _ = Unit {0}
 
 -- no run's trace begins with the words up to this one, and the reason fits it
 abbrev pub IsImpossible : Contents → List Seen → Verdict → Type 0

@@ -3,11 +3,10 @@
 ghost use Rattle.std.specs.Prelude.{◌≡◌, ◌≢◌, List, IfOk, IfErr};
 ghost use Rattle.a429_ldu.specs.Ldu.{LduValue};
 ghost use Rattle.a429_link.specs.Clean.{AllFit, thin, clean};
-ghost use Rattle.a429_cert.specs.Explained.{items_of};
+ghost use Rattle.a429_cert.specs.Explained.{items_of, IsExplained};
 ghost use Rattle.a429_explain.specs.Attempts.{forms_of, roles as roles_of};
 ghost use Rattle.a429_explain.specs.Crossed.{started, first_file_of};
 ghost use Rattle.a429_explain.specs.Doubt.{IsStop};
-ghost use Rattle.a429_explain.specs.Told.{IsCertificateOf};
 ghost use Rattle.a429_explain.specs.Units.{AreUnits, AreUnitsOf};
 ghost use Rattle.a429_explain.specs.WithoutLoss.{IsWithoutLoss};
 
@@ -20,11 +19,18 @@ use crate::scribe::Scribe;
 use crate::stop::Stop;
 use crate::verdict::Doubt;
 use a429_ldu::{Form, Ldu};
-use a429_link::{Seen, StepFault};
+use a429_link::{FileBytes, Seen, StepFault};
 use a429_profile::Profile;
 use a429_record::Entry;
 use std::alloc::Global;
 use std::collections::VecDeque;
+
+/// A certificate that explains a recording, and the files that its run delivers.
+#[derive(Drop)]
+pub(crate) struct Explanation {
+    pub text: Vec<u8>,
+    pub files: Vec<FileBytes>,
+}
 
 /// The certificate of the steps that are guessed for a recording that no word is refused of, or why there
 /// is none: the doubts of all groups come before those of the steps. Of a recording without loss there is
@@ -33,8 +39,8 @@ pub(crate) fn certificate_of(
     alloc: Global,
     profile: &Profile,
     entries: &[Entry],
-) -> Result<Vec<u8>, Stop>
-    ensures told { IfOk result (λ text. IsCertificateOf profile.now (items_of entries.now) text.items) }
+) -> Result<Explanation, Stop>
+    ensures told { IfOk result (λ e. IsExplained profile.now e.text.items (items_of entries.now) e.files.items) }
     ensures fits { IfErr result (λ s. IsStop profile.now.codes (items_of entries.now) s) }
     ensures clean { IsWithoutLoss profile.now (items_of entries.now) → IfErr result (λ s. s ≡ Stop.OutOfMemory) }
 {
@@ -65,7 +71,8 @@ pub(crate) fn certificate_of(
             Err(fault) => return Err(stopped_at(at, fault)),
         }
     }
-    Ok(scribe.into_text())
+    let (text, files) = scribe.into_parts();
+    Ok(Explanation { text, files })
 }
 
 // Why the steps of an entry are not made.

@@ -15,7 +15,7 @@ ghost use Rattle.a429_explain.specs.Units.{AreUnits};
 use crate::attempts::Role;
 use a429_cert::{Act, CertLine, Words, write_line};
 use a429_ldu::Ldu;
-use a429_link::{Link, Seen, SinkState, SourceState, Step, StepFault};
+use a429_link::{FileBytes, Link, Seen, SinkState, SourceState, Step, StepFault};
 use a429_profile::Profile;
 use std::alloc::{AllocError, Global};
 use std::collections::VecDeque;
@@ -56,12 +56,14 @@ impl<'a> Scribe<'a> {
         Ok(scribe)
     }
 
-    /// The text of the lines.
-    pub(crate) fn into_text(self) -> Vec<u8>
-        ensures { result ≡ self.entry.text }
+    /// The text of the lines, and the files that the link has delivered.
+    pub(crate) fn into_parts(self) -> (Vec<u8>, Vec<FileBytes>)
+        ensures text { result.0 ≡ self.entry.text }
+        ensures files { result.1.items ≡ self.entry.link.state.sink.shelf.files }
     {
-        let Scribe { text, .. } = self;
-        text
+        let Scribe { text, mut link, .. } = self;
+        let files = link.take_delivered();
+        (text, files)
     }
 
     /// Writes the lines of the next entry, and takes the link data unit of its group where it begins one.

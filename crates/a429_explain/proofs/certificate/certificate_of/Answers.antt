@@ -1,10 +1,10 @@
 use Rattle.std.proofs.Common.{◌≡◌, List, ◌+◌, take, drop, length, take_all, ap, subst, ◌∙◌, arith}
 use Rattle.a429_link.specs.declared.seen.Seen.{Seen}
 use Rattle.a429_link.specs.Link.{LinkValue}
-use Rattle.a429_cert.specs.Explained.{seen_of, items_of}
+use Rattle.a429_cert.specs.Explained.{seen_of, items_of, IsExplained}
 use Rattle.a429_explain.specs.Attempts.{roles}
 use Rattle.a429_explain.specs.Crossed.{first_file_of}
-use Rattle.a429_explain.specs.Told.{Told, IsCertificateOf}
+use Rattle.a429_explain.specs.Told.{Told}
 use Rattle.a429_explain.specs.Units.{AreUnits}
 use Rattle.a429_explain.proofs.Matched.{length-items_of}
 use Rattle.a429_explain.proofs.Planned.{told_next, entry_next, goes_run, plan_kept}
@@ -65,4 +65,7 @@ pub returns-clause-told : goal.returns-clause-told
 returns-clause-told c =
     let items = items_of c.args.entries.now in
     let all : take c.loop-at.at items ≡ items = take_all c.loop-at.at items (omega (arith, c.loop-at-test.false, length-items_of c.args.entries.now)) in
-    subst (λ q. IsCertificateOf q items c.into_text.result.items) c.loop-at.invariant.profile (certificate_told items c.first_file-first.result c.into_text.result.items c.loop-at.scribe.link (subst (λ (xs : List Seen). Told c.first_file-first.result xs c.into_text.result.items c.loop-at.scribe.link) all (rw c.into_text.ensures c.loop-at.invariant.told)))
+    let told = subst (λ (xs : List Seen). Told c.first_file-first.result xs c.loop-at.scribe.text.items c.loop-at.scribe.link) all c.loop-at.invariant.told in
+    let explained = certificate_told items c.first_file-first.result c.loop-at.scribe.text.items c.loop-at.scribe.link told in
+    let here = subst (λ q. IsExplained q c.loop-at.scribe.text.items items c.loop-at.scribe.link.state.sink.shelf.files) c.loop-at.invariant.profile explained in
+    rw (c.into_parts-text.ensures.text, c.into_parts-text.ensures.files) here
