@@ -1,10 +1,9 @@
 -- The word of a label and fields.
 use Rattle.std.proofs.Common.{◌≡◌, ℕ, ◌+◌, ◌-◌, ◌*◌, ◌/◌, ◌%◌, ◌^◌, ◌<◌, ◌≤◌, refl, sym, ap, ◌∙◌, arith}
 use Rattle.std.specs.Int.{reverse_bits_onto}
-use Rattle.std.proofs.lemmas.Nat.Bits.{bit_at_cat_low}
-use Rattle.a429_word.specs.Word.{sum_below, bit, label_of, sdi_of, field_of, ssm_of, count_of_ones, HasOddParity}
-use Rattle.a429_word.proofs.Bits.{sum_below-same, number_at-is, number_at-lt, label-is, reversed_twice}
-use Rattle.a429_word.proofs.Made.{same_from_fields}
+use Rattle.a429_word.specs.Word.{sum_below, label_of, sdi_of, field_of, ssm_of, count_of_ones, HasOddParity}
+use Rattle.a429_word.proofs.Bits.{number_at-is, number_at-lt, label-is, reversed_twice}
+use Rattle.a429_word.proofs.Made.{same_from_fields, odd_made}
 use Rattle.a429_ldu.specs.Form.{Fields, fields_of, label_bits, joined, with_parity_bit}
 use Rattle.a429_ldu.proofs.Told.{AreSmall, alike}
 
@@ -54,31 +53,6 @@ fields_read w t b f hb small e =
     (number_at-is w 16 8 ∙ put_middle w t b f.kind f.upper f.middle f.lower hb small.lower small.middle e)
     (number_at-is w 8 8 ∙ put_lower w t b f.kind f.upper f.middle f.lower hb small.lower e)
 
--- ---- parity
-
--- the parity bit counts with the ones below it
-parity-topped : (n t : ℕ) → n < 2 ^ 31 → t ≤ 1 → count_of_ones (t * 2147483648 + n) % 2 ≡ (count_of_ones n % 2 + t) % 2
-unfolding sum_below
-parity-topped n t h ht =
-    let w = t * 2147483648 + n in
-    let low : sum_below 31 (λ j. bit w (j + 1)) ≡ sum_below 31 (λ j. bit n (j + 1)) = sum_below-same 31 (λ j. bit w (j + 1)) (λ j. bit n (j + 1)) (λ j k. bit_at_cat_low t 31 n (j + 1 - 1) (omega arith)) in
-    let high : bit w 32 ≡ t = omega arith in
-    let none : bit n 32 ≡ 0 = omega arith in
-    omega arith
-
-odd_with_top : (p : ℕ) → p < 2 → (p + (1 - p)) % 2 ≡ 1
-odd_with_top p h = omega arith
-
-turned_sum : (n t : ℕ) → n + t * 2147483648 ≡ t * 2147483648 + n
-turned_sum n t = omega arith
-
-with_parity_bit-odd : (n : ℕ) → n < 2 ^ 31 → HasOddParity (with_parity_bit n)
-with_parity_bit-odd n h =
-    let p = count_of_ones n % 2 in
-    let small : p < 2 = omega arith in
-    let t : 1 - p ≤ 1 = omega arith in
-    ap (λ w. count_of_ones w % 2) (turned_sum n (1 - p)) ∙ parity-topped n (1 - p) h t ∙ odd_with_top p small
-
 -- ---- a word that is put together has its label, its fields and odd parity
 
 pub record HasPut (w l : ℕ) (f : Fields) : Type 0 where
@@ -104,7 +78,7 @@ put l f hl small =
     record {
       label = label_read (with_parity_bit n) l hl (put_low (with_parity_bit n) t b f.kind f.upper f.middle f.lower hb refl);
       fields = fields_read (with_parity_bit n) t b f hb small refl;
-      parity = with_parity_bit-odd n below;
+      parity = odd_made n (with_parity_bit n) below refl;
       word = below_top n t below one;
     }
 

@@ -223,6 +223,7 @@ fn reversed(byte: u8) -> u8
 }
 
 // 1 where an odd number of the bits is 1, else 0.
+#[inline(always)]
 fn parity_of(number: u32) -> u32
     ensures { result ≡ count_of_ones number % 2 }
 {
