@@ -6,7 +6,7 @@ ghost use Rattle.a429_link.specs.Sink.{agrees, takes, at_start, at_part, at_end,
 ghost use Rattle.a429_link.specs.Step.{shown_sink};
 ghost use Rattle.a429_link.specs.Run.{nothing};
 ghost use Rattle.a429_link.specs.Observer.{HasGrant};
-ghost use Rattle.a429_link.specs.View.{number_of};
+ghost use Rattle.a429_link.specs.View.{number_of, TakesOneMore, HasRoom};
 
 use crate::block::Block;
 use crate::file::FileBytes;
@@ -129,7 +129,7 @@ impl Sink {
             shelf: Shelf::new(alloc),
             count: 0,
             phase: Phase::Quiet,
-            block: Block::new(alloc),
+            block: Block::new(),
         }
     }
 
@@ -174,6 +174,7 @@ impl Sink {
         word: Word,
         form: &Form,
     ) -> Result<(), AllocError>
+        requires { HasRoom form.now self.old.phase }
         ensures done { OnOk result (self.new ≡ takes profile.now word form.now self.old) }
         ensures unchanged { OnErr result (self.new ≡ self.old) }
     {
@@ -187,7 +188,10 @@ impl Sink {
                 self.start_block(gfi, file, ldu);
                 Ok(())
             }
-            Form::Part(_) => self.add_word(word),
+            Form::Part(_) => {
+                self.add_word(word);
+                Ok(())
+            }
             Form::Eot { flags, check } => self.end_block(alloc, profile, flags, check),
             Form::Cts { .. } | Form::Ack { .. } | Form::Nak { .. } => Ok(()),
         }
@@ -202,14 +206,13 @@ impl Sink {
         }
     }
 
-    fn add_word(&mut self, word: Word) -> Result<(), AllocError>
-        ensures done { OnOk result (self.new ≡ record (self.old) { phase = at_part word self.old.phase }) }
-        ensures unchanged { OnErr result (self.new ≡ self.old) }
+    fn add_word(&mut self, word: Word)
+        requires { TakesOneMore self.old.phase }
+        ensures { self.new ≡ record (self.old) { phase = at_part word self.old.phase } }
     {
         if self.phase == Phase::InBlock {
-            self.block.push(word)?;
+            self.block.push(word);
         }
-        Ok(())
     }
 
     fn end_block(

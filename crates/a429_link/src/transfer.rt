@@ -1,6 +1,6 @@
 //! The source, the sink, and the recorded words between them.
 
-ghost use Rattle.std.specs.Prelude.{◌≡◌, ◌≤◌, [], IfErr, OnOk, OnErr, length};
+ghost use Rattle.std.specs.Prelude.{◌≡◌, ◌≤◌, ◌+◌, [], IfErr, OnOk, OnErr, length};
 ghost use Rattle.a429_profile.specs.Contents.{IsProfile};
 ghost use Rattle.a429_ldu.specs.Ldu.{IsLdu};
 ghost use Rattle.a429_link.specs.declared.step.Step.TheVariants as step;
@@ -61,7 +61,8 @@ impl Transfer {
         profile: &Profile,
         step: Step,
     ) -> Result<(), StepFault>
-        requires { LoadsLdu profile.now step }
+        requires unit { LoadsLdu profile.now step }
+        requires bound { length self.old.to_sink + held self.old.sink.phase ≤ 255 }
         ensures allowed { OnOk result (Can profile.now step self.old) }
         ensures done { OnOk result (self.new ≡ after profile.now step self.old) }
         ensures fault { IfErr result (λ e. IsPlainFault profile.now step self.old e) }
@@ -171,6 +172,7 @@ impl Transfer {
     }
 
     fn sink_takes(&mut self, alloc: Global, profile: &Profile) -> Result<(), StepFault>
+        requires { length self.old.to_sink + held self.old.sink.phase ≤ 255 }
         ensures allowed { OnOk result (Can profile.now step.SinkTakes self.old) }
         ensures done { OnOk result (self.new ≡ after profile.now step.SinkTakes self.old) }
         ensures fault { IfErr result (λ e. IsPlainFault profile.now step.SinkTakes self.old e) }
