@@ -1,8 +1,8 @@
 -- The bytes that data words carry, word by word.
-use Rattle.std.proofs.Common.{◌≡◌, ℕ, zero, suc, ◌+◌, ◌*◌, ◌/◌, ◌%◌, ◌^◌, ◌<◌, ◌≤◌, Bool, true, false, cond, ◌||◌, nat_le, List, [], ◌∷◌, ◌++◌, length, take, get_or, Option, Some, None, IfSome, is_some, refl, sym, ap, ◌∙◌, arith, subst, append_assoc, append-nil, bit_or, length-append}
+use Rattle.std.proofs.Common.{◌≡◌, ◌⊎◌, inl, inr, ℕ, zero, suc, ◌+◌, ◌*◌, ◌/◌, ◌%◌, ◌^◌, ◌<◌, ◌≤◌, Bool, true, false, cond, ◌||◌, nat_le, List, [], ◌∷◌, ◌++◌, length, take, get_or, Option, Some, None, is_some, refl, sym, ap, ◌∙◌, arith, subst, append_assoc, append-nil, bit_or, length-append}
 use Rattle.std.specs.List.{AllByRecursion, concat}
 use Rattle.std.specs.Option.{option_to_list, option_map, option_and_then}
-use Rattle.std.proofs.lemmas.List.{take_more, take_all}
+use Rattle.std.proofs.lemmas.List.{take_more}
 use Rattle.std.proofs.lemmas.Nat.{or_shifted}
 use Rattle.a429_word.specs.declared.bus.Bus.{Bus}
 use Rattle.a429_word.specs.declared.bus.Bus.TheVariants as bus
@@ -14,8 +14,9 @@ use Rattle.a429_ldu.specs.declared.sight.Sight.{Sight}
 use Rattle.a429_ldu.specs.declared.sight.Sight.TheVariants as sight
 use Rattle.a429_ldu.specs.Semis.{semis_of_bytes, five_of}
 use Rattle.a429_ldu.specs.Form.{fields_of, is_free, form_on, form_of, sight_in, sight_of}
-use Rattle.a429_ldu.specs.Carried.{AreDataWords, CarryBytes, semis_in, joined_to, semis_of_words, paired, if_some, bytes_carried}
+use Rattle.a429_ldu.specs.Carried.{AreDataWords, Carries, CarryBytes, semis_in, joined_to, semis_of_words, paired, if_some, bytes_carried}
 use Rattle.a429_ldu.proofs.Joined.{form_of-is, form_is_not_free}
+use Rattle.a429_ldu.proofs.Pieces.{length-semis}
 
 -- ---- a word's form, from what it is
 
@@ -59,13 +60,15 @@ words-more : (c : Codes) (ws : List ℕ) (i w : ℕ) → i < length ws → w ≡
 words-more c ws i w h e =
     ap (semis_of_words c) (take_more ws i w h ∙ ap (λ v. take i ws ++ v ∷ []) (sym e)) ∙ words-append c (take i ws) (w ∷ []) ∙ ap (joined_to (semis_of_words c (take i ws))) (joined_nil (semis_in (form_of c bus.A w)))
 
--- a data word more
-pub word-more : (c : Codes) (ws : List ℕ) (i w : ℕ) (read semis next : List ℕ) → i < length ws → w ≡ get_or ws i w → semis_of_words c (take i ws) ≡ Some read → Some semis ≡ semis_in (form_of c bus.A w) → next ≡ read ++ semis → semis_of_words c (take (i + 1) ws) ≡ Some next
-word-more c ws i w read semis next h e er es en =
-    words-more c ws i w h e ∙ ap (λ o. joined_to o (semis_in (form_of c bus.A w))) er ∙ ap (joined_to (Some read)) (sym es) ∙ ap Some (sym en)
+-- a data word more, behind the semi-octets that there were
+pub word-more : (c : Codes) (ws : List ℕ) (i w : ℕ) (start read semis next : List ℕ) → i < length ws → w ≡ get_or ws i w → joined_to (Some start) (semis_of_words c (take i ws)) ≡ Some read → Some semis ≡ semis_in (form_of c bus.A w) → next ≡ read ++ semis →
+    joined_to (Some start) (semis_of_words c (take (i + 1) ws)) ≡ Some next
+word-more c ws i w start read semis next h e er es en =
+    ap (joined_to (Some start)) (words-more c ws i w h e) ∙ sym (joined_assoc (Some start) (semis_of_words c (take i ws)) (semis_in (form_of c bus.A w)))
+    ∙ ap (λ o. joined_to o (semis_in (form_of c bus.A w))) er ∙ ap (joined_to (Some read)) (sym es) ∙ ap Some (sym en)
 
 -- no semi-octets where a word is no data word
-words-none : (c : Codes) (ws : List ℕ) (i w : ℕ) → i < length ws → w ≡ get_or ws i w → semis_in (form_of c bus.A w) ≡ None → semis_of_words c ws ≡ None
+pub words-none : (c : Codes) (ws : List ℕ) (i w : ℕ) → i < length ws → w ≡ get_or ws i w → semis_in (form_of c bus.A w) ≡ None → semis_of_words c ws ≡ None
 words-none c [] i w h e n = absurd (omega arith)
 words-none c (v ∷ ws) zero w h e n = ap (λ u. joined_to (semis_in (form_of c bus.A u)) (semis_of_words c ws)) (sym e) ∙ ap (λ o. joined_to o (semis_of_words c ws)) n
 words-none c (v ∷ ws) (suc i) w h e n = ap (joined_to (semis_in (form_of c bus.A v))) (words-none c ws i w (omega arith) e n) ∙ nothing (semis_in (form_of c bus.A v))
@@ -106,6 +109,24 @@ digit-high bs low l d e hl hd =
     let sum = shifted l d hl hd in
     append-nil (semis_of_bytes (bs ++ n ∷ [])) ∙ semis-append bs (n ∷ []) ∙ ap (λ m. semis_of_bytes bs ++ m ∷ n / 16 ∷ []) (byte_low n l d hl sum) ∙ ap (λ m. semis_of_bytes bs ++ l ∷ m ∷ []) (byte_high n l d hl sum)
     ∙ sym (append_assoc (semis_of_bytes bs) (l ∷ []) (d ∷ [])) ∙ sym (ap (λ o. (semis_of_bytes bs ++ option_to_list o) ++ d ∷ []) e)
+
+-- bytes put one behind another
+pub two_pushed : (bs mid out : List ℕ) (x y : ℕ) → mid ≡ bs ++ x ∷ [] → out ≡ mid ++ y ∷ [] → out ≡ bs ++ x ∷ y ∷ []
+two_pushed bs mid out x y em eo = eo ∙ ap (λ ms. ms ++ y ∷ []) em ∙ append_assoc bs (x ∷ []) (y ∷ [])
+
+pub three_pushed : (bs first mid out : List ℕ) (x y z : ℕ) → first ≡ bs ++ x ∷ [] → mid ≡ first ++ y ∷ [] → out ≡ mid ++ z ∷ [] → out ≡ bs ++ x ∷ y ∷ z ∷ []
+three_pushed bs first mid out x y z ef em eo = eo ∙ ap (λ ms. ms ++ z ∷ []) (two_pushed bs first mid x y ef em) ∙ append_assoc bs (x ∷ y ∷ []) (z ∷ [])
+
+-- how many semi-octets there are then
+pub kept_count : (bs cs xs : List ℕ) (low rest : Option ℕ) → semis_of_bytes cs ++ option_to_list rest ≡ (semis_of_bytes bs ++ option_to_list low) ++ xs → 2 * length cs + length (option_to_list rest) ≡ 2 * length bs + length (option_to_list low) + length xs
+kept_count bs cs xs low rest e =
+    let there = length-append (semis_of_bytes cs) (option_to_list rest) in
+    let here = length-append (semis_of_bytes bs) (option_to_list low) in
+    let all = length-append (semis_of_bytes bs ++ option_to_list low) xs in
+    let old = length-semis bs in
+    let new = length-semis cs in
+    let same = ap length e in
+    omega arith
 
 -- two bytes of five semi-octets, and the one that waits
 pub five_first : (bs : List ℕ) (low : Option ℕ) (n x y : ℕ) → low ≡ None → n < 2 ^ 20 → x ≡ n % 256 → y ≡ n / 256 % 256 →
@@ -150,17 +171,46 @@ pub none_left : (bs : List ℕ) (low : Option ℕ) → false ≡ is_some low →
 none_left bs None e = ap (λ ss. if_some (paired ss)) (append-nil (semis_of_bytes bs)) ∙ ap if_some (paired-bytes bs)
 none_left bs (Some d) e = absurd (cc)
 
-pub kept_whole : (bs : List ℕ) (low : Option ℕ) → false ≡ is_some low → 1 ≤ length bs → Some bs ≡ if_some (paired (semis_of_bytes bs ++ option_to_list low))
-kept_whole bs low e h = sym (none_left bs low e ∙ if_some-from bs h)
+pub kept_whole : (bs : List ℕ) (low : Option ℕ) → false ≡ is_some low → 1 ≤ length bs → if_some (paired (semis_of_bytes bs ++ option_to_list low)) ≡ Some bs
+kept_whole bs low e h = none_left bs low e ∙ if_some-from bs h
 
-pub carried-none : (c : Codes) (ws : List ℕ) (i w : ℕ) → i < length ws → w ≡ get_or ws i w → semis_in (form_of c bus.A w) ≡ None → bytes_carried c ws ≡ None
-carried-none c ws i w h e n = ap (λ o. if_some (option_and_then paired o)) (words-none c ws i w h e n)
+pub none_whole : (bs : List ℕ) (low : Option ℕ) → false ≡ is_some low → bs ≡ [] → if_some (paired (semis_of_bytes bs ++ option_to_list low)) ≡ None
+none_whole bs low e none = none_left bs low e ∙ ap (λ xs. if_some (Some xs)) none
+
+pub carried-none : (c : Codes) (ws : List ℕ) → semis_of_words c ws ≡ None → bytes_carried c ws ≡ None
+carried-none c ws e = ap (λ o. if_some (option_and_then paired o)) e
 
 carried-some : (c : Codes) (ws ss : List ℕ) → semis_of_words c ws ≡ Some ss → bytes_carried c ws ≡ if_some (paired ss)
 carried-some c ws ss e = ap (λ o. if_some (option_and_then paired o)) e
 
-pub carried-read : (c d : Codes) (ws ss : List ℕ) (i : ℕ) → c ≡ d → length ws ≤ i → semis_of_words c (take i ws) ≡ Some ss → if_some (paired ss) ≡ bytes_carried d ws
-carried-read c d ws ss i same all e = sym (carried-some d ws ss (ap (λ k. semis_of_words k ws) (sym same) ∙ ap (semis_of_words c) (sym (take_all i ws all)) ∙ e))
+pub carried-read : (c : Codes) (ws none ss : List ℕ) → none ≡ [] → joined_to (Some (semis_of_bytes none ++ [])) (semis_of_words c ws) ≡ Some ss → if_some (paired ss) ≡ bytes_carried c ws
+carried-read c ws [] ss e h = sym (carried-some c ws ss (sym (joined_from_nil (semis_of_words c ws)) ∙ h))
+carried-read c ws (b ∷ bs) ss e h = absurd (cc)
+
+-- ---- words read piece by piece
+
+pub more_read : (c : Codes) (all piece rest bs none made out : List ℕ) (low left : Option ℕ) (total : Option (List ℕ)) → all ≡ piece ++ rest → none ≡ [] → joined_to (Some (semis_of_bytes none ++ option_to_list low)) (semis_of_words c piece) ≡ Some (semis_of_bytes made ++ option_to_list left) → out ≡ bs ++ made →
+    joined_to (Some (semis_of_bytes bs ++ option_to_list low)) (semis_of_words c all) ≡ total → joined_to (Some (semis_of_bytes out ++ option_to_list left)) (semis_of_words c rest) ≡ total
+more_read c all piece rest bs [] made out low left total ea en h eo before =
+    let start = semis_of_bytes bs in
+    let waited = option_to_list low in
+    let later = semis_of_words c rest in
+    ap (λ xs. joined_to (Some (semis_of_bytes xs ++ option_to_list left)) later) eo
+    ∙ ap (λ ss. joined_to (Some (ss ++ option_to_list left)) later) (semis-append bs made)
+    ∙ ap (λ ss. joined_to (Some ss) later) (append_assoc start (semis_of_bytes made) (option_to_list left))
+    ∙ ap (λ o. joined_to (joined_to (Some start) o) later) (sym h)
+    ∙ ap (λ o. joined_to o later) (sym (joined_assoc (Some start) (Some waited) (semis_of_words c piece)))
+    ∙ joined_assoc (Some (start ++ waited)) (semis_of_words c piece) later
+    ∙ ap (joined_to (Some (start ++ waited))) (sym (words-append c piece rest)) ∙ ap (λ ws. joined_to (Some (start ++ waited)) (semis_of_words c ws)) (sym ea) ∙ before
+more_read c all piece rest bs (n ∷ ns) made out low left total ea en h eo before = absurd (cc)
+
+pub none_read : (c : Codes) (ws all piece rest start : List ℕ) → all ≡ piece ++ rest → semis_of_words c piece ≡ None → joined_to (Some start) (semis_of_words c all) ≡ semis_of_words c ws → bytes_carried c ws ≡ None
+none_read c ws all piece rest start ea none before =
+    carried-none c ws (sym before ∙ ap (λ vs. joined_to (Some start) (semis_of_words c vs)) ea ∙ ap (joined_to (Some start)) (words-append c piece rest) ∙ ap (λ o. joined_to (Some start) (joined_to o (semis_of_words c rest))) none)
+
+pub all_read : (c : Codes) (ws rest read : List ℕ) → rest ≡ [] → joined_to (Some read) (semis_of_words c rest) ≡ semis_of_words c ws → if_some (paired read) ≡ bytes_carried c ws
+all_read c ws [] read e before = ap (λ o. if_some (option_and_then paired o)) (ap Some (sym (append-nil read)) ∙ before)
+all_read c ws (w ∷ rest) read e before = absurd (cc)
 
 -- ---- the bytes carried, as they are computed and as they are defined
 
@@ -260,17 +310,23 @@ pub carried_of : (p : Contents) → IsProfile p → (ws bs : List ℕ) → Carry
 carried_of p is ws bs h =
     carried-some p.codes ws (semis_of_bytes bs) (data_read p is ws h.semis h.words ∙ ap Some h.carries.semi_octets) ∙ ap if_some (paired-bytes bs) ∙ if_some-from bs h.carries.some
 
--- an answer that is what is computed
-pub answer_some : {V : Type 0} (f : V → List ℕ) (p : Contents) → IsProfile p → (ws : List ℕ) (r : Option V) → option_map f r ≡ bytes_carried p.codes ws → IfSome r (λ v. CarryBytes p.codes ws (f v))
-answer_some f p is ws (Some v) e = carries_of p is ws (f v) (sym e)
-answer_some f p is ws None e = tt
-
+-- words that carry none
 pub answer_none : (p : Contents) → IsProfile p → (ws : List ℕ) → bytes_carried p.codes ws ≡ None → (bs : List ℕ) → ¬ CarryBytes p.codes ws bs
 answer_none p is ws e bs h = absurd (let some = carried_of p is ws bs h in cc)
 
--- an answer of no bytes
-pub answer_left : {V : Type 0} (f : V → List ℕ) (p : Contents) → IsProfile p → (ws : List ℕ) (r : Option V) → option_map f r ≡ bytes_carried p.codes ws → r ≡ None → (bs : List ℕ) → ¬ CarryBytes p.codes ws bs
-answer_left f p is ws r e none = answer_none p is ws (sym e ∙ ap (option_map f) none)
+-- the same where words were read piece by piece, if there were any
+no_bytes : (c : Codes) (bs : List ℕ) (ss : List (List ℕ)) → AreDataWords c [] ss → Carries ss bs → ⊥
+no_bytes c [] [] h k = let some = k.some in absurd (omega arith)
+no_bytes c (b ∷ bs) [] h k = let same = k.semi_octets in absurd (cc)
+no_bytes c bs (s ∷ ss) h k = absurd h
+
+pub pieces_some : (p : Contents) (ws rest bs : List ℕ) → rest ≡ [] → (rest ≡ ws) ⊎ IsProfile p → Some bs ≡ bytes_carried p.codes ws → CarryBytes p.codes ws bs
+pieces_some p ws rest bs none (inl e) h = let nothing : Some bs ≡ None = h ∙ ap (bytes_carried p.codes) (sym e ∙ none) in absurd (cc)
+pieces_some p ws rest bs none (inr is) h = carries_of p is ws bs (sym h)
+
+pub pieces_none : (p : Contents) (ws rest : List ℕ) → rest ≡ [] → (rest ≡ ws) ⊎ IsProfile p → None ≡ bytes_carried p.codes ws → (bs : List ℕ) → ¬ CarryBytes p.codes ws bs
+pieces_none p ws rest none (inl e) h bs k = let empty = subst (λ vs. CarryBytes p.codes vs bs) (sym e ∙ none) k in no_bytes p.codes bs empty.semis empty.words empty.carries
+pieces_none p ws rest none (inr is) h bs k = answer_none p is ws (sym h) bs k
 
 -- words carry one list of bytes
 pub one_list : (p : Contents) → IsProfile p → (ws xs ys : List ℕ) → CarryBytes p.codes ws xs → CarryBytes p.codes ws ys → xs ≡ ys
@@ -287,14 +343,10 @@ data-count c (w ∷ ws) (s ∷ ss) h =
     let here : length s ≤ 5 = h.0.range.1 in
     omega (arith, length-append s (concat ss))
 
-semis-twice : (bs : List ℕ) → length (semis_of_bytes bs) ≡ 2 * length bs
-semis-twice [] = refl
-semis-twice (b ∷ bs) = let e = semis-twice bs in omega arith
-
 -- a word carries at most five semi-octets
 pub carried-most : (c : Codes) (ws bytes : List ℕ) → CarryBytes c ws bytes → 2 * length bytes ≤ 5 * length ws
 carried-most c ws bytes h =
     let most = data-count c ws h.semis h.words in
-    let twice = semis-twice bytes in
+    let twice = length-semis bytes in
     let same = ap length h.carries.semi_octets in
     omega arith

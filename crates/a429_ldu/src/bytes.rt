@@ -1,11 +1,13 @@
 //! The bytes that data words carry.
 
-ghost use Rattle.std.specs.Prelude.{◌≡◌, ◌≤◌, ◌<◌, ◌^◌, ◌/◌, ◌%◌, ◌++◌, [], ◌∷◌, List, ℕ, Ok, Some, None, IfOk, IfSome, option_map, option_to_list};
+ghost use Rattle.std.specs.Prelude.{◌≡◌, ◌≤◌, ◌<◌, ◌+◌, ◌*◌, ◌^◌, ◌/◌, ◌%◌, ◌++◌, [], ◌∷◌, List, ℕ, Ok, Some, None, IfOk, IfSome, option_map, option_to_list, length, true, false};
+ghost use Rattle.arrayvec.specs.ArrayVec.{array_vec_len};
 ghost use Rattle.a429_word.specs.Word.{label_of, HasOddParity};
 ghost use Rattle.a429_word.specs.declared.bus.Bus.TheVariants as bus;
+ghost use Rattle.a429_profile.specs.Contents.{IsProfile};
 ghost use Rattle.a429_ldu.specs.Semis.{semis_of_bytes, five_of};
 ghost use Rattle.a429_ldu.specs.Form.{fields_of, form_of};
-ghost use Rattle.a429_ldu.specs.Carried.{CarryBytes, semis_in, paired, if_some, bytes_carried};
+ghost use Rattle.a429_ldu.specs.Carried.{CarryBytes, semis_in, joined_to, semis_of_words, paired, if_some, bytes_carried};
 
 use crate::fields::parts_of;
 use crate::forms::Form;
@@ -13,7 +15,11 @@ use crate::semis::Semis;
 use crate::sight::{Sight, form, is_addressed};
 use a429_profile::{Codes, Profile};
 use a429_word::{Bus, Word};
+use arrayvec::ArrayVec;
 use std::alloc::{AllocError, Global};
+
+/// The bytes of the data words of one block.
+pub type BlockBytes = ArrayVec<u8, 632>;
 
 /// The bytes that words carry (ARINC 429 Part 3): their semi-octets make bytes, of each the low one
 /// first (profile). `None` where one is no data word of bus A, or the semi-octets are odd in number, or
@@ -27,20 +33,67 @@ pub fn bytes_of(
     ensures none { result ≡ Ok None → (bytes : List ℕ) → ¬ CarryBytes profile.now.codes words.now bytes }
     ensures computed { IfOk result (λ found. option_map (λ bytes. bytes.items) found ≡ bytes_carried profile.now.codes words.now) }
 {
-    let codes = profile.codes();
     let mut bytes = Vec::with_capacity(alloc, words.len() * 5 / 2)?;
     let mut low = None;
+    // As many words as there is room for, beside a semi-octet that waits.
+    for piece in words.chunks(252) {
+        let mut made = BlockBytes::new();
+        let Some(left) = carry(profile, piece, low, &mut made) else {
+            return Ok(None);
+        };
+        bytes.extend_from_slice(&made)?;
+        low = left;
+    }
+    if are_whole(&bytes, low) {
+        Ok(Some(bytes))
+    } else {
+        Ok(None)
+    }
+}
+
+/// The bytes that at most 253 words carry, the most that a block has, as `bytes_of` tells them. It takes
+/// no memory.
+pub fn block_bytes(profile: &Profile, words: &[Word]) -> Option<BlockBytes>
+    requires { length words.now ≤ 253 }
+    ensures some { IfSome result (λ bytes. CarryBytes profile.now.codes words.now bytes.items) }
+    ensures none { result ≡ None → (bytes : List ℕ) → ¬ CarryBytes profile.now.codes words.now bytes }
+    ensures computed { option_map (λ bytes. bytes.items) result ≡ bytes_carried profile.now.codes words.now }
+{
+    let mut bytes = BlockBytes::new();
+    let low = carry(profile, words, None, &mut bytes)?;
+    if are_whole(&bytes, low) {
+        Some(bytes)
+    } else {
+        None
+    }
+}
+
+// Makes bytes of the words' semi-octets, behind those that there are. A low one that no high one has
+// followed is given back, and handed in with the next words. `None` where a word is no data word of bus A.
+fn carry(
+    profile: &Profile,
+    words: &[Word],
+    low: Option<u8>,
+    bytes: &mut BlockBytes,
+) -> Option<Option<u8>>
+    requires low { IfSome low (λ digit. digit < 16) }
+    requires room { 2 * array_vec_len bytes.old + length (option_to_list low) + 5 * length words.now ≤ 1265 }
+    ensures semis { IfSome result (λ rest. joined_to (Some (semis_of_bytes bytes.old.items ++ option_to_list low)) (semis_of_words profile.now.codes words.now) ≡ Some (semis_of_bytes bytes.new.items ++ option_to_list rest)) }
+    ensures low { IfSome result (λ rest. IfSome rest (λ digit. digit < 16)) }
+    ensures none { result ≡ None → semis_of_words profile.now.codes words.now ≡ None }
+    ensures sound { IsProfile profile.now }
+{
+    let codes = profile.codes();
+    let mut waiting = low;
     for word in words {
         if let Some(number) = full_number(codes, *word) {
-            low = push_full(&mut bytes, low, number)?;
+            waiting = push_full(bytes, waiting, number);
         } else {
-            let Some(semis) = semis_of(profile, *word) else {
-                return Ok(None);
-            };
-            low = push_semis(&mut bytes, low, &semis)?;
+            let semis = semis_of(profile, *word)?;
+            waiting = push_semis(bytes, waiting, &semis);
         }
     }
-    Ok(whole(bytes, low))
+    Some(waiting)
 }
 
 // Bits 9 to 28 of a full data word of bus A as one number: its five semi-octets. `None` for any other
@@ -81,25 +134,25 @@ fn semis_in(form: &Form) -> Option<Semis>
 
 // Makes bytes of five semi-octets: two, and the last semi-octet waits for the next word's first, or
 // three, where one has waited.
-fn push_full(bytes: &mut Vec<u8>, low: Option<u8>, number: u32) -> Result<Option<u8>, AllocError>
+fn push_full(bytes: &mut BlockBytes, low: Option<u8>, number: u32) -> Option<u8>
     requires low { IfSome low (λ digit. digit < 16) }
     requires number { number < 2 ^ 20 }
-    ensures bytes { IfOk result (λ rest. semis_of_bytes bytes.new.items ++ option_to_list rest ≡ (semis_of_bytes bytes.old.items ++ option_to_list low) ++ five_of number) }
-    ensures low { IfOk result (λ rest. IfSome rest (λ digit. digit < 16)) }
+    requires room { 2 * array_vec_len bytes.old + length (option_to_list low) + 5 ≤ 1265 }
+    ensures bytes { semis_of_bytes bytes.new.items ++ option_to_list result ≡ (semis_of_bytes bytes.old.items ++ option_to_list low) ++ five_of number }
+    ensures low { IfSome result (λ digit. digit < 16) }
 {
     match low {
         None => {
-            bytes.extend_from_slice(&[(number & 0xff) as u8, (number >> 8 & 0xff) as u8])?;
-            Ok(Some((number >> 16) as u8))
+            bytes.push((number & 0xff) as u8);
+            bytes.push((number >> 8 & 0xff) as u8);
+            Some((number >> 16) as u8)
         }
         Some(low) => {
             let joined = number << 4 | u32::from(low);
-            bytes.extend_from_slice(&[
-                (joined & 0xff) as u8,
-                (joined >> 8 & 0xff) as u8,
-                (joined >> 16) as u8,
-            ])?;
-            Ok(None)
+            bytes.push((joined & 0xff) as u8);
+            bytes.push((joined >> 8 & 0xff) as u8);
+            bytes.push((joined >> 16) as u8);
+            None
         }
     }
 }
@@ -107,42 +160,40 @@ fn push_full(bytes: &mut Vec<u8>, low: Option<u8>, number: u32) -> Result<Option
 // Makes bytes of semi-octets. A low one that no high one has followed is given back, and handed in with
 // the next ones.
 #[inline(never)]
-fn push_semis(bytes: &mut Vec<u8>, low: Option<u8>, semis: &Semis) -> Result<Option<u8>, AllocError>
-    requires { IfSome low (λ digit. digit < 16) }
-    ensures bytes { IfOk result (λ rest. semis_of_bytes bytes.new.items ++ option_to_list rest ≡ (semis_of_bytes bytes.old.items ++ option_to_list low) ++ semis.now) }
-    ensures low { IfOk result (λ rest. IfSome rest (λ digit. digit < 16)) }
+fn push_semis(bytes: &mut BlockBytes, low: Option<u8>, semis: &Semis) -> Option<u8>
+    requires low { IfSome low (λ digit. digit < 16) }
+    requires room { 2 * array_vec_len bytes.old + length (option_to_list low) + 5 ≤ 1265 }
+    ensures bytes { semis_of_bytes bytes.new.items ++ option_to_list result ≡ (semis_of_bytes bytes.old.items ++ option_to_list low) ++ semis.now }
+    ensures low { IfSome result (λ digit. digit < 16) }
+    ensures most { 2 * array_vec_len bytes.new + length (option_to_list result) ≤ 2 * array_vec_len bytes.old + length (option_to_list low) + 5 }
 {
     let mut waiting = low;
     for digit in semis.as_slice() {
-        waiting = push_digit(bytes, waiting, *digit)?;
+        waiting = push_digit(bytes, waiting, *digit);
     }
-    Ok(waiting)
+    waiting
 }
 
-fn push_digit(bytes: &mut Vec<u8>, low: Option<u8>, digit: u8) -> Result<Option<u8>, AllocError>
+fn push_digit(bytes: &mut BlockBytes, low: Option<u8>, digit: u8) -> Option<u8>
     requires low { IfSome low (λ digit. digit < 16) }
     requires digit { digit < 16 }
-    ensures bytes { IfOk result (λ rest. semis_of_bytes bytes.new.items ++ option_to_list rest ≡ (semis_of_bytes bytes.old.items ++ option_to_list low) ++ digit ∷ []) }
-    ensures low { IfOk result (λ rest. IfSome rest (λ digit. digit < 16)) }
+    requires room { 2 * array_vec_len bytes.old + length (option_to_list low) + 1 ≤ 1265 }
+    ensures bytes { semis_of_bytes bytes.new.items ++ option_to_list result ≡ (semis_of_bytes bytes.old.items ++ option_to_list low) ++ digit ∷ [] }
+    ensures low { IfSome result (λ digit. digit < 16) }
 {
     match low {
-        None => Ok(Some(digit)),
+        None => Some(digit),
         Some(low) => {
-            bytes.push(digit << 4 | low)?;
-            Ok(None)
+            bytes.push(digit << 4 | low);
+            None
         }
     }
 }
 
-// The bytes, where there are some and no semi-octet is left over.
-fn whole(bytes: Vec<u8>, low: Option<u8>) -> Option<Vec<u8>>
-    ensures { option_map (λ bytes. bytes.items) result ≡ if_some (paired (semis_of_bytes bytes.items ++ option_to_list low)) }
+// Whether there are some bytes, and no semi-octet is left over.
+fn are_whole(bytes: &[u8], low: Option<u8>) -> bool
+    ensures yes { result ≡ true → if_some (paired (semis_of_bytes bytes.now ++ option_to_list low)) ≡ Some bytes.now }
+    ensures no { result ≡ false → if_some (paired (semis_of_bytes bytes.now ++ option_to_list low)) ≡ None }
 {
-    if low.is_some() {
-        return None;
-    }
-    if bytes.is_empty() {
-        return None;
-    }
-    Some(bytes)
+    low.is_none() && !bytes.is_empty()
 }

@@ -4,7 +4,7 @@ ghost use Rattle.std.specs.Prelude.{◌≡◌, ◌≢◌, ◌≤◌, ◌<◌, If
 ghost use Rattle.a429_ldu.specs.CheckWord.{check_of};
 ghost use Rattle.a429_ldu.specs.Ldu.{count_of, block_of, HasLength, IsLdu, IsFirstFault};
 
-use crate::bytes::bytes_of;
+use crate::bytes::block_bytes;
 use crate::fault::LduFault;
 use crate::forms::Form;
 use crate::register::check_word;
@@ -55,10 +55,7 @@ impl Ldu {
         if words.is_empty() || words.len() > 253 {
             return Err(LduFault::Count);
         }
-        let Ok(carried) = bytes_of(alloc, profile, words) else {
-            return Err(LduFault::OutOfMemory);
-        };
-        let Some(bytes) = carried else {
+        let Some(bytes) = block_bytes(profile, words) else {
             return Err(LduFault::NotBytes);
         };
         if !agrees(profile.check(), &bytes, check) {

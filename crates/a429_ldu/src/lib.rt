@@ -16,7 +16,7 @@ mod semis;
 mod sight;
 mod writing;
 
-pub use crate::bytes::bytes_of;
+pub use crate::bytes::{BlockBytes, block_bytes, bytes_of};
 pub use crate::cutting::cut;
 pub use crate::fault::{CutFault, LduFault};
 pub use crate::forms::Form;

@@ -1,9 +1,11 @@
 //! Words, bytes and link data units of the sample profile.
 
+ghost use Rattle.std.specs.Prelude.{◌≤◌, length};
 ghost use Rattle.a429_ldu.specs.Form.{IsInRange};
 
 use crate::{
-    CutFault, Form, Ldu, LduFault, Semis, Sight, bytes_of, check_word, cut, form, word_of,
+    CutFault, Form, Ldu, LduFault, Semis, Sight, block_bytes, bytes_of, check_word, cut, form,
+    word_of,
 };
 use a429_profile::{Check, Profile, ProfileFault, read_profile};
 use a429_word::{Bus, Word};
@@ -142,19 +144,31 @@ fn known_check_words(rt: HostRuntime) {
     assert_eq!(rt; check_word(&high, b"123456789"), 0x29B1);
 }
 
+// The bytes that words carry, with memory and without.
+fn carried(
+    rt: &(impl Abort + AllocGlobal),
+    profile: &Profile,
+    words: &[Word],
+    bytes: Option<&[u8]>,
+) -> Result<(), Fail>
+    requires { length words.now ≤ 253 }
+{
+    let found = bytes_of(rt.alloc(), profile, words)?;
+    assert_eq!(rt; found.as_ref().map(|made| made.as_slice()), bytes);
+    let found = block_bytes(profile, words);
+    assert_eq!(rt; found.as_ref().map(|made| made.as_slice()), bytes);
+    Ok(())
+}
+
 #[test]
 fn bytes_of_data_words(rt: HostRuntime) -> Result<(), Fail> {
     let profile = sample(rt.alloc())?;
     let both = [word(0x0342_4123), word(0x9100_0423)];
-    let bytes = bytes_of(rt.alloc(), &profile, &both)?.ok_or("no bytes")?;
-    assert_eq!(rt; bytes.as_slice(), b"ABC".as_slice());
-    let odd = [word(0x9100_0123)];
-    assert!(rt; bytes_of(rt.alloc(), &profile, &odd)?.is_none());
-    assert!(rt; bytes_of(rt.alloc(), &profile, &[])?.is_none());
+    carried(&rt, &profile, &both, Some(b"ABC".as_slice()))?;
+    carried(&rt, &profile, &[word(0x9100_0123)], None)?;
+    carried(&rt, &profile, &[], None)?;
     // A request among data words.
-    let mixed = [word(0x1200_4123), word(0x4141_0323)];
-    assert!(rt; bytes_of(rt.alloc(), &profile, &mixed)?.is_none());
-    Ok(())
+    carried(&rt, &profile, &[word(0x1200_4123), word(0x4141_0323)], None)
 }
 
 #[test]
