@@ -25,10 +25,7 @@ pub fn check(alloc: Global, profile: &Profile, entries: &[Entry]) -> Result<Verd
     ensures no_form { HasNoForm profile.now.codes (items_of entries.now) → IfOk result IsRefusal }
     ensures without_loss { IsWithoutLoss profile.now (items_of entries.now) → IfOk result IsExplanation }
 {
-    let Ok(found) = walk(alloc, profile, entries) else {
-        return Err(OutOfMemory);
-    };
-    match found {
+    match walk(alloc, profile, entries) {
         Some(refused) => Ok(Verdict::Impossible {
             entry: refused.entry,
             reason: refused.reason,

@@ -1,6 +1,6 @@
 //! The words that no run records.
 
-ghost use Rattle.std.specs.Prelude.{◌≡◌, ◌<◌, ◌+◌, Ok, Some, None, IfOk, IfSome, length, take, slice_get};
+ghost use Rattle.std.specs.Prelude.{◌≡◌, ◌<◌, ◌+◌, None, IfSome, length, take, slice_get};
 ghost use Rattle.a429_link.specs.Run.{BeginsARun};
 ghost use Rattle.a429_cert.specs.Explained.{items_of};
 ghost use Rattle.a429_explain.specs.Verdict.{HasNoForm};
@@ -13,7 +13,7 @@ use a429_link::laws::refused_is_impossible;
 use a429_link::{Observer, Seen};
 use a429_profile::Profile;
 use a429_record::Entry;
-use std::alloc::{AllocError, Global};
+use std::alloc::Global;
 
 /// A word that the words before it do not allow.
 #[derive(Clone, Copy, Debug)]
@@ -24,18 +24,14 @@ pub(crate) struct Refused {
 }
 
 /// The first entry that no run records after those before it, and why.
-pub(crate) fn walk(
-    alloc: Global,
-    profile: &Profile,
-    entries: &[Entry],
-) -> Result<Option<Refused>, AllocError>
-    ensures refused { IfOk result (λ found. IfSome found (λ r. IsFirstRefused profile.now (items_of entries.now) r.entry)) }
-    ensures impossible { IfOk result (λ found. IfSome found (λ r. BeginsARun profile.now (take (r.entry + 1) (items_of entries.now)) → ⊥)) }
-    ensures inside { IfOk result (λ found. IfSome found (λ r. r.entry < length entries.now)) }
-    ensures fits { IfOk result (λ found. IfSome found (λ r. FitsAt profile.now.codes (slice_get (items_of entries.now) r.entry) r.reason)) }
-    ensures allowed { result ≡ Ok None → AreAllowed profile.now (items_of entries.now) (length entries.now) }
-    ensures without_loss { IsWithoutLoss profile.now (items_of entries.now) → IfOk result (λ found. found ≡ None) }
-    ensures formed { result ≡ Ok None → ¬ HasNoForm profile.now.codes (items_of entries.now) }
+pub(crate) fn walk(alloc: Global, profile: &Profile, entries: &[Entry]) -> Option<Refused>
+    ensures refused { IfSome result (λ r. IsFirstRefused profile.now (items_of entries.now) r.entry) }
+    ensures impossible { IfSome result (λ r. BeginsARun profile.now (take (r.entry + 1) (items_of entries.now)) → ⊥) }
+    ensures inside { IfSome result (λ r. r.entry < length entries.now) }
+    ensures fits { IfSome result (λ r. FitsAt profile.now.codes (slice_get (items_of entries.now) r.entry) r.reason) }
+    ensures allowed { result ≡ None → AreAllowed profile.now (items_of entries.now) (length entries.now) }
+    ensures without_loss { IsWithoutLoss profile.now (items_of entries.now) → result ≡ None }
+    ensures formed { result ≡ None → ¬ HasNoForm profile.now.codes (items_of entries.now) }
 {
     refused_is_impossible();
     let _codes = profile.codes();
@@ -44,16 +40,12 @@ pub(crate) fn walk(
         let entry = entries[n];
         let bus = entry.bus;
         let word = entry.word;
-        let allowed = match observer.see(alloc, profile, Seen { bus, word }) {
-            Ok(allowed) => allowed,
-            Err(error) => return Err(error),
-        };
-        if !allowed {
+        if !observer.see(profile, Seen { bus, word }) {
             let reason = reason_of(profile, Seen { bus, word });
-            return Ok(Some(Refused { entry: n, reason }));
+            return Some(Refused { entry: n, reason });
         }
     }
-    Ok(None)
+    None
 }
 
 // Why a word is refused that may be.

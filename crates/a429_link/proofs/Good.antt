@@ -1,8 +1,9 @@
 -- When a block is good.
-use Rattle.std.proofs.Common.{◌≡◌, ℕ, ◌+◌, ◌&&◌, ◌||◌, List, [], length, Option, Some, is_some, unwrap_or, option_map, Vec, sym, ap, ◌∙◌, eq-eqb}
+use Rattle.std.proofs.Common.{◌≡◌, ℕ, ◌+◌, ◌&&◌, ◌||◌, List, [], length, Option, Some, is_some, unwrap_or, option_map, sym, ap, ◌∙◌, eq-eqb}
 use Rattle.a429_link.specs.Sink.{Block, Number, agrees, bytes_in, in_sequence, is_good, is_same}
 use Rattle.a429_profile.specs.Contents.{Contents}
 use Rattle.a429_ldu.specs.Carried.{bytes_carried}
+use Rattle.arrayvec.specs.ArrayVec.{ArrayVec}
 
 -- a block of the right count that carries bytes
 pub good_where : (p : Contents) (last : Option Number) (count : ℕ) (b : Block) (check : ℕ) (bytes : List ℕ) → length b.words + 2 ≡ count → bytes_carried p.codes b.words ≡ Some bytes → is_good p last count b check ≡ (agrees p.check bytes check && (is_same last b.file b.ldu || in_sequence p.codes last b.file b.ldu))
@@ -12,5 +13,5 @@ good_where p last count b check bytes n e =
     ∙ ap (λ (o : Option (List ℕ)). is_some o && (agrees p.check (unwrap_or o []) check && may)) e
 
 -- bytes that are found
-pub found_bytes : {Z : Type 0} (o : Option (Vec ℕ Z)) (v : Vec ℕ Z) (r : Option (List ℕ)) → option_map (λ (b : Vec ℕ Z). b.items) o ≡ r → o ≡ Some v → r ≡ Some v.items
-found_bytes {Z} o v r e h = sym e ∙ ap (option_map (λ (b : Vec ℕ Z). b.items)) h
+pub found_bytes : (o : Option (ArrayVec ℕ)) (v : ArrayVec ℕ) (r : Option (List ℕ)) → option_map (λ (b : ArrayVec ℕ). b.items) o ≡ r → o ≡ Some v → r ≡ Some v.items
+found_bytes o v r e h = sym e ∙ ap (option_map (λ (b : ArrayVec ℕ). b.items)) h

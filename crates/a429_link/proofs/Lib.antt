@@ -11,5 +11,6 @@ pub mod SampleRun
 pub mod Blocks
 pub mod Good
 pub mod KeptStates
+pub mod Watched
 pub mod CleanRuns
 pub mod CleanFiles

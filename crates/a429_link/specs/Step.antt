@@ -115,10 +115,9 @@ abbrev pub LoadsLdu : Contents → Step → Type 0
 LoadsLdu p (Load u) = IsLdu p u
 LoadsLdu p _ = Unit {0}
 
--- steps that may want memory: a list, a block or a file grows
+-- steps that may want memory: a list or a file grows
 abbrev pub Grows : Step → Type 0
 Grows (Sent i) = Unit {0}
-Grows SinkTakes = Unit {0}
 Grows (Answered i) = Unit {0}
 Grows _ = ⊥
 

@@ -1,9 +1,9 @@
 //! A block as the sink takes it.
 
-ghost use Rattle.std.specs.Prelude.{◌≡◌, [], ◌∷◌, ◌++◌, OnOk, OnErr};
+ghost use Rattle.std.specs.Prelude.{◌≡◌, ◌<◌, [], ◌∷◌, ◌++◌, length};
 
 use a429_word::Word;
-use std::alloc::{AllocError, Global};
+use arrayvec::ArrayVec;
 use std::marker::Model;
 
 /// The numbers of a start word, and the data words taken since it (ARINC 429 Part 3).
@@ -12,7 +12,7 @@ pub(crate) struct Block {
     gfi: u8,
     file: u8,
     ldu: u8,
-    words: Vec<Word>,
+    words: ArrayVec<Word, 254>,
 }
 
 impl Model for Block {
@@ -25,14 +25,14 @@ impl Model for Block {
 
 impl Block {
     /// A block that stands for none.
-    pub(crate) fn new(alloc: Global) -> Block
+    pub(crate) fn new() -> Block
         ensures { result ≡ record { gfi = 0; file = 0; ldu = 0; words = [] } }
     {
         Block {
             gfi: 0,
             file: 0,
             ldu: 0,
-            words: Vec::new(alloc),
+            words: ArrayVec::new(),
         }
     }
 
@@ -47,12 +47,11 @@ impl Block {
     }
 
     /// Takes a data word.
-    pub(crate) fn push(&mut self, word: Word) -> Result<(), AllocError>
-        ensures done { OnOk result (self.new ≡ record (self.old) { words = self.old.words ++ word ∷ [] }) }
-        ensures unchanged { OnErr result (self.new ≡ self.old) }
+    pub(crate) fn push(&mut self, word: Word)
+        requires { length self.old.words < 254 }
+        ensures { self.new ≡ record (self.old) { words = self.old.words ++ word ∷ [] } }
     {
-        self.words.push(word)?;
-        Ok(())
+        self.words.push(word);
     }
 
     pub(crate) fn file(&self) -> u8

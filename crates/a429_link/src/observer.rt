@@ -1,6 +1,6 @@
 //! The observer of a recording.
 
-ghost use Rattle.std.specs.Prelude.{◌≡◌, ◌≢◌, ◌↔◌, Ok, Some, true, IsTrue, IfOk, OnOk, OnErr};
+ghost use Rattle.std.specs.Prelude.{◌≡◌, ◌↔◌, Some, true, false, IsTrue};
 ghost use Rattle.a429_link.specs.Observer as model;
 ghost use Rattle.a429_link.specs.Observer.{at_first, sees, sees_form, Allows, AllowsForm};
 
@@ -10,7 +10,7 @@ use crate::sink::Sink;
 use a429_ldu::Form;
 use a429_profile::Profile;
 use a429_word::{Bus, Word};
-use std::alloc::{AllocError, Global};
+use std::alloc::Global;
 use std::marker::Model;
 
 /// A sink that takes each recorded word of bus A, and gives each recorded answer of bus B, at the moment
@@ -27,12 +27,13 @@ impl Model for Observer {
     ghost use Rattle.std.specs.Prelude.{◌≡◌};
     ghost use Rattle.a429_link.specs.Observer as model;
     ghost use Rattle.a429_link.specs.Run.{nothing};
+    ghost use Rattle.a429_link.specs.View.{InPlace};
 
     ghost Value = { model.Observer };
 
     ghost view = { λ o. record { last = o.sink.last; count = o.sink.count; phase = o.sink.phase; begun = o.begun; parts = o.parts } };
 
-    ghost invariant = { λ o. o.sink.shelf ≡ nothing };
+    ghost invariant = { λ o. (o.sink.shelf ≡ nothing) × InPlace o.sink.phase o.parts };
 }
 
 impl Observer {
@@ -48,21 +49,20 @@ impl Observer {
     }
 
     /// Takes the next recorded word, and answers true, where the words before it allow it. Else the answer
-    /// is false: no run records this word after those. After that, and where memory was refused, the
-    /// observer is unchanged.
-    pub fn see(&mut self, alloc: Global, profile: &Profile, seen: Seen) -> Result<bool, AllocError>
-        ensures answer { IfOk result (λ allowed. IsTrue allowed ↔ Allows profile.now self.old seen) }
-        ensures taken { result ≡ Ok true → self.new ≡ sees profile.now seen self.old }
-        ensures unchanged { result ≢ Ok true → self.new ≡ self.old }
+    /// is false, and the observer unchanged: no run records this word after those.
+    pub fn see(&mut self, profile: &Profile, seen: Seen) -> bool
+        ensures answer { IsTrue result ↔ Allows profile.now self.old seen }
+        ensures taken { result ≡ true → self.new ≡ sees profile.now seen self.old }
+        ensures unchanged { result ≡ false → self.new ≡ self.old }
     {
         let Some(form) = form_of(profile, seen.bus, seen.word) else {
-            return Ok(is_free(profile, seen.bus, seen.word));
+            return is_free(profile, seen.bus, seen.word);
         };
         if !self.allows(seen.bus, &form) {
-            return Ok(false);
+            return false;
         }
-        self.take(alloc, profile, seen.bus, seen.word, &form)?;
-        Ok(true)
+        self.take(profile, seen.bus, seen.word, &form);
+        true
     }
 
     // The words so far allow a word of this form.
@@ -81,40 +81,22 @@ impl Observer {
         }
     }
 
-    fn take(
-        &mut self,
-        alloc: Global,
-        profile: &Profile,
-        bus: Bus,
-        word: Word,
-        form: &Form,
-    ) -> Result<(), AllocError>
+    fn take(&mut self, profile: &Profile, bus: Bus, word: Word, form: &Form)
         requires { AllowsForm self.old bus (Some form.now) }
-        ensures done { OnOk result (self.new ≡ sees_form profile.now bus word (Some form.now) self.old) }
-        ensures unchanged { OnErr result (self.new ≡ self.old) }
+        ensures { self.new ≡ sees_form profile.now bus word (Some form.now) self.old }
     {
         match bus {
-            Bus::A => self.take_word(alloc, profile, word, form),
-            Bus::B => {
-                self.take_answer(profile, form);
-                Ok(())
-            }
+            Bus::A => self.take_word(profile, word, form),
+            Bus::B => self.take_answer(profile, form),
         }
     }
 
-    fn take_word(
-        &mut self,
-        alloc: Global,
-        profile: &Profile,
-        word: Word,
-        form: &Form,
-    ) -> Result<(), AllocError>
+    fn take_word(&mut self, profile: &Profile, word: Word, form: &Form)
         requires { AllowsForm self.old Bus.A (Some form.now) }
-        ensures done { OnOk result (self.new ≡ sees_form profile.now Bus.A word (Some form.now) self.old) }
-        ensures unchanged { OnErr result (self.new ≡ self.old) }
+        ensures { self.new ≡ sees_form profile.now Bus.A word (Some form.now) self.old }
     {
         let count = self.sink.count();
-        self.sink.take(alloc, profile, word, form)?;
+        self.sink.take(profile, word, form);
         match *form {
             Form::Sot { .. } => self.begun = true,
             Form::Part(_) => {
@@ -125,7 +107,6 @@ impl Observer {
             }
             _ => {}
         }
-        Ok(())
     }
 
     fn take_answer(&mut self, profile: &Profile, form: &Form)

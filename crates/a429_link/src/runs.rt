@@ -131,7 +131,7 @@ impl<'a> Pair<'a> {
         assert_eq!(rt; self.apply(rt, &step)?, answer, "{step:?}");
         if answer.is_ok() {
             count.made = count.made.saturating_add(1);
-            self.observe(rt, step.recorded())?;
+            self.observe(rt, step.recorded());
             self.model.make(step)?;
         } else {
             count.refused = count.refused.saturating_add(1);
@@ -141,16 +141,10 @@ impl<'a> Pair<'a> {
         Ok(())
     }
 
-    fn observe(
-        &mut self,
-        rt: &(impl Abort + AllocGlobal),
-        recorded: Option<Seen>,
-    ) -> Result<(), Fail> {
+    fn observe(&mut self, rt: &impl Abort, recorded: Option<Seen>) {
         if let Some(seen) = recorded {
-            let allowed = self.observer.see(rt.alloc(), self.profile, seen)?;
-            assert!(rt; allowed, "{seen:?}");
+            assert!(rt; self.observer.see(self.profile, seen), "{seen:?}");
         }
-        Ok(())
     }
 
     // Hands the delivered files out.

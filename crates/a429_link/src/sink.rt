@@ -1,19 +1,19 @@
 //! The sink of a file transfer.
 
-ghost use Rattle.std.specs.Prelude.{◌≡◌, ◌≤◌, ◌↔◌, ◌||◌, [], None, option_map, IsTrue, IfOk, OnOk, OnErr};
+ghost use Rattle.std.specs.Prelude.{◌≡◌, ◌≤◌, ◌↔◌, ◌||◌, [], None, option_map, IsTrue, OnOk, OnErr};
 ghost use Rattle.a429_link.specs.Sink as model;
 ghost use Rattle.a429_link.specs.Sink.{agrees, takes, at_start, at_part, at_end, is_good, is_same, in_sequence, accepts_owed, answers, MayAnswer, Listens, Owes, held};
 ghost use Rattle.a429_link.specs.Step.{shown_sink};
 ghost use Rattle.a429_link.specs.Run.{nothing};
 ghost use Rattle.a429_link.specs.Observer.{HasGrant};
-ghost use Rattle.a429_link.specs.View.{number_of};
+ghost use Rattle.a429_link.specs.View.{number_of, TakesOneMore, HasRoom};
 
 use crate::block::Block;
 use crate::file::FileBytes;
 use crate::number::is_final;
 use crate::shelf::Shelf;
 use crate::state::SinkState;
-use a429_ldu::{Form, bytes_of, check_word};
+use a429_ldu::{Form, block_bytes, check_word};
 use a429_profile::{Check, Profile};
 use a429_word::Word;
 use std::alloc::{AllocError, Global};
@@ -80,26 +80,19 @@ fn may_come(profile: &Profile, last: &Option<Latest>, file: u8, ldu: u8) -> bool
 }
 
 // The block that ends by a word with this check word is good, where the last request had this count.
-fn ends_well(
-    alloc: Global,
-    profile: &Profile,
-    last: &Option<Latest>,
-    count: u8,
-    block: &Block,
-    check: u16,
-) -> Result<bool, AllocError>
-    ensures { IfOk result (λ good. good ≡ is_good profile.now (option_map number_of last.now) count block.now check) }
+fn ends_well(profile: &Profile, last: &Option<Latest>, count: u8, block: &Block, check: u16) -> bool
+    ensures { result ≡ is_good profile.now (option_map number_of last.now) count block.now check }
 {
     if block.words().len() + 2 != usize::from(count) {
-        return Ok(false);
+        return false;
     }
-    let Some(bytes) = bytes_of(alloc, profile, block.words())? else {
-        return Ok(false);
+    let Some(bytes) = block_bytes(profile, block.words()) else {
+        return false;
     };
     if !agrees(profile.check(), bytes.as_slice(), check) {
-        return Ok(false);
+        return false;
     }
-    Ok(may_come(profile, last, block.file(), block.ldu()))
+    may_come(profile, last, block.file(), block.ldu())
 }
 
 // The check word is that of the bytes, or the profile compares none.
@@ -129,7 +122,7 @@ impl Sink {
             shelf: Shelf::new(alloc),
             count: 0,
             phase: Phase::Quiet,
-            block: Block::new(alloc),
+            block: Block::new(),
         }
     }
 
@@ -167,29 +160,19 @@ impl Sink {
 
     /// Takes a word of bus A that has this form.
     #[inline(always)]
-    pub(crate) fn take(
-        &mut self,
-        alloc: Global,
-        profile: &Profile,
-        word: Word,
-        form: &Form,
-    ) -> Result<(), AllocError>
-        ensures done { OnOk result (self.new ≡ takes profile.now word form.now self.old) }
-        ensures unchanged { OnErr result (self.new ≡ self.old) }
+    pub(crate) fn take(&mut self, profile: &Profile, word: Word, form: &Form)
+        requires { HasRoom form.now self.old.phase }
+        ensures { self.new ≡ takes profile.now word form.now self.old }
     {
         match *form {
             Form::Rts { count } => {
                 self.count = count;
                 self.phase = Phase::OwesClear;
-                Ok(())
             }
-            Form::Sot { gfi, file, ldu } => {
-                self.start_block(gfi, file, ldu);
-                Ok(())
-            }
+            Form::Sot { gfi, file, ldu } => self.start_block(gfi, file, ldu),
             Form::Part(_) => self.add_word(word),
-            Form::Eot { flags, check } => self.end_block(alloc, profile, flags, check),
-            Form::Cts { .. } | Form::Ack { .. } | Form::Nak { .. } => Ok(()),
+            Form::Eot { flags, check } => self.end_block(profile, flags, check),
+            Form::Cts { .. } | Form::Ack { .. } | Form::Nak { .. } => {}
         }
     }
 
@@ -202,30 +185,22 @@ impl Sink {
         }
     }
 
-    fn add_word(&mut self, word: Word) -> Result<(), AllocError>
-        ensures done { OnOk result (self.new ≡ record (self.old) { phase = at_part word self.old.phase }) }
-        ensures unchanged { OnErr result (self.new ≡ self.old) }
+    fn add_word(&mut self, word: Word)
+        requires { TakesOneMore self.old.phase }
+        ensures { self.new ≡ record (self.old) { phase = at_part word self.old.phase } }
     {
         if self.phase == Phase::InBlock {
-            self.block.push(word)?;
+            self.block.push(word);
         }
-        Ok(())
     }
 
-    fn end_block(
-        &mut self,
-        alloc: Global,
-        profile: &Profile,
-        flags: u8,
-        check: u16,
-    ) -> Result<(), AllocError>
-        ensures done { OnOk result (self.new ≡ record (self.old) { phase = at_end profile.now self.old.last self.old.count flags check self.old.phase }) }
-        ensures unchanged { OnErr result (self.new ≡ self.old) }
+    fn end_block(&mut self, profile: &Profile, flags: u8, check: u16)
+        ensures { self.new ≡ record (self.old) { phase = at_end profile.now self.old.last self.old.count flags check self.old.phase } }
     {
         match self.phase {
             Phase::Granted => self.phase = Phase::OwesNak,
             Phase::InBlock => {
-                let good = ends_well(alloc, profile, &self.last, self.count, &self.block, check)?;
+                let good = ends_well(profile, &self.last, self.count, &self.block, check);
                 self.phase = if good {
                     Phase::OwesAck { flags }
                 } else {
@@ -234,7 +209,6 @@ impl Sink {
             }
             Phase::Quiet | Phase::OwesClear | Phase::OwesAck { .. } | Phase::OwesNak => {}
         }
-        Ok(())
     }
 
     /// It may give an answer of this form now.
@@ -258,6 +232,7 @@ impl Sink {
         profile: &Profile,
         answer: &Form,
     ) -> Result<(), AllocError>
+        requires { held self.old.phase ≤ 255 }
         ensures done { OnOk result (self.new ≡ answers profile.now.codes answer.now self.old) }
         ensures unchanged { OnErr result (self.new ≡ self.old) }
     {
@@ -275,6 +250,7 @@ impl Sink {
 
     // Accepts the block that an acknowledgement is owed for. One that comes again is not put again.
     fn accept(&mut self, alloc: Global, profile: &Profile) -> Result<(), AllocError>
+        requires { held self.old.phase ≤ 255 }
         ensures done { OnOk result (self.new ≡ accepts_owed profile.now.codes self.old.phase self.old) }
         ensures unchanged { OnErr result (self.new ≡ self.old) }
     {
@@ -287,7 +263,7 @@ impl Sink {
             return Ok(());
         }
         let is_final = is_final(profile, flags);
-        match bytes_of(alloc, profile, self.block.words())? {
+        match block_bytes(profile, self.block.words()) {
             Some(bytes) => self.shelf.put(alloc, file, bytes.as_slice(), is_final)?,
             None => self.shelf.put(alloc, file, &[], is_final)?,
         }

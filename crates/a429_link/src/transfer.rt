@@ -1,6 +1,6 @@
 //! The source, the sink, and the recorded words between them.
 
-ghost use Rattle.std.specs.Prelude.{◌≡◌, ◌≤◌, [], IfErr, OnOk, OnErr, length};
+ghost use Rattle.std.specs.Prelude.{◌≡◌, ◌≤◌, ◌+◌, [], IfErr, OnOk, OnErr, length};
 ghost use Rattle.a429_profile.specs.Contents.{IsProfile};
 ghost use Rattle.a429_ldu.specs.Ldu.{IsLdu};
 ghost use Rattle.a429_link.specs.declared.step.Step.TheVariants as step;
@@ -61,7 +61,8 @@ impl Transfer {
         profile: &Profile,
         step: Step,
     ) -> Result<(), StepFault>
-        requires { LoadsLdu profile.now step }
+        requires unit { LoadsLdu profile.now step }
+        requires bound { length self.old.to_sink + held self.old.sink.phase ≤ 255 }
         ensures allowed { OnOk result (Can profile.now step self.old) }
         ensures done { OnOk result (self.new ≡ after profile.now step self.old) }
         ensures fault { IfErr result (λ e. IsPlainFault profile.now step self.old e) }
@@ -74,7 +75,7 @@ impl Transfer {
             Step::TimeOut => self.time_out(profile),
             Step::TakeAnswer => self.take_answer(profile),
             Step::LoseAnswer => self.lose_answer(profile),
-            Step::SinkTakes => self.sink_takes(alloc, profile),
+            Step::SinkTakes => self.sink_takes(profile),
             Step::Silent => self.silent(profile),
             Step::Answered(seen) => self.answered(alloc, profile, seen),
             Step::FreeSeen(seen) => self.free_seen(profile, seen),
@@ -170,7 +171,8 @@ impl Transfer {
         Ok(())
     }
 
-    fn sink_takes(&mut self, alloc: Global, profile: &Profile) -> Result<(), StepFault>
+    fn sink_takes(&mut self, profile: &Profile) -> Result<(), StepFault>
+        requires { length self.old.to_sink + held self.old.sink.phase ≤ 255 }
         ensures allowed { OnOk result (Can profile.now step.SinkTakes self.old) }
         ensures done { OnOk result (self.new ≡ after profile.now step.SinkTakes self.old) }
         ensures fault { IfErr result (λ e. IsPlainFault profile.now step.SinkTakes self.old e) }
@@ -179,13 +181,10 @@ impl Transfer {
         if !self.sink.listens() || self.to_sink.is_empty() {
             return Err(StepFault::NotAllowed);
         }
-        let word = self.to_sink[0];
+        let word = self.to_sink.remove(0);
         if let Some(form) = form_of(profile, Bus::A, word) {
-            if self.sink.take(alloc, profile, word, &form).is_err() {
-                return Err(StepFault::OutOfMemory);
-            }
+            self.sink.take(profile, word, &form);
         }
-        let _taken = self.to_sink.remove(0);
         Ok(())
     }
 
@@ -203,6 +202,7 @@ impl Transfer {
     }
 
     fn answered(&mut self, alloc: Global, profile: &Profile, seen: Seen) -> Result<(), StepFault>
+        requires { held self.old.sink.phase ≤ 255 }
         ensures allowed { OnOk result (Can profile.now (step.Answered seen) self.old) }
         ensures done { OnOk result (self.new ≡ after profile.now (step.Answered seen) self.old) }
         ensures fault { IfErr result (λ e. IsPlainFault profile.now (step.Answered seen) self.old e) }

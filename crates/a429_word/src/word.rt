@@ -45,7 +45,7 @@ const REVERSED: [u8; 256] = [
 
 /// A word of 32 bits (ARINC 429 Part 1, word formats). Bits are numbered from 1 to 32; as a number,
 /// bit i counts `2^(i-1)`.
-#[derive(Clone, Copy, Debug, PartialEq, Eq)]
+#[derive(Clone, Copy, Debug, Default, PartialEq, Eq)]
 pub struct Word(u32);
 
 impl Model for Word {

@@ -1,7 +1,7 @@
-use Rattle.std.proofs.Common.{IfErr, subst}
+use Rattle.std.proofs.Common.{IfErr, subst, arith}
 use Rattle.a429_link.specs.Step.{IsFault}
 use Rattle.a429_link.specs.Link.{LinkValue}
-use Rattle.a429_link.proofs.KeptStates.{kept_after, fault_after}
+use Rattle.a429_link.proofs.KeptStates.{kept_after, kept_bounded, fault_after}
 use Rattle.a429_link.proofs.link.Link.apply.Goals as goal
 
 pub invariant_of-self : goal.invariant_of-self
@@ -10,3 +10,6 @@ invariant_of-self c = kept_after c.self.inside.profile.now c.args.step c.self.in
 pub returns-clause-fault : goal.returns-clause-fault
 returns-clause-fault c =
     subst (λ (l : LinkValue). IfErr c.apply.result (λ e. IsFault l.profile c.args.step l.state e)) c.self.view_is (fault_after c.self.inside.profile.now c.args.step c.self.inside.transfer c.apply.result c.self.invariant c.apply.ensures.fault)
+
+pub apply-requires-clause-bound : goal.apply-requires-clause-bound
+apply-requires-clause-bound c = omega (arith, (kept_bounded c.self.inside.profile.now c.self.inside.transfer c.self.invariant).words)
