@@ -1,6 +1,6 @@
 //! Clashes, and which of two faults comes first.
 
-use super::{changes, tells_of, values};
+use super::{changes, values};
 use std::test::Fail;
 
 #[test]
@@ -14,15 +14,9 @@ label clash 270: octal = "203" -> octal = "270"
 label clash 270: octal = "203" -> octal = "270"; sdi = 1
 label clash 270: octal = "203" -> octal = "270"; sdi = 2 | sdi = 1
 label clash 203: octal = "314" -> octal = "203" | octal = "201" -> octal = "305"
+label clash 203: flags -> flags = [{bit = 11, name = "gear"}, {bit = 12, name = "door"}]; [[label]]; octal = '203'; name = 'Altitude'; unit = 'ft'; kind = 'bnr'; bits = 17; range = 131072; decimals = 0
 "#;
     changes(&rt, cases)
-}
-
-#[test]
-fn an_entry_that_stands_twice(rt: HostRuntime) -> Result<(), Fail> {
-    let change =
-        r#"flags -> flags = [{bit = 11, name = "gear"}, {bit = 12, name = "door"}]; [[label]]; octal = '203'; name = 'Altitude'; unit = 'ft'; kind = 'bnr'; bits = 17; range = 131072; decimals = 0"#;
-    tells_of(&rt, change, "label clash 203")
 }
 
 #[test]

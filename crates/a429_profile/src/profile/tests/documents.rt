@@ -76,9 +76,15 @@ fn is_no_table(rt: &(impl Abort + AllocGlobal), section: &str, words: &str) -> R
 
 #[test]
 fn sections_that_are_no_tables(rt: HostRuntime) -> Result<(), Fail> {
-    is_no_table(&rt, "transfer", "wrong kind transfer.to_sink")?;
-    is_no_table(&rt, "types", "wrong kind types.full")?;
-    is_no_table(&rt, "codes", "wrong kind codes.rts")?;
-    is_no_table(&rt, "partial", "wrong kind partial.codes")?;
-    is_no_table(&rt, "check", "wrong kind check.poly")
+    let cases = "transfer: wrong kind transfer.to_sink
+types: wrong kind types.full
+codes: wrong kind codes.rts
+partial: wrong kind partial.codes
+check: wrong kind check.poly
+";
+    for case in cases.lines() {
+        let (section, words) = case.split_once(": ").ok_or("no section")?;
+        is_no_table(&rt, section, words)?;
+    }
+    Ok(())
 }

@@ -16,34 +16,25 @@ transfer.to_source: to_source = "305"
 }
 
 #[test]
-fn the_numbers_of_the_transfer(rt: HostRuntime) -> Result<(), Fail> {
+fn the_numbers(rt: HostRuntime) -> Result<(), Fail> {
     let keys =
         "transfer.destination: destination = 0x41: -1 | 256 | -9223372036854775808 | 4294967297
 transfer.first_ldu: first_ldu = 1: -1 | 2 | -9223372036854775808 | 4294967297
 transfer.final_bit: final_bit = 25: 24 | 29 | -9223372036854775808 | 4294967297
+types.full: full = 0: -1 | 8
+types.partial: partial = 1: -1 | 8
+types.protocol: protocol = 4: -1 | 8
+types.sot: sot = 6: -1 | 8
+types.eot: eot = 7: -1 | 8
+codes.rts: rts = 1: -1 | 16
+codes.cts: cts = 2: -1 | 16
+codes.ack: ack = 5: -1 | 16
+codes.nak: nak = 6: -1 | 16
+check.poly: poly = 0x1021: -1 | 65536 | 0x11021
+check.init: init = 0xFFFF: -1 | 65536 | 0x11021
+check.xor: xor = 0xFFFF: -1 | 65536 | 0x11021
 ";
     are_tested(&rt, keys, NO_INTEGERS, "")
-}
-
-#[test]
-fn the_numbers_of_the_types(rt: HostRuntime) -> Result<(), Fail> {
-    let keys = "types.full: full = 0
-types.partial: partial = 1
-types.protocol: protocol = 4
-types.sot: sot = 6
-types.eot: eot = 7
-";
-    are_tested(&rt, keys, NO_INTEGERS, "-1 | 8")
-}
-
-#[test]
-fn the_numbers_of_the_codes(rt: HostRuntime) -> Result<(), Fail> {
-    let keys = "codes.rts: rts = 1
-codes.cts: cts = 2
-codes.ack: ack = 5
-codes.nak: nak = 6
-";
-    are_tested(&rt, keys, NO_INTEGERS, "-1 | 16")
 }
 
 #[test]
@@ -67,16 +58,7 @@ wrong kind partial.codes: codes = [1, 2, 3, 4]: [1, 2, 3, 'a'] | [16, 'a'] | [1,
 }
 
 #[test]
-fn the_numbers_of_the_check_word(rt: HostRuntime) -> Result<(), Fail> {
-    let keys = "check.poly: poly = 0x1021
-check.init: init = 0xFFFF
-check.xor: xor = 0xFFFF
-";
-    are_tested(&rt, keys, NO_INTEGERS, "-1 | 65536 | 0x11021")
-}
-
-#[test]
-fn the_truth_values_of_the_check_word(rt: HostRuntime) -> Result<(), Fail> {
+fn the_truth_values(rt: HostRuntime) -> Result<(), Fail> {
     let keys = "check.low_first: low_first = true
 check.compare: compare = true
 ";
