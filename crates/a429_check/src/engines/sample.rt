@@ -5,6 +5,8 @@ use a429_link::{Bytes, FileBytes};
 use a429_word::Tally;
 use std::alloc::{AllocError, Global};
 use std::fmt::Write;
+use std::str;
+use std::test::Fail;
 
 // How many bytes of a text are read at most.
 const MOST: u64 = 1_000_000;
@@ -75,32 +77,49 @@ b W Q 0 1
 g I Q 0 0
 ";
 
-/// The verdict on it.
-pub(crate) const YES: &str = "YES files 1\nfile 1 1\n";
+/// What is told of it.
+pub(crate) const YES: &str = "0\nYES files 1\nfile 1 1\n";
 
-// The words of a file of one byte, 41 in hexadecimal, and a negative answer.
-pub(crate) const RTS: u32 = 0x4141_0323;
-
-pub(crate) const CTS: u32 = 0xC241_03A3;
-
-pub(crate) const SOT: u32 = 0x6001_0123;
-
-pub(crate) const PART: u32 = 0x1200_4123;
-
-pub(crate) const EOT: u32 = 0x71A3_F523;
-
-pub(crate) const ACK: u32 = 0x4501_01A3;
-
+/// A negative answer.
 pub(crate) const NAK: u32 = 0x4600_00A3;
 
-/// The recording of these words, those with the address label of bus B on B, the others on A.
-pub(crate) fn recorded(alloc: Global, words: &[u32]) -> Result<String, AllocError> {
+// The words of a file of one byte, 41 in hexadecimal, and a negative answer, or the word itself.
+fn hex_of(word: &str) -> &str {
+    match word {
+        "RTS" => "41410323",
+        "CTS" => "C24103A3",
+        "SOT" => "60010123",
+        "PART" => "12004123",
+        "EOT" => "71A3F523",
+        "ACK" => "450101A3",
+        "NAK" => "460000A3",
+        _ => word,
+    }
+}
+
+/// The recording of these words, with spaces between them: those with the address label of bus B on B, the
+/// others on A.
+pub(crate) fn recorded(alloc: Global, words: &str) -> Result<String, AllocError> {
     let mut text = String::from_str(alloc, "time,bus,word\n")?;
-    for (time, number) in words.iter().enumerate() {
-        let bus = if number & 0xFF == 0xA3 { 'B' } else { 'A' };
-        writeln!(text, "{time},{bus},{number:08X}")?;
+    for (time, word) in words.split(' ').enumerate() {
+        let hex = hex_of(word);
+        let bus = if hex.ends_with("A3") { 'B' } else { 'A' };
+        writeln!(text, "{time},{bus},{hex}")?;
     }
     Ok(text)
+}
+
+/// The exit status, or the line of the fault, and below it what was written.
+pub(crate) fn told(
+    alloc: Global,
+    status: Result<u8, RunFault>,
+    written: &[u8],
+) -> Result<String, Fail> {
+    let text = str::from_utf8(written)?;
+    match status {
+        Ok(status) => Ok(format!(in alloc; "{status}\n{text}")?),
+        Err(fault) => Ok(format!(in alloc; "{fault}\n{text}")?),
+    }
 }
 
 /// What a command answers to the recording by the sample profile, and what it writes.

@@ -1,6 +1,8 @@
-//! The sample profile, and the sample with a change: what is read of it, or what is wrong with it.
+//! The sample profile, and the sample with changes: what is read of it, or what is wrong with it.
+//!
+//! Cases stand in tables, a case a line. Each begins with the words that tell what is wrong, or `good`.
 
-use crate::{Key, ProfileFault, SectionKey, read_profile};
+use crate::read_profile;
 use std::alloc::{AllocError, Global};
 use std::process::Abort;
 use std::test::Fail;
@@ -71,164 +73,131 @@ kind = "discrete"
 flags = [{bit = 11, name = "gear"}, {bit = 12, name = "door"}]
 "#;
 
-// The last line of the sample: a table added after it is a further one.
-const LAST: &str = r#"flags = [{bit = 11, name = "gear"}, {bit = 12, name = "door"}]"#;
+// Values that are no integers, no texts.
+const NO_INTEGERS: &str = "'1' | 1.0 | true | [1] | {a = 1}";
 
-// Values that are no integers, no texts, no truth values, no arrays of integers.
-const NO_INTEGERS: [&str; 5] = ["'1'", "1.0", "true", "[1]", "{a = 1}"];
-
-const NO_TEXTS: [&str; 5] = ["203", "2.5", "true", "['203']", "{a = '203'}"];
-
-const NO_TRUTHS: [&str; 4] = ["1", "'true'", "[true]", "{a = true}"];
-
-const NO_INTEGER_ARRAYS: [&str; 6] = ["5", "'5'", "{a = 5}", "['5']", "[5.0]", "[[5]]"];
+const NO_TEXTS: &str = "203 | 2.5 | true | ['203'] | {a = '203'}";
 
 // Texts that are no label.
-const NO_LABELS: [&str; 11] = [
-    "''", "'8'", "'20'", "'400'", "'308'", "'380'", "'0203'", "' 203'", "'-12'", "'20a'", "'0o2'",
-];
+const NO_LABELS: &str =
+    "'' | '8' | '20' | '400' | '308' | '380' | '0203' | ' 203' | '-12' | '20a' | '0o2'";
 
-// ---- texts
-
-// The text with `new` in place of the first line that is `old`.
-fn replaced(alloc: Global, text: &str, old: &str, new: &str) -> Result<String, AllocError> {
+// The text with a change. `OLD -> NEW` puts NEW in place of the first line that begins with OLD, and `OLD`
+// alone leaves that line empty. NEW may be several lines, with `; ` between them.
+fn changed(alloc: Global, text: &str, change: &str) -> Result<String, AllocError> {
+    let (old, new) = change.split_once(" -> ").unwrap_or((change, ""));
     let mut out = String::new(alloc);
-    let mut is_replaced = false;
+    let mut is_changed = false;
     for line in text.lines() {
-        if line == old && !is_replaced {
-            is_replaced = true;
-            out.push_str(new)?;
+        if !is_changed && line.starts_with(old) {
+            is_changed = true;
+            push_lines(&mut out, new)?;
         } else {
             out.push_str(line)?;
+            out.push('\n')?;
         }
-        out.push('\n')?;
     }
     Ok(out)
 }
 
-// The sample with `new` in place of the first line that is `old`.
-fn changed(alloc: Global, old: &str, new: &str) -> Result<String, AllocError> {
-    replaced(alloc, SAMPLE, old, new)
-}
-
-// A line, and then a text.
-fn below(alloc: Global, line: &str, text: &str) -> Result<String, AllocError> {
-    let mut out = String::from_str(alloc, line)?;
-    out.push('\n')?;
-    out.push_str(text)?;
-    Ok(out)
-}
-
-// A line, and then the sections of the sample, without its labels.
-fn sections_below(alloc: Global, line: &str) -> Result<String, AllocError> {
-    let mut out = below(alloc, line, "")?;
-    for line in SAMPLE.lines() {
-        if line == "[[label]]" {
-            return Ok(out);
-        }
+fn push_lines(out: &mut String, lines: &str) -> Result<(), AllocError> {
+    for line in lines.split("; ") {
         out.push_str(line)?;
         out.push('\n')?;
     }
-    Ok(out)
+    Ok(())
 }
 
-// The line with another value.
-fn with_value(alloc: Global, line: &str, value: &str) -> Result<String, AllocError> {
-    let name = match line.split_once('=') {
-        Some((name, _)) => name,
-        None => line,
-    };
-    let mut new = String::from_str(alloc, name)?;
-    new.push_str("= ")?;
-    new.push_str(value)?;
-    Ok(new)
-}
-
-// A line of 19 flags, and then some more.
-fn flags_line(alloc: Global, more: &str) -> Result<String, AllocError> {
-    let mut line = String::from_str(alloc, "flags = [")?;
-    for bit in [
-        "11", "12", "13", "14", "15", "16", "17", "18", "19", "20", "21", "22", "23", "24", "25",
-        "26", "27", "28", "29",
-    ] {
-        line.push_str("{name = 'f', bit = ")?;
-        line.push_str(bit)?;
-        line.push_str("}, ")?;
+// The sample with some changes in turn, with ` | ` between them.
+fn sample_with(alloc: Global, changes: &str) -> Result<String, AllocError> {
+    let mut text = String::from_str(alloc, SAMPLE)?;
+    for change in changes.split(" | ") {
+        text = changed(alloc, text.as_str(), change)?;
     }
-    line.push_str(more)?;
-    line.push(']')?;
-    Ok(line)
+    Ok(text)
 }
 
-// ---- faults
-
-fn fault_in(alloc: Global, text: &str) -> Option<ProfileFault> {
-    read_profile(alloc, text).err()
+// What is wrong with a text.
+fn told(alloc: Global, text: &str) -> Result<String, AllocError> {
+    match read_profile(alloc, text) {
+        Ok(_) => String::from_str(alloc, "good"),
+        Err(fault) => format!(in alloc; "{fault}"),
+    }
 }
 
-// The sample with `new` in place of the first line that is `old` has this fault, or none.
-fn replaces(
-    rt: &(impl Abort + AllocGlobal),
-    old: &str,
-    new: &str,
-    fault: Option<ProfileFault>,
-) -> Result<(), Fail> {
-    let text = changed(rt.alloc(), old, new)?;
-    assert_eq!(rt; fault_in(rt.alloc(), text.as_str()), fault, "{old}: {new}");
+fn tells(rt: &(impl Abort + AllocGlobal), text: &str, words: &str) -> Result<(), Fail> {
+    let found = told(rt.alloc(), text)?;
+    assert_eq!(rt; found.as_str(), words, "{text}");
     Ok(())
 }
 
-// The same of two lines, replaced one after the other.
-fn replaces_both(
-    rt: &(impl Abort + AllocGlobal),
-    first: (&str, &str),
-    second: (&str, &str),
-    fault: Option<ProfileFault>,
-) -> Result<(), Fail> {
-    let (old, new) = first;
-    let text = changed(rt.alloc(), old, new)?;
-    let (other, value) = second;
-    let text = replaced(rt.alloc(), text.as_str(), other, value)?;
-    let found = fault_in(rt.alloc(), text.as_str());
-    assert_eq!(rt; found, fault, "{old}: {new}; {other}: {value}");
+// The sample with these changes.
+fn tells_of(rt: &(impl Abort + AllocGlobal), changes: &str, words: &str) -> Result<(), Fail> {
+    let text = sample_with(rt.alloc(), changes)?;
+    tells(rt, text.as_str(), words)
+}
+
+// Cases `WORDS: CHANGES`.
+fn changes(rt: &(impl Abort + AllocGlobal), cases: &str) -> Result<(), Fail> {
+    for case in cases.lines() {
+        let (words, changes) = case.split_once(": ").ok_or("no changes")?;
+        tells_of(rt, changes, words)?;
+    }
     Ok(())
 }
 
-fn wrong_kind(key: SectionKey) -> ProfileFault {
-    ProfileFault::WrongKind(Key::Section(key))
-}
-
-fn missing(key: SectionKey) -> ProfileFault {
-    ProfileFault::Missing(Key::Section(key))
-}
-
-fn out_of_range(key: SectionKey) -> ProfileFault {
-    ProfileFault::OutOfRange(Key::Section(key))
-}
-
-// With each of the values in the line, the sample has this fault, or none.
+// Each of some values, with ` | ` between them, in a line of the sample.
 fn answers(
     rt: &(impl Abort + AllocGlobal),
     line: &str,
-    values: &[&str],
-    fault: Option<ProfileFault>,
+    values: &str,
+    words: &str,
 ) -> Result<(), Fail> {
-    for value in values {
-        let new = with_value(rt.alloc(), line, *value)?;
-        replaces(rt, line, new.as_str(), fault)?;
+    let (name, _) = line.split_once(" = ").ok_or("no value")?;
+    for value in values.split_terminator(" | ") {
+        let change = format!(in rt.alloc(); "{line} -> {name} = {value}")?;
+        tells_of(rt, change.as_str(), words)?;
     }
     Ok(())
 }
 
-// The sample needs the line, and refuses in it values of another kind and values out of range.
+// Cases `WORDS: LINE: VALUES`.
+fn values(rt: &(impl Abort + AllocGlobal), cases: &str) -> Result<(), Fail> {
+    for case in cases.lines() {
+        let (words, rest) = case.split_once(": ").ok_or("no line")?;
+        let (line, values) = rest.split_once(": ").ok_or("no values")?;
+        answers(rt, line, values, words)?;
+    }
+    Ok(())
+}
+
+// The line of this key is needed, and may not have values of another kind or out of range.
 fn is_tested(
     rt: &(impl Abort + AllocGlobal),
+    key: &str,
     line: &str,
-    key: Key,
-    other_kinds: &[&str],
-    out_of_range: &[&str],
+    other_kinds: &str,
+    out_of_range: &str,
 ) -> Result<(), Fail> {
-    replaces(rt, line, "", Some(ProfileFault::Missing(key)))?;
-    answers(rt, line, other_kinds, Some(ProfileFault::WrongKind(key)))?;
-    answers(rt, line, out_of_range, Some(ProfileFault::OutOfRange(key)))
+    let words = format!(in rt.alloc(); "missing {key}")?;
+    tells_of(rt, line, words.as_str())?;
+    let words = format!(in rt.alloc(); "wrong kind {key}")?;
+    answers(rt, line, other_kinds, words.as_str())?;
+    let words = format!(in rt.alloc(); "out of range {key}")?;
+    answers(rt, line, out_of_range, words.as_str())
+}
+
+// Lines `KEY: LINE: VALUES` of keys and what is out of their range, or `KEY: LINE` where it is these values.
+fn are_tested(
+    rt: &(impl Abort + AllocGlobal),
+    keys: &str,
+    other_kinds: &str,
+    out_of_range: &str,
+) -> Result<(), Fail> {
+    for tested in keys.lines() {
+        let (key, rest) = tested.split_once(": ").ok_or("no line")?;
+        let (line, values) = rest.split_once(": ").unwrap_or((rest, out_of_range));
+        is_tested(rt, key, line, other_kinds, values)?;
+    }
+    Ok(())
 }

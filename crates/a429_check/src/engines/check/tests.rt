@@ -1,12 +1,9 @@
 //! The verdicts on small recordings, and their certificates.
 
 use crate::engines::sample::{
-    ACK, CERTIFICATE, CTS, EOT, NAK, PART, PROFILE, RECORDING, RTS, SOT, YES, checked, recorded,
-    verified,
+    CERTIFICATE, PROFILE, RECORDING, YES, checked, recorded, told, verified,
 };
 use crate::{RunFault, run_check};
-use a429_profile::{Key, ProfileFault, SectionKey};
-use a429_record::ReadFault;
 use a429_word::{Failing, Tally};
 use std::process::Abort;
 use std::test::Fail;
@@ -15,118 +12,141 @@ use std::test::Fail;
 fn verdict_is(
     rt: &(impl Abort + AllocGlobal),
     recording: &str,
-    status: Result<u8, RunFault>,
-    text: &str,
+    verdict: &str,
     certificate: &str,
-) {
+) -> Result<(), Fail> {
     let (found, written) = checked(rt.alloc(), recording);
-    assert_eq!(rt; found.status, status);
-    assert_eq!(rt; found.verdict.as_slice(), text.as_bytes());
+    let text = told(rt.alloc(), found.status, found.verdict.as_slice())?;
+    assert_eq!(rt; text.as_str(), verdict);
     assert_eq!(rt; written.as_slice(), certificate.as_bytes());
+    Ok(())
 }
 
 #[test]
-fn explained(rt: HostRuntime) {
+fn explained(rt: HostRuntime) -> Result<(), Fail> {
     let nothing = "arinc429-cert 1\nfirst 0\n";
-    verdict_is(&rt, "time,bus,word\n", Ok(0), "YES files 0\n", nothing);
-    verdict_is(&rt, RECORDING, Ok(0), YES, CERTIFICATE);
+    verdict_is(&rt, "time,bus,word\n", "0\nYES files 0\n", nothing)?;
+    verdict_is(&rt, RECORDING, YES, CERTIFICATE)
 }
 
 #[test]
-fn no_recording(rt: HostRuntime) {
-    let header = Err(RunFault::Read(ReadFault::Header));
-    verdict_is(&rt, "", header, "", "");
-    verdict_is(&rt, "0,A,41410323", header, "", "");
-    let row = Err(RunFault::Read(ReadFault::Row(0)));
-    verdict_is(&rt, "time,bus,word\n0,C,41410323\n", row, "", "");
+fn no_recording(rt: HostRuntime) -> Result<(), Fail> {
+    verdict_is(&rt, "", "recording: header\n", "")?;
+    verdict_is(&rt, "0,A,41410323", "recording: header\n", "")?;
+    let bus_c = "time,bus,word\n0,C,41410323\n";
+    verdict_is(&rt, bus_c, "recording: row 0\n", "")
 }
 
 // The verdict on the recording of these words. A yes has a certificate that is accepted with the same
 // files, and else there is none.
-fn says(
-    rt: &(impl Abort + AllocGlobal),
-    words: &[u32],
-    status: u8,
-    text: &str,
-) -> Result<(), Fail> {
+fn says(rt: &(impl Abort + AllocGlobal), words: &str, verdict: &str) -> Result<(), Fail> {
     let recording = recorded(rt.alloc(), words)?;
     let (found, certificate) = checked(rt.alloc(), recording.as_str());
-    assert_eq!(rt; found.status, Ok(status));
-    assert_eq!(rt; found.verdict.as_slice(), text.as_bytes());
-    if status == 0 {
-        let answer = verified(rt.alloc(), recording.as_str(), certificate.as_slice());
-        assert_eq!(rt; answer.status, Ok(0));
-        assert_eq!(rt; answer.verdict.as_slice(), text.as_bytes());
+    let text = told(rt.alloc(), found.status, found.verdict.as_slice())?;
+    assert_eq!(rt; text.as_str(), verdict, "{words}");
+    if verdict.starts_with('0') {
+        is_accepted(rt, recording.as_str(), certificate.as_slice(), verdict)
     } else {
         assert!(rt; certificate.is_empty());
+        Ok(())
+    }
+}
+
+fn is_accepted(
+    rt: &(impl Abort + AllocGlobal),
+    recording: &str,
+    certificate: &[u8],
+    verdict: &str,
+) -> Result<(), Fail> {
+    let answer = verified(rt.alloc(), recording, certificate);
+    let text = told(rt.alloc(), answer.status, answer.verdict.as_slice())?;
+    assert_eq!(rt; text.as_str(), verdict);
+    Ok(())
+}
+
+// Cases `STATUS VERDICT: WORDS`, a line each.
+fn verdicts(rt: &(impl Abort + AllocGlobal), cases: &str) -> Result<(), Fail> {
+    for case in cases.lines() {
+        let (verdict, words) = case.split_once(": ").ok_or("no words")?;
+        let (status, text) = verdict.split_once(' ').ok_or("no verdict")?;
+        let verdict = format!(in rt.alloc(); "{status}\n{text}\n")?;
+        says(rt, words, verdict.as_str())?;
     }
     Ok(())
 }
 
 #[test]
 fn answers_that_are_not_owed(rt: HostRuntime) -> Result<(), Fail> {
-    says(&rt, &[CTS], 1, "IMPOSSIBLE 0 WrongAnswer\n")?;
-    says(&rt, &[ACK], 1, "IMPOSSIBLE 0 WrongAnswer\n")?;
-    says(&rt, &[RTS, NAK], 1, "IMPOSSIBLE 1 WrongAnswer\n")?;
-    says(&rt, &[RTS, CTS, CTS], 1, "IMPOSSIBLE 2 WrongAnswer\n")?;
-    let no_data = [RTS, CTS, SOT, EOT, ACK];
-    says(&rt, &no_data, 1, "IMPOSSIBLE 4 WrongAnswer\n")?;
-    let twice = [RTS, CTS, SOT, PART, EOT, NAK, ACK];
-    says(&rt, &twice, 1, "IMPOSSIBLE 6 WrongAnswer\n")
+    let cases = "1 IMPOSSIBLE 0 WrongAnswer: CTS
+1 IMPOSSIBLE 0 WrongAnswer: ACK
+1 IMPOSSIBLE 1 WrongAnswer: RTS NAK
+1 IMPOSSIBLE 2 WrongAnswer: RTS CTS CTS
+1 IMPOSSIBLE 4 WrongAnswer: RTS CTS SOT EOT ACK
+1 IMPOSSIBLE 6 WrongAnswer: RTS CTS SOT PART EOT NAK ACK
+";
+    verdicts(&rt, cases)
 }
 
 #[test]
 fn words_that_are_not_granted(rt: HostRuntime) -> Result<(), Fail> {
-    says(&rt, &[RTS, SOT], 1, "IMPOSSIBLE 1 NotGranted\n")?;
-    let one_more = [RTS, CTS, SOT, PART, PART];
-    says(&rt, &one_more, 1, "IMPOSSIBLE 4 NotGranted\n")?;
-    says(&rt, &[0xC141_0223], 1, "IMPOSSIBLE 0 NoForm\n")
+    let cases = "1 IMPOSSIBLE 1 NotGranted: RTS SOT
+1 IMPOSSIBLE 4 NotGranted: RTS CTS SOT PART PART
+1 IMPOSSIBLE 0 NoForm: C1410223
+";
+    verdicts(&rt, cases)
 }
 
 #[test]
 fn recordings_in_doubt(rt: HostRuntime) -> Result<(), Fail> {
-    let no_start = [RTS, CTS, PART, EOT, NAK];
-    says(&rt, &no_start, 2, "UNEXPLAINED 0 NeverWhole\n")?;
-    let other_number = [RTS, CTS, 0x6001_0223];
-    says(&rt, &other_number, 2, "UNEXPLAINED 2 NotOneBlock\n")
+    let cases = "2 UNEXPLAINED 0 NeverWhole: RTS CTS PART EOT NAK
+2 UNEXPLAINED 2 NotOneBlock: RTS CTS 60010223
+";
+    verdicts(&rt, cases)
 }
 
 // A damaged word, and a transfer that begins anew behind its first words.
 #[test]
 fn transfers_that_go_on(rt: HostRuntime) -> Result<(), Fail> {
-    says(&rt, &[RTS, CTS, 0x9200_4123], 0, "YES files 0\n")?;
-    let whole = [RTS, CTS, SOT, PART, EOT, ACK];
-    for begun in 1..=whole.len() {
-        let mut words = Vec::from_slice(rt.alloc(), &whole[..begun])?;
-        words.extend_from_slice(&whole)?;
-        says(&rt, words.as_slice(), 0, YES)?;
+    says(&rt, "RTS CTS 92004123", "0\nYES files 0\n")?;
+    let cases = "RTS RTS CTS SOT PART EOT ACK
+RTS CTS RTS CTS SOT PART EOT ACK
+RTS CTS SOT RTS CTS SOT PART EOT ACK
+RTS CTS SOT PART RTS CTS SOT PART EOT ACK
+RTS CTS SOT PART EOT RTS CTS SOT PART EOT ACK
+RTS CTS SOT PART EOT ACK RTS CTS SOT PART EOT ACK
+";
+    for words in cases.lines() {
+        says(&rt, words, YES)?;
     }
     Ok(())
 }
 
-// What is written where a device fails, or the profile is none.
-#[test]
-fn no_verdict(rt: HostRuntime) {
+// What is told where a device fails, or the profile is none.
+fn fails(
+    rt: &(impl Abort + AllocGlobal),
+    profile: &str,
+    recording: &str,
+    most: u64,
+    fault: &str,
+) -> Result<(), Fail> {
     let mut proof = Vec::new(rt.alloc());
     let mut cert = Tally::new(&mut proof, 0);
     let mut written = Vec::new(rt.alloc());
     let mut out = Tally::new(&mut written, 0);
-    let mut rec = Tally::new(b"".as_slice(), 1);
-    let missing = ProfileFault::Missing(Key::Section(SectionKey::ToSink));
-    let found = run_check(rt.alloc(), b"", &mut rec, &mut cert, &mut out);
-    assert_eq!(rt; found, Err(RunFault::Profile(missing)));
-    // The recording has as many bytes as may be read: its end is not seen.
-    let mut rec = Tally::new(RECORDING.as_bytes(), RECORDING.len() as u64);
-    let found = run_check(
-        rt.alloc(),
-        PROFILE.as_bytes(),
-        &mut rec,
-        &mut cert,
-        &mut out,
-    );
-    assert_eq!(rt; found, Err(RunFault::Device));
+    let mut rec = Tally::new(recording.as_bytes(), most);
+    let profile = profile.as_bytes();
+    let found = run_check(rt.alloc(), profile, &mut rec, &mut cert, &mut out);
+    let text = told(rt.alloc(), found, written.as_slice())?;
+    assert_eq!(rt; text.as_str(), fault);
     assert!(rt; proof.is_empty());
-    assert!(rt; written.is_empty());
+    Ok(())
+}
+
+// The second recording has as many bytes as may be read: its end is not seen.
+#[test]
+fn no_verdict(rt: HostRuntime) -> Result<(), Fail> {
+    fails(&rt, "", "", 1, "profile: missing transfer.to_sink\n")?;
+    fails(&rt, PROFILE, RECORDING, RECORDING.len() as u64, "device\n")
 }
 
 #[test]
@@ -136,14 +156,8 @@ fn a_certificate_without_room(rt: HostRuntime) {
     let mut written = Vec::new(rt.alloc());
     let mut out = Tally::new(&mut written, 0);
     let mut rec = Tally::new(RECORDING.as_bytes(), 1000);
-    let found = run_check(
-        rt.alloc(),
-        PROFILE.as_bytes(),
-        &mut rec,
-        &mut cert,
-        &mut out,
-    );
-    assert_eq!(rt; found, Err(RunFault::Device));
-    assert!(rt; cert.failed());
+    let profile = PROFILE.as_bytes();
+    let found = run_check(rt.alloc(), profile, &mut rec, &mut cert, &mut out);
+    assert!(rt; found == Err(RunFault::Device) && cert.failed());
     assert!(rt; written.is_empty());
 }

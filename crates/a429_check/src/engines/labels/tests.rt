@@ -1,9 +1,9 @@
 //! The label tables of small profiles, and bytes that are no profile.
 
+use crate::engines::sample::told;
 use crate::{RunFault, run_labels};
-use a429_profile::{Key, ProfileFault, SectionKey};
 use a429_word::{Failing, Tally};
-use std::alloc::{AllocError, Global};
+use std::process::Abort;
 use std::test::Fail;
 
 const NUMBERS: &str = r#"
@@ -40,63 +40,43 @@ kind = "discrete"
 flags = [{bit = 11, name = "gear"}, {bit = 12, name = "door"}]
 "#;
 
-fn joined(alloc: Global, front: &str, rest: &str) -> Result<String, AllocError> {
-    let mut text = String::from_str(alloc, front)?;
-    text.push_str(rest)?;
-    Ok(text)
-}
-
-#[test]
-fn a_line_for_each_entry(rt: HostRuntime) -> Result<(), Fail> {
-    let alloc = rt.alloc();
-    let profile = joined(alloc, NUMBERS, LABELS)?;
-    let mut bytes = Vec::new(alloc);
-    let answer = run_labels(alloc, profile.as_bytes(), &mut Tally::new(&mut bytes, 0));
-    assert_eq!(rt; answer, Ok(0));
-    let expected =
-        b"203 * bnr 17 131072 0 Altitude\n007 3 bcd 5 2 Distance flown\n270 0 discrete 2 Status\n";
-    assert_eq!(rt; bytes.as_slice(), expected.as_slice());
+// What is told of a profile.
+fn lists(rt: &(impl Abort + AllocGlobal), profile: &[u8], text: &str) -> Result<(), Fail> {
+    let mut bytes = Vec::new(rt.alloc());
+    let answer = run_labels(rt.alloc(), profile, &mut Tally::new(&mut bytes, 0));
+    let found = told(rt.alloc(), answer, bytes.as_slice())?;
+    assert_eq!(rt; found.as_str(), text, "{profile:?}");
     Ok(())
 }
 
 #[test]
-fn no_entry_no_line(rt: HostRuntime) {
-    let alloc = rt.alloc();
-    let mut bytes = Vec::new(alloc);
-    let answer = run_labels(alloc, NUMBERS.as_bytes(), &mut Tally::new(&mut bytes, 0));
-    assert_eq!(rt; answer, Ok(0));
-    assert!(rt; bytes.is_empty());
+fn a_line_for_each_entry(rt: HostRuntime) -> Result<(), Fail> {
+    let profile = format!(in rt.alloc(); "{NUMBERS}{LABELS}")?;
+    let text =
+        "0\n203 * bnr 17 131072 0 Altitude\n007 3 bcd 5 2 Distance flown\n270 0 discrete 2 Status\n";
+    lists(&rt, profile.as_bytes(), text)
 }
 
 #[test]
-fn bytes_that_are_no_profile(rt: HostRuntime) {
-    let alloc = rt.alloc();
-    let missing = ProfileFault::Missing(Key::Section(SectionKey::ToSink));
-    let cases: [(&[u8], ProfileFault); 4] = [
-        (b"", missing),
-        (b"[transfer", ProfileFault::NotToml),
-        (b"\xff", ProfileFault::NotToml),
-        (b"# \xc3\n", ProfileFault::NotToml),
-    ];
-    for (profile, fault) in cases {
-        let mut bytes = Vec::new(alloc);
-        let answer = run_labels(alloc, profile, &mut Tally::new(&mut bytes, 0));
-        assert_eq!(rt; answer, Err(RunFault::Profile(fault)), "{profile:?}");
-        assert!(rt; bytes.is_empty());
-    }
+fn no_entry_no_line(rt: HostRuntime) -> Result<(), Fail> {
+    lists(&rt, NUMBERS.as_bytes(), "0\n")
+}
+
+#[test]
+fn bytes_that_are_no_profile(rt: HostRuntime) -> Result<(), Fail> {
+    lists(&rt, b"", "profile: missing transfer.to_sink\n")?;
+    lists(&rt, b"[transfer", "profile: not toml\n")?;
+    lists(&rt, b"\xff", "profile: not toml\n")?;
+    lists(&rt, b"# \xc3\n", "profile: not toml\n")
 }
 
 #[test]
 fn a_writer_without_room(rt: HostRuntime) -> Result<(), Fail> {
-    let alloc = rt.alloc();
-    let profile = joined(alloc, NUMBERS, LABELS)?;
+    let profile = format!(in rt.alloc(); "{NUMBERS}{LABELS}")?;
     let mut page = [0; 8];
     let mut out = Tally::new(page.as_mut_slice(), 0);
-    assert_eq!(rt;
-        run_labels(alloc, profile.as_bytes(), &mut out),
-        Err(RunFault::Device)
-    );
-    assert!(rt; out.failed());
+    let answer = run_labels(rt.alloc(), profile.as_bytes(), &mut out);
+    assert!(rt; answer == Err(RunFault::Device) && out.failed());
     assert_eq!(rt; page.as_slice(), b"203 * bn".as_slice());
     Ok(())
 }

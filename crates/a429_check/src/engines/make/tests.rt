@@ -1,94 +1,90 @@
 //! The recordings of small files, and files that are refused.
 
-use crate::engines::sample::{PROFILE, RECORDING};
+use crate::engines::sample::{PROFILE, RECORDING, told};
 use crate::{RunFault, run_make};
-use a429_ldu::CutFault;
-use a429_profile::{Key, ProfileFault, SectionKey};
 use a429_record::read_entries;
 use a429_word::Tally;
-use std::process::Abort;
-use std::str;
 use std::test::Fail;
 
-// The answer for these files by the sample profile, and what was written.
-fn made(rt: &impl AllocGlobal, files: &[Vec<u8>]) -> Result<(Result<u8, RunFault>, Vec<u8>), Fail> {
+// What is told of files of so many bytes, all of them this one.
+fn made(rt: &impl AllocGlobal, profile: &str, byte: u8, lengths: &[usize]) -> Result<String, Fail> {
+    let mut files = Vec::new(rt.alloc());
+    for length in lengths {
+        files.push(vec![in rt.alloc(); byte; *length]?)?;
+    }
     let mut written = Vec::new(rt.alloc());
     let mut out = Tally::new(&mut written, 0);
-    let answer = run_make(rt.alloc(), PROFILE.as_bytes(), files, &mut out);
-    Ok((answer, written))
+    let answer = run_make(rt.alloc(), profile.as_bytes(), &files, &mut out);
+    told(rt.alloc(), answer, written.as_slice())
 }
 
 #[test]
 fn a_file_of_one_byte(rt: HostRuntime) -> Result<(), Fail> {
-    let files = vec![in rt.alloc(); vec![in rt.alloc(); 0x41]?]?;
-    let (answer, written) = made(&rt, files.as_slice())?;
-    assert_eq!(rt; answer, Ok(0));
-    assert_eq!(rt; written.as_slice(), RECORDING.as_bytes());
+    let found = made(&rt, PROFILE, 0x41, &[1])?;
+    assert_eq!(rt; found.strip_prefix("0\n"), Some(RECORDING));
     Ok(())
 }
 
-// The line of an entry, counted from 0.
-fn line_is(rt: &impl Abort, text: &str, entry: usize, line: &str) -> Result<(), Fail> {
-    let found = text.lines().skip(1).nth(entry).ok_or("no such line")?;
-    assert_eq!(rt; found, line);
-    Ok(())
+// The entries at these places, counted from 0.
+fn entries_at(rt: &impl AllocGlobal, text: &str, places: &[usize]) -> Result<String, Fail> {
+    let mut found = String::new(rt.alloc());
+    for place in places {
+        let line = text.lines().skip(1).nth(*place).ok_or("no such line")?;
+        found.push_str(line)?;
+        found.push('\n')?;
+    }
+    Ok(found)
 }
 
 #[test]
 fn a_file_of_633_bytes_takes_two_units(rt: HostRuntime) -> Result<(), Fail> {
-    let files = vec![in rt.alloc(); vec![in rt.alloc(); 0; 633]?]?;
-    let (answer, written) = made(&rt, files.as_slice())?;
-    assert_eq!(rt; answer, Ok(0));
-    let mut rec = Tally::new(written.as_slice(), 100_000);
-    let entries = read_entries(rt.alloc(), &mut rec)?;
-    assert_eq!(rt; entries.len(), 264);
-    let text = str::from_utf8(written.as_slice())?;
-    line_is(&rt, text, 0, "0,A,4141FF23")?;
-    line_is(&rt, text, 258, "258000,A,41410323")?;
-    line_is(&rt, text, 260, "260000,A,60010223")?;
-    line_is(&rt, text, 261, "261000,A,12000023")?;
-    line_is(&rt, text, 262, "262000,A,71F07823")?;
-    line_is(&rt, text, 263, "263000,B,450102A3")
+    let found = made(&rt, PROFILE, 0, &[633])?;
+    let text = found.strip_prefix("0\n").ok_or("no recording")?;
+    let lines = "0,A,4141FF23
+258000,A,41410323
+260000,A,60010223
+261000,A,12000023
+262000,A,71F07823
+263000,B,450102A3
+";
+    let found = entries_at(&rt, text, &[0, 258, 260, 261, 262, 263])?;
+    assert_eq!(rt; found.as_str(), lines);
+    Ok(())
 }
 
 #[test]
-fn no_files_and_refused_files(rt: HostRuntime) -> Result<(), Fail> {
-    let none = Vec::new(rt.alloc());
-    let (answer, written) = made(&rt, none.as_slice())?;
-    assert_eq!(rt; answer, Ok(0));
-    assert_eq!(rt; written.as_slice(), b"time,bus,word\n".as_slice());
+fn the_entries_of_two_units(rt: HostRuntime) -> Result<(), Fail> {
+    let found = made(&rt, PROFILE, 0, &[633])?;
+    let text = found.strip_prefix("0\n").ok_or("no recording")?;
+    let mut rec = Tally::new(text.as_bytes(), 100_000);
+    assert_eq!(rt; read_entries(rt.alloc(), &mut rec)?.len(), 264);
+    Ok(())
+}
 
-    let empty = vec![in rt.alloc(); vec![in rt.alloc(); 1]?, Vec::new(rt.alloc())]?;
-    let (answer, written) = made(&rt, empty.as_slice())?;
-    assert_eq!(rt; answer, Err(RunFault::Cut(1, CutFault::Empty)));
-    assert!(rt; written.is_empty());
-
-    let long = vec![in rt.alloc(); vec![in rt.alloc(); 0; 161_161]?]?;
-    let (answer, written) = made(&rt, long.as_slice())?;
-    assert_eq!(rt; answer, Err(RunFault::Cut(0, CutFault::TooLong)));
-    assert!(rt; written.is_empty());
+#[test]
+fn no_files(rt: HostRuntime) -> Result<(), Fail> {
+    let found = made(&rt, PROFILE, 0, &[])?;
+    assert_eq!(rt; found.as_str(), "0\ntime,bus,word\n");
     Ok(())
 }
 
 // The profile's fault comes before that of a file.
 #[test]
-fn a_profile_with_a_fault(rt: HostRuntime) -> Result<(), Fail> {
-    let empty = vec![in rt.alloc(); Vec::new(rt.alloc())]?;
-    let mut written = Vec::new(rt.alloc());
-    let mut out = Tally::new(&mut written, 0);
-    let answer = run_make(rt.alloc(), b"", empty.as_slice(), &mut out);
-    let missing = ProfileFault::Missing(Key::Section(SectionKey::ToSink));
-    assert_eq!(rt; answer, Err(RunFault::Profile(missing)));
-    assert!(rt; written.is_empty());
+fn refused_files(rt: HostRuntime) -> Result<(), Fail> {
+    let empty = made(&rt, PROFILE, 0, &[1, 0])?;
+    assert_eq!(rt; empty.as_str(), "file 2: empty\n");
+    let long = made(&rt, PROFILE, 0, &[161_161])?;
+    assert_eq!(rt; long.as_str(), "file 1: too long\n");
+    let both = made(&rt, "", 0, &[0])?;
+    assert_eq!(rt; both.as_str(), "profile: missing transfer.to_sink\n");
     Ok(())
 }
 
 #[test]
-fn a_writer_without_room(rt: HostRuntime) -> Result<(), Fail> {
+fn a_writer_without_room(rt: HostRuntime) {
     let none = Vec::new(rt.alloc());
     let mut short = [0; 5];
     let mut out = Tally::new(short.as_mut_slice(), 0);
     let answer = run_make(rt.alloc(), PROFILE.as_bytes(), none.as_slice(), &mut out);
     assert_eq!(rt; answer, Err(RunFault::Device));
-    Ok(())
 }

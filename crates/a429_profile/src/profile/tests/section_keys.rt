@@ -1,112 +1,89 @@
 //! Each key of the sections: missing, of another kind, and just out of its range.
 
-use super::{NO_INTEGER_ARRAYS, NO_INTEGERS, NO_LABELS, NO_TEXTS, NO_TRUTHS, answers, is_tested};
-use crate::{Key, ProfileFault, SectionKey};
+use super::{NO_INTEGERS, NO_LABELS, NO_TEXTS, are_tested, values};
 use std::test::Fail;
 
+const NO_TRUTHS: &str = "1 | 'true' | [true] | {a = true}";
+
+const NO_INTEGER_ARRAYS: &str = "5 | '5' | {a = 5} | ['5'] | [5.0] | [[5]]";
+
 #[test]
-fn the_keys_of_the_transfer(rt: HostRuntime) -> Result<(), Fail> {
-    for (line, key) in [
-        ("to_sink = \"304\"", SectionKey::ToSink),
-        ("to_source = \"305\"", SectionKey::ToSource),
-    ] {
-        is_tested(&rt, line, Key::Section(key), &NO_TEXTS, &NO_LABELS)?;
-        answers(&rt, line, &["'000'", "'377'"], None)?;
-    }
-    for (line, key, below, above) in [
-        ("destination = 0x41", SectionKey::Destination, "-1", "256"),
-        ("first_ldu = 1", SectionKey::FirstLdu, "-1", "2"),
-        ("final_bit = 25", SectionKey::FinalBit, "24", "29"),
-    ] {
-        let out = [below, above, "-9223372036854775808", "4294967297"];
-        is_tested(&rt, line, Key::Section(key), &NO_INTEGERS, &out)?;
-    }
-    answers(&rt, "destination = 0x41", &["0", "255"], None)?;
-    answers(&rt, "first_ldu = 1", &["0"], None)?;
-    answers(&rt, "final_bit = 25", &["26", "27", "28"], None)
+fn the_addresses(rt: HostRuntime) -> Result<(), Fail> {
+    let keys = r#"transfer.to_sink: to_sink = "304"
+transfer.to_source: to_source = "305"
+"#;
+    are_tested(&rt, keys, NO_TEXTS, NO_LABELS)
 }
 
 #[test]
-fn the_keys_of_the_types(rt: HostRuntime) -> Result<(), Fail> {
-    for (line, key) in [
-        ("full = 0", SectionKey::Full),
-        ("partial = 1", SectionKey::Partial),
-        ("protocol = 4", SectionKey::Protocol),
-        ("sot = 6", SectionKey::Sot),
-        ("eot = 7", SectionKey::Eot),
-    ] {
-        is_tested(&rt, line, Key::Section(key), &NO_INTEGERS, &["-1", "8"])?;
-    }
-    let line = "ignored = [5]";
-    let key = Key::Section(SectionKey::IgnoredTypes);
-    let out = ["[8]", "[-1]", "[5, 8]", "[-1, 5]", "[5, 5, 8]"];
-    is_tested(&rt, line, key, &NO_INTEGER_ARRAYS, &out)?;
-    // An element of another kind is told before one out of range, wherever it stands.
-    let mixed = ["[5, 'a']", "[8, 'a']", "['a', 8]", "[-1, 5, true]"];
-    answers(&rt, line, &mixed, Some(ProfileFault::WrongKind(key)))?;
-    answers(&rt, line, &["[]", "[2]", "[5, 2, 3]"], None)
+fn the_numbers(rt: HostRuntime) -> Result<(), Fail> {
+    let keys =
+        "transfer.destination: destination = 0x41: -1 | 256 | -9223372036854775808 | 4294967297
+transfer.first_ldu: first_ldu = 1: -1 | 2 | -9223372036854775808 | 4294967297
+transfer.final_bit: final_bit = 25: 24 | 29 | -9223372036854775808 | 4294967297
+types.full: full = 0: -1 | 8
+types.partial: partial = 1: -1 | 8
+types.protocol: protocol = 4: -1 | 8
+types.sot: sot = 6: -1 | 8
+types.eot: eot = 7: -1 | 8
+codes.rts: rts = 1: -1 | 16
+codes.cts: cts = 2: -1 | 16
+codes.ack: ack = 5: -1 | 16
+codes.nak: nak = 6: -1 | 16
+check.poly: poly = 0x1021: -1 | 65536 | 0x11021
+check.init: init = 0xFFFF: -1 | 65536 | 0x11021
+check.xor: xor = 0xFFFF: -1 | 65536 | 0x11021
+";
+    are_tested(&rt, keys, NO_INTEGERS, "")
 }
 
 #[test]
-fn the_keys_of_the_codes(rt: HostRuntime) -> Result<(), Fail> {
-    for (line, key) in [
-        ("rts = 1", SectionKey::Rts),
-        ("cts = 2", SectionKey::Cts),
-        ("ack = 5", SectionKey::Ack),
-        ("nak = 6", SectionKey::Nak),
-    ] {
-        is_tested(&rt, line, Key::Section(key), &NO_INTEGERS, &["-1", "16"])?;
-        answers(&rt, line, &["0", "15"], None)?;
-    }
-    let line = "ignored = [3]";
-    let key = Key::Section(SectionKey::IgnoredCodes);
-    let out = ["[16]", "[-1]", "[3, 16]", "[-1, 3]", "[3, 3, 16]"];
-    is_tested(&rt, line, key, &NO_INTEGER_ARRAYS, &out)?;
-    let mixed = ["[3, 'a']", "[16, 'a']", "['a', 16]", "[-1, 3, true]"];
-    answers(&rt, line, &mixed, Some(ProfileFault::WrongKind(key)))?;
-    answers(&rt, line, &["[]", "[0]", "[3, 0, 15]"], None)
+fn the_arrays(rt: HostRuntime) -> Result<(), Fail> {
+    let keys = "types.ignored: ignored = [5]: [8] | [-1] | [5, 8] | [-1, 5] | [5, 5, 8]
+codes.ignored: ignored = [3]: [16] | [-1] | [3, 16] | [-1, 3] | [3, 3, 16]
+partial.codes: codes = [1, 2, 3, 4]: [] | [1, 2, 3] | [1, 2, 3, 4, 5] | [1, 2, 3, 16] | [-1, 2, 3, 4] | [1, 1, 3]
+";
+    are_tested(&rt, keys, NO_INTEGER_ARRAYS, "")
+}
+
+// An element of another kind is told before one out of range, wherever it stands.
+#[test]
+fn arrays_with_two_faults(rt: HostRuntime) -> Result<(), Fail> {
+    let cases =
+        "wrong kind types.ignored: ignored = [5]: [5, 'a'] | [8, 'a'] | ['a', 8] | [-1, 5, true]
+wrong kind codes.ignored: ignored = [3]: [3, 'a'] | [16, 'a'] | ['a', 16] | [-1, 3, true]
+wrong kind partial.codes: codes = [1, 2, 3, 4]: [1, 2, 3, 'a'] | [16, 'a'] | [1, 2, 3, 4, 'a'] | ['a', 16, 3, 4]
+";
+    values(&rt, cases)
 }
 
 #[test]
-fn the_codes_of_partial_words(rt: HostRuntime) -> Result<(), Fail> {
-    let line = "codes = [1, 2, 3, 4]";
-    let key = Key::Section(SectionKey::PartialCodes);
-    let out = [
-        "[]",
-        "[1, 2, 3]",
-        "[1, 2, 3, 4, 5]",
-        "[1, 2, 3, 16]",
-        "[-1, 2, 3, 4]",
-        "[1, 1, 3]",
-    ];
-    is_tested(&rt, line, key, &NO_INTEGER_ARRAYS, &out)?;
-    let mixed = [
-        "[1, 2, 3, 'a']",
-        "[16, 'a']",
-        "[1, 2, 3, 4, 'a']",
-        "['a', 16, 3, 4]",
-    ];
-    answers(&rt, line, &mixed, Some(ProfileFault::WrongKind(key)))?;
-    answers(&rt, line, &["[0, 15, 7, 8]", "[4, 3, 2, 1]"], None)
+fn the_truth_values(rt: HostRuntime) -> Result<(), Fail> {
+    let keys = "check.low_first: low_first = true
+check.compare: compare = true
+";
+    are_tested(&rt, keys, NO_TRUTHS, "")
 }
 
 #[test]
-fn the_keys_of_the_check_word(rt: HostRuntime) -> Result<(), Fail> {
-    for (line, key) in [
-        ("poly = 0x1021", SectionKey::Poly),
-        ("init = 0xFFFF", SectionKey::Init),
-        ("xor = 0xFFFF", SectionKey::Xor),
-    ] {
-        let key = Key::Section(key);
-        is_tested(&rt, line, key, &NO_INTEGERS, &["-1", "65536", "0x11021"])?;
-        answers(&rt, line, &["0", "65535"], None)?;
-    }
-    for (line, key) in [
-        ("low_first = true", SectionKey::LowFirst),
-        ("compare = true", SectionKey::Compare),
-    ] {
-        is_tested(&rt, line, Key::Section(key), &NO_TRUTHS, &[])?;
-        answers(&rt, line, &["false"], None)?;
-    }
-    Ok(())
+fn values_at_the_ends_of_their_ranges(rt: HostRuntime) -> Result<(), Fail> {
+    let cases = r#"good: to_sink = "304": '000' | '377'
+good: to_source = "305": '000' | '377'
+good: destination = 0x41: 0 | 255
+good: first_ldu = 1: 0
+good: final_bit = 25: 26 | 27 | 28
+good: ignored = [5]: [] | [2] | [5, 2, 3]
+good: rts = 1: 0 | 15
+good: cts = 2: 0 | 15
+good: ack = 5: 0 | 15
+good: nak = 6: 0 | 15
+good: ignored = [3]: [] | [0] | [3, 0, 15]
+good: codes = [1, 2, 3, 4]: [0, 15, 7, 8] | [4, 3, 2, 1]
+good: poly = 0x1021: 0 | 65535
+good: init = 0xFFFF: 0 | 65535
+good: xor = 0xFFFF: 0 | 65535
+good: low_first = true: false
+good: compare = true: false
+"#;
+    values(&rt, cases)
 }
