@@ -90,7 +90,7 @@ begins p is items n h =
 -- ---- refusals
 
 -- a step that is refused stops at its entry
-pub stop_fits : (c : Codes) (items : List Seen) (n : ℕ) (f : StepFault) (r : Stop) → n ≤ length items → (f ≡ step.OutOfMemory → r ≡ OutOfMemory) → (f ≢ step.OutOfMemory → r ≡ Unexplained n NotReplayed) → IsStop c items r
+pub stop_fits : (c : Codes) (items : List Seen) (n : ℕ) (f : StepFault) (r : Stop) → n < length items → (f ≡ step.OutOfMemory → r ≡ OutOfMemory) → (f ≢ step.OutOfMemory → r ≡ Unexplained n NotReplayed) → IsStop c items r
 stop_fits c items n step.OutOfMemory r l memory other = rw (memory refl) tt
 stop_fits c items n step.NotAllowed r l memory other = rw (other (λ e. cc e)) l
 stop_fits c items n step.WordDiffers r l memory other = rw (other (λ e. cc e)) l

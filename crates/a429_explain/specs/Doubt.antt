@@ -1,5 +1,5 @@
 -- Where a recording is doubted (profile).
-use Rattle.std.specs.Prelude.{ℕ, ◌≤◌, List, length, slice_get}
+use Rattle.std.specs.Prelude.{ℕ, ◌<◌, List, length, slice_get}
 use Rattle.a429_profile.specs.declared.codes.Codes.{Codes}
 use Rattle.a429_ldu.specs.declared.forms.Form.TheVariants.{Rts, Sot, Part, Eot}
 use Rattle.a429_ldu.specs.declared.sight.Sight.{Sight}
@@ -21,9 +21,9 @@ IsDoubtOf (sight.Form (Part semis)) NotOneBlock = Unit {0}
 IsDoubtOf (sight.Form (Eot flags check)) NotOneBlock = Unit {0}
 IsDoubtOf _ _ = ⊥
 
--- the doubt fits word i; of a replay it says how many words it had used
+-- the doubt fits word i; the steps that are guessed may stop at any word
 abbrev pub IsDoubtAt : Codes → List Seen → ℕ → Doubt → Type 0
-IsDoubtAt c items i NotReplayed = i ≤ length items
+IsDoubtAt c items i NotReplayed = i < length items
 IsDoubtAt c items i doubt = IsDoubtOf (said_at c (slice_get items i)) doubt
 
 abbrev pub IsStop : Codes → List Seen → Stop → Type 0

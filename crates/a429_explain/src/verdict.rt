@@ -56,8 +56,7 @@ pub enum Verdict {
         entry: usize,
         reason: Reason,
     },
-    /// No certificate was found. The entry, counted from 0, is the first that is doubted; of steps that
-    /// can not be made, it is how many entries they had used.
+    /// No certificate was found. The entry, counted from 0, is the first that is doubted.
     Unexplained {
         entry: usize,
         doubt: Doubt,
