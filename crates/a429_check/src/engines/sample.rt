@@ -83,7 +83,8 @@ pub(crate) const YES: &str = "0\nYES files 1\nfile 1 1\n";
 /// A negative answer.
 pub(crate) const NAK: u32 = 0x4600_00A3;
 
-// The words of a file of one byte, 41 in hexadecimal, and a negative answer, or the word itself.
+// The digits of a word by its name: the words of a file of one byte, 41 in hexadecimal, and a negative answer.
+// Any other word is its own digits.
 fn hex_of(word: &str) -> &str {
     match word {
         "RTS" => "41410323",

@@ -1,6 +1,6 @@
 //! The sample profile, and the sample with changes: what is read of it, or what is wrong with it.
 //!
-//! Cases stand in tables, a case a line. Each begins with the words that tell what is wrong, or `good`.
+//! Cases stand in tables, a case a line. Most begin with the words that tell what is wrong, or `good`.
 
 use crate::read_profile;
 use std::alloc::{AllocError, Global};
@@ -187,7 +187,8 @@ fn is_tested(
     answers(rt, line, out_of_range, words.as_str())
 }
 
-// Lines `KEY: LINE: VALUES` of keys and what is out of their range, or `KEY: LINE` where it is these values.
+// Lines `KEY: LINE: VALUES`: a key, its line in the sample, and values out of its range. `KEY: LINE` takes the
+// values `out_of_range`, which may be none.
 fn are_tested(
     rt: &(impl Abort + AllocGlobal),
     keys: &str,

@@ -112,7 +112,7 @@ fn fails(
     Ok(())
 }
 
-// The second certificate has as many bytes as may be read: its end is not seen.
+// The certificate has as many bytes as may be read, none: its end is not seen.
 #[test]
 fn no_verdict(rt: HostRuntime) -> Result<(), Fail> {
     fails(&rt, "", ("", 0), "profile: missing transfer.to_sink\n")?;

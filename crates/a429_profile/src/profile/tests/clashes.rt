@@ -3,6 +3,7 @@
 use super::{changes, values};
 use std::test::Fail;
 
+// Of two clashes the one further up the file is told. An entry without an SDI is for every SDI of its label.
 #[test]
 fn label_clashes(rt: HostRuntime) -> Result<(), Fail> {
     let cases = r#"label clash 304: octal = "203" -> octal = "304"
