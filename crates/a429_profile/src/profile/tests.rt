@@ -84,7 +84,7 @@ const NO_LABELS: &str =
 
 // The text with a change. `OLD -> NEW` puts NEW in place of the first line that begins with OLD, and `OLD`
 // alone leaves that line empty. NEW may be several lines, with `; ` between them.
-fn changed(alloc: Global, text: &str, change: &str) -> Result<String, AllocError> {
+fn changed(alloc: Global, text: &str, change: &str) -> Result<String, Fail> {
     let (old, new) = change.split_once(" -> ").unwrap_or((change, ""));
     let mut out = String::new(alloc);
     let mut is_changed = false;
@@ -97,7 +97,7 @@ fn changed(alloc: Global, text: &str, change: &str) -> Result<String, AllocError
             out.push('\n')?;
         }
     }
-    Ok(out)
+    Ok(is_changed.then_some(out).ok_or("no such line")?)
 }
 
 fn push_lines(out: &mut String, lines: &str) -> Result<(), AllocError> {
@@ -109,7 +109,7 @@ fn push_lines(out: &mut String, lines: &str) -> Result<(), AllocError> {
 }
 
 // The sample with some changes in turn, with ` | ` between them.
-fn sample_with(alloc: Global, changes: &str) -> Result<String, AllocError> {
+fn sample_with(alloc: Global, changes: &str) -> Result<String, Fail> {
     let mut text = String::from_str(alloc, SAMPLE)?;
     for change in changes.split(" | ") {
         text = changed(alloc, text.as_str(), change)?;

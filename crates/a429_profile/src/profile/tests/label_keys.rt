@@ -69,9 +69,11 @@ good: sdi = 1: 0 | 3
 fn an_entry_without_an_sdi(rt: HostRuntime) -> Result<(), Fail> {
     let text = sample_with(rt.alloc(), "sdi = 1")?;
     let found = contents(rt.alloc(), text.as_str())?;
+    // The fourth entry, below the codes and the check.
+    let fourth = found.lines().nth(5).ok_or("no fourth entry")?;
     assert!(rt;
-        found.contains("LabelEntry { label: 184, sdi: None, "),
-        "{found}"
+        fourth.starts_with("LabelEntry { label: 184, sdi: None, "),
+        "{fourth}"
     );
     let found = names(rt.alloc(), text.as_str())?;
     let four = "270 0 Status\n270 1 Status\n270 2 Status\n270 3 Status\n";
