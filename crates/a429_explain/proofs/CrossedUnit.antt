@@ -1,6 +1,7 @@
 -- The group of a link data unit that crosses without loss gives this unit.
 use Rattle.std.proofs.Common.{◌≡◌, ℕ, ◌+◌, ◌-◌, ◌≤◌, ◌<◌, Bool, true, false, cond, List, [], ◌∷◌, ◌++◌, length, drop, slice_get, slice_range, Option, Some, None, IsSome, option_and_then, refl, sym, ap, ◌∙◌, subst, arith}
 use Rattle.std.proofs.lemmas.List.{take-append-drop, take-take}
+use Rattle.std.specs.Option.{option_or}
 use Rattle.a429_word.specs.declared.bus.Bus.TheVariants as bus
 use Rattle.a429_profile.specs.declared.codes.Codes.{Codes}
 use Rattle.a429_profile.specs.Contents.{Contents, IsProfile}
@@ -13,6 +14,7 @@ use Rattle.a429_explain.specs.declared.matching.Place.{Place}
 use Rattle.a429_explain.specs.Matching.{passing, passed_after}
 use Rattle.a429_explain.specs.Said.{said_at}
 use Rattle.a429_explain.specs.Whole.{nothing_yet, first_whole, wanted, other_request}
+use Rattle.a429_explain.specs.Filled.{filled, group_unit}
 use Rattle.a429_explain.specs.Crossed.{HasCrossed}
 use Rattle.a429_explain.proofs.Thinned.{first_whole-thin, passed_after-thin, other_request-thin, free_sight}
 use Rattle.a429_explain.proofs.CleanBlock.{AreSaid, are_said, formed_sight, block_others, block_whole, block_passed}
@@ -59,7 +61,7 @@ range_front xs from mid to l =
 
 pub record GivesUnit (p : Contents) (items : List Seen) (from to count : ℕ) (place : Place) (u : LduValue) : Type 0 where
   pub others : other_request p.codes count (slice_range items from to) from ≡ None
-  pub whole : first_whole p count (slice_range items from to) nothing_yet ≡ Some u
+  pub is : group_unit p count (slice_range items from to) ≡ Some u
   pub matched : (i : ℕ) → i < to → IsSome (passed_after p.codes u place (slice_range items from (i + 1)) (Some 0))
 
 pub crossed_gives : (p : Contents) → IsProfile p → (items : List Seen) (from to count : ℕ) (place : Place) (u : LduValue) → from < to → to ≤ length items → wanted (said_at p.codes (slice_get items from)) ≡ Some count → HasCrossed p (slice_range items from to) place u → GivesUnit p items from to count place u
@@ -73,6 +75,6 @@ crossed_gives p is items from to count place u l m w h =
     let passed : passed_after p.codes u place group (Some 0) ≡ Some (count_of u) = sym (passed_after-thin p.codes u place group (Some 0)) ∙ ap (λ (xs : List Seen). passed_after p.codes u place xs (Some 0)) h.words ∙ block_passed p u place h.ldu said in
     record {
       others = subst (λ (n : ℕ). other_request p.codes n group from ≡ None) (sym same) (other_request-thin p.codes (count_of u) group from from (ap (λ (xs : List Seen). other_request p.codes (count_of u) xs from) h.words ∙ block_others p place.file place.ldu u said from));
-      whole = subst (λ (n : ℕ). first_whole p n group nothing_yet ≡ Some u) (sym same) (sym (first_whole-thin p (count_of u) group nothing_yet) ∙ ap (λ (xs : List Seen). first_whole p (count_of u) xs nothing_yet) h.words ∙ block_whole p is place.file place.ldu u h.unit said);
+      is = ap (λ (o : Option LduValue). option_or o (filled p count group)) (subst (λ (n : ℕ). first_whole p n group nothing_yet ≡ Some u) (sym same) (sym (first_whole-thin p (count_of u) group nothing_yet) ∙ ap (λ (xs : List Seen). first_whole p (count_of u) xs nothing_yet) h.words ∙ block_whole p is place.file place.ldu u h.unit said));
       matched = λ i k. matched_front p.codes u place (slice_range items from (i + 1)) (drop ((i + 1) - from) group) (Some 0) (subst (λ (xs : List Seen). IsSome (passed_after p.codes u place xs (Some 0))) (range_front items from (i + 1) to (omega arith)) (subst IsSome (sym passed) refl));
     }

@@ -10,5 +10,6 @@ pub mod Thinned
 pub mod CleanBlock
 pub mod CleanGroups
 pub mod Found
+pub mod Filled
 pub mod CrossedUnit
 pub mod CrossedUnits

@@ -11,4 +11,5 @@ pub mod Told
 pub mod Plain
 pub mod WithoutLoss
 pub mod Whole
+pub mod Filled
 pub mod Crossed

@@ -1,5 +1,5 @@
 -- The link data units of a recording's groups (profile).
-use Rattle.std.specs.Prelude.{◌≡◌, ℕ, ◌≤◌, ◌<◌, min, Some, None, IfSome, List, [], ◌∷◌, slice_get}
+use Rattle.std.specs.Prelude.{◌≡◌, ℕ, ◌≤◌, ◌<◌, min, Some, None, List, [], ◌∷◌, slice_get}
 use Rattle.a429_profile.specs.declared.codes.Codes.{Codes}
 use Rattle.a429_profile.specs.Contents.{Contents}
 use Rattle.a429_ldu.specs.Ldu.{LduValue, IsLdu, count_of}
@@ -11,7 +11,8 @@ use Rattle.a429_explain.specs.declared.matching.Place.{Place}
 use Rattle.a429_explain.specs.Groups.{group_from, words_in}
 use Rattle.a429_explain.specs.Matching.{AreMatched}
 use Rattle.a429_explain.specs.Said.{said_at}
-use Rattle.a429_explain.specs.Whole.{nothing_yet, first_whole, wanted, other_request}
+use Rattle.a429_explain.specs.Whole.{wanted, other_request}
+use Rattle.a429_explain.specs.Filled.{group_unit}
 
 -- each is one of the profile
 abbrev pub AreUnits : Contents → List LduValue → Type 0
@@ -24,8 +25,8 @@ pub record IsUnitOf (p : Contents) (items : List Seen) (g : Group) (wants : ℕ)
   pub count : count_of u ≡ wants
   -- each request of the group wants as many
   pub others : other_request p.codes wants (words_in items g) g.from ≡ None
-  -- it is that of the first whole attempt, if one is whole
-  pub whole : IfSome (first_whole p wants (words_in items g) nothing_yet) (λ v. u ≡ v)
+  -- it is that of the first whole attempt, or else that of the last data words with filler words behind them
+  pub is : group_unit p wants (words_in items g) ≡ Some u
   -- the words of the group stand in its block under these numbers
   pub matched : AreMatched p.codes u place items g.from g.to
 

@@ -10,7 +10,8 @@ ghost use Rattle.a429_explain.specs.Attempts.{forms_of};
 ghost use Rattle.a429_explain.specs.Groups.{words_in};
 ghost use Rattle.a429_explain.specs.Said.{said_at};
 ghost use Rattle.a429_explain.specs.Doubt.{IsDoubtAt, IsStop};
-ghost use Rattle.a429_explain.specs.Whole.{nothing_yet, first_whole, wanted, other_request};
+ghost use Rattle.a429_explain.specs.Whole.{wanted, other_request};
+ghost use Rattle.a429_explain.specs.Filled.{group_unit};
 ghost use Rattle.a429_explain.specs.Units.{IsUnitOf};
 ghost use Rattle.a429_explain.specs.Crossed.{HasCrossed};
 
@@ -79,9 +80,9 @@ fn unit_of(
     ensures fits { IfErr result (λ s. IsStop profile.now.codes (items_of entries.now) s) }
     ensures others { IfOk result (λ u. other_request profile.now.codes count (words_in (items_of entries.now) group) group.from ≡ None) }
     ensures other { (i : ℕ) → other_request profile.now.codes count (words_in (items_of entries.now) group) group.from ≡ Some i → result ≡ Err (Stop.Unexplained i doubt.NotOneBlock) }
-    ensures whole { IfOk result (λ u. IfSome (first_whole profile.now count (words_in (items_of entries.now) group) nothing_yet) (λ v. u ≡ v)) }
-    ensures whole_err { (u : LduValue) → other_request profile.now.codes count (words_in (items_of entries.now) group) group.from ≡ None → first_whole profile.now count (words_in (items_of entries.now) group) nothing_yet ≡ Some u → IfErr result (λ s. s ≡ Stop.OutOfMemory) }
-    ensures never { other_request profile.now.codes count (words_in (items_of entries.now) group) group.from ≡ None → IfErr result (λ s. s ≢ Stop.OutOfMemory → s ≡ Stop.Unexplained group.from doubt.NeverWhole) }
+    ensures is { IfOk result (λ u. group_unit profile.now count (words_in (items_of entries.now) group) ≡ Some u) }
+    ensures is_err { (u : LduValue) → other_request profile.now.codes count (words_in (items_of entries.now) group) group.from ≡ None → group_unit profile.now count (words_in (items_of entries.now) group) ≡ Some u → IfErr result (λ s. s ≡ Stop.OutOfMemory) }
+    ensures never { other_request profile.now.codes count (words_in (items_of entries.now) group) group.from ≡ None → IfErr result (λ s. s ≢ Stop.OutOfMemory → (s ≡ Stop.Unexplained group.from doubt.NeverWhole) × (group_unit profile.now count (words_in (items_of entries.now) group) ≡ None)) }
 {
     if let Some(entry) = other_request(said, group, count) {
         let doubt = Doubt::NotOneBlock;

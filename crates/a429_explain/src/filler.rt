@@ -1,12 +1,16 @@
 //! A link data unit of which no attempt was recorded to its end.
 
-ghost use Rattle.std.specs.Prelude.{◌≡◌, ◌≤◌, IfOk, IfSome, List, length};
+ghost use Rattle.std.specs.Prelude.{◌≡◌, ◌≤◌, ◌++◌, ◌-◌, Some, IfOk, IfSome, OnOk, List, length};
+ghost use Rattle.a429_profile.specs.declared.codes.Codes.{Codes};
 ghost use Rattle.a429_profile.specs.Contents.{Contents, IsProfile};
-ghost use Rattle.a429_ldu.specs.Form.{IsInRange};
+ghost use Rattle.a429_ldu.specs.declared.forms.Form.TheVariants.{Part};
+ghost use Rattle.a429_ldu.specs.Form.{IsInRange, word_number};
 ghost use Rattle.a429_ldu.specs.Ldu.{IsLdu, count_of};
 ghost use Rattle.a429_link.specs.declared.seen.Seen.{Seen};
 ghost use Rattle.a429_cert.specs.Explained.{items_of};
 ghost use Rattle.a429_explain.specs.Attempts.{forms_of};
+ghost use Rattle.a429_explain.specs.Groups.{words_in};
+ghost use Rattle.a429_explain.specs.Filled.{filled, unit_filled, fillers, zeros, are_odd, is_end, has_end, gfi_of, first_gfi, last_data, none_yet, last_with};
 
 use crate::group::Group;
 use crate::whole::{End, unit_with};
@@ -15,10 +19,11 @@ use a429_profile::Profile;
 use a429_record::Entry;
 use a429_word::Word;
 use std::alloc::{AllocError, Global};
+use std::marker::Model;
 
 /// A link data unit of so many words in all: its first data words are those of the last attempt that
-/// recorded any, and filler words follow. None where an end word was recorded, or where no filler word
-/// can be added and the semi-octets are odd in number.
+/// recorded any, and filler words follow. None where an end word was recorded, where there are more data
+/// words than that, or where no filler word can be added and the semi-octets are odd in number.
 pub(crate) fn filled_unit(
     alloc: Global,
     profile: &Profile,
@@ -29,6 +34,7 @@ pub(crate) fn filled_unit(
 ) -> Result<Option<Ldu>, AllocError>
     requires said { said.now ≡ forms_of profile.now.codes (items_of entries.now) }
     requires inside { group.to ≤ length entries.now }
+    ensures exact { IfOk result (λ found. found ≡ filled profile.now count (words_in (items_of entries.now) group)) }
     ensures unit { IfOk result (λ found. IfSome found (λ u. IsLdu profile.now u)) }
     ensures count { IfOk result (λ found. IfSome found (λ u. count_of u ≡ count)) }
 {
@@ -36,37 +42,37 @@ pub(crate) fn filled_unit(
     if has_end(said, group) {
         return Ok(None);
     }
-    let mut words = Vec::new(alloc);
-    last_words(entries, said, group, &mut words)?;
-    let is_odd = !words.is_empty() && bytes_of(alloc, profile, words.as_slice())?.is_none();
+    let mut words = last_data(alloc, entries, said, group)?;
+    let is_odd = are_odd(alloc, profile, words.as_slice())?;
     fill(profile, &mut words, is_odd, count)?;
-    let Some(bytes) = bytes_of(alloc, profile, words.as_slice())? else {
-        return Ok(None);
-    };
-    let end = End {
-        flags: 0,
-        check: check_word(profile.check(), bytes.as_slice()),
-    };
     let gfi = first_gfi(said, group);
-    unit_with(alloc, profile, Some(gfi), end, words.as_slice(), count)
+    unit_filled(alloc, profile, gfi, words.as_slice(), count)
 }
 
 // An end word was recorded.
 fn has_end(said: &[Option<Form>], group: Group) -> bool
     requires { group.to ≤ length said.now }
+    ensures { (c : Codes) (items : List Seen) → said.now ≡ forms_of c items → result ≡ has_end c (words_in items group) }
 {
     for at in group.from..group.to {
-        if let Some(Form::Eot { .. }) = said[at] {
+        if is_end(&said[at]) {
             return true;
         }
     }
     false
 }
 
+fn is_end(said: &Option<Form>) -> bool
+    ensures { result ≡ is_end said.now }
+{
+    matches!(said, Some(Form::Eot { .. }))
+}
+
 // The general format identifier of the first start word, or 0.
 fn first_gfi(said: &[Option<Form>], group: Group) -> u8
     requires { group.to ≤ length said.now }
-    ensures { (p : Contents) (items : List Seen) → IsProfile p → said.now ≡ forms_of p.codes items → result ≤ 15 }
+    ensures exact { (c : Codes) (items : List Seen) → said.now ≡ forms_of c items → result ≡ first_gfi c (words_in items group) }
+    ensures fits { (p : Contents) (items : List Seen) → IsProfile p → said.now ≡ forms_of p.codes items → result ≤ 15 }
 {
     for at in group.from..group.to {
         if let Some(gfi) = gfi_of(&said[at]) {
@@ -78,7 +84,8 @@ fn first_gfi(said: &[Option<Form>], group: Group) -> u8
 
 // The general format identifier of a start word.
 fn gfi_of(said: &Option<Form>) -> Option<u8>
-    ensures { IfSome said.now IsInRange → IfSome result (λ gfi. gfi ≤ 15) }
+    ensures exact { result ≡ gfi_of said.now }
+    ensures fits { IfSome said.now IsInRange → IfSome result (λ gfi. gfi ≤ 15) }
 {
     match *said {
         Some(Form::Sot { gfi, .. }) => Some(gfi),
@@ -87,47 +94,131 @@ fn gfi_of(said: &Option<Form>) -> Option<u8>
 }
 
 // The data words of the last attempt that recorded any.
-fn last_words(
+fn last_data(
+    alloc: Global,
     entries: &[Entry],
     said: &[Option<Form>],
     group: Group,
-    words: &mut Vec<Word>,
-) -> Result<(), AllocError>
+) -> Result<Vec<Word>, AllocError>
     requires entries { group.to ≤ length entries.now }
     requires said { group.to ≤ length said.now }
+    ensures { (c : Codes) → said.now ≡ forms_of c (items_of entries.now) → IfOk result (λ words. words.items ≡ last_data c (words_in (items_of entries.now) group) none_yet) }
 {
-    let mut begins = true;
+    let mut last = LastRecorded::new(alloc);
     for at in group.from..group.to {
-        match said[at] {
-            Some(Form::Rts { .. }) => begins = true,
+        let entry = entries[at];
+        match last.take(&said[at], entry.word) {
+            Ok(()) => {}
+            Err(error) => return Err(error),
+        }
+    }
+    Ok(last.into_words())
+}
+
+// The data words of the last attempt that recorded any, and whether the next one is the first of its
+// attempt.
+#[derive(Drop)]
+struct LastRecorded {
+    begins: bool,
+    words: Vec<Word>,
+}
+
+impl Model for LastRecorded {
+    ghost use Rattle.a429_explain.specs.Filled.{Last};
+
+    ghost Value = { Last };
+
+    ghost view = { λ a. record { begins = a.begins; words = a.words.items } };
+}
+
+impl LastRecorded {
+    fn new(alloc: Global) -> LastRecorded
+        ensures { result ≡ none_yet }
+    {
+        LastRecorded {
+            begins: true,
+            words: Vec::new(alloc),
+        }
+    }
+
+    // Takes one more word, of this form.
+    fn take(&mut self, said: &Option<Form>, word: Word) -> Result<(), AllocError>
+        ensures { OnOk result (self.new ≡ last_with said.now word self.old) }
+    {
+        match *said {
+            Some(Form::Rts { .. }) => self.begins = true,
             Some(Form::Part(_)) => {
-                if begins {
-                    words.clear();
-                    begins = false;
+                if self.begins {
+                    self.words.clear();
                 }
-                words.push(entries[at].word)?;
+                self.begins = false;
+                self.words.push(word)?;
             }
             _ => {}
+        }
+        Ok(())
+    }
+
+    fn into_words(self) -> Vec<Word>
+        ensures { result.items ≡ self.words }
+    {
+        self.words
+    }
+}
+
+// The semi-octets of data words are odd in number.
+fn are_odd(alloc: Global, profile: &Profile, words: &[Word]) -> Result<bool, AllocError>
+    ensures { IfOk result (λ odd. odd ≡ are_odd profile.now.codes words.now) }
+{
+    if words.is_empty() {
+        return Ok(false);
+    }
+    let bytes = bytes_of(alloc, profile, words)?;
+    Ok(bytes.is_none())
+}
+
+// Adds data words of two semi-octets 0 until there are as many as a block of so many words has. The last
+// one has one semi-octet, where all others are odd in number.
+fn fill(profile: &Profile, words: &mut Vec<Word>, is_odd: bool, count: u8) -> Result<(), AllocError>
+    ensures { OnOk result (words.new.items ≡ words.old.items ++ fillers profile.now.codes is_odd (count - 2 - length words.old.items)) }
+{
+    let wanted = usize::from(count).saturating_sub(2);
+    for at in words.len()..wanted {
+        if let Some(word) = filler_word(profile, is_odd, wanted - (at + 1)) {
+            words.push(word)?;
         }
     }
     Ok(())
 }
 
-// Adds data words of two semi-octets 0 until there are as many as a block of so many words has. The last
-// one has one semi-octet, where all others are odd in number.
-fn fill(
+// The filler word that so many more follow.
+fn filler_word(profile: &Profile, is_odd: bool, more: usize) -> Option<Word>
+    ensures { result ≡ Some (word_number profile.now.codes (Part (zeros is_odd more))) }
+{
+    let count = if is_odd && more == 0 { 1 } else { 2 };
+    let semis = Semis::new(&[0, 0][..count])?;
+    Some(word_of(profile, &Form::Part(semis)))
+}
+
+// The link data unit of these data words, with flags 0 and the check word of their bytes.
+fn unit_filled(
+    alloc: Global,
     profile: &Profile,
-    words: &mut Vec<Word>,
-    is_odd: bool,
+    gfi: u8,
+    words: &[Word],
     count: u8,
-) -> Result<(), AllocError> {
-    let wanted = usize::from(count);
-    for missing in words.len()..wanted.saturating_sub(2) {
-        let is_last = missing + 3 == wanted;
-        let zeros = if is_last && is_odd { 1 } else { 2 };
-        if let Some(semis) = Semis::new(&[0, 0][..zeros]) {
-            words.push(word_of(profile, &Form::Part(semis)))?;
-        }
-    }
-    Ok(())
+) -> Result<Option<Ldu>, AllocError>
+    requires { gfi ≤ 15 }
+    ensures exact { IfOk result (λ found. found ≡ unit_filled profile.now count gfi words.now) }
+    ensures unit { IfOk result (λ found. IfSome found (λ u. IsLdu profile.now u)) }
+    ensures count { IfOk result (λ found. IfSome found (λ u. count_of u ≡ count)) }
+{
+    let Some(bytes) = bytes_of(alloc, profile, words)? else {
+        return Ok(None);
+    };
+    let end = End {
+        flags: 0,
+        check: check_word(profile.check(), bytes.as_slice()),
+    };
+    unit_with(alloc, profile, Some(gfi), end, words, count)
 }

@@ -1,4 +1,4 @@
-use Rattle.std.proofs.Common.{◌≡◌, Option, IfSome, ◌+◌, ◌≤◌, length, IsSome, slice_range, Some, sym, subst, arith}
+use Rattle.std.proofs.Common.{◌≡◌, Option, ◌+◌, ◌≤◌, length, IsSome, slice_range, Some, sym, subst, arith}
 use Rattle.a429_ldu.specs.Ldu.{LduValue}
 use Rattle.a429_cert.specs.Explained.{items_of}
 use Rattle.a429_explain.specs.Crossed.{HasCrossed}
@@ -15,18 +15,18 @@ gives c u h =
     let inside : c.args.group.to ≤ length (items_of c.args.entries.now) = omega (arith, long, c.requires.inside) in
     crossed_gives c.args.profile.now c.codes-codes.ensures.sound (items_of c.args.entries.now) c.args.group.from c.args.group.to c.args.count c.args.place u c.requires.some inside c.requires.request h
 
--- the unit is that of the first whole attempt
-found : (unit u : LduValue) (o : Option LduValue) → IfSome o (λ v. unit ≡ v) → o ≡ Some u → unit ≡ u
-found unit u o h e = subst (λ (x : Option LduValue). IfSome x (λ v. unit ≡ v)) e h
+-- a group has one unit
+found : (unit u : LduValue) (o : Option LduValue) → o ≡ Some unit → o ≡ Some u → unit ≡ u
+found unit u o e h = cc
 
 pub returns-in-Err-clause-crossed_err : goal.returns-in-Err-clause-crossed_err
-returns-in-Err-clause-crossed_err c = λ u h. let g = gives (goal.at.returns-in-Err-clause-crossed_err c).After-unit_of u h in c.in-Err.ensures.whole_err u g.others g.whole
+returns-in-Err-clause-crossed_err c = λ u h. let g = gives (goal.at.returns-in-Err-clause-crossed_err c).After-unit_of u h in c.in-Err.ensures.is_err u g.others g.is
 
 pub returns-in-Some-clause-crossed_err : goal.returns-in-Some-clause-crossed_err
 returns-in-Some-clause-crossed_err c = λ u h.
     let g = gives (goal.at.returns-in-Some-clause-crossed_err c).After-unit_of u h in
-    let same = found c.in-Ok.unit u _ c.in-Ok.ensures.whole g.whole in
+    let same = found c.in-Ok.unit u _ c.in-Ok.ensures.is g.is in
     absurd (c.in-Some.ensures.unmatched (subst (λ (v : LduValue). IsSome (passed_after c.args.profile.now.codes v c.args.place (slice_range (items_of c.args.entries.now) c.args.group.from (c.in-Some.entry + 1)) (Some 0))) (sym same) (g.matched c.in-Some.entry c.in-Some.ensures.within)))
 
 pub returns-in-None-clause-crossed : goal.returns-in-None-clause-crossed
-returns-in-None-clause-crossed c = λ u h. let g = gives (goal.at.returns-in-None-clause-crossed c).After-unit_of u h in found c.in-Ok.unit u _ c.in-Ok.ensures.whole g.whole
+returns-in-None-clause-crossed c = λ u h. let g = gives (goal.at.returns-in-None-clause-crossed c).After-unit_of u h in found c.in-Ok.unit u _ c.in-Ok.ensures.is g.is
