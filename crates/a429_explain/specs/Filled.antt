@@ -1,13 +1,13 @@
 -- The link data unit of a group of which no attempt was recorded whole (profile): the data words of the last attempt
 -- that recorded any, and filler words behind them.
-use Rattle.std.specs.Prelude.{ℕ, zero, suc, ◌-◌, Bool, true, false, not, ◌||◌, if◌then◌else◌, Option, Some, None, is_some, unwrap_or, List, [], ◌∷◌, ◌++◌, length}
+use Rattle.std.specs.Prelude.{ℕ, zero, suc, ◌-◌, ◌%◌, ◌==◌, Bool, true, false, ◌||◌, if◌then◌else◌, Option, Some, None, unwrap_or, List, [], ◌∷◌, ◌++◌, length}
 use Rattle.std.specs.Option.{option_or}
 use Rattle.a429_profile.specs.declared.codes.Codes.{Codes}
 use Rattle.a429_profile.specs.Contents.{Contents}
 use Rattle.a429_ldu.specs.declared.forms.Form.{Form}
 use Rattle.a429_ldu.specs.declared.forms.Form.TheVariants.{Rts, Sot, Part, Eot}
 use Rattle.a429_ldu.specs.Form.{form_of, word_number}
-use Rattle.a429_ldu.specs.Carried.{bytes_carried}
+use Rattle.a429_ldu.specs.Carried.{semis_of_words}
 use Rattle.a429_ldu.specs.CheckWord.{check_of}
 use Rattle.a429_ldu.specs.Ldu.{LduValue}
 use Rattle.a429_link.specs.Sink.{bytes_in}
@@ -55,12 +55,12 @@ last_data c (i ∷ items) l = last_data c items (last_with (form_of c i.bus i.wo
 
 -- ---- what is added
 
--- the semi-octets of data words are odd in number: there are words, and they carry no bytes
+-- the semi-octets of data words are odd in number
 abbrev pub are_odd : Codes → List ℕ → Bool
-are_odd c [] = false
-are_odd c (w ∷ words) = not (is_some (bytes_carried c (w ∷ words)))
+are_odd c words = length (unwrap_or (semis_of_words c words) []) % 2 == 1
 
--- the semi-octets of a filler word that so many more follow: two zeros, but one in the last where all others are odd in number
+-- the semi-octets of a filler word that so many more follow: two zeros, but in the last one a single zero, where all
+-- others are odd in number
 abbrev pub zeros : Bool → ℕ → List ℕ
 zeros true zero = 0 ∷ []
 zeros _ _ = 0 ∷ 0 ∷ []
@@ -70,7 +70,7 @@ abbrev pub fillers : Codes → Bool → ℕ → List ℕ
 fillers c odd zero = []
 fillers c odd (suc n) = word_number c (Part (zeros odd n)) ∷ fillers c odd n
 
--- data words with as many filler words as a block of so many words wants; a start word and an end word stand round them
+-- data words, and filler words up to as many as stand in a block of so many words, between its start and its end word
 abbrev pub filled_up : Codes → ℕ → List ℕ → List ℕ
 filled_up c wants words = words ++ fillers c (are_odd c words) (wants - 2 - length words)
 

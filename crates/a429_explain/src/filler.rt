@@ -1,10 +1,11 @@
 //! A link data unit of which no attempt was recorded to its end.
 
-ghost use Rattle.std.specs.Prelude.{◌≡◌, ◌≤◌, ◌++◌, ◌-◌, Some, IfOk, IfSome, OnOk, List, length};
+ghost use Rattle.std.specs.Prelude.{◌≡◌, ◌≤◌, ◌++◌, ◌-◌, Some, IfOk, IfSome, IsSome, OnOk, List, length};
 ghost use Rattle.a429_profile.specs.declared.codes.Codes.{Codes};
 ghost use Rattle.a429_profile.specs.Contents.{Contents, IsProfile};
 ghost use Rattle.a429_ldu.specs.declared.forms.Form.TheVariants.{Part};
 ghost use Rattle.a429_ldu.specs.Form.{IsInRange, word_number};
+ghost use Rattle.a429_ldu.specs.Carried.{semis_of_words};
 ghost use Rattle.a429_ldu.specs.Ldu.{IsLdu, count_of};
 ghost use Rattle.a429_link.specs.declared.seen.Seen.{Seen};
 ghost use Rattle.a429_cert.specs.Explained.{items_of};
@@ -102,7 +103,8 @@ fn last_data(
 ) -> Result<Vec<Word>, AllocError>
     requires entries { group.to ≤ length entries.now }
     requires said { group.to ≤ length said.now }
-    ensures { (c : Codes) → said.now ≡ forms_of c (items_of entries.now) → IfOk result (λ words. words.items ≡ last_data c (words_in (items_of entries.now) group) none_yet) }
+    ensures exact { (c : Codes) → said.now ≡ forms_of c (items_of entries.now) → IfOk result (λ words. words.items ≡ last_data c (words_in (items_of entries.now) group) none_yet) }
+    ensures sound { (p : Contents) → IsProfile p → said.now ≡ forms_of p.codes (items_of entries.now) → IfOk result (λ words. IsSome (semis_of_words p.codes words.items)) }
 {
     let mut last = LastRecorded::new(alloc);
     for at in group.from..group.to {
@@ -168,8 +170,10 @@ impl LastRecorded {
 
 // The semi-octets of data words are odd in number.
 fn are_odd(alloc: Global, profile: &Profile, words: &[Word]) -> Result<bool, AllocError>
+    requires { IsSome (semis_of_words profile.now.codes words.now) }
     ensures { IfOk result (λ odd. odd ≡ are_odd profile.now.codes words.now) }
 {
+    let _codes = profile.codes();
     if words.is_empty() {
         return Ok(false);
     }
