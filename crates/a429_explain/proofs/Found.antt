@@ -1,7 +1,7 @@
 -- Searches through the words of a group, one word after the other.
 use Rattle.std.proofs.Common.{◌≡◌, ◌≢◌, ℕ, zero, suc, ◌+◌, ◌-◌, ◌≤◌, ◌<◌, Bool, true, false, cond, not, ◌&&◌, List, [], ◌∷◌, length, take, drop, slice_get, slice_range, Option, Some, None, IfSome, is_some, refl, sym, ap, ◌∙◌, subst, arith, eq-eqb}
 use Rattle.std.proofs.lemmas.Bool.{ne_eqb}
-use Rattle.std.proofs.lemmas.List.{drop_more, drop_all}
+use Rattle.std.proofs.lemmas.List.{drop_more}
 use Rattle.std.proofs.lemmas.Option.{slice_get_within, get_or_from_slice_get}
 use Rattle.std.proofs.Common.{get_or}
 use Rattle.std.specs.Option.{option_or}
@@ -21,14 +21,13 @@ use Rattle.a429_ldu.proofs.Joined.{form_of-is}
 use Rattle.a429_link.specs.declared.seen.Seen.{Seen}
 use Rattle.a429_link.specs.Sink.{agrees, bytes_in}
 use Rattle.a429_cert.specs.Explained.{items_of}
-use Rattle.a429_explain.specs.Attempts.{forms_of, next_start}
+use Rattle.a429_explain.specs.Attempts.{forms_of}
 use Rattle.a429_ldu.specs.declared.sight.Sight.{Sight}
 use Rattle.a429_ldu.specs.declared.sight.Sight.TheVariants as sight
 use Rattle.a429_explain.specs.declared.verdict.Doubt.TheVariants.{NotOneBlock}
 use Rattle.a429_explain.specs.Doubt.{IsDoubtOf, IsDoubtAt}
 use Rattle.a429_explain.specs.Said.{said_at}
 use Rattle.a429_explain.specs.Whole.{Recorded, gathered_with, is_whole, unit_made, ended_by, first_whole, wanted, is_other, other_request}
-use Rattle.a429_explain.specs.Crossed.{started, file_of}
 use Rattle.a429_explain.proofs.Walked.{item_at, seen_in, seen_is}
 use Rattle.a429_explain.proofs.CleanBlock.{made_of}
 
@@ -54,9 +53,6 @@ range_next xs at to i l e =
     let more : to - at ≡ suc (to - (at + 1)) = omega arith in
     ap (λ (k : ℕ). take k (drop at xs)) more ∙ ap (take (suc (to - (at + 1)))) (drop_next xs at i e)
 
-pub range_end : (xs : List Seen) (at to : ℕ) → to ≤ at → slice_range xs at to ≡ []
-range_end xs at to l = let none : to - at ≡ 0 = omega arith in ap (λ (k : ℕ). take k (drop at xs)) none
-
 -- ---- requests of another count
 
 other_next : (c : Codes) (count : ℕ) (items : List Seen) (at to : ℕ) (t : Bool) → at < to → at < length items → is_other count (wanted (said_at c (slice_get items at))) ≡ t → other_request c count (slice_range items at to) at ≡ cond t (Some at) (other_request c count (slice_range items (at + 1) to) (at + 1))
@@ -75,9 +71,6 @@ other_same c count items at to w l m e n = other_next c count items at to false 
 pub other_none : (c : Codes) (count : ℕ) (items : List Seen) (at to : ℕ) → at < to → at < length items → None ≡ wanted (said_at c (slice_get items at)) → other_request c count (slice_range items at to) at ≡ other_request c count (slice_range items (at + 1) to) (at + 1)
 other_none c count items at to l m e = other_next c count items at to false l m (ap (is_other count) (sym e))
 
-pub other_end : (c : Codes) (count : ℕ) (items : List Seen) (at to : ℕ) → to ≤ at → other_request c count (slice_range items at to) at ≡ None
-other_end c count items at to l = ap (λ (xs : List Seen). other_request c count xs at) (range_end items at to l)
-
 -- a request can be doubted
 pub request_doubt : (c : Codes) (items : List Seen) (n wants : ℕ) → Some wants ≡ wanted (said_at c (slice_get items n)) → IsDoubtAt c items n NotOneBlock
 request_doubt c items n wants = by (said_at c (slice_get items n))
@@ -92,37 +85,6 @@ request_doubt c items n wants = by (said_at c (slice_get items n))
     by (sight.Form (Eot f k)) e = absurd (cc e)
     by sight.Free e = absurd (cc e)
     by sight.NoForm e = absurd (cc e)
-
--- ---- the first start word
-
-next_of : (o : Option Form) (xs : List (Option Form)) (file : ℕ) → Some file ≡ started o → file_of (next_start (o ∷ xs)) ≡ file
-next_of (Some (Sot g f l)) xs file e = let same : f ≡ file = cc e in same
-next_of None xs file e = absurd (cc e)
-next_of (Some (Rts n)) xs file e = absurd (cc e)
-next_of (Some (Cts n)) xs file e = absurd (cc e)
-next_of (Some (Ack f l)) xs file e = absurd (cc e)
-next_of (Some (Nak b)) xs file e = absurd (cc e)
-next_of (Some (Part s)) xs file e = absurd (cc e)
-next_of (Some (Eot f k)) xs file e = absurd (cc e)
-
-next_past : (o : Option Form) (xs : List (Option Form)) → None ≡ started o → next_start (o ∷ xs) ≡ next_start xs
-next_past (Some (Sot g f l)) xs e = absurd (cc e)
-next_past None xs e = refl
-next_past (Some (Rts n)) xs e = refl
-next_past (Some (Cts n)) xs e = refl
-next_past (Some (Ack f l)) xs e = refl
-next_past (Some (Nak b)) xs e = refl
-next_past (Some (Part s)) xs e = refl
-next_past (Some (Eot f k)) xs e = refl
-
-pub start_here : (said : List (Option Form)) (n : ℕ) (o : Option Form) (file : ℕ) → n < length said → o ≡ get_or said n o → Some file ≡ started o → file_of (next_start (drop n said)) ≡ file
-start_here said n o file l h s = ap (λ (xs : List (Option Form)). file_of (next_start xs)) (drop_more said n o l ∙ ap (λ (x : Option Form). x ∷ drop (n + 1) said) (sym h)) ∙ next_of o (drop (n + 1) said) file s
-
-pub start_past : (said : List (Option Form)) (n : ℕ) (o : Option Form) → n < length said → o ≡ get_or said n o → None ≡ started o → next_start (drop n said) ≡ next_start (drop (n + 1) said)
-start_past said n o l h s = ap next_start (drop_more said n o l ∙ ap (λ (x : Option Form). x ∷ drop (n + 1) said) (sym h)) ∙ next_past o (drop (n + 1) said) s
-
-pub start_none : (said : List (Option Form)) (n : ℕ) → length said ≤ n → file_of (next_start (drop n said)) ≡ 0
-start_none said n l = ap (λ (xs : List (Option Form)). file_of (next_start xs)) (drop_all n said l)
 
 -- ---- the first whole attempt
 
@@ -167,10 +129,6 @@ unit_not_made p is count start gfi flags check words f l s n h =
     let v : LduValue = record { gfi = gfi; flags = flags; check = check; words = words } in
     sym (ap (λ (o : Option ℕ). unit_made p count o words flags check) s ∙ ap (λ (t : Bool). cond t (Some v) None) (not_whole p is count words check f l n h))
 
-pub unit_of_another : (p : Contents) (count : ℕ) (start : Option ℕ) (flags check : ℕ) (words : List ℕ) → length words + 2 ≢ count → None ≡ unit_made p count start words flags check
-unit_of_another p count None flags check words n = refl
-unit_of_another p count (Some gfi) flags check words n = rw (ne_eqb (length words + 2) count n) refl
-
 -- the search goes on behind an entry of this form
 pub whole_next : (p : Contents) (count : ℕ) (es : List Entry) (at to : ℕ) (e : Entry) (o : Option Form) (r : Recorded) → at < to → at < length es → e ≡ get_or es at e → o ≡ form_of p.codes e.bus e.word → first_whole p count (slice_range (items_of es) at to) r ≡ option_or (ended_by p count o r) (first_whole p count (slice_range (items_of es) (at + 1) to) (gathered_with o e.word r))
 whole_next p count es at to e o r l m h f =
@@ -186,6 +144,3 @@ whole_on p count es at to e o r s l m h f k g =
     whole_next p count es at to e o r l m h f
     ∙ ap (λ (x : Option LduValue). option_or x (first_whole p count (slice_range (items_of es) (at + 1) to) (gathered_with o e.word r))) (sym k)
     ∙ ap (first_whole p count (slice_range (items_of es) (at + 1) to)) (sym g)
-
-pub whole_end : (p : Contents) (count : ℕ) (items : List Seen) (at to : ℕ) (r : Recorded) → to ≤ at → first_whole p count (slice_range items at to) r ≡ None
-whole_end p count items at to r l = ap (λ (xs : List Seen). first_whole p count xs r) (range_end items at to l)
