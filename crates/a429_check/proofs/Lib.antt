@@ -2,3 +2,5 @@ pub mod Texts
 pub mod Labels
 pub mod Shows
 pub mod Timed
+pub mod Counted
+pub mod Made

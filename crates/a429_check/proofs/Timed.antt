@@ -23,18 +23,28 @@ length-take_inside [] (suc i) h = absurd (omega arith)
 length-take_inside (x ∷ xs) (suc i) h = ap suc (length-take_inside xs i (omega arith))
 
 -- a further word
-timed-more : (xs : List Seen) (i : ℕ) (s : Seen) → i < length xs → s ≡ get_or xs i s → timed 0 (take (i + 1) xs) ≡ timed 0 (take i xs) ++ entry_at i s ∷ []
-timed-more xs i s h found =
-    ap (timed 0) (take_more xs i s h ∙ ap (λ x. take i xs ++ x ∷ []) (sym found))
-    ∙ timed-last 0 (take i xs) s ∙ ap (λ n. timed 0 (take i xs) ++ entry_at n s ∷ []) (at (length (take i xs)) (length-take_inside xs i (omega arith)))
-  where
-    at : (n : ℕ) → n ≡ i → 0 + n ≡ i
-    at n e = omega arith
+timed-more : (k : ℕ) (xs : List Seen) (i : ℕ) (s : Seen) → i < length xs → s ≡ get_or xs i s → timed k (take (i + 1) xs) ≡ timed k (take i xs) ++ entry_at (k + i) s ∷ []
+timed-more k xs i s h found =
+    ap (timed k) (take_more xs i s h ∙ ap (λ x. take i xs ++ x ∷ []) (sym found))
+    ∙ timed-last k (take i xs) s ∙ ap (λ n. timed k (take i xs) ++ entry_at (k + n) s ∷ []) (length-take_inside xs i (omega arith))
 
 -- and its line
-pub lines-more : (xs : List Seen) (i : ℕ) (s : Seen) → i < length xs → s ≡ get_or xs i s
-    → flat_map line_text (timed 0 (take (i + 1) xs)) ≡ flat_map line_text (timed 0 (take i xs)) ++ line_text (entry_at i s)
-lines-more xs i s h found =
-    let before = timed 0 (take i xs) in
-    ap (flat_map line_text) (timed-more xs i s h found) ∙ flat_map-append line_text before (entry_at i s ∷ [])
-    ∙ ap (λ t. flat_map line_text before ++ t) (append-nil (line_text (entry_at i s)))
+pub lines-more : (k : ℕ) (xs : List Seen) (i : ℕ) (s : Seen) → i < length xs → s ≡ get_or xs i s
+    → flat_map line_text (timed k (take (i + 1) xs)) ≡ flat_map line_text (timed k (take i xs)) ++ line_text (entry_at (k + i) s)
+lines-more k xs i s h found =
+    let before = timed k (take i xs) in
+    ap (flat_map line_text) (timed-more k xs i s h found) ∙ flat_map-append line_text before (entry_at (k + i) s ∷ [])
+    ∙ ap (λ t. flat_map line_text before ++ t) (append-nil (line_text (entry_at (k + i) s)))
+
+-- further words
+timed-append : (k : ℕ) (xs ys : List Seen) → timed k (xs ++ ys) ≡ timed k xs ++ timed (k + length xs) ys
+timed-append k [] ys = let at : k ≡ k + 0 = omega arith in ap (λ i. timed i ys) at
+timed-append k (x ∷ xs) ys =
+    let at : k + 1 + length xs ≡ k + suc (length xs) = omega arith in
+    ap (λ es. entry_at k x ∷ es) (timed-append (k + 1) xs ys ∙ ap (λ i. timed (k + 1) xs ++ timed i ys) at)
+
+-- and their lines
+pub lines-append : (xs ys : List Seen) (n : ℕ) → n ≡ length xs → flat_map line_text (timed 0 (xs ++ ys)) ≡ flat_map line_text (timed 0 xs) ++ flat_map line_text (timed n ys)
+lines-append xs ys n e =
+    ap (flat_map line_text) (timed-append 0 xs ys) ∙ flat_map-append line_text (timed 0 xs) (timed (0 + length xs) ys)
+    ∙ ap (λ k. flat_map line_text (timed 0 xs) ++ flat_map line_text (timed k ys)) (omega (arith, e))

@@ -29,6 +29,10 @@ pub record Makes (profile : List ℕ) (files : List (List ℕ)) (text : List ℕ
   pub room : length (words_made contents files) ≤ most_entries
   pub is : text ≡ written_form (timed 0 (words_made contents files))
 
+-- a count of words that is right, unless it is of more than a recording may have
+abbrev pub Counts : ℕ → ℕ → Type 0
+Counts n total = (n ≤ total) × (n ≤ most_entries → n ≡ total)
+
 -- there are more words than a recording may have
 pub record IsTooMuch (profile : List ℕ) (files : List (List ℕ)) : Type 0 where
   pub contents : Contents
@@ -45,3 +49,23 @@ IsMakeFault profile files failed Device = IsSound profile × (failed ≡ true)
 IsMakeFault profile files failed Memory = Unit {0}
 IsMakeFault profile files failed BadWord = ⊥
 IsMakeFault profile files failed Usage = ⊥
+
+-- the first file that can not be cut
+abbrev pub IsRefusal : List (List ℕ) → RunFault → Type 0
+IsRefusal files (Cut k f) = first_refused 255 0 files ≡ Some (clean.Cut k f)
+IsRefusal files (Profile f) = ⊥
+IsRefusal files (Read f) = ⊥
+IsRefusal files Device = ⊥
+IsRefusal files Memory = ⊥
+IsRefusal files BadWord = ⊥
+IsRefusal files Usage = ⊥
+
+-- a writer that failed, or want of memory
+abbrev pub IsPutFault : Bool → RunFault → Type 0
+IsPutFault failed Device = failed ≡ true
+IsPutFault failed Memory = Unit {0}
+IsPutFault failed (Profile f) = ⊥
+IsPutFault failed (Read f) = ⊥
+IsPutFault failed (Cut k f) = ⊥
+IsPutFault failed BadWord = ⊥
+IsPutFault failed Usage = ⊥

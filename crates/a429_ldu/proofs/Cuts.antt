@@ -94,6 +94,19 @@ units-last p is (piece ∷ next ∷ rest) h = last_of p (unit_of p piece 0) next
 
 -- ---- the units of a file
 
+some_pieces : (f size : ℕ) (bs : List ℕ) → 1 ≤ f → 1 ≤ length (pieces f size bs)
+unfolding pieces
+some_pieces zero size bs h = absurd (omega arith)
+some_pieces (suc f) size bs h = by_test (nat_le (length bs) size)
+  where
+    by_test : (t : Bool) → 1 ≤ length (cond t (bs ∷ []) (take size bs ∷ pieces f size (drop size bs)))
+    by_test true = omega arith
+    by_test false = omega arith
+
+-- of those of any bytes only the last is final
+pub units_last : (p : Contents) → IsProfile p → (max_words : ℕ) (bytes : List ℕ) → OnlyLastIsFinal p.codes (units_of p max_words bytes)
+units_last p is w bytes = units-last p is (pieces 255 (room w) bytes) (some_pieces 255 (room w) bytes (omega arith))
+
 pub record AreUnits (p : Contents) (max_words : ℕ) (bytes : List ℕ) (us : List LduValue) : Type 0 where
   pub sound : All (IsLdu p) us
   pub fits : All (λ u. count_of u ≤ max_words) us
@@ -115,7 +128,7 @@ units p is w bytes hw ww small some most =
       sound = All-from_recursion (IsLdu p) (units_in p ps) (units-sound p is (room w) ps (room-most w ww) cut.each);
       fits = All-from_recursion (λ u. count_of u ≤ w) (units_in p ps) (units-words p w ps hw cut.each);
       joined = units-bytes p is (room w) ps cut.each ∙ cut.whole;
-      last = units-last p is ps cut.some;
+      last = units_last p is w bytes;
     }
 
 -- ---- unit after unit
@@ -130,15 +143,6 @@ rest_of p size count rest = units_in p (pieces (255 - count) size rest)
 one_more : (p : Contents) (piece : List ℕ) (ps : List (List ℕ)) → 1 ≤ length ps → units_in p (piece ∷ ps) ≡ unit_of p piece 0 ∷ units_in p ps
 one_more p piece [] h = absurd (omega arith)
 one_more p piece (q ∷ qs) h = refl
-
-some_pieces : (f size : ℕ) (bs : List ℕ) → 1 ≤ f → 1 ≤ length (pieces f size bs)
-unfolding pieces
-some_pieces zero size bs h = absurd (omega arith)
-some_pieces (suc f) size bs h = by_test (nat_le (length bs) size)
-  where
-    by_test : (t : Bool) → 1 ≤ length (cond t (bs ∷ []) (take size bs ∷ pieces f size (drop size bs)))
-    by_test true = omega arith
-    by_test false = omega arith
 
 units_more : (p : Contents) (f g size : ℕ) (bs : List ℕ) → f ≡ suc g → 1 ≤ g → size < length bs → units_in p (pieces f size bs) ≡ unit_of p (take size bs) 0 ∷ units_in p (pieces g size (drop size bs))
 unfolding pieces

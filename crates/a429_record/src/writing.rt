@@ -13,8 +13,12 @@ ghost use Rattle.a429_record.specs.declared.fault.WriteFault.TheVariants as faul
 use crate::entry::Entry;
 use crate::fault::WriteFault;
 use a429_word::{Bus, Device, Failing, Page, Tally, Word};
+use itoa::write_digits;
 use std::alloc::Global;
 use std::io::Write;
+
+// How many digits the longest time has.
+const LONGEST_TIME: usize = 20;
 
 /// Writes entries, at most 1,000,000 whose times never fall, as a text recording: the header, and a
 /// line for each. Nothing is written for want of memory. After `Device` a front of it has been written.
@@ -83,8 +87,10 @@ pub fn put_parts<W: Write>(
     ensures ok { OnOk result (Appends (paged W.contents out.old page.old) (paged W.contents out.new page.new) (entry_text between behind entry)) }
     ensures device { IsErr result → has_failed out.new ≡ true }
 {
-    page.put_number(out, entry.time)?;
-    page.put(out, &bus_and_word(entry.bus, entry.word, between, behind))
+    let mut text = [0; LONGEST_TIME + 12];
+    text[LONGEST_TIME..].copy_from_slice(&bus_and_word(entry.bus, entry.word, between, behind));
+    let start = write_digits(entry.time, &mut text, LONGEST_TIME);
+    page.put(out, &text[start..])
 }
 
 // A bus and a word, one byte before each and one behind them.

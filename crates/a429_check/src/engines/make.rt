@@ -1,33 +1,43 @@
 //! `a429 make PROFILE FILE..`: the recording of a transfer of files without loss.
 
-ghost use Rattle.std.specs.Prelude.{◌≡◌, ◌≢◌, ◌↔◌, [], ℕ, List, map, true, IsErr, IfOk, IfErr, OnOk, ◌≤◌, length};
+ghost use Rattle.std.specs.Prelude.{◌≡◌, ◌≢◌, ◌+◌, ◌*◌, ◌/◌, [], ◌∷◌, ℕ, List, map, flat_map, true, None, Some, IsErr, IfOk, IfErr, OnOk, ◌≤◌, length};
 ghost use Rattle.std.specs.Io.KnownBytes.{Appends};
+ghost use Rattle.a429_word.specs.Page.{paged};
 ghost use Rattle.a429_word.specs.Tally.{inner_of, has_failed};
-ghost use Rattle.a429_profile.specs.Contents.{IsProfile};
-ghost use Rattle.a429_link.specs.Clean.{first_refused};
+ghost use Rattle.a429_profile.specs.Contents.{Contents, IsProfile};
+ghost use Rattle.a429_link.specs.Clean.{clean_words, cut_fault, first_refused};
 ghost use Rattle.a429_record.specs.Recording.{most_entries};
-ghost use Rattle.a429_record.specs.Written.{written_form};
-ghost use Rattle.a429_check.specs.Made.{timed, words_made, Makes, IsMakeFault};
+ghost use Rattle.a429_record.specs.Written.{line_text, written_form};
+ghost use Rattle.a429_check.specs.Made.{timed, words_made, Counts, Makes, IsMakeFault, IsRefusal, IsPutFault};
 
 use crate::engines::profile::profile_of;
 use crate::fault::RunFault;
-use a429_link::{CleanFault, Seen, clean_run};
+use a429_ldu::CutFault;
+use a429_link::{Seen, clean_run};
+use a429_profile::Profile;
 use a429_record::{Entry, ReadFault, put_header, put_line};
 use a429_word::{Device, Page, Tally};
 use std::alloc::Global;
 use std::io::Write;
+use std::slice::from_ref;
 
 // How many entries a recording may have.
 const MOST_ENTRIES: usize = 1_000_000;
 
-// A file's first link data unit is that of file 1, and a link data unit has at most 255 words.
+// The first file has number 1, and a link data unit has at most 255 words.
 const FIRST_FILE: u8 = 1;
 
 const MAX_WORDS: u8 = 255;
 
+// How many bytes such a link data unit holds, and how many of them a file may have.
+const UNIT_BYTES: usize = 632;
+
+const MOST_UNITS: usize = 255;
+
 /// Writes the recording of a transfer of these files without loss, an entry each thousandth of a second,
 /// and answers status 0. `profile` is the bytes of its text. Nothing is written where the profile has a
-/// fault, a file is refused, or there are more than 1,000,000 words.
+/// fault, a file is refused, or there are more than 1,000,000 words. The words of one file are held at a
+/// time; after `Device` or `Memory` a front of the recording may have been written.
 pub fn run_make<W: Write>(
     alloc: Global,
     profile: &[u8],
@@ -41,37 +51,106 @@ pub fn run_make<W: Write>(
     ensures silent { IfErr result (λ e. e ≢ RunFault.Device → e ≢ RunFault.Memory → out.new ≡ out.old) }
 {
     let profile = profile_of(alloc, profile)?;
-    let words = match clean_run(alloc, &profile, FIRST_FILE, MAX_WORDS, files) {
-        Ok(words) => words,
-        Err(CleanFault::Cut(place, fault)) => return Err(RunFault::Cut(place, fault)),
-        Err(CleanFault::OutOfMemory) => return Err(RunFault::Memory),
-    };
-    if words.len() > MOST_ENTRIES {
+    if count_words(files)? > MOST_ENTRIES {
         return Err(RunFault::Read(ReadFault::TooMany));
     }
     let page = Page::new(alloc)?;
-    put_timed(page, out, words.as_slice())?;
+    put_recording(alloc, &profile, files, page, out)?;
     Ok(0)
 }
 
-// The recording of words, a thousandth of a second apart, by an empty page.
-fn put_timed<W: Write>(page: Page, out: &mut Tally<W>, words: &[Seen]) -> Result<(), Device>
-    requires empty { page ≡ [] }
-    requires most { length words.now ≤ most_entries }
-    ensures ok { OnOk result (Appends (W.contents (inner_of out.old)) (W.contents (inner_of out.new)) (written_form (timed 0 words.now))) }
-    ensures device { IsErr result ↔ (has_failed out.new ≡ true) }
+// How many words files make, or the first of them that is refused.
+fn count_words(files: &[Vec<u8>]) -> Result<usize, RunFault>
+    ensures none { OnOk result (first_refused 255 0 (map (λ f. f.items) files.now) ≡ None) }
+    ensures count { IfOk result (λ n. (p : Contents) → Counts n (length (words_made p (map (λ f. f.items) files.now)))) }
+    ensures refused { IfErr result (IsRefusal (map (λ f. f.items) files.now)) }
 {
+    let mut count: usize = 0;
+    for (k, bytes) in files.iter().enumerate() {
+        match words_of_file(bytes.len()) {
+            Ok(words) => count = count.saturating_add(words),
+            Err(fault) => return Err(RunFault::Cut(k, fault)),
+        }
+    }
+    Ok(count)
+}
+
+// How many words a file of so many bytes makes: those of its link data units, each full but the last.
+fn words_of_file(len: usize) -> Result<usize, CutFault>
+    ensures fine { OnOk result ((bytes : List ℕ) → length bytes ≡ len → cut_fault 255 bytes ≡ None) }
+    ensures count { IfOk result (λ n. (bytes : List ℕ) → length bytes ≡ len → (p : Contents) → (file : ℕ) → length (clean_words p 255 file (bytes ∷ [])) ≡ n) }
+    ensures refused { IfErr result (λ e. (bytes : List ℕ) → length bytes ≡ len → cut_fault 255 bytes ≡ Some e) }
+{
+    if len == 0 {
+        return Err(CutFault::Empty);
+    }
+    if len > MOST_UNITS * UNIT_BYTES {
+        return Err(CutFault::TooLong);
+    }
+    let full = (len - 1) / UNIT_BYTES;
+    Ok(full * words_of_unit(UNIT_BYTES) + words_of_unit(len - full * UNIT_BYTES))
+}
+
+// How many words a link data unit of so many bytes makes: its data words of five semi-octets, a start and
+// an end word, the request, its answer and the acknowledgement.
+fn words_of_unit(len: usize) -> usize
+    requires { len ≤ 632 }
+    ensures { result ≡ (2 * len + 4) / 5 + 5 }
+{
+    (2 * len).div_ceil(5) + 5
+}
+
+// The recording of files, of which none is refused, by an empty page.
+fn put_recording<W: Write>(
+    alloc: Global,
+    profile: &Profile,
+    files: &[Vec<u8>],
+    page: Page,
+    out: &mut Tally<W>,
+) -> Result<(), RunFault>
+    requires empty { page ≡ [] }
+    requires most { length (words_made profile.now (map (λ f. f.items) files.now)) ≤ most_entries }
+    ensures ok { OnOk result (Appends (W.contents (inner_of out.old)) (W.contents (inner_of out.new)) (written_form (timed 0 (words_made profile.now (map (λ f. f.items) files.now))))) }
+    ensures err { IfErr result (IsPutFault (has_failed out.new)) }
+{
+    let _codes = profile.codes();
     let mut page = page;
     put_header(&mut page, out)?;
+    let mut number = FIRST_FILE;
+    let mut count = 0;
+    for file in files {
+        // (the file is not refused)
+        let Ok(words) = clean_run(alloc, profile, number, MAX_WORDS, from_ref(file)) else {
+            return Err(RunFault::Memory);
+        };
+        put_words(&mut page, out, count, words.as_slice())?;
+        count += words.len();
+        number = number.wrapping_add(1);
+    }
+    page.finish(out)?;
+    Ok(())
+}
+
+// The lines of words on a page, a thousandth of a second apart, the first word at so many of these.
+fn put_words<W: Write>(
+    page: &mut Page,
+    out: &mut Tally<W>,
+    first: usize,
+    words: &[Seen],
+) -> Result<(), Device>
+    requires most { first + length words.now ≤ most_entries }
+    ensures ok { OnOk result (Appends (paged W.contents out.old page.old) (paged W.contents out.new page.new) (flat_map line_text (timed first words.now))) }
+    ensures device { IsErr result → has_failed out.new ≡ true }
+{
     for (i, seen) in words.iter().enumerate() {
         let entry = Entry {
-            time: 1000 * i as u64,
+            time: 1000 * (first + i) as u64,
             bus: seen.bus,
             word: seen.word,
         };
-        put_line(&mut page, out, entry)?;
+        put_line(page, out, entry)?;
     }
-    page.finish(out)
+    Ok(())
 }
 
 #[cfg(test)]

@@ -1,0 +1,10 @@
+use Rattle.std.proofs.Common.{take}
+use Rattle.std.specs.List.{flat_map}
+use Rattle.std.specs.Io.KnownBytes.{Appends}
+use Rattle.a429_word.specs.Page.{paged}
+use Rattle.a429_record.specs.Written.{line_text}
+use Rattle.a429_check.specs.Made.{timed}
+use Rattle.a429_check.proofs.engines.make.put_words.Given as goal
+
+abbrev pub invariant-loop-i : goal.invariant-loop-i
+invariant-loop-i g l = Appends (paged g.W.Write.contents l.initial.out l.initial.page) (paged g.W.Write.contents l.out l.page) (flat_map line_text (timed l.first (take l.i l.words)))
