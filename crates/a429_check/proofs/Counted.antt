@@ -101,7 +101,7 @@ pub record AreCounted (files : List (List ℕ)) (k n : ℕ) : Type 0 where
 pub counted_start : (files : List (List ℕ)) → AreCounted files 0 0
 counted_start files = record { refused = refl; count = λ p. (omega arith, λ _. omega arith) }
 
-next_file_at : (files : List (List ℕ)) (k : ℕ) (f : List ℕ) → k < length files → f ≡ get_or files k f → drop k files ≡ f ∷ drop (k + 1) files
+pub next_file_at : (files : List (List ℕ)) (k : ℕ) (f : List ℕ) → k < length files → f ≡ get_or files k f → drop k files ≡ f ∷ drop (k + 1) files
 next_file_at files k f l e = drop_more files k f l ∙ ap (λ (g : List ℕ). g ∷ drop (k + 1) files) (sym e)
 
 -- a file more

@@ -2,7 +2,7 @@
 use Rattle.std.proofs.Common.{◌≡◌, ℕ, ◌+◌, ◌%◌, ◌<◌, ◌≤◌, Vec, Global, List, [], ◌∷◌, ◌++◌, map, length, take, drop, get_or, refl, sym, ap, ◌∙◌, arith, append_assoc, append-nil, length-append}
 use Rattle.std.specs.List.{flat_map}
 use Rattle.std.proofs.Math.Seq.{take-append_seam}
-use Rattle.std.proofs.lemmas.List.{length-take-le, drop_more, drop_all}
+use Rattle.std.proofs.lemmas.List.{length-take-le, drop_all}
 use Rattle.a429_profile.specs.Contents.{Contents, IsProfile}
 use Rattle.a429_ldu.specs.Cut.{units_of}
 use Rattle.a429_ldu.proofs.Cuts.{units_last}
@@ -11,6 +11,7 @@ use Rattle.a429_link.specs.Clean.{clean, clean_words, units_of_files}
 use Rattle.a429_link.proofs.CleanFiles.{clean_append, file_at, past_files}
 use Rattle.a429_record.specs.Written.{line_text}
 use Rattle.a429_check.specs.Made.{timed, words_made}
+use Rattle.a429_check.proofs.Counted.{next_file_at}
 use Rattle.a429_check.proofs.Timed.{lines-append}
 
 -- the words so far are so many of all words, and with those of the files still to come they are all
@@ -59,7 +60,7 @@ made_more p is files k number n f new l ef en h = record {
         append_assoc done new later
         ∙ ap (λ items. done ++ (items ++ later)) en
         ∙ ap (λ items. done ++ items) (sym (file_first p is number f (drop (k + 1) files)))
-        ∙ ap (λ fs. done ++ clean_words p 255 number fs) (sym (drop_more files k f l ∙ ap (λ g. g ∷ drop (k + 1) files) (sym ef)))
+        ∙ ap (λ fs. done ++ clean_words p 255 number fs) (sym (next_file_at files k f l ef))
         ∙ h.told
 
     short : length (done ++ new) ≡ n + length new

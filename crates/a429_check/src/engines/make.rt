@@ -1,6 +1,6 @@
 //! `a429 make PROFILE FILE..`: the recording of a transfer of files without loss.
 
-ghost use Rattle.std.specs.Prelude.{◌≡◌, ◌≢◌, ◌+◌, ◌*◌, ◌/◌, [], ◌∷◌, ℕ, List, map, flat_map, true, None, Some, IsErr, IfOk, IfErr, OnOk, ◌≤◌, length};
+ghost use Rattle.std.specs.Prelude.{◌≡◌, ◌≢◌, ◌+◌, ◌*◌, ◌/◌, [], ◌∷◌, ℕ, List, map, flat_map, true, false, None, Some, IsErr, IfOk, IfErr, OnOk, ◌≤◌, length};
 ghost use Rattle.std.specs.Io.KnownBytes.{Appends};
 ghost use Rattle.a429_word.specs.Page.{paged};
 ghost use Rattle.a429_word.specs.Tally.{inner_of, has_failed};
@@ -48,6 +48,7 @@ pub fn run_make<W: Write>(
     ensures written { OnOk result ((text : List ℕ) × Makes profile.now (map (λ f. f.items) files.now) text
         × Appends (W.contents (inner_of out.old)) (W.contents (inner_of out.new)) text) }
     ensures err { IfErr result (IsMakeFault profile.now (map (λ f. f.items) files.now) (has_failed out.new)) }
+    ensures device { OnOk result (has_failed out.new ≡ false) }
     ensures silent { IfErr result (λ e. e ≢ RunFault.Device → e ≢ RunFault.Memory → out.new ≡ out.old) }
 {
     let profile = profile_of(alloc, profile)?;
@@ -112,6 +113,7 @@ fn put_recording<W: Write>(
     requires most { length (words_made profile.now (map (λ f. f.items) files.now)) ≤ most_entries }
     ensures ok { OnOk result (Appends (W.contents (inner_of out.old)) (W.contents (inner_of out.new)) (written_form (timed 0 (words_made profile.now (map (λ f. f.items) files.now))))) }
     ensures err { IfErr result (IsPutFault (has_failed out.new)) }
+    ensures device { OnOk result (has_failed out.new ≡ false) }
 {
     let _codes = profile.codes();
     let mut page = page;
