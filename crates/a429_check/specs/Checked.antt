@@ -9,7 +9,7 @@ use Rattle.a429_explain.specs.declared.verdict.Reason.{Reason}
 use Rattle.a429_explain.specs.declared.verdict.Reason.TheVariants.{NoForm, NotGranted, WrongAnswer}
 use Rattle.a429_explain.specs.declared.verdict.Doubt.{Doubt}
 use Rattle.a429_explain.specs.declared.verdict.Doubt.TheVariants.{NeverWhole, NotOneBlock, NotReplayed}
-use Rattle.a429_explain.specs.Verdict.{IsSound, IsImpossible, IsDoubted, HasNoForm, IsRefusal, IsExplanation}
+use Rattle.a429_explain.specs.Verdict.{IsSound, IsImpossible, IsDoubted, IsFirst, HasNoForm, IsRefusal, IsExplanation}
 use Rattle.a429_explain.specs.WithoutLoss.{IsWithoutLoss}
 use Rattle.a429_check.specs.Verdict.{Says, yes_text}
 
@@ -49,5 +49,6 @@ pub record IsVerdictOn (profile : List ℕ) (recording : Option (List ℕ)) (v :
   pub sound : IsSound (says.contents) (items_of (says.entries)) v
   pub impossible : IsImpossible (says.contents) (items_of (says.entries)) v
   pub doubted : IsDoubted (says.contents) (items_of (says.entries)) v
+  pub first : IsFirst (says.contents) (items_of (says.entries)) v
   pub no_form : HasNoForm (says.contents.codes) (items_of (says.entries)) → IsRefusal v
   pub without_loss : IsWithoutLoss (says.contents) (items_of (says.entries)) → IsExplanation v

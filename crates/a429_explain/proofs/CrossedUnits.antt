@@ -1,9 +1,7 @@
 -- The groups of a recording without loss, one after the other.
 use Rattle.std.proofs.Common.{◌≡◌, ℕ, zero, suc, ◌+◌, ◌-◌, ◌≤◌, ◌<◌, Bool, true, false, cond, List, [], ◌∷◌, ◌++◌, length, take, drop, slice_get, slice_range, Option, Some, None, refl, sym, ap, ◌∙◌, subst, arith, append_assoc, append-nil}
-use Rattle.std.proofs.Common.{min, inl, inr}
-use Rattle.std.proofs.lemmas.Bool.{cases_order}
+use Rattle.std.proofs.Common.{min}
 use Rattle.std.proofs.lemmas.List.{drop-drop, drop_all}
-use Rattle.std.proofs.lemmas.Option.{slice_get_past}
 use Rattle.a429_word.specs.declared.bus.Bus.TheVariants as bus
 use Rattle.a429_profile.specs.declared.codes.Codes.{Codes}
 use Rattle.a429_profile.specs.Contents.{Contents, IsProfile}
@@ -16,12 +14,16 @@ use Rattle.a429_link.specs.Clean.{on_a, next_file, next_ldu, clean, AllFit, thin
 use Rattle.a429_explain.specs.declared.attempts.Role.{Role}
 use Rattle.a429_explain.specs.declared.group.Group.{Group}
 use Rattle.a429_explain.specs.declared.matching.Place.{Place}
+use Rattle.a429_explain.specs.declared.stop.Stop.{Stop}
+use Rattle.a429_explain.specs.declared.stop.Stop.TheVariants.{Unexplained, OutOfMemory}
 use Rattle.a429_explain.specs.Attempts.{forms_of, roles}
-use Rattle.a429_explain.specs.Groups.{group_length, group_from, words_in}
+use Rattle.a429_explain.specs.Groups.{group_length, words_in}
 use Rattle.a429_explain.specs.Said.{said_at}
 use Rattle.a429_explain.specs.Units.{AreUnits, AreUnitsOf, IsUnitOf, place_after}
 use Rattle.a429_explain.specs.Whole.{wanted}
 use Rattle.a429_explain.specs.Crossed.{HasCrossed}
+use Rattle.a429_explain.specs.FirstDoubt.{IsStopIn, IsGroupStop}
+use Rattle.a429_explain.proofs.Groups.{numbered, AreSearched, searched_none, searched_free, searched_group, searched_all, searched_doubt}
 use Rattle.a429_explain.proofs.Units.{units_push}
 use Rattle.a429_explain.proofs.CleanBlock.{formed_sight}
 use Rattle.a429_explain.proofs.CleanGroups.{words_to_go, unit_said, unit_parts, file_small}
@@ -39,14 +41,14 @@ pub record IsLeft (p : Contents) (items : List Seen) (done us : List LduValue) (
 
 pub record Finds (p : Contents) (items : List Seen) (rs : List Role) (first : ℕ) (done : List LduValue) (place : Place) (at : ℕ) : Type 0 where
   pub units : AreUnits p done
-  pub groups : (us : List LduValue) → AreUnitsOf p items rs place at us → AreUnitsOf p items rs (record { file = first; ldu = p.codes.first_ldu }) 0 (done ++ us)
+  pub groups : AreSearched p items rs (record { file = first; ldu = p.codes.first_ldu }) done place at
   pub file : place.file ≤ 255
   pub left : (us : List LduValue) → AllFit p p.codes.first_ldu us → thin p.codes items ≡ clean p.codes first p.codes.first_ldu us → IsLeft p items done us place at
 
 pub finds_none : (p : Contents) (items : List Seen) (rs : List Role) (first : ℕ) (done : List LduValue) (ldu : ℕ) → first ≤ 255 → done ≡ [] → ldu ≡ p.codes.first_ldu → Finds p items rs first done (record { file = first; ldu = ldu }) 0
 finds_none p items rs first done ldu f none same = record {
   units = subst (AreUnits p) (sym none) tt;
-  groups = λ us a. subst (λ (xs : List LduValue). AreUnitsOf p items rs (record { file = first; ldu = p.codes.first_ldu }) 0 (xs ++ us)) (sym none) (subst (λ (n : ℕ). AreUnitsOf p items rs (record { file = first; ldu = n }) 0 us) same a);
+  groups = searched_none p items rs _ _ done none (ap (numbered first) same);
   file = f;
   left = λ us h e. record {
     rest = us;
@@ -57,23 +59,6 @@ finds_none p items rs first done ldu f none same = record {
 }
 
 -- ---- a word that is no request
-
-skipped : (p : Contents) (items : List Seen) (rs : List Role) (place : Place) (at : ℕ) (us : List LduValue) → wanted (said_at p.codes (slice_get items at)) ≡ None → AreUnitsOf p items rs place (at + 1) us → AreUnitsOf p items rs place at us
-skipped p items rs place at [] w h = λ k l. elim (cases_order at k) [ inl e ↦ subst (λ (n : ℕ). wanted (said_at p.codes (slice_get items n)) ≡ None) e w | inr (inl m) ↦ h k (omega arith) | inr (inr m) ↦ absurd (omega arith) ]
-skipped p items rs place at (u ∷ us) w h =
-    let first = h.0.first in (
-      record {
-        from = h.0.from;
-        wants = h.0.wants;
-        first = record {
-          behind = omega (arith, first.behind);
-          request = first.request;
-          none = λ k l m. elim (cases_order at k) [ inl e ↦ subst (λ (n : ℕ). wanted (said_at p.codes (slice_get items n)) ≡ None) e w | inr (inl n) ↦ first.none k (omega arith) m | inr (inr n) ↦ absurd (omega arith) ];
-        };
-        is = h.0.is;
-      },
-      h.1,
-    )
 
 -- what begins a recording without loss is a request
 first_wants : (p : Contents) → IsProfile p → (file ldu : ℕ) → file ≤ 255 → (rest : List LduValue) → AllFit p ldu rest → (i : Seen) (xs : List Seen) → wanted (sight_of p.codes i.bus i.word) ≡ None → i ∷ xs ≡ clean p.codes file ldu rest → ⊥
@@ -98,7 +83,7 @@ finds_free p is items rs first done place at l w h =
     let none : wanted (sight_of p.codes here.item.bus here.item.word) ≡ None = ap (λ (o : Option Seen). wanted (said_at p.codes o)) (sym here.is) ∙ sym w in
     record {
       units = h.units;
-      groups = λ us a. h.groups us (skipped p items rs place at us (sym w) a);
+      groups = searched_free p items rs _ place done at (sym w) h.groups;
       file = h.file;
       left = λ us fit e. let old = h.left us fit e in record {
         rest = old.rest;
@@ -163,27 +148,11 @@ ldu_small p is ldu u l = by (is_final p.codes u.flags) (in_range p is).first_ldu
     by true m = omega arith
     by false m = omega arith
 
--- a group, and those behind it
-pub group_more : (p : Contents) (items : List Seen) (rs : List Role) (place : Place) (at : ℕ) (g : Group) (wants : ℕ) (u : LduValue) (us : List LduValue) → g.from ≡ at → g.to ≡ at + group_length (drop at rs) → wanted (said_at p.codes (slice_get items at)) ≡ Some wants → IsUnitOf p items g wants place u → AreUnitsOf p items rs (place_after p.codes place u) g.to us → AreUnitsOf p items rs place at (u ∷ us)
-group_more p items rs place at g wants u us from to w h more =
-    let same : g ≡ group_from rs at = ap (λ (n : ℕ). begun n g.to) from ∙ ap (begun at) to in (
-      record {
-        from = at;
-        wants = wants;
-        first = record { behind = omega arith; request = w; none = λ k l m. absurd (omega arith) };
-        is = subst (λ (x : Group). IsUnitOf p items x wants place u) same h;
-      },
-      subst (λ (n : ℕ). AreUnitsOf p items rs (place_after p.codes place u) n us) to more,
-    )
-  where
-    begun : ℕ → ℕ → Group
-    begun from to = record { from = from; to = to }
-
 -- the unit that is found is the next one, and the walk goes on behind its group
 pub finds_next : (p : Contents) → IsProfile p → (items : List Seen) (rs : List Role) (first : ℕ) (done new : List LduValue) (place next : Place) (at wants : ℕ) (g : Group) (unit : LduValue) → g.from ≡ at → g.to ≡ at + group_length (drop at rs) → wanted (said_at p.codes (slice_get items at)) ≡ Some wants → IsUnitOf p items g wants place unit → new ≡ done ++ unit ∷ [] → next ≡ place_after p.codes place unit → ((u : LduValue) → HasCrossed p (words_in items g) place u → unit ≡ u) → ((us : List LduValue) → AllFit p p.codes.first_ldu us → thin p.codes items ≡ clean p.codes first p.codes.first_ldu us → IsNext p items done us place g.from g.to) → Finds p items rs first done place at → Finds p items rs first new next g.to
 finds_next p is items rs first done new place next at wants group_at unit from to asks unit_is pushed number found group h = record {
   units = subst (AreUnits p) (sym pushed) (units_push p done unit h.units unit_is.unit);
-  groups = λ us a. subst (AreUnitsOf p items rs (record { file = first; ldu = p.codes.first_ldu }) 0) (sym (append_assoc done (unit ∷ []) us) ∙ ap (λ (xs : List LduValue). xs ++ us) (sym pushed)) (h.groups (unit ∷ us) (group_more p items rs place at group_at wants unit us from to asks unit_is (subst (λ (n : Place). AreUnitsOf p items rs n group_at.to us) number a)));
+  groups = searched_group p items rs _ place next done new at wants group_at unit from to asks unit_is pushed number h.groups;
   file = subst (λ (n : Place). n.file ≤ 255) (sym number) (file_small p.codes place.file unit h.file);
   left = λ us fit e.
       let g = group us fit e in
@@ -214,4 +183,9 @@ finds_all p items rs first done place at l h us fit e =
 
 -- those that are found are those of the groups
 pub finds_groups : (p : Contents) (items : List Seen) (rs : List Role) (first : ℕ) (done : List LduValue) (place : Place) (at : ℕ) → length items ≤ at → Finds p items rs first done place at → AreUnitsOf p items rs (record { file = first; ldu = p.codes.first_ldu }) 0 done
-finds_groups p items rs first done place at l h = subst (AreUnitsOf p items rs (record { file = first; ldu = p.codes.first_ldu }) 0) (append-nil done) (h.groups [] (λ k m. ap (λ (o : Option Seen). wanted (said_at p.codes o)) (slice_get_past items k (omega arith))))
+finds_groups p items rs first done place at l h = searched_all p items rs _ place done at l h.groups
+
+-- or a group is doubted
+pub finds_doubt : (p : Contents) (items : List Seen) (rs : List Role) (first : ℕ) (done : List LduValue) (place : Place) (at wants : ℕ) (g : Group) (stop : Stop) → g.from ≡ at → g.to ≡ at + group_length (drop at rs) → wanted (said_at p.codes (slice_get items at)) ≡ Some wants → IsStopIn p items g wants place stop → Finds p items rs first done place at → IsGroupStop p items rs (record { file = first; ldu = p.codes.first_ldu }) stop
+finds_doubt p items rs first done place at wants g (Unexplained i doubt) from to asks is h = record { units = done; are = searched_doubt p items rs _ place done at wants i doubt g from to asks is h.groups }
+finds_doubt p items rs first done place at wants g OutOfMemory from to asks is h = tt

@@ -10,6 +10,7 @@ pub mod Thinned
 pub mod CleanBlock
 pub mod CleanGroups
 pub mod Found
+pub mod Groups
 pub mod Filled
 pub mod CrossedUnit
 pub mod CrossedUnits

@@ -4,6 +4,7 @@ pub mod Ahead
 pub mod Said
 pub mod Doubt
 pub mod Units
+pub mod FirstDoubt
 pub mod Verdict
 pub mod Groups
 pub mod Matching

@@ -47,7 +47,16 @@ pub record IsNextUnit (p : Contents) (items : List Seen) (rs : List Role) (place
   pub first : IsFirstRequest p.codes items at from wants
   pub is : IsUnitOf p items (group_from rs from) wants place u
 
--- those of all groups from place `at` on, the first under these numbers
+-- no request stands from place `at` on
+abbrev pub IsNoRequestFrom : Codes → List Seen → ℕ → Type 0
+IsNoRequestFrom c items at = (k : ℕ) → at ≤ k → wanted (said_at c (slice_get items k)) ≡ None
+
+-- the first groups from place `at` on, the first of them under these numbers, give these link data units; behind them this
+-- comes, at the numbers and the place that follow
+abbrev pub AreUnitsBefore : (Place → ℕ → Type 0) → Contents → List Seen → List Role → Place → ℕ → List LduValue → Type 0
+AreUnitsBefore Comes p items rs place at [] = Comes place at
+AreUnitsBefore Comes p items rs place at (u ∷ us) = (next : IsNextUnit p items rs place at u) × AreUnitsBefore Comes p items rs (place_after p.codes place u) (group_from rs next.from).to us
+
+-- all groups from place `at` on do
 abbrev pub AreUnitsOf : Contents → List Seen → List Role → Place → ℕ → List LduValue → Type 0
-AreUnitsOf p items rs place at [] = (k : ℕ) → at ≤ k → wanted (said_at p.codes (slice_get items k)) ≡ None
-AreUnitsOf p items rs place at (u ∷ us) = (next : IsNextUnit p items rs place at u) × AreUnitsOf p items rs (place_after p.codes place u) (group_from rs next.from).to us
+AreUnitsOf p items rs place at us = AreUnitsBefore (λ numbers n. IsNoRequestFrom p.codes items n) p items rs place at us

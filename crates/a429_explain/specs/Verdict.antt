@@ -11,8 +11,10 @@ use Rattle.a429_cert.specs.declared.fault.CertFault.{CertFault}
 use Rattle.a429_cert.specs.Fault.{IsFirstFault}
 use Rattle.a429_explain.specs.declared.verdict.Verdict.{Verdict}
 use Rattle.a429_explain.specs.declared.verdict.Verdict.TheVariants.{Explained, Impossible, Unexplained}
-use Rattle.a429_explain.specs.Walk.{FitsAt}
+use Rattle.a429_explain.specs.declared.stop.Stop.TheVariants as stop
+use Rattle.a429_explain.specs.Walk.{FitsAt, AreAllowed, IsFirstRefused}
 use Rattle.a429_explain.specs.Doubt.{IsDoubtAt}
+use Rattle.a429_explain.specs.FirstDoubt.{HasNoDoubt, IsFirstStop}
 
 -- a certificate explains the recorded words by a run that delivers the files, and every run that records them
 -- delivers these
@@ -47,3 +49,10 @@ IsExplanation _ = ⊥
 abbrev pub IsDoubted : Contents → List Seen → Verdict → Type 0
 IsDoubted p items (Unexplained i doubt) = IsDoubtAt p.codes items i doubt
 IsDoubted p items _ = Unit {0}
+
+-- the verdict stands where the first test fails: whether each word is allowed after those before it, then whether each group
+-- passes its tests, then whether the steps can be made
+abbrev pub IsFirst : Contents → List Seen → Verdict → Type 0
+IsFirst p items (Impossible i reason) = IsFirstRefused p items i
+IsFirst p items (Unexplained i doubt) = AreAllowed p items (length items) × IsFirstStop p items (stop.Unexplained i doubt)
+IsFirst p items (Explained certificate files) = AreAllowed p items (length items) × HasNoDoubt p items

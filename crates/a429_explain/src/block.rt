@@ -10,6 +10,7 @@ ghost use Rattle.a429_explain.specs.Attempts.{forms_of};
 ghost use Rattle.a429_explain.specs.Groups.{words_in};
 ghost use Rattle.a429_explain.specs.Said.{said_at};
 ghost use Rattle.a429_explain.specs.Doubt.{IsDoubtAt, IsStop};
+ghost use Rattle.a429_explain.specs.FirstDoubt.{IsStopIn};
 ghost use Rattle.a429_explain.specs.Whole.{wanted, other_request};
 ghost use Rattle.a429_explain.specs.Filled.{group_unit};
 ghost use Rattle.a429_explain.specs.Units.{IsUnitOf};
@@ -42,6 +43,7 @@ pub(crate) fn matched_unit(
     requires request { wanted (said_at profile.now.codes (slice_get (items_of entries.now) group.from)) ≡ Some count }
     ensures unit { IfOk result (λ u. IsUnitOf profile.now (items_of entries.now) group count place u) }
     ensures fits { IfErr result (λ s. IsStop profile.now.codes (items_of entries.now) s) }
+    ensures first { IfErr result (λ s. IsStopIn profile.now (items_of entries.now) group count place s) }
     ensures other { (i : ℕ) → other_request profile.now.codes count (words_in (items_of entries.now) group) group.from ≡ Some i → result ≡ Err (Stop.Unexplained i doubt.NotOneBlock) }
     ensures crossed { (u : LduValue) → HasCrossed profile.now (words_in (items_of entries.now) group) place u → IfOk result (λ v. v ≡ u) }
     ensures crossed_err { (u : LduValue) → HasCrossed profile.now (words_in (items_of entries.now) group) place u → IfErr result (λ s. s ≡ Stop.OutOfMemory) }
@@ -83,6 +85,7 @@ fn unit_of(
     ensures is { IfOk result (λ u. group_unit profile.now count (words_in (items_of entries.now) group) ≡ Some u) }
     ensures is_err { (u : LduValue) → other_request profile.now.codes count (words_in (items_of entries.now) group) group.from ≡ None → group_unit profile.now count (words_in (items_of entries.now) group) ≡ Some u → IfErr result (λ s. s ≡ Stop.OutOfMemory) }
     ensures never { other_request profile.now.codes count (words_in (items_of entries.now) group) group.from ≡ None → IfErr result (λ s. s ≢ Stop.OutOfMemory → (s ≡ Stop.Unexplained group.from doubt.NeverWhole) × (group_unit profile.now count (words_in (items_of entries.now) group) ≡ None)) }
+    ensures first { (place : Place) → IfErr result (λ s. IsStopIn profile.now (items_of entries.now) group count place s) }
 {
     if let Some(entry) = other_request(said, group, count) {
         let doubt = Doubt::NotOneBlock;

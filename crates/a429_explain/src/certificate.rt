@@ -7,6 +7,7 @@ ghost use Rattle.a429_cert.specs.Explained.{items_of, IsExplained};
 ghost use Rattle.a429_explain.specs.Attempts.{forms_of, roles as roles_of};
 ghost use Rattle.a429_explain.specs.Crossed.{started, first_file_of};
 ghost use Rattle.a429_explain.specs.Doubt.{IsStop};
+ghost use Rattle.a429_explain.specs.FirstDoubt.{IsGroupStop, IsFirstStop, HasNoDoubt};
 ghost use Rattle.a429_explain.specs.Units.{AreUnits, AreUnitsOf};
 ghost use Rattle.a429_explain.specs.WithoutLoss.{IsWithoutLoss};
 
@@ -42,6 +43,8 @@ pub(crate) fn certificate_of(
 ) -> Result<Explanation, Stop>
     ensures told { IfOk result (λ e. IsExplained profile.now e.text.items (items_of entries.now) e.files.items) }
     ensures fits { IfErr result (λ s. IsStop profile.now.codes (items_of entries.now) s) }
+    ensures groups { IfOk result (λ e. HasNoDoubt profile.now (items_of entries.now)) }
+    ensures first { IfErr result (λ s. IsFirstStop profile.now (items_of entries.now) s) }
     ensures clean { IsWithoutLoss profile.now (items_of entries.now) → IfErr result (λ s. s ≡ Stop.OutOfMemory) }
 {
     let _codes = profile.codes();
@@ -126,6 +129,7 @@ fn units_of(
     ensures units { IfOk result (λ units. AreUnits profile.now units.items) }
     ensures groups { IfOk result (λ units. AreUnitsOf profile.now (items_of entries.now) roles.now (record { file = first_file; ldu = profile.now.codes.first_ldu }) 0 units.items) }
     ensures fits { IfErr result (λ s. IsStop profile.now.codes (items_of entries.now) s) }
+    ensures first { IfErr result (λ s. IsGroupStop profile.now (items_of entries.now) roles.now (record { file = first_file; ldu = profile.now.codes.first_ldu }) s) }
     ensures clean { (us : List LduValue) → AllFit profile.now profile.now.codes.first_ldu us → thin profile.now.codes (items_of entries.now) ≡ clean profile.now.codes first_file profile.now.codes.first_ldu us → IfOk result (λ units. units.items ≡ us) }
     ensures clean_err { (us : List LduValue) → AllFit profile.now profile.now.codes.first_ldu us → thin profile.now.codes (items_of entries.now) ≡ clean profile.now.codes first_file profile.now.codes.first_ldu us → IfErr result (λ s. s ≡ Stop.OutOfMemory) }
 {

@@ -1,8 +1,9 @@
 //! The verdict on a recording.
 
-ghost use Rattle.std.specs.Prelude.{IfOk};
+ghost use Rattle.std.specs.Prelude.{IfOk, length};
 ghost use Rattle.a429_cert.specs.Explained.{items_of};
-ghost use Rattle.a429_explain.specs.Verdict.{IsSound, IsAccepted, IsImpossible, IsDoubted, HasNoForm, IsRefusal, IsExplanation};
+ghost use Rattle.a429_explain.specs.Verdict.{IsSound, IsAccepted, IsImpossible, IsDoubted, IsFirst, HasNoForm, IsRefusal, IsExplanation};
+ghost use Rattle.a429_explain.specs.Walk.{AreAllowed};
 ghost use Rattle.a429_explain.specs.WithoutLoss.{IsWithoutLoss};
 
 use crate::certificate::certificate_of;
@@ -22,6 +23,7 @@ pub fn check(alloc: Global, profile: &Profile, entries: &[Entry]) -> Result<Verd
     ensures accepted { IfOk result (λ v. IsAccepted profile.now (items_of entries.now) v) }
     ensures impossible { IfOk result (λ v. IsImpossible profile.now (items_of entries.now) v) }
     ensures doubted { IfOk result (λ v. IsDoubted profile.now (items_of entries.now) v) }
+    ensures first { IfOk result (λ v. IsFirst profile.now (items_of entries.now) v) }
     ensures no_form { HasNoForm profile.now.codes (items_of entries.now) → IfOk result IsRefusal }
     ensures without_loss { IsWithoutLoss profile.now (items_of entries.now) → IfOk result IsExplanation }
 {
@@ -36,10 +38,12 @@ pub fn check(alloc: Global, profile: &Profile, entries: &[Entry]) -> Result<Verd
 
 // The verdict where no word is refused.
 fn explain(alloc: Global, profile: &Profile, entries: &[Entry]) -> Result<Verdict, OutOfMemory>
+    requires allowed { AreAllowed profile.now (items_of entries.now) (length (items_of entries.now)) }
     ensures explained { IfOk result (λ v. IsSound profile.now (items_of entries.now) v) }
     ensures accepted { IfOk result (λ v. IsAccepted profile.now (items_of entries.now) v) }
     ensures impossible { IfOk result (λ v. IsImpossible profile.now (items_of entries.now) v) }
     ensures doubted { IfOk result (λ v. IsDoubted profile.now (items_of entries.now) v) }
+    ensures first { IfOk result (λ v. IsFirst profile.now (items_of entries.now) v) }
     ensures without_loss { IsWithoutLoss profile.now (items_of entries.now) → IfOk result IsExplanation }
 {
     let _codes = profile.codes();

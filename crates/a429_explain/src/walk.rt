@@ -29,7 +29,7 @@ pub(crate) fn walk(alloc: Global, profile: &Profile, entries: &[Entry]) -> Optio
     ensures impossible { IfSome result (λ r. BeginsARun profile.now (take (r.entry + 1) (items_of entries.now)) → ⊥) }
     ensures inside { IfSome result (λ r. r.entry < length entries.now) }
     ensures fits { IfSome result (λ r. FitsAt profile.now.codes (slice_get (items_of entries.now) r.entry) r.reason) }
-    ensures allowed { result ≡ None → AreAllowed profile.now (items_of entries.now) (length entries.now) }
+    ensures allowed { result ≡ None → AreAllowed profile.now (items_of entries.now) (length (items_of entries.now)) }
     ensures without_loss { IsWithoutLoss profile.now (items_of entries.now) → result ≡ None }
     ensures formed { result ≡ None → ¬ HasNoForm profile.now.codes (items_of entries.now) }
 {

@@ -1,4 +1,4 @@
-use Rattle.std.proofs.Common.{◌≡◌, Option, ◌+◌, ◌≤◌, length, IsSome, slice_range, Some, sym, subst, arith}
+use Rattle.std.proofs.Common.{◌≡◌, Option, ◌+◌, ◌≤◌, length, IsSome, slice_range, Some, sym, inr, subst, arith}
 use Rattle.a429_ldu.specs.Ldu.{LduValue}
 use Rattle.a429_cert.specs.Explained.{items_of}
 use Rattle.a429_explain.specs.Crossed.{HasCrossed}
@@ -18,6 +18,19 @@ gives c u h =
 -- a group has one unit
 found : (unit u : LduValue) (o : Option LduValue) → o ≡ Some unit → o ≡ Some u → unit ≡ u
 found unit u o e h = cc
+
+pub returns-in-Err-clause-first : goal.returns-in-Err-clause-first
+returns-in-Err-clause-first c = c.in-Err.ensures.first c.args.place
+
+pub returns-in-Some-clause-first : goal.returns-in-Some-clause-first
+returns-in-Some-clause-first c = inr (record {
+  others = c.in-Ok.ensures.others;
+  unit = c.in-Ok.unit;
+  is = c.in-Ok.ensures.is;
+  inside = c.in-Some.ensures.within;
+  before = c.in-Some.ensures.before;
+  unmatched = c.in-Some.ensures.unmatched;
+})
 
 pub returns-in-Err-clause-crossed_err : goal.returns-in-Err-clause-crossed_err
 returns-in-Err-clause-crossed_err c = λ u h. let g = gives (goal.at.returns-in-Err-clause-crossed_err c).After-unit_of u h in c.in-Err.ensures.is_err u g.others g.is

@@ -2,16 +2,18 @@ use Rattle.std.proofs.Common.{◌≡◌, List, ◌+◌, take, drop, length, take
 use Rattle.a429_link.specs.declared.seen.Seen.{Seen}
 use Rattle.a429_link.specs.Link.{LinkValue}
 use Rattle.a429_cert.specs.Explained.{seen_of, items_of, IsExplained}
-use Rattle.a429_explain.specs.Attempts.{roles}
+use Rattle.a429_explain.specs.Attempts.{forms_of, roles}
 use Rattle.a429_explain.specs.Crossed.{first_file_of}
 use Rattle.a429_explain.specs.Told.{Told}
 use Rattle.a429_explain.specs.Units.{AreUnits}
+use Rattle.a429_explain.proofs.Groups.{no_doubt, first_stop, step_stop}
 use Rattle.a429_explain.proofs.Matched.{length-items_of}
 use Rattle.a429_explain.proofs.Planned.{told_next, entry_next, goes_run, plan_kept}
 use Rattle.a429_explain.proofs.Roles.{length-roles}
 use Rattle.a429_explain.proofs.Telling.{certificate_told}
 use Rattle.a429_explain.proofs.WithoutLoss.{its_units, units_fit, units_found, plan_begun, stop_fits}
 use Rattle.a429_explain.proofs.certificate.certificate_of.Goals as goal
+use Rattle.a429_explain.proofs.certificate.certificate_of.Goals.{After-first_file-first}
 
 pub returns-in-Err-clause-clean : goal.returns-in-Err-clause-clean
 returns-in-Err-clause-clean c = λ h.
@@ -20,6 +22,28 @@ returns-in-Err-clause-clean c = λ h.
     let is = c.codes-codes.ensures.sound in
     let said = c.as_slice-said.ensures.value ∙ c.in-Ok.ensures in
     c.in-Err.ensures.clean_err (its_units p items h) (units_fit p is items h) (units_found p is items h c.first_file-first.result (c.first_file-first.ensures ∙ ap first_file_of said))
+
+-- the roles are those of the recording's words, and the first file has the number of the first start word
+roles_are : (a : After-first_file-first) → a.in-Ok-roles.roles.items ≡ roles (forms_of a.args.profile.now.codes (items_of a.args.entries.now))
+roles_are a = a.in-Ok-roles.ensures ∙ ap roles (a.as_slice-said.ensures.value ∙ a.in-Ok.ensures)
+
+first_is : (a : After-first_file-first) → a.first_file-first.result ≡ first_file_of (forms_of a.args.profile.now.codes (items_of a.args.entries.now))
+first_is a = a.first_file-first.ensures ∙ ap first_file_of (a.as_slice-said.ensures.value ∙ a.in-Ok.ensures)
+
+pub returns-in-Err-clause-first : goal.returns-in-Err-clause-first
+returns-in-Err-clause-first c =
+    let a = (goal.at.returns-in-Err-clause-first c).After-first_file-first in
+    first_stop c.args.profile.now (items_of c.args.entries.now) c.as_slice.result.now c.first_file-first.result c.in-Err.stop (c.as_slice.ensures.value ∙ roles_are a) (first_is a) c.in-Err.ensures.first
+
+pub returns-in-Err-tell-clause-first : goal.returns-in-Err-tell-clause-first
+returns-in-Err-tell-clause-first c =
+    let a = (goal.at.returns-in-Err-tell-clause-first c).After-first_file-first in
+    step_stop c.args.profile.now (items_of c.args.entries.now) c.loop-at.at c.in-Err-tell.fault c.stopped_at.result c.stopped_at.ensures.memory c.stopped_at.ensures.step (no_doubt c.args.profile.now (items_of c.args.entries.now) c.as_slice.result.now c.first_file-first.result c.in-Ok-units_of.units.items (c.as_slice.ensures.value ∙ roles_are a) (first_is a) c.in-Ok-units_of.ensures.groups)
+
+pub returns-clause-groups : goal.returns-clause-groups
+returns-clause-groups c =
+    let a = (goal.at.returns-clause-groups c).After-first_file-first in
+    no_doubt c.args.profile.now (items_of c.args.entries.now) c.as_slice.result.now c.first_file-first.result c.in-Ok-units_of.units.items (c.as_slice.ensures.value ∙ roles_are a) (first_is a) c.in-Ok-units_of.ensures.groups
 
 pub loop-at-init : goal.loop-at-init
 loop-at-init c =

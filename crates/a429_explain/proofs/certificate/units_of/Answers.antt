@@ -7,7 +7,7 @@ use Rattle.a429_explain.specs.Said.{said_at}
 use Rattle.a429_explain.specs.Whole.{wanted}
 use Rattle.a429_explain.proofs.Listed.{items_long, said_long, wants_here}
 use Rattle.a429_explain.proofs.Roles.{roles_long}
-use Rattle.a429_explain.proofs.CrossedUnits.{IsNext, finds_none, finds_free, finds_group, finds_next, finds_all, finds_groups}
+use Rattle.a429_explain.proofs.CrossedUnits.{IsNext, finds_none, finds_free, finds_group, finds_next, finds_all, finds_groups, finds_doubt}
 use Rattle.a429_explain.proofs.certificate.units_of.Goals as goal
 use Rattle.a429_explain.proofs.certificate.units_of.Goals.{After-wanted, After-group_at-group}
 
@@ -39,6 +39,11 @@ matched_unit-requires-clause-inside c =
 
 pub returns-in-Err-clause-clean_err : goal.returns-in-Err-clause-clean_err
 returns-in-Err-clause-clean_err c = λ us fit e. let g = next (goal.at.returns-in-Err-clause-clean_err c).After-group_at-group (wants (goal.at.returns-in-Err-clause-clean_err c).After-wanted) (inside (goal.at.returns-in-Err-clause-clean_err c).After-wanted) us fit e in c.in-Err.ensures.crossed_err g.unit g.crossed
+
+pub returns-in-Err-clause-first : goal.returns-in-Err-clause-first
+returns-in-Err-clause-first c =
+    let a = (goal.at.returns-in-Err-clause-first c).After-wanted in
+    finds_doubt c.args.profile.now (items_of c.args.entries.now) c.args.roles.now c.args.first_file c.loop-at.units.items c.loop-at.place c.loop-at.at c.in-Some.count c.group_at-group.result c.in-Err.stop c.group_at-group.ensures.from c.group_at-group.ensures.to (sym (wants a) ∙ c.in-Some.is) c.in-Err.ensures.first c.loop-at.invariant
 
 pub loop-at-init : goal.loop-at-init
 loop-at-init c = finds_none c.args.profile.now (items_of c.args.entries.now) c.args.roles.now c.args.first_file c.new-units.result.items c.from.result (omega (arith, c.ranges.first_file.fits)) c.new-units.ensures.items (c.from.ensures ∙ ap (λ (x : Codes). x.first_ldu) c.codes.ensures.codes)

@@ -8,6 +8,7 @@ returns-in-Ok-clause-verdict g c =
       sound = rw slice at c.in-Ok.ensures.explained;
       impossible = rw slice at c.in-Ok.ensures.impossible;
       doubted = rw slice at c.in-Ok.ensures.doubted;
+      first = rw slice at c.in-Ok.ensures.first;
       no_form = rw slice at c.in-Ok.ensures.no_form;
       without_loss = rw slice at c.in-Ok.ensures.without_loss;
     }
