@@ -24,6 +24,3 @@ pub use crate::replay::verify;
 pub use crate::verified::Verified;
 pub use crate::words::Words;
 pub use crate::writing::write_line;
-
-#[cfg(test)]
-mod tests;

@@ -119,6 +119,3 @@ fn seen_at(entries: &[Entry], i: usize) -> Option<Seen>
         word: entry.word,
     })
 }
-
-#[cfg(test)]
-mod tests;

@@ -120,6 +120,3 @@ fn all_of<'a>(alloc: Global, given: Option<&[&'a str]>) -> Result<Vec<&'a str>, 
         None => Ok(Vec::new(alloc)),
     }
 }
-
-#[cfg(test)]
-mod tests;

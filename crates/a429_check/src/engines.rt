@@ -7,8 +7,6 @@ pub mod make;
 mod output;
 mod profile;
 mod recording;
-#[cfg(test)]
-pub(crate) mod sample;
 pub mod show;
 mod verdict;
 pub mod verify;

@@ -85,6 +85,3 @@ pub fn report<W: Write>(fault: &RunFault, err: &mut Tally<W>) -> u8
     let _ = writeln!(err, "{fault}");
     fault.status()
 }
-
-#[cfg(test)]
-mod tests;

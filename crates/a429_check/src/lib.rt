@@ -5,8 +5,6 @@
 mod command_line;
 mod engines;
 mod fault;
-#[cfg(test)]
-mod trials;
 
 pub use crate::command_line::command;
 pub use crate::command_line::commands::Command;

@@ -56,6 +56,3 @@ fn explain(alloc: Global, profile: &Profile, entries: &[Entry]) -> Result<Verdic
         Err(Stop::OutOfMemory) => Err(OutOfMemory),
     }
 }
-
-#[cfg(test)]
-mod tests;

@@ -25,6 +25,3 @@ pub use crate::register::check_word;
 pub use crate::semis::Semis;
 pub use crate::sight::{Sight, form};
 pub use crate::writing::word_of;
-
-#[cfg(test)]
-mod tests;

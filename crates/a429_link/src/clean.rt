@@ -94,6 +94,3 @@ pub fn clean_run(
     }
     Ok(run)
 }
-
-#[cfg(test)]
-mod tests;

@@ -10,8 +10,6 @@ mod link;
 mod number;
 mod observer;
 mod reading;
-#[cfg(test)]
-mod runs;
 mod seen;
 mod shelf;
 mod sink;

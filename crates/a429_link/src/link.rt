@@ -90,6 +90,3 @@ impl<'a> Link<'a> {
         self.transfer.take_delivered(self.alloc)
     }
 }
-
-#[cfg(test)]
-pub(crate) mod tests;

@@ -119,6 +119,3 @@ impl Observer {
         }
     }
 }
-
-#[cfg(test)]
-mod tests;

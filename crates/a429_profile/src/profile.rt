@@ -155,6 +155,3 @@ impl Profile {
         }
     }
 }
-
-#[cfg(test)]
-mod tests;

@@ -36,6 +36,3 @@ pub fn read_entries<R: Read>(alloc: Global, rec: &mut Tally<R>) -> Result<Vec<En
         }
     }
 }
-
-#[cfg(test)]
-mod tests;

@@ -105,6 +105,3 @@ fn bus_and_word(bus: Bus, word: Word, before: u8, behind: u8) -> [u8; 12]
         behind,
     ]
 }
-
-#[cfg(test)]
-mod tests;

@@ -76,6 +76,3 @@ fn packed_digits(count: u8, value: u32) -> u32
     }
     packed
 }
-
-#[cfg(test)]
-mod tests;

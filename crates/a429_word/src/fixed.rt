@@ -132,6 +132,3 @@ fn shortened(number: u128, decimals: u8) -> (u128, u8)
     }
     (rest, left)
 }
-
-#[cfg(test)]
-mod tests;

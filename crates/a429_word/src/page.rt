@@ -110,6 +110,3 @@ fn zeros(alloc: Global, len: usize) -> Result<Vec<u8>, AllocError>
 {
     vec![in alloc; 0; len]
 }
-
-#[cfg(test)]
-mod tests;

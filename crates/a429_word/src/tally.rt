@@ -268,6 +268,3 @@ fn failure() -> io::Error
 {
     io::Error::from(ErrorKind::Other)
 }
-
-#[cfg(test)]
-mod tests;

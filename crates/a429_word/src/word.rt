@@ -229,6 +229,3 @@ fn parity_of(number: u32) -> u32
 {
     number.count_ones() % 2
 }
-
-#[cfg(test)]
-mod tests;

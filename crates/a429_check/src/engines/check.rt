@@ -135,6 +135,3 @@ fn put_doubt<W: Write>(out: &mut Tally<W>, doubt: Doubt) -> Result<(), Device>
         Doubt::NotReplayed => out.put(b" NotReplayed\n"),
     }
 }
-
-#[cfg(test)]
-mod tests;

@@ -43,6 +43,3 @@ pub fn run_extract<R: Read, C: Read, W: Write>(
         }
     }
 }
-
-#[cfg(test)]
-mod tests;

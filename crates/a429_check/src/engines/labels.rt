@@ -118,6 +118,3 @@ fn put_bcd<W: Write>(out: &mut Tally<W>, digits: u8, decimals: u8) -> Result<(),
     out.put(b" ")?;
     put_decimal(out, u64::from(decimals))
 }
-
-#[cfg(test)]
-mod tests;

@@ -154,6 +154,3 @@ fn put_words<W: Write>(
     }
     Ok(())
 }
-
-#[cfg(test)]
-mod tests;

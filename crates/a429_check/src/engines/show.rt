@@ -249,6 +249,3 @@ fn put_flag<W: Write>(
     let is_set = field >> (flag.bit - 11) & 1 == 1;
     page.put(out, if is_set { b"=1" } else { b"=0" })
 }
-
-#[cfg(test)]
-mod tests;

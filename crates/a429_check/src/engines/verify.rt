@@ -41,6 +41,3 @@ pub fn run_verify<R: Read, C: Read, W: Write>(
         }
     }
 }
-
-#[cfg(test)]
-mod tests;

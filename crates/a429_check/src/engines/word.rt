@@ -72,6 +72,3 @@ fn put_line<W: Write>(out: &mut Tally<W>, name: &str, value: &[u8]) -> Result<()
     out.put(value)?;
     out.put(b"\n")
 }
-
-#[cfg(test)]
-mod tests;

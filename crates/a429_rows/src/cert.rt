@@ -1,0 +1,4 @@
+//! Certificates: their lines, and what they explain of the recording of one byte.
+
+mod lines;
+mod replay;

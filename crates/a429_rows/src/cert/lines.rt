@@ -1,0 +1,164 @@
+//! Lines of certificates, and texts that are no line.
+
+use a429_cert::{Act, CertLine, OutOfMemory, Words, read_line, write_line};
+use a429_link::{SinkState, SourceState};
+use a429_sample::CERTIFICATE;
+use a429_word::Word;
+use std::alloc::{AllocError, Global};
+use std::test::Fail;
+
+// The ends of the ranges.
+const ENDS: &str = "\
+first 0
+first 255
+l S254 B254 255 255
+t I N 100 9
+L F F 0000 00000000 FFFFFFFF";
+
+const NO_LINES: &str = "\
+first 01
+first 256
+first 99999999999999999999
+first +1
+t I Q 256 0
+k S255 Q 0 0
+k S1 B0 0 0
+k S1 B255 0 0
+k S Q 0 0
+k S01 Q 0 0
+First 1
+x I Q 0 0
+a  C Q 1 0
+a C Q 1
+a C Q 1 0 0
+a c Q 1 0
+a C C 1 0
+L 0 1 A3F5 1200412a
+L 0 1 a3F5 12004123
+L 0 1 A3F5 1200412
+L 00 1 A3F5 12004123";
+
+// Texts that are empty, or end in a byte that is no part of a line.
+const BAD_ENDS: [&str; 6] = [
+    "",
+    "\0",
+    "first 1\0",
+    "first 1 ",
+    "first 1\n",
+    "L 0 1 A3F5 12004123 ",
+];
+
+// None for a text that is read as no line; else whether the line is written as this text again.
+fn is_written_again(alloc: Global, text: &str) -> Result<Option<bool>, OutOfMemory> {
+    let Some(line) = read_line(alloc, text.as_bytes())? else {
+        return Ok(None);
+    };
+    let mut written = Vec::new(alloc);
+    write_line(&line, &mut written)?;
+    Ok(Some(written.as_slice() == text.as_bytes()))
+}
+
+// The text of a link data unit of so many words.
+fn load_text(alloc: Global, count: usize) -> Result<String, AllocError> {
+    let mut text = String::from_str(alloc, "L 0 1 A3F5")?;
+    for _ in 0..count {
+        text.push_str(" 12004123")?;
+    }
+    Ok(text)
+}
+
+// What a line tells of a step and of what it leaves.
+fn moved(line: &CertLine) -> Option<(Act, SourceState, SinkState, u8, u8)> {
+    match *line {
+        CertLine::Moved {
+            act,
+            source,
+            sink,
+            to_sink,
+            to_source,
+        } => Some((act, source, sink, to_sink, to_source)),
+        _ => None,
+    }
+}
+
+#[test]
+fn certificate_of_one_byte(rt: HostRuntime) -> Result<(), Fail> {
+    for line in CERTIFICATE.lines().skip(1) {
+        assert!(rt; is_written_again(rt.alloc(), line)? == Some(true));
+    }
+    Ok(())
+}
+
+#[test]
+fn ends_of_the_ranges(rt: HostRuntime) -> Result<(), Fail> {
+    for line in ENDS.lines() {
+        assert!(rt; is_written_again(rt.alloc(), line)? == Some(true));
+    }
+    Ok(())
+}
+
+#[test]
+fn loads_of_many_words(rt: HostRuntime) -> Result<(), Fail> {
+    for (count, wanted) in [(0, None), (253, Some(true)), (254, None)] {
+        let text = load_text(rt.alloc(), count)?;
+        assert!(rt; is_written_again(rt.alloc(), text.as_str())? == wanted);
+    }
+    Ok(())
+}
+
+#[test]
+fn texts_that_are_no_line(rt: HostRuntime) -> Result<(), Fail> {
+    for text in NO_LINES.lines() {
+        assert!(rt; is_written_again(rt.alloc(), text)? == None);
+    }
+    Ok(())
+}
+
+#[test]
+fn bytes_that_end_no_line(rt: HostRuntime) -> Result<(), Fail> {
+    for text in BAD_ENDS {
+        assert!(rt; is_written_again(rt.alloc(), text)? == None);
+    }
+    Ok(())
+}
+
+#[test]
+fn values_of_lines(rt: HostRuntime) -> Result<(), Fail> {
+    assert!(rt;
+        matches!(
+            read_line(rt.alloc(), b"first 12")?,
+            Some(CertLine::First(12))
+        )
+    );
+    let line = read_line(rt.alloc(), b"k S1 c 2 3")?.ok_or("a line")?;
+    let step = (
+        Act::SinkTakes,
+        SourceState::Sending(1),
+        SinkState::OwesClear,
+        2,
+        3,
+    );
+    assert!(rt; moved(&line) == Some(step));
+    Ok(())
+}
+
+#[test]
+fn words_of_a_load(rt: HostRuntime) -> Result<(), Fail> {
+    let line = read_line(rt.alloc(), b"L 2 1 A3F5 12004123")?;
+    let Some(
+        CertLine::Load {
+            gfi: 2,
+            flags: 1,
+            check: 0xA3F5,
+            words,
+        },
+    ) = line
+    else {
+        return Err(Fail::from("the bytes are a line"));
+    };
+    let word = [Word::from_u32(0x1200_4123)];
+    assert!(rt; words.as_slice() == word.as_slice());
+    let words = Words::new(words.into_vec());
+    assert!(rt; words.as_slice().len() == 1);
+    Ok(())
+}

@@ -1,0 +1,126 @@
+//! Changed certificates of the transfer of one byte, held against its recording.
+
+use a429_cert::verify;
+use a429_profile::{Profile, read_profile};
+use a429_record::Entry;
+use a429_sample::{ACK, CERTIFICATE, CTS, EOT, PART, PROFILE, RTS, SOT};
+use a429_word::{Bus, Word};
+use std::alloc::{AllocError, Global};
+use std::test::Fail;
+
+// How many files a certificate lends, and what it gives away: file 1, with the byte 41, 65 in decimal.
+const ONE_FILE: &str = "1 [FileBytes { number: 1, bytes: Bytes { bytes: [65] } }]";
+
+fn entry(time: u64, bus: Bus, word: u32) -> Entry {
+    Entry {
+        time,
+        bus,
+        word: Word::from_u32(word),
+    }
+}
+
+// The recording of a file of the byte 41, with this request.
+fn recording(request: u32) -> [Entry; 6] {
+    [
+        entry(0, Bus::A, request),
+        entry(1000, Bus::B, CTS),
+        entry(2000, Bus::A, SOT),
+        entry(3000, Bus::A, PART),
+        entry(4000, Bus::A, EOT),
+        entry(5000, Bus::B, ACK),
+    ]
+}
+
+// Appends the certificate's lines from one on and before another, both counted from 0.
+fn push_lines(text: &mut String, start: usize, end: usize) -> Result<(), AllocError> {
+    for (number, line) in CERTIFICATE.lines().enumerate() {
+        if start <= number && number < end {
+            text.push_str(line)?;
+            text.push('\n')?;
+        }
+    }
+    Ok(())
+}
+
+// The certificate with this text in the place of its lines from one on and before another.
+fn changed(alloc: Global, start: usize, end: usize, text: &str) -> Result<String, AllocError> {
+    let mut certificate = String::new(alloc);
+    push_lines(&mut certificate, 0, start)?;
+    certificate.push_str(text)?;
+    push_lines(&mut certificate, end, 15)?;
+    Ok(certificate)
+}
+
+// The fault of a certificate, or how many files it lends and which it gives away.
+fn verdict(
+    alloc: Global,
+    profile: &Profile,
+    entries: &[Entry],
+    certificate: &str,
+) -> Result<String, AllocError> {
+    match verify(alloc, profile, entries, certificate.as_bytes()) {
+        Ok(verified) => {
+            let count = verified.files().len();
+            format!(in alloc; "{count} {:?}", verified.into_files())
+        }
+        Err(fault) => format!(in alloc; "{fault:?}"),
+    }
+}
+
+#[test]
+fn changed_certificates(rt: HostRuntime) -> Result<(), Fail> {
+    let profile = read_profile(rt.alloc(), PROFILE)?;
+    let entries = recording(RTS);
+    let cases = [
+        // They explain the recording.
+        (15, 15, "", ONE_FILE),
+        (14, 15, "", ONE_FILE),
+        (3, 3, "l C Q 0 0\nt I Q 0 0\n", ONE_FILE),
+        // The first two lines.
+        (0, 15, "", "Version"),
+        (
+            0,
+            15,
+            "arinc429-cert 3\nfirst 1\nL 0 1 A3F5 12004123\n",
+            "Version",
+        ),
+        (1, 15, "", "Line(2)"),
+        (2, 15, "first 1\n", "Line(3)"),
+        // Lines that are no step.
+        (3, 4, "a  C Q 1 0\n", "Line(4)"),
+        (14, 15, "g I Q 0 0", "Line(15)"),
+        (2, 15, "L 0 1 A3F4 12004123\na C Q 1 0\n", "NotAllowed(3)"),
+        (3, 15, "b C G 0 1\n", "NotAllowed(4)"),
+        (4, 15, "t I Q 0 0\n", "NotAllowed(5)"),
+        // Lines that differ.
+        (3, 15, "a S0 Q 1 0\n", "StateDiffers(4)"),
+        (3, 15, "n I Q 0 0\n", "WordDiffers { line: 4, entry: 0 }"),
+        (13, 15, "", "Unfinished(5)"),
+        (15, 15, "n I Q 0 0\n", "WordDiffers { line: 16, entry: 6 }"),
+    ];
+    for (start, end, text, wanted) in cases {
+        let certificate = changed(rt.alloc(), start, end, text)?;
+        let verdict = verdict(rt.alloc(), &profile, &entries, certificate.as_str())?;
+        assert!(rt; verdict.as_str() == wanted);
+    }
+    Ok(())
+}
+
+#[test]
+fn nothing_recorded(rt: HostRuntime) -> Result<(), Fail> {
+    let profile = read_profile(rt.alloc(), PROFILE)?;
+    let certificate = changed(rt.alloc(), 0, 15, "arinc429-cert 1\nfirst 0\n")?;
+    let verdict = verdict(rt.alloc(), &profile, &[], certificate.as_str())?;
+    assert!(rt; verdict.as_str() == "0 []");
+    Ok(())
+}
+
+#[test]
+fn other_request(rt: HostRuntime) -> Result<(), Fail> {
+    let profile = read_profile(rt.alloc(), PROFILE)?;
+    let entries = recording(0x4141_FF23);
+    let certificate = changed(rt.alloc(), 15, 15, "")?;
+    let verdict = verdict(rt.alloc(), &profile, &entries, certificate.as_str())?;
+    assert!(rt; verdict.as_str() == "WordDiffers { line: 4, entry: 0 }");
+    Ok(())
+}

@@ -1,0 +1,11 @@
+//! The commands: how their words are read, what each writes and answers, and how a fault is told.
+
+mod check;
+mod command_line;
+mod extract;
+mod faults;
+mod labels;
+mod make;
+mod show;
+mod verify;
+mod word;

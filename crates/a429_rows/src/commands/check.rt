@@ -1,0 +1,166 @@
+//! The verdicts on small recordings, and their certificates.
+
+use crate::calls::{YES, check_told, recorded, told, verify_told};
+use a429_check::run_check;
+use a429_sample::{CERTIFICATE, PROFILE, RECORDING};
+use a429_word::{Failing, Tally};
+use std::alloc::Global;
+use std::test::Fail;
+
+// This is the verdict on a recording, and this the certificate that is written.
+fn verdict_is(
+    alloc: Global,
+    recording: &str,
+    verdict: &str,
+    certificate: &str,
+) -> Result<bool, Fail> {
+    let (text, written) = check_told(alloc, recording)?;
+    Ok(text.as_str() == verdict && written.as_slice() == certificate.as_bytes())
+}
+
+#[test]
+fn explained(rt: HostRuntime) -> Result<(), Fail> {
+    let alloc = rt.alloc();
+    let nothing = "arinc429-cert 1\nfirst 0\n";
+    assert!(rt; verdict_is(alloc, "time,bus,word\n", "0\nYES files 0\n", nothing)?);
+    assert!(rt; verdict_is(alloc, RECORDING, YES, CERTIFICATE)?);
+    Ok(())
+}
+
+#[test]
+fn no_recording(rt: HostRuntime) -> Result<(), Fail> {
+    let cases = [
+        ("", "recording: header\n"),
+        ("0,A,41410323", "recording: header\n"),
+        ("time,bus,word\n0,C,41410323\n", "recording: row 0\n"),
+    ];
+    for (recording, fault) in cases {
+        assert!(rt; verdict_is(rt.alloc(), recording, fault, "")?);
+    }
+    Ok(())
+}
+
+// A yes has a certificate that is accepted with the same files, and else there is none.
+fn is_borne_out(
+    alloc: Global,
+    recording: &str,
+    certificate: &[u8],
+    verdict: &str,
+) -> Result<bool, Fail> {
+    if !verdict.starts_with('0') {
+        return Ok(certificate.is_empty());
+    }
+    Ok(verify_told(alloc, recording, certificate)?.as_str() == verdict)
+}
+
+// This is the verdict on the recording of these words, and it is borne out.
+fn says(alloc: Global, words: &str, verdict: &str) -> Result<bool, Fail> {
+    let recording = recorded(alloc, words)?;
+    let (text, certificate) = check_told(alloc, recording.as_str())?;
+    let is_same = text.as_str() == verdict;
+    Ok(is_same && is_borne_out(alloc, recording.as_str(), certificate.as_slice(), verdict)?)
+}
+
+// The first case `STATUS VERDICT: WORDS` that is another, counted from 0.
+fn first_that_differs(alloc: Global, cases: &str) -> Result<Option<usize>, Fail> {
+    for (n, case) in cases.split('\n').enumerate() {
+        let (verdict, words) = case.split_once(": ").ok_or("no words")?;
+        let (status, text) = verdict.split_once(' ').ok_or("no verdict")?;
+        let verdict = format!(in alloc; "{status}\n{text}\n")?;
+        if !says(alloc, words, verdict.as_str())? {
+            return Ok(Some(n));
+        }
+    }
+    Ok(None)
+}
+
+#[test]
+fn answers_that_are_not_owed(rt: HostRuntime) -> Result<(), Fail> {
+    let cases = "1 IMPOSSIBLE 0 WrongAnswer: CTS
+1 IMPOSSIBLE 0 WrongAnswer: ACK
+1 IMPOSSIBLE 1 WrongAnswer: RTS NAK
+1 IMPOSSIBLE 2 WrongAnswer: RTS CTS CTS
+1 IMPOSSIBLE 4 WrongAnswer: RTS CTS SOT EOT ACK
+1 IMPOSSIBLE 6 WrongAnswer: RTS CTS SOT PART EOT NAK ACK";
+    assert_eq!(rt; first_that_differs(rt.alloc(), cases)?, None);
+    Ok(())
+}
+
+#[test]
+fn words_that_are_not_granted(rt: HostRuntime) -> Result<(), Fail> {
+    let cases = "1 IMPOSSIBLE 1 NotGranted: RTS SOT
+1 IMPOSSIBLE 4 NotGranted: RTS CTS SOT PART PART
+1 IMPOSSIBLE 0 NoForm: C1410223";
+    assert_eq!(rt; first_that_differs(rt.alloc(), cases)?, None);
+    Ok(())
+}
+
+#[test]
+fn recordings_in_doubt(rt: HostRuntime) -> Result<(), Fail> {
+    let cases = "2 UNEXPLAINED 0 NeverWhole: RTS CTS PART EOT NAK
+2 UNEXPLAINED 2 NotOneBlock: RTS CTS 60010223";
+    assert_eq!(rt; first_that_differs(rt.alloc(), cases)?, None);
+    Ok(())
+}
+
+// A damaged word, and a transfer that begins anew behind its first words.
+#[test]
+fn transfers_that_go_on(rt: HostRuntime) -> Result<(), Fail> {
+    assert!(rt; says(rt.alloc(), "RTS CTS 92004123", "0\nYES files 0\n")?);
+    let cases = "RTS RTS CTS SOT PART EOT ACK
+RTS CTS RTS CTS SOT PART EOT ACK
+RTS CTS SOT RTS CTS SOT PART EOT ACK
+RTS CTS SOT PART RTS CTS SOT PART EOT ACK
+RTS CTS SOT PART EOT RTS CTS SOT PART EOT ACK
+RTS CTS SOT PART EOT ACK RTS CTS SOT PART EOT ACK";
+    for words in cases.split('\n') {
+        assert!(rt; says(rt.alloc(), words, YES)?);
+    }
+    Ok(())
+}
+
+// No verdict is given for this fault. The certificate's writer has room for 20 bytes, and none is written unless it
+// is the one that fails.
+fn fails(
+    alloc: Global,
+    profile: &str,
+    recording: (&str, u64),
+    fault: &str,
+    is_writer_short: bool,
+) -> Result<bool, Fail> {
+    let (recording, most) = recording;
+    let mut room = [0; 20];
+    let mut written = Vec::new(alloc);
+    let mut rec = Tally::new(recording.as_bytes(), most);
+    let mut cert = Tally::new(room.as_mut_slice(), 0);
+    let mut out = Tally::new(&mut written, 0);
+    let found = run_check(alloc, profile.as_bytes(), &mut rec, &mut cert, &mut out);
+    let has_failed = cert.failed();
+    let text = told(alloc, found, written.as_slice())?;
+    let is_filled = room != [0; 20];
+    Ok(text.as_str() == fault && has_failed == is_writer_short && is_filled == is_writer_short)
+}
+
+// The second recording has as many bytes as may be read: its end is not seen.
+#[test]
+fn no_verdict(rt: HostRuntime) -> Result<(), Fail> {
+    let alloc = rt.alloc();
+    assert!(rt;
+        fails(
+            alloc,
+            "",
+            ("", 1),
+            "profile: missing transfer.to_sink\n",
+            false
+        )?
+    );
+    let cut_off = (RECORDING, RECORDING.len() as u64);
+    assert!(rt; fails(alloc, PROFILE, cut_off, "device\n", false)?);
+    Ok(())
+}
+
+#[test]
+fn a_certificate_without_room(rt: HostRuntime) -> Result<(), Fail> {
+    assert!(rt; fails(rt.alloc(), PROFILE, (RECORDING, 1000), "device\n", true)?);
+    Ok(())
+}

@@ -1,0 +1,78 @@
+//! Which words are a command's.
+
+use a429_check::{RunFault, command};
+use std::alloc::{AllocError, Global};
+use std::test::Fail;
+
+// What some words mean, with spaces between them.
+fn meaning(alloc: Global, words: &str) -> Result<String, AllocError> {
+    let mut all = Vec::new(alloc);
+    for word in words.split(' ') {
+        all.push(String::from_str(alloc, word)?)?;
+    }
+    let found = command(alloc, all.as_slice());
+    format!(in alloc; "{found:?}")
+}
+
+// The first case `WORDS -> MEANING` that is another, counted from 0.
+fn first_that_differs(alloc: Global, cases: &str) -> Result<Option<usize>, Fail> {
+    for (n, case) in cases.split('\n').enumerate() {
+        let (words, wanted) = case.split_once(" -> ").ok_or("no meaning")?;
+        if meaning(alloc, words)?.as_str() != wanted {
+            return Ok(Some(n));
+        }
+    }
+    Ok(None)
+}
+
+#[test]
+fn words_of_a_command(rt: HostRuntime) -> Result<(), Fail> {
+    let cases = r#"word E13880C1 -> Ok(Word("E13880C1"))
+word help -> Ok(Word("help"))
+word  -> Ok(Word(""))
+word - -> Ok(Word("-"))
+word -- -5 -> Ok(Word("-5"))
+labels bench.toml -> Ok(Labels("bench.toml"))
+show bench.toml bench.csv -> Ok(Show { profile: "bench.toml", recording: "bench.csv" })
+check bench.toml bench.csv bench.cert -> Ok(Check { profile: "bench.toml", recording: "bench.csv", certificate: "bench.cert" })
+verify bench.toml bench.csv bench.cert -> Ok(Verify { profile: "bench.toml", recording: "bench.csv", certificate: "bench.cert" })
+extract bench.toml bench.csv bench.cert files -> Ok(Extract { profile: "bench.toml", recording: "bench.csv", certificate: "bench.cert", folder: "files" })
+make bench.toml -> Ok(Make { profile: "bench.toml", files: [] })
+make bench.toml one.bin two.bin -> Ok(Make { profile: "bench.toml", files: ["one.bin", "two.bin"] })"#;
+    assert_eq!(rt; first_that_differs(rt.alloc(), cases)?, None);
+    Ok(())
+}
+
+// The line without words has one empty word.
+#[test]
+fn other_words_are_usage(rt: HostRuntime) -> Result<(), Fail> {
+    let cases = "labels -> Err(Usage)
+check bench.toml bench.csv -> Err(Usage)
+extract bench.toml bench.csv bench.cert -> Err(Usage)
+verify bench.toml bench.csv -> Err(Usage)
+make -> Err(Usage)
+show bench.toml -> Err(Usage)
+show bench.toml bench.csv other.csv -> Err(Usage)
+labels bench.toml other.toml -> Err(Usage)
+ -> Err(Usage)
+word -> Err(Usage)
+word E13880C1 E13880C1 -> Err(Usage)
+wor E13880C1 -> Err(Usage)
+Word E13880C1 -> Err(Usage)
+E13880C1 -> Err(Usage)
+help -> Err(Usage)
+help word -> Err(Usage)
+--help -> Err(Usage)
+-h -> Err(Usage)
+--version -> Err(Usage)
+word --help -> Err(Usage)
+word -5 -> Err(Usage)";
+    assert_eq!(rt; first_that_differs(rt.alloc(), cases)?, None);
+    Ok(())
+}
+
+#[test]
+fn no_words_are_usage(rt: HostRuntime) {
+    let none = Vec::new(rt.alloc());
+    assert!(rt; command(rt.alloc(), none.as_slice()) == Err(RunFault::Usage));
+}

@@ -1,0 +1,107 @@
+//! The lines that tell a fault.
+
+use a429_check::{RunFault, report};
+use a429_ldu::CutFault;
+use a429_profile::{Key, LabelKey, ProfileFault, SectionKey};
+use a429_record::ReadFault;
+use a429_word::Tally;
+use std::alloc::Global;
+
+// The fault is told by this line, and the program then ends with this status.
+fn tells(alloc: Global, fault: RunFault, line: &str, status: u8) -> bool {
+    let mut bytes = Vec::new(alloc);
+    let found = report(&fault, &mut Tally::new(&mut bytes, 0));
+    found == status && bytes.as_slice() == line.as_bytes()
+}
+
+#[test]
+fn faults_of_words_devices_and_files(rt: HostRuntime) {
+    let cases = [
+        (RunFault::BadWord, "bad word\n", 3),
+        (RunFault::Device, "device\n", 4),
+        (RunFault::Memory, "memory\n", 4),
+        (RunFault::Usage, "usage\n", 5),
+        (RunFault::Cut(0, CutFault::Empty), "file 1: empty\n", 3),
+        (
+            RunFault::Cut(11, CutFault::TooLong),
+            "file 12: too long\n",
+            3,
+        ),
+    ];
+    for (fault, line, status) in cases {
+        assert!(rt; tells(rt.alloc(), fault, line, status));
+    }
+}
+
+#[test]
+fn faults_of_recordings(rt: HostRuntime) {
+    let cases = [
+        (ReadFault::Header, "recording: header\n"),
+        (ReadFault::Row(12), "recording: row 12\n"),
+        (ReadFault::TimeBack(1), "recording: time back 1\n"),
+        (ReadFault::TooMany, "recording: too many\n"),
+    ];
+    for (fault, line) in cases {
+        assert!(rt; tells(rt.alloc(), RunFault::Read(fault), line, 3));
+    }
+}
+
+#[test]
+fn faults_of_keys(rt: HostRuntime) {
+    let section = Key::Section(SectionKey::ToSink);
+    let label = Key::Label(12, LabelKey::Octal);
+    let cases = [
+        (
+            ProfileFault::Missing(section),
+            "profile: missing transfer.to_sink\n",
+        ),
+        (
+            ProfileFault::WrongKind(Key::Labels),
+            "profile: wrong kind label\n",
+        ),
+        (
+            ProfileFault::WrongKind(label),
+            "profile: wrong kind label 12 octal\n",
+        ),
+        (
+            ProfileFault::OutOfRange(section),
+            "profile: out of range transfer.to_sink\n",
+        ),
+        (
+            ProfileFault::OutOfRange(label),
+            "profile: out of range label 12 octal\n",
+        ),
+    ];
+    for (fault, line) in cases {
+        assert!(rt; tells(rt.alloc(), RunFault::Profile(fault), line, 3));
+    }
+}
+
+#[test]
+fn faults_of_documents_and_clashes(rt: HostRuntime) {
+    let codes = ProfileFault::CodeClash(SectionKey::Ack, SectionKey::IgnoredCodes);
+    let cases = [
+        (ProfileFault::NotToml, "profile: not toml\n"),
+        (ProfileFault::LabelClash(7), "profile: label clash 007\n"),
+        (
+            ProfileFault::LabelClash(0o304),
+            "profile: label clash 304\n",
+        ),
+        (codes, "profile: code clash codes.ack codes.ignored\n"),
+        (
+            ProfileFault::BitClash(0o10, 11),
+            "profile: bit clash 010 11\n",
+        ),
+    ];
+    for (fault, line) in cases {
+        assert!(rt; tells(rt.alloc(), RunFault::Profile(fault), line, 3));
+    }
+}
+
+#[test]
+fn a_failing_writer_keeps_the_status(rt: HostRuntime) {
+    let mut page = [0; 3];
+    let mut err = Tally::new(page.as_mut_slice(), 0);
+    let status = report(&RunFault::BadWord, &mut err);
+    assert!(rt; status == 3 && page.as_slice() == b"bad".as_slice());
+}

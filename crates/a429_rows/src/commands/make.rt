@@ -1,0 +1,105 @@
+//! The recordings of small files, and files that are refused.
+
+use crate::calls::{filled, told};
+use a429_check::{RunFault, run_make};
+use a429_record::read_entries;
+use a429_sample::{PROFILE, RECORDING};
+use a429_word::Tally;
+use std::alloc::Global;
+use std::test::Fail;
+
+// What is told of files of so many bytes, all of them this one.
+fn made(alloc: Global, profile: &str, byte: u8, lengths: &[usize]) -> Result<String, Fail> {
+    let mut files = Vec::new(alloc);
+    for length in lengths {
+        files.push(filled(alloc, byte, *length)?)?;
+    }
+    let mut written = Vec::new(alloc);
+    let mut out = Tally::new(&mut written, 0);
+    let answer = run_make(alloc, profile.as_bytes(), files.as_slice(), &mut out);
+    told(alloc, answer, written.as_slice())
+}
+
+// This first line is told of files of so many bytes, and this is written.
+fn makes(
+    alloc: Global,
+    profile: &str,
+    byte: u8,
+    lengths: &[usize],
+    told: (&str, &str),
+) -> Result<bool, Fail> {
+    let (first, written) = told;
+    let found = made(alloc, profile, byte, lengths)?;
+    Ok(found.as_str().strip_prefix(first) == Some(written))
+}
+
+#[test]
+fn a_file_of_one_byte(rt: HostRuntime) -> Result<(), Fail> {
+    assert!(rt; makes(rt.alloc(), PROFILE, 0x41, &[1], ("0\n", RECORDING))?);
+    Ok(())
+}
+
+// The entries at these places, counted from 0.
+fn entries_at(alloc: Global, text: &str, places: &[usize]) -> Result<String, Fail> {
+    let mut found = String::new(alloc);
+    for place in places {
+        let line = text.lines().skip(1).nth(*place).ok_or("no such line")?;
+        found.push_str(line)?;
+        found.push('\n')?;
+    }
+    Ok(found)
+}
+
+// How many entries a recording has.
+fn count_entries(alloc: Global, text: &str) -> Result<usize, Fail> {
+    let mut rec = Tally::new(text.as_bytes(), 100_000);
+    Ok(read_entries(alloc, &mut rec)?.len())
+}
+
+#[test]
+fn a_file_of_633_bytes_takes_two_units(rt: HostRuntime) -> Result<(), Fail> {
+    let found = made(rt.alloc(), PROFILE, 0, &[633])?;
+    let text = found.as_str().strip_prefix("0\n").ok_or("no recording")?;
+    let lines = "0,A,4141FF23
+258000,A,41410323
+260000,A,60010223
+261000,A,12000023
+262000,A,71F07823
+263000,B,450102A3
+";
+    let places = [0, 258, 260, 261, 262, 263];
+    assert!(rt; entries_at(rt.alloc(), text, &places)?.as_str() == lines);
+    assert!(rt; count_entries(rt.alloc(), text)? == 264);
+    Ok(())
+}
+
+#[test]
+fn no_files(rt: HostRuntime) -> Result<(), Fail> {
+    assert!(rt; makes(rt.alloc(), PROFILE, 0, &[], ("0\n", "time,bus,word\n"))?);
+    Ok(())
+}
+
+// The profile's fault comes before that of a file.
+#[test]
+fn refused_files(rt: HostRuntime) -> Result<(), Fail> {
+    let alloc = rt.alloc();
+    let is_empty = makes(alloc, PROFILE, 0, &[1, 0], ("file 2: empty\n", ""))?;
+    let is_long = makes(alloc, PROFILE, 0, &[161_161], ("file 1: too long\n", ""))?;
+    let is_none = makes(
+        alloc,
+        "",
+        0,
+        &[0],
+        ("profile: missing transfer.to_sink\n", ""),
+    )?;
+    assert!(rt; is_empty && is_long && is_none);
+    Ok(())
+}
+
+#[test]
+fn a_writer_without_room(rt: HostRuntime) {
+    let mut short = [0; 5];
+    let mut out = Tally::new(short.as_mut_slice(), 0);
+    let answer = run_make(rt.alloc(), PROFILE.as_bytes(), &[], &mut out);
+    assert!(rt; answer == Err(RunFault::Device));
+}

@@ -1,0 +1,116 @@
+//! The certificate of a file of one byte, and changes of it.
+
+use crate::calls::{YES, told, verify_told};
+use a429_check::run_verify;
+use a429_sample::{CERTIFICATE, PROFILE, RECORDING};
+use a429_word::Tally;
+use std::alloc::Global;
+use std::test::Fail;
+
+// The certificate with a new line in place of an old one.
+fn changed(alloc: Global, old: &str, new: &str) -> Result<String, Fail> {
+    let (front, behind) = CERTIFICATE.split_once(old).ok_or("no such line")?;
+    Ok(format!(in alloc; "{front}{new}{behind}")?)
+}
+
+// This is the verdict of a certificate on a recording.
+fn verdict_is(
+    alloc: Global,
+    recording: &str,
+    certificate: &str,
+    verdict: &str,
+) -> Result<bool, Fail> {
+    Ok(verify_told(alloc, recording, certificate.as_bytes())?.as_str() == verdict)
+}
+
+#[test]
+fn accepted(rt: HostRuntime) -> Result<(), Fail> {
+    assert!(rt; verdict_is(rt.alloc(), RECORDING, CERTIFICATE, YES)?);
+    let none = "arinc429-cert 1\nfirst 0\n";
+    assert!(rt; verdict_is(rt.alloc(), "time,bus,word\n", none, "0\nYES files 0\n")?);
+    Ok(())
+}
+
+// A first request was lost, before the one that is recorded.
+#[test]
+fn accepted_with_a_loss(rt: HostRuntime) -> Result<(), Fail> {
+    let load = "L 0 1 A3F5 12004123";
+    let lost = "L 0 1 A3F5 12004123\nl C Q 0 0\nt I Q 0 0";
+    let other = changed(rt.alloc(), load, lost)?;
+    assert!(rt; verdict_is(rt.alloc(), RECORDING, other.as_str(), YES)?);
+    Ok(())
+}
+
+// The case is `OLD -> NEW: VERDICT`: this is the verdict of the certificate with the new line in place of the old.
+fn refuses(alloc: Global, case: &str) -> Result<bool, Fail> {
+    let (lines, verdict) = case.split_once(": ").ok_or("no verdict")?;
+    let (old, new) = lines.split_once(" -> ").ok_or("no lines")?;
+    let certificate = changed(alloc, old, new)?;
+    let verdict = format!(in alloc; "2\n{verdict}\n")?;
+    verdict_is(alloc, RECORDING, certificate.as_str(), verdict.as_str())
+}
+
+#[test]
+fn refused(rt: HostRuntime) -> Result<(), Fail> {
+    let cases = "arinc429-cert 1 -> arinc429-cert 3: NO version
+L 0 1 A3F5 12004123 -> L 0 1 A3F4 12004123: NO not allowed 3
+a C Q 1 0 -> a  C Q 1 0: NO line 4
+a C Q 1 0 -> a S0 Q 1 0: NO state differs 4
+a C Q 1 0 -> n I Q 0 0: NO word differs 4 0
+a C Q 1 0 -> b C G 0 1: NO not allowed 4
+k C c 0 0 -> t I Q 0 0: NO not allowed 5";
+    for case in cases.split('\n') {
+        assert!(rt; refuses(rt.alloc(), case)?);
+    }
+    Ok(())
+}
+
+// This is the verdict of the certificate without its end.
+fn without(alloc: Global, end: &str, verdict: &str) -> Result<bool, Fail> {
+    let front = CERTIFICATE.strip_suffix(end).ok_or("another end")?;
+    verdict_is(alloc, RECORDING, front, verdict)
+}
+
+// The answer is recorded in the last line but one, and taken in the last.
+#[test]
+fn cut_off(rt: HostRuntime) -> Result<(), Fail> {
+    let cases = [
+        (CERTIFICATE, "2\nNO version\n"),
+        ("\n", "2\nNO line 15\n"),
+        ("g I Q 0 0\n", YES),
+        ("b W Q 0 1\ng I Q 0 0\n", "2\nNO unfinished 5\n"),
+    ];
+    for (end, verdict) in cases {
+        assert!(rt; without(rt.alloc(), end, verdict)?);
+    }
+    Ok(())
+}
+
+// The recording begins with another request, or is none.
+#[test]
+fn another_recording(rt: HostRuntime) -> Result<(), Fail> {
+    let other = "time,bus,word\n0,A,4141FF23\n";
+    assert!(rt; verdict_is(rt.alloc(), other, CERTIFICATE, "2\nNO word differs 4 0\n")?);
+    assert!(rt; verdict_is(rt.alloc(), "", "", "recording: header\n")?);
+    Ok(())
+}
+
+// This is told where the profile is none, or a device fails. No byte of a certificate may be read.
+fn fails(alloc: Global, profile: &str, recording: (&str, u64), fault: &str) -> Result<bool, Fail> {
+    let (recording, most) = recording;
+    let mut rec = Tally::new(recording.as_bytes(), most);
+    let mut cert = Tally::new(b"".as_slice(), 0);
+    let mut written = Vec::new(alloc);
+    let mut out = Tally::new(&mut written, 0);
+    let found = run_verify(alloc, profile.as_bytes(), &mut rec, &mut cert, &mut out);
+    Ok(told(alloc, found, written.as_slice())?.as_str() == fault)
+}
+
+// The certificate has as many bytes as may be read, none: its end is not seen.
+#[test]
+fn no_verdict(rt: HostRuntime) -> Result<(), Fail> {
+    let alloc = rt.alloc();
+    assert!(rt; fails(alloc, "", ("", 0), "profile: missing transfer.to_sink\n")?);
+    assert!(rt; fails(alloc, PROFILE, ("time,bus,word\n", 100), "device\n")?);
+    Ok(())
+}

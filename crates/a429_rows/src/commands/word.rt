@@ -1,0 +1,73 @@
+//! The lines of words worked out by hand.
+
+use crate::calls::told;
+use a429_check::{RunFault, run_word};
+use a429_word::{Failing, Tally};
+use std::alloc::Global;
+use std::test::Fail;
+
+// This is told of a word.
+fn says(alloc: Global, word: &str, text: &str) -> Result<bool, Fail> {
+    let mut bytes = Vec::new(alloc);
+    let answer = run_word(word, &mut Tally::new(&mut bytes, 0));
+    Ok(told(alloc, answer, bytes.as_slice())?.as_str() == text)
+}
+
+#[test]
+fn an_altitude(rt: HostRuntime) -> Result<(), Fail> {
+    let text =
+        "0\nword E13880C1\nbits 11100001001110001000000011000001\nlabel 203\nsdi 0\nssm 3\nparity ok\nbnr 20000\n";
+    for word in ["E13880C1", "e13880c1", "e13880C1"] {
+        assert!(rt; says(rt.alloc(), word, text)?);
+    }
+    Ok(())
+}
+
+#[test]
+fn no_bit_at_all(rt: HostRuntime) -> Result<(), Fail> {
+    let text =
+        "0\nword 00000000\nbits 00000000000000000000000000000000\nlabel 000\nsdi 0\nssm 0\nparity bad\nbnr 0\n";
+    assert!(rt; says(rt.alloc(), "00000000", text)?);
+    Ok(())
+}
+
+// The least raw number; SSM 3, SDI 2.
+#[test]
+fn a_negative_number(rt: HostRuntime) -> Result<(), Fail> {
+    let text =
+        "0\nword 70000233\nbits 01110000000000000000001000110011\nlabel 314\nsdi 2\nssm 3\nparity bad\nbnr -262144\n";
+    assert!(rt; says(rt.alloc(), "70000233", text)?);
+    Ok(())
+}
+
+#[test]
+fn what_is_no_word(rt: HostRuntime) -> Result<(), Fail> {
+    let words = "E13880|E13880C10||E13880G1|0xE13880| E13880C|-5|help|\u{ff25}3880C";
+    for word in words.split('|') {
+        assert!(rt; says(rt.alloc(), word, "bad word\n")?);
+    }
+    Ok(())
+}
+
+// The altitude's 94 bytes do not fit into fewer: the writer fails, and the bytes that fit are written.
+fn is_cut_off(whole: &[u8], room: usize) -> bool {
+    let mut page = [0; 94];
+    let Some(front) = page.get_mut(..room) else {
+        return false;
+    };
+    let mut out = Tally::new(front, 0);
+    let answer = run_word("E13880C1", &mut out);
+    let has_failed = out.failed();
+    answer == Err(RunFault::Device) && has_failed && whole.get(..room) == page.get(..room)
+}
+
+#[test]
+fn a_writer_without_room(rt: HostRuntime) {
+    let mut whole = Vec::new(rt.alloc());
+    let answer = run_word("E13880C1", &mut Tally::new(&mut whole, 0));
+    assert!(rt; answer == Ok(0) && whole.len() == 94);
+    assert_eq!(rt;
+        (0..94).position(|room| !is_cut_off(whole.as_slice(), room)),
+        None
+    );
+}

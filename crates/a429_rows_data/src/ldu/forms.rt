@@ -1,0 +1,91 @@
+//! Which form a word has, and which word a form.
+
+ghost use Rattle.a429_ldu.specs.Form.{IsInRange};
+
+use crate::ldu::sample;
+use a429_ldu::{Form, Semis, Sight, form, word_of};
+use a429_profile::ProfileFault;
+use a429_sample::{ACK, CTS, EOT, NAK, PART, RTS, SOT};
+use a429_word::{Bus, Word};
+use std::alloc::Global;
+use std::test::Fail;
+
+// Whether this is what a word says on a bus.
+fn says(alloc: Global, bus: Bus, number: u32, sight: Sight) -> Result<bool, ProfileFault> {
+    let profile = sample(alloc)?;
+    Ok(form(&profile, bus, Word::from_u32(number)) == sight)
+}
+
+// The word of a form.
+fn number_of(alloc: Global, said: Form) -> Result<u32, ProfileFault>
+    requires { IsInRange said }
+{
+    let profile = sample(alloc)?;
+    Ok(word_of(&profile, &said).to_u32())
+}
+
+// Whether the form is said by this word, and by no other.
+fn is_said_by(alloc: Global, said: Form, number: u32) -> Result<bool, ProfileFault>
+    requires { IsInRange said }
+{
+    Ok(number_of(alloc, said)? == number && says(alloc, said.bus(), number, Sight::Form(said))?)
+}
+
+#[test]
+fn words_are_told_by_their_fields(rt: HostRuntime) -> Result<(), Fail> {
+    let cases = [
+        (Bus::A, RTS, Sight::Form(Form::Rts { count: 3 })),
+        (Bus::B, RTS, Sight::Free),
+        (Bus::A, 0xC141_0423, Sight::Form(Form::Rts { count: 4 })),
+        // A count of 2, another destination, and a code that no form has.
+        (Bus::A, 0xC141_0223, Sight::NoForm),
+        (Bus::A, 0x4142_0323, Sight::NoForm),
+        (Bus::A, 0x4441_0323, Sight::NoForm),
+        // Wrong parity, an ignored type, and an ignored code.
+        (Bus::A, 0x9200_4123, Sight::Free),
+        (Bus::A, 0x5000_0023, Sight::Free),
+        (Bus::A, 0xC300_0023, Sight::Free),
+        // A partial word of one semi-octet with another one that is not 0.
+        (Bus::A, 0x1100_4123, Sight::NoForm),
+    ];
+    for (bus, number, sight) in cases {
+        assert!(rt; says(rt.alloc(), bus, number, sight)?);
+    }
+    Ok(())
+}
+
+#[test]
+fn forms_have_their_words(rt: HostRuntime) -> Result<(), Fail> {
+    let start = Form::Sot {
+        gfi: 0,
+        file: 1,
+        ldu: 1,
+    };
+    let end = Form::Eot {
+        flags: 1,
+        check: 0xA3F5,
+    };
+    assert!(rt; is_said_by(rt.alloc(), Form::Rts { count: 3 }, RTS)?);
+    assert!(rt; is_said_by(rt.alloc(), Form::Cts { count: 3 }, CTS)?);
+    assert!(rt; is_said_by(rt.alloc(), start, SOT)?);
+    assert!(rt; is_said_by(rt.alloc(), end, EOT)?);
+    assert!(rt; is_said_by(rt.alloc(), Form::Ack { file: 1, ldu: 1 }, ACK)?);
+    assert!(rt; is_said_by(rt.alloc(), Form::Nak { bits: 0 }, NAK)?);
+    let semis = Semis::new(&[1, 4]).ok_or("no semi-octets")?;
+    assert!(rt; is_said_by(rt.alloc(), Form::Part(semis), PART)?);
+    Ok(())
+}
+
+// Whether semi-octets are kept as they are; `None` where they are refused.
+fn are_kept(digits: &[u8]) -> Option<bool> {
+    let semis = Semis::new(digits)?;
+    Some(semis.as_slice() == digits)
+}
+
+#[test]
+fn semi_octets_are_one_to_five_numbers_of_four_bits(rt: HostRuntime) {
+    assert!(rt; are_kept(&[15, 0, 1, 2, 3]) == Some(true));
+    assert!(rt; are_kept(&[]).is_none());
+    assert!(rt; are_kept(&[1, 2, 3, 4, 5, 6]).is_none());
+    assert!(rt; are_kept(&[1, 16]).is_none());
+}

@@ -1,0 +1,13 @@
+//! Rows of known answers: words, profiles, recordings and link data units, worked out by hand.
+#![tactic(auto)]
+
+#[cfg(test)]
+mod fakes;
+#[cfg(test)]
+mod ldu;
+#[cfg(test)]
+mod profile;
+#[cfg(test)]
+mod record;
+#[cfg(test)]
+mod word;

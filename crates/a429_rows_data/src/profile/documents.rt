@@ -1,0 +1,95 @@
+//! Documents with other keys, with none, without a section; texts that are no documents.
+
+use super::{SAMPLE, answers, tells};
+use std::test::Fail;
+
+#[test]
+fn keys_that_nobody_asked_for_pass(rt: HostRuntime) -> Result<(), Fail> {
+    let rows = r#"good: [transfer] -> version = 2; [other]; to_sink = 1; [transfer]
+good: first_ldu = 1 -> first_ldu = 1; speed = 'high'
+good: compare = true -> compare = true; ignored = 'all'
+good: digits = 5 -> digits = 5; bits = 'x'; range = 0; flags = 1
+good: bits = 17 -> bits = 17; digits = 9; flags = []
+good: sdi = 1 -> sdi = 1; bits = 99; decimals = -1; note = [1, 'a']
+good: [{bit = 11, name = "gear"}, {bit = 12, name = "door"}] -> [{bit = 11, name = 'gear', colour = 1}, {name = 'door', bit = 12}]
+"#;
+    answers(rt.alloc(), SAMPLE, rows)
+}
+
+#[test]
+fn texts_without_a_key_of_a_profile(rt: HostRuntime) -> Result<(), Fail> {
+    let no_documents = [
+        "transfer",
+        "[transfer",
+        "= 1",
+        "a = ",
+        "a = 1\na = 2",
+        "a = 'x",
+    ];
+    for text in no_documents {
+        tells(rt.alloc(), text, "", "not toml")?;
+    }
+    let empty = ["", "\n", "# a remark\n", "[transfer]\n", "other = 1\n"];
+    for text in empty {
+        tells(rt.alloc(), text, "", "missing transfer.to_sink")?;
+    }
+    Ok(())
+}
+
+// The fault is told also where the sections before it are good.
+#[test]
+fn documents_with_a_bad_line(rt: HostRuntime) -> Result<(), Fail> {
+    let rows = r#"not toml: flags = [{bit = 11, name = "gear"}, {bit = 12, name = "door"}] -> flags
+not toml: sot = 6 -> sot = 6; sot = 6
+not toml: [codes]
+"#;
+    answers(rt.alloc(), SAMPLE, rows)
+}
+
+#[test]
+fn sections_that_are_missing_or_arrays(rt: HostRuntime) -> Result<(), Fail> {
+    let rows = "wrong kind transfer.to_sink: [transfer] -> [[transfer]]
+wrong kind types.full: [types] -> [[types]]
+wrong kind codes.rts: [codes] -> [[codes]]
+wrong kind partial.codes: [partial] -> [[partial]]
+wrong kind check.poly: [check] -> [[check]]
+missing transfer.to_sink: [transfer] -> [other]
+missing types.full: [types] -> [other]
+missing codes.rts: [codes] -> [other]
+missing partial.codes: [partial] -> [other]
+missing check.poly: [check] -> [other]
+";
+    answers(rt.alloc(), SAMPLE, rows)
+}
+
+// In place of the section the document's first line gives it a value.
+#[test]
+fn sections_that_are_no_tables(rt: HostRuntime) -> Result<(), Fail> {
+    let rows = "wrong kind transfer.to_sink: [transfer] -> transfer = 1; [other]
+wrong kind transfer.to_sink: [transfer] -> transfer = 'x'; [other]
+wrong kind transfer.to_sink: [transfer] -> transfer = true; [other]
+wrong kind transfer.to_sink: [transfer] -> transfer = []; [other]
+wrong kind transfer.to_sink: [transfer] -> transfer = [{a = 1}]; [other]
+wrong kind types.full: [transfer] -> types = 1; [transfer] | [types] -> [other]
+wrong kind types.full: [transfer] -> types = 'x'; [transfer] | [types] -> [other]
+wrong kind types.full: [transfer] -> types = true; [transfer] | [types] -> [other]
+wrong kind types.full: [transfer] -> types = []; [transfer] | [types] -> [other]
+wrong kind types.full: [transfer] -> types = [{a = 1}]; [transfer] | [types] -> [other]
+wrong kind codes.rts: [transfer] -> codes = 1; [transfer] | [codes] -> [other]
+wrong kind codes.rts: [transfer] -> codes = 'x'; [transfer] | [codes] -> [other]
+wrong kind codes.rts: [transfer] -> codes = true; [transfer] | [codes] -> [other]
+wrong kind codes.rts: [transfer] -> codes = []; [transfer] | [codes] -> [other]
+wrong kind codes.rts: [transfer] -> codes = [{a = 1}]; [transfer] | [codes] -> [other]
+wrong kind partial.codes: [transfer] -> partial = 1; [transfer] | [partial] -> [other]
+wrong kind partial.codes: [transfer] -> partial = 'x'; [transfer] | [partial] -> [other]
+wrong kind partial.codes: [transfer] -> partial = true; [transfer] | [partial] -> [other]
+wrong kind partial.codes: [transfer] -> partial = []; [transfer] | [partial] -> [other]
+wrong kind partial.codes: [transfer] -> partial = [{a = 1}]; [transfer] | [partial] -> [other]
+wrong kind check.poly: [transfer] -> check = 1; [transfer] | [check] -> [other]
+wrong kind check.poly: [transfer] -> check = 'x'; [transfer] | [check] -> [other]
+wrong kind check.poly: [transfer] -> check = true; [transfer] | [check] -> [other]
+wrong kind check.poly: [transfer] -> check = []; [transfer] | [check] -> [other]
+wrong kind check.poly: [transfer] -> check = [{a = 1}]; [transfer] | [check] -> [other]
+";
+    answers(rt.alloc(), SAMPLE, rows)
+}

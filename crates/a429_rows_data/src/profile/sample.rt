@@ -1,0 +1,206 @@
+//! What is read of the sample, and of a document of other forms.
+
+use super::{SAMPLE, sections, tells, with};
+use a429_profile::{Kind, Profile, read_profile};
+use a429_sample::PROFILE;
+use std::alloc::{AllocError, Global};
+use std::fmt::{Debug, Write};
+use std::test::Fail;
+
+// The numbers of the sample. The labels 304 and 305 are 196 and 197.
+const NUMBERS: &str =
+    "Codes { to_sink: 196, to_source: 197, destination: 65, first_ldu: 1, final_bit: 25, full: 0, partial: 1, protocol: 4, sot: 6, eot: 7, rts: 1, cts: 2, ack: 5, nak: 6, ignored_types: Numbers { numbers: [5] }, ignored_codes: Numbers { numbers: [3] }, partial_codes: [1, 2, 3, 4] }
+Check { poly: 4129, init: 65535, xor: 65535, low_first: true, compare: true }
+";
+
+// How many entries the sample has; these, of the labels 203, 314, 201 and 270, which are 131, 204, 129 and 184; and the labels
+// and SDIs that have an entry, each with the entry's name.
+const ENTRIES: &str = r#"4
+LabelEntry { label: 131, sdi: None, name: Text { text: "Altitude" }, unit: Text { text: "ft" }, kind: Bnr { bits: 17, range: 131072, decimals: 0 } }
+LabelEntry { label: 204, sdi: None, name: Text { text: "Heading" }, unit: Text { text: "deg" }, kind: Bnr { bits: 18, range: 180, decimals: 0 } }
+LabelEntry { label: 129, sdi: None, name: Text { text: "Distance" }, unit: Text { text: "NM" }, kind: Bcd { digits: 5, decimals: 2 } }
+LabelEntry { label: 184, sdi: Some(1), name: Text { text: "Status" }, unit: Text { text: "" }, kind: Discrete { flags: Flags { flags: [Flag { bit: 11, name: Text { text: "gear" } }, Flag { bit: 12, name: Text { text: "door" } }] } } }
+201 0 Distance
+201 1 Distance
+201 2 Distance
+201 3 Distance
+203 0 Altitude
+203 1 Altitude
+203 2 Altitude
+203 3 Altitude
+270 1 Status
+314 0 Heading
+314 1 Heading
+314 2 Heading
+314 3 Heading
+"#;
+
+// What is read of a text: its numbers, how many entries it has, the entries, a line each, and those that are found.
+fn contents(alloc: Global, text: &str) -> Result<String, Fail> {
+    let profile = read_profile(alloc, text)?;
+    let mut found = String::new(alloc);
+    push_contents(&mut found, &profile)?;
+    push_names(&mut found, &profile)?;
+    Ok(found)
+}
+
+// A line more.
+fn push_line<T: Debug>(found: &mut String, value: &T) -> Result<(), AllocError> {
+    writeln!(found, "{value:?}")
+}
+
+// No text of these tests has more than five entries, so that there is none at the last two places.
+fn push_contents(found: &mut String, profile: &Profile) -> Result<(), AllocError> {
+    push_line(found, profile.codes())?;
+    push_line(found, profile.check())?;
+    push_line(found, &profile.entry_count())?;
+    for i in [0, 1, 2, 3, 4, 5, usize::MAX] {
+        if let Some(entry) = profile.entries(i) {
+            push_line(found, entry)?;
+        }
+    }
+    Ok(())
+}
+
+// The labels and SDIs that have an entry, each with the entry's name.
+fn push_names(found: &mut String, profile: &Profile) -> Result<(), AllocError> {
+    for label in 0..=255 {
+        for sdi in 0..4 {
+            if let Some(entry) = profile.entry(label, sdi) {
+                writeln!(found, "{label:03o} {sdi} {}", entry.name.as_str())?;
+            }
+        }
+    }
+    Ok(())
+}
+
+// What is read of a text is these numbers and entries.
+fn says(alloc: Global, text: &str, numbers: &str, entries: &str) -> Result<(), Fail> {
+    let found = contents(alloc, text)?;
+    if found.as_str().strip_prefix(numbers) == Some(entries) {
+        Ok(())
+    } else {
+        Err(Fail::new(found.as_str()))
+    }
+}
+
+// With changes of the sample its numbers and its entries change in this way.
+fn changes_to(alloc: Global, changes: &str, numbers: &str, entries: &str) -> Result<(), Fail> {
+    let text = with(alloc, SAMPLE, changes)?;
+    let numbers = with(alloc, NUMBERS, numbers)?;
+    let entries = with(alloc, ENTRIES, entries)?;
+    says(alloc, text.as_str(), numbers.as_str(), entries.as_str())
+}
+
+// The sample as it stands here, and as other tests have it.
+#[test]
+fn the_sample(rt: HostRuntime) -> Result<(), Fail> {
+    says(rt.alloc(), PROFILE, NUMBERS, ENTRIES)?;
+    says(rt.alloc(), SAMPLE, NUMBERS, ENTRIES)
+}
+
+// Each of these keys has a number or truth value that no other of its kind has.
+#[test]
+fn numbers_that_all_differ(rt: HostRuntime) -> Result<(), Fail> {
+    let changes =
+        "first_ldu = 1 -> first_ldu = 0 | final_bit = 25 -> final_bit = 28 | ignored = [5] -> ignored = [5, 2, 3] | ignored = [3] -> ignored = [15, 0] | codes = [1, 2, 3, 4] -> codes = [15, 0, 9, 8] | poly = 0x1021 -> poly = 1 | init = 0xFFFF -> init = 0x0102 | low_first = true -> low_first = false";
+    let numbers =
+        "first_ldu: 1 -> first_ldu: 0 | final_bit: 25 -> final_bit: 28 | [5] -> [5, 2, 3] | [3] -> [15, 0] | [1, 2, 3, 4] -> [15, 0, 9, 8] | poly: 4129 -> poly: 1 | init: 65535 -> init: 258 | low_first: true -> low_first: false";
+    changes_to(rt.alloc(), changes, numbers, "")
+}
+
+// An entry more, of the last one's label.
+#[test]
+fn one_label_with_several_sdis(rt: HostRuntime) -> Result<(), Fail> {
+    let changes =
+        r#"{bit = 12, name = "door"}] -> {bit = 12, name = "door"}]; [[label]]; octal = '270'; sdi = 2; name = 'Second'; unit = 'V'; kind = 'bcd'; digits = 1; decimals = 6"#;
+    let entries =
+        r#"4 -> 5 | 201 0 -> LabelEntry { label: 184, sdi: Some(2), name: Text { text: "Second" }, unit: Text { text: "V" }, kind: Bcd { digits: 1, decimals: 6 } }; 201 0 | 270 1 Status -> 270 1 Status; 270 2 Second"#;
+    changes_to(rt.alloc(), changes, "", entries)
+}
+
+#[test]
+fn an_entry_without_an_sdi(rt: HostRuntime) -> Result<(), Fail> {
+    let entries =
+        "sdi: Some(1) -> sdi: None | 270 1 Status -> 270 0 Status; 270 1 Status; 270 2 Status; 270 3 Status";
+    changes_to(rt.alloc(), "sdi = 1", "", entries)
+}
+
+// The sections of the sample, below a line, without its labels.
+#[test]
+fn no_labels(rt: HostRuntime) -> Result<(), Fail> {
+    let empty = with(rt.alloc(), sections(), "[transfer] -> ; [transfer]")?;
+    says(rt.alloc(), empty.as_str(), NUMBERS, "0\n")?;
+    let array = with(
+        rt.alloc(),
+        sections(),
+        "[transfer] -> label = []; [transfer]",
+    )?;
+    says(rt.alloc(), array.as_str(), NUMBERS, "0\n")
+}
+
+#[test]
+fn inline_tables_and_dotted_keys_are_tables(rt: HostRuntime) -> Result<(), Fail> {
+    let text = r#"
+transfer = {to_sink = "304", to_source = "305", destination = 65, first_ldu = 1, final_bit = 25}
+types.full = 0
+types.partial = 1
+types.protocol = 4
+types.sot = 6
+types.eot = 7
+types.ignored = [5]
+codes = {rts = 1, cts = 2, ack = 5, nak = 6, ignored = [3]}
+partial.codes = [1, 2, 3, 4]
+check = {poly = 4129, init = 65535, xor = 65535, low_first = true, compare = true}
+label = [{octal = '001', name = 'One', unit = '', kind = 'bcd', digits = 1, decimals = 0}]
+"#;
+    let one = r#"1
+LabelEntry { label: 1, sdi: None, name: Text { text: "One" }, unit: Text { text: "" }, kind: Bcd { digits: 1, decimals: 0 } }
+001 0 One
+001 1 One
+001 2 One
+001 3 One
+"#;
+    says(rt.alloc(), text, NUMBERS, one)
+}
+
+// The sample's flags changed to 19 of them.
+const NINETEEN_FLAGS: &str =
+    r#"flags = [{bit = 11, name = "gear"}, {bit = 12, name = "door"}] -> flags = [{name = 'f', bit = 11}, {name = 'f', bit = 12}, {name = 'f', bit = 13}, {name = 'f', bit = 14}, {name = 'f', bit = 15}, {name = 'f', bit = 16}, {name = 'f', bit = 17}, {name = 'f', bit = 18}, {name = 'f', bit = 19}, {name = 'f', bit = 20}, {name = 'f', bit = 21}, {name = 'f', bit = 22}, {name = 'f', bit = 23}, {name = 'f', bit = 24}, {name = 'f', bit = 25}, {name = 'f', bit = 26}, {name = 'f', bit = 27}, {name = 'f', bit = 28}, {name = 'f', bit = 29}, ]"#;
+
+// How many flags the entry of the label 270 has.
+fn flag_count(profile: &Profile) -> usize {
+    match profile.entry(0o270, 1) {
+        Some(entry) => match &entry.kind {
+            Kind::Discrete { flags } => flags.as_slice().len(),
+            _ => 0,
+        },
+        None => 0,
+    }
+}
+
+fn flag_count_of(alloc: Global, text: &str) -> Result<usize, Fail> {
+    let profile = read_profile(alloc, text)?;
+    Ok(flag_count(&profile))
+}
+
+#[test]
+fn nineteen_flags(rt: HostRuntime) -> Result<(), Fail> {
+    let text = with(rt.alloc(), SAMPLE, NINETEEN_FLAGS)?;
+    let count = flag_count_of(rt.alloc(), text.as_str())?;
+    assert!(rt; count == 19);
+    Ok(())
+}
+
+// A twentieth has to share a bit; the number of flags is told first.
+#[test]
+fn a_twentieth_flag(rt: HostRuntime) -> Result<(), Fail> {
+    let text = with(rt.alloc(), SAMPLE, NINETEEN_FLAGS)?;
+    let twentieth = "bit = 29}, ] -> bit = 29}, {name = 'f', bit = 11}]";
+    tells(
+        rt.alloc(),
+        text.as_str(),
+        twentieth,
+        "out of range label 3 flags",
+    )
+}

@@ -1,0 +1,51 @@
+//! What is shown of words by the sample profile.
+
+use a429_profile::{Profile, read_profile};
+use a429_sample::PROFILE;
+use a429_word::Word;
+use std::alloc::{AllocError, Global};
+use std::test::Fail;
+
+// What a profile shows of the word of a number.
+fn shown(alloc: Global, profile: &Profile, number: u32) -> Result<String, AllocError> {
+    let word = Word::from_u32(number);
+    let shown = profile.shown(&word);
+    format!(in alloc; "{shown:?}")
+}
+
+// What the profile of a text shows of it.
+fn shown_by(alloc: Global, text: &str, number: u32) -> Result<String, Fail> {
+    let profile = read_profile(alloc, text)?;
+    Ok(shown(alloc, &profile, number)?)
+}
+
+// The altitude is 10000 times 131072 times 5^17 over 10^17, which is 10000. In these texts the label 203 is
+// 131, 201 is 129, and 270 is 184.
+#[test]
+fn words_of_each_kind(rt: HostRuntime) -> Result<(), Fail> {
+    let cases = [
+        (0xFFE0_C0C1, "BadParity"),
+        (0x8000_0A1D, "NoEntry"),
+        (
+            0xE138_80C1,
+            r#"Value { entry: LabelEntry { label: 131, sdi: None, name: Text { text: "Altitude" }, unit: Text { text: "ft" }, kind: Bnr { bits: 17, range: 131072, decimals: 0 } }, value: Fixed { number: 1000000000000000000000, decimals: 17 }, is_test: false }"#,
+        ),
+        (
+            0xA48D_1481,
+            r#"Status { entry: LabelEntry { label: 129, sdi: None, name: Text { text: "Distance" }, unit: Text { text: "NM" }, kind: Bcd { digits: 5, decimals: 2 } }, status: NoData }"#,
+        ),
+        (
+            0x04A9_1481,
+            r#"BadDigit { entry: LabelEntry { label: 129, sdi: None, name: Text { text: "Distance" }, unit: Text { text: "NM" }, kind: Bcd { digits: 5, decimals: 2 } }, place: 3 }"#,
+        ),
+        (
+            0x4000_091D,
+            r#"Bits { entry: LabelEntry { label: 184, sdi: Some(1), name: Text { text: "Status" }, unit: Text { text: "" }, kind: Discrete { flags: Flags { flags: [Flag { bit: 11, name: Text { text: "gear" } }, Flag { bit: 12, name: Text { text: "door" } }] } } }, field: 2, is_test: true }"#,
+        ),
+    ];
+    for (number, wanted) in cases {
+        let found = shown_by(rt.alloc(), PROFILE, number)?;
+        assert!(rt; found.as_str() == wanted);
+    }
+    Ok(())
+}

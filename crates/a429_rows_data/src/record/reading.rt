@@ -1,0 +1,223 @@
+//! Values from outside for what a text stands for, and readers that fail or give it in pieces.
+
+use crate::fakes::{Endless, Shaky};
+use crate::record::{entry, stands_for};
+use a429_record::{Entry, ReadFault, read_entries};
+use a429_word::{Bus, Failing, Tally};
+use std::alloc::{AllocError, Global};
+use std::io::Read;
+use std::test::Fail;
+
+// How many entries a tally gives, or its fault.
+fn count<R: Read>(alloc: Global, rec: &mut Tally<R>) -> Result<usize, ReadFault> {
+    let entries = read_entries(alloc, rec)?;
+    Ok(entries.len())
+}
+
+// The header, and then these bytes.
+fn after_header(alloc: Global, rows: &[u8]) -> Result<Vec<u8>, AllocError> {
+    let mut text = b"time,bus,word\n".to_vec(alloc)?;
+    text.extend_from_slice(rows)?;
+    Ok(text)
+}
+
+// How many entries a text has, or its fault.
+fn count_in(alloc: Global, text: &[u8]) -> Result<usize, ReadFault> {
+    count(alloc, &mut Tally::new(text, 1_000_000))
+}
+
+// How many entries stand in these rows behind the header, or their fault.
+fn count_in_rows(alloc: Global, rows: &[u8]) -> Result<usize, ReadFault> {
+    match after_header(alloc, rows) {
+        Ok(text) => count_in(alloc, &text),
+        Err(_) => Err(ReadFault::OutOfMemory),
+    }
+}
+
+// Whether the rows behind the header are read as these entries.
+fn are_read(alloc: Global, rows: &[u8], entries: &[Entry]) -> Result<bool, Fail> {
+    let text = after_header(alloc, rows)?;
+    Ok(stands_for(alloc, &text, entries)?)
+}
+
+#[test]
+fn rows_of_one_entry(rt: HostRuntime) -> Result<(), Fail> {
+    let rows: [&[u8]; 11] = [
+        b"7,A,c1410223\n",
+        b"7,A,C1410223",
+        b"7,A,C1410223\r\n",
+        b"7,A,C1410223\r",
+        b"7,A,C1410223\r\r\r",
+        b"\r7,A,C1410223\n",
+        b"\n7,A,C1410223\n\r\n\n\r\r",
+        b"\"7\",\"A\",\"C1410223\"\n",
+        b"7,A,\"C1410223\n",
+        b"00000000000000000007,A,C1410223\n",
+        b"\xEF\xBB\xBF7,A,C1410223\n",
+    ];
+    let entries = [entry(7, Bus::A, 0xC141_0223)];
+    for row in rows {
+        assert!(rt; are_read(rt.alloc(), row, &entries)?);
+    }
+    Ok(())
+}
+
+#[test]
+fn rows_of_two_entries(rt: HostRuntime) -> Result<(), Fail> {
+    let rows: [&[u8]; 3] = [
+        b"7,A,C1410223\n18446744073709551615,B,00000000\n",
+        b"7,A,C1410223\r\n18446744073709551615,B,00000000",
+        b"7,A,C1410223\n\"18446744073709551615\",B,00000000\r",
+    ];
+    let entries = [entry(7, Bus::A, 0xC141_0223), entry(u64::MAX, Bus::B, 0)];
+    for row in rows {
+        assert!(rt; are_read(rt.alloc(), row, &entries)?);
+    }
+    Ok(())
+}
+
+#[test]
+fn rows_that_are_no_entries(rt: HostRuntime) {
+    let rows: [&[u8]; 22] = [
+        b"0,C,41410323\n",
+        b"0,A,4141032\n",
+        b"0,A\n",
+        b"x,A,41410323\n",
+        b"0,a,41410323\n",
+        b"0,AB,41410323\n",
+        b"0,,41410323\n",
+        b"0,A,414103233\n",
+        b"0,A,4141032G\n",
+        b"0,A,0x410323\n",
+        b"0,A,41410323,\n",
+        b"0,A,41410323 \n",
+        b" 0,A,41410323\n",
+        b"+0,A,41410323\n",
+        b",A,41410323\n",
+        b"18446744073709551616,A,41410323\n",
+        b"99999999999999999999,A,41410323\n",
+        b"000000000000000000000,A,41410323\n",
+        b"0,A,4141032\xB2\n",
+        b"\xFF,A,41410323\n",
+        b"0,A,41410323\r0,A,41410323\n",
+        b"time,bus,word\n",
+    ];
+    for row in rows {
+        assert!(rt; count_in_rows(rt.alloc(), row) == Err(ReadFault::Row(0)));
+    }
+    let second = b"5,A,41410323\n\n4,A,4141032\n";
+    assert!(rt; count_in_rows(rt.alloc(), second) == Err(ReadFault::Row(1)));
+}
+
+#[test]
+fn times_that_fall(rt: HostRuntime) {
+    let second = b"5,A,41410323\n4,A,41410323\n";
+    assert!(rt; count_in_rows(rt.alloc(), second) == Err(ReadFault::TimeBack(1)));
+    let third = b"5,A,41410323\n5,B,41410323\n4,A,41410323\nx\n";
+    assert!(rt; count_in_rows(rt.alloc(), third) == Err(ReadFault::TimeBack(2)));
+}
+
+#[test]
+fn headers(rt: HostRuntime) {
+    let good: [&[u8]; 5] = [
+        b"time,bus,word",
+        b"time,bus,word\r\n",
+        b"\n\r\n\ntime,bus,word\n",
+        b"\"time\",\"bus\",\"word\"\n",
+        b"\xEF\xBB\xBFtime,bus,word\n",
+    ];
+    for text in good {
+        assert!(rt; count_in(rt.alloc(), text) == Ok(0));
+    }
+}
+
+#[test]
+fn texts_with_no_header(rt: HostRuntime) {
+    let bad: [&[u8]; 10] = [
+        b"",
+        b"\n\r\n",
+        b"0,A,41410323\n",
+        b"Time,bus,word\n",
+        b"time,bus,word,\n",
+        b"time,bus\n",
+        b"time, bus,word\n",
+        b"time,bus,word\rtime,bus,word\n",
+        b"time,word,bus\n",
+        b"time,bus,w\xFFrd\n",
+    ];
+    for text in bad {
+        assert!(rt; count_in(rt.alloc(), text) == Err(ReadFault::Header));
+    }
+}
+
+#[test]
+fn a_million_and_one_entries(rt: HostRuntime) {
+    let mut rec = Tally::new(Endless { has_begun: false }, 67_108_864);
+    assert!(rt; count(rt.alloc(), &mut rec) == Err(ReadFault::TooMany));
+    assert!(rt; !rec.failed());
+}
+
+// What a reading of a text answers under a cap, and whether the reader has failed then.
+fn count_under(alloc: Global, text: &[u8], cap: u64) -> (Result<usize, ReadFault>, bool) {
+    let mut rec = Tally::new(text, cap);
+    let answer = count(alloc, &mut rec);
+    (answer, rec.failed())
+}
+
+#[test]
+fn exactly_the_cap_is_a_failure(rt: HostRuntime) {
+    let text = b"time,bus,word\n7,A,C1410223\n";
+    assert!(rt; count_under(rt.alloc(), text, 27) == (Err(ReadFault::Device), true));
+    assert!(rt; count_under(rt.alloc(), text, 28) == (Ok(1), false));
+}
+
+// What a reading answers of a text in pieces of one byte whose reader fails at a call, whether it has
+// failed then, and what a second reading answers.
+fn shaken(
+    alloc: Global,
+    fails_at: u32,
+) -> (Result<usize, ReadFault>, bool, Result<usize, ReadFault>) {
+    let reader = Shaky {
+        bytes: b"time,bus,word\n7,A,C1410223\n8,C,C1410223\n",
+        calls: 0,
+        fails_at,
+    };
+    let mut rec = Tally::new(reader, 1000);
+    let first = count(alloc, &mut rec);
+    let failed = rec.failed();
+    (first, failed, count(alloc, &mut rec))
+}
+
+#[test]
+fn pieces_and_failures(rt: HostRuntime) {
+    let device = Err(ReadFault::Device);
+    // The bad row has its line feed as byte 40; before that the failure is met first.
+    for fails_at in 0..44 {
+        let (first, failed, second) = shaken(rt.alloc(), fails_at);
+        if 0 < fails_at && fails_at <= 40 {
+            assert!(rt; failed && first == device && second == device);
+        } else {
+            assert!(rt; !failed && first == Err(ReadFault::Row(1)));
+        }
+    }
+}
+
+// Many carriage returns, an entry's row, and a row of so many digits.
+fn long_rows(alloc: Global, digits: usize) -> Result<Vec<u8>, AllocError> {
+    let mut rows = vec![in alloc; b'\r'; 5000]?;
+    rows.extend_from_slice(b"7,A,C1410223\n")?;
+    for _ in 0..digits {
+        rows.push(b'9')?;
+    }
+    Ok(rows)
+}
+
+#[test]
+fn lines_longer_than_the_buffer(rt: HostRuntime) -> Result<(), Fail> {
+    let entries = [entry(7, Bus::A, 0xC141_0223)];
+    let returns = long_rows(rt.alloc(), 0)?;
+    assert!(rt; are_read(rt.alloc(), &returns, &entries)?);
+    let digits = long_rows(rt.alloc(), 5000)?;
+    assert!(rt; count_in_rows(rt.alloc(), &digits) == Err(ReadFault::Row(1)));
+    Ok(())
+}

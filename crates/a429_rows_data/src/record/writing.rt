@@ -1,0 +1,78 @@
+//! The text that is written, and writers that fail.
+
+ghost use Rattle.a429_record.specs.Recording.{IsRecordable};
+
+use crate::fakes::Narrow;
+use crate::record::{entry, stands_for};
+use a429_record::{Entry, WriteFault, read_entries, write_entries};
+use a429_sample::{CTS, EOT, PART, RTS, SOT};
+use a429_word::{Bus, Failing, Tally};
+use std::alloc::Global;
+use std::io::ErrorKind;
+use std::test::Fail;
+
+// What is written of entries.
+fn written(alloc: Global, entries: &[Entry]) -> Result<Vec<u8>, WriteFault>
+    requires { IsRecordable entries.now }
+{
+    let mut text = Vec::new(alloc);
+    write_entries(alloc, &mut Tally::new(&mut text, 0), entries)?;
+    Ok(text)
+}
+
+// What is written of the entries that are read in a text.
+fn rewritten(alloc: Global, text: &[u8]) -> Result<Vec<u8>, Fail> {
+    let entries = read_entries(alloc, &mut Tally::new(text, 1000))?;
+    Ok(written(alloc, &entries)?)
+}
+
+#[test]
+fn a_file_of_one_byte(rt: HostRuntime) -> Result<(), Fail> {
+    let entries = [
+        entry(0, Bus::A, RTS),
+        entry(1000, Bus::B, CTS),
+        entry(2000, Bus::A, SOT),
+        entry(3000, Bus::A, PART),
+        entry(4000, Bus::A, EOT),
+        entry(18_446_744_073_709_551_615, Bus::B, 0x0000_00aF),
+    ];
+    let wanted: &[u8] =
+        b"time,bus,word\n0,A,41410323\n1000,B,C24103A3\n2000,A,60010123\n3000,A,12004123\n4000,A,71A3F523\n18446744073709551615,B,000000AF\n";
+    let text = written(rt.alloc(), &entries)?;
+    assert!(rt; text.as_slice() == wanted);
+    assert!(rt; stands_for(rt.alloc(), wanted, &entries)?);
+    let again = rewritten(rt.alloc(), wanted)?;
+    assert!(rt; again.as_slice() == wanted);
+    Ok(())
+}
+
+#[test]
+fn no_entries(rt: HostRuntime) -> Result<(), Fail> {
+    let text = written(rt.alloc(), &[])?;
+    assert!(rt; text.as_slice() == b"time,bus,word\n".as_slice());
+    Ok(())
+}
+
+// What a writer of so many bytes answers to a recording of one entry, whether it has failed then, and
+// what it answers to a recording of none.
+fn written_in(
+    alloc: Global,
+    room: usize,
+) -> (Result<(), WriteFault>, bool, Result<(), WriteFault>) {
+    let narrow = Narrow::new(alloc, room, Some(ErrorKind::Interrupted));
+    let mut out = Tally::new(narrow, 0);
+    let first = write_entries(alloc, &mut out, &[entry(0, Bus::A, RTS)]);
+    let failed = out.failed();
+    (first, failed, write_entries(alloc, &mut out, &[]))
+}
+
+#[test]
+fn writers_that_fail(rt: HostRuntime) {
+    let failure = Err(WriteFault::Device);
+    for room in [0, 13, 14, 26] {
+        assert!(rt; written_in(rt.alloc(), room) == (failure, true, failure));
+    }
+    for room in [27, 29] {
+        assert!(rt; written_in(rt.alloc(), room).0 == Ok(()));
+    }
+}

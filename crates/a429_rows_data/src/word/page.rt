@@ -1,0 +1,45 @@
+//! Pieces on a page come out in their order, also where they have no room on it.
+
+use a429_word::{Page, Tally};
+use std::alloc::{AllocError, Global};
+use std::test::Fail;
+
+// Puts a text, a number, a piece as long as the page and another text on a page, and writes it.
+fn put_pieces(alloc: Global, out: &mut Tally<&mut Vec<u8>>) -> Result<bool, AllocError> {
+    let mut page = Page::new(alloc)?;
+    Ok(
+        page.put(out, b"time ").is_ok()
+            && page.put_number(out, 18_446_744_073_709_551_615).is_ok()
+            && page.put(out, &[b'x'; 16_384]).is_ok()
+            && page.put(out, b"behind").is_ok()
+            && page.finish(out).is_ok(),
+    )
+}
+
+#[test]
+fn pieces_come_out_in_their_order(rt: HostRuntime) -> Result<(), Fail> {
+    let mut written = Vec::new(rt.alloc());
+    assert!(rt; put_pieces(rt.alloc(), &mut Tally::new(&mut written, 0))?);
+    assert!(rt; written.len() == 5 + 20 + 16_384 + 6);
+    assert!(rt; written.starts_with(b"time 18446744073709551615xxx"));
+    assert!(rt; written.ends_with(b"xxxbehind"));
+    Ok(())
+}
+
+// What a page of three bytes answers over room for two: as they are put, and at two attempts to
+// write it.
+fn answers_over_two_bytes(alloc: Global) -> Result<[bool; 3], AllocError> {
+    let mut room = [0; 2];
+    let mut out = Tally::new(room.as_mut_slice(), 0);
+    let mut page = Page::new(alloc)?;
+    let is_put = page.put(&mut out, b"abc").is_ok();
+    let is_written = page.finish(&mut out).is_ok();
+    Ok([is_put, is_written, page.finish(&mut out).is_ok()])
+}
+
+#[test]
+fn a_page_is_not_written_before_it_is_put(rt: HostRuntime) -> Result<(), Fail> {
+    let answers = answers_over_two_bytes(rt.alloc())?;
+    assert!(rt; answers == [true, false, false]);
+    Ok(())
+}

@@ -1,0 +1,122 @@
+//! What no clause says of a tally: when the one underneath answers an error.
+
+use crate::fakes::{Narrow, Shaky};
+use a429_word::{Failing, Tally};
+use std::io::{ErrorKind, Read, Write};
+
+// Whether a tally over a shaky reader has failed, and whether it still reads: by `pull`, by `read`
+// and by `read_exact`.
+fn still_reads(tally: &mut Tally<&mut Shaky<'_>>) -> (bool, [bool; 3]) {
+    let failed = tally.failed();
+    let pulls = tally.pull(&mut [0]).is_ok();
+    let reads = tally.read(&mut []).is_ok();
+    (failed, [pulls, reads, tally.read_exact(&mut []).is_ok()])
+}
+
+// The kind of error that reading to the end meets.
+fn fault(tally: &mut Tally<&mut Shaky<'_>>, all: &mut Vec<u8>) -> Option<ErrorKind> {
+    match tally.read_to_end(all) {
+        Ok(_) => None,
+        Err(error) => Some(error.kind()),
+    }
+}
+
+#[test]
+fn interrupted_in_mid_stream_is_a_failure(rt: HostRuntime) {
+    let mut shaky = Shaky {
+        bytes: b"abcd",
+        calls: 0,
+        fails_at: 3,
+    };
+    let mut tally = Tally::new(&mut shaky, 100);
+    let mut all = Vec::new(rt.alloc());
+    let kind = fault(&mut tally, &mut all);
+    assert!(rt; kind.is_some() && kind != Some(ErrorKind::Interrupted));
+    assert!(rt; still_reads(&mut tally) == (true, [false; 3]));
+    assert!(rt; all.as_slice() == b"ab".as_slice());
+    // A failed tally leaves its reader alone.
+    assert!(rt; shaky.calls == 3);
+}
+
+// What three reads of up to four bytes answer, `None` for a failure, and after each whether the
+// tally has failed.
+fn pulls(text: &[u8], cap: u64) -> [(Option<usize>, bool); 3] {
+    let mut tally = Tally::new(text, cap);
+    let mut four = [0; 4];
+    let mut answers = [(None, false); 3];
+    for answer in &mut answers {
+        let pulled = tally.pull(&mut four).ok();
+        *answer = (pulled, tally.failed());
+    }
+    answers
+}
+
+#[test]
+fn a_read_past_the_cap_is_a_failure(rt: HostRuntime) {
+    let failure = (None, true);
+    let past = [(Some(3), false), failure, failure];
+    assert!(rt; pulls(b"abcd", 3) == past);
+    // The end of exactly `cap` bytes is seen by a read past them alone, and that read is a failure.
+    let exact = [(Some(4), false), failure, failure];
+    assert!(rt; pulls(b"abcd", 4) == exact);
+    let below = [(Some(4), false), (Some(0), false), (Some(0), false)];
+    assert!(rt; pulls(b"abcd", 5) == below);
+}
+
+// Reads four bytes and then four more: whether each is there, what the first are, and whether the
+// tally has failed.
+fn exact_reads(text: &[u8]) -> (bool, [u8; 4], bool, bool) {
+    let mut tally = Tally::new(text, 100);
+    let mut four = [0; 4];
+    let first = tally.read_exact(&mut four).is_ok();
+    let bytes = four;
+    let second = tally.read_exact(&mut four).is_ok();
+    (first, bytes, second, tally.failed())
+}
+
+#[test]
+fn an_end_that_comes_too_early_is_no_failure(rt: HostRuntime) {
+    assert!(rt; exact_reads(b"abcdef") == (true, *b"abcd", false, false));
+}
+
+// Whether a put and a write of these bytes work, and whether the tally has failed then.
+fn puts_and_writes(tally: &mut Tally<&mut Narrow>, bytes: &[u8]) -> (bool, bool, bool) {
+    let puts = tally.put(bytes).is_ok();
+    let writes = tally.write(bytes).is_ok();
+    (puts, writes, tally.failed())
+}
+
+#[test]
+fn a_writer_that_takes_nothing_is_a_failure(rt: HostRuntime) {
+    let mut inner = Narrow::new(rt.alloc(), 0, None);
+    let mut tally = Tally::new(&mut inner, 0);
+    // Nothing is asked of the writer, and a write of no bytes may take none.
+    assert!(rt; puts_and_writes(&mut tally, b"") == (true, true, false));
+    assert!(rt; puts_and_writes(&mut tally, b"a") == (false, false, true));
+    assert!(rt; puts_and_writes(&mut tally, b"") == (false, false, true));
+    assert!(rt; tally.write_all(b"").is_err());
+}
+
+#[test]
+fn a_writer_that_fails_leaves_a_prefix(rt: HostRuntime) {
+    let mut inner = Narrow::new(rt.alloc(), 3, Some(ErrorKind::Interrupted));
+    let mut tally = Tally::new(&mut inner, 0);
+    assert!(rt; tally.put(b"abcde").is_err() && tally.failed());
+    let error = tally.write(b"f").map_err(|e| e.kind());
+    assert!(rt; error == Err(ErrorKind::Other));
+    // Once failed, each call fails.
+    assert!(rt; tally.flush().is_err());
+    assert!(rt; inner.taken.as_slice() == b"abc".as_slice());
+}
+
+#[test]
+fn writes_and_flushes_pass_on(rt: HostRuntime) {
+    let mut inner = Narrow::new(rt.alloc(), 10, None);
+    let mut tally = Tally::new(&mut inner, 0);
+    assert!(rt; tally.put(b"abc").is_ok() && tally.write_all(b"de").is_ok());
+    assert!(rt; tally.flush().is_ok() && !tally.failed());
+    assert!(rt; inner.taken.as_slice() == b"abcde".as_slice());
+    inner.flushes = false;
+    let mut tally = Tally::new(&mut inner, 0);
+    assert!(rt; tally.flush().is_err() && tally.failed());
+}

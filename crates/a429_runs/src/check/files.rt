@@ -1,0 +1,101 @@
+//! Small files, and the recordings of runs that carry them.
+
+use crate::chance::Chance;
+use a429_link::{FileBytes, Seen, clean_run};
+use a429_profile::{Profile, read_profile};
+use a429_sample::PROFILE;
+use a429_word::{Bus, Word};
+use std::alloc::{AllocError, Global};
+use std::fmt::Write;
+use std::process::Abort;
+
+/// The sample profile.
+pub(super) fn sample(rt: &(impl Abort + AllocGlobal)) -> Profile {
+    read_profile(rt.alloc(), PROFILE).expect(rt, "a profile")
+}
+
+// One to three files of 1 to 30 bytes.
+fn small_files(alloc: Global, chance: &mut Chance) -> Result<Vec<Vec<u8>>, AllocError> {
+    let mut files = Vec::new(alloc);
+    for _ in 0..1 + chance.below(3) {
+        files.push(small_file(alloc, chance)?)?;
+    }
+    Ok(files)
+}
+
+fn small_file(alloc: Global, chance: &mut Chance) -> Result<Vec<u8>, AllocError> {
+    let mut bytes = Vec::new(alloc);
+    for _ in 0..1 + chance.below(30) {
+        bytes.push(chance.below(256) as u8)?;
+    }
+    Ok(bytes)
+}
+
+/// Small files, and the words of a run without loss that carries them.
+#[derive(Drop)]
+pub(super) struct Transfer {
+    pub(super) first: u8,
+    pub(super) files: Vec<Vec<u8>>,
+    pub(super) run: Vec<Seen>,
+}
+
+/// A transfer of small files in link data units of at most 3 to 12 words.
+pub(super) fn some_transfer(
+    rt: &(impl Abort + AllocGlobal),
+    profile: &Profile,
+    chance: &mut Chance,
+) -> Result<Transfer, AllocError> {
+    let files = small_files(rt.alloc(), chance)?;
+    let first = chance.below(256) as u8;
+    let words = 3 + chance.below(10) as u8;
+    let run = clean_run(rt.alloc(), profile, first, words, files.as_slice()).expect(rt, "a run");
+    Ok(Transfer { first, files, run })
+}
+
+/// The recording of these words.
+pub(super) fn recording(alloc: Global, words: &[Seen]) -> Result<String, AllocError> {
+    let mut text = String::from_str(alloc, "time,bus,word\n")?;
+    for (time, seen) in words.iter().enumerate() {
+        let bus = match seen.bus {
+            Bus::A => 'A',
+            Bus::B => 'B',
+        };
+        writeln!(text, "{time},{bus},{:08X}", seen.word.to_u32())?;
+    }
+    Ok(text)
+}
+
+/// The word with one of its bits turned, so that its parity is wrong.
+pub(super) fn damaged(seen: Seen, chance: &mut Chance) -> Seen {
+    let bit = 1 << chance.below(32);
+    Seen {
+        bus: seen.bus,
+        word: Word::from_u32(seen.word.to_u32() ^ bit),
+    }
+}
+
+/// What is told of these files.
+pub(super) fn yes_text(alloc: Global, files: &[FileBytes]) -> Result<String, AllocError> {
+    let count = files.len();
+    let mut text = format!(in alloc; "YES files {count}\n")?;
+    for file in files {
+        let (number, length) = (file.number, file.bytes.as_slice().len());
+        writeln!(text, "file {number} {length}")?;
+    }
+    Ok(text)
+}
+
+/// The files that crossed are the first of those that were sent.
+pub(super) fn begins(found: &[FileBytes], sent: &Transfer) -> bool {
+    if found.len() > sent.files.len() {
+        return false;
+    }
+    let mut number = sent.first;
+    for (file, bytes) in found.iter().zip(sent.files.iter()) {
+        if file.number != number || file.bytes.as_slice() != bytes.as_slice() {
+            return false;
+        }
+        number = number.wrapping_add(1);
+    }
+    true
+}

@@ -1,0 +1,237 @@
+//! Recordings of runs that lose words and answers, and repeat: the checker explains them, with the files
+//! that were sent.
+
+use crate::calls::{checked, extracted};
+use crate::chance::Chance;
+use crate::check::files::{Transfer, begins, damaged, recording, sample, some_transfer};
+use a429_link::Seen;
+use a429_profile::Profile;
+use a429_sample::NAK;
+use a429_word::{Bus, Word};
+use std::alloc::{AllocError, Global};
+use std::process::Abort;
+use std::test::Fail;
+
+// The words of a request without loss, at the front of such words: the request, the clear answer, as many
+// words as it asks for, and the acknowledgement.
+fn first_request(run: &[Seen]) -> (&[Seen], &[Seen]) {
+    let asked = match run.first() {
+        Some(request) => (request.word.to_u32() >> 8 & 0xFF) as usize,
+        None => 0,
+    };
+    run.split_at((asked + 3).min(run.len()))
+}
+
+// A word is recorded, sometimes behind one that is none of the transfer's.
+fn record(words: &mut Vec<Seen>, chance: &mut Chance, seen: &Seen) -> Result<(), AllocError> {
+    if chance.one_in(10) {
+        let free = Seen {
+            bus: Bus::A,
+            word: Word::from_u32(0xE138_80C1),
+        };
+        words.push(free)?;
+    }
+    words.push(*seen)?;
+    Ok(())
+}
+
+fn record_all(
+    words: &mut Vec<Seen>,
+    chance: &mut Chance,
+    block: &[Seen],
+) -> Result<(), AllocError> {
+    for seen in block {
+        record(words, chance, seen)?;
+    }
+    Ok(())
+}
+
+// Some of the words are recorded, some are damaged, and some are lost.
+fn record_some(
+    words: &mut Vec<Seen>,
+    chance: &mut Chance,
+    block: &[Seen],
+) -> Result<(), AllocError> {
+    for seen in block {
+        match chance.below(4) {
+            0 => {}
+            1 => {
+                let bad = damaged(*seen, chance);
+                record(words, chance, &bad)?;
+            }
+            _ => record(words, chance, seen)?,
+        }
+    }
+    Ok(())
+}
+
+// The block is recorded, but its first data word is not.
+fn record_bad(
+    words: &mut Vec<Seen>,
+    chance: &mut Chance,
+    block: &[Seen],
+) -> Result<(), AllocError> {
+    let Some((start, behind)) = block.split_first() else {
+        return Ok(());
+    };
+    let Some((_, behind)) = behind.split_first() else {
+        return Ok(());
+    };
+    let Some((end, data)) = behind.split_last() else {
+        return Ok(());
+    };
+    if chance.one_in(2) {
+        record(words, chance, start)?;
+    }
+    record_some(words, chance, data)?;
+    record(words, chance, end)
+}
+
+// The block is recorded as far as it gets, and perhaps an answer that does not reach the source.
+fn record_block(
+    words: &mut Vec<Seen>,
+    chance: &mut Chance,
+    block: &[Seen],
+    acknowledgement: &Seen,
+) -> Result<(), AllocError> {
+    let refusal = Seen {
+        bus: Bus::B,
+        word: Word::from_u32(NAK),
+    };
+    match chance.below(7) {
+        0 => {}
+        1 => match block.split_last() {
+            Some((_, front)) => record_some(words, chance, front)?,
+            None => {}
+        },
+        2 => record_bad(words, chance, block)?,
+        3 => {
+            record_bad(words, chance, block)?;
+            record(words, chance, &refusal)?;
+        }
+        4 => record_all(words, chance, block)?,
+        5 => {
+            record_all(words, chance, block)?;
+            record(words, chance, &refusal)?;
+        }
+        _ => {
+            record_all(words, chance, block)?;
+            record(words, chance, acknowledgement)?;
+        }
+    }
+    Ok(())
+}
+
+// A request that the source has to repeat.
+fn record_attempt(
+    words: &mut Vec<Seen>,
+    chance: &mut Chance,
+    whole: &[Seen],
+) -> Result<(), AllocError> {
+    let Some((request, behind)) = whole.split_first() else {
+        return Ok(());
+    };
+    record(words, chance, request)?;
+    if chance.one_in(5) {
+        return Ok(());
+    }
+    let Some((clear, behind)) = behind.split_first() else {
+        return Ok(());
+    };
+    record(words, chance, clear)?;
+    let Some((acknowledgement, block)) = behind.split_last() else {
+        return Ok(());
+    };
+    record_block(words, chance, block, acknowledgement)
+}
+
+// A link data unit crosses, after some requests in vain.
+fn record_unit(
+    words: &mut Vec<Seen>,
+    chance: &mut Chance,
+    whole: &[Seen],
+) -> Result<(), AllocError> {
+    for _ in 0..chance.below(4) {
+        record_attempt(words, chance, whole)?;
+    }
+    record_all(words, chance, whole)
+}
+
+// What is recorded where the words of a run without loss come with loss.
+fn with_loss(alloc: Global, chance: &mut Chance, run: &[Seen]) -> Result<Vec<Seen>, AllocError> {
+    let mut words = Vec::new(alloc);
+    let mut rest = run;
+    for _ in run {
+        if rest.is_empty() {
+            break;
+        }
+        let (whole, behind) = first_request(rest);
+        record_unit(&mut words, chance, whole)?;
+        rest = behind;
+    }
+    Ok(words)
+}
+
+// What the checker says of a recording.
+#[derive(Clone, Copy)]
+enum Outcome {
+    // It is explained, and so many files have crossed, the first of those that were sent.
+    Crossed(usize),
+    Unexplained,
+    Wrong,
+}
+
+fn told_of(alloc: Global, words: &[Seen], sent: &Transfer) -> Result<Outcome, Fail> {
+    let text = recording(alloc, words)?;
+    let (found, certificate) = checked(alloc, text.as_str());
+    if found.status == Ok(2) {
+        return Ok(Outcome::Unexplained);
+    }
+    let (answer, files) = extracted(alloc, text.as_str(), certificate.as_slice())?;
+    let is_read = found.status == Ok(0) && answer.status == Ok(0);
+    if is_read && begins(files.as_slice(), sent) {
+        Ok(Outcome::Crossed(files.len()))
+    } else {
+        Ok(Outcome::Wrong)
+    }
+}
+
+// The recording is explained, and all that was sent has crossed.
+fn has_crossed(alloc: Global, words: &[Seen], sent: &Transfer) -> Result<bool, Fail> {
+    let outcome = told_of(alloc, words, sent)?;
+    Ok(matches!(outcome, Outcome::Crossed(files) if files == sent.files.len()))
+}
+
+// The recording breaks off: some run records it, and if it is explained, what has crossed is the first of
+// what was sent.
+fn has_begun(alloc: Global, words: &[Seen], sent: &Transfer) -> Result<bool, Fail> {
+    let outcome = told_of(alloc, words, sent)?;
+    Ok(!matches!(outcome, Outcome::Wrong))
+}
+
+// Records a transfer with loss, and breaks the recording off. Whether the checker is right of both.
+fn is_right(
+    rt: &(impl Abort + AllocGlobal),
+    profile: &Profile,
+    chance: &mut Chance,
+) -> Result<bool, Fail> {
+    let sent = some_transfer(rt, profile, chance)?;
+    let words = with_loss(rt.alloc(), chance, sent.run.as_slice())?;
+    let begun = (chance.below(1000) as usize).min(words.len());
+    let front = &words.as_slice()[..begun];
+    Ok(has_crossed(rt.alloc(), words.as_slice(), &sent)? && has_begun(rt.alloc(), front, &sent)?)
+}
+
+#[test]
+fn recordings_with_loss(rt: HostRuntime) -> Result<(), Fail> {
+    let profile = sample(&rt);
+    let mut chance = Chance::new(2);
+    let mut right = 0u32;
+    for _ in 0..1000 {
+        if is_right(&rt, &profile, &mut chance)? {
+            right = right.saturating_add(1);
+        }
+    }
+    assert_eq!(rt; right, 1000);
+    Ok(())
+}

@@ -1,0 +1,97 @@
+//! Steps drawn at random.
+
+use crate::chance::Chance;
+use crate::draft::Draft;
+use crate::link::model::Model;
+use crate::tried::Move;
+use crate::words::{TO_SINK, TO_SOURCE, joined, refusal};
+use a429_word::Bus;
+
+/// How steps are drawn, and under which profile.
+#[derive(Clone, Copy)]
+pub(super) struct Plan {
+    pub first_ldu: u8,
+    pub compare: bool,
+    /// In so many of 16 tries a word or an answer is lost or left out, or a block is refused.
+    pub losses: u32,
+    /// No link data unit ends its file.
+    pub is_open: bool,
+}
+
+/// A step to try.
+pub(super) fn drawn(chance: &mut Chance, plan: Plan, model: &Model) -> Move {
+    let is_loss = chance.below(16) < plan.losses;
+    match (chance.below(8), is_loss) {
+        (0, _) => some_load(chance, plan),
+        (1 | 2, true) => Move::SentLost,
+        (1 | 2, false) => {
+            let (bus, word) = wanted(chance, Bus::A, model.source.next());
+            Move::Sent(bus, word)
+        }
+        (3 | 4, _) => Move::SinkTakes,
+        (5, true) => silent_or_refusing(chance),
+        (5, false) => {
+            let (bus, word) = wanted(chance, Bus::B, model.sink.owed());
+            Move::Answered(bus, word)
+        }
+        (6, true) => Move::LoseAnswer,
+        (6, false) => Move::TakeAnswer,
+        _ => waiting_or_free(chance),
+    }
+}
+
+fn some_load(chance: &mut Chance, plan: Plan) -> Move {
+    let flags = if plan.is_open {
+        2 * chance.below(8) as u8
+    } else {
+        chance.below(16) as u8
+    };
+    Move::Load(Draft::drawn(chance, flags, plan.compare))
+}
+
+fn silent_or_refusing(chance: &mut Chance) -> Move {
+    if chance.one_in(2) {
+        return Move::Silent;
+    }
+    Move::Answered(Bus::B, refusal(chance.byte() << 8 | chance.byte()))
+}
+
+fn waiting_or_free(chance: &mut Chance) -> Move {
+    if chance.one_in(2) {
+        return Move::TimeOut;
+    }
+    let (bus, word) = any_word(chance);
+    Move::FreeSeen(bus, word)
+}
+
+// Mostly this word on this bus; now and then it stands on the other bus, has two other bits, or is any
+// word.
+fn wanted(chance: &mut Chance, bus: Bus, word: Option<u32>) -> (Bus, u32) {
+    let Some(word) = word else {
+        return any_word(chance);
+    };
+    match chance.below(32) {
+        0 => any_word(chance),
+        1 => (any_bus(chance), word),
+        2 => (bus, word ^ 3 << (8 + chance.below(15))),
+        _ => (bus, word),
+    }
+}
+
+fn any_bus(chance: &mut Chance) -> Bus {
+    if chance.one_in(2) { Bus::A } else { Bus::B }
+}
+
+// Any word, often one of the transfer.
+fn any_word(chance: &mut Chance) -> (Bus, u32) {
+    let label = match chance.below(8) {
+        0 => chance.byte(),
+        1..=4 => TO_SINK,
+        _ => TO_SOURCE,
+    };
+    let bits = chance.byte() << 8 | chance.byte();
+    let kind = chance.below(8);
+    let word = joined(label, kind, chance.below(16), bits);
+    let wrong_parity = if chance.one_in(8) { 0x8000_0000 } else { 0 };
+    (any_bus(chance), word ^ wrong_parity)
+}
