@@ -4,7 +4,7 @@ use a429_cert::{Act, CertLine, OutOfMemory, Words, read_line, write_line};
 use a429_link::{SinkState, SourceState};
 use a429_sample::CERTIFICATE;
 use a429_word::Word;
-use std::alloc::{AllocError, Global};
+use std::alloc::Global;
 use std::test::Fail;
 
 // The ends of the ranges.
@@ -58,13 +58,13 @@ fn is_written_again(alloc: Global, text: &str) -> Result<Option<bool>, OutOfMemo
     Ok(Some(written.as_slice() == text.as_bytes()))
 }
 
-// The text of a link data unit of so many words.
-fn load_text(alloc: Global, count: usize) -> Result<String, AllocError> {
+// The same of the text of a link data unit of so many words.
+fn is_load_written_again(alloc: Global, count: usize) -> Result<Option<bool>, OutOfMemory> {
     let mut text = String::from_str(alloc, "L 0 1 A3F5")?;
     for _ in 0..count {
         text.push_str(" 12004123")?;
     }
-    Ok(text)
+    is_written_again(alloc, text.as_str())
 }
 
 // What a line tells of a step and of what it leaves.
@@ -82,44 +82,41 @@ fn moved(line: &CertLine) -> Option<(Act, SourceState, SinkState, u8, u8)> {
 }
 
 #[test]
-fn certificate_of_one_byte(rt: HostRuntime) -> Result<(), Fail> {
+fn certificate_of_one_byte(rt: HostRuntime) {
+    assert!(rt; CERTIFICATE.lines().count() == 15);
     for line in CERTIFICATE.lines().skip(1) {
-        assert!(rt; is_written_again(rt.alloc(), line)? == Some(true));
+        assert!(rt; is_written_again(rt.alloc(), line) == Ok(Some(true)));
     }
-    Ok(())
 }
 
 #[test]
-fn ends_of_the_ranges(rt: HostRuntime) -> Result<(), Fail> {
+fn ends_of_the_ranges(rt: HostRuntime) {
+    assert!(rt; ENDS.lines().count() == 5);
     for line in ENDS.lines() {
-        assert!(rt; is_written_again(rt.alloc(), line)? == Some(true));
+        assert!(rt; is_written_again(rt.alloc(), line) == Ok(Some(true)));
     }
-    Ok(())
 }
 
 #[test]
-fn loads_of_many_words(rt: HostRuntime) -> Result<(), Fail> {
+fn loads_of_many_words(rt: HostRuntime) {
     for (count, wanted) in [(0, None), (253, Some(true)), (254, None)] {
-        let text = load_text(rt.alloc(), count)?;
-        assert!(rt; is_written_again(rt.alloc(), text.as_str())? == wanted);
+        assert!(rt; is_load_written_again(rt.alloc(), count) == Ok(wanted));
     }
-    Ok(())
 }
 
 #[test]
-fn texts_that_are_no_line(rt: HostRuntime) -> Result<(), Fail> {
+fn texts_that_are_no_line(rt: HostRuntime) {
+    assert!(rt; NO_LINES.lines().count() == 21);
     for text in NO_LINES.lines() {
-        assert!(rt; is_written_again(rt.alloc(), text)? == None);
+        assert!(rt; is_written_again(rt.alloc(), text) == Ok(None));
     }
-    Ok(())
 }
 
 #[test]
-fn bytes_that_end_no_line(rt: HostRuntime) -> Result<(), Fail> {
+fn bytes_that_end_no_line(rt: HostRuntime) {
     for text in BAD_ENDS {
-        assert!(rt; is_written_again(rt.alloc(), text)? == None);
+        assert!(rt; is_written_again(rt.alloc(), text) == Ok(None));
     }
-    Ok(())
 }
 
 #[test]

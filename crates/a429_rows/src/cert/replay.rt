@@ -6,7 +6,6 @@ use a429_record::Entry;
 use a429_sample::{ACK, CERTIFICATE, CTS, EOT, PART, PROFILE, RTS, SOT};
 use a429_word::{Bus, Word};
 use std::alloc::{AllocError, Global};
-use std::test::Fail;
 
 // How many files a certificate lends, and what it gives away: file 1, with the byte 41, 65 in decimal.
 const ONE_FILE: &str = "1 [FileBytes { number: 1, bytes: Bytes { bytes: [65] } }]";
@@ -67,10 +66,32 @@ fn verdict(
     }
 }
 
+// The same, held against the first entries of the recording with this request.
+fn verdict_on(alloc: Global, request: u32, count: usize, certificate: &str) -> Option<String> {
+    let profile = read_profile(alloc, PROFILE).ok()?;
+    let entries = recording(request);
+    verdict(alloc, &profile, entries.get(..count)?, certificate).ok()
+}
+
+// Whether this is the verdict on the certificate with a text in the place of lines, held against the first
+// entries of the recording with this request.
+fn is_verdict(
+    alloc: Global,
+    (request, count): (u32, usize),
+    (start, end, text): (usize, usize, &str),
+    wanted: &str,
+) -> bool {
+    let Ok(certificate) = changed(alloc, start, end, text) else {
+        return false;
+    };
+    match verdict_on(alloc, request, count, certificate.as_str()) {
+        Some(verdict) => verdict.as_str() == wanted,
+        None => false,
+    }
+}
+
 #[test]
-fn changed_certificates(rt: HostRuntime) -> Result<(), Fail> {
-    let profile = read_profile(rt.alloc(), PROFILE)?;
-    let entries = recording(RTS);
+fn changed_certificates(rt: HostRuntime) {
     let cases = [
         // They explain the recording.
         (15, 15, "", ONE_FILE),
@@ -99,28 +120,18 @@ fn changed_certificates(rt: HostRuntime) -> Result<(), Fail> {
         (15, 15, "n I Q 0 0\n", "WordDiffers { line: 16, entry: 6 }"),
     ];
     for (start, end, text, wanted) in cases {
-        let certificate = changed(rt.alloc(), start, end, text)?;
-        let verdict = verdict(rt.alloc(), &profile, &entries, certificate.as_str())?;
-        assert!(rt; verdict.as_str() == wanted);
+        assert!(rt; is_verdict(rt.alloc(), (RTS, 6), (start, end, text), wanted));
     }
-    Ok(())
 }
 
 #[test]
-fn nothing_recorded(rt: HostRuntime) -> Result<(), Fail> {
-    let profile = read_profile(rt.alloc(), PROFILE)?;
-    let certificate = changed(rt.alloc(), 0, 15, "arinc429-cert 1\nfirst 0\n")?;
-    let verdict = verdict(rt.alloc(), &profile, &[], certificate.as_str())?;
-    assert!(rt; verdict.as_str() == "0 []");
-    Ok(())
+fn nothing_recorded(rt: HostRuntime) {
+    let whole = (0, 15, "arinc429-cert 1\nfirst 0\n");
+    assert!(rt; is_verdict(rt.alloc(), (RTS, 0), whole, "0 []"));
 }
 
 #[test]
-fn other_request(rt: HostRuntime) -> Result<(), Fail> {
-    let profile = read_profile(rt.alloc(), PROFILE)?;
-    let entries = recording(0x4141_FF23);
-    let certificate = changed(rt.alloc(), 15, 15, "")?;
-    let verdict = verdict(rt.alloc(), &profile, &entries, certificate.as_str())?;
-    assert!(rt; verdict.as_str() == "WordDiffers { line: 4, entry: 0 }");
-    Ok(())
+fn other_request(rt: HostRuntime) {
+    let fault = "WordDiffers { line: 4, entry: 0 }";
+    assert!(rt; is_verdict(rt.alloc(), (0x4141_FF23, 6), (15, 15, ""), fault));
 }

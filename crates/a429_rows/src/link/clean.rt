@@ -2,11 +2,10 @@
 
 use a429_ldu::CutFault;
 use a429_link::{CleanFault, Seen, clean_run};
-use a429_profile::{Profile, read_profile};
+use a429_profile::read_profile;
 use a429_sample::PROFILE;
 use a429_word::Bus;
 use std::alloc::{AllocError, Global};
-use std::test::Fail;
 
 // These bytes, each as a file.
 fn files(alloc: Global, texts: &[&[u8]]) -> Result<Vec<Vec<u8>>, AllocError> {
@@ -17,36 +16,40 @@ fn files(alloc: Global, texts: &[&[u8]]) -> Result<Vec<Vec<u8>>, AllocError> {
     Ok(files)
 }
 
-// What a run without loss of these files in the smallest units records, if there is one.
-fn run(alloc: Global, profile: &Profile, texts: &[&[u8]]) -> Result<Vec<Seen>, CleanFault> {
-    match files(alloc, texts) {
-        Ok(files) => clean_run(alloc, profile, 1, 3, files.as_slice()),
-        Err(_) => Err(CleanFault::OutOfMemory),
-    }
+// The run without loss of these files in the smallest units.
+fn run(alloc: Global, texts: &[&[u8]]) -> Option<Result<Vec<Seen>, CleanFault>> {
+    let profile = read_profile(alloc, PROFILE).ok()?;
+    let files = files(alloc, texts).ok()?;
+    Some(clean_run(alloc, &profile, 1, 3, files.as_slice()))
 }
 
-// The bus and the number of the word at this place of a run.
-fn word_at(run: &[Seen], place: usize) -> Option<(Bus, u32)> {
-    let seen = run.get(place)?;
-    Some((seen.bus, seen.word.to_u32()))
+// Why there is no run of these files.
+fn fault(alloc: Global, texts: &[&[u8]]) -> Option<CleanFault> {
+    run(alloc, texts)?.err()
+}
+
+// How many words the run of a file has, and those at places 3 and 5, each with its bus.
+fn words_of(alloc: Global, text: &[u8]) -> Option<(usize, (Bus, u32), (Bus, u32))> {
+    let run = run(alloc, &[text])?.ok()?;
+    let data = *run.get(3)?;
+    let answer = *run.get(5)?;
+    Some((
+        run.len(),
+        (data.bus, data.word.to_u32()),
+        (answer.bus, answer.word.to_u32()),
+    ))
 }
 
 #[test]
-fn three_bytes_in_the_smallest_units(rt: HostRuntime) -> Result<(), Fail> {
-    let profile = read_profile(rt.alloc(), PROFILE)?;
-    let run = run(rt.alloc(), &profile, &[&[0x41, 0x42, 0x43]])?;
-    assert!(rt; run.len() == 12);
-    assert!(rt; word_at(run.as_slice(), 3) == Some((Bus::A, 0x1442_4123)));
-    assert!(rt; word_at(run.as_slice(), 5) == Some((Bus::B, 0x4501_01A3)));
-    Ok(())
+fn three_bytes_in_the_smallest_units(rt: HostRuntime) {
+    let words = words_of(rt.alloc(), &[0x41, 0x42, 0x43]);
+    assert!(rt; words == Some((12, (Bus::A, 0x1442_4123), (Bus::B, 0x4501_01A3))));
 }
 
 #[test]
-fn files_that_are_refused(rt: HostRuntime) -> Result<(), Fail> {
-    let profile = read_profile(rt.alloc(), PROFILE)?;
-    let second_empty = run(rt.alloc(), &profile, &[&[0x41], &[]]).err();
+fn files_that_are_refused(rt: HostRuntime) {
+    let second_empty = fault(rt.alloc(), &[&[0x41], &[]]);
     assert!(rt; second_empty == Some(CleanFault::Cut(1, CutFault::Empty)));
-    let too_long = run(rt.alloc(), &profile, &[&[0; 511]]).err();
+    let too_long = fault(rt.alloc(), &[&[0; 511]]);
     assert!(rt; too_long == Some(CleanFault::Cut(0, CutFault::TooLong)));
-    Ok(())
 }

@@ -8,48 +8,104 @@ ghost use Rattle.a429_link.specs.Step.{LoadsLdu};
 use a429_ldu::Ldu;
 use a429_link::{FileBytes, Link, Seen, Step};
 use a429_profile::Profile;
+use a429_sample::{CTS, PART, RTS};
 use a429_word::{Bus, Word};
 use std::alloc::{AllocError, Global};
 
-/// A link on which scripts are played. All link data units that it loads have the same data words.
+/// A link on which scripts are played.
 #[derive(Drop)]
 pub(crate) struct Stage<'a> {
     alloc: Global,
     profile: &'a Profile,
-    words: &'a [Word],
     link: Link<'a>,
     ghost same: { link.profile ≡ profile.now },
 }
 
 impl<'a> Stage<'a> {
     /// A link on which nothing has happened, whose first file has number 1.
-    pub(crate) fn new(alloc: Global, profile: &'a Profile, words: &'a [Word]) -> Stage<'a> {
+    pub(crate) fn new(alloc: Global, profile: &'a Profile) -> Stage<'a> {
         Stage {
             alloc,
             profile,
-            words,
             link: Link::start(alloc, profile, 1),
         }
     }
 
-    /// Plays a script up to its first line, counted from 0, that goes otherwise than it says.
-    pub(crate) fn first_that_differs(&mut self, script: &str) -> Result<Option<usize>, AllocError> {
-        for (number, line) in script.lines().enumerate() {
-            if !self.goes(line)? {
-                return Ok(Some(number));
+    /// The first line of a script that goes otherwise than it says. It ends the play. A script has lines.
+    pub(crate) fn first_that_differs<'s>(&mut self, script: &'s str) -> Option<&'s str> {
+        if script.is_empty() {
+            return Some("no line");
+        }
+        for line in script.lines() {
+            if !self.goes(line) {
+                return Some(line);
             }
         }
-        Ok(None)
+        None
     }
 
-    /// Whether the source sends this word, and the sink takes it.
-    pub(crate) fn crosses(&mut self, word: u32) -> bool {
+    // Whether a line goes as it says. One that is no line of a script does not.
+    fn goes(&mut self, line: &str) -> bool {
+        let (name, wanted) = line.split_once(": ").unwrap_or((line, "Ok(())"));
+        match self.answer(name) {
+            Ok(answer) => answer.as_str() == wanted,
+            Err(_) => false,
+        }
+    }
+
+    fn answer(&mut self, name: &str) -> Result<String, AllocError> {
+        match name {
+            "states" => format!(in self.alloc; "{:?}", self.link.states()),
+            "delivered" => format!(in self.alloc; "{:?}", self.link.delivered()),
+            "take_delivered" => format!(in self.alloc; "{:?}", self.taken()),
+            "255 open units cross" => format!(in self.alloc; "{}", self.open_units_cross()),
+            _ => self.step_answer(name),
+        }
+    }
+
+    fn taken(&mut self) -> Vec<FileBytes> {
+        self.link.take_delivered()
+    }
+
+    // What the link answers to a step.
+    fn step_answer(&mut self, text: &str) -> Result<String, AllocError> {
+        match step(self.alloc, self.profile, text) {
+            Some(step) => format!(in self.alloc; "{:?}", self.link.apply(step)),
+            None => String::from_str(self.alloc, "no step"),
+        }
+    }
+
+    // Whether units 1 to 255 are loaded and cross, and none ends its file.
+    fn open_units_cross(&mut self) -> bool {
+        for ldu in 1..=255 {
+            if !self.open_unit_crosses(ldu) {
+                return false;
+            }
+        }
+        true
+    }
+
+    fn open_unit_crosses(&mut self, ldu: u8) -> bool {
+        let Some(unit) = byte_unit(self.alloc, self.profile, 0) else {
+            return false;
+        };
+        self.made(Step::Load(unit))
+            && self.crosses(RTS)
+            && self.answers(CTS)
+            && self.crosses(with_odd_parity(0x6001_0023 | u32::from(ldu) << 8))
+            && self.crosses(PART)
+            && self.crosses(0xF0A3_F523)
+            && self.answers(with_odd_parity(0x4501_00A3 | u32::from(ldu) << 8))
+    }
+
+    // Whether the source sends this word, and the sink takes it.
+    fn crosses(&mut self, word: u32) -> bool {
         let word = Word::from_u32(word);
         self.made(Step::Sent(Seen { bus: Bus::A, word })) && self.made(Step::SinkTakes)
     }
 
-    /// Whether the sink answers this word, and the source takes it.
-    pub(crate) fn answers(&mut self, word: u32) -> bool {
+    // Whether the sink answers this word, and the source takes it.
+    fn answers(&mut self, word: u32) -> bool {
         let word = Word::from_u32(word);
         self.made(Step::Answered(Seen { bus: Bus::B, word })) && self.made(Step::TakeAnswer)
     }
@@ -59,40 +115,25 @@ impl<'a> Stage<'a> {
     {
         self.link.apply(step) == Ok(())
     }
+}
 
-    // Whether a line goes as it says. One that is no line of a script does not.
-    fn goes(&mut self, line: &str) -> Result<bool, AllocError> {
-        let alloc = self.alloc;
-        let (name, wanted) = line.split_once(": ").unwrap_or((line, "Ok(())"));
-        let answer = match name {
-            "states" => format!(in alloc; "{:?}", self.link.states())?,
-            "delivered" => format!(in alloc; "{:?}", self.link.delivered())?,
-            "take_delivered" => format!(in alloc; "{:?}", self.taken())?,
-            _ => self.answer(name)?,
-        };
-        Ok(answer.as_str() == wanted)
-    }
-
-    fn taken(&mut self) -> Vec<FileBytes> {
-        self.link.take_delivered()
-    }
-
-    // What the link answers to a step.
-    fn answer(&mut self, text: &str) -> Result<String, AllocError> {
-        match step(self.alloc, self.profile, self.words, text) {
-            Some(step) => format!(in self.alloc; "{:?}", self.link.apply(step)),
-            None => String::from_str(self.alloc, "no step"),
-        }
+// The number of a word with these bits below its parity bit.
+fn with_odd_parity(number: u32) -> u32 {
+    if number.count_ones() % 2 == 0 {
+        number | 0x8000_0000
+    } else {
+        number
     }
 }
 
 // The step of this text: its name, and behind it what it is made with.
-fn step(alloc: Global, profile: &Profile, words: &[Word], text: &str) -> Option<Step>
+fn step(alloc: Global, profile: &Profile, text: &str) -> Option<Step>
     ensures { IfSome result (λ s. LoadsLdu profile.now s) }
 {
     match text {
-        "Load open" => Some(Step::Load(unit(alloc, profile, 0, words)?)),
-        "Load final" => Some(Step::Load(unit(alloc, profile, 1, words)?)),
+        "Load open" => Some(Step::Load(byte_unit(alloc, profile, 0)?)),
+        "Load final" => Some(Step::Load(byte_unit(alloc, profile, 1)?)),
+        "Load two words" => Some(Step::Load(two_word_unit(alloc, profile)?)),
         "SentLost" => Some(Step::SentLost),
         "TimeOut" => Some(Step::TimeOut),
         "TakeAnswer" => Some(Step::TakeAnswer),
@@ -118,12 +159,24 @@ fn recorded_step(text: &str) -> Option<Step>
     }
 }
 
-// The link data unit of these flags and data words, with the check word of the byte 41.
-fn unit(alloc: Global, profile: &Profile, flags: u8, words: &[Word]) -> Option<Ldu>
+// The link data unit of the byte 41 with these flags, of which 1 ends its file.
+fn byte_unit(alloc: Global, profile: &Profile, flags: u8) -> Option<Ldu>
     requires { flags ≤ 15 }
     ensures { IfSome result (λ u. IsLdu profile.now u) }
 {
-    match Ldu::new(alloc, profile, 0, flags, 0xA3F5, words) {
+    let words = [Word::from_u32(PART)];
+    match Ldu::new(alloc, profile, 0, flags, 0xA3F5, &words) {
+        Ok(unit) => Some(unit),
+        Err(_) => None,
+    }
+}
+
+// A link data unit of two data words that ends its file, with a check word that is not theirs.
+fn two_word_unit(alloc: Global, profile: &Profile) -> Option<Ldu>
+    ensures { IfSome result (λ u. IsLdu profile.now u) }
+{
+    let words = [Word::from_u32(0x0342_4123), Word::from_u32(0x9100_0423)];
+    match Ldu::new(alloc, profile, 0, 1, 0xA3F5, &words) {
         Ok(unit) => Some(unit),
         Err(_) => None,
     }

@@ -1,9 +1,8 @@
 //! Steps on a link: what is delivered, and which are refused.
 
 use crate::link::script::Stage;
-use a429_profile::{Profile, read_profile};
-use a429_sample::{CTS, PART, PROFILE, RTS};
-use a429_word::Word;
+use a429_profile::read_profile;
+use a429_sample::PROFILE;
 use std::alloc::{AllocError, Global};
 use std::test::Fail;
 
@@ -72,7 +71,7 @@ delivered: [FileBytes { number: 1, bytes: Bytes { bytes: [65] } }]";
 
 // The second of two data words is lost, and check words are not compared.
 const WITHOUT_A_WORD: &str = "\
-Load final
+Load two words
 Sent A C1410423
 SinkTakes
 Answered B 424104A3
@@ -87,18 +86,21 @@ SinkTakes
 Answered B 450101A3: Err(WordDiffers)
 Answered B 460000A3";
 
-// The first line of a script that goes otherwise than it says, on a link where nothing has happened.
-fn played(
-    alloc: Global,
-    profile: &Profile,
-    words: &[Word],
-    script: &str,
-) -> Result<Option<usize>, AllocError> {
-    let mut stage = Stage::new(alloc, profile, words);
-    stage.first_that_differs(script)
+// A file has at most 255 link data units, and ends in one that says so.
+const FULL_FILE: &str = "\
+255 open units cross: true
+Load open: Err(NotAllowed)
+delivered: []";
+
+// The first line of a script that goes otherwise than it says on a link under a profile.
+fn played<'s>(alloc: Global, profile: &str, script: &'s str) -> Option<&'s str> {
+    match read_profile(alloc, profile) {
+        Ok(profile) => Stage::new(alloc, &profile).first_that_differs(script),
+        Err(_) => Some("no profile"),
+    }
 }
 
-// A profile's text with no check words compared in the place of check words compared.
+// The text of a profile that compares no check words, made of one that does.
 fn without_check(alloc: Global, profile: &str) -> Result<String, AllocError> {
     let (head, tail) = profile
         .split_once("compare = true")
@@ -109,59 +111,16 @@ fn without_check(alloc: Global, profile: &str) -> Result<String, AllocError> {
     Ok(text)
 }
 
-// The number of a word with these bits below its parity bit.
-fn with_odd_parity(number: u32) -> u32 {
-    if number.count_ones() % 2 == 0 {
-        number | 0x8000_0000
-    } else {
-        number
-    }
-}
-
-// Whether the unit of this number, which does not end its file, is loaded and crosses.
-fn open_unit_crosses(stage: &mut Stage<'_>, ldu: u8) -> Result<bool, AllocError> {
-    let start = with_odd_parity(0x6001_0023 | u32::from(ldu) << 8);
-    let answer = with_odd_parity(0x4501_00A3 | u32::from(ldu) << 8);
-    let is_loaded = stage.first_that_differs("Load open")?.is_none();
-    Ok(
-        is_loaded
-            && stage.crosses(RTS)
-            && stage.answers(CTS)
-            && stage.crosses(start)
-            && stage.crosses(PART)
-            && stage.crosses(0xF0A3_F523)
-            && stage.answers(answer),
-    )
-}
-
 #[test]
-fn one_byte(rt: HostRuntime) -> Result<(), Fail> {
-    let profile = read_profile(rt.alloc(), PROFILE)?;
-    let words = [Word::from_u32(PART)];
-    for script in [ONE_BYTE, NOT_THERE, AGAIN] {
-        assert_eq!(rt; played(rt.alloc(), &profile, &words, script)?, None);
+fn steps_go_as_the_scripts_say(rt: HostRuntime) {
+    for script in [ONE_BYTE, NOT_THERE, AGAIN, FULL_FILE] {
+        assert_eq!(rt; played(rt.alloc(), PROFILE, script), None);
     }
-    Ok(())
 }
 
 #[test]
 fn a_block_without_a_word_is_not_good(rt: HostRuntime) -> Result<(), Fail> {
-    let text = without_check(rt.alloc(), PROFILE)?;
-    let profile = read_profile(rt.alloc(), text.as_str())?;
-    let words = [Word::from_u32(0x0342_4123), Word::from_u32(0x9100_0423)];
-    assert_eq!(rt; played(rt.alloc(), &profile, &words, WITHOUT_A_WORD)?, None);
-    Ok(())
-}
-
-#[test]
-fn a_file_has_at_most_255_units(rt: HostRuntime) -> Result<(), Fail> {
-    let profile = read_profile(rt.alloc(), PROFILE)?;
-    let words = [Word::from_u32(PART)];
-    let mut stage = Stage::new(rt.alloc(), &profile, &words);
-    for ldu in 1..=255 {
-        assert!(rt; open_unit_crosses(&mut stage, ldu)?);
-    }
-    let end = "Load open: Err(NotAllowed)\ndelivered: []";
-    assert_eq!(rt; stage.first_that_differs(end)?, None);
+    let profile = without_check(rt.alloc(), PROFILE)?;
+    assert_eq!(rt; played(rt.alloc(), profile.as_str(), WITHOUT_A_WORD), None);
     Ok(())
 }
