@@ -80,30 +80,54 @@ fn of_recording<'a>(name: &str, given: &ArgMatches<'a>) -> Result<Command<'a>, R
 
 // The commands and the words that each takes.
 fn parser<'a>(alloc: Global) -> Result<Parser<'a>, AllocError> {
-    Parser::new(alloc, "a429")
+    let all = Parser::new(alloc, "a429")
         .no_binary_name(true)
-        .subcommand_required(true)
-        .subcommand(with_words(alloc, "word", &["HEX"])?)?
-        .subcommand(with_words(alloc, "labels", &["PROFILE"])?)?
-        .subcommand(with_words(alloc, "show", &["PROFILE", "REC"])?)?
-        .subcommand(with_words(alloc, "check", &["PROFILE", "REC", "CERT"])?)?
-        .subcommand(with_words(alloc, "verify", &["PROFILE", "REC", "CERT"])?)?
-        .subcommand(with_words(alloc, "extract", &["PROFILE", "REC", "CERT", "DIR"])?)?
-        .subcommand(with_words(alloc, "make", &["PROFILE"])?.arg(any_number(alloc, "FILE"))?)
+        .subcommand_required(true);
+    let all = with(all, Parser::new(alloc, "word").arg(once(alloc, "HEX")))?;
+    let all = with(all, with_profile(alloc, "labels"))?;
+    let all = with(all, with_recording(alloc, "show"))?;
+    let all = with(all, with_certificate(alloc, "check"))?;
+    let all = with(all, with_certificate(alloc, "verify"))?;
+    let all = with(all, with_folder(alloc, "extract"))?;
+    with(all, with_files(alloc, "make"))
 }
 
-// A command that takes these words, each of them once.
-fn with_words<'a>(
-    alloc: Global,
-    name: &'a str,
-    words: &[&'a str],
+// These commands and one more.
+fn with<'a>(
+    all: Parser<'a>,
+    command: Result<Parser<'a>, AllocError>,
 ) -> Result<Parser<'a>, AllocError> {
-    let mut parser = Parser::new(alloc, name);
-    for word in words {
-        let arg = Arg::new(alloc, *word).required(true).action(ArgAction::Set);
-        parser = parser.arg(arg)?;
-    }
-    Ok(parser)
+    all.subcommand(command?)
+}
+
+// A command that takes a profile.
+fn with_profile<'a>(alloc: Global, name: &'a str) -> Result<Parser<'a>, AllocError> {
+    Parser::new(alloc, name).arg(once(alloc, "PROFILE"))
+}
+
+// A command that takes a profile and a recording.
+fn with_recording<'a>(alloc: Global, name: &'a str) -> Result<Parser<'a>, AllocError> {
+    with_profile(alloc, name)?.arg(once(alloc, "REC"))
+}
+
+// A command that takes a profile, a recording and a certificate.
+fn with_certificate<'a>(alloc: Global, name: &'a str) -> Result<Parser<'a>, AllocError> {
+    with_recording(alloc, name)?.arg(once(alloc, "CERT"))
+}
+
+// A command that takes a profile, a recording, a certificate and a folder.
+fn with_folder<'a>(alloc: Global, name: &'a str) -> Result<Parser<'a>, AllocError> {
+    with_certificate(alloc, name)?.arg(once(alloc, "DIR"))
+}
+
+// A command that takes a profile and any number of files.
+fn with_files<'a>(alloc: Global, name: &'a str) -> Result<Parser<'a>, AllocError> {
+    with_profile(alloc, name)?.arg(any_number(alloc, "FILE"))
+}
+
+// A word that comes once.
+fn once<'a>(alloc: Global, name: &'a str) -> Arg<'a> {
+    Arg::new(alloc, name).required(true).action(ArgAction::Set)
 }
 
 // A word that may come any number of times, none too.
