@@ -1,5 +1,6 @@
 //! The commands: how their words are read, what each writes and answers, and how a fault is told.
 
+mod certificates;
 mod check;
 mod command_line;
 mod extract;

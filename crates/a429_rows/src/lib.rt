@@ -1,4 +1,5 @@
-//! Rows of known answers: links, certificates, recordings and what is said of them, worked out by hand.
+//! Rows of known answers, worked out by hand, of links, certificates, recordings and what is said of them; and runs
+//! that are drawn at random.
 #![tactic(auto)]
 
 #[cfg(test)]
@@ -8,6 +9,6 @@ mod cert;
 #[cfg(test)]
 mod commands;
 #[cfg(test)]
-mod explain;
-#[cfg(test)]
 mod link;
+#[cfg(test)]
+mod runs;

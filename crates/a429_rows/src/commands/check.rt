@@ -81,7 +81,8 @@ fn answers_that_are_not_owed(rt: HostRuntime) -> Result<(), Fail> {
 1 IMPOSSIBLE 1 WrongAnswer: RTS NAK
 1 IMPOSSIBLE 2 WrongAnswer: RTS CTS CTS
 1 IMPOSSIBLE 4 WrongAnswer: RTS CTS SOT EOT ACK
-1 IMPOSSIBLE 6 WrongAnswer: RTS CTS SOT PART EOT NAK ACK";
+1 IMPOSSIBLE 6 WrongAnswer: RTS CTS SOT PART EOT NAK ACK
+1 IMPOSSIBLE 11 WrongAnswer: RTS CTS E0FF0123 PART EOT C5FF01A3 RTS CTS SOT PART EOT ACK";
     assert_eq!(rt; first_that_differs(rt.alloc(), cases)?, None);
     Ok(())
 }
@@ -98,6 +99,7 @@ fn words_that_are_not_granted(rt: HostRuntime) -> Result<(), Fail> {
 #[test]
 fn recordings_in_doubt(rt: HostRuntime) -> Result<(), Fail> {
     let cases = "2 UNEXPLAINED 0 NeverWhole: RTS CTS PART EOT NAK
+2 UNEXPLAINED 0 NeverWhole: RTS CTS SOT 92004123 EOT NAK
 2 UNEXPLAINED 2 NotOneBlock: RTS CTS 60010223";
     assert_eq!(rt; first_that_differs(rt.alloc(), cases)?, None);
     Ok(())

@@ -1,6 +1,6 @@
 //! The recordings of small files, and files that are refused.
 
-use crate::calls::{filled, told};
+use crate::calls::{check_told, filled, told};
 use a429_check::{RunFault, run_make};
 use a429_record::read_entries;
 use a429_sample::{PROFILE, RECORDING};
@@ -70,6 +70,8 @@ fn a_file_of_633_bytes_takes_two_units(rt: HostRuntime) -> Result<(), Fail> {
     let places = [0, 258, 260, 261, 262, 263];
     assert!(rt; entries_at(rt.alloc(), text, &places)?.as_str() == lines);
     assert!(rt; count_entries(rt.alloc(), text)? == 264);
+    let (verdict, _) = check_told(rt.alloc(), text)?;
+    assert!(rt; verdict.as_str() == "0\nYES files 1\nfile 1 633\n");
     Ok(())
 }
 

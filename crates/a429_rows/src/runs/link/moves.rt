@@ -1,10 +1,10 @@
 //! Steps drawn at random.
 
-use crate::chance::Chance;
-use crate::draft::Draft;
-use crate::link::model::Model;
-use crate::tried::Move;
-use crate::words::{TO_SINK, TO_SOURCE, joined, refusal};
+use crate::runs::chance::Chance;
+use crate::runs::draft::Draft;
+use crate::runs::link::model::Model;
+use crate::runs::tried::Move;
+use crate::runs::words::{TO_SINK, TO_SOURCE, joined, refusal};
 use a429_word::Bus;
 
 /// How steps are drawn, and under which profile.

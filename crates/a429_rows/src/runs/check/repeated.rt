@@ -2,8 +2,8 @@
 //! that were sent.
 
 use crate::calls::{checked, extracted};
-use crate::chance::Chance;
-use crate::check::files::{Transfer, begins, damaged, recording, sample, some_transfer};
+use crate::runs::chance::Chance;
+use crate::runs::check::files::{Transfer, begins, damaged, recording, sample, some_transfer};
 use a429_link::Seen;
 use a429_profile::Profile;
 use a429_sample::NAK;

@@ -4,8 +4,8 @@
 ghost use Rattle.std.specs.Prelude.{◌<◌};
 
 use crate::calls::{checked, extracted, verified};
-use crate::chance::Chance;
-use crate::check::files::{damaged, recording, sample, some_transfer, yes_text};
+use crate::runs::chance::Chance;
+use crate::runs::check::files::{damaged, recording, sample, some_transfer, yes_text};
 use a429_link::Seen;
 use std::alloc::{AllocError, Global};
 use std::process::Abort;

@@ -1,9 +1,9 @@
 //! A source, a sink and the words between them, as the table of steps tells them.
 
-use crate::link::sink::Sink;
-use crate::source::Source;
-use crate::tried::Move;
-use crate::words::{TO_SINK, TO_SOURCE, is_free};
+use crate::runs::link::sink::Sink;
+use crate::runs::source::Source;
+use crate::runs::tried::Move;
+use crate::runs::words::{TO_SINK, TO_SOURCE, is_free};
 use a429_link::{SinkState, SourceState, StepFault};
 use a429_word::Bus;
 use std::alloc::{AllocError, Global};

@@ -3,8 +3,8 @@
 ghost use Rattle.std.specs.Prelude.{IfSome};
 ghost use Rattle.a429_ldu.specs.Ldu.{IsLdu};
 
-use crate::chance::Chance;
-use crate::words::{TO_SINK, behind, check_of, data_word, joined};
+use crate::runs::chance::Chance;
+use crate::runs::words::{TO_SINK, behind, check_of, data_word, joined};
 use a429_ldu::Ldu;
 use a429_profile::Profile;
 use a429_word::Word;

@@ -6,11 +6,11 @@ mod model;
 mod moves;
 mod sink;
 
-use crate::chance::Chance;
-use crate::link::model::Model;
-use crate::link::moves::{Plan, drawn};
-use crate::link::sink::File;
-use crate::tried::Move;
+use crate::runs::chance::Chance;
+use crate::runs::link::model::Model;
+use crate::runs::link::moves::{Plan, drawn};
+use crate::runs::link::sink::File;
+use crate::runs::tried::Move;
 use a429_link::{FileBytes, Link, Observer};
 use a429_profile::{Profile, read_profile};
 use a429_sample::PROFILE;

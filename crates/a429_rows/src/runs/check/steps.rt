@@ -3,13 +3,13 @@
 
 ghost use Rattle.std.specs.Prelude.{◌≡◌};
 
-use crate::chance::Chance;
-use crate::check::files::sample;
-use crate::draft::Draft;
-use crate::source::Source;
-use crate::tried::Move;
-use crate::words::{acknowledgement, clear, refusal};
-use a429_explain::{Verdict, check};
+use crate::runs::chance::Chance;
+use crate::runs::check::files::sample;
+use crate::runs::draft::Draft;
+use crate::runs::source::Source;
+use crate::runs::tried::Move;
+use crate::runs::words::{acknowledgement, clear, refusal};
+use a429_explain::{Certificate, Verdict, check};
 use a429_ldu::cut;
 use a429_link::{FileBytes, Link, Seen, SinkState, StepFault};
 use a429_profile::Profile;
@@ -176,8 +176,8 @@ fn judged(
     delivered: &[FileBytes],
 ) -> Outcome {
     match check(rt.alloc(), profile, entries).expect(rt, "memory") {
-        Verdict::Explained { files, .. } => {
-            if same_files(files.files(), delivered) {
+        Verdict::Explained { certificate, files } => {
+            if same_files(files.files(), delivered) && is_whole(certificate) {
                 Outcome::Explained(delivered.len())
             } else {
                 Outcome::Wrong
@@ -186,6 +186,13 @@ fn judged(
         Verdict::Unexplained { .. } => Outcome::Unexplained,
         Verdict::Impossible { .. } => Outcome::Wrong,
     }
+}
+
+// The text that a certificate lends is as long as the one that it gives away, which begins as a certificate does.
+fn is_whole(certificate: Certificate) -> bool {
+    let length = certificate.as_slice().len();
+    let text = certificate.into_vec();
+    text.len() == length && text.as_slice().starts_with(b"arinc429-cert 1\n")
 }
 
 // A run of up to 200 steps.

@@ -3,7 +3,7 @@
 ghost use Rattle.std.specs.Prelude.{IfSome};
 ghost use Rattle.a429_link.specs.Step.{LoadsLdu};
 
-use crate::draft::Draft;
+use crate::runs::draft::Draft;
 use a429_link::{Seen, Step};
 use a429_profile::Profile;
 use a429_word::{Bus, Word};

@@ -1,6 +1,6 @@
 //! A sink, as the table of steps tells it.
 
-use crate::words::{acknowledgement, behind, check_of, clear, is_refusal, refusal};
+use crate::runs::words::{acknowledgement, behind, check_of, clear, is_refusal, refusal};
 use a429_link::SinkState;
 use std::alloc::{AllocError, Global};
 

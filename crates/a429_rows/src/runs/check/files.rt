@@ -1,6 +1,6 @@
 //! Small files, and the recordings of runs that carry them.
 
-use crate::chance::Chance;
+use crate::runs::chance::Chance;
 use a429_link::{FileBytes, Seen, clean_run};
 use a429_profile::{Profile, read_profile};
 use a429_sample::PROFILE;

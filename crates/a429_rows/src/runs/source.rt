@@ -1,7 +1,7 @@
 //! A source, as the table of steps tells it.
 
-use crate::draft::Draft;
-use crate::words::{acknowledgement, clear, is_refusal, request};
+use crate::runs::draft::Draft;
+use crate::runs::words::{acknowledgement, clear, is_refusal, request};
 use a429_link::SourceState;
 
 /// A source: its file number, its link data unit's number, this unit if there is one, and its phase.

@@ -1,0 +1,82 @@
+//! The certificates of recordings of the byte 41, whole and with words missing.
+
+use crate::calls::{check_told, recorded};
+use std::alloc::Global;
+use std::test::Fail;
+
+// The lines of a certificate by the name of their part.
+fn lines_of(part: &str) -> &'static str {
+    match part {
+        "HEAD" => "arinc429-cert 1\nfirst 1\n",
+        "HEAD255" => "arinc429-cert 1\nfirst 255\n",
+        "LOAD" => "L 0 1 A3F5 12004123\n",
+        "FILLED" => "L 0 0 F078 12000023\n",
+        "ASK" => "a C Q 1 0\nk C c 0 0\n",
+        "UNANSWERED" => "s C Q 0 0\nt I Q 0 0\n",
+        "START" => "b C G 0 1\ng S0 G 0 0\na S1 G 1 0\nk S1 B1 0 0\n",
+        "REST" => "a S2 B1 1 0\nk S2 B2 0 0\na W B2 1 0\nk W A 0 0\nb W Q 0 1\n",
+        "REFUSED" => "n S1 B1 0 0\nl S2 B1 0 0\na W B1 1 0\nk W N 0 0\nb W Q 0 1\ng I Q 0 0\n",
+        "DONE" => "g I Q 0 0\n",
+        "LOST" => "d W Q 0 0\nt I Q 0 0\n",
+        _ => "no such part",
+    }
+}
+
+// The text of these parts.
+fn text_of(alloc: Global, parts: &str) -> Result<String, Fail> {
+    let mut text = String::new(alloc);
+    for part in parts.split(' ') {
+        text.push_str(lines_of(part))?;
+    }
+    Ok(text)
+}
+
+// The case is `FILES: PARTS: WORDS`: so many files cross where these words are recorded, and these are the parts of
+// the certificate.
+fn is_told(alloc: Global, case: &str) -> Result<bool, Fail> {
+    let (files, rest) = case.split_once(": ").ok_or("no files")?;
+    let (parts, words) = rest.split_once(": ").ok_or("no parts")?;
+    let recording = recorded(alloc, words)?;
+    let (text, certificate) = check_told(alloc, recording.as_str())?;
+    let begin = format!(in alloc; "0\nYES files {files}\n")?;
+    let wanted = text_of(alloc, parts)?;
+    Ok(text.as_str().starts_with(begin.as_str()) && certificate.as_slice() == wanted.as_bytes())
+}
+
+// The first case that is another, counted from 0.
+fn first_that_differs(alloc: Global, cases: &str) -> Result<Option<usize>, Fail> {
+    for (n, case) in cases.split('\n').enumerate() {
+        if !is_told(alloc, case)? {
+            return Ok(Some(n));
+        }
+    }
+    Ok(None)
+}
+
+#[test]
+fn answers_left_out_or_lost(rt: HostRuntime) -> Result<(), Fail> {
+    let cases = "\
+1: HEAD LOAD ASK START REST DONE: RTS CTS SOT PART EOT ACK
+1: HEAD LOAD ASK UNANSWERED ASK START REST DONE: RTS RTS CTS SOT PART EOT ACK
+1: HEAD LOAD ASK START REST LOST ASK START REST DONE: RTS CTS SOT PART EOT ACK RTS CTS SOT PART EOT ACK";
+    assert_eq!(rt; first_that_differs(rt.alloc(), cases)?, None);
+    Ok(())
+}
+
+// A data word is damaged, and a block is cut off.
+#[test]
+fn broken_blocks(rt: HostRuntime) -> Result<(), Fail> {
+    let cases = "\
+1: HEAD LOAD ASK START REFUSED ASK START REST DONE: RTS CTS SOT 92004123 EOT NAK RTS CTS SOT PART EOT ACK
+0: HEAD FILLED ASK START: RTS CTS SOT";
+    assert_eq!(rt; first_that_differs(rt.alloc(), cases)?, None);
+    Ok(())
+}
+
+#[test]
+fn file_0_comes_after_file_255(rt: HostRuntime) -> Result<(), Fail> {
+    let cases = "\
+2: HEAD255 LOAD ASK START REST DONE LOAD ASK START REST DONE: RTS CTS E0FF0123 PART EOT C5FF01A3 RTS CTS E0000123 PART EOT C50001A3";
+    assert_eq!(rt; first_that_differs(rt.alloc(), cases)?, None);
+    Ok(())
+}
