@@ -11,7 +11,8 @@ use Rattle.a429_explain.specs.declared.verdict.Doubt.{Doubt}
 use Rattle.a429_explain.specs.declared.verdict.Doubt.TheVariants.{NeverWhole, NotOneBlock, NotReplayed}
 use Rattle.a429_explain.specs.Verdict.{IsSound, IsImpossible, IsDoubted, IsFirst, HasNoForm, IsRefusal, IsExplanation}
 use Rattle.a429_explain.specs.WithoutLoss.{IsWithoutLoss}
-use Rattle.a429_check.specs.Verdict.{Says, yes_text}
+use Rattle.a429_check.specs.RecordingBytes.{Says}
+use Rattle.a429_check.specs.Verdict.{yes_text}
 
 -- ---- the text
 

@@ -1,5 +1,6 @@
 -- What `a429 make` writes, and why it may write nothing (profile).
 use Rattle.std.specs.Prelude.{◌≡◌, ◌+◌, ◌*◌, ◌<◌, ◌≤◌, ℕ, List, [], ◌∷◌, length, Bool, true, Option, Some, None}
+use Rattle.std.specs.Str.{IsUtf8}
 use Rattle.a429_profile.specs.Contents.{Contents}
 use Rattle.a429_link.specs.declared.fault.CleanFault.TheVariants as clean
 use Rattle.a429_link.specs.declared.seen.Seen.{Seen}
@@ -40,13 +41,13 @@ pub record IsTooMuch (profile : List ℕ) (files : List (List ℕ)) : Type 0 whe
   pub cut : first_refused 255 0 files ≡ None
   pub more : most_entries < length (words_made contents files)
 
--- why `make` may fail: the profile's own fault, then the first file that can not be cut, then too many words; a writer that failed, or want of memory
+-- why `make` may fail: the profile's own fault, then the first file that can not be cut, then too many words; a writer that failed, or want of memory, once the profile is known to be a text
 abbrev pub IsMakeFault : List ℕ → List (List ℕ) → Bool → RunFault → Type 0
 IsMakeFault profile files failed (Profile f) = HasFault profile f
 IsMakeFault profile files failed (Cut k f) = IsSound profile × (first_refused 255 0 files ≡ Some (clean.Cut k f))
 IsMakeFault profile files failed (Read f) = (f ≡ read.TooMany) × IsTooMuch profile files
 IsMakeFault profile files failed Device = IsSound profile × (failed ≡ true)
-IsMakeFault profile files failed Memory = Unit {0}
+IsMakeFault profile files failed Memory = IsUtf8 profile
 IsMakeFault profile files failed BadWord = ⊥
 IsMakeFault profile files failed Usage = ⊥
 

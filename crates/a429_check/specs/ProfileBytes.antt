@@ -19,10 +19,10 @@ IsProfileOf bytes contents = IsUtf8 bytes × Answers (parse_document bytes) (Ok 
 abbrev pub HasFault : List ℕ → ProfileFault → Type 0
 HasFault bytes f = ((¬ IsUtf8 bytes) × (f ≡ NotToml)) ⊎ (IsUtf8 bytes × Answers (parse_document bytes) (Err f))
 
--- why a profile could not be read: its own fault, or want of memory
+-- why a profile could not be read: its own fault, or, of a text, want of memory
 abbrev pub IsProfileFault : List ℕ → RunFault → Type 0
 IsProfileFault bytes (Profile f) = HasFault bytes f
-IsProfileFault bytes Memory = Unit {0}
+IsProfileFault bytes Memory = IsUtf8 bytes
 IsProfileFault bytes BadWord = ⊥
 IsProfileFault bytes (Read f) = ⊥
 IsProfileFault bytes (Cut k f) = ⊥
@@ -33,11 +33,11 @@ IsProfileFault bytes Usage = ⊥
 abbrev pub IsSound : List ℕ → Type 0
 IsSound bytes = (contents : Contents) × IsProfileOf bytes contents
 
--- why `labels` may fail: the profile's own fault, a writer that failed after the profile was read, or want of memory
+-- why `labels` may fail: the profile's own fault, a writer that failed after the profile was read, or, of a text, want of memory
 abbrev pub IsLabelsFault : List ℕ → Bool → RunFault → Type 0
 IsLabelsFault bytes failed (Profile f) = HasFault bytes f
 IsLabelsFault bytes failed Device = IsSound bytes × (failed ≡ true)
-IsLabelsFault bytes failed Memory = Unit {0}
+IsLabelsFault bytes failed Memory = IsUtf8 bytes
 IsLabelsFault bytes failed BadWord = ⊥
 IsLabelsFault bytes failed (Read f) = ⊥
 IsLabelsFault bytes failed (Cut k f) = ⊥

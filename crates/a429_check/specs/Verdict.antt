@@ -2,18 +2,16 @@
 use Rattle.std.specs.Prelude.{◌≡◌, ◌⊎◌, ◌++◌, ℕ, List, [], length, codes, Bool, true, false, Option, IfSome, Result, Ok, Err}
 use Rattle.std.specs.List.{flat_map}
 use Rattle.std.specs.Fmt.{decimal}
-use Rattle.a429_profile.specs.Contents.{Contents}
+use Rattle.std.specs.Str.{IsUtf8}
 use Rattle.a429_link.specs.declared.file.FileBytes.{FileBytes}
-use Rattle.a429_record.specs.declared.entry.Entry.{Entry}
-use Rattle.a429_record.specs.Recording.{stands_for, whole}
 use Rattle.a429_cert.specs.declared.fault.CertFault.{CertFault}
 use Rattle.a429_cert.specs.declared.fault.CertFault.TheVariants as cert
 use Rattle.a429_cert.specs.Explained.{items_of, IsExplained, AreInEveryRun}
 use Rattle.a429_cert.specs.Fault.{IsFirstFault}
 use Rattle.a429_check.specs.declared.fault.RunFault.{RunFault}
 use Rattle.a429_check.specs.declared.fault.RunFault.TheVariants.{BadWord, Profile, Read, Cut, Device, Memory, Usage}
-use Rattle.a429_check.specs.ProfileBytes.{IsProfileOf, IsSound, HasFault}
-use Rattle.a429_check.specs.RecordingBytes.{IsFaultOf}
+use Rattle.a429_check.specs.ProfileBytes.{IsSound, HasFault}
+use Rattle.a429_check.specs.RecordingBytes.{Says, IsFaultOf}
 
 -- ---- the text
 
@@ -35,13 +33,6 @@ no_text (cert.Unfinished i) = codes "NO unfinished " ++ decimal i ++ codes "\n"
 no_text cert.OutOfMemory = []
 
 -- ---- what it stands for
-
--- a profile's text and a recording say these contents and entries; the recording's bytes are known where its reader tells them
-pub record Says (profile : List ℕ) (recording : Option (List ℕ)) : Type 0 where
-  pub contents : Contents
-  pub entries : List Entry
-  pub is_profile : IsProfileOf profile contents
-  pub stand : IfSome recording (λ bytes. stands_for bytes ≡ whole entries)
 
 -- the certificate explains the recording: some run gives exactly its words, and each run that gives them delivers these files
 pub record Accepts (profile : List ℕ) (recording certificate : Option (List ℕ)) (files : List FileBytes) : Type 0 where
@@ -82,12 +73,12 @@ IsWholeFault failed Device = failed ≡ true
 IsWholeFault failed Memory = failed ≡ false
 IsWholeFault failed _ = ⊥
 
--- the profile's own fault, then the recording's; a reader or writer that failed after the profile was read; want of memory
+-- the profile's own fault, then the recording's; a reader or writer that failed after the profile was read; want of memory, once the profile is known to be a text
 abbrev pub IsVerifyFault : List ℕ → Option (List ℕ) → Bool → Bool → Bool → RunFault → Type 0
 IsVerifyFault profile told rec_failed cert_failed out_failed (Profile f) = HasFault profile f
 IsVerifyFault profile told rec_failed cert_failed out_failed (Read f) = IsSound profile × IsFaultOf told f
 IsVerifyFault profile told rec_failed cert_failed out_failed Device = IsSound profile × ((rec_failed ≡ true) ⊎ ((cert_failed ≡ true) ⊎ (out_failed ≡ true)))
-IsVerifyFault profile told rec_failed cert_failed out_failed Memory = Unit {0}
+IsVerifyFault profile told rec_failed cert_failed out_failed Memory = IsUtf8 profile
 IsVerifyFault profile told rec_failed cert_failed out_failed BadWord = ⊥
 IsVerifyFault profile told rec_failed cert_failed out_failed (Cut k f) = ⊥
 IsVerifyFault profile told rec_failed cert_failed out_failed Usage = ⊥
