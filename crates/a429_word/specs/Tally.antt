@@ -1,5 +1,5 @@
 -- What a clause reads of a `Tally`, and what a write that may stop early does (profile).
-use Rattle.std.specs.Prelude.{◌≤◌, ℕ, List, length, take, Option, Bool}
+use Rattle.std.specs.Prelude.{◌≡◌, ◌<◌, ◌≤◌, ℕ, List, [], length, take, Option, Some, None, Bool, ⊤}
 use Rattle.std.specs.Io.KnownBytes.{Appends}
 use Rattle.a429_word.specs.declared.tally.Tally.{Tally}
 
@@ -18,3 +18,9 @@ has_failed t = t.is_failed
 -- known bytes grow by some front of bs
 abbrev pub AppendsPrefix : Option (List ℕ) → Option (List ℕ) → List ℕ → Type 0
 AppendsPrefix old new bs = (n : ℕ) × (n ≤ length bs) × Appends old new (take n bs)
+
+-- known bytes were fewer than n, and none is left
+abbrev pub EndsBefore : Option (List ℕ) → Option (List ℕ) → ℕ → Type 0
+EndsBefore None new n = ⊤
+EndsBefore (Some xs) None n = ⊥
+EndsBefore (Some xs) (Some ys) n = (length xs < n) × (ys ≡ [])

@@ -1,6 +1,6 @@
 //! A reader or writer over another, with a limit, that fails for good.
 
-ghost use Rattle.std.specs.Prelude.{◌≡◌, ◌↔◌, ◌≢◌, ◌+◌, ◌<◌, ◌≤◌, Bool, true, false, length, IsErr, IfOk, IfErr, OnOk, OnErr};
+ghost use Rattle.std.specs.Prelude.{◌≡◌, ◌↔◌, ◌≢◌, ◌⊎◌, ◌+◌, ◌<◌, ◌≤◌, Bool, true, false, length, IsErr, IfOk, IfErr, OnOk, OnErr};
 ghost use Rattle.std.specs.IoError.{error_kind};
 ghost use Rattle.std.specs.Io.{ReadsAtMost, WritesAtMost};
 ghost use Rattle.std.specs.Io.KnownBytes.{Appends, Consumes, Keeps, ReadConsumes, WriteAppends};
@@ -123,7 +123,7 @@ impl<W: Write> Tally<W> {
 }
 
 impl<R: Read> Read for Tally<R> {
-    ghost use Rattle.a429_word.specs.Tally.{inner_of, left_of, has_failed};
+    ghost use Rattle.a429_word.specs.Tally.{inner_of, left_of, has_failed, EndsBefore};
 
     ghost remaining = { λ t. R.remaining (inner_of t) };
 
@@ -148,7 +148,9 @@ impl<R: Read> Read for Tally<R> {
 
     fn read_exact(&mut self, buf: &mut [u8]) -> io::Result<()>
         ensures bytes { OnOk result (Consumes (R.remaining (inner_of self.old)) (R.remaining (inner_of self.new)) buf.new) }
+        ensures err { OnErr result ((has_failed self.new ≡ true) ⊎ EndsBefore (R.remaining (inner_of self.old)) (R.remaining (inner_of self.new)) (length buf.new)) }
         ensures left { OnOk result (left_of self.new + length buf.new ≡ left_of self.old) }
+        ensures falls { left_of self.new ≤ left_of self.old }
         ensures device { has_failed self.new ≡ true → IsErr result }
         ensures stays { has_failed self.old ≡ true → self.new ≡ self.old }
         ensures kind { IfErr result (λ e. error_kind e ≢ ErrorKind.Interrupted) }
