@@ -1,8 +1,9 @@
 //! Laws of the definitions that the contracts of this crate cite.
 
-ghost use Rattle.std.specs.Prelude.{◌≡◌, ℕ, ◌≤◌, ◌<◌, ◌^◌, Option, Some, Result, Ok, IfOk, IfErr, List, ℤ};
-ghost use Rattle.a429_word.specs.Word.{number_of, bit, label_of, sdi_of, field_of, ssm_of, HasOddParity, SameParts};
+ghost use Rattle.std.specs.Prelude.{◌≡◌, ℕ, ◌≤◌, ◌<◌, ◌-◌, ◌^◌, Option, Some, Result, Ok, IfOk, IfErr, List, ℤ, pos, neg_ℤ, ◌≤ℤ◌, ◌<ℤ◌};
+ghost use Rattle.a429_word.specs.Word.{number_of, bit, label_of, sdi_of, field_of, ssm_of, number_at, HasOddParity, SameParts};
 ghost use Rattle.a429_word.specs.declared.bcd.BadDigit.{BadDigit};
+ghost use Rattle.a429_word.specs.Bnr.{raw_of};
 ghost use Rattle.a429_word.specs.Bcd.{decimal_of, AreDecimal, IsFirstBad};
 ghost use Rattle.a429_word.specs.Written.{hex_text, ReadsHex};
 ghost use Rattle.a429_word.specs.Fixed.{Spells};
@@ -32,6 +33,17 @@ pub fn fields_make_the_good_word()
 /// What `Word::hex` writes of a word, `Word::parse_hex` reads as that word.
 pub fn hex_is_read_back()
     ensures { (w : ℕ) (read : Option ℕ) → w < 2 ^ 32 → ReadsHex (hex_text w) read → read ≡ Some w }
+{}
+
+/// A word that has a raw number, as `Word::bnr_word` promises, is one of which `Word::bnr_raw` answers
+/// that number. The raw number of any word is one that `Word::bnr_word` takes, from `-2^s` to
+/// `2^s - 1`, and label, SDI, SSM and raw number tell one word with no other bits in its data field.
+pub fn bnr_is_read_back()
+    ensures read { (w s : ℕ) (raw read : ℤ) → raw_of w s ≡ raw → read ≡ raw_of w s → read ≡ raw }
+    ensures within { (w s : ℕ) → 1 ≤ s → s ≤ 18 → (neg_ℤ (pos (2 ^ s)) ≤ℤ raw_of w s) × (raw_of w s <ℤ pos (2 ^ s)) }
+    ensures one { (v w s : ℕ) → v < 2 ^ 32 → w < 2 ^ 32 → 1 ≤ s → s ≤ 18 → HasOddParity v → HasOddParity w
+        → label_of v ≡ label_of w → sdi_of v ≡ sdi_of w → ssm_of v ≡ ssm_of w → raw_of v s ≡ raw_of w s
+        → number_at v 11 (18 - s) ≡ number_at w 11 (18 - s) → v ≡ w }
 {}
 
 /// A word that has a number in its first k digits, as `Word::bcd_word` promises, is one of which

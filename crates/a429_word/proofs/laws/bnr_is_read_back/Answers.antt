@@ -1,0 +1,11 @@
+use Rattle.std.proofs.Common.{◌∙◌}
+use Rattle.a429_word.proofs.Made.{same_from_fields}
+use Rattle.a429_word.proofs.Raw.{raw_of-within, field_from_raw}
+use Rattle.a429_word.proofs.laws.bnr_is_read_back.Goals as goal
+
+pub returns : goal.returns
+returns c = record {
+  read = λ w s raw read is answered. answered ∙ is;
+  within = raw_of-within;
+  one = λ v w s hv hw least most odd_v odd_w label sdi ssm raw rest. same_from_fields v w hv hw odd_v odd_w label sdi (field_from_raw v w s least most raw rest) ssm;
+}
