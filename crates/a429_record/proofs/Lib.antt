@@ -5,6 +5,7 @@ pub mod LineEnds
 pub mod Told
 pub mod Written
 pub mod Whole
+pub mod Faults
 pub mod ReadBack
 pub mod Times
 pub mod FlatMaps

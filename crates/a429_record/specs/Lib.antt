@@ -4,6 +4,7 @@ pub mod Recording
 pub mod Answer
 pub mod Written
 pub mod Whole
+pub mod Faults
 pub mod Ends
 pub mod Pending
 pub mod Left
