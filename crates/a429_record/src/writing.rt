@@ -21,7 +21,7 @@ use std::io::Write;
 const LONGEST_TIME: usize = 20;
 
 /// Writes entries, at most 1,000,000 whose times never fall, as a text recording: the header, and a
-/// line for each. Nothing is written for want of memory. After `Device` a front of it has been written.
+/// line for each. Nothing is written for want of memory.
 pub fn write_entries<W: Write>(
     alloc: Global,
     out: &mut Tally<W>,
