@@ -9,3 +9,4 @@ pub mod Distinct
 pub mod Values
 pub mod Ranges
 pub mod EntryRanges
+pub mod OneShown

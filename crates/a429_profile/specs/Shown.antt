@@ -1,6 +1,7 @@
 -- What is shown of a word (ARINC 429 Part 1; what is shown of which status: profile).
-use Rattle.std.specs.Prelude.{◌≡◌, ◌⊎◌, ℕ, ◌+◌, ◌*◌, ◌^◌, ◌≤◌, List, [], ◌∷◌, get_or, Bool, true, false, ◌==◌, if◌then◌else◌, Option, Some, None, ℤ, pos, neg_ℤ, ◌*ℤ◌}
+use Rattle.std.specs.Prelude.{◌≡◌, ℕ, ◌+◌, ◌*◌, ◌^◌, ◌≤◌, List, [], ◌∷◌, get_or, Bool, true, false, ◌==◌, if◌then◌else◌, Some, None, ℤ, pos, neg_ℤ, ◌*ℤ◌}
 use Rattle.std.specs.List.{find, AllByRecursion}
+use Rattle.std.specs.Borrow.{Bor}
 use Rattle.a429_word.specs.Word.{label_of, sdi_of, field_of, ssm_of, HasOddParity}
 use Rattle.a429_word.specs.Bnr.{raw_of}
 use Rattle.a429_word.specs.Bcd.{decimal_of, AreDecimal, IsFirstBad}
@@ -92,3 +93,14 @@ HasItsRanges (shown.Status e status) = IsInRange e.now.kind
 HasItsRanges (shown.BadDigit e place) = IsInRange e.now.kind
 HasItsRanges (shown.Value e v is_test) = IsInRange e.now.kind × (v.decimals ≤ 24)
 HasItsRanges (shown.Bits e field is_test) = IsInRange e.now.kind
+
+-- ---- two showings
+
+-- they show the same by the same entry, at whatever place in memory each has found it
+pub data ShowSame : Shown → Shown → Type 0 where
+  same_parity : ShowSame shown.BadParity shown.BadParity
+  same_no_entry : ShowSame shown.NoEntry shown.NoEntry
+  same_status : {e f : Bor LabelEntry} {status : Status} → e.now ≡ f.now → ShowSame (shown.Status e status) (shown.Status f status)
+  same_digit : {e f : Bor LabelEntry} {place : ℕ} → e.now ≡ f.now → ShowSame (shown.BadDigit e place) (shown.BadDigit f place)
+  same_value : {e f : Bor LabelEntry} {v : Fixed} {is_test : Bool} → e.now ≡ f.now → ShowSame (shown.Value e v is_test) (shown.Value f v is_test)
+  same_bits : {e f : Bor LabelEntry} {field : ℕ} {is_test : Bool} → e.now ≡ f.now → ShowSame (shown.Bits e field is_test) (shown.Bits f field is_test)

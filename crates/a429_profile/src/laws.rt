@@ -4,6 +4,8 @@ ghost use Rattle.std.specs.Prelude.{ℕ, ◌≤◌, ◌∷◌, ◌++◌, [], len
 ghost use Rattle.std.specs.List.{filter, IsDistinct};
 ghost use Rattle.a429_profile.specs.Contents.{Contents, IsProfile, is_for};
 ghost use Rattle.a429_profile.specs.Ranges.{AreInRange};
+ghost use Rattle.a429_profile.specs.Shown.{IsShown, ShowSame};
+ghost use Rattle.a429_profile.specs.declared.shown.Shown.{Shown};
 
 /// At most one entry of a profile is for words of one label and SDI.
 pub fn a_word_has_one_entry()
@@ -21,4 +23,10 @@ pub fn no_number_is_given_twice()
 /// Each number of a profile lies in its range.
 pub fn each_number_lies_in_its_range()
     ensures { (c : Contents) → IsProfile c → AreInRange c }
+{}
+
+/// Of one word by one profile one thing is shown: the same entry, and the same status, place, number with
+/// its decimals, or data field.
+pub fn a_word_shows_one_thing()
+    ensures { (p : Contents) (w : ℕ) (s t : Shown) → IsShown p w s → IsShown p w t → ShowSame s t }
 {}
