@@ -5,8 +5,10 @@ pub mod FirstFault
 pub mod Lookup
 pub mod Kept
 pub mod OneEntry
-pub mod Distinct
-pub mod Values
-pub mod Ranges
-pub mod EntryRanges
 pub mod OneShown
+pub mod Distinct
+pub mod Clashes
+pub mod Values
+pub mod Places
+pub mod EntryRanges
+pub mod Ranges

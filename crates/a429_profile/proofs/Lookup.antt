@@ -21,7 +21,7 @@ or_parts true b c h = cc
 or_parts false true c h = cc
 or_parts false false c h = h
 
-not_some : (b : Bool) (f : ProfileFault) (rest : Option ProfileFault) → (if b then Some f else rest) ≡ None → (b ≡ false) × (rest ≡ None)
+pub not_some : (b : Bool) (f : ProfileFault) (rest : Option ProfileFault) → (if b then Some f else rest) ≡ None → (b ≡ false) × (rest ≡ None)
 not_some true f rest h = absurd (cc)
 not_some false f rest h = (refl, h)
 
@@ -163,12 +163,15 @@ pub first_or_none : (a b : Option ProfileFault) → first_or a b ≡ None → (a
 first_or_none (Some f) b h = absurd (cc)
 first_or_none None b h = (refl, h)
 
+-- nothing in a profile clashes
+pub no_clash : (contents : Contents) → IsProfile contents → first_clash contents.codes contents.labels ≡ None
+no_clash contents p =
+    let doc = p.0 in
+    let faults = first_or_none (first_section_fault doc section_keys) (first_or (labels_fault doc) (first_clash (codes_of doc) (labels_of doc))) p.1 in
+    rw p.2 (first_or_none (labels_fault doc) (first_clash (codes_of doc) (labels_of doc)) faults.1).1
+
 pub ApartAfter-first_clash : (c : Codes) (es : List LabelEntry) → first_clash c es ≡ None → ApartAfter [] es
 ApartAfter-first_clash c es h = ApartAfter-no_clash c [] es (first_or_none (label_clash_after c [] es) (first_or (code_clash c) (bit_clash es)) h).0
 
 pub ApartAfter-IsProfile : (contents : Contents) → IsProfile contents → ApartAfter [] contents.labels
-ApartAfter-IsProfile contents p =
-    let doc = p.0 in
-    let faults = first_or_none (first_section_fault doc section_keys) (first_or (labels_fault doc) (first_clash (codes_of doc) (labels_of doc))) p.1 in
-    let clashes = first_or_none (labels_fault doc) (first_clash (codes_of doc) (labels_of doc)) faults.1 in
-    rw p.2 (ApartAfter-first_clash (codes_of doc) (labels_of doc) clashes.1)
+ApartAfter-IsProfile contents p = ApartAfter-first_clash contents.codes contents.labels (no_clash contents p)

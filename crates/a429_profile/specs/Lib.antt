@@ -7,3 +7,4 @@ pub mod Contents
 pub mod Table
 pub mod Shown
 pub mod Ranges
+pub mod NoClash

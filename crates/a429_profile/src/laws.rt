@@ -1,8 +1,9 @@
 //! Laws of the definitions that the contracts of this crate cite.
 
-ghost use Rattle.std.specs.Prelude.{ℕ, ◌≤◌, ◌∷◌, ◌++◌, [], length, nat_eq};
+ghost use Rattle.std.specs.Prelude.{ℕ, ◌≤◌, ◌∷◌, ◌++◌, [], All, length, nat_eq};
 ghost use Rattle.std.specs.List.{filter, IsDistinct};
 ghost use Rattle.a429_profile.specs.Contents.{Contents, IsProfile, is_for};
+ghost use Rattle.a429_profile.specs.NoClash.{HasDistinctBits, IsNoAddress};
 ghost use Rattle.a429_profile.specs.Ranges.{AreInRange};
 ghost use Rattle.a429_profile.specs.Shown.{IsShown, ShowSame};
 ghost use Rattle.a429_profile.specs.declared.shown.Shown.{Shown};
@@ -20,7 +21,14 @@ pub fn no_number_is_given_twice()
     ensures partial_codes { (c : Contents) → IsProfile c → IsDistinct nat_eq c.codes.partial_codes }
 {}
 
-/// Each number of a profile lies in its range.
+/// Nothing in the label table clashes: no entry has an address label of the transfer, and none names a
+/// bit twice. That no two entries share a word is `a_word_has_one_entry`.
+pub fn nothing_clashes()
+    ensures addresses { (c : Contents) → IsProfile c → All (IsNoAddress c.codes) c.labels }
+    ensures bits { (c : Contents) → IsProfile c → All (λ e. HasDistinctBits e.kind) c.labels }
+{}
+
+/// Each number of a profile lies in its range, and so does each number and text of its label table.
 pub fn each_number_lies_in_its_range()
     ensures { (c : Contents) → IsProfile c → AreInRange c }
 {}
