@@ -31,6 +31,14 @@ impl Text {
     {
         self.text.as_str()
     }
+
+    /// The string that holds it, without taking memory.
+    pub fn into_string(self) -> String
+        ensures { string_bytes result ≡ self }
+    {
+        let Text { text } = self;
+        text
+    }
 }
 
 /// A list of small numbers.
@@ -58,6 +66,14 @@ impl Numbers {
         ensures { result.now ≡ self.now }
     {
         self.numbers.as_slice()
+    }
+
+    /// The list that holds them, without taking memory.
+    pub fn into_vec(self) -> Vec<u8>
+        ensures { result.items ≡ self }
+    {
+        let Numbers { numbers } = self;
+        numbers
     }
 }
 
@@ -95,6 +111,14 @@ impl Flags {
         ensures { result.now ≡ self.now }
     {
         self.flags.as_slice()
+    }
+
+    /// The list that holds them, without taking memory.
+    pub fn into_vec(self) -> Vec<Flag>
+        ensures { result.items ≡ self }
+    {
+        let Flags { flags } = self;
+        flags
     }
 }
 
