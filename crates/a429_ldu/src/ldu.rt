@@ -1,6 +1,6 @@
 //! Link data units: the parts in which a file is sent.
 
-ghost use Rattle.std.specs.Prelude.{◌≡◌, ◌≢◌, ◌≤◌, ◌<◌, IfOk, IfErr, slice_index, true, false};
+ghost use Rattle.std.specs.Prelude.{◌≡◌, ◌≢◌, ◌≤◌, ◌<◌, Err, IfOk, IfErr, slice_index, true, false};
 ghost use Rattle.a429_ldu.specs.CheckWord.{check_of};
 ghost use Rattle.a429_ldu.specs.Ldu.{count_of, block_of, HasLength, IsLdu, IsFirstFault};
 
@@ -37,7 +37,7 @@ impl Model for Ldu {
 
 impl Ldu {
     /// The link data unit with these data words. GFI and flags are 0 to 15. The fault is the first that
-    /// holds.
+    /// holds; memory is refused only where none does.
     pub fn new(
         alloc: Global,
         profile: &Profile,
@@ -51,6 +51,7 @@ impl Ldu {
         ensures value { IfOk result (λ u. u ≡ record { gfi = gfi; flags = flags; check = check; words = words.now }) }
         ensures sound { IfOk result (λ u. IsLdu profile.now u) }
         ensures err { IfErr result (λ f. f ≢ LduFault.OutOfMemory → IsFirstFault profile.now check words.now f) }
+        ensures memory { result ≡ Err LduFault.OutOfMemory → IsLdu profile.now (record { gfi = gfi; flags = flags; check = check; words = words.now }) }
     {
         if words.is_empty() || words.len() > 253 {
             return Err(LduFault::Count);

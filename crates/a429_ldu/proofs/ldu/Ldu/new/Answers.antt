@@ -20,3 +20,9 @@ returns-in-Ok-clause-sound c =
     let some = eqb-false _ 0 (sym c.if-is_empty.ensures) in
     made c.args.profile.now c.check.result.now c.args.gfi c.args.flags c.args.check c.args.words.now c.in-Ok.words.items c.in-Some.bytes.items c.deref.result.now c.requires.gfi c.requires.flags (omega arith)
     (omega (arith, some), omega arith) c.in-Ok.ensures.items (c.in-Some.ensures.some) c.check.ensures c.deref.ensures.0 (c.if-not-agrees.ensures.yes refl)
+
+pub returns-in-Err-clause-memory : goal.returns-in-Err-clause-memory
+returns-in-Err-clause-memory c _ =
+    let some = eqb-false _ 0 (sym c.if-is_empty.ensures) in
+    made c.args.profile.now c.check.result.now c.args.gfi c.args.flags c.args.check c.args.words.now c.args.words.now c.in-Some.bytes.items c.deref.result.now c.requires.gfi c.requires.flags (omega arith)
+    (omega (arith, some), omega arith) refl (c.in-Some.ensures.some) c.check.ensures c.deref.ensures.0 (c.if-not-agrees.ensures.yes refl)
