@@ -15,7 +15,8 @@ use std::alloc::Global;
 use std::marker::Model;
 
 /// The source and the sink of a file transfer and the words between them, under a bench's profile
-/// (ARINC 429 Part 3). It is always where some run of the profile leads.
+/// (ARINC 429 Part 3). It is always where some run of the profile leads, and so keeps at most what
+/// `IsBounded` says, its delivered files aside.
 #[derive(Debug, Drop)]
 pub struct Link<'a> {
     alloc: Global,
@@ -36,7 +37,8 @@ impl<'a> Model for Link<'a> {
 impl<'a> Link<'a> {
     /// A link on which nothing has happened. Its first file has this number.
     pub fn start(alloc: Global, profile: &'a Profile, first_file: u8) -> Link<'a>
-        ensures { result ≡ record { profile = profile.now; state = start profile.now first_file } }
+        ensures begins { result ≡ record { profile = profile.now; state = start profile.now first_file } }
+        ensures bounds { IsBounded result.state }
     {
         Link {
             alloc,
@@ -55,6 +57,7 @@ impl<'a> Link<'a> {
         ensures done { OnOk result (self.new ≡ record (self.old) { state = after self.old.profile step self.old.state }) }
         ensures fault { IfErr result (λ e. IsFault self.old.profile step self.old.state e) }
         ensures unchanged { OnErr result (self.new ≡ self.old) }
+        ensures bounds { IsBounded self.new.state }
     {
         self.transfer.apply(self.alloc, self.profile, step)
     }
@@ -86,6 +89,7 @@ impl<'a> Link<'a> {
     pub fn take_delivered(&mut self) -> Vec<FileBytes>
         ensures files { result.items ≡ self.old.state.sink.shelf.files }
         ensures rest { self.new ≡ record (self.old) { state = handed_out self.old.state } }
+        ensures bounds { IsBounded self.new.state }
     {
         self.transfer.take_delivered(self.alloc)
     }

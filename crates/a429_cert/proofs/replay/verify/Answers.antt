@@ -16,8 +16,8 @@ loop-line-init c =
       room = omega (arith, head.shorter);
       rest = head.lines;
       inside = omega arith;
-      profile = ap (λ (l : LinkValue). l.profile) c.start-link.ensures;
-      reached = begins c.args.profile.now c.in-Ok.first c.start-link.result.state (ap (λ (l : LinkValue). l.state) c.start-link.ensures);
+      profile = ap (λ (l : LinkValue). l.profile) c.start-link.ensures.begins;
+      reached = begins c.args.profile.now c.in-Ok.first c.start-link.result.state (ap (λ (l : LinkValue). l.state) c.start-link.ensures.begins);
     }
 
 pub returns-in-Err-pass-clause-err : goal.returns-in-Err-pass-clause-err

@@ -8,4 +8,4 @@ use Rattle.a429_explain.proofs.scribe.Scribe.new.Goals as goal
 pub returns-clause-told : goal.returns-clause-told
 returns-clause-told c =
     let head = c.in-Ok.ensures.items ∙ ap (λ (t : List ℕ). t ++ (version ++ 10 ∷ [])) c.new-text.ensures.items in
-    told_first c.args.first_file c.args.profile.now c.write.new.self.text.items c.write.new.self.link (omega (arith, c.ranges.first_file.fits)) (c.in_ok-write.ensures.ok ∙ ap (λ (t : List ℕ). t ++ (spelling (First c.args.first_file) ++ 10 ∷ [])) head) (c.write.ensures.link ∙ c.start.ensures)
+    told_first c.args.first_file c.args.profile.now c.write.new.self.text.items c.write.new.self.link (omega (arith, c.ranges.first_file.fits)) (c.in_ok-write.ensures.ok ∙ ap (λ (t : List ℕ). t ++ (spelling (First c.args.first_file) ++ 10 ∷ [])) head) (c.write.ensures.link ∙ c.start.ensures.begins)

@@ -13,3 +13,6 @@ returns-clause-fault c =
 
 pub apply-requires-clause-bound : goal.apply-requires-clause-bound
 apply-requires-clause-bound c = omega (arith, (kept_bounded c.self.inside.profile.now c.self.inside.transfer c.self.invariant).words)
+
+pub returns-clause-bounds : goal.returns-clause-bounds
+returns-clause-bounds c = kept_bounded c.self.inside.profile.now c.apply.new.self (invariant_of-self c)
