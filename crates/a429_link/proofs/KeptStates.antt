@@ -107,6 +107,7 @@ after_earlier p (Answered i) files s = ap (λ (k : Sink). state_of k) (answers_w
     state_of k = record s { sink = k; to_source = s.to_source ++ i.word ∷ [] }
 after_earlier p (FreeSeen i) files s = refl
 
+-- and may be made in both or in none
 pub can_earlier : (p : Contents) (a : Step) (files : List FileBytes) (s : State) → Can p a s → Can p a (with_earlier files s)
 can_earlier p (Load u) files s h = h
 can_earlier p (Sent i) files s h = h
@@ -118,6 +119,18 @@ can_earlier p SinkTakes files s h = h
 can_earlier p Silent files s h = h
 can_earlier p (Answered i) files s h = h
 can_earlier p (FreeSeen i) files s h = h
+
+pub can_later : (p : Contents) (a : Step) (files : List FileBytes) (s : State) → Can p a (with_earlier files s) → Can p a s
+can_later p (Load u) files s h = h
+can_later p (Sent i) files s h = h
+can_later p SentLost files s h = h
+can_later p TimeOut files s h = h
+can_later p TakeAnswer files s h = h
+can_later p LoseAnswer files s h = h
+can_later p SinkTakes files s h = h
+can_later p Silent files s h = h
+can_later p (Answered i) files s h = h
+can_later p (FreeSeen i) files s h = h
 
 -- ---- runs, and one step more
 

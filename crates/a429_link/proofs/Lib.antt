@@ -11,6 +11,7 @@ pub mod SampleRun
 pub mod Blocks
 pub mod Good
 pub mod KeptStates
+pub mod Taken
 pub mod Watched
 pub mod CleanRuns
 pub mod CleanFiles

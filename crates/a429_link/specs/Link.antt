@@ -1,10 +1,11 @@
 -- A link as its callers see it.
-use Rattle.std.specs.Prelude.{ℕ, List, [], ◌++◌, length}
+use Rattle.std.specs.Prelude.{ℕ, List, [], ◌∷◌, ◌++◌, length}
 use Rattle.a429_profile.specs.Contents.{Contents, IsProfile}
 use Rattle.a429_link.specs.declared.state.SourceState.{SourceState}
 use Rattle.a429_link.specs.declared.state.SinkState.{SinkState}
 use Rattle.a429_link.specs.declared.file.FileBytes.{FileBytes}
-use Rattle.a429_link.specs.Step.{State, shown_sink}
+use Rattle.a429_link.specs.declared.step.Step.{Step}
+use Rattle.a429_link.specs.Step.{State, Can, after, shown_sink}
 use Rattle.a429_link.specs.Run.{IsReached}
 
 -- the profile, and the state, whose delivered files are those that are not handed out yet
@@ -29,3 +30,36 @@ pub record IsKept (p : Contents) (s : State) : Type 0 where
 -- what a certificate writes of a state: the phases, and how many words are on their way to the sink and to the source
 abbrev pub shown : State → SourceState × SinkState × ℕ × ℕ
 shown s = (s.source.phase, shown_sink s.sink.phase, length s.to_sink, length s.to_source)
+
+-- ---- files that are taken while a run goes on
+
+-- what a caller does with a link; a step that is refused changes nothing, and is left out
+pub data Call : Type 0 where
+  -- a step is made
+  Applied : (step : Step) → Call
+  -- the delivered files are taken
+  Taken : Call
+
+-- each step may be made where the calls before it lead
+abbrev pub AreMade : Contents → List Call → State → Type 0
+AreMade p [] s = Unit {0}
+AreMade p (Applied a ∷ calls) s = Can p a s × AreMade p calls (after p a s)
+AreMade p (Taken ∷ calls) s = AreMade p calls (handed_out s)
+
+-- the state that calls lead to
+abbrev pub left_by : Contents → List Call → State → State
+left_by p [] s = s
+left_by p (Applied a ∷ calls) s = left_by p calls (after p a s)
+left_by p (Taken ∷ calls) s = left_by p calls (handed_out s)
+
+-- the files that they take, in order
+abbrev pub taken : Contents → List Call → State → List FileBytes
+taken p [] s = []
+taken p (Applied a ∷ calls) s = taken p calls (after p a s)
+taken p (Taken ∷ calls) s = s.sink.shelf.files ++ taken p calls (handed_out s)
+
+-- their steps, in order
+abbrev pub applied : List Call → List Step
+applied [] = []
+applied (Applied a ∷ calls) = a ∷ applied calls
+applied (Taken ∷ calls) = applied calls

@@ -1,6 +1,6 @@
 //! Laws of all runs, whatever is lost, times out or is left unanswered on the way.
 
-ghost use Rattle.std.specs.Prelude.{◌≡◌, ◌≤◌, ℕ, suc, List, take};
+ghost use Rattle.std.specs.Prelude.{◌≡◌, ◌↔◌, ◌≤◌, ◌++◌, ℕ, suc, List, take};
 ghost use Rattle.a429_profile.specs.Contents.{Contents, IsProfile};
 ghost use Rattle.a429_link.specs.declared.seen.Seen.{Seen};
 ghost use Rattle.a429_link.specs.declared.step.Step.{Step};
@@ -9,6 +9,7 @@ ghost use Rattle.a429_ldu.specs.Ldu.{LduValue};
 ghost use Rattle.a429_link.specs.Clean.{AllFit, thin, clean, clean_steps, weave, shelved, IsRunOf};
 ghost use Rattle.a429_link.specs.Run.{nothing, IsRun, end_of, trace, delivered, offered, settled, IsPrefixOf, IsBounded, BeginsARun};
 ghost use Rattle.a429_link.specs.Observer.{IsRefused};
+ghost use Rattle.a429_link.specs.Link.{Call, AreMade, applied, left_by, taken, with_earlier};
 
 /// Two runs that record the same words deliver the same files, with whichever file numbers they begin.
 pub fn one_trace_one_delivery()
@@ -24,6 +25,15 @@ pub fn delivered_was_offered()
 /// The files that the source takes as acknowledged are the first of those that are delivered.
 pub fn settled_was_delivered()
     ensures { (p : Contents) (first : ℕ) (steps : List Step) → IsProfile p → first ≤ 255 → IsRun p steps (start p first) → IsPrefixOf (settled p first steps) (delivered p first steps) }
+{}
+
+/// A caller may take files while a run goes on: the files taken, in order, and then those that wait at the
+/// end are the files that the run of the steps delivers. Taking files changes no step, and nothing else of
+/// the state.
+pub fn taken_then_delivered_is_the_runs()
+    ensures files { (p : Contents) (first : ℕ) (calls : List Call) → taken p calls (start p first) ++ (left_by p calls (start p first)).sink.shelf.files ≡ delivered p first (applied calls) }
+    ensures state { (p : Contents) (first : ℕ) (calls : List Call) → with_earlier (taken p calls (start p first)) (left_by p calls (start p first)) ≡ end_of p (applied calls) (start p first) }
+    ensures run { (p : Contents) (first : ℕ) (calls : List Call) → AreMade p calls (start p first) ↔ IsRun p (applied calls) (start p first) }
 {}
 
 /// After each run at most 255 words to the sink are untaken or in its block, one answer is on its way,
