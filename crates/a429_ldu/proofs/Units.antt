@@ -1,10 +1,12 @@
 -- What a link data unit is made of.
-use Rattle.std.proofs.Common.{◌≡◌, ◌≢◌, ℕ, ◌≤◌, List, length, true, sym, ap, ◌∙◌, subst, [], unwrap_or, arith}
+use Rattle.std.proofs.Common.{◌≡◌, ◌≢◌, ℕ, ◌≤◌, List, length, true, refl, sym, ap, ◌∙◌, subst, [], unwrap_or, arith}
 use Rattle.a429_profile.specs.declared.codes.Check.{Check}
 use Rattle.a429_profile.specs.Contents.{Contents, IsProfile}
 use Rattle.a429_ldu.specs.Carried.{CarryBytes}
 use Rattle.a429_ldu.specs.CheckWord.{check_of}
-use Rattle.a429_ldu.specs.Ldu.{LduValue, HasLength, IsLdu, bytes_of}
+use Rattle.a429_ldu.specs.declared.fault.LduFault.{LduFault}
+use Rattle.a429_ldu.specs.declared.fault.LduFault.TheVariants.{Count, NotBytes, CheckWrong, OutOfMemory}
+use Rattle.a429_ldu.specs.Ldu.{LduValue, HasLength, IsLdu, IsFirstFault, bytes_of}
 use Rattle.a429_ldu.proofs.Carried.{carried_of, carried-most}
 
 pub wrong : (p : Contents) (k : Check) (bs ds : List ℕ) (check : ℕ) → k ≡ p.check → ds ≡ bs → (k.compare ≡ true) × (check ≢ check_of k ds) → (p.check.compare ≡ true) × (check ≢ check_of p.check bs)
@@ -32,3 +34,26 @@ few_bytes p u is h =
     let words = h.length in
     let some = h.carries.carries.some in
     rw (unit_bytes p u is h) (some, omega (arith, most, words.1))
+
+-- a link data unit has no fault
+pub no_fault : (p : Contents) (u : LduValue) (f : LduFault) → IsProfile p → IsLdu p u → ¬ IsFirstFault p u.check u.words f
+no_fault p u Count is h fault = fault h.length
+no_fault p u NotBytes is h fault = fault.1 h.bytes h.carries
+no_fault p u CheckWrong is h fault =
+    let same : fault.1 ≡ h.bytes = ap (λ o. unwrap_or o []) (sym (carried_of p is u.words fault.1 fault.2) ∙ carried_of p is u.words h.bytes h.carries) in
+    fault.4 (h.checked fault.3 ∙ ap (check_of p.check) (sym same))
+no_fault p u OutOfMemory is h fault = fault
+
+-- there is one first fault
+pub one_fault : (p : Contents) (check : ℕ) (ws : List ℕ) (f g : LduFault) → IsFirstFault p check ws f → IsFirstFault p check ws g → f ≡ g
+one_fault p check ws Count Count h k = refl
+one_fault p check ws Count NotBytes h k = absurd (h k.0)
+one_fault p check ws Count CheckWrong h k = absurd (h k.0)
+one_fault p check ws NotBytes Count h k = absurd (k h.0)
+one_fault p check ws NotBytes NotBytes h k = refl
+one_fault p check ws NotBytes CheckWrong h k = absurd (h.1 k.1 k.2)
+one_fault p check ws CheckWrong Count h k = absurd (k h.0)
+one_fault p check ws CheckWrong NotBytes h k = absurd (k.1 h.1 h.2)
+one_fault p check ws CheckWrong CheckWrong h k = refl
+one_fault p check ws OutOfMemory g h k = absurd h
+one_fault p check ws f OutOfMemory h k = absurd k

@@ -11,7 +11,8 @@ ghost use Rattle.a429_ldu.specs.declared.sight.Sight.TheVariants as sight;
 ghost use Rattle.a429_ldu.specs.Form.{IsForm, IsFree, IsInRange, bus_of, word_number, is_free, form_of, sight_of};
 ghost use Rattle.a429_ldu.specs.Carried.{CarryBytes, bytes_carried};
 ghost use Rattle.a429_ldu.specs.CheckWord.{check_of};
-ghost use Rattle.a429_ldu.specs.Ldu.{LduValue, IsLdu, bytes_of};
+ghost use Rattle.a429_ldu.specs.declared.fault.LduFault.{LduFault};
+ghost use Rattle.a429_ldu.specs.Ldu.{LduValue, IsLdu, IsFirstFault, bytes_of};
 ghost use Rattle.a429_ldu.specs.Register.{check_by_register};
 ghost use Rattle.a429_ldu.specs.Cut.{room, pieces, HaveSizes};
 
@@ -47,6 +48,13 @@ pub fn bytes_are_computed()
 /// A link data unit has 1 to 632 bytes.
 pub fn units_have_few_bytes()
     ensures { (p : Contents) (u : LduValue) → IsProfile p → IsLdu p u → (1 ≤ length (bytes_of p.codes u)) × (length (bytes_of p.codes u) ≤ 632) }
+{}
+
+/// A link data unit has no fault, and what is none has one first fault. So `Ldu::new` refuses with a fault
+/// exactly where it is there.
+pub fn a_unit_has_no_fault()
+    ensures none { (p : Contents) (u : LduValue) (f : LduFault) → IsProfile p → IsLdu p u → ¬ IsFirstFault p u.check u.words f }
+    ensures one { (p : Contents) (check : ℕ) (words : List ℕ) (f g : LduFault) → IsFirstFault p check words f → IsFirstFault p check words g → f ≡ g }
 {}
 
 /// A register that takes bit after bit ends with the check word.
