@@ -21,7 +21,7 @@ use Rattle.a429_cert.specs.declared.fault.CertFault.TheVariants as of
 use Rattle.a429_cert.specs.Line.{spelling, Spells, Reads}
 use Rattle.a429_cert.proofs.Lines.{one-line}
 use Rattle.a429_cert.specs.Lines.{lines_of, version}
-use Rattle.a429_cert.specs.Explained.{step_with, step_of, Shows, TellsStep, Tells, Reaches, IsExplained, AreInEveryRun}
+use Rattle.a429_cert.specs.Explained.{step_with, step_of, Shows, TellsStep, Tells, Reaches, IsExplained, AreInSomeRun, AreInEveryRun}
 use Rattle.a429_cert.specs.Fault.{HasVersion, HasFirst, IsFaultOfLine, IsFaultAt, IsLaterFault, IsFirstFault}
 use Rattle.a429_cert.specs.Passing.{uses_of, uses, Makes, TextPasses, Begins, IsFaultOfHead, file_in}
 
@@ -229,12 +229,24 @@ explained p certificate items first k i s v w g all h =
       delivers = ap (λ (t : State). t.sink.shelf.files) h.ends;
     }
 
+-- what explains is a run
+pub in_some_run : (p : Contents) (certificate : List ℕ) (items : List Seen) (files : List FileBytes) → IsExplained p certificate items files → AreInSomeRun p items files
+in_some_run p certificate items files h =
+    record {
+      first = h.first;
+      byte = h.explains.byte;
+      steps = h.steps;
+      run = tells_run p h.explains.lines h.steps (start p h.first) h.explains.tells;
+      told = h.explains.used;
+      gives = h.delivers;
+    }
+
 -- what one run delivers, each run with its trace delivers
 pub in_every_run : (p : Contents) → IsProfile p → (certificate : List ℕ) (items : List Seen) (files : List FileBytes) → IsExplained p certificate items files → AreInEveryRun p items files
 in_every_run p is certificate items files h = λ f steps byte run same.
     let read = is_read p is in
-    let own = tells_run p h.explains.lines h.steps (start p h.first) h.explains.tells in
-    let these : files ≡ delivered p f steps = h.delivers ∙ same_delivered p h.first f h.steps steps read h.explains.byte byte own run (h.explains.used ∙ sym same) in
+    let own = in_some_run p certificate items files h in
+    let these : files ≡ delivered p f steps = own.gives ∙ same_delivered p own.first f own.steps steps read own.byte byte own.run run (own.told ∙ sym same) in
     (these, subst (λ (l : List FileBytes). IsPrefixOf l (offered p f steps)) (sym these) (delivered_prefix p f steps read byte run), subst (λ (l : List FileBytes). IsPrefixOf (settled p f steps) l) (sym these) (settled_prefix p f steps read byte run))
 
 -- ---- what a reader of lines gives

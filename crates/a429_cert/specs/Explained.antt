@@ -91,6 +91,15 @@ pub record IsExplained (p : Contents) (certificate : List ℕ) (items : List See
   pub explains : Explains p certificate items first steps
   pub delivers : files ≡ delivered p first steps
 
+-- some run records these words and no others, and delivers these files
+pub record AreInSomeRun (p : Contents) (items : List Seen) (files : List FileBytes) : Type 0 where
+  pub first : ℕ
+  pub byte : first ≤ 255
+  pub steps : List Step
+  pub run : IsRun p steps (start p first)
+  pub told : trace steps ≡ items
+  pub gives : files ≡ delivered p first steps
+
 -- in each run that records these words and no others, whatever it loses out of sight, these files are
 -- delivered, they are the first of those that its source offered, and those that its source takes as
 -- acknowledged are the first of them
