@@ -73,11 +73,11 @@ IsWholeFault failed Device = failed ≡ true
 IsWholeFault failed Memory = failed ≡ false
 IsWholeFault failed _ = ⊥
 
--- the profile's own fault, then the recording's; a reader or writer that failed after the profile was read; want of memory, once the profile is known to be a text
+-- the profile's own fault, then the recording's; the recording's reader failed, or, once the recording was read whole, the certificate's or the output did; want of memory, once the profile is known to be a text
 abbrev pub IsVerifyFault : List ℕ → Option (List ℕ) → Bool → Bool → Bool → RunFault → Type 0
 IsVerifyFault profile told rec_failed cert_failed out_failed (Profile f) = HasFault profile f
 IsVerifyFault profile told rec_failed cert_failed out_failed (Read f) = IsSound profile × IsFaultOf told f
-IsVerifyFault profile told rec_failed cert_failed out_failed Device = IsSound profile × ((rec_failed ≡ true) ⊎ ((cert_failed ≡ true) ⊎ (out_failed ≡ true)))
+IsVerifyFault profile told rec_failed cert_failed out_failed Device = (IsSound profile × (rec_failed ≡ true)) ⊎ (Says profile told × ((cert_failed ≡ true) ⊎ (out_failed ≡ true)))
 IsVerifyFault profile told rec_failed cert_failed out_failed Memory = IsUtf8 profile
 IsVerifyFault profile told rec_failed cert_failed out_failed BadWord = ⊥
 IsVerifyFault profile told rec_failed cert_failed out_failed (Cut k f) = ⊥

@@ -5,7 +5,7 @@ ghost use Rattle.std.specs.Fmt.{decimal};
 ghost use Rattle.std.specs.Io.KnownBytes.{Appends};
 ghost use Rattle.a429_word.specs.Tally.{inner_of, has_failed};
 ghost use Rattle.a429_explain.specs.declared.verdict.Verdict.{Verdict};
-ghost use Rattle.a429_check.specs.ProfileBytes.{IsSound};
+ghost use Rattle.a429_check.specs.RecordingBytes.{Says};
 ghost use Rattle.a429_check.specs.Verdict.{IsVerifyFault};
 ghost use Rattle.a429_check.specs.Checked.{reason_text, doubt_text, verdict_text, certificate_text, verdict_status, IsVerdictOn};
 
@@ -51,7 +51,7 @@ fn verdict_on<R: Read>(
     rec: &mut Tally<R>,
 ) -> Result<Verdict, RunFault>
     ensures verdict { IfOk result (IsVerdictOn profile.now (R.remaining (inner_of rec.old))) }
-    ensures sound { OnOk result (IsSound profile.now) }
+    ensures says { OnOk result (Says profile.now (R.remaining (inner_of rec.old))) }
     ensures device { OnOk result (has_failed rec.new ≡ false) }
     ensures err { IfErr result (IsVerifyFault profile.now (R.remaining (inner_of rec.old)) (has_failed rec.new) false false) }
 {

@@ -5,7 +5,7 @@ ghost use Rattle.std.specs.List.{flat_map};
 ghost use Rattle.std.specs.Io.KnownBytes.{Appends};
 ghost use Rattle.a429_word.specs.Tally.{inner_of, has_failed};
 ghost use Rattle.a429_check.specs.Verdict.{file_line, yes_text, no_text, IsAnswer, IsVerifyFault};
-ghost use Rattle.a429_check.specs.ProfileBytes.{IsSound};
+ghost use Rattle.a429_check.specs.RecordingBytes.{Says};
 ghost use Rattle.std.specs.Fmt.{decimal};
 
 use crate::engines::output::put_decimal;
@@ -28,7 +28,7 @@ pub(crate) fn answer_of<R: Read, C: Read>(
     certificate: &mut Tally<C>,
 ) -> Result<Result<Verified, CertFault>, RunFault>
     ensures answer { IfOk result (IsAnswer profile.now (R.remaining (inner_of rec.old)) (C.remaining (inner_of certificate.old))) }
-    ensures sound { OnOk result (IsSound profile.now) }
+    ensures says { OnOk result (Says profile.now (R.remaining (inner_of rec.old))) }
     ensures verdict { IfOk result (λ a. a ≢ Err CertFault.OutOfMemory) }
     ensures device { OnOk result ((has_failed rec.new ≡ false) × (has_failed certificate.new ≡ false)) }
     ensures err { IfErr result (IsVerifyFault profile.now (R.remaining (inner_of rec.old)) (has_failed rec.new) (has_failed certificate.new) false) }

@@ -5,12 +5,12 @@ use Rattle.a429_check.proofs.engines.verify.run_verify.Goals as goal
 pub returns-in_err-put_yes-in-Ok-clause-err : goal.returns-in_err-put_yes-in-Ok-clause-err
 returns-in_err-put_yes-in-Ok-clause-err g c =
     let p = err_from_is_err_and c.from_residual-in_err-put_yes-in-Ok.result c.from_residual-in_err-put_yes-in-Ok.ensures.1 in
-    rw (p.1, p.2) (c.in_ok-verified.ensures.sound, inr (inr (c.in_err-put_yes-in-Ok.ensures.device.0 refl)))
+    rw (p.1, p.2) (inr (c.in_ok-verified.ensures.says, inr (c.in_err-put_yes-in-Ok.ensures.device.0 refl)))
 
 pub returns-in_err-put_no-in-Err-clause-err : goal.returns-in_err-put_no-in-Err-clause-err
 returns-in_err-put_no-in-Err-clause-err g c =
     let p = err_from_is_err_and c.from_residual-in_err-put_no-in-Err.result c.from_residual-in_err-put_no-in-Err.ensures.1 in
-    rw (p.1, p.2) (c.in_ok-verified.ensures.sound, inr (inr (c.in_err-put_no-in-Err.ensures.device.0 refl)))
+    rw (p.1, p.2) (inr (c.in_ok-verified.ensures.says, inr (c.in_err-put_no-in-Err.ensures.device.0 refl)))
 
 pub returns-in_ok-put_no-in-Err-clause-verdict : goal.returns-in_ok-put_no-in-Err-clause-verdict
 returns-in_ok-put_no-in-Err-clause-verdict g c =
