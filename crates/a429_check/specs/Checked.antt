@@ -1,6 +1,7 @@
 -- The verdict on a recording, and how it is written (profile).
 use Rattle.std.specs.Prelude.{◌≡◌, ◌++◌, ℕ, List, [], codes, Option}
 use Rattle.std.specs.Fmt.{decimal}
+use Rattle.a429_word.specs.Tally.{AppendsPrefix}
 use Rattle.a429_profile.specs.Contents.{Contents}
 use Rattle.a429_cert.specs.Explained.{items_of}
 use Rattle.a429_explain.specs.declared.verdict.Verdict.{Verdict}
@@ -53,3 +54,7 @@ pub record IsVerdictOn (profile : List ℕ) (recording : Option (List ℕ)) (v :
   pub first : IsFirst (says.contents) (items_of (says.entries)) v
   pub no_form : HasNoForm (says.contents.codes) (items_of (says.entries)) → IsRefusal v
   pub without_loss : IsWithoutLoss (says.contents) (items_of (says.entries)) → IsExplanation v
+
+-- a writer has gained some front of the certificate of a verdict on the recording
+abbrev pub GainsFront : List ℕ → Option (List ℕ) → Option (List ℕ) → Option (List ℕ) → Type 0
+GainsFront profile recording old new = (v : Verdict) × IsVerdictOn profile recording v × AppendsPrefix old new (certificate_text v)

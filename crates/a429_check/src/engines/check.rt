@@ -3,11 +3,11 @@
 ghost use Rattle.std.specs.Prelude.{◌≡◌, ◌≢◌, ◌⊎◌, ◌↔◌, true, false, IsErr, IfOk, IfErr, OnOk, OnErr};
 ghost use Rattle.std.specs.Fmt.{decimal};
 ghost use Rattle.std.specs.Io.KnownBytes.{Appends};
-ghost use Rattle.a429_word.specs.Tally.{inner_of, has_failed};
+ghost use Rattle.a429_word.specs.Tally.{inner_of, has_failed, AppendsPrefix};
 ghost use Rattle.a429_explain.specs.declared.verdict.Verdict.{Verdict};
 ghost use Rattle.a429_check.specs.RecordingBytes.{Says};
 ghost use Rattle.a429_check.specs.Verdict.{IsVerifyFault};
-ghost use Rattle.a429_check.specs.Checked.{reason_text, doubt_text, verdict_text, certificate_text, verdict_status, IsVerdictOn};
+ghost use Rattle.a429_check.specs.Checked.{reason_text, doubt_text, verdict_text, certificate_text, verdict_status, IsVerdictOn, GainsFront};
 
 use crate::engines::output::put_decimal;
 use crate::engines::profile::profile_of;
@@ -21,7 +21,7 @@ use std::io::{Read, Write};
 
 /// Writes the verdict on a recording to `out`, and where it is explained the certificate to
 /// `certificate` before, and answers the verdict's status: 0 explained, 1 impossible, 2 unexplained.
-/// `profile` is the bytes of its text.
+/// `profile` is the bytes of its text. Where a writer fails, a front of the certificate may be written.
 pub fn run_check<R: Read, C: Write, W: Write>(
     alloc: Global,
     profile: &[u8],
@@ -37,6 +37,7 @@ pub fn run_check<R: Read, C: Write, W: Write>(
     ensures err { IfErr result (IsVerifyFault profile.now (R.remaining (inner_of rec.old)) (has_failed rec.new) (has_failed certificate.new) (has_failed out.new)) }
     ensures silent { IfErr result (λ e. (e ≢ RunFault.Device) ⊎ (has_failed rec.new ≡ true) → (certificate.new ≡ certificate.old) × (out.new ≡ out.old)) }
     ensures last { OnErr result (has_failed out.new ≡ false → out.new ≡ out.old) }
+    ensures front { OnErr result ((certificate.new ≡ certificate.old) ⊎ GainsFront profile.now (R.remaining (inner_of rec.old)) (C.contents (inner_of certificate.old)) (C.contents (inner_of certificate.new))) }
 {
     let verdict = verdict_on(alloc, profile, rec)?;
     put_certificate(certificate, &verdict)?;
@@ -75,6 +76,7 @@ fn status_of(verdict: &Verdict) -> u8
 
 fn put_certificate<W: Write>(out: &mut Tally<W>, verdict: &Verdict) -> Result<(), Device>
     ensures ok { OnOk result (Appends (W.contents (inner_of out.old)) (W.contents (inner_of out.new)) (certificate_text verdict.now)) }
+    ensures err { OnErr result (AppendsPrefix (W.contents (inner_of out.old)) (W.contents (inner_of out.new)) (certificate_text verdict.now)) }
     ensures none { verdict_status verdict.now ≢ 0 → out.new ≡ out.old }
     ensures explained { verdict_status verdict.now ≡ 0 → (IsErr result ↔ (has_failed out.new ≡ true)) }
     ensures device { IsErr result → has_failed out.new ≡ true }
