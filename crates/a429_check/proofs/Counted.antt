@@ -19,7 +19,7 @@ use Rattle.std.specs.Vec.{vec_len}
 use Rattle.a429_check.specs.declared.fault.RunFault.{RunFault}
 use Rattle.a429_check.specs.declared.fault.RunFault.TheVariants.{BadWord, Profile, Read, Cut, Device, Memory, Usage}
 use Rattle.a429_check.specs.ProfileBytes.{IsSound}
-use Rattle.a429_check.specs.Made.{words_made, Counts, IsMakeFault, IsPutFault}
+use Rattle.a429_check.specs.Made.{words_made, AreTooMany, IsRefusal, IsMakeFault, IsPutFault}
 
 -- ---- link data units
 
@@ -93,6 +93,10 @@ words-one p file bs n e some most =
 
 -- ---- file after file
 
+-- a count of words that is right, unless it is of more than a recording may have
+abbrev pub Counts : ℕ → ℕ → Type 0
+Counts n total = (n ≤ total) × (n ≤ most_entries → n ≡ total)
+
 -- no file so far is refused, and the words so far, with those of the files still to come, are all
 pub record AreCounted (files : List (List ℕ)) (k n : ℕ) : Type 0 where
   pub refused : first_refused 255 k (drop k files) ≡ first_refused 255 0 files
@@ -152,10 +156,27 @@ counted_end files k n l h =
 pub vec_size : (file : Vec ℕ Global) → length file.items ≡ vec_len file
 vec_size file = sym file.ok.0
 
+-- there is room for all words, or there are too many
+pub all_room : (files : List (List ℕ)) (n : ℕ) → ((p : Contents) → Counts n (length (words_made p files))) → n ≤ most_entries → (p : Contents) → length (words_made p files) ≤ most_entries
+all_room files n count few = λ p. let same = (count p).1 few in omega arith
+
+pub too_many : (files : List (List ℕ)) (n : ℕ) → first_refused 255 0 files ≡ None → ((p : Contents) → Counts n (length (words_made p files))) → most_entries < n → AreTooMany files
+too_many files n none count many = record { cut = none; more = λ p. let below = (count p).0 in omega arith }
+
+-- a fault of the files
+pub refusal_fault : (profile : List ℕ) (files : List (List ℕ)) (failed : Bool) (e : RunFault) → IsSound profile → IsRefusal files e → IsMakeFault profile files failed e
+refusal_fault profile files failed (Cut k f) sound h = (sound, h)
+refusal_fault profile files failed (Read f) sound h = (sound, h)
+refusal_fault profile files failed (Profile f) sound h = absurd h
+refusal_fault profile files failed Device sound h = absurd h
+refusal_fault profile files failed Memory sound h = absurd h
+refusal_fault profile files failed BadWord sound h = absurd h
+refusal_fault profile files failed Usage sound h = absurd h
+
 -- a fault of the second pass
 pub put_fault : (profile : List ℕ) (files : List (List ℕ)) (failed : Bool) (e : RunFault) → IsSound profile → IsPutFault failed e → IsMakeFault profile files failed e
 put_fault profile files failed Device sound h = (sound, h)
-put_fault profile files failed Memory sound h = tt
+put_fault profile files failed Memory sound h = sound.1.0
 put_fault profile files failed (Profile f) sound h = absurd h
 put_fault profile files failed (Read f) sound h = absurd h
 put_fault profile files failed (Cut k f) sound h = absurd h

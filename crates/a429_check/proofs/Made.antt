@@ -1,13 +1,15 @@
 -- The words that files make, file after file.
-use Rattle.std.proofs.Common.{◌≡◌, ℕ, ◌+◌, ◌%◌, ◌<◌, ◌≤◌, Vec, Global, List, [], ◌∷◌, ◌++◌, map, length, take, drop, get_or, refl, sym, ap, ◌∙◌, arith, append_assoc, append-nil, length-append}
+use Rattle.std.proofs.Common.{◌≡◌, ℕ, zero, suc, ◌+◌, ◌%◌, ◌<◌, ◌≤◌, Vec, Global, List, [], ◌∷◌, ◌++◌, map, length, take, drop, get_or, Option, Some, None, refl, sym, ap, ◌∙◌, arith, append_assoc, append-nil, length-append}
 use Rattle.std.specs.List.{flat_map}
 use Rattle.std.proofs.Math.Seq.{take-append_seam}
 use Rattle.std.proofs.lemmas.List.{length-take-le, drop_all}
 use Rattle.a429_profile.specs.Contents.{Contents, IsProfile}
 use Rattle.a429_ldu.specs.Cut.{units_of}
 use Rattle.a429_ldu.proofs.Cuts.{units_last}
+use Rattle.a429_ldu.specs.declared.fault.CutFault.{CutFault}
+use Rattle.a429_link.specs.declared.fault.CleanFault.{CleanFault}
 use Rattle.a429_link.specs.declared.seen.Seen.{Seen}
-use Rattle.a429_link.specs.Clean.{clean, clean_words, units_of_files}
+use Rattle.a429_link.specs.Clean.{clean, clean_words, units_of_files, cut_fault, refused_or, first_refused}
 use Rattle.a429_link.proofs.CleanFiles.{clean_append, file_at, past_files}
 use Rattle.a429_record.specs.Written.{line_text}
 use Rattle.a429_check.specs.Made.{timed, words_made}
@@ -80,3 +82,20 @@ next_words p is files k number n file one new l ef eo en h =
 
 pub all_words : (p : Contents) (files : List (Vec ℕ Global)) (k number n : ℕ) → length files ≤ k → AreMade p (map (λ f. f.items) files) k number n → take n (words_made p (map (λ f. f.items) files)) ≡ words_made p (map (λ f. f.items) files)
 all_words p files k number n l h = made_end p (map (λ f. f.items) files) k number n (past_files files k l) h
+
+-- ---- none is refused
+
+pub refused_split : (k : ℕ) (one : Option CutFault) (later : Option CleanFault) → refused_or k one later ≡ None → (one ≡ None) × (later ≡ None)
+refused_split k None later e = (refl, e)
+refused_split k (Some f) later e = absurd (cc)
+
+fine_at : (j : ℕ) (files : List (List ℕ)) (k : ℕ) (f : List ℕ) → k < length files → f ≡ get_or files k f → first_refused 255 j files ≡ None → cut_fault 255 f ≡ None
+fine_at j [] k f l ef h = absurd (omega arith)
+fine_at j (g ∷ files) zero f l ef h = ap (cut_fault 255) ef ∙ (refused_split j (cut_fault 255 g) (first_refused 255 (j + 1) files) h).0
+fine_at j (g ∷ files) (suc k) f l ef h = fine_at (j + 1) files k f (omega arith) ef (refused_split j (cut_fault 255 g) (first_refused 255 (j + 1) files) h).1
+
+-- nor is a file alone, as a body meets it
+pub fine_alone : (files : List (Vec ℕ Global)) (k : ℕ) (file : Vec ℕ Global) (one : List (Vec ℕ Global)) → k < length files → file ≡ get_or files k file → one ≡ file ∷ [] → first_refused 255 0 (map (λ f. f.items) files) ≡ None → first_refused 255 0 (map (λ f. f.items) one) ≡ None
+fine_alone files k file one l ef eo none =
+    let at = file_at files k file file.items l ef refl in
+    ap (λ fs. first_refused 255 0 (map (λ f. f.items) fs)) eo ∙ ap (λ o. refused_or 0 o None) (fine_at 0 (map (λ f. f.items) files) k file.items at.0 at.1 none)

@@ -1,7 +1,8 @@
 -- What `a429 make` writes, and why it may write nothing (profile).
-use Rattle.std.specs.Prelude.{◌≡◌, ◌+◌, ◌*◌, ◌<◌, ◌≤◌, ℕ, List, [], ◌∷◌, length, Bool, true, Option, Some, None}
+use Rattle.std.specs.Prelude.{◌≡◌, ◌≢◌, ◌+◌, ◌*◌, ◌<◌, ◌≤◌, ℕ, List, [], ◌∷◌, length, Bool, true, Option, Some, None}
 use Rattle.std.specs.Str.{IsUtf8}
 use Rattle.a429_profile.specs.Contents.{Contents}
+use Rattle.a429_ldu.specs.declared.fault.CutFault.TheVariants as cut
 use Rattle.a429_link.specs.declared.fault.CleanFault.TheVariants as clean
 use Rattle.a429_link.specs.declared.seen.Seen.{Seen}
 use Rattle.a429_link.specs.Clean.{clean_words, first_refused}
@@ -30,36 +31,30 @@ pub record Makes (profile : List ℕ) (files : List (List ℕ)) (text : List ℕ
   pub room : length (words_made contents files) ≤ most_entries
   pub is : text ≡ written_form (timed 0 (words_made contents files))
 
--- a count of words that is right, unless it is of more than a recording may have
-abbrev pub Counts : ℕ → ℕ → Type 0
-Counts n total = (n ≤ total) × (n ≤ most_entries → n ≡ total)
-
 -- there are more words than a recording may have
-pub record IsTooMuch (profile : List ℕ) (files : List (List ℕ)) : Type 0 where
-  pub contents : Contents
-  pub is_profile : IsProfileOf profile contents
+pub record AreTooMany (files : List (List ℕ)) : Type 0 where
   pub cut : first_refused 255 0 files ≡ None
-  pub more : most_entries < length (words_made contents files)
+  pub more : (p : Contents) → most_entries < length (words_made p files)
 
--- why `make` may fail: the profile's own fault, then the first file that can not be cut, then too many words; a writer that failed, or want of memory, once the profile is known to be a text
-abbrev pub IsMakeFault : List ℕ → List (List ℕ) → Bool → RunFault → Type 0
-IsMakeFault profile files failed (Profile f) = HasFault profile f
-IsMakeFault profile files failed (Cut k f) = IsSound profile × (first_refused 255 0 files ≡ Some (clean.Cut k f))
-IsMakeFault profile files failed (Read f) = (f ≡ read.TooMany) × IsTooMuch profile files
-IsMakeFault profile files failed Device = IsSound profile × (failed ≡ true)
-IsMakeFault profile files failed Memory = IsUtf8 profile
-IsMakeFault profile files failed BadWord = ⊥
-IsMakeFault profile files failed Usage = ⊥
-
--- the first file that can not be cut
+-- why no recording is made of files: the first of them that can not be cut, empty or too long, or too many words
 abbrev pub IsRefusal : List (List ℕ) → RunFault → Type 0
-IsRefusal files (Cut k f) = first_refused 255 0 files ≡ Some (clean.Cut k f)
+IsRefusal files (Cut k f) = (first_refused 255 0 files ≡ Some (clean.Cut k f)) × (f ≢ cut.OutOfMemory)
+IsRefusal files (Read f) = (f ≡ read.TooMany) × AreTooMany files
 IsRefusal files (Profile f) = ⊥
-IsRefusal files (Read f) = ⊥
 IsRefusal files Device = ⊥
 IsRefusal files Memory = ⊥
 IsRefusal files BadWord = ⊥
 IsRefusal files Usage = ⊥
+
+-- why `make` may fail: the profile's own fault, then that of the files; a writer that failed, or want of memory, once the profile is known to be a text
+abbrev pub IsMakeFault : List ℕ → List (List ℕ) → Bool → RunFault → Type 0
+IsMakeFault profile files failed (Profile f) = HasFault profile f
+IsMakeFault profile files failed (Cut k f) = IsSound profile × IsRefusal files (Cut k f)
+IsMakeFault profile files failed (Read f) = IsSound profile × IsRefusal files (Read f)
+IsMakeFault profile files failed Device = IsSound profile × (failed ≡ true)
+IsMakeFault profile files failed Memory = IsUtf8 profile
+IsMakeFault profile files failed BadWord = ⊥
+IsMakeFault profile files failed Usage = ⊥
 
 -- a writer that failed, or want of memory
 abbrev pub IsPutFault : Bool → RunFault → Type 0

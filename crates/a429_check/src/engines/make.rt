@@ -4,16 +4,16 @@ ghost use Rattle.std.specs.Prelude.{◌≡◌, ◌≢◌, ◌+◌, ◌*◌, ◌/
 ghost use Rattle.std.specs.Io.KnownBytes.{Appends};
 ghost use Rattle.a429_word.specs.Page.{paged};
 ghost use Rattle.a429_word.specs.Tally.{inner_of, has_failed};
-ghost use Rattle.a429_profile.specs.Contents.{Contents, IsProfile};
+ghost use Rattle.a429_profile.specs.Contents.{Contents};
 ghost use Rattle.a429_link.specs.Clean.{clean_words, cut_fault, first_refused};
 ghost use Rattle.a429_record.specs.Recording.{most_entries};
 ghost use Rattle.a429_record.specs.Written.{line_text, written_form};
-ghost use Rattle.a429_check.specs.Made.{timed, words_made, Counts, Makes, IsMakeFault, IsRefusal, IsPutFault};
+ghost use Rattle.a429_check.specs.Made.{timed, words_made, Makes, IsMakeFault, IsRefusal, IsPutFault};
 
 use crate::engines::profile::profile_of;
 use crate::fault::RunFault;
 use a429_ldu::CutFault;
-use a429_link::{Seen, clean_run};
+use a429_link::{CleanFault, Seen, clean_run};
 use a429_profile::Profile;
 use a429_record::{Entry, ReadFault, put_header, put_line};
 use a429_word::{Device, Page, Tally};
@@ -52,19 +52,16 @@ pub fn run_make<W: Write>(
     ensures silent { IfErr result (λ e. e ≢ RunFault.Device → e ≢ RunFault.Memory → out.new ≡ out.old) }
 {
     let profile = profile_of(alloc, profile)?;
-    if count_words(files)? > MOST_ENTRIES {
-        return Err(RunFault::Read(ReadFault::TooMany));
-    }
-    let page = Page::new(alloc)?;
-    put_recording(alloc, &profile, files, page, out)?;
+    check_files(files)?;
+    put_recording(alloc, &profile, files, out)?;
     Ok(0)
 }
 
-// How many words files make, or the first of them that is refused.
-fn count_words(files: &[Vec<u8>]) -> Result<usize, RunFault>
-    ensures none { OnOk result (first_refused 255 0 (map (λ f. f.items) files.now) ≡ None) }
-    ensures count { IfOk result (λ n. (p : Contents) → Counts n (length (words_made p (map (λ f. f.items) files.now)))) }
-    ensures refused { IfErr result (IsRefusal (map (λ f. f.items) files.now)) }
+// Whether a recording can be made of files: none is refused, and it has room for all their words.
+fn check_files(files: &[Vec<u8>]) -> Result<(), RunFault>
+    ensures cut { OnOk result (first_refused 255 0 (map (λ f. f.items) files.now) ≡ None) }
+    ensures room { OnOk result ((p : Contents) → length (words_made p (map (λ f. f.items) files.now)) ≤ most_entries) }
+    ensures err { IfErr result (IsRefusal (map (λ f. f.items) files.now)) }
 {
     let mut count: usize = 0;
     for (k, bytes) in files.iter().enumerate() {
@@ -73,7 +70,10 @@ fn count_words(files: &[Vec<u8>]) -> Result<usize, RunFault>
             Err(fault) => return Err(RunFault::Cut(k, fault)),
         }
     }
-    Ok(count)
+    if count > MOST_ENTRIES {
+        return Err(RunFault::Read(ReadFault::TooMany));
+    }
+    Ok(())
 }
 
 // How many words a file of so many bytes makes: those of its link data units, each full but the last.
@@ -81,6 +81,7 @@ fn words_of_file(len: usize) -> Result<usize, CutFault>
     ensures fine { OnOk result ((bytes : List ℕ) → length bytes ≡ len → cut_fault 255 bytes ≡ None) }
     ensures count { IfOk result (λ n. (bytes : List ℕ) → length bytes ≡ len → (p : Contents) → (file : ℕ) → length (clean_words p 255 file (bytes ∷ [])) ≡ n) }
     ensures refused { IfErr result (λ e. (bytes : List ℕ) → length bytes ≡ len → cut_fault 255 bytes ≡ Some e) }
+    ensures fault { IfErr result (λ e. e ≢ CutFault.OutOfMemory) }
 {
     if len == 0 {
         return Err(CutFault::Empty);
@@ -101,29 +102,29 @@ fn words_of_unit(len: usize) -> usize
     (2 * len).div_ceil(5) + 5
 }
 
-// The recording of files, of which none is refused, by an empty page.
+// The recording of files, of which none is refused.
 fn put_recording<W: Write>(
     alloc: Global,
     profile: &Profile,
     files: &[Vec<u8>],
-    page: Page,
     out: &mut Tally<W>,
 ) -> Result<(), RunFault>
-    requires empty { page ≡ [] }
+    requires cut { first_refused 255 0 (map (λ f. f.items) files.now) ≡ None }
     requires most { length (words_made profile.now (map (λ f. f.items) files.now)) ≤ most_entries }
     ensures ok { OnOk result (Appends (W.contents (inner_of out.old)) (W.contents (inner_of out.new)) (written_form (timed 0 (words_made profile.now (map (λ f. f.items) files.now))))) }
     ensures err { IfErr result (IsPutFault (has_failed out.new)) }
     ensures device { OnOk result (has_failed out.new ≡ false) }
 {
     let _codes = profile.codes();
-    let mut page = page;
+    let mut page = Page::new(alloc)?;
     put_header(&mut page, out)?;
     let mut number = FIRST_FILE;
     let mut count = 0;
     for file in files {
-        // (the file is not refused)
-        let Ok(words) = clean_run(alloc, profile, number, MAX_WORDS, from_ref(file)) else {
-            return Err(RunFault::Memory);
+        let words = match clean_run(alloc, profile, number, MAX_WORDS, from_ref(file)) {
+            Ok(words) => words,
+            Err(CleanFault::OutOfMemory) => return Err(RunFault::Memory),
+            Err(CleanFault::Cut(..)) => unreachable!(),
         };
         put_words(&mut page, out, count, words.as_slice())?;
         count += words.len();

@@ -1,4 +1,4 @@
-use Rattle.std.proofs.Common.{◌≡◌, ◌+◌, ◌%◌, map, length, take, ap, ◌∙◌, sym, subst, arith}
+use Rattle.std.proofs.Common.{◌≡◌, ◌+◌, ◌%◌, map, length, take, ◌∙◌, subst, arith}
 use Rattle.std.specs.Io.KnownBytes.{Appends}
 use Rattle.std.proofs.KnownBytes.{Appends-trans, Appends-kept}
 use Rattle.a429_word.specs.Page.{paged}
@@ -6,14 +6,20 @@ use Rattle.a429_word.specs.Tally.{inner_of}
 use Rattle.a429_word.proofs.Pages.{Appends-empty}
 use Rattle.a429_record.specs.Written.{written_form}
 use Rattle.a429_check.specs.Made.{timed, words_made}
-use Rattle.a429_check.proofs.Made.{AreMade, made_start, next_words, all_words}
+use Rattle.a429_check.proofs.Made.{AreMade, made_start, next_words, all_words, fine_alone}
 use Rattle.a429_check.proofs.engines.make.put_recording.Goals as goal
 
 pub loop-file-init : goal.loop-file-init
 loop-file-init g c = record {
   made = made_start c.args.profile.now (map (λ f. f.items) c.args.files.now);
-  written = Appends-trans _ _ _ _ _ (Appends-empty _ c.args.page c.requires.empty) c.in_ok-put_header.ensures.ok;
+  written = Appends-trans _ _ _ _ _ (Appends-empty _ c.in_ok-page.page c.in_ok-page.ensures) c.in_ok-put_header.ensures.ok;
 }
+
+pub unreachable-requires : goal.unreachable-requires
+unreachable-requires g c =
+    let none = fine_alone c.args.files.now c.loop-file.file-index c.file-item.result c.from_ref.result.now c.loop-file-test.true c.file-item.is c.from_ref.ensures.value c.requires.cut in
+    let refused = c.in-Err-Cut.ensures.fault (λ memory. let cut = c.in-Err-Cut.field-0-is in cc) in
+    cc
 
 pub put_words-requires : goal.put_words-requires
 put_words-requires g c =

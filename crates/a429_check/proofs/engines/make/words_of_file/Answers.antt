@@ -1,4 +1,4 @@
-use Rattle.std.proofs.Common.{◌≡◌, ◌∙◌, sym, arith}
+use Rattle.std.proofs.Common.{sym, arith}
 use Rattle.a429_check.proofs.Counted.{words-one}
 use Rattle.a429_check.proofs.engines.make.words_of_file.Goals as goal
 
