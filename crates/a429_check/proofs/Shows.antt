@@ -1,17 +1,13 @@
 -- The lines of a recording, entry by entry.
-use Rattle.std.proofs.Common.{◌≡◌, ℕ, ◌+◌, ◌<◌, List, [], ◌∷◌, ◌++◌, length, take, get_or, sym, ap, ◌∙◌, append-nil, append_assoc, refl, Bool, true, false, ◌≢◌, ◌⊎◌, inl, inr, Option, Some, None, codes, ◌-◌}
+use Rattle.std.proofs.Common.{◌≡◌, ℕ, ◌+◌, ◌<◌, List, [], ◌∷◌, ◌++◌, length, take, get_or, sym, ap, ◌∙◌, append-nil, append_assoc, refl, Bool, true, false, ◌≢◌, ◌⊎◌, inl, inr, codes, ◌-◌}
 use Rattle.std.specs.Int.{bit_at}
 use Rattle.std.specs.Fmt.{decimal}
 use Rattle.std.proofs.lemmas.Fmt.{decimal_digit}
-use Rattle.std.specs.Option.{IfSome}
-use Rattle.std.specs.Io.KnownBytes.{Appends}
 use Rattle.std.proofs.lemmas.List.{take_more}
 use Rattle.a429_profile.specs.declared.entry.Flag.{Flag}
 use Rattle.a429_profile.specs.Contents.{Contents}
 use Rattle.a429_record.specs.declared.entry.Entry.{Entry}
-use Rattle.a429_record.specs.Recording.{stands_for, whole}
-use Rattle.a429_check.specs.ShowLines.{flag_text, IsShowLine, AreShowLines, Shows}
-use Rattle.a429_check.specs.ProfileBytes.{IsProfileOf}
+use Rattle.a429_check.specs.ShowLines.{flag_text, IsShowLine, AreShowLines}
 
 -- a flag's text, of which the last two bytes are written at once
 pub flag_text-is : (field digit : ℕ) (f : Flag) → bit_at field (f.bit - 11) ≡ digit → digit < 10 → codes " " ++ f.name ++ (61 ∷ (48 + digit) ∷ []) ≡ flag_text field f
@@ -34,9 +30,3 @@ AreShowLines-next p es i e text line h found lines is = rw (take_more es i e h �
 pub not_the_reader : {E P : Type 0} (e : E) (failed : Bool) → failed ≡ false → (e ≢ e) ⊎ (failed ≡ true) → P
 not_the_reader e failed h (inl other) = absurd (other refl)
 not_the_reader e failed h (inr is) = absurd (cc)
-
--- what was written is what the recording's bytes show
-pub shows_told : (profile : List ℕ) (contents : Contents) (entries : List Entry) (written : List ℕ) (old new told : Option (List ℕ)) → IsProfileOf profile contents → AreShowLines contents entries written → Appends old new written
-    → IfSome told (λ bytes. stands_for bytes ≡ whole entries) → IfSome told (λ bytes. (text : List ℕ) × Shows profile bytes text × Appends old new text)
-shows_told profile contents entries written old new None of lines appended stand = tt
-shows_told profile contents entries written old new (Some bytes) of lines appended stand = (written, record { contents = contents; entries = entries; is_profile = of; stand = stand; lines = lines }, appended)

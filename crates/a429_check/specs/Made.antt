@@ -1,5 +1,5 @@
 -- What `a429 make` writes, and why it may write nothing (profile).
-use Rattle.std.specs.Prelude.{◌≡◌, ◌≢◌, ◌+◌, ◌*◌, ◌<◌, ◌≤◌, ℕ, List, [], ◌∷◌, length, Bool, true, Option, Some, None}
+use Rattle.std.specs.Prelude.{◌≡◌, ◌≢◌, ◌+◌, ◌*◌, ◌<◌, ◌≤◌, ℕ, List, [], ◌∷◌, length, Bool, true, Some, None}
 use Rattle.std.specs.Str.{IsUtf8}
 use Rattle.a429_profile.specs.Contents.{Contents}
 use Rattle.a429_ldu.specs.declared.fault.CutFault.TheVariants as cut

@@ -1,11 +1,8 @@
 -- What the bytes of a profile say, or what is wrong with them (profile).
-use Rattle.std.specs.Prelude.{◌≡◌, ◌⊎◌, ℕ, List, [], Bool, true, Option, Some, None, Ok, Err}
+use Rattle.std.specs.Prelude.{◌≡◌, ◌⊎◌, ℕ, List, Bool, true, Ok, Err}
 use Rattle.std.specs.Str.{IsUtf8}
 use Rattle.toml.specs.Parse.{parse_document}
-use Rattle.toml.specs.Data.{Members}
-use Rattle.a429_profile.specs.declared.entry.LabelEntry.{LabelEntry}
-use Rattle.a429_profile.specs.Labels.{labels_of}
-use Rattle.a429_profile.specs.Contents.{Contents, Answers, fault_of}
+use Rattle.a429_profile.specs.Contents.{Contents, Answers}
 use Rattle.a429_profile.specs.declared.fault.ProfileFault.{ProfileFault}
 use Rattle.a429_profile.specs.declared.fault.ProfileFault.TheVariants.{NotToml}
 use Rattle.a429_check.specs.declared.fault.RunFault.{RunFault}

@@ -1,5 +1,5 @@
 -- What the bytes of a recording say, or what is wrong with them (profile).
-use Rattle.std.specs.Prelude.{◌≡◌, ◌≢◌, ◌⊎◌, ℕ, List, Bool, true, Option, Some, IfSome}
+use Rattle.std.specs.Prelude.{◌≡◌, ◌⊎◌, ℕ, List, Bool, true, Option, Some, IfSome}
 use Rattle.std.specs.Str.{IsUtf8}
 use Rattle.a429_profile.specs.Contents.{Contents}
 use Rattle.a429_record.specs.declared.entry.Entry.{Entry}

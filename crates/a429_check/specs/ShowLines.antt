@@ -1,5 +1,5 @@
 -- What `a429 show` writes (profile).
-use Rattle.std.specs.Prelude.{◌≡◌, ℕ, ◌-◌, List, [], ◌∷◌, ◌++◌, codes, Bool, true, false}
+use Rattle.std.specs.Prelude.{◌≡◌, ℕ, ◌-◌, List, [], ◌∷◌, ◌++◌, codes, Bool, true, false, Option}
 use Rattle.std.specs.List.{flat_map}
 use Rattle.std.specs.Int.{bit_at}
 use Rattle.std.specs.Fmt.{decimal}
@@ -16,8 +16,7 @@ use Rattle.a429_profile.specs.declared.shown.Shown.TheVariants as shown
 use Rattle.a429_profile.specs.Contents.{Contents}
 use Rattle.a429_profile.specs.Shown.{IsShown}
 use Rattle.a429_record.specs.declared.entry.Entry.{Entry}
-use Rattle.a429_record.specs.Recording.{stands_for, whole}
-use Rattle.a429_check.specs.ProfileBytes.{IsProfileOf}
+use Rattle.a429_check.specs.RecordingBytes.{Says}
 
 -- ---- what is shown of a word
 
@@ -75,10 +74,7 @@ abbrev pub AreShowLines : Contents → List Entry → List ℕ → Type 0
 AreShowLines p [] text = text ≡ []
 AreShowLines p (e ∷ es) text = (line : List ℕ) × (rest : List ℕ) × IsShowLine p e line × AreShowLines p es rest × (text ≡ line ++ rest)
 
--- the text is that of the entries that the recording's bytes stand for, by the profile that the other bytes are the text of
-pub record Shows (profile recording text : List ℕ) : Type 0 where
-  pub contents : Contents
-  pub entries : List Entry
-  pub is_profile : IsProfileOf profile contents
-  pub stand : stands_for recording ≡ whole entries
-  pub lines : AreShowLines contents entries text
+-- the text is that of what a profile's text and a recording say
+pub record Shows (profile : List ℕ) (recording : Option (List ℕ)) (text : List ℕ) : Type 0 where
+  pub says : Says profile recording
+  pub lines : AreShowLines (says.contents) (says.entries) text

@@ -1,6 +1,6 @@
 //! `a429 labels PROFILE`: the label table of a profile, a line for each entry.
 
-ghost use Rattle.std.specs.Prelude.{◌≡◌, ◌≢◌, ◌↔◌, true, IsErr, IfOk, IfErr, OnOk};
+ghost use Rattle.std.specs.Prelude.{◌≡◌, ◌≢◌, ◌↔◌, true, false, IsErr, IfOk, IfErr, OnOk};
 ghost use Rattle.std.specs.Io.KnownBytes.{Appends};
 ghost use Rattle.a429_word.specs.Tally.{inner_of, has_failed};
 ghost use Rattle.a429_profile.specs.Contents.{Contents};
@@ -26,6 +26,7 @@ pub fn run_labels<W: Write>(
     ensures lines { OnOk result ((contents : Contents) × IsProfileOf profile.now contents
         × Appends (W.contents (inner_of out.old)) (W.contents (inner_of out.new)) (label_lines contents.labels)) }
     ensures err { IfErr result (IsLabelsFault profile.now (has_failed out.new)) }
+    ensures device { OnOk result (has_failed out.new ≡ false) }
     ensures silent { IfErr result (λ e. e ≢ RunFault.Device → out.new ≡ out.old) }
 {
     let profile = profile_of(alloc, profile)?;
@@ -33,10 +34,10 @@ pub fn run_labels<W: Write>(
     Ok(0)
 }
 
-// A line for each entry.
+// A line for each entry. A writer that has failed is told where there is none, too.
 fn write_labels<W: Write>(profile: &Profile, out: &mut Tally<W>) -> Result<(), Device>
     ensures ok { OnOk result (Appends (W.contents (inner_of out.old)) (W.contents (inner_of out.new)) (label_lines profile.now.labels)) }
-    ensures device { IsErr result → has_failed out.new ≡ true }
+    ensures device { IsErr result ↔ (has_failed out.new ≡ true) }
 {
     for i in 0..profile.entry_count() {
         match profile.entries(i) {
@@ -44,7 +45,7 @@ fn write_labels<W: Write>(profile: &Profile, out: &mut Tally<W>) -> Result<(), D
             None => unreachable!(),
         }
     }
-    Ok(())
+    out.put(b"")
 }
 
 fn put_entry<W: Write>(out: &mut Tally<W>, entry: &LabelEntry) -> Result<(), Device>

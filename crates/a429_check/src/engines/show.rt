@@ -1,6 +1,6 @@
 //! `a429 show PROFILE REC`: the words of a recording, a line for each.
 
-ghost use Rattle.std.specs.Prelude.{◌≡◌, ◌≢◌, ◌⊎◌, ◌↔◌, ◌≤◌, ◌++◌, [], ℕ, List, codes, true, false, IsErr, IfOk, IfErr, IfSome, OnOk};
+ghost use Rattle.std.specs.Prelude.{◌≡◌, ◌≢◌, ◌⊎◌, ◌↔◌, ◌≤◌, ◌++◌, [], ℕ, List, codes, true, false, IsErr, IfOk, IfErr, OnOk};
 ghost use Rattle.std.specs.Io.KnownBytes.{Appends};
 ghost use Rattle.a429_word.specs.Tally.{inner_of, has_failed};
 ghost use Rattle.a429_word.specs.Page.{paged};
@@ -30,8 +30,8 @@ pub fn run_show<R: Read, W: Write>(
     out: &mut Tally<W>,
 ) -> Result<u8, RunFault>
     ensures ok { IfOk result (λ status. status ≡ 0) }
-    ensures lines { OnOk result (IfSome (R.remaining (inner_of rec.old)) (λ bytes. (text : List ℕ) × Shows profile.now bytes text
-        × Appends (W.contents (inner_of out.old)) (W.contents (inner_of out.new)) text)) }
+    ensures lines { OnOk result ((text : List ℕ) × Shows profile.now (R.remaining (inner_of rec.old)) text
+        × Appends (W.contents (inner_of out.old)) (W.contents (inner_of out.new)) text) }
     ensures err { IfErr result (IsShowFault profile.now (R.remaining (inner_of rec.old)) (has_failed rec.new) (has_failed out.new)) }
     ensures silent { IfErr result (λ e. (e ≢ RunFault.Device) ⊎ (has_failed rec.new ≡ true) → out.new ≡ out.old) }
     ensures device { OnOk result ((has_failed rec.new ≡ false) × (has_failed out.new ≡ false)) }
