@@ -4,3 +4,4 @@ pub mod Shows
 pub mod Timed
 pub mod Counted
 pub mod Made
+pub mod Crossed

@@ -5,6 +5,7 @@
 mod command_line;
 mod engines;
 mod fault;
+pub mod laws;
 
 pub use crate::command_line::command;
 pub use crate::command_line::commands::Command;
