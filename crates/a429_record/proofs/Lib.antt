@@ -6,6 +6,7 @@ pub mod Told
 pub mod Written
 pub mod Whole
 pub mod Faults
+pub mod Handed
 pub mod ReadBack
 pub mod Times
 pub mod FlatMaps

@@ -2,13 +2,13 @@
 use Rattle.std.specs.Option.{IfSome, IfNone}
 use Rattle.memchr.specs.Find.{is_byte, Passes, IsFirstByte}
 use Rattle.a429_record.proofs.Digits.{not_true}
-use Rattle.std.proofs.Common.{◌≡◌, ◌∙◌, ◌+◌, ◌-◌, ◌<◌, ◌≤◌, ℕ, length, take, drop, get_or, arith, List, [], ◌∷◌, ◌++◌, Option, Some, None, refl, sym, ap, append_assoc, zero, suc, ◌==◌, eqb-true, slice_index}
+use Rattle.std.proofs.Common.{◌≡◌, ◌∙◌, ◌+◌, ◌-◌, ◌<◌, ◌≤◌, ℕ, length, take, drop, get_or, arith, List, [], ◌∷◌, ◌++◌, Option, Some, None, inl, inr, refl, sym, ap, append_assoc, zero, suc, ◌==◌, eqb-true, slice_index}
 use Rattle.std.proofs.lemmas.List.{append-nil, drop-take, drop_more, take-append-drop, take_all}
 use Rattle.std.specs.Io.KnownBytes.{Consumes, IsAtEnd, prepend_known}
 use Rattle.std.proofs.KnownBytes.{Consumes-trans}
 use Rattle.a429_record.specs.Ends.{HasNoEnd}
 use Rattle.a429_record.specs.Recording.{lines_of, with_first}
-use Rattle.a429_record.specs.Pending.{TakesLine}
+use Rattle.a429_record.specs.Handed.{Loses, IsLine}
 
 pub HasNoEnd-append : (xs ys : List ℕ) → HasNoEnd xs → HasNoEnd ys → HasNoEnd (xs ++ ys)
 HasNoEnd-append [] ys p q = q
@@ -35,25 +35,29 @@ pub lines_of-ended : (line rest : List ℕ) → HasNoEnd line → lines_of (line
 lines_of-ended [] rest h = refl
 lines_of-ended (x ∷ xs) rest h = rw h.0 (ap (with_first x) (lines_of-ended xs rest h.1))
 
-lines_of-last : (x : ℕ) (xs : List ℕ) → HasNoEnd (x ∷ xs) → lines_of (x ∷ xs) ≡ (x ∷ xs) ∷ []
+pub lines_of-last : (x : ℕ) (xs : List ℕ) → HasNoEnd (x ∷ xs) → lines_of (x ∷ xs) ≡ (x ∷ xs) ∷ []
 lines_of-last x [] h = rw h.0 refl
 lines_of-last x (y ∷ ys) h = rw h.0 (ap (with_first x) (lines_of-last y ys h.1))
 
 -- the bytes so far and a line feed are the first line
-pub takes_ended : (a b : Option (List ℕ)) (line : List ℕ) → HasNoEnd line → Consumes a b (line ++ (10 ∷ [])) → TakesLine a b line
+pub takes_ended : (a b : Option (List ℕ)) (line : List ℕ) → HasNoEnd line → Consumes a b (line ++ (10 ∷ [])) → Loses (IsLine line) a b
 takes_ended None b line h p = tt
 takes_ended (Some a) None line h p = absurd p
-takes_ended (Some a) (Some b) line h p =
-    (b, refl, ap lines_of (p ∙ append_assoc line (10 ∷ []) b) ∙ lines_of-ended line b h)
+takes_ended (Some a) (Some b) line h p = (line ++ (10 ∷ []), p, (h, inl refl))
 
 -- the bytes so far are the last line, where there are any
-pub takes_last : (a b : Option (List ℕ)) (line : List ℕ) → 0 < length line → HasNoEnd line → Consumes a b line → IsAtEnd b → TakesLine a b line
-takes_last a b [] some h p q = absurd (omega arith)
-takes_last None b (x ∷ xs) some h p q = tt
-takes_last (Some a) None (x ∷ xs) some h p q = absurd p
-takes_last (Some a) (Some b) (x ∷ xs) some h p q =
-    let e : a ≡ x ∷ xs = rw q at p ∙ append-nil (x ∷ xs) in
-    (b, refl, rw q (ap lines_of e ∙ lines_of-last x xs h))
+pub takes_last : (a b : Option (List ℕ)) (line : List ℕ) → 0 < length line → HasNoEnd line → Consumes a b line → IsAtEnd b → Loses (IsLine line) a b
+takes_last None b line some h p q = tt
+takes_last (Some a) None line some h p q = absurd p
+takes_last (Some a) (Some b) line some h p q = (line, p, (h, inr (some, refl, q)))
+
+-- a line that is lost was the first
+pub line_first : (line taken rest xs : List ℕ) → IsLine line taken rest → xs ≡ taken ++ rest → lines_of xs ≡ line ∷ lines_of rest
+line_first line taken rest xs (one, inl e) is =
+    ap lines_of (is ∙ ap (λ (l : List ℕ). l ++ rest) e ∙ append_assoc line (10 ∷ []) rest) ∙ lines_of-ended line rest one
+line_first [] taken rest xs (one, inr (some, e, last)) is = absurd (omega arith)
+line_first (x ∷ line) taken rest xs (one, inr (some, e, last)) is =
+    let all : xs ≡ x ∷ line = rw (e, last) at is ∙ append-nil (x ∷ line) in rw last (ap lines_of all ∙ lines_of-last x line one)
 
 -- ---- the bytes that were read
 

@@ -1,14 +1,16 @@
 -- The rows of a line that was taken, and what they tell.
-use Rattle.std.proofs.Common.{◌≡◌, ◌∙◌, ℕ, List, [], ◌∷◌, ◌++◌, map, Option, Some, None, Ok, Result, IfSome, refl, sym, ap, subst, append_assoc, option_map}
+use Rattle.std.proofs.Common.{◌≡◌, ◌∙◌, ℕ, List, [], ◌∷◌, ◌++◌, map, Option, Some, None, Ok, Err, true, false, Result, IfSome, refl, sym, ap, subst, append_assoc, option_map}
 use Rattle.std.specs.Io.KnownBytes.{prepend_known}
 use Rattle.std.specs.List.{flat_map}
 use Rattle.a429_record.specs.declared.entry.Entry.{Entry}
 use Rattle.a429_record.specs.declared.fault.ReadFault.{ReadFault}
-use Rattle.a429_record.specs.Row.{Row, entry_in}
+use Rattle.a429_record.specs.declared.fault.ReadFault.TheVariants as fault
+use Rattle.a429_record.specs.Row.{Row, is_header, entry_in}
 use Rattle.a429_record.specs.Row.{line_rows}
-use Rattle.a429_record.specs.Recording.{Recording, rows_of, told, stands_for}
-use Rattle.a429_record.specs.Pending.{TakesLine}
+use Rattle.a429_record.specs.Recording.{Recording, rows_of, told, all_told, stands_for}
+use Rattle.a429_record.specs.Handed.{Loses, IsLine}
 use Rattle.a429_record.specs.Left.{TakesHeader, Tells}
+use Rattle.a429_record.proofs.LineEnds.{line_first}
 
 -- rows are those of the known bytes
 abbrev pub AreRows : Option (List Row) → Option (List ℕ) → Type 0
@@ -22,14 +24,33 @@ pub own_rows : (a : Option (List ℕ)) → AreRows (option_map rows_of a) a
 own_rows None = tt
 own_rows (Some xs) = refl
 
-pub taken : (rows : Option (List Row)) (a b : Option (List ℕ)) (line : List ℕ) → AreRows rows a → TakesLine a b line → AreRowsAfter rows line b
+pub taken : (rows : Option (List Row)) (a b : Option (List ℕ)) (line : List ℕ) → AreRows rows a → Loses (IsLine line) a b → AreRowsAfter rows line b
 taken None a b line h took = tt
 taken (Some all) None b line h took = cc h
-taken (Some all) (Some xs) b line h took =
+taken (Some all) (Some xs) None line h took = absurd took
+taken (Some all) (Some xs) (Some ys) line h took =
     let e : rows_of xs ≡ all = cc h in
-    (rows_of took.0, rw took.1 refl, sym e ∙ ap (flat_map line_rows) took.2)
+    (rows_of ys, refl, sym e ∙ ap (flat_map line_rows) (line_first line took.0 ys xs took.2 took.1))
+
+-- a line without a row changes nothing
+pub same_rows : (rows : Option (List Row)) (b : Option (List ℕ)) (line : List ℕ) → AreRowsAfter rows line b → [] ≡ line_rows line → AreRows rows b
+same_rows None b line h none = tt
+same_rows (Some all) b line h none = let e : all ≡ h.0 = rw (← none) at h.2 in h.1 ∙ ap Some (sym e)
 
 -- ---- the header
+
+-- the row of a line is the header, or it is not
+pub header_row : (rows : Option (List Row)) (b : Option (List ℕ)) (line : List ℕ) (r : Row) (u : Unit {0}) → AreRowsAfter rows line b → r ∷ [] ≡ line_rows line → is_header r ≡ true
+    → TakesHeader rows (option_map rows_of b) (Ok u)
+header_row None b line r u h one first = tt
+header_row (Some all) b line r u h one first =
+    let e : all ≡ r ∷ h.0 = rw (← one) at h.2 in (h.0, h.1, ap all_told e ∙ rw first refl)
+
+pub other_row : (rows new : Option (List Row)) (b : Option (List ℕ)) (line : List ℕ) (r : Row) → AreRowsAfter rows line b → r ∷ [] ≡ line_rows line → is_header r ≡ false
+    → TakesHeader rows new (Err fault.Header)
+other_row None new b line r h one first = tt
+other_row (Some all) new b line r h one first =
+    let e : all ≡ r ∷ h.0 = rw (← one) at h.2 in ap all_told e ∙ rw first refl
 
 -- after the header the rows that are left tell what the bytes stand for
 pub begun : (bytes : Option (List ℕ)) (ahead : List ℕ) (new : Option (List Row)) (n last : ℕ) (u : Unit {0}) → ahead ≡ [] → n ≡ 0 → last ≡ 0

@@ -11,7 +11,7 @@ use Rattle.a429_record.specs.Whole.{IsWhole}
 
 -- ---- from the rows
 
-told-whole : (n last : ℕ) (rows : List Row) (es : List Entry) → map entry_in rows ≡ map Some es → n + length es ≤ most_entries → NeverFalls last es
+pub told-whole : (n last : ℕ) (rows : List Row) (es : List Entry) → map entry_in rows ≡ map Some es → n + length es ≤ most_entries → NeverFalls last es
     → told n last rows ≡ whole es
 told-whole n last [] [] e few up = refl
 told-whole n last [] (x ∷ es) e few up = cc e

@@ -6,5 +6,6 @@ pub mod Written
 pub mod Whole
 pub mod Faults
 pub mod Ends
+pub mod Handed
 pub mod Pending
 pub mod Left

@@ -1,10 +1,9 @@
 -- What a reader of lines has still to give (profile).
-use Rattle.std.specs.Prelude.{◌≡◌, ℕ, ◌+◌, List, ◌∷◌, length, take, drop, Option, Some, None}
+use Rattle.std.specs.Prelude.{ℕ, ◌+◌, List, length, take, drop, Option}
 use Rattle.std.specs.Io.KnownBytes.{prepend_known}
 use Rattle.a429_word.specs.declared.tally.Tally.{Tally}
 use Rattle.a429_word.specs.Tally.{inner_of, left_of}
 use Rattle.a429_record.specs.declared.lines.Lines.{Lines}
-use Rattle.a429_record.specs.Recording.{lines_of}
 
 -- the bytes that were read and not yet given
 abbrev pub ahead_of : Lines → List ℕ
@@ -17,8 +16,3 @@ pending_of remaining s rec = prepend_known (ahead_of s) (remaining (inner_of rec
 -- how many bytes may still be given
 abbrev pub room_of : {R : Type 0} → Lines → Tally R → ℕ
 room_of s rec = left_of rec + length (ahead_of s)
-
--- the first line is taken from known bytes
-abbrev pub TakesLine : Option (List ℕ) → Option (List ℕ) → List ℕ → Type 0
-TakesLine None new line = Unit {0}
-TakesLine (Some xs) new line = (ys : List ℕ) × (new ≡ Some ys) × (lines_of xs ≡ line ∷ lines_of ys)

@@ -4,6 +4,7 @@ ghost use Rattle.std.specs.Prelude.{◌≡◌, ◌↔◌, true, IsErrOf, IfOk, I
 ghost use Rattle.a429_word.specs.Tally.{inner_of, has_failed};
 ghost use Rattle.a429_record.specs.Recording.{stands_for, whole, IsRecordable};
 ghost use Rattle.a429_record.specs.Answer.{IsFirstFault};
+ghost use Rattle.a429_record.specs.Handed.{Loses, HasNoFault};
 
 use crate::entry::Entry;
 use crate::fault::ReadFault;
@@ -13,13 +14,14 @@ use std::alloc::Global;
 use std::io::Read;
 
 /// Reads a text recording to its end and answers all its entries, or its first fault. `Device` is
-/// answered exactly where `rec` has failed, and `OutOfMemory` where memory was refused; what stands
-/// before either is judged first.
+/// answered exactly where `rec` has failed, and no line makes a fault that `rec` handed out before with
+/// its line feed. `OutOfMemory` is answered where memory was refused.
 pub fn read_entries<R: Read>(alloc: Global, rec: &mut Tally<R>) -> Result<Vec<Entry>, ReadFault>
     ensures ok { IfOk result (λ v. IfSome (R.remaining (inner_of rec.old)) (λ bytes. stands_for bytes ≡ whole v.items)) }
     ensures recordable { IfOk result (λ v. IsRecordable v.items) }
     ensures err { IfErr result (λ f. IfSome (R.remaining (inner_of rec.old)) (λ bytes. IsFirstFault f bytes)) }
     ensures device { IsErrOf result ReadFault.Device ↔ (has_failed rec.new ≡ true) }
+    ensures before { IsErrOf result ReadFault.Device → Loses HasNoFault (R.remaining (inner_of rec.old)) (R.remaining (inner_of rec.new)) }
 {
     if rec.failed() {
         return Err(ReadFault::Device);

@@ -1,15 +1,18 @@
 use Rattle.std.proofs.Common.{◌≡◌, length, false}
 use Rattle.a429_word.specs.Tally.{inner_of, has_failed}
 use Rattle.a429_record.specs.Recording.{NeverFalls}
-use Rattle.a429_record.specs.Pending.{room_of}
+use Rattle.a429_record.specs.Pending.{pending_of, room_of}
 use Rattle.a429_record.specs.Left.{left_of}
+use Rattle.a429_record.specs.Handed.{Loses, AreLines}
 use Rattle.a429_record.proofs.Told.{Given}
+use Rattle.a429_record.proofs.Handed.{AreGiven}
 use Rattle.a429_record.proofs.Times.{last_time}
 use Rattle.a429_record.proofs.reading.read_entries.Given as goal
 
 abbrev pub invariant-entries : goal.invariant-entries
 invariant-entries g l = record {
   told : Given (g.R.Read.remaining (inner_of l.fn.rec)) l.entries.items (left_of g.R.Read.remaining l.reader l.rec);
+  lines : Loses (AreLines (AreGiven l.entries.items)) (g.R.Read.remaining (inner_of l.fn.rec)) (pending_of g.R.Read.remaining l.reader.lines l.rec);
   times : NeverFalls 0 l.entries.items;
   last : last_time 0 l.entries.items ≡ l.reader.last;
   count : length l.entries.items ≡ l.reader.count;

@@ -6,6 +6,7 @@ use Rattle.std.proofs.KnownBytes.{Consumes-kept}
 use Rattle.a429_word.specs.Tally.{inner_of}
 use Rattle.a429_record.specs.Pending.{ahead_of, pending_of}
 use Rattle.a429_record.proofs.LineEnds.{HasNoEnd-append, given, takes_ended, takes_last}
+use Rattle.a429_record.proofs.Handed.{open_lost}
 use Rattle.a429_record.proofs.lines.Lines.next_line.Goals as goal
 
 pub returns-then-ended-clause-takes : goal.returns-then-ended-clause-takes
@@ -43,3 +44,12 @@ parts-preserved g c =
       room = rw part.2 (simp length-append (omega (arith, size, c.in-Ok-refill.ensures.room)));
       works = search rules;
     }
+
+pub returns-in_default-refill-clause-before : goal.returns-in_default-refill-clause-before
+returns-in_default-refill-clause-before g c failed =
+    let part = rw c.if-ended.false at c.in-Ok.ensures.part in
+    let cut = rw append-nil at part.3 in
+    let none = c.in-Ok.ensures.ahead c.if-ended.false in
+    let before = pending_of g.R.Read.remaining c.args.self.now c.args.rec.now in
+    open_lost before (g.R.Read.remaining (inner_of c.parts.rec)) (g.R.Read.remaining (inner_of c.refill.new.rec)) (ahead_of c.parts.self) part.0 c.parts.line.items
+    c.parts.invariant.gone (rw none at cut) (HasNoEnd-append _ _ c.parts.invariant.line part.1) c.in_default-refill.ensures.none

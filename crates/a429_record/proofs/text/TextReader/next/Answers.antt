@@ -1,10 +1,13 @@
-use Rattle.std.proofs.Common.{Some, None, sym}
-use Rattle.a429_record.specs.Row.{line_rows}
+use Rattle.std.proofs.Common.{◌≡◌, ◌∷◌, [], map, Some, None, Err, sym, ap, rules, arith}
+use Rattle.a429_record.specs.declared.fault.ReadFault.TheVariants as fault
+use Rattle.a429_record.specs.Row.{line_rows, entry_in}
+use Rattle.a429_record.specs.Handed.{AreEntryOf}
 use Rattle.a429_record.specs.Left.{rows_left}
 use Rattle.a429_record.specs.Pending.{pending_of}
 use Rattle.a429_word.specs.Tally.{inner_of}
 use Rattle.a429_record.proofs.LineEnds.{gives, takes_ended}
-use Rattle.a429_record.proofs.Told.{AreRowsAfter, own_rows, taken, one_row, tells_row}
+use Rattle.a429_record.proofs.Told.{AreRowsAfter, own_rows, taken, same_rows, one_row, tells_row}
+use Rattle.a429_record.proofs.Handed.{blank_lost, line_lost, failed_lost, no_lines, taken_entry, taken_none, no_entry}
 use Rattle.a429_record.proofs.text.TextReader.next.Given.{Over}
 use Rattle.a429_record.proofs.text.TextReader.next.Goals as goal
 use Rattle.a429_record.proofs.text.TextReader.next.Goals.{After-entry_in_line}
@@ -43,3 +46,44 @@ returns-in-Ok-Bad-clause-tells g c =
     (rows_left g.R.Read.remaining c.args.self.now c.args.rec.now) (pending_of g.R.Read.remaining c.next_line.new.self c.next_line.new.rec)
     c.next_line.new.line.items one.0 c.take_row-in-Ok-Bad.result one.1 h (λ more. c.take_row-in-Ok-Bad.ensures.tells one.0 more one.2) in
     rw c.take_row-in-Ok-Bad.ensures.lines (rw (c.lines.invariant.count, c.lines.invariant.last) at told)
+
+pub returns-in-Err-clause-before : goal.returns-in-Err-clause-before
+returns-in-Err-clause-before g c failed =
+    let is : c.in-Err.fault ≡ fault.Device = cc failed in
+    failed_lost _ _ _ c.lines.invariant.blank (c.in-Err.ensures.before (ap Err is))
+
+pub lines-preserved : goal.lines-preserved
+lines-preserved g c =
+    let h = line_taken g (goal.at.lines-preserved g c).After-entry_in_line in
+    let none : [] ≡ map entry_in (line_rows c.next_line.new.line.items) = rw (c.in-Ok-Blank.field-0-is, c.as_slice.ensures.value) at c.in-Ok-Blank.ensures.ok in
+    let empty = no_entry (line_rows c.next_line.new.line.items) none in
+    record {
+      rows = same_rows _ _ c.next_line.new.line.items h empty;
+      blank = blank_lost _ _ _ c.next_line.new.line.items c.lines.invariant.blank (c.in-Ok-true.ensures.takes c.in-Ok-true.field-0-test) (sym empty);
+      count = c.lines.invariant.count;
+      last = c.lines.invariant.last;
+      room = omega (arith, c.lines.invariant.room, c.in-Ok-true.ensures.room c.in-Ok-true.field-0-test);
+      works = search rules;
+    }
+
+pub returns-in-Some-clause-lines : goal.returns-in-Some-clause-lines
+returns-in-Some-clause-lines g c =
+    let gave = c.in-Some.ensures.some in
+    let before = pending_of g.R.Read.remaining c.args.self.now.lines c.args.rec.now in
+    let after = pending_of g.R.Read.remaining c.plain_entry.new.self.lines c.args.rec.now in
+    let took = takes_ended before after gave.0 gave.1 (gives (g.R.Read.remaining (inner_of c.args.rec.now)) _ _ _ gave.3) in
+    let lost = line_lost (AreEntryOf c.in-Some.entry) before before after gave.0 (no_lines before) took gave.2 in
+    rw c.take_row.ensures.lines (taken_entry c.take_row.result c.in-Some.entry before after c.take_row.ensures.entry lost)
+
+pub returns-in-Ok-One-clause-lines : goal.returns-in-Ok-One-clause-lines
+returns-in-Ok-One-clause-lines g c =
+    let before = pending_of g.R.Read.remaining c.args.self.now.lines c.args.rec.now in
+    let between = pending_of g.R.Read.remaining c.lines.self.lines c.lines.rec in
+    let after = pending_of g.R.Read.remaining c.next_line.new.self c.next_line.new.rec in
+    let line = c.next_line.new.line.items in
+    let one : Some c.in-Ok-One.entry ∷ [] ≡ map entry_in (line_rows line) = rw (c.in-Ok-One.field-0-is, c.as_slice.ensures.value) at c.in-Ok-One.ensures.ok in
+    let lost = line_lost (AreEntryOf c.in-Ok-One.entry) before between after line c.lines.invariant.blank (c.in-Ok-true.ensures.takes c.in-Ok-true.field-0-test) (sym one) in
+    rw c.take_row-in-Ok-One.ensures.lines (taken_entry c.take_row-in-Ok-One.result c.in-Ok-One.entry before after c.take_row-in-Ok-One.ensures.entry lost)
+
+pub returns-in-Ok-Bad-clause-lines : goal.returns-in-Ok-Bad-clause-lines
+returns-in-Ok-Bad-clause-lines g c = taken_none c.take_row-in-Ok-Bad.result _ c.take_row-in-Ok-Bad.ensures.entry

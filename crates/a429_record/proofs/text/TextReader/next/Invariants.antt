@@ -1,6 +1,7 @@
-use Rattle.std.proofs.Common.{◌≡◌, ◌≤◌, false}
+use Rattle.std.proofs.Common.{◌≡◌, ◌≤◌, [], false}
 use Rattle.a429_word.specs.Tally.{has_failed}
 use Rattle.a429_record.specs.Pending.{pending_of, room_of}
+use Rattle.a429_record.specs.Handed.{Loses, AreLines}
 use Rattle.a429_record.specs.Left.{rows_left}
 use Rattle.a429_record.proofs.Told.{AreRows}
 use Rattle.a429_record.proofs.text.TextReader.next.Given as goal
@@ -8,6 +9,7 @@ use Rattle.a429_record.proofs.text.TextReader.next.Given as goal
 abbrev pub invariant-lines : goal.invariant-lines
 invariant-lines g l = record {
   rows : AreRows (rows_left g.R.Read.remaining l.fn.self l.initial.rec) (pending_of g.R.Read.remaining l.self.lines l.rec);
+  blank : Loses (AreLines (λ rows. rows ≡ [])) (pending_of g.R.Read.remaining l.fn.self.lines l.initial.rec) (pending_of g.R.Read.remaining l.self.lines l.rec);
   count : l.self.count ≡ l.fn.self.count;
   last : l.self.last ≡ l.fn.self.last;
   room : room_of l.self.lines l.rec ≤ room_of l.fn.self.lines l.initial.rec;

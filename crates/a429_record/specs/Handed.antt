@@ -1,0 +1,63 @@
+-- What a reader has handed out (profile).
+use Rattle.std.specs.Prelude.{◌≡◌, ◌<◌, ◌⊎◌, ℕ, List, [], ◌∷◌, ◌++◌, length, map, flat_map, true, ◌==◌, if◌then◌else◌, Option, Some, None, ⊤}
+use Rattle.a429_record.specs.declared.entry.Entry.{Entry}
+use Rattle.a429_record.specs.Ends.{HasNoEnd}
+use Rattle.a429_record.specs.Row.{Row, line_rows, is_header, entry_in}
+use Rattle.a429_record.specs.Recording.{rows_of, all_told}
+
+-- lines with a byte before the first of them, if there is one
+abbrev pub onto_first : ℕ → List (List ℕ) → List (List ℕ)
+onto_first b [] = []
+onto_first b (l ∷ ls) = (b ∷ l) ∷ ls
+
+-- the lines of a text that have their line feed, each without it
+abbrev pub ended_lines : List ℕ → List (List ℕ)
+ended_lines [] = []
+ended_lines (b ∷ bs) = if b == 10 then [] ∷ ended_lines bs else onto_first b (ended_lines bs)
+
+-- the rows of these lines
+abbrev pub ended_rows : List ℕ → List Row
+ended_rows bytes = flat_map line_rows (ended_lines bytes)
+
+-- rows make no fault, whatever comes behind them: there is none, or they are the header's and entries'
+abbrev pub AreSound : List Row → Type 0
+AreSound [] = ⊤
+AreSound (row ∷ rows) = (all_told (row ∷ rows)).fault ≡ None
+
+-- known bytes lose a front; it and what is left are so
+abbrev pub Loses : (List ℕ → List ℕ → Type 0) → Option (List ℕ) → Option (List ℕ) → Type 0
+Loses P None new = ⊤
+Loses P (Some xs) None = ⊥
+Loses P (Some xs) (Some ys) = (taken : List ℕ) × (xs ≡ taken ++ ys) × P taken ys
+
+-- no line that is lost with its line feed makes a fault
+abbrev pub HasNoFault : List ℕ → List ℕ → Type 0
+HasNoFault taken rest = AreSound (ended_rows taken)
+
+-- no line that is lost with its line feed has a row
+abbrev pub HasNoRow : List ℕ → List ℕ → Type 0
+HasNoRow taken rest = ended_rows taken ≡ []
+
+-- a front of a line is lost
+abbrev pub IsOpen : List ℕ → List ℕ → Type 0
+IsOpen taken rest = HasNoEnd taken
+
+-- this line is lost, with its line feed, which the last may lack
+abbrev pub IsLine : List ℕ → List ℕ → List ℕ → Type 0
+IsLine line taken rest = HasNoEnd line × ((taken ≡ line ++ (10 ∷ [])) ⊎ ((0 < length line) × (taken ≡ line) × (rest ≡ [])))
+
+-- a text is empty, or ends in a line feed
+abbrev pub IsEnded : List ℕ → Type 0
+IsEnded bytes = (bytes ≡ []) ⊎ ((front : List ℕ) × (bytes ≡ front ++ (10 ∷ [])))
+
+-- lines are lost, with their line feeds, which the last of all may lack; their rows are so
+abbrev pub AreLines : (List Row → Type 0) → List ℕ → List ℕ → Type 0
+AreLines P taken rest = (IsEnded taken ⊎ (rest ≡ [])) × P (rows_of taken)
+
+-- one row, the header's
+abbrev pub AreHeader : List Row → Type 0
+AreHeader rows = (row : Row) × (rows ≡ row ∷ []) × (is_header row ≡ true)
+
+-- one row, this entry's
+abbrev pub AreEntryOf : Entry → List Row → Type 0
+AreEntryOf e rows = map entry_in rows ≡ Some e ∷ []
