@@ -31,7 +31,7 @@ pub record IsKept (p : Contents) (s : State) : Type 0 where
 abbrev pub shown : State → SourceState × SinkState × ℕ × ℕ
 shown s = (s.source.phase, shown_sink s.sink.phase, length s.to_sink, length s.to_source)
 
--- ---- files that are taken while a run goes on
+-- ---- files that are taken while a run goes on (profile)
 
 -- what a caller does with a link; a step that is refused changes nothing, and is left out
 pub data Call : Type 0 where
