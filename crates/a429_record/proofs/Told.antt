@@ -46,10 +46,10 @@ header_row None b line r u h one first = tt
 header_row (Some all) b line r u h one first =
     let e : all ≡ r ∷ h.0 = rw (← one) at h.2 in (h.0, h.1, ap all_told e ∙ rw first refl)
 
-pub other_row : (rows new : Option (List Row)) (b : Option (List ℕ)) (line : List ℕ) (r : Row) → AreRowsAfter rows line b → r ∷ [] ≡ line_rows line → is_header r ≡ false
-    → TakesHeader rows new (Err fault.Header)
-other_row None new b line r h one first = tt
-other_row (Some all) new b line r h one first =
+pub other_row : (rows : Option (List Row)) (b : Option (List ℕ)) (line : List ℕ) (r : Row) → AreRowsAfter rows line b → r ∷ [] ≡ line_rows line → is_header r ≡ false
+    → TakesHeader rows (option_map rows_of b) (Err fault.Header)
+other_row None b line r h one first = tt
+other_row (Some all) b line r h one first =
     let e : all ≡ r ∷ h.0 = rw (← one) at h.2 in ap all_told e ∙ rw first refl
 
 -- after the header the rows that are left tell what the bytes stand for

@@ -24,25 +24,25 @@ abbrev pub AreSound : List Row → Type 0
 AreSound [] = ⊤
 AreSound (row ∷ rows) = (all_told (row ∷ rows)).fault ≡ None
 
--- known bytes lose a front; it and what is left are so
+-- known bytes lose a front, which is handed out; it and what is left are so
 abbrev pub Loses : (List ℕ → List ℕ → Type 0) → Option (List ℕ) → Option (List ℕ) → Type 0
 Loses P None new = ⊤
 Loses P (Some xs) None = ⊥
 Loses P (Some xs) (Some ys) = (taken : List ℕ) × (xs ≡ taken ++ ys) × P taken ys
 
--- no line that is lost with its line feed makes a fault
+-- no line that is handed out with its line feed makes a fault
 abbrev pub HasNoFault : List ℕ → List ℕ → Type 0
 HasNoFault taken rest = AreSound (ended_rows taken)
 
--- no line that is lost with its line feed has a row
+-- no line that is handed out with its line feed has a row
 abbrev pub HasNoRow : List ℕ → List ℕ → Type 0
 HasNoRow taken rest = ended_rows taken ≡ []
 
--- a front of a line is lost
+-- a front of a line is handed out
 abbrev pub IsOpen : List ℕ → List ℕ → Type 0
 IsOpen taken rest = HasNoEnd taken
 
--- this line is lost, with its line feed, which the last may lack
+-- this line is handed out, with its line feed, which the last of all may lack
 abbrev pub IsLine : List ℕ → List ℕ → List ℕ → Type 0
 IsLine line taken rest = HasNoEnd line × ((taken ≡ line ++ (10 ∷ [])) ⊎ ((0 < length line) × (taken ≡ line) × (rest ≡ [])))
 
@@ -50,7 +50,7 @@ IsLine line taken rest = HasNoEnd line × ((taken ≡ line ++ (10 ∷ [])) ⊎ (
 abbrev pub IsEnded : List ℕ → Type 0
 IsEnded bytes = (bytes ≡ []) ⊎ ((front : List ℕ) × (bytes ≡ front ++ (10 ∷ [])))
 
--- lines are lost, with their line feeds, which the last of all may lack; their rows are so
+-- lines are handed out, each with its line feed, which the last of all may lack; their rows are so
 abbrev pub AreLines : (List Row → Type 0) → List ℕ → List ℕ → Type 0
 AreLines P taken rest = (IsEnded taken ⊎ (rest ≡ [])) × P (rows_of taken)
 

@@ -1,7 +1,7 @@
 use Rattle.std.proofs.Common.{◌≡◌, ◌∙◌, ◌≤◌, ◌++◌, ◌∷◌, [], arith, length, length-append, refl, sym, rules}
 use Rattle.a429_word.specs.Tally.{inner_of}
 use Rattle.a429_record.specs.Recording.{most_entries}
-use Rattle.a429_record.specs.Pending.{ahead_of}
+use Rattle.a429_record.specs.Pending.{ahead_of, pending_of}
 use Rattle.a429_record.specs.Left.{rows_left}
 use Rattle.a429_record.proofs.Told.{begun, given_more}
 use Rattle.a429_record.proofs.Handed.{given_header, given_next, failed_next}
@@ -15,7 +15,8 @@ entries-init g c =
     record {
       told = rw c.new-entries.ensures.items (begun (g.R.Read.remaining (inner_of c.args.rec.now)) (ahead_of c.new-reader.result.lines) (rows_left g.R.Read.remaining c.header.new.self c.header.new.rec)
           c.header.new.self.count c.header.new.self.last c.in_ok-header.field-0 c.new-reader.ensures.ahead count last c.in_ok-header.ensures.takes);
-      lines = rw c.new-entries.ensures.items (given_header _ _ (ahead_of c.new-reader.result.lines) c.new-reader.ensures.ahead c.in_ok-header.ensures.lines);
+      lines = rw c.new-entries.ensures.items (given_header (g.R.Read.remaining (inner_of c.args.rec.now)) (pending_of g.R.Read.remaining c.header.new.self.lines c.header.new.rec)
+          (ahead_of c.new-reader.result.lines) c.new-reader.ensures.ahead c.in_ok-header.ensures.lines);
       times = rw c.new-entries.ensures.items tt;
       last = rw (c.new-entries.ensures.items, last) refl;
       count = rw (c.new-entries.ensures.items, count) refl;

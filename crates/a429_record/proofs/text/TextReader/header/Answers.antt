@@ -26,8 +26,8 @@ lines-preserved g c =
     let h = line_taken g (goal.at.lines-preserved g c).After-row_in_line in
     let none : [] ≡ line_rows c.next_line.new.line.items = rw (c.in-Ok-Blank.field-0-is, c.as_slice.ensures.value) at c.in-Ok-Blank.ensures.ok in
     record {
-      rows = same_rows _ _ c.next_line.new.line.items h none;
-      blank = blank_lost _ _ _ c.next_line.new.line.items c.lines.invariant.blank (c.in-Ok-true.ensures.takes c.in-Ok-true.field-0-test) (sym none);
+      rows = same_rows (rows_left g.R.Read.remaining c.args.self.now c.args.rec.now) (pending_of g.R.Read.remaining c.next_line.new.self c.next_line.new.rec) c.next_line.new.line.items h none;
+      blank = blank_lost (pending_of g.R.Read.remaining c.args.self.now.lines c.args.rec.now) (pending_of g.R.Read.remaining c.lines.self.lines c.lines.rec) (pending_of g.R.Read.remaining c.next_line.new.self c.next_line.new.rec) c.next_line.new.line.items c.lines.invariant.blank (c.in-Ok-true.ensures.takes c.in-Ok-true.field-0-test) (sym none);
       count = c.lines.invariant.count;
       last = c.lines.invariant.last;
       works = search rules;
@@ -39,14 +39,14 @@ returns-then-is_header_row-clause-takes g c =
     let r : Row = Some (fields_of c.in-Ok-One.row) in
     let one : r ∷ [] ≡ line_rows c.next_line.new.line.items = rw (c.in-Ok-One.field-0-is, c.as_slice.ensures.value) at c.in-Ok-One.ensures.ok in
     let first : is_header r ≡ true = sym c.is_header_row.ensures ∙ c.if-is_header_row.true in
-    header_row _ _ c.next_line.new.line.items r _ h one first
+    header_row (rows_left g.R.Read.remaining c.args.self.now c.args.rec.now) (pending_of g.R.Read.remaining c.next_line.new.self c.next_line.new.rec) c.next_line.new.line.items r _ h one first
 
 pub returns-then-is_header_row-clause-lines : goal.returns-then-is_header_row-clause-lines
 returns-then-is_header_row-clause-lines g c =
     let r : Row = Some (fields_of c.in-Ok-One.row) in
     let one : r ∷ [] ≡ line_rows c.next_line.new.line.items = rw (c.in-Ok-One.field-0-is, c.as_slice.ensures.value) at c.in-Ok-One.ensures.ok in
     let first : is_header r ≡ true = sym c.is_header_row.ensures ∙ c.if-is_header_row.true in
-    line_lost AreHeader _ _ _ c.next_line.new.line.items c.lines.invariant.blank (c.in-Ok-true.ensures.takes c.in-Ok-true.field-0-test) (r, sym one, first)
+    line_lost AreHeader (pending_of g.R.Read.remaining c.args.self.now.lines c.args.rec.now) (pending_of g.R.Read.remaining c.lines.self.lines c.lines.rec) (pending_of g.R.Read.remaining c.next_line.new.self c.next_line.new.rec) c.next_line.new.line.items c.lines.invariant.blank (c.in-Ok-true.ensures.takes c.in-Ok-true.field-0-test) (r, sym one, first)
 
 pub returns-in-Ok-One-clause-takes : goal.returns-in-Ok-One-clause-takes
 returns-in-Ok-One-clause-takes g c =
@@ -54,11 +54,11 @@ returns-in-Ok-One-clause-takes g c =
     let r : Row = Some (fields_of c.in-Ok-One.row) in
     let one : r ∷ [] ≡ line_rows c.next_line.new.line.items = rw (c.in-Ok-One.field-0-is, c.as_slice.ensures.value) at c.in-Ok-One.ensures.ok in
     let other : is_header r ≡ false = sym c.is_header_row.ensures ∙ c.if-is_header_row.false in
-    other_row _ _ _ c.next_line.new.line.items r h one other
+    other_row (rows_left g.R.Read.remaining c.args.self.now c.args.rec.now) (pending_of g.R.Read.remaining c.next_line.new.self c.next_line.new.rec) c.next_line.new.line.items r h one other
 
 pub returns-in-Ok-Several-clause-takes : goal.returns-in-Ok-Several-clause-takes
 returns-in-Ok-Several-clause-takes g c =
     let h = line_taken g (goal.at.returns-in-Ok-Several-clause-takes g c).After-row_in_line in
     let r : Row = None in
     let one : r ∷ [] ≡ line_rows c.next_line.new.line.items = rw (c.in-Ok-Several.field-0-is, c.as_slice.ensures.value) at c.in-Ok-Several.ensures.ok in
-    other_row _ _ _ c.next_line.new.line.items r h one refl
+    other_row (rows_left g.R.Read.remaining c.args.self.now c.args.rec.now) (pending_of g.R.Read.remaining c.next_line.new.self c.next_line.new.rec) c.next_line.new.line.items r h one refl

@@ -58,8 +58,8 @@ lines-preserved g c =
     let none : [] ≡ map entry_in (line_rows c.next_line.new.line.items) = rw (c.in-Ok-Blank.field-0-is, c.as_slice.ensures.value) at c.in-Ok-Blank.ensures.ok in
     let empty = no_entry (line_rows c.next_line.new.line.items) none in
     record {
-      rows = same_rows _ _ c.next_line.new.line.items h empty;
-      blank = blank_lost _ _ _ c.next_line.new.line.items c.lines.invariant.blank (c.in-Ok-true.ensures.takes c.in-Ok-true.field-0-test) (sym empty);
+      rows = same_rows (rows_left g.R.Read.remaining c.args.self.now c.args.rec.now) (pending_of g.R.Read.remaining c.next_line.new.self c.next_line.new.rec) c.next_line.new.line.items h empty;
+      blank = blank_lost (pending_of g.R.Read.remaining c.args.self.now.lines c.args.rec.now) (pending_of g.R.Read.remaining c.lines.self.lines c.lines.rec) (pending_of g.R.Read.remaining c.next_line.new.self c.next_line.new.rec) c.next_line.new.line.items c.lines.invariant.blank (c.in-Ok-true.ensures.takes c.in-Ok-true.field-0-test) (sym empty);
       count = c.lines.invariant.count;
       last = c.lines.invariant.last;
       room = omega (arith, c.lines.invariant.room, c.in-Ok-true.ensures.room c.in-Ok-true.field-0-test);
