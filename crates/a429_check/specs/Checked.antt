@@ -1,8 +1,7 @@
 -- The verdict on a recording, and how it is written (profile).
-use Rattle.std.specs.Prelude.{◌≡◌, ◌++◌, ℕ, List, [], codes, Option}
+use Rattle.std.specs.Prelude.{◌++◌, ℕ, List, [], codes, Option}
 use Rattle.std.specs.Fmt.{decimal}
 use Rattle.a429_word.specs.Tally.{AppendsPrefix}
-use Rattle.a429_profile.specs.Contents.{Contents}
 use Rattle.a429_cert.specs.Explained.{items_of}
 use Rattle.a429_explain.specs.declared.verdict.Verdict.{Verdict}
 use Rattle.a429_explain.specs.declared.verdict.Verdict.TheVariants.{Explained, Impossible, Unexplained}
