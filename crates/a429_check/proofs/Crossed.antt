@@ -35,7 +35,7 @@ has_room bytes e = by (length bytes == 0) (nat_lt (255 * room 255) (length bytes
     by false true ea eb e = absurd (cc e)
     by false false ea eb e = let some = eqb-false (length bytes) 0 ea in record { some = omega (arith, some); most = ltb-false (255 * room 255) (length bytes) eb }
 
-each_cut : (p : Contents) → IsProfile p → (k : ℕ) (files : List (List ℕ)) → AllByRecursion (All (λ b. b < 256)) files → first_refused 255 k files ≡ None → EachCut p 255 files
+pub each_cut : (p : Contents) → IsProfile p → (k : ℕ) (files : List (List ℕ)) → AllByRecursion (All (λ b. b < 256)) files → first_refused 255 k files ≡ None → EachCut p 255 files
 each_cut p is k [] small none = tt
 each_cut p is k (bytes ∷ files) small none =
     let parts = refused_split k (cut_fault 255 bytes) (first_refused 255 (k + 1) files) none in

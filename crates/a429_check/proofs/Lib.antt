@@ -5,3 +5,4 @@ pub mod Timed
 pub mod Counted
 pub mod Made
 pub mod Crossed
+pub mod MadeBytes
