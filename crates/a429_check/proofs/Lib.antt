@@ -6,3 +6,4 @@ pub mod Counted
 pub mod Made
 pub mod Crossed
 pub mod MadeBytes
+pub mod OneLine
