@@ -5,9 +5,15 @@ use Rattle.a429_explain.proofs.Walked.{formed, not_both, seen_is, is_refused, wa
 use Rattle.a429_explain.proofs.WithoutLoss.{begins}
 use Rattle.a429_explain.proofs.walk.walk.Goals as goal
 
+pub returns-then-not-see-clause-refused : goal.returns-then-not-see-clause-refused
+returns-then-not-see-clause-refused c = record {
+  before = c.loop-n.invariant.allowed;
+  refused = is_refused c.args.profile.now c.args.entries.now c.loop-n.n c.index-entries-n.result c.loop-n.observer _ c.loop-n-test.true (seen_is c.args.entries.now c.loop-n.n c.index-entries-n.result c.index-entries-n.is) c.loop-n.invariant (λ a. not_both c.see.result c.if-not-see.true (c.see.ensures.answer.1 a));
+}
+
 pub returns-then-not-see-clause-impossible : goal.returns-then-not-see-clause-impossible
 returns-then-not-see-clause-impossible c =
-    let refused = is_refused c.args.profile.now c.args.entries.now c.loop-n.n c.index-entries-n.result c.loop-n.observer _ c.loop-n-test.true (seen_is c.args.entries.now c.loop-n.n c.index-entries-n.result c.index-entries-n.is) c.loop-n.invariant (λ a. not_both c.see.result c.if-not-see.true (c.see.ensures.answer.1 a)) in
+    let refused = (returns-then-not-see-clause-refused c).refused in
     λ begins. c.refused_is_impossible.ensures c.args.profile.now (items_of c.args.entries.now) c.loop-n.n c.codes-codes.ensures.sound refused (subst (λ (k : ℕ). BeginsARun c.args.profile.now (take k (items_of c.args.entries.now))) (next_is c.loop-n.n) begins)
 
 pub returns-then-not-see-clause-fits : goal.returns-then-not-see-clause-fits
