@@ -3,11 +3,11 @@
 mod forms;
 mod units;
 
-use a429_profile::{Profile, ProfileFault, read_profile};
+use a429_profile::{Profile, read_profile};
 use a429_sample::PROFILE;
 use std::alloc::Global;
 
 // The sample profile, read.
-fn sample(alloc: Global) -> Result<Profile, ProfileFault> {
-    read_profile(alloc, PROFILE)
+fn sample(alloc: Global) -> Option<Profile> {
+    read_profile(alloc, PROFILE).ok()
 }

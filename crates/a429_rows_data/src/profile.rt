@@ -80,19 +80,30 @@ const NO_INTEGERS: &str = "'1' | 1.0 | true | [1] | {a = 1}";
 // Values that are no texts.
 const NO_TEXTS: &str = "203 | 2.5 | true | ['203'] | {a = '203'}";
 
-// The text with NEW, which may be several lines with `; ` between them, in place of the first OLD.
-fn replaced(alloc: Global, text: &str, old: &str, new: &str) -> Result<String, AllocError> {
-    let new = new.replace(alloc, "; ", "\n")?;
-    text.replacen(alloc, old, new.as_str(), 1)
+// Puts lines, with `; ` between them, behind a text.
+fn push_lines(text: &mut String, lines: &str) -> Result<(), AllocError> {
+    for (n, line) in lines.split("; ").enumerate() {
+        if n > 0 {
+            text.push('\n')?;
+        }
+        text.push_str(line)?;
+    }
+    Ok(())
 }
 
-// The same of a text that has an OLD.
-fn put(alloc: Global, text: &str, old: &str, new: &str) -> Result<String, Fail> {
-    if text.contains(old) {
-        Ok(replaced(alloc, text, old, new)?)
-    } else {
-        Err(Fail::new("no such line"))
+// The text of these parts, each of them lines with `; ` between them.
+fn joined(alloc: Global, parts: &[&str]) -> Result<String, AllocError> {
+    let mut text = String::new(alloc);
+    for part in parts {
+        push_lines(&mut text, part)?;
     }
+    Ok(text)
+}
+
+// The text, which has an OLD, with NEW in its place.
+fn put(alloc: Global, text: &str, old: &str, new: &str) -> Result<String, Fail> {
+    let (front, behind) = text.split_once(old).ok_or("no such line")?;
+    Ok(joined(alloc, &[front, new, behind])?)
 }
 
 // The text with a change: `OLD -> NEW`, or `OLD` alone, which takes it out.
@@ -120,15 +131,20 @@ fn told(alloc: Global, text: &str) -> Result<String, AllocError> {
     fault.to_string(alloc)
 }
 
+// A text is told these words, and the case has this name.
+fn is_told(alloc: Global, text: &str, words: (&str, &str), name: &str) -> Result<(), Fail> {
+    let found = told(alloc, text)?;
+    if found.as_str().strip_prefix(words.0) == Some(words.1) {
+        Ok(())
+    } else {
+        Err(Fail::new(format_args!("{name}: {found}")))
+    }
+}
+
 // The text with these changes is told these words.
 fn tells(alloc: Global, text: &str, changes: &str, words: &str) -> Result<(), Fail> {
     let text = with(alloc, text, changes)?;
-    let found = told(alloc, text.as_str())?;
-    if found.as_str() == words {
-        Ok(())
-    } else {
-        Err(Fail::new(format_args!("{changes}: {found}")))
-    }
+    is_told(alloc, text.as_str(), ("", words), changes)
 }
 
 // Each of some values, with ` | ` between them, in a line of the text.
@@ -137,12 +153,13 @@ fn values_tell(
     text: &str,
     line: &str,
     values: &str,
-    words: &str,
+    words: (&str, &str),
 ) -> Result<(), Fail> {
     let (name, _) = line.split_once(" = ").ok_or("no value")?;
+    let (front, behind) = text.split_once(line).ok_or("no such line")?;
     for value in values.split(" | ") {
-        let change = format!(in alloc; "{line} -> {name} = {value}")?;
-        tells(alloc, text, change.as_str(), words)?;
+        let text = joined(alloc, &[front, name, " = ", value, behind])?;
+        is_told(alloc, text.as_str(), words, value)?;
     }
     Ok(())
 }
@@ -156,28 +173,22 @@ fn answers(alloc: Global, text: &str, rows: &str) -> Result<(), Fail> {
     for row in rows.lines() {
         let (words, rest) = row.split_once(": ").ok_or("no changes")?;
         match rest.split_once(": ") {
-            Some((line, values)) => values_tell(alloc, text, line, values, words)?,
+            Some((line, values)) => values_tell(alloc, text, line, values, ("", words))?,
             None => tells(alloc, text, rest, words)?,
         }
     }
     Ok(())
 }
 
-// The three rows for a key's row `KEY: LINE: VALUES`: its line is needed, and may not have values of other kinds,
-// nor the row's, which are out of its range.
-fn three_rows(alloc: Global, row: &str, other_kinds: &str) -> Result<String, AllocError> {
-    let (line, _) = row.rsplit_once(": ").unwrap_or((row, ""));
-    [
-        "missing ",
-        line,
-        "\nwrong kind ",
-        line,
-        ": ",
-        other_kinds,
-        "\nout of range ",
-        row,
-    ]
-    .concat(alloc)
+// A row `KEY: LINE: VALUES` of a key of the sample: its line is needed, and may not have values of other kinds, nor
+// the row's, which are out of its range.
+fn key(alloc: Global, row: &str, other_kinds: &str) -> Result<(), Fail> {
+    let (key, rest) = row.split_once(": ").ok_or("no line")?;
+    let (line, values) = rest.split_once(": ").ok_or("no values")?;
+    let text = put(alloc, SAMPLE, line, "")?;
+    is_told(alloc, text.as_str(), ("missing ", key), line)?;
+    values_tell(alloc, SAMPLE, line, other_kinds, ("wrong kind ", key))?;
+    values_tell(alloc, SAMPLE, line, values, ("out of range ", key))
 }
 
 // Rows `KEY: LINE: VALUES` of keys of the sample.
@@ -186,8 +197,7 @@ fn keys(alloc: Global, rows: &str, other_kinds: &str) -> Result<(), Fail> {
         return Err(Fail::new("no rows"));
     }
     for row in rows.lines() {
-        let three = three_rows(alloc, row, other_kinds)?;
-        answers(alloc, SAMPLE, three.as_str())?;
+        key(alloc, row, other_kinds)?;
     }
     Ok(())
 }

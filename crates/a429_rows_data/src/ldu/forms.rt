@@ -4,35 +4,38 @@ ghost use Rattle.a429_ldu.specs.Form.{IsInRange};
 
 use crate::ldu::sample;
 use a429_ldu::{Form, Semis, Sight, form, word_of};
-use a429_profile::ProfileFault;
 use a429_sample::{ACK, CTS, EOT, NAK, PART, RTS, SOT};
 use a429_word::{Bus, Word};
 use std::alloc::Global;
-use std::test::Fail;
 
-// Whether this is what a word says on a bus.
-fn says(alloc: Global, bus: Bus, number: u32, sight: Sight) -> Result<bool, ProfileFault> {
+// What a word says on a bus.
+fn sight_of(alloc: Global, bus: Bus, number: u32) -> Option<Sight> {
     let profile = sample(alloc)?;
-    Ok(form(&profile, bus, Word::from_u32(number)) == sight)
+    Some(form(&profile, bus, Word::from_u32(number)))
+}
+
+// Whether this is what it says.
+fn says(alloc: Global, bus: Bus, number: u32, sight: Sight) -> bool {
+    sight_of(alloc, bus, number) == Some(sight)
 }
 
 // The word of a form.
-fn number_of(alloc: Global, said: Form) -> Result<u32, ProfileFault>
+fn number_of(alloc: Global, said: Form) -> Option<u32>
     requires { IsInRange said }
 {
     let profile = sample(alloc)?;
-    Ok(word_of(&profile, &said).to_u32())
+    Some(word_of(&profile, &said).to_u32())
 }
 
 // Whether the form is said by this word, and by no other.
-fn is_said_by(alloc: Global, said: Form, number: u32) -> Result<bool, ProfileFault>
+fn is_said_by(alloc: Global, said: Form, number: u32) -> bool
     requires { IsInRange said }
 {
-    Ok(number_of(alloc, said)? == number && says(alloc, said.bus(), number, Sight::Form(said))?)
+    number_of(alloc, said) == Some(number) && says(alloc, said.bus(), number, Sight::Form(said))
 }
 
 #[test]
-fn words_are_told_by_their_fields(rt: HostRuntime) -> Result<(), Fail> {
+fn words_are_told_by_their_fields(rt: HostRuntime) {
     let cases = [
         (Bus::A, RTS, Sight::Form(Form::Rts { count: 3 })),
         (Bus::B, RTS, Sight::Free),
@@ -49,13 +52,20 @@ fn words_are_told_by_their_fields(rt: HostRuntime) -> Result<(), Fail> {
         (Bus::A, 0x1100_4123, Sight::NoForm),
     ];
     for (bus, number, sight) in cases {
-        assert!(rt; says(rt.alloc(), bus, number, sight)?);
+        assert!(rt; says(rt.alloc(), bus, number, sight));
     }
-    Ok(())
+}
+
+// Whether the partial word of some semi-octets is said by this word, and by no other.
+fn is_part(alloc: Global, digits: &[u8], number: u32) -> bool {
+    match Semis::new(digits) {
+        Some(semis) => is_said_by(alloc, Form::Part(semis), number),
+        None => false,
+    }
 }
 
 #[test]
-fn forms_have_their_words(rt: HostRuntime) -> Result<(), Fail> {
+fn forms_have_their_words(rt: HostRuntime) {
     let start = Form::Sot {
         gfi: 0,
         file: 1,
@@ -65,15 +75,13 @@ fn forms_have_their_words(rt: HostRuntime) -> Result<(), Fail> {
         flags: 1,
         check: 0xA3F5,
     };
-    assert!(rt; is_said_by(rt.alloc(), Form::Rts { count: 3 }, RTS)?);
-    assert!(rt; is_said_by(rt.alloc(), Form::Cts { count: 3 }, CTS)?);
-    assert!(rt; is_said_by(rt.alloc(), start, SOT)?);
-    assert!(rt; is_said_by(rt.alloc(), end, EOT)?);
-    assert!(rt; is_said_by(rt.alloc(), Form::Ack { file: 1, ldu: 1 }, ACK)?);
-    assert!(rt; is_said_by(rt.alloc(), Form::Nak { bits: 0 }, NAK)?);
-    let semis = Semis::new(&[1, 4]).ok_or("no semi-octets")?;
-    assert!(rt; is_said_by(rt.alloc(), Form::Part(semis), PART)?);
-    Ok(())
+    assert!(rt; is_said_by(rt.alloc(), Form::Rts { count: 3 }, RTS));
+    assert!(rt; is_said_by(rt.alloc(), Form::Cts { count: 3 }, CTS));
+    assert!(rt; is_said_by(rt.alloc(), start, SOT));
+    assert!(rt; is_said_by(rt.alloc(), end, EOT));
+    assert!(rt; is_said_by(rt.alloc(), Form::Ack { file: 1, ldu: 1 }, ACK));
+    assert!(rt; is_said_by(rt.alloc(), Form::Nak { bits: 0 }, NAK));
+    assert!(rt; is_part(rt.alloc(), &[1, 4], PART));
 }
 
 // Whether semi-octets are kept as they are; `None` where they are refused.

@@ -4,11 +4,10 @@ ghost use Rattle.std.specs.Prelude.{◌≤◌, length};
 
 use crate::ldu::sample;
 use a429_ldu::{CutFault, Ldu, LduFault, block_bytes, bytes_of, check_word, cut};
-use a429_profile::{Check, Profile, ProfileFault};
+use a429_profile::{Check, Profile};
 use a429_sample::{EOT, PART, RTS, SOT};
 use a429_word::Word;
-use std::alloc::{AllocError, Global};
-use std::test::Fail;
+use std::alloc::Global;
 
 #[test]
 fn known_check_words(rt: HostRuntime) {
@@ -30,16 +29,17 @@ fn known_check_words(rt: HostRuntime) {
     assert!(rt; check_word(&high, b"123456789") == 0x29B1);
 }
 
+// Whether these bytes are made, or none.
+fn are_same(made: Option<&[u8]>, bytes: Option<&[u8]>) -> bool {
+    made == bytes
+}
+
 // Whether words carry these bytes; `None` stands for words that carry none.
-fn carry(
-    alloc: Global,
-    profile: &Profile,
-    words: &[Word],
-    bytes: Option<&[u8]>,
-) -> Result<bool, AllocError> {
-    match bytes_of(alloc, profile, words)? {
-        Some(made) => Ok(bytes == Some(made.as_slice())),
-        None => Ok(bytes.is_none()),
+fn carry(alloc: Global, profile: &Profile, words: &[Word], bytes: Option<&[u8]>) -> bool {
+    match bytes_of(alloc, profile, words) {
+        Ok(Some(made)) => are_same(Some(made.as_slice()), bytes),
+        Ok(None) => bytes.is_none(),
+        Err(_) => false,
     }
 }
 
@@ -48,40 +48,39 @@ fn carry_in_block(profile: &Profile, words: &[Word], bytes: Option<&[u8]>) -> bo
     requires { length words.now ≤ 253 }
 {
     match block_bytes(profile, words) {
-        Some(made) => bytes == Some(made.as_slice()),
+        Some(made) => are_same(Some(made.as_slice()), bytes),
         None => bytes.is_none(),
     }
 }
 
 // The same, in both ways.
-fn carry_both(alloc: Global, words: &[Word], bytes: Option<&[u8]>) -> Result<bool, Fail>
+fn carry_both(alloc: Global, words: &[Word], bytes: Option<&[u8]>) -> bool
     requires { length words.now ≤ 253 }
 {
-    let profile = sample(alloc)?;
-    Ok(carry(alloc, &profile, words, bytes)? && carry_in_block(&profile, words, bytes))
+    match sample(alloc) {
+        Some(profile) => {
+            carry(alloc, &profile, words, bytes) && carry_in_block(&profile, words, bytes)
+        }
+        None => false,
+    }
 }
 
 #[test]
-fn bytes_of_data_words(rt: HostRuntime) -> Result<(), Fail> {
+fn bytes_of_data_words(rt: HostRuntime) {
     let both = [Word::from_u32(0x0342_4123), Word::from_u32(0x9100_0423)];
-    assert!(rt; carry_both(rt.alloc(), &both, Some(b"ABC".as_slice()))?);
+    assert!(rt; carry_both(rt.alloc(), &both, Some(b"ABC".as_slice())));
     let odd = [Word::from_u32(0x9100_0123)];
-    assert!(rt; carry_both(rt.alloc(), &odd, None)?);
-    assert!(rt; carry_both(rt.alloc(), &[], None)?);
+    assert!(rt; carry_both(rt.alloc(), &odd, None));
+    assert!(rt; carry_both(rt.alloc(), &[], None));
     // A request among data words.
     let mixed = [Word::from_u32(PART), Word::from_u32(RTS)];
-    assert!(rt; carry_both(rt.alloc(), &mixed, None)?);
-    Ok(())
+    assert!(rt; carry_both(rt.alloc(), &mixed, None));
 }
 
 // The link data unit of these words with a GFI of 0 and flags of 1.
-fn unit_of(
-    alloc: Global,
-    check: u16,
-    words: &[Word],
-) -> Result<Result<Ldu, LduFault>, ProfileFault> {
+fn unit_of(alloc: Global, check: u16, words: &[Word]) -> Option<Result<Ldu, LduFault>> {
     let profile = sample(alloc)?;
-    Ok(Ldu::new(alloc, &profile, 0, 1, check, words))
+    Some(Ldu::new(alloc, &profile, 0, 1, check, words))
 }
 
 // Whether a unit has a GFI of 0, flags of 1, and a block of so many words.
@@ -89,89 +88,120 @@ fn is_last(unit: &Ldu, count: u8) -> bool {
     unit.gfi() == 0 && unit.flags() == 1 && unit.count() == count
 }
 
-// A word of a unit's block, as unit 1 of file 1.
-fn word_in_block(alloc: Global, unit: &Ldu, place: u8) -> Result<Option<u32>, ProfileFault> {
-    if place >= unit.count() {
-        return Ok(None);
+// Whether a word of a unit's block is this one, as unit 1 of file 1.
+fn has_word(profile: &Profile, unit: &Ldu, place: u8, number: u32) -> bool {
+    place < unit.count() && unit.word(profile, place, 1, 1).to_u32() == number
+}
+
+// Whether the block of a unit has these words, as unit 1 of file 1.
+fn is_block(alloc: Global, unit: &Ldu, numbers: [u32; 3]) -> bool {
+    let Some(profile) = sample(alloc) else {
+        return false;
+    };
+    has_word(&profile, unit, 0, numbers[0])
+        && has_word(&profile, unit, 1, numbers[1])
+        && has_word(&profile, unit, 2, numbers[2])
+}
+
+// Whether the unit of one word is that word, with this check word and this block.
+fn is_unit(alloc: Global, number: u32, check: u16, numbers: [u32; 3]) -> bool {
+    let words = [Word::from_u32(number)];
+    match unit_of(alloc, check, &words) {
+        Some(Ok(unit)) => {
+            is_last(&unit, 3)
+                && unit.check() == check
+                && unit.words() == words.as_slice()
+                && is_block(alloc, &unit, numbers)
+        }
+        _ => false,
     }
-    let profile = sample(alloc)?;
-    Ok(Some(unit.word(&profile, place, 1, 1).to_u32()))
 }
 
 #[test]
-fn a_link_data_unit_and_its_block(rt: HostRuntime) -> Result<(), Fail> {
-    let words = [Word::from_u32(PART)];
-    let unit = unit_of(rt.alloc(), 0xA3F5, &words)??;
-    assert!(rt; is_last(&unit, 3));
-    assert!(rt; unit.check() == 0xA3F5);
-    assert!(rt; unit.words() == words.as_slice());
-    assert!(rt; word_in_block(rt.alloc(), &unit, 0)? == Some(SOT));
-    assert!(rt; word_in_block(rt.alloc(), &unit, 1)? == Some(PART));
-    assert!(rt; word_in_block(rt.alloc(), &unit, 2)? == Some(EOT));
-    Ok(())
+fn a_link_data_unit_and_its_block(rt: HostRuntime) {
+    assert!(rt; is_unit(rt.alloc(), PART, 0xA3F5, [SOT, PART, EOT]));
 }
 
 // Why there is no link data unit of these words.
-fn refused(alloc: Global, check: u16, words: &[Word]) -> Result<Option<LduFault>, ProfileFault> {
-    Ok(unit_of(alloc, check, words)?.err())
+fn refused(alloc: Global, check: u16, words: &[Word]) -> Option<LduFault> {
+    unit_of(alloc, check, words)?.err()
+}
+
+// Why there is none of one word.
+fn one_refused(alloc: Global, check: u16, number: u32) -> Option<LduFault> {
+    refused(alloc, check, &[Word::from_u32(number)])
 }
 
 #[test]
-fn words_that_make_no_link_data_unit(rt: HostRuntime) -> Result<(), Fail> {
-    let one = [Word::from_u32(PART)];
-    assert!(rt; refused(rt.alloc(), 0xA3F4, &one)? == Some(LduFault::CheckWrong));
-    assert!(rt; refused(rt.alloc(), 0xA3F5, &[])? == Some(LduFault::Count));
-    let odd = [Word::from_u32(0x9100_0123)];
-    assert!(rt; refused(rt.alloc(), 0xA3F5, &odd)? == Some(LduFault::NotBytes));
-    Ok(())
+fn words_that_make_no_link_data_unit(rt: HostRuntime) {
+    assert!(rt; one_refused(rt.alloc(), 0xA3F4, PART) == Some(LduFault::CheckWrong));
+    assert!(rt; one_refused(rt.alloc(), 0xA3F5, 0x9100_0123) == Some(LduFault::NotBytes));
+    assert!(rt; refused(rt.alloc(), 0xA3F5, &[]) == Some(LduFault::Count));
 }
 
 // The link data units of a file, each of at most so many words.
-fn units_of(
-    alloc: Global,
-    bytes: &[u8],
-    max_words: u8,
-) -> Result<Result<Vec<Ldu>, CutFault>, ProfileFault>
+fn units_of(alloc: Global, bytes: &[u8], max_words: u8) -> Option<Result<Vec<Ldu>, CutFault>>
     requires { 3 ≤ max_words }
 {
     let profile = sample(alloc)?;
-    Ok(cut(alloc, &profile, bytes, max_words))
+    Some(cut(alloc, &profile, bytes, max_words))
 }
 
-// The same, of so many bytes 0.
-fn units_of_zeros(
-    alloc: Global,
-    count: usize,
-    max_words: u8,
-) -> Result<Result<Vec<Ldu>, CutFault>, Fail>
+// The same, of so many bytes 0, at most 632 of them.
+fn units_of_zeros(alloc: Global, count: usize, max_words: u8) -> Option<Result<Vec<Ldu>, CutFault>>
     requires { 3 ≤ max_words }
 {
-    let zeros = vec![in alloc; 0; count]?;
-    Ok(units_of(alloc, &zeros, max_words)?)
+    units_of(alloc, [0; 632].get(..count)?, max_words)
 }
 
 // The link data unit of a file, where it is one.
-fn only(mut units: Vec<Ldu>) -> Option<Ldu> {
+fn only(units: Option<Result<Vec<Ldu>, CutFault>>) -> Option<Ldu> {
+    let mut units = units?.ok()?;
     if units.len() == 1 { units.pop() } else { None }
 }
 
-#[test]
-fn a_short_file_is_one_link_data_unit(rt: HostRuntime) -> Result<(), Fail> {
-    let unit = only(units_of(rt.alloc(), b"ABC", 255)??).ok_or("one")?;
-    assert!(rt; is_last(&unit, 4));
-    let words = [Word::from_u32(0x0342_4123), Word::from_u32(0x9100_0423)];
-    assert!(rt; unit.words() == words.as_slice());
-    Ok(())
+// Whether a file is one link data unit, the last, of these two words.
+fn are_its_words(unit: Option<Ldu>, first: u32, second: u32) -> bool {
+    let words = [Word::from_u32(first), Word::from_u32(second)];
+    match unit {
+        Some(unit) => is_last(&unit, 4) && unit.words() == words.as_slice(),
+        None => false,
+    }
 }
 
 #[test]
-fn the_longest_link_data_unit(rt: HostRuntime) -> Result<(), Fail> {
-    let unit = only(units_of_zeros(rt.alloc(), 632, 255)??).ok_or("one")?;
-    assert!(rt; unit.count() == 255);
-    let mut words = vec![in rt.alloc(); Word::from_u32(0x0000_0023); 252]?;
-    words.push(Word::from_u32(0x1400_0023))?;
-    assert!(rt; unit.words() == words.as_slice());
-    Ok(())
+fn a_short_file_is_one_link_data_unit(rt: HostRuntime) {
+    let unit = only(units_of(rt.alloc(), b"ABC", 255));
+    assert!(rt; are_its_words(unit, 0x0342_4123, 0x9100_0423));
+}
+
+// Whether words are all this one.
+fn are_all(words: &[Word], number: u32) -> bool {
+    for word in words {
+        if word.to_u32() != number {
+            return false;
+        }
+    }
+    true
+}
+
+// Whether a unit has 255 words in its block: 252 full ones of zeros, and a partial one of four zeros.
+fn is_longest(unit: Option<Ldu>) -> bool {
+    let Some(unit) = unit else {
+        return false;
+    };
+    let Some((last, full)) = unit.words().split_last() else {
+        return false;
+    };
+    unit.count() == 255
+        && full.len() == 252
+        && are_all(full, 0x0000_0023)
+        && last.to_u32() == 0x1400_0023
+}
+
+#[test]
+fn the_longest_link_data_unit(rt: HostRuntime) {
+    assert!(rt; is_longest(only(units_of_zeros(rt.alloc(), 632, 255))));
 }
 
 // The flags of one of the units.
@@ -180,21 +210,33 @@ fn flags_at(units: &[Ldu], place: usize) -> Option<u8> {
     Some(unit.flags())
 }
 
-#[test]
-fn the_longest_file_at_three_words(rt: HostRuntime) -> Result<(), Fail> {
-    let units = units_of_zeros(rt.alloc(), 510, 3)??;
-    assert!(rt; units.len() == 255);
-    assert!(rt; flags_at(&units, 0) == Some(0));
-    assert!(rt; flags_at(&units, 253) == Some(0));
-    assert!(rt; flags_at(&units, 254) == Some(1));
-    Ok(())
+// Of how many units a file of zeros is, and the flags at some places.
+fn flags_of(alloc: Global, count: usize, places: [usize; 3]) -> Option<(usize, [Option<u8>; 3])> {
+    let units = units_of_zeros(alloc, count, 3)?.ok()?;
+    let [a, b, c] = places;
+    let flags = [
+        flags_at(&units, a),
+        flags_at(&units, b),
+        flags_at(&units, c),
+    ];
+    Some((units.len(), flags))
 }
 
 #[test]
-fn files_that_are_not_cut(rt: HostRuntime) -> Result<(), Fail> {
-    let empty = units_of_zeros(rt.alloc(), 0, 255)?.err();
-    assert!(rt; empty == Some(CutFault::Empty));
-    let long = units_of_zeros(rt.alloc(), 511, 3)?.err();
-    assert!(rt; long == Some(CutFault::TooLong));
-    Ok(())
+fn the_longest_file_at_three_words(rt: HostRuntime) {
+    let flags = flags_of(rt.alloc(), 510, [0, 253, 254]);
+    assert!(rt; flags == Some((255, [Some(0), Some(0), Some(1)])));
+}
+
+// Why a file of zeros is not cut.
+fn not_cut(alloc: Global, count: usize, max_words: u8) -> Option<CutFault>
+    requires { 3 ≤ max_words }
+{
+    units_of_zeros(alloc, count, max_words)?.err()
+}
+
+#[test]
+fn files_that_are_not_cut(rt: HostRuntime) {
+    assert!(rt; not_cut(rt.alloc(), 0, 255) == Some(CutFault::Empty));
+    assert!(rt; not_cut(rt.alloc(), 511, 3) == Some(CutFault::TooLong));
 }

@@ -1,11 +1,10 @@
 //! Documents with other keys, with none, without a section; texts that are no documents.
 
-use super::{SAMPLE, answers, tells};
+use super::{SAMPLE, answers, is_told};
+use std::alloc::Global;
 use std::test::Fail;
 
-#[test]
-fn keys_that_nobody_asked_for_pass(rt: HostRuntime) -> Result<(), Fail> {
-    let rows = r#"good: [transfer] -> version = 2; [other]; to_sink = 1; [transfer]
+const OTHER_KEYS: &str = r#"good: [transfer] -> version = 2; [other]; to_sink = 1; [transfer]
 good: first_ldu = 1 -> first_ldu = 1; speed = 'high'
 good: compare = true -> compare = true; ignored = 'all'
 good: digits = 5 -> digits = 5; bits = 'x'; range = 0; flags = 1
@@ -13,7 +12,13 @@ good: bits = 17 -> bits = 17; digits = 9; flags = []
 good: sdi = 1 -> sdi = 1; bits = 99; decimals = -1; note = [1, 'a']
 good: [{bit = 11, name = "gear"}, {bit = 12, name = "door"}] -> [{bit = 11, name = 'gear', colour = 1}, {name = 'door', bit = 12}]
 "#;
-    answers(rt.alloc(), SAMPLE, rows)
+
+// Each of these texts is told these words.
+fn are_told(alloc: Global, texts: &[&str], words: &str) -> Result<(), Fail> {
+    for text in texts {
+        is_told(alloc, text, ("", words), text)?;
+    }
+    Ok(())
 }
 
 #[test]
@@ -26,29 +31,19 @@ fn texts_without_a_key_of_a_profile(rt: HostRuntime) -> Result<(), Fail> {
         "a = 1\na = 2",
         "a = 'x",
     ];
-    for text in no_documents {
-        tells(rt.alloc(), text, "", "not toml")?;
-    }
+    are_told(rt.alloc(), &no_documents, "not toml")?;
     let empty = ["", "\n", "# a remark\n", "[transfer]\n", "other = 1\n"];
-    for text in empty {
-        tells(rt.alloc(), text, "", "missing transfer.to_sink")?;
-    }
-    Ok(())
+    are_told(rt.alloc(), &empty, "missing transfer.to_sink")
 }
 
 // The fault is told also where the sections before it are good.
-#[test]
-fn documents_with_a_bad_line(rt: HostRuntime) -> Result<(), Fail> {
-    let rows = r#"not toml: flags = [{bit = 11, name = "gear"}, {bit = 12, name = "door"}] -> flags
+const BAD_LINES: &str =
+    r#"not toml: flags = [{bit = 11, name = "gear"}, {bit = 12, name = "door"}] -> flags
 not toml: sot = 6 -> sot = 6; sot = 6
 not toml: [codes]
 "#;
-    answers(rt.alloc(), SAMPLE, rows)
-}
 
-#[test]
-fn sections_that_are_missing_or_arrays(rt: HostRuntime) -> Result<(), Fail> {
-    let rows = "wrong kind transfer.to_sink: [transfer] -> [[transfer]]
+const NO_SECTIONS: &str = "wrong kind transfer.to_sink: [transfer] -> [[transfer]]
 wrong kind types.full: [types] -> [[types]]
 wrong kind codes.rts: [codes] -> [[codes]]
 wrong kind partial.codes: [partial] -> [[partial]]
@@ -59,13 +54,9 @@ missing codes.rts: [codes] -> [other]
 missing partial.codes: [partial] -> [other]
 missing check.poly: [check] -> [other]
 ";
-    answers(rt.alloc(), SAMPLE, rows)
-}
 
 // In place of the section the document's first line gives it a value.
-#[test]
-fn sections_that_are_no_tables(rt: HostRuntime) -> Result<(), Fail> {
-    let rows = "wrong kind transfer.to_sink: [transfer] -> transfer = 1; [other]
+const NO_TABLES: &str = "wrong kind transfer.to_sink: [transfer] -> transfer = 1; [other]
 wrong kind transfer.to_sink: [transfer] -> transfer = 'x'; [other]
 wrong kind transfer.to_sink: [transfer] -> transfer = true; [other]
 wrong kind transfer.to_sink: [transfer] -> transfer = []; [other]
@@ -91,5 +82,11 @@ wrong kind check.poly: [transfer] -> check = true; [transfer] | [check] -> [othe
 wrong kind check.poly: [transfer] -> check = []; [transfer] | [check] -> [other]
 wrong kind check.poly: [transfer] -> check = [{a = 1}]; [transfer] | [check] -> [other]
 ";
-    answers(rt.alloc(), SAMPLE, rows)
+
+#[test]
+fn keys_and_sections(rt: HostRuntime) -> Result<(), Fail> {
+    for rows in [OTHER_KEYS, BAD_LINES, NO_SECTIONS, NO_TABLES] {
+        answers(rt.alloc(), SAMPLE, rows)?;
+    }
+    Ok(())
 }

@@ -20,56 +20,34 @@ missing label 0 octal: [transfer] -> label = [{}]; [transfer]
     answers(rt.alloc(), sections(), rows)
 }
 
-#[test]
-fn the_octal_of_a_label(rt: HostRuntime) -> Result<(), Fail> {
-    let rows =
-        r#"label 0 octal: octal = "203": '' | '8' | '20' | '400' | '308' | '380' | '0203' | ' 203' | '-12' | '20a' | '0o2'
+const OCTALS: &str =
+    r#"label 0 octal: octal = "203": '' | '8' | '20' | '400' | '308' | '380' | '0203' | ' 203' | '-12' | '20a' | '0o2'
 label 1 octal: octal = "314": '' | '8' | '20' | '400' | '308' | '380' | '0203' | ' 203' | '-12' | '20a' | '0o2'
 label 2 octal: octal = "201": '' | '8' | '20' | '400' | '308' | '380' | '0203' | ' 203' | '-12' | '20a' | '0o2'
 label 3 octal: octal = "270": '' | '8' | '20' | '400' | '308' | '380' | '0203' | ' 203' | '-12' | '20a' | '0o2'
 "#;
-    keys(rt.alloc(), rows, NO_TEXTS)
-}
 
-#[test]
-fn the_sdi_of_a_label(rt: HostRuntime) -> Result<(), Fail> {
-    let rows = "wrong kind label 3 sdi: sdi = 1: '1' | 1.0 | true | [1] | {a = 1}
+const SDIS: &str = "wrong kind label 3 sdi: sdi = 1: '1' | 1.0 | true | [1] | {a = 1}
 out of range label 3 sdi: sdi = 1: -1 | 4
 good: sdi = 1: 0 | 3
 ";
-    answers(rt.alloc(), SAMPLE, rows)
-}
 
-#[test]
-fn the_texts_of_a_label(rt: HostRuntime) -> Result<(), Fail> {
-    let rows =
-        r#"label 0 name: name = "Altitude": '' | '123456789012345678901234567890123' | "a\tb" | "a\u0007" | "a\u007F" | 'é' | 'Höhe'
+const TEXTS: &str =
+    r#"label 0 name: name = "Altitude": '' | '123456789012345678901234567890123' | "a\tb" | "a\u0007" | "a\u007F" | 'é' | 'Höhe'
 label 0 unit: unit = "ft": '12345678901234567' | "a\tb" | "\u007F" | '°'
 "#;
-    keys(rt.alloc(), rows, NO_TEXTS)
-}
 
-#[test]
-fn the_kind_of_a_label(rt: HostRuntime) -> Result<(), Fail> {
-    let rows = r#"label 0 kind: kind = "bnr": 'hex' | '' | 'BNR' | 'bnr ' | 'bcdd' | 'discret'
+const KINDS: &str = r#"label 0 kind: kind = "bnr": 'hex' | '' | 'BNR' | 'bnr ' | 'bcdd' | 'discret'
 label 2 kind: kind = "bcd": 'hex' | '' | 'BNR' | 'bnr ' | 'bcdd' | 'discret'
 label 3 kind: kind = "discrete": 'hex' | '' | 'BNR' | 'bnr ' | 'bcdd' | 'discret'
 "#;
-    keys(rt.alloc(), rows, NO_TEXTS)
-}
 
 // The kind of the first label is written in another way, so that the second one's is changed.
-#[test]
-fn keys_of_further_labels(rt: HostRuntime) -> Result<(), Fail> {
-    let rows = r#"missing label 3 unit: unit = ""
+const FURTHER_LABELS: &str = r#"missing label 3 unit: unit = ""
 out of range label 1 kind: kind = "bnr" -> kind = 'bnr' | kind = "bnr" -> kind = "hex"
 "#;
-    answers(rt.alloc(), SAMPLE, rows)
-}
 
-#[test]
-fn the_numbers_of_a_label(rt: HostRuntime) -> Result<(), Fail> {
-    let rows = "label 0 bits: bits = 17: 0 | 19
+const NUMBERS: &str = "label 0 bits: bits = 17: 0 | 19
 label 0 range: range = 131072: 0 | 1000000001
 label 0 decimals: decimals = 0: -1 | 7
 label 1 bits: bits = 18: -1 | 274
@@ -77,22 +55,16 @@ label 1 range: range = 180: -180 | 4294967476
 label 2 digits: digits = 5: 0 | 6
 label 2 decimals: decimals = 2: -1 | 7
 ";
-    keys(rt.alloc(), rows, NO_INTEGERS)
-}
 
-#[test]
-fn the_flags_of_a_label(rt: HostRuntime) -> Result<(), Fail> {
-    let rows =
-        r#"label 3 flags: flags = [{bit = 11, name = "gear"}, {bit = 12, name = "door"}]: [] | [{bit = 10, name = 'a'}] | [{bit = 30, name = 'a'}] | [{bit = -11, name = 'a'}] | [{bit = 267, name = 'a'}] | [{bit = 11, name = ''}] | [{bit = 11, name = '123456789012345678901234567890123'}] | [{bit = 11, name = "a\tb"}] | [{bit = 11, name = 'Höhe'}] | [{bit = 11, name = 'a'}, {bit = 30, name = 'b'}]
+const FLAGS: &str =
+    r#"label 3 flags: flags = [{bit = 11, name = "gear"}, {bit = 12, name = "door"}]: [] | [{bit = 10, name = 'a'}] | [{bit = 30, name = 'a'}] | [{bit = -11, name = 'a'}] | [{bit = 267, name = 'a'}] | [{bit = 11, name = ''}] | [{bit = 11, name = '123456789012345678901234567890123'}] | [{bit = 11, name = "a\tb"}] | [{bit = 11, name = 'Höhe'}] | [{bit = 11, name = 'a'}, {bit = 30, name = 'b'}]
 "#;
-    let other_kinds =
-        "1 | 'gear' | {bit = 11, name = 'a'} | [11] | [[]] | [{}] | [{bit = 11}] | [{name = 'a'}] | [{bit = '11', name = 'a'}] | [{bit = 11, name = 1}] | [{bit = 11, name = 'a'}, 'b'] | [{bit = 30, name = 'a'}, {bit = 12}] | [{bit = 11, name = ''}, {bit = 12, name = true}]";
-    keys(rt.alloc(), rows, other_kinds)
-}
 
-#[test]
-fn values_at_the_ends_of_their_ranges(rt: HostRuntime) -> Result<(), Fail> {
-    let rows = r#"good: octal = "203": '000' | '377'
+// Values of other kinds than flags.
+const NO_FLAGS: &str =
+    "1 | 'gear' | {bit = 11, name = 'a'} | [11] | [[]] | [{}] | [{bit = 11}] | [{name = 'a'}] | [{bit = '11', name = 'a'}] | [{bit = 11, name = 1}] | [{bit = 11, name = 'a'}, 'b'] | [{bit = 30, name = 'a'}, {bit = 12}] | [{bit = 11, name = ''}, {bit = 12, name = true}]";
+
+const ENDS_OF_RANGES: &str = r#"good: octal = "203": '000' | '377'
 good: octal = "314": '000' | '377'
 good: octal = "201": '000' | '377'
 good: octal = "270": '000' | '377'
@@ -105,5 +77,25 @@ good: digits = 5: 1 | 5
 good: decimals = 2: 0 | 6
 good: flags = [{bit = 11, name = "gear"}, {bit = 12, name = "door"}]: [{bit = 11, name = 'a'}, {bit = 29, name = 'a'}] | [{bit = 20, name = '12345678901234567890123456789012'}]
 "#;
-    answers(rt.alloc(), SAMPLE, rows)
+
+#[test]
+fn keys_of_labels(rt: HostRuntime) -> Result<(), Fail> {
+    for (rows, other_kinds) in [
+        (OCTALS, NO_TEXTS),
+        (TEXTS, NO_TEXTS),
+        (KINDS, NO_TEXTS),
+        (NUMBERS, NO_INTEGERS),
+        (FLAGS, NO_FLAGS),
+    ] {
+        keys(rt.alloc(), rows, other_kinds)?;
+    }
+    Ok(())
+}
+
+#[test]
+fn values_of_labels(rt: HostRuntime) -> Result<(), Fail> {
+    for rows in [SDIS, FURTHER_LABELS, ENDS_OF_RANGES] {
+        answers(rt.alloc(), SAMPLE, rows)?;
+    }
+    Ok(())
 }

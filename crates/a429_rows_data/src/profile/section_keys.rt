@@ -3,19 +3,13 @@
 use super::{NO_INTEGERS, NO_TEXTS, SAMPLE, answers, keys};
 use std::test::Fail;
 
-#[test]
-fn the_addresses(rt: HostRuntime) -> Result<(), Fail> {
-    let rows =
-        r#"transfer.to_sink: to_sink = "304": '' | '8' | '20' | '400' | '308' | '380' | '0203' | ' 203' | '-12' | '20a' | '0o2'
+const ADDRESSES: &str =
+    r#"transfer.to_sink: to_sink = "304": '' | '8' | '20' | '400' | '308' | '380' | '0203' | ' 203' | '-12' | '20a' | '0o2'
 transfer.to_source: to_source = "305": '' | '8' | '20' | '400' | '308' | '380' | '0203' | ' 203' | '-12' | '20a' | '0o2'
 "#;
-    keys(rt.alloc(), rows, NO_TEXTS)
-}
 
-#[test]
-fn the_numbers(rt: HostRuntime) -> Result<(), Fail> {
-    let rows =
-        "transfer.destination: destination = 0x41: -1 | 256 | -9223372036854775808 | 4294967297
+const NUMBERS: &str =
+    "transfer.destination: destination = 0x41: -1 | 256 | -9223372036854775808 | 4294967297
 transfer.first_ldu: first_ldu = 1: -1 | 2 | -9223372036854775808 | 4294967297
 transfer.final_bit: final_bit = 25: 24 | 29 | -9223372036854775808 | 4294967297
 types.full: full = 0: -1 | 8
@@ -31,46 +25,29 @@ check.poly: poly = 0x1021: -1 | 65536 | 0x11021
 check.init: init = 0xFFFF: -1 | 65536 | 0x11021
 check.xor: xor = 0xFFFF: -1 | 65536 | 0x11021
 ";
-    keys(rt.alloc(), rows, NO_INTEGERS)
-}
 
-#[test]
-fn the_arrays(rt: HostRuntime) -> Result<(), Fail> {
-    let rows = "types.ignored: ignored = [5]: [8] | [-1] | [5, 8] | [-1, 5] | [5, 5, 8]
+const ARRAYS: &str = "types.ignored: ignored = [5]: [8] | [-1] | [5, 8] | [-1, 5] | [5, 5, 8]
 codes.ignored: ignored = [3]: [16] | [-1] | [3, 16] | [-1, 3] | [3, 3, 16]
 partial.codes: codes = [1, 2, 3, 4]: [] | [1, 2, 3] | [1, 2, 3, 4, 5] | [1, 2, 3, 16] | [-1, 2, 3, 4] | [1, 1, 3]
 ";
-    keys(
-        rt.alloc(),
-        rows,
-        "5 | '5' | {a = 5} | ['5'] | [5.0] | [[5]]",
-    )
-}
+
+// Values that are no arrays of integers.
+const NO_ARRAYS: &str = "5 | '5' | {a = 5} | ['5'] | [5.0] | [[5]]";
 
 // An element of another kind is told before one out of range, wherever it stands.
-#[test]
-fn arrays_with_two_faults(rt: HostRuntime) -> Result<(), Fail> {
-    let rows =
-        "wrong kind types.ignored: ignored = [5]: [5, 'a'] | [8, 'a'] | ['a', 8] | [-1, 5, true]
+const TWO_FAULTS: &str =
+    "wrong kind types.ignored: ignored = [5]: [5, 'a'] | [8, 'a'] | ['a', 8] | [-1, 5, true]
 wrong kind codes.ignored: ignored = [3]: [3, 'a'] | [16, 'a'] | ['a', 16] | [-1, 3, true]
 wrong kind partial.codes: codes = [1, 2, 3, 4]: [1, 2, 3, 'a'] | [16, 'a'] | [1, 2, 3, 4, 'a'] | ['a', 16, 3, 4]
 ";
-    answers(rt.alloc(), SAMPLE, rows)
-}
 
-#[test]
-fn the_truth_values(rt: HostRuntime) -> Result<(), Fail> {
-    let rows = "missing check.low_first: low_first = true
+const TRUTH_VALUES: &str = "missing check.low_first: low_first = true
 missing check.compare: compare = true
 wrong kind check.low_first: low_first = true: 1 | 'true' | [true] | {a = true}
 wrong kind check.compare: compare = true: 1 | 'true' | [true] | {a = true}
 ";
-    answers(rt.alloc(), SAMPLE, rows)
-}
 
-#[test]
-fn values_at_the_ends_of_their_ranges(rt: HostRuntime) -> Result<(), Fail> {
-    let rows = r#"good: to_sink = "304": '000' | '377'
+const ENDS_OF_RANGES: &str = r#"good: to_sink = "304": '000' | '377'
 good: to_source = "305": '000' | '377'
 good: destination = 0x41: 0 | 255
 good: first_ldu = 1: 0
@@ -88,5 +65,23 @@ good: xor = 0xFFFF: 0 | 65535
 good: low_first = true: false
 good: compare = true: false
 "#;
-    answers(rt.alloc(), SAMPLE, rows)
+
+#[test]
+fn keys_of_sections(rt: HostRuntime) -> Result<(), Fail> {
+    for (rows, other_kinds) in [
+        (ADDRESSES, NO_TEXTS),
+        (NUMBERS, NO_INTEGERS),
+        (ARRAYS, NO_ARRAYS),
+    ] {
+        keys(rt.alloc(), rows, other_kinds)?;
+    }
+    Ok(())
+}
+
+#[test]
+fn values_of_sections(rt: HostRuntime) -> Result<(), Fail> {
+    for rows in [TWO_FAULTS, TRUTH_VALUES, ENDS_OF_RANGES] {
+        answers(rt.alloc(), SAMPLE, rows)?;
+    }
+    Ok(())
 }

@@ -40,69 +40,72 @@ fn are_read(alloc: Global, rows: &[u8], entries: &[Entry]) -> Result<bool, Fail>
     Ok(stands_for(alloc, &text, entries)?)
 }
 
+const ONE_ENTRY: [&[u8]; 11] = [
+    b"7,A,c1410223\n",
+    b"7,A,C1410223",
+    b"7,A,C1410223\r\n",
+    b"7,A,C1410223\r",
+    b"7,A,C1410223\r\r\r",
+    b"\r7,A,C1410223\n",
+    b"\n7,A,C1410223\n\r\n\n\r\r",
+    b"\"7\",\"A\",\"C1410223\"\n",
+    b"7,A,\"C1410223\n",
+    b"00000000000000000007,A,C1410223\n",
+    b"\xEF\xBB\xBF7,A,C1410223\n",
+];
+
 #[test]
 fn rows_of_one_entry(rt: HostRuntime) -> Result<(), Fail> {
-    let rows: [&[u8]; 11] = [
-        b"7,A,c1410223\n",
-        b"7,A,C1410223",
-        b"7,A,C1410223\r\n",
-        b"7,A,C1410223\r",
-        b"7,A,C1410223\r\r\r",
-        b"\r7,A,C1410223\n",
-        b"\n7,A,C1410223\n\r\n\n\r\r",
-        b"\"7\",\"A\",\"C1410223\"\n",
-        b"7,A,\"C1410223\n",
-        b"00000000000000000007,A,C1410223\n",
-        b"\xEF\xBB\xBF7,A,C1410223\n",
-    ];
     let entries = [entry(7, Bus::A, 0xC141_0223)];
-    for row in rows {
+    for row in ONE_ENTRY {
         assert!(rt; are_read(rt.alloc(), row, &entries)?);
     }
     Ok(())
 }
+
+const TWO_ENTRIES: [&[u8]; 3] = [
+    b"7,A,C1410223\n18446744073709551615,B,00000000\n",
+    b"7,A,C1410223\r\n18446744073709551615,B,00000000",
+    b"7,A,C1410223\n\"18446744073709551615\",B,00000000\r",
+];
 
 #[test]
 fn rows_of_two_entries(rt: HostRuntime) -> Result<(), Fail> {
-    let rows: [&[u8]; 3] = [
-        b"7,A,C1410223\n18446744073709551615,B,00000000\n",
-        b"7,A,C1410223\r\n18446744073709551615,B,00000000",
-        b"7,A,C1410223\n\"18446744073709551615\",B,00000000\r",
-    ];
     let entries = [entry(7, Bus::A, 0xC141_0223), entry(u64::MAX, Bus::B, 0)];
-    for row in rows {
+    for row in TWO_ENTRIES {
         assert!(rt; are_read(rt.alloc(), row, &entries)?);
     }
     Ok(())
 }
 
+const NO_ENTRIES: [&[u8]; 22] = [
+    b"0,C,41410323\n",
+    b"0,A,4141032\n",
+    b"0,A\n",
+    b"x,A,41410323\n",
+    b"0,a,41410323\n",
+    b"0,AB,41410323\n",
+    b"0,,41410323\n",
+    b"0,A,414103233\n",
+    b"0,A,4141032G\n",
+    b"0,A,0x410323\n",
+    b"0,A,41410323,\n",
+    b"0,A,41410323 \n",
+    b" 0,A,41410323\n",
+    b"+0,A,41410323\n",
+    b",A,41410323\n",
+    b"18446744073709551616,A,41410323\n",
+    b"99999999999999999999,A,41410323\n",
+    b"000000000000000000000,A,41410323\n",
+    b"0,A,4141032\xB2\n",
+    b"\xFF,A,41410323\n",
+    b"0,A,41410323\r0,A,41410323\n",
+    b"time,bus,word\n",
+];
+
 #[test]
 fn rows_that_are_no_entries(rt: HostRuntime) {
-    let rows: [&[u8]; 22] = [
-        b"0,C,41410323\n",
-        b"0,A,4141032\n",
-        b"0,A\n",
-        b"x,A,41410323\n",
-        b"0,a,41410323\n",
-        b"0,AB,41410323\n",
-        b"0,,41410323\n",
-        b"0,A,414103233\n",
-        b"0,A,4141032G\n",
-        b"0,A,0x410323\n",
-        b"0,A,41410323,\n",
-        b"0,A,41410323 \n",
-        b" 0,A,41410323\n",
-        b"+0,A,41410323\n",
-        b",A,41410323\n",
-        b"18446744073709551616,A,41410323\n",
-        b"99999999999999999999,A,41410323\n",
-        b"000000000000000000000,A,41410323\n",
-        b"0,A,4141032\xB2\n",
-        b"\xFF,A,41410323\n",
-        b"0,A,41410323\r0,A,41410323\n",
-        b"time,bus,word\n",
-    ];
-    for row in rows {
+    for row in NO_ENTRIES {
         assert!(rt; count_in_rows(rt.alloc(), row) == Err(ReadFault::Row(0)));
     }
     let second = b"5,A,41410323\n\n4,A,4141032\n";
@@ -117,35 +120,37 @@ fn times_that_fall(rt: HostRuntime) {
     assert!(rt; count_in_rows(rt.alloc(), third) == Err(ReadFault::TimeBack(2)));
 }
 
+const HEADERS: [&[u8]; 5] = [
+    b"time,bus,word",
+    b"time,bus,word\r\n",
+    b"\n\r\n\ntime,bus,word\n",
+    b"\"time\",\"bus\",\"word\"\n",
+    b"\xEF\xBB\xBFtime,bus,word\n",
+];
+
 #[test]
 fn headers(rt: HostRuntime) {
-    let good: [&[u8]; 5] = [
-        b"time,bus,word",
-        b"time,bus,word\r\n",
-        b"\n\r\n\ntime,bus,word\n",
-        b"\"time\",\"bus\",\"word\"\n",
-        b"\xEF\xBB\xBFtime,bus,word\n",
-    ];
-    for text in good {
+    for text in HEADERS {
         assert!(rt; count_in(rt.alloc(), text) == Ok(0));
     }
 }
 
+const NO_HEADERS: [&[u8]; 10] = [
+    b"",
+    b"\n\r\n",
+    b"0,A,41410323\n",
+    b"Time,bus,word\n",
+    b"time,bus,word,\n",
+    b"time,bus\n",
+    b"time, bus,word\n",
+    b"time,bus,word\rtime,bus,word\n",
+    b"time,word,bus\n",
+    b"time,bus,w\xFFrd\n",
+];
+
 #[test]
 fn texts_with_no_header(rt: HostRuntime) {
-    let bad: [&[u8]; 10] = [
-        b"",
-        b"\n\r\n",
-        b"0,A,41410323\n",
-        b"Time,bus,word\n",
-        b"time,bus,word,\n",
-        b"time,bus\n",
-        b"time, bus,word\n",
-        b"time,bus,word\rtime,bus,word\n",
-        b"time,word,bus\n",
-        b"time,bus,w\xFFrd\n",
-    ];
-    for text in bad {
+    for text in NO_HEADERS {
         assert!(rt; count_in(rt.alloc(), text) == Err(ReadFault::Header));
     }
 }
@@ -202,13 +207,20 @@ fn pieces_and_failures(rt: HostRuntime) {
     }
 }
 
-// Many carriage returns, an entry's row, and a row of so many digits.
-fn long_rows(alloc: Global, digits: usize) -> Result<Vec<u8>, AllocError> {
-    let mut rows = vec![in alloc; b'\r'; 5000]?;
-    rows.extend_from_slice(b"7,A,C1410223\n")?;
-    for _ in 0..digits {
-        rows.push(b'9')?;
+// Puts so many of a byte behind some bytes.
+fn push_many(bytes: &mut Vec<u8>, byte: u8, count: u32) -> Result<(), AllocError> {
+    for _ in 0..count {
+        bytes.push(byte)?;
     }
+    Ok(())
+}
+
+// Many carriage returns, an entry's row, and a row of so many digits.
+fn long_rows(alloc: Global, digits: u32) -> Result<Vec<u8>, AllocError> {
+    let mut rows = Vec::new(alloc);
+    push_many(&mut rows, b'\r', 5000)?;
+    rows.extend_from_slice(b"7,A,C1410223\n")?;
+    push_many(&mut rows, b'9', digits)?;
     Ok(rows)
 }
 

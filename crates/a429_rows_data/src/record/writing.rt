@@ -4,26 +4,33 @@ ghost use Rattle.a429_record.specs.Recording.{IsRecordable};
 
 use crate::fakes::Narrow;
 use crate::record::{entry, stands_for};
-use a429_record::{Entry, WriteFault, read_entries, write_entries};
+use a429_record::{Entry, ReadFault, WriteFault, read_entries, write_entries};
 use a429_sample::{CTS, EOT, PART, RTS, SOT};
 use a429_word::{Bus, Failing, Tally};
 use std::alloc::Global;
-use std::io::ErrorKind;
+use std::io::{ErrorKind, Write};
 use std::test::Fail;
 
-// What is written of entries.
-fn written(alloc: Global, entries: &[Entry]) -> Result<Vec<u8>, WriteFault>
+// What a writer answers to a recording of these entries.
+fn write<W: Write>(alloc: Global, out: &mut Tally<W>, entries: &[Entry]) -> Result<(), WriteFault>
+    requires { IsRecordable entries.now }
+{
+    write_entries(alloc, out, entries)
+}
+
+// Whether this text is written of entries.
+fn is_written(alloc: Global, entries: &[Entry], wanted: &[u8]) -> bool
     requires { IsRecordable entries.now }
 {
     let mut text = Vec::new(alloc);
-    write_entries(alloc, &mut Tally::new(&mut text, 0), entries)?;
-    Ok(text)
+    let answer = write(alloc, &mut Tally::new(&mut text, 0), entries);
+    answer == Ok(()) && text.as_slice() == wanted
 }
 
-// What is written of the entries that are read in a text.
-fn rewritten(alloc: Global, text: &[u8]) -> Result<Vec<u8>, Fail> {
+// Whether a text is written of the entries that are read in it.
+fn is_written_again(alloc: Global, text: &[u8]) -> Result<bool, ReadFault> {
     let entries = read_entries(alloc, &mut Tally::new(text, 1000))?;
-    Ok(written(alloc, &entries)?)
+    Ok(is_written(alloc, &entries, text))
 }
 
 #[test]
@@ -38,19 +45,15 @@ fn a_file_of_one_byte(rt: HostRuntime) -> Result<(), Fail> {
     ];
     let wanted: &[u8] =
         b"time,bus,word\n0,A,41410323\n1000,B,C24103A3\n2000,A,60010123\n3000,A,12004123\n4000,A,71A3F523\n18446744073709551615,B,000000AF\n";
-    let text = written(rt.alloc(), &entries)?;
-    assert!(rt; text.as_slice() == wanted);
+    assert!(rt; is_written(rt.alloc(), &entries, wanted));
     assert!(rt; stands_for(rt.alloc(), wanted, &entries)?);
-    let again = rewritten(rt.alloc(), wanted)?;
-    assert!(rt; again.as_slice() == wanted);
+    assert!(rt; is_written_again(rt.alloc(), wanted)?);
     Ok(())
 }
 
 #[test]
-fn no_entries(rt: HostRuntime) -> Result<(), Fail> {
-    let text = written(rt.alloc(), &[])?;
-    assert!(rt; text.as_slice() == b"time,bus,word\n".as_slice());
-    Ok(())
+fn no_entries(rt: HostRuntime) {
+    assert!(rt; is_written(rt.alloc(), &[], b"time,bus,word\n"));
 }
 
 // What a writer of so many bytes answers to a recording of one entry, whether it has failed then, and
@@ -61,9 +64,9 @@ fn written_in(
 ) -> (Result<(), WriteFault>, bool, Result<(), WriteFault>) {
     let narrow = Narrow::new(alloc, room, Some(ErrorKind::Interrupted));
     let mut out = Tally::new(narrow, 0);
-    let first = write_entries(alloc, &mut out, &[entry(0, Bus::A, RTS)]);
+    let first = write(alloc, &mut out, &[entry(0, Bus::A, RTS)]);
     let failed = out.failed();
-    (first, failed, write_entries(alloc, &mut out, &[]))
+    (first, failed, write(alloc, &mut out, &[]))
 }
 
 #[test]

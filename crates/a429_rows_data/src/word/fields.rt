@@ -122,20 +122,21 @@ fn hexadecimal(rt: HostRuntime) {
     }
 }
 
+const NO_WORDS: [&[u8]; 9] = [
+    b"",
+    b"E13880C",
+    b"E13880C10",
+    b"E13880G1",
+    b"+13880C1",
+    b" 13880C1",
+    b"0xE13880",
+    b"E13880C\n",
+    b"\xef\xbc\xa1880C1",
+];
+
 #[test]
 fn texts_that_are_no_words(rt: HostRuntime) {
-    let texts: [&[u8]; 9] = [
-        b"",
-        b"E13880C",
-        b"E13880C10",
-        b"E13880G1",
-        b"+13880C1",
-        b" 13880C1",
-        b"0xE13880",
-        b"E13880C\n",
-        b"\xef\xbc\xa1880C1",
-    ];
-    for text in texts {
+    for text in NO_WORDS {
         assert!(rt; read_hex(text).is_none());
     }
 }

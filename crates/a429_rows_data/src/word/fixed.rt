@@ -2,13 +2,21 @@
 
 use a429_word::{Device, Failing, Fixed, Tally};
 use std::alloc::Global;
+use std::io::Write;
 
-// Whether a fraction of at most 24 decimals is written as this text.
+// What a write of a fraction of at most 24 decimals answers.
+fn write<W: Write>(number: i128, decimals: u8, out: &mut Tally<W>) -> Result<(), Device> {
+    if decimals > 24 {
+        return Err(Device);
+    }
+    Fixed { number, decimals }.write_text(out)
+}
+
+// Whether a fraction is written as this text.
 fn is_written(alloc: Global, number: i128, decimals: u8, text: &str) -> bool {
-    let fraction = Fixed { number, decimals };
     let mut bytes = Vec::new(alloc);
-    let mut out = Tally::new(&mut bytes, 0);
-    decimals <= 24 && fraction.write_text(&mut out).is_ok() && bytes.as_slice() == text.as_bytes()
+    let answer = write(number, decimals, &mut Tally::new(&mut bytes, 0));
+    answer == Ok(()) && bytes.as_slice() == text.as_bytes()
 }
 
 #[test]
@@ -40,14 +48,10 @@ fn fractions_in_decimal(rt: HostRuntime) {
 // What two writes of -0.5 into the first three bytes answer, and whether the writer has failed between
 // them.
 fn writes_in_three_bytes(page: &mut [u8; 4]) -> (Result<(), Device>, bool, Result<(), Device>) {
-    let half = Fixed {
-        number: -5,
-        decimals: 1,
-    };
     let mut out = Tally::new(&mut page[..3], 0);
-    let first = half.write_text(&mut out);
+    let first = write(-5, 1, &mut out);
     let failed = out.failed();
-    (first, failed, half.write_text(&mut out))
+    (first, failed, write(-5, 1, &mut out))
 }
 
 #[test]

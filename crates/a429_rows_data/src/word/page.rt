@@ -2,18 +2,32 @@
 
 use a429_word::{Page, Tally};
 use std::alloc::{AllocError, Global};
+use std::io::Write;
 use std::test::Fail;
+
+// Whether a text is put on a page.
+fn puts<W: Write>(page: &mut Page, out: &mut Tally<W>, text: &[u8]) -> bool {
+    page.put(out, text).is_ok()
+}
+
+// Whether a number is put on it.
+fn puts_number<W: Write>(page: &mut Page, out: &mut Tally<W>, number: u64) -> bool {
+    page.put_number(out, number).is_ok()
+}
+
+// Whether a page is written.
+fn finishes<W: Write>(page: &mut Page, out: &mut Tally<W>) -> bool {
+    page.finish(out).is_ok()
+}
 
 // Puts a text, a number, a piece as long as the page and another text on a page, and writes it.
 fn put_pieces(alloc: Global, out: &mut Tally<&mut Vec<u8>>) -> Result<bool, AllocError> {
     let mut page = Page::new(alloc)?;
-    Ok(
-        page.put(out, b"time ").is_ok()
-            && page.put_number(out, 18_446_744_073_709_551_615).is_ok()
-            && page.put(out, &[b'x'; 16_384]).is_ok()
-            && page.put(out, b"behind").is_ok()
-            && page.finish(out).is_ok(),
-    )
+    let first = puts(&mut page, out, b"time ");
+    let number = puts_number(&mut page, out, 18_446_744_073_709_551_615);
+    let long = puts(&mut page, out, &[b'x'; 16_384]);
+    let last = puts(&mut page, out, b"behind");
+    Ok(first && number && long && last && finishes(&mut page, out))
 }
 
 #[test]
@@ -32,9 +46,9 @@ fn answers_over_two_bytes(alloc: Global) -> Result<[bool; 3], AllocError> {
     let mut room = [0; 2];
     let mut out = Tally::new(room.as_mut_slice(), 0);
     let mut page = Page::new(alloc)?;
-    let is_put = page.put(&mut out, b"abc").is_ok();
-    let is_written = page.finish(&mut out).is_ok();
-    Ok([is_put, is_written, page.finish(&mut out).is_ok()])
+    let is_put = puts(&mut page, &mut out, b"abc");
+    let is_written = finishes(&mut page, &mut out);
+    Ok([is_put, is_written, finishes(&mut page, &mut out)])
 }
 
 #[test]
