@@ -5,9 +5,9 @@ use a429_link::{Bytes, FileBytes};
 use a429_sample::{ACK, CTS, EOT, NAK, PART, PROFILE, RTS, SOT};
 use a429_word::Tally;
 use std::alloc::{AllocError, Global};
-use std::fmt::Write;
-use std::str;
+use std::fmt::{Debug, Display, Write};
 use std::test::Fail;
+use std::{io, str};
 
 // How many bytes of a text are read at most.
 const MOST: u64 = 1_000_000;
@@ -29,6 +29,11 @@ pub fn number_of(word: &str) -> Option<u32> {
     }
 }
 
+/// A row of a recording.
+pub fn push_row(text: &mut String, time: usize, bus: char, number: u32) -> Result<(), AllocError> {
+    writeln!(text, "{time},{bus},{number:08X}")
+}
+
 /// The recording of these words, with spaces between them: those with the address label of bus B on B, the
 /// others on A.
 pub fn recorded(alloc: Global, words: &str) -> Result<String, Fail> {
@@ -36,7 +41,7 @@ pub fn recorded(alloc: Global, words: &str) -> Result<String, Fail> {
     for (time, word) in words.split(' ').enumerate() {
         let number = number_of(word).ok_or("no word")?;
         let bus = if number & 0xFF == 0xA3 { 'B' } else { 'A' };
-        writeln!(text, "{time},{bus},{number:08X}")?;
+        push_row(&mut text, time, bus, number)?;
     }
     Ok(text)
 }
@@ -50,13 +55,56 @@ pub fn filled(alloc: Global, byte: u8, length: usize) -> Result<Vec<u8>, AllocEr
     Ok(bytes)
 }
 
+/// A value as a test tells it.
+pub fn debug<T: Debug>(alloc: Global, value: &T) -> Result<String, AllocError> {
+    format!(in alloc; "{value:?}")
+}
+
+// A value, and below it a text.
+fn above<T: Display>(alloc: Global, value: &T, text: &str) -> Result<String, AllocError> {
+    format!(in alloc; "{value}\n{text}")
+}
+
 /// The exit status, or the line of the fault, and below it what was written.
 pub fn told(alloc: Global, status: Result<u8, RunFault>, written: &[u8]) -> Result<String, Fail> {
     let text = str::from_utf8(written)?;
     match status {
-        Ok(status) => Ok(format!(in alloc; "{status}\n{text}")?),
-        Err(fault) => Ok(format!(in alloc; "{fault}\n{text}")?),
+        Ok(status) => Ok(above(alloc, &status, text)?),
+        Err(fault) => Ok(above(alloc, &fault, text)?),
     }
+}
+
+/// What `check` answers.
+pub fn check<R: io::Read, C: io::Write, W: io::Write>(
+    alloc: Global,
+    profile: &str,
+    rec: &mut Tally<R>,
+    cert: &mut Tally<C>,
+    out: &mut Tally<W>,
+) -> Result<u8, RunFault> {
+    run_check(alloc, profile.as_bytes(), rec, cert, out)
+}
+
+/// What `verify` answers.
+pub fn verify<R: io::Read, C: io::Read, W: io::Write>(
+    alloc: Global,
+    profile: &str,
+    rec: &mut Tally<R>,
+    cert: &mut Tally<C>,
+    out: &mut Tally<W>,
+) -> Result<u8, RunFault> {
+    run_verify(alloc, profile.as_bytes(), rec, cert, out)
+}
+
+// What `extract` answers.
+fn extract<R: io::Read, C: io::Read, W: io::Write>(
+    alloc: Global,
+    rec: &mut Tally<R>,
+    cert: &mut Tally<C>,
+    files: &mut Vec<FileBytes>,
+    out: &mut Tally<W>,
+) -> Result<u8, RunFault> {
+    run_extract(alloc, PROFILE.as_bytes(), rec, cert, files, out)
 }
 
 /// What a command answers to the recording by the sample profile, and what it writes.
@@ -73,7 +121,7 @@ pub fn checked(alloc: Global, recording: &str) -> (Answered, Vec<u8>) {
     let mut rec = Tally::new(recording.as_bytes(), MOST);
     let mut cert = Tally::new(&mut certificate, 0);
     let mut out = Tally::new(&mut verdict, 0);
-    let status = run_check(alloc, PROFILE.as_bytes(), &mut rec, &mut cert, &mut out);
+    let status = check(alloc, PROFILE, &mut rec, &mut cert, &mut out);
     (Answered { status, verdict }, certificate)
 }
 
@@ -90,7 +138,7 @@ pub fn verified(alloc: Global, recording: &str, certificate: &[u8]) -> Answered 
     let mut rec = Tally::new(recording.as_bytes(), MOST);
     let mut cert = Tally::new(certificate, MOST);
     let mut out = Tally::new(&mut verdict, 0);
-    let status = run_verify(alloc, PROFILE.as_bytes(), &mut rec, &mut cert, &mut out);
+    let status = verify(alloc, PROFILE, &mut rec, &mut cert, &mut out);
     Answered { status, verdict }
 }
 
@@ -115,7 +163,6 @@ pub fn extracted(
     let mut rec = Tally::new(recording.as_bytes(), MOST);
     let mut cert = Tally::new(certificate, MOST);
     let mut out = Tally::new(&mut verdict, 0);
-    let profile = PROFILE.as_bytes();
-    let status = run_extract(alloc, profile, &mut rec, &mut cert, &mut files, &mut out);
+    let status = extract(alloc, &mut rec, &mut cert, &mut files, &mut out);
     Ok((Answered { status, verdict }, files))
 }

@@ -1,6 +1,6 @@
 //! The certificates of recordings of the byte 41, whole and with words missing.
 
-use crate::calls::{check_told, recorded};
+use crate::calls::{check_told, recorded, verify_told};
 use std::alloc::Global;
 use std::test::Fail;
 
@@ -78,5 +78,22 @@ fn file_0_comes_after_file_255(rt: HostRuntime) -> Result<(), Fail> {
     let cases = "\
 2: HEAD255 LOAD ASK START REST DONE LOAD ASK START REST DONE: RTS CTS E0FF0123 PART EOT C5FF01A3 RTS CTS E0000123 PART EOT C50001A3";
     assert_eq!(rt; first_that_differs(rt.alloc(), cases)?, None);
+    Ok(())
+}
+
+// A certificate of these parts is accepted, and no file crosses where these words are recorded.
+fn has_no_file(alloc: Global, parts: &str, words: &str) -> Result<bool, Fail> {
+    let recording = recorded(alloc, words)?;
+    let certificate = text_of(alloc, parts)?;
+    let text = verify_told(alloc, recording.as_str(), certificate.as_bytes())?;
+    Ok(text.as_str() == "0\nYES files 0\n")
+}
+
+// The block is cut off before its data words, which may have been either.
+#[test]
+fn two_runs_of_one_recording(rt: HostRuntime) -> Result<(), Fail> {
+    for parts in ["HEAD FILLED ASK START", "HEAD LOAD ASK START"] {
+        assert!(rt; has_no_file(rt.alloc(), parts, "RTS CTS SOT")?);
+    }
     Ok(())
 }

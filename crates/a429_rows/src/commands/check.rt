@@ -1,7 +1,6 @@
 //! The verdicts on small recordings, and their certificates.
 
-use crate::calls::{YES, check_told, recorded, told, verify_told};
-use a429_check::run_check;
+use crate::calls::{YES, check, check_told, recorded, told, verify_told};
 use a429_sample::{CERTIFICATE, PROFILE, RECORDING};
 use a429_word::{Failing, Tally};
 use std::alloc::Global;
@@ -105,11 +104,28 @@ fn recordings_in_doubt(rt: HostRuntime) -> Result<(), Fail> {
     Ok(())
 }
 
-// A damaged word, and a transfer that begins anew behind its first words.
+// A block that is cut off, one with a damaged word, and the files 255 and 0.
+#[test]
+fn none_and_two_files(rt: HostRuntime) -> Result<(), Fail> {
+    let cases = [
+        ("RTS CTS SOT", "0\nYES files 0\n"),
+        ("RTS CTS 92004123", "0\nYES files 0\n"),
+        (
+            "RTS CTS E0FF0123 PART EOT C5FF01A3 RTS CTS E0000123 PART EOT C50001A3",
+            "0\nYES files 2\nfile 255 1\nfile 0 1\n",
+        ),
+    ];
+    for (words, verdict) in cases {
+        assert!(rt; says(rt.alloc(), words, verdict)?);
+    }
+    Ok(())
+}
+
+// A refused block, and a transfer that begins anew behind its first words.
 #[test]
 fn transfers_that_go_on(rt: HostRuntime) -> Result<(), Fail> {
-    assert!(rt; says(rt.alloc(), "RTS CTS 92004123", "0\nYES files 0\n")?);
-    let cases = "RTS RTS CTS SOT PART EOT ACK
+    let cases = "RTS CTS SOT 92004123 EOT NAK RTS CTS SOT PART EOT ACK
+RTS RTS CTS SOT PART EOT ACK
 RTS CTS RTS CTS SOT PART EOT ACK
 RTS CTS SOT RTS CTS SOT PART EOT ACK
 RTS CTS SOT PART RTS CTS SOT PART EOT ACK
@@ -136,7 +152,7 @@ fn fails(
     let mut rec = Tally::new(recording.as_bytes(), most);
     let mut cert = Tally::new(room.as_mut_slice(), 0);
     let mut out = Tally::new(&mut written, 0);
-    let found = run_check(alloc, profile.as_bytes(), &mut rec, &mut cert, &mut out);
+    let found = check(alloc, profile, &mut rec, &mut cert, &mut out);
     let has_failed = cert.failed();
     let text = told(alloc, found, written.as_slice())?;
     let is_filled = room != [0; 20];

@@ -1,17 +1,28 @@
 //! Which words are a command's.
 
-use a429_check::{RunFault, command};
+use crate::calls::debug;
+use a429_check::{Command, RunFault, command};
 use std::alloc::{AllocError, Global};
 use std::test::Fail;
 
-// What some words mean, with spaces between them.
-fn meaning(alloc: Global, words: &str) -> Result<String, AllocError> {
-    let mut all = Vec::new(alloc);
-    for word in words.split(' ') {
-        all.push(String::from_str(alloc, word)?)?;
+// Which words are a command's.
+fn meant(alloc: Global, words: &[String]) -> Result<Command<'_>, RunFault> {
+    command(alloc, words)
+}
+
+// The words of a line, with spaces between them.
+fn words_of(alloc: Global, line: &str) -> Result<Vec<String>, AllocError> {
+    let mut words = Vec::new(alloc);
+    for word in line.split(' ') {
+        words.push(String::from_str(alloc, word)?)?;
     }
-    let found = command(alloc, all.as_slice());
-    format!(in alloc; "{found:?}")
+    Ok(words)
+}
+
+// What the words of a line mean.
+fn meaning(alloc: Global, line: &str) -> Result<String, AllocError> {
+    let words = words_of(alloc, line)?;
+    debug(alloc, &meant(alloc, &words))
 }
 
 // The first case `WORDS -> MEANING` that is another, counted from 0.
@@ -73,6 +84,5 @@ word -5 -> Err(Usage)";
 
 #[test]
 fn no_words_are_usage(rt: HostRuntime) {
-    let none = Vec::new(rt.alloc());
-    assert!(rt; command(rt.alloc(), none.as_slice()) == Err(RunFault::Usage));
+    assert!(rt; meant(rt.alloc(), &[]) == Err(RunFault::Usage));
 }

@@ -6,11 +6,17 @@ use a429_profile::{Key, LabelKey, ProfileFault, SectionKey};
 use a429_record::ReadFault;
 use a429_word::Tally;
 use std::alloc::Global;
+use std::io::Write;
+
+// The status that the program ends with.
+fn reported<W: Write>(fault: &RunFault, out: &mut Tally<W>) -> u8 {
+    report(fault, out)
+}
 
 // The fault is told by this line, and the program then ends with this status.
 fn tells(alloc: Global, fault: RunFault, line: &str, status: u8) -> bool {
     let mut bytes = Vec::new(alloc);
-    let found = report(&fault, &mut Tally::new(&mut bytes, 0));
+    let found = reported(&fault, &mut Tally::new(&mut bytes, 0));
     found == status && bytes.as_slice() == line.as_bytes()
 }
 
@@ -102,6 +108,6 @@ fn faults_of_documents_and_clashes(rt: HostRuntime) {
 fn a_failing_writer_keeps_the_status(rt: HostRuntime) {
     let mut page = [0; 3];
     let mut err = Tally::new(page.as_mut_slice(), 0);
-    let status = report(&RunFault::BadWord, &mut err);
+    let status = reported(&RunFault::BadWord, &mut err);
     assert!(rt; status == 3 && page.as_slice() == b"bad".as_slice());
 }

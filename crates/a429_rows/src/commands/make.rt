@@ -5,18 +5,34 @@ use a429_check::{RunFault, run_make};
 use a429_record::read_entries;
 use a429_sample::{PROFILE, RECORDING};
 use a429_word::Tally;
-use std::alloc::Global;
+use std::alloc::{AllocError, Global};
+use std::io::Write;
 use std::test::Fail;
 
-// What is told of files of so many bytes, all of them this one.
-fn made(alloc: Global, profile: &str, byte: u8, lengths: &[usize]) -> Result<String, Fail> {
+// What `make` answers.
+fn make<W: Write>(
+    alloc: Global,
+    profile: &str,
+    files: &[Vec<u8>],
+    out: &mut Tally<W>,
+) -> Result<u8, RunFault> {
+    run_make(alloc, profile.as_bytes(), files, out)
+}
+
+// Files of so many bytes, all of them this one.
+fn files_of(alloc: Global, byte: u8, lengths: &[usize]) -> Result<Vec<Vec<u8>>, AllocError> {
     let mut files = Vec::new(alloc);
     for length in lengths {
         files.push(filled(alloc, byte, *length)?)?;
     }
+    Ok(files)
+}
+
+// What is told of such files.
+fn made(alloc: Global, profile: &str, byte: u8, lengths: &[usize]) -> Result<String, Fail> {
+    let files = files_of(alloc, byte, lengths)?;
     let mut written = Vec::new(alloc);
-    let mut out = Tally::new(&mut written, 0);
-    let answer = run_make(alloc, profile.as_bytes(), files.as_slice(), &mut out);
+    let answer = make(alloc, profile, &files, &mut Tally::new(&mut written, 0));
     told(alloc, answer, written.as_slice())
 }
 
@@ -85,7 +101,8 @@ fn no_files(rt: HostRuntime) -> Result<(), Fail> {
 #[test]
 fn refused_files(rt: HostRuntime) -> Result<(), Fail> {
     let alloc = rt.alloc();
-    let is_empty = makes(alloc, PROFILE, 0, &[1, 0], ("file 2: empty\n", ""))?;
+    let is_empty = makes(alloc, PROFILE, 0, &[0], ("file 1: empty\n", ""))?;
+    let has_empty = makes(alloc, PROFILE, 0, &[1, 0], ("file 2: empty\n", ""))?;
     let is_long = makes(alloc, PROFILE, 0, &[161_161], ("file 1: too long\n", ""))?;
     let is_none = makes(
         alloc,
@@ -94,7 +111,16 @@ fn refused_files(rt: HostRuntime) -> Result<(), Fail> {
         &[0],
         ("profile: missing transfer.to_sink\n", ""),
     )?;
-    assert!(rt; is_empty && is_long && is_none);
+    assert!(rt; is_empty && has_empty && is_long && is_none);
+    Ok(())
+}
+
+// One of these files has 255 units, and so 65,790 words with their requests and answers.
+#[test]
+fn files_of_too_many_words(rt: HostRuntime) -> Result<(), Fail> {
+    let lengths = [161_160; 16];
+    let told = ("recording: too many\n", "");
+    assert!(rt; makes(rt.alloc(), PROFILE, 0, &lengths, told)?);
     Ok(())
 }
 
@@ -102,6 +128,6 @@ fn refused_files(rt: HostRuntime) -> Result<(), Fail> {
 fn a_writer_without_room(rt: HostRuntime) {
     let mut short = [0; 5];
     let mut out = Tally::new(short.as_mut_slice(), 0);
-    let answer = run_make(rt.alloc(), PROFILE.as_bytes(), &[], &mut out);
+    let answer = make(rt.alloc(), PROFILE, &[], &mut out);
     assert!(rt; answer == Err(RunFault::Device));
 }

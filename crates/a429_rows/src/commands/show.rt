@@ -5,7 +5,18 @@ use a429_check::{RunFault, run_show};
 use a429_sample::PROFILE;
 use a429_word::Tally;
 use std::alloc::Global;
+use std::io::Write;
 use std::test::Fail;
+
+// What `show` answers.
+fn show<W: Write>(
+    alloc: Global,
+    profile: &str,
+    rec: &mut Tally<&[u8]>,
+    out: &mut Tally<W>,
+) -> Result<u8, RunFault> {
+    run_show(alloc, profile.as_bytes(), rec, out)
+}
 
 // This is shown of a recording, of which at most so many bytes are read, or why it is not.
 fn shows(
@@ -18,7 +29,7 @@ fn shows(
     let mut written = Vec::new(alloc);
     let mut rec = Tally::new(recording.as_bytes(), most);
     let mut out = Tally::new(&mut written, 0);
-    let answer = run_show(alloc, profile.as_bytes(), &mut rec, &mut out);
+    let answer = show(alloc, profile, &mut rec, &mut out);
     Ok(told(alloc, answer, written.as_slice())?.as_str() == text)
 }
 
@@ -108,6 +119,14 @@ fn recordings_with_a_fault(rt: HostRuntime) -> Result<(), Fail> {
         ("0,A,41410323", "recording: header\n"),
         ("time,bus,word", "0\n"),
         (
+            "time,bus,word\n7,A,c1410223\n",
+            "0\n7 A C1410223 304 2 2 no entry\n",
+        ),
+        ("time,bus,word\n0,C,41410323\n", "recording: row 0\n"),
+        ("time,bus,word\n0,A,4141032\n", "recording: row 0\n"),
+        ("time,bus,word\n0,A\n", "recording: row 0\n"),
+        ("time,bus,word\nx,A,41410323\n", "recording: row 0\n"),
+        (
             "time,bus,word\n0,A,E13880C1\n0,C,E13880C1\n",
             "recording: row 1\n",
         ),
@@ -119,6 +138,30 @@ fn recordings_with_a_fault(rt: HostRuntime) -> Result<(), Fail> {
     for (recording, fault) in cases {
         assert!(rt; shows(rt.alloc(), PROFILE, recording, 1000, fault)?);
     }
+    Ok(())
+}
+
+// A recording of so many entries.
+fn many_entries(alloc: Global, count: u32) -> Result<String, Fail> {
+    let mut text = String::from_str(alloc, "time,bus,word\n")?;
+    for _ in 0..count {
+        text.push_str("0,A,41410323\n")?;
+    }
+    Ok(text)
+}
+
+#[test]
+fn a_million_and_one_entries(rt: HostRuntime) -> Result<(), Fail> {
+    let text = many_entries(rt.alloc(), 1_000_001)?;
+    assert!(rt;
+        shows(
+            rt.alloc(),
+            PROFILE,
+            text.as_str(),
+            20_000_000,
+            "recording: too many\n"
+        )?
+    );
     Ok(())
 }
 
@@ -151,6 +194,6 @@ fn a_writer_without_room(rt: HostRuntime) {
     let mut short = [0; 10];
     let mut rec = Tally::new(SHORT.as_bytes(), 28);
     let mut out = Tally::new(short.as_mut_slice(), 0);
-    let answer = run_show(rt.alloc(), PROFILE.as_bytes(), &mut rec, &mut out);
-    assert_eq!(rt; answer, Err(RunFault::Device));
+    let answer = show(rt.alloc(), PROFILE, &mut rec, &mut out);
+    assert!(rt; answer == Err(RunFault::Device));
 }

@@ -1,7 +1,6 @@
 //! The certificate of a file of one byte, and changes of it.
 
-use crate::calls::{YES, told, verify_told};
-use a429_check::run_verify;
+use crate::calls::{YES, told, verify, verify_told};
 use a429_sample::{CERTIFICATE, PROFILE, RECORDING};
 use a429_word::Tally;
 use std::alloc::Global;
@@ -102,7 +101,7 @@ fn fails(alloc: Global, profile: &str, recording: (&str, u64), fault: &str) -> R
     let mut cert = Tally::new(b"".as_slice(), 0);
     let mut written = Vec::new(alloc);
     let mut out = Tally::new(&mut written, 0);
-    let found = run_verify(alloc, profile.as_bytes(), &mut rec, &mut cert, &mut out);
+    let found = verify(alloc, profile, &mut rec, &mut cert, &mut out);
     Ok(told(alloc, found, written.as_slice())?.as_str() == fault)
 }
 

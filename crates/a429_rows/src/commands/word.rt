@@ -4,12 +4,18 @@ use crate::calls::told;
 use a429_check::{RunFault, run_word};
 use a429_word::{Failing, Tally};
 use std::alloc::Global;
+use std::io::Write;
 use std::test::Fail;
 
+// What `word` answers.
+fn word<W: Write>(text: &str, out: &mut Tally<W>) -> Result<u8, RunFault> {
+    run_word(text, out)
+}
+
 // This is told of a word.
-fn says(alloc: Global, word: &str, text: &str) -> Result<bool, Fail> {
+fn says(alloc: Global, hex: &str, text: &str) -> Result<bool, Fail> {
     let mut bytes = Vec::new(alloc);
-    let answer = run_word(word, &mut Tally::new(&mut bytes, 0));
+    let answer = word(hex, &mut Tally::new(&mut bytes, 0));
     Ok(told(alloc, answer, bytes.as_slice())?.as_str() == text)
 }
 
@@ -17,8 +23,8 @@ fn says(alloc: Global, word: &str, text: &str) -> Result<bool, Fail> {
 fn an_altitude(rt: HostRuntime) -> Result<(), Fail> {
     let text =
         "0\nword E13880C1\nbits 11100001001110001000000011000001\nlabel 203\nsdi 0\nssm 3\nparity ok\nbnr 20000\n";
-    for word in ["E13880C1", "e13880c1", "e13880C1"] {
-        assert!(rt; says(rt.alloc(), word, text)?);
+    for hex in ["E13880C1", "e13880c1", "e13880C1"] {
+        assert!(rt; says(rt.alloc(), hex, text)?);
     }
     Ok(())
 }
@@ -43,8 +49,8 @@ fn a_negative_number(rt: HostRuntime) -> Result<(), Fail> {
 #[test]
 fn what_is_no_word(rt: HostRuntime) -> Result<(), Fail> {
     let words = "E13880|E13880C10||E13880G1|0xE13880| E13880C|-5|help|\u{ff25}3880C";
-    for word in words.split('|') {
-        assert!(rt; says(rt.alloc(), word, "bad word\n")?);
+    for text in words.split('|') {
+        assert!(rt; says(rt.alloc(), text, "bad word\n")?);
     }
     Ok(())
 }
@@ -56,7 +62,7 @@ fn is_cut_off(whole: &[u8], room: usize) -> bool {
         return false;
     };
     let mut out = Tally::new(front, 0);
-    let answer = run_word("E13880C1", &mut out);
+    let answer = word("E13880C1", &mut out);
     let has_failed = out.failed();
     answer == Err(RunFault::Device) && has_failed && whole.get(..room) == page.get(..room)
 }
@@ -64,10 +70,9 @@ fn is_cut_off(whole: &[u8], room: usize) -> bool {
 #[test]
 fn a_writer_without_room(rt: HostRuntime) {
     let mut whole = Vec::new(rt.alloc());
-    let answer = run_word("E13880C1", &mut Tally::new(&mut whole, 0));
+    let answer = word("E13880C1", &mut Tally::new(&mut whole, 0));
     assert!(rt; answer == Ok(0) && whole.len() == 94);
-    assert_eq!(rt;
-        (0..94).position(|room| !is_cut_off(whole.as_slice(), room)),
-        None
-    );
+    for room in 0..94 {
+        assert!(rt; is_cut_off(whole.as_slice(), room));
+    }
 }
