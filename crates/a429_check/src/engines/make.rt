@@ -37,7 +37,7 @@ const MOST_UNITS: usize = 255;
 /// Writes the recording of a transfer of these files without loss, an entry each thousandth of a second,
 /// and answers status 0. `profile` is the bytes of its text. Nothing is written where the profile has a
 /// fault, a file is refused, or there are more than 1,000,000 words. The words of one file are held at a
-/// time; after `Device` or `Memory` a front of the recording may have been written.
+/// time: after `Device` or `Memory` some of the recording may have been written.
 pub fn run_make<W: Write>(
     alloc: Global,
     profile: &[u8],
