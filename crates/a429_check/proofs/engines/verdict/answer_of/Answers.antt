@@ -24,3 +24,9 @@ returns-in-Ok-of_certificate-clause-answer g c =
       told = c.in_ok-text.ensures.bytes;
       fault = faulty;
     }
+
+pub returns-in-Ok-clause-says : goal.returns-in-Ok-clause-says
+returns-in-Ok-clause-says g c = record { contents = _; entries = _; is_profile = c.in_ok-profile.ensures.ok; stand = c.in_ok-entries.ensures.ok }
+
+pub returns-in-Ok-of_certificate-clause-says : goal.returns-in-Ok-of_certificate-clause-says
+returns-in-Ok-of_certificate-clause-says g c = record { contents = _; entries = _; is_profile = c.in_ok-profile.ensures.ok; stand = c.in_ok-entries.ensures.ok }
