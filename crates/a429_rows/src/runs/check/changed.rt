@@ -7,6 +7,7 @@ use crate::calls::{checked, extracted, verified};
 use crate::runs::chance::Chance;
 use crate::runs::check::files::{damaged, recording, sample, some_transfer, yes_text};
 use a429_link::Seen;
+use a429_profile::Profile;
 use std::alloc::{AllocError, Global};
 use std::process::Abort;
 use std::test::Fail;
@@ -46,35 +47,61 @@ fn change(
     Ok(())
 }
 
-// Where the recording is explained, the certificate is accepted with the same files.
-fn is_borne_out(rt: &(impl Abort + AllocGlobal), recording: &str) -> Result<(), Fail> {
-    let alloc = rt.alloc();
-    let (found, certificate) = checked(alloc, recording);
-    if found.status != Ok(0) {
-        assert!(rt; found.status == Ok(1) || found.status == Ok(2));
-        assert!(rt; certificate.is_empty());
-        return Ok(());
-    }
-    let answer = verified(alloc, recording, certificate.as_slice());
-    assert_eq!(rt; answer.status, Ok(0));
-    assert_eq!(rt; answer.verdict.as_slice(), found.verdict.as_slice());
-    let (answer, files) = extracted(alloc, recording, certificate.as_slice())?;
-    assert_eq!(rt; answer.status, Ok(0));
-    assert_eq!(rt; answer.verdict.as_slice(), found.verdict.as_slice());
+// The certificate is accepted with this verdict.
+fn is_verified(alloc: Global, recording: &str, certificate: &[u8], verdict: &[u8]) -> bool {
+    let answer = verified(alloc, recording, certificate);
+    answer.status == Ok(0) && answer.verdict.as_slice() == verdict
+}
+
+// Its files are taken out with this verdict, which tells them.
+fn is_extracted(
+    alloc: Global,
+    recording: &str,
+    certificate: &[u8],
+    verdict: &[u8],
+) -> Result<bool, AllocError> {
+    let (answer, files) = extracted(alloc, recording, certificate)?;
     let text = yes_text(alloc, files.as_slice())?;
-    assert_eq!(rt; answer.verdict.as_slice(), text.as_bytes());
-    Ok(())
+    let is_told = answer.status == Ok(0) && answer.verdict.as_slice() == verdict;
+    Ok(is_told && text.as_bytes() == verdict)
+}
+
+// Where the recording is explained, the certificate is accepted with the same files; else there is none.
+fn is_borne_out(alloc: Global, recording: &str) -> Result<bool, AllocError> {
+    let (found, certificate) = checked(alloc, recording);
+    let (lines, verdict) = (certificate.as_slice(), found.verdict.as_slice());
+    match found.status {
+        Ok(0) => Ok(
+            is_verified(alloc, recording, lines, verdict)
+                && is_extracted(alloc, recording, lines, verdict)?,
+        ),
+        Ok(1 | 2) => Ok(lines.is_empty()),
+        _ => Ok(false),
+    }
+}
+
+// A recording is changed, and what the checker answers is borne out.
+fn is_right(
+    rt: &(impl Abort + AllocGlobal),
+    profile: &Profile,
+    chance: &mut Chance,
+) -> Result<bool, AllocError> {
+    let sent = some_transfer(rt, profile, chance)?;
+    let words = changed(rt.alloc(), chance, sent.run.as_slice())?;
+    let text = recording(rt.alloc(), words.as_slice())?;
+    is_borne_out(rt.alloc(), text.as_str())
 }
 
 #[test]
 fn changed_recordings(rt: HostRuntime) -> Result<(), Fail> {
     let profile = sample(&rt);
     let mut chance = Chance::new(1);
+    let mut right = 0u32;
     for _ in 0..1000 {
-        let sent = some_transfer(&rt, &profile, &mut chance)?;
-        let words = changed(rt.alloc(), &mut chance, sent.run.as_slice())?;
-        let text = recording(rt.alloc(), words.as_slice())?;
-        is_borne_out(&rt, text.as_str())?;
+        if is_right(&rt, &profile, &mut chance)? {
+            right = right.saturating_add(1);
+        }
     }
+    assert_eq!(rt; right, 1000);
     Ok(())
 }

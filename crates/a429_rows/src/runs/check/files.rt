@@ -1,5 +1,6 @@
 //! Small files, and the recordings of runs that carry them.
 
+use crate::calls::push_row;
 use crate::runs::chance::Chance;
 use a429_link::{FileBytes, Seen, clean_run};
 use a429_profile::{Profile, read_profile};
@@ -60,7 +61,7 @@ pub(super) fn recording(alloc: Global, words: &[Seen]) -> Result<String, AllocEr
             Bus::A => 'A',
             Bus::B => 'B',
         };
-        writeln!(text, "{time},{bus},{:08X}", seen.word.to_u32())?;
+        push_row(&mut text, time, bus, seen.word.to_u32())?;
     }
     Ok(text)
 }

@@ -3,20 +3,18 @@
 
 ghost use Rattle.std.specs.Prelude.{◌≡◌};
 
+use crate::calls::{checked, extracted};
 use crate::runs::chance::Chance;
-use crate::runs::check::files::sample;
+use crate::runs::check::files::{recording, sample};
 use crate::runs::draft::Draft;
 use crate::runs::source::Source;
 use crate::runs::tried::Move;
 use crate::runs::words::{acknowledgement, clear, refusal};
-use a429_explain::{Certificate, Verdict, check};
 use a429_ldu::cut;
 use a429_link::{FileBytes, Link, Seen, SinkState, StepFault};
 use a429_profile::Profile;
-use a429_record::Entry;
 use a429_word::Bus;
 use std::alloc::{AllocError, Global};
-use std::process::Abort;
 use std::test::Fail;
 
 // What a run has come to, as far as the link does not tell it.
@@ -25,7 +23,7 @@ struct Told {
     source: Source,
     // The answer that is on its way.
     answer: Option<u32>,
-    entries: Vec<Entry>,
+    recorded: Vec<Seen>,
 }
 
 // A run: its link, what it has come to, and whether each step was made, or none of its name was there.
@@ -99,8 +97,8 @@ impl Told {
             Move::LoseAnswer => self.answer = None,
             _ => {}
         }
-        if let Some(Seen { bus, word }) = made.recorded() {
-            self.entries.push(Entry { time: 0, bus, word })?;
+        if let Some(seen) = made.recorded() {
+            self.recorded.push(seen)?;
         }
         Ok(())
     }
@@ -169,43 +167,38 @@ enum Outcome {
     Wrong,
 }
 
-fn judged(
-    rt: &(impl Abort + AllocGlobal),
-    profile: &Profile,
-    entries: &[Entry],
+// The files that a certificate extracts are those that were delivered.
+fn extracts(
+    alloc: Global,
+    recording: &str,
+    certificate: &[u8],
     delivered: &[FileBytes],
-) -> Outcome {
-    match check(rt.alloc(), profile, entries).expect(rt, "memory") {
-        Verdict::Explained { certificate, files } => {
-            if same_files(files.files(), delivered) && is_whole(certificate) {
-                Outcome::Explained(delivered.len())
-            } else {
-                Outcome::Wrong
-            }
-        }
-        Verdict::Unexplained { .. } => Outcome::Unexplained,
-        Verdict::Impossible { .. } => Outcome::Wrong,
+) -> Result<bool, AllocError> {
+    let (answer, files) = extracted(alloc, recording, certificate)?;
+    Ok(answer.status == Ok(0) && same_files(files.as_slice(), delivered))
+}
+
+fn judged(alloc: Global, recorded: &[Seen], delivered: &[FileBytes]) -> Result<Outcome, Fail> {
+    let text = recording(alloc, recorded)?;
+    let (found, certificate) = checked(alloc, text.as_str());
+    if found.status == Ok(2) {
+        return Ok(Outcome::Unexplained);
+    }
+    let is_read = extracts(alloc, text.as_str(), certificate.as_slice(), delivered)?;
+    if found.status == Ok(0) && is_read {
+        Ok(Outcome::Explained(delivered.len()))
+    } else {
+        Ok(Outcome::Wrong)
     }
 }
 
-// The text that a certificate lends is as long as the one that it gives away, which begins as a certificate does.
-fn is_whole(certificate: Certificate) -> bool {
-    let length = certificate.as_slice().len();
-    let text = certificate.into_vec();
-    text.len() == length && text.as_slice().starts_with(b"arinc429-cert 1\n")
-}
-
 // A run of up to 200 steps.
-fn trial(
-    rt: &(impl Abort + AllocGlobal),
-    profile: &Profile,
-    chance: &mut Chance,
-) -> Result<Outcome, Fail> {
+fn trial(rt: &impl AllocGlobal, profile: &Profile, chance: &mut Chance) -> Result<Outcome, Fail> {
     let file = chance.below(256) as u8;
     let told = Told {
         source: Source::new(file, 1),
         answer: None,
-        entries: Vec::new(rt.alloc()),
+        recorded: Vec::new(rt.alloc()),
     };
     let mut run = Run {
         profile,
@@ -217,11 +210,10 @@ fn trial(
         run.go(rt.alloc(), chance)?;
     }
     let outcome = judged(
-        rt,
-        profile,
-        run.told.entries.as_slice(),
+        rt.alloc(),
+        run.told.recorded.as_slice(),
         run.link.delivered(),
-    );
+    )?;
     Ok(if run.is_right {
         outcome
     } else {
