@@ -1,10 +1,11 @@
 //! Lines of certificates, and texts that are no line.
 
 use a429_cert::{Act, CertLine, OutOfMemory, Words, read_line, write_line};
+use a429_explain::Certificate;
 use a429_link::{SinkState, SourceState};
 use a429_sample::CERTIFICATE;
 use a429_word::Word;
-use std::alloc::Global;
+use std::alloc::{AllocError, Global};
 use std::test::Fail;
 
 // The ends of the ranges.
@@ -119,15 +120,24 @@ fn bytes_that_end_no_line(rt: HostRuntime) {
     }
 }
 
+// The line of a text.
+fn line_of(alloc: Global, text: &str) -> Option<CertLine> {
+    read_line(alloc, text.as_bytes()).ok()?
+}
+
+// The number of the first file that a line tells.
+fn first_of(line: &CertLine) -> Option<u8> {
+    match *line {
+        CertLine::First(number) => Some(number),
+        _ => None,
+    }
+}
+
 #[test]
 fn values_of_lines(rt: HostRuntime) -> Result<(), Fail> {
-    assert!(rt;
-        matches!(
-            read_line(rt.alloc(), b"first 12")?,
-            Some(CertLine::First(12))
-        )
-    );
-    let line = read_line(rt.alloc(), b"k S1 c 2 3")?.ok_or("a line")?;
+    let first = line_of(rt.alloc(), "first 12").ok_or("a line")?;
+    assert!(rt; first_of(&first) == Some(12));
+    let line = line_of(rt.alloc(), "k S1 c 2 3").ok_or("a line")?;
     let step = (
         Act::SinkTakes,
         SourceState::Sending(1),
@@ -139,23 +149,39 @@ fn values_of_lines(rt: HostRuntime) -> Result<(), Fail> {
     Ok(())
 }
 
+// Whether these are the numbers of a load of one word, this one, also once its words are given away.
+fn is_load(line: CertLine, numbers: (u8, u8, u16), number: u32) -> bool {
+    let CertLine::Load {
+        gfi,
+        flags,
+        check,
+        words,
+    } = line
+    else {
+        return false;
+    };
+    let word = [Word::from_u32(number)];
+    let is_same = (gfi, flags, check) == numbers && words.as_slice() == word.as_slice();
+    let given = Words::new(words.into_vec());
+    is_same && given.as_slice().len() == 1
+}
+
 #[test]
 fn words_of_a_load(rt: HostRuntime) -> Result<(), Fail> {
-    let line = read_line(rt.alloc(), b"L 2 1 A3F5 12004123")?;
-    let Some(
-        CertLine::Load {
-            gfi: 2,
-            flags: 1,
-            check: 0xA3F5,
-            words,
-        },
-    ) = line
-    else {
-        return Err(Fail::from("the bytes are a line"));
-    };
-    let word = [Word::from_u32(0x1200_4123)];
-    assert!(rt; words.as_slice() == word.as_slice());
-    let words = Words::new(words.into_vec());
-    assert!(rt; words.as_slice().len() == 1);
+    let line = line_of(rt.alloc(), "L 2 1 A3F5 12004123").ok_or("a line")?;
+    assert!(rt; is_load(line, (2, 1, 0xA3F5), 0x1200_4123));
     Ok(())
+}
+
+// A certificate of this text lends it, and gives it away.
+fn is_given_away(alloc: Global, text: &str) -> Result<bool, AllocError> {
+    let certificate = Certificate::new(Vec::from_slice(alloc, text.as_bytes())?);
+    let is_lent = certificate.as_slice() == text.as_bytes();
+    let given = certificate.into_vec();
+    Ok(is_lent && given.as_slice() == text.as_bytes())
+}
+
+#[test]
+fn text_of_a_certificate(rt: HostRuntime) {
+    assert!(rt; is_given_away(rt.alloc(), CERTIFICATE) == Ok(true));
 }

@@ -1,14 +1,15 @@
 //! Changed certificates of the transfer of one byte, held against its recording.
 
-use a429_cert::verify;
-use a429_profile::{Profile, read_profile};
+use crate::calls::debug;
+use a429_cert::{CertFault, Verified, verify};
+use a429_profile::read_profile;
 use a429_record::Entry;
 use a429_sample::{ACK, CERTIFICATE, CTS, EOT, PART, PROFILE, RTS, SOT};
 use a429_word::{Bus, Word};
 use std::alloc::{AllocError, Global};
 
 // How many files a certificate lends, and what it gives away: file 1, with the byte 41, 65 in decimal.
-const ONE_FILE: &str = "1 [FileBytes { number: 1, bytes: Bytes { bytes: [65] } }]";
+const ONE_FILE: &str = "(1, [FileBytes { number: 1, bytes: Bytes { bytes: [65] } }])";
 
 fn entry(time: u64, bus: Bus, word: u32) -> Entry {
     Entry {
@@ -50,27 +51,36 @@ fn changed(alloc: Global, start: usize, end: usize, text: &str) -> Result<String
     Ok(certificate)
 }
 
-// The fault of a certificate, or how many files it lends and which it gives away.
-fn verdict(
+// What is said of a certificate under the sample profile, held against the first entries of the recording with
+// this request.
+fn judged(
     alloc: Global,
-    profile: &Profile,
-    entries: &[Entry],
+    request: u32,
+    count: usize,
     certificate: &str,
-) -> Result<String, AllocError> {
-    match verify(alloc, profile, entries, certificate.as_bytes()) {
-        Ok(verified) => {
-            let count = verified.files().len();
-            format!(in alloc; "{count} {:?}", verified.into_files())
-        }
-        Err(fault) => format!(in alloc; "{fault:?}"),
-    }
-}
-
-// The same, held against the first entries of the recording with this request.
-fn verdict_on(alloc: Global, request: u32, count: usize, certificate: &str) -> Option<String> {
+) -> Option<Result<Verified, CertFault>> {
     let profile = read_profile(alloc, PROFILE).ok()?;
     let entries = recording(request);
-    verdict(alloc, &profile, entries.get(..count)?, certificate).ok()
+    Some(verify(
+        alloc,
+        &profile,
+        entries.get(..count)?,
+        certificate.as_bytes(),
+    ))
+}
+
+// How many files are lent, and which are given away.
+fn files_of(alloc: Global, verified: Verified) -> Result<String, AllocError> {
+    let count = verified.files().len();
+    debug(alloc, &(count, verified.into_files()))
+}
+
+// The fault of a certificate, or its files.
+fn verdict_on(alloc: Global, request: u32, count: usize, certificate: &str) -> Option<String> {
+    match judged(alloc, request, count, certificate)? {
+        Ok(verified) => files_of(alloc, verified).ok(),
+        Err(fault) => debug(alloc, &fault).ok(),
+    }
 }
 
 // Whether this is the verdict on the certificate with a text in the place of lines, held against the first
@@ -127,7 +137,7 @@ fn changed_certificates(rt: HostRuntime) {
 #[test]
 fn nothing_recorded(rt: HostRuntime) {
     let whole = (0, 15, "arinc429-cert 1\nfirst 0\n");
-    assert!(rt; is_verdict(rt.alloc(), (RTS, 0), whole, "0 []"));
+    assert!(rt; is_verdict(rt.alloc(), (RTS, 0), whole, "(0, [])"));
 }
 
 #[test]

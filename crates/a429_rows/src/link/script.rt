@@ -5,6 +5,7 @@ ghost use Rattle.a429_profile.specs.Contents.{Contents};
 ghost use Rattle.a429_ldu.specs.Ldu.{IsLdu};
 ghost use Rattle.a429_link.specs.Step.{LoadsLdu};
 
+use crate::calls::debug;
 use a429_ldu::Ldu;
 use a429_link::{FileBytes, Link, Seen, Step};
 use a429_profile::Profile;
@@ -55,10 +56,10 @@ impl<'a> Stage<'a> {
 
     fn answer(&mut self, name: &str) -> Result<String, AllocError> {
         match name {
-            "states" => format!(in self.alloc; "{:?}", self.link.states()),
-            "delivered" => format!(in self.alloc; "{:?}", self.link.delivered()),
-            "take_delivered" => format!(in self.alloc; "{:?}", self.taken()),
-            "255 open units cross" => format!(in self.alloc; "{}", self.open_units_cross()),
+            "states" => debug(self.alloc, &self.link.states()),
+            "delivered" => debug(self.alloc, &self.link.delivered()),
+            "take_delivered" => debug(self.alloc, &self.taken()),
+            "255 open units cross" => debug(self.alloc, &self.open_units_cross()),
             _ => self.step_answer(name),
         }
     }
@@ -70,7 +71,7 @@ impl<'a> Stage<'a> {
     // What the link answers to a step.
     fn step_answer(&mut self, text: &str) -> Result<String, AllocError> {
         match step(self.alloc, self.profile, text) {
-            Some(step) => format!(in self.alloc; "{:?}", self.link.apply(step)),
+            Some(step) => debug(self.alloc, &self.link.apply(step)),
             None => String::from_str(self.alloc, "no step"),
         }
     }
