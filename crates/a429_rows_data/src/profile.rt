@@ -9,6 +9,7 @@ use std::test::Fail;
 
 mod clashes;
 mod documents;
+mod held;
 mod label_keys;
 mod sample;
 mod section_keys;
