@@ -2,8 +2,8 @@
 #![tactic(auto)]
 
 use a429_check::{
-    Command, RunFault, command, read_whole, report, run_check, run_extract, run_labels, run_make,
-    run_show, run_verify, run_word,
+    Claim, Command, RunFault, command, read_whole, report, run_check, run_extract, run_labels,
+    run_make, run_show, run_verify, run_word,
 };
 use a429_link::FileBytes;
 use a429_word::{Failing, Tally};
@@ -41,22 +41,9 @@ fn run(rt: &(impl Files + Env + Print + AllocGlobal)) -> Result<u8, RunFault> {
         }
         Command::Show { profile, recording } => show(rt, alloc, profile, recording, &mut out)?,
         Command::Make { profile, files } => make(rt, alloc, profile, files.as_slice(), &mut out)?,
-        Command::Check {
-            profile,
-            recording,
-            certificate,
-        } => check(rt, alloc, profile, recording, certificate, &mut out)?,
-        Command::Verify {
-            profile,
-            recording,
-            certificate,
-        } => verify(rt, alloc, profile, recording, certificate, &mut out)?,
-        Command::Extract {
-            profile,
-            recording,
-            certificate,
-            folder,
-        } => extract(rt, alloc, profile, recording, certificate, folder, &mut out)?,
+        Command::Check(claim) => check(rt, alloc, claim, &mut out)?,
+        Command::Verify(claim) => verify(rt, alloc, claim, &mut out)?,
+        Command::Extract { claim, folder } => extract(rt, alloc, claim, folder, &mut out)?,
     };
     out.flush().map_err(|_| RunFault::Device)?;
     Ok(status)
@@ -89,43 +76,37 @@ fn make<W: Write>(
 fn check<W: Write>(
     rt: &impl Files,
     alloc: Global,
-    profile: &str,
-    recording: &str,
-    certificate: &str,
+    claim: Claim<'_>,
     out: &mut Tally<W>,
 ) -> Result<u8, RunFault> {
-    let profile = bytes_of(rt, alloc, profile)?;
-    let mut rec = opened(rt, recording, CAP)?;
-    let mut cert = created(rt, certificate)?;
+    let profile = bytes_of(rt, alloc, claim.profile)?;
+    let mut rec = opened(rt, claim.recording, CAP)?;
+    let mut cert = created(rt, claim.certificate)?;
     run_check(alloc, profile.as_slice(), &mut rec, &mut cert, out)
 }
 
 fn verify<W: Write>(
     rt: &impl Files,
     alloc: Global,
-    profile: &str,
-    recording: &str,
-    certificate: &str,
+    claim: Claim<'_>,
     out: &mut Tally<W>,
 ) -> Result<u8, RunFault> {
-    let profile = bytes_of(rt, alloc, profile)?;
-    let mut rec = opened(rt, recording, CAP)?;
-    let mut cert = opened(rt, certificate, CERTIFICATE_CAP)?;
+    let profile = bytes_of(rt, alloc, claim.profile)?;
+    let mut rec = opened(rt, claim.recording, CAP)?;
+    let mut cert = opened(rt, claim.certificate, CERTIFICATE_CAP)?;
     run_verify(alloc, profile.as_slice(), &mut rec, &mut cert, out)
 }
 
 fn extract<W: Write>(
     rt: &impl Files,
     alloc: Global,
-    profile: &str,
-    recording: &str,
-    certificate: &str,
+    claim: Claim<'_>,
     folder: &str,
     out: &mut Tally<W>,
 ) -> Result<u8, RunFault> {
-    let profile = bytes_of(rt, alloc, profile)?;
-    let mut rec = opened(rt, recording, CAP)?;
-    let mut cert = opened(rt, certificate, CERTIFICATE_CAP)?;
+    let profile = bytes_of(rt, alloc, claim.profile)?;
+    let mut rec = opened(rt, claim.recording, CAP)?;
+    let mut cert = opened(rt, claim.certificate, CERTIFICATE_CAP)?;
     let mut files = Vec::new(alloc);
     let mut verdict = Vec::new(alloc);
     let mut told = Tally::new(&mut verdict, 0);

@@ -1,10 +1,11 @@
 -- A certificate that explains a recording has no first fault.
 use Rattle.std.proofs.Common.{◌≡◌, ◌⊎◌, inl, inr, ℕ, zero, suc, ◌+◌, ◌≤◌, List, [], ◌∷◌, take, drop, Option, Some, None, slice_get, refl, sym, ap, ◌∙◌, subst, arith}
-use Rattle.a429_profile.specs.Contents.{Contents}
+use Rattle.a429_profile.specs.Profile.{Contents}
 use Rattle.a429_link.specs.declared.seen.Seen.{Seen}
 use Rattle.a429_link.specs.declared.step.Step.{Step}
 use Rattle.a429_link.specs.declared.step.Step.TheVariants as step
-use Rattle.a429_link.specs.Step.{State, start, after, label}
+use Rattle.a429_link.specs.Step.{after, label}
+use Rattle.a429_link.specs.State.{start, State}
 use Rattle.a429_link.specs.Run.{end_of, with_label, trace}
 use Rattle.a429_cert.specs.declared.act.Act.{Act}
 use Rattle.a429_cert.specs.declared.act.Act.TheVariants as act
@@ -12,14 +13,13 @@ use Rattle.a429_cert.specs.declared.line.CertLine.{CertLine}
 use Rattle.a429_cert.specs.declared.line.CertLine.TheVariants.{First, Load, Moved}
 use Rattle.a429_cert.specs.declared.fault.CertFault.{CertFault}
 use Rattle.a429_cert.specs.declared.fault.CertFault.TheVariants as of
-use Rattle.a429_cert.specs.Line.{spelling, Spells}
-use Rattle.a429_cert.specs.Lines.{lines_of}
-use Rattle.a429_cert.specs.Explained.{step_with, step_of, Shows, TellsStep, Tells, Explains}
-use Rattle.a429_cert.specs.Fault.{HasVersion, HasFirst, IsOfAStep, IsFaultOfStep, IsFaultOfLine, IsFaultAt, IsLaterFault, IsFirstFault}
-use Rattle.a429_cert.proofs.Lines.{one-line}
-
-some_is : {X : Type 0} (a b : X) → Some a ≡ Some b → a ≡ b
-some_is a b e = cc
+use Rattle.a429_cert.specs.Line.{spelling, SpellsLine}
+use Rattle.a429_cert.specs.Lines.{certificate_lines}
+use Rattle.a429_cert.specs.Explained.{ldu_of, step_of, ShowsStates, ListsStep, ListsSteps, Explains}
+use Rattle.a429_cert.specs.Act.{step_with}
+use Rattle.a429_cert.specs.Fault.{HasVersion, HasFirst, IsOfAStep, IsFaultOfStep, IsFaultOfLine, IsFaultAt, IsLaterFault, IsFirstCertFault}
+use Rattle.a429_cert.proofs.ReadingFacts.{one-line}
+use Rattle.a429_cert.proofs.Options.{some_is}
 
 -- ---- two steps of one line
 
@@ -52,8 +52,8 @@ alike act.Silent next other a b e h = silent step.Silent a b refl e h
 
 line_alike : (l : CertLine) (next other : Option Seen) (a b : Step) → step_of l next ≡ Some a → step_of l other ≡ Some b → Alike a b
 line_alike (First file) next other a b e h = absurd (cc e)
-line_alike (Load gfi flags check words) next other a b e h = silent (step.Load (record { gfi = gfi; flags = flags; check = check; words = words })) a b refl e h
-line_alike (Moved x source sink to_sink to_source) next other a b e h = alike x next other a b e h
+line_alike (Load u) next other a b e h = silent (step.Load (ldu_of u)) a b refl e h
+line_alike (Moved m) next other a b e h = alike m.act next other a b e h
 
 -- the first of two runs that begin with them: they are one, and the rest is alike
 record Same (a b : Step) (xs ys : List Step) (i : ℕ) : Type 0 where
@@ -104,30 +104,30 @@ own_act act.Silent next a xs i e q = e
 
 own_step : (l : CertLine) (next : Option Seen) (a : Step) (xs : List Step) (i : ℕ) → step_of l next ≡ Some a → [] ≡ take i (trace (a ∷ xs)) → step_of l (slice_get (trace (a ∷ xs)) i) ≡ Some a
 own_step (First file) next a xs i e q = absurd (cc e)
-own_step (Load gfi flags check words) next a xs i e q = e
-own_step (Moved x source sink to_sink to_source) next a xs i e q = own_act x next a xs i e q
+own_step (Load u) next a xs i e q = e
+own_step (Moved m) next a xs i e q = own_act m.act next a xs i e q
 
 is_of_a_step : (l : CertLine) (next : Option Seen) (a : Step) → step_of l next ≡ Some a → IsOfAStep l
 is_of_a_step (First file) next a e = absurd (cc e)
-is_of_a_step (Load gfi flags check words) next a e = tt
-is_of_a_step (Moved x source sink to_sink to_source) next a e = tt
+is_of_a_step (Load u) next a e = tt
+is_of_a_step (Moved m) next a e = tt
 
-sound_step : (p : Contents) (s : State) (text : List ℕ) (a : Step) (next : Option Seen) (n i : ℕ) (f : CertFault) → (t : TellsStep p text a s) → step_of t.line next ≡ Some a → IsFaultOfStep p s next n i t.line f → ⊥
+sound_step : (p : Contents) (s : State) (text : List ℕ) (a : Step) (next : Option Seen) (n i : ℕ) (f : CertFault) → (t : ListsStep p text a s) → step_of t.line next ≡ Some a → IsFaultOfStep p s next n i t.line f → ⊥
 sound_step p s text a next n i (of.NotAllowed m) t own d = d.1 (t.next, (a, t.step, t.can))
 sound_step p s text a next n i (of.WordDiffers m j) t own d = d.3 (a, own, t.can)
 sound_step p s text a next n i (of.StateDiffers m) t own d =
     let same : a ≡ d.1 = some_is a d.1 (sym own ∙ d.2) in
-    d.4 (subst (λ b. Shows t.line (after p b s)) same t.shows)
+    d.4 (subst (λ b. ShowsStates t.line (after p b s)) same t.shows)
 sound_step p s text a next n i (of.Line m) t own d = d
 sound_step p s text a next n i of.Version t own d = d
 sound_step p s text a next n i (of.Unfinished m) t own d = d
 sound_step p s text a next n i of.OutOfMemory t own d = d
 
-of_line : (p : Contents) (s : State) (text : List ℕ) (a : Step) (next : Option Seen) (n i : ℕ) (f : CertFault) → (t : TellsStep p text a s) → step_of t.line next ≡ Some a
-    → (l : CertLine) × Spells text l × IsOfAStep l × IsFaultOfStep p s next n i l f → ⊥
+of_line : (p : Contents) (s : State) (text : List ℕ) (a : Step) (next : Option Seen) (n i : ℕ) (f : CertFault) → (t : ListsStep p text a s) → step_of t.line next ≡ Some a
+    → (l : CertLine) × SpellsLine text l × IsOfAStep l × IsFaultOfStep p s next n i l f → ⊥
 of_line p s text a next n i f t own d = sound_step p s text a next n i f t own (subst (λ l. IsFaultOfStep p s next n i l f) (one-line text d.0 t.line d.1 t.spelled) d.3)
 
-sound_line : (p : Contents) (s : State) (text : List ℕ) (a : Step) (next : Option Seen) (n i : ℕ) (f : CertFault) → (t : TellsStep p text a s) → step_of t.line next ≡ Some a → IsFaultOfLine p s next n i (Some text) f → ⊥
+sound_line : (p : Contents) (s : State) (text : List ℕ) (a : Step) (next : Option Seen) (n i : ℕ) (f : CertFault) → (t : ListsStep p text a s) → step_of t.line next ≡ Some a → IsFaultOfLine p s next n i (Some text) f → ⊥
 sound_line p s text a next n i (of.Line m) t own d = d.1 t.line (is_of_a_step t.line t.next a t.step) t.spelled
 sound_line p s text a next n i (of.NotAllowed m) t own d = of_line p s text a next n i (of.NotAllowed m) t own d
 sound_line p s text a next n i (of.WordDiffers m j) t own d = of_line p s text a next n i (of.WordDiffers m j) t own d
@@ -138,7 +138,7 @@ sound_line p s text a next n i of.OutOfMemory t own d = d.3
 
 -- ---- lines that are all steps
 
-clash : (p : Contents) (lines : List (Option (List ℕ))) (xs ys : List Step) (s : State) (n i m j : ℕ) (f : CertFault) → Tells p lines xs s → Tells p (take n lines) ys s → trace ys ≡ take i (trace xs)
+clash : (p : Contents) (lines : List (Option (List ℕ))) (xs ys : List Step) (s : State) (n i m j : ℕ) (f : CertFault) → ListsSteps p lines xs s → ListsSteps p (take n lines) ys s → trace ys ≡ take i (trace xs)
     → IsFaultAt p (end_of p ys s) (slice_get (trace xs) i) m j (slice_get lines n) f → ⊥
 clash p [] [] ys s n i m j f h k e d = none ys (slice_get (trace []) i) refl d
   where
@@ -154,8 +154,8 @@ clash p (Some text ∷ lines) (a ∷ xs) [] s (suc n) i m j f h k e d = absurd k
 clash p (Some text ∷ lines) (a ∷ xs) (b ∷ ys) s (suc n) i m j f h k e d =
     let other : step_of h.0.line k.0.next ≡ Some b = subst (λ l. step_of l k.0.next ≡ Some b) (one-line text k.0.line h.0.line k.0.spelled h.0.spelled) k.0.step in
     let r = heads a b xs ys i (line_alike h.0.line h.0.next k.0.next a b h.0.step other) e in
-    let tells = subst (λ c. Tells p (take n lines) ys (after p c s)) r.same k.1 in
-    clash p lines xs ys (after p a s) n r.k m j f h.1 tells r.rest (subst (λ o. IsFaultAt p (end_of p ys (after p a s)) o m j (slice_get lines n) f) r.next (subst (λ c. IsFaultAt p (end_of p ys (after p c s)) (slice_get (trace (a ∷ xs)) i) m j (slice_get lines n) f) r.same d))
+    let lists = subst (λ c. ListsSteps p (take n lines) ys (after p c s)) r.same k.1 in
+    clash p lines xs ys (after p a s) n r.k m j f h.1 lists r.rest (subst (λ o. IsFaultAt p (end_of p ys (after p a s)) o m j (slice_get lines n) f) r.next (subst (λ c. IsFaultAt p (end_of p ys (after p c s)) (slice_get (trace (a ∷ xs)) i) m j (slice_get lines n) f) r.same d))
 
 -- ---- the whole
 
@@ -166,15 +166,15 @@ same_first first other l m e =
 
 later_fault : (p : Contents) (certificate : List ℕ) (items : List Seen) (first : ℕ) (steps : List Step) (f : CertFault) → Explains p certificate items first steps → IsLaterFault p certificate items f → ⊥
 later_fault p certificate items first steps f h k =
-    let own : slice_get (lines_of certificate) 1 ≡ Some (Some (spelling (First first))) = ap (λ (l : List (Option (List ℕ))). slice_get l 1) h.header in
+    let own : slice_get (certificate_lines certificate) 1 ≡ Some (Some (spelling (First first))) = ap (λ (l : List (Option (List ℕ))). slice_get l 1) h.header in
     let same : k.first ≡ first = same_first k.first first k.has_first.0 h.byte (some_is _ _ (some_is _ _ (sym k.has_first.1 ∙ own))) in
-    let lines : drop 2 (lines_of certificate) ≡ h.lines = ap (drop 2) h.header in
+    let lines : drop 2 (certificate_lines certificate) ≡ h.lines = ap (drop 2) h.header in
     let before = k.before in
-    let tells : Tells p (take k.k h.lines) before.steps (start p first) = subst (λ n. Tells p (take k.k h.lines) before.steps (start p n)) same (subst (λ (l : List (Option (List ℕ))). Tells p (take k.k l) before.steps (start p k.first)) lines before.tells) in
+    let lists : ListsSteps p (take k.k h.lines) before.steps (start p first) = subst (λ n. ListsSteps p (take k.k h.lines) before.steps (start p n)) same (subst (λ (l : List (Option (List ℕ))). ListsSteps p (take k.k l) before.steps (start p k.first)) lines before.lists) in
     let ends : k.state ≡ end_of p before.steps (start p first) = before.ends ∙ ap (λ n. end_of p before.steps (start p n)) same in
     let fault : IsFaultAt p (end_of p before.steps (start p first)) (slice_get (trace steps) k.i) (k.k + 3) k.i (slice_get h.lines k.k) f =
-    subst (λ (l : List Seen). IsFaultAt p (end_of p before.steps (start p first)) (slice_get l k.i) (k.k + 3) k.i (slice_get h.lines k.k) f) (sym h.used) (subst (λ (l : List (Option (List ℕ))). IsFaultAt p (end_of p before.steps (start p first)) (slice_get items k.i) (k.k + 3) k.i (slice_get l k.k) f) lines (subst (λ t. IsFaultAt p t (slice_get items k.i) (k.k + 3) k.i (slice_get (drop 2 (lines_of certificate)) k.k) f) ends k.fault)) in
-    clash p h.lines steps before.steps (start p first) k.k k.i (k.k + 3) k.i f h.tells tells (before.used ∙ ap (take k.i) (sym h.used)) fault
+    subst (λ (l : List Seen). IsFaultAt p (end_of p before.steps (start p first)) (slice_get l k.i) (k.k + 3) k.i (slice_get h.lines k.k) f) (sym h.used) (subst (λ (l : List (Option (List ℕ))). IsFaultAt p (end_of p before.steps (start p first)) (slice_get items k.i) (k.k + 3) k.i (slice_get l k.k) f) lines (subst (λ t. IsFaultAt p t (slice_get items k.i) (k.k + 3) k.i (slice_get (drop 2 (certificate_lines certificate)) k.k) f) ends k.fault)) in
+    clash p h.lines steps before.steps (start p first) k.k k.i (k.k + 3) k.i f h.lists lists (before.used ∙ ap (take k.i) (sym h.used)) fault
 
 no_other : (p : Contents) (certificate : List ℕ) (items : List Seen) (first : ℕ) (steps : List Step) (f : CertFault) → Explains p certificate items first steps
     → HasVersion certificate × ((((n : ℕ) → ¬ HasFirst certificate n) × (f ≡ of.Line 2)) ⊎ IsLaterFault p certificate items f) → ⊥
@@ -184,7 +184,7 @@ no_other p certificate items first steps f h d = either d.1
     either (inl k) = k.0 first (h.byte, ap (λ (l : List (Option (List ℕ))). slice_get l 1) h.header)
     either (inr k) = later_fault p certificate items first steps f h k
 
-pub no_fault : (p : Contents) (certificate : List ℕ) (items : List Seen) (first : ℕ) (steps : List Step) (f : CertFault) → Explains p certificate items first steps → IsFirstFault p certificate items f → ⊥
+pub no_fault : (p : Contents) (certificate : List ℕ) (items : List Seen) (first : ℕ) (steps : List Step) (f : CertFault) → Explains p certificate items first steps → IsFirstCertFault p certificate items f → ⊥
 no_fault p certificate items first steps of.Version h d = d (ap (λ (l : List (Option (List ℕ))). slice_get l 0) h.header)
 no_fault p certificate items first steps of.OutOfMemory h d = d
 no_fault p certificate items first steps (of.Line n) h d = no_other p certificate items first steps (of.Line n) h d

@@ -1,11 +1,16 @@
 -- Steps that give a value, none or an error.
-use Rattle.std.proofs.Common.{◌≡◌, ◌⊎◌, inl, inr, if◌then◌else◌, Bool, true, false, Option, Some, None, Result, Ok, Err, OnErr, refl}
-use Rattle.a429_cert.specs.Reading.{◌>>=◌, when}
+use Rattle.std.proofs.Common.{◌≡◌, ◌⊎◌, inl, inr, if◌then◌else◌, Bool, true, false, Option, Some, None, option_map, Result, Ok, Err, OnErr, refl}
+use Rattle.a429_cert.specs.Field.{when, ◌>>=◌}
 
 -- the value of a step that gave one
 pub bind_some : {A B : Type 0} (o : Option A) (f : A → Option B) (y : B) → (o >>= f) ≡ Some y → (x : A) × (o ≡ Some x) × (f x ≡ Some y)
 bind_some (Some x) f y e = (x, refl, e)
 bind_some None f y e = absurd cc
+
+-- the value of a step that was changed
+pub mapped : {A B : Type 0} (f : A → B) (o : Option A) (y : B) → option_map f o ≡ Some y → (x : A) × (o ≡ Some x) × (f x ≡ y)
+mapped f (Some x) y e = (x, refl, cc)
+mapped f None y e = absurd cc
 
 pub when_some : {A : Type 0} (test : Bool) (x y : A) → when test x ≡ Some y → (test ≡ true) × (x ≡ y)
 when_some true x y e = (refl, cc)

@@ -1,6 +1,8 @@
+pub mod Field
+pub mod Act
+pub mod States
 pub mod Line
 pub mod Reading
-pub mod Parts
 pub mod Writing
 pub mod Lines
 pub mod Explained

@@ -1,6 +1,6 @@
 -- The lines of a certificate (profile).
-use Rattle.a429_cert.specs.declared.certificate.TextLine.{TextLine}
-use Rattle.a429_cert.specs.declared.certificate.TextLine.TheVariants.{Ended, Unended}
+use Rattle.a429_cert.specs.declared.lines.TextLine.{TextLine}
+use Rattle.a429_cert.specs.declared.lines.TextLine.TheVariants.{Ended, Unended}
 use Rattle.std.specs.Prelude.{ℕ, List, [], ◌∷◌, ◌==◌, if◌then◌else◌, codes, Option, Some, None, option_map}
 
 -- a text of this byte and of what these lines are the lines of; behind its last line feed it is in a line that has no end
@@ -9,15 +9,15 @@ begun_with b [] = None ∷ []
 begun_with b (line ∷ lines) = option_map (λ text. b ∷ text) line ∷ lines
 
 -- the lines of a text, each without its line feed, and none for a last line that has no line feed
-abbrev pub lines_of : List ℕ → List (Option (List ℕ))
-lines_of [] = []
-lines_of (b ∷ bs) = if b == 10 then Some [] ∷ lines_of bs else begun_with b (lines_of bs)
+abbrev pub certificate_lines : List ℕ → List (Option (List ℕ))
+certificate_lines [] = []
+certificate_lines (b ∷ bs) = if b == 10 then Some [] ∷ certificate_lines bs else begun_with b (certificate_lines bs)
 
 -- the first line of each certificate
 abbrev pub version : List ℕ
 version = codes "arinc429-cert 1"
 
 -- the text of a line that ends
-abbrev pub text_of : TextLine → Option (List ℕ)
-text_of (Ended text) = Some text.now
-text_of Unended = None
+abbrev pub line_bytes : TextLine → Option (List ℕ)
+line_bytes (Ended text) = Some text.now
+line_bytes Unended = None

@@ -1,8 +1,7 @@
 //! The fields of a line, and the numbers in them.
 
 ghost use Rattle.std.specs.Prelude.{◌≡◌, ◌<◌, ◌≤◌, ◌^◌, length, IfSome, option_map};
-ghost use Rattle.a429_cert.specs.Parts.{last_number_in};
-ghost use Rattle.a429_cert.specs.Reading.{behind_space, digit_in, digits_in, hex_in, decimal_at, goes_on, number_in, with_rest};
+ghost use Rattle.a429_cert.specs.Field.{last_decimal_in, decimal_in, with_next_digit, decimal_digit_in, hex_in, hex_digits_in, hex_digit_in, with_rest, behind_space};
 
 /// What stands behind a space.
 #[inline(always)]
@@ -16,8 +15,8 @@ pub fn behind_space(text: &[u8]) -> Option<&[u8]>
 }
 
 // The value of a hexadecimal digit, a letter in upper case.
-fn digit_of(byte: u8) -> Option<u32>
-    ensures { result ≡ digit_in byte }
+fn hex_digit_of(byte: u8) -> Option<u32>
+    ensures { result ≡ hex_digit_in byte }
 {
     match byte {
         b'0'..=b'9' => Some(u32::from(byte - b'0')),
@@ -27,14 +26,14 @@ fn digit_of(byte: u8) -> Option<u32>
 }
 
 // The number that at most eight hexadecimal digits write.
-fn digits_of(text: &[u8]) -> Option<u32>
+fn hex_digits_of(text: &[u8]) -> Option<u32>
     requires { length text.now ≤ 8 }
-    ensures value { result ≡ digits_in text.now }
+    ensures value { result ≡ hex_digits_in text.now }
     ensures small { IfSome result (λ n. n < 16 ^ length text.now) }
 {
     let mut number = 0;
     for byte in text {
-        let Some(digit) = digit_of(*byte) else {
+        let Some(digit) = hex_digit_of(*byte) else {
             return None;
         };
         number = number * 16 + digit;
@@ -43,7 +42,7 @@ fn digits_of(text: &[u8]) -> Option<u32>
 }
 
 // A hexadecimal number of so many digits, at most eight, and what stands behind it.
-#[tactic(auto, unfolding(crate::specs::Reading::hex_in))]
+#[tactic(auto, unfolding(crate::specs::Field::hex_in))]
 fn hex_of(text: &[u8], count: usize) -> Option<(u32, &[u8])>
     requires { count ≤ 8 }
     ensures value { option_map (λ x. (x.0, x.1.now)) result ≡ hex_in count text.now }
@@ -53,15 +52,15 @@ fn hex_of(text: &[u8], count: usize) -> Option<(u32, &[u8])>
         return None;
     }
     let (digits, rest) = text.split_at(count);
-    let number = digits_of(digits)?;
+    let number = hex_digits_of(digits)?;
     Some((number, rest))
 }
 
 // A decimal digit, and what stands behind it.
 #[inline(always)]
-#[tactic(auto, unfolding(crate::specs::Reading::decimal_at))]
-fn decimal_at(text: &[u8]) -> Option<(u8, &[u8])>
-    ensures { option_map (λ x. (x.0, x.1.now)) result ≡ decimal_at text.now }
+#[tactic(auto, unfolding(crate::specs::Field::decimal_digit_in))]
+fn decimal_digit_of(text: &[u8]) -> Option<(u8, &[u8])>
+    ensures { option_map (λ x. (x.0, x.1.now)) result ≡ decimal_digit_in text.now }
 {
     match text {
         [byte @ b'0'..=b'9', rest @ ..] => Some((*byte - b'0', rest)),
@@ -71,11 +70,11 @@ fn decimal_at(text: &[u8]) -> Option<(u8, &[u8])>
 
 // A number up to 255 with the digit that stands behind it, if there is one, and what stands behind that.
 #[inline(always)]
-#[tactic(auto, unfolding(crate::specs::Reading::goes_on))]
-fn goes_on(number: u8, text: &[u8]) -> Option<(u8, &[u8])>
-    ensures { option_map (λ x. (x.0, x.1.now)) result ≡ goes_on (number, text.now) }
+#[tactic(auto, unfolding(crate::specs::Field::with_next_digit))]
+fn with_next_digit(number: u8, text: &[u8]) -> Option<(u8, &[u8])>
+    ensures { option_map (λ x. (x.0, x.1.now)) result ≡ with_next_digit (number, text.now) }
 {
-    let Some((digit, rest)) = decimal_at(text) else {
+    let Some((digit, rest)) = decimal_digit_of(text) else {
         return Some((number, text));
     };
     let longer = u16::from(number) * 10 + u16::from(digit);
@@ -88,33 +87,33 @@ fn goes_on(number: u8, text: &[u8]) -> Option<(u8, &[u8])>
 
 /// A decimal number up to 255, without leading zeros, and what stands behind it.
 #[inline(always)]
-#[tactic(auto, unfolding(crate::specs::Reading::number_in))]
-pub fn number_of(text: &[u8]) -> Option<(u8, &[u8])>
-    ensures { option_map (λ x. (x.0, x.1.now)) result ≡ number_in text.now }
+#[tactic(auto, unfolding(crate::specs::Field::decimal_in))]
+pub fn decimal_of(text: &[u8]) -> Option<(u8, &[u8])>
+    ensures { option_map (λ x. (x.0, x.1.now)) result ≡ decimal_in text.now }
 {
-    let (first, rest) = decimal_at(text)?;
+    let (first, rest) = decimal_digit_of(text)?;
     if first == 0 {
         return Some((first, rest));
     }
-    let (second, rest) = goes_on(first, rest)?;
-    goes_on(second, rest)
+    let (second, rest) = with_next_digit(first, rest)?;
+    with_next_digit(second, rest)
 }
 
 /// The decimal number in the next field, and what stands behind it.
 #[inline(always)]
-pub fn number_at(text: &[u8]) -> Option<(u8, &[u8])>
-    ensures { option_map (λ x. (x.0, x.1.now)) result ≡ with_rest number_in text.now }
+pub fn decimal_at(text: &[u8]) -> Option<(u8, &[u8])>
+    ensures { option_map (λ x. (x.0, x.1.now)) result ≡ with_rest decimal_in text.now }
 {
-    number_of(behind_space(text)?)
+    decimal_of(behind_space(text)?)
 }
 
 /// The decimal number in the next field, where nothing stands behind it.
 #[inline(always)]
-#[tactic(auto, unfolding(crate::specs::Parts::last_number_in))]
-pub fn last_number_at(text: &[u8]) -> Option<u8>
-    ensures { result ≡ last_number_in text.now }
+#[tactic(auto, unfolding(crate::specs::Field::last_decimal_in))]
+pub fn last_decimal_at(text: &[u8]) -> Option<u8>
+    ensures { result ≡ last_decimal_in text.now }
 {
-    let (number, rest) = number_at(text)?;
+    let (number, rest) = decimal_at(text)?;
     if rest.is_empty() { Some(number) } else { None }
 }
 

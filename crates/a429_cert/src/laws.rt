@@ -2,20 +2,20 @@
 
 ghost use Rattle.std.specs.Prelude.{◌≡◌, ◌≤◌, ℕ, List, length, Option, Some};
 ghost use Rattle.std.specs.List.{AllByRecursion};
-ghost use Rattle.a429_profile.specs.Contents.{Contents};
+ghost use Rattle.a429_profile.specs.Profile.{Contents};
 ghost use Rattle.a429_link.specs.declared.file.FileBytes.{FileBytes};
 ghost use Rattle.a429_link.specs.declared.seen.Seen.{Seen};
 ghost use Rattle.a429_link.specs.declared.step.Step.{Step};
 ghost use Rattle.a429_cert.specs.declared.fault.CertFault.{CertFault};
 ghost use Rattle.a429_cert.specs.declared.line.CertLine.{CertLine};
-ghost use Rattle.a429_cert.specs.Line.{spelling, IsLine, IsHeld, Spells, Reads};
+ghost use Rattle.a429_cert.specs.Line.{spelling, IsLine, IsHeld, SpellsLine, Reads};
 ghost use Rattle.a429_cert.specs.Explained.{Explains, IsExplained, AreInSomeRun};
-ghost use Rattle.a429_cert.specs.Fault.{IsFirstFault};
+ghost use Rattle.a429_cert.specs.Fault.{IsFirstCertFault};
 
 /// A line has one spelling, and no two lines have the same.
 pub fn a_line_has_one_spelling()
-    ensures text { (v w : List ℕ) (l : CertLine) → Spells v l → Spells w l → v ≡ w }
-    ensures line { (text : List ℕ) (l m : CertLine) → Spells text l → Spells text m → l ≡ m }
+    ensures text { (v w : List ℕ) (l : CertLine) → SpellsLine v l → SpellsLine w l → v ≡ w }
+    ensures line { (text : List ℕ) (l m : CertLine) → SpellsLine text l → SpellsLine text m → l ≡ m }
 {}
 
 /// What `write_line` appends of a line, `read_line` reads as that line.
@@ -36,11 +36,13 @@ pub fn lines_are_short_ascii()
 
 /// What explains a recording has no fault, so `verify` refuses it for want of memory alone.
 pub fn what_explains_has_no_fault()
-    ensures { (p : Contents) (certificate : List ℕ) (items : List Seen) (first : ℕ) (steps : List Step) (f : CertFault) → Explains p certificate items first steps → IsFirstFault p certificate items f → ⊥ }
+    ensures { (p : Contents) (certificate : List ℕ) (items : List Seen) (first : ℕ) (steps : List Step) (f : CertFault)
+        → Explains p certificate items first steps → IsFirstCertFault p certificate items f → ⊥ }
 {}
 
 /// What a certificate explains, some run records: exactly these words, and it delivers these files. That every run
 /// which records them delivers the same is `every_run` of `verify`.
 pub fn what_explains_is_a_run()
-    ensures { (p : Contents) (certificate : List ℕ) (items : List Seen) (files : List FileBytes) → IsExplained p certificate items files → AreInSomeRun p items files }
+    ensures { (p : Contents) (certificate : List ℕ) (items : List Seen) (files : List FileBytes)
+        → IsExplained p certificate items files → AreInSomeRun p items files }
 {}

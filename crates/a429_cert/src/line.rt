@@ -2,49 +2,29 @@
 
 use crate::act::Act;
 use crate::words::Words;
-use a429_link::{SinkState, SourceState};
+use a429_link::States;
 
-/// A line of a certificate behind its first, which only tells the version (profile).
+/// A line of a certificate behind its first, which only names the version (profile).
 #[derive(Debug, Drop)]
 pub enum CertLine {
     /// The number of the first file, 0 to 255.
     First(u8),
     /// The source is given a link data unit to send.
-    Load {
-        /// The general format identifier of its start word, 0 to 15.
-        gfi: u8,
-        /// The flags of its end word, 0 to 15.
-        flags: u8,
-        /// The check word of its end word.
-        check: u16,
-        /// Its data words, 1 to 253.
-        words: Words,
-    },
-    /// A step, and what it leaves.
-    Moved {
-        /// The step.
-        act: Act,
-        /// Where the source stands after it; at most 254 words are sent of a block it still sends.
-        source: SourceState,
-        /// Where the sink stands after it; of a block it still takes it has 1 to 254 words.
-        sink: SinkState,
-        /// How many recorded words the sink has not taken.
-        to_sink: u8,
-        /// How many recorded answers the source has not taken.
-        to_source: u8,
-    },
+    Load(LoadLine),
+    /// A step that is no load, and what it leaves.
+    Moved(MovedLine),
 }
 
 /// The line of a link data unit.
 #[derive(Debug, Drop)]
 pub struct LoadLine {
-    /// The general format identifier of its start word.
+    /// The general format identifier of its start word, 0 to 15.
     pub gfi: u8,
-    /// The flags of its end word.
+    /// The flags of its end word, 0 to 15.
     pub flags: u8,
     /// The check word of its end word.
     pub check: u16,
-    /// Its data words.
+    /// Its data words, 1 to 253.
     pub words: Words,
 }
 
@@ -53,12 +33,7 @@ pub struct LoadLine {
 pub struct MovedLine {
     /// The step.
     pub act: Act,
-    /// Where the source stands after it.
-    pub source: SourceState,
-    /// Where the sink stands after it.
-    pub sink: SinkState,
-    /// How many recorded words the sink has not taken.
-    pub to_sink: u8,
-    /// How many recorded answers the source has not taken.
-    pub to_source: u8,
+    /// Where source and sink stand after it. Of a block that is still on its way, the source has sent at
+    /// most 254 words, and the sink has 1 to 254.
+    pub states: States,
 }

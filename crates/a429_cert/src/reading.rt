@@ -1,14 +1,14 @@
 //! Lines, read.
 
-ghost use Rattle.std.specs.Prelude.{◌≡◌, codes, take, option_map, IfOk, OnErr};
+ghost use Rattle.std.specs.Prelude.{◌≡◌, codes, take, IfOk, OnErr};
 ghost use Rattle.a429_cert.specs.Line.{Reads};
-ghost use Rattle.a429_cert.specs.Parts.{load_line, moved_line};
-ghost use Rattle.a429_cert.specs.Reading.{words_at, words_in, first_in, load_in, moved_in, line_in};
+ghost use Rattle.a429_cert.specs.Reading.{words_at, unit_words_in, first_in, load_in, moved_in, line_in};
 
+use crate::act::act_of;
 use crate::fault::OutOfMemory;
-use crate::field::{hex_at, last_number_at, number_at};
+use crate::field::{hex_at, last_decimal_at};
 use crate::line::{CertLine, LoadLine, MovedLine};
-use crate::states::{act_of, sink_at, source_at};
+use crate::states::states_at;
 use crate::words::Words;
 use a429_word::Word;
 use std::alloc::Global;
@@ -35,69 +35,25 @@ fn line_of(alloc: Global, line: &[u8]) -> Result<Option<CertLine>, OutOfMemory>
     ensures err { OnErr result (take 1 line.now ≡ codes "L") }
 {
     match line {
-        [b'L', rest @ ..] => Ok(unit_line(load_of(alloc, rest)?)),
-        [b'f', ..] => Ok(first_of(line)),
-        [letter, rest @ ..] => Ok(step_line(moved_of(*letter, rest))),
+        [b'L', rest @ ..] => Ok(load_of(alloc, rest)?.map(CertLine::Load)),
+        [b'f', ..] => Ok(first_of(line).map(CertLine::First)),
+        [letter, rest @ ..] => Ok(moved_of(*letter, rest).map(CertLine::Moved)),
         [] => Ok(None),
     }
 }
 
-// The line of a link data unit, if there is one.
-fn unit_line(read: Option<LoadLine>) -> Option<CertLine>
-    ensures { result ≡ option_map load_line read }
-{
-    let LoadLine {
-        gfi,
-        flags,
-        check,
-        words,
-    } = read?;
-    Some(CertLine::Load {
-        gfi,
-        flags,
-        check,
-        words,
-    })
-}
-
-// The line of a step, if there is one.
-fn step_line(read: Option<MovedLine>) -> Option<CertLine>
-    ensures { result ≡ option_map moved_line read }
-{
-    let MovedLine {
-        act,
-        source,
-        sink,
-        to_sink,
-        to_source,
-    } = read?;
-    Some(CertLine::Moved {
-        act,
-        source,
-        sink,
-        to_sink,
-        to_source,
-    })
-}
-
 // The number of the first file.
 #[tactic(auto, unfolding(crate::specs::Reading::first_in))]
-fn first_of(line: &[u8]) -> Option<CertLine>
+fn first_of(line: &[u8]) -> Option<u8>
     ensures { result ≡ first_in line.now }
 {
-    let text = line.strip_prefix(b"first")?;
-    let (file, rest) = number_at(text)?;
-    if rest.is_empty() {
-        Some(CertLine::First(file))
-    } else {
-        None
-    }
+    last_decimal_at(line.strip_prefix(b"first")?)
 }
 
 /// The line of a link data unit, behind its letter.
 #[tactic(auto, unfolding(crate::specs::Reading::load_in))]
 pub fn load_of(alloc: Global, text: &[u8]) -> Result<Option<LoadLine>, OutOfMemory>
-    ensures { IfOk result (λ read. option_map load_line read ≡ load_in text.now) }
+    ensures { IfOk result (λ read. read ≡ load_in text.now) }
 {
     let Some((gfi, rest)) = hex_at(text, 1) else {
         return Ok(None);
@@ -120,9 +76,9 @@ pub fn load_of(alloc: Global, text: &[u8]) -> Result<Option<LoadLine>, OutOfMemo
 }
 
 // 1 to 253 words.
-#[tactic(auto, unfolding(crate::specs::Reading::words_in))]
+#[tactic(auto, unfolding(crate::specs::Reading::unit_words_in))]
 fn words_of(alloc: Global, text: &[u8]) -> Result<Option<Words>, OutOfMemory>
-    ensures { IfOk result (λ read. read ≡ words_in text.now) }
+    ensures { IfOk result (λ read. read ≡ unit_words_in text.now) }
 {
     let count = text.len() / WORD_LEN;
     if 1 <= count && count <= MOST_WORDS {
@@ -156,18 +112,9 @@ fn words_at(alloc: Global, count: usize, text: &[u8]) -> Result<Option<Words>, O
 #[inline(always)]
 #[tactic(auto, unfolding(crate::specs::Reading::moved_in))]
 pub fn moved_of(letter: u8, text: &[u8]) -> Option<MovedLine>
-    ensures { option_map moved_line result ≡ moved_in letter text.now }
+    ensures { result ≡ moved_in letter text.now }
 {
     let act = act_of(letter)?;
-    let (source, rest) = source_at(text)?;
-    let (sink, rest) = sink_at(rest)?;
-    let (to_sink, rest) = number_at(rest)?;
-    let to_source = last_number_at(rest)?;
-    Some(MovedLine {
-        act,
-        source,
-        sink,
-        to_sink,
-        to_source,
-    })
+    let states = states_at(text)?;
+    Some(MovedLine { act, states })
 }

@@ -2,7 +2,8 @@
 
 ghost use Rattle.std.specs.Prelude.{◌≡◌, ◌+◌, ◌/◌, ◌%◌, ◌<◌, ◌≤◌, [], ◌∷◌, ◌++◌, length};
 ghost use Rattle.std.specs.Fmt.{decimal};
-ghost use Rattle.a429_cert.specs.Line.{field, source_text, sink_text};
+ghost use Rattle.a429_cert.specs.States.{sink_text, source_text};
+ghost use Rattle.a429_cert.specs.Field.{field};
 
 use a429_link::{SinkState, SourceState};
 use std::marker::Model;

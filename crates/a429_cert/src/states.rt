@@ -1,30 +1,11 @@
-//! The letters of steps and states, read.
+//! The states that a line writes, read.
 
 ghost use Rattle.std.specs.Prelude.{◌≡◌, option_map};
-ghost use Rattle.a429_cert.specs.Reading.{number_in, act_in, sending_in, source_in, block_in, sink_in, with_rest};
+ghost use Rattle.a429_cert.specs.States.{sending_in, source_in, block_in, sink_in, states_in};
+ghost use Rattle.a429_cert.specs.Field.{decimal_in, with_rest};
 
-use crate::act::Act;
-use crate::field::{behind_space, number_of};
-use a429_link::{SinkState, SourceState};
-
-/// The step of a letter.
-#[inline(always)]
-pub fn act_of(letter: u8) -> Option<Act>
-    ensures { result ≡ act_in letter }
-{
-    match letter {
-        b'a' => Some(Act::Sent),
-        b'l' => Some(Act::SentLost),
-        b't' => Some(Act::TimeOut),
-        b'g' => Some(Act::TakeAnswer),
-        b'd' => Some(Act::LoseAnswer),
-        b'k' => Some(Act::SinkTakes),
-        b's' => Some(Act::Silent),
-        b'b' => Some(Act::Answered),
-        b'n' => Some(Act::FreeSeen),
-        _ => None,
-    }
-}
+use crate::field::{behind_space, decimal_at, decimal_of, last_decimal_at};
+use a429_link::{SinkState, SourceState, States};
 
 // The source's state, and what stands behind it.
 #[inline(always)]
@@ -43,9 +24,9 @@ fn source_of(field: &[u8]) -> Option<(SourceState, &[u8])>
 // The source sends, and has sent so many words.
 #[inline(always)]
 fn sending_of(count: &[u8]) -> Option<(SourceState, &[u8])>
-    ensures { option_map (λ x. (x.0, x.1.now)) result ≡ sending_in (number_in count.now) }
+    ensures { option_map (λ x. (x.0, x.1.now)) result ≡ sending_in (decimal_in count.now) }
 {
-    let (sent, rest) = number_of(count)?;
+    let (sent, rest) = decimal_of(count)?;
     if sent <= 254 {
         Some((SourceState::Sending(sent), rest))
     } else {
@@ -72,9 +53,9 @@ fn sink_of(field: &[u8]) -> Option<(SinkState, &[u8])>
 // The sink is in a block, of which it has taken so many words.
 #[inline(always)]
 fn block_of(count: &[u8]) -> Option<(SinkState, &[u8])>
-    ensures { option_map (λ x. (x.0, x.1.now)) result ≡ block_in (number_in count.now) }
+    ensures { option_map (λ x. (x.0, x.1.now)) result ≡ block_in (decimal_in count.now) }
 {
-    let (taken, rest) = number_of(count)?;
+    let (taken, rest) = decimal_of(count)?;
     if 1 <= taken && taken <= 254 {
         Some((SinkState::InBlock(taken), rest))
     } else {
@@ -82,18 +63,36 @@ fn block_of(count: &[u8]) -> Option<(SinkState, &[u8])>
     }
 }
 
-/// The source's state in the next field, and what stands behind it.
+// The source's state in the next field, and what stands behind it.
 #[inline(always)]
-pub fn source_at(text: &[u8]) -> Option<(SourceState, &[u8])>
+fn source_at(text: &[u8]) -> Option<(SourceState, &[u8])>
     ensures { option_map (λ x. (x.0, x.1.now)) result ≡ with_rest source_in text.now }
 {
     source_of(behind_space(text)?)
 }
 
-/// The sink's state in the next field, and what stands behind it.
+// The sink's state in the next field, and what stands behind it.
 #[inline(always)]
-pub fn sink_at(text: &[u8]) -> Option<(SinkState, &[u8])>
+fn sink_at(text: &[u8]) -> Option<(SinkState, &[u8])>
     ensures { option_map (λ x. (x.0, x.1.now)) result ≡ with_rest sink_in text.now }
 {
     sink_of(behind_space(text)?)
+}
+
+/// The states in the next fields, where nothing stands behind them.
+#[inline(always)]
+#[tactic(auto, unfolding(crate::specs::States::states_in))]
+pub fn states_at(text: &[u8]) -> Option<States>
+    ensures { result ≡ states_in text.now }
+{
+    let (source, rest) = source_at(text)?;
+    let (sink, rest) = sink_at(rest)?;
+    let (to_sink, rest) = decimal_at(rest)?;
+    let to_source = last_decimal_at(rest)?;
+    Some(States {
+        source,
+        sink,
+        to_sink,
+        to_source,
+    })
 }

@@ -1,17 +1,20 @@
 -- The verdict of a certificate, and how it is written (profile).
-use Rattle.std.specs.Prelude.{◌≡◌, ◌⊎◌, ◌++◌, ℕ, List, [], length, codes, Bool, true, false, Option, IfSome, Result, Ok, Err}
+use Rattle.std.specs.Prelude.{◌≡◌, ◌≢◌, ◌⊎◌, ◌++◌, ℕ, List, [], length, codes, Bool, true, false, Option, IfSome, Result, Ok, Err}
 use Rattle.std.specs.List.{flat_map}
 use Rattle.std.specs.Fmt.{decimal}
 use Rattle.std.specs.Str.{IsUtf8}
+use Rattle.a429_word.specs.declared.tally.Tally.{Tally}
+use Rattle.a429_word.specs.Tally.{has_failed, Puts}
 use Rattle.a429_link.specs.declared.file.FileBytes.{FileBytes}
 use Rattle.a429_cert.specs.declared.fault.CertFault.{CertFault}
 use Rattle.a429_cert.specs.declared.fault.CertFault.TheVariants as cert
 use Rattle.a429_cert.specs.Explained.{items_of, IsExplained, AreInEveryRun}
-use Rattle.a429_cert.specs.Fault.{IsFirstFault}
+use Rattle.a429_cert.specs.Fault.{IsFirstCertFault}
 use Rattle.a429_check.specs.declared.fault.RunFault.{RunFault}
-use Rattle.a429_check.specs.declared.fault.RunFault.TheVariants.{BadWord, Profile, Read, Cut, Device, Memory, Usage}
-use Rattle.a429_check.specs.ProfileBytes.{IsSound, HasFault}
-use Rattle.a429_check.specs.RecordingBytes.{Says, IsFaultOf}
+use Rattle.a429_check.specs.declared.fault.RunFault.TheVariants.{Device}
+use Rattle.a429_check.specs.Fault.{ComesBy, never}
+use Rattle.a429_check.specs.Profile.{IsSomeProfile, HasFault}
+use Rattle.a429_check.specs.Recording.{SayInput, IsRecordingFault}
 
 -- ---- the text
 
@@ -36,7 +39,7 @@ no_text cert.OutOfMemory = []
 
 -- the certificate explains the recording: some run gives exactly its words, and each run that gives them delivers these files
 pub record Accepts (profile : List ℕ) (recording certificate : Option (List ℕ)) (files : List FileBytes) : Type 0 where
-  pub says : Says profile recording
+  pub says : SayInput profile recording
   pub text : List ℕ
   pub told : IfSome certificate (λ bytes. text ≡ bytes)
   pub explained : IsExplained (says.contents) text (items_of (says.entries)) files
@@ -44,10 +47,10 @@ pub record Accepts (profile : List ℕ) (recording certificate : Option (List �
 
 -- it does not, and this is the first fault
 pub record Refuses (profile : List ℕ) (recording certificate : Option (List ℕ)) (f : CertFault) : Type 0 where
-  pub says : Says profile recording
+  pub says : SayInput profile recording
   pub text : List ℕ
   pub told : IfSome certificate (λ bytes. text ≡ bytes)
-  pub fault : IsFirstFault (says.contents) text (items_of (says.entries)) f
+  pub fault : IsFirstCertFault (says.contents) text (items_of (says.entries)) f
 
 -- the answer to a certificate
 abbrev pub IsAnswer : List ℕ → Option (List ℕ) → Option (List ℕ) → Result (List FileBytes) CertFault → Type 0
@@ -65,20 +68,29 @@ pub record IsVerdict (profile : List ℕ) (recording certificate : Option (List 
   pub is : IsAnswer profile recording certificate answer
   pub told : IsTold answer files status text
 
--- ---- why there is none
+-- the text of a verdict was written
+abbrev pub PutsVerdict : {W : Type 0} → (W → Option (List ℕ)) → Tally W → Tally W → List ℕ → Option (List ℕ) → Option (List ℕ) → List FileBytes → ℕ → Type 0
+PutsVerdict contents old new profile recording certificate files status = (text : List ℕ) × IsVerdict profile recording certificate files status text × Puts contents old new text
 
--- why bytes could not be read to their end: their reader failed, or it did not, and memory was refused
-abbrev pub IsWholeFault : Bool → RunFault → Type 0
-IsWholeFault failed Device = failed ≡ true
-IsWholeFault failed Memory = failed ≡ false
-IsWholeFault failed _ = ⊥
+-- neither the readers nor the writer have failed
+abbrev pub AllWork : {R C W : Type 0} → Tally R → Tally C → Tally W → Type 0
+AllWork rec certificate out = (has_failed rec ≡ false) × (has_failed certificate ≡ false) × (has_failed out ≡ false)
+
+-- ---- why there is none
 
 -- the profile's own fault, then the recording's; the recording's reader failed, or, once the recording was read whole, the certificate's or the output did; want of memory, once the profile is known to be a text
 abbrev pub IsVerifyFault : List ℕ → Option (List ℕ) → Bool → Bool → Bool → RunFault → Type 0
-IsVerifyFault profile told rec_failed cert_failed out_failed (Profile f) = HasFault profile f
-IsVerifyFault profile told rec_failed cert_failed out_failed (Read f) = IsSound profile × IsFaultOf told f
-IsVerifyFault profile told rec_failed cert_failed out_failed Device = (IsSound profile × (rec_failed ≡ true)) ⊎ (Says profile told × ((cert_failed ≡ true) ⊎ (out_failed ≡ true)))
-IsVerifyFault profile told rec_failed cert_failed out_failed Memory = IsUtf8 profile
-IsVerifyFault profile told rec_failed cert_failed out_failed BadWord = ⊥
-IsVerifyFault profile told rec_failed cert_failed out_failed (Cut k f) = ⊥
-IsVerifyFault profile told rec_failed cert_failed out_failed Usage = ⊥
+IsVerifyFault profile known rec_failed cert_failed out_failed = ComesBy (record never {
+  profile = HasFault profile;
+  recording = λ f. IsSomeProfile profile × IsRecordingFault known f;
+  device = (IsSomeProfile profile × (rec_failed ≡ true)) ⊎ (SayInput profile known × ((cert_failed ≡ true) ⊎ (out_failed ≡ true)));
+  memory = IsUtf8 profile;
+})
+
+-- such a fault, as it left the recording's reader, the certificate's reader or writer, and the output
+abbrev pub LeavesFault : {R C W : Type 0} → List ℕ → Option (List ℕ) → Tally R → Tally C → Tally W → RunFault → Type 0
+LeavesFault profile known rec certificate out = IsVerifyFault profile known (has_failed rec) (has_failed certificate) (has_failed out)
+
+-- the output is as it was after any fault but `Device`, where the recording's reader has failed, and where the output has not
+abbrev pub IsSilent : {R W : Type 0} → Tally R → Tally W → Tally W → RunFault → Type 0
+IsSilent rec old new e = (e ≢ Device) ⊎ ((has_failed rec ≡ true) ⊎ (has_failed new ≡ false)) → new ≡ old

@@ -5,7 +5,7 @@ ghost use Rattle.std.specs.Prelude.{◌≡◌, ◌⊎◌, IfErr};
 use crate::fault::RunFault;
 use clap::error::ErrorKind;
 use clap::{Arg, ArgAction, ArgMatches, Command as Parser};
-use commands::Command;
+use commands::{Claim, Command};
 use std::alloc::{AllocError, Global};
 
 pub mod commands;
@@ -57,23 +57,15 @@ fn of_recording<'a>(name: &str, given: &ArgMatches<'a>) -> Result<Command<'a>, R
     let Some(certificate) = given.get_str("CERT") else {
         return Err(RunFault::Usage);
     };
+    let claim = Claim {
+        profile,
+        recording,
+        certificate,
+    };
     match (name, given.get_str("DIR")) {
-        ("check", _) => Ok(Command::Check {
-            profile,
-            recording,
-            certificate,
-        }),
-        ("verify", _) => Ok(Command::Verify {
-            profile,
-            recording,
-            certificate,
-        }),
-        ("extract", Some(folder)) => Ok(Command::Extract {
-            profile,
-            recording,
-            certificate,
-            folder,
-        }),
+        ("check", _) => Ok(Command::Check(claim)),
+        ("verify", _) => Ok(Command::Verify(claim)),
+        ("extract", Some(folder)) => Ok(Command::Extract { claim, folder }),
         _ => Err(RunFault::Usage),
     }
 }

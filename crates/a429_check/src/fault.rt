@@ -1,7 +1,7 @@
 //! Why a command gave no answer, how it is told, and the exit status.
 
 ghost use Rattle.std.specs.Prelude.{◌≡◌};
-ghost use Rattle.a429_check.specs.RunFault.{status_of};
+ghost use Rattle.a429_check.specs.Fault.{status_of};
 ghost use Rattle.a429_check.specs.declared.fault.RunFault.TheVariants as fault;
 
 use a429_ldu::CutFault;

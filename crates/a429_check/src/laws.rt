@@ -1,16 +1,14 @@
 //! Laws of the definitions that the contracts of this crate cite.
 
-ghost use Rattle.std.specs.Prelude.{◌≡◌, ◌<◌, ℕ, List, [], Some, None, All};
-ghost use Rattle.std.specs.List.{AllByRecursion};
-ghost use Rattle.a429_profile.specs.Contents.{Contents};
-ghost use Rattle.a429_link.specs.declared.step.Step.{Step};
-ghost use Rattle.a429_link.specs.Clean.{numbered, first_refused, IsRunOf};
+ghost use Rattle.std.specs.Prelude.{◌≡◌, ℕ, List, Some, None};
+ghost use Rattle.a429_profile.specs.Profile.{Contents};
+ghost use Rattle.a429_link.specs.Clean.{first_refused};
 ghost use Rattle.a429_record.specs.declared.entry.Entry.{Entry};
 ghost use Rattle.a429_cert.specs.Explained.{items_of};
-ghost use Rattle.a429_check.specs.ProfileBytes.{IsProfileOf};
-ghost use Rattle.a429_check.specs.RecordingBytes.{Says};
-ghost use Rattle.a429_check.specs.ShowLines.{IsShowLine, AreShowLines};
-ghost use Rattle.a429_check.specs.Made.{words_made, Makes};
+ghost use Rattle.a429_check.specs.Profile.{IsProfileOf};
+ghost use Rattle.a429_check.specs.Recording.{SayInput};
+ghost use Rattle.a429_check.specs.Show.{IsShowLine, AreShowLines};
+ghost use Rattle.a429_check.specs.Make.{words_made, MakesRecording, AreByteLists, AreDelivered};
 
 /// An entry of a recording has one line by a profile, and the entries have one text.
 pub fn what_is_shown_has_one_text()
@@ -22,8 +20,8 @@ pub fn what_is_shown_has_one_text()
 /// records: one that delivers all the files, the first under number 1. So it is with the words of any
 /// files of which none is refused.
 pub fn what_make_writes_is_a_run_of_all_the_files()
-    ensures recording { (profile : List ℕ) (files : List (List ℕ)) (text : List ℕ) → AllByRecursion (All (λ b. b < 256)) files → Makes profile files text
-        → (says : Says profile (Some text)) × (steps : List Step) × IsRunOf says.contents 1 steps (items_of says.entries) (record { files = numbered 1 files; open_bytes = [] }) }
-    ensures words { (profile : List ℕ) (p : Contents) (files : List (List ℕ)) → IsProfileOf profile p → AllByRecursion (All (λ b. b < 256)) files → first_refused 255 0 files ≡ None
-        → (steps : List Step) × IsRunOf p 1 steps (words_made p files) (record { files = numbered 1 files; open_bytes = [] }) }
+    ensures recording { (profile : List ℕ) (files : List (List ℕ)) (text : List ℕ) → AreByteLists files → MakesRecording profile files text
+        → (says : SayInput profile (Some text)) × AreDelivered says.contents (items_of says.entries) files }
+    ensures words { (profile : List ℕ) (p : Contents) (files : List (List ℕ)) → IsProfileOf profile p → AreByteLists files
+        → first_refused 255 0 files ≡ None → AreDelivered p (words_made p files) files }
 {}

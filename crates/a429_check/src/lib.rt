@@ -8,7 +8,7 @@ mod fault;
 pub mod laws;
 
 pub use crate::command_line::command;
-pub use crate::command_line::commands::Command;
+pub use crate::command_line::commands::{Claim, Command};
 pub use crate::engines::check::run_check;
 pub use crate::engines::extract::run_extract;
 pub use crate::engines::labels::run_labels;

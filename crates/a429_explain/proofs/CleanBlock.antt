@@ -5,16 +5,17 @@ use Rattle.std.specs.Option.{option_or}
 use Rattle.a429_word.specs.declared.bus.Bus.{Bus}
 use Rattle.a429_word.specs.declared.bus.Bus.TheVariants as bus
 use Rattle.a429_profile.specs.declared.codes.Codes.{Codes}
-use Rattle.a429_profile.specs.Contents.{Contents, IsProfile}
+use Rattle.a429_profile.specs.Profile.{Contents, IsProfile}
 use Rattle.a429_ldu.specs.declared.forms.Form.{Form}
 use Rattle.a429_ldu.specs.declared.forms.Form.TheVariants.{Rts, Cts, Ack, Sot, Part, Eot}
 use Rattle.a429_ldu.specs.declared.sight.Sight.TheVariants as sight
-use Rattle.a429_ldu.specs.Form.{form_of, is_free, sight_in, sight_of, word_number}
+use Rattle.a429_ldu.specs.Form.{form_of, is_free, word_number}
+use Rattle.a429_ldu.specs.Sight.{sight_of, sight_in}
 use Rattle.a429_ldu.specs.Carried.{AreDataWords}
 use Rattle.a429_ldu.specs.CheckWord.{check_of}
 use Rattle.a429_ldu.specs.Ldu.{LduValue, IsLdu, count_of, block_of}
-use Rattle.a429_ldu.proofs.Carried.{carried_of}
-use Rattle.a429_ldu.proofs.Joined.{form_of-is, form_is_not_free, form_of-word_number}
+use Rattle.a429_ldu.proofs.CarriedFacts.{carried_of}
+use Rattle.a429_ldu.proofs.FormFacts.{form_of-is, form_is_not_free, form_of-word_number}
 use Rattle.a429_link.specs.declared.seen.Seen.{Seen}
 use Rattle.a429_link.specs.Clean.{on_a, on_b, clean_block}
 use Rattle.a429_explain.specs.declared.matching.Place.{Place}

@@ -3,21 +3,22 @@ use Rattle.std.proofs.Common.{◌≡◌, ℕ, suc, ◌+◌, ◌%◌, ◌≤◌, 
 use Rattle.std.proofs.lemmas.Bool.{ne_eqb}
 use Rattle.a429_word.specs.declared.bus.Bus.TheVariants as bus
 use Rattle.a429_profile.specs.declared.codes.Codes.{Codes}
-use Rattle.a429_profile.specs.Contents.{Contents, IsProfile}
-use Rattle.a429_profile.proofs.Ranges.{in_range}
+use Rattle.a429_profile.specs.Profile.{Contents, IsProfile}
+use Rattle.a429_profile.proofs.ProfileRanges.{in_range}
 use Rattle.a429_ldu.specs.declared.forms.Form.{Form}
 use Rattle.a429_ldu.specs.declared.forms.Form.TheVariants.{Rts, Cts, Ack, Nak, Sot, Part, Eot}
 use Rattle.a429_ldu.specs.Form.{form_of, is_free, word_number}
 use Rattle.a429_ldu.specs.Ldu.{LduValue, IsLdu, count_of, block_of, is_final}
 use Rattle.a429_link.specs.declared.seen.Seen.{Seen}
-use Rattle.a429_link.specs.Clean.{on_a, on_b, next_file, next_ldu, clean_block, clean, AllFit, thin}
+use Rattle.a429_link.specs.Clean.{on_a, on_b, next_file, next_ldu, clean_block, clean_blocks, AllFit, without_free}
 use Rattle.a429_explain.specs.declared.attempts.Numbers.{Numbers}
 use Rattle.a429_explain.specs.declared.attempts.Role.{Role}
-use Rattle.a429_explain.specs.Attempts.{forms_of, next_start, are_numbers, role_of, roles}
+use Rattle.a429_explain.specs.Attempts.{next_start, are_numbers, role_of, roles}
+use Rattle.a429_explain.specs.Heard.{forms_of}
 use Rattle.a429_explain.specs.Groups.{group_length}
 use Rattle.a429_explain.specs.Matching.{IsOfBlock}
 use Rattle.a429_explain.specs.Crossed.{first_file_of, file_of}
-use Rattle.a429_explain.proofs.Walked.{free_none}
+use Rattle.a429_explain.proofs.WalkFacts.{free_none}
 use Rattle.a429_explain.proofs.Thinned.{next_start-thin}
 use Rattle.a429_explain.proofs.CleanBlock.{AreSaid, AreOfBlock, are_said, block_said}
 
@@ -48,8 +49,8 @@ ends o more rs file ldu e n =
 
 -- the first n words are the group, and these come behind it
 pub record Parts (c : Codes) (items group rest : List Seen) (n : ℕ) : Type 0 where
-  pub group_is : thin c (take n items) ≡ group
-  pub rest_is : thin c (drop n items) ≡ rest
+  pub group_is : without_free c (take n items) ≡ group
+  pub rest_is : without_free c (drop n items) ≡ rest
 
 abbrev pub words_to_go : Codes → List Seen → ℕ
 words_to_go c items = group_length (roles (forms_of c items))
@@ -58,7 +59,7 @@ parts_free : (c : Codes) (i : Seen) (items group rest : List Seen) → is_free c
 parts_free c i items group rest e h =
     let n : words_to_go c (i ∷ items) ≡ suc (words_to_go c items) = goes_on (form_of c i.bus i.word) (forms_of c items) (roles (forms_of c items)) (subst IsNoAck (sym (free_none c i.bus i.word e)) tt) in
     subst (Parts c (i ∷ items) group rest) (sym n) (record {
-      group_is = ap (λ (t : Bool). cond t (thin c (take (words_to_go c items) items)) (i ∷ thin c (take (words_to_go c items) items))) e ∙ h.group_is;
+      group_is = ap (λ (t : Bool). cond t (without_free c (take (words_to_go c items) items)) (i ∷ without_free c (take (words_to_go c items) items))) e ∙ h.group_is;
       rest_is = h.rest_is;
     })
 
@@ -66,14 +67,14 @@ parts_next : (c : Codes) (i : Seen) (items group rest : List Seen) → is_free c
 parts_next c i items group rest e a h =
     let n : words_to_go c (i ∷ items) ≡ suc (words_to_go c items) = goes_on (form_of c i.bus i.word) (forms_of c items) (roles (forms_of c items)) a in
     subst (Parts c (i ∷ items) (i ∷ group) rest) (sym n) (record {
-      group_is = ap (λ (t : Bool). cond t (thin c (take (words_to_go c items) items)) (i ∷ thin c (take (words_to_go c items) items))) e ∙ ap (λ (xs : List Seen). i ∷ xs) h.group_is;
+      group_is = ap (λ (t : Bool). cond t (without_free c (take (words_to_go c items) items)) (i ∷ without_free c (take (words_to_go c items) items))) e ∙ ap (λ (xs : List Seen). i ∷ xs) h.group_is;
       rest_is = h.rest_is;
     })
 
-parts_last : (c : Codes) (i : Seen) (items : List Seen) (file ldu : ℕ) → is_free c i.bus i.word ≡ false → form_of c i.bus i.word ≡ Some (Ack file ldu) → are_numbers (next_start (forms_of c items)) file ldu ≡ false → Parts c (i ∷ items) (i ∷ []) (thin c items) (words_to_go c (i ∷ items))
+parts_last : (c : Codes) (i : Seen) (items : List Seen) (file ldu : ℕ) → is_free c i.bus i.word ≡ false → form_of c i.bus i.word ≡ Some (Ack file ldu) → are_numbers (next_start (forms_of c items)) file ldu ≡ false → Parts c (i ∷ items) (i ∷ []) (without_free c items) (words_to_go c (i ∷ items))
 parts_last c i items file ldu e a n =
     let one : words_to_go c (i ∷ items) ≡ 1 = ends (form_of c i.bus i.word) (forms_of c items) (roles (forms_of c items)) file ldu a n in
-    subst (Parts c (i ∷ items) (i ∷ []) (thin c items)) (sym one) (record {
+    subst (Parts c (i ∷ items) (i ∷ []) (without_free c items)) (sym one) (record {
       group_is = ap (λ (t : Bool). cond t [] (i ∷ [])) e;
       rest_is = refl;
     })
@@ -82,25 +83,25 @@ no_word : (b : List Seen) (ack : Seen) (rest : List Seen) → [] ≡ b ++ ack �
 no_word [] ack rest e = cc e
 no_word (x ∷ b) ack rest e = cc e
 
-pub group_parts : (c : Codes) (file ldu : ℕ) (ack : Seen) (rest : List Seen) → form_of c ack.bus ack.word ≡ Some (Ack file ldu) → are_numbers (next_start (forms_of c rest)) file ldu ≡ false → (items b : List Seen) → NoneAcknowledges c b → thin c items ≡ b ++ ack ∷ rest → Parts c items (b ++ ack ∷ []) rest (words_to_go c items)
+pub group_parts : (c : Codes) (file ldu : ℕ) (ack : Seen) (rest : List Seen) → form_of c ack.bus ack.word ≡ Some (Ack file ldu) → are_numbers (next_start (forms_of c rest)) file ldu ≡ false → (items b : List Seen) → NoneAcknowledges c b → without_free c items ≡ b ++ ack ∷ rest → Parts c items (b ++ ack ∷ []) rest (words_to_go c items)
 group_parts c file ldu ack rest a n [] b h e = absurd (no_word b ack rest e)
 group_parts c file ldu ack rest a n (i ∷ items) b h e = by (is_free c i.bus i.word) refl e (group_parts c file ldu ack rest a n items)
   where
-    word : is_free c i.bus i.word ≡ false → (b : List Seen) → NoneAcknowledges c b → i ∷ thin c items ≡ b ++ ack ∷ rest → ((b : List Seen) → NoneAcknowledges c b → thin c items ≡ b ++ ack ∷ rest → Parts c items (b ++ ack ∷ []) rest (words_to_go c items)) → Parts c (i ∷ items) (b ++ ack ∷ []) rest (words_to_go c (i ∷ items))
+    word : is_free c i.bus i.word ≡ false → (b : List Seen) → NoneAcknowledges c b → i ∷ without_free c items ≡ b ++ ack ∷ rest → ((b : List Seen) → NoneAcknowledges c b → without_free c items ≡ b ++ ack ∷ rest → Parts c items (b ++ ack ∷ []) rest (words_to_go c items)) → Parts c (i ∷ items) (b ++ ack ∷ []) rest (words_to_go c (i ∷ items))
     word f [] h e more =
         let same : i ≡ ack = cc e in
-        let left : thin c items ≡ rest = cc e in
+        let left : without_free c items ≡ rest = cc e in
         let said : form_of c i.bus i.word ≡ Some (Ack file ldu) = ap (λ (x : Seen). form_of c x.bus x.word) same ∙ a in
         let next : are_numbers (next_start (forms_of c items)) file ldu ≡ false = ap (λ (o : Option Numbers). are_numbers o file ldu) (sym (next_start-thin c items) ∙ ap (λ (xs : List Seen). next_start (forms_of c xs)) left) ∙ n in
         let last = parts_last c i items file ldu f said next in
         record { group_is = last.group_is ∙ ap (λ (x : Seen). x ∷ []) same; rest_is = last.rest_is ∙ left }
     word f (x ∷ b) h e more =
         let same : x ≡ i = cc e in
-        let left : thin c items ≡ b ++ ack ∷ rest = cc e in
+        let left : without_free c items ≡ b ++ ack ∷ rest = cc e in
         let parts = parts_next c i items (b ++ ack ∷ []) rest f (subst (λ (y : Seen). IsNoAck (form_of c y.bus y.word)) same h.0) (more b h.1 left) in
         record { group_is = parts.group_is ∙ ap (λ (y : Seen). y ∷ (b ++ ack ∷ [])) (sym same); rest_is = parts.rest_is }
 
-    by : (t : Bool) → is_free c i.bus i.word ≡ t → cond t (thin c items) (i ∷ thin c items) ≡ b ++ ack ∷ rest → ((b : List Seen) → NoneAcknowledges c b → thin c items ≡ b ++ ack ∷ rest → Parts c items (b ++ ack ∷ []) rest (words_to_go c items)) → Parts c (i ∷ items) (b ++ ack ∷ []) rest (words_to_go c (i ∷ items))
+    by : (t : Bool) → is_free c i.bus i.word ≡ t → cond t (without_free c items) (i ∷ without_free c items) ≡ b ++ ack ∷ rest → ((b : List Seen) → NoneAcknowledges c b → without_free c items ≡ b ++ ack ∷ rest → Parts c items (b ++ ack ∷ []) rest (words_to_go c items)) → Parts c (i ∷ items) (b ++ ack ∷ []) rest (words_to_go c (i ∷ items))
     by true f e more = parts_free c i items (b ++ ack ∷ []) rest f (more b h e)
     by false f e more = word f b h e more
 
@@ -151,26 +152,26 @@ others_start c file ldu u f = by (is_final c u.flags)
     by false = rw (eq-eqb file file refl) (ne_eqb (ldu + 1) ldu (λ e. omega arith))
 
 -- the next start word has other numbers
-pub next_start_other : (p : Contents) → IsProfile p → (file ldu : ℕ) (u : LduValue) (us : List LduValue) → file ≤ 255 → AllFit p (next_ldu p.codes ldu u) us → are_numbers (next_start (forms_of p.codes (clean p.codes (next_file p.codes file u) (next_ldu p.codes ldu u) us))) file ldu ≡ false
+pub next_start_other : (p : Contents) → IsProfile p → (file ldu : ℕ) (u : LduValue) (us : List LduValue) → file ≤ 255 → AllFit p (next_ldu p.codes ldu u) us → are_numbers (next_start (forms_of p.codes (clean_blocks p.codes (next_file p.codes file u) (next_ldu p.codes ldu u) us))) file ldu ≡ false
 next_start_other p is file ldu u [] f h = refl
 next_start_other p is file ldu u (v ∷ us) f h =
-    ap (λ (o : Option Numbers). are_numbers o file ldu) (first_start p (next_file p.codes file u) (next_ldu p.codes ldu u) v (clean p.codes (next_file p.codes (next_file p.codes file u) v) (next_ldu p.codes (next_ldu p.codes ldu u) v) us) (unit_said p is (next_file p.codes file u) (next_ldu p.codes ldu u) v (file_small p.codes file u f) h.1 h.0))
+    ap (λ (o : Option Numbers). are_numbers o file ldu) (first_start p (next_file p.codes file u) (next_ldu p.codes ldu u) v (clean_blocks p.codes (next_file p.codes (next_file p.codes file u) v) (next_ldu p.codes (next_ldu p.codes ldu u) v) us) (unit_said p is (next_file p.codes file u) (next_ldu p.codes ldu u) v (file_small p.codes file u f) h.1 h.0))
     ∙ others_start p.codes file ldu u f
 
-pub unit_parts : (p : Contents) → IsProfile p → (file ldu : ℕ) (u : LduValue) (us : List LduValue) (items : List Seen) → file ≤ 255 → AllFit p ldu (u ∷ us) → thin p.codes items ≡ clean p.codes file ldu (u ∷ us) → Parts p.codes items (clean_block p.codes file ldu u) (clean p.codes (next_file p.codes file u) (next_ldu p.codes ldu u) us) (words_to_go p.codes items)
+pub unit_parts : (p : Contents) → IsProfile p → (file ldu : ℕ) (u : LduValue) (us : List LduValue) (items : List Seen) → file ≤ 255 → AllFit p ldu (u ∷ us) → without_free p.codes items ≡ clean_blocks p.codes file ldu (u ∷ us) → Parts p.codes items (clean_block p.codes file ldu u) (clean_blocks p.codes (next_file p.codes file u) (next_ldu p.codes ldu u) us) (words_to_go p.codes items)
 unit_parts p is file ldu u us items f h e =
     let said = unit_said p is file ldu u f h.1 h.0 in
-    let rest = clean p.codes (next_file p.codes file u) (next_ldu p.codes ldu u) us in
+    let rest = clean_blocks p.codes (next_file p.codes file u) (next_ldu p.codes ldu u) us in
     let ack = on_b (word_number p.codes (Ack file ldu)) in
     group_parts p.codes file ldu ack rest said.settled (next_start_other p is file ldu u us f h.2) items (front p.codes file ldu u) (front_no_ack p file ldu u said) (e ∙ append_assoc (front p.codes file ldu u) (ack ∷ []) rest)
 
 -- ---- the number of the first file
 
 -- a recording without loss is one from the number in its first start word on
-pub clean_from_first : (p : Contents) → IsProfile p → (first : ℕ) (us : List LduValue) (items : List Seen) → first ≤ 255 → AllFit p p.codes.first_ldu us → thin p.codes items ≡ clean p.codes first p.codes.first_ldu us → thin p.codes items ≡ clean p.codes (first_file_of (forms_of p.codes items)) p.codes.first_ldu us
+pub clean_from_first : (p : Contents) → IsProfile p → (first : ℕ) (us : List LduValue) (items : List Seen) → first ≤ 255 → AllFit p p.codes.first_ldu us → without_free p.codes items ≡ clean_blocks p.codes first p.codes.first_ldu us → without_free p.codes items ≡ clean_blocks p.codes (first_file_of (forms_of p.codes items)) p.codes.first_ldu us
 clean_from_first p is first [] items f h e = e
 clean_from_first p is first (u ∷ us) items f h e =
-    let rest = clean p.codes (next_file p.codes first u) (next_ldu p.codes p.codes.first_ldu u) us in
+    let rest = clean_blocks p.codes (next_file p.codes first u) (next_ldu p.codes p.codes.first_ldu u) us in
     let start : next_start (forms_of p.codes items) ≡ Some (record { file = first; ldu = p.codes.first_ldu }) = sym (next_start-thin p.codes items) ∙ ap (λ (xs : List Seen). next_start (forms_of p.codes xs)) e ∙ first_start p first p.codes.first_ldu u rest (unit_said p is first p.codes.first_ldu u f h.1 h.0) in
     let same : first_file_of (forms_of p.codes items) ≡ first = ap file_of start in
-    e ∙ ap (λ (n : ℕ). clean p.codes n p.codes.first_ldu (u ∷ us)) (sym same)
+    e ∙ ap (λ (n : ℕ). clean_blocks p.codes n p.codes.first_ldu (u ∷ us)) (sym same)

@@ -4,21 +4,22 @@ use Rattle.std.proofs.lemmas.List.{take-append-drop, take-take}
 use Rattle.std.specs.Option.{option_or}
 use Rattle.a429_word.specs.declared.bus.Bus.TheVariants as bus
 use Rattle.a429_profile.specs.declared.codes.Codes.{Codes}
-use Rattle.a429_profile.specs.Contents.{Contents, IsProfile}
+use Rattle.a429_profile.specs.Profile.{Contents, IsProfile}
 use Rattle.a429_ldu.specs.declared.forms.Form.TheVariants.{Rts}
-use Rattle.a429_ldu.specs.Form.{form_of, is_free, sight_of, word_number}
+use Rattle.a429_ldu.specs.Form.{form_of, is_free, word_number}
+use Rattle.a429_ldu.specs.Sight.{sight_of}
 use Rattle.a429_ldu.specs.Ldu.{LduValue, count_of}
 use Rattle.a429_link.specs.declared.seen.Seen.{Seen}
-use Rattle.a429_link.specs.Clean.{on_a, thin}
+use Rattle.a429_link.specs.Clean.{on_a, without_free}
 use Rattle.a429_explain.specs.declared.matching.Place.{Place}
 use Rattle.a429_explain.specs.Matching.{passing, passed_after}
-use Rattle.a429_explain.specs.Said.{said_at}
+use Rattle.a429_explain.specs.Heard.{sight_at}
 use Rattle.a429_explain.specs.Whole.{nothing_yet, first_whole, wanted, other_request}
 use Rattle.a429_explain.specs.Filled.{filled, group_unit}
 use Rattle.a429_explain.specs.Crossed.{HasCrossed}
 use Rattle.a429_explain.proofs.Thinned.{first_whole-thin, passed_after-thin, other_request-thin, free_sight}
 use Rattle.a429_explain.proofs.CleanBlock.{AreSaid, are_said, formed_sight, block_others, block_whole, block_passed}
-use Rattle.a429_explain.proofs.Found.{has_item, range_next}
+use Rattle.a429_explain.proofs.WholeFacts.{has_item, range_next}
 
 -- ---- its first word
 
@@ -31,9 +32,9 @@ request_kept c i count e = by (is_free c i.bus i.word) refl
     by false f = f
 
 -- the first request that is recorded wants as many words as the first that is not free
-pub head_wants : (c : Codes) (n : ℕ) → form_of c bus.A (word_number c (Rts n)) ≡ Some (Rts n) → (i : Seen) (items tail : List Seen) → thin c (i ∷ items) ≡ on_a (word_number c (Rts n)) ∷ tail → (count : ℕ) → wanted (sight_of c i.bus i.word) ≡ Some count → count ≡ n
+pub head_wants : (c : Codes) (n : ℕ) → form_of c bus.A (word_number c (Rts n)) ≡ Some (Rts n) → (i : Seen) (items tail : List Seen) → without_free c (i ∷ items) ≡ on_a (word_number c (Rts n)) ∷ tail → (count : ℕ) → wanted (sight_of c i.bus i.word) ≡ Some count → count ≡ n
 head_wants c n f i items tail e count w =
-    let kept : cond false (thin c items) (i ∷ thin c items) ≡ on_a (word_number c (Rts n)) ∷ tail = subst (λ (t : Bool). cond t (thin c items) (i ∷ thin c items) ≡ on_a (word_number c (Rts n)) ∷ tail) (request_kept c i count w) e in
+    let kept : cond false (without_free c items) (i ∷ without_free c items) ≡ on_a (word_number c (Rts n)) ∷ tail = subst (λ (t : Bool). cond t (without_free c items) (i ∷ without_free c items) ≡ on_a (word_number c (Rts n)) ∷ tail) (request_kept c i count w) e in
     let same : i ≡ on_a (word_number c (Rts n)) = cc kept in
     let both : Some count ≡ Some n = sym w ∙ ap (λ (x : Seen). wanted (sight_of c x.bus x.word)) same ∙ ap wanted (formed_sight c bus.A (word_number c (Rts n)) (Rts n) f) in
     cc both
@@ -64,13 +65,13 @@ pub record GivesUnit (p : Contents) (items : List Seen) (from to count : ℕ) (p
   pub is : group_unit p count (slice_range items from to) ≡ Some u
   pub matched : (i : ℕ) → i < to → IsSome (passed_after p.codes u place (slice_range items from (i + 1)) (Some 0))
 
-pub crossed_gives : (p : Contents) → IsProfile p → (items : List Seen) (from to count : ℕ) (place : Place) (u : LduValue) → from < to → to ≤ length items → wanted (said_at p.codes (slice_get items from)) ≡ Some count → HasCrossed p (slice_range items from to) place u → GivesUnit p items from to count place u
+pub crossed_gives : (p : Contents) → IsProfile p → (items : List Seen) (from to count : ℕ) (place : Place) (u : LduValue) → from < to → to ≤ length items → wanted (sight_at p.codes (slice_get items from)) ≡ Some count → HasCrossed p (slice_range items from to) place u → GivesUnit p items from to count place u
 crossed_gives p is items from to count place u l m w h =
     let group = slice_range items from to in
     let said : AreSaid p place.file place.ldu u = are_said p is place.file place.ldu u h.unit h.file h.ldu in
     let here = has_item items from (omega arith) in
-    let asks : wanted (sight_of p.codes here.item.bus here.item.word) ≡ Some count = ap (λ (o : Option Seen). wanted (said_at p.codes o)) (sym here.is) ∙ w in
-    let begins = ap (thin p.codes) (sym (range_next items from to here.item l here.is)) ∙ h.words in
+    let asks : wanted (sight_of p.codes here.item.bus here.item.word) ≡ Some count = ap (λ (o : Option Seen). wanted (sight_at p.codes o)) (sym here.is) ∙ w in
+    let begins = ap (without_free p.codes) (sym (range_next items from to here.item l here.is)) ∙ h.words in
     let same : count ≡ count_of u = head_wants p.codes (count_of u) said.request here.item (slice_range items (from + 1) to) _ begins count asks in
     let passed : passed_after p.codes u place group (Some 0) ≡ Some (count_of u) = sym (passed_after-thin p.codes u place group (Some 0)) ∙ ap (λ (xs : List Seen). passed_after p.codes u place xs (Some 0)) h.words ∙ block_passed p u place h.ldu said in
     record {

@@ -1,33 +1,33 @@
 -- The groups of a recording without loss, one after the other.
-use Rattle.std.proofs.Common.{◌≡◌, ℕ, zero, suc, ◌+◌, ◌-◌, ◌≤◌, ◌<◌, Bool, true, false, cond, List, [], ◌∷◌, ◌++◌, length, take, drop, slice_get, slice_range, Option, Some, None, refl, sym, ap, ◌∙◌, subst, arith, append_assoc, append-nil}
-use Rattle.std.proofs.Common.{min}
+use Rattle.std.proofs.Common.{◌≡◌, ℕ, zero, suc, ◌+◌, ◌-◌, ◌≤◌, ◌<◌, Bool, true, false, cond, List, [], ◌∷◌, ◌++◌, length, take, drop, slice_get, slice_range, Option, Some, None, refl, sym, ap, ◌∙◌, subst, arith, append_assoc, append-nil, min}
 use Rattle.std.proofs.lemmas.List.{drop-drop, drop_all}
 use Rattle.a429_word.specs.declared.bus.Bus.TheVariants as bus
 use Rattle.a429_profile.specs.declared.codes.Codes.{Codes}
-use Rattle.a429_profile.specs.Contents.{Contents, IsProfile}
-use Rattle.a429_profile.proofs.Ranges.{in_range}
+use Rattle.a429_profile.specs.Profile.{Contents, IsProfile}
+use Rattle.a429_profile.proofs.ProfileRanges.{in_range}
 use Rattle.a429_ldu.specs.declared.forms.Form.TheVariants.{Rts}
-use Rattle.a429_ldu.specs.Form.{is_free, sight_of, word_number}
+use Rattle.a429_ldu.specs.Form.{is_free, word_number}
+use Rattle.a429_ldu.specs.Sight.{sight_of}
 use Rattle.a429_ldu.specs.Ldu.{LduValue, count_of, is_final}
 use Rattle.a429_link.specs.declared.seen.Seen.{Seen}
-use Rattle.a429_link.specs.Clean.{on_a, next_file, next_ldu, clean, AllFit, thin}
+use Rattle.a429_link.specs.Clean.{on_a, next_file, next_ldu, clean_blocks, AllFit, without_free}
 use Rattle.a429_explain.specs.declared.attempts.Role.{Role}
-use Rattle.a429_explain.specs.declared.group.Group.{Group}
+use Rattle.a429_explain.specs.declared.groups.Group.{Group}
 use Rattle.a429_explain.specs.declared.matching.Place.{Place}
 use Rattle.a429_explain.specs.declared.stop.Stop.{Stop}
 use Rattle.a429_explain.specs.declared.stop.Stop.TheVariants.{Unexplained, OutOfMemory}
-use Rattle.a429_explain.specs.Attempts.{forms_of, roles}
-use Rattle.a429_explain.specs.Groups.{group_length, words_in}
-use Rattle.a429_explain.specs.Said.{said_at}
+use Rattle.a429_explain.specs.Attempts.{roles}
+use Rattle.a429_explain.specs.Heard.{forms_of, sight_at}
+use Rattle.a429_explain.specs.Groups.{group_length, words_of_group}
 use Rattle.a429_explain.specs.Units.{AreUnits, AreUnitsOf, IsUnitOf, place_after}
 use Rattle.a429_explain.specs.Whole.{wanted}
 use Rattle.a429_explain.specs.Crossed.{HasCrossed}
 use Rattle.a429_explain.specs.FirstDoubt.{IsStopIn, IsGroupStop}
-use Rattle.a429_explain.proofs.Groups.{numbered, AreSearched, searched_none, searched_free, searched_group, searched_all, searched_doubt}
-use Rattle.a429_explain.proofs.Units.{units_push}
+use Rattle.a429_explain.proofs.GroupsFacts.{numbered, AreSearched, searched_none, searched_free, searched_group, searched_all, searched_doubt}
+use Rattle.a429_explain.proofs.UnitsFacts.{units_push}
 use Rattle.a429_explain.proofs.CleanBlock.{formed_sight}
 use Rattle.a429_explain.proofs.CleanGroups.{words_to_go, unit_said, unit_parts, file_small}
-use Rattle.a429_explain.proofs.Found.{has_item, drop_next}
+use Rattle.a429_explain.proofs.WholeFacts.{has_item, drop_next}
 use Rattle.a429_explain.proofs.CrossedUnit.{request_kept}
 
 -- ---- where the walk has come to
@@ -36,14 +36,14 @@ use Rattle.a429_explain.proofs.CrossedUnit.{request_kept}
 pub record IsLeft (p : Contents) (items : List Seen) (done us : List LduValue) (place : Place) (at : ℕ) : Type 0 where
   pub rest : List LduValue
   pub all : us ≡ done ++ rest
-  pub words : thin p.codes (drop at items) ≡ clean p.codes place.file place.ldu rest
+  pub words : without_free p.codes (drop at items) ≡ clean_blocks p.codes place.file place.ldu rest
   pub fit : AllFit p place.ldu rest
 
 pub record Finds (p : Contents) (items : List Seen) (rs : List Role) (first : ℕ) (done : List LduValue) (place : Place) (at : ℕ) : Type 0 where
   pub units : AreUnits p done
   pub groups : AreSearched p items rs (record { file = first; ldu = p.codes.first_ldu }) done place at
   pub file : place.file ≤ 255
-  pub left : (us : List LduValue) → AllFit p p.codes.first_ldu us → thin p.codes items ≡ clean p.codes first p.codes.first_ldu us → IsLeft p items done us place at
+  pub left : (us : List LduValue) → AllFit p p.codes.first_ldu us → without_free p.codes items ≡ clean_blocks p.codes first p.codes.first_ldu us → IsLeft p items done us place at
 
 pub finds_none : (p : Contents) (items : List Seen) (rs : List Role) (first : ℕ) (done : List LduValue) (ldu : ℕ) → first ≤ 255 → done ≡ [] → ldu ≡ p.codes.first_ldu → Finds p items rs first done (record { file = first; ldu = ldu }) 0
 finds_none p items rs first done ldu f none same = record {
@@ -53,7 +53,7 @@ finds_none p items rs first done ldu f none same = record {
   left = λ us h e. record {
     rest = us;
     all = ap (λ (xs : List LduValue). xs ++ us) (sym none);
-    words = e ∙ ap (λ (n : ℕ). clean p.codes first n us) (sym same);
+    words = e ∙ ap (λ (n : ℕ). clean_blocks p.codes first n us) (sym same);
     fit = subst (λ (n : ℕ). AllFit p n us) (sym same) h;
   };
 }
@@ -61,7 +61,7 @@ finds_none p items rs first done ldu f none same = record {
 -- ---- a word that is no request
 
 -- what begins a recording without loss is a request
-first_wants : (p : Contents) → IsProfile p → (file ldu : ℕ) → file ≤ 255 → (rest : List LduValue) → AllFit p ldu rest → (i : Seen) (xs : List Seen) → wanted (sight_of p.codes i.bus i.word) ≡ None → i ∷ xs ≡ clean p.codes file ldu rest → ⊥
+first_wants : (p : Contents) → IsProfile p → (file ldu : ℕ) → file ≤ 255 → (rest : List LduValue) → AllFit p ldu rest → (i : Seen) (xs : List Seen) → wanted (sight_of p.codes i.bus i.word) ≡ None → i ∷ xs ≡ clean_blocks p.codes file ldu rest → ⊥
 first_wants p is file ldu f [] h i xs w e = cc e
 first_wants p is file ldu f (u ∷ us) h i xs w e =
     let said = unit_said p is file ldu u f h.1 h.0 in
@@ -70,17 +70,17 @@ first_wants p is file ldu f (u ∷ us) h i xs w e =
     let asks : wanted (sight_of p.codes i.bus i.word) ≡ Some (count_of u) = ap (λ (x : Seen). wanted (sight_of p.codes x.bus x.word)) same ∙ ap wanted (formed_sight p.codes bus.A (word_number p.codes (Rts (count_of u))) (Rts (count_of u)) said.request) in
     cc (w, asks)
 
-passed_free : (p : Contents) → IsProfile p → (file ldu : ℕ) → file ≤ 255 → (rest : List LduValue) → AllFit p ldu rest → (i : Seen) (xs : List Seen) → wanted (sight_of p.codes i.bus i.word) ≡ None → thin p.codes (i ∷ xs) ≡ clean p.codes file ldu rest → thin p.codes xs ≡ clean p.codes file ldu rest
+passed_free : (p : Contents) → IsProfile p → (file ldu : ℕ) → file ≤ 255 → (rest : List LduValue) → AllFit p ldu rest → (i : Seen) (xs : List Seen) → wanted (sight_of p.codes i.bus i.word) ≡ None → without_free p.codes (i ∷ xs) ≡ clean_blocks p.codes file ldu rest → without_free p.codes xs ≡ clean_blocks p.codes file ldu rest
 passed_free p is file ldu f rest h i xs w e = by (is_free p.codes i.bus i.word) e
   where
-    by : (t : Bool) → cond t (thin p.codes xs) (i ∷ thin p.codes xs) ≡ clean p.codes file ldu rest → thin p.codes xs ≡ clean p.codes file ldu rest
+    by : (t : Bool) → cond t (without_free p.codes xs) (i ∷ without_free p.codes xs) ≡ clean_blocks p.codes file ldu rest → without_free p.codes xs ≡ clean_blocks p.codes file ldu rest
     by true e = e
-    by false e = absurd (first_wants p is file ldu f rest h i (thin p.codes xs) w e)
+    by false e = absurd (first_wants p is file ldu f rest h i (without_free p.codes xs) w e)
 
-pub finds_free : (p : Contents) → IsProfile p → (items : List Seen) (rs : List Role) (first : ℕ) (done : List LduValue) (place : Place) (at : ℕ) → at < length items → None ≡ wanted (said_at p.codes (slice_get items at)) → Finds p items rs first done place at → Finds p items rs first done place (at + 1)
+pub finds_free : (p : Contents) → IsProfile p → (items : List Seen) (rs : List Role) (first : ℕ) (done : List LduValue) (place : Place) (at : ℕ) → at < length items → None ≡ wanted (sight_at p.codes (slice_get items at)) → Finds p items rs first done place at → Finds p items rs first done place (at + 1)
 finds_free p is items rs first done place at l w h =
     let here = has_item items at l in
-    let none : wanted (sight_of p.codes here.item.bus here.item.word) ≡ None = ap (λ (o : Option Seen). wanted (said_at p.codes o)) (sym here.is) ∙ sym w in
+    let none : wanted (sight_of p.codes here.item.bus here.item.word) ≡ None = ap (λ (o : Option Seen). wanted (sight_at p.codes o)) (sym here.is) ∙ sym w in
     record {
       units = h.units;
       groups = searched_free p items rs _ place done at (sym w) h.groups;
@@ -88,7 +88,7 @@ finds_free p is items rs first done place at l w h =
       left = λ us fit e. let old = h.left us fit e in record {
         rest = old.rest;
         all = old.all;
-        words = passed_free p is place.file place.ldu h.file old.rest old.fit here.item (drop (at + 1) items) none (ap (thin p.codes) (sym (drop_next items at here.item here.is)) ∙ old.words);
+        words = passed_free p is place.file place.ldu h.file old.rest old.fit here.item (drop (at + 1) items) none (ap (without_free p.codes) (sym (drop_next items at here.item here.is)) ∙ old.words);
         fit = old.fit;
       };
     }
@@ -106,10 +106,10 @@ pub record IsNext (p : Contents) (items : List Seen) (done us : List LduValue) (
   pub more : List LduValue
   pub all : us ≡ done ++ unit ∷ more
   pub crossed : HasCrossed p (slice_range items from to) place unit
-  pub words : thin p.codes (drop to items) ≡ clean p.codes (next_file p.codes place.file unit) (next_ldu p.codes place.ldu unit) more
+  pub words : without_free p.codes (drop to items) ≡ clean_blocks p.codes (next_file p.codes place.file unit) (next_ldu p.codes place.ldu unit) more
   pub fit : AllFit p (next_ldu p.codes place.ldu unit) more
 
-next_is : (p : Contents) → IsProfile p → (items : List Seen) (done us : List LduValue) (place : Place) (at to : ℕ) → to ≡ at + words_to_go p.codes (drop at items) → place.file ≤ 255 → (rest : List LduValue) → us ≡ done ++ rest → AllFit p place.ldu rest → thin p.codes (drop at items) ≡ clean p.codes place.file place.ldu rest → (i : Seen) (xs : List Seen) → i ∷ xs ≡ thin p.codes (drop at items) → IsNext p items done us place at to
+next_is : (p : Contents) → IsProfile p → (items : List Seen) (done us : List LduValue) (place : Place) (at to : ℕ) → to ≡ at + words_to_go p.codes (drop at items) → place.file ≤ 255 → (rest : List LduValue) → us ≡ done ++ rest → AllFit p place.ldu rest → without_free p.codes (drop at items) ≡ clean_blocks p.codes place.file place.ldu rest → (i : Seen) (xs : List Seen) → i ∷ xs ≡ without_free p.codes (drop at items) → IsNext p items done us place at to
 next_is p is items done us place at to t f [] all h e i xs k = absurd (let none : i ∷ xs ≡ [] = k ∙ e in cc none)
 next_is p is items done us place at to t f (u ∷ more) all h e i xs k =
     let n = words_to_go p.codes (drop at items) in
@@ -125,21 +125,21 @@ next_is p is items done us place at to t f (u ∷ more) all h e i xs k =
         unit = h.0;
         file = f;
         ldu = omega arith;
-        words = ap (λ (m : ℕ). thin p.codes (take m (drop at items))) long ∙ parts.group_is;
+        words = ap (λ (m : ℕ). without_free p.codes (take m (drop at items))) long ∙ parts.group_is;
       };
-      words = ap (λ (m : ℕ). thin p.codes (drop m items)) t ∙ ap (thin p.codes) (sym (drop-drop n at items)) ∙ parts.rest_is;
+      words = ap (λ (m : ℕ). without_free p.codes (drop m items)) t ∙ ap (without_free p.codes) (sym (drop-drop n at items)) ∙ parts.rest_is;
       fit = h.2;
     }
 
-pub finds_group : (p : Contents) → IsProfile p → (items : List Seen) (rs : List Role) (first : ℕ) (done : List LduValue) (place : Place) (at from to count : ℕ) → rs ≡ roles (forms_of p.codes items) → at < length items → from ≡ at → to ≡ at + group_length (drop at rs) → Some count ≡ wanted (said_at p.codes (slice_get items at)) → Finds p items rs first done place at → (us : List LduValue) → AllFit p p.codes.first_ldu us → thin p.codes items ≡ clean p.codes first p.codes.first_ldu us → IsNext p items done us place from to
+pub finds_group : (p : Contents) → IsProfile p → (items : List Seen) (rs : List Role) (first : ℕ) (done : List LduValue) (place : Place) (at from to count : ℕ) → rs ≡ roles (forms_of p.codes items) → at < length items → from ≡ at → to ≡ at + group_length (drop at rs) → Some count ≡ wanted (sight_at p.codes (slice_get items at)) → Finds p items rs first done place at → (us : List LduValue) → AllFit p p.codes.first_ldu us → without_free p.codes items ≡ clean_blocks p.codes first p.codes.first_ldu us → IsNext p items done us place from to
 finds_group p is items rs first done place at from to count r l same t w h us fit e =
     let old = h.left us fit e in
     let here = has_item items at l in
-    let asks : wanted (sight_of p.codes here.item.bus here.item.word) ≡ Some count = ap (λ (o : Option Seen). wanted (said_at p.codes o)) (sym here.is) ∙ sym w in
+    let asks : wanted (sight_of p.codes here.item.bus here.item.word) ≡ Some count = ap (λ (o : Option Seen). wanted (sight_at p.codes o)) (sym here.is) ∙ sym w in
     let kept = request_kept p.codes here.item count asks in
-    let begins : here.item ∷ thin p.codes (drop (at + 1) items) ≡ thin p.codes (drop at items) = sym (ap (thin p.codes) (drop_next items at here.item here.is) ∙ ap (λ (b : Bool). cond b (thin p.codes (drop (at + 1) items)) (here.item ∷ thin p.codes (drop (at + 1) items))) kept) in
+    let begins : here.item ∷ without_free p.codes (drop (at + 1) items) ≡ without_free p.codes (drop at items) = sym (ap (without_free p.codes) (drop_next items at here.item here.is) ∙ ap (λ (b : Bool). cond b (without_free p.codes (drop (at + 1) items)) (here.item ∷ without_free p.codes (drop (at + 1) items))) kept) in
     let goes : group_length (drop at rs) ≡ words_to_go p.codes (drop at items) = ap (λ (xs : List Role). group_length (drop at xs)) r ∙ ap group_length (roles-drop p.codes items at) in
-    subst (λ (n : ℕ). IsNext p items done us place n to) (sym same) (next_is p is items done us place at to (t ∙ ap (λ (n : ℕ). at + n) goes) h.file old.rest old.all old.fit old.words here.item (thin p.codes (drop (at + 1) items)) begins)
+    subst (λ (n : ℕ). IsNext p items done us place n to) (sym same) (next_is p is items done us place at to (t ∙ ap (λ (n : ℕ). at + n) goes) h.file old.rest old.all old.fit old.words here.item (without_free p.codes (drop (at + 1) items)) begins)
 
 ldu_small : (p : Contents) → IsProfile p → (ldu : ℕ) (u : LduValue) → ldu ≤ 255 → next_ldu p.codes ldu u ≤ 65535
 ldu_small p is ldu u l = by (is_final p.codes u.flags) (in_range p is).first_ldu
@@ -149,7 +149,7 @@ ldu_small p is ldu u l = by (is_final p.codes u.flags) (in_range p is).first_ldu
     by false m = omega arith
 
 -- the unit that is found is the next one, and the walk goes on behind its group
-pub finds_next : (p : Contents) → IsProfile p → (items : List Seen) (rs : List Role) (first : ℕ) (done new : List LduValue) (place next : Place) (at wants : ℕ) (g : Group) (unit : LduValue) → g.from ≡ at → g.to ≡ at + group_length (drop at rs) → wanted (said_at p.codes (slice_get items at)) ≡ Some wants → IsUnitOf p items g wants place unit → new ≡ done ++ unit ∷ [] → next ≡ place_after p.codes place unit → ((u : LduValue) → HasCrossed p (words_in items g) place u → unit ≡ u) → ((us : List LduValue) → AllFit p p.codes.first_ldu us → thin p.codes items ≡ clean p.codes first p.codes.first_ldu us → IsNext p items done us place g.from g.to) → Finds p items rs first done place at → Finds p items rs first new next g.to
+pub finds_next : (p : Contents) → IsProfile p → (items : List Seen) (rs : List Role) (first : ℕ) (done new : List LduValue) (place next : Place) (at wants : ℕ) (g : Group) (unit : LduValue) → g.from ≡ at → g.to ≡ at + group_length (drop at rs) → wanted (sight_at p.codes (slice_get items at)) ≡ Some wants → IsUnitOf p items g wants place unit → new ≡ done ++ unit ∷ [] → next ≡ place_after p.codes place unit → ((u : LduValue) → HasCrossed p (words_of_group items g) place u → unit ≡ u) → ((us : List LduValue) → AllFit p p.codes.first_ldu us → without_free p.codes items ≡ clean_blocks p.codes first p.codes.first_ldu us → IsNext p items done us place g.from g.to) → Finds p items rs first done place at → Finds p items rs first new next g.to
 finds_next p is items rs first done new place next at wants group_at unit from to asks unit_is pushed number found group h = record {
   units = subst (AreUnits p) (sym pushed) (units_push p done unit h.units unit_is.unit);
   groups = searched_group p items rs _ place next done new at wants group_at unit from to asks unit_is pushed number h.groups;
@@ -165,27 +165,27 @@ finds_next p is items rs first done new place next at wants group_at unit from t
       record {
         rest = g.more;
         all = g.all ∙ sym (append_assoc done (g.unit ∷ []) g.more) ∙ ap (λ (xs : List LduValue). xs ++ g.more) (sym (pushed ∙ ap (λ (u : LduValue). done ++ u ∷ []) same));
-        words = g.words ∙ ap (λ (n : ℕ). clean p.codes n (next_ldu p.codes place.ldu g.unit) g.more) (sym next_one) ∙ ap (λ (n : ℕ). clean p.codes next.file n g.more) (sym next_number);
+        words = g.words ∙ ap (λ (n : ℕ). clean_blocks p.codes n (next_ldu p.codes place.ldu g.unit) g.more) (sym next_one) ∙ ap (λ (n : ℕ). clean_blocks p.codes next.file n g.more) (sym next_number);
         fit = subst (λ (n : ℕ). AllFit p n g.more) (sym next_number) g.fit;
       };
 }
 
 -- ---- the end
 
-nothing_left : (p : Contents) (done us : List LduValue) (file ldu : ℕ) (rest : List LduValue) → us ≡ done ++ rest → [] ≡ clean p.codes file ldu rest → done ≡ us
+nothing_left : (p : Contents) (done us : List LduValue) (file ldu : ℕ) (rest : List LduValue) → us ≡ done ++ rest → [] ≡ clean_blocks p.codes file ldu rest → done ≡ us
 nothing_left p done us file ldu [] all e = sym (all ∙ append-nil done)
 nothing_left p done us file ldu (u ∷ rest) all e = absurd (cc e)
 
-pub finds_all : (p : Contents) (items : List Seen) (rs : List Role) (first : ℕ) (done : List LduValue) (place : Place) (at : ℕ) → length items ≤ at → Finds p items rs first done place at → (us : List LduValue) → AllFit p p.codes.first_ldu us → thin p.codes items ≡ clean p.codes first p.codes.first_ldu us → done ≡ us
+pub finds_all : (p : Contents) (items : List Seen) (rs : List Role) (first : ℕ) (done : List LduValue) (place : Place) (at : ℕ) → length items ≤ at → Finds p items rs first done place at → (us : List LduValue) → AllFit p p.codes.first_ldu us → without_free p.codes items ≡ clean_blocks p.codes first p.codes.first_ldu us → done ≡ us
 finds_all p items rs first done place at l h us fit e =
     let old = h.left us fit e in
-    nothing_left p done us place.file place.ldu old.rest old.all (sym (ap (thin p.codes) (drop_all at items l)) ∙ old.words)
+    nothing_left p done us place.file place.ldu old.rest old.all (sym (ap (without_free p.codes) (drop_all at items l)) ∙ old.words)
 
 -- those that are found are those of the groups
 pub finds_groups : (p : Contents) (items : List Seen) (rs : List Role) (first : ℕ) (done : List LduValue) (place : Place) (at : ℕ) → length items ≤ at → Finds p items rs first done place at → AreUnitsOf p items rs (record { file = first; ldu = p.codes.first_ldu }) 0 done
 finds_groups p items rs first done place at l h = searched_all p items rs _ place done at l h.groups
 
 -- or a group is doubted
-pub finds_doubt : (p : Contents) (items : List Seen) (rs : List Role) (first : ℕ) (done : List LduValue) (place : Place) (at wants : ℕ) (g : Group) (stop : Stop) → g.from ≡ at → g.to ≡ at + group_length (drop at rs) → wanted (said_at p.codes (slice_get items at)) ≡ Some wants → IsStopIn p items g wants place stop → Finds p items rs first done place at → IsGroupStop p items rs (record { file = first; ldu = p.codes.first_ldu }) stop
+pub finds_doubt : (p : Contents) (items : List Seen) (rs : List Role) (first : ℕ) (done : List LduValue) (place : Place) (at wants : ℕ) (g : Group) (stop : Stop) → g.from ≡ at → g.to ≡ at + group_length (drop at rs) → wanted (sight_at p.codes (slice_get items at)) ≡ Some wants → IsStopIn p items g wants place stop → Finds p items rs first done place at → IsGroupStop p items rs (record { file = first; ldu = p.codes.first_ldu }) stop
 finds_doubt p items rs first done place at wants g (Unexplained i doubt) from to asks is h = record { units = done; are = searched_doubt p items rs _ place done at wants i doubt g from to asks is h.groups }
 finds_doubt p items rs first done place at wants g OutOfMemory from to asks is h = tt

@@ -3,23 +3,25 @@ use Rattle.std.proofs.Common.{◌≡◌, ℕ, ◌+◌, ◌-◌, Bool, true, fals
 use Rattle.std.specs.Option.{option_or}
 use Rattle.a429_word.specs.declared.bus.Bus.{Bus}
 use Rattle.a429_profile.specs.declared.codes.Codes.{Codes}
-use Rattle.a429_profile.specs.Contents.{Contents}
+use Rattle.a429_profile.specs.Profile.{Contents}
 use Rattle.a429_ldu.specs.declared.forms.Form.{Form}
 use Rattle.a429_ldu.specs.declared.forms.Form.TheVariants.{Sot}
 use Rattle.a429_ldu.specs.declared.sight.Sight.TheVariants as sight
-use Rattle.a429_ldu.specs.Form.{form_of, is_free, sight_in, sight_of}
+use Rattle.a429_ldu.specs.Form.{form_of, is_free}
+use Rattle.a429_ldu.specs.Sight.{sight_of, sight_in}
 use Rattle.a429_ldu.specs.Ldu.{LduValue, count_of}
 use Rattle.a429_link.specs.declared.seen.Seen.{Seen}
-use Rattle.a429_link.specs.Clean.{thin}
+use Rattle.a429_link.specs.Clean.{without_free}
 use Rattle.a429_explain.specs.declared.matching.Place.{Place}
-use Rattle.a429_explain.specs.Attempts.{forms_of, next_start}
+use Rattle.a429_explain.specs.Attempts.{next_start}
+use Rattle.a429_explain.specs.Heard.{forms_of}
 use Rattle.a429_explain.specs.Matching.{is_word, passed_with, passing_as, passed_after}
 use Rattle.a429_explain.specs.Whole.{Recorded, gathered_with, ended_by, first_whole, wanted, is_other, other_request}
-use Rattle.a429_explain.proofs.Walked.{free_none}
+use Rattle.a429_explain.proofs.WalkFacts.{free_none}
 
 -- ---- the first whole attempt
 
-pub first_whole-thin : (p : Contents) (count : ℕ) (items : List Seen) (r : Recorded) → first_whole p count (thin p.codes items) r ≡ first_whole p count items r
+pub first_whole-thin : (p : Contents) (count : ℕ) (items : List Seen) (r : Recorded) → first_whole p count (without_free p.codes items) r ≡ first_whole p count items r
 first_whole-thin p count [] r = refl
 first_whole-thin p count (i ∷ items) r = by (is_free p.codes i.bus i.word) refl (first_whole-thin p count items)
   where
@@ -27,7 +29,7 @@ first_whole-thin p count (i ∷ items) r = by (is_free p.codes i.bus i.word) ref
     none None e = refl
     none (Some x) e = absurd (cc e)
 
-    by : (t : Bool) → is_free p.codes i.bus i.word ≡ t → ((s : Recorded) → first_whole p count (thin p.codes items) s ≡ first_whole p count items s) → first_whole p count (cond t (thin p.codes items) (i ∷ thin p.codes items)) r ≡ first_whole p count (i ∷ items) r
+    by : (t : Bool) → is_free p.codes i.bus i.word ≡ t → ((s : Recorded) → first_whole p count (without_free p.codes items) s ≡ first_whole p count items s) → first_whole p count (cond t (without_free p.codes items) (i ∷ without_free p.codes items)) r ≡ first_whole p count (i ∷ items) r
     by true e more = more r ∙ sym (none (form_of p.codes i.bus i.word) (free_none p.codes i.bus i.word e))
     by false e more = ap (option_or (ended_by p count (form_of p.codes i.bus i.word) r)) (more (gathered_with (form_of p.codes i.bus i.word) i.word r))
 
@@ -42,11 +44,11 @@ passes-none c u place word None None e = refl
 passes-none c u place word None (Some k) e = refl
 passes-none c u place word (Some x) o e = absurd (cc e)
 
-pub passed_after-thin : (c : Codes) (u : LduValue) (place : Place) (items : List Seen) (o : Option ℕ) → passed_after c u place (thin c items) o ≡ passed_after c u place items o
+pub passed_after-thin : (c : Codes) (u : LduValue) (place : Place) (items : List Seen) (o : Option ℕ) → passed_after c u place (without_free c items) o ≡ passed_after c u place items o
 passed_after-thin c u place [] o = refl
 passed_after-thin c u place (i ∷ items) o = by (is_free c i.bus i.word) refl (passed_after-thin c u place items)
   where
-    by : (t : Bool) → is_free c i.bus i.word ≡ t → ((q : Option ℕ) → passed_after c u place (thin c items) q ≡ passed_after c u place items q) → passed_after c u place (cond t (thin c items) (i ∷ thin c items)) o ≡ passed_after c u place (i ∷ items) o
+    by : (t : Bool) → is_free c i.bus i.word ≡ t → ((q : Option ℕ) → passed_after c u place (without_free c items) q ≡ passed_after c u place items q) → passed_after c u place (cond t (without_free c items) (i ∷ without_free c items)) o ≡ passed_after c u place (i ∷ items) o
     by true e more = more o ∙ sym (ap (passed_after c u place items) (passes-none c u place i.word (form_of c i.bus i.word) o (free_none c i.bus i.word e)))
     by false e more = more (option_and_then (passes c u place i.word (form_of c i.bus i.word)) o)
 
@@ -60,13 +62,13 @@ next_start-none : (o : Option Form) (xs : List (Option Form)) → o ≡ None →
 next_start-none None xs e = refl
 next_start-none (Some x) xs e = absurd (cc e)
 
-pub next_start-thin : (c : Codes) (items : List Seen) → next_start (forms_of c (thin c items)) ≡ next_start (forms_of c items)
+pub next_start-thin : (c : Codes) (items : List Seen) → next_start (forms_of c (without_free c items)) ≡ next_start (forms_of c items)
 next_start-thin c [] = refl
 next_start-thin c (i ∷ items) = by (is_free c i.bus i.word) refl (next_start-thin c items)
   where
-    by : (t : Bool) → is_free c i.bus i.word ≡ t → next_start (forms_of c (thin c items)) ≡ next_start (forms_of c items) → next_start (forms_of c (cond t (thin c items) (i ∷ thin c items))) ≡ next_start (forms_of c (i ∷ items))
+    by : (t : Bool) → is_free c i.bus i.word ≡ t → next_start (forms_of c (without_free c items)) ≡ next_start (forms_of c items) → next_start (forms_of c (cond t (without_free c items) (i ∷ without_free c items))) ≡ next_start (forms_of c (i ∷ items))
     by true e more = more ∙ sym (next_start-none (form_of c i.bus i.word) (forms_of c items) (free_none c i.bus i.word e))
-    by false e more = next_start-cons (form_of c i.bus i.word) (forms_of c (thin c items)) (forms_of c items) more
+    by false e more = next_start-cons (form_of c i.bus i.word) (forms_of c (without_free c items)) (forms_of c items) more
 
 -- ---- requests
 
@@ -75,7 +77,7 @@ pub free_sight : (c : Codes) (b : Bus) (w : ℕ) → is_free c b w ≡ true → 
 free_sight c b w e = ap (λ (t : Bool). wanted (cond t sight.Free (sight_in (form_of c b w)))) e
 
 -- none is of another count among the words, if none is among those that are not free
-pub other_request-thin : (c : Codes) (count : ℕ) (items : List Seen) (j k : ℕ) → other_request c count (thin c items) j ≡ None → other_request c count items k ≡ None
+pub other_request-thin : (c : Codes) (count : ℕ) (items : List Seen) (j k : ℕ) → other_request c count (without_free c items) j ≡ None → other_request c count items k ≡ None
 other_request-thin c count [] j k h = refl
 other_request-thin c count (i ∷ items) j k h = by (is_free c i.bus i.word) refl h (other_request-thin c count items)
   where
@@ -83,10 +85,10 @@ other_request-thin c count (i ∷ items) j k h = by (is_free c i.bus i.word) ref
     none None e h = h
     none (Some n) e h = absurd (cc e)
 
-    kept : (b : Bool) → cond b (Some j) (other_request c count (thin c items) (j + 1)) ≡ None → ((m n : ℕ) → other_request c count (thin c items) m ≡ None → other_request c count items n ≡ None) → cond b (Some k) (other_request c count items (k + 1)) ≡ None
+    kept : (b : Bool) → cond b (Some j) (other_request c count (without_free c items) (j + 1)) ≡ None → ((m n : ℕ) → other_request c count (without_free c items) m ≡ None → other_request c count items n ≡ None) → cond b (Some k) (other_request c count items (k + 1)) ≡ None
     kept true h more = absurd (cc h)
     kept false h more = more (j + 1) (k + 1) h
 
-    by : (t : Bool) → is_free c i.bus i.word ≡ t → other_request c count (cond t (thin c items) (i ∷ thin c items)) j ≡ None → ((m n : ℕ) → other_request c count (thin c items) m ≡ None → other_request c count items n ≡ None) → other_request c count (i ∷ items) k ≡ None
+    by : (t : Bool) → is_free c i.bus i.word ≡ t → other_request c count (cond t (without_free c items) (i ∷ without_free c items)) j ≡ None → ((m n : ℕ) → other_request c count (without_free c items) m ≡ None → other_request c count items n ≡ None) → other_request c count (i ∷ items) k ≡ None
     by true e h more = none (wanted (sight_of c i.bus i.word)) (free_sight c i.bus i.word e) (more j (k + 1) h)
     by false e h more = kept (is_other count (wanted (sight_of c i.bus i.word))) h more

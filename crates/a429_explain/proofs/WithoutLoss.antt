@@ -4,7 +4,7 @@ use Rattle.std.specs.List.{AllByRecursion}
 use Rattle.std.proofs.lemmas.Bool.{eqb-false, ltb-false}
 use Rattle.std.proofs.lemmas.List.{take-append-drop}
 use Rattle.a429_profile.specs.declared.codes.Codes.{Codes}
-use Rattle.a429_profile.specs.Contents.{Contents, IsProfile}
+use Rattle.a429_profile.specs.Profile.{Contents, IsProfile}
 use Rattle.a429_ldu.specs.declared.fault.CutFault.{CutFault}
 use Rattle.a429_ldu.specs.declared.fault.CutFault.TheVariants as cut
 use Rattle.a429_ldu.specs.Cut.{room}
@@ -12,28 +12,28 @@ use Rattle.a429_word.specs.declared.bus.Bus.TheVariants as bus
 use Rattle.a429_ldu.specs.declared.forms.Form.{Form}
 use Rattle.a429_ldu.specs.Form.{form_of, is_free}
 use Rattle.a429_ldu.specs.Ldu.{LduValue, block_of}
-use Rattle.a429_ldu.proofs.Cuts.{units}
+use Rattle.a429_ldu.proofs.CutFacts.{units}
 use Rattle.a429_link.specs.declared.fault.CleanFault.{CleanFault}
 use Rattle.a429_link.specs.declared.seen.Seen.{Seen}
-use Rattle.a429_link.specs.Clean.{AllFit, on_a, next_file, next_ldu, clean_block, clean_words, thin, clean, clean_steps, weave, units_of_files, cut_fault, refused_or, first_refused}
+use Rattle.a429_link.specs.Clean.{AllFit, on_a, next_file, next_ldu, clean_block, clean_words, without_free, clean_blocks, clean_steps, weave, units_of_files, cut_fault, refused_or, first_refused}
 use Rattle.a429_link.specs.Run.{BeginsARun}
 use Rattle.a429_link.proofs.CleanFiles.{EachCut, all_fit}
 use Rattle.a429_link.proofs.CleanRuns.{clean_is_run}
 use Rattle.a429_link.specs.Link.{LinkValue}
-use Rattle.a429_link.specs.Step.{start}
+use Rattle.a429_link.specs.State.{start}
 use Rattle.a429_link.specs.declared.fault.StepFault.{StepFault}
 use Rattle.a429_link.specs.declared.fault.StepFault.TheVariants as step
 use Rattle.a429_explain.specs.declared.stop.Stop.{Stop}
 use Rattle.a429_explain.specs.declared.stop.Stop.TheVariants.{Unexplained, OutOfMemory}
 use Rattle.a429_explain.specs.declared.verdict.Doubt.TheVariants.{NotReplayed}
-use Rattle.a429_explain.specs.Attempts.{forms_of}
+use Rattle.a429_explain.specs.Heard.{forms_of}
 use Rattle.a429_explain.specs.Doubt.{IsStop}
 use Rattle.a429_explain.specs.Crossed.{first_file_of}
 use Rattle.a429_explain.specs.WithoutLoss.{IsWithoutLoss}
 use Rattle.a429_explain.specs.Matching.{IsOfBlock}
 use Rattle.a429_explain.proofs.CleanBlock.{AreSaid, AreOfBlock, block_said, formed_free}
 use Rattle.a429_explain.proofs.CleanGroups.{clean_from_first, unit_said, file_small}
-use Rattle.a429_explain.proofs.Planned.{OnPlan, plan_starts}
+use Rattle.a429_explain.proofs.ScribeWithoutLoss.{OnPlan, plan_starts}
 
 -- none of some files is refused: the first is not, and none of the others
 kept : (k : ℕ) (o : Option CutFault) (later : Option CleanFault) → refused_or k o later ≡ None → (o ≡ None) × (later ≡ None)
@@ -67,7 +67,7 @@ pub units_fit : (p : Contents) → IsProfile p → (items : List Seen) (h : IsWi
 units_fit p is items h = all_fit p h.max_words h.files (each_cut p is h.max_words 0 h.files h.least h.most h.bytes h.cut)
 
 -- they are those that are found
-pub units_found : (p : Contents) → IsProfile p → (items : List Seen) (h : IsWithoutLoss p items) (first : ℕ) → first ≡ first_file_of (forms_of p.codes items) → thin p.codes items ≡ clean p.codes first p.codes.first_ldu (its_units p items h)
+pub units_found : (p : Contents) → IsProfile p → (items : List Seen) (h : IsWithoutLoss p items) (first : ℕ) → first ≡ first_file_of (forms_of p.codes items) → without_free p.codes items ≡ clean_blocks p.codes first p.codes.first_ldu (its_units p items h)
 units_found p is items h first e = rw e (clean_from_first p is h.first (its_units p items h) items h.byte (units_fit p is items h) h.words)
 
 -- a recording without loss is on plan at its start
@@ -84,7 +84,7 @@ begins p is items n h =
       steps = weave p.codes items (clean_steps p.codes h.first p.codes.first_ldu (its_units p items h));
       run = run.run;
       more = drop n items;
-      told = run.told ∙ sym (take-append-drop n items);
+      records = run.records ∙ sym (take-append-drop n items);
     }
 
 -- ---- refusals
@@ -101,7 +101,7 @@ abbrev AreKept : Codes → List Seen → Type 0
 AreKept c [] = Unit {0}
 AreKept c (i ∷ items) = (is_free c i.bus i.word ≡ false) × AreKept c items
 
-thin_kept : (c : Codes) (items : List Seen) → AreKept c items → thin c items ≡ items
+thin_kept : (c : Codes) (items : List Seen) → AreKept c items → without_free c items ≡ items
 thin_kept c [] h = refl
 thin_kept c (i ∷ items) h = rw h.0 (ap (λ (xs : List Seen). i ∷ xs) (thin_kept c items h.1))
 
@@ -121,7 +121,7 @@ block_kept : (p : Contents) (file ldu : ℕ) (u : LduValue) → AreSaid p file l
 block_kept p file ldu u s =
     (formed_free p.codes bus.A _ _ s.request, (formed_free p.codes bus.B _ _ s.clear, kept_append p.codes (map on_a (block_of p.codes u file ldu)) _ (words_kept p.codes (block_of p.codes u file ldu) (block_said p file ldu u s)) (formed_free p.codes bus.B _ _ s.settled, tt)))
 
-clean_kept : (p : Contents) → IsProfile p → (us : List LduValue) (file ldu : ℕ) → file ≤ 255 → AllFit p ldu us → AreKept p.codes (clean p.codes file ldu us)
+clean_kept : (p : Contents) → IsProfile p → (us : List LduValue) (file ldu : ℕ) → file ≤ 255 → AllFit p ldu us → AreKept p.codes (clean_blocks p.codes file ldu us)
 clean_kept p is [] file ldu f h = tt
 clean_kept p is (u ∷ us) file ldu f h = kept_append p.codes (clean_block p.codes file ldu u) _ (block_kept p file ldu u (unit_said p is file ldu u f h.1 h.0)) (clean_kept p is us (next_file p.codes file u) (next_ldu p.codes ldu u) (file_small p.codes file u f) h.2)
 

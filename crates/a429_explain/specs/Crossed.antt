@@ -1,11 +1,11 @@
 -- What is found in a recording without loss (profile).
 use Rattle.std.specs.Prelude.{◌≡◌, ℕ, ◌≤◌, Option, Some, None, List}
-use Rattle.a429_profile.specs.Contents.{Contents}
+use Rattle.a429_profile.specs.Profile.{Contents}
 use Rattle.a429_ldu.specs.declared.forms.Form.{Form}
 use Rattle.a429_ldu.specs.declared.forms.Form.TheVariants.{Sot}
 use Rattle.a429_ldu.specs.Ldu.{LduValue, IsLdu}
 use Rattle.a429_link.specs.declared.seen.Seen.{Seen}
-use Rattle.a429_link.specs.Clean.{thin, clean_block}
+use Rattle.a429_link.specs.Clean.{without_free, clean_block}
 use Rattle.a429_explain.specs.declared.attempts.Numbers.{Numbers}
 use Rattle.a429_explain.specs.declared.matching.Place.{Place}
 use Rattle.a429_explain.specs.Attempts.{next_start}
@@ -28,4 +28,4 @@ pub record HasCrossed (p : Contents) (group : List Seen) (place : Place) (u : Ld
   pub unit : IsLdu p u
   pub file : place.file ≤ 255
   pub ldu : place.ldu ≤ 255
-  pub words : thin p.codes group ≡ clean_block p.codes place.file place.ldu u
+  pub words : without_free p.codes group ≡ clean_block p.codes place.file place.ldu u

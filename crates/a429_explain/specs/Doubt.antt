@@ -5,7 +5,7 @@ use Rattle.a429_ldu.specs.declared.forms.Form.TheVariants.{Rts, Sot, Part, Eot}
 use Rattle.a429_ldu.specs.declared.sight.Sight.{Sight}
 use Rattle.a429_ldu.specs.declared.sight.Sight.TheVariants as sight
 use Rattle.a429_link.specs.declared.seen.Seen.{Seen}
-use Rattle.a429_explain.specs.Said.{said_at}
+use Rattle.a429_explain.specs.Heard.{sight_at}
 use Rattle.a429_explain.specs.declared.stop.Stop.{Stop}
 use Rattle.a429_explain.specs.declared.stop.Stop.TheVariants.{Unexplained, OutOfMemory}
 use Rattle.a429_explain.specs.declared.verdict.Doubt.{Doubt}
@@ -24,7 +24,7 @@ IsDoubtOf _ _ = ⊥
 -- the doubt fits word i; the steps that are guessed may stop at any word
 abbrev pub IsDoubtAt : Codes → List Seen → ℕ → Doubt → Type 0
 IsDoubtAt c items i NotReplayed = i < length items
-IsDoubtAt c items i doubt = IsDoubtOf (said_at c (slice_get items i)) doubt
+IsDoubtAt c items i doubt = IsDoubtOf (sight_at c (slice_get items i)) doubt
 
 abbrev pub IsStop : Codes → List Seen → Stop → Type 0
 IsStop c items (Unexplained i doubt) = IsDoubtAt c items i doubt

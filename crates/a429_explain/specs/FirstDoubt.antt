@@ -1,20 +1,21 @@
 -- The first doubt of a recording's groups (profile). Each group is put to three tests: whether all its requests want as
 -- many words, whether it gives a link data unit, and whether its words stand in the block of that.
 use Rattle.std.specs.Prelude.{◌≡◌, ◌⊎◌, ◌+◌, ◌<◌, ℕ, List, Some, None}
-use Rattle.a429_profile.specs.Contents.{Contents}
+use Rattle.a429_profile.specs.Profile.{Contents}
 use Rattle.a429_ldu.specs.Ldu.{LduValue}
 use Rattle.a429_link.specs.declared.seen.Seen.{Seen}
 use Rattle.a429_explain.specs.declared.attempts.Role.{Role}
-use Rattle.a429_explain.specs.declared.group.Group.{Group}
+use Rattle.a429_explain.specs.declared.groups.Group.{Group}
 use Rattle.a429_explain.specs.declared.matching.Place.{Place}
 use Rattle.a429_explain.specs.declared.stop.Stop.{Stop}
 use Rattle.a429_explain.specs.declared.stop.Stop.TheVariants.{Unexplained, OutOfMemory}
 use Rattle.a429_explain.specs.declared.verdict.Doubt.{Doubt}
 use Rattle.a429_explain.specs.declared.verdict.Doubt.TheVariants.{NeverWhole, NotOneBlock, NotReplayed}
-use Rattle.a429_explain.specs.Attempts.{forms_of, roles}
+use Rattle.a429_explain.specs.Attempts.{roles}
+use Rattle.a429_explain.specs.Heard.{forms_of}
 use Rattle.a429_explain.specs.Crossed.{first_file_of}
 use Rattle.a429_explain.specs.Filled.{group_unit}
-use Rattle.a429_explain.specs.Groups.{group_from, words_in}
+use Rattle.a429_explain.specs.Groups.{group_from, words_of_group}
 use Rattle.a429_explain.specs.Matching.{AreMatched}
 use Rattle.a429_explain.specs.Units.{IsFirstRequest, AreUnitsBefore, AreUnitsOf}
 use Rattle.a429_explain.specs.Whole.{other_request}
@@ -23,17 +24,17 @@ use Rattle.a429_explain.specs.Whole.{other_request}
 
 -- word i is the first of the group that does not stand in the block of its link data unit
 pub record IsUnmatched (p : Contents) (items : List Seen) (g : Group) (wants : ℕ) (place : Place) (i : ℕ) : Type 0 where
-  pub others : other_request p.codes wants (words_in items g) g.from ≡ None
+  pub others : other_request p.codes wants (words_of_group items g) g.from ≡ None
   pub unit : LduValue
-  pub is : group_unit p wants (words_in items g) ≡ Some unit
+  pub is : group_unit p wants (words_of_group items g) ≡ Some unit
   pub inside : i < g.to
   pub before : AreMatched p.codes unit place items g.from i
   pub unmatched : ¬ AreMatched p.codes unit place items g.from (i + 1)
 
 -- the first test that a group fails whose first request wants so many words, and the place where it does
 abbrev pub IsDoubtIn : Contents → List Seen → Group → ℕ → Place → ℕ → Doubt → Type 0
-IsDoubtIn p items g wants place i NotOneBlock = (other_request p.codes wants (words_in items g) g.from ≡ Some i) ⊎ IsUnmatched p items g wants place i
-IsDoubtIn p items g wants place i NeverWhole = (i ≡ g.from) × (other_request p.codes wants (words_in items g) g.from ≡ None) × (group_unit p wants (words_in items g) ≡ None)
+IsDoubtIn p items g wants place i NotOneBlock = (other_request p.codes wants (words_of_group items g) g.from ≡ Some i) ⊎ IsUnmatched p items g wants place i
+IsDoubtIn p items g wants place i NeverWhole = (i ≡ g.from) × (other_request p.codes wants (words_of_group items g) g.from ≡ None) × (group_unit p wants (words_of_group items g) ≡ None)
 IsDoubtIn p items g wants place i NotReplayed = ⊥
 
 abbrev pub IsStopIn : Contents → List Seen → Group → ℕ → Place → Stop → Type 0

@@ -3,7 +3,7 @@ use Rattle.std.specs.Prelude.{ℕ, suc, ◌+◌, Bool, false, if◌then◌else�
 use Rattle.a429_link.specs.declared.seen.Seen.{Seen}
 use Rattle.a429_explain.specs.declared.attempts.Role.{Role}
 use Rattle.a429_explain.specs.declared.attempts.Role.TheVariants.{Acknowledged}
-use Rattle.a429_explain.specs.declared.group.Group.{Group}
+use Rattle.a429_explain.specs.declared.groups.Group.{Group}
 
 abbrev pub ends_group : Role → Bool
 ends_group (Acknowledged ends) = ends
@@ -19,5 +19,5 @@ abbrev pub group_from : List Role → ℕ → Group
 group_from rs from = record { from = from; to = from + group_length (drop from rs) }
 
 -- its words
-abbrev pub words_in : List Seen → Group → List Seen
-words_in items g = slice_range items g.from g.to
+abbrev pub words_of_group : List Seen → Group → List Seen
+words_of_group items g = slice_range items g.from g.to

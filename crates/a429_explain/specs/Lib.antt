@@ -1,15 +1,13 @@
 pub mod Walk
 pub mod Attempts
-pub mod Ahead
-pub mod Said
+pub mod Heard
 pub mod Doubt
 pub mod Units
 pub mod FirstDoubt
 pub mod Verdict
 pub mod Groups
 pub mod Matching
-pub mod Told
-pub mod Plain
+pub mod Scribe
 pub mod WithoutLoss
 pub mod Whole
 pub mod Filled

@@ -1,14 +1,14 @@
 -- What the verdict on a recording says (profile).
 use Rattle.std.specs.Prelude.{◌≡◌, ◌+◌, ◌<◌, ◌⊎◌, List, [], ◌∷◌, take, slice_get, length}
 use Rattle.a429_profile.specs.declared.codes.Codes.{Codes}
-use Rattle.a429_profile.specs.Contents.{Contents}
+use Rattle.a429_profile.specs.Profile.{Contents}
 use Rattle.a429_ldu.specs.declared.sight.Sight.TheVariants as sight
-use Rattle.a429_ldu.specs.Form.{sight_of}
+use Rattle.a429_ldu.specs.Sight.{sight_of}
 use Rattle.a429_link.specs.declared.seen.Seen.{Seen}
 use Rattle.a429_link.specs.Run.{BeginsARun}
 use Rattle.a429_cert.specs.Explained.{IsExplained, AreInEveryRun}
 use Rattle.a429_cert.specs.declared.fault.CertFault.{CertFault}
-use Rattle.a429_cert.specs.Fault.{IsFirstFault}
+use Rattle.a429_cert.specs.Fault.{IsFirstCertFault}
 use Rattle.a429_explain.specs.declared.verdict.Verdict.{Verdict}
 use Rattle.a429_explain.specs.declared.verdict.Verdict.TheVariants.{Explained, Impossible, Unexplained}
 use Rattle.a429_explain.specs.declared.stop.Stop.TheVariants as stop
@@ -18,13 +18,13 @@ use Rattle.a429_explain.specs.FirstDoubt.{HasNoDoubt, IsFirstStop}
 
 -- a certificate explains the recorded words by a run that delivers the files, and every run that records them
 -- delivers these
-abbrev pub IsSound : Contents → List Seen → Verdict → Type 0
-IsSound p items (Explained certificate files) = IsExplained p certificate items files × AreInEveryRun p items files
-IsSound p items _ = Unit {0}
+abbrev pub IsSoundVerdict : Contents → List Seen → Verdict → Type 0
+IsSoundVerdict p items (Explained certificate files) = IsExplained p certificate items files × AreInEveryRun p items files
+IsSoundVerdict p items _ = Unit {0}
 
 -- in the certificate there is no fault, so `verify` accepts it, want of memory aside
 abbrev pub IsAccepted : Contents → List Seen → Verdict → Type 0
-IsAccepted p items (Explained certificate files) = (f : CertFault) → ¬ IsFirstFault p certificate items f
+IsAccepted p items (Explained certificate files) = (f : CertFault) → ¬ IsFirstCertFault p certificate items f
 IsAccepted p items _ = Unit {0}
 
 -- no run's trace begins with the words up to this one, and the reason fits it
@@ -37,9 +37,9 @@ abbrev pub HasNoForm : Codes → List Seen → Type 0
 HasNoForm c [] = ⊥
 HasNoForm c (i ∷ items) = (sight_of c i.bus i.word ≡ sight.NoForm) ⊎ HasNoForm c items
 
-abbrev pub IsRefusal : Verdict → Type 0
-IsRefusal (Impossible i reason) = Unit {0}
-IsRefusal _ = ⊥
+abbrev pub IsImpossibility : Verdict → Type 0
+IsImpossibility (Impossible i reason) = Unit {0}
+IsImpossibility _ = ⊥
 
 abbrev pub IsExplanation : Verdict → Type 0
 IsExplanation (Explained certificate files) = Unit {0}

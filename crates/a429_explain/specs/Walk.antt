@@ -1,12 +1,12 @@
 -- The first word of a recording that no run records after those before it, and the reason (profile).
 use Rattle.std.specs.Prelude.{ℕ, ◌<◌, List, Option, Some, None, take, slice_get}
 use Rattle.a429_profile.specs.declared.codes.Codes.{Codes}
-use Rattle.a429_profile.specs.Contents.{Contents}
+use Rattle.a429_profile.specs.Profile.{Contents}
 use Rattle.a429_ldu.specs.declared.forms.Form.{Form}
 use Rattle.a429_ldu.specs.declared.forms.Form.TheVariants.{Rts, Cts, Ack, Nak, Sot, Part, Eot}
 use Rattle.a429_ldu.specs.declared.sight.Sight.{Sight}
 use Rattle.a429_ldu.specs.declared.sight.Sight.TheVariants as sight
-use Rattle.a429_ldu.specs.Form.{sight_of}
+use Rattle.a429_ldu.specs.Sight.{sight_of}
 use Rattle.a429_link.specs.declared.seen.Seen.{Seen}
 use Rattle.a429_link.specs.Observer.{Observer, Allows, AllowsNext, IsRefused, observed, at_first}
 use Rattle.a429_explain.specs.declared.verdict.Reason.{Reason}

@@ -1,18 +1,21 @@
 -- Which link data unit a group carries (profile). A whole attempt has a start word, as many data words as its request
 -- wants, that carry bytes, and an end word whose check word agrees.
-use Rattle.std.specs.Prelude.{ℕ, ◌+◌, ◌==◌, Bool, false, not, ◌&&◌, if◌then◌else◌, Option, Some, None, is_some, List, [], ◌∷◌, ◌++◌, length}
+use Rattle.std.specs.Prelude.{◌≡◌, ◌<◌, ◌≤◌, ℕ, ◌+◌, ◌==◌, Bool, false, not, ◌&&◌, if◌then◌else◌, Option, Some, None, is_some, List, [], ◌∷◌, ◌++◌, length, slice_get}
 use Rattle.std.specs.Option.{option_or}
 use Rattle.a429_profile.specs.declared.codes.Codes.{Codes}
-use Rattle.a429_profile.specs.Contents.{Contents}
+use Rattle.a429_profile.specs.Profile.{Contents}
 use Rattle.a429_ldu.specs.declared.forms.Form.{Form}
 use Rattle.a429_ldu.specs.declared.forms.Form.TheVariants.{Rts, Sot, Part, Eot}
 use Rattle.a429_ldu.specs.declared.sight.Sight.{Sight}
 use Rattle.a429_ldu.specs.declared.sight.Sight.TheVariants as sight
-use Rattle.a429_ldu.specs.Form.{form_of, sight_of}
+use Rattle.a429_ldu.specs.Form.{form_of}
+use Rattle.a429_ldu.specs.Sight.{sight_of}
 use Rattle.a429_ldu.specs.Carried.{bytes_carried}
 use Rattle.a429_ldu.specs.Ldu.{LduValue}
 use Rattle.a429_link.specs.Sink.{agrees, bytes_in}
 use Rattle.a429_link.specs.declared.seen.Seen.{Seen}
+use Rattle.a429_explain.specs.declared.groups.Request.{Request}
+use Rattle.a429_explain.specs.Heard.{HeardValue, sight_at}
 
 -- what an attempt has recorded: the general format identifier of its start word, and its data words
 pub record Recorded : Type 0 where
@@ -61,3 +64,9 @@ is_other count (Some n) = not (n == count)
 abbrev pub other_request : Codes → ℕ → List Seen → ℕ → Option ℕ
 other_request c count [] k = None
 other_request c count (i ∷ items) k = if is_other count (wanted (sight_of c i.bus i.word)) then Some k else other_request c count items (k + 1)
+
+-- the group stands in the recording, and begins with a request that wants so many words
+pub record IsRequestOf (h : HeardValue) (r : Request) : Type 0 where
+  pub some : r.group.from < r.group.to
+  pub inside : r.group.to ≤ length h.items
+  pub wants : wanted (sight_at h.profile.codes (slice_get h.items r.group.from)) ≡ Some r.count

@@ -1,9 +1,9 @@
 -- The recording of a run without loss (profile).
 use Rattle.std.specs.Prelude.{◌≡◌, ◌≤◌, ◌<◌, ℕ, List, All, None}
 use Rattle.std.specs.List.{AllByRecursion}
-use Rattle.a429_profile.specs.Contents.{Contents}
+use Rattle.a429_profile.specs.Profile.{Contents}
 use Rattle.a429_link.specs.declared.seen.Seen.{Seen}
-use Rattle.a429_link.specs.Clean.{thin, clean_words, first_refused}
+use Rattle.a429_link.specs.Clean.{without_free, clean_words, first_refused}
 
 -- its words that are not free are those of files that cross without loss
 pub record IsWithoutLoss (p : Contents) (items : List Seen) : Type 0 where
@@ -18,4 +18,4 @@ pub record IsWithoutLoss (p : Contents) (items : List Seen) : Type 0 where
   pub files : List (List ℕ)
   pub bytes : AllByRecursion (All (λ b. b < 256)) files
   pub cut : first_refused max_words 0 files ≡ None
-  pub words : thin p.codes items ≡ clean_words p max_words first files
+  pub words : without_free p.codes items ≡ clean_words p max_words first files

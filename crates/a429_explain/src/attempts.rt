@@ -2,9 +2,10 @@
 
 ghost use Rattle.std.specs.Prelude.{◌≡◌, ◌∷◌, List, Option, IfOk, not};
 ghost use Rattle.a429_ldu.specs.declared.forms.Form.{Form};
-ghost use Rattle.a429_explain.specs.Attempts.{sends, next_start, are_numbers, role_of, roles};
-ghost use Rattle.a429_explain.specs.Ahead.{IsAhead};
+ghost use Rattle.a429_explain.specs.Heard.{forms_of};
+ghost use Rattle.a429_explain.specs.Attempts.{sends_block, next_start, are_numbers, role_of, roles, IsAhead};
 
+use crate::heard::Heard;
 use a429_ldu::Form;
 use std::alloc::{AllocError, Global};
 
@@ -36,38 +37,39 @@ pub(crate) enum Role {
 #[derive(Clone, Copy, Debug)]
 pub(crate) struct Ahead {
     /// A word of a block comes before the next request.
-    pub sends: bool,
+    pub sends_block: bool,
     /// The numbers of the next start word.
     pub start: Option<Numbers>,
 }
 
-/// The role of each recorded word, where these are the forms of all.
-pub(crate) fn roles(alloc: Global, said: &[Option<Form>]) -> Result<Vec<Role>, AllocError>
-    ensures { IfOk result (λ found. found.items ≡ roles said.now) }
+/// The role of each recorded word.
+pub(crate) fn roles(alloc: Global, heard: &Heard) -> Result<Vec<Role>, AllocError>
+    ensures { IfOk result (λ found. found.items ≡ roles (forms_of heard.now.profile.codes heard.now.items)) }
 {
-    let mut found = Vec::with_capacity(alloc, said.len())?;
+    let mut found = Vec::with_capacity(alloc, heard.len())?;
     let mut ahead = Ahead {
-        sends: false,
+        sends_block: false,
         start: None,
     };
-    let mut left = said.len();
+    let mut left = heard.len();
     while left > 0 {
         left -= 1;
-        found.push(role_of(&said[left], ahead))?;
-        ahead = before(&said[left], ahead);
+        let form = heard.word(left).form;
+        found.push(role_of(&form, ahead))?;
+        ahead = before(&form, ahead);
     }
     found.reverse();
     Ok(found)
 }
 
-fn role_of(said: &Option<Form>, ahead: Ahead) -> Role
-    ensures { (more : List (Option Form)) → IsAhead more ahead → result ≡ role_of said.now more }
+fn role_of(form: &Option<Form>, ahead: Ahead) -> Role
+    ensures { (more : List (Option Form)) → IsAhead more ahead → result ≡ role_of form.now more }
 {
-    match *said {
+    match *form {
         None => Role::Free,
         Some(Form::Rts { count }) => Role::Request { count },
         Some(Form::Cts { .. }) => Role::Clear {
-            is_used: ahead.sends,
+            is_used: ahead.sends_block,
         },
         Some(Form::Ack { file, ldu }) => Role::Acknowledged {
             ends_group: !are_numbers(ahead.start, file, ldu),
@@ -87,20 +89,20 @@ fn are_numbers(start: Option<Numbers>, file: u8, ldu: u8) -> bool
 }
 
 // What is ahead of the word before this one.
-fn before(said: &Option<Form>, ahead: Ahead) -> Ahead
-    ensures { (more : List (Option Form)) → IsAhead more ahead → IsAhead (said.now ∷ more) result }
+fn before(form: &Option<Form>, ahead: Ahead) -> Ahead
+    ensures { (more : List (Option Form)) → IsAhead more ahead → IsAhead (form.now ∷ more) result }
 {
     let start = ahead.start;
-    match *said {
+    match *form {
         None | Some(Form::Cts { .. } | Form::Ack { .. } | Form::Nak { .. }) => ahead,
         Some(Form::Rts { .. }) => Ahead {
-            sends: false,
+            sends_block: false,
             start,
         },
         Some(Form::Sot { file, ldu, .. }) => Ahead {
-            sends: true,
+            sends_block: true,
             start: Some(Numbers { file, ldu }),
         },
-        Some(Form::Part(_) | Form::Eot { .. }) => Ahead { sends: true, start },
+        Some(Form::Part(_) | Form::Eot { .. }) => Ahead { sends_block: true, start },
     }
 }

@@ -1,14 +1,15 @@
-//! The verdict on a recording.
+//! The check of a recording.
 
 ghost use Rattle.std.specs.Prelude.{IfOk, length};
 ghost use Rattle.a429_cert.specs.Explained.{items_of};
-ghost use Rattle.a429_explain.specs.Verdict.{IsSound, IsAccepted, IsImpossible, IsDoubted, IsFirst, HasNoForm, IsRefusal, IsExplanation};
+ghost use Rattle.a429_explain.specs.Verdict.{IsSoundVerdict, IsAccepted, IsImpossible, IsDoubted, IsFirst, HasNoForm, IsImpossibility, IsExplanation};
 ghost use Rattle.a429_explain.specs.Walk.{AreAllowed};
 ghost use Rattle.a429_explain.specs.WithoutLoss.{IsWithoutLoss};
 
-use crate::certificate::certificate_of;
+use crate::certificate::Certificate;
+use crate::guess::certificate_of;
 use crate::stop::Stop;
-use crate::verdict::{Certificate, Verdict};
+use crate::verdict::Verdict;
 use crate::walk::walk;
 use a429_cert::{OutOfMemory, Verified};
 use a429_profile::Profile;
@@ -19,12 +20,12 @@ use std::alloc::Global;
 /// its words; or else the certificate of one that does, as far as one is found. `verify` accepts that
 /// certificate.
 pub fn check(alloc: Global, profile: &Profile, entries: &[Entry]) -> Result<Verdict, OutOfMemory>
-    ensures explained { IfOk result (λ v. IsSound profile.now (items_of entries.now) v) }
+    ensures explained { IfOk result (λ v. IsSoundVerdict profile.now (items_of entries.now) v) }
     ensures accepted { IfOk result (λ v. IsAccepted profile.now (items_of entries.now) v) }
     ensures impossible { IfOk result (λ v. IsImpossible profile.now (items_of entries.now) v) }
     ensures doubted { IfOk result (λ v. IsDoubted profile.now (items_of entries.now) v) }
     ensures first { IfOk result (λ v. IsFirst profile.now (items_of entries.now) v) }
-    ensures no_form { HasNoForm profile.now.codes (items_of entries.now) → IfOk result IsRefusal }
+    ensures no_form { HasNoForm profile.now.codes (items_of entries.now) → IfOk result IsImpossibility }
     ensures without_loss { IsWithoutLoss profile.now (items_of entries.now) → IfOk result IsExplanation }
 {
     match walk(alloc, profile, entries) {
@@ -39,7 +40,7 @@ pub fn check(alloc: Global, profile: &Profile, entries: &[Entry]) -> Result<Verd
 // The verdict where no word is refused.
 fn explain(alloc: Global, profile: &Profile, entries: &[Entry]) -> Result<Verdict, OutOfMemory>
     requires allowed { AreAllowed profile.now (items_of entries.now) (length (items_of entries.now)) }
-    ensures explained { IfOk result (λ v. IsSound profile.now (items_of entries.now) v) }
+    ensures explained { IfOk result (λ v. IsSoundVerdict profile.now (items_of entries.now) v) }
     ensures accepted { IfOk result (λ v. IsAccepted profile.now (items_of entries.now) v) }
     ensures impossible { IfOk result (λ v. IsImpossible profile.now (items_of entries.now) v) }
     ensures doubted { IfOk result (λ v. IsDoubted profile.now (items_of entries.now) v) }

@@ -2,7 +2,7 @@
 
 ghost use Rattle.std.specs.Prelude.{◌≡◌, ◌≤◌, ◌<◌, ℕ, List, None, All};
 ghost use Rattle.std.specs.List.{AllByRecursion};
-ghost use Rattle.a429_profile.specs.Contents.{Contents, IsProfile};
+ghost use Rattle.a429_profile.specs.Profile.{Contents, IsProfile};
 ghost use Rattle.a429_link.specs.Clean.{clean_words, first_refused};
 ghost use Rattle.a429_explain.specs.WithoutLoss.{IsWithoutLoss};
 

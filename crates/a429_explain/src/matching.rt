@@ -5,15 +5,13 @@ ghost use Rattle.a429_ldu.specs.Ldu.{count_of};
 ghost use Rattle.a429_explain.specs.Units.{place_after};
 ghost use Rattle.a429_explain.specs.Matching.{is_word, passed_with, passing_as, AreMatched, IsOfBlock};
 ghost use Rattle.a429_explain.specs.declared.verdict.Doubt.TheVariants as doubt;
-ghost use Rattle.a429_cert.specs.Explained.{items_of};
-ghost use Rattle.a429_explain.specs.Attempts.{forms_of};
 ghost use Rattle.a429_explain.specs.Doubt.{IsDoubtAt};
 
-use crate::group::Group;
+use crate::groups::Group;
+use crate::heard::{Heard, HeardWord};
 use a429_ldu::{Form, Ldu};
 use a429_link::is_final;
 use a429_profile::Profile;
-use a429_record::Entry;
 use a429_word::Word;
 
 /// The numbers under which the source sends a link data unit. Its number can pass those that a start
@@ -47,26 +45,23 @@ impl Place {
 /// The first word of a block in a group that is not one of this link data unit: in each attempt the words
 /// recorded stand in the unit's block in their order.
 pub(crate) fn first_unmatched(
-    profile: &Profile,
-    entries: &[Entry],
-    said: &[Option<Form>],
+    heard: &Heard,
     group: Group,
     unit: &Ldu,
     place: Place,
 ) -> Option<usize>
-    requires said { said.now ≡ forms_of profile.now.codes (items_of entries.now) }
     requires some { group.from ≤ group.to }
-    requires inside { group.to ≤ length entries.now }
-    ensures fits { IfSome result (λ i. IsDoubtAt profile.now.codes (items_of entries.now) i doubt.NotOneBlock) }
+    requires inside { group.to ≤ length heard.now.items }
+    ensures fits { IfSome result (λ i. IsDoubtAt heard.now.profile.codes heard.now.items i doubt.NotOneBlock) }
     ensures within { IfSome result (λ i. i < group.to) }
-    ensures none { result ≡ None → AreMatched profile.now.codes unit.now place (items_of entries.now) group.from group.to }
-    ensures before { IfSome result (λ i. AreMatched profile.now.codes unit.now place (items_of entries.now) group.from i) }
-    ensures unmatched { IfSome result (λ i. ¬ AreMatched profile.now.codes unit.now place (items_of entries.now) group.from (i + 1)) }
+    ensures none { result ≡ None → AreMatched heard.now.profile.codes unit.now place heard.now.items group.from group.to }
+    ensures before { IfSome result (λ i. AreMatched heard.now.profile.codes unit.now place heard.now.items group.from i) }
+    ensures unmatched { IfSome result (λ i. ¬ AreMatched heard.now.profile.codes unit.now place heard.now.items group.from (i + 1)) }
 {
+    let profile = heard.profile();
     let mut passed = 0;
     for at in group.from..group.to {
-        let entry = entries[at];
-        match passing(profile, unit, place, &said[at], entry.word, passed) {
+        match passing(profile, unit, place, passed, heard.word(at)) {
             Some(more) => passed = more,
             None => return Some(at),
         }
@@ -74,31 +69,30 @@ pub(crate) fn first_unmatched(
     None
 }
 
-// How many words of the block are passed with a word of this form, where so many are passed before it.
+// How many words of the block are passed with this word, where so many are passed before it.
 fn passing(
     profile: &Profile,
     unit: &Ldu,
     place: Place,
-    said: &Option<Form>,
-    word: Word,
     passed: u8,
+    heard: HeardWord,
 ) -> Option<u8>
     requires { passed ≤ count_of unit.now }
-    ensures passed { result ≡ passing_as said.now (passed_with (is_word profile.now.codes unit.now place word) passed (count_of unit.now - passed)) passed }
+    ensures passed { result ≡ passing_as heard.form (passed_with (is_word profile.now.codes unit.now place heard.word) passed (count_of unit.now - passed)) passed }
     ensures inside { IfSome result (λ more. more ≤ count_of unit.now) }
-    ensures fits { result ≡ None → IsOfBlock said.now }
+    ensures fits { result ≡ None → IsOfBlock heard.form }
 {
-    match *said {
+    match heard.form {
         Some(Form::Rts { .. }) => Some(0),
         Some(Form::Sot { .. } | Form::Part(_) | Form::Eot { .. }) => {
-            passed_with(profile, unit, place, passed, word)
+            passed_with(profile, unit, place, passed, heard.word)
         }
         Some(Form::Cts { .. } | Form::Ack { .. } | Form::Nak { .. }) => Some(passed),
         None => Some(passed),
     }
 }
 
-// How many words of the block are passed with this word, where so many are passed before it.
+// How many words of the block are passed with a word of a block, where so many are passed before it.
 fn passed_with(profile: &Profile, unit: &Ldu, place: Place, passed: u8, word: Word) -> Option<u8>
     requires { passed ≤ count_of unit.now }
     ensures place { result ≡ passed_with (is_word profile.now.codes unit.now place word) passed (count_of unit.now - passed) }

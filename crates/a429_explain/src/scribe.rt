@@ -6,14 +6,15 @@ ghost use Rattle.a429_link.specs.declared.step.Step.TheVariants as step;
 ghost use Rattle.a429_link.specs.Run.{IsRun};
 ghost use Rattle.a429_link.specs.Sink.{Listens};
 ghost use Rattle.a429_link.specs.Source.{IsIdle};
-ghost use Rattle.a429_link.specs.Step.{Can, LoadsLdu, label, start};
+ghost use Rattle.a429_link.specs.Step.{Can, LoadsLdu, label};
+ghost use Rattle.a429_link.specs.State.{start};
 ghost use Rattle.a429_cert.specs.Line.{IsLine, IsHeld, spelling};
-ghost use Rattle.a429_explain.specs.Plain.{IsPlain, plain_steps, units_left, loaded_after};
-ghost use Rattle.a429_explain.specs.Told.{Told, TellsOn, led, letter_of};
+ghost use Rattle.a429_explain.specs.Scribe.{IsLossless, lossless_steps, units_left, loaded_after, HasWritten, WritesNext, link_after};
+ghost use Rattle.a429_cert.specs.Act.{letter_of};
 ghost use Rattle.a429_explain.specs.Units.{AreUnits};
 
 use crate::attempts::Role;
-use a429_cert::{Act, CertLine, Words, write_line};
+use a429_cert::{Act, CertLine, LoadLine, MovedLine, Words, write_line};
 use a429_ldu::Ldu;
 use a429_link::{FileBytes, Link, Seen, SinkState, SourceState, Step, StepFault};
 use a429_profile::Profile;
@@ -38,7 +39,7 @@ impl<'a> Scribe<'a> {
         first_file: u8,
     ) -> Result<Scribe<'a>, StepFault>
         ensures start { IfOk result (λ s. s.link ≡ record { profile = profile.now; state = start profile.now first_file }) }
-        ensures told { IfOk result (λ s. Told first_file [] s.text.items s.link) }
+        ensures written { IfOk result (λ s. HasWritten first_file [] s.text.items s.link) }
         ensures loaded { IfOk result (λ s. s.is_loaded ≡ false) }
     {
         let mut text = Vec::new(alloc);
@@ -68,7 +69,7 @@ impl<'a> Scribe<'a> {
 
     /// Writes the lines of the next entry, and takes the link data unit of its group where it begins one.
     /// A step that can't be made is refused.
-    pub(crate) fn tell(
+    pub(crate) fn write_entry(
         &mut self,
         seen: Seen,
         role: Role,
@@ -77,11 +78,11 @@ impl<'a> Scribe<'a> {
         requires { AreUnits self.old.link.profile units.old.items }
         ensures profile { self.new.link.profile ≡ self.old.link.profile }
         ensures units { AreUnits self.old.link.profile units.new.items }
-        ensures told { OnOk result (TellsOn (Some seen) self.old.text.items self.old.link self.new.text.items self.new.link) }
-        ensures plain { IsPlain role self.old.is_loaded units.old.items → IsRun self.old.link.profile (plain_steps role seen units.old.items) self.old.link.state → IfErr result (λ e. e ≡ StepFault.OutOfMemory) }
-        ensures led { IsPlain role self.old.is_loaded units.old.items → IsRun self.old.link.profile (plain_steps role seen units.old.items) self.old.link.state → OnOk result (self.new.link ≡ led (plain_steps role seen units.old.items) self.old.link) }
-        ensures left { IsPlain role self.old.is_loaded units.old.items → OnOk result (units.new.items ≡ units_left role units.old.items) }
-        ensures loaded { IsPlain role self.old.is_loaded units.old.items → OnOk result (self.new.is_loaded ≡ loaded_after role self.old.is_loaded) }
+        ensures written { OnOk result (WritesNext (Some seen) self.old.text.items self.old.link self.new.text.items self.new.link) }
+        ensures lossless { IsLossless role self.old.is_loaded units.old.items → IsRun self.old.link.profile (lossless_steps role seen units.old.items) self.old.link.state → IfErr result (λ e. e ≡ StepFault.OutOfMemory) }
+        ensures reached { IsLossless role self.old.is_loaded units.old.items → IsRun self.old.link.profile (lossless_steps role seen units.old.items) self.old.link.state → OnOk result (self.new.link ≡ link_after (lossless_steps role seen units.old.items) self.old.link) }
+        ensures left { IsLossless role self.old.is_loaded units.old.items → OnOk result (units.new.items ≡ units_left role units.old.items) }
+        ensures loaded { IsLossless role self.old.is_loaded units.old.items → OnOk result (self.new.is_loaded ≡ loaded_after role self.old.is_loaded) }
     {
         match role {
             Role::Free => self.make(Act::FreeSeen, Step::FreeSeen(seen)),
@@ -108,7 +109,7 @@ impl<'a> Scribe<'a> {
     fn close(&mut self) -> Result<(), StepFault>
         ensures profile { self.new.link.profile ≡ self.old.link.profile }
         ensures loaded { self.new.is_loaded ≡ self.old.is_loaded }
-        ensures told { OnOk result (TellsOn None self.old.text.items self.old.link self.new.text.items self.new.link) }
+        ensures written { OnOk result (WritesNext None self.old.text.items self.old.link self.new.text.items self.new.link) }
         ensures idle { IsIdle self.old.link.state.source.phase → Listens self.old.link.state.sink.phase → (result ≡ Ok tt) × (self.new.link ≡ self.old.link) }
     {
         if self.is_sending() {
@@ -127,25 +128,22 @@ impl<'a> Scribe<'a> {
     fn is_sending(&self) -> bool
         ensures { result ≡ true → ¬ IsIdle self.now.link.state.source.phase }
     {
-        let (source, _, _, _) = self.link.states();
-        matches!(source, SourceState::Sending(_))
+        matches!(self.link.states().source, SourceState::Sending(_))
     }
 
     // The source waits for an answer.
     fn waits(&self) -> bool
         ensures { result ≡ true → ¬ IsIdle self.now.link.state.source.phase }
     {
-        let (source, _, _, _) = self.link.states();
-        matches!(source, SourceState::Awaiting | SourceState::Waiting)
+        matches!(self.link.states().source, SourceState::Awaiting | SourceState::Waiting)
     }
 
     // The sink owes an answer.
     fn owes_answer(&self) -> bool
         ensures { result ≡ true → ¬ Listens self.now.link.state.sink.phase }
     {
-        let (_, sink, _, _) = self.link.states();
         matches!(
-            sink,
+            self.link.states().sink,
             SinkState::OwesClear | SinkState::OwesAck | SinkState::OwesNak
         )
     }
@@ -154,7 +152,7 @@ impl<'a> Scribe<'a> {
     fn lose_rest(&mut self) -> Result<(), StepFault>
         ensures profile { self.new.link.profile ≡ self.old.link.profile }
         ensures loaded { self.new.is_loaded ≡ self.old.is_loaded }
-        ensures told { OnOk result (TellsOn None self.old.text.items self.old.link self.new.text.items self.new.link) }
+        ensures written { OnOk result (WritesNext None self.old.text.items self.old.link self.new.text.items self.new.link) }
     {
         for _ in 0..=u8::MAX {
             if !self.is_sending() {
@@ -169,9 +167,9 @@ impl<'a> Scribe<'a> {
     fn send(&mut self, seen: Seen) -> Result<(), StepFault>
         ensures profile { self.new.link.profile ≡ self.old.link.profile }
         ensures loaded { self.new.is_loaded ≡ self.old.is_loaded }
-        ensures told { OnOk result (TellsOn (Some seen) self.old.text.items self.old.link self.new.text.items self.new.link) }
-        ensures plain { IsRun self.old.link.profile (step.Sent seen ∷ step.SinkTakes ∷ []) self.old.link.state → IfErr result (λ e. e ≡ StepFault.OutOfMemory) }
-        ensures led { OnOk result (self.new.link ≡ led (step.Sent seen ∷ step.SinkTakes ∷ []) self.old.link) }
+        ensures written { OnOk result (WritesNext (Some seen) self.old.text.items self.old.link self.new.text.items self.new.link) }
+        ensures lossless { IsRun self.old.link.profile (step.Sent seen ∷ step.SinkTakes ∷ []) self.old.link.state → IfErr result (λ e. e ≡ StepFault.OutOfMemory) }
+        ensures reached { OnOk result (self.new.link ≡ link_after (step.Sent seen ∷ step.SinkTakes ∷ []) self.old.link) }
     {
         match self.make(Act::Sent, Step::Sent(seen)) {
             Ok(()) => self.make(Act::SinkTakes, Step::SinkTakes),
@@ -183,9 +181,9 @@ impl<'a> Scribe<'a> {
     fn send_of_block(&mut self, seen: Seen) -> Result<(), StepFault>
         ensures profile { self.new.link.profile ≡ self.old.link.profile }
         ensures loaded { self.new.is_loaded ≡ self.old.is_loaded }
-        ensures told { OnOk result (TellsOn (Some seen) self.old.text.items self.old.link self.new.text.items self.new.link) }
-        ensures plain { IsRun self.old.link.profile (step.Sent seen ∷ step.SinkTakes ∷ []) self.old.link.state → IfErr result (λ e. e ≡ StepFault.OutOfMemory) }
-        ensures led { IsRun self.old.link.profile (step.Sent seen ∷ step.SinkTakes ∷ []) self.old.link.state → OnOk result (self.new.link ≡ led (step.Sent seen ∷ step.SinkTakes ∷ []) self.old.link) }
+        ensures written { OnOk result (WritesNext (Some seen) self.old.text.items self.old.link self.new.text.items self.new.link) }
+        ensures lossless { IsRun self.old.link.profile (step.Sent seen ∷ step.SinkTakes ∷ []) self.old.link.state → IfErr result (λ e. e ≡ StepFault.OutOfMemory) }
+        ensures reached { IsRun self.old.link.profile (step.Sent seen ∷ step.SinkTakes ∷ []) self.old.link.state → OnOk result (self.new.link ≡ link_after (step.Sent seen ∷ step.SinkTakes ∷ []) self.old.link) }
     {
         let bus = seen.bus;
         let word = seen.word;
@@ -200,7 +198,7 @@ impl<'a> Scribe<'a> {
     fn send_later(&mut self, seen: Seen) -> Result<(), StepFault>
         ensures profile { self.new.link.profile ≡ self.old.link.profile }
         ensures loaded { self.new.is_loaded ≡ self.old.is_loaded }
-        ensures told { OnOk result (TellsOn (Some seen) self.old.text.items self.old.link self.new.text.items self.new.link) }
+        ensures written { OnOk result (WritesNext (Some seen) self.old.text.items self.old.link self.new.text.items self.new.link) }
     {
         let bus = seen.bus;
         let word = seen.word;
@@ -219,9 +217,9 @@ impl<'a> Scribe<'a> {
     fn answer(&mut self, seen: Seen, is_taken: bool) -> Result<(), StepFault>
         ensures profile { self.new.link.profile ≡ self.old.link.profile }
         ensures loaded { self.new.is_loaded ≡ self.old.is_loaded }
-        ensures told { OnOk result (TellsOn (Some seen) self.old.text.items self.old.link self.new.text.items self.new.link) }
-        ensures plain { is_taken ≡ true → IsRun self.old.link.profile (step.Answered seen ∷ step.TakeAnswer ∷ []) self.old.link.state → IfErr result (λ e. e ≡ StepFault.OutOfMemory) }
-        ensures led { is_taken ≡ true → OnOk result (self.new.link ≡ led (step.Answered seen ∷ step.TakeAnswer ∷ []) self.old.link) }
+        ensures written { OnOk result (WritesNext (Some seen) self.old.text.items self.old.link self.new.text.items self.new.link) }
+        ensures lossless { is_taken ≡ true → IsRun self.old.link.profile (step.Answered seen ∷ step.TakeAnswer ∷ []) self.old.link.state → IfErr result (λ e. e ≡ StepFault.OutOfMemory) }
+        ensures reached { is_taken ≡ true → OnOk result (self.new.link ≡ link_after (step.Answered seen ∷ step.TakeAnswer ∷ []) self.old.link) }
     {
         match self.make(Act::Answered, Step::Answered(seen)) {
             Ok(()) => {}
@@ -239,9 +237,9 @@ impl<'a> Scribe<'a> {
         requires { AreUnits self.old.link.profile units.old.items }
         ensures profile { self.new.link.profile ≡ self.old.link.profile }
         ensures units { AreUnits self.old.link.profile units.new.items }
-        ensures told { OnOk result (TellsOn None self.old.text.items self.old.link self.new.text.items self.new.link) }
-        ensures plain { (u : LduValue) (us : List LduValue) → units.old.items ≡ u ∷ us → self.old.is_loaded ≡ false → Can self.old.link.profile (step.Load u) self.old.link.state → IfErr result (λ e. e ≡ StepFault.OutOfMemory) }
-        ensures led { (u : LduValue) (us : List LduValue) → units.old.items ≡ u ∷ us → self.old.is_loaded ≡ false → OnOk result (self.new.link ≡ led (step.Load u ∷ []) self.old.link) }
+        ensures written { OnOk result (WritesNext None self.old.text.items self.old.link self.new.text.items self.new.link) }
+        ensures lossless { (u : LduValue) (us : List LduValue) → units.old.items ≡ u ∷ us → self.old.is_loaded ≡ false → Can self.old.link.profile (step.Load u) self.old.link.state → IfErr result (λ e. e ≡ StepFault.OutOfMemory) }
+        ensures reached { (u : LduValue) (us : List LduValue) → units.old.items ≡ u ∷ us → self.old.is_loaded ≡ false → OnOk result (self.new.link ≡ link_after (step.Load u ∷ []) self.old.link) }
         ensures left { (u : LduValue) (us : List LduValue) → units.old.items ≡ u ∷ us → self.old.is_loaded ≡ false → OnOk result (units.new.items ≡ us) }
         ensures loaded { OnOk result (self.new.is_loaded ≡ true) }
     {
@@ -258,20 +256,20 @@ impl<'a> Scribe<'a> {
     fn load(&mut self, unit: Ldu) -> Result<(), StepFault>
         requires { IsLdu self.old.link.profile unit }
         ensures profile { self.new.link.profile ≡ self.old.link.profile }
-        ensures told { OnOk result (TellsOn None self.old.text.items self.old.link self.new.text.items self.new.link) }
-        ensures plain { Can self.old.link.profile (step.Load unit) self.old.link.state → IfErr result (λ e. e ≡ StepFault.OutOfMemory) }
-        ensures led { OnOk result (self.new.link ≡ led (step.Load unit ∷ []) self.old.link) }
+        ensures written { OnOk result (WritesNext None self.old.text.items self.old.link self.new.text.items self.new.link) }
+        ensures lossless { Can self.old.link.profile (step.Load unit) self.old.link.state → IfErr result (λ e. e ≡ StepFault.OutOfMemory) }
+        ensures reached { OnOk result (self.new.link ≡ link_after (step.Load unit ∷ []) self.old.link) }
         ensures loaded { OnOk result (self.new.is_loaded ≡ true) }
     {
         let Ok(words) = Vec::from_slice(self.alloc, unit.words()) else {
             return Err(StepFault::OutOfMemory);
         };
-        let line = CertLine::Load {
+        let line = CertLine::Load(LoadLine {
             gfi: unit.gfi(),
             flags: unit.flags(),
             check: unit.check(),
             words: Words::new(words),
-        };
+        });
         match self.link.apply(Step::Load(unit)) {
             Ok(()) => {}
             Err(fault) => return Err(fault),
@@ -286,23 +284,17 @@ impl<'a> Scribe<'a> {
         requires letter { letter_of step ≡ Some act }
         ensures profile { self.new.link.profile ≡ self.old.link.profile }
         ensures loaded { self.new.is_loaded ≡ self.old.is_loaded }
-        ensures told { OnOk result (TellsOn (label step) self.old.text.items self.old.link self.new.text.items self.new.link) }
-        ensures led { OnOk result (self.new.link ≡ led (step ∷ []) self.old.link) }
-        ensures plain { Can self.old.link.profile step self.old.link.state → IfErr result (λ e. e ≡ StepFault.OutOfMemory) }
+        ensures written { OnOk result (WritesNext (label step) self.old.text.items self.old.link self.new.text.items self.new.link) }
+        ensures reached { OnOk result (self.new.link ≡ link_after (step ∷ []) self.old.link) }
+        ensures lossless { Can self.old.link.profile step self.old.link.state → IfErr result (λ e. e ≡ StepFault.OutOfMemory) }
         ensures unchanged { IfErr result (λ e. e ≢ StepFault.OutOfMemory → (self.new.link ≡ self.old.link) × (self.new.text.items ≡ self.old.text.items)) }
     {
         match self.link.apply(step) {
             Ok(()) => {}
             Err(fault) => return Err(fault),
         }
-        let (source, sink, to_sink, to_source) = self.link.states();
-        self.write(&CertLine::Moved {
-            act,
-            source,
-            sink,
-            to_sink: to_sink as u8,
-            to_source: to_source as u8,
-        })
+        let states = self.link.states();
+        self.write(&CertLine::Moved(MovedLine { act, states }))
     }
 
     // Writes a line and its line feed.

@@ -1,48 +1,9 @@
-//! What is said of a recording.
+//! The verdict on a recording.
 
-ghost use Rattle.std.specs.Prelude.{◌≡◌};
-
+use crate::certificate::Certificate;
 use a429_cert::Verified;
-use std::marker::Model;
 
-/// The text of a certificate. Contracts see its bytes.
-#[derive(Debug, Drop)]
-pub struct Certificate {
-    text: Vec<u8>,
-}
-
-impl Model for Certificate {
-    ghost use Rattle.std.specs.Prelude.{List, ℕ};
-
-    ghost Value = { List ℕ };
-
-    ghost view = { λ c. c.text.items };
-}
-
-impl Certificate {
-    /// The certificate with this text.
-    pub fn new(text: Vec<u8>) -> Certificate
-        ensures { result ≡ text.items }
-    {
-        Certificate { text }
-    }
-
-    /// The text, lent.
-    pub fn as_slice(&self) -> &[u8]
-        ensures { result.now ≡ self.now }
-    {
-        self.text.as_slice()
-    }
-
-    /// The text, given away.
-    pub fn into_vec(self) -> Vec<u8>
-        ensures { result.items ≡ self }
-    {
-        self.text
-    }
-}
-
-/// What is said of a recording.
+/// The verdict on a recording.
 #[derive(Debug, Drop)]
 pub enum Verdict {
     /// A run records these words and no others: the certificate lists its steps. In every run that

@@ -3,15 +3,13 @@
 ghost use Rattle.std.specs.Prelude.{◌≡◌, ◌≤◌, IfOk, IfSome, OnOk, length};
 ghost use Rattle.a429_ldu.specs.Form.{IsInRange};
 ghost use Rattle.a429_ldu.specs.Ldu.{IsLdu, count_of};
-ghost use Rattle.a429_cert.specs.Explained.{items_of};
-ghost use Rattle.a429_explain.specs.Attempts.{forms_of};
-ghost use Rattle.a429_explain.specs.Groups.{words_in};
+ghost use Rattle.a429_explain.specs.Groups.{words_of_group};
 ghost use Rattle.a429_explain.specs.Whole.{nothing_yet, gathered_with, unit_made, ended_by, first_whole};
 
-use crate::group::Group;
+use crate::groups::Request;
+use crate::heard::{Heard, HeardWord};
 use a429_ldu::{Form, Ldu, LduFault};
 use a429_profile::Profile;
-use a429_record::Entry;
 use a429_word::Word;
 use std::alloc::{AllocError, Global};
 use std::marker::Model;
@@ -19,29 +17,24 @@ use std::marker::Model;
 /// The link data unit of the first whole attempt of a group whose requests want this many words.
 pub(crate) fn whole_unit(
     alloc: Global,
-    profile: &Profile,
-    entries: &[Entry],
-    said: &[Option<Form>],
-    group: Group,
-    count: u8,
+    heard: &Heard,
+    request: Request,
 ) -> Result<Option<Ldu>, AllocError>
-    requires said { said.now ≡ forms_of profile.now.codes (items_of entries.now) }
-    requires inside { group.to ≤ length entries.now }
-    ensures first { IfOk result (λ found. found ≡ first_whole profile.now count (words_in (items_of entries.now) group) nothing_yet) }
-    ensures unit { IfOk result (λ found. IfSome found (λ u. IsLdu profile.now u)) }
-    ensures count { IfOk result (λ found. IfSome found (λ u. count_of u ≡ count)) }
+    requires { request.group.to ≤ length heard.now.items }
+    ensures first { IfOk result (λ found. found ≡ first_whole heard.now.profile request.count (words_of_group heard.now.items request.group) nothing_yet) }
+    ensures unit { IfOk result (λ found. IfSome found (λ u. IsLdu heard.now.profile u)) }
+    ensures count { IfOk result (λ found. IfSome found (λ u. count_of u ≡ request.count)) }
 {
-    let _codes = profile.codes();
+    let profile = heard.profile();
     let mut attempt = Attempt::new(alloc);
-    for at in group.from..group.to {
-        let entry = entries[at];
-        let form = &said[at];
-        match attempt.ended_by(alloc, profile, form, count) {
+    for at in request.group.from..request.group.to {
+        let word = heard.word(at);
+        match attempt.ended_by(alloc, profile, &word.form, request.count) {
             Ok(Some(unit)) => return Ok(Some(unit)),
             Ok(None) => {}
             Err(error) => return Err(error),
         }
-        match attempt.take(form, entry.word) {
+        match attempt.take(word) {
             Ok(()) => {}
             Err(error) => return Err(error),
         }
@@ -77,18 +70,18 @@ impl Attempt {
         }
     }
 
-    // Takes one more word, of this form.
-    fn take(&mut self, said: &Option<Form>, word: Word) -> Result<(), AllocError>
-        requires { IfSome said.now IsInRange }
-        ensures { OnOk result (self.new ≡ gathered_with said.now word self.old) }
+    // Takes one more word.
+    fn take(&mut self, heard: HeardWord) -> Result<(), AllocError>
+        requires { IfSome heard.form IsInRange }
+        ensures { OnOk result (self.new ≡ gathered_with heard.form heard.word self.old) }
     {
-        match *said {
+        match heard.form {
             Some(Form::Rts { .. }) => {
                 self.start = None;
                 self.words.clear();
             }
             Some(Form::Sot { gfi, .. }) => self.start = Some(gfi),
-            Some(Form::Part(_)) => self.words.push(word)?,
+            Some(Form::Part(_)) => self.words.push(heard.word)?,
             _ => {}
         }
         Ok(())
@@ -99,19 +92,18 @@ impl Attempt {
         &self,
         alloc: Global,
         profile: &Profile,
-        said: &Option<Form>,
+        form: &Option<Form>,
         count: u8,
     ) -> Result<Option<Ldu>, AllocError>
-        requires { IfSome said.now IsInRange }
-        ensures made { IfOk result (λ found. found ≡ ended_by profile.now count said.now self.now) }
+        requires { IfSome form.now IsInRange }
+        ensures made { IfOk result (λ found. found ≡ ended_by profile.now count form.now self.now) }
         ensures unit { IfOk result (λ found. IfSome found (λ u. IsLdu profile.now u)) }
         ensures count { IfOk result (λ found. IfSome found (λ u. count_of u ≡ count)) }
     {
-        match *said {
+        match *form {
             Some(Form::Eot { flags, check }) => {
                 let end = End { flags, check };
-                let words = self.words.as_slice();
-                unit_with(alloc, profile, self.start, end, words, count)
+                unit_with(alloc, profile, self.start, end, self.words.as_slice(), count)
             }
             _ => Ok(None),
         }

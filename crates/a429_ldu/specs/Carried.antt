@@ -1,6 +1,7 @@
 -- The bytes that data words carry (ARINC 429 Part 3; the order of the semi-octets is this project's choice, profile).
-use Rattle.std.specs.Prelude.{ℕ, ◌+◌, ◌*◌, ◌≤◌, ◌≡◌, Option, Some, None, option_map, option_and_then, List, [], ◌∷◌, ◌++◌, length}
+use Rattle.std.specs.Prelude.{ℕ, ◌+◌, ◌*◌, ◌≤◌, ◌≡◌, Option, Some, None, option_map, option_and_then, List, [], ◌∷◌, ◌++◌, length, unwrap_or}
 use Rattle.std.specs.List.{concat}
+use Rattle.std.specs.Option.{option_to_list}
 use Rattle.a429_word.specs.declared.bus.Bus.TheVariants as bus
 use Rattle.a429_profile.specs.declared.codes.Codes.{Codes}
 use Rattle.a429_ldu.specs.declared.forms.Form.{Form}
@@ -40,6 +41,13 @@ abbrev pub semis_of_words : Codes → List ℕ → Option (List ℕ)
 semis_of_words c [] = Some []
 semis_of_words c (w ∷ ws) = joined_to (semis_in (form_of c bus.A w)) (semis_of_words c ws)
 
+-- the semi-octets of bytes, and one that waits for its byte; and how many they are
+abbrev pub semis_held : List ℕ → Option ℕ → List ℕ
+semis_held bytes low = semis_of_bytes bytes ++ option_to_list low
+
+abbrev pub held_count : ℕ → Option ℕ → ℕ
+held_count bytes low = 2 * bytes + length (option_to_list low)
+
 -- the bytes of semi-octets
 abbrev pub paired : List ℕ → Option (List ℕ)
 paired [] = Some []
@@ -53,3 +61,7 @@ if_some _ = None
 -- none where a word is no data word of bus A, or the semi-octets are odd in number, or there are none
 abbrev pub bytes_carried : Codes → List ℕ → Option (List ℕ)
 bytes_carried c ws = if_some (option_and_then paired (semis_of_words c ws))
+
+-- the bytes that data words carry, none where they carry none
+abbrev pub bytes_in : Codes → List ℕ → List ℕ
+bytes_in c words = unwrap_or (bytes_carried c words) []

@@ -1,26 +1,10 @@
 -- How a file is cut into link data units (profile).
-use Rattle.std.specs.Prelude.{ℕ, zero, suc, ◌+◌, ◌-◌, ◌*◌, ◌/◌, ◌^◌, ◌≡◌, nat_le, if◌then◌else◌, true, false, List, [], ◌∷◌, length, take, drop, map, ◌≤◌}
+use Rattle.std.specs.Prelude.{ℕ, zero, suc, ◌-◌, ◌*◌, ◌/◌, ◌^◌, ◌≡◌, ◌≤◌, nat_le, if◌then◌else◌, true, false, List, [], ◌∷◌, length, take, drop}
 use Rattle.a429_profile.specs.declared.codes.Codes.{Codes}
-use Rattle.a429_profile.specs.Contents.{Contents}
-use Rattle.a429_ldu.specs.declared.forms.Form.TheVariants.{Part}
-use Rattle.a429_ldu.specs.Semis.{semis_of_bytes}
-use Rattle.a429_ldu.specs.Form.{label_bits, word_number}
+use Rattle.a429_profile.specs.Profile.{Contents}
+use Rattle.a429_ldu.specs.Filling.{data_words}
 use Rattle.a429_ldu.specs.CheckWord.{check_of}
 use Rattle.a429_ldu.specs.Ldu.{LduValue, is_final}
-
--- semi-octets, five to a word; the last word may have fewer
-abbrev pub fives : List ℕ → List (List ℕ)
-fives (p ∷ q ∷ r ∷ s ∷ t ∷ rest) = (p ∷ q ∷ r ∷ s ∷ t ∷ []) ∷ fives rest
-fives [] = []
-fives rest = rest ∷ []
-
--- the data words of bytes: full words, and then at most one partial word
-abbrev pub data_words : Codes → List ℕ → List ℕ
-data_words c bytes = map (λ semis. word_number c (Part semis)) (fives (semis_of_bytes bytes))
-
--- the label and the type of a full data word, where they stand in it
-abbrev pub full_frame : Codes → ℕ
-full_frame c = label_bits c.to_sink + c.full * 2 ^ 28
 
 -- the link data unit of bytes
 abbrev pub unit_of : Contents → List ℕ → ℕ → LduValue
@@ -51,9 +35,13 @@ units_in p [] = []
 units_in p (piece ∷ []) = unit_of p piece (final_flag p.codes) ∷ []
 units_in p (piece ∷ next ∷ rest) = unit_of p piece 0 ∷ units_in p (next ∷ rest)
 
--- the link data units of a file, at most 255
+-- the most link data units that a file has: as many as have a number
+abbrev pub most_units : ℕ
+most_units = 255
+
+-- the link data units of a file
 abbrev pub units_of : Contents → ℕ → List ℕ → List LduValue
-units_of p max_words bytes = units_in p (pieces 255 (room max_words) bytes)
+units_of p max_words bytes = units_in p (pieces most_units (room max_words) bytes)
 
 -- of some link data units the last is final, and no other
 abbrev pub OnlyLastIsFinal : Codes → List LduValue → Type 0

@@ -6,9 +6,8 @@ use Rattle.a429_word.specs.declared.bus.Bus.{Bus}
 use Rattle.a429_word.specs.declared.bus.Bus.TheVariants as bus
 use Rattle.a429_profile.specs.declared.codes.Codes.{Codes}
 use Rattle.a429_ldu.specs.declared.forms.Form.{Form}
+use Rattle.a429_ldu.specs.declared.forms.fields.Parts.{Parts}
 use Rattle.a429_ldu.specs.declared.forms.Form.TheVariants.{Rts, Cts, Ack, Nak, Sot, Part, Eot}
-use Rattle.a429_ldu.specs.declared.sight.Sight.{Sight}
-use Rattle.a429_ldu.specs.declared.sight.Sight.TheVariants as sight
 use Rattle.a429_ldu.specs.Semis.{AreSemis}
 
 -- ---- the table of forms
@@ -25,6 +24,14 @@ pub record Fields : Type 0 where
 -- the numbers that stand in a word; the lowest numbered bit of each is the least
 abbrev pub fields_of : ℕ → Fields
 fields_of w = record { kind = number_at w 29 3; upper = number_at w 25 4; middle = number_at w 17 8; lower = number_at w 9 8 }
+
+-- the same numbers, as code holds them
+abbrev pub fields_in : Parts → Fields
+fields_in parts = record { kind = parts.kind; upper = parts.upper; middle = parts.middle; lower = parts.lower }
+
+-- those of a full data word whose semi-octets are one number
+abbrev pub full_fields : Codes → ℕ → Fields
+full_fields c n = record { kind = c.full; upper = n / 65536; middle = n / 256 % 256; lower = n % 256 }
 
 -- semi-octets stand from bit 9 up, four bits each, and zeros behind them; five fill a full word, fewer a partial one, whose code tells how many
 abbrev pub data_row : Codes → List ℕ → Fields
@@ -80,9 +87,17 @@ pub record IsForm (c : Codes) (b : Bus) (w : ℕ) (x : Form) : Type 0 where
   pub parity : HasOddParity w
   pub word : w < 2 ^ 32
 
--- the transfer passes over the word: its parity is wrong, its label is another, or its type or its code is one that is ignored
+-- words of this type, with this number in bits 25 to 28, are ignored: by their type or by their code
+abbrev pub IsIgnored : Codes → ℕ → ℕ → Type 0
+IsIgnored c kind upper = Contains c.ignored_types kind ⊎ ((kind ≡ c.protocol) × Contains c.ignored_codes upper)
+
+-- the transfer passes over the word: its parity is wrong, its label is another, or it is ignored
 abbrev pub IsFree : Codes → Bus → ℕ → Type 0
-IsFree c b w = (¬ HasOddParity w) ⊎ ((label_of w ≢ address_of c b) ⊎ (Contains c.ignored_types (number_at w 29 3) ⊎ ((number_at w 29 3 ≡ c.protocol) × Contains c.ignored_codes (number_at w 25 4))))
+IsFree c b w = (¬ HasOddParity w) ⊎ ((label_of w ≢ address_of c b) ⊎ IsIgnored c (number_at w 29 3) (number_at w 25 4))
+
+-- the transfer does not pass over the word, which has this form
+abbrev pub IsTransferForm : Codes → Bus → ℕ → Form → Type 0
+IsTransferForm c b w x = (¬ IsFree c b w) × IsForm c b w x
 
 -- ---- the same, computed; that it is the same is proved for the codes of each profile
 
@@ -118,14 +133,6 @@ form_on c bus.B f =
 abbrev pub form_of : Codes → Bus → ℕ → Option Form
 form_of c b w = if is_free c b w || nat_le (2 ^ 32) w then None else form_on c b (fields_of w)
 
--- what a word is
-abbrev pub sight_in : Option Form → Sight
-sight_in (Some x) = sight.Form x
-sight_in None = sight.NoForm
-
-abbrev pub sight_of : Codes → Bus → ℕ → Sight
-sight_of c b w = if is_free c b w then sight.Free else sight_in (form_of c b w)
-
 -- ---- the word of a form
 
 -- bits 1 to 8: those of the label, the most significant first
@@ -133,12 +140,12 @@ abbrev pub label_bits : ℕ → ℕ
 label_bits label = sum_below 8 (λ j. bit label (8 - j) * 2 ^ j)
 
 -- bits 1 to 31
-abbrev pub joined : ℕ → Fields → ℕ
-joined label f = label_bits label + f.lower * 2 ^ 8 + f.middle * 2 ^ 16 + f.upper * 2 ^ 24 + f.kind * 2 ^ 28
+abbrev pub joined_fields : ℕ → Fields → ℕ
+joined_fields label f = label_bits label + f.lower * 2 ^ 8 + f.middle * 2 ^ 16 + f.upper * 2 ^ 24 + f.kind * 2 ^ 28
 
 -- with the parity bit that makes the parity odd
 abbrev pub with_parity_bit : ℕ → ℕ
 with_parity_bit n = n + (1 - count_of_ones n % 2) * 2 ^ 31
 
 abbrev pub word_number : Codes → Form → ℕ
-word_number c x = with_parity_bit (joined (address_of c (bus_of x)) (row c x))
+word_number c x = with_parity_bit (joined_fields (address_of c (bus_of x)) (row c x))

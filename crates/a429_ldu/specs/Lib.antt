@@ -1,8 +1,8 @@
 pub mod Semis
-pub mod Kept
 pub mod Form
+pub mod Sight
 pub mod Carried
 pub mod CheckWord
 pub mod Ldu
-pub mod Register
+pub mod Filling
 pub mod Cut

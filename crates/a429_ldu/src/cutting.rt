@@ -2,16 +2,19 @@
 
 ghost use Rattle.std.specs.Prelude.{◌≡◌, ◌↔◌, ◌≤◌, ◌<◌, ◌*◌, Err, IfOk, OnOk, All, length, map};
 ghost use Rattle.std.specs.List.{concat};
-ghost use Rattle.a429_profile.specs.Contents.{IsProfile};
-ghost use Rattle.a429_ldu.specs.Ldu.{count_of, bytes_of, IsLdu};
-ghost use Rattle.a429_ldu.specs.Cut.{room, pieces, unit_of, units_in, units_of, final_flag, OnlyLastIsFinal};
+ghost use Rattle.a429_profile.specs.Profile.{IsProfile};
+ghost use Rattle.a429_ldu.specs.Ldu.{most_unit_bytes, count_of, bytes_of, IsLdu};
+ghost use Rattle.a429_ldu.specs.Cut.{most_units, room, pieces, unit_of, units_in, units_of, final_flag, OnlyLastIsFinal};
 
 use crate::fault::CutFault;
 use crate::filling::data_words;
 use crate::ldu::Ldu;
-use crate::register::check_word;
+use crate::check_words::check_word;
 use a429_profile::Profile;
 use std::alloc::{AllocError, Global};
+
+/// The most link data units of a file.
+pub const MOST_UNITS: usize = 255;
 
 /// The link data units of a file (ARINC 429 Part 3; how a file is cut is this project's choice, profile),
 /// each of at most this many words, 3 to 255. Each but the last takes the largest whole number of bytes
@@ -25,7 +28,7 @@ pub fn cut(
 ) -> Result<Vec<Ldu>, CutFault>
     requires { 3 ≤ max_words }
     ensures empty { (result ≡ Err CutFault.Empty) ↔ (length bytes.now ≡ 0) }
-    ensures long { (result ≡ Err CutFault.TooLong) ↔ (255 * room max_words < length bytes.now) }
+    ensures long { (result ≡ Err CutFault.TooLong) ↔ (most_units * room max_words < length bytes.now) }
     ensures units { IfOk result (λ us. us.items ≡ units_of profile.now max_words bytes.now) }
     ensures sound { IfOk result (λ us. All (IsLdu profile.now) us.items) }
     ensures fits { IfOk result (λ us. All (λ u. count_of u ≤ max_words) us.items) }
@@ -36,7 +39,7 @@ pub fn cut(
         return Err(CutFault::Empty);
     }
     let room = (usize::from(max_words) - 2) * 5 / 2;
-    if bytes.len() > 255 * room {
+    if bytes.len() > MOST_UNITS * room {
         return Err(CutFault::TooLong);
     }
     match units(alloc, profile, bytes, room) {
@@ -53,9 +56,9 @@ fn units(
     room: usize,
 ) -> Result<Vec<Ldu>, AllocError>
     requires some { 1 ≤ length bytes.now }
-    requires most { length bytes.now ≤ 255 * room }
-    requires room { room ≤ 632 }
-    ensures units { IfOk result (λ us. us.items ≡ units_in profile.now (pieces 255 room bytes.now)) }
+    requires most { length bytes.now ≤ most_units * room }
+    requires room { room ≤ most_unit_bytes }
+    ensures units { IfOk result (λ us. us.items ≡ units_in profile.now (pieces most_units room bytes.now)) }
     ensures profile { OnOk result (IsProfile profile.now) }
 {
     let mut units = Vec::new(alloc);
@@ -72,7 +75,7 @@ fn units(
 // The link data unit of bytes.
 fn unit(alloc: Global, profile: &Profile, bytes: &[u8], flags: u8) -> Result<Ldu, AllocError>
     requires some { 1 ≤ length bytes.now }
-    requires most { length bytes.now ≤ 632 }
+    requires most { length bytes.now ≤ most_unit_bytes }
     requires flags { flags ≤ 15 }
     ensures { IfOk result (λ u. u ≡ unit_of profile.now bytes.now flags) }
 {

@@ -4,11 +4,12 @@ ghost use Rattle.std.specs.Prelude.{◌≡◌, ◌≤◌, ◌<◌, ◌+◌, ◌*
 ghost use Rattle.a429_profile.specs.declared.codes.Codes.{Codes};
 ghost use Rattle.a429_ldu.specs.Semis.{semis_of_bytes};
 ghost use Rattle.a429_ldu.specs.Form.{with_parity_bit};
-ghost use Rattle.a429_ldu.specs.Cut.{data_words, full_frame};
+ghost use Rattle.a429_ldu.specs.Filling.{full_frame, data_words};
+ghost use Rattle.a429_ldu.specs.Ldu.{most_unit_bytes};
 
 use crate::forms::Form;
 use crate::semis::Semis;
-use crate::writing::word_of;
+use crate::forms::writing::word_of;
 use a429_profile::Profile;
 use a429_word::Word;
 use std::alloc::{AllocError, Global};
@@ -19,7 +20,7 @@ pub(crate) fn data_words(
     profile: &Profile,
     bytes: &[u8],
 ) -> Result<Vec<Word>, AllocError>
-    requires { length bytes.now ≤ 632 }
+    requires { length bytes.now ≤ most_unit_bytes }
     ensures { IfOk result (λ words. words.items ≡ data_words profile.now.codes bytes.now) }
 {
     let frame = full_frame(profile);
@@ -71,7 +72,7 @@ fn full_word(frame: u32, semis: u32) -> Word
 
 // Adds the data words of bytes.
 fn add_words(words: &mut Vec<Word>, profile: &Profile, bytes: &[u8]) -> Result<(), AllocError>
-    requires { length bytes.now ≤ 632 }
+    requires { length bytes.now ≤ most_unit_bytes }
     ensures { OnOk result (words.new.items ≡ words.old.items ++ data_words profile.now.codes bytes.now) }
 {
     let mut at = 0;
@@ -85,7 +86,7 @@ fn add_words(words: &mut Vec<Word>, profile: &Profile, bytes: &[u8]) -> Result<(
 // The semi-octets from a place on, at most five.
 fn semis_at(bytes: &[u8], at: usize) -> Semis
     requires within { at < 2 * length bytes.now }
-    requires most { length bytes.now ≤ 632 }
+    requires most { length bytes.now ≤ most_unit_bytes }
     ensures { result ≡ take 5 (drop at (semis_of_bytes bytes.now)) }
 {
     let digits = [

@@ -1,5 +1,9 @@
 //! What the words of a file transfer say.
 
+pub(crate) mod fields;
+pub(crate) mod reading;
+pub(crate) mod writing;
+
 use crate::semis::Semis;
 use a429_word::Bus;
 

@@ -1,20 +1,23 @@
 //! Laws of the definitions that the contracts of this crate cite.
 
-ghost use Rattle.std.specs.Prelude.{◌≡◌, ◌↔◌, ◌≤◌, ◌<◌, ◌*◌, ◌-◌, ◌^◌, ℕ, List, Some, All, length, IsTrue};
+ghost use Rattle.std.specs.Prelude.{◌≡◌, ◌↔◌, ◌≤◌, ◌<◌, ◌+◌, ◌*◌, ◌-◌, ◌^◌, ℕ, List, Some, length, IsTrue, true};
 ghost use Rattle.std.specs.List.{concat};
 ghost use Rattle.a429_word.specs.declared.bus.Bus.{Bus};
 ghost use Rattle.a429_profile.specs.declared.codes.Codes.{Codes};
 ghost use Rattle.a429_profile.specs.declared.codes.Check.{Check};
-ghost use Rattle.a429_profile.specs.Contents.{Contents, IsProfile};
+ghost use Rattle.a429_profile.specs.Profile.{Contents, IsProfile};
 ghost use Rattle.a429_ldu.specs.declared.forms.Form.{Form};
 ghost use Rattle.a429_ldu.specs.declared.sight.Sight.TheVariants as sight;
-ghost use Rattle.a429_ldu.specs.Form.{IsForm, IsFree, IsInRange, bus_of, word_number, is_free, form_of, sight_of};
+ghost use Rattle.a429_ldu.specs.Form.{IsForm, IsFree, IsTransferForm, IsInRange, bus_of, word_number, is_free, form_of};
+ghost use Rattle.a429_ldu.specs.Sight.{sight_of};
 ghost use Rattle.a429_ldu.specs.Carried.{CarryBytes, bytes_carried};
-ghost use Rattle.a429_ldu.specs.CheckWord.{check_of};
+ghost use Rattle.a429_ldu.specs.CheckWord.{check_of, agrees, check_by_register};
 ghost use Rattle.a429_ldu.specs.declared.fault.LduFault.{LduFault};
-ghost use Rattle.a429_ldu.specs.Ldu.{LduValue, IsLdu, IsFirstFault, bytes_of};
-ghost use Rattle.a429_ldu.specs.Register.{check_by_register};
-ghost use Rattle.a429_ldu.specs.Cut.{room, pieces, HaveSizes};
+ghost use Rattle.a429_ldu.specs.Ldu.{LduValue, most_data_words, most_unit_bytes, HasUnitBytes, IsLdu, IsFirstLduFault, bytes_of};
+ghost use Rattle.a429_ldu.specs.Cut.{most_units, room, pieces, HaveSizes};
+
+use crate::cutting::MOST_UNITS;
+use crate::ldu::{MOST_DATA_WORDS, MOST_UNIT_BYTES};
 
 /// The word of a form is seen as this form on the form's bus, and so is not free, for each profile.
 pub fn a_form_is_read_back()
@@ -36,25 +39,39 @@ pub fn a_form_has_one_word()
 /// What is computed of a word is what the table says of it.
 pub fn forms_are_computed()
     ensures free { (c : Codes) (b : Bus) (w : ℕ) → IsTrue (is_free c b w) ↔ IsFree c b w }
-    ensures form { (p : Contents) (b : Bus) (w : ℕ) (x : Form) → IsProfile p → (form_of p.codes b w ≡ Some x) ↔ ((¬ IsFree p.codes b w) × IsForm p.codes b w x) }
+    ensures form { (p : Contents) (b : Bus) (w : ℕ) (x : Form) → IsProfile p → (form_of p.codes b w ≡ Some x) ↔ IsTransferForm p.codes b w x }
 {}
 
 /// What is computed of words is what they carry, and they carry one list of bytes.
 pub fn bytes_are_computed()
-    ensures carried { (p : Contents) (ws bytes : List ℕ) → IsProfile p → (bytes_carried p.codes ws ≡ Some bytes) ↔ CarryBytes p.codes ws bytes }
+    ensures carried { (p : Contents) (ws bs : List ℕ) → IsProfile p → (bytes_carried p.codes ws ≡ Some bs) ↔ CarryBytes p.codes ws bs }
     ensures one { (p : Contents) (ws xs ys : List ℕ) → IsProfile p → CarryBytes p.codes ws xs → CarryBytes p.codes ws ys → xs ≡ ys }
+{}
+
+/// The limits that code names are those of the definitions, and a unit of 255 words has room for this many
+/// bytes.
+pub fn limits_are_those_of_the_definitions()
+    ensures words { MOST_DATA_WORDS ≡ most_data_words }
+    ensures bytes { MOST_UNIT_BYTES ≡ most_unit_bytes }
+    ensures units { MOST_UNITS ≡ most_units }
+    ensures room { room (most_data_words + 2) ≡ most_unit_bytes }
 {}
 
 /// A link data unit has 1 to 632 bytes.
 pub fn units_have_few_bytes()
-    ensures { (p : Contents) (u : LduValue) → IsProfile p → IsLdu p u → (1 ≤ length (bytes_of p.codes u)) × (length (bytes_of p.codes u) ≤ 632) }
+    ensures { (p : Contents) (u : LduValue) → IsProfile p → IsLdu p u → HasUnitBytes (bytes_of p.codes u) }
 {}
 
 /// A link data unit has no fault, and what is none has one first fault. So `Ldu::new` refuses with a fault
 /// exactly where it is there.
 pub fn a_unit_has_no_fault()
-    ensures none { (p : Contents) (u : LduValue) (f : LduFault) → IsProfile p → IsLdu p u → ¬ IsFirstFault p u.check u.words f }
-    ensures one { (p : Contents) (check : ℕ) (words : List ℕ) (f g : LduFault) → IsFirstFault p check words f → IsFirstFault p check words g → f ≡ g }
+    ensures none { (p : Contents) (u : LduValue) (f : LduFault) → IsProfile p → IsLdu p u → ¬ IsFirstLduFault p u.check u.words f }
+    ensures one { (p : Contents) (k : ℕ) (ws : List ℕ) (f g : LduFault) → IsFirstLduFault p k ws f → IsFirstLduFault p k ws g → f ≡ g }
+{}
+
+/// The check word of a link data unit agrees with its bytes.
+pub fn a_unit_agrees()
+    ensures { (p : Contents) (u : LduValue) → IsProfile p → IsLdu p u → agrees p.check (bytes_of p.codes u) u.check ≡ true }
 {}
 
 /// A register that takes bit after bit ends with the check word.
@@ -65,7 +82,7 @@ pub fn a_register_divides()
 /// The pieces of a file are the file, and each but the last takes as many bytes as there is room for,
 /// which is the most that the semi-octets of full words make.
 pub fn pieces_are_the_file()
-    ensures whole { (most size : ℕ) (bytes : List ℕ) → 1 ≤ size → 1 ≤ length bytes → length bytes ≤ most * size → concat (pieces most size bytes) ≡ bytes }
-    ensures sizes { (most size : ℕ) (bytes : List ℕ) → 1 ≤ size → 1 ≤ length bytes → length bytes ≤ most * size → HaveSizes size (pieces most size bytes) }
+    ensures whole { (n size : ℕ) (bs : List ℕ) → 1 ≤ size → 1 ≤ length bs → length bs ≤ n * size → concat (pieces n size bs) ≡ bs }
+    ensures sizes { (n size : ℕ) (bs : List ℕ) → 1 ≤ size → 1 ≤ length bs → length bs ≤ n * size → HaveSizes size (pieces n size bs) }
     ensures room { (max_words n : ℕ) → (n ≤ room max_words) ↔ (2 * n ≤ 5 * (max_words - 2)) }
 {}

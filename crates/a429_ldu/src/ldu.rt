@@ -1,18 +1,23 @@
 //! Link data units: the parts in which a file is sent.
 
-ghost use Rattle.std.specs.Prelude.{◌≡◌, ◌≢◌, ◌≤◌, ◌<◌, Err, IfOk, IfErr, slice_index, true, false};
-ghost use Rattle.a429_ldu.specs.CheckWord.{check_of};
-ghost use Rattle.a429_ldu.specs.Ldu.{count_of, block_of, HasLength, IsLdu, IsFirstFault};
+ghost use Rattle.std.specs.Prelude.{◌≡◌, ◌≢◌, ◌≤◌, ◌<◌, Err, IfOk, IfErr, slice_index};
+ghost use Rattle.a429_ldu.specs.Ldu.{ldu_of, count_of, block_of, HasLength, IsLdu, IsFirstLduFault};
 
-use crate::bytes::block_bytes;
+use crate::carried::block_bytes;
 use crate::fault::LduFault;
 use crate::forms::Form;
-use crate::register::check_word;
-use crate::writing::word_of;
-use a429_profile::{Check, Profile};
+use crate::check_words::agrees;
+use crate::forms::writing::word_of;
+use a429_profile::Profile;
 use a429_word::Word;
 use std::alloc::Global;
 use std::marker::Model;
+
+/// The most data words of a link data unit, whose block has a start word and an end word more.
+pub const MOST_DATA_WORDS: usize = 253;
+
+/// The most bytes that these carry.
+pub const MOST_UNIT_BYTES: usize = 632;
 
 /// A link data unit (ARINC 429 Part 3): 1 to 253 data words, and the numbers of the start and end words
 /// that stand round them.
@@ -26,13 +31,13 @@ pub struct Ldu {
 
 impl Model for Ldu {
     ghost use Rattle.std.specs.Prelude.{◌≤◌, length};
-    ghost use Rattle.a429_ldu.specs.Ldu.{LduValue};
+    ghost use Rattle.a429_ldu.specs.Ldu.{LduValue, most_data_words};
 
     ghost Value = { LduValue };
 
     ghost view = { λ u. record { gfi = u.gfi; flags = u.flags; check = u.check; words = u.words.items } };
 
-    ghost invariant = { λ u. (u.gfi ≤ 15) × (u.flags ≤ 15) × (1 ≤ length u.words.items) × (length u.words.items ≤ 253) };
+    ghost invariant = { λ u. (u.gfi ≤ 15) × (u.flags ≤ 15) × (1 ≤ length u.words.items) × (length u.words.items ≤ most_data_words) };
 }
 
 impl Ldu {
@@ -48,12 +53,12 @@ impl Ldu {
     ) -> Result<Ldu, LduFault>
         requires gfi { gfi ≤ 15 }
         requires flags { flags ≤ 15 }
-        ensures value { IfOk result (λ u. u ≡ record { gfi = gfi; flags = flags; check = check; words = words.now }) }
+        ensures value { IfOk result (λ u. u ≡ ldu_of gfi flags check words.now) }
         ensures sound { IfOk result (λ u. IsLdu profile.now u) }
-        ensures err { IfErr result (λ f. f ≢ LduFault.OutOfMemory → IsFirstFault profile.now check words.now f) }
-        ensures memory { result ≡ Err LduFault.OutOfMemory → IsLdu profile.now (record { gfi = gfi; flags = flags; check = check; words = words.now }) }
+        ensures err { IfErr result (λ f. f ≢ LduFault.OutOfMemory → IsFirstLduFault profile.now check words.now f) }
+        ensures memory { result ≡ Err LduFault.OutOfMemory → IsLdu profile.now (ldu_of gfi flags check words.now) }
     {
-        if words.is_empty() || words.len() > 253 {
+        if words.is_empty() || words.len() > MOST_DATA_WORDS {
             return Err(LduFault::Count);
         }
         let Some(bytes) = block_bytes(profile, words) else {
@@ -77,7 +82,7 @@ impl Ldu {
     pub(crate) fn of_parts(flags: u8, check: u16, words: Vec<Word>) -> Ldu
         requires flags { flags ≤ 15 }
         requires words { HasLength words.items }
-        ensures { result ≡ record { gfi = 0; flags = flags; check = check; words = words.items } }
+        ensures { result ≡ ldu_of 0 flags check words.items }
     {
         Ldu {
             gfi: 0,
@@ -124,6 +129,7 @@ impl Ldu {
     {
         self.words.len() as u8 + 2
     }
+
     /// Word k of its block, k from 0 and below its count, under a file number and a number of its own:
     /// the start word, the data words, the end word.
     pub fn word(&self, profile: &Profile, k: u8, file: u8, ldu: u8) -> Word
@@ -148,12 +154,4 @@ impl Ldu {
             word_of(profile, &end)
         }
     }
-}
-
-// Whether a check word is that of the bytes, or is not compared.
-fn agrees(how: &Check, bytes: &[u8], check: u16) -> bool
-    ensures yes { result ≡ true → how.now.compare ≡ true → check ≡ check_of how.now bytes.now }
-    ensures no { result ≡ false → (how.now.compare ≡ true) × (check ≢ check_of how.now bytes.now) }
-{
-    !how.compare || check_word(how, bytes) == check
 }

@@ -2,26 +2,23 @@
 //! units (ARINC 429 Part 3).
 #![tactic(auto)]
 
-mod bytes;
+mod carried;
+mod check_words;
 mod cutting;
 mod fault;
-mod fields;
 mod filling;
 mod forms;
 pub mod laws;
 mod ldu;
-mod reading;
-mod register;
 mod semis;
 mod sight;
-mod writing;
 
-pub use crate::bytes::{BlockBytes, block_bytes, bytes_of};
-pub use crate::cutting::cut;
+pub use crate::carried::{BlockBytes, block_bytes, bytes_of};
+pub use crate::check_words::{agrees, check_word};
+pub use crate::cutting::{MOST_UNITS, cut};
 pub use crate::fault::{CutFault, LduFault};
 pub use crate::forms::Form;
-pub use crate::ldu::Ldu;
-pub use crate::register::check_word;
+pub use crate::forms::writing::word_of;
+pub use crate::ldu::{Ldu, MOST_DATA_WORDS, MOST_UNIT_BYTES};
 pub use crate::semis::Semis;
 pub use crate::sight::{Sight, form};
-pub use crate::writing::word_of;

@@ -1,8 +1,7 @@
 //! The semi-octets of a data word.
 
 ghost use Rattle.std.specs.Prelude.{◌≡◌, ◌≤◌, ◌<◌, ◌++◌, ◌-◌, ℕ, All, None, IfSome, take, length, replicate, slice_index};
-ghost use Rattle.a429_ldu.specs.Semis.{AreSemis};
-ghost use Rattle.a429_ldu.specs.Kept.{AreKept};
+ghost use Rattle.a429_ldu.specs.Semis.{AreSemis, AreKept};
 
 use std::marker::Model;
 
@@ -19,7 +18,7 @@ impl Model for Semis {
 
     ghost Value = { List ℕ };
 
-    ghost use Rattle.a429_ldu.specs.Kept.{AreKept, refilled, refilled-kept};
+    ghost use Rattle.a429_ldu.specs.Semis.{AreKept, refilled, refilled-kept};
 
     ghost view = { λ s. take s.count s.digits };
 

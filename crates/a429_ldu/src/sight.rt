@@ -1,15 +1,16 @@
 //! What a word says on a bus.
 
-ghost use Rattle.std.specs.Prelude.{◌≡◌, ◌↔◌, ◌⊎◌, IsTrue, Contains};
+ghost use Rattle.std.specs.Prelude.{◌≡◌, ◌↔◌, IsTrue};
 ghost use Rattle.a429_word.specs.Word.{label_of, HasOddParity};
-ghost use Rattle.a429_profile.specs.Contents.{IsProfile};
+ghost use Rattle.a429_profile.specs.Profile.{IsProfile};
 ghost use Rattle.a429_ldu.specs.declared.forms.Form.{Form};
-ghost use Rattle.a429_ldu.specs.Form.{address_of, IsFree, IsForm, sight_of};
+ghost use Rattle.a429_ldu.specs.Form.{address_of, IsFree, IsIgnored, IsForm};
+ghost use Rattle.a429_ldu.specs.Sight.{sight_of};
 
-use crate::fields::{Parts, parts_of};
+use crate::forms::fields::{Parts, parts_of};
 use crate::forms::Form;
-use crate::reading::{form_on, full_form};
-use crate::writing::address;
+use crate::forms::reading::{form_on, full_form};
+use crate::forms::writing::address;
 use a429_profile::{Codes, Profile};
 use a429_word::{Bus, Word};
 
@@ -23,6 +24,21 @@ pub enum Sight {
     Form(Form),
     /// A word that claims to be one of the transfer, and has no form.
     NoForm,
+}
+
+impl Sight {
+    ghost use Rattle.std.specs.Prelude.{◌≡◌};
+    ghost use Rattle.a429_ldu.specs.Sight.{form_in};
+
+    /// The form of the word, where it has one.
+    pub fn form(&self) -> Option<Form>
+        ensures { result ≡ form_in self.now }
+    {
+        match self {
+            Sight::Form(form) => Some(*form),
+            Sight::Free | Sight::NoForm => None,
+        }
+    }
 }
 
 /// What a word says on a bus (ARINC 429 Part 3; where its numbers stand is the profile's).
@@ -74,7 +90,7 @@ pub(crate) fn is_addressed(codes: &Codes, bus: Bus, word: Word) -> bool
 // Whether the profile ignores words with these numbers.
 #[inline(never)]
 fn is_ignored(codes: &Codes, parts: Parts) -> bool
-    ensures { IsTrue result ↔ (Contains codes.now.ignored_types parts.kind ⊎ ((parts.kind ≡ codes.now.protocol) × Contains codes.now.ignored_codes parts.upper)) }
+    ensures { IsTrue result ↔ IsIgnored codes.now parts.kind parts.upper }
 {
     codes.ignored_types.as_slice().contains(&parts.kind)
         || parts.kind == codes.protocol && codes.ignored_codes.as_slice().contains(&parts.upper)

@@ -6,18 +6,17 @@ use Rattle.std.proofs.lemmas.List.{drop_more, drop_all, get_or-map, length-map}
 use Rattle.a429_ldu.specs.declared.fault.CutFault.TheVariants as cut
 use Rattle.std.proofs.lemmas.List.Elements.{recursion_from_All}
 use Rattle.a429_ldu.specs.Ldu.{IsLdu, LduValue, bytes_of, is_final, count_of}
-use Rattle.a429_link.specs.Run.{nothing, trace}
-use Rattle.a429_link.specs.Sink.{Shelf, put}
-use Rattle.a429_link.specs.Step.{State}
+use Rattle.a429_link.specs.Run.{trace}
+use Rattle.a429_link.specs.Sink.{empty_shelf, Shelf, put}
+use Rattle.a429_link.specs.State.{State}
 use Rattle.a429_link.specs.declared.file.FileBytes.{FileBytes}
 use Rattle.a429_link.specs.declared.seen.Seen.{Seen}
 use Rattle.a429_link.specs.declared.step.Step.{Step}
-use Rattle.a429_profile.specs.Contents.{Contents}
-use Rattle.a429_profile.specs.Contents.{IsProfile}
+use Rattle.a429_profile.specs.Profile.{Contents, IsProfile}
 use Rattle.a429_profile.specs.declared.codes.Codes.{Codes}
 use Rattle.a429_ldu.specs.Cut.{pieces, room, units_in, units_of, OnlyLastIsFinal}
-use Rattle.a429_ldu.proofs.Cuts.{AreUnits}
-use Rattle.a429_link.specs.Clean.{next_file, next_ldu, clean_block, clean, AllFit, shelved, clean_steps, all_steps, units_of_files, clean_words, clean_run_steps, numbered, cut_fault, refused_or, first_refused, IsRunOf}
+use Rattle.a429_ldu.proofs.CutFacts.{AreUnits}
+use Rattle.a429_link.specs.Clean.{next_file, next_ldu, clean_block, clean_blocks, AllFit, shelved, clean_steps, all_steps, units_of_files, clean_words, clean_run_steps, numbered, cut_fault, refused_or, first_refused, IsRunOf}
 use Rattle.a429_ldu.specs.declared.fault.CutFault.{CutFault}
 use Rattle.a429_link.specs.declared.fault.CleanFault.TheVariants.{Cut}
 use Rattle.a429_link.proofs.CleanRuns.{clean_goes, clean_records, start_ready, Records, trace_append}
@@ -39,16 +38,16 @@ pub ldu_goes : (c : Codes) (ldu : ℕ) (u : LduValue) → is_final c u.flags ≡
 ldu_goes c ldu u e = rw e refl
 
 -- the words of a file, and of those behind it
-pub clean_append : (c : Codes) (file ldu : ℕ) (us vs : List LduValue) → OnlyLastIsFinal c us → clean c file ldu (us ++ vs) ≡ clean c file ldu us ++ clean c ((file + 1) % 256) c.first_ldu vs
+pub clean_append : (c : Codes) (file ldu : ℕ) (us vs : List LduValue) → OnlyLastIsFinal c us → clean_blocks c file ldu (us ++ vs) ≡ clean_blocks c file ldu us ++ clean_blocks c ((file + 1) % 256) c.first_ldu vs
 clean_append c file ldu [] vs h = absurd h
 clean_append c file ldu (u ∷ []) vs h =
-    ap (λ f. clean_block c file ldu u ++ clean c f (next_ldu c ldu u) vs) (file_ends c file u h)
-    ∙ ap (λ l. clean_block c file ldu u ++ clean c ((file + 1) % 256) l vs) (ldu_ends c ldu u h)
-    ∙ ap (λ (b : List Seen). b ++ clean c ((file + 1) % 256) c.first_ldu vs) (sym (append-nil (clean_block c file ldu u)))
+    ap (λ f. clean_block c file ldu u ++ clean_blocks c f (next_ldu c ldu u) vs) (file_ends c file u h)
+    ∙ ap (λ l. clean_block c file ldu u ++ clean_blocks c ((file + 1) % 256) l vs) (ldu_ends c ldu u h)
+    ∙ ap (λ (b : List Seen). b ++ clean_blocks c ((file + 1) % 256) c.first_ldu vs) (sym (append-nil (clean_block c file ldu u)))
 clean_append c file ldu (u ∷ (v ∷ us)) vs h =
-    ap (λ (b : List Seen). clean_block c file ldu u ++ b) (ap (λ f. clean c f (next_ldu c ldu u) ((v ∷ us) ++ vs)) (file_goes c file u h.0) ∙ clean_append c file (next_ldu c ldu u) (v ∷ us) vs h.1)
-    ∙ sym (append_assoc (clean_block c file ldu u) (clean c file (next_ldu c ldu u) (v ∷ us)) (clean c ((file + 1) % 256) c.first_ldu vs))
-    ∙ ap (λ f. (clean_block c file ldu u ++ clean c f (next_ldu c ldu u) (v ∷ us)) ++ clean c ((file + 1) % 256) c.first_ldu vs) (sym (file_goes c file u h.0))
+    ap (λ (b : List Seen). clean_block c file ldu u ++ b) (ap (λ f. clean_blocks c f (next_ldu c ldu u) ((v ∷ us) ++ vs)) (file_goes c file u h.0) ∙ clean_append c file (next_ldu c ldu u) (v ∷ us) vs h.1)
+    ∙ sym (append_assoc (clean_block c file ldu u) (clean_blocks c file (next_ldu c ldu u) (v ∷ us)) (clean_blocks c ((file + 1) % 256) c.first_ldu vs))
+    ∙ ap (λ f. (clean_block c file ldu u ++ clean_blocks c f (next_ldu c ldu u) (v ∷ us)) ++ clean_blocks c ((file + 1) % 256) c.first_ldu vs) (sym (file_goes c file u h.0))
 
 -- the files on a shelf, with one more
 abbrev closed : ℕ → List ℕ → Shelf → Shelf
@@ -131,10 +130,10 @@ pub files_cross : (p : Contents) (w first : ℕ) (files : List (List ℕ)) → I
 files_cross p w first files is l h =
     let us = units_of_files p w files in
     let fit = all_fit p w files h in
-    let goes = clean_goes p is us first p.codes.first_ldu None nothing 0 fit (start_ready p first us l fit) in
+    let goes = clean_goes p is us first p.codes.first_ldu None empty_shelf 0 fit (start_ready p first us l fit) in
     record {
       run = goes.run;
-      told = trace_all (clean_steps p.codes first p.codes.first_ldu us) (clean p.codes first p.codes.first_ldu us) (clean_records p.codes us first p.codes.first_ldu);
+      records = trace_all (clean_steps p.codes first p.codes.first_ldu us) (clean_blocks p.codes first p.codes.first_ldu us) (clean_records p.codes us first p.codes.first_ldu);
       gives = ap (λ (s : State). s.sink.shelf.files) goes.ends ∙ all_shelved p w first files [] h;
     }
 
@@ -144,14 +143,14 @@ abbrev pub IsTail : Codes → List LduValue → Type 0
 IsTail c [] = Unit {0}
 IsTail c (u ∷ us) = OnlyLastIsFinal c (u ∷ us)
 
-tail_step : (c : Codes) (file ldu : ℕ) (u : LduValue) (us : List LduValue) → OnlyLastIsFinal c (u ∷ us) → (clean c file ldu (u ∷ us) ≡ clean_block c file ldu u ++ clean c file (ldu + 1) us) × IsTail c us
+tail_step : (c : Codes) (file ldu : ℕ) (u : LduValue) (us : List LduValue) → OnlyLastIsFinal c (u ∷ us) → (clean_blocks c file ldu (u ∷ us) ≡ clean_block c file ldu u ++ clean_blocks c file (ldu + 1) us) × IsTail c us
 tail_step c file ldu u [] h = (refl, tt)
-tail_step c file ldu u (v ∷ us) h = (ap (λ f. clean_block c file ldu u ++ clean c f (next_ldu c ldu u) (v ∷ us)) (file_goes c file u h.0) ∙ ap (λ l. clean_block c file ldu u ++ clean c file l (v ∷ us)) (ldu_goes c ldu u h.0), h.1)
+tail_step c file ldu u (v ∷ us) h = (ap (λ f. clean_block c file ldu u ++ clean_blocks c f (next_ldu c ldu u) (v ∷ us)) (file_goes c file u h.0) ∙ ap (λ l. clean_block c file ldu u ++ clean_blocks c file l (v ∷ us)) (ldu_goes c ldu u h.0), h.1)
 
 -- the words so far, and those still to come, are all
 pub record AreWords (c : Codes) (file first ldu i : ℕ) (us : List LduValue) (old now : List Seen) : Type 0 where
   pub number : ldu ≡ first + i
-  pub told : now ++ clean c file ldu (drop i us) ≡ old ++ clean c file first us
+  pub records : now ++ clean_blocks c file ldu (drop i us) ≡ old ++ clean_blocks c file first us
   pub rest : IsTail c (drop i us)
 
 pub words_more : (c : Codes) (file first ldu i : ℕ) (us : List LduValue) (old now new : List Seen) (u : LduValue) → i < length us → u ≡ get_or us i u → new ≡ now ++ clean_block c file ldu u → AreWords c file first ldu i us old now → AreWords c file first (ldu + 1) (i + 1) us old new
@@ -161,38 +160,38 @@ words_more c file first ldu i us old now new u l eu en h =
     let number = h.number in
     record {
       number = omega arith;
-      told =
-          ap (λ (s : List Seen). s ++ clean c file (ldu + 1) (drop (i + 1) us)) en
-          ∙ append_assoc now (clean_block c file ldu u) (clean c file (ldu + 1) (drop (i + 1) us))
+      records =
+          ap (λ (s : List Seen). s ++ clean_blocks c file (ldu + 1) (drop (i + 1) us)) en
+          ∙ append_assoc now (clean_block c file ldu u) (clean_blocks c file (ldu + 1) (drop (i + 1) us))
           ∙ ap (λ (s : List Seen). now ++ s) (sym step.0)
-          ∙ ap (λ (vs : List LduValue). now ++ clean c file ldu vs) (sym split)
-          ∙ h.told;
+          ∙ ap (λ (vs : List LduValue). now ++ clean_blocks c file ldu vs) (sym split)
+          ∙ h.records;
       rest = step.1;
     }
 
-pub words_end : (c : Codes) (file first ldu i : ℕ) (us : List LduValue) (old now : List Seen) → length us ≤ i → AreWords c file first ldu i us old now → now ≡ old ++ clean c file first us
-words_end c file first ldu i us old now l h = sym (append-nil now) ∙ ap (λ (vs : List LduValue). now ++ clean c file ldu vs) (sym (drop_all i us l)) ∙ h.told
+pub words_end : (c : Codes) (file first ldu i : ℕ) (us : List LduValue) (old now : List Seen) → length us ≤ i → AreWords c file first ldu i us old now → now ≡ old ++ clean_blocks c file first us
+words_end c file first ldu i us old now l h = sym (append-nil now) ∙ ap (λ (vs : List LduValue). now ++ clean_blocks c file ldu vs) (sym (drop_all i us l)) ∙ h.records
 
 -- ---- the files still to come
 
 -- the words so far with those still to come are all; no file so far is refused; and each was cut
 pub record AreFiles (p : Contents) (w first file k : ℕ) (files : List (List ℕ)) (now : List Seen) : Type 0 where
-  pub told : now ++ clean_words p w file (drop k files) ≡ clean_words p w first files
+  pub records : now ++ clean_words p w file (drop k files) ≡ clean_words p w first files
   pub refused : first_refused w k (drop k files) ≡ first_refused w 0 files
   pub each : EachCut p w (drop k files) → EachCut p w files
 
 -- one more file is cut
-pub files_more : (p : Contents) (w first file k : ℕ) (files : List (List ℕ)) (now new : List Seen) (f : List ℕ) → k < length files → f ≡ get_or files k f → cut_fault w f ≡ None → AreUnits p w f (units_of p w f) → new ≡ now ++ clean p.codes file p.codes.first_ldu (units_of p w f) → AreFiles p w first file k files now → AreFiles p w first ((file + 1) % 256) (k + 1) files new
+pub files_more : (p : Contents) (w first file k : ℕ) (files : List (List ℕ)) (now new : List Seen) (f : List ℕ) → k < length files → f ≡ get_or files k f → cut_fault w f ≡ None → AreUnits p w f (units_of p w f) → new ≡ now ++ clean_blocks p.codes file p.codes.first_ldu (units_of p w f) → AreFiles p w first file k files now → AreFiles p w first ((file + 1) % 256) (k + 1) files new
 files_more p w first file k files now new f l ef none made en h =
     let split : drop k files ≡ f ∷ drop (k + 1) files = drop_more files k f l ∙ ap (λ (g : List ℕ). g ∷ drop (k + 1) files) (sym ef) in
     let rest = drop (k + 1) files in
     record {
-      told =
+      records =
           ap (λ (s : List Seen). s ++ clean_words p w ((file + 1) % 256) rest) en
-          ∙ append_assoc now (clean p.codes file p.codes.first_ldu (units_of p w f)) (clean_words p w ((file + 1) % 256) rest)
+          ∙ append_assoc now (clean_blocks p.codes file p.codes.first_ldu (units_of p w f)) (clean_words p w ((file + 1) % 256) rest)
           ∙ ap (λ (s : List Seen). now ++ s) (sym (clean_append p.codes file p.codes.first_ldu (units_of p w f) (units_of_files p w rest) made.last))
           ∙ ap (λ (fs : List (List ℕ)). now ++ clean_words p w file fs) (sym split)
-          ∙ h.told;
+          ∙ h.records;
       refused = sym (ap (λ (fs : List (List ℕ)). first_refused w k fs) split ∙ ap (λ o. refused_or k o (first_refused w (k + 1) rest)) none) ∙ h.refused;
       each = λ e. h.each (subst (EachCut p w) (sym split) (made, e));
     }
@@ -207,7 +206,7 @@ files_refused p w first file k files now f e l ef some h =
 pub files_end : (p : Contents) (w first file k : ℕ) (files : List (List ℕ)) (now : List Seen) → length files ≤ k → AreFiles p w first file k files now → (now ≡ clean_words p w first files) × (first_refused w 0 files ≡ None) × EachCut p w files
 files_end p w first file k files now l h =
     let none : drop k files ≡ [] = drop_all k files l in
-    (sym (append-nil now) ∙ ap (λ (fs : List (List ℕ)). now ++ clean_words p w file fs) (sym none) ∙ h.told, sym h.refused ∙ ap (λ (fs : List (List ℕ)). first_refused w k fs) none, h.each (subst (EachCut p w) (sym none) tt))
+    (sym (append-nil now) ∙ ap (λ (fs : List (List ℕ)). now ++ clean_words p w file fs) (sym none) ∙ h.records, sym h.refused ∙ ap (λ (fs : List (List ℕ)). first_refused w k fs) none, h.each (subst (EachCut p w) (sym none) tt))
 
 -- ---- what cutting a file answers
 

@@ -4,26 +4,27 @@ use Rattle.std.proofs.lemmas.Bool.{ne_eqb, le-leb}
 use Rattle.a429_word.specs.declared.bus.Bus.TheVariants as bus
 use Rattle.a429_ldu.specs.Form.{form_of, is_free, word_number}
 use Rattle.a429_ldu.specs.Ldu.{IsLdu, LduValue, block_of, count_of, is_final}
-use Rattle.a429_link.proofs.Said.{Ack, AllParts, Cts, Eot, IsFit, IsRead, MaySay, Nak, Part, Rts, Said, Sot, answers_as, answers_said, block_said, block_words, hears_as, hears_said, last_said, next_said, said_form, said_of, takes_as, takes_said, word_of}
-use Rattle.a429_link.specs.Run.{IsRun, end_of, nothing, trace, with_label}
-use Rattle.a429_link.specs.Sink.{Block, Granted, InBlock, Listens, MayAnswerForm, Number, OwesAck, OwesClear, OwesNak, Quiet, Shelf, Sink, SinkPhase, agrees, answers_word, bytes_in, in_sequence, is_good, is_same, put}
+use Rattle.a429_link.proofs.Message.{Ack, AllParts, Cts, Eot, IsFit, IsRead, MaySay, Nak, Part, Rts, Message, Sot, answers_as, answers_message, block_messages, block_words, hears_as, hears_message, end_message, next_message, message_in, message_of, takes_as, takes_message, word_of}
+use Rattle.a429_link.specs.Run.{IsRun, end_of, trace, with_label}
+use Rattle.a429_link.specs.Sink.{empty_shelf, Block, Granted, InBlock, Listens, MayAnswerForm, Number, OwesAck, OwesClear, OwesNak, Quiet, Shelf, Sink, SinkPhase, agrees, answers_word, bytes_in, in_sequence, is_good, is_same, put}
 use Rattle.a429_link.specs.Source.{Source, acknowledged, after_word, next_word}
-use Rattle.a429_link.specs.Step.{State, after, label, start}
+use Rattle.a429_link.specs.Step.{after, label}
+use Rattle.a429_link.specs.State.{start, State}
 use Rattle.a429_link.specs.declared.state.SourceState.{SourceState}
 use Rattle.a429_link.specs.declared.state.SourceState.TheVariants.{Awaiting, Idle, Sending, Waiting}
 use Rattle.a429_link.specs.declared.seen.Seen.{Seen}
 use Rattle.a429_link.specs.declared.step.Step.{Step}
 use Rattle.a429_link.specs.declared.step.Step.TheVariants.{FreeSeen}
-use Rattle.a429_profile.specs.Contents.{Contents}
-use Rattle.a429_profile.specs.Contents.{IsProfile}
+use Rattle.a429_profile.specs.Profile.{Contents, IsProfile}
 use Rattle.a429_profile.specs.declared.codes.Codes.{Codes}
 use Rattle.a429_ldu.specs.declared.forms.Form.{Form}
 use Rattle.a429_ldu.specs.declared.forms.Form.TheVariants as form
 use Rattle.a429_ldu.specs.Carried.{bytes_carried}
 use Rattle.a429_ldu.specs.CheckWord.{check_of}
-use Rattle.a429_ldu.proofs.Carried.{carried_of}
-use Rattle.a429_link.specs.Clean.{on_a, on_b, next_file, next_ldu, clean_block, clean, AllFit, shelved, thin, asks, replies, sends, block_steps, clean_steps, all_steps, first_of, rest_of, weave, IsRunOf}
-use Rattle.a429_link.proofs.Sound.{is_read}
+use Rattle.a429_ldu.proofs.CarriedFacts.{carried_of}
+use Rattle.a429_link.specs.Clean.{on_a, on_b, next_file, next_ldu, clean_block, clean_blocks, AllFit, shelved, without_free, asks, replies, sends_word, block_steps, clean_steps, all_steps, first_of, rest_of, weave, IsRunOf}
+use Rattle.a429_link.proofs.MessageRead.{is_read}
+use Rattle.a429_link.proofs.StateConfigs.{sink_at, unit_number}
 
 -- ---- steps one after another
 
@@ -56,25 +57,22 @@ joined_append (x ∷ xs) ys = ap (λ (l : List Step). x ++ l) (joined_append xs 
 abbrev pub at : ℕ → ℕ → Option LduValue → SourceState → Sink → State
 at file ldu cur sp k = record { source = record { file = file; ldu = ldu; current = cur; phase = sp }; sink = k; to_sink = []; to_source = [] }
 
-abbrev pub sink_at : Option Number → Shelf → ℕ → SinkPhase → Sink
-sink_at last shelf count kp = record { last = last; shelf = shelf; count = count; phase = kp }
-
-get_word : (p : Contents) (xs : List Said) (k : ℕ) (x : Said) → slice_get xs k ≡ Some x → slice_get (map (word_of p) xs) k ≡ Some (word_of p x)
+get_word : (p : Contents) (xs : List Message) (k : ℕ) (x : Message) → slice_get xs k ≡ Some x → slice_get (map (word_of p) xs) k ≡ Some (word_of p x)
 get_word p [] k x e = absurd (cc e)
 get_word p (y ∷ xs) zero x e = let same : y ≡ x = cc in ap (λ z. Some (word_of p z)) same
 get_word p (y ∷ xs) (suc k) x e = get_word p xs k x e
 
-next_of_said : (p : Contents) (file ldu : ℕ) (cur : Option LduValue) (sp : SourceState) (x : Said) → next_said file ldu cur sp ≡ Some x → next_word p.codes file ldu cur sp ≡ Some (word_of p x)
-next_of_said p file ldu (Some u) Idle x e = let same : Rts (count_of u) ≡ x = cc in ap (λ z. Some (word_of p z)) same
-next_of_said p file ldu (Some u) (Sending k) x e = subst (λ (l : List ℕ). slice_get l k ≡ Some (word_of p x)) (block_words p u file ldu) (get_word p (block_said u file ldu) k x e)
-next_of_said p file ldu (Some u) Awaiting x e = absurd (cc e)
-next_of_said p file ldu (Some u) Waiting x e = absurd (cc e)
-next_of_said p file ldu None sp x e = absurd (cc e)
+next_word_of_message : (p : Contents) (file ldu : ℕ) (cur : Option LduValue) (sp : SourceState) (x : Message) → next_message file ldu cur sp ≡ Some x → next_word p.codes file ldu cur sp ≡ Some (word_of p x)
+next_word_of_message p file ldu (Some u) Idle x e = let same : Rts (count_of u) ≡ x = cc in ap (λ z. Some (word_of p z)) same
+next_word_of_message p file ldu (Some u) (Sending k) x e = subst (λ (l : List ℕ). slice_get l k ≡ Some (word_of p x)) (block_words p u file ldu) (get_word p (block_messages u file ldu) k x e)
+next_word_of_message p file ldu (Some u) Awaiting x e = absurd (cc e)
+next_word_of_message p file ldu (Some u) Waiting x e = absurd (cc e)
+next_word_of_message p file ldu None sp x e = absurd (cc e)
 
 -- a word of bus A is sent and taken
-word_goes : (p : Contents) (file ldu : ℕ) (cur : Option LduValue) (sp : SourceState) (k : Sink) (x : Said) → next_said file ldu cur sp ≡ Some x → Listens k.phase → said_of p bus.A (word_of p x) ≡ Some x → Goes p (sends (word_of p x)) (at file ldu cur sp k) (at file ldu cur (after_word cur sp) (takes_said p x k))
+word_goes : (p : Contents) (file ldu : ℕ) (cur : Option LduValue) (sp : SourceState) (k : Sink) (x : Message) → next_message file ldu cur sp ≡ Some x → Listens k.phase → message_of p bus.A (word_of p x) ≡ Some x → Goes p (sends_word (word_of p x)) (at file ldu cur sp k) (at file ldu cur (after_word cur sp) (takes_message p x k))
 word_goes p file ldu cur sp k x e l f = record {
-  run = ((refl, next_of_said p file ldu cur sp x e), ((tt, l), tt));
+  run = ((refl, next_word_of_message p file ldu cur sp x e), ((tt, l), tt));
   ends = ap (λ q. at file ldu cur (after_word cur sp) q) (takes_as p (word_of p x) x k f);
 }
 
@@ -82,7 +80,7 @@ word_goes p file ldu cur sp k x e l f = record {
 abbrev heard_at : Source → Sink → State
 heard_at s k = record { source = s; sink = k; to_sink = []; to_source = [] }
 
-may_say : (count w : ℕ) (kp : SinkPhase) (x : Said) (o : Option Form) → MaySay count kp x → said_form w o ≡ Some x → MayAnswerForm count kp o
+may_say : (count w : ℕ) (kp : SinkPhase) (x : Message) (o : Option Form) → MaySay count kp x → message_in w o ≡ Some x → MayAnswerForm count kp o
 may_say count w kp x None m e = absurd (cc e)
 may_say count w kp x (Some (form.Rts n)) m e = let same : Rts n ≡ x = cc in subst (MaySay count kp) (sym same) m
 may_say count w kp x (Some (form.Cts n)) m e = let same : Cts n ≡ x = cc in subst (MaySay count kp) (sym same) m
@@ -100,20 +98,20 @@ may_say count w kp x (Some (form.Part s)) m e = let same : Part w ≡ x = cc in 
     no_part OwesNak m = m
 may_say count w kp x (Some (form.Eot f c)) m e = let same : Eot f c ≡ x = cc in subst (MaySay count kp) (sym same) m
 
-reply_goes : (p : Contents) (file ldu : ℕ) (cur : Option LduValue) (sp : SourceState) (k : Sink) (x : Said) → MaySay k.count k.phase x → said_of p bus.B (word_of p x) ≡ Some x → Goes p (replies (word_of p x)) (at file ldu cur sp k) (heard_at (hears_said p cur sp x (record { file = file; ldu = ldu; current = cur; phase = sp })) (answers_said p x k))
+reply_goes : (p : Contents) (file ldu : ℕ) (cur : Option LduValue) (sp : SourceState) (k : Sink) (x : Message) → MaySay k.count k.phase x → message_of p bus.B (word_of p x) ≡ Some x → Goes p (replies (word_of p x)) (at file ldu cur sp k) (heard_at (hears_message p cur sp x (record { file = file; ldu = ldu; current = cur; phase = sp })) (answers_message p x k))
 reply_goes p file ldu cur sp k x m f = record {
   run = ((refl, may_say k.count (word_of p x) k.phase x (form_of p.codes bus.B (word_of p x)) m f), (tt, tt));
-  ends = ap (λ q. heard_at q (answers_word p.codes (word_of p x) k)) (hears_as p (word_of p x) x (record { file = file; ldu = ldu; current = cur; phase = sp }) f) ∙ ap (λ q. heard_at (hears_said p cur sp x (record { file = file; ldu = ldu; current = cur; phase = sp })) q) (answers_as p (word_of p x) x k f);
+  ends = ap (λ q. heard_at q (answers_word p.codes (word_of p x) k)) (hears_as p (word_of p x) x (record { file = file; ldu = ldu; current = cur; phase = sp }) f) ∙ ap (λ q. heard_at (hears_message p cur sp x (record { file = file; ldu = ldu; current = cur; phase = sp })) q) (answers_as p (word_of p x) x k f);
 }
 
 -- ---- a block crosses
 
 -- the words of a block, by place
-get_part : (qs : List ℕ) (q : ℕ) (ps : List ℕ) (e : Said) → slice_get (map Part (qs ++ q ∷ ps) ++ e ∷ []) (length qs) ≡ Some (Part q)
+get_part : (qs : List ℕ) (q : ℕ) (ps : List ℕ) (e : Message) → slice_get (map Part (qs ++ q ∷ ps) ++ e ∷ []) (length qs) ≡ Some (Part q)
 get_part [] q ps e = refl
 get_part (x ∷ qs) q ps e = get_part qs q ps e
 
-get_last : (ps : List ℕ) (e : Said) → slice_get (map Part ps ++ e ∷ []) (length ps) ≡ Some e
+get_last : (ps : List ℕ) (e : Message) → slice_get (map Part ps ++ e ∷ []) (length ps) ≡ Some e
 get_last [] e = refl
 get_last (x ∷ ps) e = get_last ps e
 
@@ -153,37 +151,34 @@ sound p is u h =
 holding : LduValue → ℕ → ℕ → List ℕ → SinkPhase
 holding u file ldu qs = InBlock (record { gfi = u.gfi; file = file; ldu = ldu; words = qs })
 
-parts_goes : (p : Contents) → IsRead p → (file ldu : ℕ) (u : LduValue) → Sound p u → (last : Option Number) (shelf : Shelf) → Comes p file ldu last → (qs ps : List ℕ) → qs ++ ps ≡ u.words → AllParts p ps → (k : ℕ) → k ≡ suc (length qs) → Goes p (all_steps (map sends (ps ++ word_of p (last_said u) ∷ []))) (at file ldu (Some u) (Sending k) (sink_at last shelf (count_of u) (holding u file ldu qs))) (at file ldu (Some u) Waiting (sink_at last shelf (count_of u) (OwesAck (record { gfi = u.gfi; file = file; ldu = ldu; words = u.words }) u.flags)))
+parts_goes : (p : Contents) → IsRead p → (file ldu : ℕ) (u : LduValue) → Sound p u → (last : Option Number) (shelf : Shelf) → Comes p file ldu last → (qs ps : List ℕ) → qs ++ ps ≡ u.words → AllParts p ps → (k : ℕ) → k ≡ suc (length qs) → Goes p (all_steps (map sends_word (ps ++ word_of p (end_message u) ∷ []))) (at file ldu (Some u) (Sending k) (sink_at last shelf (count_of u) (holding u file ldu qs))) (at file ldu (Some u) Waiting (sink_at last shelf (count_of u) (OwesAck (record { gfi = u.gfi; file = file; ldu = ldu; words = u.words }) u.flags)))
 unfolding holding
 parts_goes p good file ldu u s last shelf c qs [] e a k ek =
     let same : qs ≡ u.words = sym (append-nil qs) ∙ e in
-    let place : slice_get (block_said u file ldu) k ≡ Some (last_said u) = rw ek (rw same (get_last u.words (last_said u))) in
+    let place : slice_get (block_messages u file ldu) k ≡ Some (end_message u) = rw ek (rw same (get_last u.words (end_message u))) in
     let h = s.fit in
-    let form : said_of p bus.A (word_of p (last_said u)) ≡ Some (last_said u) = good.reads bus.A (last_said u) (h.flags, h.check) in
+    let form : message_of p bus.A (word_of p (end_message u)) ≡ Some (end_message u) = good.reads bus.A (end_message u) (h.flags, h.check) in
     let whole : eqb (suc k) (count_of u) ≡ true = rw ek (rw same (eq-eqb _ _ (omega arith))) in
     let b : Block = record { gfi = u.gfi; file = file; ldu = ldu; words = qs } in
     let is : is_good p last (count_of u) b u.check ≡ true = rw same (rw (eqb_same (length u.words + 2)) (rw s.carried (rw s.agrees (rw c.follows (or_true (is_same last file ldu)))))) in
-    let one = word_goes p file ldu (Some u) (Sending k) (sink_at last shelf (count_of u) (InBlock b)) (last_said u) place tt form in
+    let one = word_goes p file ldu (Some u) (Sending k) (sink_at last shelf (count_of u) (InBlock b)) (end_message u) place tt form in
     record { run = one.run; ends = one.ends ∙ rw whole (rw is (rw same refl)) }
   where
     or_true : (b : Bool) → (b || true) ≡ true
     or_true true = refl
     or_true false = refl
 parts_goes p good file ldu u s last shelf c qs (q ∷ ps) e a k ek =
-    let place : slice_get (block_said u file ldu) k ≡ Some (Part q) = rw ek (subst (λ ws. slice_get (map Part ws ++ last_said u ∷ []) (length qs) ≡ Some (Part q)) e (get_part qs q ps (last_said u))) in
-    let form : said_of p bus.A (word_of p (Part q)) ≡ Some (Part q) = good.reads bus.A (Part q) a.0 in
+    let place : slice_get (block_messages u file ldu) k ≡ Some (Part q) = rw ek (subst (λ ws. slice_get (map Part ws ++ end_message u ∷ []) (length qs) ≡ Some (Part q)) e (get_part qs q ps (end_message u))) in
+    let form : message_of p bus.A (word_of p (Part q)) ≡ Some (Part q) = good.reads bus.A (Part q) a.0 in
     let long : length (qs ++ q ∷ ps) ≡ length u.words = ap length e in
     let more : eqb (suc k) (count_of u) ≡ false = not_last (suc k) (count_of u) _ refl (omega (arith, long, length-append qs (q ∷ ps))) in
     let b : Block = record { gfi = u.gfi; file = file; ldu = ldu; words = qs } in
     let one = word_goes p file ldu (Some u) (Sending k) (sink_at last shelf (count_of u) (InBlock b)) (Part q) place tt form in
     let next = parts_goes p good file ldu u s last shelf c (qs ++ q ∷ []) ps (append_assoc qs (q ∷ []) ps ∙ e) a.1 (suc k) (rw ek (omega (arith, length-append qs (q ∷ [])))) in
-    goes_append p (sends q) _ _ _ _ (record { run = one.run; ends = one.ends ∙ rw more refl }) next
+    goes_append p (sends_word q) _ _ _ _ (record { run = one.run; ends = one.ends ∙ rw more refl }) next
 
 abbrev pub idle_at : ℕ → ℕ → Option Number → Shelf → ℕ → State
 idle_at file ldu last shelf count = at file ldu None Idle (sink_at last shelf count Quiet)
-
-abbrev pub number_of : Codes → ℕ → ℕ → LduValue → Number
-number_of c file ldu u = record { file = file; ldu = ldu; final = is_final c u.flags }
 
 abbrev of_source : Source → Source
 of_source s = s
@@ -196,11 +191,11 @@ source_next c file ldu u = by_final (is_final c u.flags)
     by_final true = refl
     by_final false = refl
 
-joined_words : (ws : List ℕ) (ack : ℕ) → all_steps (map sends ws ++ replies ack ∷ []) ≡ all_steps (map sends ws) ++ replies ack
-joined_words ws ack = joined_append (map sends ws) (replies ack ∷ []) ∙ ap (λ (l : List Step). all_steps (map sends ws) ++ l) (append-nil (replies ack))
+joined_words : (ws : List ℕ) (ack : ℕ) → all_steps (map sends_word ws ++ replies ack ∷ []) ≡ all_steps (map sends_word ws) ++ replies ack
+joined_words ws ack = joined_append (map sends_word ws) (replies ack ∷ []) ∙ ap (λ (l : List Step). all_steps (map sends_word ws) ++ l) (append-nil (replies ack))
 
 -- one link data unit crosses without loss
-block_goes : (p : Contents) → IsRead p → (file ldu : ℕ) (u : LduValue) → IsLdu p u → Sound p u → (last : Option Number) (shelf : Shelf) (count : ℕ) → Comes p file ldu last → Goes p (all_steps (block_steps p.codes file ldu u)) (idle_at file ldu last shelf count) (idle_at (next_file p.codes file u) (next_ldu p.codes ldu u) (Some (number_of p.codes file ldu u)) (put file (bytes_in p.codes u.words) (is_final p.codes u.flags) shelf) (count_of u))
+block_goes : (p : Contents) → IsRead p → (file ldu : ℕ) (u : LduValue) → IsLdu p u → Sound p u → (last : Option Number) (shelf : Shelf) (count : ℕ) → Comes p file ldu last → Goes p (all_steps (block_steps p.codes file ldu u)) (idle_at file ldu last shelf count) (idle_at (next_file p.codes file u) (next_ldu p.codes ldu u) (Some (unit_number p.codes file ldu u)) (put file (bytes_in p.codes u.words) (is_final p.codes u.flags) shelf) (count_of u))
 unfolding holding
 block_goes p good file ldu u is s last shelf count c =
     let h = s.fit in
@@ -210,10 +205,10 @@ block_goes p good file ldu u is s last shelf count c =
     let fit = c.room in
     let byte = c.byte in
     let n = count_of u in
-    let rts : said_of p bus.A (word_of p (Rts n)) ≡ Some (Rts n) = good.reads bus.A (Rts n) (omega arith, omega arith) in
-    let cts : said_of p bus.B (word_of p (Cts n)) ≡ Some (Cts n) = good.reads bus.B (Cts n) (omega arith, omega arith) in
-    let ack : said_of p bus.B (word_of p (Ack file ldu)) ≡ Some (Ack file ldu) = good.reads bus.B (Ack file ldu) (byte, omega arith) in
-    let sot : said_of p bus.A (word_of p (Sot u.gfi file ldu)) ≡ Some (Sot u.gfi file ldu) = good.reads bus.A (Sot u.gfi file ldu) (h.gfi, byte, omega arith) in
+    let rts : message_of p bus.A (word_of p (Rts n)) ≡ Some (Rts n) = good.reads bus.A (Rts n) (omega arith, omega arith) in
+    let cts : message_of p bus.B (word_of p (Cts n)) ≡ Some (Cts n) = good.reads bus.B (Cts n) (omega arith, omega arith) in
+    let ack : message_of p bus.B (word_of p (Ack file ldu)) ≡ Some (Ack file ldu) = good.reads bus.B (Ack file ldu) (byte, omega arith) in
+    let sot : message_of p bus.A (word_of p (Sot u.gfi file ldu)) ≡ Some (Sot u.gfi file ldu) = good.reads bus.A (Sot u.gfi file ldu) (h.gfi, byte, omega arith) in
     let asked = word_goes p file ldu (Some u) Idle (sink_at last shelf count Quiet) (Rts n) refl tt rts in
     let ask : Goes p (asks p.codes u) (idle_at file ldu last shelf count) (at file ldu (Some u) Awaiting (sink_at last shelf n OwesClear)) = record {
       run = ((tt, refl, fit, is), asked.run);
@@ -226,23 +221,23 @@ block_goes p good file ldu u is s last shelf count c =
     } in
     let begun = word_goes p file ldu (Some u) (Sending 0) (sink_at last shelf n Granted) (Sot u.gfi file ldu) refl tt sot in
     let more : eqb 1 n ≡ false = not_last 1 n _ refl (omega arith) in
-    let begin : Goes p (sends (word_of p (Sot u.gfi file ldu))) (at file ldu (Some u) (Sending 0) (sink_at last shelf n Granted)) (at file ldu (Some u) (Sending 1) (sink_at last shelf n (holding u file ldu []))) = record {
+    let begin : Goes p (sends_word (word_of p (Sot u.gfi file ldu))) (at file ldu (Some u) (Sending 0) (sink_at last shelf n Granted)) (at file ldu (Some u) (Sending 1) (sink_at last shelf n (holding u file ldu []))) = record {
       run = begun.run;
       ends = begun.ends ∙ rw more refl;
     } in
     let words = parts_goes p good file ldu u s last shelf c [] u.words refl h.parts 1 refl in
     let b : Block = record { gfi = u.gfi; file = file; ldu = ldu; words = u.words } in
     let settled = reply_goes p file ldu (Some u) Waiting (sink_at last shelf n (OwesAck b u.flags)) (Ack file ldu) (refl, refl) ack in
-    let settle : Goes p (replies (word_of p (Ack file ldu))) (at file ldu (Some u) Waiting (sink_at last shelf n (OwesAck b u.flags))) (idle_at (next_file p.codes file u) (next_ldu p.codes ldu u) (Some (number_of p.codes file ldu u)) (put file (bytes_in p.codes u.words) (is_final p.codes u.flags) shelf) n) = record {
+    let settle : Goes p (replies (word_of p (Ack file ldu))) (at file ldu (Some u) Waiting (sink_at last shelf n (OwesAck b u.flags))) (idle_at (next_file p.codes file u) (next_ldu p.codes ldu u) (Some (unit_number p.codes file ldu u)) (put file (bytes_in p.codes u.words) (is_final p.codes u.flags) shelf) n) = record {
       run = settled.run;
-      ends = settled.ends ∙ rw (eqb_same file) (rw (eqb_same ldu) (rw c.new (ap (λ s. heard_at s (sink_at (Some (number_of p.codes file ldu u)) (put file (bytes_in p.codes u.words) (is_final p.codes u.flags) shelf) n Quiet)) (source_next p.codes file ldu u))));
+      ends = settled.ends ∙ rw (eqb_same file) (rw (eqb_same ldu) (rw c.new (ap (λ s. heard_at s (sink_at (Some (unit_number p.codes file ldu u)) (put file (bytes_in p.codes u.words) (is_final p.codes u.flags) shelf) n Quiet)) (source_next p.codes file ldu u))));
     } in
-    goes_append p (asks p.codes u) _ _ _ _ ask (goes_append p (replies (word_of p (Cts n))) _ _ _ _ clear (goes_append p (sends (word_of p (Sot u.gfi file ldu))) _ _ _ _ begin
-    (subst (λ acts. Goes p acts (at file ldu (Some u) (Sending 1) (sink_at last shelf n (holding u file ldu []))) (idle_at (next_file p.codes file u) (next_ldu p.codes ldu u) (Some (number_of p.codes file ldu u)) (put file (bytes_in p.codes u.words) (is_final p.codes u.flags) shelf) n)) (sym (joined_words (u.words ++ word_of p (last_said u) ∷ []) (word_of p (Ack file ldu))))
+    goes_append p (asks p.codes u) _ _ _ _ ask (goes_append p (replies (word_of p (Cts n))) _ _ _ _ clear (goes_append p (sends_word (word_of p (Sot u.gfi file ldu))) _ _ _ _ begin
+    (subst (λ acts. Goes p acts (at file ldu (Some u) (Sending 1) (sink_at last shelf n (holding u file ldu []))) (idle_at (next_file p.codes file u) (next_ldu p.codes ldu u) (Some (unit_number p.codes file ldu u)) (put file (bytes_in p.codes u.words) (is_final p.codes u.flags) shelf) n)) (sym (joined_words (u.words ++ word_of p (end_message u) ∷ []) (word_of p (Ack file ldu))))
     (goes_append p _ _ _ _ _ words settle))))
 
 -- the next numbers come after these
-next_comes : (p : Contents) (file ldu : ℕ) (u : LduValue) → file ≤ 255 → next_ldu p.codes ldu u ≤ p.codes.first_ldu + 254 → Comes p (next_file p.codes file u) (next_ldu p.codes ldu u) (Some (number_of p.codes file ldu u))
+next_comes : (p : Contents) (file ldu : ℕ) (u : LduValue) → file ≤ 255 → next_ldu p.codes ldu u ≤ p.codes.first_ldu + 254 → Comes p (next_file p.codes file u) (next_ldu p.codes ldu u) (Some (unit_number p.codes file ldu u))
 next_comes p file ldu u byte room = record { new = new (is_final p.codes u.flags); follows = follows (is_final p.codes u.flags) room; byte = small (is_final p.codes u.flags); room = room }
   where
     new : (b : Bool) → (eqb file (cond b ((file + 1) % 256) file) && eqb ldu (cond b p.codes.first_ldu (ldu + 1))) ≡ false
@@ -259,7 +254,7 @@ next_comes p file ldu u byte room = record { new = new (is_final p.codes u.flags
 
 abbrev pub last_after : Codes → ℕ → ℕ → Option Number → List LduValue → Option Number
 last_after c file ldu last [] = last
-last_after c file ldu last (u ∷ us) = last_after c (next_file c file u) (next_ldu c ldu u) (Some (number_of c file ldu u)) us
+last_after c file ldu last (u ∷ us) = last_after c (next_file c file u) (next_ldu c ldu u) (Some (unit_number c file ldu u)) us
 
 abbrev pub count_after : ℕ → List LduValue → ℕ
 count_after count [] = count
@@ -278,7 +273,7 @@ abbrev pub Ready : Contents → ℕ → ℕ → Option Number → List LduValue 
 Ready p file ldu last [] = Unit {0}
 Ready p file ldu last (u ∷ us) = Comes p file ldu last
 
-ready_next : (p : Contents) (file ldu : ℕ) (u : LduValue) (us : List LduValue) → file ≤ 255 → AllFit p (next_ldu p.codes ldu u) us → Ready p (next_file p.codes file u) (next_ldu p.codes ldu u) (Some (number_of p.codes file ldu u)) us
+ready_next : (p : Contents) (file ldu : ℕ) (u : LduValue) (us : List LduValue) → file ≤ 255 → AllFit p (next_ldu p.codes ldu u) us → Ready p (next_file p.codes file u) (next_ldu p.codes ldu u) (Some (unit_number p.codes file ldu u)) us
 ready_next p file ldu u [] byte h = tt
 ready_next p file ldu u (v ∷ us) byte h = next_comes p file ldu u byte h.1
 
@@ -287,7 +282,7 @@ pub clean_goes : (p : Contents) → IsProfile p → (us : List LduValue) (file l
 clean_goes p is [] file ldu last shelf count h r = record { run = tt; ends = refl }
 clean_goes p is (u ∷ us) file ldu last shelf count h r =
     let one = block_goes p (is_read p is) file ldu u h.0 (sound p is u h.0) last shelf count r in
-    let more = clean_goes p is us (next_file p.codes file u) (next_ldu p.codes ldu u) (Some (number_of p.codes file ldu u)) (put file (bytes_in p.codes u.words) (is_final p.codes u.flags) shelf) (count_of u) h.2 (ready_next p file ldu u us r.byte h.2) in
+    let more = clean_goes p is us (next_file p.codes file u) (next_ldu p.codes ldu u) (Some (unit_number p.codes file ldu u)) (put file (bytes_in p.codes u.words) (is_final p.codes u.flags) shelf) (count_of u) h.2 (ready_next p file ldu u us r.byte h.2) in
     subst (λ acts. Goes p acts (idle_at file ldu last shelf count) (idle_at (file_after p.codes file (u ∷ us)) (ldu_after p.codes ldu (u ∷ us)) (last_after p.codes file ldu last (u ∷ us)) (shelved p.codes file (u ∷ us) shelf) (count_after count (u ∷ us)))) (sym (joined_append (block_steps p.codes file ldu u) (clean_steps p.codes (next_file p.codes file u) (next_ldu p.codes ldu u) us)))
     (goes_append p _ _ _ _ _ one more)
 
@@ -313,20 +308,20 @@ records_append [] hs (x ∷ xs) ys a b = absurd a
 records_append (g ∷ gs) hs [] ys a b = absurd a
 records_append (g ∷ gs) hs (x ∷ xs) ys a b = (a.0, records_append gs hs xs ys a.1 b)
 
-words_record : (ws : List ℕ) → Records (map sends ws) (map on_a ws)
+words_record : (ws : List ℕ) → Records (map sends_word ws) (map on_a ws)
 words_record [] = tt
 words_record (w ∷ ws) = (refl, words_record ws)
 
 block_records : (c : Codes) (file ldu : ℕ) (u : LduValue) → Records (block_steps c file ldu u) (clean_block c file ldu u)
-block_records c file ldu u = (refl, (refl, records_append (map sends (block_of c u file ldu)) (replies (word_number c (form.Ack file ldu)) ∷ []) (map on_a (block_of c u file ldu)) (on_b (word_number c (form.Ack file ldu)) ∷ []) (words_record (block_of c u file ldu)) (refl, tt)))
+block_records c file ldu u = (refl, (refl, records_append (map sends_word (block_of c u file ldu)) (replies (word_number c (form.Ack file ldu)) ∷ []) (map on_a (block_of c u file ldu)) (on_b (word_number c (form.Ack file ldu)) ∷ []) (words_record (block_of c u file ldu)) (refl, tt)))
 
-pub clean_records : (c : Codes) (us : List LduValue) (file ldu : ℕ) → Records (clean_steps c file ldu us) (clean c file ldu us)
+pub clean_records : (c : Codes) (us : List LduValue) (file ldu : ℕ) → Records (clean_steps c file ldu us) (clean_blocks c file ldu us)
 clean_records c [] file ldu = tt
-clean_records c (u ∷ us) file ldu = records_append (block_steps c file ldu u) (clean_steps c (next_file c file u) (next_ldu c ldu u) us) (clean_block c file ldu u) (clean c (next_file c file u) (next_ldu c ldu u) us) (block_records c file ldu u) (clean_records c us (next_file c file u) (next_ldu c ldu u))
+clean_records c (u ∷ us) file ldu = records_append (block_steps c file ldu u) (clean_steps c (next_file c file u) (next_ldu c ldu u) us) (clean_block c file ldu u) (clean_blocks c (next_file c file u) (next_ldu c ldu u) us) (block_records c file ldu u) (clean_records c us (next_file c file u) (next_ldu c ldu u))
 
 record Woven (p : Contents) (items : List Seen) (gs : List (List Step)) (s : State) : Type 0 where
   goes : Goes p (weave p.codes items gs) s (end_of p (all_steps gs) s)
-  told : trace (weave p.codes items gs) ≡ items
+  records : trace (weave p.codes items gs) ≡ items
 
 none_left : (gs : List (List Step)) → Records gs [] → gs ≡ []
 none_left [] h = refl
@@ -336,35 +331,35 @@ pub run_split : (p : Contents) (xs ys : List Step) (s : State) → IsRun p (xs +
 run_split p [] ys s h = (tt, h)
 run_split p (x ∷ xs) ys s h = let more = run_split p xs ys (after p x s) h.1 in ((h.0, more.0), more.1)
 
-woven_group : (p : Contents) (i : Seen) (items : List Seen) (gs : List (List Step)) (s : State) → Records gs (i ∷ thin p.codes items) → IsRun p (all_steps gs) s → ((hs : List (List Step)) (t : State) → Records hs (thin p.codes items) → IsRun p (all_steps hs) t → Woven p items hs t) → Goes p (first_of gs ++ weave p.codes items (rest_of gs)) s (end_of p (all_steps gs) s) × (trace (first_of gs ++ weave p.codes items (rest_of gs)) ≡ i ∷ items)
+woven_group : (p : Contents) (i : Seen) (items : List Seen) (gs : List (List Step)) (s : State) → Records gs (i ∷ without_free p.codes items) → IsRun p (all_steps gs) s → ((hs : List (List Step)) (t : State) → Records hs (without_free p.codes items) → IsRun p (all_steps hs) t → Woven p items hs t) → Goes p (first_of gs ++ weave p.codes items (rest_of gs)) s (end_of p (all_steps gs) s) × (trace (first_of gs ++ weave p.codes items (rest_of gs)) ≡ i ∷ items)
 woven_group p i items [] s r h more = absurd r
 woven_group p i items (g ∷ gs) s r h more =
     let parts = run_split p g (all_steps gs) s h in
     let next = more gs (end_of p g s) r.1 parts.1 in
     let all : Goes p (g ++ weave p.codes items gs) s (end_of p (all_steps gs) (end_of p g s)) = goes_append p g (weave p.codes items gs) _ _ _ (record { run = parts.0; ends = refl }) next.goes in
-    (record { run = all.run; ends = all.ends ∙ sym (end_append p g (all_steps gs) s) }, trace_append g (weave p.codes items gs) ∙ ap (λ (l : List Seen). l ++ trace (weave p.codes items gs)) r.0 ∙ ap (λ (l : List Seen). i ∷ l) next.told)
+    (record { run = all.run; ends = all.ends ∙ sym (end_append p g (all_steps gs) s) }, trace_append g (weave p.codes items gs) ∙ ap (λ (l : List Seen). l ++ trace (weave p.codes items gs)) r.0 ∙ ap (λ (l : List Seen). i ∷ l) next.records)
 
-woven_item : (p : Contents) (i : Seen) (items : List Seen) (gs : List (List Step)) (s : State) (b : Bool) → is_free p.codes i.bus i.word ≡ b → Records gs (cond b (thin p.codes items) (i ∷ thin p.codes items)) → IsRun p (all_steps gs) s → ((hs : List (List Step)) (t : State) → Records hs (thin p.codes items) → IsRun p (all_steps hs) t → Woven p items hs t) → Goes p (cond b (FreeSeen i ∷ weave p.codes items gs) (first_of gs ++ weave p.codes items (rest_of gs))) s (end_of p (all_steps gs) s) × (trace (cond b (FreeSeen i ∷ weave p.codes items gs) (first_of gs ++ weave p.codes items (rest_of gs))) ≡ i ∷ items)
-woven_item p i items gs s true e r h more = let next = more gs s r h in (record { run = (e, next.goes.run); ends = next.goes.ends }, ap (λ (l : List Seen). i ∷ l) next.told)
+woven_item : (p : Contents) (i : Seen) (items : List Seen) (gs : List (List Step)) (s : State) (b : Bool) → is_free p.codes i.bus i.word ≡ b → Records gs (cond b (without_free p.codes items) (i ∷ without_free p.codes items)) → IsRun p (all_steps gs) s → ((hs : List (List Step)) (t : State) → Records hs (without_free p.codes items) → IsRun p (all_steps hs) t → Woven p items hs t) → Goes p (cond b (FreeSeen i ∷ weave p.codes items gs) (first_of gs ++ weave p.codes items (rest_of gs))) s (end_of p (all_steps gs) s) × (trace (cond b (FreeSeen i ∷ weave p.codes items gs) (first_of gs ++ weave p.codes items (rest_of gs))) ≡ i ∷ items)
+woven_item p i items gs s true e r h more = let next = more gs s r h in (record { run = (e, next.goes.run); ends = next.goes.ends }, ap (λ (l : List Seen). i ∷ l) next.records)
 woven_item p i items gs s false e r h more = woven_group p i items gs s r h more
 
-weave_goes : (p : Contents) (items : List Seen) (gs : List (List Step)) (s : State) → Records gs (thin p.codes items) → IsRun p (all_steps gs) s → Woven p items gs s
-weave_goes p [] gs s r h = rw (none_left gs r) (record { goes = record { run = tt; ends = refl }; told = refl })
+weave_goes : (p : Contents) (items : List Seen) (gs : List (List Step)) (s : State) → Records gs (without_free p.codes items) → IsRun p (all_steps gs) s → Woven p items gs s
+weave_goes p [] gs s r h = rw (none_left gs r) (record { goes = record { run = tt; ends = refl }; records = refl })
 weave_goes p (i ∷ items) gs s r h =
     let both = woven_item p i items gs s (is_free p.codes i.bus i.word) refl r h (weave_goes p items) in
-    record { goes = both.0; told = both.1 }
+    record { goes = both.0; records = both.1 }
 
 pub start_ready : (p : Contents) (file : ℕ) (us : List LduValue) → file ≤ 255 → AllFit p p.codes.first_ldu us → Ready p file p.codes.first_ldu None us
 start_ready p file [] f h = tt
 start_ready p file (u ∷ us) f h = record { new = refl; follows = eqb_same p.codes.first_ldu; byte = f; room = h.1 }
 
 -- a recording of a run without loss is the trace of the woven steps, and these deliver its files
-pub clean_is_run : (p : Contents) (file : ℕ) (us : List LduValue) (items : List Seen) → IsProfile p → file ≤ 255 → AllFit p p.codes.first_ldu us → thin p.codes items ≡ clean p.codes file p.codes.first_ldu us → IsRunOf p file (weave p.codes items (clean_steps p.codes file p.codes.first_ldu us)) items (shelved p.codes file us nothing)
+pub clean_is_run : (p : Contents) (file : ℕ) (us : List LduValue) (items : List Seen) → IsProfile p → file ≤ 255 → AllFit p p.codes.first_ldu us → without_free p.codes items ≡ clean_blocks p.codes file p.codes.first_ldu us → IsRunOf p file (weave p.codes items (clean_steps p.codes file p.codes.first_ldu us)) items (shelved p.codes file us empty_shelf)
 clean_is_run p file us items is f h e =
-    let goes = clean_goes p is us file p.codes.first_ldu None nothing 0 h (start_ready p file us f h) in
+    let goes = clean_goes p is us file p.codes.first_ldu None empty_shelf 0 h (start_ready p file us f h) in
     let woven = weave_goes p items (clean_steps p.codes file p.codes.first_ldu us) (start p file) (subst (Records (clean_steps p.codes file p.codes.first_ldu us)) (sym e) (clean_records p.codes us file p.codes.first_ldu)) goes.run in
     record {
       run = woven.goes.run;
-      told = woven.told;
+      records = woven.records;
       gives = ap (λ (s : State). s.sink.shelf.files) (woven.goes.ends ∙ goes.ends);
     }

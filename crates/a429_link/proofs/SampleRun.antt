@@ -2,7 +2,7 @@
 use Rattle.std.proofs.Common.{◌≡◌, ℕ, true, List, [], ◌∷◌, length, refl, arith, lit≤}
 use Rattle.a429_word.specs.Word.{sum_below}
 use Rattle.a429_word.specs.declared.bus.Bus.TheVariants as bus
-use Rattle.a429_profile.specs.Contents.{Contents}
+use Rattle.a429_profile.specs.Profile.{Contents}
 use Rattle.a429_ldu.specs.Ldu.{LduValue, IsLdu}
 use Rattle.a429_link.specs.declared.state.SourceState.{SourceState}
 use Rattle.a429_link.specs.declared.state.SourceState.TheVariants as source
@@ -11,7 +11,8 @@ use Rattle.a429_link.specs.declared.state.SinkState.TheVariants as sink
 use Rattle.a429_link.specs.declared.seen.Seen.{Seen}
 use Rattle.a429_link.specs.declared.step.Step.{Step}
 use Rattle.a429_link.specs.declared.step.Step.TheVariants.{Load, Sent, SinkTakes, Answered, TakeAnswer}
-use Rattle.a429_link.specs.Step.{State, start, after, shown_sink}
+use Rattle.a429_link.specs.Step.{after}
+use Rattle.a429_link.specs.State.{start, State, sink_state_of}
 use Rattle.a429_link.specs.Run.{IsRun, trace, delivered, offered, settled}
 
 abbrev sample : Contents
@@ -53,7 +54,7 @@ pub record Line : Type 0 where
   pub to_source : ℕ
 
 abbrev line_of : State → Line
-line_of s = record { source = s.source.phase; sink = shown_sink s.sink.phase; to_sink = length s.to_sink; to_source = length s.to_source }
+line_of s = record { source = s.source.phase; sink = sink_state_of s.sink.phase; to_sink = length s.to_sink; to_source = length s.to_source }
 
 abbrev lines : List Step → State → List Line
 lines [] s = []

@@ -3,7 +3,7 @@
 use Rattle.std.specs.Prelude.{◌≡◌, ℕ, ◌+◌, ◌*◌, ◌%◌, ◌≤◌, ◌==◌, nat_lt, if◌then◌else◌, Option, Some, None, List, [], ◌∷◌, ◌++◌, map, length}
 use Rattle.a429_word.specs.declared.bus.Bus.TheVariants as bus
 use Rattle.a429_profile.specs.declared.codes.Codes.{Codes}
-use Rattle.a429_profile.specs.Contents.{Contents}
+use Rattle.a429_profile.specs.Profile.{Contents}
 use Rattle.a429_ldu.specs.declared.forms.Form.TheVariants.{Rts, Cts, Ack}
 use Rattle.a429_ldu.specs.Form.{word_number, is_free}
 use Rattle.a429_ldu.specs.declared.fault.CutFault.{CutFault}
@@ -16,8 +16,8 @@ use Rattle.a429_link.specs.declared.file.FileBytes.{FileBytes}
 use Rattle.a429_link.specs.declared.seen.Seen.{Seen}
 use Rattle.a429_link.specs.declared.step.Step.{Step}
 use Rattle.a429_link.specs.declared.step.Step.TheVariants.{Load, Sent, TakeAnswer, SinkTakes, Answered, FreeSeen}
-use Rattle.a429_link.specs.Sink.{Shelf, put}
-use Rattle.a429_link.specs.Step.{start}
+use Rattle.a429_link.specs.Sink.{Shelf, put, empty_shelf}
+use Rattle.a429_link.specs.State.{start}
 use Rattle.a429_link.specs.Run.{IsRun, trace, delivered}
 
 abbrev pub on_a : ℕ → Seen
@@ -40,9 +40,9 @@ abbrev pub clean_block : Codes → ℕ → ℕ → LduValue → List Seen
 clean_block c file ldu u = on_a (word_number c (Rts (count_of u))) ∷ (on_b (word_number c (Cts (count_of u))) ∷ (map on_a (block_of c u file ldu) ++ on_b (word_number c (Ack file ldu)) ∷ []))
 
 -- those of link data units that begin under these numbers
-abbrev pub clean : Codes → ℕ → ℕ → List LduValue → List Seen
-clean c file ldu [] = []
-clean c file ldu (u ∷ us) = clean_block c file ldu u ++ clean c (next_file c file u) (next_ldu c ldu u) us
+abbrev pub clean_blocks : Codes → ℕ → ℕ → List LduValue → List Seen
+clean_blocks c file ldu [] = []
+clean_blocks c file ldu (u ∷ us) = clean_block c file ldu u ++ clean_blocks c (next_file c file u) (next_ldu c ldu u) us
 
 -- each is one of the profile, and may be loaded under its number
 abbrev pub AllFit : Contents → ℕ → List LduValue → Type 0
@@ -55,9 +55,9 @@ shelved c file [] o = o
 shelved c file (u ∷ us) o = shelved c (next_file c file u) us (put file (bytes_of c u) (is_final c u.flags) o)
 
 -- the words that are not free
-abbrev pub thin : Codes → List Seen → List Seen
-thin c [] = []
-thin c (i ∷ items) = if is_free c i.bus i.word then thin c items else i ∷ thin c items
+abbrev pub without_free : Codes → List Seen → List Seen
+without_free c [] = []
+without_free c (i ∷ items) = if is_free c i.bus i.word then without_free c items else i ∷ without_free c items
 
 -- ---- the steps, in a group for each word
 
@@ -67,11 +67,11 @@ asks c u = Load u ∷ (Sent (on_a (word_number c (Rts (count_of u)))) ∷ (SinkT
 abbrev pub replies : ℕ → List Step
 replies w = Answered (on_b w) ∷ (TakeAnswer ∷ [])
 
-abbrev pub sends : ℕ → List Step
-sends w = Sent (on_a w) ∷ (SinkTakes ∷ [])
+abbrev pub sends_word : ℕ → List Step
+sends_word w = Sent (on_a w) ∷ (SinkTakes ∷ [])
 
 abbrev pub block_steps : Codes → ℕ → ℕ → LduValue → List (List Step)
-block_steps c file ldu u = asks c u ∷ (replies (word_number c (Cts (count_of u))) ∷ (map sends (block_of c u file ldu) ++ replies (word_number c (Ack file ldu)) ∷ []))
+block_steps c file ldu u = asks c u ∷ (replies (word_number c (Cts (count_of u))) ∷ (map sends_word (block_of c u file ldu) ++ replies (word_number c (Ack file ldu)) ∷ []))
 
 abbrev pub clean_steps : Codes → ℕ → ℕ → List LduValue → List (List Step)
 clean_steps c file ldu [] = []
@@ -93,8 +93,12 @@ weave c (i ∷ items) gs = if is_free c i.bus i.word then FreeSeen i ∷ weave c
 -- the steps are a run from the start that records these words and delivers the files of this shelf
 pub record IsRunOf (p : Contents) (file : ℕ) (steps : List Step) (items : List Seen) (shelf : Shelf) : Type 0 where
   pub run : IsRun p steps (start p file)
-  pub told : trace steps ≡ items
+  pub records : trace steps ≡ items
   pub gives : delivered p file steps ≡ shelf.files
+
+-- the steps of this recording, free words among them, are a run from the start that delivers the files of these link data units
+abbrev pub CarriesUnits : Contents → ℕ → List LduValue → List Seen → Type 0
+CarriesUnits p first units items = IsRunOf p first (weave p.codes items (clean_steps p.codes first p.codes.first_ldu units)) items (shelved p.codes first units empty_shelf)
 
 -- ---- files (profile: they are numbered upwards, 255 is followed by 0)
 
@@ -105,7 +109,7 @@ units_of_files p max_words (bytes ∷ files) = units_of p max_words bytes ++ uni
 
 -- what a run without loss records that carries these files, the first under this number
 abbrev pub clean_words : Contents → ℕ → ℕ → List (List ℕ) → List Seen
-clean_words p max_words first files = clean p.codes first p.codes.first_ldu (units_of_files p max_words files)
+clean_words p max_words first files = clean_blocks p.codes first p.codes.first_ldu (units_of_files p max_words files)
 
 abbrev pub all_steps : List (List Step) → List Step
 all_steps [] = []
@@ -119,6 +123,11 @@ clean_run_steps p max_words first files = all_steps (clean_steps p.codes first p
 abbrev pub numbered : ℕ → List (List ℕ) → List FileBytes
 numbered first [] = []
 numbered first (bytes ∷ files) = record { number = first; bytes = bytes } ∷ numbered ((first + 1) % 256) files
+
+-- its steps are a run that records its words and delivers these files
+abbrev pub CarriesFiles : Contents → ℕ → ℕ → List (List ℕ) → Type 0
+CarriesFiles p max_words first files =
+    IsRunOf p first (clean_run_steps p max_words first files) (clean_words p max_words first files) (record { files = numbered first files; open_bytes = [] })
 
 -- why a file is refused, if it is: it has no bytes, or needs more than 255 link data units
 abbrev pub cut_fault : ℕ → List ℕ → Option CutFault

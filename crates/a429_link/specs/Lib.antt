@@ -1,9 +1,9 @@
 pub mod Source
 pub mod Sink
+pub mod State
 pub mod Step
-pub mod Ready
+pub mod Transfer
 pub mod Run
 pub mod Observer
-pub mod View
 pub mod Link
 pub mod Clean

@@ -1,11 +1,10 @@
 -- A link as its callers see it.
-use Rattle.std.specs.Prelude.{ℕ, List, [], ◌∷◌, ◌++◌, length}
-use Rattle.a429_profile.specs.Contents.{Contents, IsProfile}
-use Rattle.a429_link.specs.declared.state.SourceState.{SourceState}
-use Rattle.a429_link.specs.declared.state.SinkState.{SinkState}
+use Rattle.std.specs.Prelude.{List, [], ◌∷◌, ◌++◌}
+use Rattle.a429_profile.specs.Profile.{Contents, IsProfile}
 use Rattle.a429_link.specs.declared.file.FileBytes.{FileBytes}
 use Rattle.a429_link.specs.declared.step.Step.{Step}
-use Rattle.a429_link.specs.Step.{State, Can, after, shown_sink}
+use Rattle.a429_link.specs.Step.{Can, after}
+use Rattle.a429_link.specs.State.{State}
 use Rattle.a429_link.specs.Run.{IsReached}
 
 -- the profile, and the state, whose delivered files are those that are not handed out yet
@@ -26,10 +25,6 @@ pub record IsKept (p : Contents) (s : State) : Type 0 where
   pub sound : IsProfile p
   pub earlier : List FileBytes
   pub reached : IsReached p (with_earlier earlier s)
-
--- what a certificate writes of a state: the phases, and how many words are on their way to the sink and to the source
-abbrev pub shown : State → SourceState × SinkState × ℕ × ℕ
-shown s = (s.source.phase, shown_sink s.sink.phase, length s.to_sink, length s.to_source)
 
 -- ---- files that are taken while a run goes on (profile)
 

@@ -1,15 +1,14 @@
 -- The observer of a recording: a sink that takes each word of bus A, and gives each answer of bus B, at the
 -- moment it is recorded (profile). It tells what a recording allows next.
-use Rattle.std.specs.Prelude.{ℕ, ◌≡◌, suc, ◌+◌, ◌<◌, Bool, true, false, ◌⊎◌, List, [], ◌∷◌, take, Option, Some, None, slice_get}
+use Rattle.std.specs.Prelude.{ℕ, ◌≡◌, suc, ◌+◌, ◌<◌, ◌≤◌, Bool, true, false, ◌⊎◌, List, [], ◌∷◌, take, Option, Some, None, slice_get, length}
 use Rattle.a429_word.specs.declared.bus.Bus.{Bus}
 use Rattle.a429_word.specs.declared.bus.Bus.TheVariants as bus
-use Rattle.a429_profile.specs.Contents.{Contents}
+use Rattle.a429_profile.specs.Profile.{Contents}
 use Rattle.a429_ldu.specs.declared.forms.Form.{Form}
 use Rattle.a429_ldu.specs.declared.forms.Form.TheVariants.{Rts, Cts, Sot, Part, Eot}
 use Rattle.a429_ldu.specs.Form.{form_of, is_free}
 use Rattle.a429_link.specs.declared.seen.Seen.{Seen}
-use Rattle.a429_link.specs.Sink.{Sink, SinkPhase, Quiet, Granted, InBlock, Number, takes, answers, MayAnswer}
-use Rattle.a429_link.specs.Run.{nothing}
+use Rattle.a429_link.specs.Sink.{Sink, SinkPhase, Quiet, Granted, InBlock, Number, takes, answers, MayAnswer, empty_shelf}
 
 pub record Observer : Type 0 where
   -- the sink without its files: the link data unit accepted last, the count of the last request, and the phase
@@ -24,7 +23,7 @@ abbrev pub at_first : Observer
 at_first = record { last = None; count = 0; phase = Quiet; begun = false; parts = 0 }
 
 abbrev pub sink_of : Observer → Sink
-sink_of o = record { last = o.last; shelf = nothing; count = o.count; phase = o.phase }
+sink_of o = record { last = o.last; shelf = empty_shelf; count = o.count; phase = o.phase }
 
 abbrev pub watching : Sink → Bool → ℕ → Observer
 watching k begun parts = record { last = k.last; count = k.count; phase = k.phase; begun = begun; parts = parts }
@@ -73,3 +72,8 @@ AllowsNext p o (Some i) = Allows p o i
 -- item i is not allowed after those before it
 abbrev pub IsRefused : Contents → List Seen → ℕ → Type 0
 IsRefused p items i = AllowsNext p (observed p (take i items) at_first) (slice_get items i) → ⊥
+
+-- a block has at most as many data words as were recorded
+abbrev pub KeepsRecorded : SinkPhase → ℕ → Type 0
+KeepsRecorded (InBlock b) parts = length b.words ≤ parts
+KeepsRecorded _ parts = Unit {0}

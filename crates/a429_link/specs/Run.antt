@@ -2,7 +2,7 @@
 use Rattle.std.specs.Prelude.{ℕ, ◌≡◌, ◌+◌, ◌≤◌, Bool, false, ◌&&◌, if◌then◌else◌, List, [], ◌∷◌, ◌++◌, length, Option, Some, None}
 use Rattle.a429_word.specs.declared.bus.Bus.TheVariants as bus
 use Rattle.a429_profile.specs.declared.codes.Codes.{Codes}
-use Rattle.a429_profile.specs.Contents.{Contents}
+use Rattle.a429_profile.specs.Profile.{Contents, IsProfile}
 use Rattle.a429_ldu.specs.declared.forms.Form.{Form}
 use Rattle.a429_ldu.specs.Form.{form_of}
 use Rattle.a429_ldu.specs.Ldu.{LduValue, bytes_of, is_final}
@@ -13,8 +13,9 @@ use Rattle.a429_link.specs.declared.step.Step.TheVariants.{Load, TakeAnswer}
 use Rattle.a429_link.specs.Source.{Source, is_own_ack}
 use Rattle.a429_link.specs.declared.state.SourceState.{SourceState}
 use Rattle.a429_link.specs.declared.state.SourceState.TheVariants.{Sending}
-use Rattle.a429_link.specs.Sink.{Shelf, SinkPhase, InBlock, put, held}
-use Rattle.a429_link.specs.Step.{State, start, Can, after, label}
+use Rattle.a429_link.specs.Sink.{Shelf, SinkPhase, InBlock, put, held_count, empty_shelf}
+use Rattle.a429_link.specs.Step.{Can, after, label}
+use Rattle.a429_link.specs.State.{start, State}
 
 -- each step may be made where the ones before it lead
 abbrev pub IsRun : Contents → List Step → State → Type 0
@@ -40,9 +41,6 @@ delivered p first steps = (end_of p steps (start p first)).sink.shelf.files
 
 -- ---- offered: the link data units that were loaded, in order, cut after each final one
 
-abbrev pub nothing : Shelf
-nothing = record { files = []; open_bytes = [] }
-
 -- a loaded link data unit joins its file, under the source's number; a final one closes it
 abbrev pub offers : Contents → Step → State → Shelf → Shelf
 offers p (Load u) s o = put s.source.file (bytes_of p.codes u) (is_final p.codes u.flags) o
@@ -53,7 +51,7 @@ offered_from p [] s o = o
 offered_from p (a ∷ steps) s o = offered_from p steps (after p a s) (offers p a s o)
 
 abbrev pub offered : Contents → ℕ → List Step → List FileBytes
-offered p first steps = (offered_from p steps (start p first) nothing).files
+offered p first steps = (offered_from p steps (start p first) empty_shelf).files
 
 -- ---- settled: the offered files whose final link data unit the source takes as acknowledged
 
@@ -85,9 +83,15 @@ settled_from p [] s o xs = xs
 settled_from p (a ∷ steps) s o xs = settled_from p steps (after p a s) (offers p a s o) (settles p a s o xs)
 
 abbrev pub settled : Contents → ℕ → List Step → List FileBytes
-settled p first steps = settled_from p steps (start p first) nothing []
+settled p first steps = settled_from p steps (start p first) empty_shelf []
 
 -- ---- what is said of runs
+
+-- the steps are a run of a profile, whose first file has this number
+pub record IsRunFrom (p : Contents) (first : ℕ) (steps : List Step) : Type 0 where
+  pub sound : IsProfile p
+  pub byte : first ≤ 255
+  pub run : IsRun p steps (start p first)
 
 abbrev pub IsPrefixOf : List FileBytes → List FileBytes → Type 0
 IsPrefixOf xs ys = (more : List FileBytes) × (xs ++ more ≡ ys)
@@ -99,14 +103,14 @@ SentFew _ = Unit {0}
 
 -- of a block that it still takes, the sink has taken at most 254 words
 abbrev pub TookFew : SinkPhase → Type 0
-TookFew (InBlock b) = held (InBlock b) ≤ 254
+TookFew (InBlock b) = held_count (InBlock b) ≤ 254
 TookFew _ = Unit {0}
 
 -- what a state keeps at most, its delivered files aside (it has one link data unit, or none)
 pub record IsBounded (s : State) : Type 0 where
   pub sent : SentFew s.source.phase
   pub took : TookFew s.sink.phase
-  pub words : length s.to_sink + held s.sink.phase ≤ 255
+  pub words : length s.to_sink + held_count s.sink.phase ≤ 255
   pub answers : length s.to_source ≤ 1
   pub bytes : length s.sink.shelf.open_bytes ≤ 161160
 
@@ -125,4 +129,4 @@ pub record BeginsARun (p : Contents) (items : List Seen) : Type 0 where
   pub steps : List Step
   pub run : IsRun p steps (start p first)
   pub more : List Seen
-  pub told : trace steps ≡ items ++ more
+  pub records : trace steps ≡ items ++ more

@@ -1,9 +1,9 @@
 -- The sink of a file transfer (ARINC 429 Part 3; which blocks are in sequence: profile).
-use Rattle.std.specs.Prelude.{ℕ, ◌≡◌, ◌+◌, ◌%◌, Bool, true, false, not, ◌==◌, ◌&&◌, ◌||◌, nat_le, if◌then◌else◌, List, [], ◌∷◌, ◌++◌, length, Option, Some, None, is_some, unwrap_or}
+use Rattle.std.specs.Prelude.{ℕ, ◌≡◌, ◌<◌, ◌+◌, ◌%◌, Bool, true, false, not, ◌==◌, ◌&&◌, ◌||◌, nat_le, if◌then◌else◌, List, [], ◌∷◌, ◌++◌, length, Option, Some, None, is_some, unwrap_or}
 use Rattle.a429_word.specs.declared.bus.Bus.TheVariants as bus
 use Rattle.a429_profile.specs.declared.codes.Codes.{Codes}
 use Rattle.a429_profile.specs.declared.codes.Check.{Check}
-use Rattle.a429_profile.specs.Contents.{Contents}
+use Rattle.a429_profile.specs.Profile.{Contents}
 use Rattle.a429_ldu.specs.declared.forms.Form.{Form}
 use Rattle.a429_ldu.specs.declared.forms.Form.TheVariants.{Rts, Cts, Ack, Nak, Sot, Part, Eot}
 use Rattle.a429_ldu.specs.Form.{form_of}
@@ -11,6 +11,9 @@ use Rattle.a429_ldu.specs.Carried.{bytes_carried}
 use Rattle.a429_ldu.specs.CheckWord.{check_of}
 use Rattle.a429_ldu.specs.Ldu.{is_final}
 use Rattle.a429_link.specs.declared.file.FileBytes.{FileBytes}
+use Rattle.a429_link.specs.declared.sink.Latest.{Latest}
+use Rattle.a429_link.specs.declared.sink.Phase.{Phase}
+use Rattle.a429_link.specs.declared.sink.Phase.TheVariants as phase
 
 -- the words taken since a start word: its numbers, and the data words
 pub record Block : Type 0 where
@@ -18,6 +21,9 @@ pub record Block : Type 0 where
   pub file : ℕ
   pub ldu : ℕ
   pub words : List ℕ
+
+abbrev pub empty_block : ℕ → ℕ → ℕ → Block
+empty_block gfi file ldu = record { gfi = gfi; file = file; ldu = ldu; words = [] }
 
 pub data SinkPhase : Type 0 where
   Quiet : SinkPhase
@@ -41,6 +47,9 @@ pub record Number : Type 0 where
 pub record Shelf : Type 0 where
   pub files : List FileBytes
   pub open_bytes : List ℕ
+
+abbrev pub empty_shelf : Shelf
+empty_shelf = record { files = []; open_bytes = [] }
 
 pub record Sink : Type 0 where
   -- the link data unit accepted last
@@ -76,13 +85,17 @@ abbrev pub in_sequence : Codes → Option Number → ℕ → ℕ → Bool
 in_sequence c None file ldu = ldu == c.first_ldu
 in_sequence c (Some n) file ldu = comes_after c n file ldu
 
+-- a block of these numbers comes again, or in sequence
+abbrev pub may_come : Codes → Option Number → ℕ → ℕ → Bool
+may_come c last file ldu = is_same last file ldu || in_sequence c last file ldu
+
 -- the block has as many words as were asked for, carries bytes, ends by their check word, and comes again or in sequence
 abbrev pub is_good : Contents → Option Number → ℕ → Block → ℕ → Bool
 is_good p last count b check =
     (length b.words + 2 == count)
     && (is_some (bytes_carried p.codes b.words)
     && (agrees p.check (bytes_in p.codes b.words) check
-    && (is_same last b.file b.ldu || in_sequence p.codes last b.file b.ldu)))
+    && may_come p.codes last b.file b.ldu))
 
 -- ---- taking words
 
@@ -105,7 +118,7 @@ at_end p last count flags check phase = phase
 -- the sink after a word of this form; a request is taken in each phase, and ends a block
 abbrev pub takes : Contents → ℕ → Form → Sink → Sink
 takes p word (Rts n) k = record k { count = n; phase = OwesClear }
-takes p word (Sot gfi file ldu) k = record k { phase = at_start (record { gfi = gfi; file = file; ldu = ldu; words = [] }) k.phase }
+takes p word (Sot gfi file ldu) k = record k { phase = at_start (empty_block gfi file ldu) k.phase }
 takes p word (Part semis) k = record k { phase = at_part word k.phase }
 takes p word (Eot flags check) k = record k { phase = at_end p k.last k.count flags check k.phase }
 takes p word _ k = k
@@ -188,7 +201,30 @@ Owes OwesNak = Unit {0}
 Owes _ = ⊥
 
 -- how many words of its block it keeps
-abbrev pub held : SinkPhase → ℕ
-held (InBlock b) = length b.words + 1
-held (OwesAck b flags) = length b.words + 2
-held _ = 0
+abbrev pub held_count : SinkPhase → ℕ
+held_count (InBlock b) = length b.words + 1
+held_count (OwesAck b flags) = length b.words + 2
+held_count _ = 0
+
+-- ---- how the sink's fields are seen, and what they have room for
+
+abbrev pub latest_number : Latest → Number
+latest_number n = record { file = n.file; ldu = n.ldu; final = n.is_final }
+
+abbrev pub phase_of : Phase → Block → SinkPhase
+phase_of phase.Quiet b = Quiet
+phase_of phase.OwesClear b = OwesClear
+phase_of phase.Granted b = Granted
+phase_of phase.InBlock b = InBlock b
+phase_of (phase.OwesAck flags) b = OwesAck b flags
+phase_of phase.OwesNak b = OwesNak
+
+-- in a block there is room for a data word
+abbrev pub TakesOneMore : SinkPhase → Type 0
+TakesOneMore (InBlock b) = length b.words < 254
+TakesOneMore _ = Unit {0}
+
+-- there is room for a word of this form
+abbrev pub HasRoom : Form → SinkPhase → Type 0
+HasRoom (Part semis) phase = TakesOneMore phase
+HasRoom _ phase = Unit {0}

@@ -2,6 +2,7 @@
 use Rattle.std.specs.Prelude.{ℕ, suc, ◌+◌, ◌%◌, Bool, false, ◌==◌, ◌&&◌, if◌then◌else◌, List, [], ◌∷◌, Option, Some, None, slice_get}
 use Rattle.a429_word.specs.declared.bus.Bus.TheVariants as bus
 use Rattle.a429_profile.specs.declared.codes.Codes.{Codes}
+use Rattle.a429_profile.specs.Profile.{Contents}
 use Rattle.a429_ldu.specs.declared.forms.Form.{Form}
 use Rattle.a429_ldu.specs.declared.forms.Form.TheVariants.{Rts, Cts, Ack, Nak}
 use Rattle.a429_ldu.specs.Form.{form_of, word_number}
@@ -30,6 +31,14 @@ abbrev pub after_word : Option LduValue → SourceState → SourceState
 after_word (Some u) Idle = Awaiting
 after_word (Some u) (Sending k) = if suc k == count_of u then Waiting else Sending (suc k)
 after_word _ phase = phase
+
+-- the next word of the source, if it sends one now
+abbrev pub next_word_of : Contents → Source → Option ℕ
+next_word_of p s = next_word p.codes s.file s.ldu s.current s.phase
+
+-- the source with its next word sent
+abbrev pub with_word_sent : Source → Source
+with_word_sent s = record s { phase = after_word s.current s.phase }
 
 -- ---- taking answers
 

@@ -1,6 +1,7 @@
 //! A block as the sink takes it.
 
 ghost use Rattle.std.specs.Prelude.{◌≡◌, ◌<◌, [], ◌∷◌, ◌++◌, length};
+ghost use Rattle.a429_link.specs.Sink.{empty_block};
 
 use a429_word::Word;
 use arrayvec::ArrayVec;
@@ -26,7 +27,7 @@ impl Model for Block {
 impl Block {
     /// A block that stands for none.
     pub(crate) fn new() -> Block
-        ensures { result ≡ record { gfi = 0; file = 0; ldu = 0; words = [] } }
+        ensures { result ≡ empty_block 0 0 0 }
     {
         Block {
             gfi: 0,
@@ -38,7 +39,7 @@ impl Block {
 
     /// Begins anew with a start word of these numbers.
     pub(crate) fn begin(&mut self, gfi: u8, file: u8, ldu: u8)
-        ensures { self.new ≡ record { gfi = gfi; file = file; ldu = ldu; words = [] } }
+        ensures { self.new ≡ empty_block gfi file ldu }
     {
         self.gfi = gfi;
         self.file = file;

@@ -2,8 +2,7 @@
 
 ghost use Rattle.std.specs.Prelude.{◌≡◌, ◌≢◌, ◌≤◌, ◌++◌, [], ◌∷◌, map, length, Some, None, IfOk, IfErr, OnOk};
 ghost use Rattle.a429_ldu.specs.Cut.{OnlyLastIsFinal};
-ghost use Rattle.a429_link.specs.Run.{nothing};
-ghost use Rattle.a429_link.specs.Clean.{clean, clean_block, clean_words, clean_run_steps, numbered, first_refused, AllFit, IsRunOf};
+ghost use Rattle.a429_link.specs.Clean.{clean_blocks, clean_block, clean_words, first_refused, CarriesFiles};
 
 use crate::fault::CleanFault;
 use crate::seen::Seen;
@@ -49,7 +48,7 @@ fn push_file(
 ) -> Result<(), AllocError>
     requires few { length units.now ≤ 255 }
     requires last { OnlyLastIsFinal profile.now.codes units.now }
-    ensures { OnOk result (run.new.items ≡ run.old.items ++ clean profile.now.codes file profile.now.codes.first_ldu units.now) }
+    ensures { OnOk result (run.new.items ≡ run.old.items ++ clean_blocks profile.now.codes file profile.now.codes.first_ldu units.now) }
 {
     each_number_lies_in_its_range();
     let mut ldu = u16::from(profile.codes().first_ldu);
@@ -72,9 +71,10 @@ pub fn clean_run(
 ) -> Result<Vec<Seen>, CleanFault>
     requires { 3 ≤ max_words }
     ensures words { IfOk result (λ seen. seen.items ≡ clean_words profile.now max_words first_file (map (λ f. f.items) files.now)) }
-    ensures run { OnOk result (IsRunOf profile.now first_file (clean_run_steps profile.now max_words first_file (map (λ f. f.items) files.now)) (clean_words profile.now max_words first_file (map (λ f. f.items) files.now)) (record { files = numbered first_file (map (λ f. f.items) files.now); open_bytes = [] })) }
+    ensures run { OnOk result (CarriesFiles profile.now max_words first_file (map (λ f. f.items) files.now)) }
     ensures ok { OnOk result (first_refused max_words 0 (map (λ f. f.items) files.now) ≡ None) }
-    ensures fault { IfErr result (λ e. e ≢ CleanFault.OutOfMemory → first_refused max_words 0 (map (λ f. f.items) files.now) ≡ Some e) }
+    ensures fault { IfErr result (λ e. e ≢ CleanFault.OutOfMemory
+        → first_refused max_words 0 (map (λ f. f.items) files.now) ≡ Some e) }
 {
     let _codes = profile.codes();
     let mut run = Vec::new(alloc);

@@ -1,55 +1,67 @@
 //! Laws of all runs, whatever is lost, times out or is left unanswered on the way.
 
 ghost use Rattle.std.specs.Prelude.{◌≡◌, ◌↔◌, ◌≤◌, ◌++◌, ℕ, suc, List, take};
-ghost use Rattle.a429_profile.specs.Contents.{Contents, IsProfile};
+ghost use Rattle.a429_profile.specs.Profile.{Contents, IsProfile};
 ghost use Rattle.a429_link.specs.declared.seen.Seen.{Seen};
 ghost use Rattle.a429_link.specs.declared.step.Step.{Step};
-ghost use Rattle.a429_link.specs.Step.{start};
+ghost use Rattle.a429_link.specs.State.{start};
 ghost use Rattle.a429_ldu.specs.Ldu.{LduValue};
-ghost use Rattle.a429_link.specs.Clean.{AllFit, thin, clean, clean_steps, weave, shelved, IsRunOf};
-ghost use Rattle.a429_link.specs.Run.{nothing, IsRun, end_of, trace, delivered, offered, settled, IsPrefixOf, IsBounded, BeginsARun};
+ghost use Rattle.a429_link.specs.Clean.{AllFit, without_free, clean_blocks, CarriesUnits};
+ghost use Rattle.a429_link.specs.Run.{IsRun, IsRunFrom, end_of, trace, delivered, offered, settled, IsPrefixOf, IsBounded, BeginsARun};
 ghost use Rattle.a429_link.specs.Observer.{IsRefused};
 ghost use Rattle.a429_link.specs.Link.{Call, AreMade, applied, left_by, taken, with_earlier};
 
 /// Two runs that record the same words deliver the same files, with whichever file numbers they begin.
 pub fn one_trace_one_delivery()
-    ensures { (p : Contents) (first other : ℕ) (steps others : List Step) → IsProfile p → first ≤ 255 → other ≤ 255 → IsRun p steps (start p first) → IsRun p others (start p other) → trace steps ≡ trace others → delivered p first steps ≡ delivered p other others }
+    ensures { (p : Contents) (first other : ℕ) (steps others : List Step)
+        → IsRunFrom p first steps → IsRunFrom p other others
+        → trace steps ≡ trace others → delivered p first steps ≡ delivered p other others }
 {}
 
 /// The files that a run delivers are the first of those that its source offered, numbers and bytes, in
 /// their order, also where check words are not compared.
 pub fn delivered_was_offered()
-    ensures { (p : Contents) (first : ℕ) (steps : List Step) → IsProfile p → first ≤ 255 → IsRun p steps (start p first) → IsPrefixOf (delivered p first steps) (offered p first steps) }
+    ensures { (p : Contents) (first : ℕ) (steps : List Step)
+        → IsRunFrom p first steps → IsPrefixOf (delivered p first steps) (offered p first steps) }
 {}
 
 /// The files that the source takes as acknowledged are the first of those that are delivered.
 pub fn settled_was_delivered()
-    ensures { (p : Contents) (first : ℕ) (steps : List Step) → IsProfile p → first ≤ 255 → IsRun p steps (start p first) → IsPrefixOf (settled p first steps) (delivered p first steps) }
+    ensures { (p : Contents) (first : ℕ) (steps : List Step)
+        → IsRunFrom p first steps → IsPrefixOf (settled p first steps) (delivered p first steps) }
 {}
 
 /// A caller may take files while a run goes on: the files taken, in order, and then those that wait at the
 /// end are the files that the run of the steps delivers. Taking files changes no step, and nothing else of
 /// the state.
 pub fn taken_then_delivered_is_the_runs()
-    ensures files { (p : Contents) (first : ℕ) (calls : List Call) → taken p calls (start p first) ++ (left_by p calls (start p first)).sink.shelf.files ≡ delivered p first (applied calls) }
-    ensures state { (p : Contents) (first : ℕ) (calls : List Call) → with_earlier (taken p calls (start p first)) (left_by p calls (start p first)) ≡ end_of p (applied calls) (start p first) }
-    ensures run { (p : Contents) (first : ℕ) (calls : List Call) → AreMade p calls (start p first) ↔ IsRun p (applied calls) (start p first) }
+    ensures files { (p : Contents) (first : ℕ) (calls : List Call)
+        → taken p calls (start p first) ++ (left_by p calls (start p first)).sink.shelf.files ≡ delivered p first (applied calls) }
+    ensures state { (p : Contents) (first : ℕ) (calls : List Call)
+        → with_earlier (taken p calls (start p first)) (left_by p calls (start p first)) ≡ end_of p (applied calls) (start p first) }
+    ensures run { (p : Contents) (first : ℕ) (calls : List Call)
+        → AreMade p calls (start p first) ↔ IsRun p (applied calls) (start p first) }
 {}
 
 /// After each run at most 255 words to the sink are untaken or in its block, one answer is on its way,
 /// an unfinished file has at most 161,160 bytes, and of a block that is still on its way source and sink
 /// have sent and taken at most 254 words.
 pub fn every_state_is_bounded()
-    ensures { (p : Contents) (first : ℕ) (steps : List Step) → IsProfile p → first ≤ 255 → IsRun p steps (start p first) → IsBounded (end_of p steps (start p first)) }
+    ensures { (p : Contents) (first : ℕ) (steps : List Step)
+        → IsRunFrom p first steps → IsBounded (end_of p steps (start p first)) }
 {}
 
 /// What the observer of the words before it refuses, no run records after them.
 pub fn refused_is_impossible()
-    ensures { (p : Contents) (items : List Seen) (i : ℕ) → IsProfile p → IsRefused p items i → BeginsARun p (take (suc i) items) → ⊥ }
+    ensures { (p : Contents) (items : List Seen) (i : ℕ)
+        → IsProfile p → IsRefused p items i → BeginsARun p (take (suc i) items) → ⊥ }
 {}
 
 /// A recording that is, free words left out, the words of link data units that cross without loss is that
 /// of a run which delivers their files.
 pub fn a_clean_recording_is_a_run()
-    ensures { (p : Contents) (first : ℕ) (units : List LduValue) (items : List Seen) → IsProfile p → first ≤ 255 → AllFit p p.codes.first_ldu units → thin p.codes items ≡ clean p.codes first p.codes.first_ldu units → IsRunOf p first (weave p.codes items (clean_steps p.codes first p.codes.first_ldu units)) items (shelved p.codes first units nothing) }
+    ensures { (p : Contents) (first : ℕ) (units : List LduValue) (items : List Seen)
+        → IsProfile p → first ≤ 255 → AllFit p p.codes.first_ldu units
+        → without_free p.codes items ≡ clean_blocks p.codes first p.codes.first_ldu units
+        → CarriesUnits p first units items }
 {}

@@ -26,5 +26,5 @@ pub use crate::number::is_final;
 pub use crate::observer::Observer;
 pub use crate::reading::form_of;
 pub use crate::seen::Seen;
-pub use crate::state::{SinkState, SourceState};
+pub use crate::state::{SinkState, SourceState, States};
 pub use crate::step::Step;

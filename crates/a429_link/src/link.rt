@@ -1,13 +1,14 @@
 //! A link: one run of a source and a sink, step by step.
 
 ghost use Rattle.std.specs.Prelude.{◌≡◌, [], IfErr, OnOk, OnErr};
-ghost use Rattle.a429_link.specs.Step.{start, Can, after, LoadsLdu, IsFault};
-ghost use Rattle.a429_link.specs.Link.{handed_out, shown};
+ghost use Rattle.a429_link.specs.Step.{Can, after, LoadsLdu, IsFault};
+ghost use Rattle.a429_link.specs.State.{start, states_of};
+ghost use Rattle.a429_link.specs.Link.{handed_out};
 ghost use Rattle.a429_link.specs.Run.{IsBounded};
 
 use crate::fault::StepFault;
 use crate::file::FileBytes;
-use crate::state::{SinkState, SourceState};
+use crate::state::States;
 use crate::step::Step;
 use crate::transfer::Transfer;
 use a429_profile::Profile;
@@ -65,17 +66,17 @@ impl<'a> Link<'a> {
     /// What the source and the sink are doing, and how many words are on their way to the sink, 0 to 255,
     /// and how many to the source, 0 or 1. Of a block that is still on its way, source and sink count at
     /// most 254 words.
-    pub fn states(&self) -> (SourceState, SinkState, usize, usize)
-        ensures shown { result ≡ shown self.now.state }
+    pub fn states(&self) -> States
+        ensures states { result ≡ states_of self.now.state }
         ensures bounds { IsBounded self.now.state }
     {
         let transfer = &self.transfer;
-        (
-            transfer.source(),
-            transfer.sink(),
-            transfer.to_sink(),
-            transfer.to_source(),
-        )
+        States {
+            source: transfer.source(),
+            sink: transfer.sink(),
+            to_sink: transfer.to_sink() as u8,
+            to_source: transfer.to_source() as u8,
+        }
     }
 
     /// The files that the sink has delivered since they were last taken.

@@ -26,14 +26,14 @@ pub struct Observer {
 impl Model for Observer {
     ghost use Rattle.std.specs.Prelude.{◌≡◌};
     ghost use Rattle.a429_link.specs.Observer as model;
-    ghost use Rattle.a429_link.specs.Run.{nothing};
-    ghost use Rattle.a429_link.specs.View.{InPlace};
+    ghost use Rattle.a429_link.specs.Sink.{empty_shelf};
+    ghost use Rattle.a429_link.specs.Observer.{KeepsRecorded};
 
     ghost Value = { model.Observer };
 
     ghost view = { λ o. record { last = o.sink.last; count = o.sink.count; phase = o.sink.phase; begun = o.begun; parts = o.parts } };
 
-    ghost invariant = { λ o. (o.sink.shelf ≡ nothing) × InPlace o.sink.phase o.parts };
+    ghost invariant = { λ o. (o.sink.shelf ≡ empty_shelf) × KeepsRecorded o.sink.phase o.parts };
 }
 
 impl Observer {

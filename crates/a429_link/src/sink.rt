@@ -1,12 +1,10 @@
 //! The sink of a file transfer.
 
-ghost use Rattle.std.specs.Prelude.{◌≡◌, ◌≤◌, ◌↔◌, ◌||◌, [], None, option_map, IsTrue, OnOk, OnErr};
+ghost use Rattle.std.specs.Prelude.{◌≡◌, ◌≤◌, ◌↔◌, [], None, option_map, IsTrue, OnOk, OnErr};
 ghost use Rattle.a429_link.specs.Sink as model;
-ghost use Rattle.a429_link.specs.Sink.{agrees, takes, at_start, at_part, at_end, is_good, is_same, in_sequence, accepts_owed, answers, MayAnswer, Listens, Owes, held};
-ghost use Rattle.a429_link.specs.Step.{shown_sink};
-ghost use Rattle.a429_link.specs.Run.{nothing};
+ghost use Rattle.a429_link.specs.Sink.{agrees, takes, at_start, at_part, at_end, is_good, is_same, may_come, empty_block, accepts_owed, answers, MayAnswer, Listens, Owes, held_count, latest_number, TakesOneMore, HasRoom, empty_shelf};
+ghost use Rattle.a429_link.specs.State.{sink_state_of};
 ghost use Rattle.a429_link.specs.Observer.{HasGrant};
-ghost use Rattle.a429_link.specs.View.{number_of, TakesOneMore, HasRoom};
 
 use crate::block::Block;
 use crate::file::FileBytes;
@@ -53,16 +51,16 @@ pub(crate) struct Sink {
 impl Model for Sink {
     ghost use Rattle.std.specs.Prelude.{option_map};
     ghost use Rattle.a429_link.specs.Sink as model;
-    ghost use Rattle.a429_link.specs.View.{number_of, phase_of};
+    ghost use Rattle.a429_link.specs.Sink.{latest_number, phase_of};
 
     ghost Value = { model.Sink };
 
-    ghost view = { λ s. record { last = option_map number_of s.last; shelf = s.shelf; count = s.count; phase = phase_of s.phase s.block } };
+    ghost view = { λ s. record { last = option_map latest_number s.last; shelf = s.shelf; count = s.count; phase = phase_of s.phase s.block } };
 }
 
 // The block comes again, or in sequence.
 fn may_come(profile: &Profile, last: &Option<Latest>, file: u8, ldu: u8) -> bool
-    ensures { result ≡ (is_same (option_map number_of last.now) file ldu || in_sequence profile.now.codes (option_map number_of last.now) file ldu) }
+    ensures { result ≡ may_come profile.now.codes (option_map latest_number last.now) file ldu }
 {
     let first_ldu = profile.codes().first_ldu;
     let Some(last) = last else {
@@ -81,7 +79,7 @@ fn may_come(profile: &Profile, last: &Option<Latest>, file: u8, ldu: u8) -> bool
 
 // The block that ends by a word with this check word is good, where the last request had this count.
 fn ends_well(profile: &Profile, last: &Option<Latest>, count: u8, block: &Block, check: u16) -> bool
-    ensures { result ≡ is_good profile.now (option_map number_of last.now) count block.now check }
+    ensures { result ≡ is_good profile.now (option_map latest_number last.now) count block.now check }
 {
     if block.words().len() + 2 != usize::from(count) {
         return false;
@@ -104,7 +102,7 @@ fn agrees(rule: &Check, bytes: &[u8], check: u16) -> bool
 
 // The number is that of the link data unit accepted last.
 fn is_last(last: &Option<Latest>, file: u8, ldu: u8) -> bool
-    ensures { result ≡ is_same (option_map number_of last.now) file ldu }
+    ensures { result ≡ is_same (option_map latest_number last.now) file ldu }
 {
     match last {
         None => false,
@@ -115,7 +113,7 @@ fn is_last(last: &Option<Latest>, file: u8, ldu: u8) -> bool
 impl Sink {
     /// A sink that has taken nothing.
     pub(crate) fn new(alloc: Global) -> Sink
-        ensures { result ≡ record { last = None; shelf = nothing; count = 0; phase = model.Quiet } }
+        ensures { result ≡ record { last = None; shelf = empty_shelf; count = 0; phase = model.Quiet } }
     {
         Sink {
             last: None,
@@ -145,8 +143,8 @@ impl Sink {
 
     /// What it is doing, with the count of words of its block.
     pub(crate) fn state(&self) -> SinkState
-        requires { held self.now.phase ≤ 255 }
-        ensures { result ≡ shown_sink self.now.phase }
+        requires { held_count self.now.phase ≤ 255 }
+        ensures { result ≡ sink_state_of self.now.phase }
     {
         match self.phase {
             Phase::Quiet => SinkState::Quiet,
@@ -177,7 +175,7 @@ impl Sink {
     }
 
     fn start_block(&mut self, gfi: u8, file: u8, ldu: u8)
-        ensures { self.new ≡ record (self.old) { phase = at_start (record { gfi = gfi; file = file; ldu = ldu; words = [] }) self.old.phase } }
+        ensures { self.new ≡ record (self.old) { phase = at_start (empty_block gfi file ldu) self.old.phase } }
     {
         if matches!(self.phase, Phase::Granted | Phase::InBlock) {
             self.block.begin(gfi, file, ldu);
@@ -232,7 +230,7 @@ impl Sink {
         profile: &Profile,
         answer: &Form,
     ) -> Result<(), AllocError>
-        requires { held self.old.phase ≤ 255 }
+        requires { held_count self.old.phase ≤ 255 }
         ensures done { OnOk result (self.new ≡ answers profile.now.codes answer.now self.old) }
         ensures unchanged { OnErr result (self.new ≡ self.old) }
     {
@@ -250,7 +248,7 @@ impl Sink {
 
     // Accepts the block that an acknowledgement is owed for. One that comes again is not put again.
     fn accept(&mut self, alloc: Global, profile: &Profile) -> Result<(), AllocError>
-        requires { held self.old.phase ≤ 255 }
+        requires { held_count self.old.phase ≤ 255 }
         ensures done { OnOk result (self.new ≡ accepts_owed profile.now.codes self.old.phase self.old) }
         ensures unchanged { OnErr result (self.new ≡ self.old) }
     {

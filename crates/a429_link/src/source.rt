@@ -3,8 +3,7 @@
 ghost use Rattle.std.specs.Prelude.{◌≡◌, ◌≤◌, ◌+◌, ◌↔◌, IsTrue, IsSome, None, Some};
 ghost use Rattle.a429_ldu.specs.Ldu.{IsLdu};
 ghost use Rattle.a429_link.specs.Source as model;
-ghost use Rattle.a429_link.specs.Source.{next_word, hears, IsIdle, Waits};
-ghost use Rattle.a429_link.specs.Step.{next_of, gone_on};
+ghost use Rattle.a429_link.specs.Source.{next_word, hears, IsIdle, Waits, with_word_sent, next_word_of};
 
 use crate::number::is_final;
 use crate::state::SourceState;
@@ -81,7 +80,7 @@ impl Source {
     /// Its next word, if it sends one now.
     #[inline(always)]
     pub(crate) fn next(&self, profile: &Profile) -> Option<Word>
-        ensures { result ≡ next_of profile.now self.now }
+        ensures { result ≡ next_word_of profile.now self.now }
     {
         let Some(unit) = &self.current else {
             return None;
@@ -103,8 +102,8 @@ impl Source {
 
     /// Goes on after its next word.
     pub(crate) fn go_on(&mut self, profile: &Profile)
-        requires { IsSome (next_of profile.now self.old) }
-        ensures { self.new ≡ gone_on self.old }
+        requires { IsSome (next_word_of profile.now self.old) }
+        ensures { self.new ≡ with_word_sent self.old }
     {
         let Some(unit) = &self.current else {
             return;

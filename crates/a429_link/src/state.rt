@@ -29,3 +29,16 @@ pub enum SinkState {
     /// It has taken a block that is not good, and owes the negative answer.
     OwesNak,
 }
+
+/// What the source and the sink are doing, and how many words are on their way between them.
+#[derive(Clone, Copy, Debug, PartialEq, Eq)]
+pub struct States {
+    /// What the source is doing.
+    pub source: SourceState,
+    /// What the sink is doing.
+    pub sink: SinkState,
+    /// How many recorded words the sink has not taken, 0 to 255.
+    pub to_sink: u8,
+    /// How many recorded answers the source has not taken, 0 or 1.
+    pub to_source: u8,
+}

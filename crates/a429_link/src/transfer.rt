@@ -1,12 +1,14 @@
 //! The source, the sink, and the recorded words between them.
 
-ghost use Rattle.std.specs.Prelude.{◌≡◌, ◌≤◌, ◌+◌, [], IfErr, OnOk, OnErr, length};
-ghost use Rattle.a429_profile.specs.Contents.{IsProfile};
+ghost use Rattle.std.specs.Prelude.{◌≡◌, ◌≤◌, ◌+◌, length};
+ghost use Rattle.a429_profile.specs.Profile.{IsProfile};
 ghost use Rattle.a429_ldu.specs.Ldu.{IsLdu};
 ghost use Rattle.a429_link.specs.declared.step.Step.TheVariants as step;
-ghost use Rattle.a429_link.specs.Sink.{held};
-ghost use Rattle.a429_link.specs.Step.{start, Can, after, shown_sink, LoadsLdu};
-ghost use Rattle.a429_link.specs.Ready.{IsPlainFault};
+ghost use Rattle.a429_link.specs.Sink.{held_count};
+ghost use Rattle.a429_link.specs.Step.{LoadsLdu};
+ghost use Rattle.a429_link.specs.State.{start, sink_state_of};
+ghost use Rattle.a429_link.specs.Transfer.{Applies};
+ghost use Rattle.a429_link.specs.Link.{handed_out};
 
 use crate::fault::StepFault;
 use crate::file::FileBytes;
@@ -32,7 +34,7 @@ pub(crate) struct Transfer {
 }
 
 impl Model for Transfer {
-    ghost use Rattle.a429_link.specs.Step.{State};
+    ghost use Rattle.a429_link.specs.State.{State};
 
     ghost Value = { State };
 
@@ -62,11 +64,8 @@ impl Transfer {
         step: Step,
     ) -> Result<(), StepFault>
         requires unit { LoadsLdu profile.now step }
-        requires bound { length self.old.to_sink + held self.old.sink.phase ≤ 255 }
-        ensures allowed { OnOk result (Can profile.now step self.old) }
-        ensures done { OnOk result (self.new ≡ after profile.now step self.old) }
-        ensures fault { IfErr result (λ e. IsPlainFault profile.now step self.old e) }
-        ensures unchanged { OnErr result (self.new ≡ self.old) }
+        requires bound { length self.old.to_sink + held_count self.old.sink.phase ≤ 255 }
+        ensures { Applies profile.now step self.old self.new result }
     {
         match step {
             Step::Load(unit) => self.load(profile, unit),
@@ -84,10 +83,7 @@ impl Transfer {
 
     fn load(&mut self, profile: &Profile, unit: Ldu) -> Result<(), StepFault>
         requires { IsLdu profile.now unit }
-        ensures allowed { OnOk result (Can profile.now (step.Load unit) self.old) }
-        ensures done { OnOk result (self.new ≡ after profile.now (step.Load unit) self.old) }
-        ensures fault { IfErr result (λ e. IsPlainFault profile.now (step.Load unit) self.old e) }
-        ensures unchanged { OnErr result (self.new ≡ self.old) }
+        ensures { Applies profile.now (step.Load unit) self.old self.new result }
     {
         if !self.source.may_load(profile.codes().first_ldu) {
             return Err(StepFault::NotAllowed);
@@ -97,10 +93,7 @@ impl Transfer {
     }
 
     fn sent(&mut self, profile: &Profile, seen: Seen) -> Result<(), StepFault>
-        ensures allowed { OnOk result (Can profile.now (step.Sent seen) self.old) }
-        ensures done { OnOk result (self.new ≡ after profile.now (step.Sent seen) self.old) }
-        ensures fault { IfErr result (λ e. IsPlainFault profile.now (step.Sent seen) self.old e) }
-        ensures unchanged { OnErr result (self.new ≡ self.old) }
+        ensures { Applies profile.now (step.Sent seen) self.old self.new result }
     {
         let Some(next) = self.source.next(profile) else {
             return Err(StepFault::NotAllowed);
@@ -116,10 +109,7 @@ impl Transfer {
     }
 
     fn sent_lost(&mut self, profile: &Profile) -> Result<(), StepFault>
-        ensures allowed { OnOk result (Can profile.now step.SentLost self.old) }
-        ensures done { OnOk result (self.new ≡ after profile.now step.SentLost self.old) }
-        ensures fault { IfErr result (λ e. IsPlainFault profile.now step.SentLost self.old e) }
-        ensures unchanged { OnErr result (self.new ≡ self.old) }
+        ensures { Applies profile.now step.SentLost self.old self.new result }
     {
         if self.source.next(profile).is_none() {
             return Err(StepFault::NotAllowed);
@@ -129,10 +119,7 @@ impl Transfer {
     }
 
     fn time_out(&mut self, profile: &Profile) -> Result<(), StepFault>
-        ensures allowed { OnOk result (Can profile.now step.TimeOut self.old) }
-        ensures done { OnOk result (self.new ≡ after profile.now step.TimeOut self.old) }
-        ensures fault { IfErr result (λ e. IsPlainFault profile.now step.TimeOut self.old e) }
-        ensures unchanged { OnErr result (self.new ≡ self.old) }
+        ensures { Applies profile.now step.TimeOut self.old self.new result }
     {
         let nothing_on_its_way = self.to_sink.is_empty() && self.to_source.is_empty();
         if !self.source.waits() || !self.sink.listens() || !nothing_on_its_way {
@@ -143,10 +130,7 @@ impl Transfer {
     }
 
     fn take_answer(&mut self, profile: &Profile) -> Result<(), StepFault>
-        ensures allowed { OnOk result (Can profile.now step.TakeAnswer self.old) }
-        ensures done { OnOk result (self.new ≡ after profile.now step.TakeAnswer self.old) }
-        ensures fault { IfErr result (λ e. IsPlainFault profile.now step.TakeAnswer self.old e) }
-        ensures unchanged { OnErr result (self.new ≡ self.old) }
+        ensures { Applies profile.now step.TakeAnswer self.old self.new result }
     {
         if self.to_source.is_empty() {
             return Err(StepFault::NotAllowed);
@@ -159,10 +143,7 @@ impl Transfer {
     }
 
     fn lose_answer(&mut self, profile: &Profile) -> Result<(), StepFault>
-        ensures allowed { OnOk result (Can profile.now step.LoseAnswer self.old) }
-        ensures done { OnOk result (self.new ≡ after profile.now step.LoseAnswer self.old) }
-        ensures fault { IfErr result (λ e. IsPlainFault profile.now step.LoseAnswer self.old e) }
-        ensures unchanged { OnErr result (self.new ≡ self.old) }
+        ensures { Applies profile.now step.LoseAnswer self.old self.new result }
     {
         if self.to_source.is_empty() {
             return Err(StepFault::NotAllowed);
@@ -172,11 +153,8 @@ impl Transfer {
     }
 
     fn sink_takes(&mut self, profile: &Profile) -> Result<(), StepFault>
-        requires { length self.old.to_sink + held self.old.sink.phase ≤ 255 }
-        ensures allowed { OnOk result (Can profile.now step.SinkTakes self.old) }
-        ensures done { OnOk result (self.new ≡ after profile.now step.SinkTakes self.old) }
-        ensures fault { IfErr result (λ e. IsPlainFault profile.now step.SinkTakes self.old e) }
-        ensures unchanged { OnErr result (self.new ≡ self.old) }
+        requires { length self.old.to_sink + held_count self.old.sink.phase ≤ 255 }
+        ensures { Applies profile.now step.SinkTakes self.old self.new result }
     {
         if !self.sink.listens() || self.to_sink.is_empty() {
             return Err(StepFault::NotAllowed);
@@ -189,10 +167,7 @@ impl Transfer {
     }
 
     fn silent(&mut self, profile: &Profile) -> Result<(), StepFault>
-        ensures allowed { OnOk result (Can profile.now step.Silent self.old) }
-        ensures done { OnOk result (self.new ≡ after profile.now step.Silent self.old) }
-        ensures fault { IfErr result (λ e. IsPlainFault profile.now step.Silent self.old e) }
-        ensures unchanged { OnErr result (self.new ≡ self.old) }
+        ensures { Applies profile.now step.Silent self.old self.new result }
     {
         if !self.sink.owes() {
             return Err(StepFault::NotAllowed);
@@ -202,11 +177,8 @@ impl Transfer {
     }
 
     fn answered(&mut self, alloc: Global, profile: &Profile, seen: Seen) -> Result<(), StepFault>
-        requires { held self.old.sink.phase ≤ 255 }
-        ensures allowed { OnOk result (Can profile.now (step.Answered seen) self.old) }
-        ensures done { OnOk result (self.new ≡ after profile.now (step.Answered seen) self.old) }
-        ensures fault { IfErr result (λ e. IsPlainFault profile.now (step.Answered seen) self.old e) }
-        ensures unchanged { OnErr result (self.new ≡ self.old) }
+        requires { held_count self.old.sink.phase ≤ 255 }
+        ensures { Applies profile.now (step.Answered seen) self.old self.new result }
     {
         if !self.sink.owes() {
             return Err(StepFault::NotAllowed);
@@ -228,8 +200,7 @@ impl Transfer {
     }
 
     fn free_seen(&self, profile: &Profile, seen: Seen) -> Result<(), StepFault>
-        ensures allowed { OnOk result (Can profile.now (step.FreeSeen seen) self.now) }
-        ensures fault { IfErr result (λ e. IsPlainFault profile.now (step.FreeSeen seen) self.now e) }
+        ensures { Applies profile.now (step.FreeSeen seen) self.now self.now result }
     {
         if is_free(profile, seen.bus, seen.word) {
             Ok(())
@@ -247,8 +218,8 @@ impl Transfer {
 
     /// What the sink is doing.
     pub(crate) fn sink(&self) -> SinkState
-        requires { held self.now.sink.phase ≤ 255 }
-        ensures { result ≡ shown_sink self.now.sink.phase }
+        requires { held_count self.now.sink.phase ≤ 255 }
+        ensures { result ≡ sink_state_of self.now.sink.phase }
     {
         self.sink.state()
     }
@@ -277,7 +248,7 @@ impl Transfer {
     /// Hands these files out.
     pub(crate) fn take_delivered(&mut self, alloc: Global) -> Vec<FileBytes>
         ensures files { result.items ≡ self.old.sink.shelf.files }
-        ensures rest { self.new ≡ record (self.old) { sink = record (self.old.sink) { shelf = record (self.old.sink.shelf) { files = [] } } } }
+        ensures rest { self.new ≡ handed_out self.old }
     {
         self.sink.take_delivered(alloc)
     }

@@ -8,7 +8,7 @@ use Rattle.toml.specs.declared.value.Value.{Value}
 use Rattle.a429_profile.specs.declared.entry.Flag.{Flag}
 use Rattle.a429_profile.specs.declared.fault.ProfileFault.TheVariants.{BitClash}
 use Rattle.a429_profile.specs.Clash.{bit_after}
-use Rattle.a429_profile.specs.Keys.{first_or}
+use Rattle.a429_profile.specs.Fault.{first_or}
 use Rattle.a429_profile.specs.Labels.{entries_fault, entry_fault, table_of}
 
 -- what is left begins with the next
@@ -22,11 +22,6 @@ entries_fault-next vs i v h e ok =
     let more : suc i ≡ i + 1 = omega arith in
     ap (λ ws. entries_fault i (map view ws)) (next vs i v h e) ∙ ap (λ f. first_or f (entries_fault (suc i) (map view (drop (i + 1) vs)))) ok
     ∙ ap (λ n. entries_fault n (map view (drop (i + 1) vs))) more
-
--- a table with a fault gives it
-pub entries_fault-here : (vs : List Value) (i : ℕ) (v : Value) → i < length vs → v ≡ get_or vs i v
-    → entries_fault i (map view (drop i vs)) ≡ first_or (entry_fault i (table_of (view v))) (entries_fault (suc i) (map view (drop (i + 1) vs)))
-entries_fault-here vs i v h e = ap (λ ws. entries_fault i (map view ws)) (next vs i v h e)
 
 -- one more made, one fewer to make
 pub map-next : {A : Type 0} (f : Value → A) (made : List A) (vs : List Value) (i : ℕ) (v : Value) → i < length vs → v ≡ get_or vs i v

@@ -1,6 +1,6 @@
 -- Where the entries and numbers of a profile clash (profile).
-use Rattle.std.specs.Prelude.{ℕ, List, [], ◌∷◌, ◌++◌, map, Bool, true, ◌==◌, ◌&&◌, ◌||◌, Option, Some, None, if◌then◌else◌}
-use Rattle.std.specs.List.{list_any}
+use Rattle.std.specs.Prelude.{◌≡◌, ◌≢◌, ℕ, List, [], ◌∷◌, ◌++◌, map, Bool, true, false, ◌==◌, ◌&&◌, ◌||◌, nat_eq, Option, Some, None, if◌then◌else◌}
+use Rattle.std.specs.List.{list_any, IsDistinct}
 use Rattle.a429_profile.specs.declared.codes.Codes.{Codes}
 use Rattle.a429_profile.specs.declared.entry.Flag.{Flag}
 use Rattle.a429_profile.specs.declared.entry.Kind.{Kind}
@@ -10,7 +10,12 @@ use Rattle.a429_profile.specs.declared.key.SectionKey.{SectionKey}
 use Rattle.a429_profile.specs.declared.key.SectionKey.TheVariants as key
 use Rattle.a429_profile.specs.declared.fault.ProfileFault.{ProfileFault}
 use Rattle.a429_profile.specs.declared.fault.ProfileFault.TheVariants.{LabelClash, CodeClash, BitClash}
-use Rattle.a429_profile.specs.Keys.{first_or}
+use Rattle.a429_profile.specs.Fault.{first_or}
+
+-- no element meets one of those before it
+abbrev pub AreApartAfter : {X : Type 0} → (X → X → Bool) → List X → List X → Type 0
+AreApartAfter meet earlier [] = Unit {0}
+AreApartAfter meet earlier (x ∷ xs) = (list_any (λ o. meet o x) earlier ≡ false) × AreApartAfter meet (earlier ++ x ∷ []) xs
 
 -- ---- labels
 
@@ -34,11 +39,11 @@ label_clash_after codes earlier (e ∷ es) = if label_clashes codes earlier e th
 -- ---- types and codes
 
 -- a number and the key that it stands at
-abbrev pub Named : Type 0
-Named = SectionKey × ℕ
+abbrev pub NumberAtKey : Type 0
+NumberAtKey = SectionKey × ℕ
 
 -- the key of the first of some numbers that is n
-abbrev pub key_of : ℕ → List Named → Option SectionKey
+abbrev pub key_of : ℕ → List NumberAtKey → Option SectionKey
 key_of n [] = None
 key_of n (x ∷ xs) = if x.1 == n then Some x.0 else key_of n xs
 
@@ -47,26 +52,26 @@ twins (Some earlier) later rest = Some (CodeClash earlier later)
 twins None later rest = rest
 
 -- the first number that equals an earlier one
-abbrev pub twins_after : List Named → List Named → Option ProfileFault
+abbrev pub twins_after : List NumberAtKey → List NumberAtKey → Option ProfileFault
 twins_after earlier [] = None
 twins_after earlier (x ∷ xs) = twins (key_of x.1 earlier) x.0 (twins_after (earlier ++ x ∷ []) xs)
 
 -- numbers that stand at one key
-abbrev pub all_named : SectionKey → List ℕ → List Named
-all_named k ns = map (λ n. (k, n)) ns
+abbrev pub all_at_key : SectionKey → List ℕ → List NumberAtKey
+all_at_key k ns = map (λ n. (k, n)) ns
 
 -- the types, the codes and the codes of partial words, in the order of the keys, the ignored ones last
-abbrev pub types_named : Codes → List Named
-types_named c = ((key.Full, c.full) ∷ (key.Partial, c.partial) ∷ (key.Protocol, c.protocol) ∷ (key.Sot, c.sot) ∷ (key.Eot, c.eot) ∷ []) ++ all_named key.IgnoredTypes c.ignored_types
+abbrev pub types_at_keys : Codes → List NumberAtKey
+types_at_keys c = ((key.Full, c.full) ∷ (key.Partial, c.partial) ∷ (key.Protocol, c.protocol) ∷ (key.Sot, c.sot) ∷ (key.Eot, c.eot) ∷ []) ++ all_at_key key.IgnoredTypes c.ignored_types
 
-abbrev pub codes_named : Codes → List Named
-codes_named c = ((key.Rts, c.rts) ∷ (key.Cts, c.cts) ∷ (key.Ack, c.ack) ∷ (key.Nak, c.nak) ∷ []) ++ all_named key.IgnoredCodes c.ignored_codes
+abbrev pub codes_at_keys : Codes → List NumberAtKey
+codes_at_keys c = ((key.Rts, c.rts) ∷ (key.Cts, c.cts) ∷ (key.Ack, c.ack) ∷ (key.Nak, c.nak) ∷ []) ++ all_at_key key.IgnoredCodes c.ignored_codes
 
-abbrev pub partial_named : Codes → List Named
-partial_named c = all_named key.PartialCodes c.partial_codes
+abbrev pub partial_codes_at_keys : Codes → List NumberAtKey
+partial_codes_at_keys c = all_at_key key.PartialCodes c.partial_codes
 
 abbrev pub code_clash : Codes → Option ProfileFault
-code_clash c = first_or (twins_after [] (types_named c)) (first_or (twins_after [] (codes_named c)) (twins_after [] (partial_named c)))
+code_clash c = first_or (twins_after [] (types_at_keys c)) (first_or (twins_after [] (codes_at_keys c)) (twins_after [] (partial_codes_at_keys c)))
 
 -- ---- bits of flags
 
@@ -87,3 +92,21 @@ bit_clash (e ∷ es) = first_or (bit_clash_in e.label e.kind) (bit_clash es)
 
 abbrev pub first_clash : Codes → List LabelEntry → Option ProfileFault
 first_clash c es = first_or (label_clash_after c [] es) (first_or (code_clash c) (bit_clash es))
+
+-- ---- what holds of entries that do not clash
+
+-- all types that words may have, and all codes of protocol words
+abbrev pub all_types : Codes → List ℕ
+all_types c = (c.full ∷ c.partial ∷ c.protocol ∷ c.sot ∷ c.eot ∷ []) ++ c.ignored_types
+
+abbrev pub all_codes : Codes → List ℕ
+all_codes c = (c.rts ∷ c.cts ∷ c.ack ∷ c.nak ∷ []) ++ c.ignored_codes
+
+-- no two flags have one bit
+abbrev pub HasDistinctBits : Kind → Type 0
+HasDistinctBits (Discrete flags) = IsDistinct nat_eq (map (λ f. f.bit) flags)
+HasDistinctBits _ = Unit {0}
+
+-- an entry is for neither of the labels that the transfer uses
+abbrev pub IsNoAddress : Codes → LabelEntry → Type 0
+IsNoAddress c e = (e.label ≢ c.to_sink) × (e.label ≢ c.to_source)

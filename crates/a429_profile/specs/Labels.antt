@@ -11,9 +11,10 @@ use Rattle.a429_profile.specs.declared.key.LabelKey.{LabelKey}
 use Rattle.a429_profile.specs.declared.key.LabelKey.TheVariants as label
 use Rattle.a429_profile.specs.declared.fault.ProfileFault.{ProfileFault}
 use Rattle.a429_profile.specs.declared.fault.ProfileFault.TheVariants.{WrongKind}
-use Rattle.a429_profile.specs.Rules.{text_of, number_of, octal_number, elements_of, flag_of, kind_word_of, is_table, is_array_of}
-use Rattle.a429_profile.specs.Keys.{Place, nothing, value, place_fault, label_row, label_place, first_or}
-use Rattle.a429_profile.specs.Sections.{value_in}
+use Rattle.a429_profile.specs.Value.{text_of_value, number_of_value, octal_number, elements_of, flag_of, kind_word_of, is_table, is_array_of}
+use Rattle.a429_profile.specs.Fault.{first_or}
+use Rattle.a429_profile.specs.Key.{Place, nothing, value, place_fault, label_row, label_place}
+use Rattle.a429_profile.specs.Codes.{value_at_place}
 
 -- ---- one table of `label`
 
@@ -22,18 +23,25 @@ abbrev pub fault_unless_missing : Bool → Option ProfileFault → Place → Opt
 fault_unless_missing true fault nothing = None
 fault_unless_missing _ fault _ = fault
 
+-- the fault of a key that is needed, at the position i of the array
+abbrev pub needed_fault : ℕ → Members → LabelKey → Option ProfileFault
+needed_fault i ms k = place_fault (at.Label i k) (label_row k).rule (label_place ms k)
+
 abbrev pub label_fault : ℕ → Members → LabelKey → Option ProfileFault
-label_fault i ms k = fault_unless_missing (label_row k).may_be_missing (place_fault (at.Label i k) (label_row k).rule (label_place ms k)) (label_place ms k)
+label_fault i ms k = fault_unless_missing (label_row k).may_be_missing (needed_fault i ms k) (label_place ms k)
 
 abbrev pub first_label_fault : ℕ → Members → List LabelKey → Option ProfileFault
 first_label_fault i ms [] = None
 first_label_fault i ms (k ∷ ks) = first_or (label_fault i ms k) (first_label_fault i ms ks)
 
 abbrev pub label_value : Members → LabelKey → Data
-label_value ms k = value_in (label_place ms k)
+label_value ms k = value_at_place (label_place ms k)
 
-abbrev pub word_in : Members → Option KindWord
-word_in ms = kind_word_of (text_of (label_value ms label.Kind))
+abbrev pub label_text : Members → LabelKey → List ℕ
+label_text ms k = text_of_value (label_value ms k)
+
+abbrev pub kind_word_in_table : Members → Option KindWord
+kind_word_in_table ms = kind_word_of (label_text ms label.Kind)
 
 -- the keys that a kind has beside the five that all have
 abbrev pub keys_of_kind : Option KindWord → List LabelKey
@@ -42,9 +50,13 @@ keys_of_kind (Some word.Bcd) = label.Digits ∷ label.Decimals ∷ []
 keys_of_kind (Some word.Discrete) = label.Flags ∷ []
 keys_of_kind None = []
 
+-- the first fault of these keys
+abbrev pub kind_fault : ℕ → Members → KindWord → Option ProfileFault
+kind_fault i ms word = first_label_fault i ms (keys_of_kind (Some word))
+
 -- the keys of a table, in the order in which they are tested
 abbrev pub label_keys : Members → List LabelKey
-label_keys ms = label.Octal ∷ label.Sdi ∷ label.Name ∷ label.Unit ∷ label.Kind ∷ keys_of_kind (word_in ms)
+label_keys ms = label.Octal ∷ label.Sdi ∷ label.Name ∷ label.Unit ∷ label.Kind ∷ keys_of_kind (kind_word_in_table ms)
 
 abbrev pub entry_fault : ℕ → Members → Option ProfileFault
 entry_fault i ms = first_label_fault i ms (label_keys ms)
@@ -52,11 +64,18 @@ entry_fault i ms = first_label_fault i ms (label_keys ms)
 -- ---- the entry that a table says
 
 abbrev pub label_number : Members → LabelKey → ℕ
-label_number ms k = number_of (label_value ms k)
+label_number ms k = number_of_value (label_value ms k)
 
-abbrev pub number_in : Place → Option ℕ
-number_in (value d) = Some (number_of d)
-number_in _ = None
+abbrev pub number_at_place : Place → Option ℕ
+number_at_place (value d) = Some (number_of_value d)
+number_at_place _ = None
+
+-- the label that a table says, and its SDI, if it says one
+abbrev pub label_in_table : Members → ℕ
+label_in_table ms = octal_number (label_text ms label.Octal)
+
+abbrev pub sdi_in_table : Members → Option ℕ
+sdi_in_table ms = number_at_place (label_place ms label.Sdi)
 
 abbrev pub kind_in : Members → Option KindWord → Kind
 kind_in ms (Some word.Bnr) = kind.Bnr (label_number ms label.Bits) (label_number ms label.Range) (label_number ms label.Decimals)
@@ -66,11 +85,11 @@ kind_in ms None = kind.Discrete []
 
 abbrev pub entry_in_table : Members → LabelEntry
 entry_in_table ms = record {
-  label = octal_number (text_of (label_value ms label.Octal));
-  sdi = number_in (label_place ms label.Sdi);
-  name = text_of (label_value ms label.Name);
-  unit = text_of (label_value ms label.Unit);
-  kind = kind_in ms (word_in ms);
+  label = label_in_table ms;
+  sdi = sdi_in_table ms;
+  name = label_text ms label.Name;
+  unit = label_text ms label.Unit;
+  kind = kind_in ms (kind_word_in_table ms);
 }
 
 -- ---- the array `label`

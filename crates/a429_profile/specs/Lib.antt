@@ -1,10 +1,9 @@
-pub mod Rules
-pub mod Keys
-pub mod Sections
+pub mod Fault
+pub mod Value
+pub mod Key
+pub mod Codes
 pub mod Labels
+pub mod Entry
 pub mod Clash
-pub mod Contents
-pub mod Table
+pub mod Profile
 pub mod Shown
-pub mod Ranges
-pub mod NoClash

@@ -1,12 +1,11 @@
 -- What is shown of a word (ARINC 429 Part 1; what is shown of which status: profile).
 use Rattle.std.specs.Prelude.{◌≡◌, ℕ, ◌+◌, ◌*◌, ◌^◌, ◌≤◌, List, [], ◌∷◌, get_or, Bool, true, false, ◌==◌, if◌then◌else◌, Some, None, ℤ, pos, neg_ℤ, ◌*ℤ◌}
-use Rattle.std.specs.List.{find, AllByRecursion}
+use Rattle.std.specs.List.{find}
 use Rattle.std.specs.Borrow.{Bor}
 use Rattle.a429_word.specs.Word.{label_of, sdi_of, field_of, ssm_of, HasOddParity}
 use Rattle.a429_word.specs.Bnr.{raw_of}
 use Rattle.a429_word.specs.Bcd.{decimal_of, AreDecimal, IsFirstBad}
 use Rattle.a429_word.specs.declared.fixed.Fixed.{Fixed}
-use Rattle.a429_profile.specs.declared.entry.Flag.{Flag}
 use Rattle.a429_profile.specs.declared.entry.Kind.{Kind}
 use Rattle.a429_profile.specs.declared.entry.Kind.TheVariants.{Bnr, Bcd, Discrete}
 use Rattle.a429_profile.specs.declared.entry.LabelEntry.{LabelEntry}
@@ -16,7 +15,8 @@ use Rattle.a429_profile.specs.declared.shown.Status.{Status}
 use Rattle.a429_profile.specs.declared.shown.Status.TheVariants.{NoData, Failure}
 use Rattle.a429_profile.specs.declared.shown.Shown.{Shown}
 use Rattle.a429_profile.specs.declared.shown.Shown.TheVariants as shown
-use Rattle.a429_profile.specs.Contents.{Contents, is_for}
+use Rattle.a429_profile.specs.Profile.{Contents, is_for}
+use Rattle.a429_profile.specs.Entry.{IsKindInRange}
 
 -- ---- the status
 
@@ -75,24 +75,16 @@ IsShown p w (shown.BadDigit e place) = IsEntryOf p w e.now × ((is_test : Bool) 
 IsShown p w (shown.Value e v is_test) = IsEntryOf p w e.now × HasValue e.now.kind w is_test × IsValue e.now.kind w v
 IsShown p w (shown.Bits e field is_test) = IsEntryOf p w e.now × HasValue e.now.kind w is_test × IsDiscrete e.now.kind × (field ≡ field_of w)
 
--- ---- the ranges of an entry's numbers
-
-abbrev pub IsFlagBit : Flag → Type 0
-IsFlagBit f = (11 ≤ f.bit) × (f.bit ≤ 29)
-
-abbrev pub IsInRange : Kind → Type 0
-IsInRange (Bnr bits range decimals) = (1 ≤ bits) × (bits ≤ 18) × (1 ≤ range) × (range ≤ 1000000000) × (decimals ≤ 6)
-IsInRange (Bcd digits decimals) = (1 ≤ digits) × (digits ≤ 5) × (decimals ≤ 6)
-IsInRange (Discrete flags) = AllByRecursion IsFlagBit flags
+-- ---- the ranges of what is shown
 
 -- the entry, if one is shown, has its numbers in their ranges, and a value has at most 24 decimals
 abbrev pub HasItsRanges : Shown → Type 0
 HasItsRanges shown.BadParity = Unit {0}
 HasItsRanges shown.NoEntry = Unit {0}
-HasItsRanges (shown.Status e status) = IsInRange e.now.kind
-HasItsRanges (shown.BadDigit e place) = IsInRange e.now.kind
-HasItsRanges (shown.Value e v is_test) = IsInRange e.now.kind × (v.decimals ≤ 24)
-HasItsRanges (shown.Bits e field is_test) = IsInRange e.now.kind
+HasItsRanges (shown.Status e status) = IsKindInRange e.now.kind
+HasItsRanges (shown.BadDigit e place) = IsKindInRange e.now.kind
+HasItsRanges (shown.Value e v is_test) = IsKindInRange e.now.kind × (v.decimals ≤ 24)
+HasItsRanges (shown.Bits e field is_test) = IsKindInRange e.now.kind
 
 -- ---- two showings
 

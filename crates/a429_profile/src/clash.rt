@@ -2,7 +2,7 @@
 
 ghost use Rattle.std.specs.Prelude.{◌≡◌, ◌==◌, ◌++◌, [], IfOk};
 ghost use Rattle.std.specs.List.{list_any};
-ghost use Rattle.a429_profile.specs.Clash.{sdis_meet, entries_meet, label_clashes, label_clash_after, key_of, twins_after, all_named, types_named, codes_named, partial_named, code_clash, bit_after, bit_clash_in, bit_clash, first_clash};
+ghost use Rattle.a429_profile.specs.Clash.{sdis_meet, entries_meet, label_clashes, label_clash_after, key_of, twins_after, all_at_key, types_at_keys, codes_at_keys, partial_codes_at_keys, code_clash, bit_after, bit_clash_in, bit_clash, first_clash};
 
 use crate::codes::Codes;
 use crate::entry::{Flag, Kind, LabelEntry};
@@ -83,7 +83,7 @@ fn code_clash(alloc: Global, codes: &Codes) -> Result<Option<ProfileFault>, Allo
 }
 
 fn type_twins(alloc: Global, codes: &Codes) -> Result<Option<ProfileFault>, AllocError>
-    ensures { IfOk result (λ f. f ≡ twins_after [] (types_named codes.now)) }
+    ensures { IfOk result (λ f. f ≡ twins_after [] (types_at_keys codes.now)) }
 {
     let used = [
         (SectionKey::Full, codes.full),
@@ -98,7 +98,7 @@ fn type_twins(alloc: Global, codes: &Codes) -> Result<Option<ProfileFault>, Allo
 }
 
 fn code_twins(alloc: Global, codes: &Codes) -> Result<Option<ProfileFault>, AllocError>
-    ensures { IfOk result (λ f. f ≡ twins_after [] (codes_named codes.now)) }
+    ensures { IfOk result (λ f. f ≡ twins_after [] (codes_at_keys codes.now)) }
 {
     let used = [
         (SectionKey::Rts, codes.rts),
@@ -112,7 +112,7 @@ fn code_twins(alloc: Global, codes: &Codes) -> Result<Option<ProfileFault>, Allo
 }
 
 fn partial_twins(alloc: Global, codes: &Codes) -> Result<Option<ProfileFault>, AllocError>
-    ensures { IfOk result (λ f. f ≡ twins_after [] (partial_named codes.now)) }
+    ensures { IfOk result (λ f. f ≡ twins_after [] (partial_codes_at_keys codes.now)) }
 {
     let named = named(alloc, &[], SectionKey::PartialCodes, &codes.partial_codes)?;
     Ok(twins(named.as_slice()))
@@ -125,7 +125,7 @@ fn named(
     key: SectionKey,
     numbers: &[u8],
 ) -> Result<Vec<(SectionKey, u8)>, AllocError>
-    ensures { IfOk result (λ v. v.items ≡ used.now ++ all_named key numbers.now) }
+    ensures { IfOk result (λ v. v.items ≡ used.now ++ all_at_key key numbers.now) }
 {
     let mut named = Vec::from_slice(alloc, used)?;
     for number in numbers {

@@ -1,10 +1,11 @@
 //! The numbers of the file transfer, and of its check word.
 
-ghost use Rattle.std.specs.Prelude.{◌≡◌, ◌≢◌, ◌++◌, IfOk, IfErr, OnOk, Some, None};
+ghost use Rattle.std.specs.Prelude.{◌≡◌};
 ghost use Rattle.toml.specs.View.{table_view};
-ghost use Rattle.a429_profile.specs.Rules.{octal, number, numbers, truth};
-ghost use Rattle.a429_profile.specs.Sections.{octal_at, number_at, numbers_at, truth_at, transfer_of, types_of, protocol_codes_of, check_of, codes_of};
-ghost use Rattle.a429_profile.specs.Keys.{section_row, section_fault, first_section_fault, transfer_keys, type_keys, code_keys, partial_keys, check_keys};
+ghost use Rattle.a429_profile.specs.Fault.{Gives, GivesInMemory};
+ghost use Rattle.a429_profile.specs.Value.{octal, number, numbers, truth};
+ghost use Rattle.a429_profile.specs.Codes.{octal_at_key, number_at_key, numbers_at_key, truth_at_key, transfer_of, types_of, protocol_codes_of, check_rule, codes_of, partial_codes_of};
+ghost use Rattle.a429_profile.specs.Key.{section_row, section_fault, first_section_fault, transfer_keys, type_keys, code_keys, partial_keys, check_keys, number_keys};
 
 use crate::entry::Numbers;
 use crate::fault::ProfileFault;
@@ -24,7 +25,7 @@ pub struct Codes {
     pub destination: u8,
     /// The number of a file's first link data unit, 0 or 1.
     pub first_ldu: u8,
-    /// The bit of an end word that tells a file's last link data unit, 25 to 28.
+    /// The bit of an end word that marks a file's last link data unit, 25 to 28.
     pub final_bit: u8,
     /// The type of full data words, 0 to 7, and so for the next four.
     pub full: u8,
@@ -93,9 +94,7 @@ struct ProtocolCodes {
 
 fn octal_at(doc: &Table, key: SectionKey) -> Result<u8, ProfileFault>
     requires { (section_row key).rule ≡ octal }
-    ensures ok { OnOk result (section_fault (table_view doc.now) key ≡ None) }
-    ensures value { IfOk result (λ n. octal_at (table_view doc.now) key ≡ n) }
-    ensures err { IfErr result (λ f. section_fault (table_view doc.now) key ≡ Some f) }
+    ensures { Gives (octal_at_key (table_view doc.now) key) (section_fault (table_view doc.now) key) result }
 {
     let value = in_section(doc, key)?;
     octal(value, Key::Section(key))
@@ -103,9 +102,7 @@ fn octal_at(doc: &Table, key: SectionKey) -> Result<u8, ProfileFault>
 
 fn small_at(doc: &Table, key: SectionKey, low: u8, high: u8) -> Result<u8, ProfileFault>
     requires { (section_row key).rule ≡ number low high }
-    ensures ok { OnOk result (section_fault (table_view doc.now) key ≡ None) }
-    ensures value { IfOk result (λ n. number_at (table_view doc.now) key ≡ n) }
-    ensures err { IfErr result (λ f. section_fault (table_view doc.now) key ≡ Some f) }
+    ensures { Gives (number_at_key (table_view doc.now) key) (section_fault (table_view doc.now) key) result }
 {
     let value = in_section(doc, key)?;
     small(value, Key::Section(key), low, high)
@@ -114,9 +111,7 @@ fn small_at(doc: &Table, key: SectionKey, low: u8, high: u8) -> Result<u8, Profi
 // A number of 16 bits.
 fn wide_at(doc: &Table, key: SectionKey) -> Result<u16, ProfileFault>
     requires { (section_row key).rule ≡ number 0 65535 }
-    ensures ok { OnOk result (section_fault (table_view doc.now) key ≡ None) }
-    ensures value { IfOk result (λ n. number_at (table_view doc.now) key ≡ n) }
-    ensures err { IfErr result (λ f. section_fault (table_view doc.now) key ≡ Some f) }
+    ensures { Gives (number_at_key (table_view doc.now) key) (section_fault (table_view doc.now) key) result }
 {
     let value = in_section(doc, key)?;
     let number = number(value, Key::Section(key), 0, 65535)?;
@@ -125,9 +120,7 @@ fn wide_at(doc: &Table, key: SectionKey) -> Result<u16, ProfileFault>
 
 fn truth_at(doc: &Table, key: SectionKey) -> Result<bool, ProfileFault>
     requires { (section_row key).rule ≡ truth }
-    ensures ok { OnOk result (section_fault (table_view doc.now) key ≡ None) }
-    ensures value { IfOk result (λ b. truth_at (table_view doc.now) key ≡ b) }
-    ensures err { IfErr result (λ f. section_fault (table_view doc.now) key ≡ Some f) }
+    ensures { Gives (truth_at_key (table_view doc.now) key) (section_fault (table_view doc.now) key) result }
 {
     let value = in_section(doc, key)?;
     truth(value, Key::Section(key))
@@ -141,18 +134,14 @@ fn numbers_at(
     high: u8,
 ) -> Result<Numbers, ProfileFault>
     requires { (section_row key).rule ≡ numbers low high }
-    ensures ok { OnOk result (section_fault (table_view doc.now) key ≡ None) }
-    ensures value { IfOk result (λ v. numbers_at (table_view doc.now) key ≡ v) }
-    ensures err { IfErr result (λ f. f ≢ ProfileFault.OutOfMemory → section_fault (table_view doc.now) key ≡ Some f) }
+    ensures { GivesInMemory (numbers_at_key (table_view doc.now) key) (section_fault (table_view doc.now) key) result }
 {
     let value = in_section(doc, key)?;
     numbers(alloc, value, Key::Section(key), low, high)
 }
 
 fn read_transfer(doc: &Table) -> Result<Transfer, ProfileFault>
-    ensures ok { OnOk result (first_section_fault (table_view doc.now) transfer_keys ≡ None) }
-    ensures value { IfOk result (λ t. t ≡ transfer_of (table_view doc.now)) }
-    ensures err { IfErr result (λ f. first_section_fault (table_view doc.now) transfer_keys ≡ Some f) }
+    ensures { Gives (transfer_of (table_view doc.now)) (first_section_fault (table_view doc.now) transfer_keys) result }
 {
     let to_sink = octal_at(doc, SectionKey::ToSink)?;
     let to_source = octal_at(doc, SectionKey::ToSource)?;
@@ -169,9 +158,7 @@ fn read_transfer(doc: &Table) -> Result<Transfer, ProfileFault>
 }
 
 fn read_types(alloc: Global, doc: &Table) -> Result<Types, ProfileFault>
-    ensures ok { OnOk result (first_section_fault (table_view doc.now) type_keys ≡ None) }
-    ensures value { IfOk result (λ t. t ≡ types_of (table_view doc.now)) }
-    ensures err { IfErr result (λ f. f ≢ ProfileFault.OutOfMemory → first_section_fault (table_view doc.now) type_keys ≡ Some f) }
+    ensures { GivesInMemory (types_of (table_view doc.now)) (first_section_fault (table_view doc.now) type_keys) result }
 {
     let full = small_at(doc, SectionKey::Full, 0, 7)?;
     let partial = small_at(doc, SectionKey::Partial, 0, 7)?;
@@ -190,9 +177,7 @@ fn read_types(alloc: Global, doc: &Table) -> Result<Types, ProfileFault>
 }
 
 fn read_protocol_codes(alloc: Global, doc: &Table) -> Result<ProtocolCodes, ProfileFault>
-    ensures ok { OnOk result (first_section_fault (table_view doc.now) code_keys ≡ None) }
-    ensures value { IfOk result (λ t. t ≡ protocol_codes_of (table_view doc.now)) }
-    ensures err { IfErr result (λ f. f ≢ ProfileFault.OutOfMemory → first_section_fault (table_view doc.now) code_keys ≡ Some f) }
+    ensures { GivesInMemory (protocol_codes_of (table_view doc.now)) (first_section_fault (table_view doc.now) code_keys) result }
 {
     let rts = small_at(doc, SectionKey::Rts, 0, 15)?;
     let cts = small_at(doc, SectionKey::Cts, 0, 15)?;
@@ -209,9 +194,7 @@ fn read_protocol_codes(alloc: Global, doc: &Table) -> Result<ProtocolCodes, Prof
 }
 
 fn read_partial_codes(doc: &Table) -> Result<[u8; 4], ProfileFault>
-    ensures ok { OnOk result (first_section_fault (table_view doc.now) partial_keys ≡ None) }
-    ensures value { IfOk result (λ v. v ≡ numbers_at (table_view doc.now) SectionKey.PartialCodes) }
-    ensures err { IfErr result (λ f. first_section_fault (table_view doc.now) partial_keys ≡ Some f) }
+    ensures { Gives (partial_codes_of (table_view doc.now)) (first_section_fault (table_view doc.now) partial_keys) result }
 {
     let key = SectionKey::PartialCodes;
     let value = in_section(doc, key)?;
@@ -219,9 +202,7 @@ fn read_partial_codes(doc: &Table) -> Result<[u8; 4], ProfileFault>
 }
 
 pub(crate) fn read_check(doc: &Table) -> Result<Check, ProfileFault>
-    ensures ok { OnOk result (first_section_fault (table_view doc.now) check_keys ≡ None) }
-    ensures value { IfOk result (λ t. t ≡ check_of (table_view doc.now)) }
-    ensures err { IfErr result (λ f. first_section_fault (table_view doc.now) check_keys ≡ Some f) }
+    ensures { Gives (check_rule (table_view doc.now)) (first_section_fault (table_view doc.now) check_keys) result }
 {
     let poly = wide_at(doc, SectionKey::Poly)?;
     let init = wide_at(doc, SectionKey::Init)?;
@@ -239,9 +220,7 @@ pub(crate) fn read_check(doc: &Table) -> Result<Check, ProfileFault>
 
 /// The numbers of the file transfer, from four sections.
 pub(crate) fn read_codes(alloc: Global, doc: &Table) -> Result<Codes, ProfileFault>
-    ensures ok { OnOk result (first_section_fault (table_view doc.now) (transfer_keys ++ type_keys ++ code_keys ++ partial_keys) ≡ None) }
-    ensures value { IfOk result (λ c. c ≡ codes_of (table_view doc.now)) }
-    ensures err { IfErr result (λ f. f ≢ ProfileFault.OutOfMemory → first_section_fault (table_view doc.now) (transfer_keys ++ type_keys ++ code_keys ++ partial_keys) ≡ Some f) }
+    ensures { GivesInMemory (codes_of (table_view doc.now)) (first_section_fault (table_view doc.now) number_keys) result }
 {
     let transfer = read_transfer(doc)?;
     let types = read_types(alloc, doc)?;

@@ -4,7 +4,7 @@ use crate::key::{Key, SectionKey};
 use thiserror::Error;
 
 /// The first thing wrong with a profile, in the order in which it is tested. Its text is the line that
-/// tells it.
+/// an answer shows of it.
 #[derive(Clone, Copy, Debug, PartialEq, Eq, Error)]
 pub enum ProfileFault {
     /// The text is no TOML document.

@@ -1,12 +1,13 @@
 //! Reads the flags of a discrete label.
 
-ghost use Rattle.std.specs.Prelude.{◌≡◌, ◌≢◌, Some, None, IfOk, IfErr, OnOk, true, map, codes, [], length, nat_le, ◌&&◌};
+ghost use Rattle.std.specs.Prelude.{◌≡◌, Some, None, IfOk, true, map, codes, [], length, ◌&&◌};
 ghost use Rattle.std.specs.List.{list_all};
 ghost use Rattle.std.specs.Option.{option_map_or};
 ghost use Rattle.toml.specs.Data.{get_member};
 ghost use Rattle.toml.specs.View.{view, table_view};
-ghost use Rattle.a429_profile.specs.Rules.{flags, is_integer, is_text, is_flag, is_flag_in_range, is_number_between, is_printable_text, holds_at, number_of, text_of, flag_of, elements_of};
-ghost use Rattle.a429_profile.specs.Keys.{value_fault};
+ghost use Rattle.a429_profile.specs.Fault.{GivesInMemory};
+ghost use Rattle.a429_profile.specs.Value.{flags, is_integer, is_text, is_flag, is_flag_in_range, is_flag_count, is_number_between, is_printable_text, holds_at, number_of_value, text_of_value, flag_of, elements_of};
+ghost use Rattle.a429_profile.specs.Key.{value_fault};
 
 use crate::entry::{Flag, Flags, Text};
 use crate::fault::ProfileFault;
@@ -17,9 +18,7 @@ use toml::{Table, Value};
 
 // The flags of an array of 1 to 19 tables, each with a bit from 11 to 29 and a name.
 pub(crate) fn flags(alloc: Global, value: &Value, key: Key) -> Result<Flags, ProfileFault>
-    ensures ok { OnOk result (value_fault key flags (view value.now) ≡ None) }
-    ensures value { IfOk result (λ v. map flag_of (elements_of (view value.now)) ≡ v) }
-    ensures err { IfErr result (λ f. f ≢ ProfileFault.OutOfMemory → value_fault key flags (view value.now) ≡ Some f) }
+    ensures { GivesInMemory (map flag_of (elements_of (view value.now))) (value_fault key flags (view value.now)) result }
 {
     let Some(values) = elements(value) else {
         return Err(ProfileFault::WrongKind(key));
@@ -44,7 +43,7 @@ fn are_flags(values: &[Value]) -> bool
 
 // Whether there are 1 to 19 flags, each in its range.
 fn are_in_range(values: &[Value]) -> bool
-    ensures { result ≡ (nat_le 1 (length values.now) && nat_le (length values.now) 19 && list_all (λ v. is_flag_in_range (view v)) values.now) }
+    ensures { result ≡ (is_flag_count (length values.now) && list_all (λ v. is_flag_in_range (view v)) values.now) }
 {
     1 <= values.len() && values.len() <= 19 && are_each_in_range(values)
 }
@@ -103,7 +102,7 @@ fn has_bit(table: &Table) -> bool
 }
 
 fn has_name(table: &Table) -> bool
-    ensures { result ≡ holds_at (λ d. is_printable_text 1 32 (text_of d)) (codes "name") (table_view table.now) }
+    ensures { result ≡ holds_at (λ d. is_printable_text 1 32 (text_of_value d)) (codes "name") (table_view table.now) }
 {
     match at(table, "name") {
         Some(value) => is_printable(value.as_str().unwrap_or(""), 1, 32),
@@ -138,7 +137,7 @@ fn flag(alloc: Global, value: &Value) -> Result<Flag, AllocError>
 
 fn bit_of(table: &Table) -> u8
     requires { holds_at (is_number_between 11 29) (codes "bit") (table_view table.now) ≡ true }
-    ensures { result ≡ option_map_or number_of (get_member (codes "bit") (table_view table.now)) 0 }
+    ensures { result ≡ option_map_or number_of_value (get_member (codes "bit") (table_view table.now)) 0 }
 {
     match at(table, "bit") {
         Some(value) => byte(value),
@@ -147,7 +146,7 @@ fn bit_of(table: &Table) -> u8
 }
 
 fn name_of(table: &Table) -> &str
-    ensures { result.now ≡ option_map_or text_of (get_member (codes "name") (table_view table.now)) [] }
+    ensures { result.now ≡ option_map_or text_of_value (get_member (codes "name") (table_view table.now)) [] }
 {
     match at(table, "name") {
         Some(value) => value.as_str().unwrap_or(""),

@@ -1,7 +1,7 @@
 //! The keys of a profile.
 
 ghost use Rattle.std.specs.Prelude.{◌≡◌};
-ghost use Rattle.a429_profile.specs.Keys.{section_row, label_row};
+ghost use Rattle.a429_profile.specs.Key.{section_row, label_row};
 
 use std::fmt;
 

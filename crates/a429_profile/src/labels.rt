@@ -3,18 +3,23 @@
 ghost use Rattle.std.specs.Prelude.{◌≡◌, ◌≢◌, IfOk, IfErr, OnOk, Some, None, true, false, codes, map};
 ghost use Rattle.std.specs.List.{list_all};
 ghost use Rattle.toml.specs.View.{view, table_view};
-ghost use Rattle.a429_profile.specs.Rules.{octal, number, printable, text_of, octal_number, is_table};
-ghost use Rattle.a429_profile.specs.Keys.{label_row, label_place};
+ghost use Rattle.a429_profile.specs.Fault.{Gives, GivesInMemory};
+ghost use Rattle.a429_profile.specs.Value.{octal, number, printable, is_table};
+ghost use Rattle.a429_profile.specs.Key.{label_row};
 ghost use Rattle.a429_profile.specs.declared.entry.KindWord.TheVariants as word;
-ghost use Rattle.a429_profile.specs.Labels.{label_fault, first_label_fault, label_value, label_number, number_in, word_in, keys_of_kind, kind_in, entry_fault, entry_in_table, table_of, entries_fault, labels_fault, labels_of};
+ghost use Rattle.a429_profile.specs.Labels.{label_fault, label_number, kind_word_in_table, kind_in, entry_fault, entry_in_table, table_of, entries_fault, labels_fault, labels_of, label_text, label_in_table, sdi_in_table, kind_fault};
 
 use crate::entry::{Kind, KindWord, LabelEntry, Text};
 use crate::fault::ProfileFault;
 use crate::flags::flags;
 use crate::key::{Key, LabelKey};
-use crate::value::{at, elements, in_label, kind_word, number, octal, printable, small};
+use crate::value::{Lengths, at, elements, in_label, kind_word, number, octal, printable, small};
 use std::alloc::Global;
 use toml::{Table, Value};
+
+const NAME_LENGTHS: Lengths = Lengths { least: 1, most: 32 };
+
+const UNIT_LENGTHS: Lengths = Lengths { least: 0, most: 16 };
 
 fn small_at(
     table: &Table,
@@ -25,9 +30,7 @@ fn small_at(
 ) -> Result<u8, ProfileFault>
     requires rule { (label_row key).rule ≡ number low high }
     requires needed { (label_row key).may_be_missing ≡ false }
-    ensures ok { OnOk result (label_fault position (table_view table.now) key ≡ None) }
-    ensures value { IfOk result (λ n. label_number (table_view table.now) key ≡ n) }
-    ensures err { IfErr result (λ f. label_fault position (table_view table.now) key ≡ Some f) }
+    ensures { Gives (label_number (table_view table.now) key) (label_fault position (table_view table.now) key) result }
 {
     let value = in_label(table, position, key)?;
     small(value, Key::Label(position, key), low, high)
@@ -39,23 +42,18 @@ fn text_at(
     table: &Table,
     position: usize,
     key: LabelKey,
-    least: usize,
-    most: usize,
+    lengths: Lengths,
 ) -> Result<Text, ProfileFault>
-    requires rule { (label_row key).rule ≡ printable least most }
+    requires rule { (label_row key).rule ≡ printable lengths.least lengths.most }
     requires needed { (label_row key).may_be_missing ≡ false }
-    ensures ok { OnOk result (label_fault position (table_view table.now) key ≡ None) }
-    ensures value { IfOk result (λ t. text_of (label_value (table_view table.now) key) ≡ t) }
-    ensures err { IfErr result (λ f. f ≢ ProfileFault.OutOfMemory → label_fault position (table_view table.now) key ≡ Some f) }
+    ensures { GivesInMemory (label_text (table_view table.now) key) (label_fault position (table_view table.now) key) result }
 {
     let value = in_label(table, position, key)?;
-    printable(alloc, value, Key::Label(position, key), least, most)
+    printable(alloc, value, Key::Label(position, key), lengths)
 }
 
 fn label_at(table: &Table, position: usize) -> Result<u8, ProfileFault>
-    ensures ok { OnOk result (label_fault position (table_view table.now) LabelKey.Octal ≡ None) }
-    ensures value { IfOk result (λ n. octal_number (text_of (label_value (table_view table.now) LabelKey.Octal)) ≡ n) }
-    ensures err { IfErr result (λ f. label_fault position (table_view table.now) LabelKey.Octal ≡ Some f) }
+    ensures { Gives (label_in_table (table_view table.now)) (label_fault position (table_view table.now) LabelKey.Octal) result }
 {
     let value = in_label(table, position, LabelKey::Octal)?;
     octal(value, Key::Label(position, LabelKey::Octal))
@@ -63,9 +61,7 @@ fn label_at(table: &Table, position: usize) -> Result<u8, ProfileFault>
 
 // The SDI, which may be missing.
 fn sdi_at(table: &Table, position: usize) -> Result<Option<u8>, ProfileFault>
-    ensures ok { OnOk result (label_fault position (table_view table.now) LabelKey.Sdi ≡ None) }
-    ensures value { IfOk result (λ n. number_in (label_place (table_view table.now) LabelKey.Sdi) ≡ n) }
-    ensures err { IfErr result (λ f. label_fault position (table_view table.now) LabelKey.Sdi ≡ Some f) }
+    ensures { Gives (sdi_in_table (table_view table.now)) (label_fault position (table_view table.now) LabelKey.Sdi) result }
 {
     match at(table, LabelKey::Sdi.name()) {
         None => Ok(None),
@@ -78,7 +74,7 @@ fn sdi_at(table: &Table, position: usize) -> Result<Option<u8>, ProfileFault>
 
 fn word_at(table: &Table, position: usize) -> Result<KindWord, ProfileFault>
     ensures ok { OnOk result (label_fault position (table_view table.now) LabelKey.Kind ≡ None) }
-    ensures value { IfOk result (λ w. word_in (table_view table.now) ≡ Some w) }
+    ensures value { IfOk result (λ w. kind_word_in_table (table_view table.now) ≡ Some w) }
     ensures err { IfErr result (λ f. label_fault position (table_view table.now) LabelKey.Kind ≡ Some f) }
 {
     let value = in_label(table, position, LabelKey::Kind)?;
@@ -86,9 +82,7 @@ fn word_at(table: &Table, position: usize) -> Result<KindWord, ProfileFault>
 }
 
 fn read_bnr(table: &Table, position: usize) -> Result<Kind, ProfileFault>
-    ensures ok { OnOk result (first_label_fault position (table_view table.now) (keys_of_kind (Some word.Bnr)) ≡ None) }
-    ensures value { IfOk result (λ k. k ≡ kind_in (table_view table.now) (Some word.Bnr)) }
-    ensures err { IfErr result (λ f. first_label_fault position (table_view table.now) (keys_of_kind (Some word.Bnr)) ≡ Some f) }
+    ensures { let ms = table_view table.now in Gives (kind_in ms (Some word.Bnr)) (kind_fault position ms word.Bnr) result }
 {
     let bits = small_at(table, position, LabelKey::Bits, 1, 18)?;
     let value = in_label(table, position, LabelKey::Range)?;
@@ -107,9 +101,7 @@ fn read_bnr(table: &Table, position: usize) -> Result<Kind, ProfileFault>
 }
 
 fn read_bcd(table: &Table, position: usize) -> Result<Kind, ProfileFault>
-    ensures ok { OnOk result (first_label_fault position (table_view table.now) (keys_of_kind (Some word.Bcd)) ≡ None) }
-    ensures value { IfOk result (λ k. k ≡ kind_in (table_view table.now) (Some word.Bcd)) }
-    ensures err { IfErr result (λ f. first_label_fault position (table_view table.now) (keys_of_kind (Some word.Bcd)) ≡ Some f) }
+    ensures { let ms = table_view table.now in Gives (kind_in ms (Some word.Bcd)) (kind_fault position ms word.Bcd) result }
 {
     let digits = small_at(table, position, LabelKey::Digits, 1, 5)?;
     let decimals = small_at(table, position, LabelKey::Decimals, 0, 6)?;
@@ -117,9 +109,7 @@ fn read_bcd(table: &Table, position: usize) -> Result<Kind, ProfileFault>
 }
 
 fn read_discrete(alloc: Global, table: &Table, position: usize) -> Result<Kind, ProfileFault>
-    ensures ok { OnOk result (first_label_fault position (table_view table.now) (keys_of_kind (Some word.Discrete)) ≡ None) }
-    ensures value { IfOk result (λ k. k ≡ kind_in (table_view table.now) (Some word.Discrete)) }
-    ensures err { IfErr result (λ f. f ≢ ProfileFault.OutOfMemory → first_label_fault position (table_view table.now) (keys_of_kind (Some word.Discrete)) ≡ Some f) }
+    ensures { let ms = table_view table.now in GivesInMemory (kind_in ms (Some word.Discrete)) (kind_fault position ms word.Discrete) result }
 {
     let value = in_label(table, position, LabelKey::Flags)?;
     let flags = flags(alloc, value, Key::Label(position, LabelKey::Flags))?;
@@ -132,9 +122,7 @@ fn read_kind(
     position: usize,
     word: KindWord,
 ) -> Result<Kind, ProfileFault>
-    ensures ok { OnOk result (first_label_fault position (table_view table.now) (keys_of_kind (Some word)) ≡ None) }
-    ensures value { IfOk result (λ k. k ≡ kind_in (table_view table.now) (Some word)) }
-    ensures err { IfErr result (λ f. f ≢ ProfileFault.OutOfMemory → first_label_fault position (table_view table.now) (keys_of_kind (Some word)) ≡ Some f) }
+    ensures { let ms = table_view table.now in GivesInMemory (kind_in ms (Some word)) (kind_fault position ms word) result }
 {
     match word {
         KindWord::Bnr => read_bnr(table, position),
@@ -145,14 +133,12 @@ fn read_kind(
 
 // The entry that the table at this position says.
 fn read_entry(alloc: Global, table: &Table, position: usize) -> Result<LabelEntry, ProfileFault>
-    ensures ok { OnOk result (entry_fault position (table_view table.now) ≡ None) }
-    ensures value { IfOk result (λ e. e ≡ entry_in_table (table_view table.now)) }
-    ensures err { IfErr result (λ f. f ≢ ProfileFault.OutOfMemory → entry_fault position (table_view table.now) ≡ Some f) }
+    ensures { GivesInMemory (entry_in_table (table_view table.now)) (entry_fault position (table_view table.now)) result }
 {
     let label = label_at(table, position)?;
     let sdi = sdi_at(table, position)?;
-    let name = text_at(alloc, table, position, LabelKey::Name, 1, 32)?;
-    let unit = text_at(alloc, table, position, LabelKey::Unit, 0, 16)?;
+    let name = text_at(alloc, table, position, LabelKey::Name, NAME_LENGTHS)?;
+    let unit = text_at(alloc, table, position, LabelKey::Unit, UNIT_LENGTHS)?;
     let word = word_at(table, position)?;
     let kind = read_kind(alloc, table, position, word)?;
     Ok(LabelEntry {
@@ -209,9 +195,7 @@ fn read_entries(alloc: Global, values: &[Value]) -> Result<Vec<LabelEntry>, Prof
 // The entry that a table says.
 fn read_table(alloc: Global, value: &Value, position: usize) -> Result<LabelEntry, ProfileFault>
     requires { is_table (view value.now) ≡ true }
-    ensures ok { OnOk result (entry_fault position (table_of (view value.now)) ≡ None) }
-    ensures value { IfOk result (λ e. e ≡ entry_in_table (table_of (view value.now))) }
-    ensures err { IfErr result (λ f. f ≢ ProfileFault.OutOfMemory → entry_fault position (table_of (view value.now)) ≡ Some f) }
+    ensures { GivesInMemory (entry_in_table (table_of (view value.now))) (entry_fault position (table_of (view value.now))) result }
 {
     match value.as_table() {
         Some(table) => read_entry(alloc, table, position),

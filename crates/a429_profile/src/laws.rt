@@ -1,23 +1,22 @@
 //! Laws of the definitions that the contracts of this crate cite.
 
-ghost use Rattle.std.specs.Prelude.{ℕ, ◌≤◌, ◌∷◌, ◌++◌, [], All, length, nat_eq};
+ghost use Rattle.std.specs.Prelude.{ℕ, ◌≤◌, All, length, nat_eq};
 ghost use Rattle.std.specs.List.{filter, IsDistinct};
-ghost use Rattle.a429_profile.specs.Contents.{Contents, IsProfile, is_for};
-ghost use Rattle.a429_profile.specs.NoClash.{HasDistinctBits, IsNoAddress};
-ghost use Rattle.a429_profile.specs.Ranges.{AreInRange};
+ghost use Rattle.a429_profile.specs.Profile.{Contents, IsProfile, is_for, AreInRange};
+ghost use Rattle.a429_profile.specs.Clash.{all_types, all_codes, HasDistinctBits, IsNoAddress};
 ghost use Rattle.a429_profile.specs.Shown.{IsShown, ShowSame};
 ghost use Rattle.a429_profile.specs.declared.shown.Shown.{Shown};
 
 /// At most one entry of a profile is for words of one label and SDI.
 pub fn a_word_has_one_entry()
-    ensures { (contents : Contents) (label sdi : ℕ) → IsProfile contents → length (filter (is_for label sdi) contents.labels) ≤ 1 }
+    ensures { (c : Contents) (label sdi : ℕ) → IsProfile c → length (filter (is_for label sdi) c.labels) ≤ 1 }
 {}
 
 /// The types of a profile differ from one another and from the ignored ones, and so do its codes and
 /// its codes of partial words.
 pub fn no_number_is_given_twice()
-    ensures types { (c : Contents) → IsProfile c → IsDistinct nat_eq ((c.codes.full ∷ c.codes.partial ∷ c.codes.protocol ∷ c.codes.sot ∷ c.codes.eot ∷ []) ++ c.codes.ignored_types) }
-    ensures codes { (c : Contents) → IsProfile c → IsDistinct nat_eq ((c.codes.rts ∷ c.codes.cts ∷ c.codes.ack ∷ c.codes.nak ∷ []) ++ c.codes.ignored_codes) }
+    ensures types { (c : Contents) → IsProfile c → IsDistinct nat_eq (all_types c.codes) }
+    ensures codes { (c : Contents) → IsProfile c → IsDistinct nat_eq (all_codes c.codes) }
     ensures partial_codes { (c : Contents) → IsProfile c → IsDistinct nat_eq c.codes.partial_codes }
 {}
 

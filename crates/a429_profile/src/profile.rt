@@ -5,9 +5,8 @@ ghost use Rattle.std.specs.List.{find, list_any};
 ghost use Rattle.a429_profile.specs.Clash.{entries_meet};
 ghost use Rattle.toml.specs.Parse.{parse_document};
 ghost use Rattle.toml.specs.View.{table_view};
-ghost use Rattle.a429_profile.specs.Contents.{Answers, IsProfile, contents_of, fault_of, is_for};
-ghost use Rattle.a429_profile.specs.Shown.{IsInRange};
-ghost use Rattle.a429_profile.specs.Table.{entries_of, AreKeyed, ApartAfter};
+ghost use Rattle.a429_profile.specs.Profile.{Answers, IsProfile, contents_of, fault_of, is_for, entries_of, AreKeyed, ApartAfter};
+ghost use Rattle.a429_profile.specs.Entry.{IsKindInRange};
 
 use crate::clash::first_clash;
 use crate::codes::{Check, Codes, read_check, read_codes};
@@ -28,8 +27,7 @@ pub struct Profile {
 }
 
 impl Model for Profile {
-    ghost use Rattle.a429_profile.specs.Contents.{Contents, IsProfile};
-    ghost use Rattle.a429_profile.specs.Table.{entries_of, AreKeyed};
+    ghost use Rattle.a429_profile.specs.Profile.{Contents, IsProfile, entries_of, AreKeyed};
 
     ghost Value = { Contents };
 
@@ -147,7 +145,7 @@ impl Profile {
     /// one or not stated.
     pub fn entry(&self, label: u8, sdi: u8) -> Option<&LabelEntry>
         ensures entry { option_map (λ e. e.now) result ≡ find (is_for label sdi) self.now.labels }
-        ensures range { IfSome result (λ e. IsInRange e.now.kind) }
+        ensures range { IfSome result (λ e. IsKindInRange e.now.kind) }
     {
         match self.labels.get(&(label, None)) {
             Some(entry) => Some(entry),

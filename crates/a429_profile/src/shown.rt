@@ -2,8 +2,9 @@
 
 ghost use Rattle.std.specs.Prelude.{◌≡◌, ◌≤◌};
 ghost use Rattle.a429_word.specs.Word.{ssm_of};
-ghost use Rattle.a429_profile.specs.Shown.{sense_of, signed_by, HasValue, IsBnrValue, IsEntryOf, IsShown, IsInRange, HasItsRanges};
-ghost use Rattle.a429_profile.specs.Contents.{Contents};
+ghost use Rattle.a429_profile.specs.Shown.{sense_of, signed_by, HasValue, IsBnrValue, IsEntryOf, IsShown, HasItsRanges};
+ghost use Rattle.a429_profile.specs.Entry.{IsKindInRange};
+ghost use Rattle.a429_profile.specs.Profile.{Contents};
 
 use crate::entry::{Kind, LabelEntry};
 use crate::profile::Profile;
@@ -92,7 +93,7 @@ fn sense_at(kind: &Kind, ssm: u8) -> Sense
 
 // What is shown of a word whose status gives it a value.
 fn with_value(entry: &LabelEntry, word: Word, is_test: bool) -> Shown<'_>
-    requires { IsInRange entry.now.kind }
+    requires { IsKindInRange entry.now.kind }
     ensures shown { (p : Contents) → IsEntryOf p word entry.now → HasValue entry.now.kind word is_test → IsShown p word result }
     ensures ranges { HasItsRanges result }
 {

@@ -1,11 +1,13 @@
 //! Reads the value at a key: its kind first, and then its range.
 
-ghost use Rattle.std.specs.Prelude.{◌≡◌, ◌≢◌, ◌≤◌, Some, None, IfOk, IfErr, OnOk, IfSome, is_some, option_map, true, false, map};
+ghost use Rattle.std.specs.Prelude.{◌≡◌, ◌≤◌, Some, None, IfOk, IfErr, OnOk, IfSome, is_some, option_map, true, false, map};
 ghost use Rattle.std.specs.List.{list_all};
 ghost use Rattle.toml.specs.Data.{as_array, get_member};
 ghost use Rattle.toml.specs.View.{view, table_view};
-ghost use Rattle.a429_profile.specs.Rules.{octal, number, numbers, four_numbers, truth, printable, kind_word, kind_word_of, number_of, text_of, octal_number, truth_of, elements_of, is_array_of, is_integer, is_number_between, is_printable, is_printable_text, byte_of};
-ghost use Rattle.a429_profile.specs.Keys.{section_row, section_place, value, value_fault, place_fault, label_row, label_place};
+ghost use Rattle.a429_profile.specs.Fault.{Gives, GivesInMemory};
+ghost use Rattle.a429_profile.specs.Value.{octal, number, numbers, four_numbers, truth, printable, kind_word, kind_word_of, number_of_value, text_of_value, octal_number, truth_of_value, elements_of, is_array_of, is_integer, is_number_between, is_printable, is_printable_text, byte_of, numbers_of_value};
+ghost use Rattle.a429_profile.specs.Key.{section_place, value, value_fault, label_place, section_fault};
+ghost use Rattle.a429_profile.specs.Labels.{needed_fault};
 
 use crate::entry::{KindWord, Numbers, Text};
 use crate::fault::ProfileFault;
@@ -23,7 +25,7 @@ pub(crate) fn at<'a>(table: &'a Table, key: &str) -> Option<&'a Value>
 // What stands at a key of a section.
 pub(crate) fn in_section(doc: &Table, key: SectionKey) -> Result<&Value, ProfileFault>
     ensures ok { IfOk result (λ v. section_place (table_view doc.now) key ≡ value (view v.now)) }
-    ensures err { IfErr result (λ f. place_fault (Key.Section key) (section_row key).rule (section_place (table_view doc.now) key) ≡ Some f) }
+    ensures err { IfErr result (λ f. section_fault (table_view doc.now) key ≡ Some f) }
 {
     let Some(section) = at(doc, key.section()) else {
         return Err(ProfileFault::Missing(Key::Section(key)));
@@ -40,9 +42,7 @@ pub(crate) fn in_section(doc: &Table, key: SectionKey) -> Result<&Value, Profile
 // A number from low to high.
 pub(crate) fn number(value: &Value, key: Key, low: u32, high: u32) -> Result<u32, ProfileFault>
     ensures fits { IfOk result (λ n. n ≤ high) }
-    ensures ok { IfOk result (λ n. value_fault key (number low high) (view value.now) ≡ None) }
-    ensures value { IfOk result (λ n. number_of (view value.now) ≡ n) }
-    ensures err { IfErr result (λ f. value_fault key (number low high) (view value.now) ≡ Some f) }
+    ensures gives { Gives (number_of_value (view value.now)) (value_fault key (number low high) (view value.now)) result }
 {
     let Some(number) = value.as_integer() else {
         return Err(ProfileFault::WrongKind(key));
@@ -55,18 +55,14 @@ pub(crate) fn number(value: &Value, key: Key, low: u32, high: u32) -> Result<u32
 
 // A truth value.
 pub(crate) fn truth(value: &Value, key: Key) -> Result<bool, ProfileFault>
-    ensures ok { IfOk result (λ b. value_fault key truth (view value.now) ≡ None) }
-    ensures value { IfOk result (λ b. truth_of (view value.now) ≡ b) }
-    ensures err { IfErr result (λ f. value_fault key truth (view value.now) ≡ Some f) }
+    ensures { Gives (truth_of_value (view value.now)) (value_fault key truth (view value.now)) result }
 {
     value.as_bool().ok_or(ProfileFault::WrongKind(key))
 }
 
 // Three octal digits, 000 to 377.
 pub(crate) fn octal(value: &Value, key: Key) -> Result<u8, ProfileFault>
-    ensures ok { IfOk result (λ n. value_fault key octal (view value.now) ≡ None) }
-    ensures value { IfOk result (λ n. octal_number (text_of (view value.now)) ≡ n) }
-    ensures err { IfErr result (λ f. value_fault key octal (view value.now) ≡ Some f) }
+    ensures { Gives (octal_number (text_of_value (view value.now))) (value_fault key octal (view value.now)) result }
 {
     let Some(text) = value.as_str() else {
         return Err(ProfileFault::WrongKind(key));
@@ -86,7 +82,7 @@ pub(crate) fn in_label(
     key: LabelKey,
 ) -> Result<&Value, ProfileFault>
     ensures ok { IfOk result (λ v. label_place (table_view table.now) key ≡ value (view v.now)) }
-    ensures err { IfErr result (λ f. place_fault (Key.Label position key) (label_row key).rule (label_place (table_view table.now) key) ≡ Some f) }
+    ensures err { IfErr result (λ f. needed_fault position (table_view table.now) key ≡ Some f) }
 {
     match at(table, key.name()) {
         Some(value) => Ok(value),
@@ -94,22 +90,26 @@ pub(crate) fn in_label(
     }
 }
 
-// A text of printable characters, at least and at most this many.
+// How many characters a text may have, both included.
+#[derive(Clone, Copy)]
+pub(crate) struct Lengths {
+    pub(crate) least: usize,
+    pub(crate) most: usize,
+}
+
+// A text of so many printable characters.
 pub(crate) fn printable(
     alloc: Global,
     value: &Value,
     key: Key,
-    least: usize,
-    most: usize,
+    lengths: Lengths,
 ) -> Result<Text, ProfileFault>
-    ensures ok { OnOk result (value_fault key (printable least most) (view value.now) ≡ None) }
-    ensures value { IfOk result (λ t. text_of (view value.now) ≡ t) }
-    ensures err { IfErr result (λ f. f ≢ ProfileFault.OutOfMemory → value_fault key (printable least most) (view value.now) ≡ Some f) }
+    ensures { let d = view value.now in GivesInMemory (text_of_value d) (value_fault key (printable lengths.least lengths.most) d) result }
 {
     let Some(text) = value.as_str() else {
         return Err(ProfileFault::WrongKind(key));
     };
-    if !is_printable(text, least, most) {
+    if !is_printable(text, lengths.least, lengths.most) {
         return Err(ProfileFault::OutOfRange(key));
     }
     match String::from_str(alloc, text) {
@@ -134,9 +134,7 @@ fn are_printable(text: &[u8]) -> bool
 // A number from low to high.
 pub(crate) fn small(value: &Value, key: Key, low: u8, high: u8) -> Result<u8, ProfileFault>
     ensures fits { IfOk result (λ n. n ≤ high) }
-    ensures ok { OnOk result (value_fault key (number low high) (view value.now) ≡ None) }
-    ensures value { IfOk result (λ n. number_of (view value.now) ≡ n) }
-    ensures err { IfErr result (λ f. value_fault key (number low high) (view value.now) ≡ Some f) }
+    ensures gives { Gives (number_of_value (view value.now)) (value_fault key (number low high) (view value.now)) result }
 {
     let number = number(value, key, u32::from(low), u32::from(high))?;
     Ok(number as u8)
@@ -187,7 +185,7 @@ pub(crate) fn is_between(value: &Value, low: u8, high: u8) -> bool
 }
 
 // The number of an integer; 0 where it is none, or no byte.
-#[tactic(auto, unfolding(crate::specs::Rules::byte_of))]
+#[tactic(auto, unfolding(crate::specs::Value::byte_of))]
 pub(crate) fn byte(value: &Value) -> u8
     ensures { result ≡ byte_of (view value.now) }
 {
@@ -207,9 +205,7 @@ pub(crate) fn numbers(
     low: u8,
     high: u8,
 ) -> Result<Numbers, ProfileFault>
-    ensures ok { OnOk result (value_fault key (numbers low high) (view value.now) ≡ None) }
-    ensures value { IfOk result (λ v. map number_of (elements_of (view value.now)) ≡ v) }
-    ensures err { IfErr result (λ f. f ≢ ProfileFault.OutOfMemory → value_fault key (numbers low high) (view value.now) ≡ Some f) }
+    ensures { GivesInMemory (numbers_of_value (view value.now)) (value_fault key (numbers low high) (view value.now)) result }
 {
     let Some(values) = integers(value) else {
         return Err(ProfileFault::WrongKind(key));
@@ -241,7 +237,7 @@ pub(crate) fn four_numbers(
     high: u8,
 ) -> Result<[u8; 4], ProfileFault>
     ensures ok { OnOk result (value_fault key (four_numbers low high) (view value.now) ≡ None) }
-    ensures value { IfOk result (λ v. map number_of (elements_of (view value.now)) ≡ v) }
+    ensures value { IfOk result (λ v. numbers_of_value (view value.now) ≡ v) }
     ensures err { IfErr result (λ f. value_fault key (four_numbers low high) (view value.now) ≡ Some f) }
 {
     let Some(values) = integers(value) else {
@@ -259,7 +255,7 @@ pub(crate) fn four_numbers(
 // One of the words for a kind of label.
 pub(crate) fn kind_word(value: &Value, key: Key) -> Result<KindWord, ProfileFault>
     ensures ok { OnOk result (value_fault key kind_word (view value.now) ≡ None) }
-    ensures value { IfOk result (λ w. kind_word_of (text_of (view value.now)) ≡ Some w) }
+    ensures value { IfOk result (λ w. kind_word_of (text_of_value (view value.now)) ≡ Some w) }
     ensures err { IfErr result (λ f. value_fault key kind_word (view value.now) ≡ Some f) }
 {
     let Some(text) = value.as_str() else {

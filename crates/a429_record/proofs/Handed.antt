@@ -10,10 +10,10 @@ use Rattle.a429_record.specs.declared.entry.Entry.{Entry}
 use Rattle.a429_record.specs.declared.fault.ReadFault.{ReadFault}
 use Rattle.a429_record.specs.Ends.{HasNoEnd}
 use Rattle.a429_record.specs.Row.{Row, is_header, entry_in, line_rows}
-use Rattle.a429_record.specs.Recording.{Recording, lines_of, with_first, rows_of, most_entries, row_told, told, IsRecordable}
-use Rattle.a429_record.specs.Handed.{onto_first, ended_lines, ended_rows, AreSound, Loses, HasNoFault, HasNoRow, IsOpen, IsLine, IsEnded, AreLines, AreHeader, AreEntryOf}
-use Rattle.a429_record.proofs.LineEnds.{lines_of-ended, lines_of-last, given}
-use Rattle.a429_record.proofs.Whole.{told-whole}
+use Rattle.a429_record.specs.Recording.{Recording, recording_lines, with_first, rows_of, most_entries, row_stands_for, rows_stand_for, IsRecordable}
+use Rattle.a429_record.specs.Handed.{onto_first, ended_lines, ended_rows, AreSound, Loses, HasNoFault, HasNoRow, IsOpen, IsLineHanded, IsEnded, AreLines, AreHeader, AreEntryOf}
+use Rattle.a429_record.proofs.LinesFacts.{lines_of-ended, lines_of-last, given}
+use Rattle.a429_record.proofs.WholeRecordings.{rows-whole}
 
 -- ---- known bytes
 
@@ -47,7 +47,7 @@ lost_so P Q (Some xs) (Some ys) p h = (p.0, p.1, h p.0 ys p.2)
 record Cut (front : List ℕ) : Type 0 where
   line : List ℕ
   more : List (List ℕ)
-  all : (t : List ℕ) → lines_of (front ++ (10 ∷ t)) ≡ line ∷ (more ++ lines_of t)
+  all : (t : List ℕ) → recording_lines (front ++ (10 ∷ t)) ≡ line ∷ (more ++ recording_lines t)
   ended : (t : List ℕ) → ended_lines (front ++ (10 ∷ t)) ≡ line ∷ (more ++ ended_lines t)
 
 cut : (front : List ℕ) → Cut front
@@ -70,13 +70,13 @@ cut (b ∷ bs) =
     ]
 
 -- a text that ends in a line feed, and a text behind it
-lines-behind : (front t : List ℕ) → lines_of ((front ++ (10 ∷ [])) ++ t) ≡ lines_of (front ++ (10 ∷ [])) ++ lines_of t
+lines-behind : (front t : List ℕ) → recording_lines ((front ++ (10 ∷ [])) ++ t) ≡ recording_lines (front ++ (10 ∷ [])) ++ recording_lines t
 lines-behind front t =
     let c = cut front in
     let one = c.all [] ∙ ap (λ (l : List (List ℕ)). c.line ∷ l) (append-nil c.more) in
-    ap lines_of (append_assoc front (10 ∷ []) t) ∙ c.all t ∙ ap (λ (l : List (List ℕ)). l ++ lines_of t) (sym one)
+    ap recording_lines (append_assoc front (10 ∷ []) t) ∙ c.all t ∙ ap (λ (l : List (List ℕ)). l ++ recording_lines t) (sym one)
 
-ended-behind : (front t : List ℕ) → ended_lines ((front ++ (10 ∷ [])) ++ t) ≡ lines_of (front ++ (10 ∷ [])) ++ ended_lines t
+ended-behind : (front t : List ℕ) → ended_lines ((front ++ (10 ∷ [])) ++ t) ≡ recording_lines (front ++ (10 ∷ [])) ++ ended_lines t
 ended-behind front t =
     let c = cut front in
     let one = c.all [] ∙ ap (λ (l : List (List ℕ)). c.line ∷ l) (append-nil c.more) in
@@ -84,18 +84,18 @@ ended-behind front t =
 
 rows-behind : (taken t : List ℕ) → IsEnded taken → rows_of (taken ++ t) ≡ rows_of taken ++ rows_of t
 rows-behind taken t (inl none) = rw none refl
-rows-behind taken t (inr (front, e)) = rw e (ap (flat_map line_rows) (lines-behind front t) ∙ flat_map-append line_rows (lines_of (front ++ (10 ∷ []))) (lines_of t))
+rows-behind taken t (inr (front, e)) = rw e (ap (flat_map line_rows) (lines-behind front t) ∙ flat_map-append line_rows (recording_lines (front ++ (10 ∷ []))) (recording_lines t))
 
 ended_rows-behind : (taken t : List ℕ) → IsEnded taken → ended_rows (taken ++ t) ≡ rows_of taken ++ ended_rows t
 ended_rows-behind taken t (inl none) = rw none refl
-ended_rows-behind taken t (inr (front, e)) = rw e (ap (flat_map line_rows) (ended-behind front t) ∙ flat_map-append line_rows (lines_of (front ++ (10 ∷ []))) (ended_lines t))
+ended_rows-behind taken t (inr (front, e)) = rw e (ap (flat_map line_rows) (ended-behind front t) ∙ flat_map-append line_rows (recording_lines (front ++ (10 ∷ []))) (ended_lines t))
 
 IsEnded-append : (xs ys : List ℕ) → IsEnded xs → IsEnded ys → IsEnded (xs ++ ys)
 IsEnded-append xs ys p (inl none) = rw (none, append-nil) p
 IsEnded-append xs ys p (inr (front, e)) = inr (xs ++ front, ap (λ (l : List ℕ). xs ++ l) e ∙ sym (append_assoc xs front (10 ∷ [])))
 
 -- the lines with their line feeds come first
-lines-ended : (xs : List ℕ) → (last : List (List ℕ)) × (lines_of xs ≡ ended_lines xs ++ last)
+lines-ended : (xs : List ℕ) → (last : List (List ℕ)) × (recording_lines xs ≡ ended_lines xs ++ last)
 lines-ended [] = ([], refl)
 lines-ended (b ∷ bs) =
     let (last, e) = lines-ended bs in
@@ -154,7 +154,7 @@ pub still_no_row : (t u rest : List ℕ) → AreLines (λ rows. rows ≡ []) t (
 still_no_row t u rest p none = let (more, e) = lines_no_row (λ rows. rows ≡ []) t u rest p none in no_rows (ended_rows (t ++ u)) more e
 
 -- one line
-pub line_lines : (line taken rest : List ℕ) → IsLine line taken rest → AreLines (λ rows. rows ≡ line_rows line) taken rest
+pub line_lines : (line taken rest : List ℕ) → IsLineHanded line taken rest → AreLines (λ rows. rows ≡ line_rows line) taken rest
 line_lines line taken rest (one, inl e) =
     (inl (inr (line, e)), ap rows_of e ∙ ap (flat_map line_rows) (lines_of-ended line [] one) ∙ append-nil (line_rows line))
 line_lines [] taken rest (one, inr (some, e, last)) = absurd (omega arith)
@@ -163,20 +163,20 @@ line_lines (x ∷ xs) taken rest (one, inr (some, e, last)) =
 
 -- ---- no fault
 
--- a front of what tells no fault tells none
+-- a front of rows that make no fault makes none
 row-front : (n last : ℕ) (o : Option Entry) (long short : Entry → Recording) → ((x : Entry) → (long x).fault ≡ None → (short x).fault ≡ None)
-    → (row_told n last o long).fault ≡ None → (row_told n last o short).fault ≡ None
+    → (row_stands_for n last o long).fault ≡ None → (row_stands_for n last o short).fault ≡ None
 row-front n last None long short h e = e
 row-front n last (Some x) long short h e = elim (cases_Bool (nat_lt x.time last)) [
   | inl back ↦ rw back (rw back at e)
   | inr kept ↦ rw kept (h x (rw kept at e))
 ]
 
-told-front : (n last : ℕ) (rows more : List Row) → (told n last (rows ++ more)).fault ≡ None → (told n last rows).fault ≡ None
-told-front n last [] more e = refl
-told-front n last (r ∷ rows) more e = elim (cases_Bool (n == most_entries)) [
+rows-front : (n last : ℕ) (rows more : List Row) → (rows_stand_for n last (rows ++ more)).fault ≡ None → (rows_stand_for n last rows).fault ≡ None
+rows-front n last [] more e = refl
+rows-front n last (r ∷ rows) more e = elim (cases_Bool (n == most_entries)) [
   | inl full ↦ rw full (rw full at e)
-  | inr room ↦ rw room (row-front n last (entry_in r) (λ x. told (n + 1) x.time (rows ++ more)) (λ x. told (n + 1) x.time rows) (λ x. told-front (n + 1) x.time rows more) (rw room at e))
+  | inr room ↦ rw room (row-front n last (entry_in r) (λ x. rows_stand_for (n + 1) x.time (rows ++ more)) (λ x. rows_stand_for (n + 1) x.time rows) (λ x. rows-front (n + 1) x.time rows more) (rw room at e))
 ]
 
 -- rows are the header's and these entries'
@@ -193,15 +193,12 @@ given-sound es (r ∷ rows) more h g =
     let here : r ≡ g.header = cc g.all in
     let rest : rows ++ more ≡ g.more = cc g.all in
     let first : is_header r ≡ true = rw here g.first in
-    let tells = told-whole 0 0 g.more es g.entries (omega (arith, h.0)) h.1 in
-    rw first (told-front 0 0 rows more (ap (λ (t : Recording). t.fault) (ap (told 0 0) rest ∙ tells)))
+    let holds = rows-whole 0 0 g.more es g.entries (omega (arith, h.0)) h.1 in
+    rw first (rows-front 0 0 rows more (ap (λ (t : Recording). t.fault) (ap (rows_stand_for 0 0) rest ∙ holds)))
 
 -- entries were given, and then there was no row
 pub sound : (es : List Entry) (t u rest : List ℕ) → IsRecordable es → AreLines (AreGiven es) t (u ++ rest) → HasNoRow u rest → HasNoFault (t ++ u) rest
 sound es t u rest h p none = let (more, g) = lines_no_row (AreGiven es) t u rest p none in given-sound es (ended_rows (t ++ u)) more h g
-
-pub no_row_sound : (taken rest : List ℕ) → HasNoRow taken rest → HasNoFault taken rest
-no_row_sound taken rest none = let P : List Row → Type 0 = AreSound in subst P (sym none) tt
 
 -- a row more
 pub given_row : (es : List Entry) (e : Entry) (x y : List Row) → AreGiven es x → map entry_in y ≡ Some e ∷ [] → AreGiven (es ++ (e ∷ [])) (x ++ y)
@@ -222,12 +219,12 @@ open_lost a k k' ahead part line gone cut one kept =
     consumed IsOpen a k' (line ++ part) (Consumes-kept a k k' (line ++ part) all kept) (λ rest. one)
 
 -- a line without a row is lost behind such lines
-pub blank_lost : (a b c : Option (List ℕ)) (line : List ℕ) → Loses (AreLines (λ rows. rows ≡ [])) a b → Loses (IsLine line) b c → line_rows line ≡ [] → Loses (AreLines (λ rows. rows ≡ [])) a c
+pub blank_lost : (a b c : Option (List ℕ)) (line : List ℕ) → Loses (AreLines (λ rows. rows ≡ [])) a b → Loses (IsLineHanded line) b c → line_rows line ≡ [] → Loses (AreLines (λ rows. rows ≡ [])) a c
 blank_lost a b c line p q none = lost_both _ _ _ a b c p q (λ t u rest before after.
     lines_both (λ rows. rows ≡ []) (λ rows. rows ≡ line_rows line) (λ rows. rows ≡ []) t u rest before (line_lines line u rest after) (λ x y ex ey. rw (ex, ey) none))
 
 -- a line with rows that are so is
-pub line_lost : (R : List Row → Type 0) (a b c : Option (List ℕ)) (line : List ℕ) → Loses (AreLines (λ rows. rows ≡ [])) a b → Loses (IsLine line) b c → R (line_rows line) → Loses (AreLines R) a c
+pub line_lost : (R : List Row → Type 0) (a b c : Option (List ℕ)) (line : List ℕ) → Loses (AreLines (λ rows. rows ≡ [])) a b → Loses (IsLineHanded line) b c → R (line_rows line) → Loses (AreLines R) a c
 line_lost R a b c line p q so = lost_both _ _ _ a b c p q (λ t u rest before after.
     lines_both (λ rows. rows ≡ []) (λ rows. rows ≡ line_rows line) R t u rest before (line_lines line u rest after) (λ x y ex ey. rw (ex, ey) so))
 
@@ -270,14 +267,6 @@ given_next es more e a b c is p q =
     subst (λ (l : List Entry). Loses (AreLines (AreGiven l)) a c) (sym is) (lost_both _ _ _ a b c p q (λ t u rest before after.
     lines_both (AreGiven es) (AreEntryOf e) (AreGiven (es ++ (e ∷ []))) t u rest before after (given_row es e)))
 
--- the reader fails: at once, before the header, before an entry
-pub failed_at_once : (a : Option (List ℕ)) → Loses HasNoFault a a
-failed_at_once a = nothing_lost HasNoFault a (λ rest. tt)
-
-pub failed_header : (a b : Option (List ℕ)) (ahead : List ℕ) → ahead ≡ [] → Loses HasNoRow (prepend_known ahead a) b → Loses HasNoFault a b
-failed_header a b ahead none h =
-    let own : prepend_known ahead a ≡ a = rw none (prepend_known-nil a) in
-    lost_so HasNoRow HasNoFault a b (subst (λ (o : Option (List ℕ)). Loses HasNoRow o b) own h) no_row_sound
-
+-- the reader fails before an entry
 pub failed_next : (es : List Entry) (a b c : Option (List ℕ)) → IsRecordable es → Loses (AreLines (AreGiven es)) a b → Loses HasNoRow b c → Loses HasNoFault a c
 failed_next es a b c h p q = lost_both _ _ _ a b c p q (λ t u rest before after. sound es t u rest h before after)

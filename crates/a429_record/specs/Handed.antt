@@ -3,7 +3,7 @@ use Rattle.std.specs.Prelude.{◌≡◌, ◌<◌, ◌⊎◌, ℕ, List, [], ◌�
 use Rattle.a429_record.specs.declared.entry.Entry.{Entry}
 use Rattle.a429_record.specs.Ends.{HasNoEnd}
 use Rattle.a429_record.specs.Row.{Row, line_rows, is_header, entry_in}
-use Rattle.a429_record.specs.Recording.{rows_of, all_told}
+use Rattle.a429_record.specs.Recording.{rows_of, all_rows_stand_for}
 
 -- lines with a byte before the first of them, if there is one
 abbrev pub onto_first : ℕ → List (List ℕ) → List (List ℕ)
@@ -22,7 +22,7 @@ ended_rows bytes = flat_map line_rows (ended_lines bytes)
 -- rows make no fault, whatever comes behind them: there is none, or they are the header's and entries'
 abbrev pub AreSound : List Row → Type 0
 AreSound [] = ⊤
-AreSound (row ∷ rows) = (all_told (row ∷ rows)).fault ≡ None
+AreSound (row ∷ rows) = (all_rows_stand_for (row ∷ rows)).fault ≡ None
 
 -- known bytes lose a front, which is handed out; it and what is left are so
 abbrev pub Loses : (List ℕ → List ℕ → Type 0) → Option (List ℕ) → Option (List ℕ) → Type 0
@@ -43,8 +43,8 @@ abbrev pub IsOpen : List ℕ → List ℕ → Type 0
 IsOpen taken rest = HasNoEnd taken
 
 -- this line is handed out, with its line feed, which the last of all may lack
-abbrev pub IsLine : List ℕ → List ℕ → List ℕ → Type 0
-IsLine line taken rest = HasNoEnd line × ((taken ≡ line ++ (10 ∷ [])) ⊎ ((0 < length line) × (taken ≡ line) × (rest ≡ [])))
+abbrev pub IsLineHanded : List ℕ → List ℕ → List ℕ → Type 0
+IsLineHanded line taken rest = HasNoEnd line × ((taken ≡ line ++ (10 ∷ [])) ⊎ ((0 < length line) × (taken ≡ line) × (rest ≡ [])))
 
 -- a text is empty, or ends in a line feed
 abbrev pub IsEnded : List ℕ → Type 0

@@ -11,13 +11,13 @@ with_first b [] = (b ∷ []) ∷ []
 with_first b (l ∷ ls) = (b ∷ l) ∷ ls
 
 -- the lines of a text, each without its line feed, which the last may lack
-abbrev pub lines_of : List ℕ → List (List ℕ)
-lines_of [] = []
-lines_of (b ∷ bs) = if b == 10 then [] ∷ lines_of bs else with_first b (lines_of bs)
+abbrev pub recording_lines : List ℕ → List (List ℕ)
+recording_lines [] = []
+recording_lines (b ∷ bs) = if b == 10 then [] ∷ recording_lines bs else with_first b (recording_lines bs)
 
 -- the rows of a text, line by line
 abbrev pub rows_of : List ℕ → List Row
-rows_of bytes = flat_map line_rows (lines_of bytes)
+rows_of bytes = flat_map line_rows (recording_lines bytes)
 
 -- entries, and the fault that comes after them, if one does
 pub record Recording : Type 0 where
@@ -49,21 +49,21 @@ NeverFalls last (e ∷ es) = (last ≤ e.time) × NeverFalls e.time es
 abbrev pub IsRecordable : List Entry → Type 0
 IsRecordable entries = (length entries ≤ most_entries) × NeverFalls 0 entries
 
--- a row after n entries, the last of them at the time `last`: what more tells comes after its entry
-abbrev pub row_told : ℕ → ℕ → Option Entry → (Entry → Recording) → Recording
-row_told n last None more = stops (fault.Row n)
-row_told n last (Some e) more = if nat_lt e.time last then stops (fault.TimeBack n) else with_entry e (more e)
+-- a row after n entries, the last of them at the time `last`: after its entry comes what `more` gives for it
+abbrev pub row_stands_for : ℕ → ℕ → Option Entry → (Entry → Recording) → Recording
+row_stands_for n last None more = stops (fault.Row n)
+row_stands_for n last (Some e) more = if nat_lt e.time last then stops (fault.TimeBack n) else with_entry e (more e)
 
--- what rows tell after n entries, the last of them at the time `last`
-abbrev pub told : ℕ → ℕ → List Row → Recording
-told n last [] = whole []
-told n last (row ∷ rows) = if n == most_entries then stops fault.TooMany else row_told n last (entry_in row) (λ e. told (n + 1) e.time rows)
+-- what rows stand for after n entries, the last of them at the time `last`
+abbrev pub rows_stand_for : ℕ → ℕ → List Row → Recording
+rows_stand_for n last [] = whole []
+rows_stand_for n last (row ∷ rows) = if n == most_entries then stops fault.TooMany else row_stands_for n last (entry_in row) (λ e. rows_stand_for (n + 1) e.time rows)
 
--- what all rows tell: the header comes first
-abbrev pub all_told : List Row → Recording
-all_told [] = stops fault.Header
-all_told (row ∷ rows) = if is_header row then told 0 0 rows else stops fault.Header
+-- what all rows stand for: the header comes first
+abbrev pub all_rows_stand_for : List Row → Recording
+all_rows_stand_for [] = stops fault.Header
+all_rows_stand_for (row ∷ rows) = if is_header row then rows_stand_for 0 0 rows else stops fault.Header
 
 -- what bytes stand for
 abbrev pub stands_for : List ℕ → Recording
-stands_for bytes = all_told (rows_of bytes)
+stands_for bytes = all_rows_stand_for (rows_of bytes)

@@ -2,6 +2,9 @@
 
 use a429_word::{Bus, Word};
 
+/// How many entries a recording may have (profile).
+pub const MOST_ENTRIES: usize = 1_000_000;
+
 /// A recorded word (profile).
 #[derive(Clone, Copy, Debug, PartialEq, Eq)]
 pub struct Entry {

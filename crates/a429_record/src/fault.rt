@@ -2,7 +2,7 @@
 
 use thiserror::Error;
 
-/// Why a recording was not read. A place counts entries from 0. Its text is the line that tells it.
+/// Why a recording was not read. A place counts entries from 0. Its text is the line that names it.
 #[derive(Clone, Copy, Debug, PartialEq, Eq, Drop, Error)]
 pub enum ReadFault {
     /// The first record is not the header.

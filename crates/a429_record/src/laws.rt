@@ -1,21 +1,26 @@
 //! Laws of the definitions that the contracts of this crate cite.
 
-ghost use Rattle.std.specs.Prelude.{◌≡◌, ◌<◌, ◌^◌, ◌∷◌, [], ℕ, List, Some, codes};
-ghost use Rattle.std.specs.Fmt.{decimal};
+ghost use Rattle.std.specs.Prelude.{◌≡◌, ◌<◌, ◌^◌, ℕ, List, Some};
 ghost use Rattle.csv.specs.Writing.{row_text, default_writer};
-ghost use Rattle.a429_word.specs.Written.{bus_text, hex_text};
 ghost use Rattle.a429_record.specs.declared.entry.Entry.{Entry};
-ghost use Rattle.a429_record.specs.Recording.{stands_for, whole, IsRecordable};
+ghost use Rattle.a429_record.specs.Recording.{stands_for, whole, most_entries, IsRecordable};
 ghost use Rattle.a429_record.specs.declared.fault.ReadFault.{ReadFault};
-ghost use Rattle.a429_record.specs.Whole.{IsWhole, AreEntries};
-ghost use Rattle.a429_record.specs.Faults.{stops_after, IsFaulty};
-ghost use Rattle.a429_record.specs.Written.{header_text, line_text, written_form};
+ghost use Rattle.a429_record.specs.WholeRecordings.{IsWholeRecording, AreEntries};
+ghost use Rattle.a429_record.specs.FaultyRecordings.{stops_after, IsFaulty};
+ghost use Rattle.a429_record.specs.Writing.{header_fields, entry_fields, header_text, line_text, written_form};
+
+use crate::entry::MOST_ENTRIES;
+
+/// The number of entries that the code allows is the one of the definitions.
+pub fn the_most_entries()
+    ensures { MOST_ENTRIES ≡ most_entries }
+{}
 
 /// Bytes stand for entries with no fault where they are the header and the entries' rows, at most
 /// 1,000,000 whose times never fall, and nowhere else.
 pub fn whole_recordings()
-    ensures there { (bytes : List ℕ) (es : List Entry) → IsWhole bytes es → stands_for bytes ≡ whole es }
-    ensures only { (bytes : List ℕ) (es : List Entry) → stands_for bytes ≡ whole es → IsWhole bytes es }
+    ensures there { (bytes : List ℕ) (es : List Entry) → IsWholeRecording bytes es → stands_for bytes ≡ whole es }
+    ensures only { (bytes : List ℕ) (es : List Entry) → stands_for bytes ≡ whole es → IsWholeRecording bytes es }
 {}
 
 /// Bytes stand for entries and a fault after them where the header is missing, or else where behind it
@@ -33,6 +38,6 @@ pub fn written_is_read_back()
 
 /// The lines are those that `csv` writes of the same fields: none of them needs quotes.
 pub fn lines_are_those_of_csv()
-    ensures header { row_text default_writer (codes "time" ∷ codes "bus" ∷ codes "word" ∷ []) ≡ header_text }
-    ensures entry { (e : Entry) → e.time < 2 ^ 64 → row_text default_writer (decimal e.time ∷ bus_text e.bus ∷ hex_text e.word ∷ []) ≡ line_text e }
+    ensures header { row_text default_writer header_fields ≡ header_text }
+    ensures entry { (e : Entry) → e.time < 2 ^ 64 → row_text default_writer (entry_fields e) ≡ line_text e }
 {}

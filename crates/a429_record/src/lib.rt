@@ -6,12 +6,12 @@ mod fault;
 pub mod laws;
 mod line;
 mod lines;
-mod reading;
+mod recording;
 mod row;
 mod text;
 mod writing;
 
-pub use crate::entry::Entry;
+pub use crate::entry::{Entry, MOST_ENTRIES};
 pub use crate::fault::{ReadFault, WriteFault};
-pub use crate::reading::read_entries;
+pub use crate::recording::read_entries;
 pub use crate::writing::{put_header, put_line, put_parts, write_entries};

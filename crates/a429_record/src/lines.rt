@@ -2,9 +2,9 @@
 
 ghost use Rattle.std.specs.Prelude.{◌≡◌, ◌↔◌, ◌⊎◌, ◌∷◌, ◌++◌, ◌+◌, ◌<◌, ◌≤◌, [], true, false, length, take, drop, slice_index, if◌then◌else◌, IsErr, IsErrOf, IfOk, IfErr, IfSome, IfNone, OnOk, OnErr, List, ℕ};
 ghost use Rattle.std.specs.Io.KnownBytes.{Consumes, Keeps, IsAtEnd};
-ghost use Rattle.a429_word.specs.Tally.{inner_of, left_of, has_failed};
+ghost use Rattle.a429_word.specs.Tally.{left_of, has_failed, unread};
 ghost use Rattle.a429_record.specs.Ends.{HasNoEnd};
-ghost use Rattle.a429_record.specs.Handed.{Loses, IsLine, IsOpen};
+ghost use Rattle.a429_record.specs.Handed.{IsLineHanded, IsOpen};
 
 use crate::fault::ReadFault;
 use a429_word::{Device, Tally};
@@ -23,7 +23,7 @@ pub struct Lines {
 }
 
 impl Lines {
-    ghost use Rattle.a429_record.specs.Pending.{ahead_of, pending_of, room_of};
+    ghost use Rattle.a429_record.specs.Lines.{ahead_of, pending_of, room_of, HandsOut, FailsAfter};
     ghost use Rattle.a429_record.specs.declared.fault.ReadFault.TheVariants as fault;
 
     /// Nothing was read.
@@ -44,11 +44,11 @@ impl Lines {
         line: &mut Vec<u8>,
     ) -> Result<bool, ReadFault>
         requires { has_failed rec.old ≡ false }
-        ensures takes { IfOk result (λ found. found ≡ true → Loses (IsLine line.new.items) (pending_of R.remaining self.old rec.old) (pending_of R.remaining self.new rec.new)) }
+        ensures takes { IfOk result (λ found. found ≡ true → HandsOut (IsLineHanded line.new.items) R.remaining self.old rec.old self.new rec.new) }
         ensures end { IfOk result (λ found. found ≡ false → IsAtEnd (pending_of R.remaining self.old rec.old)) }
         ensures room { IfOk result (λ found. found ≡ true → room_of self.new rec.new < room_of self.old rec.old) }
         ensures err { IfErr result (λ f. (f ≡ fault.Device) ⊎ (f ≡ fault.OutOfMemory)) }
-        ensures before { IsErrOf result fault.Device → Loses IsOpen (pending_of R.remaining self.old rec.old) (R.remaining (inner_of rec.new)) }
+        ensures before { IsErrOf result fault.Device → FailsAfter IsOpen R.remaining self.old rec.old rec.new }
         ensures device { IsErrOf result fault.Device ↔ (has_failed rec.new ≡ true) }
     {
         line.clear();
@@ -114,7 +114,7 @@ impl Lines {
         requires { ahead_of self.old ≡ [] }
         ensures keeps { OnOk result (Keeps (pending_of R.remaining self.old rec.old) (pending_of R.remaining self.new rec.new)) }
         ensures end { IfOk result (λ more. more ≡ false → IsAtEnd (pending_of R.remaining self.new rec.new)) }
-        ensures none { OnErr result (Keeps (R.remaining (inner_of rec.old)) (R.remaining (inner_of rec.new))) }
+        ensures none { OnErr result (Keeps (unread R.remaining rec.old) (unread R.remaining rec.new)) }
         ensures left { IfOk result (λ more. more ≡ true → left_of rec.new < left_of rec.old) }
         ensures room { OnOk result (room_of self.new rec.new ≡ room_of self.old rec.old) }
         ensures device { IsErr result ↔ (has_failed rec.new ≡ true) }

@@ -1,11 +1,11 @@
 //! The text form of a recording, read entry by entry.
 
 ghost use Rattle.std.specs.Prelude.{◌≡◌, ◌≢◌, ◌↔◌, ◌∷◌, ◌<◌, ◌≤◌, [], false, true, IsErrOf, IfOk, IfErr, IfSome, IfNone, OnOk, Some, List};
-ghost use Rattle.a429_word.specs.Tally.{inner_of, has_failed};
+ghost use Rattle.a429_word.specs.Tally.{has_failed};
 ghost use Rattle.a429_record.specs.Row.{Row, entry_in};
-ghost use Rattle.a429_record.specs.Recording.{told, most_entries};
+ghost use Rattle.a429_record.specs.Recording.{most_entries};
 
-use crate::entry::Entry;
+use crate::entry::{Entry, MOST_ENTRIES};
 use crate::fault::ReadFault;
 use crate::line::{LineEntry, LineRow, entry_in_line, plain_entry, row_in_line};
 use crate::lines::Lines;
@@ -13,9 +13,6 @@ use crate::row::is_header_row;
 use a429_word::Tally;
 use std::alloc::Global;
 use std::io::Read;
-
-// How many entries a recording may have.
-const MOST_ENTRIES: usize = 1_000_000;
 
 /// How far a text recording was read: what was read of the reader and not yet given, how many
 /// entries were given, and the time of the last of them.
@@ -30,10 +27,10 @@ pub struct TextReader {
 }
 
 impl TextReader {
-    ghost use Rattle.a429_record.specs.Pending.{ahead_of, pending_of, room_of};
+    ghost use Rattle.a429_record.specs.Lines.{ahead_of, room_of, HandsOut, FailsAfter};
     ghost use Rattle.a429_record.specs.Line.{GivesEntry};
-    ghost use Rattle.a429_record.specs.Handed.{Loses, AreLines, HasNoRow, AreHeader, AreEntryOf};
-    ghost use Rattle.a429_record.specs.Left.{rows_left, left_of, TakesHeader, Tells, Follows};
+    ghost use Rattle.a429_record.specs.Handed.{AreLines, HasNoRow, AreHeader, AreEntryOf};
+    ghost use Rattle.a429_record.specs.Text.{rows_left, recording_left, stands_from, TakesHeader, GivesNext, IfEntry, Follows};
     ghost use Rattle.a429_record.specs.declared.fault.ReadFault.TheVariants as fault;
 
     /// Nothing was read.
@@ -55,8 +52,8 @@ impl TextReader {
     pub fn header<R: Read>(&mut self, rec: &mut Tally<R>) -> Result<(), ReadFault>
         requires { has_failed rec.old ≡ false }
         ensures takes { TakesHeader (rows_left R.remaining self.old rec.old) (rows_left R.remaining self.new rec.new) result }
-        ensures lines { OnOk result (Loses (AreLines AreHeader) (pending_of R.remaining self.old.lines rec.old) (pending_of R.remaining self.new.lines rec.new)) }
-        ensures before { IsErrOf result fault.Device → Loses HasNoRow (pending_of R.remaining self.old.lines rec.old) (R.remaining (inner_of rec.new)) }
+        ensures lines { OnOk result (HandsOut (AreLines AreHeader) R.remaining self.old.lines rec.old self.new.lines rec.new) }
+        ensures before { IsErrOf result fault.Device → FailsAfter HasNoRow R.remaining self.old.lines rec.old rec.new }
         ensures count { self.new.count ≡ self.old.count }
         ensures last { self.new.last ≡ self.old.last }
         ensures device { IsErrOf result fault.Device ↔ (has_failed rec.new ≡ true) }
@@ -84,11 +81,11 @@ impl TextReader {
     /// Reads the next entry, where there is one. The header was read before.
     pub fn next<R: Read>(&mut self, rec: &mut Tally<R>) -> Result<Option<Entry>, ReadFault>
         requires { has_failed rec.old ≡ false }
-        ensures tells { Tells (left_of R.remaining self.old rec.old) (left_of R.remaining self.new rec.new) result }
-        ensures lines { IfOk result (λ o. IfSome o (λ e. Loses (AreLines (AreEntryOf e)) (pending_of R.remaining self.old.lines rec.old) (pending_of R.remaining self.new.lines rec.new))) }
-        ensures before { IsErrOf result fault.Device → Loses HasNoRow (pending_of R.remaining self.old.lines rec.old) (R.remaining (inner_of rec.new)) }
-        ensures follows { IfOk result (λ o. IfSome o (λ e. Follows self.old self.new e)) }
-        ensures room { IfOk result (λ o. IfSome o (λ _. room_of self.new.lines rec.new < room_of self.old.lines rec.old)) }
+        ensures gives { GivesNext (recording_left R.remaining self.old rec.old) (recording_left R.remaining self.new rec.new) result }
+        ensures lines { IfEntry result (λ e. HandsOut (AreLines (AreEntryOf e)) R.remaining self.old.lines rec.old self.new.lines rec.new) }
+        ensures before { IsErrOf result fault.Device → FailsAfter HasNoRow R.remaining self.old.lines rec.old rec.new }
+        ensures follows { IfEntry result (λ e. Follows self.old self.new e) }
+        ensures room { IfEntry result (λ _. room_of self.new.lines rec.new < room_of self.old.lines rec.old) }
         ensures device { IsErrOf result fault.Device ↔ (has_failed rec.new ≡ true) }
     {
         if let Some(entry) = self.plain_entry() {
@@ -126,9 +123,9 @@ impl TextReader {
 
     // Takes a row for the next entry, which it may not be.
     fn take_row(&mut self, row: Option<Entry>) -> Result<Option<Entry>, ReadFault>
-        ensures tells { (r : Row) (rows : List Row) → entry_in r ≡ row → Tells (Some (told self.old.count self.old.last (r ∷ rows))) (Some (told self.new.count self.new.last rows)) result }
+        ensures gives { (r : Row) (rows : List Row) → entry_in r ≡ row → GivesNext (Some (stands_from self.old (r ∷ rows))) (Some (stands_from self.new rows)) result }
         ensures entry { IfOk result (λ o. o ≡ row) }
-        ensures follows { IfOk result (λ o. IfSome o (λ e. Follows self.old self.new e)) }
+        ensures follows { IfEntry result (λ e. Follows self.old self.new e) }
         ensures lines { self.new.lines ≡ self.old.lines }
         ensures err { IfErr result (λ f. f ≢ fault.Device) }
     {

@@ -2,11 +2,11 @@
 
 ghost use Rattle.std.specs.Prelude.{◌≡◌, ◌↔◌, ◌++◌, ◌∷◌, [], ℕ, List, true, codes, IsErr, IsErrOf, OnOk};
 ghost use Rattle.std.specs.Fmt.{decimal};
-ghost use Rattle.std.specs.Io.KnownBytes.{Appends};
-ghost use Rattle.a429_word.specs.Tally.{inner_of, has_failed};
-ghost use Rattle.a429_word.specs.Page.{paged};
-ghost use Rattle.a429_word.specs.Written.{bus_text, hex_text};
-ghost use Rattle.a429_record.specs.Written.{header_text, line_text, entry_text, written_form};
+ghost use Rattle.a429_word.specs.Tally.{has_failed, Puts};
+ghost use Rattle.a429_word.specs.Page.{PutsOn};
+ghost use Rattle.a429_word.specs.Digits.{hex_text};
+ghost use Rattle.a429_word.specs.Bus.{bus_text};
+ghost use Rattle.a429_record.specs.Writing.{header_text, line_text, entry_text, written_form};
 ghost use Rattle.a429_record.specs.Recording.{IsRecordable};
 ghost use Rattle.a429_record.specs.declared.fault.WriteFault.TheVariants as fault;
 
@@ -28,7 +28,7 @@ pub fn write_entries<W: Write>(
     entries: &[Entry],
 ) -> Result<(), WriteFault>
     requires { IsRecordable entries.now }
-    ensures ok { OnOk result (Appends (W.contents (inner_of out.old)) (W.contents (inner_of out.new)) (written_form entries.now)) }
+    ensures ok { OnOk result (Puts W.contents out.old out.new (written_form entries.now)) }
     ensures device { IsErrOf result fault.Device ↔ (has_failed out.new ≡ true) }
     ensures memory { IsErrOf result fault.OutOfMemory → out.new ≡ out.old }
 {
@@ -47,7 +47,7 @@ pub fn write_entries<W: Write>(
 // Writes entries by an empty page.
 fn put_entries<W: Write>(page: Page, out: &mut Tally<W>, entries: &[Entry]) -> Result<(), Device>
     requires { page ≡ [] }
-    ensures ok { OnOk result (Appends (W.contents (inner_of out.old)) (W.contents (inner_of out.new)) (written_form entries.now)) }
+    ensures ok { OnOk result (Puts W.contents out.old out.new (written_form entries.now)) }
     ensures device { IsErr result ↔ (has_failed out.new ≡ true) }
 {
     let mut page = page;
@@ -60,7 +60,7 @@ fn put_entries<W: Write>(page: Page, out: &mut Tally<W>, entries: &[Entry]) -> R
 
 /// Puts the header of a recording on a page.
 pub fn put_header<W: Write>(page: &mut Page, out: &mut Tally<W>) -> Result<(), Device>
-    ensures ok { OnOk result (Appends (paged W.contents out.old page.old) (paged W.contents out.new page.new) header_text) }
+    ensures ok { OnOk result (PutsOn W.contents out.old page.old out.new page.new header_text) }
     ensures device { IsErr result → has_failed out.new ≡ true }
 {
     page.put(out, b"time,bus,word\n")
@@ -68,7 +68,7 @@ pub fn put_header<W: Write>(page: &mut Page, out: &mut Tally<W>) -> Result<(), D
 
 /// Puts the line of an entry on a page.
 pub fn put_line<W: Write>(page: &mut Page, out: &mut Tally<W>, entry: Entry) -> Result<(), Device>
-    ensures ok { OnOk result (Appends (paged W.contents out.old page.old) (paged W.contents out.new page.new) (line_text entry)) }
+    ensures ok { OnOk result (PutsOn W.contents out.old page.old out.new page.new (line_text entry)) }
     ensures device { IsErr result → has_failed out.new ≡ true }
 {
     put_parts(page, out, entry, b',', b'\n')
@@ -84,7 +84,7 @@ pub fn put_parts<W: Write>(
     between: u8,
     behind: u8,
 ) -> Result<(), Device>
-    ensures ok { OnOk result (Appends (paged W.contents out.old page.old) (paged W.contents out.new page.new) (entry_text between behind entry)) }
+    ensures ok { OnOk result (PutsOn W.contents out.old page.old out.new page.new (entry_text between behind entry)) }
     ensures device { IsErr result → has_failed out.new ≡ true }
 {
     let mut text = [0; LONGEST_TIME + 12];

@@ -1,7 +1,8 @@
 pub mod Word
 pub mod Bnr
 pub mod Bcd
-pub mod Written
+pub mod Digits
+pub mod Bus
 pub mod Tally
 pub mod Page
 pub mod Fixed

@@ -1,5 +1,5 @@
 -- What a clause reads of a `Tally`, and what a write that may stop early does (profile).
-use Rattle.std.specs.Prelude.{◌≡◌, ◌<◌, ◌≤◌, ℕ, List, [], length, take, Option, Some, None, Bool, ⊤}
+use Rattle.std.specs.Prelude.{◌≡◌, ◌<◌, ◌≤◌, ◌⊎◌, ℕ, List, [], length, take, Option, Some, None, Bool, true, ⊤}
 use Rattle.std.specs.Io.KnownBytes.{Appends}
 use Rattle.a429_word.specs.declared.tally.Tally.{Tally}
 
@@ -24,3 +24,19 @@ abbrev pub EndsBefore : Option (List ℕ) → Option (List ℕ) → ℕ → Type
 EndsBefore None new n = ⊤
 EndsBefore (Some xs) None n = ⊥
 EndsBefore (Some xs) (Some ys) n = (length xs < n) × (ys ≡ [])
+
+-- a writer whose bytes are known has gained these
+abbrev pub Puts : {W : Type 0} → (W → Option (List ℕ)) → Tally W → Tally W → List ℕ → Type 0
+Puts contents old new text = Appends (contents (inner_of old)) (contents (inner_of new)) text
+
+-- some front of these
+abbrev pub PutsFront : {W : Type 0} → (W → Option (List ℕ)) → Tally W → Tally W → List ℕ → Type 0
+PutsFront contents old new text = AppendsPrefix (contents (inner_of old)) (contents (inner_of new)) text
+
+-- the bytes that a reader has still to give, where they are known
+abbrev pub unread : {R : Type 0} → (R → Option (List ℕ)) → Tally R → Option (List ℕ)
+unread remaining rec = remaining (inner_of rec)
+
+-- a read of n bytes falls short: the reader has failed, or it had fewer and has none left
+abbrev pub FallsShort : {R : Type 0} → (R → Option (List ℕ)) → Tally R → Tally R → ℕ → Type 0
+FallsShort remaining old new n = (has_failed new ≡ true) ⊎ EndsBefore (unread remaining old) (unread remaining new) n

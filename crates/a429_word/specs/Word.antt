@@ -1,5 +1,5 @@
 -- A word and its fields (ARINC 429 Part 1, word formats). A word is its number; all else is said of its bits.
-use Rattle.std.specs.Prelude.{ℕ, zero, suc, ◌+◌, ◌-◌, ◌*◌, ◌^◌, ◌%◌, ◌≡◌}
+use Rattle.std.specs.Prelude.{ℕ, zero, suc, ◌+◌, ◌-◌, ◌*◌, ◌^◌, ◌%◌, ◌≡◌, ◌≤◌}
 use Rattle.std.specs.Int.{bit_at}
 
 -- f 0 + f 1 + .. + f (k - 1)
@@ -8,8 +8,12 @@ sum_below zero f = 0
 sum_below (suc k) f = sum_below k f + f k
 
 -- the number of 32 bits: bit i, from 1 to 32, counts 2 ^ (i - 1)
-abbrev pub number_of : (ℕ → ℕ) → ℕ
-number_of bits = sum_below 32 (λ j. bits (j + 1) * 2 ^ j)
+abbrev pub number_of_bits : (ℕ → ℕ) → ℕ
+number_of_bits bits = sum_below 32 (λ j. bits (j + 1) * 2 ^ j)
+
+-- each of these is 0 or 1
+abbrev pub AreBits : (ℕ → ℕ) → Type 0
+AreBits bits = (i : ℕ) → bits i ≤ 1
 
 -- bit i of a word, 0 or 1, i from 1 to 32
 abbrev pub bit : ℕ → ℕ → ℕ

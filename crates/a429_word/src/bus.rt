@@ -1,7 +1,7 @@
 //! The two buses of a pair.
 
 ghost use Rattle.std.specs.Prelude.{◌≡◌};
-ghost use Rattle.a429_word.specs.Written.{bus_text};
+ghost use Rattle.a429_word.specs.Bus.{bus_text};
 
 /// A bus carries the words of one transmitter (ARINC 429 Part 1).
 #[derive(Clone, Copy, Debug, PartialEq, Eq)]

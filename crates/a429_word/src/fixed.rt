@@ -1,10 +1,9 @@
 //! Fractions, and how they are written.
 
-ghost use Rattle.std.specs.Prelude.{◌≡◌, ◌≢◌, ◌↔◌, ◌⊎◌, ◌+◌, ◌*◌, ◌-◌, ◌/◌, ◌%◌, ◌^◌, ◌≤◌, ◌++◌, ℕ, List, [], true, IsErr, OnOk, OnErr, pos, ◌*ℤ◌};
-ghost use Rattle.std.specs.Io.KnownBytes.{Appends};
-ghost use Rattle.a429_word.specs.Tally.{inner_of, left_of, has_failed, AppendsPrefix};
-ghost use Rattle.a429_word.specs.Fixed.{Spells};
-ghost use Rattle.a429_word.specs.Page.{paged};
+ghost use Rattle.std.specs.Prelude.{◌≡◌, ◌≢◌, ◌↔◌, ◌⊎◌, ◌+◌, ◌*◌, ◌-◌, ◌/◌, ◌%◌, ◌^◌, ◌≤◌, ◌++◌, [], true, IsErr, OnOk, OnErr, pos, ◌*ℤ◌};
+ghost use Rattle.a429_word.specs.Tally.{left_of, has_failed, Puts, PutsFront};
+ghost use Rattle.a429_word.specs.Fixed.{SpellsFraction, SpelledSo};
+ghost use Rattle.a429_word.specs.Page.{PutsOn};
 
 mod division;
 mod text;
@@ -43,10 +42,8 @@ impl Fixed {
     /// point where none remain. After `Device` a front of this text has been written.
     pub fn write_text<W: Write>(&self, out: &mut Tally<W>) -> Result<(), Device>
         requires { self.now.decimals ≤ 24 }
-        ensures ok { OnOk result ((text : List ℕ) × Spells text self.now.number self.now.decimals
-            × Appends (W.contents (inner_of out.old)) (W.contents (inner_of out.new)) text) }
-        ensures err { OnErr result ((text : List ℕ) × Spells text self.now.number self.now.decimals
-            × AppendsPrefix (W.contents (inner_of out.old)) (W.contents (inner_of out.new)) text) }
+        ensures ok { OnOk result (SpelledSo self.now (λ text. Puts W.contents out.old out.new text)) }
+        ensures err { OnErr result (SpelledSo self.now (λ text. PutsFront W.contents out.old out.new text)) }
         ensures left { left_of out.new ≡ left_of out.old }
         ensures device { IsErr result ↔ (has_failed out.new ≡ true) }
         ensures stays { has_failed out.old ≡ true → out.new ≡ out.old }
@@ -60,10 +57,8 @@ impl Fixed {
     /// text has been written.
     pub fn put_on<W: Write>(&self, page: &mut Page, out: &mut Tally<W>) -> Result<(), Device>
         requires { self.now.decimals ≤ 24 }
-        ensures ok { OnOk result ((text : List ℕ) × Spells text self.now.number self.now.decimals
-            × Appends (paged W.contents out.old page.old) (paged W.contents out.new page.new) text) }
-        ensures err { OnErr result ((text : List ℕ) × Spells text self.now.number self.now.decimals
-            × AppendsPrefix (W.contents (inner_of out.old)) (W.contents (inner_of out.new)) (page.old ++ text)) }
+        ensures ok { OnOk result (SpelledSo self.now (λ text. PutsOn W.contents out.old page.old out.new page.new text)) }
+        ensures err { OnErr result (SpelledSo self.now (λ text. PutsFront W.contents out.old out.new (page.old ++ text))) }
         ensures device { IsErr result → has_failed out.new ≡ true }
         ensures works { OnOk result (has_failed out.new ≡ has_failed out.old) }
     {
@@ -76,7 +71,7 @@ impl Fixed {
     fn put_into(&self, text: &mut Text)
         requires decimals { self.now.decimals ≤ 24 }
         requires empty { text.old ≡ [] }
-        ensures { Spells text.new self.now.number self.now.decimals }
+        ensures { SpellsFraction text.new self.now.number self.now.decimals }
     {
         let (number, decimals) = shortest(self.number.unsigned_abs(), self.decimals);
         let whole = text.push_decimals(number, decimals);

@@ -1,22 +1,22 @@
 //! Laws of the definitions that the contracts of this crate cite.
 
 ghost use Rattle.std.specs.Prelude.{◌≡◌, ℕ, ◌≤◌, ◌<◌, ◌-◌, ◌^◌, Option, Some, Result, Ok, IfOk, IfErr, List, ℤ, pos, neg_ℤ, ◌≤ℤ◌, ◌<ℤ◌};
-ghost use Rattle.a429_word.specs.Word.{number_of, bit, label_of, sdi_of, field_of, ssm_of, number_at, HasOddParity, SameParts};
+ghost use Rattle.a429_word.specs.Word.{number_of_bits, bit, AreBits, label_of, sdi_of, field_of, ssm_of, number_at, HasOddParity, SameParts};
 ghost use Rattle.a429_word.specs.declared.bcd.BadDigit.{BadDigit};
 ghost use Rattle.a429_word.specs.Bnr.{raw_of};
 ghost use Rattle.a429_word.specs.Bcd.{decimal_of, AreDecimal, IsFirstBad};
-ghost use Rattle.a429_word.specs.Written.{hex_text, ReadsHex};
-ghost use Rattle.a429_word.specs.Fixed.{Spells};
+ghost use Rattle.a429_word.specs.Digits.{hex_text, ReadsHex};
+ghost use Rattle.a429_word.specs.Fixed.{SpellsFraction};
 
 /// A word's number is the sum of its bits, bit i counting `2^(i-1)`.
 pub fn number_is_the_sum_of_its_bits()
-    ensures { (w : ℕ) → w < 2 ^ 32 → number_of (bit w) ≡ w }
+    ensures { (w : ℕ) → w < 2 ^ 32 → number_of_bits (bit w) ≡ w }
 {}
 
 /// Any 32 bits are the bits of the word that has their number.
 pub fn any_bits_make_a_word()
-    ensures within { (bits : ℕ → ℕ) → ((i : ℕ) → bits i ≤ 1) → number_of bits < 2 ^ 32 }
-    ensures bits { (bits : ℕ → ℕ) → ((i : ℕ) → bits i ≤ 1) → (i : ℕ) → 1 ≤ i → i ≤ 32 → bit (number_of bits) i ≡ bits i }
+    ensures within { (bits : ℕ → ℕ) → AreBits bits → number_of_bits bits < 2 ^ 32 }
+    ensures bits { (bits : ℕ → ℕ) → AreBits bits → (i : ℕ) → 1 ≤ i → i ≤ 32 → bit (number_of_bits bits) i ≡ bits i }
 {}
 
 /// Label, SDI, data field, SSM and parity bit are all that there is in a word.
@@ -24,7 +24,7 @@ pub fn parts_make_the_word()
     ensures { (v w : ℕ) → v < 2 ^ 32 → w < 2 ^ 32 → SameParts v w → v ≡ w }
 {}
 
-/// A word of odd parity is told by its label, SDI, data field and SSM.
+/// No two words of odd parity have the same label, SDI, data field and SSM.
 pub fn fields_make_the_good_word()
     ensures { (v w : ℕ) → v < 2 ^ 32 → w < 2 ^ 32 → HasOddParity v → HasOddParity w
         → label_of v ≡ label_of w → sdi_of v ≡ sdi_of w → field_of v ≡ field_of w → ssm_of v ≡ ssm_of w → v ≡ w }
@@ -37,7 +37,8 @@ pub fn hex_is_read_back()
 
 /// A word that has a raw number, as `Word::bnr_word` promises, is one of which `Word::bnr_raw` answers
 /// that number. The raw number of any word is one that `Word::bnr_word` takes, from `-2^s` to
-/// `2^s - 1`, and label, SDI, SSM and raw number tell one word with no other bits in its data field.
+/// `2^s - 1`, and no two words of odd parity have the same label, SDI, SSM, raw number and other bits of
+/// the data field.
 pub fn bnr_is_read_back()
     ensures read { (w s : ℕ) (raw read : ℤ) → raw_of w s ≡ raw → read ≡ raw_of w s → read ≡ raw }
     ensures within { (w s : ℕ) → 1 ≤ s → s ≤ 18 → (neg_ℤ (pos (2 ^ s)) ≤ℤ raw_of w s) × (raw_of w s <ℤ pos (2 ^ s)) }
@@ -57,5 +58,5 @@ pub fn bcd_is_read_back()
 /// A fraction has one spelling.
 pub fn a_fraction_has_one_spelling()
     ensures { (v w : List ℕ) (number : ℤ) (decimals : ℕ)
-        → Spells v number decimals → Spells w number decimals → v ≡ w }
+        → SpellsFraction v number decimals → SpellsFraction w number decimals → v ≡ w }
 {}

@@ -4,6 +4,7 @@
 mod bcd;
 mod bnr;
 mod bus;
+mod digits;
 mod fixed;
 pub mod laws;
 mod page;
@@ -12,7 +13,8 @@ mod word;
 
 pub use crate::bcd::BadDigit;
 pub use crate::bus::Bus;
+pub use crate::digits::octal;
 pub use crate::fixed::Fixed;
 pub use crate::page::Page;
 pub use crate::tally::{Device, Failing, Tally};
-pub use crate::word::{Word, octal};
+pub use crate::word::Word;

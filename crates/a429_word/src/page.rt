@@ -2,9 +2,9 @@
 
 ghost use Rattle.std.specs.Prelude.{◌≡◌, ◌↔◌, ◌++◌, List, ℕ, [], codes, true, length, IsErr, IfOk, OnOk, OnErr};
 ghost use Rattle.std.specs.Fmt.{decimal};
-ghost use Rattle.std.specs.Io.KnownBytes.{Appends, Keeps};
-ghost use Rattle.a429_word.specs.Tally.{inner_of, has_failed, AppendsPrefix};
-ghost use Rattle.a429_word.specs.Page.{paged};
+ghost use Rattle.std.specs.Io.KnownBytes.{Keeps};
+ghost use Rattle.a429_word.specs.Tally.{inner_of, has_failed, Puts, PutsFront};
+ghost use Rattle.a429_word.specs.Page.{paged, PutsOn};
 
 use crate::tally::{Device, Tally};
 use itoa::write_digits;
@@ -50,8 +50,8 @@ impl Page {
     /// `Device` a front of all this has been written.
     #[inline(always)]
     pub fn put<W: Write>(&mut self, out: &mut Tally<W>, bytes: &[u8]) -> Result<(), Device>
-        ensures ok { OnOk result (Appends (paged W.contents out.old self.old) (paged W.contents out.new self.new) bytes.now) }
-        ensures err { OnErr result (AppendsPrefix (W.contents (inner_of out.old)) (W.contents (inner_of out.new)) (self.old ++ bytes.now)) }
+        ensures ok { OnOk result (PutsOn W.contents out.old self.old out.new self.new bytes.now) }
+        ensures err { OnErr result (PutsFront W.contents out.old out.new (self.old ++ bytes.now)) }
         ensures device { IsErr result → has_failed out.new ≡ true }
         ensures works { OnOk result (has_failed out.new ≡ has_failed out.old) }
     {
@@ -68,8 +68,8 @@ impl Page {
     #[cold]
     #[inline(never)]
     fn put_past<W: Write>(&mut self, out: &mut Tally<W>, bytes: &[u8]) -> Result<(), Device>
-        ensures ok { OnOk result (Appends (paged W.contents out.old self.old) (paged W.contents out.new self.new) bytes.now) }
-        ensures err { OnErr result (AppendsPrefix (W.contents (inner_of out.old)) (W.contents (inner_of out.new)) (self.old ++ bytes.now)) }
+        ensures ok { OnOk result (PutsOn W.contents out.old self.old out.new self.new bytes.now) }
+        ensures err { OnErr result (PutsFront W.contents out.old out.new (self.old ++ bytes.now)) }
         ensures device { IsErr result ↔ (has_failed out.new ≡ true) }
         ensures stays { has_failed out.old ≡ true → out.new ≡ out.old }
     {
@@ -80,8 +80,8 @@ impl Page {
     /// Puts a number on the page, in decimal.
     #[inline(always)]
     pub fn put_number<W: Write>(&mut self, out: &mut Tally<W>, number: u64) -> Result<(), Device>
-        ensures ok { OnOk result (Appends (paged W.contents out.old self.old) (paged W.contents out.new self.new) (decimal number)) }
-        ensures err { OnErr result (AppendsPrefix (W.contents (inner_of out.old)) (W.contents (inner_of out.new)) (self.old ++ decimal number)) }
+        ensures ok { OnOk result (PutsOn W.contents out.old self.old out.new self.new (decimal number)) }
+        ensures err { OnErr result (PutsFront W.contents out.old out.new (self.old ++ decimal number)) }
         ensures device { IsErr result → has_failed out.new ≡ true }
         ensures works { OnOk result (has_failed out.new ≡ has_failed out.old) }
     {
@@ -94,7 +94,7 @@ impl Page {
     pub fn finish<W: Write>(&mut self, out: &mut Tally<W>) -> Result<(), Device>
         ensures ok { OnOk result (Keeps (paged W.contents out.old self.old) (W.contents (inner_of out.new))) }
         ensures empty { OnOk result (self.new ≡ []) }
-        ensures err { OnErr result (AppendsPrefix (W.contents (inner_of out.old)) (W.contents (inner_of out.new)) self.old) }
+        ensures err { OnErr result (PutsFront W.contents out.old out.new self.old) }
         ensures device { IsErr result ↔ (has_failed out.new ≡ true) }
         ensures stays { has_failed out.old ≡ true → out.new ≡ out.old }
     {

@@ -1,9 +1,9 @@
 //! A reader or writer over another, with a limit, that fails for good.
 
-ghost use Rattle.std.specs.Prelude.{◌≡◌, ◌↔◌, ◌≢◌, ◌⊎◌, ◌+◌, ◌<◌, ◌≤◌, Bool, true, false, length, IsErr, IfOk, IfErr, OnOk, OnErr};
+ghost use Rattle.std.specs.Prelude.{◌≡◌, ◌↔◌, ◌≢◌, ◌+◌, ◌<◌, ◌≤◌, Bool, true, false, length, IsErr, IfOk, IfErr, OnOk, OnErr};
 ghost use Rattle.std.specs.IoError.{error_kind};
 ghost use Rattle.std.specs.Io.{ReadsAtMost, WritesAtMost};
-ghost use Rattle.std.specs.Io.KnownBytes.{Appends, Consumes, Keeps, ReadConsumes, WriteAppends};
+ghost use Rattle.std.specs.Io.KnownBytes.{Consumes, Keeps, ReadConsumes, WriteAppends};
 
 use std::io;
 use std::io::{ErrorKind, Read, Write};
@@ -60,13 +60,13 @@ impl<T> Tally<T> {
 }
 
 impl<R: Read> Tally<R> {
-    ghost use Rattle.a429_word.specs.Tally.{inner_of, left_of, has_failed};
+    ghost use Rattle.a429_word.specs.Tally.{left_of, has_failed, unread};
 
     /// Reads up to as many bytes as `buf` has room for, and answers their number: 0 is the end.
     pub fn pull(&mut self, buf: &mut [u8]) -> Result<usize, Device>
         requires { 0 < length buf.old }
         ensures bound { ReadsAtMost result buf.new }
-        ensures bytes { ReadConsumes (R.remaining (inner_of self.old)) (R.remaining (inner_of self.new)) result buf.new }
+        ensures bytes { ReadConsumes (unread R.remaining self.old) (unread R.remaining self.new) result buf.new }
         ensures left { IfOk result (λ n. left_of self.new + n ≡ left_of self.old) }
         ensures same { OnErr result (left_of self.new ≡ left_of self.old) }
         ensures device { IsErr result ↔ (has_failed self.new ≡ true) }
@@ -95,12 +95,12 @@ impl<R: Read> Tally<R> {
 }
 
 impl<W: Write> Tally<W> {
-    ghost use Rattle.a429_word.specs.Tally.{inner_of, left_of, has_failed, AppendsPrefix};
+    ghost use Rattle.a429_word.specs.Tally.{left_of, has_failed, Puts, PutsFront};
 
     /// Writes all the bytes. After `Device` a front of them has been written.
     pub fn put(&mut self, bytes: &[u8]) -> Result<(), Device>
-        ensures ok { OnOk result (Appends (W.contents (inner_of self.old)) (W.contents (inner_of self.new)) bytes.now) }
-        ensures err { OnErr result (AppendsPrefix (W.contents (inner_of self.old)) (W.contents (inner_of self.new)) bytes.now) }
+        ensures ok { OnOk result (Puts W.contents self.old self.new bytes.now) }
+        ensures err { OnErr result (PutsFront W.contents self.old self.new bytes.now) }
         ensures left { left_of self.new ≡ left_of self.old }
         ensures device { IsErr result ↔ (has_failed self.new ≡ true) }
         ensures stays { has_failed self.old ≡ true → self.new ≡ self.old }
@@ -123,13 +123,13 @@ impl<W: Write> Tally<W> {
 }
 
 impl<R: Read> Read for Tally<R> {
-    ghost use Rattle.a429_word.specs.Tally.{inner_of, left_of, has_failed, EndsBefore};
+    ghost use Rattle.a429_word.specs.Tally.{inner_of, left_of, has_failed, unread, FallsShort};
 
     ghost remaining = { λ t. R.remaining (inner_of t) };
 
     fn read(&mut self, buf: &mut [u8]) -> io::Result<usize>
         ensures bound { ReadsAtMost result buf.new }
-        ensures bytes { ReadConsumes (R.remaining (inner_of self.old)) (R.remaining (inner_of self.new)) result buf.new }
+        ensures bytes { ReadConsumes (unread R.remaining self.old) (unread R.remaining self.new) result buf.new }
         ensures left { IfOk result (λ n. left_of self.new + n ≡ left_of self.old) }
         ensures same { OnErr result (left_of self.new ≡ left_of self.old) }
         ensures device { IsErr result ↔ (has_failed self.new ≡ true) }
@@ -147,8 +147,8 @@ impl<R: Read> Read for Tally<R> {
     }
 
     fn read_exact(&mut self, buf: &mut [u8]) -> io::Result<()>
-        ensures bytes { OnOk result (Consumes (R.remaining (inner_of self.old)) (R.remaining (inner_of self.new)) buf.new) }
-        ensures err { OnErr result ((has_failed self.new ≡ true) ⊎ EndsBefore (R.remaining (inner_of self.old)) (R.remaining (inner_of self.new)) (length buf.new)) }
+        ensures bytes { OnOk result (Consumes (unread R.remaining self.old) (unread R.remaining self.new) buf.new) }
+        ensures err { OnErr result (FallsShort R.remaining self.old self.new (length buf.new)) }
         ensures left { OnOk result (left_of self.new + length buf.new ≡ left_of self.old) }
         ensures falls { left_of self.new ≤ left_of self.old }
         ensures device { has_failed self.new ≡ true → IsErr result }
@@ -194,7 +194,7 @@ impl<R: Read> Tally<R> {
 }
 
 impl<W: Write> Write for Tally<W> {
-    ghost use Rattle.a429_word.specs.Tally.{inner_of, left_of, has_failed, AppendsPrefix};
+    ghost use Rattle.a429_word.specs.Tally.{inner_of, left_of, has_failed, Puts, PutsFront};
 
     ghost contents = { λ t. W.contents (inner_of t) };
 
@@ -220,8 +220,8 @@ impl<W: Write> Write for Tally<W> {
     }
 
     fn write_all(&mut self, buf: &[u8]) -> io::Result<()>
-        ensures bytes { OnOk result (Appends (W.contents (inner_of self.old)) (W.contents (inner_of self.new)) buf.now) }
-        ensures err { OnErr result (AppendsPrefix (W.contents (inner_of self.old)) (W.contents (inner_of self.new)) buf.now) }
+        ensures bytes { OnOk result (Puts W.contents self.old self.new buf.now) }
+        ensures err { OnErr result (PutsFront W.contents self.old self.new buf.now) }
         ensures left { left_of self.new ≡ left_of self.old }
         ensures device { IsErr result ↔ (has_failed self.new ≡ true) }
         ensures stays { has_failed self.old ≡ true → self.new ≡ self.old }

@@ -1,30 +1,10 @@
-//! A word of 32 bits: its label, SDI, SSM, parity, and how it is written.
+//! A word of 32 bits: its label, SDI, SSM and parity.
 
 ghost use Rattle.std.specs.Prelude.{◌≡◌, ◌≤◌, ◌<◌, ◌↔◌, ◌^◌, ◌+◌, ◌-◌, ◌*◌, ◌/◌, ◌%◌, IsTrue, true};
-ghost use Rattle.std.specs.Char.{digit_value};
 ghost use Rattle.std.specs.Int.{reverse_bits_onto};
-ghost use Rattle.std.specs.Fmt.{digit_glyph};
 ghost use Rattle.a429_word.specs.Word.{bit, label_of, sdi_of, field_of, ssm_of, count_of_ones, HasOddParity};
-ghost use Rattle.a429_word.specs.Written.{hex_text, octal_text, ReadsHex};
 
 use std::marker::Model;
-
-const HEX_DIGITS: [u8; 16] = *b"0123456789ABCDEF";
-
-// The value of each byte as a digit, letters of either case from 10 on, and 36 of a byte that is none.
-const DIGIT_VALUES: [u8; 256] = [
-    36, 36, 36, 36, 36, 36, 36, 36, 36, 36, 36, 36, 36, 36, 36, 36, 36, 36, 36, 36, 36, 36, 36, 36,
-    36, 36, 36, 36, 36, 36, 36, 36, 36, 36, 36, 36, 36, 36, 36, 36, 36, 36, 36, 36, 36, 36, 36, 36,
-    0, 1, 2, 3, 4, 5, 6, 7, 8, 9, 36, 36, 36, 36, 36, 36, 36, 10, 11, 12, 13, 14, 15, 16, 17, 18,
-    19, 20, 21, 22, 23, 24, 25, 26, 27, 28, 29, 30, 31, 32, 33, 34, 35, 36, 36, 36, 36, 36, 36, 10,
-    11, 12, 13, 14, 15, 16, 17, 18, 19, 20, 21, 22, 23, 24, 25, 26, 27, 28, 29, 30, 31, 32, 33, 34,
-    35, 36, 36, 36, 36, 36, 36, 36, 36, 36, 36, 36, 36, 36, 36, 36, 36, 36, 36, 36, 36, 36, 36, 36,
-    36, 36, 36, 36, 36, 36, 36, 36, 36, 36, 36, 36, 36, 36, 36, 36, 36, 36, 36, 36, 36, 36, 36, 36,
-    36, 36, 36, 36, 36, 36, 36, 36, 36, 36, 36, 36, 36, 36, 36, 36, 36, 36, 36, 36, 36, 36, 36, 36,
-    36, 36, 36, 36, 36, 36, 36, 36, 36, 36, 36, 36, 36, 36, 36, 36, 36, 36, 36, 36, 36, 36, 36, 36,
-    36, 36, 36, 36, 36, 36, 36, 36, 36, 36, 36, 36, 36, 36, 36, 36, 36, 36, 36, 36, 36, 36, 36, 36,
-    36, 36, 36, 36, 36, 36, 36, 36, 36, 36, 36, 36, 36, 36,
-];
 
 // Each byte with its bits in the opposite order.
 const REVERSED: [u8; 256] = [
@@ -74,7 +54,7 @@ impl Word {
     }
 
     /// The label, bits 1 to 8, of which bit 1 is the most significant (Part 1).
-    #[tactic(auto, using(crate::proofs::Bits::fields))]
+    #[tactic(auto, using(crate::proofs::WordBits::fields))]
     pub fn label(self) -> u8
         ensures { result ≡ label_of self }
     {
@@ -82,7 +62,7 @@ impl Word {
     }
 
     /// The source/destination identifier, bits 9 and 10 (Part 1): 0 to 3, bit 9 its lower one.
-    #[tactic(auto, using(crate::proofs::Bits::fields))]
+    #[tactic(auto, using(crate::proofs::WordBits::fields))]
     pub fn sdi(self) -> u8
         ensures value { result ≡ sdi_of self }
         ensures range { result ≤ 3 }
@@ -91,7 +71,7 @@ impl Word {
     }
 
     /// The data field, bits 11 to 29 (Part 1), of which bit 11 is its lowest.
-    #[tactic(auto, using(crate::proofs::Bits::fields))]
+    #[tactic(auto, using(crate::proofs::WordBits::fields))]
     pub fn field(self) -> u32
         ensures { result ≡ field_of self }
     {
@@ -99,7 +79,7 @@ impl Word {
     }
 
     /// The sign/status matrix, bits 30 and 31 (Part 1): 0 to 3, bit 30 its lower one.
-    #[tactic(auto, using(crate::proofs::Bits::fields))]
+    #[tactic(auto, using(crate::proofs::WordBits::fields))]
     pub fn ssm(self) -> u8
         ensures value { result ≡ ssm_of self }
         ensures range { result ≤ 3 }
@@ -153,66 +133,6 @@ impl Word {
         let parity_bit = 1 - parity_of(number);
         Word(number | parity_bit << 31)
     }
-
-    /// Reads eight hexadecimal digits of either case. Any other text is `None`.
-    pub fn parse_hex(text: &[u8]) -> Option<Word>
-        ensures { ReadsHex text.now result }
-    {
-        if text.len() != 8 {
-            return None;
-        }
-        let mut number = 0;
-        for digit in text {
-            let value = digit_of(*digit);
-            if value > 15 {
-                return None;
-            }
-            number = number * 16 + u32::from(value);
-        }
-        Some(Word::from_u32(number))
-    }
-
-    /// The number as eight hexadecimal digits in upper case.
-    pub fn hex(self) -> [u8; 8]
-        ensures { result ≡ hex_text self }
-    {
-        [
-            self.hex_digit(7),
-            self.hex_digit(6),
-            self.hex_digit(5),
-            self.hex_digit(4),
-            self.hex_digit(3),
-            self.hex_digit(2),
-            self.hex_digit(1),
-            self.hex_digit(0),
-        ]
-    }
-
-    // The digit that counts 16^place.
-    fn hex_digit(self, place: u8) -> u8
-        requires { place < 8 }
-        ensures { result ≡ digit_glyph true (self / 2 ^ (4 * place) % 16) }
-    {
-        HEX_DIGITS[(self.0 >> (4 * place) & 15) as usize]
-    }
-}
-
-// The value of a byte as a digit.
-fn digit_of(byte: u8) -> u8
-    ensures { result ≡ digit_value byte }
-{
-    DIGIT_VALUES[usize::from(byte)]
-}
-
-/// A label as it is written (Part 1): three octal digits, 000 to 377.
-pub fn octal(label: u8) -> [u8; 3]
-    ensures { result ≡ octal_text label }
-{
-    [
-        b'0' + (label >> 6 & 7),
-        b'0' + (label >> 3 & 7),
-        b'0' + (label & 7),
-    ]
 }
 
 // A byte with its bits in the opposite order.

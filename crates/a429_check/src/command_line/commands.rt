@@ -1,5 +1,14 @@
 //! The commands.
 
+/// The words of a command on a certificate: the paths of a profile, of a recording, and of the certificate that
+/// explains it.
+#[derive(Clone, Copy, Debug, PartialEq, Eq)]
+pub struct Claim<'a> {
+    pub profile: &'a str,
+    pub recording: &'a str,
+    pub certificate: &'a str,
+}
+
 /// A command of the program, with its words.
 #[derive(Debug, PartialEq, Eq, Drop)]
 pub enum Command<'a> {
@@ -13,24 +22,14 @@ pub enum Command<'a> {
         recording: &'a str,
     },
     /// `check PROFILE REC CERT`: finds a certificate for a recording, and writes it to CERT.
-    Check {
-        profile: &'a str,
-        recording: &'a str,
-        certificate: &'a str,
-    },
+    Check(Claim<'a>),
     /// `extract PROFILE REC CERT DIR`: takes out the files that crossed, into the folder DIR.
     Extract {
-        profile: &'a str,
-        recording: &'a str,
-        certificate: &'a str,
+        claim: Claim<'a>,
         folder: &'a str,
     },
     /// `verify PROFILE REC CERT`: holds a certificate against a recording.
-    Verify {
-        profile: &'a str,
-        recording: &'a str,
-        certificate: &'a str,
-    },
+    Verify(Claim<'a>),
     /// `make PROFILE FILE..`: writes the recording of a transfer of these files.
     Make {
         profile: &'a str,

@@ -2,12 +2,11 @@
 
 ghost use Rattle.std.specs.Prelude.{◌≡◌, ◌≢◌, ◌⊎◌, ◌↔◌, true, false, IsErr, IfOk, IfErr, OnOk, OnErr};
 ghost use Rattle.std.specs.Fmt.{decimal};
-ghost use Rattle.std.specs.Io.KnownBytes.{Appends};
-ghost use Rattle.a429_word.specs.Tally.{inner_of, has_failed, AppendsPrefix};
+ghost use Rattle.a429_word.specs.Tally.{has_failed, unread, PutsFront, Puts};
 ghost use Rattle.a429_explain.specs.declared.verdict.Verdict.{Verdict};
-ghost use Rattle.a429_check.specs.RecordingBytes.{Says};
-ghost use Rattle.a429_check.specs.Verdict.{IsVerifyFault};
-ghost use Rattle.a429_check.specs.Checked.{reason_text, doubt_text, verdict_text, certificate_text, verdict_status, IsVerdictOn, GainsFront};
+ghost use Rattle.a429_check.specs.Recording.{SayInput};
+ghost use Rattle.a429_check.specs.Verdict.{IsVerifyFault, LeavesFault};
+ghost use Rattle.a429_check.specs.Check.{reason_text, doubt_text, verdict_text, certificate_text, verdict_status, IsVerdictOn, PutsFrontAtMost};
 
 use crate::engines::output::put_decimal;
 use crate::engines::profile::profile_of;
@@ -29,15 +28,18 @@ pub fn run_check<R: Read, C: Write, W: Write>(
     certificate: &mut Tally<C>,
     out: &mut Tally<W>,
 ) -> Result<u8, RunFault>
-    ensures verdict { IfOk result (λ status. (v : Verdict) × IsVerdictOn profile.now (R.remaining (inner_of rec.old)) v × (status ≡ verdict_status v)
-        × Appends (C.contents (inner_of certificate.old)) (C.contents (inner_of certificate.new)) (certificate_text v)
-        × Appends (W.contents (inner_of out.old)) (W.contents (inner_of out.new)) (verdict_text v)) }
+    ensures verdict { IfOk result (λ status. (v : Verdict) × IsVerdictOn profile.now (unread R.remaining rec.old) v
+        × (status ≡ verdict_status v)
+        × Puts C.contents certificate.old certificate.new (certificate_text v)
+        × Puts W.contents out.old out.new (verdict_text v)) }
     ensures none { IfOk result (λ status. status ≢ 0 → certificate.new ≡ certificate.old) }
-    ensures device { IfOk result (λ status. (has_failed rec.new ≡ false) × (status ≡ 0 → has_failed certificate.new ≡ false) × (has_failed out.new ≡ false)) }
-    ensures err { IfErr result (IsVerifyFault profile.now (R.remaining (inner_of rec.old)) (has_failed rec.new) (has_failed certificate.new) (has_failed out.new)) }
-    ensures silent { IfErr result (λ e. (e ≢ RunFault.Device) ⊎ (has_failed rec.new ≡ true) → (certificate.new ≡ certificate.old) × (out.new ≡ out.old)) }
+    ensures device { IfOk result (λ status. (has_failed rec.new ≡ false) × (status ≡ 0 → has_failed certificate.new ≡ false)
+        × (has_failed out.new ≡ false)) }
+    ensures err { IfErr result (LeavesFault profile.now (unread R.remaining rec.old) rec.new certificate.new out.new) }
+    ensures silent { IfErr result (λ e. (e ≢ RunFault.Device) ⊎ (has_failed rec.new ≡ true)
+        → (certificate.new ≡ certificate.old) × (out.new ≡ out.old)) }
     ensures last { OnErr result (has_failed out.new ≡ false → out.new ≡ out.old) }
-    ensures front { OnErr result ((certificate.new ≡ certificate.old) ⊎ GainsFront profile.now (R.remaining (inner_of rec.old)) (C.contents (inner_of certificate.old)) (C.contents (inner_of certificate.new))) }
+    ensures front { OnErr result (PutsFrontAtMost C.contents certificate.old certificate.new profile.now (unread R.remaining rec.old)) }
 {
     let verdict = verdict_on(alloc, profile, rec)?;
     put_certificate(certificate, &verdict)?;
@@ -51,10 +53,10 @@ fn verdict_on<R: Read>(
     profile: &[u8],
     rec: &mut Tally<R>,
 ) -> Result<Verdict, RunFault>
-    ensures verdict { IfOk result (IsVerdictOn profile.now (R.remaining (inner_of rec.old))) }
-    ensures says { OnOk result (Says profile.now (R.remaining (inner_of rec.old))) }
+    ensures verdict { IfOk result (IsVerdictOn profile.now (unread R.remaining rec.old)) }
+    ensures says { OnOk result (SayInput profile.now (unread R.remaining rec.old)) }
     ensures device { OnOk result (has_failed rec.new ≡ false) }
-    ensures err { IfErr result (IsVerifyFault profile.now (R.remaining (inner_of rec.old)) (has_failed rec.new) false false) }
+    ensures err { IfErr result (IsVerifyFault profile.now (unread R.remaining rec.old) (has_failed rec.new) false false) }
 {
     let profile = profile_of(alloc, profile)?;
     let entries = entries_of(alloc, rec)?;
@@ -75,8 +77,8 @@ fn status_of(verdict: &Verdict) -> u8
 }
 
 fn put_certificate<W: Write>(out: &mut Tally<W>, verdict: &Verdict) -> Result<(), Device>
-    ensures ok { OnOk result (Appends (W.contents (inner_of out.old)) (W.contents (inner_of out.new)) (certificate_text verdict.now)) }
-    ensures err { OnErr result (AppendsPrefix (W.contents (inner_of out.old)) (W.contents (inner_of out.new)) (certificate_text verdict.now)) }
+    ensures ok { OnOk result (Puts W.contents out.old out.new (certificate_text verdict.now)) }
+    ensures err { OnErr result (PutsFront W.contents out.old out.new (certificate_text verdict.now)) }
     ensures none { verdict_status verdict.now ≢ 0 → out.new ≡ out.old }
     ensures explained { verdict_status verdict.now ≡ 0 → (IsErr result ↔ (has_failed out.new ≡ true)) }
     ensures device { IsErr result → has_failed out.new ≡ true }
@@ -88,7 +90,7 @@ fn put_certificate<W: Write>(out: &mut Tally<W>, verdict: &Verdict) -> Result<()
 }
 
 fn put_verdict<W: Write>(out: &mut Tally<W>, verdict: &Verdict) -> Result<(), Device>
-    ensures ok { OnOk result (Appends (W.contents (inner_of out.old)) (W.contents (inner_of out.new)) (verdict_text verdict.now)) }
+    ensures ok { OnOk result (Puts W.contents out.old out.new (verdict_text verdict.now)) }
     ensures device { IsErr result ↔ (has_failed out.new ≡ true) }
 {
     match verdict {
@@ -99,7 +101,7 @@ fn put_verdict<W: Write>(out: &mut Tally<W>, verdict: &Verdict) -> Result<(), De
 }
 
 fn put_impossible<W: Write>(out: &mut Tally<W>, entry: usize, reason: Reason) -> Result<(), Device>
-    ensures ok { OnOk result (Appends (W.contents (inner_of out.old)) (W.contents (inner_of out.new)) (verdict_text (Verdict.Impossible entry reason))) }
+    ensures ok { OnOk result (Puts W.contents out.old out.new (verdict_text (Verdict.Impossible entry reason))) }
     ensures device { IsErr result ↔ (has_failed out.new ≡ true) }
 {
     out.put(b"IMPOSSIBLE ")?;
@@ -108,7 +110,7 @@ fn put_impossible<W: Write>(out: &mut Tally<W>, entry: usize, reason: Reason) ->
 }
 
 fn put_unexplained<W: Write>(out: &mut Tally<W>, entry: usize, doubt: Doubt) -> Result<(), Device>
-    ensures ok { OnOk result (Appends (W.contents (inner_of out.old)) (W.contents (inner_of out.new)) (verdict_text (Verdict.Unexplained entry doubt))) }
+    ensures ok { OnOk result (Puts W.contents out.old out.new (verdict_text (Verdict.Unexplained entry doubt))) }
     ensures device { IsErr result ↔ (has_failed out.new ≡ true) }
 {
     out.put(b"UNEXPLAINED ")?;
@@ -117,7 +119,7 @@ fn put_unexplained<W: Write>(out: &mut Tally<W>, entry: usize, doubt: Doubt) -> 
 }
 
 fn put_reason<W: Write>(out: &mut Tally<W>, reason: Reason) -> Result<(), Device>
-    ensures ok { OnOk result (Appends (W.contents (inner_of out.old)) (W.contents (inner_of out.new)) (reason_text reason)) }
+    ensures ok { OnOk result (Puts W.contents out.old out.new (reason_text reason)) }
     ensures device { IsErr result ↔ (has_failed out.new ≡ true) }
 {
     match reason {
@@ -128,7 +130,7 @@ fn put_reason<W: Write>(out: &mut Tally<W>, reason: Reason) -> Result<(), Device
 }
 
 fn put_doubt<W: Write>(out: &mut Tally<W>, doubt: Doubt) -> Result<(), Device>
-    ensures ok { OnOk result (Appends (W.contents (inner_of out.old)) (W.contents (inner_of out.new)) (doubt_text doubt)) }
+    ensures ok { OnOk result (Puts W.contents out.old out.new (doubt_text doubt)) }
     ensures device { IsErr result ↔ (has_failed out.new ≡ true) }
 {
     match doubt {

@@ -1,11 +1,10 @@
 //! `a429 extract PROFILE REC CERT DIR`: the files that crossed.
 
-ghost use Rattle.std.specs.Prelude.{◌≡◌, ◌≢◌, ◌⊎◌, [], ℕ, List, true, false, IfOk, IfErr, OnOk, OnErr};
-ghost use Rattle.std.specs.Io.KnownBytes.{Appends};
-ghost use Rattle.a429_word.specs.Tally.{inner_of, has_failed};
-ghost use Rattle.a429_check.specs.Verdict.{IsVerdict, IsVerifyFault};
+ghost use Rattle.std.specs.Prelude.{◌≡◌, [], IfOk, IfErr, OnOk, OnErr};
+ghost use Rattle.a429_word.specs.Tally.{unread};
+ghost use Rattle.a429_check.specs.Verdict.{PutsVerdict, LeavesFault, AllWork, IsSilent};
 
-use crate::engines::verdict::{answer_of, put_no, put_yes};
+use crate::engines::verdict::{Judged, judge};
 use crate::fault::RunFault;
 use a429_link::FileBytes;
 use a429_word::Tally;
@@ -22,24 +21,18 @@ pub fn run_extract<R: Read, C: Read, W: Write>(
     files: &mut Vec<FileBytes>,
     out: &mut Tally<W>,
 ) -> Result<u8, RunFault>
-    ensures verdict { IfOk result (λ status. (text : List ℕ)
-        × IsVerdict profile.now (R.remaining (inner_of rec.old)) (C.remaining (inner_of certificate.old)) files.new.items status text
-        × Appends (W.contents (inner_of out.old)) (W.contents (inner_of out.new)) text) }
-    ensures device { OnOk result ((has_failed rec.new ≡ false) × (has_failed certificate.new ≡ false) × (has_failed out.new ≡ false)) }
+    ensures verdict { IfOk result (λ status. PutsVerdict W.contents out.old out.new
+        profile.now (unread R.remaining rec.old) (unread C.remaining certificate.old) files.new.items status) }
+    ensures device { OnOk result (AllWork rec.new certificate.new out.new) }
     ensures no_verdict { OnErr result (files.new.items ≡ []) }
-    ensures err { IfErr result (IsVerifyFault profile.now (R.remaining (inner_of rec.old)) (has_failed rec.new) (has_failed certificate.new) (has_failed out.new)) }
-    ensures silent { IfErr result (λ e. (e ≢ RunFault.Device) ⊎ ((has_failed rec.new ≡ true) ⊎ (has_failed out.new ≡ false)) → out.new ≡ out.old) }
+    ensures err { IfErr result (LeavesFault profile.now (unread R.remaining rec.old) rec.new certificate.new out.new) }
+    ensures silent { IfErr result (IsSilent rec.new out.old out.new) }
 {
     files.clear();
-    match answer_of(alloc, profile, rec, certificate)? {
-        Ok(verified) => {
-            put_yes(out, verified.files())?;
-            *files = verified.into_files();
-            Ok(0)
-        }
-        Err(fault) => {
-            put_no(out, fault)?;
-            Ok(2)
-        }
-    }
+    let Judged {
+        files: crossed,
+        status,
+    } = judge(alloc, profile, rec, certificate, out)?;
+    *files = crossed;
+    Ok(status)
 }

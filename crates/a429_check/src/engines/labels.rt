@@ -1,11 +1,10 @@
 //! `a429 labels PROFILE`: the label table of a profile, a line for each entry.
 
 ghost use Rattle.std.specs.Prelude.{◌≡◌, ◌≢◌, ◌↔◌, true, false, IsErr, IfOk, IfErr, OnOk};
-ghost use Rattle.std.specs.Io.KnownBytes.{Appends};
-ghost use Rattle.a429_word.specs.Tally.{inner_of, has_failed};
-ghost use Rattle.a429_profile.specs.Contents.{Contents};
-ghost use Rattle.a429_check.specs.ProfileBytes.{IsProfileOf, IsLabelsFault};
-ghost use Rattle.a429_check.specs.LabelLines.{sdi_text, kind_text, address_text, label_line, label_lines};
+ghost use Rattle.a429_word.specs.Tally.{has_failed, Puts};
+ghost use Rattle.a429_profile.specs.Profile.{Contents};
+ghost use Rattle.a429_check.specs.Profile.{IsProfileOf};
+ghost use Rattle.a429_check.specs.Labels.{IsLabelsFault, sdi_text, kind_text, address_text, label_line, label_lines};
 
 use crate::engines::output::put_decimal;
 use crate::engines::profile::profile_of;
@@ -24,7 +23,7 @@ pub fn run_labels<W: Write>(
 ) -> Result<u8, RunFault>
     ensures ok { IfOk result (λ status. status ≡ 0) }
     ensures lines { OnOk result ((contents : Contents) × IsProfileOf profile.now contents
-        × Appends (W.contents (inner_of out.old)) (W.contents (inner_of out.new)) (label_lines contents.labels)) }
+        × Puts W.contents out.old out.new (label_lines contents.labels)) }
     ensures err { IfErr result (IsLabelsFault profile.now (has_failed out.new)) }
     ensures device { OnOk result (has_failed out.new ≡ false) }
     ensures silent { IfErr result (λ e. e ≢ RunFault.Device → out.new ≡ out.old) }
@@ -36,7 +35,7 @@ pub fn run_labels<W: Write>(
 
 // A line for each entry. A writer that has failed is told where there is none, too.
 fn write_labels<W: Write>(profile: &Profile, out: &mut Tally<W>) -> Result<(), Device>
-    ensures ok { OnOk result (Appends (W.contents (inner_of out.old)) (W.contents (inner_of out.new)) (label_lines profile.now.labels)) }
+    ensures ok { OnOk result (Puts W.contents out.old out.new (label_lines profile.now.labels)) }
     ensures device { IsErr result ↔ (has_failed out.new ≡ true) }
 {
     for i in 0..profile.entry_count() {
@@ -49,7 +48,7 @@ fn write_labels<W: Write>(profile: &Profile, out: &mut Tally<W>) -> Result<(), D
 }
 
 fn put_entry<W: Write>(out: &mut Tally<W>, entry: &LabelEntry) -> Result<(), Device>
-    ensures ok { OnOk result (Appends (W.contents (inner_of out.old)) (W.contents (inner_of out.new)) (label_line entry.now)) }
+    ensures ok { OnOk result (Puts W.contents out.old out.new (label_line entry.now)) }
     ensures device { IsErr result ↔ (has_failed out.new ≡ true) }
 {
     put_address(out, entry)?;
@@ -62,7 +61,7 @@ fn put_entry<W: Write>(out: &mut Tally<W>, entry: &LabelEntry) -> Result<(), Dev
 
 // The words that the entry is for.
 fn put_address<W: Write>(out: &mut Tally<W>, entry: &LabelEntry) -> Result<(), Device>
-    ensures ok { OnOk result (Appends (W.contents (inner_of out.old)) (W.contents (inner_of out.new)) (address_text entry.now)) }
+    ensures ok { OnOk result (Puts W.contents out.old out.new (address_text entry.now)) }
     ensures device { IsErr result ↔ (has_failed out.new ≡ true) }
 {
     out.put(&octal(entry.label))?;
@@ -71,7 +70,7 @@ fn put_address<W: Write>(out: &mut Tally<W>, entry: &LabelEntry) -> Result<(), D
 }
 
 fn put_sdi<W: Write>(out: &mut Tally<W>, sdi: Option<u8>) -> Result<(), Device>
-    ensures ok { OnOk result (Appends (W.contents (inner_of out.old)) (W.contents (inner_of out.new)) (sdi_text sdi)) }
+    ensures ok { OnOk result (Puts W.contents out.old out.new (sdi_text sdi)) }
     ensures device { IsErr result ↔ (has_failed out.new ≡ true) }
 {
     match sdi {
@@ -81,7 +80,7 @@ fn put_sdi<W: Write>(out: &mut Tally<W>, sdi: Option<u8>) -> Result<(), Device>
 }
 
 fn put_kind<W: Write>(out: &mut Tally<W>, kind: &Kind) -> Result<(), Device>
-    ensures ok { OnOk result (Appends (W.contents (inner_of out.old)) (W.contents (inner_of out.new)) (kind_text kind.now)) }
+    ensures ok { OnOk result (Puts W.contents out.old out.new (kind_text kind.now)) }
     ensures device { IsErr result ↔ (has_failed out.new ≡ true) }
 {
     match kind {
@@ -99,7 +98,7 @@ fn put_kind<W: Write>(out: &mut Tally<W>, kind: &Kind) -> Result<(), Device>
 }
 
 fn put_bnr<W: Write>(out: &mut Tally<W>, bits: u8, range: u32, decimals: u8) -> Result<(), Device>
-    ensures ok { OnOk result (Appends (W.contents (inner_of out.old)) (W.contents (inner_of out.new)) (kind_text (Kind.Bnr bits range decimals))) }
+    ensures ok { OnOk result (Puts W.contents out.old out.new (kind_text (Kind.Bnr bits range decimals))) }
     ensures device { IsErr result ↔ (has_failed out.new ≡ true) }
 {
     out.put(b"bnr ")?;
@@ -111,7 +110,7 @@ fn put_bnr<W: Write>(out: &mut Tally<W>, bits: u8, range: u32, decimals: u8) -> 
 }
 
 fn put_bcd<W: Write>(out: &mut Tally<W>, digits: u8, decimals: u8) -> Result<(), Device>
-    ensures ok { OnOk result (Appends (W.contents (inner_of out.old)) (W.contents (inner_of out.new)) (kind_text (Kind.Bcd digits decimals))) }
+    ensures ok { OnOk result (Puts W.contents out.old out.new (kind_text (Kind.Bcd digits decimals))) }
     ensures device { IsErr result ↔ (has_failed out.new ≡ true) }
 {
     out.put(b"bcd ")?;

@@ -1,14 +1,13 @@
 //! `a429 make PROFILE FILE..`: the recording of a transfer of files without loss.
 
 ghost use Rattle.std.specs.Prelude.{◌≡◌, ◌≢◌, ◌+◌, ◌*◌, ◌/◌, [], ◌∷◌, ℕ, List, map, flat_map, true, false, None, Some, IsErr, IfOk, IfErr, OnOk, ◌≤◌, length};
-ghost use Rattle.std.specs.Io.KnownBytes.{Appends};
-ghost use Rattle.a429_word.specs.Page.{paged};
-ghost use Rattle.a429_word.specs.Tally.{inner_of, has_failed};
-ghost use Rattle.a429_profile.specs.Contents.{Contents};
+ghost use Rattle.a429_word.specs.Page.{PutsOn};
+ghost use Rattle.a429_word.specs.Tally.{Puts, has_failed};
+ghost use Rattle.a429_profile.specs.Profile.{Contents};
 ghost use Rattle.a429_link.specs.Clean.{clean_words, cut_fault, first_refused};
 ghost use Rattle.a429_record.specs.Recording.{most_entries};
-ghost use Rattle.a429_record.specs.Written.{line_text, written_form};
-ghost use Rattle.a429_check.specs.Made.{timed, words_made, Makes, IsMakeFault, IsRefusal, IsPutFault};
+ghost use Rattle.a429_record.specs.Writing.{line_text, written_form};
+ghost use Rattle.a429_check.specs.Make.{timed, words_made, MakesRecording, IsMakeFault, IsFilesFault, IsPutFault};
 
 use crate::engines::profile::profile_of;
 use crate::fault::RunFault;
@@ -45,8 +44,8 @@ pub fn run_make<W: Write>(
     out: &mut Tally<W>,
 ) -> Result<u8, RunFault>
     ensures ok { IfOk result (λ status. status ≡ 0) }
-    ensures written { OnOk result ((text : List ℕ) × Makes profile.now (map (λ f. f.items) files.now) text
-        × Appends (W.contents (inner_of out.old)) (W.contents (inner_of out.new)) text) }
+    ensures written { OnOk result ((text : List ℕ) × MakesRecording profile.now (map (λ f. f.items) files.now) text
+        × Puts W.contents out.old out.new text) }
     ensures err { IfErr result (IsMakeFault profile.now (map (λ f. f.items) files.now) (has_failed out.new)) }
     ensures device { OnOk result (has_failed out.new ≡ false) }
     ensures silent { IfErr result (λ e. e ≢ RunFault.Device → e ≢ RunFault.Memory → out.new ≡ out.old) }
@@ -61,7 +60,7 @@ pub fn run_make<W: Write>(
 fn check_files(files: &[Vec<u8>]) -> Result<(), RunFault>
     ensures cut { OnOk result (first_refused 255 0 (map (λ f. f.items) files.now) ≡ None) }
     ensures room { OnOk result ((p : Contents) → length (words_made p (map (λ f. f.items) files.now)) ≤ most_entries) }
-    ensures err { IfErr result (IsRefusal (map (λ f. f.items) files.now)) }
+    ensures err { IfErr result (IsFilesFault (map (λ f. f.items) files.now)) }
 {
     let mut count: usize = 0;
     for (k, bytes) in files.iter().enumerate() {
@@ -111,7 +110,7 @@ fn put_recording<W: Write>(
 ) -> Result<(), RunFault>
     requires cut { first_refused 255 0 (map (λ f. f.items) files.now) ≡ None }
     requires most { length (words_made profile.now (map (λ f. f.items) files.now)) ≤ most_entries }
-    ensures ok { OnOk result (Appends (W.contents (inner_of out.old)) (W.contents (inner_of out.new)) (written_form (timed 0 (words_made profile.now (map (λ f. f.items) files.now))))) }
+    ensures ok { OnOk result (Puts W.contents out.old out.new (written_form (timed 0 (words_made profile.now (map (λ f. f.items) files.now))))) }
     ensures err { IfErr result (IsPutFault (has_failed out.new)) }
     ensures device { OnOk result (has_failed out.new ≡ false) }
 {
@@ -142,7 +141,7 @@ fn put_words<W: Write>(
     words: &[Seen],
 ) -> Result<(), Device>
     requires most { first + length words.now ≤ most_entries }
-    ensures ok { OnOk result (Appends (paged W.contents out.old page.old) (paged W.contents out.new page.new) (flat_map line_text (timed first words.now))) }
+    ensures ok { OnOk result (PutsOn W.contents out.old page.old out.new page.new (flat_map line_text (timed first words.now))) }
     ensures device { IsErr result → has_failed out.new ≡ true }
 {
     for (i, seen) in words.iter().enumerate() {

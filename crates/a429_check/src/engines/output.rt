@@ -2,8 +2,7 @@
 
 ghost use Rattle.std.specs.Prelude.{◌≡◌, ◌↔◌, true, IsErr, OnOk};
 ghost use Rattle.std.specs.Fmt.{decimal};
-ghost use Rattle.std.specs.Io.KnownBytes.{Appends};
-ghost use Rattle.a429_word.specs.Tally.{inner_of, has_failed};
+ghost use Rattle.a429_word.specs.Tally.{has_failed, Puts};
 
 use a429_word::{Device, Tally};
 use itoa::Buffer;
@@ -11,7 +10,7 @@ use std::io::Write;
 
 /// Writes a number in decimal.
 pub(crate) fn put_decimal<W: Write>(out: &mut Tally<W>, number: u64) -> Result<(), Device>
-    ensures ok { OnOk result (Appends (W.contents (inner_of out.old)) (W.contents (inner_of out.new)) (decimal number)) }
+    ensures ok { OnOk result (Puts W.contents out.old out.new (decimal number)) }
     ensures device { IsErr result ↔ (has_failed out.new ≡ true) }
 {
     let mut buffer = Buffer::new();

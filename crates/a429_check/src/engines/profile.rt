@@ -1,7 +1,7 @@
 //! Reads the bytes of a profile, as each command that takes one does.
 
 ghost use Rattle.std.specs.Prelude.{IfOk, IfErr};
-ghost use Rattle.a429_check.specs.ProfileBytes.{IsProfileOf, IsProfileFault};
+ghost use Rattle.a429_check.specs.Profile.{IsProfileOf, IsProfileFault};
 
 use crate::fault::RunFault;
 use a429_profile::{Profile, ProfileFault, read_profile};

@@ -1,15 +1,14 @@
 //! `a429 show PROFILE REC`: the words of a recording, a line for each.
 
 ghost use Rattle.std.specs.Prelude.{◌≡◌, ◌≢◌, ◌⊎◌, ◌↔◌, ◌≤◌, ◌++◌, [], ℕ, List, codes, true, false, IsErr, IfOk, IfErr, OnOk};
-ghost use Rattle.std.specs.Io.KnownBytes.{Appends};
-ghost use Rattle.a429_word.specs.Tally.{inner_of, has_failed};
-ghost use Rattle.a429_word.specs.Page.{paged};
+ghost use Rattle.a429_word.specs.Tally.{has_failed, unread, Puts};
+ghost use Rattle.a429_word.specs.Page.{PutsOn};
 ghost use Rattle.std.specs.Fmt.{decimal};
 ghost use Rattle.std.specs.List.{flat_map, AllByRecursion};
-ghost use Rattle.a429_word.specs.Fixed.{Spells};
-ghost use Rattle.a429_profile.specs.Shown.{HasItsRanges, IsInRange, IsFlagBit};
-ghost use Rattle.a429_check.specs.RecordingBytes.{IsShowFault};
-ghost use Rattle.a429_check.specs.ShowLines.{status_text, unit_text, test_text, flag_text, flags_text, IsShownText, recorded_text, fields_text, IsShowLine, AreShowLines, Shows};
+ghost use Rattle.a429_word.specs.Fixed.{SpellsFraction};
+ghost use Rattle.a429_profile.specs.Shown.{HasItsRanges};
+ghost use Rattle.a429_profile.specs.Entry.{IsFlagBit, IsKindInRange};
+ghost use Rattle.a429_check.specs.Show.{IsShowFault, status_text, unit_text, test_text, flag_text, flags_text, IsShownText, recorded_text, fields_text, IsShowLine, AreShowLines, ShowsEntries};
 
 use crate::engines::profile::profile_of;
 use crate::engines::recording::entries_of;
@@ -30,9 +29,9 @@ pub fn run_show<R: Read, W: Write>(
     out: &mut Tally<W>,
 ) -> Result<u8, RunFault>
     ensures ok { IfOk result (λ status. status ≡ 0) }
-    ensures lines { OnOk result ((text : List ℕ) × Shows profile.now (R.remaining (inner_of rec.old)) text
-        × Appends (W.contents (inner_of out.old)) (W.contents (inner_of out.new)) text) }
-    ensures err { IfErr result (IsShowFault profile.now (R.remaining (inner_of rec.old)) (has_failed rec.new) (has_failed out.new)) }
+    ensures lines { OnOk result ((text : List ℕ) × ShowsEntries profile.now (unread R.remaining rec.old) text
+        × Puts W.contents out.old out.new text) }
+    ensures err { IfErr result (IsShowFault profile.now (unread R.remaining rec.old) (has_failed rec.new) (has_failed out.new)) }
     ensures silent { IfErr result (λ e. (e ≢ RunFault.Device) ⊎ (has_failed rec.new ≡ true) → out.new ≡ out.old) }
     ensures device { OnOk result ((has_failed rec.new ≡ false) × (has_failed out.new ≡ false)) }
 {
@@ -51,7 +50,7 @@ fn put_entries<W: Write>(
     entries: &[Entry],
 ) -> Result<(), Device>
     requires { page ≡ [] }
-    ensures ok { OnOk result ((text : List ℕ) × AreShowLines profile.now entries.now text × Appends (W.contents (inner_of out.old)) (W.contents (inner_of out.new)) text) }
+    ensures ok { OnOk result ((text : List ℕ) × AreShowLines profile.now entries.now text × Puts W.contents out.old out.new text) }
     ensures device { IsErr result ↔ (has_failed out.new ≡ true) }
 {
     let mut page = page;
@@ -67,7 +66,7 @@ fn put_entry<W: Write>(
     profile: &Profile,
     entry: &Entry,
 ) -> Result<(), Device>
-    ensures ok { OnOk result ((line : List ℕ) × IsShowLine profile.now entry.now line × Appends (paged W.contents out.old page.old) (paged W.contents out.new page.new) line) }
+    ensures ok { OnOk result ((line : List ℕ) × IsShowLine profile.now entry.now line × PutsOn W.contents out.old page.old out.new page.new line) }
     ensures device { IsErr result → has_failed out.new ≡ true }
 {
     put_recorded(page, out, entry)?;
@@ -77,7 +76,7 @@ fn put_entry<W: Write>(
 
 // When, on which bus and which word, and the word's label, SDI and SSM.
 fn put_recorded<W: Write>(page: &mut Page, out: &mut Tally<W>, entry: &Entry) -> Result<(), Device>
-    ensures ok { OnOk result (Appends (paged W.contents out.old page.old) (paged W.contents out.new page.new) (recorded_text entry.now ++ fields_text entry.now.word)) }
+    ensures ok { OnOk result (PutsOn W.contents out.old page.old out.new page.new (recorded_text entry.now ++ fields_text entry.now.word)) }
     ensures device { IsErr result → has_failed out.new ≡ true }
 {
     put_parts(page, out, *entry, b' ', b' ')?;
@@ -103,7 +102,7 @@ fn fields(word: Word) -> [u8; 8]
 
 fn put_shown<W: Write>(page: &mut Page, out: &mut Tally<W>, shown: &Shown<'_>) -> Result<(), Device>
     requires { HasItsRanges shown.now }
-    ensures ok { OnOk result ((text : List ℕ) × IsShownText shown.now text × Appends (paged W.contents out.old page.old) (paged W.contents out.new page.new) text) }
+    ensures ok { OnOk result ((text : List ℕ) × IsShownText shown.now text × PutsOn W.contents out.old page.old out.new page.new text) }
     ensures device { IsErr result → has_failed out.new ≡ true }
 {
     match shown {
@@ -130,7 +129,7 @@ fn put_status<W: Write>(
     entry: &LabelEntry,
     status: Status,
 ) -> Result<(), Device>
-    ensures ok { OnOk result (Appends (paged W.contents out.old page.old) (paged W.contents out.new page.new) (entry.now.name ++ status_text status)) }
+    ensures ok { OnOk result (PutsOn W.contents out.old page.old out.new page.new (entry.now.name ++ status_text status)) }
     ensures device { IsErr result → has_failed out.new ≡ true }
 {
     page.put(out, entry.name.as_str().as_bytes())?;
@@ -149,7 +148,7 @@ fn put_bad_digit<W: Write>(
     entry: &LabelEntry,
     place: u8,
 ) -> Result<(), Device>
-    ensures ok { OnOk result (Appends (paged W.contents out.old page.old) (paged W.contents out.new page.new) (entry.now.name ++ codes " bad digit " ++ decimal place)) }
+    ensures ok { OnOk result (PutsOn W.contents out.old page.old out.new page.new (entry.now.name ++ codes " bad digit " ++ decimal place)) }
     ensures device { IsErr result → has_failed out.new ≡ true }
 {
     page.put(out, entry.name.as_str().as_bytes())?;
@@ -165,8 +164,8 @@ fn put_value<W: Write>(
     is_test: bool,
 ) -> Result<(), Device>
     requires { value.now.decimals ≤ 24 }
-    ensures ok { OnOk result ((digits : List ℕ) × Spells digits value.now.number value.now.decimals
-        × Appends (paged W.contents out.old page.old) (paged W.contents out.new page.new) (entry.now.name ++ codes " " ++ digits ++ unit_text entry.now.unit ++ test_text is_test)) }
+    ensures ok { OnOk result ((digits : List ℕ) × SpellsFraction digits value.now.number value.now.decimals
+        × PutsOn W.contents out.old page.old out.new page.new (entry.now.name ++ codes " " ++ digits ++ unit_text entry.now.unit ++ test_text is_test)) }
     ensures device { IsErr result → has_failed out.new ≡ true }
 {
     page.put(out, entry.name.as_str().as_bytes())?;
@@ -178,7 +177,7 @@ fn put_value<W: Write>(
 
 // A unit with a space before it; nothing where there is none.
 fn put_unit<W: Write>(page: &mut Page, out: &mut Tally<W>, unit: &str) -> Result<(), Device>
-    ensures ok { OnOk result (Appends (paged W.contents out.old page.old) (paged W.contents out.new page.new) (unit_text unit.now)) }
+    ensures ok { OnOk result (PutsOn W.contents out.old page.old out.new page.new (unit_text unit.now)) }
     ensures device { IsErr result → has_failed out.new ≡ true }
 {
     if unit.is_empty() {
@@ -189,7 +188,7 @@ fn put_unit<W: Write>(page: &mut Page, out: &mut Tally<W>, unit: &str) -> Result
 }
 
 fn put_test<W: Write>(page: &mut Page, out: &mut Tally<W>, is_test: bool) -> Result<(), Device>
-    ensures ok { OnOk result (Appends (paged W.contents out.old page.old) (paged W.contents out.new page.new) (test_text is_test)) }
+    ensures ok { OnOk result (PutsOn W.contents out.old page.old out.new page.new (test_text is_test)) }
     ensures device { IsErr result → has_failed out.new ≡ true }
 {
     if is_test {
@@ -206,8 +205,8 @@ fn put_bits<W: Write>(
     field: u32,
     is_test: bool,
 ) -> Result<(), Device>
-    requires { IsInRange entry.now.kind }
-    ensures ok { OnOk result (Appends (paged W.contents out.old page.old) (paged W.contents out.new page.new) (entry.now.name ++ flags_text field entry.now.kind ++ test_text is_test)) }
+    requires { IsKindInRange entry.now.kind }
+    ensures ok { OnOk result (PutsOn W.contents out.old page.old out.new page.new (entry.now.name ++ flags_text field entry.now.kind ++ test_text is_test)) }
     ensures device { IsErr result → has_failed out.new ≡ true }
 {
     page.put(out, entry.name.as_str().as_bytes())?;
@@ -224,7 +223,7 @@ fn put_flags<W: Write>(
     flags: &[Flag],
 ) -> Result<(), Device>
     requires { AllByRecursion IsFlagBit flags.now }
-    ensures ok { OnOk result (Appends (paged W.contents out.old page.old) (paged W.contents out.new page.new) (flat_map (flag_text field) flags.now)) }
+    ensures ok { OnOk result (PutsOn W.contents out.old page.old out.new page.new (flat_map (flag_text field) flags.now)) }
     ensures device { IsErr result → has_failed out.new ≡ true }
 {
     for flag in flags {
@@ -241,7 +240,7 @@ fn put_flag<W: Write>(
     flag: &Flag,
 ) -> Result<(), Device>
     requires { IsFlagBit flag.now }
-    ensures ok { OnOk result (Appends (paged W.contents out.old page.old) (paged W.contents out.new page.new) (flag_text field flag.now)) }
+    ensures ok { OnOk result (PutsOn W.contents out.old page.old out.new page.new (flag_text field flag.now)) }
     ensures device { IsErr result → has_failed out.new ≡ true }
 {
     page.put(out, b" ")?;

@@ -2,10 +2,9 @@
 
 ghost use Rattle.std.specs.Prelude.{◌≡◌, ◌↔◌, ◌≢◌, true, false, Err, codes, ◌++◌, IsErr, IfOk, IfErr, OnOk};
 ghost use Rattle.std.specs.List.{flat_map};
-ghost use Rattle.std.specs.Io.KnownBytes.{Appends};
-ghost use Rattle.a429_word.specs.Tally.{inner_of, has_failed};
-ghost use Rattle.a429_check.specs.Verdict.{file_line, yes_text, no_text, IsAnswer, IsVerifyFault};
-ghost use Rattle.a429_check.specs.RecordingBytes.{Says};
+ghost use Rattle.a429_word.specs.Tally.{has_failed, unread, Puts};
+ghost use Rattle.a429_check.specs.Verdict.{file_line, yes_text, no_text, IsAnswer, PutsVerdict, IsVerifyFault, LeavesFault, AllWork, IsSilent};
+ghost use Rattle.a429_check.specs.Recording.{SayInput};
 ghost use Rattle.std.specs.Fmt.{decimal};
 
 use crate::engines::output::put_decimal;
@@ -19,19 +18,58 @@ use a429_word::{Device, Tally};
 use std::alloc::Global;
 use std::io::{Read, Write};
 
-/// What `verify` answers to a certificate, under the profile whose text the bytes are. The recording is
-/// read to its end, and then the certificate.
-pub(crate) fn answer_of<R: Read, C: Read>(
+/// The verdict of a certificate: the files that crossed, none where it is refused, and the exit status.
+#[derive(Drop)]
+pub(crate) struct Judged {
+    pub files: Vec<FileBytes>,
+    pub status: u8,
+}
+
+/// Writes the verdict of a certificate, and answers it.
+pub(crate) fn judge<R: Read, C: Read, W: Write>(
+    alloc: Global,
+    profile: &[u8],
+    rec: &mut Tally<R>,
+    certificate: &mut Tally<C>,
+    out: &mut Tally<W>,
+) -> Result<Judged, RunFault>
+    ensures verdict { IfOk result (λ v. PutsVerdict W.contents out.old out.new
+        profile.now (unread R.remaining rec.old) (unread C.remaining certificate.old) v.files.items v.status) }
+    ensures device { OnOk result (AllWork rec.new certificate.new out.new) }
+    ensures err { IfErr result (LeavesFault profile.now (unread R.remaining rec.old) rec.new certificate.new out.new) }
+    ensures silent { IfErr result (IsSilent rec.new out.old out.new) }
+{
+    match answer_of(alloc, profile, rec, certificate)? {
+        Ok(verified) => {
+            put_yes(out, verified.files())?;
+            Ok(Judged {
+                files: verified.into_files(),
+                status: 0,
+            })
+        }
+        Err(fault) => {
+            put_no(out, fault)?;
+            Ok(Judged {
+                files: Vec::new(alloc),
+                status: 2,
+            })
+        }
+    }
+}
+
+// What `verify` answers to a certificate, under the profile whose text the bytes are. The recording is
+// read to its end, and then the certificate.
+fn answer_of<R: Read, C: Read>(
     alloc: Global,
     profile: &[u8],
     rec: &mut Tally<R>,
     certificate: &mut Tally<C>,
 ) -> Result<Result<Verified, CertFault>, RunFault>
-    ensures answer { IfOk result (IsAnswer profile.now (R.remaining (inner_of rec.old)) (C.remaining (inner_of certificate.old))) }
-    ensures says { OnOk result (Says profile.now (R.remaining (inner_of rec.old))) }
+    ensures answer { IfOk result (IsAnswer profile.now (unread R.remaining rec.old) (unread C.remaining certificate.old)) }
+    ensures says { OnOk result (SayInput profile.now (unread R.remaining rec.old)) }
     ensures verdict { IfOk result (λ a. a ≢ Err CertFault.OutOfMemory) }
     ensures device { OnOk result ((has_failed rec.new ≡ false) × (has_failed certificate.new ≡ false)) }
-    ensures err { IfErr result (IsVerifyFault profile.now (R.remaining (inner_of rec.old)) (has_failed rec.new) (has_failed certificate.new) false) }
+    ensures err { IfErr result (IsVerifyFault profile.now (unread R.remaining rec.old) (has_failed rec.new) (has_failed certificate.new) false) }
 {
     let profile = profile_of(alloc, profile)?;
     let entries = entries_of(alloc, rec)?;
@@ -58,7 +96,7 @@ fn of_certificate(fault: CertFault) -> Result<CertFault, RunFault>
 
 /// Writes that the certificate is accepted, with its files.
 pub(crate) fn put_yes<W: Write>(out: &mut Tally<W>, files: &[FileBytes]) -> Result<(), Device>
-    ensures ok { OnOk result (Appends (W.contents (inner_of out.old)) (W.contents (inner_of out.new)) (yes_text files.now)) }
+    ensures ok { OnOk result (Puts W.contents out.old out.new (yes_text files.now)) }
     ensures device { IsErr result ↔ (has_failed out.new ≡ true) }
 {
     out.put(b"YES files ")?;
@@ -68,7 +106,7 @@ pub(crate) fn put_yes<W: Write>(out: &mut Tally<W>, files: &[FileBytes]) -> Resu
 }
 
 fn put_files<W: Write>(out: &mut Tally<W>, files: &[FileBytes]) -> Result<(), Device>
-    ensures ok { OnOk result (Appends (W.contents (inner_of out.old)) (W.contents (inner_of out.new)) (flat_map file_line files.now)) }
+    ensures ok { OnOk result (Puts W.contents out.old out.new (flat_map file_line files.now)) }
     ensures device { IsErr result → has_failed out.new ≡ true }
     ensures goes_on { OnOk result (has_failed out.old ≡ false → has_failed out.new ≡ false) }
 {
@@ -79,7 +117,7 @@ fn put_files<W: Write>(out: &mut Tally<W>, files: &[FileBytes]) -> Result<(), De
 }
 
 fn put_file<W: Write>(out: &mut Tally<W>, file: &FileBytes) -> Result<(), Device>
-    ensures ok { OnOk result (Appends (W.contents (inner_of out.old)) (W.contents (inner_of out.new)) (file_line file.now)) }
+    ensures ok { OnOk result (Puts W.contents out.old out.new (file_line file.now)) }
     ensures device { IsErr result ↔ (has_failed out.new ≡ true) }
 {
     out.put(b"file ")?;
@@ -92,7 +130,7 @@ fn put_file<W: Write>(out: &mut Tally<W>, file: &FileBytes) -> Result<(), Device
 /// Writes why the certificate is refused.
 pub(crate) fn put_no<W: Write>(out: &mut Tally<W>, fault: CertFault) -> Result<(), Device>
     requires { fault ≢ CertFault.OutOfMemory }
-    ensures ok { OnOk result (Appends (W.contents (inner_of out.old)) (W.contents (inner_of out.new)) (no_text fault)) }
+    ensures ok { OnOk result (Puts W.contents out.old out.new (no_text fault)) }
     ensures device { IsErr result ↔ (has_failed out.new ≡ true) }
 {
     match fault {
@@ -107,7 +145,7 @@ pub(crate) fn put_no<W: Write>(out: &mut Tally<W>, fault: CertFault) -> Result<(
 }
 
 fn put_word_differs<W: Write>(out: &mut Tally<W>, line: usize, entry: usize) -> Result<(), Device>
-    ensures ok { OnOk result (Appends (W.contents (inner_of out.old)) (W.contents (inner_of out.new)) (no_text (CertFault.WordDiffers line entry))) }
+    ensures ok { OnOk result (Puts W.contents out.old out.new (no_text (CertFault.WordDiffers line entry))) }
     ensures device { IsErr result ↔ (has_failed out.new ≡ true) }
 {
     out.put(b"NO word differs ")?;
@@ -118,7 +156,7 @@ fn put_word_differs<W: Write>(out: &mut Tally<W>, line: usize, entry: usize) -> 
 }
 
 fn put_reason<W: Write>(out: &mut Tally<W>, reason: &[u8], number: usize) -> Result<(), Device>
-    ensures ok { OnOk result (Appends (W.contents (inner_of out.old)) (W.contents (inner_of out.new)) (reason.now ++ decimal number ++ codes "\n")) }
+    ensures ok { OnOk result (Puts W.contents out.old out.new (reason.now ++ decimal number ++ codes "\n")) }
     ensures device { IsErr result ↔ (has_failed out.new ≡ true) }
 {
     out.put(reason)?;

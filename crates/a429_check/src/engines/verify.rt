@@ -1,12 +1,11 @@
 //! `a429 verify PROFILE REC CERT`: whether a certificate explains a recording.
 
-ghost use Rattle.std.specs.Prelude.{◌≡◌, ◌≢◌, ◌⊎◌, ℕ, List, true, false, IfOk, IfErr, OnOk};
-ghost use Rattle.std.specs.Io.KnownBytes.{Appends};
-ghost use Rattle.a429_word.specs.Tally.{inner_of, has_failed};
+ghost use Rattle.std.specs.Prelude.{List, IfOk, IfErr, OnOk};
+ghost use Rattle.a429_word.specs.Tally.{unread};
 ghost use Rattle.a429_link.specs.declared.file.FileBytes.{FileBytes};
-ghost use Rattle.a429_check.specs.Verdict.{IsVerdict, IsVerifyFault};
+ghost use Rattle.a429_check.specs.Verdict.{PutsVerdict, LeavesFault, AllWork, IsSilent};
 
-use crate::engines::verdict::{answer_of, put_no, put_yes};
+use crate::engines::verdict::judge;
 use crate::fault::RunFault;
 use a429_word::Tally;
 use std::alloc::Global;
@@ -23,21 +22,12 @@ pub fn run_verify<R: Read, C: Read, W: Write>(
     certificate: &mut Tally<C>,
     out: &mut Tally<W>,
 ) -> Result<u8, RunFault>
-    ensures verdict { IfOk result (λ status. (files : List FileBytes) × (text : List ℕ)
-        × IsVerdict profile.now (R.remaining (inner_of rec.old)) (C.remaining (inner_of certificate.old)) files status text
-        × Appends (W.contents (inner_of out.old)) (W.contents (inner_of out.new)) text) }
-    ensures device { OnOk result ((has_failed rec.new ≡ false) × (has_failed certificate.new ≡ false) × (has_failed out.new ≡ false)) }
-    ensures err { IfErr result (IsVerifyFault profile.now (R.remaining (inner_of rec.old)) (has_failed rec.new) (has_failed certificate.new) (has_failed out.new)) }
-    ensures silent { IfErr result (λ e. (e ≢ RunFault.Device) ⊎ ((has_failed rec.new ≡ true) ⊎ (has_failed out.new ≡ false)) → out.new ≡ out.old) }
+    ensures verdict { IfOk result (λ status. (files : List FileBytes) × PutsVerdict W.contents out.old out.new
+        profile.now (unread R.remaining rec.old) (unread C.remaining certificate.old) files status) }
+    ensures device { OnOk result (AllWork rec.new certificate.new out.new) }
+    ensures err { IfErr result (LeavesFault profile.now (unread R.remaining rec.old) rec.new certificate.new out.new) }
+    ensures silent { IfErr result (IsSilent rec.new out.old out.new) }
 {
-    match answer_of(alloc, profile, rec, certificate)? {
-        Ok(verified) => {
-            put_yes(out, verified.files())?;
-            Ok(0)
-        }
-        Err(fault) => {
-            put_no(out, fault)?;
-            Ok(2)
-        }
-    }
+    let judged = judge(alloc, profile, rec, certificate, out)?;
+    Ok(judged.status)
 }

@@ -2,10 +2,9 @@
 
 ghost use Rattle.std.specs.Prelude.{◌≡◌, ◌↔◌, true, false, IsOk, IsErr, IsErrOf, IfOk, OnOk};
 ghost use Rattle.std.specs.Str.Parse.{digits_value};
-ghost use Rattle.std.specs.Io.KnownBytes.{Appends};
-ghost use Rattle.a429_word.specs.Tally.{inner_of, has_failed};
-ghost use Rattle.a429_word.specs.Written.{IsHexWord};
-ghost use Rattle.a429_check.specs.WordLines.{line, bits_text, parity_text, word_lines};
+ghost use Rattle.a429_word.specs.Tally.{has_failed, Puts};
+ghost use Rattle.a429_word.specs.Digits.{IsHexWord};
+ghost use Rattle.a429_check.specs.Word.{line, bits_text, parity_text, word_lines};
 
 use crate::fault::RunFault;
 use a429_word::{Device, Tally, Word, octal};
@@ -17,7 +16,7 @@ use std::io::Write;
 pub fn run_word<W: Write>(text: &str, out: &mut Tally<W>) -> Result<u8, RunFault>
     ensures ok { IsOk result ↔ (IsHexWord text.now × (has_failed out.new ≡ false)) }
     ensures lines { IfOk result (λ status. (status ≡ 0)
-        × Appends (W.contents (inner_of out.old)) (W.contents (inner_of out.new)) (word_lines (digits_value 16 text.now))) }
+        × Puts W.contents out.old out.new (word_lines (digits_value 16 text.now))) }
     ensures bad { IsErrOf result RunFault.BadWord ↔ (¬ IsHexWord text.now) }
     ensures silent { (¬ IsHexWord text.now) → out.new ≡ out.old }
     ensures device { IsErrOf result RunFault.Device ↔ (IsHexWord text.now × (has_failed out.new ≡ true)) }
@@ -31,7 +30,7 @@ pub fn run_word<W: Write>(text: &str, out: &mut Tally<W>) -> Result<u8, RunFault
 
 // The seven lines of a word.
 fn write_word<W: Write>(word: Word, out: &mut Tally<W>) -> Result<(), Device>
-    ensures ok { OnOk result (Appends (W.contents (inner_of out.old)) (W.contents (inner_of out.new)) (word_lines word)) }
+    ensures ok { OnOk result (Puts W.contents out.old out.new (word_lines word)) }
     ensures device { IsErr result ↔ (has_failed out.new ≡ true) }
 {
     let mut bnr = Buffer::new();
@@ -64,7 +63,7 @@ fn parity(word: Word) -> &'static str
 
 // A line: a name, a space and a value.
 fn put_line<W: Write>(out: &mut Tally<W>, name: &str, value: &[u8]) -> Result<(), Device>
-    ensures ok { OnOk result (Appends (W.contents (inner_of out.old)) (W.contents (inner_of out.new)) (line name.now value.now)) }
+    ensures ok { OnOk result (Puts W.contents out.old out.new (line name.now value.now)) }
     ensures device { IsErr result ↔ (has_failed out.new ≡ true) }
 {
     out.put(name.as_bytes())?;

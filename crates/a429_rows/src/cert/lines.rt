@@ -1,8 +1,8 @@
 //! Lines of certificates, and texts that are no line.
 
-use a429_cert::{Act, CertLine, OutOfMemory, Words, read_line, write_line};
+use a429_cert::{Act, CertLine, LoadLine, MovedLine, OutOfMemory, Words, read_line, write_line};
 use a429_explain::Certificate;
-use a429_link::{SinkState, SourceState};
+use a429_link::{SinkState, SourceState, States};
 use a429_sample::CERTIFICATE;
 use a429_word::Word;
 use std::alloc::{AllocError, Global};
@@ -69,15 +69,9 @@ fn is_load_written_again(alloc: Global, count: usize) -> Result<Option<bool>, Ou
 }
 
 // What a line tells of a step and of what it leaves.
-fn moved(line: &CertLine) -> Option<(Act, SourceState, SinkState, u8, u8)> {
+fn moved(line: &CertLine) -> Option<(Act, States)> {
     match *line {
-        CertLine::Moved {
-            act,
-            source,
-            sink,
-            to_sink,
-            to_source,
-        } => Some((act, source, sink, to_sink, to_source)),
+        CertLine::Moved(MovedLine { act, states }) => Some((act, states)),
         _ => None,
     }
 }
@@ -138,25 +132,24 @@ fn values_of_lines(rt: HostRuntime) -> Result<(), Fail> {
     let first = line_of(rt.alloc(), "first 12").ok_or("a line")?;
     assert!(rt; first_of(&first) == Some(12));
     let line = line_of(rt.alloc(), "k S1 c 2 3").ok_or("a line")?;
-    let step = (
-        Act::SinkTakes,
-        SourceState::Sending(1),
-        SinkState::OwesClear,
-        2,
-        3,
-    );
-    assert!(rt; moved(&line) == Some(step));
+    let states = States {
+        source: SourceState::Sending(1),
+        sink: SinkState::OwesClear,
+        to_sink: 2,
+        to_source: 3,
+    };
+    assert!(rt; moved(&line) == Some((Act::SinkTakes, states)));
     Ok(())
 }
 
 // Whether these are the numbers of a load of one word, this one, also once its words are given away.
 fn is_load(line: CertLine, numbers: (u8, u8, u16), number: u32) -> bool {
-    let CertLine::Load {
+    let CertLine::Load(LoadLine {
         gfi,
         flags,
         check,
         words,
-    } = line
+    }) = line
     else {
         return false;
     };

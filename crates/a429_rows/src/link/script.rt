@@ -1,7 +1,7 @@
 //! Scripts of a link: a line for each step, and behind a colon its answer where that is not `Ok(())`.
 
 ghost use Rattle.std.specs.Prelude.{◌≡◌, ◌≤◌, IfSome};
-ghost use Rattle.a429_profile.specs.Contents.{Contents};
+ghost use Rattle.a429_profile.specs.Profile.{Contents};
 ghost use Rattle.a429_ldu.specs.Ldu.{IsLdu};
 ghost use Rattle.a429_link.specs.Step.{LoadsLdu};
 
@@ -56,12 +56,18 @@ impl<'a> Stage<'a> {
 
     fn answer(&mut self, name: &str) -> Result<String, AllocError> {
         match name {
-            "states" => debug(self.alloc, &self.link.states()),
+            "states" => self.states(),
             "delivered" => debug(self.alloc, &self.link.delivered()),
             "take_delivered" => debug(self.alloc, &self.taken()),
             "255 open units cross" => debug(self.alloc, &self.open_units_cross()),
             _ => self.step_answer(name),
         }
+    }
+
+    // Where source and sink stand, and how many words are on their way to each.
+    fn states(&self) -> Result<String, AllocError> {
+        let at = self.link.states();
+        debug(self.alloc, &(at.source, at.sink, at.to_sink, at.to_source))
     }
 
     fn taken(&mut self) -> Vec<FileBytes> {

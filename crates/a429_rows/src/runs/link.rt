@@ -87,7 +87,9 @@ impl<'a> Pair<'a> {
             agrees &= self.allows(tried);
             self.model.make(tried)?;
         }
-        agrees &= self.link.states() == self.model.states();
+        let at = self.link.states();
+        let words = (usize::from(at.to_sink), usize::from(at.to_source));
+        agrees &= (at.source, at.sink, words.0, words.1) == self.model.states();
         Ok(agrees && same_files(self.link.delivered(), self.model.sink.files.as_slice()))
     }
 

@@ -2,7 +2,7 @@
 
 ghost use Rattle.std.specs.Prelude.{◌≡◌, ◌+◌, ◌/◌, ◌%◌, ◌^◌, ◌<◌, ◌≤◌, [], ◌∷◌, ◌++◌, length};
 ghost use Rattle.std.specs.Fmt.{decimal};
-ghost use Rattle.a429_word.specs.Written.{numeral};
+ghost use Rattle.a429_word.specs.Digits.{numeral};
 ghost use Rattle.a429_word.specs.Fixed.{sign_text, with_point};
 
 use crate::fixed::division::{divided, power_of_ten};

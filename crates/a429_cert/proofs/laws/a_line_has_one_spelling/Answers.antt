@@ -1,4 +1,4 @@
-use Rattle.a429_cert.proofs.Lines.{one-text, one-line}
+use Rattle.a429_cert.proofs.ReadingFacts.{one-text, one-line}
 use Rattle.a429_cert.proofs.laws.a_line_has_one_spelling.Goals as goal
 
 pub returns : goal.returns

@@ -1,4 +1,4 @@
-use Rattle.a429_cert.proofs.Shape.{line-visible, line-short}
+use Rattle.a429_cert.proofs.LineShape.{line-visible, line-short}
 use Rattle.a429_cert.proofs.laws.lines_are_short_ascii.Goals as goal
 
 pub returns : goal.returns

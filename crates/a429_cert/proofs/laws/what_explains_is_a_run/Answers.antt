@@ -1,4 +1,4 @@
-use Rattle.a429_cert.proofs.Steps.{in_some_run}
+use Rattle.a429_cert.proofs.ExplainedFacts.{in_some_run}
 use Rattle.a429_cert.proofs.laws.what_explains_is_a_run.Goals as goal
 
 pub returns : goal.returns

@@ -1,4 +1,4 @@
-use Rattle.a429_cert.proofs.Lines.{written-back}
+use Rattle.a429_cert.proofs.ReadingFacts.{written-back}
 use Rattle.a429_cert.proofs.laws.written_is_read_back.Goals as goal
 
 pub returns : goal.returns

@@ -1,5 +1,5 @@
 use Rattle.std.proofs.Common.{◌∙◌, sym}
-use Rattle.a429_cert.proofs.ByLetter.{faults_of}
+use Rattle.a429_cert.proofs.PassingStep.{faults_of}
 use Rattle.a429_cert.proofs.passing.make.Goals as goal
 
 pub returns-in-Some-clause-refused : goal.returns-in-Some-clause-refused

@@ -2,7 +2,7 @@ use Rattle.std.proofs.Common.{subst, sym, refl}
 use Rattle.a429_cert.specs.declared.act.Act.{Act}
 use Rattle.a429_word.specs.declared.bus.Bus.TheVariants as bus
 use Rattle.a429_cert.specs.Passing.{IsNamedOf}
-use Rattle.a429_cert.proofs.ByLetter.{sent_named, answered_named, unlettered}
+use Rattle.a429_cert.proofs.PassingStep.{sent_named, answered_named, unlettered}
 use Rattle.a429_cert.proofs.passing.may_record.Goals as goal
 
 pub returns-in-Sent-clause-yes : goal.returns-in-Sent-clause-yes

@@ -1,7 +1,6 @@
-use Rattle.std.proofs.Common.{ℕ, List, refl, subst}
-use Rattle.a429_ldu.specs.Ldu.{IsFirstFault}
-use Rattle.a429_cert.specs.Parts.{load_line}
-use Rattle.a429_cert.proofs.ByLetter.{unit_refused}
+use Rattle.std.proofs.Common.{ℕ, List, subst}
+use Rattle.a429_ldu.specs.Ldu.{IsFirstLduFault}
+use Rattle.a429_cert.proofs.PassingStep.{unit_refused}
 use Rattle.a429_cert.proofs.passing.pass_unit.Goals as goal
 
 pub new-requires-clause-gfi : goal.new-requires-clause-gfi
@@ -11,6 +10,6 @@ pub new-requires-clause-flags : goal.new-requires-clause-flags
 new-requires-clause-flags c = c.requires.range.1
 
 pub returns-clause-refused : goal.returns-clause-refused
-returns-clause-refused c = λ z next i.
-    unit_refused c.args.profile.now c.requires.sound c.args.link.now.state next c.args.n i c.args.line.gfi c.args.line.flags c.args.line.check c.args.line.words (load_line c.args.line) c.in-Err.fault c.no_unit.result refl c.no_unit.ensures
-    (λ h. subst (λ (ws : List ℕ). IsFirstFault c.args.profile.now c.args.line.check ws c.in-Err.fault) c.as_slice.ensures (c.in-Err.ensures.err h)) z
+returns-clause-refused c =
+    unit_refused c.args.profile.now c.requires.sound c.args.link.now.state c.args.at c.args.line c.in-Err.fault c.no_unit.result c.no_unit.ensures
+    (λ h. subst (λ (ws : List ℕ). IsFirstLduFault c.args.profile.now c.args.line.check ws c.in-Err.fault) c.as_slice.ensures (c.in-Err.ensures.err h))

@@ -1,6 +1,7 @@
 use Rattle.std.proofs.Common.{◌≡◌, ◌∙◌, ◌++◌, ◌∷◌, [], sym, ap, rules, Some, None}
-use Rattle.a429_cert.specs.Reading.{with_rest, hex_in, words_at}
-use Rattle.a429_cert.proofs.WordFields.{goes_on, stops, is_done, ends_well, goes_past}
+use Rattle.a429_cert.specs.Reading.{words_at}
+use Rattle.a429_cert.specs.Field.{hex_in, with_rest}
+use Rattle.a429_cert.proofs.ReadingWords.{one_more_word, stops, is_done, ends_well, goes_past}
 use Rattle.a429_cert.proofs.reading.words_at.Goals as goal
 
 pub returns-in_default : goal.returns-in_default
@@ -12,7 +13,7 @@ pub words-preserved : goal.words-preserved
 words-preserved c =
     let read : with_rest (hex_in 8) c.words.rest.now ≡ Some (c.in-Some.number, c.in-Some.after.now) = search rules in
     let pushed : c.push.new.self.items ≡ c.words.words.items ++ c.in-Some.number ∷ [] = c.in_ok-push.ensures.items ∙ ap (λ w. c.words.words.items ++ w ∷ []) c.from_u32.ensures in
-    rw pushed (goes_on c.words.words.items c.args.count c.words.counter c.words.rest.now c.in-Some.number c.in-Some.after.now (words_at c.args.count c.args.text.now) (search rules) read c.words.invariant)
+    rw pushed (one_more_word c.words.words.items c.args.count c.words.counter c.words.rest.now c.in-Some.number c.in-Some.after.now (words_at c.args.count c.args.text.now) (search rules) read c.words.invariant)
 
 pub returns-then-is_empty : goal.returns-then-is_empty
 returns-then-is_empty c =

@@ -1,6 +1,6 @@
 use Rattle.std.proofs.Common.{◌≡◌, ◌-◌}
 use Rattle.a429_cert.specs.Reading.{words_at}
-use Rattle.a429_cert.proofs.WordFields.{with_front}
+use Rattle.a429_cert.proofs.ReadingWords.{with_front}
 use Rattle.a429_cert.proofs.reading.words_at.Given as goal
 
 abbrev pub invariant-words : goal.invariant-words

@@ -1,6 +1,6 @@
 use Rattle.std.proofs.Common.{◌≡◌, ◌∙◌, ◌-◌, take, drop, ap}
-use Rattle.a429_word.specs.Written.{numeral, hex_text}
-use Rattle.a429_cert.proofs.Digits.{last-digits}
+use Rattle.a429_word.specs.Digits.{numeral, hex_text}
+use Rattle.a429_cert.proofs.FieldDigits.{last-digits}
 use Rattle.a429_cert.proofs.writing.put_hex.Goals as goal
 
 -- what is cut off the word's digits
@@ -8,8 +8,5 @@ digits : (c : goal.After-put_field) → take (8 - (8 - c.args.digits)) (drop (8 
 digits c =
     ap (λ t. take (8 - (8 - c.args.digits)) (drop (8 - c.args.digits) t)) (c.hex-hex.ensures ∙ ap hex_text c.from_u32.ensures) ∙ last-digits c.args.digits c.args.number c.requires
 
-pub returns-clause-ok : goal.returns-clause-ok
-returns-clause-ok c = rw (digits c) at c.put_field.ensures.ok
-
-pub returns-clause-full : goal.returns-clause-full
-returns-clause-full c = rw (digits c) at c.put_field.ensures.full
+pub returns : goal.returns
+returns c = rw (digits c) at c.put_field.ensures

@@ -1,7 +1,8 @@
 use Rattle.std.proofs.Common.{◌≡◌, ◌++◌, ◌≤◌, take, vec_capacity}
 use Rattle.std.specs.List.{flat_map}
-use Rattle.a429_word.specs.Written.{hex_text}
-use Rattle.a429_cert.specs.Line.{field, AreHeld}
+use Rattle.a429_word.specs.Digits.{hex_text}
+use Rattle.a429_cert.specs.Line.{AreHeld}
+use Rattle.a429_cert.specs.Field.{field}
 use Rattle.a429_cert.proofs.writing.put_words.Given as goal
 
 abbrev pub invariant-loop-word : goal.invariant-loop-word

@@ -1,6 +1,6 @@
 use Rattle.std.proofs.Common.{◌≡◌, ◌∙◌, ap, ◌∷◌, [], ℕ, List, refl, get_or}
-use Rattle.a429_word.specs.Written.{numeral, hex_text}
-use Rattle.a429_cert.specs.Line.{field}
+use Rattle.a429_word.specs.Digits.{numeral, hex_text}
+use Rattle.a429_cert.specs.Field.{field}
 use Rattle.a429_cert.proofs.writing.word_field.Goals as goal
 
 -- byte by byte

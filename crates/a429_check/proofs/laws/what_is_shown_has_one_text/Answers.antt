@@ -1,4 +1,4 @@
-use Rattle.a429_check.proofs.OneLine.{one_line, same_lines}
+use Rattle.a429_check.proofs.ShowOneLine.{one_line, same_lines}
 use Rattle.a429_check.proofs.laws.what_is_shown_has_one_text.Goals as goal
 
 pub returns : goal.returns

@@ -1,19 +1,14 @@
-use Rattle.std.proofs.Common.{◌≡◌, Option, ◌+◌, ◌≤◌, length, IsSome, slice_range, Some, sym, inr, subst, arith}
+use Rattle.std.proofs.Common.{◌≡◌, Option, ◌+◌, IsSome, slice_range, Some, sym, inr, subst}
 use Rattle.a429_ldu.specs.Ldu.{LduValue}
-use Rattle.a429_cert.specs.Explained.{items_of}
 use Rattle.a429_explain.specs.Crossed.{HasCrossed}
 use Rattle.a429_explain.specs.Matching.{passed_after}
-use Rattle.a429_explain.proofs.Matched.{length-items_of}
 use Rattle.a429_explain.proofs.CrossedUnit.{GivesUnit, crossed_gives}
 use Rattle.a429_explain.proofs.block.matched_unit.Goals as goal
 use Rattle.a429_explain.proofs.block.matched_unit.Goals.{After-unit_of}
 
 -- what the group gives, where a link data unit has crossed
-gives : (c : After-unit_of) (u : LduValue) → HasCrossed c.args.profile.now (slice_range (items_of c.args.entries.now) c.args.group.from c.args.group.to) c.args.place u → GivesUnit c.args.profile.now (items_of c.args.entries.now) c.args.group.from c.args.group.to c.args.count c.args.place u
-gives c u h =
-    let long = length-items_of c.args.entries.now in
-    let inside : c.args.group.to ≤ length (items_of c.args.entries.now) = omega (arith, long, c.requires.inside) in
-    crossed_gives c.args.profile.now c.codes-codes.ensures.sound (items_of c.args.entries.now) c.args.group.from c.args.group.to c.args.count c.args.place u c.requires.some inside c.requires.request h
+gives : (c : After-unit_of) (u : LduValue) → HasCrossed c.args.heard.now.profile (slice_range c.args.heard.now.items c.args.request.group.from c.args.request.group.to) c.args.place u → GivesUnit c.args.heard.now.profile c.args.heard.now.items c.args.request.group.from c.args.request.group.to c.args.request.count c.args.place u
+gives c u h = crossed_gives c.args.heard.now.profile c.profile-profile.ensures.sound c.args.heard.now.items c.args.request.group.from c.args.request.group.to c.args.request.count c.args.place u c.requires.some c.requires.inside c.requires.wants h
 
 -- a group has one unit
 found : (unit u : LduValue) (o : Option LduValue) → o ≡ Some unit → o ≡ Some u → unit ≡ u
@@ -39,7 +34,7 @@ pub returns-in-Some-clause-crossed_err : goal.returns-in-Some-clause-crossed_err
 returns-in-Some-clause-crossed_err c = λ u h.
     let g = gives (goal.at.returns-in-Some-clause-crossed_err c).After-unit_of u h in
     let same = found c.in-Ok.unit u _ c.in-Ok.ensures.is g.is in
-    absurd (c.in-Some.ensures.unmatched (subst (λ (v : LduValue). IsSome (passed_after c.args.profile.now.codes v c.args.place (slice_range (items_of c.args.entries.now) c.args.group.from (c.in-Some.entry + 1)) (Some 0))) (sym same) (g.matched c.in-Some.entry c.in-Some.ensures.within)))
+    absurd (c.in-Some.ensures.unmatched (subst (λ (v : LduValue). IsSome (passed_after c.args.heard.now.profile.codes v c.args.place (slice_range c.args.heard.now.items c.args.request.group.from (c.in-Some.entry + 1)) (Some 0))) (sym same) (g.matched c.in-Some.entry c.in-Some.ensures.within)))
 
 pub returns-in-None-clause-crossed : goal.returns-in-None-clause-crossed
 returns-in-None-clause-crossed c = λ u h. let g = gives (goal.at.returns-in-None-clause-crossed c).After-unit_of u h in found c.in-Ok.unit u _ c.in-Ok.ensures.is g.is

@@ -1,36 +1,32 @@
-use Rattle.std.proofs.Common.{◌≡◌, ◌<◌, List, length, slice_get, sym, ◌∙◌, arith}
-use Rattle.a429_profile.specs.declared.codes.Codes.{Codes}
-use Rattle.a429_link.specs.declared.seen.Seen.{Seen}
-use Rattle.a429_explain.specs.Attempts.{forms_of}
-use Rattle.a429_explain.specs.Said.{said_at}
+use Rattle.std.proofs.Common.{◌≡◌, ◌<◌, length, slice_get, sym, ap, ◌∙◌, arith}
+use Rattle.a429_explain.specs.Heard.{sight_at}
 use Rattle.a429_explain.specs.Whole.{wanted}
-use Rattle.a429_explain.proofs.Listed.{items_long, wants_here}
-use Rattle.a429_explain.proofs.Found.{other_here, other_same, other_none, request_doubt}
+use Rattle.a429_explain.proofs.WholeFacts.{other_here, other_same, other_none, request_doubt}
 use Rattle.a429_explain.proofs.block.other_request.Goals as goal
-use Rattle.a429_explain.proofs.block.other_request.Goals.{After-wanted, in-Some+else-wanted-count, in_default}
+use Rattle.a429_explain.proofs.block.other_request.Goals.{After-wanted, in-Some+else-count-request, in_default}
 
 -- the word that is looked at is one of the recording's
-inside : (a : After-wanted) (c : Codes) (items : List Seen) → a.args.said.now ≡ forms_of c items → a.loop-at.at < length items
-inside a c items e = omega (arith, items_long c items a.args.said.now e, a.loop-at-test.true, a.requires)
+inside : (a : After-wanted) → a.loop-at.at < length a.args.heard.now.items
+inside a = omega (arith, a.loop-at-test.true, a.requires)
 
 -- the words that are wanted are those of a request there
-wants : (a : After-wanted) (c : Codes) (items : List Seen) → a.args.said.now ≡ forms_of c items → a.wanted.result ≡ wanted (said_at c (slice_get items a.loop-at.at))
-wants a c items e = a.wanted.ensures ∙ wants_here c items a.args.said.now a.loop-at.at a.index-said-at.result e (omega (arith, a.loop-at-test.true, a.requires)) a.index-said-at.is
+wants : (a : After-wanted) → a.wanted.result ≡ wanted (sight_at a.args.heard.now.profile.codes (slice_get a.args.heard.now.items a.loop-at.at))
+wants a = a.wanted.ensures ∙ ap wanted a.sight.ensures
 
-pub returns-then-wanted-count-clause-first : goal.returns-then-wanted-count-clause-first
-returns-then-wanted-count-clause-first c = λ codes items e.
-    let a = (goal.at.returns-then-wanted-count-clause-first c).After-wanted in
-    sym (c.loop-at.invariant codes items e ∙ other_here codes c.args.count items c.loop-at.at c.args.group.to c.in-Some.wanted c.loop-at-test.true (inside a codes items e) (sym c.in-Some.is ∙ wants a codes items e) c.if-wanted-count.true)
+pub returns-then-count-request-clause-first : goal.returns-then-count-request-clause-first
+returns-then-count-request-clause-first c =
+    let a = (goal.at.returns-then-count-request-clause-first c).After-wanted in
+    sym (c.loop-at.invariant ∙ other_here c.args.heard.now.profile.codes c.args.request.count c.args.heard.now.items c.loop-at.at c.args.request.group.to c.in-Some.count c.loop-at-test.true (inside a) (sym c.in-Some.is ∙ wants a) c.if-count-request.true)
 
-pub returns-then-wanted-count-clause-fits : goal.returns-then-wanted-count-clause-fits
-returns-then-wanted-count-clause-fits c = λ codes items e.
-    let a = (goal.at.returns-then-wanted-count-clause-fits c).After-wanted in
-    request_doubt codes items c.loop-at.at c.in-Some.wanted (sym c.in-Some.is ∙ wants a codes items e)
+pub returns-then-count-request-clause-fits : goal.returns-then-count-request-clause-fits
+returns-then-count-request-clause-fits c =
+    let a = (goal.at.returns-then-count-request-clause-fits c).After-wanted in
+    request_doubt c.args.heard.now.profile.codes c.args.heard.now.items c.loop-at.at c.in-Some.count (sym c.in-Some.is ∙ wants a)
 
 pub loop-at-preserved : goal.loop-at-preserved
-loop-at-preserved c = λ codes items e.
+loop-at-preserved c =
     let a = (goal.at.loop-at-preserved c).After-wanted in
-    c.loop-at.invariant codes items e ∙ elim c.match-wanted.branch [
-      | in-Some+else-wanted-count w ↦ other_same codes c.args.count items c.loop-at.at c.args.group.to w.in-Some.wanted c.loop-at-test.true (inside a codes items e) (sym w.in-Some.is ∙ wants a codes items e) w.if-wanted-count.false
-      | in_default w ↦ other_none codes c.args.count items c.loop-at.at c.args.group.to c.loop-at-test.true (inside a codes items e) (sym w.in_default.is ∙ wants a codes items e)
+    c.loop-at.invariant ∙ elim c.match-wanted.branch [
+      | in-Some+else-count-request w ↦ other_same c.args.heard.now.profile.codes c.args.request.count c.args.heard.now.items c.loop-at.at c.args.request.group.to w.in-Some.count c.loop-at-test.true (inside a) (sym w.in-Some.is ∙ wants a) w.if-count-request.false
+      | in_default w ↦ other_none c.args.heard.now.profile.codes c.args.request.count c.args.heard.now.items c.loop-at.at c.args.request.group.to c.loop-at-test.true (inside a) (sym w.in_default.is ∙ wants a)
     ]

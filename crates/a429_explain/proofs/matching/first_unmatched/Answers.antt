@@ -1,33 +1,34 @@
-use Rattle.std.proofs.Common.{◌<◌, ◌≡◌, Some, None, length, refl, subst, arith}
-use Rattle.a429_ldu.specs.Form.{form_of}
-use Rattle.a429_explain.specs.Matching.{IsOfBlock}
-use Rattle.a429_explain.proofs.Listed.{said_here}
-use Rattle.a429_explain.proofs.Walked.{block_doubt}
-use Rattle.a429_explain.proofs.Matched.{passed_step, no_some}
+use Rattle.std.proofs.Common.{◌≡◌, ◌-◌, Option, ℕ, Some, None, refl, sym, ap, ◌∙◌, arith}
+use Rattle.a429_profile.specs.Profile.{Contents}
+use Rattle.a429_ldu.specs.Ldu.{count_of}
+use Rattle.a429_explain.specs.Matching.{is_word, passed_with, passing_as}
+use Rattle.a429_explain.proofs.WalkFacts.{block_doubt}
+use Rattle.a429_explain.proofs.MatchingFacts.{passed_none, passed_step, no_some}
 use Rattle.a429_explain.proofs.matching.first_unmatched.Goals as goal
 use Rattle.a429_explain.proofs.matching.first_unmatched.Goals.{After-passing}
 
-inside : (c : After-passing) → c.loop-at.at < length c.args.entries.now
-inside c = omega (arith, c.loop-at-test.true, c.requires.inside)
-
--- the list tells this entry's form
-here : (c : After-passing) → c.index-said-at.result ≡ form_of c.args.profile.now.codes c.index-entries-at.result.bus c.index-entries-at.result.word
-here c = said_here c.args.profile.now.codes c.args.entries.now c.args.said.now c.loop-at.at c.index-entries-at.result c.index-said-at.result c.requires.said (inside c) c.index-entries-at.is c.index-said-at.is
+-- how many words are passed with this one
+passes : (a : After-passing) → a.passing.result ≡ passing_as a.word.result.form (passed_with (is_word a.args.heard.now.profile.codes a.args.unit.now a.args.place a.word.result.word) a.loop-at.passed (count_of a.args.unit.now - a.loop-at.passed)) a.loop-at.passed
+passes a = a.passing.ensures.passed ∙ ap (λ (p : Contents). passing_as a.word.result.form (passed_with (is_word p.codes a.args.unit.now a.args.place a.word.result.word) a.loop-at.passed (count_of a.args.unit.now - a.loop-at.passed)) a.loop-at.passed) a.profile-profile.ensures.is
 
 pub returns-in-None-clause-fits : goal.returns-in-None-clause-fits
-returns-in-None-clause-fits c =
-    let a = (goal.at.returns-in-None-clause-fits c).After-passing in
-    block_doubt c.args.profile.now.codes c.args.entries.now c.loop-at.at c.index-entries-at.result (inside a) c.index-entries-at.is (subst IsOfBlock (here a) (c.in-None.ensures.fits refl))
+returns-in-None-clause-fits c = block_doubt c.args.heard.now.profile.codes c.args.heard.now.items c.loop-at.at c.word.result c.word.ensures.is (c.in-None.ensures.fits refl)
 
 pub returns-in-None-clause-unmatched : goal.returns-in-None-clause-unmatched
 returns-in-None-clause-unmatched c =
     let a = (goal.at.returns-in-None-clause-unmatched c).After-passing in
-    no_some _ (passed_step c.args.profile.now.codes c.args.unit.now c.args.place c.args.entries.now c.args.group.from c.loop-at.at c.index-entries-at.result c.index-said-at.result c.loop-at.passed None c.loop-at.auto.at (inside a) c.index-entries-at.is (here a) c.loop-at.invariant.passed c.in-None.ensures.passed)
+    no_some _ (passed_step c.args.heard.now.profile.codes c.args.unit.now c.args.place c.args.heard.now.items c.args.group.from c.loop-at.at c.word.result c.loop-at.passed None c.loop-at.auto.at c.word.ensures.is c.loop-at.invariant.passed (sym c.in-None.is ∙ passes a))
 
 pub loop-at-preserved : goal.loop-at-preserved
 loop-at-preserved c =
     let a = (goal.at.loop-at-preserved c).After-passing in
     record {
       few = c.in-Some.ensures.inside;
-      passed = passed_step c.args.profile.now.codes c.args.unit.now c.args.place c.args.entries.now c.args.group.from c.loop-at.at c.index-entries-at.result c.index-said-at.result c.loop-at.passed (Some c.in-Some.more) c.loop-at.auto.at (inside a) c.index-entries-at.is (here a) c.loop-at.invariant.passed c.in-Some.ensures.passed;
+      passed = passed_step c.args.heard.now.profile.codes c.args.unit.now c.args.place c.args.heard.now.items c.args.group.from c.loop-at.at c.word.result c.loop-at.passed (Some c.in-Some.more) c.loop-at.auto.at c.word.ensures.is c.loop-at.invariant.passed (sym c.in-Some.is ∙ passes a);
     }
+
+pub loop-at-init : goal.loop-at-init
+loop-at-init c = record {
+  few = omega arith;
+  passed = passed_none c.args.heard.now.profile.codes c.args.unit.now c.args.place c.args.heard.now.items c.args.group.from;
+}

@@ -1,7 +1,7 @@
 use Rattle.std.proofs.Common.{ℕ, ◌<◌, sym, subst, ◌∙◌}
 use Rattle.a429_ldu.specs.Ldu.{count_of}
 use Rattle.a429_explain.specs.Matching.{is_word}
-use Rattle.a429_explain.proofs.Matched.{passed_on}
+use Rattle.a429_explain.proofs.MatchingFacts.{passed_on}
 use Rattle.a429_explain.proofs.matching.passed_with.Goals as goal
 
 pub loop-k-preserved : goal.loop-k-preserved

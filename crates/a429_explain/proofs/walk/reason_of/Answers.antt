@@ -1,5 +1,5 @@
 use Rattle.std.proofs.Common.{refl}
-use Rattle.a429_explain.proofs.Walked.{request_allowed}
+use Rattle.a429_explain.proofs.WalkFacts.{request_allowed}
 use Rattle.a429_explain.proofs.walk.reason_of.Goals as goal
 
 pub reason_of_form-requires : goal.reason_of_form-requires

@@ -1,7 +1,7 @@
 use Rattle.std.proofs.Common.{ℕ, ◌+◌, subst, take, arith}
 use Rattle.a429_link.specs.Run.{BeginsARun}
 use Rattle.a429_cert.specs.Explained.{items_of}
-use Rattle.a429_explain.proofs.Walked.{formed, not_both, seen_is, is_refused, walks_on, fits_at, next_is}
+use Rattle.a429_explain.proofs.WalkFacts.{formed, not_both, seen_is, is_refused, walks_on, fits_at, next_is}
 use Rattle.a429_explain.proofs.WithoutLoss.{begins}
 use Rattle.a429_explain.proofs.walk.walk.Goals as goal
 

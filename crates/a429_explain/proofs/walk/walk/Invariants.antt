@@ -1,4 +1,4 @@
-use Rattle.a429_explain.proofs.Walked.{Walks}
+use Rattle.a429_explain.proofs.WalkFacts.{Walks}
 use Rattle.a429_explain.proofs.walk.walk.Given as goal
 
 abbrev pub invariant-loop-n : goal.invariant-loop-n

@@ -1,6 +1,6 @@
 use Rattle.std.proofs.Common.{◌≢◌, ◌∙◌, rules, arith}
 use Rattle.a429_ldu.specs.declared.fault.LduFault.TheVariants.{OutOfMemory}
-use Rattle.a429_explain.proofs.Found.{unit_is_made, unit_not_made}
+use Rattle.a429_explain.proofs.WholeFacts.{unit_is_made, unit_not_made}
 use Rattle.a429_explain.proofs.whole.unit_with.Goals as goal
 
 pub returns-in-Ok-clause-made : goal.returns-in-Ok-clause-made

@@ -2,7 +2,7 @@ use Rattle.std.proofs.Common.{◌-◌, ◌*◌, ◌/◌, List, sym, ap, ◌∙�
 use Rattle.std.proofs.lemmas.Bool.{eqb-false}
 use Rattle.a429_ldu.specs.Ldu.{LduValue}
 use Rattle.a429_ldu.specs.Cut.{pieces, units_in}
-use Rattle.a429_ldu.proofs.Cuts.{AreUnits, units, all_small}
+use Rattle.a429_ldu.proofs.CutFacts.{AreUnits, units, all_small}
 use Rattle.a429_ldu.proofs.cutting.cut.Goals as goal
 
 cut_units : (c : goal.In-Ok) → AreUnits c.args.profile.now c.args.max_words c.args.bytes.now c.in-Ok.units.items

@@ -1,4 +1,4 @@
-use Rattle.a429_ldu.proofs.Cuts.{flag_made}
+use Rattle.a429_ldu.proofs.CutFacts.{flag_made}
 use Rattle.a429_ldu.proofs.cutting.final_flag.Goals as goal
 
 pub overflow_sub-result : goal.overflow_sub-result

@@ -1,6 +1,6 @@
 use Rattle.std.proofs.Common.{arith, ◌∙◌}
-use Rattle.a429_ldu.proofs.Pieces.{words-least, words-most}
-use Rattle.a429_ldu.proofs.Cuts.{unit_made}
+use Rattle.a429_ldu.proofs.CutPieces.{words-least, words-most}
+use Rattle.a429_ldu.proofs.CutFacts.{unit_made}
 use Rattle.a429_ldu.proofs.cutting.unit.Goals as goal
 
 pub of_parts-requires-clause-words : goal.of_parts-requires-clause-words

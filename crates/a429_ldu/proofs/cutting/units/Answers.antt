@@ -1,5 +1,5 @@
 use Rattle.a429_ldu.specs.Cut.{pieces, units_in}
-use Rattle.a429_ldu.proofs.Cuts.{unit_more, unit_last}
+use Rattle.a429_ldu.proofs.CutFacts.{unit_more, unit_last}
 use Rattle.a429_ldu.proofs.cutting.units.Goals as goal
 
 pub loop-rest-preserved : goal.loop-rest-preserved

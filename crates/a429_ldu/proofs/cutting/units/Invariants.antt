@@ -1,6 +1,6 @@
 use Rattle.std.proofs.Common.{◌≡◌, ◌++◌, ◌*◌, ◌-◌, ◌≤◌, length}
 use Rattle.a429_ldu.specs.Cut.{pieces, units_in}
-use Rattle.a429_ldu.proofs.Cuts.{rest_of}
+use Rattle.a429_ldu.proofs.CutFacts.{rest_of}
 use Rattle.a429_ldu.proofs.cutting.units.Given as goal
 
 abbrev pub invariant-loop-rest : goal.invariant-loop-rest

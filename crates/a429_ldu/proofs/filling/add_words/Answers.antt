@@ -1,6 +1,6 @@
 use Rattle.std.proofs.Common.{◌++◌, arith}
-use Rattle.a429_ldu.specs.Cut.{data_words}
-use Rattle.a429_ldu.proofs.Digits.{word_more, words_end}
+use Rattle.a429_ldu.specs.Filling.{data_words}
+use Rattle.a429_ldu.proofs.FillingDigits.{word_more, words_end}
 use Rattle.a429_ldu.proofs.filling.add_words.Goals as goal
 
 pub loop-at-preserved : goal.loop-at-preserved

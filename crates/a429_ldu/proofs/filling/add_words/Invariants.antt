@@ -1,6 +1,6 @@
 use Rattle.std.proofs.Common.{◌≡◌, ◌++◌, ◌*◌, ◌-◌, ◌≤◌, ◌+◌, length}
-use Rattle.a429_ldu.specs.Cut.{data_words}
-use Rattle.a429_ldu.proofs.Digits.{words_from}
+use Rattle.a429_ldu.specs.Filling.{data_words}
+use Rattle.a429_ldu.proofs.FillingDigits.{words_from}
 use Rattle.a429_ldu.proofs.filling.add_words.Given as goal
 
 abbrev pub invariant-loop-at : goal.invariant-loop-at

@@ -1,5 +1,5 @@
-use Rattle.a429_ldu.specs.Cut.{data_words}
-use Rattle.a429_ldu.proofs.Fulls.{two_more, most_left}
+use Rattle.a429_ldu.specs.Filling.{data_words}
+use Rattle.a429_ldu.proofs.FillingWords.{two_more, most_left}
 use Rattle.a429_ldu.proofs.filling.data_words.Goals as goal
 
 pub loop-rest-preserved : goal.loop-rest-preserved

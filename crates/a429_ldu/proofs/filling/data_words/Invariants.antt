@@ -1,5 +1,5 @@
 use Rattle.std.proofs.Common.{◌≡◌, ◌++◌, ◌≤◌, length}
-use Rattle.a429_ldu.specs.Cut.{data_words}
+use Rattle.a429_ldu.specs.Filling.{data_words}
 use Rattle.a429_ldu.proofs.filling.data_words.Given as goal
 
 abbrev pub invariant-loop-rest : goal.invariant-loop-rest

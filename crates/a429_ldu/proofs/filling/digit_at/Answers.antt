@@ -1,4 +1,4 @@
-use Rattle.a429_ldu.proofs.Digits.{low_digit, high_digit, no_digit}
+use Rattle.a429_ldu.proofs.FillingDigits.{low_digit, high_digit, no_digit}
 use Rattle.a429_ldu.proofs.filling.digit_at.Goals as goal
 
 pub returns-then-at-eq0-clause-value : goal.returns-then-at-eq0-clause-value

@@ -1,4 +1,4 @@
-use Rattle.a429_ldu.proofs.Fulls.{frame_made}
+use Rattle.a429_ldu.proofs.FillingWords.{frame_made}
 use Rattle.a429_ldu.proofs.filling.full_frame.Goals as goal
 
 pub returns-clause-value : goal.returns-clause-value

@@ -1,4 +1,4 @@
-use Rattle.a429_ldu.proofs.Fulls.{semis_put}
+use Rattle.a429_ldu.proofs.FillingWords.{semis_put}
 use Rattle.a429_ldu.proofs.filling.full_word.Goals as goal
 
 pub returns : goal.returns

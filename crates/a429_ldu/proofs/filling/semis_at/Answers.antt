@@ -1,5 +1,5 @@
 use Rattle.std.proofs.Common.{◌∙◌}
-use Rattle.a429_ldu.proofs.Digits.{five_at}
+use Rattle.a429_ldu.proofs.FillingDigits.{five_at}
 use Rattle.a429_ldu.proofs.filling.semis_at.Goals as goal
 
 pub kept-requires : goal.kept-requires

@@ -1,5 +1,5 @@
 use Rattle.std.proofs.Common.{arith}
-use Rattle.a429_ldu.proofs.Fulls.{two_made}
+use Rattle.a429_ldu.proofs.FillingWords.{two_made}
 use Rattle.a429_ldu.proofs.filling.two_words.Goals as goal
 
 pub returns : goal.returns

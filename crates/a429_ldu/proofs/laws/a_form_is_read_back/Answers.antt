@@ -1,6 +1,6 @@
 use Rattle.a429_ldu.specs.Form.{bus_of, word_number}
-use Rattle.a429_ldu.proofs.Joined.{word_number-is, form_is_not_free}
-use Rattle.a429_ldu.proofs.Seen.{sees}
+use Rattle.a429_ldu.proofs.FormFacts.{word_number-is, form_is_not_free}
+use Rattle.a429_ldu.proofs.SightFacts.{sees}
 use Rattle.a429_ldu.proofs.laws.a_form_is_read_back.Goals as goal
 
 pub returns-clause-seen : goal.returns-clause-seen

@@ -1,4 +1,4 @@
-use Rattle.a429_ldu.proofs.CheckWord.{check-by-register}
+use Rattle.a429_ldu.proofs.CheckWordFacts.{check-by-register}
 use Rattle.a429_ldu.proofs.laws.a_register_divides.Goals as goal
 
 pub returns : goal.returns

@@ -1,4 +1,4 @@
-use Rattle.a429_ldu.proofs.Units.{no_fault, one_fault}
+use Rattle.a429_ldu.proofs.LduFacts.{no_fault, one_fault}
 use Rattle.a429_ldu.proofs.laws.a_unit_has_no_fault.Goals as goal
 
 pub returns-clause-none : goal.returns-clause-none

@@ -1,4 +1,4 @@
-use Rattle.a429_ldu.proofs.Joined.{one_form}
+use Rattle.a429_ldu.proofs.FormFacts.{one_form}
 use Rattle.a429_ldu.proofs.laws.a_word_has_one_form.Goals as goal
 
 pub returns : goal.returns

@@ -1,4 +1,4 @@
-use Rattle.a429_ldu.proofs.Carried.{carries_of, carried_of, one_list}
+use Rattle.a429_ldu.proofs.CarriedFacts.{carries_of, carried_of, one_list}
 use Rattle.a429_ldu.proofs.laws.bytes_are_computed.Goals as goal
 
 pub returns-clause-carried : goal.returns-clause-carried

@@ -1,5 +1,5 @@
-use Rattle.a429_ldu.proofs.Free.{is_free-decides}
-use Rattle.a429_ldu.proofs.Joined.{form_of-is}
+use Rattle.a429_ldu.proofs.FormFree.{is_free-decides}
+use Rattle.a429_ldu.proofs.FormFacts.{form_of-is}
 use Rattle.a429_ldu.proofs.laws.forms_are_computed.Goals as goal
 
 pub returns-clause-free : goal.returns-clause-free

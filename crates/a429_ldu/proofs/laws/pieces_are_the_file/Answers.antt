@@ -1,4 +1,4 @@
-use Rattle.a429_ldu.proofs.Pieces.{pieces-sized, room-is}
+use Rattle.a429_ldu.proofs.CutPieces.{pieces-sized, room-is}
 use Rattle.a429_ldu.proofs.laws.pieces_are_the_file.Goals as goal
 
 pub returns-clause-whole : goal.returns-clause-whole

@@ -1,4 +1,4 @@
-use Rattle.a429_ldu.proofs.Units.{few_bytes}
+use Rattle.a429_ldu.proofs.LduFacts.{few_bytes}
 use Rattle.a429_ldu.proofs.laws.units_have_few_bytes.Goals as goal
 
 pub returns : goal.returns

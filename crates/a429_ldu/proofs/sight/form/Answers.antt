@@ -1,5 +1,5 @@
 use Rattle.std.proofs.Common.{refl}
-use Rattle.a429_ldu.proofs.Seen.{sees_of}
+use Rattle.a429_ldu.proofs.SightFacts.{sees_of}
 use Rattle.a429_ldu.proofs.sight.form.Goals as goal
 
 pub returns : goal.returns

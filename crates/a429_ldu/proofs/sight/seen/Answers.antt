@@ -1,7 +1,7 @@
 use Rattle.std.proofs.Common.{Some, None, sym, ap, ◌∙◌}
 use Rattle.a429_ldu.specs.declared.sight.Sight.TheVariants as sight
-use Rattle.a429_ldu.specs.Form.{sight_of}
-use Rattle.a429_ldu.proofs.Seen.{seen_full_a, seen_full_b, seen_free, seen_told, ignored_free}
+use Rattle.a429_ldu.specs.Sight.{sight_of}
+use Rattle.a429_ldu.proofs.SightFacts.{seen_full_a, seen_full_b, seen_free, seen_told, ignored_free}
 use Rattle.a429_ldu.proofs.sight.seen.Goals as goal
 
 pub returns-in-A-clause-sight : goal.returns-in-A-clause-sight

@@ -1,5 +1,5 @@
-use Rattle.a429_link.proofs.Sound.{is_read}
-use Rattle.a429_link.proofs.Impossible.{impossible}
+use Rattle.a429_link.proofs.MessageRead.{is_read}
+use Rattle.a429_link.proofs.ObserverRefuses.{impossible}
 use Rattle.a429_link.proofs.laws.refused_is_impossible.Goals as goal
 
 pub returns : goal.returns

@@ -1,4 +1,4 @@
-use Rattle.a429_link.proofs.Taken.{taken_files, taken_state, taken_run}
+use Rattle.a429_link.proofs.LinkCalls.{taken_files, taken_state, taken_run}
 use Rattle.a429_link.proofs.laws.taken_then_delivered_is_the_runs.Goals as goal
 
 pub returns-clause-files : goal.returns-clause-files

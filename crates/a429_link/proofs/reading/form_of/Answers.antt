@@ -1,5 +1,6 @@
 use Rattle.std.proofs.Common.{ap, inl, inr, sym, ◌∙◌}
-use Rattle.a429_ldu.proofs.Carried.{form_in, form_of-sight}
+use Rattle.a429_ldu.proofs.SightFacts.{form_of-sight}
+use Rattle.a429_ldu.specs.Sight.{form_in}
 use Rattle.a429_link.proofs.reading.form_of.Goals as goal
 
 pub returns-in-Form : goal.returns-in-Form

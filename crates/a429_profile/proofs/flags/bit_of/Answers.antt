@@ -1,6 +1,6 @@
 use Rattle.std.proofs.Common.{◌∙◌, arith}
 use Rattle.toml.specs.View.{view}
-use Rattle.a429_profile.proofs.Elements.{byte_of-between}
+use Rattle.a429_profile.proofs.ValueArrays.{byte_of-between}
 use Rattle.a429_profile.proofs.flags.bit_of.Goals as goal
 
 pub returns-in-Some : goal.returns-in-Some

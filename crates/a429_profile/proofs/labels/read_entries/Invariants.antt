@@ -2,7 +2,7 @@
 use Rattle.std.proofs.Common.{◌≡◌, ◌++◌, map, drop, true}
 use Rattle.std.specs.List.{list_all}
 use Rattle.toml.specs.View.{view}
-use Rattle.a429_profile.specs.Rules.{is_table}
+use Rattle.a429_profile.specs.Value.{is_table}
 use Rattle.a429_profile.specs.Labels.{entries_fault, entry_in_table, table_of}
 use Rattle.a429_profile.proofs.labels.read_entries.Given as goal
 

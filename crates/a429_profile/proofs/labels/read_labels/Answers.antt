@@ -1,6 +1,6 @@
 use Rattle.std.proofs.Common.{◌∙◌, sym}
 use Rattle.toml.specs.View.{view}
-use Rattle.a429_profile.proofs.LabelArrays.{array_fault-tables, entries_in-tables}
+use Rattle.a429_profile.proofs.LabelsArray.{array_fault-tables, entries_in-tables}
 use Rattle.a429_profile.proofs.labels.read_labels.Goals as goal
 
 pub returns-then-not-are_tables-clause-err : goal.returns-then-not-are_tables-clause-err

@@ -1,4 +1,4 @@
-use Rattle.a429_profile.proofs.Ranges.{in_range}
+use Rattle.a429_profile.proofs.ProfileRanges.{in_range}
 use Rattle.a429_profile.proofs.laws.each_number_lies_in_its_range.Goals as goal
 
 pub returns : goal.returns

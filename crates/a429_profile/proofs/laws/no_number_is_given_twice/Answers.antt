@@ -1,4 +1,4 @@
-use Rattle.a429_profile.proofs.Distinct.{types_differ, codes_differ, partial_codes_differ}
+use Rattle.a429_profile.proofs.ClashNumbers.{types_differ, codes_differ, partial_codes_differ}
 use Rattle.a429_profile.proofs.laws.no_number_is_given_twice.Goals as goal
 
 pub returns-clause-types : goal.returns-clause-types

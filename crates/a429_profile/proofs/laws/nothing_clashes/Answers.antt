@@ -1,4 +1,4 @@
-use Rattle.a429_profile.proofs.Clashes.{no_addresses, bits_differ}
+use Rattle.a429_profile.proofs.ClashEntries.{no_addresses, bits_differ}
 use Rattle.a429_profile.proofs.laws.nothing_clashes.Goals as goal
 
 pub returns-clause-addresses : goal.returns-clause-addresses

@@ -1,5 +1,5 @@
 use Rattle.std.proofs.Common.{◌≡◌, drop, length}
-use Rattle.a429_profile.specs.Table.{entries_of, AreKeyed, ApartAfter}
+use Rattle.a429_profile.specs.Profile.{entries_of, AreKeyed, ApartAfter}
 use Rattle.a429_profile.proofs.profile.keyed.Given as goal
 
 abbrev pub invariant-loop-entry : goal.invariant-loop-entry

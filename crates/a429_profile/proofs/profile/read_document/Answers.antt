@@ -1,20 +1,20 @@
 use Rattle.std.proofs.Common.{◌∙◌, ap, sym}
 use Rattle.std.proofs.lemmas.Result.{err_from_is_err_and}
 use Rattle.toml.specs.View.{table_view}
-use Rattle.a429_profile.proofs.FirstFault.{fault_of-codes, fault_of-check}
+use Rattle.a429_profile.proofs.ProfileFaults.{fault_of-codes, fault_of-check}
 use Rattle.a429_profile.specs.Clash.{first_clash}
-use Rattle.a429_profile.proofs.Lookup.{ApartAfter-first_clash}
+use Rattle.a429_profile.proofs.ProfileLookup.{ApartAfter-first_clash}
 use Rattle.a429_profile.proofs.profile.read_document.Goals as goal
 
 pub returns-in_err-codes-clause-err : goal.returns-in_err-codes-clause-err
 returns-in_err-codes-clause-err c =
     let p = err_from_is_err_and c.from_residual.result c.from_residual.ensures.1 in
-    rw (p.1, p.2) (λ known. fault_of-codes (table_view c.args.doc.now) _ (c.in_err-codes.ensures.err known))
+    rw (p.1, p.2) (λ known. fault_of-codes (table_view c.args.doc.now) _ (c.in_err-codes.ensures known))
 
 pub returns-in_err-check-clause-err : goal.returns-in_err-check-clause-err
 returns-in_err-check-clause-err c =
     let p = err_from_is_err_and c.from_residual-in_err-check.result c.from_residual-in_err-check.ensures.1 in
-    rw (p.1, p.2) (λ known. fault_of-check (table_view c.args.doc.now) _ c.in_ok-codes.ensures.ok c.in_err-check.ensures.err)
+    rw (p.1, p.2) (λ known. fault_of-check (table_view c.args.doc.now) _ c.in_ok-codes.ensures.0 c.in_err-check.ensures)
 
 pub keyed-requires : goal.keyed-requires
 keyed-requires c =

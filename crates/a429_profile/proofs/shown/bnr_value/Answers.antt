@@ -3,8 +3,8 @@ use Rattle.std.specs.Int.{w32, w64}
 use Rattle.std.proofs.Math.Facts.{sfits_lit, yes_ltb}
 use Rattle.std.proofs.lemmas.Int.{to_z-of_z}
 use Rattle.a429_word.specs.Bnr.{raw_of}
-use Rattle.a429_word.proofs.Halves.{times_twice}
-use Rattle.a429_profile.proofs.Values.{times_range-fits}
+use Rattle.a429_word.proofs.FixedHalves.{times_twice}
+use Rattle.a429_profile.proofs.ShownFits.{times_range-fits}
 use Rattle.a429_profile.proofs.shown.bnr_value.Goals as goal
 
 pub overflow_mul-number : goal.overflow_mul-number

@@ -1,6 +1,6 @@
 use Rattle.std.proofs.Common.{◌≡◌, map, take}
 use Rattle.toml.specs.View.{view}
-use Rattle.a429_profile.specs.Rules.{byte_of}
+use Rattle.a429_profile.specs.Value.{byte_of}
 use Rattle.a429_profile.proofs.value.bytes.Given as goal
 
 abbrev pub invariant-loop-value : goal.invariant-loop-value

@@ -1,4 +1,4 @@
-use Rattle.a429_profile.proofs.Elements.{list_of-items_view}
+use Rattle.a429_profile.proofs.ValueArrays.{list_of-items_view}
 use Rattle.a429_profile.proofs.value.elements.Goals as goal
 
 pub returns-in-Some-clause-some : goal.returns-in-Some-clause-some

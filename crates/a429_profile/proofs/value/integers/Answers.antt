@@ -1,5 +1,5 @@
 use Rattle.std.proofs.Common.{sym, ◌∙◌}
-use Rattle.a429_profile.proofs.Elements.{is_array_of-integers}
+use Rattle.a429_profile.proofs.ValueArrays.{is_array_of-integers}
 use Rattle.a429_profile.proofs.value.integers.Goals as goal
 
 pub returns-then-are_integers-clause-variant : goal.returns-then-are_integers-clause-variant

@@ -1,4 +1,4 @@
-use Rattle.a429_record.proofs.Faults.{faulty-stands, fault-faulty}
+use Rattle.a429_record.proofs.FaultyRecordings.{faulty-stands, fault-faulty}
 use Rattle.a429_record.proofs.laws.recordings_with_a_fault.Goals as goal
 
 pub returns : goal.returns

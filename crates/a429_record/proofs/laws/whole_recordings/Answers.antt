@@ -1,4 +1,4 @@
-use Rattle.a429_record.proofs.Whole.{stands-whole, whole-stands}
+use Rattle.a429_record.proofs.WholeRecordings.{stands-whole, whole-stands}
 use Rattle.a429_record.proofs.laws.whole_recordings.Goals as goal
 
 pub returns : goal.returns

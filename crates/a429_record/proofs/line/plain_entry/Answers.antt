@@ -3,7 +3,7 @@ use Rattle.std.proofs.lemmas.List.{append-nil, take-append-drop, take_all}
 use Rattle.a429_record.specs.declared.entry.Entry.{Entry}
 use Rattle.a429_record.specs.Row.{entry_in}
 use Rattle.a429_record.specs.Line.{line_entries}
-use Rattle.a429_record.proofs.PlainLines.{plain_line, parts}
+use Rattle.a429_record.proofs.LinePlain.{plain_line, parts}
 use Rattle.a429_record.proofs.line.plain_entry.Goals as goal
 
 -- the row with what was behind it

@@ -1,7 +1,7 @@
 use Rattle.std.proofs.Common.{◌∙◌, inl, inr, ap, sym, refl}
 use Rattle.csv.specs.Records.{fields_of}
 use Rattle.a429_record.specs.Row.{rows_in}
-use Rattle.a429_record.proofs.Records.{read_nothing, read_one, read_two, Begun}
+use Rattle.a429_record.proofs.LineRecords.{read_nothing, read_one, read_two, Begun}
 use Rattle.a429_record.proofs.line.row_by_csv.Goals as goal
 use Rattle.a429_record.proofs.line.row_by_csv.Goals.{After-from_reader-reader}
 

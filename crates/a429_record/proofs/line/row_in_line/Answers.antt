@@ -1,6 +1,6 @@
 use Rattle.std.proofs.Common.{◌∙◌, sym, ap}
 use Rattle.a429_record.specs.Row.{rows_in}
-use Rattle.a429_record.proofs.PlainLines.{blank_line}
+use Rattle.a429_record.proofs.LinePlain.{blank_line}
 use Rattle.a429_record.proofs.line.row_in_line.Goals as goal
 
 pub returns-then-is_blank-clause-ok : goal.returns-then-is_blank-clause-ok

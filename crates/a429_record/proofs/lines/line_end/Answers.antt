@@ -1,4 +1,4 @@
-use Rattle.a429_record.proofs.LineEnds.{end_found, no_end}
+use Rattle.a429_record.proofs.LinesFacts.{end_found, no_end}
 use Rattle.a429_record.proofs.lines.line_end.Goals as goal
 
 pub returns : goal.returns

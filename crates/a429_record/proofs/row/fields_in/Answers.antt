@@ -1,5 +1,5 @@
 use Rattle.std.proofs.Common.{◌∙◌, sym, lit<}
-use Rattle.a429_record.proofs.Records.{three, missing}
+use Rattle.a429_record.proofs.LineRecords.{three, missing}
 use Rattle.a429_record.proofs.row.fields_in.Goals as goal
 
 pub returns-in_default-clause-none : goal.returns-in_default-clause-none

@@ -1,6 +1,6 @@
 use Rattle.std.proofs.Common.{◌<◌, arith, sym, length}
 use Rattle.std.proofs.lemmas.Int.Digits.{digits_value_more, digits_more}
-use Rattle.a429_record.proofs.Digits.{room, not_a_digit}
+use Rattle.a429_record.proofs.RowDigits.{room, not_a_digit}
 use Rattle.a429_record.proofs.row.number_of.Goals as goal
 
 pub overflow_mul-number : goal.overflow_mul-number

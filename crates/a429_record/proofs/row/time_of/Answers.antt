@@ -1,6 +1,6 @@
 use Rattle.std.proofs.Common.{◌-◌, ◌∙◌, arith, length}
 use Rattle.std.proofs.lemmas.List.{length-take-le}
-use Rattle.a429_record.proofs.Digits.{not_front-time_in, front_above-time_in, sum-time_in}
+use Rattle.a429_record.proofs.RowDigits.{not_front-time_in, front_above-time_in, sum-time_in}
 use Rattle.a429_record.proofs.row.time_of.Goals as goal
 
 pub returns-in_err-number_of : goal.returns-in_err-number_of

@@ -1,4 +1,4 @@
-use Rattle.a429_record.proofs.Digits.{word_in-reads}
+use Rattle.a429_record.proofs.RowDigits.{word_in-reads}
 use Rattle.a429_record.proofs.row.word_of.Goals as goal
 
 pub returns : goal.returns

@@ -1,7 +1,8 @@
 use Rattle.std.proofs.Common.{◌≡◌, ◌∙◌, ◌++◌, ◌∷◌, [], ℕ, List, refl, get_or}
 use Rattle.a429_word.specs.declared.bus.Bus.{Bus}
 use Rattle.a429_word.specs.declared.bus.Bus.TheVariants.{A, B}
-use Rattle.a429_word.specs.Written.{numeral, bus_text, hex_text}
+use Rattle.a429_word.specs.Digits.{numeral, hex_text}
+use Rattle.a429_word.specs.Bus.{bus_text}
 use Rattle.a429_record.proofs.writing.bus_and_word.Goals as goal
 
 letter_alone : (bus : Bus) → get_or (bus_text bus) 0 0 ∷ [] ≡ bus_text bus

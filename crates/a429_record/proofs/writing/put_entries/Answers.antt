@@ -1,9 +1,9 @@
 use Rattle.std.proofs.KnownBytes.{Appends-trans, Appends-kept}
 use Rattle.std.proofs.lemmas.List.{take_all}
 use Rattle.std.proofs.lemmas.Result.{on_ok_weaker}
-use Rattle.a429_word.proofs.Pages.{Appends-empty}
-use Rattle.a429_record.specs.Written.{line_text}
-use Rattle.a429_record.proofs.FlatMaps.{flat_map-more}
+use Rattle.a429_word.proofs.PageFacts.{Appends-empty}
+use Rattle.a429_record.specs.Writing.{line_text}
+use Rattle.a429_record.proofs.WritingTexts.{flat_map-more}
 use Rattle.a429_record.proofs.writing.put_entries.Goals as goal
 
 pub loop-entry-init : goal.loop-entry-init

@@ -107,7 +107,7 @@ impl Told {
 impl<'a> Run<'a> {
     // A step to try, if the source has a word to send or the sink an answer to give where one is chosen.
     fn chosen(&self, alloc: Global, chance: &mut Chance) -> Result<Option<Move>, Fail> {
-        let (_, sink, _, _) = self.link.states();
+        let sink = self.link.states().sink;
         Ok(match chance.below(32) {
             0..=1 => Some(Move::Load(some_draft(alloc, self.profile, chance)?)),
             2..=10 => match self.told.source.next() {
@@ -130,7 +130,7 @@ impl<'a> Run<'a> {
 
     // One step, or none where there is none of its name.
     fn go(&mut self, alloc: Global, chance: &mut Chance) -> Result<(), Fail> {
-        let (source, _, _, _) = self.link.states();
+        let source = self.link.states().source;
         self.told.source.state = source;
         let Some(chosen) = self.chosen(alloc, chance)? else {
             return Ok(());

@@ -1,5 +1,5 @@
 use Rattle.std.proofs.Common.{◌≡◌, ◌%◌, ap, arith}
-use Rattle.a429_word.proofs.Packed.{IsPacked, packed-none, packed-more, digit-room, next-digit}
+use Rattle.a429_word.proofs.BcdPacked.{IsPacked, packed-none, packed-more, digit-room, next-digit}
 use Rattle.a429_word.proofs.bcd.packed_digits.Goals as goal
 
 pub overflow_add-packed : goal.overflow_add-packed

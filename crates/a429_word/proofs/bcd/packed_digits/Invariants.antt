@@ -1,5 +1,5 @@
 use Rattle.std.proofs.Common.{◌≡◌, ◌/◌, ◌^◌}
-use Rattle.a429_word.proofs.Packed.{IsPacked}
+use Rattle.a429_word.proofs.BcdPacked.{IsPacked}
 use Rattle.a429_word.proofs.bcd.packed_digits.Given as goal
 
 abbrev pub invariant-loop-place : goal.invariant-loop-place

@@ -1,7 +1,7 @@
 use Rattle.std.proofs.Common.{◌≡◌, ◌+ℤ◌, pos, ◌*◌, ◌^◌, ◌<ℤ◌, arith}
 use Rattle.std.proofs.lemmas.Int.{ints}
 use Rattle.std.proofs.lemmas.Nat.{pow_pos}
-use Rattle.a429_word.proofs.Encoded.{pow_at_most, code-negative, code-positive}
+use Rattle.a429_word.proofs.BnrEncoded.{pow_at_most, code-negative, code-positive}
 use Rattle.a429_word.proofs.bnr.twos_complement.Goals as goal
 
 pub overflow_add-raw : goal.overflow_add-raw

@@ -1,5 +1,5 @@
 use Rattle.std.proofs.Common.{arith}
-use Rattle.a429_word.proofs.Fraction.{zero-dropped}
+use Rattle.a429_word.proofs.FixedText.{zero-dropped}
 use Rattle.a429_word.proofs.fixed.shortened.Goals as goal
 
 pub loop-left-preserved : goal.loop-left-preserved

@@ -1,5 +1,5 @@
 use Rattle.std.proofs.Common.{◌%◌, ◌/◌, ◌^◌, ◌∙◌, ap, sym, arith, inl, inr}
-use Rattle.a429_word.proofs.Zeros.{five_pos, tens_dropped, odd_ends}
+use Rattle.a429_word.proofs.FixedZeros.{five_pos, tens_dropped, odd_ends}
 use Rattle.a429_word.proofs.fixed.shortest.Goals as goal
 
 pub divided-rest-requires : goal.divided-rest-requires

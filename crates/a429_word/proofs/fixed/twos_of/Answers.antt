@@ -1,5 +1,5 @@
 use Rattle.std.proofs.Common.{arith, inr}
-use Rattle.a429_word.proofs.Zeros.{lowest_one, low_zeros}
+use Rattle.a429_word.proofs.FixedZeros.{lowest_one, low_zeros}
 use Rattle.a429_word.proofs.fixed.twos_of.Goals as goal
 
 pub returns-then-zeros-from-clause-factors : goal.returns-then-zeros-from-clause-factors

@@ -1,6 +1,6 @@
 use Rattle.std.proofs.Common.{◌∙◌}
-use Rattle.a429_word.proofs.Made.{same_from_fields}
-use Rattle.a429_word.proofs.Raw.{raw_of-within, field_from_raw}
+use Rattle.a429_word.proofs.WordMade.{same_from_fields}
+use Rattle.a429_word.proofs.BnrRaw.{raw_of-within, field_from_raw}
 use Rattle.a429_word.proofs.laws.bnr_is_read_back.Goals as goal
 
 pub returns : goal.returns

@@ -1,4 +1,4 @@
-use Rattle.a429_word.proofs.Hex.{hex_text-read}
+use Rattle.a429_word.proofs.DigitsFacts.{hex_text-read}
 use Rattle.a429_word.proofs.laws.hex_is_read_back.Goals as goal
 
 pub returns : goal.returns

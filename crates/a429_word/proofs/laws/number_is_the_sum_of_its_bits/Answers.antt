@@ -1,4 +1,4 @@
-use Rattle.a429_word.proofs.Bits.{number_of-bit}
+use Rattle.a429_word.proofs.WordBits.{number_of-bit}
 use Rattle.a429_word.proofs.laws.number_is_the_sum_of_its_bits.Goals as goal
 
 pub returns : goal.returns

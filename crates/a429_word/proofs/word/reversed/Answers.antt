@@ -1,5 +1,5 @@
 use Rattle.std.proofs.Common.{◌<◌, arith, ap, ◌∙◌}
-use Rattle.a429_word.proofs.Bits.{reversed, reversed-is}
+use Rattle.a429_word.proofs.WordBits.{reversed, reversed-is}
 use Rattle.a429_word.proofs.Tables.{tabulated-at}
 use Rattle.a429_word.proofs.word.reversed.Goals as goal
 

@@ -1,5 +1,5 @@
 use Rattle.std.proofs.Common.{arith}
-use Rattle.a429_cert.proofs.Decimals.{one_digit, two_digits, three_digits}
+use Rattle.a429_cert.proofs.ShortFacts.{one_digit, two_digits, three_digits}
 use Rattle.a429_cert.proofs.short.ShortText.push_decimal.Goals as goal
 
 pub returns-then-number-lt10-clause-text : goal.returns-then-number-lt10-clause-text

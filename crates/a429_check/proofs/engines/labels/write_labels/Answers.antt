@@ -2,8 +2,8 @@ use Rattle.std.proofs.Common.{◌<◌, ◌≤◌, length, append-nil, arith}
 use Rattle.std.proofs.KnownBytes.{Appends-trans}
 use Rattle.std.proofs.lemmas.List.{take_all}
 use Rattle.std.proofs.lemmas.Result.{on_ok_weaker}
-use Rattle.a429_check.specs.LabelLines.{label_lines}
-use Rattle.a429_check.proofs.Labels.{label_lines-more}
+use Rattle.a429_check.specs.Labels.{label_lines}
+use Rattle.a429_check.proofs.LabelsFacts.{label_lines-more}
 use Rattle.a429_check.proofs.engines.labels.write_labels.Goals as goal
 
 pub loop-i-preserved : goal.loop-i-preserved

@@ -1,7 +1,7 @@
 use Rattle.std.proofs.Common.{take}
 use Rattle.std.specs.Io.KnownBytes.{Appends}
 use Rattle.a429_word.specs.Tally.{inner_of}
-use Rattle.a429_check.specs.LabelLines.{label_lines}
+use Rattle.a429_check.specs.Labels.{label_lines}
 use Rattle.a429_check.proofs.engines.labels.write_labels.Given as goal
 
 abbrev pub invariant-loop-i : goal.invariant-loop-i

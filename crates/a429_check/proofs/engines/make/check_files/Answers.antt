@@ -1,6 +1,6 @@
 use Rattle.std.proofs.Common.{map, ◌∙◌, sym, refl, arith, subst, ◌+◌}
 use Rattle.a429_link.proofs.CleanFiles.{file_at, past_files}
-use Rattle.a429_check.proofs.Counted.{AreCounted, counted_start, counted_more, counted_refused, counted_end, all_room, too_many, vec_size}
+use Rattle.a429_check.proofs.MakeCounted.{AreCounted, counted_start, counted_more, counted_refused, counted_end, all_room, too_many, vec_size}
 use Rattle.a429_check.proofs.engines.make.check_files.Goals as goal
 
 pub loop-k-init : goal.loop-k-init

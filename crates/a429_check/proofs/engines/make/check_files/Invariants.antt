@@ -1,5 +1,5 @@
 use Rattle.std.proofs.Common.{map}
-use Rattle.a429_check.proofs.Counted.{AreCounted}
+use Rattle.a429_check.proofs.MakeCounted.{AreCounted}
 use Rattle.a429_check.proofs.engines.make.check_files.Given as goal
 
 abbrev pub invariant-loop-k : goal.invariant-loop-k

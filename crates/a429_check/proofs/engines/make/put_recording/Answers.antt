@@ -3,10 +3,10 @@ use Rattle.std.specs.Io.KnownBytes.{Appends}
 use Rattle.std.proofs.KnownBytes.{Appends-trans, Appends-kept}
 use Rattle.a429_word.specs.Page.{paged}
 use Rattle.a429_word.specs.Tally.{inner_of}
-use Rattle.a429_word.proofs.Pages.{Appends-empty}
-use Rattle.a429_record.specs.Written.{written_form}
-use Rattle.a429_check.specs.Made.{timed, words_made}
-use Rattle.a429_check.proofs.Made.{AreMade, made_start, next_words, all_words, fine_alone}
+use Rattle.a429_word.proofs.PageFacts.{Appends-empty}
+use Rattle.a429_record.specs.Writing.{written_form}
+use Rattle.a429_check.specs.Make.{timed, words_made}
+use Rattle.a429_check.proofs.MakeWords.{AreMade, made_start, next_words, all_words, fine_alone}
 use Rattle.a429_check.proofs.engines.make.put_recording.Goals as goal
 
 pub loop-file-init : goal.loop-file-init

@@ -2,9 +2,9 @@ use Rattle.std.proofs.Common.{map, take}
 use Rattle.std.specs.Io.KnownBytes.{Appends}
 use Rattle.a429_word.specs.Page.{paged}
 use Rattle.a429_word.specs.Tally.{inner_of}
-use Rattle.a429_record.specs.Written.{written_form}
-use Rattle.a429_check.specs.Made.{timed, words_made}
-use Rattle.a429_check.proofs.Made.{AreMade}
+use Rattle.a429_record.specs.Writing.{written_form}
+use Rattle.a429_check.specs.Make.{timed, words_made}
+use Rattle.a429_check.proofs.MakeWords.{AreMade}
 use Rattle.a429_check.proofs.engines.make.put_recording.Given as goal
 
 abbrev pub invariant-loop-file : goal.invariant-loop-file

@@ -1,6 +1,6 @@
 use Rattle.std.proofs.KnownBytes.{Appends-trans}
 use Rattle.std.proofs.lemmas.List.{take_all}
-use Rattle.a429_check.proofs.Timed.{lines-more}
+use Rattle.a429_check.proofs.MakeTimed.{lines-more}
 use Rattle.a429_check.proofs.engines.make.put_words.Goals as goal
 
 pub loop-i-preserved : goal.loop-i-preserved

@@ -2,8 +2,8 @@ use Rattle.std.proofs.Common.{take}
 use Rattle.std.specs.List.{flat_map}
 use Rattle.std.specs.Io.KnownBytes.{Appends}
 use Rattle.a429_word.specs.Page.{paged}
-use Rattle.a429_record.specs.Written.{line_text}
-use Rattle.a429_check.specs.Made.{timed}
+use Rattle.a429_record.specs.Writing.{line_text}
+use Rattle.a429_check.specs.Make.{timed}
 use Rattle.a429_check.proofs.engines.make.put_words.Given as goal
 
 abbrev pub invariant-loop-i : goal.invariant-loop-i

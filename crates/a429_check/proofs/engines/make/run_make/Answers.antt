@@ -1,8 +1,8 @@
 use Rattle.std.proofs.Common.{refl, map}
 use Rattle.std.proofs.lemmas.Result.{err_from_is_err_and}
-use Rattle.a429_record.specs.Written.{written_form}
-use Rattle.a429_check.specs.Made.{timed, words_made}
-use Rattle.a429_check.proofs.Counted.{put_fault, refusal_fault}
+use Rattle.a429_record.specs.Writing.{written_form}
+use Rattle.a429_check.specs.Make.{timed, words_made}
+use Rattle.a429_check.proofs.MakeCounted.{put_fault, refusal_fault}
 use Rattle.a429_check.proofs.engines.make.run_make.Goals as goal
 
 pub returns-in_err-check_files-clause-err : goal.returns-in_err-check_files-clause-err

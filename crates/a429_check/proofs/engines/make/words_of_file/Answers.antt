@@ -1,5 +1,5 @@
 use Rattle.std.proofs.Common.{sym, arith}
-use Rattle.a429_check.proofs.Counted.{words-one}
+use Rattle.a429_check.proofs.MakeCounted.{words-one}
 use Rattle.a429_check.proofs.engines.make.words_of_file.Goals as goal
 
 pub returns-clause-count : goal.returns-clause-count

@@ -1,9 +1,9 @@
 use Rattle.std.proofs.Common.{◌≡◌, ◌∙◌, ◌∷◌, [], ◌+◌, ℕ, List, ap, get_or, refl}
 use Rattle.std.specs.Fmt.{decimal}
 use Rattle.a429_word.specs.Word.{label_of, sdi_of, ssm_of}
-use Rattle.a429_word.specs.Written.{numeral, octal_text}
-use Rattle.a429_check.specs.ShowLines.{fields_text}
-use Rattle.a429_check.proofs.Texts.{one_digit}
+use Rattle.a429_word.specs.Digits.{numeral, octal_text}
+use Rattle.a429_check.specs.Show.{fields_text}
+use Rattle.a429_check.proofs.WordTexts.{one_digit}
 use Rattle.a429_check.proofs.engines.show.fields.Goals as goal
 
 -- byte by byte

@@ -2,8 +2,8 @@ use Rattle.std.proofs.Common.{[], refl}
 use Rattle.std.proofs.KnownBytes.{Appends-trans, Appends-kept}
 use Rattle.std.proofs.lemmas.List.{take_all}
 use Rattle.std.proofs.lemmas.Result.{on_ok_weaker}
-use Rattle.a429_word.proofs.Pages.{Appends-empty}
-use Rattle.a429_check.proofs.Shows.{AreShowLines-next}
+use Rattle.a429_word.proofs.PageFacts.{Appends-empty}
+use Rattle.a429_check.proofs.ShowFacts.{AreShowLines-next}
 use Rattle.a429_check.proofs.engines.show.put_entries.Goals as goal
 
 pub loop-entry-init : goal.loop-entry-init

@@ -2,7 +2,7 @@ use Rattle.std.proofs.Common.{ℕ, List, take}
 use Rattle.std.specs.Io.KnownBytes.{Appends}
 use Rattle.a429_word.specs.Tally.{inner_of}
 use Rattle.a429_word.specs.Page.{paged}
-use Rattle.a429_check.specs.ShowLines.{AreShowLines}
+use Rattle.a429_check.specs.Show.{AreShowLines}
 use Rattle.a429_check.proofs.engines.show.put_entries.Given as goal
 
 abbrev pub invariant-loop-entry : goal.invariant-loop-entry

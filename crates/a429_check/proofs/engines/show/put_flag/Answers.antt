@@ -4,8 +4,8 @@ use Rattle.a429_word.specs.Page.{paged}
 use Rattle.std.proofs.KnownBytes.{Appends-trans}
 use Rattle.std.proofs.lemmas.Nat.Bits.{shr_and_one, bit_at-lt}
 use Rattle.std.proofs.lemmas.Result.{on_ok_weaker}
-use Rattle.a429_check.specs.ShowLines.{flag_text}
-use Rattle.a429_check.proofs.Shows.{flag_text-is}
+use Rattle.a429_check.specs.Show.{flag_text}
+use Rattle.a429_check.proofs.ShowFacts.{flag_text-is}
 use Rattle.a429_check.proofs.engines.show.put_flag.Goals as goal
 use Rattle.a429_check.proofs.engines.show.put_flag.Goals.{then-is_set, else-is_set}
 

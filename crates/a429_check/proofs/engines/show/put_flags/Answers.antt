@@ -1,6 +1,6 @@
 use Rattle.std.proofs.KnownBytes.{Appends-trans}
-use Rattle.a429_record.proofs.FlatMaps.{flat_map-more}
-use Rattle.a429_check.specs.ShowLines.{flag_text}
+use Rattle.a429_record.proofs.WritingTexts.{flat_map-more}
+use Rattle.a429_check.specs.Show.{flag_text}
 use Rattle.a429_check.proofs.engines.show.put_flags.Goals as goal
 
 pub loop-flag-preserved : goal.loop-flag-preserved

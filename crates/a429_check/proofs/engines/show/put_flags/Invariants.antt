@@ -2,7 +2,7 @@ use Rattle.std.proofs.Common.{take}
 use Rattle.std.specs.List.{flat_map}
 use Rattle.std.specs.Io.KnownBytes.{Appends}
 use Rattle.a429_word.specs.Page.{paged}
-use Rattle.a429_check.specs.ShowLines.{flag_text}
+use Rattle.a429_check.specs.Show.{flag_text}
 use Rattle.a429_check.proofs.engines.show.put_flags.Given as goal
 
 abbrev pub invariant-loop-flag : goal.invariant-loop-flag

@@ -1,7 +1,7 @@
 use Rattle.std.proofs.lemmas.Result.{err_from_is_err_and}
 use Rattle.a429_word.specs.Tally.{inner_of, has_failed}
-use Rattle.a429_check.specs.RecordingBytes.{Says}
-use Rattle.a429_check.proofs.Shows.{not_the_reader}
+use Rattle.a429_check.specs.Recording.{SayInput}
+use Rattle.a429_check.proofs.ShowFacts.{not_the_reader}
 use Rattle.a429_check.proofs.engines.show.run_show.Goals as goal
 
 pub returns-in_err-put_entries-clause-silent : goal.returns-in_err-put_entries-clause-silent
@@ -12,5 +12,5 @@ returns-in_err-put_entries-clause-silent g c =
 pub returns-clause-lines : goal.returns-clause-lines
 returns-clause-lines g c =
     let lines = rw c.as_slice.ensures.value at c.in_ok-put_entries.ensures.ok in
-    let says : Says c.args.profile.now (g.R.Read.remaining (inner_of c.args.rec.now)) = record { contents = c.in_ok-profile.profile; entries = c.in_ok-entries.entries.items; is_profile = c.in_ok-profile.ensures.ok; stand = c.in_ok-entries.ensures.ok } in
+    let says : SayInput c.args.profile.now (g.R.Read.remaining (inner_of c.args.rec.now)) = record { contents = c.in_ok-profile.profile; entries = c.in_ok-entries.entries.items; is_profile = c.in_ok-profile.ensures.ok; stand = c.in_ok-entries.ensures.ok } in
     (lines.0, record { says = says; lines = lines.1 }, lines.2)

@@ -1,7 +1,7 @@
 use Rattle.std.proofs.Common.{rules}
 use Rattle.std.proofs.KnownBytes.{Appends-trans}
 use Rattle.a429_check.specs.Verdict.{file_line}
-use Rattle.a429_record.proofs.FlatMaps.{flat_map-more}
+use Rattle.a429_record.proofs.WritingTexts.{flat_map-more}
 use Rattle.a429_check.proofs.engines.verdict.put_files.Goals as goal
 
 pub loop-file-preserved : goal.loop-file-preserved

@@ -1,6 +1,6 @@
 use Rattle.std.proofs.Common.{◌<◌, ◌∙◌, sym, arith}
 use Rattle.std.proofs.lemmas.Grind.{same_number_lists}
-use Rattle.a429_check.proofs.Texts.{length-bits_text, get_or-bits_text}
+use Rattle.a429_check.proofs.WordTexts.{length-bits_text, get_or-bits_text}
 use Rattle.a429_check.proofs.engines.word.bits.Goals as goal
 
 pub returns : goal.returns

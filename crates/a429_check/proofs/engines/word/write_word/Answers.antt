@@ -2,9 +2,9 @@ use Rattle.std.proofs.Common.{◌∙◌, ap, rules, w32}
 use mir.Val.{SFits}
 use Rattle.std.proofs.lemmas.Int.{to_z-of_z}
 use Rattle.std.specs.Fmt.{signed_decimal}
-use Rattle.a429_word.specs.Written.{octal_text}
+use Rattle.a429_word.specs.Digits.{octal_text}
 use Rattle.std.proofs.lemmas.Result.{on_ok_weaker}
-use Rattle.a429_check.proofs.Texts.{Appends-lines, one_digit}
+use Rattle.a429_check.proofs.WordTexts.{Appends-lines, one_digit}
 use Rattle.a429_check.proofs.engines.word.write_word.Goals as goal
 
 pub returns-clause-ok : goal.returns-clause-ok

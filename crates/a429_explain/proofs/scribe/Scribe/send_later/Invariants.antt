@@ -1,10 +1,10 @@
 use Rattle.std.proofs.Common.{◌≡◌, None}
-use Rattle.a429_explain.specs.Told.{TellsOn}
+use Rattle.a429_explain.specs.Scribe.{WritesNext}
 use Rattle.a429_explain.proofs.scribe.Scribe.send_later.Given as goal
 
 abbrev pub invariant-loop : goal.invariant-loop
 invariant-loop l = record {
   profile : l.self.link.profile ≡ l.fn.self.link.profile;
   loaded : l.self.is_loaded ≡ l.fn.self.is_loaded;
-  told : TellsOn None l.fn.self.text.items l.fn.self.link l.self.text.items l.self.link;
+  written : WritesNext None l.fn.self.text.items l.fn.self.link l.self.text.items l.self.link;
 }

@@ -1,7 +1,13 @@
-use Rattle.std.proofs.Common.{refl, sym, arith}
+use Rattle.std.proofs.Common.{◌≡◌, ℕ, List, Bool, true, false, refl, sym, ap, ◌∙◌, arith}
 use Rattle.std.proofs.lemmas.Bool.{eqb-false}
-use Rattle.a429_ldu.proofs.Units.{wrong, made}
+use Rattle.a429_profile.specs.declared.codes.Check.{Check}
+use Rattle.a429_ldu.specs.CheckWord.{agrees}
+use Rattle.a429_ldu.proofs.LduFacts.{differs, made}
 use Rattle.a429_ldu.proofs.ldu.Ldu.new.Goals as goal
+
+-- what `agrees` answers, said of the profile's check words and of the words' bytes
+on_profile : (k l : Check) (bs ds : List ℕ) (check : ℕ) (b : Bool) → k ≡ l → ds ≡ bs → agrees k ds check ≡ b → agrees l bs check ≡ b
+on_profile k l bs ds check b ek ed h = sym (ap (λ m. agrees m ds check) ek ∙ ap (λ xs. agrees l xs check) ed) ∙ h
 
 pub returns-in_default-clause-err : goal.returns-in_default-clause-err
 returns-in_default-clause-err c _ =
@@ -12,17 +18,21 @@ pub returns-then-not-agrees-clause-err : goal.returns-then-not-agrees-clause-err
 returns-then-not-agrees-clause-err c _ =
     let some = eqb-false _ 0 (sym c.if-is_empty.ensures) in
     let bytes = c.in-Some.bytes.items in
-    let differs = wrong c.args.profile.now c.check.result.now bytes c.deref.result.now c.args.check c.check.ensures c.deref.ensures.0 (c.if-not-agrees.ensures.no refl) in
-    ((omega (arith, some), omega arith), bytes, c.in-Some.ensures.some, differs.0, differs.1)
+    let wrong = differs c.args.profile.now.check bytes c.args.check (on_profile c.check.result.now c.args.profile.now.check bytes c.deref.result.now c.args.check false c.check.ensures c.deref.ensures.0 (sym c.agrees.ensures ∙ c.if-not-agrees.true)) in
+    ((omega (arith, some), omega arith), bytes, c.in-Some.ensures.some, wrong.0, wrong.1)
 
 pub returns-in-Ok-clause-sound : goal.returns-in-Ok-clause-sound
 returns-in-Ok-clause-sound c =
     let some = eqb-false _ 0 (sym c.if-is_empty.ensures) in
-    made c.args.profile.now c.check.result.now c.args.gfi c.args.flags c.args.check c.args.words.now c.in-Ok.words.items c.in-Some.bytes.items c.deref.result.now c.requires.gfi c.requires.flags (omega arith)
-    (omega (arith, some), omega arith) c.in-Ok.ensures.items (c.in-Some.ensures.some) c.check.ensures c.deref.ensures.0 (c.if-not-agrees.ensures.yes refl)
+    let bytes = c.in-Some.bytes.items in
+    let right = on_profile c.check.result.now c.args.profile.now.check bytes c.deref.result.now c.args.check true c.check.ensures c.deref.ensures.0 (sym c.agrees.ensures ∙ c.if-not-agrees.false) in
+    made c.args.profile.now c.args.gfi c.args.flags c.args.check c.args.words.now c.in-Ok.words.items bytes c.requires.gfi c.requires.flags (omega arith)
+    (omega (arith, some), omega arith) c.in-Ok.ensures.items c.in-Some.ensures.some right
 
 pub returns-in-Err-clause-memory : goal.returns-in-Err-clause-memory
 returns-in-Err-clause-memory c _ =
     let some = eqb-false _ 0 (sym c.if-is_empty.ensures) in
-    made c.args.profile.now c.check.result.now c.args.gfi c.args.flags c.args.check c.args.words.now c.args.words.now c.in-Some.bytes.items c.deref.result.now c.requires.gfi c.requires.flags (omega arith)
-    (omega (arith, some), omega arith) refl (c.in-Some.ensures.some) c.check.ensures c.deref.ensures.0 (c.if-not-agrees.ensures.yes refl)
+    let bytes = c.in-Some.bytes.items in
+    let right = on_profile c.check.result.now c.args.profile.now.check bytes c.deref.result.now c.args.check true c.check.ensures c.deref.ensures.0 (sym c.agrees.ensures ∙ c.if-not-agrees.false) in
+    made c.args.profile.now c.args.gfi c.args.flags c.args.check c.args.words.now c.args.words.now bytes c.requires.gfi c.requires.flags (omega arith)
+    (omega (arith, some), omega arith) refl c.in-Some.ensures.some right

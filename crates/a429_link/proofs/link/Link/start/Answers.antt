@@ -1,6 +1,6 @@
 use Rattle.std.proofs.Common.{sym, subst, arith}
 use Rattle.a429_link.specs.Link.{IsKept}
-use Rattle.a429_link.proofs.KeptStates.{kept_start}
+use Rattle.a429_link.proofs.LinkKept.{kept_start}
 use Rattle.a429_link.proofs.link.Link.start.Goals as goal
 
 pub invariant_of-result : goal.invariant_of-result

@@ -1,6 +1,6 @@
 use Rattle.std.proofs.Common.{sym, subst}
 use Rattle.a429_link.specs.Link.{IsKept}
-use Rattle.a429_link.proofs.KeptStates.{kept_bounded, kept_taken}
+use Rattle.a429_link.proofs.LinkKept.{kept_bounded, kept_taken}
 use Rattle.a429_link.proofs.link.Link.take_delivered.Goals as goal
 
 pub invariant_of-self : goal.invariant_of-self

@@ -1,6 +1,6 @@
 use Rattle.std.proofs.Common.{sym, subst}
 use Rattle.a429_link.specs.Sink.{Sink}
-use Rattle.a429_link.proofs.Watched.{IsWatched, others_watched}
+use Rattle.a429_link.proofs.ObserverBlock.{IsWatched, others_watched}
 use Rattle.a429_link.proofs.observer.Observer.take_word.Goals as goal
 
 pub invariant_of-self-in_default : goal.invariant_of-self-in_default

@@ -1,6 +1,6 @@
 use Rattle.std.proofs.Common.{ap, arith}
 use Rattle.a429_profile.specs.declared.codes.Codes.{Codes}
-use Rattle.a429_profile.proofs.Ranges.{in_range}
+use Rattle.a429_profile.proofs.ProfileRanges.{in_range}
 use Rattle.a429_link.proofs.transfer.Transfer.load.Goals as goal
 
 pub load-requires : goal.load-requires

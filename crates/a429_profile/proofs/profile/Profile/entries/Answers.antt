@@ -1,6 +1,6 @@
 use Rattle.std.proofs.Common.{ap, option_map}
 use Rattle.std.proofs.lemmas.Option.{slice_get-map}
-use Rattle.a429_profile.specs.Table.{Kept}
+use Rattle.a429_profile.specs.Profile.{Kept}
 use Rattle.a429_profile.proofs.profile.Profile.entries.Goals as goal
 
 pub returns-in-Some : goal.returns-in-Some

@@ -4,8 +4,8 @@ use Rattle.std.proofs.lemmas.List.{append-nil}
 use Rattle.std.proofs.lemmas.Bool.Decides.{nat_tests}
 use Rattle.std.proofs.KnownBytes.{Consumes-kept}
 use Rattle.a429_word.specs.Tally.{inner_of}
-use Rattle.a429_record.specs.Pending.{ahead_of, pending_of}
-use Rattle.a429_record.proofs.LineEnds.{HasNoEnd-append, given, takes_ended, takes_last}
+use Rattle.a429_record.specs.Lines.{ahead_of, pending_of}
+use Rattle.a429_record.proofs.LinesFacts.{HasNoEnd-append, given, takes_ended, takes_last}
 use Rattle.a429_record.proofs.Handed.{open_lost}
 use Rattle.a429_record.proofs.lines.Lines.next_line.Goals as goal
 

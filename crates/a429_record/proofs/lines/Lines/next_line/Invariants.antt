@@ -1,8 +1,8 @@
 use Rattle.std.specs.Io.KnownBytes.{Consumes}
 use Rattle.std.proofs.Common.{◌≡◌, ◌+◌, length, false}
 use Rattle.a429_word.specs.Tally.{left_of, has_failed}
+use Rattle.a429_record.specs.Lines.{pending_of, room_of}
 use Rattle.a429_record.specs.Ends.{HasNoEnd}
-use Rattle.a429_record.specs.Pending.{pending_of, room_of}
 use Rattle.a429_record.proofs.lines.Lines.next_line.Given as goal
 
 abbrev pub invariant-parts : goal.invariant-parts

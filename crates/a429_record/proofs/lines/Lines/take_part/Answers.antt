@@ -1,6 +1,6 @@
 use Rattle.std.proofs.Common.{refl, take, drop, arith, rules, length-take}
 use Rattle.std.proofs.lemmas.List.{append-nil, drop-drop, drop_all}
-use Rattle.a429_record.proofs.LineEnds.{ahead_slice, split_end}
+use Rattle.a429_record.proofs.LinesFacts.{ahead_slice, split_end}
 use Rattle.a429_record.proofs.lines.Lines.take_part.Goals as goal
 
 pub returns-in_ok-extend_from_slice-in-Some-clause-part : goal.returns-in_ok-extend_from_slice-in-Some-clause-part

@@ -1,6 +1,6 @@
 use Rattle.std.proofs.Common.{◌≡◌, arith, length, take, drop}
 use Rattle.std.proofs.lemmas.List.{length-take-le}
-use Rattle.a429_record.proofs.LineEnds.{ahead_slice, split_end}
+use Rattle.a429_record.proofs.LinesFacts.{ahead_slice, split_end}
 use Rattle.a429_record.proofs.lines.Lines.whole_line.Goals as goal
 
 pub returns : goal.returns

@@ -2,10 +2,10 @@ use Rattle.std.proofs.Common.{◌≡◌, ◌∷◌, [], Some, None, true, false,
 use Rattle.csv.specs.Records.{fields_of}
 use Rattle.a429_record.specs.declared.fault.ReadFault.TheVariants as fault
 use Rattle.a429_record.specs.Row.{Row, is_header, line_rows}
-use Rattle.a429_record.specs.Pending.{pending_of}
-use Rattle.a429_record.specs.Left.{rows_left}
+use Rattle.a429_record.specs.Lines.{pending_of}
+use Rattle.a429_record.specs.Text.{rows_left}
 use Rattle.a429_record.specs.Handed.{AreHeader}
-use Rattle.a429_record.proofs.Told.{AreRowsAfter, taken, same_rows, header_row, other_row}
+use Rattle.a429_record.proofs.TextFacts.{AreRowsAfter, taken, same_rows, header_row, other_row}
 use Rattle.a429_record.proofs.Handed.{blank_lost, line_lost, failed_lost}
 use Rattle.a429_record.proofs.text.TextReader.header.Given.{Over}
 use Rattle.a429_record.proofs.text.TextReader.header.Goals as goal

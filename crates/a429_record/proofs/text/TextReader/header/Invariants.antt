@@ -1,9 +1,9 @@
 use Rattle.std.proofs.Common.{◌≡◌, [], false}
 use Rattle.a429_word.specs.Tally.{has_failed}
-use Rattle.a429_record.specs.Pending.{pending_of, room_of}
+use Rattle.a429_record.specs.Lines.{pending_of, room_of}
 use Rattle.a429_record.specs.Handed.{Loses, AreLines}
-use Rattle.a429_record.specs.Left.{rows_left}
-use Rattle.a429_record.proofs.Told.{AreRows}
+use Rattle.a429_record.specs.Text.{rows_left}
+use Rattle.a429_record.proofs.TextFacts.{AreRows}
 use Rattle.a429_record.proofs.text.TextReader.header.Given as goal
 
 abbrev pub invariant-lines : goal.invariant-lines

@@ -2,7 +2,7 @@ use Rattle.std.proofs.Common.{◌∙◌, ap, pos, arith}
 use Rattle.std.specs.Int.{w64, w128}
 use Rattle.std.proofs.Math.Facts.{sfits_lit, yes_ltb}
 use Rattle.std.proofs.lemmas.Int.{to_z-of_z}
-use Rattle.a429_word.proofs.Halves.{fives_fit, halves-are}
+use Rattle.a429_word.proofs.FixedHalves.{fives_fit, halves-are}
 use Rattle.a429_word.proofs.fixed.Fixed.over_power_of_two.Goals as goal
 
 pub returns-clause-value : goal.returns-clause-value

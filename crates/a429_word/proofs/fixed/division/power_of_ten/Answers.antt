@@ -1,4 +1,4 @@
-use Rattle.a429_word.proofs.Zeros.{tens_shifted}
+use Rattle.a429_word.proofs.FixedZeros.{tens_shifted}
 use Rattle.a429_word.proofs.fixed.division.power_of_ten.Goals as goal
 
 pub returns : goal.returns

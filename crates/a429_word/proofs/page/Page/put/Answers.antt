@@ -2,7 +2,7 @@ use Rattle.std.proofs.Common.{◌∙◌, ◌+◌, ◌-◌, ◌≤◌, ◌++◌, 
 use Rattle.std.proofs.KnownBytes.{append_known-grown, Keeps-refl}
 use borrow.Rule.Slice.PartMut.{post_of}
 use Rattle.a429_word.specs.Page.{paged}
-use Rattle.a429_word.proofs.Pages.{take-refilled}
+use Rattle.a429_word.proofs.PageFacts.{take-refilled}
 use Rattle.a429_word.proofs.page.Page.put.Goals as goal
 
 pub returns-clause-ok : goal.returns-clause-ok

@@ -1,5 +1,5 @@
 use Rattle.std.proofs.lemmas.Result.{on_err_weaker}
-use Rattle.a429_word.proofs.Pages.{AppendsPrefix-behind}
+use Rattle.a429_word.proofs.PageFacts.{AppendsPrefix-behind}
 use Rattle.a429_word.proofs.page.Page.put_past.Goals as goal
 
 pub returns-clause-err : goal.returns-clause-err

@@ -1,7 +1,7 @@
 -- what was read so far and what this read gave stand one after the other
 use Rattle.std.proofs.Common.{◌≤◌, length, rules, arith}
 use Rattle.std.proofs.KnownBytes.{Consumes-trans}
-use Rattle.a429_word.proofs.Slices.{take-put_mid_within, length-put_mid_within}
+use Rattle.a429_word.proofs.TallySlices.{take-put_mid_within, length-put_mid_within}
 use Rattle.a429_word.proofs.tally.TallyRead.read_exact.Goals as goal
 
 pub loop-at-preserved : goal.loop-at-preserved

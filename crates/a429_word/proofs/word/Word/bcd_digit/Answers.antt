@@ -1,6 +1,6 @@
 use Rattle.std.proofs.Common.{arith}
 use Rattle.std.proofs.lemmas.Bool.Decides.{nat_tests}
-use Rattle.a429_word.proofs.Digits.{digit-first, digit-more}
+use Rattle.a429_word.proofs.BcdDigits.{digit-first, digit-more}
 use Rattle.a429_word.proofs.word.Word.bcd_digit.Goals as goal
 use Rattle.a429_word.proofs.word.Word.bcd_digit.Goals.{then-place-eq1, else-place-eq1}
 

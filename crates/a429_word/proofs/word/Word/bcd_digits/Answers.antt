@@ -1,5 +1,5 @@
 use Rattle.std.proofs.Common.{arith}
-use Rattle.a429_word.proofs.Digits.{read-none, read-more}
+use Rattle.a429_word.proofs.BcdDigits.{read-none, read-more}
 use Rattle.a429_word.proofs.word.Word.bcd_digits.Goals as goal
 
 pub loop-before-init : goal.loop-before-init

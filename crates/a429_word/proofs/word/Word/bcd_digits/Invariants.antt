@@ -1,4 +1,4 @@
-use Rattle.a429_word.proofs.Digits.{IsRead}
+use Rattle.a429_word.proofs.BcdDigits.{IsRead}
 use Rattle.a429_word.proofs.word.Word.bcd_digits.Given as goal
 
 abbrev pub invariant-loop-before : goal.invariant-loop-before

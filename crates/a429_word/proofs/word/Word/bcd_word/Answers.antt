@@ -1,6 +1,6 @@
 use Rattle.std.proofs.Common.{◌≡◌, ◌∙◌, ◌*◌, ◌^◌, ◌-◌}
 use Rattle.a429_word.specs.Word.{field_of}
-use Rattle.a429_word.proofs.Packed.{IsPacked, bcd-made, bcd-room}
+use Rattle.a429_word.proofs.BcdPacked.{IsPacked, bcd-made, bcd-room}
 use Rattle.a429_word.proofs.word.Word.bcd_word.Goals as goal
 
 pub with_parity-requires-clause-field : goal.with_parity-requires-clause-field

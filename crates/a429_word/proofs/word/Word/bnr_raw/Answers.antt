@@ -1,7 +1,7 @@
 -- the data bits, as the mask reads them, less 2 ^ s where the sign bit is 1
 use Rattle.std.proofs.Common.{◌-◌, ◌^◌}
 use Rattle.a429_word.specs.Word.{bit, number_at}
-use Rattle.a429_word.proofs.Raw.{data-is, bounds, negative, positive, bit-clear}
+use Rattle.a429_word.proofs.BnrRaw.{data-is, bounds, negative, positive, bit-clear}
 use Rattle.a429_word.proofs.word.Word.bnr_raw.Goals as goal
 
 pub overflow_sub-result : goal.overflow_sub-result

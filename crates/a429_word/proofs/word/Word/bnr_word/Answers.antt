@@ -2,7 +2,7 @@ use Rattle.std.proofs.Common.{◌≡◌, ◌*◌, ◌^◌, ◌-◌, arith, ◌�
 use mir.Val.{SFits}
 use Rattle.std.proofs.lemmas.Int.{to_z-of_z}
 use Rattle.a429_word.specs.Word.{field_of}
-use Rattle.a429_word.proofs.Encoded.{IsTwosComplement, raw-made, code-room}
+use Rattle.a429_word.proofs.BnrEncoded.{IsTwosComplement, raw-made, code-room}
 use Rattle.a429_word.proofs.word.Word.bnr_word.Goals as goal
 
 pub with_parity-requires-clause-field : goal.with_parity-requires-clause-field

@@ -1,4 +1,4 @@
-use Rattle.a429_word.specs.Written.{numeral}
+use Rattle.a429_word.specs.Digits.{numeral}
 use Rattle.a429_word.proofs.word.Word.hex.Goals as goal
 
 pub returns : goal.returns

@@ -1,7 +1,7 @@
 use Rattle.std.proofs.Common.{◌≡◌, ◌<◌, ◌∙◌, arith, sym, length, get_or}
 use Rattle.std.specs.Char.{digit_value}
 use Rattle.std.proofs.lemmas.Int.Digits.{digits_value_more, digits_more}
-use Rattle.a429_word.proofs.Hex.{digit_value-lt, room}
+use Rattle.a429_word.proofs.DigitsFacts.{digit_value-lt, room}
 use Rattle.a429_word.proofs.word.Word.parse_hex.Goals as goal
 
 pub returns-then-value-gt15 : goal.returns-then-value-gt15

@@ -1,4 +1,4 @@
-use Rattle.a429_word.proofs.Made.{odd_topped, odd_made}
+use Rattle.a429_word.proofs.WordMade.{odd_topped, odd_made}
 use Rattle.a429_word.proofs.word.Word.with_odd_parity.Goals as goal
 
 pub returns : goal.returns

@@ -1,5 +1,5 @@
 use Rattle.std.proofs.Common.{◌∙◌, arith}
-use Rattle.a429_word.proofs.Made.{made, parts_joined, parts_below}
+use Rattle.a429_word.proofs.WordMade.{made, parts_joined, parts_below}
 use Rattle.a429_word.proofs.word.Word.with_parity.Goals as goal
 
 pub with_odd_parity-requires : goal.with_odd_parity-requires

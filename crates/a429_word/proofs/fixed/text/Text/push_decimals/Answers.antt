@@ -1,7 +1,7 @@
 use Rattle.std.proofs.Common.{refl, ◌≡◌, ◌-◌, ◌+◌, ◌^◌, suc, ap, ◌∙◌, sym, arith, ◌/◌, ◌++◌, length, length-append, length-drop, rules}
 use Rattle.std.specs.Fmt.{decimal}
-use Rattle.a429_word.specs.Written.{numeral}
-use Rattle.a429_word.proofs.Decimal.{numeral-none, numeral-moves, quotient-more, length-numeral, one_and_part, behind_one}
+use Rattle.a429_word.specs.Digits.{numeral}
+use Rattle.a429_word.proofs.FixedDecimals.{numeral-none, numeral-moves, quotient-more, length-numeral, one_and_part, behind_one}
 use Rattle.a429_word.proofs.fixed.text.Text.push_decimals.Goals as goal
 
 pub returns-then-count-eq0-clause-text : goal.returns-then-count-eq0-clause-text

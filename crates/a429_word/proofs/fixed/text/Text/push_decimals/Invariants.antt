@@ -1,5 +1,5 @@
 use Rattle.std.proofs.Common.{◌≡◌, ◌≤◌, ◌+◌, ◌-◌, ◌/◌, ◌^◌, ◌++◌, length}
-use Rattle.a429_word.specs.Written.{numeral}
+use Rattle.a429_word.specs.Digits.{numeral}
 use Rattle.a429_word.proofs.fixed.text.Text.push_decimals.Given as goal
 
 abbrev pub invariant-loop-left : goal.invariant-loop-left

@@ -1,6 +1,6 @@
 use Rattle.std.proofs.Common.{ap, ◌∙◌, ◌++◌, arith, rules, length, length-append, length-drop}
 use Rattle.std.specs.Fmt.{decimal}
-use Rattle.a429_word.proofs.Decimal.{decimal-moves, length-decimal, room}
+use Rattle.a429_word.proofs.FixedDecimals.{decimal-moves, length-decimal, room}
 use Rattle.a429_word.proofs.fixed.text.Text.push_whole.Goals as goal
 
 pub push_last_digit-rest-requires : goal.push_last_digit-rest-requires

@@ -1,0 +1,212 @@
+-- Lines that are passed one after the other: the run that they list, and what it says of a certificate.
+use Rattle.std.proofs.Common.{◌≡◌, ℕ, zero, suc, ◌+◌, ◌≤◌, List, [], ◌∷◌, ◌++◌, take, drop, length, Option, Some, None, option_map, slice_get, refl, sym, ap, ◌∙◌, subst, arith, append-nil}
+use Rattle.std.proofs.lemmas.Option.{slice_get_within}
+use Rattle.std.proofs.lemmas.List.{take_all, drop-drop}
+use Rattle.a429_profile.specs.Profile.{Contents, IsProfile}
+use Rattle.a429_link.specs.declared.file.FileBytes.{FileBytes}
+use Rattle.a429_link.specs.declared.seen.Seen.{Seen}
+use Rattle.a429_link.specs.declared.step.Step.{Step}
+use Rattle.a429_link.specs.Step.{Can, after, label}
+use Rattle.a429_link.specs.State.{start, State}
+use Rattle.a429_link.specs.Run.{IsRun, end_of, with_label, trace, delivered, offered, settled, IsPrefixOf}
+use Rattle.a429_link.proofs.MessageRead.{is_read}
+use Rattle.a429_link.proofs.SinkFromTrace.{same_delivered}
+use Rattle.a429_link.proofs.RunCrossing.{delivered_prefix, settled_prefix}
+use Rattle.a429_link.proofs.LinkKept.{end_push}
+use Rattle.a429_cert.specs.declared.act.Act.{Act}
+use Rattle.a429_cert.specs.declared.act.Act.TheVariants as act
+use Rattle.a429_cert.specs.declared.line.CertLine.{CertLine}
+use Rattle.a429_cert.specs.declared.line.CertLine.TheVariants.{First, Load, Moved}
+use Rattle.a429_cert.specs.Line.{spelling, SpellsLine}
+use Rattle.a429_cert.proofs.Options.{some_is}
+use Rattle.a429_cert.specs.Lines.{certificate_lines, version}
+use Rattle.a429_cert.specs.Explained.{step_of, ShowsStates, ListsStep, ListsSteps, Reaches, IsExplained, AreInSomeRun, AreInEveryRun}
+use Rattle.a429_cert.specs.Act.{step_with, uses_of}
+use Rattle.a429_cert.specs.Fault.{HasVersion, HasFirst}
+use Rattle.a429_cert.specs.Passing.{uses, MakesStep, PassesText}
+
+-- ---- lists
+
+take_next : {X : Type 0} (k : ℕ) (w : X) (ys : List X) → slice_get ys k ≡ Some w → take (suc k) ys ≡ take k ys ++ w ∷ []
+take_next k w [] e = absurd (cc e)
+take_next zero w (y ∷ ys) e = let same : y ≡ w = cc in ap (λ v. v ∷ []) same
+take_next (suc k) w (y ∷ ys) e = ap (λ (l : List _). y ∷ l) (take_next k w ys e)
+
+-- the first of what is left
+pub drop_get : {X : Type 0} (xs : List X) (k : ℕ) → slice_get (drop k xs) 0 ≡ slice_get xs k
+drop_get [] zero = refl
+drop_get [] (suc k) = refl
+drop_get (x ∷ xs) zero = refl
+drop_get (x ∷ xs) (suc k) = drop_get xs k
+
+none_past : {X : Type 0} (xs : List X) (k : ℕ) → slice_get xs k ≡ None → length xs ≤ k
+none_past [] k e = omega arith
+none_past (x ∷ xs) zero e = absurd (cc e)
+none_past (x ∷ xs) (suc k) e = let more = none_past xs k e in omega arith
+
+-- ---- runs
+
+pub trace_push : (steps : List Step) (a : Step) → trace (steps ++ a ∷ []) ≡ trace steps ++ trace (a ∷ [])
+trace_push [] a = refl
+trace_push (b ∷ steps) a = labelled (label b) (trace steps) (trace (a ∷ [])) (trace (steps ++ a ∷ [])) (trace_push steps a)
+  where
+    labelled : (l : Option Seen) (xs ys zs : List Seen) → zs ≡ xs ++ ys → with_label l zs ≡ with_label l xs ++ ys
+    labelled None xs ys zs e = e
+    labelled (Some i) xs ys zs e = ap (λ (l : List Seen). i ∷ l) e
+
+pub lists_push : (p : Contents) (lines : List (Option (List ℕ))) (steps : List Step) (s : State) (text : List ℕ) (a : Step) → ListsSteps p lines steps s → ListsStep p text a (end_of p steps s) → ListsSteps p (lines ++ Some text ∷ []) (steps ++ a ∷ []) s
+lists_push p [] [] s text a h t = (t, tt)
+lists_push p [] (b ∷ steps) s text a h t = absurd h
+lists_push p (None ∷ lines) steps s text a h t = absurd h
+lists_push p (Some l ∷ lines) [] s text a h t = absurd h
+lists_push p (Some l ∷ lines) (b ∷ steps) s text a h t = (h.0, lists_push p lines steps (after p b s) text a h.1 t)
+
+-- lines that are steps are a run
+lists_run : (p : Contents) (lines : List (Option (List ℕ))) (steps : List Step) (s : State) → ListsSteps p lines steps s → IsRun p steps s
+lists_run p [] [] s h = tt
+lists_run p [] (b ∷ steps) s h = absurd h
+lists_run p (None ∷ lines) steps s h = absurd h
+lists_run p (Some l ∷ lines) [] s h = absurd h
+lists_run p (Some l ∷ lines) (b ∷ steps) s h = (h.0.can, lists_run p lines steps (after p b s) h.1)
+
+-- ---- what a line uses
+
+-- the entries that a step records are those that its letter uses
+act_used : (x : Act) (a : Step) (items : List Seen) (i : ℕ) (next : Option Seen) → slice_get items i ≡ next → step_with x next ≡ Some a → take (i + uses_of x) items ≡ take i items ++ trace (a ∷ [])
+act_used act.Sent a items i None g e = absurd (cc e)
+act_used act.Sent a items i (Some w) g e = subst (λ b. take (i + 1) items ≡ take i items ++ trace (b ∷ [])) (some_is _ a e) (let n : i + 1 ≡ suc i = omega arith in rw n (take_next i w items g))
+act_used act.Answered a items i None g e = absurd (cc e)
+act_used act.Answered a items i (Some w) g e = subst (λ b. take (i + 1) items ≡ take i items ++ trace (b ∷ [])) (some_is _ a e) (let n : i + 1 ≡ suc i = omega arith in rw n (take_next i w items g))
+act_used act.FreeSeen a items i None g e = absurd (cc e)
+act_used act.FreeSeen a items i (Some w) g e = subst (λ b. take (i + 1) items ≡ take i items ++ trace (b ∷ [])) (some_is _ a e) (let n : i + 1 ≡ suc i = omega arith in rw n (take_next i w items g))
+act_used act.SentLost a items i next g e = subst (λ b. take (i + 0) items ≡ take i items ++ trace (b ∷ [])) (some_is _ a e) (let n : i + 0 ≡ i = omega arith in rw n (sym (append-nil (take i items))))
+act_used act.TimeOut a items i next g e = subst (λ b. take (i + 0) items ≡ take i items ++ trace (b ∷ [])) (some_is _ a e) (let n : i + 0 ≡ i = omega arith in rw n (sym (append-nil (take i items))))
+act_used act.TakeAnswer a items i next g e = subst (λ b. take (i + 0) items ≡ take i items ++ trace (b ∷ [])) (some_is _ a e) (let n : i + 0 ≡ i = omega arith in rw n (sym (append-nil (take i items))))
+act_used act.LoseAnswer a items i next g e = subst (λ b. take (i + 0) items ≡ take i items ++ trace (b ∷ [])) (some_is _ a e) (let n : i + 0 ≡ i = omega arith in rw n (sym (append-nil (take i items))))
+act_used act.SinkTakes a items i next g e = subst (λ b. take (i + 0) items ≡ take i items ++ trace (b ∷ [])) (some_is _ a e) (let n : i + 0 ≡ i = omega arith in rw n (sym (append-nil (take i items))))
+act_used act.Silent a items i next g e = subst (λ b. take (i + 0) items ≡ take i items ++ trace (b ∷ [])) (some_is _ a e) (let n : i + 0 ≡ i = omega arith in rw n (sym (append-nil (take i items))))
+
+line_used : (l : CertLine) (a : Step) (items : List Seen) (i : ℕ) → step_of l (slice_get items i) ≡ Some a → take (i + uses l) items ≡ take i items ++ trace (a ∷ [])
+line_used (First file) a items i e = absurd (cc e)
+line_used (Load u) a items i e = subst (λ b. take (i + 0) items ≡ take i items ++ trace (b ∷ [])) (some_is _ a e) (let n : i + 0 ≡ i = omega arith in rw n (sym (append-nil (take i items))))
+line_used (Moved m) a items i e = act_used m.act a items i (slice_get items i) refl e
+
+act_inside : (x : Act) (a : Step) (items : List Seen) (i : ℕ) (next : Option Seen) → slice_get items i ≡ next → step_with x next ≡ Some a → i ≤ length items → i + uses_of x ≤ length items
+act_inside act.Sent a items i None g e l = absurd (cc e)
+act_inside act.Sent a items i (Some w) g e l = let in' = slice_get_within items i w g in omega arith
+act_inside act.Answered a items i None g e l = absurd (cc e)
+act_inside act.Answered a items i (Some w) g e l = let in' = slice_get_within items i w g in omega arith
+act_inside act.FreeSeen a items i None g e l = absurd (cc e)
+act_inside act.FreeSeen a items i (Some w) g e l = let in' = slice_get_within items i w g in omega arith
+act_inside act.SentLost a items i next g e l = omega arith
+act_inside act.TimeOut a items i next g e l = omega arith
+act_inside act.TakeAnswer a items i next g e l = omega arith
+act_inside act.LoseAnswer a items i next g e l = omega arith
+act_inside act.SinkTakes a items i next g e l = omega arith
+act_inside act.Silent a items i next g e l = omega arith
+
+line_inside : (l : CertLine) (a : Step) (items : List Seen) (i : ℕ) → step_of l (slice_get items i) ≡ Some a → i ≤ length items → i + uses l ≤ length items
+line_inside (First file) a items i e l = absurd (cc e)
+line_inside (Load u) a items i e l = omega arith
+line_inside (Moved m) a items i e l = act_inside m.act a items i (slice_get items i) refl e l
+
+-- ---- one more line
+
+pub begins : (p : Contents) (first : ℕ) (s : State) → s ≡ start p first → Reaches p first [] [] s
+begins p first s e = record { steps = []; lists = tt; used = refl; ends = e }
+
+-- what passes is a step
+pub record Passed (p : Contents) (first : ℕ) (lines : List (Option (List ℕ))) (items : List Seen) (k i : ℕ) (t : State) : Type 0 where
+  pub reached : Reaches p first (take (suc k) lines) (take i items) t
+  pub inside : i ≤ length items
+
+passed : (p : Contents) (first : ℕ) (lines : List (Option (List ℕ))) (items : List Seen) (k i : ℕ) (text : List ℕ) (l : CertLine) (s t : State)
+    → slice_get lines k ≡ Some (Some text) → SpellsLine text l → i ≤ length items → Reaches p first (take k lines) (take i items) s
+    → (o : Option Step) → step_of l (slice_get items i) ≡ o → MakesStep p o s t → ShowsStates l t → Passed p first lines items k (i + uses l) t
+passed p first lines items k i text l s t g is inside h None e m q = absurd m
+passed p first lines items k i text l s t g is inside h (Some a) e m q =
+    let can : Can p a (end_of p h.steps (start p first)) = subst (Can p a) h.ends m.0 in
+    let same : t ≡ after p a (end_of p h.steps (start p first)) = m.1 ∙ ap (after p a) h.ends in
+    let here : ListsStep p text a (end_of p h.steps (start p first)) = record { line = l; spelled = is; next = slice_get items i; step = e; can = can; shows = subst (ShowsStates l) same q } in
+    record {
+      reached = rw (take_next k (Some text) lines g) (record {
+        steps = h.steps ++ a ∷ [];
+        lists = lists_push p (take k lines) h.steps (start p first) text a h.lists here;
+        used = trace_push h.steps a ∙ ap (λ (l : List Seen). l ++ trace (a ∷ [])) h.used ∙ sym (line_used l a items i e);
+        ends = same ∙ sym (end_push p h.steps a (start p first));
+      });
+      inside = line_inside l a items i e inside;
+    }
+
+pub passes_on : (p : Contents) (first : ℕ) (lines : List (Option (List ℕ))) (items : List Seen) (k i used : ℕ) (line : Option (List ℕ)) (s t : State)
+    → slice_get lines k ≡ Some line → i ≤ length items → Reaches p first (take k lines) (take i items) s → PassesText p line (slice_get items i) s t used
+    → Passed p first lines items k (i + used) t
+passes_on p first lines items k i used None s t g inside h m = absurd m.1
+passes_on p first lines items k i used (Some text) s t g inside h m =
+    subst (λ n. Passed p first lines items k (i + n) t) (sym m.2.2) (passed p first lines items k i text m.0 s t g m.1 inside h (step_of m.0 (slice_get items i)) refl m.2.0 m.2.1)
+
+-- ---- the end
+
+header_is : {X : Type 0} (xs : List X) (a b : X) → slice_get xs 0 ≡ Some a → slice_get xs 1 ≡ Some b → xs ≡ a ∷ (b ∷ drop 2 xs)
+header_is [] a b e h = absurd (cc e)
+header_is (x ∷ []) a b e h = absurd (cc h)
+header_is (x ∷ (y ∷ xs)) a b e h = rw (some_is x a e, some_is y b h) refl
+
+-- lines that are all passed, with all entries used
+pub explained : (p : Contents) (certificate : List ℕ) (items : List Seen) (first k i : ℕ) (s : State)
+    → HasVersion certificate → HasFirst certificate first → slice_get (drop 2 (certificate_lines certificate)) k ≡ None → length items ≤ i
+    → Reaches p first (take k (drop 2 (certificate_lines certificate))) (take i items) s → IsExplained p certificate items s.sink.shelf.files
+explained p certificate items first k i s v w g all h =
+    record {
+      first = first;
+      steps = h.steps;
+      explains = record {
+        lines = drop 2 (certificate_lines certificate);
+        byte = w.0;
+        header = header_is (certificate_lines certificate) (Some version) (Some (spelling (First first))) v w.1;
+        lists = subst (λ (l : List (Option (List ℕ))). ListsSteps p l h.steps (start p first)) (take_all k (drop 2 (certificate_lines certificate)) (none_past (drop 2 (certificate_lines certificate)) k g)) h.lists;
+        used = h.used ∙ take_all i items all;
+      };
+      delivers = ap (λ (t : State). t.sink.shelf.files) h.ends;
+    }
+
+-- what explains is a run
+pub in_some_run : (p : Contents) (certificate : List ℕ) (items : List Seen) (files : List FileBytes) → IsExplained p certificate items files → AreInSomeRun p items files
+in_some_run p certificate items files h =
+    record {
+      first = h.first;
+      byte = h.explains.byte;
+      steps = h.steps;
+      run = lists_run p h.explains.lines h.steps (start p h.first) h.explains.lists;
+      recorded = h.explains.used;
+      gives = h.delivers;
+    }
+
+-- what one run delivers, each run with its trace delivers
+pub in_every_run : (p : Contents) → IsProfile p → (certificate : List ℕ) (items : List Seen) (files : List FileBytes) → IsExplained p certificate items files → AreInEveryRun p items files
+in_every_run p is certificate items files h = λ f steps byte run same.
+    let read = is_read p is in
+    let own = in_some_run p certificate items files h in
+    let these : files ≡ delivered p f steps = own.gives ∙ same_delivered p own.first f own.steps steps read own.byte byte own.run run (own.recorded ∙ sym same) in
+    (these, subst (λ (l : List FileBytes). IsPrefixOf l (offered p f steps)) (sym these) (delivered_prefix p f steps read byte run), subst (λ (l : List FileBytes). IsPrefixOf (settled p f steps) l) (sym these) (settled_prefix p f steps read byte run))
+
+-- ---- where a loop stands
+
+pub line_here : {V : Type 0} (f : V → Option (List ℕ)) (lines : List (Option (List ℕ))) (left : List ℕ) (k : ℕ) (r : Option V) (x : V) → certificate_lines left ≡ drop k lines → option_map f r ≡ slice_get (certificate_lines left) 0 → r ≡ Some x → slice_get lines k ≡ Some (f x)
+line_here f lines left k r x e g h = sym (drop_get lines k) ∙ ap (λ (l : List (Option (List ℕ))). slice_get l 0) (sym e) ∙ sym g ∙ ap (option_map f) h
+
+pub none_here : {V : Type 0} (f : V → Option (List ℕ)) (lines : List (Option (List ℕ))) (left : List ℕ) (k : ℕ) (r : Option V) → certificate_lines left ≡ drop k lines → option_map f r ≡ slice_get (certificate_lines left) 0 → r ≡ None → slice_get lines k ≡ None
+none_here f lines left k r e g h = sym (drop_get lines k) ∙ ap (λ (l : List (Option (List ℕ))). slice_get l 0) (sym e) ∙ sym g ∙ ap (option_map f) h
+
+pub none_of : {V : Type 0} (r : Option V) → ((x : V) → r ≡ Some x → ⊥) → r ≡ None
+none_of None h = refl
+none_of (Some x) h = absurd (h x refl)
+
+pub left_on : (lines : List (Option (List ℕ))) (left more : List ℕ) (k : ℕ) → certificate_lines left ≡ drop k lines → certificate_lines more ≡ drop 1 (certificate_lines left) → certificate_lines more ≡ drop (suc k) lines
+left_on lines left more k e g = let n : k + 1 ≡ suc k = omega arith in g ∙ ap (drop 1) e ∙ drop-drop 1 k lines ∙ ap (λ m. drop m lines) n
+
+pub passed_on : (p : Contents) (first : ℕ) (lines : List (Option (List ℕ))) (items : List Seen) (k i used : ℕ) (line : Option (List ℕ)) (next : Option Seen) (s t : State)
+    → slice_get lines k ≡ Some line → next ≡ slice_get items i → i ≤ length items → Reaches p first (take k lines) (take i items) s → PassesText p line next s t used
+    → Passed p first lines items k (i + used) t
+passed_on p first lines items k i used line next s t g o inside h m =
+    passes_on p first lines items k i used line s t g inside h (subst (λ x. PassesText p line x s t used) o m)

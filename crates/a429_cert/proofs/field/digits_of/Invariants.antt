@@ -1,5 +1,0 @@
-use Rattle.a429_cert.proofs.Digits.{IsRead}
-use Rattle.a429_cert.proofs.field.digits_of.Given as goal
-
-abbrev pub invariant-loop-byte : goal.invariant-loop-byte
-invariant-loop-byte l = IsRead l.byte-index l.number l.text

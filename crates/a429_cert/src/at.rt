@@ -1,0 +1,14 @@
+//! Where a certificate and a recording stand.
+
+use a429_link::Seen;
+
+/// The line of a certificate and the entry of a recording that come next.
+#[derive(Clone, Copy, Debug)]
+pub struct At {
+    /// The line's number, counted from 1.
+    pub line: usize,
+    /// The entry's number, counted from 0.
+    pub entry: usize,
+    /// What was recorded in it, if it is there.
+    pub next: Option<Seen>,
+}

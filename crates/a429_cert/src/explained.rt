@@ -1,0 +1,118 @@
+//! Certificates, held against recordings.
+
+ghost use Rattle.std.specs.Prelude.{◌≡◌, ◌≢◌, ◌≤◌, ℕ, Some, IfOk, IfErr, option_and_then, option_map, slice_get, true, false};
+ghost use Rattle.a429_cert.specs.declared.line.CertLine.TheVariants.{First};
+ghost use Rattle.a429_cert.specs.Line.{spelling};
+ghost use Rattle.a429_cert.specs.Lines.{line_bytes, version};
+ghost use Rattle.a429_cert.specs.Explained.{items_of, IsExplained, AreInEveryRun};
+ghost use Rattle.a429_cert.specs.Fault.{file_in, Begins, IsNoFirst, IsFaultOfHead, IsFirstCertFault, UnlessMemory};
+
+use crate::at::At;
+use crate::fault::CertFault;
+use crate::line::CertLine;
+use crate::lines::{Lines, TextLine};
+use crate::passing::pass;
+use crate::reading::read_line;
+use crate::verified::Verified;
+use a429_link::{Link, Seen};
+use a429_profile::Profile;
+use a429_record::Entry;
+use std::alloc::Global;
+
+/// Holds a certificate against the entries of a recording, under the profile of the bench. Where it
+/// explains them by a run of source and sink, the answer is the files that this run delivers, and each
+/// other run that records the same words delivers the same. Else the fault is the first one in the
+/// order of the lines.
+pub fn verify(
+    alloc: Global,
+    profile: &Profile,
+    entries: &[Entry],
+    certificate: &[u8],
+) -> Result<Verified, CertFault>
+    ensures ok { IfOk result (λ files. IsExplained profile.now certificate.now (items_of entries.now) files) }
+    ensures every_run { IfOk result (λ files. AreInEveryRun profile.now (items_of entries.now) files) }
+    ensures err { IfErr result (UnlessMemory (IsFirstCertFault profile.now certificate.now (items_of entries.now))) }
+{
+    let mut lines = Lines::new(certificate);
+    let first = match begin(alloc, &mut lines) {
+        Ok(first) => first,
+        Err(fault) => return Err(fault),
+    };
+    let mut link = Link::start(alloc, profile, first);
+    let mut used = 0;
+    let mut n = 3;
+    while let Some(line) = lines.next_line() {
+        let at = At {
+            line: n,
+            entry: used,
+            next: seen_at(entries, used),
+        };
+        match pass(alloc, profile, &mut link, line, at) {
+            Ok(count) => used += count,
+            Err(fault) => return Err(fault),
+        }
+        n += 1;
+    }
+    if used < entries.len() {
+        return Err(CertFault::Unfinished(used));
+    }
+    let files = link.take_delivered();
+    Ok(Verified::new(files))
+}
+
+// The number of the first file, by the two lines that begin a certificate.
+fn begin(alloc: Global, lines: &mut Lines<'_>) -> Result<u8, CertFault>
+    ensures ok { IfOk result (λ first. Begins lines.old first lines.new) }
+    ensures err { IfErr result (UnlessMemory (IsFaultOfHead lines.old)) }
+{
+    if !is_version(lines.next_line()) {
+        return Err(CertFault::Version);
+    }
+    first_of(alloc, lines.next_line())
+}
+
+// Whether this is the first line of a certificate.
+fn is_version(line: Option<TextLine<'_>>) -> bool
+    ensures yes { result ≡ true → option_map line_bytes line.entry ≡ Some (Some version) }
+    ensures no { result ≡ false → option_map line_bytes line.entry ≢ Some (Some version) }
+{
+    match line {
+        Some(TextLine::Ended(text)) => text == b"arinc429-cert 1".as_slice(),
+        _ => false,
+    }
+}
+
+// The number of the first file, which the second line of a certificate gives.
+fn first_of(alloc: Global, line: Option<TextLine<'_>>) -> Result<u8, CertFault>
+    ensures ok { IfOk result (λ first. option_map line_bytes line.entry ≡ Some (Some (spelling (First first)))) }
+    ensures err { IfErr result (UnlessMemory (IsNoFirst (option_map line_bytes line.entry))) }
+{
+    let Some(TextLine::Ended(text)) = line else {
+        return Err(CertFault::Line(2));
+    };
+    match read_line(alloc, text) {
+        Ok(line) => file_of(line).ok_or(CertFault::Line(2)),
+        Err(_) => Err(CertFault::OutOfMemory),
+    }
+}
+
+// The number of the first file, where a line gives it.
+fn file_of(line: Option<CertLine>) -> Option<u8>
+    ensures { result ≡ option_and_then file_in line }
+{
+    match line? {
+        CertLine::First(file) => Some(file),
+        _ => None,
+    }
+}
+
+// What was recorded in entry i, if there is one.
+fn seen_at(entries: &[Entry], i: usize) -> Option<Seen>
+    ensures { result ≡ slice_get (items_of entries.now) i }
+{
+    let entry = entries.get(i)?;
+    Some(Seen {
+        bus: entry.bus,
+        word: entry.word,
+    })
+}

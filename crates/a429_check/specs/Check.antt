@@ -1,0 +1,61 @@
+-- The verdict on a recording, and how it is written (profile).
+use Rattle.std.specs.Prelude.{◌≡◌, ◌⊎◌, ◌++◌, ℕ, List, [], codes, Option}
+use Rattle.std.specs.Fmt.{decimal}
+use Rattle.a429_word.specs.declared.tally.Tally.{Tally}
+use Rattle.a429_cert.specs.Explained.{items_of}
+use Rattle.a429_explain.specs.declared.verdict.Verdict.{Verdict}
+use Rattle.a429_explain.specs.declared.verdict.Verdict.TheVariants.{Explained, Impossible, Unexplained}
+use Rattle.a429_explain.specs.declared.verdict.Reason.{Reason}
+use Rattle.a429_explain.specs.declared.verdict.Reason.TheVariants.{NoForm, NotGranted, WrongAnswer}
+use Rattle.a429_explain.specs.declared.verdict.Doubt.{Doubt}
+use Rattle.a429_explain.specs.declared.verdict.Doubt.TheVariants.{NeverWhole, NotOneBlock, NotReplayed}
+use Rattle.a429_explain.specs.Verdict.{IsSoundVerdict, IsImpossible, IsDoubted, IsFirst, HasNoForm, IsImpossibility, IsExplanation}
+use Rattle.a429_explain.specs.WithoutLoss.{IsWithoutLoss}
+use Rattle.a429_check.specs.Recording.{SayInput}
+use Rattle.a429_word.specs.Tally.{PutsFront}
+use Rattle.a429_check.specs.Verdict.{yes_text}
+
+-- ---- the text
+
+abbrev pub reason_text : Reason → List ℕ
+reason_text NoForm = codes " NoForm\n"
+reason_text NotGranted = codes " NotGranted\n"
+reason_text WrongAnswer = codes " WrongAnswer\n"
+
+abbrev pub doubt_text : Doubt → List ℕ
+doubt_text NeverWhole = codes " NeverWhole\n"
+doubt_text NotOneBlock = codes " NotOneBlock\n"
+doubt_text NotReplayed = codes " NotReplayed\n"
+
+abbrev pub verdict_text : Verdict → List ℕ
+verdict_text (Explained certificate files) = yes_text files
+verdict_text (Impossible i reason) = codes "IMPOSSIBLE " ++ decimal i ++ reason_text reason
+verdict_text (Unexplained i doubt) = codes "UNEXPLAINED " ++ decimal i ++ doubt_text doubt
+
+-- the certificate that is written: none but of a recording that is explained
+abbrev pub certificate_text : Verdict → List ℕ
+certificate_text (Explained certificate files) = certificate
+certificate_text (Impossible i reason) = []
+certificate_text (Unexplained i doubt) = []
+
+abbrev pub verdict_status : Verdict → ℕ
+verdict_status (Explained certificate files) = 0
+verdict_status (Impossible i reason) = 1
+verdict_status (Unexplained i doubt) = 2
+
+-- ---- what it stands for
+
+-- the verdict is one on the recording by the profile whose text the bytes are; the recording's bytes are known where its reader tells them
+pub record IsVerdictOn (profile : List ℕ) (recording : Option (List ℕ)) (v : Verdict) : Type 0 where
+  pub says : SayInput profile recording
+  pub sound : IsSoundVerdict (says.contents) (items_of (says.entries)) v
+  pub impossible : IsImpossible (says.contents) (items_of (says.entries)) v
+  pub doubted : IsDoubted (says.contents) (items_of (says.entries)) v
+  pub first : IsFirst (says.contents) (items_of (says.entries)) v
+  pub no_form : HasNoForm (says.contents.codes) (items_of (says.entries)) → IsImpossibility v
+  pub without_loss : IsWithoutLoss (says.contents) (items_of (says.entries)) → IsExplanation v
+
+-- a writer is as it was, or has gained some front of the certificate of a verdict on the recording
+abbrev pub PutsFrontAtMost : {C : Type 0} → (C → Option (List ℕ)) → Tally C → Tally C → List ℕ → Option (List ℕ) → Type 0
+PutsFrontAtMost contents old new profile recording =
+    (new ≡ old) ⊎ ((v : Verdict) × IsVerdictOn profile recording v × PutsFront contents old new (certificate_text v))

@@ -1,0 +1,27 @@
+-- What the bytes of a recording say, or what is wrong with them (profile).
+use Rattle.std.specs.Prelude.{◌≡◌, ℕ, List, Bool, true, Option, Some, IfSome}
+use Rattle.a429_profile.specs.Profile.{Contents}
+use Rattle.a429_record.specs.declared.entry.Entry.{Entry}
+use Rattle.a429_record.specs.declared.fault.ReadFault.{ReadFault}
+use Rattle.a429_record.specs.declared.fault.ReadFault.TheVariants as read
+use Rattle.a429_record.specs.Recording.{stands_for, whole}
+use Rattle.a429_check.specs.declared.fault.RunFault.{RunFault}
+use Rattle.a429_check.specs.Fault.{ComesBy, never}
+use Rattle.a429_check.specs.Profile.{IsProfileOf}
+
+-- a profile's text and a recording say these contents and entries; the recording's bytes need not be known
+pub record SayInput (profile : List ℕ) (recording : Option (List ℕ)) : Type 0 where
+  pub contents : Contents
+  pub entries : List Entry
+  pub is_profile : IsProfileOf profile contents
+  pub stand : IfSome recording (λ bytes. stands_for bytes ≡ whole entries)
+
+-- the first fault of a recording's bytes, where they are known; a failed reader and want of memory are no faults of a recording
+abbrev pub IsRecordingFault : Option (List ℕ) → ReadFault → Type 0
+IsRecordingFault known read.Device = ⊥
+IsRecordingFault known read.OutOfMemory = ⊥
+IsRecordingFault known f = IfSome known (λ bytes. (stands_for bytes).fault ≡ Some f)
+
+-- why a recording could not be read: its own fault, a reader that failed, or want of memory
+abbrev pub IsReadFault : Option (List ℕ) → Bool → RunFault → Type 0
+IsReadFault known failed = ComesBy (record never { recording = IsRecordingFault known; device = failed ≡ true; memory = Unit {0} })

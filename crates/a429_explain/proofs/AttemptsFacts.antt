@@ -1,0 +1,79 @@
+-- The roles of a recording's words, from the last to the first.
+use Rattle.std.proofs.Common.{◌≡◌, ℕ, zero, suc, ◌+◌, ◌<◌, ◌≤◌, false, List, [], ◌∷◌, ◌++◌, length, drop, reverse, Option, Some, None, refl, sym, ap, ◌∙◌, subst, arith}
+use Rattle.std.proofs.lemmas.List.{reverse-append}
+use Rattle.a429_profile.specs.declared.codes.Codes.{Codes}
+use Rattle.a429_ldu.specs.declared.forms.Form.{Form}
+use Rattle.a429_ldu.specs.declared.forms.Form.TheVariants.{Rts, Cts, Ack, Nak, Sot, Part, Eot}
+use Rattle.a429_link.specs.declared.seen.Seen.{Seen}
+use Rattle.a429_explain.specs.declared.attempts.Role.{Role}
+use Rattle.a429_explain.specs.declared.attempts.Ahead.{Ahead}
+use Rattle.a429_explain.specs.declared.heard.HeardWord.{HeardWord}
+use Rattle.a429_explain.specs.Heard.{IsHeardAt, forms_of}
+use Rattle.a429_explain.specs.Attempts.{next_start, role_of, roles, IsAhead}
+use Rattle.a429_explain.specs.Crossed.{started, file_of}
+use Rattle.a429_explain.proofs.HeardFacts.{items_long, forms_from}
+
+-- where the pass has come to
+pub record Stands (said : List (Option Form)) (left : ℕ) (found : List Role) (ahead : Ahead) : Type 0 where
+  pub found_is : reverse found ≡ roles (drop left said)
+  pub ahead_is : IsAhead (drop left said) ahead
+  pub inside : left ≤ length said
+
+-- a word before it has its role
+pub stands_next : (c : Codes) (items : List Seen) (n left : ℕ) (h : HeardWord) (found new : List Role) (ahead next : Ahead) (r : Role) → n + 1 ≡ left → IsHeardAt c items n h → ((more : List (Option Form)) → IsAhead more ahead → r ≡ role_of h.form more) → ((more : List (Option Form)) → IsAhead more ahead → IsAhead (h.form ∷ more) next) → new ≡ found ++ r ∷ [] → Stands (forms_of c items) left found ahead → Stands (forms_of c items) n new next
+stands_next c items n left h found new ahead next r l k role goes pushed s =
+    let forms = forms_of c items in
+    let here : drop n forms ≡ h.form ∷ drop left forms = forms_from c items n h k ∙ ap (λ (m : ℕ). h.form ∷ drop m forms) l in
+    let inside = s.inside in
+    record {
+      found_is = ap reverse pushed ∙ reverse-append found (r ∷ []) ∙ ap (λ (q : Role). q ∷ reverse found) (role (drop left forms) s.ahead_is) ∙ ap (λ (rs : List Role). role_of h.form (drop left forms) ∷ rs) s.found_is ∙ ap roles (sym here);
+      ahead_is = subst (λ (xs : List (Option Form)). IsAhead xs next) (sym here) (goes (drop left forms) s.ahead_is);
+      inside = omega (arith, l, inside);
+    }
+
+-- at the last word
+pub stands_none : (c : Codes) (items : List Seen) (n : ℕ) (found : List Role) (ahead : Ahead) → n ≡ length items → found ≡ [] → ahead ≡ record { sends_block = false; start = None } → Stands (forms_of c items) n found ahead
+stands_none c items n found ahead l none at =
+    let long = items_long c items in
+    let past : drop n (forms_of c items) ≡ [] = drop_all n (forms_of c items) (omega (arith, l, long)) in
+    rw (none, at) (record {
+      found_is = ap roles (sym past);
+      ahead_is = subst (λ (xs : List (Option Form)). IsAhead xs (record { sends_block = false; start = None })) (sym past) (record { sends_is = refl; start_is = refl });
+      inside = omega (arith, l, long);
+    })
+  where
+    drop_all : (n : ℕ) (xs : List (Option Form)) → length xs ≤ n → drop n xs ≡ []
+    drop_all zero [] l = refl
+    drop_all zero (x ∷ xs) l = absurd (omega arith)
+    drop_all (suc n) [] l = refl
+    drop_all (suc n) (x ∷ xs) l = drop_all n xs (omega arith)
+
+-- each word has its role
+pub length-roles : (c : Codes) (items : List Seen) → length (roles (forms_of c items)) ≡ length items
+length-roles c [] = refl
+length-roles c (i ∷ items) = ap suc (length-roles c items)
+
+pub roles_long : (c : Codes) (items : List Seen) (rs : List Role) → rs ≡ roles (forms_of c items) → length rs ≡ length items
+roles_long c items rs e = ap length e ∙ length-roles c items
+
+-- ---- the next start word
+
+pub start_here : (x : Option Form) (more : List (Option Form)) (file : ℕ) → Some file ≡ started x → file ≡ file_of (next_start (x ∷ more))
+start_here (Some (Sot g f l)) more file e = cc
+start_here (Some (Rts n)) more file e = absurd (cc e)
+start_here (Some (Cts n)) more file e = absurd (cc e)
+start_here (Some (Ack f l)) more file e = absurd (cc e)
+start_here (Some (Nak b)) more file e = absurd (cc e)
+start_here (Some (Part s)) more file e = absurd (cc e)
+start_here (Some (Eot f k)) more file e = absurd (cc e)
+start_here None more file e = absurd (cc e)
+
+pub start_past : (x : Option Form) (more : List (Option Form)) → None ≡ started x → next_start (x ∷ more) ≡ next_start more
+start_past (Some (Sot g f l)) more e = absurd (cc e)
+start_past (Some (Rts n)) more e = refl
+start_past (Some (Cts n)) more e = refl
+start_past (Some (Ack f l)) more e = refl
+start_past (Some (Nak b)) more e = refl
+start_past (Some (Part s)) more e = refl
+start_past (Some (Eot f k)) more e = refl
+start_past None more e = refl

@@ -1,0 +1,203 @@
+-- A recording without loss is written by the steps of its run.
+use Rattle.std.proofs.Common.{◌≡◌, ℕ, zero, suc, ◌+◌, ◌≤◌, ◌<◌, Bool, true, false, cond, not, List, [], ◌∷◌, ◌++◌, map, length, take, drop, get_or, Option, Some, None, refl, sym, ap, ◌∙◌, subst, arith, append_assoc, drop-cons}
+use Rattle.std.proofs.Math.Seq.{take-suc}
+use Rattle.a429_word.specs.declared.bus.Bus.TheVariants as bus
+use Rattle.a429_profile.specs.declared.codes.Codes.{Codes}
+use Rattle.a429_profile.specs.Profile.{Contents, IsProfile}
+use Rattle.a429_ldu.specs.declared.forms.Form.{Form}
+use Rattle.a429_ldu.specs.declared.forms.Form.TheVariants.{Rts, Cts, Ack, Nak, Sot, Part, Eot}
+use Rattle.a429_ldu.specs.Form.{form_of, is_free, word_number}
+use Rattle.a429_ldu.specs.Ldu.{LduValue, block_of, count_of}
+use Rattle.a429_link.specs.declared.seen.Seen.{Seen}
+use Rattle.a429_link.specs.declared.step.Step.{Step}
+use Rattle.a429_link.specs.declared.step.Step.TheVariants.{FreeSeen}
+use Rattle.a429_link.specs.Clean.{on_a, on_b, next_file, next_ldu, clean_blocks, AllFit, without_free, asks, sends_word, replies, clean_steps, first_of, rest_of, weave}
+use Rattle.a429_link.specs.Link.{LinkValue}
+use Rattle.a429_link.specs.Run.{IsRun, end_of}
+use Rattle.a429_link.specs.Step.{Can}
+use Rattle.a429_link.specs.State.{start}
+use Rattle.a429_link.proofs.CleanRuns.{clean_is_run, run_split}
+use Rattle.a429_record.specs.declared.entry.Entry.{Entry}
+use Rattle.a429_cert.specs.Explained.{seen_of, items_of}
+use Rattle.a429_explain.specs.declared.attempts.Numbers.{Numbers}
+use Rattle.a429_explain.specs.declared.attempts.Role.{Role}
+use Rattle.a429_explain.specs.declared.attempts.Role.TheVariants as role
+use Rattle.a429_explain.specs.Attempts.{sends_block as sends_words, are_numbers, role_of, roles}
+use Rattle.a429_explain.specs.Heard.{forms_of}
+use Rattle.a429_explain.specs.Scribe.{IsLossless, lossless_steps, units_left, loaded_after, link_after}
+use Rattle.a429_explain.specs.Matching.{IsOfBlock}
+use Rattle.a429_explain.proofs.CleanBlock.{AreOfBlock, block_said}
+use Rattle.a429_explain.proofs.CleanGroups.{unit_said, file_small, next_start_other}
+use Rattle.a429_explain.proofs.MatchingFacts.{get_item, length-items_of}
+use Rattle.a429_explain.proofs.Thinned.{next_start-thin}
+use Rattle.a429_explain.proofs.WalkFacts.{free_none}
+
+-- ---- roles, free words left out
+
+abbrev pub role_in : Codes → Seen → List Seen → Role
+role_in c i more = role_of (form_of c i.bus i.word) (forms_of c more)
+
+sends-cons : (o : Option Form) (xs ys : List (Option Form)) → sends_words xs ≡ sends_words ys → sends_words (o ∷ xs) ≡ sends_words (o ∷ ys)
+sends-cons (Some (Rts n)) xs ys e = refl
+sends-cons (Some (Sot g f l)) xs ys e = refl
+sends-cons (Some (Part s)) xs ys e = refl
+sends-cons (Some (Eot f k)) xs ys e = refl
+sends-cons _ xs ys e = e
+
+sends-none : (o : Option Form) (xs : List (Option Form)) → o ≡ None → sends_words (o ∷ xs) ≡ sends_words xs
+sends-none None xs e = refl
+sends-none (Some x) xs e = absurd (cc e)
+
+sends-thin : (c : Codes) (items : List Seen) → sends_words (forms_of c (without_free c items)) ≡ sends_words (forms_of c items)
+sends-thin c [] = refl
+sends-thin c (i ∷ items) = by (is_free c i.bus i.word) refl (sends-thin c items)
+  where
+    by : (b : Bool) → is_free c i.bus i.word ≡ b → sends_words (forms_of c (without_free c items)) ≡ sends_words (forms_of c items) → sends_words (forms_of c (cond b (without_free c items) (i ∷ without_free c items))) ≡ sends_words (forms_of c (i ∷ items))
+    by true e more = more ∙ sym (sends-none (form_of c i.bus i.word) (forms_of c items) (free_none c i.bus i.word e))
+    by false e more = sends-cons (form_of c i.bus i.word) (forms_of c (without_free c items)) (forms_of c items) more
+
+-- a role looks at no free words
+role_thin : (c : Codes) (i : Seen) (items : List Seen) → role_in c i items ≡ role_in c i (without_free c items)
+role_thin c i items = by (form_of c i.bus i.word)
+  where
+    by : (o : Option Form) → role_of o (forms_of c items) ≡ role_of o (forms_of c (without_free c items))
+    by (Some (Cts n)) = ap (λ (b : Bool). role.Clear b) (sym (sends-thin c items))
+    by (Some (Ack f l)) = ap (λ (o : Option Numbers). role.Acknowledged (not (are_numbers o f l))) (sym (next_start-thin c items))
+    by None = refl
+    by (Some (Rts n)) = refl
+    by (Some (Nak b)) = refl
+    by (Some (Sot g f l)) = refl
+    by (Some (Part s)) = refl
+    by (Some (Eot f k)) = refl
+
+-- ---- the plan
+
+-- beside each word stand the steps that are written for it
+abbrev AreLosslessSteps : Codes → List Seen → List (List Step) → List LduValue → Bool → Type 0
+AreLosslessSteps c [] gs units loaded = Unit {0}
+AreLosslessSteps c (i ∷ xs) gs units loaded = (first_of gs ≡ lossless_steps (role_in c i xs) i units) × IsLossless (role_in c i xs) loaded units × AreLosslessSteps c xs (rest_of gs) (units_left (role_in c i xs) units) (loaded_after (role_in c i xs) loaded)
+
+planned_cons : (c : Codes) (i : Seen) (xs : List Seen) (g : List Step) (gs : List (List Step)) (units : List LduValue) (loaded : Bool) (r : Role) → role_in c i xs ≡ r → g ≡ lossless_steps r i units → IsLossless r loaded units → AreLosslessSteps c xs gs (units_left r units) (loaded_after r loaded) → AreLosslessSteps c (i ∷ xs) (g ∷ gs) units loaded
+planned_cons c i xs g gs units loaded r e steps plain more = rw e (steps, plain, more)
+
+-- the words to come are those of a run without loss that goes on from the link
+pub record OnPlan (p : Contents) (items : List Seen) (units : List LduValue) (loaded : Bool) (l : LinkValue) : Type 0 where
+  profile : l.profile ≡ p
+  groups : List (List Step)
+  run : IsRun p (weave p.codes items groups) l.state
+  planned : AreLosslessSteps p.codes (without_free p.codes items) groups units loaded
+
+-- the next word is written by its steps, and the plan goes on behind them
+pub record Goes (p : Contents) (i : Seen) (items : List Seen) (r : Role) (units : List LduValue) (loaded : Bool) (l : LinkValue) : Type 0 where
+  pub lossless : IsLossless r loaded units
+  pub run : IsRun p (lossless_steps r i units) l.state
+  pub more : OnPlan p items (units_left r units) (loaded_after r loaded) (link_after (lossless_steps r i units) l)
+
+goes_free : (p : Contents) (i : Seen) (items : List Seen) (units : List LduValue) (loaded : Bool) (l : LinkValue) (gs : List (List Step)) → l.profile ≡ p → Can p (FreeSeen i) l.state → IsRun p (weave p.codes items gs) l.state → AreLosslessSteps p.codes (without_free p.codes items) gs units loaded → Goes p i items role.Free units loaded l
+goes_free p i items units loaded l gs e can run planned = record {
+  lossless = tt;
+  run = (can, tt);
+  more = record { profile = e; groups = gs; run = run; planned = planned };
+}
+
+goes_word : (p : Contents) (i : Seen) (items : List Seen) (r : Role) (units : List LduValue) (loaded : Bool) (l : LinkValue) (gs : List (List Step)) → l.profile ≡ p → first_of gs ≡ lossless_steps r i units → IsLossless r loaded units → IsRun p (first_of gs ++ weave p.codes items (rest_of gs)) l.state → AreLosslessSteps p.codes (without_free p.codes items) (rest_of gs) (units_left r units) (loaded_after r loaded) → Goes p i items r units loaded l
+goes_word p i items r units loaded l gs e steps plain run planned =
+    let parts = run_split p (lossless_steps r i units) (weave p.codes items (rest_of gs)) l.state (subst (λ (g : List Step). IsRun p (g ++ weave p.codes items (rest_of gs)) l.state) steps run) in
+    record {
+      lossless = plain;
+      run = parts.0;
+      more = record {
+        profile = e;
+        groups = rest_of gs;
+        run = subst (λ q. IsRun p (weave p.codes items (rest_of gs)) (end_of q (lossless_steps r i units) l.state)) (sym e) parts.1;
+        planned = planned;
+      };
+    }
+
+pub goes_on : (p : Contents) (i : Seen) (items : List Seen) (units : List LduValue) (loaded : Bool) (l : LinkValue) → OnPlan p (i ∷ items) units loaded l → Goes p i items (role_in p.codes i items) units loaded l
+goes_on p i items units loaded l h = by (is_free p.codes i.bus i.word) refl h.run h.planned
+  where
+    by : (b : Bool) → is_free p.codes i.bus i.word ≡ b → IsRun p (cond b (FreeSeen i ∷ weave p.codes items h.groups) (first_of h.groups ++ weave p.codes items (rest_of h.groups))) l.state → AreLosslessSteps p.codes (cond b (without_free p.codes items) (i ∷ without_free p.codes items)) h.groups units loaded → Goes p i items (role_in p.codes i items) units loaded l
+    by true e run planned = rw (free_none p.codes i.bus i.word e) (goes_free p i items units loaded l h.groups h.profile run.0 run.1 planned)
+    by false e run planned = rw (role_thin p.codes i items) (goes_word p i items (role_in p.codes i (without_free p.codes items)) units loaded l h.groups h.profile planned.0 planned.1 run planned.2)
+
+-- ---- the plan of link data units
+
+block_role : (x : Option Form) (more : List (Option Form)) → IsOfBlock x → role_of x more ≡ role.OfBlock
+block_role (Some (Sot g f l)) more h = refl
+block_role (Some (Part s)) more h = refl
+block_role (Some (Eot f k)) more h = refl
+block_role (Some (Rts n)) more h = absurd h
+block_role (Some (Cts n)) more h = absurd h
+block_role (Some (Ack f l)) more h = absurd h
+block_role (Some (Nak b)) more h = absurd h
+block_role None more h = absurd h
+
+planned_block : (c : Codes) (ws : List ℕ) (xs : List Seen) (gs : List (List Step)) (units : List LduValue) → AreOfBlock c ws → AreLosslessSteps c xs gs units true → AreLosslessSteps c (map on_a ws ++ xs) (map sends_word ws ++ gs) units true
+planned_block c [] xs gs units h more = more
+planned_block c (w ∷ ws) xs gs units h more = rw (block_role (form_of c bus.A w) (forms_of c (map on_a ws ++ xs)) h.0) (refl, tt, planned_block c ws xs gs units h.1 more)
+
+planned_apart : (c : Codes) (ws bs cs : List Seen) (ds es fs : List (List Step)) (units : List LduValue) (loaded : Bool) → AreLosslessSteps c (ws ++ (bs ++ cs)) (ds ++ (es ++ fs)) units loaded → AreLosslessSteps c ((ws ++ bs) ++ cs) ((ds ++ es) ++ fs) units loaded
+planned_apart c ws bs cs ds es fs units loaded h = subst (λ (xs : List Seen). AreLosslessSteps c xs ((ds ++ es) ++ fs) units loaded) (sym (append_assoc ws bs cs)) (subst (λ (gs : List (List Step)). AreLosslessSteps c (ws ++ (bs ++ cs)) gs units loaded) (sym (append_assoc ds es fs)) h)
+
+pub planned_clean : (p : Contents) → IsProfile p → (us : List LduValue) (file ldu : ℕ) → file ≤ 255 → AllFit p ldu us → AreLosslessSteps p.codes (clean_blocks p.codes file ldu us) (clean_steps p.codes file ldu us) us false
+planned_clean p is [] file ldu f h = tt
+planned_clean p is (u ∷ us) file ldu f h =
+    let c = p.codes in
+    let k = unit_said p is file ldu u f h.1 h.0 in
+    let block = block_of c u file ldu in
+    let last = word_number c (Ack file ldu) in
+    let xs = clean_blocks c (next_file c file u) (next_ldu c ldu u) us in
+    let gs = clean_steps c (next_file c file u) (next_ldu c ldu u) us in
+    let more : AreLosslessSteps c xs gs us false = planned_clean p is us (next_file c file u) (next_ldu c ldu u) (file_small c file u f) h.2 in
+    let acked : AreLosslessSteps c (on_b last ∷ xs) (replies last ∷ gs) us true = planned_cons c (on_b last) xs (replies last) gs us true (role.Acknowledged true) (rw k.settled (ap (λ (b : Bool). role.Acknowledged (not b)) (next_start_other p is file ldu u us f h.2))) refl refl more in
+    let words = planned_block c block (on_b last ∷ xs) (replies last ∷ gs) us (block_said p file ldu u k) acked in
+    let words : AreLosslessSteps c ((map on_a block ++ on_b last ∷ []) ++ xs) ((map sends_word block ++ replies last ∷ []) ++ gs) us true = planned_apart c (map on_a block) (on_b last ∷ []) xs (map sends_word block) (replies last ∷ []) gs us true words in
+    let behind = (map on_a block ++ on_b last ∷ []) ++ xs in
+    let more_steps = (map sends_word block ++ replies last ∷ []) ++ gs in
+    let cts = word_number c (Cts (count_of u)) in
+    let cleared = planned_cons c (on_b cts) behind (replies cts) more_steps us true (role.Clear true) (rw k.clear (rw k.start refl)) refl refl words in
+    planned_cons c (on_a (word_number c (Rts (count_of u)))) (on_b cts ∷ behind) (asks c u) (replies cts ∷ more_steps) (u ∷ us) false (role.Request (count_of u)) (rw k.request refl) refl (refl, tt) cleared
+
+-- ---- the whole recording
+
+-- a recording without loss is on plan at its start
+pub plan_starts : (p : Contents) → IsProfile p → (us : List LduValue) (items : List Seen) (file : ℕ) (l : LinkValue) → file ≤ 255 → AllFit p p.codes.first_ldu us → without_free p.codes items ≡ clean_blocks p.codes file p.codes.first_ldu us → l ≡ record { profile = p; state = start p file } → OnPlan p items us false l
+plan_starts p is us items file l f h e same = rw same (record {
+  profile = refl;
+  groups = clean_steps p.codes file p.codes.first_ldu us;
+  run = (clean_is_run p file us items is f h e).run;
+  planned = subst (λ (xs : List Seen). AreLosslessSteps p.codes xs (clean_steps p.codes file p.codes.first_ldu us) us false) (sym e) (planned_clean p is us file p.codes.first_ldu f h);
+})
+
+-- the role of an entry
+role_at : (c : Codes) (items : List Seen) (n : ℕ) (i : Seen) (r : Role) → n < length items → get_or (roles (forms_of c items)) n r ≡ role_in c (get_or items n i) (drop (suc n) items)
+role_at c [] n i r l = absurd (omega arith)
+role_at c (x ∷ items) zero i r l = refl
+role_at c (x ∷ items) (suc n) i r l = role_at c items n i r (omega arith)
+
+-- the next entry of a recording on plan
+pub plan_next : (p : Contents) (items : List Seen) (n : ℕ) (i : Seen) (r : Role) (rs : List Role) (units : List LduValue) (loaded : Bool) (l : LinkValue) → n < length items → i ≡ get_or items n i → rs ≡ roles (forms_of p.codes items) → r ≡ get_or rs n r → OnPlan p (drop n items) units loaded l → Goes p i (drop (n + 1) items) r units loaded l
+plan_next p items n i r rs units loaded l inside is are its h =
+    let one : n + 1 ≡ suc n = omega arith in
+    let here : r ≡ role_in p.codes i (drop (suc n) items) = its ∙ ap (λ (q : List Role). get_or q n r) are ∙ role_at p.codes items n i r inside ∙ ap (λ (x : Seen). role_in p.codes x (drop (suc n) items)) (sym is) in
+    let list : drop n items ≡ i ∷ drop (suc n) items = drop-cons items n i inside ∙ ap (λ (x : Seen). x ∷ drop (suc n) items) (sym is) in
+    rw one (subst (λ q. Goes p i (drop (suc n) items) q units loaded l) (sym here) (goes_on p i (drop (suc n) items) units loaded l (subst (λ (xs : List Seen). OnPlan p xs units loaded l) list h)))
+
+pub goes_run : (p : Contents) (i : Seen) (items : List Seen) (r : Role) (units : List LduValue) (loaded : Bool) (l : LinkValue) → l.profile ≡ p → Goes p i items r units loaded l → IsRun l.profile (lossless_steps r i units) l.state
+goes_run p i items r units loaded l e h = rw e h.run
+
+-- the plan goes on
+pub plan_kept : (p : Contents) (i : Seen) (items : List Seen) (r : Role) (units left : List LduValue) (loaded now : Bool) (l m : LinkValue) → Goes p i items r units loaded l → left ≡ units_left r units → now ≡ loaded_after r loaded → m ≡ link_after (lossless_steps r i units) l → OnPlan p items left now m
+plan_kept p i items r units left loaded now l m h el en em = rw el (rw en (rw em h.more))
+
+-- the entries with the next one
+pub entries_next : (es : List Entry) (n : ℕ) (e : Entry) → n < length es → e ≡ get_or es n e → take n (items_of es) ++ seen_of e ∷ [] ≡ take (n + 1) (items_of es)
+entries_next es n e l is =
+    let long : length (items_of es) ≡ length es = length-items_of es in
+    let one : n + 1 ≡ suc n = omega arith in
+    rw one (sym (take-suc (items_of es) n (seen_of e) (omega (arith, long)) ∙ ap (λ (i : Seen). take n (items_of es) ++ i ∷ []) (get_item es n e ∙ ap seen_of (sym is))))
+
+-- the next entry
+pub entry_next : (p : Contents) (es : List Entry) (n : ℕ) (e : Entry) (r : Role) (rs : List Role) (units : List LduValue) (loaded : Bool) (l : LinkValue) → n < length es → e ≡ get_or es n e → rs ≡ roles (forms_of p.codes (items_of es)) → r ≡ get_or rs n r → OnPlan p (drop n (items_of es)) units loaded l → Goes p (seen_of e) (drop (n + 1) (items_of es)) r units loaded l
+entry_next p es n e r rs units loaded l inside is are its h = plan_next p (items_of es) n (seen_of e) r rs units loaded l (omega (arith, length-items_of es)) (ap seen_of is ∙ sym (get_item es n e)) are its h

@@ -1,9 +1,0 @@
-use Rattle.std.proofs.Common.{◌≡◌, List, slice_range}
-use Rattle.a429_profile.specs.declared.codes.Codes.{Codes}
-use Rattle.a429_link.specs.declared.seen.Seen.{Seen}
-use Rattle.a429_explain.specs.Attempts.{forms_of}
-use Rattle.a429_explain.specs.Filled.{first_gfi}
-use Rattle.a429_explain.proofs.filler.first_gfi.Given as goal
-
-abbrev pub invariant-loop-at : goal.invariant-loop-at
-invariant-loop-at l = (c : Codes) (items : List Seen) → l.said ≡ forms_of c items → first_gfi c (slice_range items l.fn.group.from l.fn.group.to) ≡ first_gfi c (slice_range items l.at l.fn.group.to)

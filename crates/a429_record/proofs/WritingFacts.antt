@@ -1,0 +1,47 @@
+-- The text of a record of `csv`, where its fields are plain.
+use Rattle.std.proofs.Common.{◌≡◌, ◌++◌, ◌∷◌, [], ◌≤◌, ◌<◌, ◌/◌, ◌%◌, ◌^◌, ℕ, zero, suc, List, arith, refl, true, append_assoc}
+use Rattle.std.specs.Prelude.{codes}
+use Rattle.std.specs.Fmt.{decimal, digit_glyph}
+use Rattle.std.proofs.lemmas.Fmt.{decimal_is_IsNumeral}
+use Rattle.std.proofs.lemmas.Bool.Decides.{nat_tests}
+use Rattle.std.proofs.lemmas.List.{append-nil}
+use Rattle.csv.specs.Writing.{default_writer, row_text, fields_text, is_blank}
+use Rattle.a429_word.specs.declared.bus.Bus.{Bus}
+use Rattle.a429_word.specs.declared.bus.Bus.TheVariants.{A, B}
+use Rattle.a429_word.specs.Digits.{numeral, hex_text}
+use Rattle.a429_word.specs.Bus.{bus_text}
+use Rattle.a429_record.specs.declared.entry.Entry.{Entry}
+use Rattle.a429_record.specs.Writing.{header_fields, entry_fields, header_text, line_text}
+use Rattle.a429_record.proofs.RowDigits.{all_digits-from}
+use Rattle.a429_record.proofs.LinePlain.{AllHigh, plain, digits_high}
+
+-- ---- the fields of an entry are plain
+
+pub AllHigh-decimal : (n : ℕ) → n < 2 ^ 64 → AllHigh (decimal n)
+AllHigh-decimal n h = digits_high 10 (decimal n) (omega arith) (all_digits-from 10 (decimal n) (decimal_is_IsNumeral n h).0.1)
+
+pub AllHigh-bus : (b : Bus) → AllHigh (bus_text b)
+AllHigh-bus A = (omega arith, tt)
+AllHigh-bus B = (omega arith, tt)
+
+glyph_high : (d : ℕ) → d < 16 → 48 ≤ digit_glyph true d
+glyph_high d h = grind (arith, nat_tests)
+
+pub AllHigh-numeral : (k w : ℕ) → AllHigh (numeral 16 k w)
+unfolding numeral
+AllHigh-numeral zero w = tt
+AllHigh-numeral (suc k) w = (glyph_high (w / 16 ^ k % 16) (omega arith), AllHigh-numeral k w)
+
+-- ---- their record
+
+plain_row : (t b w : List ℕ) → AllHigh t → AllHigh b → AllHigh w
+    → row_text default_writer (t ∷ b ∷ w ∷ []) ≡ t ++ codes "," ++ b ++ codes "," ++ w ++ codes "\n"
+unfolding fields_text is_blank
+plain_row t b w ht hb hw = rw (plain t ht, plain b hb, plain w hw, append-nil) (simp append_assoc)
+
+pub entry_line : (e : Entry) → e.time < 2 ^ 64 → row_text default_writer (entry_fields e) ≡ line_text e
+entry_line e small = plain_row (decimal e.time) (bus_text e.bus) (hex_text e.word) (AllHigh-decimal e.time small) (AllHigh-bus e.bus) (AllHigh-numeral 8 e.word)
+
+pub header_line : row_text default_writer header_fields ≡ header_text
+unfolding fields_text is_blank
+header_line = refl

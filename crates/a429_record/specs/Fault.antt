@@ -1,0 +1,11 @@
+-- A fault as the answer of a call that reads (profile).
+use Rattle.std.specs.Prelude.{◌≡◌, ℕ, List, Some, ⊤}
+use Rattle.a429_record.specs.declared.fault.ReadFault.{ReadFault}
+use Rattle.a429_record.specs.declared.fault.ReadFault.TheVariants as fault
+use Rattle.a429_record.specs.Recording.{stands_for}
+
+-- a fault is the first one of the bytes, where it is no fault of the device or for want of memory
+abbrev pub IsFirstReadFault : ReadFault → List ℕ → Type 0
+IsFirstReadFault fault.Device bytes = ⊤
+IsFirstReadFault fault.OutOfMemory bytes = ⊤
+IsFirstReadFault f bytes = (stands_for bytes).fault ≡ Some f

@@ -1,0 +1,27 @@
+-- What a reader of lines has still to give, and what it gives (profile).
+use Rattle.std.specs.Prelude.{ℕ, ◌+◌, List, length, take, drop, Option}
+use Rattle.std.specs.Io.KnownBytes.{prepend_known}
+use Rattle.a429_word.specs.declared.tally.Tally.{Tally}
+use Rattle.a429_word.specs.Tally.{left_of, unread}
+use Rattle.a429_record.specs.declared.lines.Lines.{Lines}
+use Rattle.a429_record.specs.Handed.{Loses}
+
+-- the bytes that were read and not yet given
+abbrev pub ahead_of : Lines → List ℕ
+ahead_of s = drop s.at (take s.filled s.buffer)
+
+-- the bytes that are still to come, where they are known
+abbrev pub pending_of : {R : Type 0} → (R → Option (List ℕ)) → Lines → Tally R → Option (List ℕ)
+pending_of remaining s rec = prepend_known (ahead_of s) (unread remaining rec)
+
+-- how many bytes may still be given
+abbrev pub room_of : {R : Type 0} → Lines → Tally R → ℕ
+room_of s rec = left_of rec + length (ahead_of s)
+
+-- lines are given: what they take of the bytes, and what is then left, are so
+abbrev pub HandsOut : {R : Type 0} → (List ℕ → List ℕ → Type 0) → (R → Option (List ℕ)) → Lines → Tally R → Lines → Tally R → Type 0
+HandsOut P remaining old rec new new_rec = Loses P (pending_of remaining old rec) (pending_of remaining new new_rec)
+
+-- the reader fails: what it has given until then, with what was ahead, and what it leaves, are so
+abbrev pub FailsAfter : {R : Type 0} → (List ℕ → List ℕ → Type 0) → (R → Option (List ℕ)) → Lines → Tally R → Tally R → Type 0
+FailsAfter P remaining old rec new_rec = Loses P (pending_of remaining old rec) (unread remaining new_rec)

@@ -1,0 +1,49 @@
+-- What a reader of a text recording has still to give (profile).
+use Rattle.std.specs.Prelude.{◌≡◌, ◌≤◌, ◌+◌, ℕ, List, [], Option, Some, None, option_map, Result, Ok, Err, IfOk, IfSome, ⊤}
+use Rattle.a429_word.specs.declared.tally.Tally.{Tally}
+use Rattle.a429_record.specs.declared.entry.Entry.{Entry}
+use Rattle.a429_record.specs.declared.fault.ReadFault.{ReadFault}
+use Rattle.a429_record.specs.declared.fault.ReadFault.TheVariants as fault
+use Rattle.a429_record.specs.declared.text.TextReader.{TextReader}
+use Rattle.a429_record.specs.Row.{Row}
+use Rattle.a429_record.specs.Recording.{Recording, rows_of, whole, stops, with_entry, rows_stand_for, all_rows_stand_for}
+use Rattle.a429_record.specs.Lines.{pending_of}
+
+-- the rows that are left, where the bytes are known
+abbrev pub rows_left : {R : Type 0} → (R → Option (List ℕ)) → TextReader → Tally R → Option (List Row)
+rows_left remaining s rec = option_map rows_of (pending_of remaining s.lines rec)
+
+-- what rows stand for after the entries that were given
+abbrev pub stands_from : TextReader → List Row → Recording
+stands_from s = rows_stand_for s.count s.last
+
+-- what the rows that are left stand for
+abbrev pub recording_left : {R : Type 0} → (R → Option (List ℕ)) → TextReader → Tally R → Option Recording
+recording_left remaining s rec = option_map (stands_from s) (rows_left remaining s rec)
+
+-- a fault is all that is left, where it is no fault of the device or for want of memory
+abbrev pub Stops : ReadFault → Recording → Type 0
+Stops fault.Device t = ⊤
+Stops fault.OutOfMemory t = ⊤
+Stops f t = t ≡ stops f
+
+-- the header is taken from known rows
+abbrev pub TakesHeader : Option (List Row) → Option (List Row) → Result (Unit {0}) ReadFault → Type 0
+TakesHeader None new r = ⊤
+TakesHeader (Some rows) new (Ok u) = (more : List Row) × (new ≡ Some more) × (all_rows_stand_for rows ≡ rows_stand_for 0 0 more)
+TakesHeader (Some rows) new (Err f) = Stops f (all_rows_stand_for rows)
+
+-- an answer is the next entry, the end or the fault of what is left, and after an entry the rest is left
+abbrev pub GivesNext : Option Recording → Option Recording → Result (Option Entry) ReadFault → Type 0
+GivesNext None new r = ⊤
+GivesNext (Some t) new (Ok (Some e)) = (u : Recording) × (new ≡ Some u) × (t ≡ with_entry e u)
+GivesNext (Some t) new (Ok None) = t ≡ whole []
+GivesNext (Some t) new (Err f) = Stops f t
+
+-- where the answer is an entry, it is so
+abbrev pub IfEntry : Result (Option Entry) ReadFault → (Entry → Type 0) → Type 0
+IfEntry answer P = IfOk answer (λ o. IfSome o P)
+
+-- an entry is given after the last one, and is then the last one
+abbrev pub Follows : TextReader → TextReader → Entry → Type 0
+Follows old new e = (old.last ≤ e.time) × (new.last ≡ e.time) × (new.count ≡ old.count + 1)

@@ -1,0 +1,69 @@
+-- Hexadecimal digits, written and read.
+use Rattle.std.proofs.Common.{◌≡◌, ℕ, zero, suc, ◌+◌, ◌/◌, ◌%◌, ◌^◌, ◌<◌, ◌≤◌, refl, ap, ◌∙◌, arith, List, [], ◌∷◌, length, get_or, take, Option, Some, None, true, bit_and}
+use Rattle.std.specs.Char.{digit_value}
+use Rattle.std.specs.Fmt.{digit_glyph}
+use Rattle.std.specs.Str.Parse.{digits_value, AllDigits}
+use Rattle.std.proofs.lemmas.Int.Digits.{digits_value-lt}
+use Rattle.std.proofs.lemmas.List.{length-take-le}
+use Rattle.std.proofs.Math.Nat.{pow-le-pow_right}
+use Rattle.std.proofs.lemmas.Nat.{and_mask}
+use Rattle.std.proofs.lemmas.Bool.Decides.{nat_tests}
+use Rattle.a429_word.specs.Digits.{numeral, hex_text, octal_text, ReadsHex}
+
+-- ---- reading
+
+pub digit_value-lt : (radix : ℕ) (ds : List ℕ) (i : ℕ) → i < length ds → AllDigits radix ds → digit_value (get_or ds i 0) < radix
+digit_value-lt radix [] i h all = absurd (omega arith)
+digit_value-lt radix (d ∷ ds) zero h all = all.0
+digit_value-lt radix (d ∷ ds) (suc i) h all = digit_value-lt radix ds i (omega arith) all.1
+
+-- seven digits leave room for one more
+pub room : (i n : ℕ) (text : List ℕ) → i < 8 → length text ≡ 8 → n ≡ digits_value 16 (take i text) → AllDigits 16 (take i text) → n < 268435456
+room i n text h long e all =
+    let short = length-take-le i text (omega arith) in
+    let few : i ≤ 7 = omega arith in
+    let below = digits_value-lt 16 (take i text) all in
+    let most : 16 ^ i ≤ 16 ^ 7 = pow-le-pow_right (omega arith) few in
+    let under : digits_value 16 (take i text) < 16 ^ i = rw short at below in
+    omega arith
+
+-- ---- writing
+
+-- a digit's character
+pub digit_glyph-low : (d : ℕ) → d < 10 → 48 + d ≡ digit_glyph true d
+digit_glyph-low d h = grind (arith, nat_tests)
+
+octal_digit : (n : ℕ) → 48 + bit_and n 7 ≡ digit_glyph true (n % 8)
+octal_digit n = let e = digit_glyph-low (n % 8) (omega arith) in ap (λ d. 48 + d) (and_mask n 3) ∙ e
+
+pub octal_text-is : (n : ℕ) → (48 + bit_and (n / 64) 7) ∷ (48 + bit_and (n / 8) 7) ∷ (48 + bit_and n 7) ∷ [] ≡ octal_text n
+unfolding numeral
+octal_text-is n =
+    let first = octal_digit (n / 64) in
+    let second = octal_digit (n / 8) in
+    let third : 48 + bit_and n 7 ≡ digit_glyph true (n / 1 % 8) = octal_digit n ∙ ap (λ d. digit_glyph true (d % 8)) (omega arith) in
+    cc
+
+-- ---- written and read
+
+digit_value-digit_glyph : (d : ℕ) → d < 16 → digit_value (digit_glyph true d) ≡ d
+digit_value-digit_glyph d h = grind (arith, nat_tests)
+
+-- each digit of a numeral is one
+AllDigits-numeral : (k w : ℕ) → AllDigits 16 (numeral 16 k w)
+unfolding numeral
+AllDigits-numeral zero w = tt
+AllDigits-numeral (suc k) w =
+    let small : w / 16 ^ k % 16 < 16 = omega arith in
+    (rw (digit_value-digit_glyph (w / 16 ^ k % 16) small) small, AllDigits-numeral k w)
+
+digits_value-hex_text : (w : ℕ) → w < 2 ^ 32 → digits_value 16 (hex_text w) ≡ w
+unfolding numeral
+digits_value-hex_text w h =
+    let value : (k : ℕ) → digit_value (digit_glyph true (w / 16 ^ k % 16)) ≡ w / 16 ^ k % 16 = λ k. digit_value-digit_glyph (w / 16 ^ k % 16) (omega arith) in
+    rw (value 7, value 6, value 5, value 4, value 3, value 2, value 1, value 0) (omega arith)
+
+pub hex_text-read : (w : ℕ) (read : Option ℕ) → w < 2 ^ 32 → ReadsHex (hex_text w) read → read ≡ Some w
+unfolding numeral
+hex_text-read w None h is = absurd (is (refl, AllDigits-numeral 8 w))
+hex_text-read w (Some v) h is = ap Some (is.1 ∙ digits_value-hex_text w h)

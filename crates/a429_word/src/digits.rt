@@ -1,0 +1,87 @@
+//! Words in hexadecimal digits, and labels in octal ones.
+
+ghost use Rattle.std.specs.Prelude.{◌≡◌, ◌<◌, ◌^◌, ◌*◌, ◌/◌, ◌%◌, true};
+ghost use Rattle.std.specs.Char.{digit_value};
+ghost use Rattle.std.specs.Fmt.{digit_glyph};
+ghost use Rattle.a429_word.specs.Digits.{hex_text, octal_text, ReadsHex};
+
+use crate::word::Word;
+
+const HEX_DIGITS: [u8; 16] = *b"0123456789ABCDEF";
+
+// The value of each byte as a digit, letters of either case from 10 on, and 36 of a byte that is none.
+const DIGIT_VALUES: [u8; 256] = [
+    36, 36, 36, 36, 36, 36, 36, 36, 36, 36, 36, 36, 36, 36, 36, 36, 36, 36, 36, 36, 36, 36, 36, 36,
+    36, 36, 36, 36, 36, 36, 36, 36, 36, 36, 36, 36, 36, 36, 36, 36, 36, 36, 36, 36, 36, 36, 36, 36,
+    0, 1, 2, 3, 4, 5, 6, 7, 8, 9, 36, 36, 36, 36, 36, 36, 36, 10, 11, 12, 13, 14, 15, 16, 17, 18,
+    19, 20, 21, 22, 23, 24, 25, 26, 27, 28, 29, 30, 31, 32, 33, 34, 35, 36, 36, 36, 36, 36, 36, 10,
+    11, 12, 13, 14, 15, 16, 17, 18, 19, 20, 21, 22, 23, 24, 25, 26, 27, 28, 29, 30, 31, 32, 33, 34,
+    35, 36, 36, 36, 36, 36, 36, 36, 36, 36, 36, 36, 36, 36, 36, 36, 36, 36, 36, 36, 36, 36, 36, 36,
+    36, 36, 36, 36, 36, 36, 36, 36, 36, 36, 36, 36, 36, 36, 36, 36, 36, 36, 36, 36, 36, 36, 36, 36,
+    36, 36, 36, 36, 36, 36, 36, 36, 36, 36, 36, 36, 36, 36, 36, 36, 36, 36, 36, 36, 36, 36, 36, 36,
+    36, 36, 36, 36, 36, 36, 36, 36, 36, 36, 36, 36, 36, 36, 36, 36, 36, 36, 36, 36, 36, 36, 36, 36,
+    36, 36, 36, 36, 36, 36, 36, 36, 36, 36, 36, 36, 36, 36, 36, 36, 36, 36, 36, 36, 36, 36, 36, 36,
+    36, 36, 36, 36, 36, 36, 36, 36, 36, 36, 36, 36, 36, 36,
+];
+
+impl Word {
+    /// Reads eight hexadecimal digits of either case. Any other text is `None`.
+    pub fn parse_hex(text: &[u8]) -> Option<Word>
+        ensures { ReadsHex text.now result }
+    {
+        if text.len() != 8 {
+            return None;
+        }
+        let mut number = 0;
+        for digit in text {
+            let value = digit_of(*digit);
+            if value > 15 {
+                return None;
+            }
+            number = number * 16 + u32::from(value);
+        }
+        Some(Word::from_u32(number))
+    }
+
+    /// The number as eight hexadecimal digits in upper case.
+    pub fn hex(self) -> [u8; 8]
+        ensures { result ≡ hex_text self }
+    {
+        [
+            self.hex_digit(7),
+            self.hex_digit(6),
+            self.hex_digit(5),
+            self.hex_digit(4),
+            self.hex_digit(3),
+            self.hex_digit(2),
+            self.hex_digit(1),
+            self.hex_digit(0),
+        ]
+    }
+
+    // The digit that counts 16^place.
+    fn hex_digit(self, place: u8) -> u8
+        requires { place < 8 }
+        ensures { result ≡ digit_glyph true (self / 2 ^ (4 * place) % 16) }
+    {
+        HEX_DIGITS[(self.to_u32() >> (4 * place) & 15) as usize]
+    }
+}
+
+// The value of a byte as a digit.
+fn digit_of(byte: u8) -> u8
+    ensures { result ≡ digit_value byte }
+{
+    DIGIT_VALUES[usize::from(byte)]
+}
+
+/// A label as it is written (Part 1): three octal digits, 000 to 377.
+pub fn octal(label: u8) -> [u8; 3]
+    ensures { result ≡ octal_text label }
+{
+    [
+        b'0' + (label >> 6 & 7),
+        b'0' + (label >> 3 & 7),
+        b'0' + (label & 7),
+    ]
+}
