@@ -12,7 +12,7 @@ use Rattle.a429_ldu.specs.Cut.{pieces, units_in, units_of}
 use Rattle.a429_ldu.specs.Filling.{data_words, fives}
 use Rattle.a429_ldu.proofs.CutPieces.{length-semis}
 use Rattle.a429_ldu.specs.declared.fault.CutFault.{CutFault}
-use Rattle.a429_link.specs.declared.fault.CleanFault.TheVariants as clean_blocks
+use Rattle.a429_link.specs.declared.fault.CleanFault.TheVariants as clean
 use Rattle.a429_link.specs.Clean.{clean_blocks, clean_block, clean_words, cut_fault, first_refused, refused_or, next_file, next_ldu, on_a, on_b, units_of_files}
 use Rattle.a429_record.specs.Recording.{most_entries}
 use Rattle.std.specs.Vec.{vec_len}
@@ -135,7 +135,7 @@ counted_more files k n c f l ef none words h =
         (omega arith, λ small. let same : min (n + c) (2 ^ 64 - 1) + rest p (k + 1) ≡ n + rest p k = omega arith in same ∙ g.1 (omega arith))
 
 -- the next file is refused
-pub counted_refused : (files : List (List ℕ)) (k n : ℕ) (f : List ℕ) (e : CutFault) → k < length files → f ≡ get_or files k f → cut_fault 255 f ≡ Some e → AreCounted files k n → first_refused 255 0 files ≡ Some (clean_blocks.Cut k e)
+pub counted_refused : (files : List (List ℕ)) (k n : ℕ) (f : List ℕ) (e : CutFault) → k < length files → f ≡ get_or files k f → cut_fault 255 f ≡ Some e → AreCounted files k n → first_refused 255 0 files ≡ Some (clean.Cut k e)
 counted_refused files k n f e l ef some h =
     sym h.refused ∙ ap (first_refused 255 k) (next_file_at files k f l ef) ∙ ap (λ o. refused_or k o (first_refused 255 (k + 1) (drop (k + 1) files))) some
 

@@ -50,10 +50,10 @@ pub filled_is : (p q : Contents) (count gfi : ℕ) (items : List Seen) (t odd : 
 filled_is p q count gfi items t odd own part all given same ends never recorded lent parity shown added first =
     let is_odd : odd ≡ are_odd p.codes own = parity ∙ ap (λ (v : Contents). are_odd v.codes part) same ∙ ap (are_odd p.codes) lent in
     let words : given ≡ filled_up p.codes count (last_data p.codes items none_yet) =
-        shown ∙ added
-        ∙ ap (λ (v : Contents). own ++ fillers v.codes odd (count - 2 - length own)) same
-        ∙ ap (λ (b : Bool). own ++ fillers p.codes b (count - 2 - length own)) is_odd
-        ∙ ap (filled_up p.codes count) recorded in
+    shown ∙ added
+    ∙ ap (λ (v : Contents). own ++ fillers v.codes odd (count - 2 - length own)) same
+    ∙ ap (λ (b : Bool). own ++ fillers p.codes b (count - 2 - length own)) is_odd
+    ∙ ap (filled_up p.codes count) recorded in
     ap (λ (v : Contents). unit_filled v count gfi given) same
     ∙ ap (λ (g : ℕ). unit_filled p count g given) first
     ∙ ap (unit_filled p count (first_gfi p.codes items)) words

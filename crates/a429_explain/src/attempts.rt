@@ -103,6 +103,9 @@ fn before(form: &Option<Form>, ahead: Ahead) -> Ahead
             sends_block: true,
             start: Some(Numbers { file, ldu }),
         },
-        Some(Form::Part(_) | Form::Eot { .. }) => Ahead { sends_block: true, start },
+        Some(Form::Part(_) | Form::Eot { .. }) => Ahead {
+            sends_block: true,
+            start,
+        },
     }
 }

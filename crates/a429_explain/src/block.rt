@@ -53,11 +53,7 @@ pub(crate) fn matched_unit(
 // The link data unit of a group whose first request wants this many words. The first whole attempt
 // gives it. Where there is none, and no end word was recorded, it is one of the data words of the last
 // attempt that recorded any, and of filler words behind them.
-fn unit_of(
-    alloc: Global,
-    heard: &Heard,
-    request: Request,
-) -> Result<Ldu, Stop>
+fn unit_of(alloc: Global, heard: &Heard, request: Request) -> Result<Ldu, Stop>
     requires { IsRequestOf heard.now request }
     ensures unit { IfOk result (λ u. IsLdu heard.now.profile u) }
     ensures count { IfOk result (λ u. count_of u ≡ request.count) }

@@ -70,13 +70,7 @@ pub(crate) fn first_unmatched(
 }
 
 // How many words of the block are passed with this word, where so many are passed before it.
-fn passing(
-    profile: &Profile,
-    unit: &Ldu,
-    place: Place,
-    passed: u8,
-    heard: HeardWord,
-) -> Option<u8>
+fn passing(profile: &Profile, unit: &Ldu, place: Place, passed: u8, heard: HeardWord) -> Option<u8>
     requires { passed ≤ count_of unit.now }
     ensures passed { result ≡ passing_as heard.form (passed_with (is_word profile.now.codes unit.now place heard.word) passed (count_of unit.now - passed)) passed }
     ensures inside { IfSome result (λ more. more ≤ count_of unit.now) }

@@ -135,7 +135,10 @@ impl<'a> Scribe<'a> {
     fn waits(&self) -> bool
         ensures { result ≡ true → ¬ IsIdle self.now.link.state.source.phase }
     {
-        matches!(self.link.states().source, SourceState::Awaiting | SourceState::Waiting)
+        matches!(
+            self.link.states().source,
+            SourceState::Awaiting | SourceState::Waiting
+        )
     }
 
     // The sink owes an answer.

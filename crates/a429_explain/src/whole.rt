@@ -103,7 +103,14 @@ impl Attempt {
         match *form {
             Some(Form::Eot { flags, check }) => {
                 let end = End { flags, check };
-                unit_with(alloc, profile, self.start, end, self.words.as_slice(), count)
+                unit_with(
+                    alloc,
+                    profile,
+                    self.start,
+                    end,
+                    self.words.as_slice(),
+                    count,
+                )
             }
             _ => Ok(None),
         }

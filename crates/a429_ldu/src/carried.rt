@@ -10,8 +10,8 @@ ghost use Rattle.a429_ldu.specs.Form.{fields_of, full_fields, form_of};
 ghost use Rattle.a429_ldu.specs.Carried.{CarryBytes, semis_in, joined_to, semis_of_words, semis_held, held_count, paired, if_some, bytes_carried};
 ghost use Rattle.a429_ldu.specs.Ldu.{most_data_words};
 
-use crate::forms::fields::parts_of;
 use crate::forms::Form;
+use crate::forms::fields::parts_of;
 use crate::semis::Semis;
 use crate::sight::{Sight, form, is_addressed};
 use a429_profile::{Codes, Profile};

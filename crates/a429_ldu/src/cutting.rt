@@ -6,10 +6,10 @@ ghost use Rattle.a429_profile.specs.Profile.{IsProfile};
 ghost use Rattle.a429_ldu.specs.Ldu.{most_unit_bytes, count_of, bytes_of, IsLdu};
 ghost use Rattle.a429_ldu.specs.Cut.{most_units, room, pieces, unit_of, units_in, units_of, final_flag, OnlyLastIsFinal};
 
+use crate::check_words::check_word;
 use crate::fault::CutFault;
 use crate::filling::data_words;
 use crate::ldu::Ldu;
-use crate::check_words::check_word;
 use a429_profile::Profile;
 use std::alloc::{AllocError, Global};
 

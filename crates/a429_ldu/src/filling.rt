@@ -8,8 +8,8 @@ ghost use Rattle.a429_ldu.specs.Filling.{full_frame, data_words};
 ghost use Rattle.a429_ldu.specs.Ldu.{most_unit_bytes};
 
 use crate::forms::Form;
-use crate::semis::Semis;
 use crate::forms::writing::word_of;
+use crate::semis::Semis;
 use a429_profile::Profile;
 use a429_word::Word;
 use std::alloc::{AllocError, Global};

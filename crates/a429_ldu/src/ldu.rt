@@ -4,9 +4,9 @@ ghost use Rattle.std.specs.Prelude.{◌≡◌, ◌≢◌, ◌≤◌, ◌<◌, Er
 ghost use Rattle.a429_ldu.specs.Ldu.{ldu_of, count_of, block_of, HasLength, IsLdu, IsFirstLduFault};
 
 use crate::carried::block_bytes;
+use crate::check_words::agrees;
 use crate::fault::LduFault;
 use crate::forms::Form;
-use crate::check_words::agrees;
 use crate::forms::writing::word_of;
 use a429_profile::Profile;
 use a429_word::Word;

@@ -7,8 +7,8 @@ ghost use Rattle.a429_ldu.specs.declared.forms.Form.{Form};
 ghost use Rattle.a429_ldu.specs.Form.{address_of, IsFree, IsIgnored, IsForm};
 ghost use Rattle.a429_ldu.specs.Sight.{sight_of};
 
-use crate::forms::fields::{Parts, parts_of};
 use crate::forms::Form;
+use crate::forms::fields::{Parts, parts_of};
 use crate::forms::reading::{form_on, full_form};
 use crate::forms::writing::address;
 use a429_profile::{Codes, Profile};

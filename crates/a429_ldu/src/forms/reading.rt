@@ -5,8 +5,8 @@ ghost use Rattle.a429_word.specs.declared.bus.Bus.TheVariants as bus;
 ghost use Rattle.a429_ldu.specs.declared.forms.Form.TheVariants.{Part};
 ghost use Rattle.a429_ldu.specs.Form.{fields_in, partial_on, form_on};
 
-use crate::forms::fields::Parts;
 use crate::forms::Form;
+use crate::forms::fields::Parts;
 use crate::semis::Semis;
 use a429_profile::Codes;
 use a429_word::Bus;

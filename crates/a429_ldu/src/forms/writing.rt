@@ -3,8 +3,8 @@
 ghost use Rattle.std.specs.Prelude.{◌≡◌};
 ghost use Rattle.a429_ldu.specs.Form.{fields_in, address_of, bus_of, row, data_row, IsInRange, IsForm, word_number};
 
-use crate::forms::fields::{Parts, word_with};
 use crate::forms::Form;
+use crate::forms::fields::{Parts, word_with};
 use crate::semis::Semis;
 use a429_profile::{Codes, Profile};
 use a429_word::{Bus, Word};

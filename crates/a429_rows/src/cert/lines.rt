@@ -144,12 +144,14 @@ fn values_of_lines(rt: HostRuntime) -> Result<(), Fail> {
 
 // Whether these are the numbers of a load of one word, this one, also once its words are given away.
 fn is_load(line: CertLine, numbers: (u8, u8, u16), number: u32) -> bool {
-    let CertLine::Load(LoadLine {
-        gfi,
-        flags,
-        check,
-        words,
-    }) = line
+    let CertLine::Load(
+        LoadLine {
+            gfi,
+            flags,
+            check,
+            words,
+        },
+    ) = line
     else {
         return false;
     };
