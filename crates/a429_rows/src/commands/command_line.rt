@@ -45,9 +45,9 @@ word - -> Ok(Word("-"))
 word -- -5 -> Ok(Word("-5"))
 labels bench.toml -> Ok(Labels("bench.toml"))
 show bench.toml bench.csv -> Ok(Show { profile: "bench.toml", recording: "bench.csv" })
-check bench.toml bench.csv bench.cert -> Ok(Check { profile: "bench.toml", recording: "bench.csv", certificate: "bench.cert" })
-verify bench.toml bench.csv bench.cert -> Ok(Verify { profile: "bench.toml", recording: "bench.csv", certificate: "bench.cert" })
-extract bench.toml bench.csv bench.cert files -> Ok(Extract { profile: "bench.toml", recording: "bench.csv", certificate: "bench.cert", folder: "files" })
+check bench.toml bench.csv bench.cert -> Ok(Check(Claim { profile: "bench.toml", recording: "bench.csv", certificate: "bench.cert" }))
+verify bench.toml bench.csv bench.cert -> Ok(Verify(Claim { profile: "bench.toml", recording: "bench.csv", certificate: "bench.cert" }))
+extract bench.toml bench.csv bench.cert files -> Ok(Extract { claim: Claim { profile: "bench.toml", recording: "bench.csv", certificate: "bench.cert" }, folder: "files" })
 make bench.toml -> Ok(Make { profile: "bench.toml", files: [] })
 make bench.toml one.bin two.bin -> Ok(Make { profile: "bench.toml", files: ["one.bin", "two.bin"] })"#;
     assert_eq!(rt; first_that_differs(rt.alloc(), cases)?, None);
