@@ -1,6 +1,6 @@
 //! The lines of a certificate, each written as a link makes its step.
 
-ghost use Rattle.std.specs.Prelude.{◌≡◌, ◌≢◌, List, ◌++◌, ◌∷◌, [], Ok, None, Some, true, false, IfOk, IfErr, OnOk};
+ghost use Rattle.std.specs.Prelude.{◌≡◌, ◌≢◌, List, ◌++◌, ◌∷◌, [], Ok, None, Some, true, false, IfOk, IfErr, IsSome, OnOk};
 ghost use Rattle.a429_ldu.specs.Ldu.{LduValue, IsLdu};
 ghost use Rattle.a429_link.specs.declared.step.Step.TheVariants as step;
 ghost use Rattle.a429_link.specs.Run.{IsRun};
@@ -14,7 +14,7 @@ ghost use Rattle.a429_cert.specs.Act.{letter_of};
 ghost use Rattle.a429_explain.specs.Units.{AreUnits};
 
 use crate::attempts::Role;
-use a429_cert::{Act, CertLine, LoadLine, MovedLine, Words, write_line};
+use a429_cert::{CertLine, LoadLine, MovedLine, Words, letter_of, write_line};
 use a429_ldu::Ldu;
 use a429_link::{FileBytes, Link, Seen, SinkState, SourceState, Step, StepFault};
 use a429_profile::Profile;
@@ -85,7 +85,7 @@ impl<'a> Scribe<'a> {
         ensures loaded { IsLossless role self.old.is_loaded units.old.items → OnOk result (self.new.is_loaded ≡ loaded_after role self.old.is_loaded) }
     {
         match role {
-            Role::Free => self.make(Act::FreeSeen, Step::FreeSeen(seen)),
+            Role::Free => self.make(Step::FreeSeen(seen)),
             Role::Request { .. } => {
                 self.close()?;
                 match self.load_next(units) {
@@ -116,10 +116,10 @@ impl<'a> Scribe<'a> {
             self.lose_rest()?;
         }
         if self.owes_answer() {
-            self.make(Act::Silent, Step::Silent)?;
+            self.make(Step::Silent)?;
         }
         if self.waits() {
-            self.make(Act::TimeOut, Step::TimeOut)?;
+            self.make(Step::TimeOut)?;
         }
         Ok(())
     }
@@ -161,7 +161,7 @@ impl<'a> Scribe<'a> {
             if !self.is_sending() {
                 return Ok(());
             }
-            self.make(Act::SentLost, Step::SentLost)?;
+            self.make(Step::SentLost)?;
         }
         Err(StepFault::NotAllowed)
     }
@@ -174,8 +174,8 @@ impl<'a> Scribe<'a> {
         ensures lossless { IsRun self.old.link.profile (step.Sent seen ∷ step.SinkTakes ∷ []) self.old.link.state → IfErr result (λ e. e ≡ StepFault.OutOfMemory) }
         ensures reached { OnOk result (self.new.link ≡ link_after (step.Sent seen ∷ step.SinkTakes ∷ []) self.old.link) }
     {
-        match self.make(Act::Sent, Step::Sent(seen)) {
-            Ok(()) => self.make(Act::SinkTakes, Step::SinkTakes),
+        match self.make(Step::Sent(seen)) {
+            Ok(()) => self.make(Step::SinkTakes),
             Err(fault) => Err(fault),
         }
     }
@@ -190,8 +190,8 @@ impl<'a> Scribe<'a> {
     {
         let bus = seen.bus;
         let word = seen.word;
-        match self.make(Act::Sent, Step::Sent(Seen { bus, word })) {
-            Ok(()) => self.make(Act::SinkTakes, Step::SinkTakes),
+        match self.make(Step::Sent(Seen { bus, word })) {
+            Ok(()) => self.make(Step::SinkTakes),
             Err(StepFault::WordDiffers) => self.send_later(seen),
             Err(fault) => Err(fault),
         }
@@ -206,9 +206,9 @@ impl<'a> Scribe<'a> {
         let bus = seen.bus;
         let word = seen.word;
         for _ in 0..=u8::MAX {
-            self.make(Act::SentLost, Step::SentLost)?;
-            match self.make(Act::Sent, Step::Sent(Seen { bus, word })) {
-                Ok(()) => return self.make(Act::SinkTakes, Step::SinkTakes),
+            self.make(Step::SentLost)?;
+            match self.make(Step::Sent(Seen { bus, word })) {
+                Ok(()) => return self.make(Step::SinkTakes),
                 Err(StepFault::WordDiffers) => {}
                 Err(fault) => return Err(fault),
             }
@@ -224,14 +224,14 @@ impl<'a> Scribe<'a> {
         ensures lossless { is_taken ≡ true → IsRun self.old.link.profile (step.Answered seen ∷ step.TakeAnswer ∷ []) self.old.link.state → IfErr result (λ e. e ≡ StepFault.OutOfMemory) }
         ensures reached { is_taken ≡ true → OnOk result (self.new.link ≡ link_after (step.Answered seen ∷ step.TakeAnswer ∷ []) self.old.link) }
     {
-        match self.make(Act::Answered, Step::Answered(seen)) {
+        match self.make(Step::Answered(seen)) {
             Ok(()) => {}
             Err(fault) => return Err(fault),
         }
         if is_taken {
-            self.make(Act::TakeAnswer, Step::TakeAnswer)
+            self.make(Step::TakeAnswer)
         } else {
-            self.make(Act::LoseAnswer, Step::LoseAnswer)
+            self.make(Step::LoseAnswer)
         }
     }
 
@@ -282,9 +282,9 @@ impl<'a> Scribe<'a> {
     }
 
     // Makes a step, and writes its line with the state that it leads to.
-    fn make(&mut self, act: Act, step: Step) -> Result<(), StepFault>
+    fn make(&mut self, step: Step) -> Result<(), StepFault>
         requires loads { LoadsLdu self.old.link.profile step }
-        requires letter { letter_of step ≡ Some act }
+        requires letter { IsSome (letter_of step) }
         ensures profile { self.new.link.profile ≡ self.old.link.profile }
         ensures loaded { self.new.is_loaded ≡ self.old.is_loaded }
         ensures written { OnOk result (WritesNext (label step) self.old.text.items self.old.link self.new.text.items self.new.link) }
@@ -292,6 +292,9 @@ impl<'a> Scribe<'a> {
         ensures lossless { Can self.old.link.profile step self.old.link.state → IfErr result (λ e. e ≡ StepFault.OutOfMemory) }
         ensures unchanged { IfErr result (λ e. e ≢ StepFault.OutOfMemory → (self.new.link ≡ self.old.link) × (self.new.text.items ≡ self.old.text.items)) }
     {
+        let Some(act) = letter_of(&step) else {
+            return Err(StepFault::OutOfMemory);
+        };
         match self.link.apply(step) {
             Ok(()) => {}
             Err(fault) => return Err(fault),
