@@ -2,10 +2,11 @@
 
 use a429_check::{RunFault, run_check, run_extract, run_verify};
 use a429_link::{Bytes, FileBytes};
-use a429_sample::{ACK, CTS, EOT, NAK, PART, PROFILE, RTS, SOT};
+use a429_profile::{Profile, read_profile};
+use a429_sample::PROFILE;
 use a429_word::Tally;
 use std::alloc::{AllocError, Global};
-use std::fmt::{Debug, Display, Write};
+use std::fmt::{Debug, Display};
 use std::test::Fail;
 use std::{io, str};
 
@@ -15,37 +16,6 @@ const MOST: u64 = 1_000_000;
 /// What is told of the sample recording and its certificate.
 pub const YES: &str = "0\nYES files 1\nfile 1 1\n";
 
-/// The number of a word by its name, or by its digits where it has none.
-pub fn number_of(word: &str) -> Option<u32> {
-    match word {
-        "RTS" => Some(RTS),
-        "CTS" => Some(CTS),
-        "SOT" => Some(SOT),
-        "PART" => Some(PART),
-        "EOT" => Some(EOT),
-        "ACK" => Some(ACK),
-        "NAK" => Some(NAK),
-        _ => u32::from_str_radix(word, 16).ok(),
-    }
-}
-
-/// A row of a recording.
-pub fn push_row(text: &mut String, time: usize, bus: char, number: u32) -> Result<(), AllocError> {
-    writeln!(text, "{time},{bus},{number:08X}")
-}
-
-/// The recording of these words, with spaces between them: those with the address label of bus B on B, the
-/// others on A.
-pub fn recorded(alloc: Global, words: &str) -> Result<String, Fail> {
-    let mut text = String::from_str(alloc, "time,bus,word\n")?;
-    for (time, word) in words.split(' ').enumerate() {
-        let number = number_of(word).ok_or("no word")?;
-        let bus = if number & 0xFF == 0xA3 { 'B' } else { 'A' };
-        push_row(&mut text, time, bus, number)?;
-    }
-    Ok(text)
-}
-
 /// A file of so many bytes, all of them this one.
 pub fn filled(alloc: Global, byte: u8, length: usize) -> Result<Vec<u8>, AllocError> {
     let mut bytes = Vec::new(alloc);
@@ -53,6 +23,16 @@ pub fn filled(alloc: Global, byte: u8, length: usize) -> Result<Vec<u8>, AllocEr
         bytes.push(byte)?;
     }
     Ok(bytes)
+}
+
+/// What is read of a text, where it is a profile.
+pub fn read(alloc: Global, text: &str) -> Option<Profile> {
+    read_profile(alloc, text).ok()
+}
+
+/// The sample profile.
+pub fn sample(alloc: Global) -> Option<Profile> {
+    read(alloc, PROFILE)
 }
 
 /// A value as a test tells it.
@@ -68,10 +48,11 @@ fn above<T: Display>(alloc: Global, value: &T, text: &str) -> Result<String, All
 /// The exit status, or the line of the fault, and below it what was written.
 pub fn told(alloc: Global, status: Result<u8, RunFault>, written: &[u8]) -> Result<String, Fail> {
     let text = str::from_utf8(written)?;
-    match status {
-        Ok(status) => Ok(above(alloc, &status, text)?),
-        Err(fault) => Ok(above(alloc, &fault, text)?),
-    }
+    let told = match status {
+        Ok(status) => above(alloc, &status, text),
+        Err(fault) => above(alloc, &fault, text),
+    };
+    Ok(told?)
 }
 
 /// What `check` answers.
@@ -125,11 +106,18 @@ pub fn checked(alloc: Global, recording: &str) -> (Answered, Vec<u8>) {
     (Answered { status, verdict }, certificate)
 }
 
+// The status or fault of an answer, and below it what was written.
+fn answer_told(alloc: Global, answer: Answered) -> Result<String, Fail> {
+    told(alloc, answer.status, answer.verdict.as_slice())
+}
+
 /// What is told of the recording by `check`, and its certificate.
 pub fn check_told(alloc: Global, recording: &str) -> Result<(String, Vec<u8>), Fail> {
     let (found, certificate) = checked(alloc, recording);
-    let text = told(alloc, found.status, found.verdict.as_slice())?;
-    Ok((text, certificate))
+    match answer_told(alloc, found) {
+        Ok(text) => Ok((text, certificate)),
+        Err(fail) => Err(fail),
+    }
 }
 
 /// What `verify` answers to a certificate.
@@ -144,8 +132,7 @@ pub fn verified(alloc: Global, recording: &str, certificate: &[u8]) -> Answered 
 
 /// What is told of the recording and a certificate by `verify`.
 pub fn verify_told(alloc: Global, recording: &str, certificate: &[u8]) -> Result<String, Fail> {
-    let found = verified(alloc, recording, certificate);
-    told(alloc, found.status, found.verdict.as_slice())
+    answer_told(alloc, verified(alloc, recording, certificate))
 }
 
 /// What `extract` answers to a certificate, and the files, among which there was one before.

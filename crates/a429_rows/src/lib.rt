@@ -3,6 +3,8 @@
 #![tactic(auto)]
 
 #[cfg(test)]
+mod callers;
+#[cfg(test)]
 mod calls;
 #[cfg(test)]
 mod cert;
@@ -10,5 +12,7 @@ mod cert;
 mod commands;
 #[cfg(test)]
 mod link;
+#[cfg(test)]
+mod recordings;
 #[cfg(test)]
 mod runs;

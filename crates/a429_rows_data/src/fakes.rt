@@ -15,6 +15,17 @@ pub struct Shaky<'a> {
     pub fails_at: u32,
 }
 
+impl Shaky<'_> {
+    /// One that has not been called.
+    pub fn new(bytes: &[u8], fails_at: u32) -> Shaky<'_> {
+        Shaky {
+            bytes,
+            calls: 0,
+            fails_at,
+        }
+    }
+}
+
 impl Read for Shaky<'_> {
     fn read(&mut self, buf: &mut [u8]) -> io::Result<usize> {
         self.calls = self.calls.saturating_add(1);

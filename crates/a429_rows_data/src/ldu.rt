@@ -3,11 +3,12 @@
 mod forms;
 mod units;
 
-use a429_profile::{Profile, read_profile};
+use crate::profile::read;
+use a429_profile::Profile;
 use a429_sample::PROFILE;
 use std::alloc::Global;
 
 // The sample profile, read.
 fn sample(alloc: Global) -> Option<Profile> {
-    read_profile(alloc, PROFILE).ok()
+    read(alloc, PROFILE)
 }

@@ -1,13 +1,39 @@
-//! What the tests share: the sample profile, and the transfer of a file of the one byte 41.
+//! What the tests share: the sample profile, changes of texts, and the transfer of a file of the one byte 41.
 #![tactic(auto)]
 
-/// The profile of the examples (examples/sample.toml), in fewer lines.
-pub const PROFILE: &str = r#"
-transfer = {to_sink = "304", to_source = "305", destination = 0x41, first_ldu = 1, final_bit = 25}
-types = {full = 0, partial = 1, protocol = 4, sot = 6, eot = 7, ignored = [5]}
-codes = {rts = 1, cts = 2, ack = 5, nak = 6, ignored = [3]}
-partial.codes = [1, 2, 3, 4]
-check = {poly = 0x1021, init = 0xFFFF, xor = 0xFFFF, low_first = true, compare = true}
+mod changes;
+
+pub use crate::changes::{joined, with};
+
+/// The profile of the examples (examples/sample.toml) without its remarks, a key in a line, so that a change of
+/// one line leaves the others as they are.
+pub const PROFILE: &str = r#"[transfer]
+to_sink = "304"
+to_source = "305"
+destination = 0x41
+first_ldu = 1
+final_bit = 25
+[types]
+full = 0
+partial = 1
+protocol = 4
+sot = 6
+eot = 7
+ignored = [5]
+[codes]
+rts = 1
+cts = 2
+ack = 5
+nak = 6
+ignored = [3]
+[partial]
+codes = [1, 2, 3, 4]
+[check]
+poly = 0x1021
+init = 0xFFFF
+xor = 0xFFFF
+low_first = true
+compare = true
 [[label]]
 octal = "203"
 name = "Altitude"
@@ -39,6 +65,22 @@ unit = ""
 kind = "discrete"
 flags = [{bit = 11, name = "gear"}, {bit = 12, name = "door"}]
 "#;
+
+/// The sections of the profile, without its labels.
+pub fn sections() -> &'static str {
+    match PROFILE.split_once("[[label]]") {
+        Some((sections, _)) => sections,
+        None => "",
+    }
+}
+
+/// Its labels.
+pub fn labels() -> &'static str {
+    match PROFILE.split_once(sections()) {
+        Some((_, labels)) => labels,
+        None => "",
+    }
+}
 
 /// The request to send for a block of three words.
 pub const RTS: u32 = 0x4141_0323;

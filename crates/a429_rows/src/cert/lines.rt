@@ -1,8 +1,8 @@
 //! Lines of certificates, and texts that are no line.
 
-use a429_cert::{Act, CertLine, LoadLine, MovedLine, OutOfMemory, Words, read_line, write_line};
+use crate::calls::debug;
+use a429_cert::{CertLine, LoadLine, OutOfMemory, Words, read_line, write_line};
 use a429_explain::Certificate;
-use a429_link::{SinkState, SourceState, States};
 use a429_sample::CERTIFICATE;
 use a429_word::Word;
 use std::alloc::{AllocError, Global};
@@ -40,14 +40,7 @@ L 0 1 A3F5 1200412
 L 00 1 A3F5 12004123";
 
 // Texts that are empty, or end in a byte that is no part of a line.
-const BAD_ENDS: [&str; 6] = [
-    "",
-    "\0",
-    "first 1\0",
-    "first 1 ",
-    "first 1\n",
-    "L 0 1 A3F5 12004123 ",
-];
+const BAD_ENDS: &str = "|\0|first 1\0|first 1 |first 1\n|L 0 1 A3F5 12004123 ";
 
 // None for a text that is read as no line; else whether the line is written as this text again.
 fn is_written_again(alloc: Global, text: &str) -> Result<Option<bool>, OutOfMemory> {
@@ -68,19 +61,21 @@ fn is_load_written_again(alloc: Global, count: usize) -> Result<Option<bool>, Ou
     is_written_again(alloc, text.as_str())
 }
 
-// What a line tells of a step and of what it leaves.
-fn moved(line: &CertLine) -> Option<(Act, States)> {
-    match *line {
-        CertLine::Moved(MovedLine { act, states }) => Some((act, states)),
-        _ => None,
-    }
+// Whether a text is read as a line, and written again.
+fn is_line(alloc: Global, text: &str) -> bool {
+    matches!(is_written_again(alloc, text), Ok(Some(true)))
+}
+
+// Whether a text is read as no line.
+fn is_no_line(alloc: Global, text: &str) -> bool {
+    matches!(is_written_again(alloc, text), Ok(None))
 }
 
 #[test]
 fn certificate_of_one_byte(rt: HostRuntime) {
     assert!(rt; CERTIFICATE.lines().count() == 15);
     for line in CERTIFICATE.lines().skip(1) {
-        assert!(rt; is_written_again(rt.alloc(), line) == Ok(Some(true)));
+        assert!(rt; is_line(rt.alloc(), line));
     }
 }
 
@@ -88,7 +83,7 @@ fn certificate_of_one_byte(rt: HostRuntime) {
 fn ends_of_the_ranges(rt: HostRuntime) {
     assert!(rt; ENDS.lines().count() == 5);
     for line in ENDS.lines() {
-        assert!(rt; is_written_again(rt.alloc(), line) == Ok(Some(true)));
+        assert!(rt; is_line(rt.alloc(), line));
     }
 }
 
@@ -103,14 +98,14 @@ fn loads_of_many_words(rt: HostRuntime) {
 fn texts_that_are_no_line(rt: HostRuntime) {
     assert!(rt; NO_LINES.lines().count() == 21);
     for text in NO_LINES.lines() {
-        assert!(rt; is_written_again(rt.alloc(), text) == Ok(None));
+        assert!(rt; is_no_line(rt.alloc(), text));
     }
 }
 
 #[test]
 fn bytes_that_end_no_line(rt: HostRuntime) {
-    for text in BAD_ENDS {
-        assert!(rt; is_written_again(rt.alloc(), text) == Ok(None));
+    for text in BAD_ENDS.split('|') {
+        assert!(rt; is_no_line(rt.alloc(), text));
     }
 }
 
@@ -119,26 +114,18 @@ fn line_of(alloc: Global, text: &str) -> Option<CertLine> {
     read_line(alloc, text.as_bytes()).ok()?
 }
 
-// The number of the first file that a line tells.
-fn first_of(line: &CertLine) -> Option<u8> {
-    match *line {
-        CertLine::First(number) => Some(number),
-        _ => None,
-    }
+// Whether a text is read as this line.
+fn reads(alloc: Global, text: &str, wanted: &str) -> Result<bool, Fail> {
+    let line = line_of(alloc, text).ok_or("no line")?;
+    Ok(debug(alloc, &line)?.as_str() == wanted)
 }
 
 #[test]
 fn values_of_lines(rt: HostRuntime) -> Result<(), Fail> {
-    let first = line_of(rt.alloc(), "first 12").ok_or("a line")?;
-    assert!(rt; first_of(&first) == Some(12));
-    let line = line_of(rt.alloc(), "k S1 c 2 3").ok_or("a line")?;
-    let states = States {
-        source: SourceState::Sending(1),
-        sink: SinkState::OwesClear,
-        to_sink: 2,
-        to_source: 3,
-    };
-    assert!(rt; moved(&line) == Some((Act::SinkTakes, states)));
+    assert!(rt; reads(rt.alloc(), "first 12", "First(12)")?);
+    let step = "Moved(MovedLine { act: SinkTakes, states: \
+        States { source: Sending(1), sink: OwesClear, to_sink: 2, to_source: 3 } })";
+    assert!(rt; reads(rt.alloc(), "k S1 c 2 3", step)?);
     Ok(())
 }
 

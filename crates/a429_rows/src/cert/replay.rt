@@ -1,10 +1,9 @@
 //! Changed certificates of the transfer of one byte, held against its recording.
 
-use crate::calls::debug;
+use crate::calls::{debug, sample};
 use a429_cert::{CertFault, Verified, verify};
-use a429_profile::read_profile;
 use a429_record::Entry;
-use a429_sample::{ACK, CERTIFICATE, CTS, EOT, PART, PROFILE, RTS, SOT};
+use a429_sample::{ACK, CERTIFICATE, CTS, EOT, PART, RTS, SOT};
 use a429_word::{Bus, Word};
 use std::alloc::{AllocError, Global};
 
@@ -51,22 +50,14 @@ fn changed(alloc: Global, start: usize, end: usize, text: &str) -> Result<String
     Ok(certificate)
 }
 
-// What is said of a certificate under the sample profile, held against the first entries of the recording with
-// this request.
+// What is said of a certificate, held against these entries under the sample profile.
 fn judged(
     alloc: Global,
-    request: u32,
-    count: usize,
-    certificate: &str,
+    entries: &[Entry],
+    certificate: &[u8],
 ) -> Option<Result<Verified, CertFault>> {
-    let profile = read_profile(alloc, PROFILE).ok()?;
-    let entries = recording(request);
-    Some(verify(
-        alloc,
-        &profile,
-        entries.get(..count)?,
-        certificate.as_bytes(),
-    ))
+    let profile = sample(alloc)?;
+    Some(verify(alloc, &profile, entries, certificate))
 }
 
 // How many files are lent, and which are given away.
@@ -75,9 +66,10 @@ fn files_of(alloc: Global, verified: Verified) -> Result<String, AllocError> {
     debug(alloc, &(count, verified.into_files()))
 }
 
-// The fault of a certificate, or its files.
+// The fault of a certificate, held against the first entries of the recording with this request, or its files.
 fn verdict_on(alloc: Global, request: u32, count: usize, certificate: &str) -> Option<String> {
-    match judged(alloc, request, count, certificate)? {
+    let entries = recording(request);
+    match judged(alloc, entries.get(..count)?, certificate.as_bytes())? {
         Ok(verified) => files_of(alloc, verified).ok(),
         Err(fault) => debug(alloc, &fault).ok(),
     }

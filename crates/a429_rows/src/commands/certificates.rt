@@ -1,6 +1,7 @@
 //! The certificates of recordings of the byte 41, whole and with words missing.
 
-use crate::calls::{check_told, recorded, verify_told};
+use crate::calls::{check_told, verify_told};
+use crate::recordings::recorded;
 use std::alloc::Global;
 use std::test::Fail;
 

@@ -1,6 +1,7 @@
 //! The verdicts on small recordings, and their certificates.
 
-use crate::calls::{YES, check, check_told, recorded, told, verify_told};
+use crate::calls::{YES, check, check_told, told, verify_told};
+use crate::recordings::recorded;
 use a429_sample::{CERTIFICATE, PROFILE, RECORDING};
 use a429_word::{Failing, Tally};
 use std::alloc::Global;
@@ -60,13 +61,18 @@ fn says(alloc: Global, words: &str, verdict: &str) -> Result<bool, Fail> {
     Ok(is_same && is_borne_out(alloc, recording.as_str(), certificate.as_slice(), verdict)?)
 }
 
-// The first case `STATUS VERDICT: WORDS` that is another, counted from 0.
+// The case is `STATUS VERDICT: WORDS`.
+fn holds(alloc: Global, case: &str) -> Result<bool, Fail> {
+    let (verdict, words) = case.split_once(": ").ok_or("no words")?;
+    let (status, text) = verdict.split_once(' ').ok_or("no verdict")?;
+    let verdict = format!(in alloc; "{status}\n{text}\n")?;
+    says(alloc, words, verdict.as_str())
+}
+
+// The first case that is another, counted from 0.
 fn first_that_differs(alloc: Global, cases: &str) -> Result<Option<usize>, Fail> {
     for (n, case) in cases.split('\n').enumerate() {
-        let (verdict, words) = case.split_once(": ").ok_or("no words")?;
-        let (status, text) = verdict.split_once(' ').ok_or("no verdict")?;
-        let verdict = format!(in alloc; "{status}\n{text}\n")?;
-        if !says(alloc, words, verdict.as_str())? {
+        if !holds(alloc, case)? {
             return Ok(Some(n));
         }
     }

@@ -25,11 +25,16 @@ fn meaning(alloc: Global, line: &str) -> Result<String, AllocError> {
     debug(alloc, &meant(alloc, &words))
 }
 
-// The first case `WORDS -> MEANING` that is another, counted from 0.
+// The case is `WORDS -> MEANING`.
+fn is_meant(alloc: Global, case: &str) -> Result<bool, Fail> {
+    let (words, wanted) = case.split_once(" -> ").ok_or("no meaning")?;
+    Ok(meaning(alloc, words)?.as_str() == wanted)
+}
+
+// The first case that is another, counted from 0.
 fn first_that_differs(alloc: Global, cases: &str) -> Result<Option<usize>, Fail> {
     for (n, case) in cases.split('\n').enumerate() {
-        let (words, wanted) = case.split_once(" -> ").ok_or("no meaning")?;
-        if meaning(alloc, words)?.as_str() != wanted {
+        if !is_meant(alloc, case)? {
             return Ok(Some(n));
         }
     }

@@ -1,44 +1,12 @@
-//! The label tables of small profiles, and bytes that are no profile.
+//! The label table of the sample profile and of changes of it, and bytes that are no profile.
 
 use crate::calls::told;
 use a429_check::{RunFault, run_labels};
-use a429_sample::PROFILE;
+use a429_sample::{PROFILE, sections, with};
 use a429_word::{Failing, Tally};
 use std::alloc::Global;
 use std::io::Write;
 use std::test::Fail;
-
-const LABELS: &str = r#"
-[[label]]
-octal = "203"
-name = "Altitude"
-unit = "ft"
-kind = "bnr"
-bits = 17
-range = 131072
-decimals = 0
-[[label]]
-octal = "007"
-sdi = 3
-name = "Distance flown"
-unit = ""
-kind = "bcd"
-digits = 5
-decimals = 2
-[[label]]
-octal = "270"
-sdi = 0
-name = "Status"
-unit = ""
-kind = "discrete"
-flags = [{bit = 11, name = "gear"}, {bit = 12, name = "door"}]
-"#;
-
-// The sample profile with these labels in place of its own.
-fn with_labels(alloc: Global, labels: &str) -> Result<String, Fail> {
-    let (numbers, _) = PROFILE.split_once("[[label]]").ok_or("no labels")?;
-    Ok(format!(in alloc; "{numbers}{labels}")?)
-}
 
 // What `labels` answers.
 fn list<W: Write>(alloc: Global, profile: &[u8], out: &mut Tally<W>) -> Result<u8, RunFault> {
@@ -52,111 +20,75 @@ fn lists(alloc: Global, profile: &[u8], text: &str) -> Result<bool, Fail> {
     Ok(told(alloc, answer, bytes.as_slice())?.as_str() == text)
 }
 
-// This is told of the sample profile with a new text in place of an old one.
-fn tells(alloc: Global, old: &str, new: &str, told: &str) -> Result<bool, Fail> {
-    let (front, behind) = PROFILE.split_once(old).ok_or("no such text")?;
-    let profile = format!(in alloc; "{front}{new}{behind}")?;
+// This is told of the sample profile with these changes.
+fn tells(alloc: Global, changes: &str, told: &str) -> Result<bool, Fail> {
+    let profile = with(alloc, PROFILE, changes)?;
     lists(alloc, profile.as_bytes(), told)
 }
 
-// The sample as it is, and with an entry more.
+// The sample as it is, and without labels.
 #[test]
-fn the_sample(rt: HostRuntime) -> Result<(), Fail> {
+fn a_line_for_each_entry(rt: HostRuntime) -> Result<(), Fail> {
     let text =
         "0\n203 * bnr 17 131072 0 Altitude\n314 * bnr 18 180 0 Heading\n201 * bcd 5 2 Distance\n270 1 discrete 2 Status\n";
     assert!(rt; lists(rt.alloc(), PROFILE.as_bytes(), text)?);
-    let door = "\"door\"}]\n";
-    let second = r#""door"}]
-[[label]]
-octal = "270"
-sdi = 2
-name = "Status"
-unit = ""
-kind = "discrete"
-flags = [{bit = 11, name = "gear"}, {bit = 12, name = "door"}]
-"#;
-    let text =
-        "0\n203 * bnr 17 131072 0 Altitude\n314 * bnr 18 180 0 Heading\n201 * bcd 5 2 Distance\n270 1 discrete 2 Status\n270 2 discrete 2 Status\n";
-    assert!(rt; tells(rt.alloc(), door, second, text)?);
+    assert!(rt; lists(rt.alloc(), sections().as_bytes(), "0\n")?);
     Ok(())
 }
 
-// Texts of the sample, what stands in their place, and the fault.
-const FAULTS: [(&str, &str, &str); 10] = [
-    ("rts = 1, ", "", "profile: missing codes.rts\n"),
+// Changes of the sample, and what is told: the table with an entry more and with other entries; or the fault. The last
+// one adds a copy of the first label.
+const CHANGES: [(&str, &str); 13] = [
     (
-        "nak = 6",
-        "nak = 5",
+        r#""door"}] -> "door"}]; [[label]]; octal = "270"; sdi = 2; name = "Status"; unit = ""; kind = "discrete"; flags = [{bit = 11, name = "gear"}, {bit = 12, name = "door"}]"#,
+        "0\n203 * bnr 17 131072 0 Altitude\n314 * bnr 18 180 0 Heading\n201 * bcd 5 2 Distance\n270 1 discrete 2 Status\n270 2 discrete 2 Status\n",
+    ),
+    (
+        r#"octal = "201" -> octal = "007"; sdi = 3 | name = "Distance" -> name = "Distance flown" | unit = "NM" -> unit = "" | sdi = 1 -> sdi = 0"#,
+        "0\n203 * bnr 17 131072 0 Altitude\n314 * bnr 18 180 0 Heading\n007 3 bcd 5 2 Distance flown\n270 0 discrete 2 Status\n",
+    ),
+    ("rts = 1", "profile: missing codes.rts\n"),
+    (
+        "nak = 6 -> nak = 5",
         "profile: code clash codes.ack codes.nak\n",
     ),
     (
-        "sot = 6",
-        "sot = 4",
+        "sot = 6 -> sot = 4",
         "profile: code clash types.protocol types.sot\n",
     ),
     (
-        "[1, 2, 3, 4]",
-        "[1, 1, 3, 4]",
+        "[1, 2, 3, 4] -> [1, 1, 3, 4]",
         "profile: code clash partial.codes partial.codes\n",
     ),
     (
-        "range = 131072",
-        "range = 0",
+        "range = 131072 -> range = 0",
         "profile: out of range label 0 range\n",
     ),
     (
-        "\"deg\"\nkind = \"bnr\"",
-        "\"deg\"\nkind = \"hex\"",
+        "\"deg\"\nkind = \"bnr\" -> \"deg\"; kind = \"hex\"",
         "profile: out of range label 1 kind\n",
     ),
-    ("\"203\"", "\"304\"", "profile: label clash 304\n"),
-    ("bit = 12", "bit = 11", "profile: bit clash 270 11\n"),
+    ("\"203\" -> \"304\"", "profile: label clash 304\n"),
+    ("bit = 12 -> bit = 11", "profile: bit clash 270 11\n"),
     (
-        "bit = 12",
-        "bit = 30",
+        "bit = 12 -> bit = 30",
         "profile: out of range label 3 flags\n",
     ),
     (
-        "to_sink = \"304\"",
-        "to_sink = 304",
+        "to_sink = \"304\" -> to_sink = 304",
         "profile: wrong kind transfer.to_sink\n",
+    ),
+    (
+        r#""door"}] -> "door"}]; [[label]]; octal = "203"; name = "Altitude"; unit = "ft"; kind = "bnr"; bits = 17; range = 131072; decimals = 0"#,
+        "profile: label clash 203\n",
     ),
 ];
 
-// The last change adds a copy of the first label.
 #[test]
 fn changes_of_the_sample(rt: HostRuntime) -> Result<(), Fail> {
-    for (old, new, fault) in FAULTS {
-        assert!(rt; tells(rt.alloc(), old, new, fault)?);
+    for (changes, told) in CHANGES {
+        assert!(rt; tells(rt.alloc(), changes, told)?);
     }
-    let door = "\"door\"}]\n";
-    let copy = r#""door"}]
-[[label]]
-octal = "203"
-name = "Altitude"
-unit = "ft"
-kind = "bnr"
-bits = 17
-range = 131072
-decimals = 0
-"#;
-    assert!(rt; tells(rt.alloc(), door, copy, "profile: label clash 203\n")?);
-    Ok(())
-}
-
-#[test]
-fn a_line_for_each_entry(rt: HostRuntime) -> Result<(), Fail> {
-    let profile = with_labels(rt.alloc(), LABELS)?;
-    let text =
-        "0\n203 * bnr 17 131072 0 Altitude\n007 3 bcd 5 2 Distance flown\n270 0 discrete 2 Status\n";
-    assert!(rt; lists(rt.alloc(), profile.as_bytes(), text)?);
-    Ok(())
-}
-
-#[test]
-fn no_entry_no_line(rt: HostRuntime) -> Result<(), Fail> {
-    let profile = with_labels(rt.alloc(), "")?;
-    assert!(rt; lists(rt.alloc(), profile.as_bytes(), "0\n")?);
     Ok(())
 }
 
@@ -171,12 +103,10 @@ fn bytes_that_are_no_profile(rt: HostRuntime) -> Result<(), Fail> {
 }
 
 #[test]
-fn a_writer_without_room(rt: HostRuntime) -> Result<(), Fail> {
-    let profile = with_labels(rt.alloc(), LABELS)?;
+fn a_writer_without_room(rt: HostRuntime) {
     let mut page = [0; 8];
     let mut out = Tally::new(page.as_mut_slice(), 0);
-    let answer = list(rt.alloc(), profile.as_bytes(), &mut out);
+    let answer = list(rt.alloc(), PROFILE.as_bytes(), &mut out);
     assert!(rt; answer == Err(RunFault::Device) && out.failed());
     assert!(rt; page.as_slice() == b"203 * bn".as_slice());
-    Ok(())
 }

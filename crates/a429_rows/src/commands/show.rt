@@ -33,82 +33,78 @@ fn shows(
     Ok(told(alloc, answer, written.as_slice())?.as_str() == text)
 }
 
-#[test]
-fn bnr_words(rt: HostRuntime) -> Result<(), Fail> {
-    let recording = "time,bus,word
+const BNR_WORDS: (&str, &str) = (
+    "time,bus,word
 0,A,E13880C1
 0,A,7FE0C0C1
 0,A,FFE0C0C1
 1,A,F00000C1
 2,B,60000433
 18446744073709551615,A,70000033
-";
-    let text = "0
+",
+    "0
 0 A E13880C1 203 0 3 Altitude 10000 ft
 0 A 7FE0C0C1 203 0 3 Altitude -1000 ft
 0 A FFE0C0C1 203 0 3 parity
 1 A F00000C1 203 0 3 Altitude -131072 ft
 2 B 60000433 314 0 3 Heading 0.0006866455078125 deg
 18446744073709551615 A 70000033 314 0 3 Heading -180 deg
-";
-    assert!(rt; shows(rt.alloc(), PROFILE, recording, 1000, text)?);
-    Ok(())
-}
+",
+);
 
 // The altitude of 10000 feet with each SSM.
-#[test]
-fn statuses_of_a_bnr_word(rt: HostRuntime) -> Result<(), Fail> {
-    let recording = "time,bus,word
+const BNR_STATUSES: (&str, &str) = (
+    "time,bus,word
 007,A,413880c1
 8,A,813880C1
 9,A,213880C1
-";
-    let text = "0
+",
+    "0
 7 A 413880C1 203 0 2 Altitude 10000 ft test
 8 A 813880C1 203 0 0 Altitude failure
 9 A 213880C1 203 0 1 Altitude no data
-";
-    assert!(rt; shows(rt.alloc(), PROFILE, recording, 1000, text)?);
-    Ok(())
-}
+",
+);
 
-#[test]
-fn bcd_words(rt: HostRuntime) -> Result<(), Fail> {
-    let recording = "time,bus,word
+const BCD_WORDS: (&str, &str) = (
+    "time,bus,word
 0,A,048D1481
 0,A,04A91481
 0,A,E0000081
 0,A,A48D1481
 0,A,C48D1481
 0,A,648D1481
-";
-    let text = "0
+",
+    "0
 0 A 048D1481 201 0 0 Distance 123.45 NM
 0 A 04A91481 201 0 0 Distance bad digit 3
 0 A E0000081 201 0 3 Distance 0 NM
 0 A A48D1481 201 0 1 Distance no data
 0 A C48D1481 201 0 2 Distance 123.45 NM test
 0 A 648D1481 201 0 3 Distance -123.45 NM
-";
-    assert!(rt; shows(rt.alloc(), PROFILE, recording, 1000, text)?);
-    Ok(())
-}
+",
+);
 
-#[test]
-fn discrete_words(rt: HostRuntime) -> Result<(), Fail> {
-    let recording = "time,bus,word
+const DISCRETE_WORDS: (&str, &str) = (
+    "time,bus,word
 0,A,8000091D
 0,A,4000091D
 0,A,E000091D
 0,A,80000A1D
-";
-    let text = "0
+",
+    "0
 0 A 8000091D 270 1 0 Status gear=0 door=1
 0 A 4000091D 270 1 2 Status gear=0 door=1 test
 0 A E000091D 270 1 3 Status failure
 0 A 80000A1D 270 2 0 no entry
-";
-    assert!(rt; shows(rt.alloc(), PROFILE, recording, 1000, text)?);
+",
+);
+
+#[test]
+fn words_of_each_kind(rt: HostRuntime) -> Result<(), Fail> {
+    for (recording, text) in [BNR_WORDS, BNR_STATUSES, BCD_WORDS, DISCRETE_WORDS] {
+        assert!(rt; shows(rt.alloc(), PROFILE, recording, 1000, text)?);
+    }
     Ok(())
 }
 

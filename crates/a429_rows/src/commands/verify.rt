@@ -1,16 +1,10 @@
 //! The certificate of a file of one byte, and changes of it.
 
 use crate::calls::{YES, told, verify, verify_told};
-use a429_sample::{CERTIFICATE, PROFILE, RECORDING};
+use a429_sample::{CERTIFICATE, PROFILE, RECORDING, with};
 use a429_word::Tally;
 use std::alloc::Global;
 use std::test::Fail;
-
-// The certificate with a new line in place of an old one.
-fn changed(alloc: Global, old: &str, new: &str) -> Result<String, Fail> {
-    let (front, behind) = CERTIFICATE.split_once(old).ok_or("no such line")?;
-    Ok(format!(in alloc; "{front}{new}{behind}")?)
-}
 
 // This is the verdict of a certificate on a recording.
 fn verdict_is(
@@ -33,18 +27,16 @@ fn accepted(rt: HostRuntime) -> Result<(), Fail> {
 // A first request was lost, before the one that is recorded.
 #[test]
 fn accepted_with_a_loss(rt: HostRuntime) -> Result<(), Fail> {
-    let load = "L 0 1 A3F5 12004123";
-    let lost = "L 0 1 A3F5 12004123\nl C Q 0 0\nt I Q 0 0";
-    let other = changed(rt.alloc(), load, lost)?;
+    let lost = "L 0 1 A3F5 12004123 -> L 0 1 A3F5 12004123; l C Q 0 0; t I Q 0 0";
+    let other = with(rt.alloc(), CERTIFICATE, lost)?;
     assert!(rt; verdict_is(rt.alloc(), RECORDING, other.as_str(), YES)?);
     Ok(())
 }
 
-// The case is `OLD -> NEW: VERDICT`: this is the verdict of the certificate with the new line in place of the old.
+// The case is `CHANGE: VERDICT`: this is the verdict of the certificate with the change.
 fn refuses(alloc: Global, case: &str) -> Result<bool, Fail> {
-    let (lines, verdict) = case.split_once(": ").ok_or("no verdict")?;
-    let (old, new) = lines.split_once(" -> ").ok_or("no lines")?;
-    let certificate = changed(alloc, old, new)?;
+    let (change, verdict) = case.split_once(": ").ok_or("no verdict")?;
+    let certificate = with(alloc, CERTIFICATE, change)?;
     let verdict = format!(in alloc; "2\n{verdict}\n")?;
     verdict_is(alloc, RECORDING, certificate.as_str(), verdict.as_str())
 }

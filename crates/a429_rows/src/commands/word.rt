@@ -19,30 +19,28 @@ fn says(alloc: Global, hex: &str, text: &str) -> Result<bool, Fail> {
     Ok(told(alloc, answer, bytes.as_slice())?.as_str() == text)
 }
 
-#[test]
-fn an_altitude(rt: HostRuntime) -> Result<(), Fail> {
-    let text =
-        "0\nword E13880C1\nbits 11100001001110001000000011000001\nlabel 203\nsdi 0\nssm 3\nparity ok\nbnr 20000\n";
-    for hex in ["E13880C1", "e13880c1", "e13880C1"] {
-        assert!(rt; says(rt.alloc(), hex, text)?);
-    }
-    Ok(())
-}
+const ALTITUDE: &str =
+    "0\nword E13880C1\nbits 11100001001110001000000011000001\nlabel 203\nsdi 0\nssm 3\nparity ok\nbnr 20000\n";
 
-#[test]
-fn no_bit_at_all(rt: HostRuntime) -> Result<(), Fail> {
-    let text =
-        "0\nword 00000000\nbits 00000000000000000000000000000000\nlabel 000\nsdi 0\nssm 0\nparity bad\nbnr 0\n";
-    assert!(rt; says(rt.alloc(), "00000000", text)?);
-    Ok(())
-}
+const NO_BIT: &str =
+    "0\nword 00000000\nbits 00000000000000000000000000000000\nlabel 000\nsdi 0\nssm 0\nparity bad\nbnr 0\n";
 
 // The least raw number; SSM 3, SDI 2.
+const NEGATIVE: &str =
+    "0\nword 70000233\nbits 01110000000000000000001000110011\nlabel 314\nsdi 2\nssm 3\nparity bad\nbnr -262144\n";
+
 #[test]
-fn a_negative_number(rt: HostRuntime) -> Result<(), Fail> {
-    let text =
-        "0\nword 70000233\nbits 01110000000000000000001000110011\nlabel 314\nsdi 2\nssm 3\nparity bad\nbnr -262144\n";
-    assert!(rt; says(rt.alloc(), "70000233", text)?);
+fn words_worked_out_by_hand(rt: HostRuntime) -> Result<(), Fail> {
+    let cases = [
+        ("E13880C1", ALTITUDE),
+        ("e13880c1", ALTITUDE),
+        ("e13880C1", ALTITUDE),
+        ("00000000", NO_BIT),
+        ("70000233", NEGATIVE),
+    ];
+    for (hex, text) in cases {
+        assert!(rt; says(rt.alloc(), hex, text)?);
+    }
     Ok(())
 }
 

@@ -1,9 +1,8 @@
 //! What a run without loss records.
 
+use crate::calls::sample;
 use a429_ldu::CutFault;
 use a429_link::{CleanFault, Seen, clean_run};
-use a429_profile::read_profile;
-use a429_sample::PROFILE;
 use a429_word::Bus;
 use std::alloc::{AllocError, Global};
 
@@ -18,8 +17,8 @@ fn files(alloc: Global, texts: &[&[u8]]) -> Result<Vec<Vec<u8>>, AllocError> {
 
 // The run without loss of these files in the smallest units.
 fn run(alloc: Global, texts: &[&[u8]]) -> Option<Result<Vec<Seen>, CleanFault>> {
-    let profile = read_profile(alloc, PROFILE).ok()?;
     let files = files(alloc, texts).ok()?;
+    let profile = sample(alloc)?;
     Some(clean_run(alloc, &profile, 1, 3, files.as_slice()))
 }
 

@@ -1,11 +1,12 @@
 //! What a recording can go on with.
 
-use a429_link::{Observer, Seen};
-use a429_profile::{Profile, read_profile};
-use a429_sample::{ACK, CTS, PROFILE, RTS, SOT};
-use a429_word::{Bus, Word};
+use crate::calls::sample;
+use crate::recordings::seen;
+use a429_link::Observer;
+use a429_profile::Profile;
+use a429_sample::{ACK, CTS, RTS, SOT};
+use a429_word::Bus;
 use std::alloc::Global;
-use std::test::Fail;
 
 // Recorded words, and whether each may follow those before it.
 const RECORDED: [(Bus, u32, bool); 8] = [
@@ -23,8 +24,7 @@ const RECORDED: [(Bus, u32, bool); 8] = [
 fn allows_as_said(alloc: Global, profile: &Profile) -> bool {
     let mut observer = Observer::new(alloc);
     for (bus, number, allowed) in RECORDED {
-        let word = Word::from_u32(number);
-        if observer.see(profile, Seen { bus, word }) != allowed {
+        if observer.see(profile, seen(bus, number)) != allowed {
             return false;
         }
     }
@@ -32,8 +32,7 @@ fn allows_as_said(alloc: Global, profile: &Profile) -> bool {
 }
 
 #[test]
-fn words_that_are_not_granted(rt: HostRuntime) -> Result<(), Fail> {
-    let profile = read_profile(rt.alloc(), PROFILE)?;
+fn words_that_are_not_granted(rt: HostRuntime) {
+    let profile = sample(rt.alloc()).expect(&rt, "a profile");
     assert!(rt; allows_as_said(rt.alloc(), &profile));
-    Ok(())
 }

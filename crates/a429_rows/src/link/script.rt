@@ -6,6 +6,7 @@ ghost use Rattle.a429_ldu.specs.Ldu.{IsLdu};
 ghost use Rattle.a429_link.specs.Step.{LoadsLdu};
 
 use crate::calls::debug;
+use crate::recordings::seen;
 use a429_ldu::Ldu;
 use a429_link::{FileBytes, Link, Seen, Step};
 use a429_profile::Profile;
@@ -40,6 +41,17 @@ impl<'a> Stage<'a> {
         for line in script.lines() {
             if !self.goes(line) {
                 return Some(line);
+            }
+        }
+        None
+    }
+
+    /// The same of a script in parts.
+    pub(crate) fn first_in_parts<'s>(&mut self, parts: &[&'s str]) -> Option<&'s str> {
+        for part in parts {
+            let line = self.first_that_differs(part);
+            if line.is_some() {
+                return line;
             }
         }
         None
@@ -107,14 +119,12 @@ impl<'a> Stage<'a> {
 
     // Whether the source sends this word, and the sink takes it.
     fn crosses(&mut self, word: u32) -> bool {
-        let word = Word::from_u32(word);
-        self.made(Step::Sent(Seen { bus: Bus::A, word })) && self.made(Step::SinkTakes)
+        self.made(Step::Sent(seen(Bus::A, word))) && self.made(Step::SinkTakes)
     }
 
     // Whether the sink answers this word, and the source takes it.
     fn answers(&mut self, word: u32) -> bool {
-        let word = Word::from_u32(word);
-        self.made(Step::Answered(Seen { bus: Bus::B, word })) && self.made(Step::TakeAnswer)
+        self.made(Step::Answered(seen(Bus::B, word))) && self.made(Step::TakeAnswer)
     }
 
     fn made(&mut self, step: Step) -> bool

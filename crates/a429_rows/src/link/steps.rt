@@ -1,9 +1,9 @@
 //! Steps on a link: what is delivered, and which are refused.
 
+use crate::calls::read;
 use crate::link::script::Stage;
-use a429_profile::read_profile;
-use a429_sample::PROFILE;
-use std::alloc::{AllocError, Global};
+use a429_sample::{PROFILE, with};
+use std::alloc::Global;
 use std::test::Fail;
 
 // The file of the byte 41, which is 65 in decimal. Its number is 1.
@@ -38,9 +38,8 @@ Sent A 41410323
 TimeOut: Err(NotAllowed)
 states: (Awaiting, Quiet, 1, 0)";
 
-// The acknowledgement is lost, and the block comes again.
-const AGAIN: &str = "\
-Load final
+// A block with its request and answers.
+const BLOCK: &str = "\
 Sent A 41410323
 SinkTakes
 Answered B C24103A3
@@ -51,23 +50,19 @@ Sent A 12004123
 SinkTakes
 Sent A 71A3F523
 SinkTakes
-Answered B 450101A3
+Answered B 450101A3";
+
+const LOST: &str = "\
 TimeOut: Err(NotAllowed)
 LoseAnswer
-TimeOut
-Sent A 41410323
-SinkTakes
-Answered B C24103A3
-TakeAnswer
-Sent A 60010123
-SinkTakes
-Sent A 12004123
-SinkTakes
-Sent A 71A3F523
-SinkTakes
-Answered B 450101A3
+TimeOut";
+
+const TAKEN: &str = "\
 TakeAnswer
 delivered: [FileBytes { number: 1, bytes: Bytes { bytes: [65] } }]";
+
+// The acknowledgement is lost, and the block comes again.
+const AGAIN: [&str; 5] = ["Load final", BLOCK, LOST, BLOCK, TAKEN];
 
 // The second of two data words is lost, and check words are not compared.
 const WITHOUT_A_WORD: &str = "\
@@ -92,35 +87,28 @@ const FULL_FILE: &str = "\
 Load open: Err(NotAllowed)
 delivered: []";
 
-// The first line of a script that goes otherwise than it says on a link under a profile.
-fn played<'s>(alloc: Global, profile: &str, script: &'s str) -> Option<&'s str> {
-    match read_profile(alloc, profile) {
-        Ok(profile) => Stage::new(alloc, &profile).first_that_differs(script),
-        Err(_) => Some("no profile"),
+// The first line of a script in parts that goes otherwise than it says on a link under a profile.
+fn played<'s>(alloc: Global, profile: &str, parts: &[&'s str]) -> Option<&'s str> {
+    match read(alloc, profile) {
+        Some(profile) => Stage::new(alloc, &profile).first_in_parts(parts),
+        None => Some("no profile"),
     }
-}
-
-// The text of a profile that compares no check words, made of one that does.
-fn without_check(alloc: Global, profile: &str) -> Result<String, AllocError> {
-    let (head, tail) = profile
-        .split_once("compare = true")
-        .unwrap_or((profile, ""));
-    let mut text = String::from_str(alloc, head)?;
-    text.push_str("compare = false")?;
-    text.push_str(tail)?;
-    Ok(text)
 }
 
 #[test]
 fn steps_go_as_the_scripts_say(rt: HostRuntime) {
-    for script in [ONE_BYTE, NOT_THERE, AGAIN, FULL_FILE] {
-        assert_eq!(rt; played(rt.alloc(), PROFILE, script), None);
+    for script in [ONE_BYTE, NOT_THERE, FULL_FILE] {
+        assert_eq!(rt; played(rt.alloc(), PROFILE, &[script]), None);
     }
+    assert_eq!(rt; played(rt.alloc(), PROFILE, &AGAIN), None);
 }
 
 #[test]
 fn a_block_without_a_word_is_not_good(rt: HostRuntime) -> Result<(), Fail> {
-    let profile = without_check(rt.alloc(), PROFILE)?;
-    assert_eq!(rt; played(rt.alloc(), profile.as_str(), WITHOUT_A_WORD), None);
+    let profile = with(rt.alloc(), PROFILE, "compare = true -> compare = false")?;
+    assert_eq!(rt;
+        played(rt.alloc(), profile.as_str(), &[WITHOUT_A_WORD]),
+        None
+    );
     Ok(())
 }

@@ -67,18 +67,23 @@ impl Draft {
         self.flags & 1 == 1
     }
 
-    /// The unit itself.
-    pub(crate) fn unit(self, alloc: Global, profile: &Profile) -> Option<Ldu>
-        ensures { IfSome result (λ u. IsLdu profile.now u) }
-    {
+    // Its data words, and words of zeros behind them.
+    fn all_words(self) -> [Word; 5] {
         let [a, b, c, d, e] = self.words;
-        let words = [
+        [
             Word::from_u32(a),
             Word::from_u32(b),
             Word::from_u32(c),
             Word::from_u32(d),
             Word::from_u32(e),
-        ];
+        ]
+    }
+
+    /// The unit itself.
+    pub(crate) fn unit(self, alloc: Global, profile: &Profile) -> Option<Ldu>
+        ensures { IfSome result (λ u. IsLdu profile.now u) }
+    {
+        let words = self.all_words();
         let parts = words.get(..usize::from(self.count).wrapping_sub(2))?;
         let (gfi, flags) = (self.gfi & 15, self.flags & 15);
         Ldu::new(alloc, profile, gfi, flags, self.check, parts).ok()

@@ -6,25 +6,20 @@ mod model;
 mod moves;
 mod sink;
 
+use crate::calls::{read, sample};
 use crate::runs::chance::Chance;
 use crate::runs::link::model::Model;
 use crate::runs::link::moves::{Plan, drawn};
-use crate::runs::link::sink::File;
+use crate::runs::same_files;
 use crate::runs::tried::Move;
-use a429_link::{FileBytes, Link, Observer};
-use a429_profile::{Profile, read_profile};
-use a429_sample::PROFILE;
+use a429_link::{Link, Observer};
+use a429_profile::Profile;
+use a429_sample::{PROFILE, with};
 use std::process::Abort;
 use std::test::Fail;
 
-// The sample profile with another first number, and without check words.
-const UNCHECKED: &str = r#"
-transfer = {to_sink = "304", to_source = "305", destination = 0x41, first_ldu = 0, final_bit = 25}
-types = {full = 0, partial = 1, protocol = 4, sot = 6, eot = 7, ignored = [5]}
-codes = {rts = 1, cts = 2, ack = 5, nak = 6, ignored = [3]}
-partial.codes = [1, 2, 3, 4]
-check = {poly = 0x1021, init = 0xFFFF, xor = 0xFFFF, low_first = true, compare = false}
-"#;
+// Another first number, and no check words.
+const UNCHECKED: &str = "first_ldu = 1 -> first_ldu = 0 | compare = true -> compare = false";
 
 // A link, the observer of what it records, and the model that both have to agree with.
 #[derive(Drop)]
@@ -54,18 +49,6 @@ const NONE: Count = Count {
     zeros: 0,
     wrong: 0,
 };
-
-fn same_files(found: &[FileBytes], expected: &[File]) -> bool {
-    if found.len() != expected.len() {
-        return false;
-    }
-    for (file, sent) in found.iter().zip(expected.iter()) {
-        if file.number != sent.number || file.bytes.as_slice() != sent.bytes.as_slice() {
-            return false;
-        }
-    }
-    true
-}
 
 impl<'a> Pair<'a> {
     fn start(rt: &impl AllocGlobal, profile: &'a Profile, plan: Plan, file: u8) -> Pair<'a> {
@@ -117,19 +100,18 @@ impl<'a> Pair<'a> {
     }
 }
 
-// A run in which so many steps are drawn. Of those that may not be made, some are tried. Tells whether the
-// source's file is full at its end.
+// A run of steps that are drawn. Of those that may not be made, some are tried. Tells whether the source's file is
+// full at its end.
 fn run(
     rt: &impl AllocGlobal,
     profile: &Profile,
     chance: &mut Chance,
     plan: Plan,
-    draws: u32,
     count: &mut Count,
 ) -> Result<bool, Fail> {
     let file = 240 | chance.below(16) as u8;
     let mut pair = Pair::start(rt, profile, plan, file);
-    for _ in 0..draws {
+    for _ in 0..plan.draws {
         let step = drawn(chance, plan, &pair.model);
         let is_made = pair.model.answer_to(step).is_ok();
         if is_made || chance.one_in(8) {
@@ -157,7 +139,7 @@ fn short_runs(
     compare: bool,
     seed: u64,
 ) -> Result<Count, Fail> {
-    let profile = read_profile(rt.alloc(), profile).expect(rt, "a profile");
+    let profile = read(rt.alloc(), profile).expect(rt, "a profile");
     let mut chance = Chance::new(seed);
     let mut count = NONE;
     for _ in 0..5000 {
@@ -166,8 +148,9 @@ fn short_runs(
             compare,
             losses: chance.below(6),
             is_open: false,
+            draws: 900,
         };
-        let _full = run(rt, &profile, &mut chance, plan, 900, &mut count)?;
+        let _full = run(rt, &profile, &mut chance, plan, &mut count)?;
     }
     Ok(count)
 }
@@ -188,7 +171,8 @@ fn short_runs_with_check_words(rt: HostRuntime) -> Result<(), Fail> {
 
 #[test]
 fn short_runs_without_check_words(rt: HostRuntime) -> Result<(), Fail> {
-    let count = short_runs(&rt, UNCHECKED, false, 2)?;
+    let profile = with(rt.alloc(), PROFILE, UNCHECKED)?;
+    let count = short_runs(&rt, profile.as_str(), false, 2)?;
     assert!(rt; all_agreed(count));
     Ok(())
 }
@@ -199,16 +183,17 @@ fn long_run(
     is_open: bool,
     draws: u32,
 ) -> Result<(Count, bool), Fail> {
-    let profile = read_profile(rt.alloc(), PROFILE).expect(rt, "a profile");
+    let profile = sample(rt.alloc()).expect(rt, "a profile");
     let plan = Plan {
         first_ldu: 1,
         compare: true,
         losses: 1,
         is_open,
+        draws,
     };
     let mut chance = Chance::new(3);
     let mut count = NONE;
-    let is_full = run(rt, &profile, &mut chance, plan, draws, &mut count)?;
+    let is_full = run(rt, &profile, &mut chance, plan, &mut count)?;
     Ok((count, is_full))
 }
 

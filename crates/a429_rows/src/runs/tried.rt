@@ -3,10 +3,11 @@
 ghost use Rattle.std.specs.Prelude.{IfSome};
 ghost use Rattle.a429_link.specs.Step.{LoadsLdu};
 
+use crate::recordings::seen;
 use crate::runs::draft::Draft;
 use a429_link::{Seen, Step};
 use a429_profile::Profile;
-use a429_word::{Bus, Word};
+use a429_word::Bus;
 use std::alloc::Global;
 
 /// A step that is tried, whether it may be made or not. A word stands with its bus.
@@ -22,13 +23,6 @@ pub(crate) enum Move {
     Silent,
     Answered(Bus, u32),
     FreeSeen(Bus, u32),
-}
-
-fn seen(bus: Bus, word: u32) -> Seen {
-    Seen {
-        bus,
-        word: Word::from_u32(word),
-    }
 }
 
 impl Move {

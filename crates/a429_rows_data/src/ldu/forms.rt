@@ -16,7 +16,10 @@ fn sight_of(alloc: Global, bus: Bus, number: u32) -> Option<Sight> {
 
 // Whether this is what it says.
 fn says(alloc: Global, bus: Bus, number: u32, sight: Sight) -> bool {
-    sight_of(alloc, bus, number) == Some(sight)
+    match sight_of(alloc, bus, number) {
+        Some(found) => found == sight,
+        None => false,
+    }
 }
 
 // The word of a form.
@@ -75,13 +78,16 @@ fn forms_have_their_words(rt: HostRuntime) {
         flags: 1,
         check: 0xA3F5,
     };
-    assert!(rt; is_said_by(rt.alloc(), Form::Rts { count: 3 }, RTS));
-    assert!(rt; is_said_by(rt.alloc(), Form::Cts { count: 3 }, CTS));
-    assert!(rt; is_said_by(rt.alloc(), start, SOT));
-    assert!(rt; is_said_by(rt.alloc(), end, EOT));
-    assert!(rt; is_said_by(rt.alloc(), Form::Ack { file: 1, ldu: 1 }, ACK));
-    assert!(rt; is_said_by(rt.alloc(), Form::Nak { bits: 0 }, NAK));
-    assert!(rt; is_part(rt.alloc(), &[1, 4], PART));
+    let are_said = [
+        is_said_by(rt.alloc(), Form::Rts { count: 3 }, RTS),
+        is_said_by(rt.alloc(), Form::Cts { count: 3 }, CTS),
+        is_said_by(rt.alloc(), start, SOT),
+        is_part(rt.alloc(), &[1, 4], PART),
+        is_said_by(rt.alloc(), end, EOT),
+        is_said_by(rt.alloc(), Form::Ack { file: 1, ldu: 1 }, ACK),
+        is_said_by(rt.alloc(), Form::Nak { bits: 0 }, NAK),
+    ];
+    assert!(rt; are_said == [true; 7]);
 }
 
 // Whether semi-octets are kept as they are; `None` where they are refused.

@@ -204,28 +204,33 @@ fn the_longest_link_data_unit(rt: HostRuntime) {
     assert!(rt; is_longest(only(units_of_zeros(rt.alloc(), 632, 255))));
 }
 
-// The flags of one of the units.
-fn flags_at(units: &[Ldu], place: usize) -> Option<u8> {
-    let unit = units.get(place)?;
-    Some(unit.flags())
+// Whether one of the units has these flags.
+fn has_flags(units: &[Ldu], place: usize, flags: u8) -> bool {
+    match units.get(place) {
+        Some(unit) => unit.flags() == flags,
+        None => false,
+    }
 }
 
-// Of how many units a file of zeros is, and the flags at some places.
-fn flags_of(alloc: Global, count: usize, places: [usize; 3]) -> Option<(usize, [Option<u8>; 3])> {
-    let units = units_of_zeros(alloc, count, 3)?.ok()?;
-    let [a, b, c] = places;
-    let flags = [
-        flags_at(&units, a),
-        flags_at(&units, b),
-        flags_at(&units, c),
-    ];
-    Some((units.len(), flags))
+// Whether these are so many units, of which the last alone ends its file.
+fn is_ended_by_last(units: &[Ldu], count: usize) -> bool {
+    units.len() == count
+        && has_flags(units, 0, 0)
+        && has_flags(units, count.wrapping_sub(2), 0)
+        && has_flags(units, count.wrapping_sub(1), 1)
+}
+
+// Whether a file of so many zeros is of so many units at three words.
+fn is_of(alloc: Global, zeros: usize, count: usize) -> bool {
+    match units_of_zeros(alloc, zeros, 3) {
+        Some(Ok(units)) => is_ended_by_last(&units, count),
+        _ => false,
+    }
 }
 
 #[test]
 fn the_longest_file_at_three_words(rt: HostRuntime) {
-    let flags = flags_of(rt.alloc(), 510, [0, 253, 254]);
-    assert!(rt; flags == Some((255, [Some(0), Some(0), Some(1)])));
+    assert!(rt; is_of(rt.alloc(), 510, 255));
 }
 
 // Why a file of zeros is not cut.

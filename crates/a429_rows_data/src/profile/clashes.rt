@@ -1,6 +1,7 @@
 //! Clashes, and which of two faults comes first.
 
-use super::{SAMPLE, answers};
+use super::answers;
+use a429_sample::PROFILE;
 use std::test::Fail;
 
 // Of two clashes the one further up the file is told. An entry without an SDI is for every SDI of its label.
@@ -62,7 +63,7 @@ fn clashes(rt: HostRuntime) -> Result<(), Fail> {
         ARRAY_CLASHES,
         BIT_CLASHES,
     ] {
-        answers(rt.alloc(), SAMPLE, rows)?;
+        answers(rt.alloc(), PROFILE, rows)?;
     }
     Ok(())
 }
@@ -111,7 +112,7 @@ code clash partial.codes partial.codes: codes = [1, 2, 3, 4] -> codes = [1, 1, 3
 #[test]
 fn which_fault_comes_first(rt: HostRuntime) -> Result<(), Fail> {
     for rows in [ORDER_OF_SECTIONS, ORDER_OF_LABEL_KEYS, ORDER_OF_CLASHES] {
-        answers(rt.alloc(), SAMPLE, rows)?;
+        answers(rt.alloc(), PROFILE, rows)?;
     }
     Ok(())
 }

@@ -1,6 +1,7 @@
 //! Documents with other keys, with none, without a section; texts that are no documents.
 
-use super::{SAMPLE, answers, is_told};
+use super::{answers, is_told};
+use a429_sample::PROFILE;
 use std::alloc::Global;
 use std::test::Fail;
 
@@ -86,7 +87,7 @@ wrong kind check.poly: [transfer] -> check = [{a = 1}]; [transfer] | [check] -> 
 #[test]
 fn keys_and_sections(rt: HostRuntime) -> Result<(), Fail> {
     for rows in [OTHER_KEYS, BAD_LINES, NO_SECTIONS, NO_TABLES] {
-        answers(rt.alloc(), SAMPLE, rows)?;
+        answers(rt.alloc(), PROFILE, rows)?;
     }
     Ok(())
 }

@@ -1,6 +1,7 @@
 //! Each key of a label's table: missing, of another kind, and just out of its range.
 
-use super::{NO_INTEGERS, NO_TEXTS, SAMPLE, answers, keys, sections};
+use super::{NO_INTEGERS, NO_TEXTS, answers, keys};
+use a429_sample::{PROFILE, sections};
 use std::test::Fail;
 
 // The sections of the sample, below a line, without its labels. An element that is no table is told before what
@@ -95,7 +96,7 @@ fn keys_of_labels(rt: HostRuntime) -> Result<(), Fail> {
 #[test]
 fn values_of_labels(rt: HostRuntime) -> Result<(), Fail> {
     for rows in [SDIS, FURTHER_LABELS, ENDS_OF_RANGES] {
-        answers(rt.alloc(), SAMPLE, rows)?;
+        answers(rt.alloc(), PROFILE, rows)?;
     }
     Ok(())
 }

@@ -1,8 +1,8 @@
 //! What is read of the sample, and of a document of other forms.
 
-use super::{SAMPLE, sections, tells, with};
+use super::tells;
 use a429_profile::{Kind, Profile, read_profile};
-use a429_sample::PROFILE;
+use a429_sample::{PROFILE, joined, labels, sections, with};
 use std::alloc::{AllocError, Global};
 use std::fmt::{Debug, Write};
 use std::test::Fail;
@@ -86,17 +86,10 @@ fn says(alloc: Global, text: &str, numbers: &str, entries: &str) -> Result<(), F
 
 // With changes of the sample its numbers and its entries change in this way.
 fn changes_to(alloc: Global, changes: &str, numbers: &str, entries: &str) -> Result<(), Fail> {
-    let text = with(alloc, SAMPLE, changes)?;
+    let text = with(alloc, PROFILE, changes)?;
     let numbers = with(alloc, NUMBERS, numbers)?;
     let entries = with(alloc, ENTRIES, entries)?;
     says(alloc, text.as_str(), numbers.as_str(), entries.as_str())
-}
-
-// The sample as it stands here, and as other tests have it.
-#[test]
-fn the_sample(rt: HostRuntime) -> Result<(), Fail> {
-    says(rt.alloc(), PROFILE, NUMBERS, ENTRIES)?;
-    says(rt.alloc(), SAMPLE, NUMBERS, ENTRIES)
 }
 
 // Each of these keys has a number or truth value that no other of its kind has.
@@ -139,9 +132,7 @@ fn no_labels(rt: HostRuntime) -> Result<(), Fail> {
     says(rt.alloc(), array.as_str(), NUMBERS, "0\n")
 }
 
-#[test]
-fn inline_tables_and_dotted_keys_are_tables(rt: HostRuntime) -> Result<(), Fail> {
-    let text = r#"
+const INLINE_SECTIONS: &str = r#"
 transfer = {to_sink = "304", to_source = "305", destination = 65, first_ldu = 1, final_bit = 25}
 types.full = 0
 types.partial = 1
@@ -152,16 +143,33 @@ types.ignored = [5]
 codes = {rts = 1, cts = 2, ack = 5, nak = 6, ignored = [3]}
 partial.codes = [1, 2, 3, 4]
 check = {poly = 4129, init = 65535, xor = 65535, low_first = true, compare = true}
-label = [{octal = '001', name = 'One', unit = '', kind = 'bcd', digits = 1, decimals = 0}]
 "#;
-    let one = r#"1
+
+const ONE_LABEL: &str =
+    "label = [{octal = '001', name = 'One', unit = '', kind = 'bcd', digits = 1, decimals = 0}]";
+
+const ONE_ENTRY: &str = r#"1
 LabelEntry { label: 1, sdi: None, name: Text { text: "One" }, unit: Text { text: "" }, kind: Bcd { digits: 1, decimals: 0 } }
 001 0 One
 001 1 One
 001 2 One
 001 3 One
 "#;
-    says(rt.alloc(), text, NUMBERS, one)
+
+// The sample as it stands, and sections of inline tables and dotted keys with its labels and with one of an inline
+// table.
+#[test]
+fn other_forms_of_a_table(rt: HostRuntime) -> Result<(), Fail> {
+    let forms = [
+        (sections(), labels(), ENTRIES),
+        (INLINE_SECTIONS, labels(), ENTRIES),
+        (INLINE_SECTIONS, ONE_LABEL, ONE_ENTRY),
+    ];
+    for (sections, labels, entries) in forms {
+        let text = joined(rt.alloc(), &[sections, labels])?;
+        says(rt.alloc(), text.as_str(), NUMBERS, entries)?;
+    }
+    Ok(())
 }
 
 // The sample's flags changed to 19 of them.
@@ -186,7 +194,7 @@ fn flag_count_of(alloc: Global, text: &str) -> Result<usize, Fail> {
 
 #[test]
 fn nineteen_flags(rt: HostRuntime) -> Result<(), Fail> {
-    let text = with(rt.alloc(), SAMPLE, NINETEEN_FLAGS)?;
+    let text = with(rt.alloc(), PROFILE, NINETEEN_FLAGS)?;
     let count = flag_count_of(rt.alloc(), text.as_str())?;
     assert!(rt; count == 19);
     Ok(())
@@ -195,12 +203,12 @@ fn nineteen_flags(rt: HostRuntime) -> Result<(), Fail> {
 // A twentieth has to share a bit; the number of flags is told first.
 #[test]
 fn a_twentieth_flag(rt: HostRuntime) -> Result<(), Fail> {
-    let text = with(rt.alloc(), SAMPLE, NINETEEN_FLAGS)?;
+    let text = with(rt.alloc(), PROFILE, NINETEEN_FLAGS)?;
     let twentieth = "bit = 29}, ] -> bit = 29}, {name = 'f', bit = 11}]";
     tells(
         rt.alloc(),
         text.as_str(),
         twentieth,
-        "out of range label 3 flags",
+        ("", "out of range label 3 flags"),
     )
 }

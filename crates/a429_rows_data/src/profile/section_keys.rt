@@ -1,6 +1,7 @@
 //! Each key of the sections: missing, of another kind, and just out of its range.
 
-use super::{NO_INTEGERS, NO_TEXTS, SAMPLE, answers, keys};
+use super::{NO_INTEGERS, NO_TEXTS, answers, keys};
+use a429_sample::PROFILE;
 use std::test::Fail;
 
 const ADDRESSES: &str =
@@ -81,7 +82,7 @@ fn keys_of_sections(rt: HostRuntime) -> Result<(), Fail> {
 #[test]
 fn values_of_sections(rt: HostRuntime) -> Result<(), Fail> {
     for rows in [TWO_FAULTS, TRUTH_VALUES, ENDS_OF_RANGES] {
-        answers(rt.alloc(), SAMPLE, rows)?;
+        answers(rt.alloc(), PROFILE, rows)?;
     }
     Ok(())
 }

@@ -23,11 +23,7 @@ fn fault(tally: &mut Tally<&mut Shaky<'_>>, all: &mut Vec<u8>) -> Option<ErrorKi
 
 #[test]
 fn interrupted_in_mid_stream_is_a_failure(rt: HostRuntime) {
-    let mut shaky = Shaky {
-        bytes: b"abcd",
-        calls: 0,
-        fails_at: 3,
-    };
+    let mut shaky = Shaky::new(b"abcd", 3);
     let mut tally = Tally::new(&mut shaky, 100);
     let mut all = Vec::new(rt.alloc());
     let kind = fault(&mut tally, &mut all);
@@ -116,14 +112,20 @@ fn a_writer_that_fails_leaves_a_prefix(rt: HostRuntime) {
     assert!(rt; inner.taken.as_slice() == b"abc".as_slice());
 }
 
+// Whether a put, a write and a flush work over a writer, and whether the tally has failed then.
+fn passes_on(inner: &mut Narrow) -> [bool; 4] {
+    let mut tally = Tally::new(inner, 0);
+    let puts = tally.put(b"abc").is_ok();
+    let writes = tally.write_all(b"de").is_ok();
+    let flushes = tally.flush().is_ok();
+    [puts, writes, flushes, tally.failed()]
+}
+
 #[test]
 fn writes_and_flushes_pass_on(rt: HostRuntime) {
     let mut inner = Narrow::new(rt.alloc(), 10, None);
-    let mut tally = Tally::new(&mut inner, 0);
-    assert!(rt; tally.put(b"abc").is_ok() && tally.write_all(b"de").is_ok());
-    assert!(rt; tally.flush().is_ok() && !tally.failed());
-    assert!(rt; inner.taken.as_slice() == b"abcde".as_slice());
+    assert!(rt; passes_on(&mut inner) == [true, true, true, false]);
     inner.flushes = false;
-    let mut tally = Tally::new(&mut inner, 0);
-    assert!(rt; tally.flush().is_err() && tally.failed());
+    assert!(rt; passes_on(&mut inner) == [true, true, false, true]);
+    assert!(rt; inner.taken.as_slice() == b"abcdeabcde".as_slice());
 }

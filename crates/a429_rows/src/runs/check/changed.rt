@@ -5,11 +5,9 @@ ghost use Rattle.std.specs.Prelude.{◌<◌};
 
 use crate::calls::{checked, extracted, verified};
 use crate::runs::chance::Chance;
-use crate::runs::check::files::{damaged, recording, sample, some_transfer, yes_text};
+use crate::runs::check::files::{Transfer, damaged, recording, yes_text};
 use a429_link::Seen;
-use a429_profile::Profile;
 use std::alloc::{AllocError, Global};
-use std::process::Abort;
 use std::test::Fail;
 
 // The words, of which some are changed.
@@ -80,28 +78,9 @@ fn is_borne_out(alloc: Global, recording: &str) -> Result<bool, AllocError> {
     }
 }
 
-// A recording is changed, and what the checker answers is borne out.
-fn is_right(
-    rt: &(impl Abort + AllocGlobal),
-    profile: &Profile,
-    chance: &mut Chance,
-) -> Result<bool, AllocError> {
-    let sent = some_transfer(rt, profile, chance)?;
-    let words = changed(rt.alloc(), chance, sent.run.as_slice())?;
-    let text = recording(rt.alloc(), words.as_slice())?;
-    is_borne_out(rt.alloc(), text.as_str())
-}
-
-#[test]
-fn changed_recordings(rt: HostRuntime) -> Result<(), Fail> {
-    let profile = sample(&rt);
-    let mut chance = Chance::new(1);
-    let mut right = 0u32;
-    for _ in 0..1000 {
-        if is_right(&rt, &profile, &mut chance)? {
-            right = right.saturating_add(1);
-        }
-    }
-    assert_eq!(rt; right, 1000);
-    Ok(())
+/// Records a transfer with changes. Whether what the checker answers is borne out.
+pub(super) fn is_right(alloc: Global, chance: &mut Chance, sent: &Transfer) -> Result<bool, Fail> {
+    let words = changed(alloc, chance, sent.run.as_slice())?;
+    let text = recording(alloc, words.as_slice())?;
+    Ok(is_borne_out(alloc, text.as_str())?)
 }

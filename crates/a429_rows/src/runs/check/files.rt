@@ -1,19 +1,13 @@
 //! Small files, and the recordings of runs that carry them.
 
-use crate::calls::push_row;
+use crate::recordings::{push_row, seen};
 use crate::runs::chance::Chance;
 use a429_link::{FileBytes, Seen, clean_run};
-use a429_profile::{Profile, read_profile};
-use a429_sample::PROFILE;
-use a429_word::{Bus, Word};
+use a429_profile::Profile;
+use a429_word::Bus;
 use std::alloc::{AllocError, Global};
 use std::fmt::Write;
 use std::process::Abort;
-
-/// The sample profile.
-pub(super) fn sample(rt: &(impl Abort + AllocGlobal)) -> Profile {
-    read_profile(rt.alloc(), PROFILE).expect(rt, "a profile")
-}
 
 // One to three files of 1 to 30 bytes.
 fn small_files(alloc: Global, chance: &mut Chance) -> Result<Vec<Vec<u8>>, AllocError> {
@@ -67,12 +61,9 @@ pub(super) fn recording(alloc: Global, words: &[Seen]) -> Result<String, AllocEr
 }
 
 /// The word with one of its bits turned, so that its parity is wrong.
-pub(super) fn damaged(seen: Seen, chance: &mut Chance) -> Seen {
+pub(super) fn damaged(word: Seen, chance: &mut Chance) -> Seen {
     let bit = 1 << chance.below(32);
-    Seen {
-        bus: seen.bus,
-        word: Word::from_u32(seen.word.to_u32() ^ bit),
-    }
+    seen(word.bus, word.word.to_u32() ^ bit)
 }
 
 /// What is told of these files.

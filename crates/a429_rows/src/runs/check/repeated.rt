@@ -2,14 +2,13 @@
 //! that were sent.
 
 use crate::calls::{checked, extracted};
+use crate::recordings::seen;
 use crate::runs::chance::Chance;
-use crate::runs::check::files::{Transfer, begins, damaged, recording, sample, some_transfer};
+use crate::runs::check::files::{Transfer, begins, damaged, recording};
 use a429_link::Seen;
-use a429_profile::Profile;
 use a429_sample::NAK;
-use a429_word::{Bus, Word};
+use a429_word::Bus;
 use std::alloc::{AllocError, Global};
-use std::process::Abort;
 use std::test::Fail;
 
 // The words of a request without loss, at the front of such words: the request, the clear answer, as many
@@ -23,15 +22,11 @@ fn first_request(run: &[Seen]) -> (&[Seen], &[Seen]) {
 }
 
 // A word is recorded, sometimes behind one that is none of the transfer's.
-fn record(words: &mut Vec<Seen>, chance: &mut Chance, seen: &Seen) -> Result<(), AllocError> {
+fn record(words: &mut Vec<Seen>, chance: &mut Chance, word: &Seen) -> Result<(), AllocError> {
     if chance.one_in(10) {
-        let free = Seen {
-            bus: Bus::A,
-            word: Word::from_u32(0xE138_80C1),
-        };
-        words.push(free)?;
+        words.push(seen(Bus::A, 0xE138_80C1))?;
     }
-    words.push(*seen)?;
+    words.push(*word)?;
     Ok(())
 }
 
@@ -94,10 +89,7 @@ fn record_block(
     block: &[Seen],
     acknowledgement: &Seen,
 ) -> Result<(), AllocError> {
-    let refusal = Seen {
-        bus: Bus::B,
-        word: Word::from_u32(NAK),
-    };
+    let refusal = seen(Bus::B, NAK);
     match chance.below(7) {
         0 => {}
         1 => match block.split_last() {
@@ -209,29 +201,10 @@ fn has_begun(alloc: Global, words: &[Seen], sent: &Transfer) -> Result<bool, Fai
     Ok(!matches!(outcome, Outcome::Wrong))
 }
 
-// Records a transfer with loss, and breaks the recording off. Whether the checker is right of both.
-fn is_right(
-    rt: &(impl Abort + AllocGlobal),
-    profile: &Profile,
-    chance: &mut Chance,
-) -> Result<bool, Fail> {
-    let sent = some_transfer(rt, profile, chance)?;
-    let words = with_loss(rt.alloc(), chance, sent.run.as_slice())?;
+/// Records a transfer with loss, and breaks the recording off. Whether the checker is right of both.
+pub(super) fn is_right(alloc: Global, chance: &mut Chance, sent: &Transfer) -> Result<bool, Fail> {
+    let words = with_loss(alloc, chance, sent.run.as_slice())?;
     let begun = (chance.below(1000) as usize).min(words.len());
     let front = &words.as_slice()[..begun];
-    Ok(has_crossed(rt.alloc(), words.as_slice(), &sent)? && has_begun(rt.alloc(), front, &sent)?)
-}
-
-#[test]
-fn recordings_with_loss(rt: HostRuntime) -> Result<(), Fail> {
-    let profile = sample(&rt);
-    let mut chance = Chance::new(2);
-    let mut right = 0u32;
-    for _ in 0..1000 {
-        if is_right(&rt, &profile, &mut chance)? {
-            right = right.saturating_add(1);
-        }
-    }
-    assert_eq!(rt; right, 1000);
-    Ok(())
+    Ok(has_crossed(alloc, words.as_slice(), sent)? && has_begun(alloc, front, sent)?)
 }

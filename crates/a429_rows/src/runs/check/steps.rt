@@ -3,10 +3,11 @@
 
 ghost use Rattle.std.specs.Prelude.{◌≡◌};
 
-use crate::calls::{checked, extracted};
+use crate::calls::{checked, extracted, sample};
 use crate::runs::chance::Chance;
-use crate::runs::check::files::{recording, sample};
+use crate::runs::check::files::recording;
 use crate::runs::draft::Draft;
+use crate::runs::same_files;
 use crate::runs::source::Source;
 use crate::runs::tried::Move;
 use crate::runs::words::{acknowledgement, clear, refusal};
@@ -145,18 +146,6 @@ impl<'a> Run<'a> {
     }
 }
 
-fn same_files(found: &[FileBytes], delivered: &[FileBytes]) -> bool {
-    if found.len() != delivered.len() {
-        return false;
-    }
-    for (file, sent) in found.iter().zip(delivered.iter()) {
-        if file.number != sent.number || file.bytes.as_slice() != sent.bytes.as_slice() {
-            return false;
-        }
-    }
-    true
-}
-
 // What the checker says of a run.
 #[derive(Clone, Copy)]
 enum Outcome {
@@ -223,7 +212,7 @@ fn trial(rt: &impl AllocGlobal, profile: &Profile, chance: &mut Chance) -> Resul
 
 #[test]
 fn runs_by_chance(rt: HostRuntime) -> Result<(), Fail> {
-    let profile = sample(&rt);
+    let profile = sample(rt.alloc()).expect(&rt, "a profile");
     let mut chance = Chance::new(3);
     let mut wrong = 0u32;
     let mut has_crossed = false;

@@ -16,6 +16,8 @@ pub(super) struct Plan {
     pub losses: u32,
     /// No link data unit ends its file.
     pub is_open: bool,
+    /// How many steps are drawn.
+    pub draws: u32,
 }
 
 /// A step to try.

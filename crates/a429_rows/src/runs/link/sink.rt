@@ -1,15 +1,8 @@
 //! A sink, as the table of steps tells it.
 
 use crate::runs::words::{acknowledgement, behind, check_of, clear, is_refusal, refusal};
-use a429_link::SinkState;
+use a429_link::{Bytes, FileBytes, SinkState};
 use std::alloc::{AllocError, Global};
-
-/// A delivered file.
-#[derive(Drop)]
-pub(super) struct File {
-    pub number: u8,
-    pub bytes: Vec<u8>,
-}
 
 // The numbers accepted last, and whether the unit ended its file.
 #[derive(Clone, Copy)]
@@ -48,7 +41,7 @@ pub(super) struct Sink {
     compare: bool,
     last: Option<Accepted>,
     open_bytes: Vec<u8>,
-    pub files: Vec<File>,
+    pub files: Vec<FileBytes>,
     count: u8,
     block: Block,
     bytes: Vec<u8>,
@@ -221,9 +214,9 @@ impl Sink {
         if is_final {
             let bytes = self.open_bytes.clone()?;
             self.open_bytes.clear();
-            self.files.push(File {
+            self.files.push(FileBytes {
                 number: file,
-                bytes,
+                bytes: Bytes::new(bytes),
             })?;
         }
         Ok(())

@@ -1,0 +1,82 @@
+//! The callers that the pages of the crates show.
+
+ghost use Rattle.a429_ldu.specs.Ldu.{IsLdu};
+
+use crate::calls::sample;
+use a429_cert::{CertFault, CertLine, OutOfMemory, read_line, verify, write_line};
+use a429_ldu::Ldu;
+use a429_link::{Link, Seen, Step, StepFault};
+use a429_profile::Profile;
+use a429_record::{Entry, read_entries};
+use a429_sample::{CERTIFICATE, PART, RECORDING, RTS};
+use a429_word::{Bus, Tally, Word};
+use std::alloc::Global;
+
+/// The source loads a link data unit, and its request is recorded and taken.
+fn asks(alloc: Global, profile: &Profile, unit: Ldu, request: Seen) -> Result<(), StepFault>
+    requires { IsLdu profile.now unit }
+{
+    let mut link = Link::start(alloc, profile, 1);
+    link.apply(Step::Load(unit))?;
+    link.apply(Step::Sent(request))?;
+    link.apply(Step::SinkTakes)
+}
+
+// Whether it asks so for the byte 41, the last of its file.
+fn asks_for_a_byte(alloc: Global, request: u32) -> Option<bool> {
+    let profile = sample(alloc)?;
+    let unit = Ldu::new(alloc, &profile, 0, 1, 0xA3F5, &[Word::from_u32(PART)]).ok()?;
+    let request = Seen {
+        bus: Bus::A,
+        word: Word::from_u32(request),
+    };
+    Some(asks(alloc, &profile, unit, request).is_ok())
+}
+
+#[test]
+fn a_request(rt: HostRuntime) {
+    assert!(rt; asks_for_a_byte(rt.alloc(), RTS) == Some(true));
+    assert!(rt; asks_for_a_byte(rt.alloc(), PART) == Some(false));
+}
+
+/// Appends the line of another first file, where the line gives the first file.
+fn renumber(alloc: Global, line: &[u8], file: u8, out: &mut Vec<u8>) -> Result<bool, OutOfMemory> {
+    match read_line(alloc, line)? {
+        Some(CertLine::First(_)) => {
+            write_line(&CertLine::First(file), out)?;
+            Ok(true)
+        }
+        _ => Ok(false),
+    }
+}
+
+#[test]
+fn another_first_file(rt: HostRuntime) {
+    let mut out = Vec::new(rt.alloc());
+    assert!(rt; renumber(rt.alloc(), b"first 1", 2, &mut out) == Ok(true));
+    assert!(rt; renumber(rt.alloc(), b"l I Q 0 0", 2, &mut out) == Ok(false));
+    assert!(rt; out.as_slice() == b"first 2".as_slice());
+}
+
+/// How many files have crossed in a recording that a certificate explains.
+fn crossed(
+    alloc: Global,
+    profile: &Profile,
+    entries: &[Entry],
+    text: &[u8],
+) -> Result<usize, CertFault> {
+    let verified = verify(alloc, profile, entries, text)?;
+    Ok(verified.files().len())
+}
+
+// How many files crossed in the sample recording by its certificate.
+fn crossed_in_sample(alloc: Global) -> Option<usize> {
+    let profile = sample(alloc)?;
+    let entries = read_entries(alloc, &mut Tally::new(RECORDING.as_bytes(), 1_000)).ok()?;
+    crossed(alloc, &profile, &entries, CERTIFICATE.as_bytes()).ok()
+}
+
+#[test]
+fn one_file_has_crossed(rt: HostRuntime) {
+    assert!(rt; crossed_in_sample(rt.alloc()) == Some(1));
+}

@@ -1,0 +1,87 @@
+//! The callers that the pages of the crates show.
+
+use crate::profile::read;
+use a429_ldu::{CutFault, Ldu, cut};
+use a429_profile::{Profile, ProfileFault, read_profile};
+use a429_record::{Entry, ReadFault, read_entries};
+use a429_sample::{PROFILE, RECORDING, SOT};
+use a429_word::{Bus, Device, Tally, Word, octal};
+use std::alloc::Global;
+use std::io::{Read, Write};
+
+/// Writes a word and its label.
+fn write_label<W: Write>(word: Word, out: &mut Tally<W>) -> Result<(), Device> {
+    out.put(&word.hex())?;
+    out.put(b" ")?;
+    out.put(&octal(word.label()))?;
+    out.put(b"\n")
+}
+
+#[test]
+fn a_word_and_its_label(rt: HostRuntime) {
+    let mut text = Vec::new(rt.alloc());
+    let written = write_label(Word::from_u32(0xE138_80C1), &mut Tally::new(&mut text, 0));
+    assert!(rt; written.is_ok());
+    assert!(rt; text.as_slice() == b"E13880C1 203\n".as_slice());
+}
+
+/// How many of a recording's words were on bus A.
+fn words_on_a<R: Read>(alloc: Global, rec: &mut Tally<R>) -> Result<usize, ReadFault> {
+    let entries = read_entries(alloc, rec)?;
+    Ok(entries.iter().filter(|entry| entry.bus == Bus::A).count())
+}
+
+#[test]
+fn the_words_on_a_bus(rt: HostRuntime) {
+    let mut rec = Tally::new(RECORDING.as_bytes(), 1_000);
+    assert!(rt; words_on_a(rt.alloc(), &mut rec) == Ok(4));
+}
+
+/// The unit of the words of this label and SDI, as the profile's text says it.
+fn unit_of(alloc: Global, text: &str, label: u8, sdi: u8) -> Result<Option<String>, ProfileFault> {
+    let profile = read_profile(alloc, text)?;
+    match profile.entry(label, sdi) {
+        Some(entry) => match String::from_str(alloc, entry.unit.as_str()) {
+            Ok(unit) => Ok(Some(unit)),
+            Err(_) => Err(ProfileFault::OutOfMemory),
+        },
+        None => Ok(None),
+    }
+}
+
+// Whether this is the unit of the words of label 203 under the sample profile.
+fn is_unit(alloc: Global, text: &str) -> bool {
+    match unit_of(alloc, PROFILE, 0o203, 0) {
+        Ok(Some(unit)) => unit.as_str() == text,
+        _ => false,
+    }
+}
+
+/// The start word of a file's first block.
+fn first_word(
+    alloc: Global,
+    profile: &Profile,
+    file: u8,
+    bytes: &[u8],
+) -> Result<Option<Word>, CutFault> {
+    let units = cut(alloc, profile, bytes, 255)?;
+    match units.first() {
+        Some(unit) => Ok(Some(unit.word(profile, 0, file, profile.codes().first_ldu))),
+        None => Ok(None),
+    }
+}
+
+// The start word of file 1 with the byte 41 alone, under the sample profile.
+fn first_of_sample(alloc: Global) -> Option<u32> {
+    let profile = read(alloc, PROFILE)?;
+    match first_word(alloc, &profile, 1, b"A") {
+        Ok(Some(word)) => Some(word.to_u32()),
+        _ => None,
+    }
+}
+
+#[test]
+fn a_unit_and_a_start_word(rt: HostRuntime) {
+    assert!(rt; is_unit(rt.alloc(), "ft"));
+    assert!(rt; first_of_sample(rt.alloc()) == Some(SOT));
+}
