@@ -23,6 +23,7 @@ refused-stops : (n last : ℕ) (row : Row) (behind : List Row) (f : ReadFault) �
 refused-stops n last row behind fault.Header h = absurd h
 refused-stops n last row behind fault.Device h = absurd h
 refused-stops n last row behind fault.OutOfMemory h = absurd h
+refused-stops n last row behind fault.Failed h = absurd h
 refused-stops n last row behind fault.TooMany h =
     let full : (n == most_entries) ≡ true = grind (arith, nat_tests) in rw full refl
 refused-stops n last row behind (fault.Row i) h =
@@ -53,6 +54,7 @@ refuses : (es : List Entry) (row : Row) (f : ReadFault) → IsRowRefused es row 
 refuses es row fault.Header h = absurd h
 refuses es row fault.Device h = absurd h
 refuses es row fault.OutOfMemory h = absurd h
+refuses es row fault.Failed h = absurd h
 refuses es row fault.TooMany h = omega (arith, h)
 refuses es row (fault.Row i) h = (omega (arith, h.0), h.1, h.2)
 refuses es row (fault.TimeBack i) h =
@@ -77,6 +79,7 @@ faulty-stands bytes es (fault.TimeBack i) h = refused-stands bytes es (fault.Tim
 faulty-stands bytes es fault.TooMany h = refused-stands bytes es fault.TooMany h
 faulty-stands bytes es fault.Device h = refused-stands bytes es fault.Device h
 faulty-stands bytes es fault.OutOfMemory h = refused-stands bytes es fault.OutOfMemory h
+faulty-stands bytes es fault.Failed h = refused-stands bytes es fault.Failed h
 
 -- ---- and back
 
@@ -183,6 +186,7 @@ refused : (es : List Entry) (row : Row) (f : ReadFault) → Refuses (0 + length 
 refused es row fault.Header h = absurd h
 refused es row fault.Device h = absurd h
 refused es row fault.OutOfMemory h = absurd h
+refused es row fault.Failed h = absurd h
 refused es row fault.TooMany h = omega (arith, h)
 refused es row (fault.Row i) h = (omega (arith, h.0), h.1, h.2)
 refused es row (fault.TimeBack i) h = (omega (arith, h.0), h.1, (h.2.0, h.2.1, ends_above h.2.0.time es h.2.2))
@@ -204,6 +208,7 @@ behind_header : (bytes : List ℕ) (header : Row) (rows : List Row) (es : List E
 behind_header bytes header rows es fault.Header is first s = absurd s.refuses
 behind_header bytes header rows es fault.Device is first s = refused_in header rows (rows_of bytes) es fault.Device is first s
 behind_header bytes header rows es fault.OutOfMemory is first s = refused_in header rows (rows_of bytes) es fault.OutOfMemory is first s
+behind_header bytes header rows es fault.Failed is first s = refused_in header rows (rows_of bytes) es fault.Failed is first s
 behind_header bytes header rows es fault.TooMany is first s = refused_in header rows (rows_of bytes) es fault.TooMany is first s
 behind_header bytes header rows es (fault.Row i) is first s = refused_in header rows (rows_of bytes) es (fault.Row i) is first s
 behind_header bytes header rows es (fault.TimeBack i) is first s = refused_in header rows (rows_of bytes) es (fault.TimeBack i) is first s

@@ -8,10 +8,13 @@ use Rattle.std.specs.Io.KnownBytes.{Consumes, Keeps, prepend_known}
 use Rattle.std.proofs.KnownBytes.{Consumes-kept, prepend_known-nil}
 use Rattle.a429_record.specs.declared.entry.Entry.{Entry}
 use Rattle.a429_record.specs.declared.fault.ReadFault.{ReadFault}
+use Rattle.a429_record.specs.declared.stage.Stage.{Stage}
+use Rattle.a429_record.specs.declared.stage.Stage.TheVariants as stage
 use Rattle.a429_record.specs.Ends.{HasNoEnd}
 use Rattle.a429_record.specs.Row.{Row, is_header, entry_in, line_rows}
 use Rattle.a429_record.specs.Recording.{Recording, recording_lines, with_first, rows_of, most_entries, row_stands_for, rows_stand_for, IsRecordable}
-use Rattle.a429_record.specs.Handed.{onto_first, ended_lines, ended_rows, AreSound, Loses, HasNoFault, HasNoRow, IsOpen, IsLineHanded, IsEnded, AreLines, AreHeader, AreEntryOf}
+use Rattle.a429_record.specs.Reading.{AreHandedAt, PassesAt}
+use Rattle.a429_record.specs.Handed.{onto_first, ended_lines, ended_rows, AreSound, Loses, HasNoFault, HasNoRow, IsOpen, IsLineHanded, IsEnded, AreLines, AreHeader, AreEntryOf, AreGiven}
 use Rattle.a429_record.proofs.LinesFacts.{lines_of-ended, lines_of-last, given}
 use Rattle.a429_record.proofs.WholeRecordings.{rows-whole}
 
@@ -179,14 +182,6 @@ rows-front n last (r ∷ rows) more e = elim (cases_Bool (n == most_entries)) [
   | inr room ↦ rw room (row-front n last (entry_in r) (λ x. rows_stand_for (n + 1) x.time (rows ++ more)) (λ x. rows_stand_for (n + 1) x.time rows) (λ x. rows-front (n + 1) x.time rows more) (rw room at e))
 ]
 
--- rows are the header's and these entries'
-pub record AreGiven (es : List Entry) (rows : List Row) : Type 0 where
-  pub header : Row
-  pub more : List Row
-  pub all : rows ≡ header ∷ more
-  pub first : is_header header ≡ true
-  pub entries : map entry_in more ≡ map Some es
-
 given-sound : (es : List Entry) (rows more : List Row) → IsRecordable es → AreGiven es (rows ++ more) → AreSound rows
 given-sound es [] more h g = tt
 given-sound es (r ∷ rows) more h g =
@@ -255,10 +250,8 @@ no_entry (r ∷ rows) e = cc e
 
 -- ---- a whole reading
 
-pub given_header : (a b : Option (List ℕ)) (ahead : List ℕ) → ahead ≡ [] → Loses (AreLines AreHeader) (prepend_known ahead a) b → Loses (AreLines (AreGiven [])) a b
-given_header a b ahead none h =
-    let own : prepend_known ahead a ≡ a = rw none (prepend_known-nil a) in
-    lost_so (AreLines AreHeader) (AreLines (AreGiven [])) a b (subst (λ (o : Option (List ℕ)). Loses (AreLines AreHeader) o b) own h)
+given_header : (a b : Option (List ℕ)) → Loses (AreLines AreHeader) a b → Loses (AreLines (AreGiven [])) a b
+given_header a b h = lost_so (AreLines AreHeader) (AreLines (AreGiven [])) a b h
     (λ t rest l. (l.0, record { header = l.1.0; more = []; all = l.1.1; first = l.1.2; entries = refl }))
 
 pub given_next : (es more : List Entry) (e : Entry) (a b c : Option (List ℕ)) → more ≡ es ++ (e ∷ []) → Loses (AreLines (AreGiven es)) a b → Loses (AreLines (AreEntryOf e)) b c
@@ -270,3 +263,55 @@ given_next es more e a b c is p q =
 -- the reader fails before an entry
 pub failed_next : (es : List Entry) (a b c : Option (List ℕ)) → IsRecordable es → Loses (AreLines (AreGiven es)) a b → Loses HasNoRow b c → Loses HasNoFault a c
 failed_next es a b c h p q = lost_both _ _ _ a b c p q (λ t u rest before after. sound es t u rest h before after)
+
+-- ---- the header and the first entry
+
+-- by where a reading stands: these entries' lines are handed out, behind the header's
+abbrev pub AreGivenAt : Stage → List Entry → List ℕ → List ℕ → Type 0
+AreGivenAt stage.Begins es taken rest = (es ≡ []) × (taken ≡ [])
+AreGivenAt stage.Rows es taken rest = AreLines (AreGiven es) taken rest
+AreGivenAt stage.Ended es taken rest = ⊥
+AreGivenAt stage.Failed es taken rest = ⊥
+
+-- nothing was read, and the reader has failed
+pub failed_begun : (k : Option (List ℕ)) (ahead : List ℕ) → ahead ≡ [] → Loses HasNoFault (prepend_known ahead k) k
+failed_begun k ahead none =
+    let own : prepend_known ahead k ≡ k = rw none (prepend_known-nil k) in
+    subst (λ (o : Option (List ℕ)). Loses HasNoFault o k) (sym own) (nothing_lost HasNoFault k (λ rest. tt))
+
+-- the reader fails before the header
+pub failed_header : (a b : Option (List ℕ)) → Loses HasNoRow a b → Loses HasNoFault a b
+failed_header a b h = lost_so HasNoRow HasNoFault a b h (λ t rest none. subst AreSound (sym none) tt)
+
+-- it fails behind the header
+pub failed_first : (a b c : Option (List ℕ)) → Loses (AreLines AreHeader) a b → Loses HasNoRow b c → Loses HasNoFault a c
+failed_first a b c p q = failed_next [] a b c (omega arith, tt) (given_header a b p) q
+
+-- the header comes, and then an entry, where the answer is one
+pub given_first : (r : Result (Option Entry) ReadFault) (a b c : Option (List ℕ)) → Loses (AreLines AreHeader) a b → IfOk r (λ o. IfSome o (λ e. Loses (AreLines (AreEntryOf e)) b c))
+    → IfOk r (λ o. IfSome o (λ e. Loses (AreLines (AreGiven (e ∷ []))) a c))
+given_first (Ok None) a b c p h = tt
+given_first (Ok (Some e)) a b c p h = given_next [] (e ∷ []) e a b c refl (given_header a b p) h
+given_first (Err f) a b c p h = tt
+
+-- ---- the answers of a reading
+
+-- an entry more, and its lines
+pub given_more_at : (at : Stage) (es more : List Entry) (e : Entry) (a b c : Option (List ℕ)) → more ≡ es ++ (e ∷ []) → Loses (AreGivenAt at es) a b → Loses (AreHandedAt at e) b c
+    → Loses (AreLines (AreGiven more)) a c
+given_more_at stage.Begins es more e a b c is p q = lost_both _ _ _ a b c p q (λ t u rest before after.
+    let one : e ∷ [] ≡ more = sym (is ∙ ap (λ (l : List Entry). l ++ (e ∷ [])) before.0) in
+    let There : List ℕ → Type 0 = λ l. AreLines (AreGiven more) (l ++ u) rest in
+    subst There (sym before.1) (subst (λ (l : List Entry). AreLines (AreGiven l) u rest) one after))
+given_more_at stage.Rows es more e a b c is p q = given_next es more e a b c is p q
+given_more_at stage.Ended es more e a b c is p q = lost_both _ _ _ a b c p q (λ t u rest before after. absurd before)
+given_more_at stage.Failed es more e a b c is p q = lost_both _ _ _ a b c p q (λ t u rest before after. absurd before)
+
+-- the reader fails
+pub failed_at : (at : Stage) (es : List Entry) (a b c : Option (List ℕ)) → IsRecordable es → Loses (AreGivenAt at es) a b → Loses (PassesAt at) b c → Loses HasNoFault a c
+failed_at stage.Begins es a b c h p q = lost_both _ _ _ a b c p q (λ t u rest before after.
+    let There : List ℕ → Type 0 = λ l. HasNoFault (l ++ u) rest in
+    subst There (sym before.1) after)
+failed_at stage.Rows es a b c h p q = failed_next es a b c h p q
+failed_at stage.Ended es a b c h p q = lost_both _ _ _ a b c p q (λ t u rest before after. absurd before)
+failed_at stage.Failed es a b c h p q = lost_both _ _ _ a b c p q (λ t u rest before after. absurd before)

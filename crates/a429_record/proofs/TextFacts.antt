@@ -1,6 +1,5 @@
 -- The rows of a line that was taken, and what they stand for.
 use Rattle.std.proofs.Common.{◌≡◌, ◌∙◌, ℕ, List, [], ◌∷◌, ◌++◌, map, Option, Some, None, Ok, Err, true, false, Result, IfSome, refl, sym, ap, subst, append_assoc, option_map}
-use Rattle.std.specs.Io.KnownBytes.{prepend_known}
 use Rattle.std.specs.List.{flat_map}
 use Rattle.a429_record.specs.declared.entry.Entry.{Entry}
 use Rattle.a429_record.specs.declared.fault.ReadFault.{ReadFault}
@@ -51,13 +50,18 @@ other_row None b line r h one first = tt
 other_row (Some all) b line r h one first =
     let e : all ≡ r ∷ h.0 = rw (← one) at h.2 in ap all_rows_stand_for e ∙ rw first refl
 
--- after the header the rows that are left stand for what the bytes do
-pub begun : (bytes : Option (List ℕ)) (ahead : List ℕ) (new : Option (List Row)) (n last : ℕ) (u : Unit {0}) → ahead ≡ [] → n ≡ 0 → last ≡ 0
-    → TakesHeader (option_map rows_of (prepend_known ahead bytes)) new (Ok u)
-    → IfSome bytes (λ b. (rest : Recording) × (option_map (rows_stand_for n last) new ≡ Some rest) × (stands_for b ≡ rest))
-begun None ahead new n last u none zero start h = tt
-begun (Some b) ahead new n last u none zero start h =
-    let took = rw none at h in (rows_stand_for 0 0 took.0, rw (zero, start, took.1) refl, took.2)
+-- the header makes a fault
+pub header_stops : (rows mid : Option (List Row)) (new : Option Recording) (f : ReadFault) → TakesHeader rows mid (Err f) → GivesNext (option_map all_rows_stand_for rows) new (Err f)
+header_stops None mid new f h = tt
+header_stops (Some all) mid new f h = h
+
+-- the header is taken, and then the answer is that of the rows behind it
+pub header_passes : (rows mid : Option (List Row)) (new : Option Recording) (n last : ℕ) (u : Unit {0}) (answer : Result (Option Entry) ReadFault) → n ≡ 0 → last ≡ 0
+    → TakesHeader rows mid (Ok u) → GivesNext (option_map (rows_stand_for n last) mid) new answer → GivesNext (option_map all_rows_stand_for rows) new answer
+header_passes None mid new n last u answer zero start took h = tt
+header_passes (Some all) mid new n last u answer zero start took h =
+    let same : option_map (rows_stand_for n last) mid ≡ Some (all_rows_stand_for all) = rw (took.1, zero, start) (ap Some (sym took.2)) in
+    subst (λ (o : Option Recording). GivesNext o new answer) same h
 
 -- ---- entries
 

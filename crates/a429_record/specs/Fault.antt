@@ -4,8 +4,9 @@ use Rattle.a429_record.specs.declared.fault.ReadFault.{ReadFault}
 use Rattle.a429_record.specs.declared.fault.ReadFault.TheVariants as fault
 use Rattle.a429_record.specs.Recording.{stands_for}
 
--- a fault is the first one of the bytes, where it is no fault of the device or for want of memory
+-- a fault is the first one of the bytes, where it is no fault of the device or for want of memory; `Failed` is none of any bytes
 abbrev pub IsFirstReadFault : ReadFault → List ℕ → Type 0
 IsFirstReadFault fault.Device bytes = ⊤
 IsFirstReadFault fault.OutOfMemory bytes = ⊤
+IsFirstReadFault fault.Failed bytes = ⊥
 IsFirstReadFault f bytes = (stands_for bytes).fault ≡ Some f

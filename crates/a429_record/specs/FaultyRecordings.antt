@@ -27,7 +27,10 @@ abbrev pub IsRowRefused : List Entry → Row → ReadFault → Type 0
 IsRowRefused es row fault.TooMany = length es ≡ most_entries
 IsRowRefused es row (fault.Row i) = (i ≡ length es) × (i < most_entries) × (entry_in row ≡ None)
 IsRowRefused es row (fault.TimeBack i) = (i ≡ length es) × (i < most_entries) × ((e : Entry) × (entry_in row ≡ Some e) × EndsAbove e.time es)
-IsRowRefused es row _ = ⊥
+IsRowRefused es row fault.Header = ⊥
+IsRowRefused es row fault.Device = ⊥
+IsRowRefused es row fault.OutOfMemory = ⊥
+IsRowRefused es row fault.Failed = ⊥
 
 -- there is no first row, or it is not the header
 abbrev pub HasNoHeader : List Row → Type 0

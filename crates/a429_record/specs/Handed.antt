@@ -61,3 +61,11 @@ AreHeader rows = (row : Row) × (rows ≡ row ∷ []) × (is_header row ≡ true
 -- one row, this entry's
 abbrev pub AreEntryOf : Entry → List Row → Type 0
 AreEntryOf e rows = map entry_in rows ≡ Some e ∷ []
+
+-- rows are the header's and these entries'
+pub record AreGiven (es : List Entry) (rows : List Row) : Type 0 where
+  pub header : Row
+  pub more : List Row
+  pub all : rows ≡ header ∷ more
+  pub first : is_header header ≡ true
+  pub entries : map entry_in more ≡ map Some es

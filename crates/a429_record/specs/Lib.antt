@@ -9,3 +9,6 @@ pub mod WholeRecordings
 pub mod FaultyRecordings
 pub mod Handed
 pub mod Text
+pub mod Stage
+pub mod Reading
+pub mod Entries

@@ -4,7 +4,8 @@ use Rattle.std.specs.Io.KnownBytes.{prepend_known}
 use Rattle.a429_word.specs.declared.tally.Tally.{Tally}
 use Rattle.a429_word.specs.Tally.{left_of, unread}
 use Rattle.a429_record.specs.declared.lines.Lines.{Lines}
-use Rattle.a429_record.specs.Handed.{Loses}
+use Rattle.a429_record.specs.Row.{Row}
+use Rattle.a429_record.specs.Handed.{Loses, IsLineHanded, AreLines}
 
 -- the bytes that were read and not yet given
 abbrev pub ahead_of : Lines → List ℕ
@@ -21,6 +22,14 @@ room_of s rec = left_of rec + length (ahead_of s)
 -- lines are given: what they take of the bytes, and what is then left, are so
 abbrev pub HandsOut : {R : Type 0} → (List ℕ → List ℕ → Type 0) → (R → Option (List ℕ)) → Lines → Tally R → Lines → Tally R → Type 0
 HandsOut P remaining old rec new new_rec = Loses P (pending_of remaining old rec) (pending_of remaining new new_rec)
+
+-- this line is given
+abbrev pub HandsLine : {R : Type 0} → (R → Option (List ℕ)) → List ℕ → Lines → Tally R → Lines → Tally R → Type 0
+HandsLine remaining line old rec new new_rec = HandsOut (IsLineHanded line) remaining old rec new new_rec
+
+-- whole lines are given, and their rows are so
+abbrev pub HandsRows : {R : Type 0} → (List Row → Type 0) → (R → Option (List ℕ)) → Lines → Tally R → Lines → Tally R → Type 0
+HandsRows P remaining old rec new new_rec = HandsOut (AreLines P) remaining old rec new new_rec
 
 -- the reader fails: what it has given until then, with what was ahead, and what it leaves, are so
 abbrev pub FailsAfter : {R : Type 0} → (List ℕ → List ℕ → Type 0) → (R → Option (List ℕ)) → Lines → Tally R → Tally R → Type 0

@@ -1,13 +1,17 @@
 -- What a reader of a text recording has still to give (profile).
-use Rattle.std.specs.Prelude.{◌≡◌, ◌≤◌, ◌+◌, ℕ, List, [], Option, Some, None, option_map, Result, Ok, Err, IfOk, IfSome, ⊤}
+use Rattle.std.specs.Prelude.{◌≡◌, ◌≤◌, ◌+◌, ℕ, List, [], ◌∷◌, Option, Some, None, option_map, Result, Ok, Err, IfOk, IfSome, ⊤}
 use Rattle.a429_word.specs.declared.tally.Tally.{Tally}
 use Rattle.a429_record.specs.declared.entry.Entry.{Entry}
 use Rattle.a429_record.specs.declared.fault.ReadFault.{ReadFault}
 use Rattle.a429_record.specs.declared.fault.ReadFault.TheVariants as fault
 use Rattle.a429_record.specs.declared.text.TextReader.{TextReader}
-use Rattle.a429_record.specs.Row.{Row}
+use Rattle.a429_record.specs.Row.{Row, entry_in}
 use Rattle.a429_record.specs.Recording.{Recording, rows_of, whole, stops, with_entry, rows_stand_for, all_rows_stand_for}
-use Rattle.a429_record.specs.Lines.{pending_of}
+use Rattle.a429_record.specs.Lines.{ahead_of, pending_of}
+
+-- nothing was read and no entry given
+abbrev pub IsFresh : TextReader → Type 0
+IsFresh s = (s.count ≡ 0) × (s.last ≡ 0) × (ahead_of s.lines ≡ [])
 
 -- the rows that are left, where the bytes are known
 abbrev pub rows_left : {R : Type 0} → (R → Option (List ℕ)) → TextReader → Tally R → Option (List Row)
@@ -25,7 +29,11 @@ recording_left remaining s rec = option_map (stands_from s) (rows_left remaining
 abbrev pub Stops : ReadFault → Recording → Type 0
 Stops fault.Device t = ⊤
 Stops fault.OutOfMemory t = ⊤
-Stops f t = t ≡ stops f
+Stops fault.Header t = t ≡ stops fault.Header
+Stops (fault.Row i) t = t ≡ stops (fault.Row i)
+Stops (fault.TimeBack i) t = t ≡ stops (fault.TimeBack i)
+Stops fault.TooMany t = t ≡ stops fault.TooMany
+Stops fault.Failed t = t ≡ stops fault.Failed
 
 -- the header is taken from known rows
 abbrev pub TakesHeader : Option (List Row) → Option (List Row) → Result (Unit {0}) ReadFault → Type 0
@@ -39,6 +47,14 @@ GivesNext None new r = ⊤
 GivesNext (Some t) new (Ok (Some e)) = (u : Recording) × (new ≡ Some u) × (t ≡ with_entry e u)
 GivesNext (Some t) new (Ok None) = t ≡ whole []
 GivesNext (Some t) new (Err f) = Stops f t
+
+-- an answer is the first entry, the end or the fault of all rows, the header's first, and after an entry the rest is left
+abbrev pub GivesFirst : {R : Type 0} → (R → Option (List ℕ)) → TextReader → Tally R → TextReader → Tally R → Result (Option Entry) ReadFault → Type 0
+GivesFirst remaining old rec new new_rec r = GivesNext (option_map all_rows_stand_for (rows_left remaining old rec)) (recording_left remaining new new_rec) r
+
+-- an answer is that to a row with this entry, or with none, whatever rows come behind it
+abbrev pub GivesRow : TextReader → Option Entry → TextReader → Result (Option Entry) ReadFault → Type 0
+GivesRow old entry new r = (row : Row) (rows : List Row) → entry_in row ≡ entry → GivesNext (Some (stands_from old (row ∷ rows))) (Some (stands_from new rows)) r
 
 -- where the answer is an entry, it is so
 abbrev pub IfEntry : Result (Option Entry) ReadFault → (Entry → Type 0) → Type 0

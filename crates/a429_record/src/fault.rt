@@ -23,6 +23,9 @@ pub enum ReadFault {
     /// Memory was refused.
     #[error("memory")]
     OutOfMemory,
+    /// A fault was answered before: of an `EntryReader` alone.
+    #[error("failed")]
+    Failed,
 }
 
 /// Why a recording was not written.

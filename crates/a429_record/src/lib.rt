@@ -1,16 +1,20 @@
 //! Recordings of a pair of buses: what their bytes stand for, read and written.
 #![tactic(auto)]
 
+mod entries;
 mod entry;
 mod fault;
 pub mod laws;
 mod line;
 mod lines;
+mod reading;
 mod recording;
 mod row;
+mod stage;
 mod text;
 mod writing;
 
+pub use crate::entries::EntryReader;
 pub use crate::entry::{Entry, MOST_ENTRIES};
 pub use crate::fault::{ReadFault, WriteFault};
 pub use crate::recording::read_entries;

@@ -4,7 +4,7 @@ ghost use Rattle.std.specs.Prelude.{◌≡◌, ◌↔◌, ◌⊎◌, ◌∷◌, 
 ghost use Rattle.std.specs.Io.KnownBytes.{Consumes, Keeps, IsAtEnd};
 ghost use Rattle.a429_word.specs.Tally.{left_of, has_failed, unread};
 ghost use Rattle.a429_record.specs.Ends.{HasNoEnd};
-ghost use Rattle.a429_record.specs.Handed.{IsLineHanded, IsOpen};
+ghost use Rattle.a429_record.specs.Handed.{IsOpen};
 
 use crate::fault::ReadFault;
 use a429_word::{Device, Tally};
@@ -23,7 +23,7 @@ pub struct Lines {
 }
 
 impl Lines {
-    ghost use Rattle.a429_record.specs.Lines.{ahead_of, pending_of, room_of, HandsOut, FailsAfter};
+    ghost use Rattle.a429_record.specs.Lines.{ahead_of, pending_of, room_of, HandsLine, FailsAfter};
     ghost use Rattle.a429_record.specs.declared.fault.ReadFault.TheVariants as fault;
 
     /// Nothing was read.
@@ -44,7 +44,7 @@ impl Lines {
         line: &mut Vec<u8>,
     ) -> Result<bool, ReadFault>
         requires { has_failed rec.old ≡ false }
-        ensures takes { IfOk result (λ found. found ≡ true → HandsOut (IsLineHanded line.new.items) R.remaining self.old rec.old self.new rec.new) }
+        ensures takes { IfOk result (λ found. found ≡ true → HandsLine R.remaining line.new.items self.old rec.old self.new rec.new) }
         ensures end { IfOk result (λ found. found ≡ false → IsAtEnd (pending_of R.remaining self.old rec.old)) }
         ensures room { IfOk result (λ found. found ≡ true → room_of self.new rec.new < room_of self.old rec.old) }
         ensures err { IfErr result (λ f. (f ≡ fault.Device) ⊎ (f ≡ fault.OutOfMemory)) }

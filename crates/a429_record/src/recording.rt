@@ -1,6 +1,6 @@
 //! Recordings, read whole.
 
-ghost use Rattle.std.specs.Prelude.{◌≡◌, ◌↔◌, true, IsErrOf, IfOk, IfErr, IfSome};
+ghost use Rattle.std.specs.Prelude.{◌≡◌, ◌≢◌, ◌↔◌, true, IsErrOf, IfOk, IfErr, IfSome};
 ghost use Rattle.a429_word.specs.Tally.{has_failed, unread};
 ghost use Rattle.a429_record.specs.Recording.{stands_for, whole, IsRecordable};
 ghost use Rattle.a429_record.specs.Fault.{IsFirstReadFault};
@@ -8,29 +8,26 @@ ghost use Rattle.a429_record.specs.Handed.{Loses, HasNoFault};
 
 use crate::entry::Entry;
 use crate::fault::ReadFault;
-use crate::text::TextReader;
-use a429_word::{Failing, Tally};
+use crate::reading::Reading;
+use a429_word::Tally;
 use std::alloc::Global;
 use std::io::Read;
 
 /// Reads a text recording to its end and answers all its entries, or its first fault. `Device` is
 /// answered exactly where `rec` has failed, and no line makes a fault that `rec` handed out before with
-/// its line feed. `OutOfMemory` is answered where memory was refused.
+/// its line feed. `OutOfMemory` is answered where memory was refused. `Failed` is never answered.
 pub fn read_entries<R: Read>(alloc: Global, rec: &mut Tally<R>) -> Result<Vec<Entry>, ReadFault>
     ensures ok { IfOk result (λ v. IfSome (unread R.remaining rec.old) (λ bytes. stands_for bytes ≡ whole v.items)) }
     ensures recordable { IfOk result (λ v. IsRecordable v.items) }
     ensures err { IfErr result (λ f. IfSome (unread R.remaining rec.old) (λ bytes. IsFirstReadFault f bytes)) }
     ensures device { IsErrOf result ReadFault.Device ↔ (has_failed rec.new ≡ true) }
     ensures before { IsErrOf result ReadFault.Device → Loses HasNoFault (unread R.remaining rec.old) (unread R.remaining rec.new) }
+    ensures no_failed { IfErr result (λ f. f ≢ ReadFault.Failed) }
 {
-    if rec.failed() {
-        return Err(ReadFault::Device);
-    }
-    let mut reader = TextReader::new(alloc);
-    reader.header(rec)?;
+    let mut reading = Reading::new(alloc);
     let mut entries = Vec::new(alloc);
     'entries: loop {
-        let Some(entry) = reader.next(rec)? else {
+        let Some(entry) = reading.next(rec)? else {
             return Ok(entries);
         };
         if entries.push(entry).is_err() {

@@ -1,8 +1,7 @@
 //! The text form of a recording, read entry by entry.
 
-ghost use Rattle.std.specs.Prelude.{◌≡◌, ◌≢◌, ◌↔◌, ◌∷◌, ◌<◌, ◌≤◌, [], false, true, IsErrOf, IfOk, IfErr, IfSome, IfNone, OnOk, Some, List};
+ghost use Rattle.std.specs.Prelude.{◌≡◌, ◌≢◌, ◌↔◌, ◌∷◌, ◌<◌, ◌≤◌, [], false, true, IsErrOf, IfOk, IfErr, IfSome, IfNone, OnOk, Err};
 ghost use Rattle.a429_word.specs.Tally.{has_failed};
-ghost use Rattle.a429_record.specs.Row.{Row, entry_in};
 ghost use Rattle.a429_record.specs.Recording.{most_entries};
 
 use crate::entry::{Entry, MOST_ENTRIES};
@@ -10,7 +9,7 @@ use crate::fault::ReadFault;
 use crate::line::{LineEntry, LineRow, entry_in_line, plain_entry, row_in_line};
 use crate::lines::Lines;
 use crate::row::is_header_row;
-use a429_word::Tally;
+use a429_word::{Failing, Tally};
 use std::alloc::Global;
 use std::io::Read;
 
@@ -27,17 +26,15 @@ pub struct TextReader {
 }
 
 impl TextReader {
-    ghost use Rattle.a429_record.specs.Lines.{ahead_of, room_of, HandsOut, FailsAfter};
+    ghost use Rattle.a429_record.specs.Lines.{ahead_of, room_of, HandsRows, FailsAfter};
     ghost use Rattle.a429_record.specs.Line.{GivesEntry};
-    ghost use Rattle.a429_record.specs.Handed.{AreLines, HasNoRow, AreHeader, AreEntryOf};
-    ghost use Rattle.a429_record.specs.Text.{rows_left, recording_left, stands_from, TakesHeader, GivesNext, IfEntry, Follows};
+    ghost use Rattle.a429_record.specs.Handed.{HasNoRow, HasNoFault, AreHeader, AreEntryOf, AreGiven};
+    ghost use Rattle.a429_record.specs.Text.{IsFresh, rows_left, recording_left, TakesHeader, GivesNext, GivesFirst, GivesRow, IfEntry, Follows};
     ghost use Rattle.a429_record.specs.declared.fault.ReadFault.TheVariants as fault;
 
     /// Nothing was read.
     pub fn new(alloc: Global) -> Self
-        ensures ahead { ahead_of result.lines ≡ [] }
-        ensures count { result.count ≡ 0 }
-        ensures last { result.last ≡ 0 }
+        ensures { IsFresh result }
     {
         TextReader {
             alloc,
@@ -52,11 +49,13 @@ impl TextReader {
     pub fn header<R: Read>(&mut self, rec: &mut Tally<R>) -> Result<(), ReadFault>
         requires { has_failed rec.old ≡ false }
         ensures takes { TakesHeader (rows_left R.remaining self.old rec.old) (rows_left R.remaining self.new rec.new) result }
-        ensures lines { OnOk result (HandsOut (AreLines AreHeader) R.remaining self.old.lines rec.old self.new.lines rec.new) }
+        ensures lines { OnOk result (HandsRows AreHeader R.remaining self.old.lines rec.old self.new.lines rec.new) }
         ensures before { IsErrOf result fault.Device → FailsAfter HasNoRow R.remaining self.old.lines rec.old rec.new }
         ensures count { self.new.count ≡ self.old.count }
         ensures last { self.new.last ≡ self.old.last }
+        ensures room { OnOk result (room_of self.new.lines rec.new ≤ room_of self.old.lines rec.old) }
         ensures device { IsErrOf result fault.Device ↔ (has_failed rec.new ≡ true) }
+        ensures no_failed { result ≢ Err fault.Failed }
     {
         'lines: loop {
             match self.lines.next_line(rec, &mut self.line) {
@@ -78,15 +77,38 @@ impl TextReader {
         }
     }
 
+    /// Reads the header, and the entry behind it, where there is one.
+    pub fn first<R: Read>(&mut self, rec: &mut Tally<R>) -> Result<Option<Entry>, ReadFault>
+        requires { IsFresh self.old }
+        ensures gives { GivesFirst R.remaining self.old rec.old self.new rec.new result }
+        ensures lines { IfEntry result (λ e. HandsRows (AreGiven (e ∷ [])) R.remaining self.old.lines rec.old self.new.lines rec.new) }
+        ensures before { IsErrOf result fault.Device → FailsAfter HasNoFault R.remaining self.old.lines rec.old rec.new }
+        ensures follows { IfEntry result (λ e. Follows self.old self.new e) }
+        ensures room { IfEntry result (λ _. room_of self.new.lines rec.new < room_of self.old.lines rec.old) }
+        ensures device { IsErrOf result fault.Device ↔ (has_failed rec.new ≡ true) }
+        ensures no_failed { result ≢ Err fault.Failed }
+    {
+        if rec.failed() {
+            return Err(ReadFault::Device);
+        }
+        match self.header(rec) {
+            Ok(()) => {}
+            Err(fault) => return Err(fault),
+        }
+        self.next(rec)
+    }
+
     /// Reads the next entry, where there is one. The header was read before.
+    #[inline(always)]
     pub fn next<R: Read>(&mut self, rec: &mut Tally<R>) -> Result<Option<Entry>, ReadFault>
         requires { has_failed rec.old ≡ false }
         ensures gives { GivesNext (recording_left R.remaining self.old rec.old) (recording_left R.remaining self.new rec.new) result }
-        ensures lines { IfEntry result (λ e. HandsOut (AreLines (AreEntryOf e)) R.remaining self.old.lines rec.old self.new.lines rec.new) }
+        ensures lines { IfEntry result (λ e. HandsRows (AreEntryOf e) R.remaining self.old.lines rec.old self.new.lines rec.new) }
         ensures before { IsErrOf result fault.Device → FailsAfter HasNoRow R.remaining self.old.lines rec.old rec.new }
         ensures follows { IfEntry result (λ e. Follows self.old self.new e) }
         ensures room { IfEntry result (λ _. room_of self.new.lines rec.new < room_of self.old.lines rec.old) }
         ensures device { IsErrOf result fault.Device ↔ (has_failed rec.new ≡ true) }
+        ensures no_failed { result ≢ Err fault.Failed }
     {
         if let Some(entry) = self.plain_entry() {
             return self.take_row(Some(entry));
@@ -123,11 +145,11 @@ impl TextReader {
 
     // Takes a row for the next entry, which it may not be.
     fn take_row(&mut self, row: Option<Entry>) -> Result<Option<Entry>, ReadFault>
-        ensures gives { (r : Row) (rows : List Row) → entry_in r ≡ row → GivesNext (Some (stands_from self.old (r ∷ rows))) (Some (stands_from self.new rows)) result }
+        ensures gives { GivesRow self.old row self.new result }
         ensures entry { IfOk result (λ o. o ≡ row) }
         ensures follows { IfEntry result (λ e. Follows self.old self.new e) }
         ensures lines { self.new.lines ≡ self.old.lines }
-        ensures err { IfErr result (λ f. f ≢ fault.Device) }
+        ensures err { IfErr result (λ f. (f ≢ fault.Device) × (f ≢ fault.Failed)) }
     {
         if self.count == MOST_ENTRIES {
             return Err(ReadFault::TooMany);

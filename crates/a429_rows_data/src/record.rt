@@ -2,6 +2,7 @@
 
 ghost use Rattle.std.specs.Prelude.{◌≡◌};
 
+mod entries;
 mod reading;
 mod writing;
 

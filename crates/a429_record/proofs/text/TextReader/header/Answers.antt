@@ -1,4 +1,4 @@
-use Rattle.std.proofs.Common.{◌≡◌, ◌∷◌, [], Some, None, true, false, Err, refl, sym, ap, ◌∙◌, rules}
+use Rattle.std.proofs.Common.{◌≡◌, ◌∷◌, [], Some, None, true, false, Err, refl, sym, ap, ◌∙◌, rules, arith}
 use Rattle.csv.specs.Records.{fields_of}
 use Rattle.a429_record.specs.declared.fault.ReadFault.TheVariants as fault
 use Rattle.a429_record.specs.Row.{Row, is_header, line_rows}
@@ -30,6 +30,7 @@ lines-preserved g c =
       blank = blank_lost (pending_of g.R.Read.remaining c.args.self.now.lines c.args.rec.now) (pending_of g.R.Read.remaining c.lines.self.lines c.lines.rec) (pending_of g.R.Read.remaining c.next_line.new.self c.next_line.new.rec) c.next_line.new.line.items c.lines.invariant.blank (c.in-Ok-true.ensures.takes c.in-Ok-true.field-0-test) (sym none);
       count = c.lines.invariant.count;
       last = c.lines.invariant.last;
+      room = omega (arith, c.lines.invariant.room, c.in-Ok-true.ensures.room c.in-Ok-true.field-0-test);
       works = search rules;
     }
 

@@ -1,4 +1,4 @@
-use Rattle.std.proofs.Common.{◌≡◌, [], false}
+use Rattle.std.proofs.Common.{◌≡◌, ◌≤◌, [], false}
 use Rattle.a429_word.specs.Tally.{has_failed}
 use Rattle.a429_record.specs.Lines.{pending_of, room_of}
 use Rattle.a429_record.specs.Handed.{Loses, AreLines}
@@ -12,6 +12,7 @@ invariant-lines g l = record {
   blank : Loses (AreLines (λ rows. rows ≡ [])) (pending_of g.R.Read.remaining l.initial.self.lines l.initial.rec) (pending_of g.R.Read.remaining l.self.lines l.rec);
   count : l.self.count ≡ l.initial.self.count;
   last : l.self.last ≡ l.initial.self.last;
+  room : room_of l.self.lines l.rec ≤ room_of l.initial.self.lines l.initial.rec;
   works : has_failed l.rec ≡ false;
 }
 

@@ -1,0 +1,44 @@
+-- What contracts see of a reader of entries (profile).
+use Rattle.std.specs.Prelude.{◌≡◌, ◌≤◌, ◌+◌, ℕ, List, Bool, false, Option}
+use Rattle.a429_word.specs.declared.tally.Tally.{Tally}
+use Rattle.a429_word.specs.Tally.{has_failed, unread}
+use Rattle.a429_record.specs.declared.entry.Entry.{Entry}
+use Rattle.a429_record.specs.declared.stage.Stage.{Stage}
+use Rattle.a429_record.specs.declared.stage.Stage.TheVariants as stage
+use Rattle.a429_record.specs.declared.reading.Reading.{Reading}
+use Rattle.a429_record.specs.Recording.{Recording, most_entries}
+use Rattle.a429_record.specs.Lines.{pending_of, room_of}
+use Rattle.a429_record.specs.Reading.{still_to_come}
+
+-- what is still to come, where the bytes are known; where the reading stands; how many entries were given, and the time of the last;
+-- the bytes whose lines were not given, those of them that the reader has still to give, and how many may still be given; whether it has failed
+pub record EntriesLeft : Type 0 where
+  pub to_come : Option Recording
+  pub stage : Stage
+  pub count : ℕ
+  pub last : ℕ
+  pub bytes : Option (List ℕ)
+  pub unread : Option (List ℕ)
+  pub room : ℕ
+  pub failed : Bool
+
+-- what a reading has left of a reader
+abbrev pub entries_left : {R : Type 0} → (R → Option (List ℕ)) → Reading → Tally R → EntriesLeft
+entries_left remaining s rec = record {
+  to_come = still_to_come remaining s.stage s.text rec;
+  stage = s.stage;
+  count = s.text.count;
+  last = s.text.last;
+  bytes = pending_of remaining s.text.lines rec;
+  unread = unread remaining rec;
+  room = room_of s.text.lines rec;
+  failed = has_failed rec;
+}
+
+-- among the rows the reader has not failed
+abbrev pub IsWorking : {R : Type 0} → Reading → Tally R → Type 0
+IsWorking s rec = s.stage ≡ stage.Rows → has_failed rec ≡ false
+
+-- an entry comes next, no earlier than the last one, and is then the last one; so many a recording may have
+abbrev pub ComesNext : EntriesLeft → EntriesLeft → Entry → Type 0
+ComesNext old new e = (old.last ≤ e.time) × (new.last ≡ e.time) × (new.count ≡ old.count + 1) × (new.count ≤ most_entries)

@@ -1,0 +1,27 @@
+-- Where a reading stands, and what it answers there (profile).
+use Rattle.std.specs.Prelude.{◌≡◌, ◌≢◌, Bool, true, false, Option, Some, None, Result, Ok, Err}
+use Rattle.a429_record.specs.declared.entry.Entry.{Entry}
+use Rattle.a429_record.specs.declared.fault.ReadFault.{ReadFault}
+use Rattle.a429_record.specs.declared.fault.ReadFault.TheVariants as fault
+use Rattle.a429_record.specs.declared.stage.Stage.{Stage}
+use Rattle.a429_record.specs.declared.stage.Stage.TheVariants as stage
+
+-- neither the end nor a fault was answered
+abbrev pub goes_on : Stage → Bool
+goes_on stage.Begins = true
+goes_on stage.Rows = true
+goes_on stage.Ended = false
+goes_on stage.Failed = false
+
+-- where a reading stands after an answer
+abbrev pub stage_after : Result (Option Entry) ReadFault → Stage
+stage_after (Ok (Some e)) = stage.Rows
+stage_after (Ok None) = stage.Ended
+stage_after (Err f) = stage.Failed
+
+-- after the end comes the end again, after a fault the fault `Failed`, which comes nowhere else
+abbrev pub AnswersAt : Stage → Result (Option Entry) ReadFault → Type 0
+AnswersAt stage.Begins r = r ≢ Err fault.Failed
+AnswersAt stage.Rows r = r ≢ Err fault.Failed
+AnswersAt stage.Ended r = r ≡ Ok None
+AnswersAt stage.Failed r = r ≡ Err fault.Failed

@@ -1,0 +1,84 @@
+//! A recording, read entry by entry.
+
+ghost use Rattle.std.specs.Prelude.{◌≡◌, ◌↔◌, ◌<◌, Bool, true, false, Option, option_map, IsErrOf};
+ghost use Rattle.a429_word.specs.Tally.{has_failed, left_of, unread};
+
+use crate::entry::Entry;
+use crate::fault::ReadFault;
+use crate::reading::Reading;
+use a429_word::{Failing, Tally};
+use std::alloc::Global;
+use std::io::Read;
+use std::marker::Model;
+
+/// A reader of a recording's entries, one after the other. As a device it has failed where the reader
+/// that it owns has.
+#[derive(Drop)]
+pub struct EntryReader<R: Read> {
+    reading: Reading,
+    rec: Tally<R>,
+}
+
+impl<R: Read> Model for EntryReader<R> {
+    ghost use Rattle.a429_record.specs.Entries.{EntriesLeft};
+
+    ghost Value = { EntriesLeft };
+
+    ghost use Rattle.a429_record.specs.Entries.{entries_left, IsWorking};
+
+    ghost view = { λ r. entries_left R.remaining r.reading r.rec };
+
+    ghost invariant = { λ r. IsWorking r.reading r.rec };
+}
+
+impl<R: Read> Failing for EntryReader<R> {
+    ghost failed = { λ r. r.failed };
+
+    fn failed(&self) -> bool {
+        self.rec.failed()
+    }
+}
+
+impl<R: Read> EntryReader<R> {
+    ghost use Rattle.a429_record.specs.Recording.{stands_for};
+    ghost use Rattle.a429_record.specs.Handed.{Loses};
+    ghost use Rattle.a429_record.specs.Reading.{AreHandedAt, PassesAt};
+    ghost use Rattle.a429_record.specs.Stage.{goes_on, stage_after, AnswersAt};
+    ghost use Rattle.a429_record.specs.Text.{GivesNext, IfEntry};
+    ghost use Rattle.a429_record.specs.Entries.{ComesNext};
+    ghost use Rattle.a429_record.specs.declared.fault.ReadFault.TheVariants as fault;
+    ghost use Rattle.a429_record.specs.declared.stage.Stage.TheVariants as at;
+
+    /// Nothing was read of `rec`.
+    pub fn new(alloc: Global, rec: Tally<R>) -> EntryReader<R>
+        ensures to_come { result.to_come ≡ option_map stands_for (unread R.remaining rec) }
+        ensures begins { (result.stage ≡ at.Begins) × (result.count ≡ 0) × (result.last ≡ 0) }
+        ensures bytes { (result.bytes ≡ unread R.remaining rec) × (result.unread ≡ unread R.remaining rec) }
+        ensures room { result.room ≡ left_of rec }
+        ensures failed { result.failed ≡ has_failed rec }
+    {
+        EntryReader {
+            reading: Reading::new(alloc),
+            rec,
+        }
+    }
+
+    /// The next entry, or none at the end; the first call reads the header too. After the end there is
+    /// none again, and after a fault every call answers `Failed`, which comes nowhere else. `Device` is
+    /// answered where the reader has failed, and no line makes a fault that it handed out before with its
+    /// line feed, `OutOfMemory` where memory was refused, and any other fault where it is the recording's
+    /// first.
+    pub fn next(&mut self) -> Result<Option<Entry>, ReadFault>
+        ensures gives { GivesNext self.old.to_come self.new.to_come result }
+        ensures answers { AnswersAt self.old.stage result }
+        ensures stage { self.new.stage ≡ stage_after result }
+        ensures follows { IfEntry result (λ e. ComesNext self.old self.new e) }
+        ensures lines { IfEntry result (λ e. Loses (AreHandedAt self.old.stage e) self.old.bytes self.new.bytes) }
+        ensures before { IsErrOf result fault.Device → Loses (PassesAt self.old.stage) self.old.bytes self.new.unread }
+        ensures room { IfEntry result (λ _. self.new.room < self.old.room) }
+        ensures device { IsErrOf result fault.Device ↔ (goes_on self.old.stage ≡ true) × (self.new.failed ≡ true) }
+        ensures stays { goes_on self.old.stage ≡ false → self.new ≡ self.old }
+    {
+        self.reading.next(&mut self.rec)
+    }
+}

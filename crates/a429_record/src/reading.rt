@@ -1,0 +1,71 @@
+//! One reading of a recording, answer by answer.
+
+ghost use Rattle.std.specs.Prelude.{◌≡◌, ◌↔◌, ◌<◌, true, false, IsErrOf};
+ghost use Rattle.a429_word.specs.Tally.{has_failed};
+ghost use Rattle.a429_record.specs.Text.{IsFresh};
+ghost use Rattle.a429_record.specs.declared.stage.Stage.TheVariants as at;
+
+use crate::entry::Entry;
+use crate::fault::ReadFault;
+use crate::stage::Stage;
+use crate::text::TextReader;
+use a429_word::Tally;
+use std::alloc::Global;
+use std::io::Read;
+
+/// How far a recording was read, and what was answered last.
+#[derive(Drop)]
+pub struct Reading {
+    text: TextReader,
+    stage: Stage,
+    ghost fresh: { stage ≡ at.Begins → IsFresh text },
+}
+
+impl Reading {
+    ghost use Rattle.a429_record.specs.Lines.{room_of};
+    ghost use Rattle.a429_record.specs.Text.{IfEntry, Follows};
+    ghost use Rattle.a429_record.specs.Stage.{goes_on, stage_after, AnswersAt};
+    ghost use Rattle.a429_record.specs.Reading.{Gives, HandsEntry, FailsBehind};
+    ghost use Rattle.a429_record.specs.declared.fault.ReadFault.TheVariants as fault;
+
+    /// Nothing was read.
+    pub fn new(alloc: Global) -> Self
+        ensures { result.stage ≡ at.Begins }
+    {
+        Reading {
+            text: TextReader::new(alloc),
+            stage: Stage::Begins,
+        }
+    }
+
+    /// Reads the next entry, where there is one; the header before the first. After the end there is
+    /// none, and after a fault comes the fault `Failed`.
+    #[inline(always)]
+    pub fn next<R: Read>(&mut self, rec: &mut Tally<R>) -> Result<Option<Entry>, ReadFault>
+        requires { self.old.stage ≡ at.Rows → has_failed rec.old ≡ false }
+        ensures gives { Gives R.remaining self.old rec.old self.new rec.new result }
+        ensures answers { AnswersAt self.old.stage result }
+        ensures stage { self.new.stage ≡ stage_after result }
+        ensures lines { IfEntry result (λ e. HandsEntry R.remaining self.old rec.old self.new rec.new e) }
+        ensures before { IsErrOf result fault.Device → FailsBehind R.remaining self.old rec.old rec.new }
+        ensures follows { IfEntry result (λ e. Follows self.old.text self.new.text e) }
+        ensures room { IfEntry result (λ _. room_of self.new.text.lines rec.new < room_of self.old.text.lines rec.old) }
+        ensures device { IsErrOf result fault.Device ↔ (goes_on self.old.stage ≡ true) × (has_failed rec.new ≡ true) }
+        ensures stays { goes_on self.old.stage ≡ false → (self.new ≡ self.old) × (rec.new ≡ rec.old) }
+    {
+        match self.stage {
+            Stage::Begins => {
+                let answer = self.text.first(rec);
+                self.stage = Stage::after(&answer);
+                answer
+            }
+            Stage::Rows => {
+                let answer = self.text.next(rec);
+                self.stage = Stage::after(&answer);
+                answer
+            }
+            Stage::Ended => Ok(None),
+            Stage::Failed => Err(ReadFault::Failed),
+        }
+    }
+}
