@@ -10,6 +10,8 @@ pub mod ReadingWords
 pub mod WritingFacts
 pub mod LineShape
 pub mod LinesFacts
+pub mod LineReaderFacts
+pub mod CutFacts
 pub mod PassingText
 pub mod PassingStep
 pub mod ExplainedFacts

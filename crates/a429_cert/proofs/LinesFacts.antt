@@ -1,29 +1,30 @@
 -- The lines of a text, one after the other.
-use Rattle.std.proofs.Common.{◌≡◌, ◌⊎◌, inl, inr, ℕ, zero, suc, ◌+◌, ◌≤◌, ◌<◌, ◌==◌, List, [], ◌∷◌, length, take, drop, Bool, true, false, Option, Some, None, slice_get, refl, ap, subst, arith}
+use Rattle.std.proofs.Common.{◌≡◌, ◌⊎◌, inl, inr, ℕ, zero, suc, ◌+◌, ◌≤◌, ◌<◌, ◌==◌, List, [], ◌∷◌, ◌++◌, append-nil, length, take, drop, Bool, true, false, Option, Some, None, slice_get, refl, sym, ap, ◌∙◌, subst, arith}
 use Rattle.std.proofs.lemmas.List.{drop-drop, length-drop}
 use Rattle.memchr.specs.Find.{is_byte, Passes, IsFirstByte}
 use Rattle.a429_cert.specs.Lines.{certificate_lines}
 
 -- ---- where a line ends
 
-not_true : (b : Bool) → (b ≡ true → ⊥) → b ≡ false
+pub not_true : (b : Bool) → (b ≡ true → ⊥) → b ≡ false
 not_true true h = absurd (h refl)
 not_true false h = refl
 
--- the line before the first line feed
-first_line : (bs : List ℕ) (n : ℕ) → n < length bs → ((k : ℕ) → 0 ≤ k → k < n → Passes (is_byte 10) bs k → ⊥) → Passes (is_byte 10) bs n → certificate_lines bs ≡ Some (take n bs) ∷ certificate_lines (drop (suc n) bs)
-first_line [] n h before here = absurd (omega arith)
-first_line (b ∷ bs) zero h before here = rw here refl
-first_line (b ∷ bs) (suc n) h before here =
+-- the line before the first line feed of some bytes, whatever comes behind them
+pub first_line : (bs z : List ℕ) (n : ℕ) → n < length bs → ((k : ℕ) → 0 ≤ k → k < n → Passes (is_byte 10) bs k → ⊥) → Passes (is_byte 10) bs n
+    → certificate_lines (bs ++ z) ≡ Some (take n bs) ∷ certificate_lines (drop (suc n) bs ++ z)
+first_line [] z n h before here = absurd (omega arith)
+first_line (b ∷ bs) z zero h before here = rw here refl
+first_line (b ∷ bs) z (suc n) h before here =
     let other : (b == 10) ≡ false = not_true (b == 10) (before 0 (omega arith) (omega arith)) in
-    rw (other, first_line bs n (omega arith) (λ k least below. before (suc k) (omega arith) (omega arith)) here) refl
+    rw (other, first_line bs z n (omega arith) (λ k least below. before (suc k) (omega arith) (omega arith)) here) refl
 
 longer : (b : ℕ) (bs : List ℕ) → (b == 10) ≡ false → (bs ≡ []) ⊎ (certificate_lines bs ≡ None ∷ []) → certificate_lines (b ∷ bs) ≡ None ∷ []
 longer b bs other (inl none) = rw (other, none) refl
 longer b bs other (inr line) = rw (other, line) refl
 
 -- a text without a line feed
-no_line : (bs : List ℕ) → ((k : ℕ) → 0 ≤ k → k < length bs → Passes (is_byte 10) bs k → ⊥) → (bs ≡ []) ⊎ (certificate_lines bs ≡ None ∷ [])
+pub no_line : (bs : List ℕ) → ((k : ℕ) → 0 ≤ k → k < length bs → Passes (is_byte 10) bs k → ⊥) → (bs ≡ []) ⊎ (certificate_lines bs ≡ None ∷ [])
 no_line [] before = inl refl
 no_line (b ∷ bs) before = inr (longer b bs (not_true (b == 10) (before 0 (omega arith) (omega arith))) (no_line bs (λ k least below. before (suc k) (omega arith) (omega arith))))
 
@@ -37,7 +38,7 @@ pub record BeginsAt (bs : List ℕ) (n : ℕ) : Type 0 where
 pub ends_at : (bs : List ℕ) (r : Option ℕ) (n : ℕ) → IsFirstByte (is_byte 10) bs r → r ≡ Some n → BeginsAt bs n
 ends_at bs r n h e =
     let found = subst (IsFirstByte (is_byte 10) bs) e h in
-    record { inside = found.0.high; lines = first_line bs n found.0.high found.0.before found.1 }
+    record { inside = found.0.high; lines = ap certificate_lines (sym (append-nil bs)) ∙ first_line bs [] n found.0.high found.0.before found.1 ∙ ap (λ (l : List ℕ). Some (take n bs) ∷ certificate_lines l) (append-nil (drop (suc n) bs)) }
 
 pub unended : (bs : List ℕ) (r : Option ℕ) (empty : Bool) → IsFirstByte (is_byte 10) bs r → r ≡ None → empty ≡ (length bs == 0) → empty ≡ false → certificate_lines bs ≡ None ∷ []
 unended bs r empty h e is not = only (no_line bs (subst (IsFirstByte (is_byte 10) bs) e h))

@@ -15,7 +15,7 @@ use Rattle.a429_cert.specs.declared.fault.CertFault.{CertFault}
 use Rattle.a429_cert.specs.declared.fault.CertFault.TheVariants as of
 use Rattle.a429_cert.specs.Line.{spelling, SpellsLine}
 use Rattle.a429_cert.specs.Lines.{certificate_lines}
-use Rattle.a429_cert.specs.Explained.{ldu_of, step_of, ShowsStates, ListsStep, ListsSteps, Explains}
+use Rattle.a429_cert.specs.Explained.{listed_ldu, step_of, ShowsStates, ListsStep, ListsSteps, Explains}
 use Rattle.a429_cert.specs.Act.{step_with}
 use Rattle.a429_cert.specs.Fault.{HasVersion, HasFirst, IsOfAStep, IsFaultOfStep, IsFaultOfLine, IsFaultAt, IsLaterFault, IsFirstCertFault}
 use Rattle.a429_cert.proofs.ReadingFacts.{one-line}
@@ -52,7 +52,7 @@ alike act.Silent next other a b e h = silent step.Silent a b refl e h
 
 line_alike : (l : CertLine) (next other : Option Seen) (a b : Step) → step_of l next ≡ Some a → step_of l other ≡ Some b → Alike a b
 line_alike (First file) next other a b e h = absurd (cc e)
-line_alike (Load u) next other a b e h = silent (step.Load (ldu_of u)) a b refl e h
+line_alike (Load u) next other a b e h = silent (step.Load (listed_ldu u)) a b refl e h
 line_alike (Moved m) next other a b e h = alike m.act next other a b e h
 
 -- the first of two runs that begin with them: they are one, and the rest is alike

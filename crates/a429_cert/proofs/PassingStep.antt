@@ -27,8 +27,8 @@ use Rattle.a429_cert.specs.declared.line.CertLine.TheVariants.{Load, Moved}
 use Rattle.a429_cert.specs.declared.fault.CertFault.{CertFault}
 use Rattle.a429_cert.specs.declared.fault.CertFault.TheVariants as of
 use Rattle.a429_cert.specs.Fault.{IsNamed}
-use Rattle.a429_cert.specs.Passing.{IsNamedOf, IsStepFault, IsFaultOfRead, MakesStep, RefusesLine, no_unit}
-use Rattle.a429_cert.specs.Explained.{ldu_of}
+use Rattle.a429_cert.specs.Passing.{IsNamedOf, IsReadyOf, IsStepFault, IsFaultOfRead, MakesStep, RefusesLine, no_unit}
+use Rattle.a429_cert.specs.Explained.{listed_ldu}
 use Rattle.a429_cert.proofs.Options.{some_is}
 
 -- ---- a step by its letter
@@ -100,20 +100,20 @@ sent_named p i s n = named_of p act.Sent (Some i) (step.Sent i) s refl n
 pub answered_named : (p : Contents) (i : Seen) (s : State) → IsNamedStep p (step.Answered i) s → IsNamedOf p act.Answered s
 answered_named p i s n = named_of p act.Answered (Some i) (step.Answered i) s refl n
 
-pub free_named : (p : Contents) (s : State) → IsNamedOf p act.FreeSeen s
+free_named : (p : Contents) (s : State) → IsNamedOf p act.FreeSeen s
 free_named p s = let word : Seen = record { bus = bus.A; word = 0 } in (Some word, (step.FreeSeen word, refl, free_word p.codes))
 
--- the letters that want an entry are three
-pub unlettered : (p : Contents) (x : Act) (s : State) → step_with x None ≡ None → x ≢ act.Sent → x ≢ act.Answered → IsNamedOf p x s
-unlettered p act.Sent s e a b = absurd (a refl)
-unlettered p act.Answered s e a b = absurd (b refl)
-unlettered p act.FreeSeen s e a b = free_named p s
-unlettered p act.SentLost s e a b = absurd (cc e)
-unlettered p act.TimeOut s e a b = absurd (cc e)
-unlettered p act.TakeAnswer s e a b = absurd (cc e)
-unlettered p act.LoseAnswer s e a b = absurd (cc e)
-unlettered p act.SinkTakes s e a b = absurd (cc e)
-unlettered p act.Silent s e a b = absurd (cc e)
+-- of the letters that want an entry the third is that of a free word
+pub ready_other : (p : Contents) (x : Act) (s : State) → x ≢ act.Sent → x ≢ act.Answered → IsReadyOf p x s
+ready_other p act.Sent s a b = absurd (a refl)
+ready_other p act.Answered s a b = absurd (b refl)
+ready_other p act.FreeSeen s a b = free_named p s
+ready_other p act.SentLost s a b = tt
+ready_other p act.TimeOut s a b = tt
+ready_other p act.TakeAnswer s a b = tt
+ready_other p act.LoseAnswer s a b = tt
+ready_other p act.SinkTakes s a b = tt
+ready_other p act.Silent s a b = tt
 
 -- ---- link data units
 
@@ -138,8 +138,8 @@ unit_refused p is s at l f e g first = λ h. rw g (by f first (λ q. h (g ∙ q)
   where
     none : (f : LduFault) → IsFirstLduFault p l.check l.words f → IsNamed p (Load l) s → ⊥
     none f first m =
-        let can : Can p (step.Load (ldu_of l)) s = subst (λ b. Can p b s) (sym (some_is _ m.1.0 m.1.1)) m.1.2 in
-        no_unit_is p is (ldu_of l) f first can.3
+        let can : Can p (step.Load (listed_ldu l)) s = subst (λ b. Can p b s) (sym (some_is _ m.1.0 m.1.1)) m.1.2 in
+        no_unit_is p is (listed_ldu l) f first can.3
 
     by : (f : LduFault) → (f ≢ unit.OutOfMemory → IsFirstLduFault p l.check l.words f) → (no_unit f at.line ≢ of.OutOfMemory) → IsFaultOfRead p s at.next at.line at.entry (Load l) (no_unit f at.line)
     by unit.Count first h = (tt, (refl, none unit.Count (first (λ q. cc q))))

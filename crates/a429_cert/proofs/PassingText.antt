@@ -1,5 +1,5 @@
 -- The lines of steps, by their first letter.
-use Rattle.std.proofs.Common.{◌≡◌, ◌≢◌, ◌==◌, ◌∙◌, inl, inr, ℕ, List, [], ◌∷◌, Option, Some, None, option_map, refl, sym, ap, subst}
+use Rattle.std.proofs.Common.{◌≡◌, ◌≢◌, ◌==◌, ◌∙◌, inl, inr, ℕ, List, [], ◌∷◌, Option, Some, None, option_map, Result, Ok, Err, IfOk, refl, sym, ap, subst}
 use Rattle.a429_profile.specs.Profile.{Contents}
 use Rattle.a429_link.specs.declared.seen.Seen.{Seen}
 use Rattle.a429_link.specs.State.{State}
@@ -10,7 +10,10 @@ use Rattle.a429_cert.specs.declared.fault.CertFault.TheVariants as of
 use Rattle.a429_cert.specs.Line.{SpellsLine}
 use Rattle.a429_cert.specs.Reading.{first_in, load_in, moved_in, line_in}
 use Rattle.a429_cert.specs.Fault.{IsOfAStep, IsFaultOfLine}
-use Rattle.a429_cert.specs.Passing.{IsFaultOfRead}
+use Rattle.a429_cert.specs.declared.at.At.{At}
+use Rattle.a429_cert.specs.declared.listed.Listed.{Listed}
+use Rattle.a429_cert.specs.declared.listed.Listed.TheVariants as listed
+use Rattle.a429_cert.specs.Passing.{IsFaultOfRead, IsStepOfLine, Lists, RefusesListed, RefusesText}
 use Rattle.a429_cert.proofs.ReadingFacts.{line-back}
 use Rattle.a429_cert.proofs.FieldNumbers.{is_same}
 use Rattle.a429_cert.proofs.Options.{some_is, split}
@@ -58,3 +61,21 @@ fault-read p s next n i text l (of.StateDiffers m) spells is h = (l, spells, h.0
 fault-read p s next n i text l (of.WordDiffers m j) spells is h = (l, spells, h.0, h.1)
 fault-read p s next n i text l (of.Unfinished j) spells is h = (l, spells, h.0, h.1)
 fault-read p s next n i text l of.OutOfMemory spells is h = (l, spells, h.0, h.1)
+
+-- the step that a line lists is that of a line of a step
+lists-step : (x : Listed) (l : CertLine) → IsStepOfLine x l → IsOfAStep l
+lists-step (listed.Load u) (Load l) h = tt
+lists-step (listed.Load u) (First n) h = h
+lists-step (listed.Load u) (Moved m) h = tt
+lists-step (listed.Moved m) (Moved l) h = tt
+lists-step (listed.Moved m) (First n) h = h
+lists-step (listed.Moved m) (Load l) h = tt
+
+pub fault-listed : (p : Contents) (text : Option (List ℕ)) (x : Listed) (at : At) (s : State) (f : CertFault) → Lists p text x s → RefusesListed p x at s f → RefusesText p text at s f
+fault-listed p None x at s f h r = absurd h.1
+fault-listed p (Some text) x at s f h r = λ z. fault-read p s at.next at.line at.entry text h.0 f h.1 (lists-step x h.0 h.2) (r h.0 h.2 z)
+
+-- what lists a step in each state lists it in this one
+pub listed_here : (r : Result Listed CertFault) (p : Contents) (text : Option (List ℕ)) (s : State) → IfOk r (λ x. (s : State) → Lists p text x s) → IfOk r (λ x. Lists p text x s)
+listed_here (Ok x) p text s h = h s
+listed_here (Err f) p text s h = tt

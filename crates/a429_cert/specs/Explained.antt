@@ -27,13 +27,13 @@ items_of entries = map seen_of entries
 -- ---- the step of a line
 
 -- the link data unit of a line
-abbrev pub ldu_of : LoadLine → LduValue
-ldu_of l = record { gfi = l.gfi; flags = l.flags; check = l.check; words = l.words }
+abbrev pub listed_ldu : LoadLine → LduValue
+listed_ldu l = record { gfi = l.gfi; flags = l.flags; check = l.check; words = l.words }
 
 -- the step of a line; the line of the first file number has none
 abbrev pub step_of : CertLine → Option Seen → Option Step
 step_of (First file) next = None
-step_of (Load l) next = Some (step.Load (ldu_of l))
+step_of (Load l) next = Some (step.Load (listed_ldu l))
 step_of (Moved l) next = step_with l.act next
 
 -- a line of a step writes the phases after it, and how many words are on their way

@@ -8,3 +8,6 @@ pub mod Lines
 pub mod Explained
 pub mod Fault
 pub mod Passing
+pub mod CutLines
+pub mod LineReader
+pub mod Shelf

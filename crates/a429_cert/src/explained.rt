@@ -1,6 +1,6 @@
 //! Certificates, held against recordings.
 
-ghost use Rattle.std.specs.Prelude.{◌≡◌, ◌≢◌, ◌≤◌, ℕ, Some, IfOk, IfErr, option_and_then, option_map, slice_get, true, false};
+ghost use Rattle.std.specs.Prelude.{◌≡◌, ◌≢◌, ◌≤◌, ℕ, Some, IfOk, IfErr, option_and_then, option_map, true, false};
 ghost use Rattle.a429_cert.specs.declared.line.CertLine.TheVariants.{First};
 ghost use Rattle.a429_cert.specs.Line.{spelling};
 ghost use Rattle.a429_cert.specs.Lines.{line_bytes, version};
@@ -8,13 +8,14 @@ ghost use Rattle.a429_cert.specs.Explained.{items_of, IsExplained, AreInEveryRun
 ghost use Rattle.a429_cert.specs.Fault.{file_in, Begins, IsNoFirst, IsFaultOfHead, IsFirstCertFault, UnlessMemory};
 
 use crate::at::At;
+use crate::entry::seen_at;
 use crate::fault::CertFault;
 use crate::line::CertLine;
 use crate::lines::{Lines, TextLine};
 use crate::passing::pass;
 use crate::reading::read_line;
 use crate::verified::Verified;
-use a429_link::{Link, Seen};
+use a429_link::Link;
 use a429_profile::Profile;
 use a429_record::Entry;
 use std::alloc::Global;
@@ -104,15 +105,4 @@ fn file_of(line: Option<CertLine>) -> Option<u8>
         CertLine::First(file) => Some(file),
         _ => None,
     }
-}
-
-// What was recorded in entry i, if there is one.
-fn seen_at(entries: &[Entry], i: usize) -> Option<Seen>
-    ensures { result ≡ slice_get (items_of entries.now) i }
-{
-    let entry = entries.get(i)?;
-    Some(Seen {
-        bus: entry.bus,
-        word: entry.word,
-    })
 }

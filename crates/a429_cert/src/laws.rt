@@ -9,8 +9,9 @@ ghost use Rattle.a429_link.specs.declared.step.Step.{Step};
 ghost use Rattle.a429_cert.specs.declared.fault.CertFault.{CertFault};
 ghost use Rattle.a429_cert.specs.declared.line.CertLine.{CertLine};
 ghost use Rattle.a429_cert.specs.Line.{spelling, IsLine, IsHeld, SpellsLine, Reads};
+ghost use Rattle.a429_cert.specs.CutLines.{cut};
 ghost use Rattle.a429_cert.specs.Explained.{Explains, IsExplained, AreInSomeRun};
-ghost use Rattle.a429_cert.specs.Fault.{IsFirstCertFault};
+ghost use Rattle.a429_cert.specs.Fault.{IsFirstCertFault, SaysLine};
 
 /// A line has one spelling, and no two lines have the same.
 pub fn a_line_has_one_spelling()
@@ -32,6 +33,13 @@ pub fn read_is_written_back()
 pub fn lines_are_short_ascii()
     ensures ascii { (l : CertLine) → IsLine l → IsHeld l → AllByRecursion (λ b. (32 ≤ b) × (b ≤ 126)) (spelling l) }
     ensures short { (l : CertLine) → IsLine l → IsHeld l → length (spelling l) ≤ 2287 }
+{}
+
+/// What `read_line` reads as a line has at most 2,287 bytes, so a `LineReader` cuts no line of a certificate that
+/// explains a recording.
+pub fn lines_are_not_cut()
+    ensures read { (text : List ℕ) (l : CertLine) → Reads text (Some l) → length text ≤ 2287 }
+    ensures line { (line : Option (List ℕ)) (l : CertLine) → SaysLine line l → cut line ≡ line }
 {}
 
 /// What explains a recording has no fault, so `verify` refuses it for want of memory alone.

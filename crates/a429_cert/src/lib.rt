@@ -3,14 +3,18 @@
 
 mod act;
 mod at;
+mod entry;
 mod explained;
 mod fault;
 mod field;
 pub mod laws;
 mod line;
+mod line_reader;
 mod lines;
+mod listed;
 mod passing;
 mod reading;
+mod shelf;
 mod short;
 mod states;
 mod verified;
@@ -18,10 +22,14 @@ mod words;
 mod writing;
 
 pub use crate::act::{Act, letter_of};
+pub use crate::entry::seen;
 pub use crate::explained::verify;
 pub use crate::fault::{CertFault, OutOfMemory};
 pub use crate::line::{CertLine, LoadLine, MovedLine};
+pub use crate::line_reader::LineReader;
+pub use crate::lines::TextLine;
 pub use crate::reading::read_line;
+pub use crate::shelf::{MemoryShelf, NoShelf, PutFile, Shelf, ShelfFault};
 pub use crate::verified::Verified;
 pub use crate::words::Words;
 pub use crate::writing::write_line;

@@ -3,18 +3,20 @@
 ghost use Rattle.std.specs.Prelude.{◌≡◌, ◌≢◌, ◌∷◌, Some, None, IfOk, IfErr, OnOk, true, false};
 ghost use Rattle.a429_profile.specs.Profile.{IsProfile};
 ghost use Rattle.a429_link.specs.Step.{Can, IsNamedStep, LoadsLdu};
-ghost use Rattle.a429_link.specs.State.{states_of};
+ghost use Rattle.a429_link.specs.State.{State, states_of};
 ghost use Rattle.a429_link.specs.declared.step.Step.TheVariants as step;
+ghost use Rattle.a429_cert.specs.declared.at.At.{At};
 ghost use Rattle.a429_cert.specs.Line.{IsLine};
 ghost use Rattle.a429_cert.specs.Lines.{line_bytes};
 ghost use Rattle.a429_cert.specs.Act.{step_with};
-ghost use Rattle.a429_cert.specs.Passing.{IsNamedOf, IsStepFault, MakesStep, PassesLine, PassesText, RefusesLine, RefusesText, no_step, no_unit};
+ghost use Rattle.a429_cert.specs.Passing.{IsNamedOf, IsReady, IsReadyOf, IsStepFault, IsStepOfLine, Lists, MakesStep, PassesLine, PassesListed, PassesText, RefusesFirst, RefusesLine, RefusesListed, RefusesText, no_step, no_unit};
 
 use crate::act::{Act, step_with, used_by};
 use crate::at::At;
 use crate::fault::CertFault;
 use crate::line::{CertLine, LoadLine, MovedLine};
 use crate::lines::TextLine;
+use crate::listed::Listed;
 use crate::reading::{load_of, moved_of};
 use a429_ldu::{Ldu, LduFault};
 use a429_link::{Link, Seen, States, Step, StepFault};
@@ -38,51 +40,83 @@ pub fn pass(
     ensures refused { IfErr result (RefusesText profile.now (line_bytes line.entry) at link.old.state) }
     ensures kept { link.new.profile ≡ profile.now }
 {
-    let TextLine::Ended(text) = line else {
-        return Err(CertFault::Line(at.line));
-    };
-    match text {
-        [b'L', rest @ ..] => pass_load(alloc, profile, link, rest, at),
-        [letter, rest @ ..] => pass_moved(link, *letter, rest, at),
-        [] => Err(CertFault::Line(at.line)),
+    match list_step(alloc, profile, link, line, at.line) {
+        Ok(listed) => take_step(link, listed, at),
+        Err(fault) => Err(fault),
     }
 }
 
-// Takes the line of a link data unit, behind its letter. It uses no entry.
-fn pass_load(
+/// Reads the step that line n lists, before its entry is known, if it wants one: a step of its name may
+/// then be made here. The link stays as it is.
+#[inline(always)]
+pub fn list_step(
     alloc: Global,
     profile: &Profile,
     link: &mut Link<'_>,
-    text: &[u8],
-    at: At,
-) -> Result<usize, CertFault>
+    line: TextLine<'_>,
+    n: usize,
+) -> Result<Listed, CertFault>
     requires sound { IsProfile profile.now }
     requires profile { link.old.profile ≡ profile.now }
-    ensures passed { IfOk result (PassesText profile.now (Some (76 ∷ text.now)) at.next link.old.state link.new.state) }
-    ensures refused { IfErr result (RefusesText profile.now (Some (76 ∷ text.now)) at link.old.state) }
-    ensures kept { link.new.profile ≡ profile.now }
+    ensures listed { IfOk result (λ x. Lists profile.now (line_bytes line.entry) x link.old.state) }
+    ensures refused { IfErr result (RefusesFirst profile.now (line_bytes line.entry) n link.old.state) }
+    ensures unchanged { link.new ≡ link.old }
+{
+    let TextLine::Ended(text) = line else {
+        return Err(CertFault::Line(n));
+    };
+    match text {
+        [b'L', rest @ ..] => list_load(alloc, profile, rest, n),
+        [letter, rest @ ..] => list_moved(link, *letter, rest, n),
+        [] => Err(CertFault::Line(n)),
+    }
+}
+
+/// Takes the line of a certificate whose step was read: the link makes it with the next entry, if it wants
+/// one. Answers how many entries it uses, 0 or 1.
+#[inline(always)]
+pub fn take_step(link: &mut Link<'_>, listed: Listed, at: At) -> Result<usize, CertFault>
+    requires { IsReady link.old.profile listed link.old.state }
+    ensures passed { IfOk result (PassesListed link.old.profile listed at.next link.old.state link.new.state) }
+    ensures refused { IfErr result (RefusesListed link.old.profile listed at link.old.state) }
+    ensures kept { link.new.profile ≡ link.old.profile }
+{
+    match listed {
+        Listed::Load(unit) => {
+            if load(link, unit) {
+                Ok(0)
+            } else {
+                Err(CertFault::NotAllowed(at.line))
+            }
+        }
+        Listed::Moved(line) => take_moved(link, line, at),
+    }
+}
+
+// Reads the link data unit that line n lists behind its letter.
+fn list_load(alloc: Global, profile: &Profile, text: &[u8], n: usize) -> Result<Listed, CertFault>
+    requires { IsProfile profile.now }
+    ensures listed { IfOk result (λ x. (s : State) → Lists profile.now (Some (76 ∷ text.now)) x s) }
+    ensures refused { IfErr result (λ f. (s : State) → RefusesFirst profile.now (Some (76 ∷ text.now)) n s f) }
 {
     match load_of(alloc, text) {
-        Ok(Some(line)) => pass_unit(alloc, profile, link, line, at),
-        Ok(None) => Err(CertFault::Line(at.line)),
+        Ok(Some(line)) => list_unit(alloc, profile, line, n),
+        Ok(None) => Err(CertFault::Line(n)),
         Err(_) => Err(CertFault::OutOfMemory),
     }
 }
 
-// Takes the line of a link data unit, which was read. It uses no entry.
-fn pass_unit(
+// The link data unit of line n, which was read.
+fn list_unit(
     alloc: Global,
     profile: &Profile,
-    link: &mut Link<'_>,
     line: LoadLine,
-    at: At,
-) -> Result<usize, CertFault>
+    n: usize,
+) -> Result<Listed, CertFault>
     requires range { IsLine (CertLine.Load line) }
     requires sound { IsProfile profile.now }
-    requires profile { link.old.profile ≡ profile.now }
-    ensures passed { IfOk result (PassesLine profile.now (CertLine.Load line) at.next link.old.state link.new.state) }
-    ensures refused { IfErr result (RefusesLine profile.now (CertLine.Load line) at link.old.state) }
-    ensures kept { link.new.profile ≡ profile.now }
+    ensures listed { IfOk result (λ x. IsStepOfLine x (CertLine.Load line) × ((s : State) → IsReady profile.now x s)) }
+    ensures refused { IfErr result (λ f. (at : At) → at.line ≡ n → (s : State) → RefusesLine profile.now (CertLine.Load line) at s f) }
 {
     match Ldu::new(
         alloc,
@@ -92,36 +126,37 @@ fn pass_unit(
         line.check,
         line.words.as_slice(),
     ) {
-        Ok(unit) => {
-            if load(link, unit) {
-                Ok(0)
-            } else {
-                Err(CertFault::NotAllowed(at.line))
-            }
-        }
-        Err(fault) => Err(no_unit(fault, at.line)),
+        Ok(unit) => Ok(Listed::Load(unit)),
+        Err(fault) => Err(no_unit(fault, n)),
     }
 }
 
-// Takes the line of another step, its letter and what stands behind it. Answers how many entries it uses.
+// Reads the other step that line n lists, by its letter and what stands behind it.
 #[inline(always)]
-fn pass_moved(link: &mut Link<'_>, letter: u8, text: &[u8], at: At) -> Result<usize, CertFault>
+fn list_moved(link: &mut Link<'_>, letter: u8, text: &[u8], n: usize) -> Result<Listed, CertFault>
     requires { letter ≢ 76 }
-    ensures passed { IfOk result (PassesText link.old.profile (Some (letter ∷ text.now)) at.next link.old.state link.new.state) }
-    ensures refused { IfErr result (RefusesText link.old.profile (Some (letter ∷ text.now)) at link.old.state) }
-    ensures kept { link.new.profile ≡ link.old.profile }
+    ensures listed { IfOk result (λ x. Lists link.old.profile (Some (letter ∷ text.now)) x link.old.state) }
+    ensures refused { IfErr result (RefusesFirst link.old.profile (Some (letter ∷ text.now)) n link.old.state) }
+    ensures unchanged { link.new ≡ link.old }
 {
     match moved_of(letter, text) {
-        Some(line) => pass_step(link, &line, at),
-        None => Err(CertFault::Line(at.line)),
+        Some(line) => {
+            if may_record(link, line.act) {
+                Ok(Listed::Moved(line))
+            } else {
+                Err(CertFault::NotAllowed(n))
+            }
+        }
+        None => Err(CertFault::Line(n)),
     }
 }
 
 // Takes the line of another step, which was read. Answers how many entries it uses.
 #[inline(always)]
-fn pass_step(link: &mut Link<'_>, line: &MovedLine, at: At) -> Result<usize, CertFault>
-    ensures passed { IfOk result (PassesLine link.old.profile (CertLine.Moved line.now) at.next link.old.state link.new.state) }
-    ensures refused { IfErr result (RefusesLine link.old.profile (CertLine.Moved line.now) at link.old.state) }
+fn take_moved(link: &mut Link<'_>, line: MovedLine, at: At) -> Result<usize, CertFault>
+    requires { IsReadyOf link.old.profile line.act link.old.state }
+    ensures passed { IfOk result (PassesLine link.old.profile (CertLine.Moved line) at.next link.old.state link.new.state) }
+    ensures refused { IfErr result (RefusesLine link.old.profile (CertLine.Moved line) at link.old.state) }
     ensures kept { link.new.profile ≡ link.old.profile }
 {
     match make(link, line.act, at.next) {
@@ -177,27 +212,20 @@ fn load(link: &mut Link<'_>, unit: Ldu) -> bool
 
 // Makes the step of a letter with the next entry.
 fn make(link: &mut Link<'_>, act: Act, next: Option<Seen>) -> Result<(), StepFault>
+    requires { IsReadyOf link.old.profile act link.old.state }
     ensures made { OnOk result (MakesStep link.old.profile (step_with act next) link.old.state link.new.state) }
     ensures refused { IfErr result (λ e. IsStepFault link.old.profile act next link.old.state e) }
     ensures kept { link.new.profile ≡ link.old.profile }
 {
     match step_with(act, next) {
         Some(step) => link.apply(step),
-        None => {
-            if may_record(link, act) {
-                Err(StepFault::WordDiffers)
-            } else {
-                Err(StepFault::NotAllowed)
-            }
-        }
+        None => Err(StepFault::WordDiffers),
     }
 }
 
-// Whether a step of this letter, which uses an entry, may be made with some entry. The link stays as it
-// is.
+// Whether a step of this letter may be made with some entry, where it uses one. The link stays as it is.
 fn may_record(link: &mut Link<'_>, act: Act) -> bool
-    requires { step_with act None ≡ None }
-    ensures yes { result ≡ true → IsNamedOf link.old.profile act link.old.state }
+    ensures yes { result ≡ true → IsReadyOf link.old.profile act link.old.state }
     ensures no { result ≡ false → IsNamedOf link.old.profile act link.old.state → ⊥ }
     ensures unchanged { link.new ≡ link.old }
 {

@@ -8,7 +8,7 @@ use Rattle.a429_ldu.specs.Form.{form_of}
 use Rattle.a429_ldu.specs.Ldu.{LduValue, block_of}
 use Rattle.a429_ldu.proofs.FormFacts.{form_of-is}
 use Rattle.a429_link.specs.declared.seen.Seen.{Seen}
-use Rattle.a429_link.specs.Clean.{AllFit, IsRunOf, numbered, on_a, clean_blocks, clean_block, next_file, next_ldu, units_of_files, first_refused}
+use Rattle.a429_link.specs.Clean.{AllFit, IsRunOf, numbered, on_a, clean_blocks, clean_block, units_of_files, first_refused}
 use Rattle.a429_link.proofs.CleanFiles.{all_fit}
 use Rattle.a429_record.specs.Recording.{stands_for, whole, most_entries, NeverFalls}
 use Rattle.a429_record.specs.WholeRecordings.{AreEntries}
@@ -16,11 +16,14 @@ use Rattle.a429_record.specs.Writing.{written_form}
 use Rattle.a429_record.proofs.WrittenIsReadBack.{written-back}
 use Rattle.a429_cert.specs.Explained.{items_of}
 use Rattle.a429_explain.specs.Matching.{IsOfBlock}
-use Rattle.a429_explain.proofs.CleanBlock.{AreSaid, AreOfBlock, block_said}
-use Rattle.a429_explain.proofs.CleanGroups.{unit_said, file_small}
+use Rattle.a429_explain.proofs.CleanBlock.{HasForms, AreOfBlock, block_has_forms}
+use Rattle.a429_explain.proofs.CleanGroups.{unit_has_forms}
 use Rattle.a429_check.specs.Recording.{SayInput}
 use Rattle.a429_check.specs.Make.{timed, words_made, MakesRecording, AreByteLists, AreDelivered}
 use Rattle.a429_check.proofs.MakeCrossed.{is_profile, each_cut, made_cross}
+use Rattle.a429_link.specs.declared.number.UnitNumber.{UnitNumber}
+use Rattle.a429_link.specs.Number.{first_number, number_after}
+use Rattle.a429_link.proofs.NumberFacts.{next_byte}
 
 -- ---- entries of words
 
@@ -62,19 +65,19 @@ are_of_block : (p : Contents) → IsProfile p → (ws : List ℕ) → AreOfBlock
 are_of_block p is [] h = tt
 are_of_block p is (w ∷ ws) h = (of_block p is w (form_of p.codes bus.A w) refl h.0, are_of_block p is ws h.1)
 
-are_block : (p : Contents) → IsProfile p → (file ldu : ℕ) (u : LduValue) → AreSaid p file ldu u → AreSmall (clean_block p.codes file ldu u)
-are_block p is file ldu u s =
-    (formed p is bus.A _ _ s.request, (formed p is bus.B _ _ s.clear, are_append (map on_a (block_of p.codes u file ldu)) _ (are_of_block p is (block_of p.codes u file ldu) (block_said p file ldu u s)) (formed p is bus.B _ _ s.settled, tt)))
+are_block : (p : Contents) → IsProfile p → (place : UnitNumber) (u : LduValue) → HasForms p place u → AreSmall (clean_block p.codes place u)
+are_block p is place u s =
+    (formed p is bus.A _ _ s.request, (formed p is bus.B _ _ s.clear, are_append (map on_a (block_of p.codes u place.file place.ldu)) _ (are_of_block p is (block_of p.codes u place.file place.ldu) (block_has_forms p place u s)) (formed p is bus.B _ _ s.settled, tt)))
 
-are_clean : (p : Contents) → IsProfile p → (us : List LduValue) (file ldu : ℕ) → file ≤ 255 → AllFit p ldu us → AreSmall (clean_blocks p.codes file ldu us)
-are_clean p is [] file ldu f h = tt
-are_clean p is (u ∷ us) file ldu f h = are_append (clean_block p.codes file ldu u) _ (are_block p is file ldu u (unit_said p is file ldu u f h.1 h.0)) (are_clean p is us (next_file p.codes file u) (next_ldu p.codes ldu u) (file_small p.codes file u f) h.2)
+are_clean : (p : Contents) → IsProfile p → (us : List LduValue) (place : UnitNumber) → place.file ≤ 255 → AllFit p place us → AreSmall (clean_blocks p.codes place us)
+are_clean p is [] place f h = tt
+are_clean p is (u ∷ us) place f h = are_append (clean_block p.codes place u) _ (are_block p is place u (unit_has_forms p is place u f h.1 h.0)) (are_clean p is us (number_after p.codes place u) (next_byte p.codes place _ f) h.2)
 
 -- what is written of them stands for them
 pub made_back : (p : Contents) → IsProfile p → (files : List (List ℕ)) → AreByteLists files → first_refused 255 0 files ≡ None → length (words_made p files) ≤ most_entries → stands_for (written_form (timed 0 (words_made p files))) ≡ whole (timed 0 (words_made p files))
 made_back p is files small none room =
     let words = words_made p files in
-    let are = are_clean p is (units_of_files p 255 files) 1 p.codes.first_ldu (omega arith) (all_fit p 255 files (each_cut p is 0 files small none)) in
+    let are = are_clean p is (units_of_files p 255 files) (first_number p.codes 1) (omega arith) (all_fit p 255 files (each_cut p is 0 files small none) 1) in
     written-back (timed 0 words) (are_entries 0 words (omega arith) are) (omega (arith, length-timed 0 words), never_falls 0 0 words (omega arith))
 
 -- and what it says is what a run records that delivers the files

@@ -13,13 +13,15 @@ use Rattle.a429_ldu.specs.Filling.{data_words, fives}
 use Rattle.a429_ldu.proofs.CutPieces.{length-semis}
 use Rattle.a429_ldu.specs.declared.fault.CutFault.{CutFault}
 use Rattle.a429_link.specs.declared.fault.CleanFault.TheVariants as clean
-use Rattle.a429_link.specs.Clean.{clean_blocks, clean_block, clean_words, cut_fault, first_refused, refused_or, next_file, next_ldu, on_a, on_b, units_of_files}
+use Rattle.a429_link.specs.Clean.{clean_blocks, clean_block, clean_words, cut_fault, first_refused, refused_or, on_a, on_b, units_of_files}
 use Rattle.a429_record.specs.Recording.{most_entries}
 use Rattle.std.specs.Vec.{vec_len}
 use Rattle.a429_check.specs.declared.fault.RunFault.{RunFault}
 use Rattle.a429_check.specs.declared.fault.RunFault.TheVariants.{BadWord, Profile, Read, Cut, Device, Memory, Usage}
 use Rattle.a429_check.specs.Profile.{IsSomeProfile}
 use Rattle.a429_check.specs.Make.{words_made, AreTooMany, IsFilesFault, IsMakeFault, IsPutFault}
+use Rattle.a429_link.specs.declared.number.UnitNumber.{UnitNumber}
+use Rattle.a429_link.specs.Number.{first_number, number_after}
 
 -- ---- link data units
 
@@ -32,17 +34,16 @@ words_in-append : (us vs : List LduValue) → words_in (us ++ vs) ≡ words_in u
 words_in-append [] vs = omega arith
 words_in-append (u ∷ us) vs = let e = words_in-append us vs in omega arith
 
-length-block : (c : Codes) (file ldu : ℕ) (u : LduValue) → length (clean_block c file ldu u) ≡ length u.words + 5
-length-block c file ldu u =
-    let block = block_of c u file ldu in
-    omega (arith, length-append (map on_a block) (on_b (word_number c (Ack file ldu)) ∷ []), length-map block on_a, length-append u.words (word_number c (Eot u.flags u.check) ∷ []))
+length-block : (c : Codes) (place : UnitNumber) (u : LduValue) → length (clean_block c place u) ≡ length u.words + 5
+length-block c place u =
+    let block = block_of c u place.file place.ldu in
+    omega (arith, length-append (map on_a block) (on_b (word_number c (Ack place.file place.ldu)) ∷ []), length-map block on_a, length-append u.words (word_number c (Eot u.flags u.check) ∷ []))
 
-length-clean : (c : Codes) (file ldu : ℕ) (us : List LduValue) → length (clean_blocks c file ldu us) ≡ words_in us
-length-clean c file ldu [] = refl
-length-clean c file ldu (u ∷ us) =
-    let file' = next_file c file u in
-    let ldu' = next_ldu c ldu u in
-    omega (arith, length-append (clean_block c file ldu u) (clean_blocks c file' ldu' us), length-block c file ldu u, length-clean c file' ldu' us)
+length-clean : (c : Codes) (place : UnitNumber) (us : List LduValue) → length (clean_blocks c place us) ≡ words_in us
+length-clean c place [] = refl
+length-clean c place (u ∷ us) =
+    let next = number_after c place u in
+    omega (arith, length-append (clean_block c place u) (clean_blocks c next us), length-block c place u, length-clean c next us)
 
 -- ---- one file
 
@@ -88,7 +89,7 @@ words_in-pieces p (suc m) bs some most =
 
 pub words-one : (p : Contents) (file : ℕ) (bs : List ℕ) (n : ℕ) → n ≡ length bs → 1 ≤ n → n ≤ 255 * 632 → length (clean_words p 255 file (bs ∷ [])) ≡ words_of n
 words-one p file bs n e some most =
-    length-clean p.codes file p.codes.first_ldu (units_of p 255 bs ++ []) ∙ ap words_in (append-nil (units_of p 255 bs))
+    length-clean p.codes (first_number p.codes file) (units_of p 255 bs ++ []) ∙ ap words_in (append-nil (units_of p 255 bs))
     ∙ words_in-pieces p 255 bs (omega (arith, e)) (omega (arith, e)) ∙ ap words_of (sym e)
 
 -- ---- file after file
@@ -121,7 +122,7 @@ counted_more files k n c f l ef none words h =
     rest p j = words_in (units_of_files p 255 (drop j files))
 
     one : (p : Contents) → c ≡ words_in (units_of p 255 f)
-    one p = sym (words p 0) ∙ length-clean p.codes 0 p.codes.first_ldu (units_of p 255 f ++ []) ∙ ap words_in (append-nil (units_of p 255 f))
+    one p = sym (words p 0) ∙ length-clean p.codes (first_number p.codes 0) (units_of p 255 f ++ []) ∙ ap words_in (append-nil (units_of p 255 f))
 
     first : (p : Contents) → rest p k ≡ c + rest p (k + 1)
     first p =
@@ -147,7 +148,7 @@ counted_end files k n l h =
   where
     all : (p : Contents) → drop k files ≡ [] → Counts (n + words_in (units_of_files p 255 (drop k files))) (words_in (units_of_files p 255 files)) → Counts n (length (words_made p files))
     all p none g =
-        let e = length-clean p.codes 1 p.codes.first_ldu (units_of_files p 255 files) in
+        let e = length-clean p.codes (first_number p.codes 1) (units_of_files p 255 files) in
         let left = ap (λ fs. words_in (units_of_files p 255 fs)) none in
         let below = g.0 in
         (omega arith, λ small. let whole = g.1 (omega arith) in omega arith)

@@ -15,6 +15,7 @@ use Rattle.a429_record.specs.Writing.{line_text}
 use Rattle.a429_check.specs.Make.{timed, words_made}
 use Rattle.a429_check.proofs.MakeCounted.{next_file_at}
 use Rattle.a429_check.proofs.MakeTimed.{lines-append}
+use Rattle.a429_link.specs.Number.{first_number}
 
 -- the words so far are so many of all words, and with those of the files still to come they are all
 pub record AreMade (p : Contents) (files : List (List ℕ)) (k number n : ℕ) : Type 0 where
@@ -36,8 +37,8 @@ pub record AreNext (p : Contents) (files : List (List ℕ)) (k number n : ℕ) (
 file_first : (p : Contents) → IsProfile p → (number : ℕ) (f : List ℕ) (files : List (List ℕ)) → clean_words p 255 number (f ∷ files) ≡ clean_words p 255 number (f ∷ []) ++ clean_words p 255 ((number + 1) % 256) files
 file_first p is number f files =
     let us = units_of p 255 f in
-    clean_append p.codes number p.codes.first_ldu us (units_of_files p 255 files) (units_last p is 255 f)
-    ∙ ap (λ vs. clean_blocks p.codes number p.codes.first_ldu vs ++ clean_words p 255 ((number + 1) % 256) files) (sym (append-nil us))
+    clean_append p.codes (first_number p.codes number) us (units_of_files p 255 files) (units_last p is 255 f)
+    ∙ ap (λ vs. clean_blocks p.codes (first_number p.codes number) vs ++ clean_words p 255 ((number + 1) % 256) files) (sym (append-nil us))
 
 made_more : (p : Contents) → IsProfile p → (files : List (List ℕ)) (k number n : ℕ) (f : List ℕ) (new : List Seen) → k < length files → f ≡ get_or files k f → new ≡ clean_words p 255 number (f ∷ []) → AreMade p files k number n → AreNext p files k number n new
 made_more p is files k number n f new l ef en h = record {

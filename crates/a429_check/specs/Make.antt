@@ -26,13 +26,21 @@ timed i (s ∷ items) = record { time = 1000 * i; bus = s.bus; word = s.word } �
 abbrev pub words_made : Contents → List (List ℕ) → List Seen
 words_made p files = clean_words p 255 1 files
 
+-- the text that records it
+abbrev pub recording_made : Contents → List (List ℕ) → List ℕ
+recording_made p files = written_form (timed 0 (words_made p files))
+
+-- each file of so many bytes makes so many words
+abbrev pub MakesWords : ℕ → ℕ → Type 0
+MakesWords len n = (bytes : List ℕ) → length bytes ≡ len → (p : Contents) → (file : ℕ) → length (clean_words p 255 file (bytes ∷ [])) ≡ n
+
 -- the recording of these files by the profile whose text the bytes are
 pub record MakesRecording (profile : List ℕ) (files : List (List ℕ)) (text : List ℕ) : Type 0 where
   pub contents : Contents
   pub is_profile : IsProfileOf profile contents
   pub cut : first_refused 255 0 files ≡ None
   pub room : length (words_made contents files) ≤ most_entries
-  pub is : text ≡ written_form (timed 0 (words_made contents files))
+  pub is : text ≡ recording_made contents files
 
 -- each file is a list of bytes
 abbrev pub AreByteLists : List (List ℕ) → Type 0

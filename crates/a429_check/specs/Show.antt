@@ -7,10 +7,14 @@ use Rattle.std.specs.Str.{IsUtf8}
 use Rattle.a429_word.specs.Word.{label_of, sdi_of, ssm_of}
 use Rattle.a429_word.specs.Digits.{hex_text, octal_text}
 use Rattle.a429_word.specs.Bus.{bus_text}
+use Rattle.a429_word.specs.declared.fixed.Fixed.{Fixed}
+use Rattle.a429_word.specs.declared.tally.Tally.{Tally}
 use Rattle.a429_word.specs.Fixed.{SpellsFraction}
+use Rattle.a429_word.specs.Page.{PutsOn}
 use Rattle.a429_profile.specs.declared.entry.Flag.{Flag}
 use Rattle.a429_profile.specs.declared.entry.Kind.{Kind}
 use Rattle.a429_profile.specs.declared.entry.Kind.TheVariants.{Bnr, Bcd, Discrete}
+use Rattle.a429_profile.specs.declared.entry.LabelEntry.{LabelEntry}
 use Rattle.a429_profile.specs.declared.shown.Status.{Status}
 use Rattle.a429_profile.specs.declared.shown.Status.TheVariants.{NoData, Failure}
 use Rattle.a429_profile.specs.declared.shown.Shown.{Shown}
@@ -47,14 +51,26 @@ flags_text field (Discrete flags) = flat_map (flag_text field) flags
 flags_text field (Bnr bits range decimals) = []
 flags_text field (Bcd digits decimals) = []
 
--- the text of what is shown; the digits of a value are the spelling of its fraction
+-- a digit at this place is no decimal one
+abbrev pub bad_digit_text : LabelEntry → ℕ → List ℕ
+bad_digit_text e place = e.name ++ codes " bad digit " ++ decimal place
+
+-- the text of a value: its digits are the spelling of its fraction
+abbrev pub IsValueText : LabelEntry → Fixed → Bool → List ℕ → Type 0
+IsValueText e v is_test text = (digits : List ℕ) × SpellsFraction digits v.number v.decimals × (text ≡ e.name ++ codes " " ++ digits ++ unit_text e.unit ++ test_text is_test)
+
+-- the text of a data field: its flags
+abbrev pub field_text : LabelEntry → ℕ → Bool → List ℕ
+field_text e field is_test = e.name ++ flags_text field e.kind ++ test_text is_test
+
+-- the text of what is shown
 abbrev pub IsShownText : Shown → List ℕ → Type 0
 IsShownText shown.BadParity text = text ≡ codes "parity"
 IsShownText shown.NoEntry text = text ≡ codes "no entry"
 IsShownText (shown.Status e status) text = text ≡ e.now.name ++ status_text status
-IsShownText (shown.BadDigit e place) text = text ≡ e.now.name ++ codes " bad digit " ++ decimal place
-IsShownText (shown.Value e v is_test) text = (digits : List ℕ) × SpellsFraction digits v.number v.decimals × (text ≡ e.now.name ++ codes " " ++ digits ++ unit_text e.now.unit ++ test_text is_test)
-IsShownText (shown.Bits e field is_test) text = text ≡ e.now.name ++ flags_text field e.now.kind ++ test_text is_test
+IsShownText (shown.BadDigit e place) text = text ≡ bad_digit_text e.now place
+IsShownText (shown.Value e v is_test) text = IsValueText e.now v is_test text
+IsShownText (shown.Bits e field is_test) text = text ≡ field_text e.now field is_test
 
 -- ---- the lines
 
@@ -73,6 +89,10 @@ pub record IsShowLine (p : Contents) (e : Entry) (line : List ℕ) : Type 0 wher
   pub is_shown : IsShown p e.word what
   pub is_text : IsShownText what text
   pub layout : line ≡ recorded_text e ++ fields_text e.word ++ text ++ codes "\n"
+
+-- a writer, and the page behind it, have gained some text that is such
+abbrev pub PutsSome : {W : Type 0} → (W → Option (List ℕ)) → Tally W → List ℕ → Tally W → List ℕ → (List ℕ → Type 0) → Type 0
+PutsSome contents out page new_out new_page Is = (text : List ℕ) × Is text × PutsOn contents out page new_out new_page text
 
 -- the lines of entries, in their order
 abbrev pub AreShowLines : Contents → List Entry → List ℕ → Type 0

@@ -91,6 +91,10 @@ IsVerifyFault profile known rec_failed cert_failed out_failed = ComesBy (record 
 abbrev pub LeavesFault : {R C W : Type 0} → List ℕ → Option (List ℕ) → Tally R → Tally C → Tally W → RunFault → Type 0
 LeavesFault profile known rec certificate out = IsVerifyFault profile known (has_failed rec) (has_failed certificate) (has_failed out)
 
+-- such a fault before anything was written, as it left the recording's reader and the certificate's
+abbrev pub LeavesReadFault : {R C : Type 0} → List ℕ → Option (List ℕ) → Tally R → Tally C → RunFault → Type 0
+LeavesReadFault profile known rec certificate = IsVerifyFault profile known (has_failed rec) (has_failed certificate) false
+
 -- the output is as it was after any fault but `Device`, where the recording's reader has failed, and where the output has not
 abbrev pub IsSilent : {R W : Type 0} → Tally R → Tally W → Tally W → RunFault → Type 0
 IsSilent rec old new e = (e ≢ Device) ⊎ ((has_failed rec ≡ true) ⊎ (has_failed new ≡ false)) → new ≡ old

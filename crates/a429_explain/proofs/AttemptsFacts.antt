@@ -1,5 +1,5 @@
 -- The roles of a recording's words, from the last to the first.
-use Rattle.std.proofs.Common.{◌≡◌, ℕ, zero, suc, ◌+◌, ◌<◌, ◌≤◌, false, List, [], ◌∷◌, ◌++◌, length, drop, reverse, Option, Some, None, refl, sym, ap, ◌∙◌, subst, arith}
+use Rattle.std.proofs.Common.{◌≡◌, ℕ, suc, ◌+◌, ◌≤◌, List, [], ◌∷◌, ◌++◌, length, drop, reverse, Option, Some, None, refl, sym, ap, ◌∙◌, subst, arith}
 use Rattle.std.proofs.lemmas.List.{reverse-append}
 use Rattle.a429_profile.specs.declared.codes.Codes.{Codes}
 use Rattle.a429_ldu.specs.declared.forms.Form.{Form}
@@ -10,8 +10,8 @@ use Rattle.a429_explain.specs.declared.attempts.Ahead.{Ahead}
 use Rattle.a429_explain.specs.declared.heard.HeardWord.{HeardWord}
 use Rattle.a429_explain.specs.Heard.{IsHeardAt, forms_of}
 use Rattle.a429_explain.specs.Attempts.{next_start, role_of, roles, IsAhead}
-use Rattle.a429_explain.specs.Crossed.{started, file_of}
-use Rattle.a429_explain.proofs.HeardFacts.{items_long, forms_from}
+use Rattle.a429_explain.specs.Guess.{started, file_of}
+use Rattle.a429_explain.proofs.HeardFacts.{forms_from}
 
 -- where the pass has come to
 pub record Stands (said : List (Option Form)) (left : ℕ) (found : List Role) (ahead : Ahead) : Type 0 where
@@ -30,23 +30,6 @@ stands_next c items n left h found new ahead next r l k role goes pushed s =
       ahead_is = subst (λ (xs : List (Option Form)). IsAhead xs next) (sym here) (goes (drop left forms) s.ahead_is);
       inside = omega (arith, l, inside);
     }
-
--- at the last word
-pub stands_none : (c : Codes) (items : List Seen) (n : ℕ) (found : List Role) (ahead : Ahead) → n ≡ length items → found ≡ [] → ahead ≡ record { sends_block = false; start = None } → Stands (forms_of c items) n found ahead
-stands_none c items n found ahead l none at =
-    let long = items_long c items in
-    let past : drop n (forms_of c items) ≡ [] = drop_all n (forms_of c items) (omega (arith, l, long)) in
-    rw (none, at) (record {
-      found_is = ap roles (sym past);
-      ahead_is = subst (λ (xs : List (Option Form)). IsAhead xs (record { sends_block = false; start = None })) (sym past) (record { sends_is = refl; start_is = refl });
-      inside = omega (arith, l, long);
-    })
-  where
-    drop_all : (n : ℕ) (xs : List (Option Form)) → length xs ≤ n → drop n xs ≡ []
-    drop_all zero [] l = refl
-    drop_all zero (x ∷ xs) l = absurd (omega arith)
-    drop_all (suc n) [] l = refl
-    drop_all (suc n) (x ∷ xs) l = drop_all n xs (omega arith)
 
 -- each word has its role
 pub length-roles : (c : Codes) (items : List Seen) → length (roles (forms_of c items)) ≡ length items

@@ -18,7 +18,7 @@ use Rattle.a429_ldu.proofs.CarriedFacts.{carried_of}
 use Rattle.a429_ldu.proofs.FormFacts.{form_of-is, form_is_not_free, form_of-word_number}
 use Rattle.a429_link.specs.declared.seen.Seen.{Seen}
 use Rattle.a429_link.specs.Clean.{on_a, on_b, clean_block}
-use Rattle.a429_explain.specs.declared.matching.Place.{Place}
+use Rattle.a429_link.specs.declared.number.UnitNumber.{UnitNumber}
 use Rattle.a429_explain.specs.Matching.{is_word, passed_with, passing_as, passed_after, IsOfBlock}
 use Rattle.a429_explain.specs.Whole.{Recorded, nothing_yet, gathered_with, is_whole, unit_made, ended_by, first_whole, wanted, is_other, other_request}
 
@@ -36,13 +36,14 @@ abbrev pub AreOfBlock : Codes → List ℕ → Type 0
 AreOfBlock c [] = Unit {0}
 AreOfBlock c (w ∷ ws) = IsOfBlock (form_of c bus.A w) × AreOfBlock c ws
 
-pub record AreSaid (p : Contents) (file ldu : ℕ) (u : LduValue) : Type 0 where
+-- each word that is recorded of a link data unit has the form that it was made of
+pub record HasForms (p : Contents) (place : UnitNumber) (u : LduValue) : Type 0 where
   pub request : form_of p.codes bus.A (word_number p.codes (Rts (count_of u))) ≡ Some (Rts (count_of u))
   pub clear : form_of p.codes bus.B (word_number p.codes (Cts (count_of u))) ≡ Some (Cts (count_of u))
-  pub start : form_of p.codes bus.A (word_number p.codes (Sot u.gfi file ldu)) ≡ Some (Sot u.gfi file ldu)
+  pub start : form_of p.codes bus.A (word_number p.codes (Sot u.gfi place.file place.ldu)) ≡ Some (Sot u.gfi place.file place.ldu)
   pub parts : AreParts p.codes u.words
   pub end : form_of p.codes bus.A (word_number p.codes (Eot u.flags u.check)) ≡ Some (Eot u.flags u.check)
-  pub settled : form_of p.codes bus.B (word_number p.codes (Ack file ldu)) ≡ Some (Ack file ldu)
+  pub settled : form_of p.codes bus.B (word_number p.codes (Ack place.file place.ldu)) ≡ Some (Ack place.file place.ldu)
 
 data_parts : (p : Contents) → IsProfile p → (ws : List ℕ) (ss : List (List ℕ)) → AreDataWords p.codes ws ss → AreParts p.codes ws
 data_parts p is [] [] h = tt
@@ -50,17 +51,18 @@ data_parts p is (w ∷ ws) (s ∷ ss) h = (subst IsPart (sym ((form_of-is p is b
 data_parts p is [] (s ∷ ss) h = absurd h
 data_parts p is (w ∷ ws) [] h = absurd h
 
-pub are_said : (p : Contents) → IsProfile p → (file ldu : ℕ) (u : LduValue) → IsLdu p u → file ≤ 255 → ldu ≤ 255 → AreSaid p file ldu u
-are_said p is file ldu u h f l =
+-- those of a unit of the profile do, under numbers of one byte
+pub has_forms : (p : Contents) → IsProfile p → (place : UnitNumber) (u : LduValue) → IsLdu p u → place.file ≤ 255 → place.ldu ≤ 255 → HasForms p place u
+has_forms p is place u h f l =
     let few = h.length.1 in
     let some = h.length.0 in
     record {
       request = form_of-word_number p is (Rts (count_of u)) (omega arith, omega arith);
       clear = form_of-word_number p is (Cts (count_of u)) (omega arith, omega arith);
-      start = form_of-word_number p is (Sot u.gfi file ldu) (h.gfi, f, l);
+      start = form_of-word_number p is (Sot u.gfi place.file place.ldu) (h.gfi, f, l);
       parts = data_parts p is u.words h.carries.semis h.carries.words;
       end = form_of-word_number p is (Eot u.flags u.check) (h.flags, h.check);
-      settled = form_of-word_number p is (Ack file ldu) (f, l);
+      settled = form_of-word_number p is (Ack place.file place.ldu) (f, l);
     }
 
 part_of_block : (o : Option Form) → IsPart o → IsOfBlock o
@@ -71,8 +73,9 @@ parts_of_block : (c : Codes) (ws : List ℕ) (e : ℕ) → AreParts c ws → IsO
 parts_of_block c [] e h k = (k, tt)
 parts_of_block c (w ∷ ws) e h k = (part_of_block (form_of c bus.A w) h.0, parts_of_block c ws e h.1 k)
 
-pub block_said : (p : Contents) (file ldu : ℕ) (u : LduValue) → AreSaid p file ldu u → AreOfBlock p.codes (block_of p.codes u file ldu)
-block_said p file ldu u s = (subst IsOfBlock (sym s.start) tt, parts_of_block p.codes u.words (word_number p.codes (Eot u.flags u.check)) s.parts (subst IsOfBlock (sym s.end) tt))
+-- each word of its block has a form of a block
+pub block_has_forms : (p : Contents) (place : UnitNumber) (u : LduValue) → HasForms p place u → AreOfBlock p.codes (block_of p.codes u place.file place.ldu)
+block_has_forms p place u s = (subst IsOfBlock (sym s.start) tt, parts_of_block p.codes u.words (word_number p.codes (Eot u.flags u.check)) s.parts (subst IsOfBlock (sym s.end) tt))
 
 -- a word with a form is not free, and is seen as this form
 not_free : (t u : Bool) (o : Option Form) (x : Form) → cond (t || u) None o ≡ Some x → t ≡ false
@@ -100,19 +103,19 @@ others_of_block : (c : Codes) (count : ℕ) (ws : List ℕ) (ack : Seen) (k : �
 others_of_block c count [] ack k h a = other_next c count ack [] k (ap (is_other count) a) refl
 others_of_block c count (w ∷ ws) ack k h a = other_next c count (on_a w) (map on_a ws ++ ack ∷ []) k (ap (is_other count) (block_wants c bus.A w (form_of c bus.A w) refl h.0)) (others_of_block c count ws ack (k + 1) h.1 a)
 
-pub block_others : (p : Contents) (file ldu : ℕ) (u : LduValue) → AreSaid p file ldu u → (k : ℕ) → other_request p.codes (count_of u) (clean_block p.codes file ldu u) k ≡ None
-block_others p file ldu u s k =
+pub block_others : (p : Contents) (place : UnitNumber) (u : LduValue) → HasForms p place u → (k : ℕ) → other_request p.codes (count_of u) (clean_block p.codes place u) k ≡ None
+block_others p place u s k =
     let c = p.codes in
     let n = count_of u in
-    let ack = on_b (word_number c (Ack file ldu)) in
-    let body = map on_a (block_of c u file ldu) ++ ack ∷ [] in
+    let ack = on_b (word_number c (Ack place.file place.ldu)) in
+    let body = map on_a (block_of c u place.file place.ldu) ++ ack ∷ [] in
     let same : not (eqb n n) ≡ false = ap not (eq-eqb n n refl) in
     let asked : is_other n (wanted (sight_of c bus.A (word_number c (Rts n)))) ≡ false = ap (λ x. is_other n (wanted x)) (formed_sight c bus.A (word_number c (Rts n)) (Rts n) s.request) ∙ same in
     let cleared : is_other n (wanted (sight_of c bus.B (word_number c (Cts n)))) ≡ false = ap (λ x. is_other n (wanted x)) (formed_sight c bus.B (word_number c (Cts n)) (Cts n) s.clear) in
-    let settled : wanted (sight_of c bus.B (word_number c (Ack file ldu))) ≡ None = ap wanted (formed_sight c bus.B (word_number c (Ack file ldu)) (Ack file ldu) s.settled) in
+    let settled : wanted (sight_of c bus.B (word_number c (Ack place.file place.ldu))) ≡ None = ap wanted (formed_sight c bus.B (word_number c (Ack place.file place.ldu)) (Ack place.file place.ldu) s.settled) in
     other_next c n (on_a (word_number c (Rts n))) (on_b (word_number c (Cts n)) ∷ body) k asked
     (other_next c n (on_b (word_number c (Cts n))) body (k + 1) cleared
-    (others_of_block c n (block_of c u file ldu) ack (k + 1 + 1) (block_said p file ldu u s) settled))
+    (others_of_block c n (block_of c u place.file place.ldu) ack (k + 1 + 1) (block_has_forms p place u s) settled))
 
 -- ---- it is the first whole one
 
@@ -136,26 +139,26 @@ whole_part : (p : Contents) (count w : ℕ) (items : List Seen) (r : Recorded) (
 whole_part p count w items r (Some (Part s)) e h = whole_word p count (on_a w) items r (Some (Part s)) e
 whole_part p count w items r _ e h = absurd h
 
-whole_parts : (p : Contents) → IsProfile p → (file ldu : ℕ) (u : LduValue) → IsLdu p u → AreSaid p file ldu u → (qs ps : List ℕ) → qs ++ ps ≡ u.words → AreParts p.codes ps → (tail : List Seen) → first_whole p (count_of u) (map on_a (ps ++ word_number p.codes (Eot u.flags u.check) ∷ []) ++ tail) (record { start = Some u.gfi; words = qs }) ≡ Some u
-whole_parts p is file ldu u h s qs [] e a tail =
+whole_parts : (p : Contents) → IsProfile p → (place : UnitNumber) (u : LduValue) → IsLdu p u → HasForms p place u → (qs ps : List ℕ) → qs ++ ps ≡ u.words → AreParts p.codes ps → (tail : List Seen) → first_whole p (count_of u) (map on_a (ps ++ word_number p.codes (Eot u.flags u.check) ∷ []) ++ tail) (record { start = Some u.gfi; words = qs }) ≡ Some u
+whole_parts p is place u h s qs [] e a tail =
     let same : qs ≡ u.words = sym (append-nil qs) ∙ e in
     whole_word p (count_of u) (on_a (word_number p.codes (Eot u.flags u.check))) tail (record { start = Some u.gfi; words = qs }) (Some (Eot u.flags u.check)) s.end
     ∙ ap (λ (o : Option LduValue). option_or o (first_whole p (count_of u) tail (record { start = Some u.gfi; words = qs }))) (ap (λ (ws : List ℕ). unit_made p (count_of u) (Some u.gfi) ws u.flags u.check) same ∙ made_of p is (count_of u) u h refl)
-whole_parts p is file ldu u h s qs (q ∷ ps) e a tail =
+whole_parts p is place u h s qs (q ∷ ps) e a tail =
     whole_part p (count_of u) q (map on_a (ps ++ word_number p.codes (Eot u.flags u.check) ∷ []) ++ tail) (record { start = Some u.gfi; words = qs }) (form_of p.codes bus.A q) refl a.0
-    ∙ whole_parts p is file ldu u h s (qs ++ q ∷ []) ps (append_assoc qs (q ∷ []) ps ∙ e) a.1 tail
+    ∙ whole_parts p is place u h s (qs ++ q ∷ []) ps (append_assoc qs (q ∷ []) ps ∙ e) a.1 tail
 
-pub block_whole : (p : Contents) → IsProfile p → (file ldu : ℕ) (u : LduValue) → IsLdu p u → AreSaid p file ldu u → first_whole p (count_of u) (clean_block p.codes file ldu u) nothing_yet ≡ Some u
-block_whole p is file ldu u h s =
+pub block_whole : (p : Contents) → IsProfile p → (place : UnitNumber) (u : LduValue) → IsLdu p u → HasForms p place u → first_whole p (count_of u) (clean_block p.codes place u) nothing_yet ≡ Some u
+block_whole p is place u h s =
     let c = p.codes in
     let n = count_of u in
-    let tail = on_b (word_number c (Ack file ldu)) ∷ [] in
+    let tail = on_b (word_number c (Ack place.file place.ldu)) ∷ [] in
     let words = map on_a (u.words ++ word_number c (Eot u.flags u.check) ∷ []) ++ tail in
-    let body = on_a (word_number c (Sot u.gfi file ldu)) ∷ words in
+    let body = on_a (word_number c (Sot u.gfi place.file place.ldu)) ∷ words in
     whole_word p n (on_a (word_number c (Rts n))) (on_b (word_number c (Cts n)) ∷ body) nothing_yet (Some (Rts n)) s.request
     ∙ whole_word p n (on_b (word_number c (Cts n))) body nothing_yet (Some (Cts n)) s.clear
-    ∙ whole_word p n (on_a (word_number c (Sot u.gfi file ldu))) words nothing_yet (Some (Sot u.gfi file ldu)) s.start
-    ∙ whole_parts p is file ldu u h s [] u.words refl s.parts tail
+    ∙ whole_word p n (on_a (word_number c (Sot u.gfi place.file place.ldu))) words nothing_yet (Some (Sot u.gfi place.file place.ldu)) s.start
+    ∙ whole_parts p is place u h s [] u.words refl s.parts tail
 
 -- ---- each word is the next of its block
 
@@ -163,7 +166,7 @@ at_seam : (qs : List ℕ) (w : ℕ) (ps : List ℕ) → slice_index (qs ++ w ∷
 at_seam [] w ps = refl
 at_seam (q ∷ qs) w ps = at_seam qs w ps
 
-here : (c : Codes) (u : LduValue) (place : Place) (qs : List ℕ) (w : ℕ) (ps : List ℕ) → place.ldu ≤ 255 → qs ++ w ∷ ps ≡ block_of c u place.file place.ldu → is_word c u place w (length qs) ≡ true
+here : (c : Codes) (u : LduValue) (place : UnitNumber) (qs : List ℕ) (w : ℕ) (ps : List ℕ) → place.ldu ≤ 255 → qs ++ w ∷ ps ≡ block_of c u place.file place.ldu → is_word c u place w (length qs) ≡ true
 here c u place qs w ps l e =
     let small : place.ldu % 256 ≡ place.ldu = omega arith in
     let is : slice_index (block_of c u place.file place.ldu) (length qs) ≡ w = ap (λ (ws : List ℕ). slice_index ws (length qs)) (sym e) ∙ at_seam qs w ps in
@@ -181,26 +184,26 @@ of_block_passes (Some (Part s)) m k h = refl
 of_block_passes (Some (Eot f q)) m k h = refl
 of_block_passes _ m k h = absurd h
 
-length_block : (c : Codes) (u : LduValue) (file ldu : ℕ) → length (block_of c u file ldu) ≡ count_of u
-length_block c u file ldu = let long = length-append u.words (word_number c (Eot u.flags u.check) ∷ []) in omega (arith, long)
+length_block : (c : Codes) (u : LduValue) (place : UnitNumber) → length (block_of c u place.file place.ldu) ≡ count_of u
+length_block c u place = let long = length-append u.words (word_number c (Eot u.flags u.check) ∷ []) in omega (arith, long)
 
 -- the acknowledgement passes nothing
-passed_ack : (c : Codes) (u : LduValue) (place : Place) (ack : Seen) (file ldu k : ℕ) → form_of c ack.bus ack.word ≡ Some (Ack file ldu) → passed_after c u place (ack ∷ []) (Some k) ≡ Some k
+passed_ack : (c : Codes) (u : LduValue) (place : UnitNumber) (ack : Seen) (file ldu k : ℕ) → form_of c ack.bus ack.word ≡ Some (Ack file ldu) → passed_after c u place (ack ∷ []) (Some k) ≡ Some k
 passed_ack c u place ack file ldu k e = ap (λ (o : Option Form). passing_as o (passed_with (is_word c u place ack.word) k (count_of u - k)) k) e
 
-passed_words : (c : Codes) (u : LduValue) (place : Place) (ack : Seen) (file ldu : ℕ) → place.ldu ≤ 255 → form_of c ack.bus ack.word ≡ Some (Ack file ldu) → (qs ps : List ℕ) → qs ++ ps ≡ block_of c u place.file place.ldu → AreOfBlock c ps → (k : ℕ) → k ≡ length qs → passed_after c u place (map on_a ps ++ ack ∷ []) (Some k) ≡ Some (count_of u)
+passed_words : (c : Codes) (u : LduValue) (place : UnitNumber) (ack : Seen) (file ldu : ℕ) → place.ldu ≤ 255 → form_of c ack.bus ack.word ≡ Some (Ack file ldu) → (qs ps : List ℕ) → qs ++ ps ≡ block_of c u place.file place.ldu → AreOfBlock c ps → (k : ℕ) → k ≡ length qs → passed_after c u place (map on_a ps ++ ack ∷ []) (Some k) ≡ Some (count_of u)
 passed_words c u place ack file ldu l a qs [] e h k ek =
     let same : qs ≡ block_of c u place.file place.ldu = sym (append-nil qs) ∙ e in
-    passed_ack c u place ack file ldu k a ∙ ap Some (ek ∙ ap length same ∙ length_block c u place.file place.ldu)
+    passed_ack c u place ack file ldu k a ∙ ap Some (ek ∙ ap length same ∙ length_block c u place)
 passed_words c u place ack file ldu l a qs (w ∷ ps) e h k ek =
-    let long : length (qs ++ w ∷ ps) ≡ count_of u = ap length e ∙ length_block c u place.file place.ldu in
+    let long : length (qs ++ w ∷ ps) ≡ count_of u = ap length e ∙ length_block c u place in
     let room : k < count_of u = omega (arith, long, length-append qs (w ∷ ps)) in
     let found : is_word c u place w k ≡ true = ap (is_word c u place w) ek ∙ here c u place qs w ps l e in
     let step : passing_as (form_of c bus.A w) (passed_with (is_word c u place w) k (count_of u - k)) k ≡ Some (suc k) = of_block_passes (form_of c bus.A w) (passed_with (is_word c u place w) k (count_of u - k)) k h.0 ∙ passed_here (is_word c u place w) k (count_of u) found room in
     ap (passed_after c u place (map on_a ps ++ ack ∷ [])) step
     ∙ passed_words c u place ack file ldu l a (qs ++ w ∷ []) ps (append_assoc qs (w ∷ []) ps ∙ e) h.1 (suc k) (ap suc ek ∙ sym (omega (arith, length-append qs (w ∷ []))))
 
-pub block_passed : (p : Contents) (u : LduValue) (place : Place) → place.ldu ≤ 255 → AreSaid p place.file place.ldu u → passed_after p.codes u place (clean_block p.codes place.file place.ldu u) (Some 0) ≡ Some (count_of u)
+pub block_passed : (p : Contents) (u : LduValue) (place : UnitNumber) → place.ldu ≤ 255 → HasForms p place u → passed_after p.codes u place (clean_block p.codes place u) (Some 0) ≡ Some (count_of u)
 block_passed p u place l s =
     let c = p.codes in
     let n = count_of u in
@@ -210,4 +213,4 @@ block_passed p u place l s =
     let cleared : passing_as (form_of c bus.B (word_number c (Cts n))) (passed_with (is_word c u place (word_number c (Cts n))) 0 (n - 0)) 0 ≡ Some 0 = ap (λ (o : Option Form). passing_as o (passed_with (is_word c u place (word_number c (Cts n))) 0 (n - 0)) 0) s.clear in
     ap (passed_after c u place (on_b (word_number c (Cts n)) ∷ body)) asked
     ∙ ap (passed_after c u place body) cleared
-    ∙ passed_words c u place ack place.file place.ldu l s.settled [] (block_of c u place.file place.ldu) refl (block_said p place.file place.ldu u s) 0 refl
+    ∙ passed_words c u place ack place.file place.ldu l s.settled [] (block_of c u place.file place.ldu) refl (block_has_forms p place u s) 0 refl

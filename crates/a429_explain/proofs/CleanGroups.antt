@@ -1,5 +1,5 @@
 -- The groups of a recording without loss.
-use Rattle.std.proofs.Common.{◌≡◌, ℕ, suc, ◌+◌, ◌%◌, ◌≤◌, Bool, true, false, cond, not, ◌&&◌, eqb, List, [], ◌∷◌, ◌++◌, map, take, drop, Option, Some, None, refl, sym, ap, ◌∙◌, subst, arith, append_assoc, eq-eqb}
+use Rattle.std.proofs.Common.{◌≡◌, ℕ, suc, ◌+◌, ◌%◌, ◌≤◌, Bool, true, false, cond, not, List, [], ◌∷◌, ◌++◌, map, take, drop, Option, Some, None, refl, sym, ap, ◌∙◌, subst, arith, append_assoc, eq-eqb, min}
 use Rattle.std.proofs.lemmas.Bool.{ne_eqb}
 use Rattle.a429_word.specs.declared.bus.Bus.TheVariants as bus
 use Rattle.a429_profile.specs.declared.codes.Codes.{Codes}
@@ -8,19 +8,21 @@ use Rattle.a429_profile.proofs.ProfileRanges.{in_range}
 use Rattle.a429_ldu.specs.declared.forms.Form.{Form}
 use Rattle.a429_ldu.specs.declared.forms.Form.TheVariants.{Rts, Cts, Ack, Nak, Sot, Part, Eot}
 use Rattle.a429_ldu.specs.Form.{form_of, is_free, word_number}
-use Rattle.a429_ldu.specs.Ldu.{LduValue, IsLdu, count_of, block_of, is_final}
+use Rattle.a429_ldu.specs.Ldu.{LduValue, IsLdu, count_of, block_of}
 use Rattle.a429_link.specs.declared.seen.Seen.{Seen}
-use Rattle.a429_link.specs.Clean.{on_a, on_b, next_file, next_ldu, clean_block, clean_blocks, AllFit, without_free}
-use Rattle.a429_explain.specs.declared.attempts.Numbers.{Numbers}
+use Rattle.a429_link.specs.Clean.{on_a, on_b, clean_block, clean_blocks, AllFit, without_free}
+use Rattle.a429_link.specs.declared.number.UnitNumber.{UnitNumber}
 use Rattle.a429_explain.specs.declared.attempts.Role.{Role}
 use Rattle.a429_explain.specs.Attempts.{next_start, are_numbers, role_of, roles}
 use Rattle.a429_explain.specs.Heard.{forms_of}
 use Rattle.a429_explain.specs.Groups.{group_length}
 use Rattle.a429_explain.specs.Matching.{IsOfBlock}
-use Rattle.a429_explain.specs.Crossed.{first_file_of, file_of}
+use Rattle.a429_explain.specs.Guess.{first_file_of, file_of}
 use Rattle.a429_explain.proofs.WalkFacts.{free_none}
 use Rattle.a429_explain.proofs.Thinned.{next_start-thin}
-use Rattle.a429_explain.proofs.CleanBlock.{AreSaid, AreOfBlock, are_said, block_said}
+use Rattle.a429_explain.proofs.CleanBlock.{HasForms, AreOfBlock, has_forms, block_has_forms}
+use Rattle.a429_link.specs.Number.{first_number, next_number, number_after}
+use Rattle.a429_link.proofs.NumberFacts.{next_byte}
 
 -- ---- a group ends at its acknowledgement
 
@@ -92,7 +94,7 @@ group_parts c file ldu ack rest a n (i ∷ items) b h e = by (is_free c i.bus i.
         let same : i ≡ ack = cc e in
         let left : without_free c items ≡ rest = cc e in
         let said : form_of c i.bus i.word ≡ Some (Ack file ldu) = ap (λ (x : Seen). form_of c x.bus x.word) same ∙ a in
-        let next : are_numbers (next_start (forms_of c items)) file ldu ≡ false = ap (λ (o : Option Numbers). are_numbers o file ldu) (sym (next_start-thin c items) ∙ ap (λ (xs : List Seen). next_start (forms_of c xs)) left) ∙ n in
+        let next : are_numbers (next_start (forms_of c items)) file ldu ≡ false = ap (λ (o : Option UnitNumber). are_numbers o file ldu) (sym (next_start-thin c items) ∙ ap (λ (xs : List Seen). next_start (forms_of c xs)) left) ∙ n in
         let last = parts_last c i items file ldu f said next in
         record { group_is = last.group_is ∙ ap (λ (x : Seen). x ∷ []) same; rest_is = last.rest_is ∙ left }
     word f (x ∷ b) h e more =
@@ -118,60 +120,54 @@ words_no_ack c [] h = tt
 words_no_ack c (w ∷ ws) h = (of_block_no_ack (form_of c bus.A w) h.0, words_no_ack c ws h.1)
 
 -- what is recorded before the acknowledgement
-abbrev front : Codes → ℕ → ℕ → LduValue → List Seen
-front c file ldu u = on_a (word_number c (Rts (count_of u))) ∷ (on_b (word_number c (Cts (count_of u))) ∷ map on_a (block_of c u file ldu))
+abbrev front : Codes → UnitNumber → LduValue → List Seen
+front c place u = on_a (word_number c (Rts (count_of u))) ∷ (on_b (word_number c (Cts (count_of u))) ∷ map on_a (block_of c u place.file place.ldu))
 
-front_no_ack : (p : Contents) (file ldu : ℕ) (u : LduValue) → AreSaid p file ldu u → NoneAcknowledges p.codes (front p.codes file ldu u)
-front_no_ack p file ldu u s = (subst IsNoAck (sym s.request) tt, (subst IsNoAck (sym s.clear) tt, words_no_ack p.codes (block_of p.codes u file ldu) (block_said p file ldu u s)))
+front_no_ack : (p : Contents) (place : UnitNumber) (u : LduValue) → HasForms p place u → NoneAcknowledges p.codes (front p.codes place u)
+front_no_ack p place u s = (subst IsNoAck (sym s.request) tt, (subst IsNoAck (sym s.clear) tt, words_no_ack p.codes (block_of p.codes u place.file place.ldu) (block_has_forms p place u s)))
 
 -- a recording that begins with it has its numbers in the first start word
-pub first_start : (p : Contents) (file ldu : ℕ) (u : LduValue) (rest : List Seen) → AreSaid p file ldu u → next_start (forms_of p.codes (clean_block p.codes file ldu u ++ rest)) ≡ Some (record { file = file; ldu = ldu })
-first_start p file ldu u rest s =
+pub first_start : (p : Contents) (place : UnitNumber) (u : LduValue) (rest : List Seen) → HasForms p place u → next_start (forms_of p.codes (clean_block p.codes place u ++ rest)) ≡ Some place
+first_start p place u rest s =
     let c = p.codes in
-    let behind = forms_of c ((map on_a (u.words ++ word_number c (Eot u.flags u.check) ∷ []) ++ on_b (word_number c (Ack file ldu)) ∷ []) ++ rest) in
-    ap (λ (o : Option Form). next_start (o ∷ (form_of c bus.B (word_number c (Cts (count_of u))) ∷ (form_of c bus.A (word_number c (Sot u.gfi file ldu)) ∷ behind)))) s.request
-    ∙ ap (λ (o : Option Form). next_start (o ∷ (form_of c bus.A (word_number c (Sot u.gfi file ldu)) ∷ behind))) s.clear
+    let behind = forms_of c ((map on_a (u.words ++ word_number c (Eot u.flags u.check) ∷ []) ++ on_b (word_number c (Ack place.file place.ldu)) ∷ []) ++ rest) in
+    ap (λ (o : Option Form). next_start (o ∷ (form_of c bus.B (word_number c (Cts (count_of u))) ∷ (form_of c bus.A (word_number c (Sot u.gfi place.file place.ldu)) ∷ behind)))) s.request
+    ∙ ap (λ (o : Option Form). next_start (o ∷ (form_of c bus.A (word_number c (Sot u.gfi place.file place.ldu)) ∷ behind))) s.clear
     ∙ ap (λ (o : Option Form). next_start (o ∷ behind)) s.start
 
--- its numbers are in their ranges
-pub unit_said : (p : Contents) → IsProfile p → (file ldu : ℕ) (u : LduValue) → file ≤ 255 → ldu ≤ p.codes.first_ldu + 254 → IsLdu p u → AreSaid p file ldu u
-unit_said p is file ldu u f l h = let low = (in_range p is).first_ldu in are_said p is file ldu u h f (omega arith)
+-- those of a unit do that may be loaded under this number
+pub unit_has_forms : (p : Contents) → IsProfile p → (place : UnitNumber) (u : LduValue) → place.file ≤ 255 → place.ldu ≤ p.codes.first_ldu + 254 → IsLdu p u → HasForms p place u
+unit_has_forms p is place u f l h = let low = (in_range p is).first_ldu in has_forms p is place u h f (omega arith)
 
-pub file_small : (c : Codes) (file : ℕ) (u : LduValue) → file ≤ 255 → next_file c file u ≤ 255
-file_small c file u f = by (is_final c u.flags)
-  where
-    by : (t : Bool) → cond t ((file + 1) % 256) file ≤ 255
-    by true = omega arith
-    by false = f
-
-others_start : (c : Codes) (file ldu : ℕ) (u : LduValue) → file ≤ 255 → are_numbers (Some (record { file = next_file c file u; ldu = next_ldu c ldu u })) file ldu ≡ false
-others_start c file ldu u f = by (is_final c u.flags)
-  where
-    by : (t : Bool) → (eqb (cond t ((file + 1) % 256) file) file && eqb (cond t c.first_ldu (ldu + 1)) ldu) ≡ false
-    by true = rw (ne_eqb ((file + 1) % 256) file (λ e. omega arith)) refl
-    by false = rw (eq-eqb file file refl) (ne_eqb (ldu + 1) ldu (λ e. omega arith))
+-- the number that comes next is another
+others_start : (c : Codes) (place : UnitNumber) (final : Bool) → place.ldu ≤ 255 → are_numbers (Some (next_number c place final)) place.file place.ldu ≡ false
+others_start c place true l = rw (ne_eqb ((place.file + 1) % 256) place.file (λ e. omega arith)) refl
+others_start c place false l = rw (eq-eqb place.file place.file refl) (ne_eqb (min (place.ldu + 1) 256) place.ldu (λ e. omega arith))
 
 -- the next start word has other numbers
-pub next_start_other : (p : Contents) → IsProfile p → (file ldu : ℕ) (u : LduValue) (us : List LduValue) → file ≤ 255 → AllFit p (next_ldu p.codes ldu u) us → are_numbers (next_start (forms_of p.codes (clean_blocks p.codes (next_file p.codes file u) (next_ldu p.codes ldu u) us))) file ldu ≡ false
-next_start_other p is file ldu u [] f h = refl
-next_start_other p is file ldu u (v ∷ us) f h =
-    ap (λ (o : Option Numbers). are_numbers o file ldu) (first_start p (next_file p.codes file u) (next_ldu p.codes ldu u) v (clean_blocks p.codes (next_file p.codes (next_file p.codes file u) v) (next_ldu p.codes (next_ldu p.codes ldu u) v) us) (unit_said p is (next_file p.codes file u) (next_ldu p.codes ldu u) v (file_small p.codes file u f) h.1 h.0))
-    ∙ others_start p.codes file ldu u f
+pub next_start_other : (p : Contents) → IsProfile p → (place : UnitNumber) (u : LduValue) (us : List LduValue) → place.file ≤ 255 → place.ldu ≤ p.codes.first_ldu + 254 → AllFit p (number_after p.codes place u) us → are_numbers (next_start (forms_of p.codes (clean_blocks p.codes (number_after p.codes place u) us))) place.file place.ldu ≡ false
+next_start_other p is place u [] f l h = refl
+next_start_other p is place u (v ∷ us) f l h =
+    let low = (in_range p is).first_ldu in
+    let next = number_after p.codes place u in
+    ap (λ (o : Option UnitNumber). are_numbers o place.file place.ldu) (first_start p next v (clean_blocks p.codes (number_after p.codes next v) us) (unit_has_forms p is next v (next_byte p.codes place _ f) h.1 h.0))
+    ∙ others_start p.codes place _ (omega arith)
 
-pub unit_parts : (p : Contents) → IsProfile p → (file ldu : ℕ) (u : LduValue) (us : List LduValue) (items : List Seen) → file ≤ 255 → AllFit p ldu (u ∷ us) → without_free p.codes items ≡ clean_blocks p.codes file ldu (u ∷ us) → Parts p.codes items (clean_block p.codes file ldu u) (clean_blocks p.codes (next_file p.codes file u) (next_ldu p.codes ldu u) us) (words_to_go p.codes items)
-unit_parts p is file ldu u us items f h e =
-    let said = unit_said p is file ldu u f h.1 h.0 in
-    let rest = clean_blocks p.codes (next_file p.codes file u) (next_ldu p.codes ldu u) us in
-    let ack = on_b (word_number p.codes (Ack file ldu)) in
-    group_parts p.codes file ldu ack rest said.settled (next_start_other p is file ldu u us f h.2) items (front p.codes file ldu u) (front_no_ack p file ldu u said) (e ∙ append_assoc (front p.codes file ldu u) (ack ∷ []) rest)
+pub unit_parts : (p : Contents) → IsProfile p → (place : UnitNumber) (u : LduValue) (us : List LduValue) (items : List Seen) → place.file ≤ 255 → AllFit p place (u ∷ us) → without_free p.codes items ≡ clean_blocks p.codes place (u ∷ us) → Parts p.codes items (clean_block p.codes place u) (clean_blocks p.codes (number_after p.codes place u) us) (words_to_go p.codes items)
+unit_parts p is place u us items f h e =
+    let said = unit_has_forms p is place u f h.1 h.0 in
+    let rest = clean_blocks p.codes (number_after p.codes place u) us in
+    let ack = on_b (word_number p.codes (Ack place.file place.ldu)) in
+    group_parts p.codes place.file place.ldu ack rest said.settled (next_start_other p is place u us f h.1 h.2) items (front p.codes place u) (front_no_ack p place u said) (e ∙ append_assoc (front p.codes place u) (ack ∷ []) rest)
 
 -- ---- the number of the first file
 
 -- a recording without loss is one from the number in its first start word on
-pub clean_from_first : (p : Contents) → IsProfile p → (first : ℕ) (us : List LduValue) (items : List Seen) → first ≤ 255 → AllFit p p.codes.first_ldu us → without_free p.codes items ≡ clean_blocks p.codes first p.codes.first_ldu us → without_free p.codes items ≡ clean_blocks p.codes (first_file_of (forms_of p.codes items)) p.codes.first_ldu us
+pub clean_from_first : (p : Contents) → IsProfile p → (first : ℕ) (us : List LduValue) (items : List Seen) → first ≤ 255 → AllFit p (first_number p.codes first) us → without_free p.codes items ≡ clean_blocks p.codes (first_number p.codes first) us → without_free p.codes items ≡ clean_blocks p.codes (first_number p.codes (first_file_of (forms_of p.codes items))) us
 clean_from_first p is first [] items f h e = e
 clean_from_first p is first (u ∷ us) items f h e =
-    let rest = clean_blocks p.codes (next_file p.codes first u) (next_ldu p.codes p.codes.first_ldu u) us in
-    let start : next_start (forms_of p.codes items) ≡ Some (record { file = first; ldu = p.codes.first_ldu }) = sym (next_start-thin p.codes items) ∙ ap (λ (xs : List Seen). next_start (forms_of p.codes xs)) e ∙ first_start p first p.codes.first_ldu u rest (unit_said p is first p.codes.first_ldu u f h.1 h.0) in
+    let place = first_number p.codes first in
+    let rest = clean_blocks p.codes (number_after p.codes place u) us in
+    let start : next_start (forms_of p.codes items) ≡ Some place = sym (next_start-thin p.codes items) ∙ ap (λ (xs : List Seen). next_start (forms_of p.codes xs)) e ∙ first_start p place u rest (unit_has_forms p is place u f h.1 h.0) in
     let same : first_file_of (forms_of p.codes items) ≡ first = ap file_of start in
-    e ∙ ap (λ (n : ℕ). clean_blocks p.codes n p.codes.first_ldu (u ∷ us)) (sym same)
+    e ∙ ap (λ (n : ℕ). clean_blocks p.codes (first_number p.codes n) (u ∷ us)) (sym same)

@@ -11,14 +11,16 @@ use Rattle.a429_ldu.specs.Sight.{sight_of}
 use Rattle.a429_ldu.specs.Ldu.{LduValue, count_of}
 use Rattle.a429_link.specs.declared.seen.Seen.{Seen}
 use Rattle.a429_link.specs.Clean.{on_a, without_free}
-use Rattle.a429_explain.specs.declared.matching.Place.{Place}
+use Rattle.a429_link.specs.declared.number.UnitNumber.{UnitNumber}
 use Rattle.a429_explain.specs.Matching.{passing, passed_after}
 use Rattle.a429_explain.specs.Heard.{sight_at}
 use Rattle.a429_explain.specs.Whole.{nothing_yet, first_whole, wanted, other_request}
 use Rattle.a429_explain.specs.Filled.{filled, group_unit}
-use Rattle.a429_explain.specs.Crossed.{HasCrossed}
+use Rattle.a429_explain.specs.Block.{HasCrossed}
+use Rattle.a429_explain.specs.Guess.{heard}
+use Rattle.a429_explain.proofs.GroupsFacts.{asked}
 use Rattle.a429_explain.proofs.Thinned.{first_whole-thin, passed_after-thin, other_request-thin, free_sight}
-use Rattle.a429_explain.proofs.CleanBlock.{AreSaid, are_said, formed_sight, block_others, block_whole, block_passed}
+use Rattle.a429_explain.proofs.CleanBlock.{HasForms, has_forms, formed_sight, block_others, block_whole, block_passed}
 use Rattle.a429_explain.proofs.WholeFacts.{has_item, range_next}
 
 -- ---- its first word
@@ -41,7 +43,7 @@ head_wants c n f i items tail e count w =
 
 -- ---- the words before one that is matched are matched
 
-matched_before : (c : Codes) (u : LduValue) (place : Place) (xs : List Seen) (o : Option ℕ) → IsSome (passed_after c u place xs o) → IsSome o
+matched_before : (c : Codes) (u : LduValue) (place : UnitNumber) (xs : List Seen) (o : Option ℕ) → IsSome (passed_after c u place xs o) → IsSome o
 matched_before c u place [] o h = h
 matched_before c u place (x ∷ xs) o h = by o (matched_before c u place xs (option_and_then (passing c u place x) o) h)
   where
@@ -49,7 +51,7 @@ matched_before c u place (x ∷ xs) o h = by o (matched_before c u place xs (opt
     by None h = h
     by (Some k) h = refl
 
-matched_front : (c : Codes) (u : LduValue) (place : Place) (xs ys : List Seen) (o : Option ℕ) → IsSome (passed_after c u place (xs ++ ys) o) → IsSome (passed_after c u place xs o)
+matched_front : (c : Codes) (u : LduValue) (place : UnitNumber) (xs ys : List Seen) (o : Option ℕ) → IsSome (passed_after c u place (xs ++ ys) o) → IsSome (passed_after c u place xs o)
 matched_front c u place [] ys o h = matched_before c u place ys o h
 matched_front c u place (x ∷ xs) ys o h = matched_front c u place xs ys (option_and_then (passing c u place x) o) h
 
@@ -60,22 +62,22 @@ range_front xs from mid to l =
 
 -- ---- what the group gives
 
-pub record GivesUnit (p : Contents) (items : List Seen) (from to count : ℕ) (place : Place) (u : LduValue) : Type 0 where
+pub record GivesUnit (p : Contents) (items : List Seen) (from to count : ℕ) (place : UnitNumber) (u : LduValue) : Type 0 where
   pub others : other_request p.codes count (slice_range items from to) from ≡ None
   pub is : group_unit p count (slice_range items from to) ≡ Some u
   pub matched : (i : ℕ) → i < to → IsSome (passed_after p.codes u place (slice_range items from (i + 1)) (Some 0))
 
-pub crossed_gives : (p : Contents) → IsProfile p → (items : List Seen) (from to count : ℕ) (place : Place) (u : LduValue) → from < to → to ≤ length items → wanted (sight_at p.codes (slice_get items from)) ≡ Some count → HasCrossed p (slice_range items from to) place u → GivesUnit p items from to count place u
+pub crossed_gives : (p : Contents) → IsProfile p → (items : List Seen) (from to count : ℕ) (place : UnitNumber) (u : LduValue) → from < to → to ≤ length items → wanted (sight_at p.codes (slice_get items from)) ≡ Some count → HasCrossed (heard p items) (asked (record { from = from; to = to }) count) place u → GivesUnit p items from to count place u
 crossed_gives p is items from to count place u l m w h =
     let group = slice_range items from to in
-    let said : AreSaid p place.file place.ldu u = are_said p is place.file place.ldu u h.unit h.file h.ldu in
+    let forms : HasForms p place u = has_forms p is place u h.unit h.file h.ldu in
     let here = has_item items from (omega arith) in
     let asks : wanted (sight_of p.codes here.item.bus here.item.word) ≡ Some count = ap (λ (o : Option Seen). wanted (sight_at p.codes o)) (sym here.is) ∙ w in
     let begins = ap (without_free p.codes) (sym (range_next items from to here.item l here.is)) ∙ h.words in
-    let same : count ≡ count_of u = head_wants p.codes (count_of u) said.request here.item (slice_range items (from + 1) to) _ begins count asks in
-    let passed : passed_after p.codes u place group (Some 0) ≡ Some (count_of u) = sym (passed_after-thin p.codes u place group (Some 0)) ∙ ap (λ (xs : List Seen). passed_after p.codes u place xs (Some 0)) h.words ∙ block_passed p u place h.ldu said in
+    let same : count ≡ count_of u = head_wants p.codes (count_of u) forms.request here.item (slice_range items (from + 1) to) _ begins count asks in
+    let passed : passed_after p.codes u place group (Some 0) ≡ Some (count_of u) = sym (passed_after-thin p.codes u place group (Some 0)) ∙ ap (λ (xs : List Seen). passed_after p.codes u place xs (Some 0)) h.words ∙ block_passed p u place h.ldu forms in
     record {
-      others = subst (λ (n : ℕ). other_request p.codes n group from ≡ None) (sym same) (other_request-thin p.codes (count_of u) group from from (ap (λ (xs : List Seen). other_request p.codes (count_of u) xs from) h.words ∙ block_others p place.file place.ldu u said from));
-      is = ap (λ (o : Option LduValue). option_or o (filled p count group)) (subst (λ (n : ℕ). first_whole p n group nothing_yet ≡ Some u) (sym same) (sym (first_whole-thin p (count_of u) group nothing_yet) ∙ ap (λ (xs : List Seen). first_whole p (count_of u) xs nothing_yet) h.words ∙ block_whole p is place.file place.ldu u h.unit said));
+      others = subst (λ (n : ℕ). other_request p.codes n group from ≡ None) (sym same) (other_request-thin p.codes (count_of u) group from from (ap (λ (xs : List Seen). other_request p.codes (count_of u) xs from) h.words ∙ block_others p place u forms from));
+      is = ap (λ (o : Option LduValue). option_or o (filled p count group)) (subst (λ (n : ℕ). first_whole p n group nothing_yet ≡ Some u) (sym same) (sym (first_whole-thin p (count_of u) group nothing_yet) ∙ ap (λ (xs : List Seen). first_whole p (count_of u) xs nothing_yet) h.words ∙ block_whole p is place u h.unit forms));
       matched = λ i k. matched_front p.codes u place (slice_range items from (i + 1)) (drop ((i + 1) - from) group) (Some 0) (subst (λ (xs : List Seen). IsSome (passed_after p.codes u place xs (Some 0))) (range_front items from (i + 1) to (omega arith)) (subst IsSome (sym passed) refl));
     }

@@ -1,5 +1,5 @@
 -- What is recorded of a group that was never recorded whole, one word after the other, and what is added to it.
-use Rattle.std.proofs.Common.{◌≡◌, ℕ, zero, suc, ◌+◌, ◌-◌, ◌*◌, ◌%◌, ◌≤◌, ◌<◌, Bool, true, false, cond, not, ◌||◌, ◌==◌, List, [], ◌∷◌, ◌++◌, length, get_or, slice_get, slice_range, Option, Some, None, IfSome, IsSome, is_some, option_map, option_and_then, refl, sym, ap, ◌∙◌, subst, arith, append_assoc, length-append}
+use Rattle.std.proofs.Common.{◌≡◌, ℕ, suc, ◌+◌, ◌-◌, ◌*◌, ◌%◌, ◌≤◌, ◌<◌, Bool, true, false, cond, not, ◌||◌, ◌==◌, List, [], ◌∷◌, ◌++◌, length, slice_range, Option, Some, None, IfSome, IsSome, is_some, option_map, option_and_then, refl, sym, ap, ◌∙◌, subst, arith, append_assoc, length-append}
 use Rattle.std.specs.Option.{unwrap_or}
 use Rattle.a429_word.specs.declared.bus.Bus.{Bus}
 use Rattle.a429_word.specs.declared.bus.Bus.TheVariants as bus
@@ -8,11 +8,10 @@ use Rattle.a429_profile.specs.Profile.{Contents, IsProfile}
 use Rattle.a429_ldu.specs.declared.forms.Form.{Form}
 use Rattle.a429_ldu.specs.declared.forms.Form.TheVariants.{Part}
 use Rattle.a429_ldu.specs.Form.{form_of, word_number, IsInRange}
-use Rattle.a429_ldu.specs.Carried.{semis_in, joined_to, semis_of_words, paired, if_some, bytes_carried}
+use Rattle.a429_ldu.specs.Carried.{semis_in, joined_to, semis_of_words, paired, if_some, bytes_carried, bytes_in}
 use Rattle.a429_ldu.specs.CheckWord.{check_of}
 use Rattle.a429_ldu.proofs.FormFacts.{form_of-is}
 use Rattle.a429_link.specs.declared.seen.Seen.{Seen}
-use Rattle.a429_link.specs.Sink.{bytes_in}
 use Rattle.a429_explain.specs.declared.heard.HeardWord.{HeardWord}
 use Rattle.a429_explain.specs.Heard.{IsHeardAt}
 use Rattle.a429_explain.specs.Filled.{is_end, has_end, gfi_of, first_gfi, Last, last_with, last_data, zeros, fillers, are_odd, none_yet, filled_up, unit_filled, filled}

@@ -1,7 +1,6 @@
 pub mod WalkFacts
 pub mod HeardFacts
 pub mod AttemptsFacts
-pub mod UnitsFacts
 pub mod MatchingFacts
 pub mod ScribeFacts
 pub mod ScribeWithoutLoss

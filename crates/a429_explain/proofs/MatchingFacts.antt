@@ -9,7 +9,7 @@ use Rattle.a429_ldu.specs.Ldu.{LduValue, count_of}
 use Rattle.a429_link.specs.declared.seen.Seen.{Seen}
 use Rattle.a429_record.specs.declared.entry.Entry.{Entry}
 use Rattle.a429_cert.specs.Explained.{seen_of, items_of}
-use Rattle.a429_explain.specs.declared.matching.Place.{Place}
+use Rattle.a429_link.specs.declared.number.UnitNumber.{UnitNumber}
 use Rattle.a429_explain.specs.declared.heard.HeardWord.{HeardWord}
 use Rattle.a429_explain.specs.Heard.{IsHeardAt}
 use Rattle.a429_explain.specs.Matching.{is_word, passed_with, passing_as, passing, passed_after}
@@ -24,7 +24,7 @@ passed_on is k n l e =
     let one : k + 1 ≡ suc k = omega arith in
     ap (passed_with is k) more ∙ passed_one is k (n - (k + 1)) e ∙ ap (λ (j : ℕ). passed_with is j (n - (k + 1))) (sym one)
 
-after_all : (c : Codes) (u : LduValue) (place : Place) (xs ys : List Seen) (o : Option ℕ) → passed_after c u place (xs ++ ys) o ≡ passed_after c u place ys (passed_after c u place xs o)
+after_all : (c : Codes) (u : LduValue) (place : UnitNumber) (xs ys : List Seen) (o : Option ℕ) → passed_after c u place (xs ++ ys) o ≡ passed_after c u place ys (passed_after c u place xs o)
 after_all c u place [] ys o = refl
 after_all c u place (x ∷ xs) ys o = after_all c u place xs ys (option_and_then (passing c u place x) o)
 
@@ -46,7 +46,7 @@ range_push xs a n d m l =
     ap (λ (k : ℕ). take k (drop a xs)) more ∙ take-suc (drop a xs) (n - a) d inside ∙ ap (λ (x : Seen). take (n - a) (drop a xs) ++ x ∷ []) (get_or-drop a xs (n - a) d ∙ ap (λ (k : ℕ). get_or xs k d) back)
 
 -- with the next word
-pub passed_next : (c : Codes) (u : LduValue) (place : Place) (items : List Seen) (a n : ℕ) (i : Seen) (passed : ℕ) → a ≤ n → slice_get items n ≡ Some i → passed_after c u place (slice_range items a n) (Some 0) ≡ Some passed → passed_after c u place (slice_range items a (n + 1)) (Some 0) ≡ passing c u place i passed
+pub passed_next : (c : Codes) (u : LduValue) (place : UnitNumber) (items : List Seen) (a n : ℕ) (i : Seen) (passed : ℕ) → a ≤ n → slice_get items n ≡ Some i → passed_after c u place (slice_range items a n) (Some 0) ≡ Some passed → passed_after c u place (slice_range items a (n + 1)) (Some 0) ≡ passing c u place i passed
 passed_next c u place items a n i passed m e h =
     ap (λ (xs : List Seen). passed_after c u place xs (Some 0)) (range_push items a n i m (slice_get_within items n i e))
     ∙ after_all c u place (slice_range items a n) (get_or items n i ∷ []) (Some 0)
@@ -54,10 +54,10 @@ passed_next c u place items a n i passed m e h =
     ∙ ap (λ (x : Seen). passing c u place x passed) (get_or_from_slice_get items n i i e)
 
 -- before the first
-pub passed_none : (c : Codes) (u : LduValue) (place : Place) (items : List Seen) (a : ℕ) → passed_after c u place (slice_range items a a) (Some 0) ≡ Some 0
+pub passed_none : (c : Codes) (u : LduValue) (place : UnitNumber) (items : List Seen) (a : ℕ) → passed_after c u place (slice_range items a a) (Some 0) ≡ Some 0
 passed_none c u place items a = let none : a - a ≡ 0 = omega arith in ap (λ (k : ℕ). passed_after c u place (take k (drop a items)) (Some 0)) none
 
-pub passed_step : (c : Codes) (u : LduValue) (place : Place) (items : List Seen) (a n : ℕ) (w : HeardWord) (passed : ℕ) (r : Option ℕ) → a ≤ n → IsHeardAt c items n w → passed_after c u place (slice_range items a n) (Some 0) ≡ Some passed → r ≡ passing_as w.form (passed_with (is_word c u place w.word) passed (count_of u - passed)) passed → passed_after c u place (slice_range items a (n + 1)) (Some 0) ≡ r
+pub passed_step : (c : Codes) (u : LduValue) (place : UnitNumber) (items : List Seen) (a n : ℕ) (w : HeardWord) (passed : ℕ) (r : Option ℕ) → a ≤ n → IsHeardAt c items n w → passed_after c u place (slice_range items a n) (Some 0) ≡ Some passed → r ≡ passing_as w.form (passed_with (is_word c u place w.word) passed (count_of u - passed)) passed → passed_after c u place (slice_range items a (n + 1)) (Some 0) ≡ r
 passed_step c u place items a n w passed r m k h e =
     passed_next c u place items a n k.item passed m k.is h
     ∙ ap (λ (x : Option Form). passing_as x (passed_with (is_word c u place k.item.word) passed (count_of u - passed)) passed) k.form_is

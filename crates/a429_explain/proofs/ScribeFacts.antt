@@ -1,5 +1,5 @@
 -- What the scribe has written: its text is one of lines, and each line lists a step of a run.
-use Rattle.std.proofs.Common.{◌≡◌, ℕ, ◌≤◌, ◌==◌, Bool, false, List, [], ◌∷◌, ◌++◌, map, Option, Some, None, Result, Ok, Err, OnOk, refl, sym, ap, ◌∙◌, subst, arith, append_assoc, append-nil}
+use Rattle.std.proofs.Common.{◌≡◌, ℕ, ◌≤◌, ◌==◌, Bool, true, false, List, [], ◌∷◌, ◌++◌, map, Option, Some, None, Result, Ok, Err, OnOk, refl, sym, ap, ◌∙◌, subst, arith, append_assoc, append-nil}
 use Rattle.std.specs.List.{AllByRecursion}
 use Rattle.std.proofs.lemmas.Bool.{ne_eqb}
 use Rattle.a429_profile.specs.Profile.{Contents}
@@ -10,9 +10,8 @@ use Rattle.a429_link.specs.declared.step.Step.TheVariants as step
 use Rattle.a429_link.specs.declared.state.SourceState.{SourceState}
 use Rattle.a429_link.specs.declared.state.SourceState.TheVariants as source
 use Rattle.a429_link.specs.Link.{LinkValue}
-use Rattle.a429_link.specs.Run.{IsRun, IsBounded, SentFew, TookFew, trace, with_label}
-use Rattle.a429_link.specs.Sink.{SinkPhase, Quiet, OwesClear, Granted, InBlock, OwesAck, OwesNak, Listens}
-use Rattle.a429_link.specs.Source.{IsIdle}
+use Rattle.a429_link.specs.Run.{IsBounded, SentFew, TookFew, trace, with_label}
+use Rattle.a429_link.specs.Sink.{SinkPhase, Quiet, OwesClear, Granted, InBlock, OwesAck, OwesNak}
 use Rattle.a429_link.specs.Step.{Can, after, label}
 use Rattle.a429_link.specs.State.{start, State, sink_state_of, states_of}
 use Rattle.a429_link.proofs.LinkKept.{end_push}
@@ -30,7 +29,7 @@ use Rattle.a429_cert.proofs.LineShape.{IsVisible, line-visible}
 use Rattle.a429_cert.proofs.ExplainedFacts.{trace_push, lists_push}
 use Rattle.a429_explain.specs.declared.attempts.Role.{Role}
 use Rattle.a429_explain.specs.declared.attempts.Role.TheVariants.{Request}
-use Rattle.a429_explain.specs.Scribe.{IsLossless, lossless_steps, lines_text, HasWritten, with_next, WritesNext, link_after}
+use Rattle.a429_explain.specs.Scribe.{IsLossless, lossless_steps, lines_text, HasWritten, with_next, WritesNext, link_after, CanMake, CanLoad, load_steps, sent, IsAtRest}
 
 -- ---- the lines of a text
 
@@ -180,34 +179,19 @@ load_written (Ok z) text more l m n u v eu is can made same w h =
 
 -- ---- a request that nothing is lost before
 
-pub record Asks (p : Contents) (i : Seen) (loaded : Bool) (units : List LduValue) (s : State) : Type 0 where
-  pub unit : LduValue
-  pub more : List LduValue
-  pub first : units ≡ unit ∷ more
-  pub fresh : loaded ≡ false
-  pub can : Can p (step.Load unit) s
-  pub idle : IsIdle s.source.phase
-  pub listens : Listens s.sink.phase
-  pub sends : IsRun p (step.Sent i ∷ (step.SinkTakes ∷ [])) (after p (step.Load unit) s)
+pub record Asks (r : Role) (i : Seen) (loaded : Bool) (units : List LduValue) (l : LinkValue) : Type 0 where
+  pub rests : IsAtRest l
+  pub can : CanLoad loaded units l
+  pub sends : CanMake (sent i) (link_after (load_steps loaded units) l)
+  pub leads : link_after (lossless_steps r i units) l ≡ link_after (sent i) (link_after (load_steps loaded units) l)
 
-pub asks_parts : (p : Contents) (r : Role) (n : ℕ) (i : Seen) (loaded : Bool) (units : List LduValue) (s : State) → r ≡ Request n → IsLossless r loaded units → IsRun p (lossless_steps r i units) s → Asks p i loaded units s
-asks_parts p r n i loaded units s e h run = by units (subst (λ q. IsLossless q loaded units) e h) (subst (λ q. IsRun p (lossless_steps q i units) s) e run)
+pub asks_parts : (r : Role) (n : ℕ) (i : Seen) (loaded : Bool) (units : List LduValue) (l : LinkValue) → r ≡ Request n → IsLossless r loaded units → CanMake (lossless_steps r i units) l → Asks r i loaded units l
+asks_parts r n i loaded units l e h run = subst (λ q. Asks q i loaded units l) (sym e) (by loaded units (subst (λ q. IsLossless q loaded units) e h) (subst (λ q. CanMake (lossless_steps q i units) l) e run))
   where
-    by : (us : List LduValue) → IsLossless (Request n) loaded us → IsRun p (lossless_steps (Request n) i us) s → Asks p i loaded us s
-    by [] g q = absurd g.1
-    by (u ∷ us) g q = record {
-      unit = u;
-      more = us;
-      first = refl;
-      fresh = g.0;
-      can = q.0;
-      idle = q.0.0;
-      listens = q.1.1.0.1;
-      sends = q.1;
-    }
-
-pub asks_steps : (r : Role) (n : ℕ) (i : Seen) (units : List LduValue) (u : LduValue) (more : List LduValue) → r ≡ Request n → units ≡ u ∷ more → lossless_steps r i units ≡ step.Load u ∷ (step.Sent i ∷ (step.SinkTakes ∷ []))
-asks_steps r n i units u more e h = rw e (rw h refl)
+    by : (t : Bool) (us : List LduValue) → IsLossless (Request n) t us → CanMake (lossless_steps (Request n) i us) l → Asks (Request n) i t us l
+    by true us g q = absurd (let fresh = g.0 in cc fresh)
+    by false [] g q = absurd g.1
+    by false (u ∷ us) g q = record { rests = (q.0.0, q.1.1.0.1); can = q.0; sends = q.1; leads = refl }
 
 pub on_ok : {X E : Type 0} {A B : Type 0} (r : Result X E) → OnOk r A → (A → B) → OnOk r B
 on_ok (Ok x) a f = f a

@@ -11,7 +11,7 @@ use Rattle.a429_ldu.specs.Ldu.{LduValue, block_of, count_of}
 use Rattle.a429_link.specs.declared.seen.Seen.{Seen}
 use Rattle.a429_link.specs.declared.step.Step.{Step}
 use Rattle.a429_link.specs.declared.step.Step.TheVariants.{FreeSeen}
-use Rattle.a429_link.specs.Clean.{on_a, on_b, next_file, next_ldu, clean_blocks, AllFit, without_free, asks, sends_word, replies, clean_steps, first_of, rest_of, weave}
+use Rattle.a429_link.specs.Clean.{on_a, on_b, clean_blocks, AllFit, without_free, asks, sends_word, replies, clean_steps, first_of, rest_of, weave}
 use Rattle.a429_link.specs.Link.{LinkValue}
 use Rattle.a429_link.specs.Run.{IsRun, end_of}
 use Rattle.a429_link.specs.Step.{Can}
@@ -19,18 +19,20 @@ use Rattle.a429_link.specs.State.{start}
 use Rattle.a429_link.proofs.CleanRuns.{clean_is_run, run_split}
 use Rattle.a429_record.specs.declared.entry.Entry.{Entry}
 use Rattle.a429_cert.specs.Explained.{seen_of, items_of}
-use Rattle.a429_explain.specs.declared.attempts.Numbers.{Numbers}
+use Rattle.a429_link.specs.declared.number.UnitNumber.{UnitNumber}
 use Rattle.a429_explain.specs.declared.attempts.Role.{Role}
 use Rattle.a429_explain.specs.declared.attempts.Role.TheVariants as role
 use Rattle.a429_explain.specs.Attempts.{sends_block as sends_words, are_numbers, role_of, roles}
 use Rattle.a429_explain.specs.Heard.{forms_of}
 use Rattle.a429_explain.specs.Scribe.{IsLossless, lossless_steps, units_left, loaded_after, link_after}
 use Rattle.a429_explain.specs.Matching.{IsOfBlock}
-use Rattle.a429_explain.proofs.CleanBlock.{AreOfBlock, block_said}
-use Rattle.a429_explain.proofs.CleanGroups.{unit_said, file_small, next_start_other}
+use Rattle.a429_explain.proofs.CleanBlock.{AreOfBlock, block_has_forms}
+use Rattle.a429_explain.proofs.CleanGroups.{unit_has_forms, next_start_other}
 use Rattle.a429_explain.proofs.MatchingFacts.{get_item, length-items_of}
 use Rattle.a429_explain.proofs.Thinned.{next_start-thin}
 use Rattle.a429_explain.proofs.WalkFacts.{free_none}
+use Rattle.a429_link.specs.Number.{first_number, number_after}
+use Rattle.a429_link.proofs.NumberFacts.{next_byte}
 
 -- ---- roles, free words left out
 
@@ -62,7 +64,7 @@ role_thin c i items = by (form_of c i.bus i.word)
   where
     by : (o : Option Form) → role_of o (forms_of c items) ≡ role_of o (forms_of c (without_free c items))
     by (Some (Cts n)) = ap (λ (b : Bool). role.Clear b) (sym (sends-thin c items))
-    by (Some (Ack f l)) = ap (λ (o : Option Numbers). role.Acknowledged (not (are_numbers o f l))) (sym (next_start-thin c items))
+    by (Some (Ack f l)) = ap (λ (o : Option UnitNumber). role.Acknowledged (not (are_numbers o f l))) (sym (next_start-thin c items))
     by None = refl
     by (Some (Rts n)) = refl
     by (Some (Nak b)) = refl
@@ -75,9 +77,9 @@ role_thin c i items = by (form_of c i.bus i.word)
 -- beside each word stand the steps that are written for it
 abbrev AreLosslessSteps : Codes → List Seen → List (List Step) → List LduValue → Bool → Type 0
 AreLosslessSteps c [] gs units loaded = Unit {0}
-AreLosslessSteps c (i ∷ xs) gs units loaded = (first_of gs ≡ lossless_steps (role_in c i xs) i units) × IsLossless (role_in c i xs) loaded units × AreLosslessSteps c xs (rest_of gs) (units_left (role_in c i xs) units) (loaded_after (role_in c i xs) loaded)
+AreLosslessSteps c (i ∷ xs) gs units loaded = (first_of gs ≡ lossless_steps (role_in c i xs) i units) × IsLossless (role_in c i xs) loaded units × AreLosslessSteps c xs (rest_of gs) (units_left (role_in c i xs) loaded units) (loaded_after (role_in c i xs) loaded)
 
-planned_cons : (c : Codes) (i : Seen) (xs : List Seen) (g : List Step) (gs : List (List Step)) (units : List LduValue) (loaded : Bool) (r : Role) → role_in c i xs ≡ r → g ≡ lossless_steps r i units → IsLossless r loaded units → AreLosslessSteps c xs gs (units_left r units) (loaded_after r loaded) → AreLosslessSteps c (i ∷ xs) (g ∷ gs) units loaded
+planned_cons : (c : Codes) (i : Seen) (xs : List Seen) (g : List Step) (gs : List (List Step)) (units : List LduValue) (loaded : Bool) (r : Role) → role_in c i xs ≡ r → g ≡ lossless_steps r i units → IsLossless r loaded units → AreLosslessSteps c xs gs (units_left r loaded units) (loaded_after r loaded) → AreLosslessSteps c (i ∷ xs) (g ∷ gs) units loaded
 planned_cons c i xs g gs units loaded r e steps plain more = rw e (steps, plain, more)
 
 -- the words to come are those of a run without loss that goes on from the link
@@ -91,7 +93,7 @@ pub record OnPlan (p : Contents) (items : List Seen) (units : List LduValue) (lo
 pub record Goes (p : Contents) (i : Seen) (items : List Seen) (r : Role) (units : List LduValue) (loaded : Bool) (l : LinkValue) : Type 0 where
   pub lossless : IsLossless r loaded units
   pub run : IsRun p (lossless_steps r i units) l.state
-  pub more : OnPlan p items (units_left r units) (loaded_after r loaded) (link_after (lossless_steps r i units) l)
+  pub more : OnPlan p items (units_left r loaded units) (loaded_after r loaded) (link_after (lossless_steps r i units) l)
 
 goes_free : (p : Contents) (i : Seen) (items : List Seen) (units : List LduValue) (loaded : Bool) (l : LinkValue) (gs : List (List Step)) → l.profile ≡ p → Can p (FreeSeen i) l.state → IsRun p (weave p.codes items gs) l.state → AreLosslessSteps p.codes (without_free p.codes items) gs units loaded → Goes p i items role.Free units loaded l
 goes_free p i items units loaded l gs e can run planned = record {
@@ -100,7 +102,7 @@ goes_free p i items units loaded l gs e can run planned = record {
   more = record { profile = e; groups = gs; run = run; planned = planned };
 }
 
-goes_word : (p : Contents) (i : Seen) (items : List Seen) (r : Role) (units : List LduValue) (loaded : Bool) (l : LinkValue) (gs : List (List Step)) → l.profile ≡ p → first_of gs ≡ lossless_steps r i units → IsLossless r loaded units → IsRun p (first_of gs ++ weave p.codes items (rest_of gs)) l.state → AreLosslessSteps p.codes (without_free p.codes items) (rest_of gs) (units_left r units) (loaded_after r loaded) → Goes p i items r units loaded l
+goes_word : (p : Contents) (i : Seen) (items : List Seen) (r : Role) (units : List LduValue) (loaded : Bool) (l : LinkValue) (gs : List (List Step)) → l.profile ≡ p → first_of gs ≡ lossless_steps r i units → IsLossless r loaded units → IsRun p (first_of gs ++ weave p.codes items (rest_of gs)) l.state → AreLosslessSteps p.codes (without_free p.codes items) (rest_of gs) (units_left r loaded units) (loaded_after r loaded) → Goes p i items r units loaded l
 goes_word p i items r units loaded l gs e steps plain run planned =
     let parts = run_split p (lossless_steps r i units) (weave p.codes items (rest_of gs)) l.state (subst (λ (g : List Step). IsRun p (g ++ weave p.codes items (rest_of gs)) l.state) steps run) in
     record {
@@ -140,18 +142,18 @@ planned_block c (w ∷ ws) xs gs units h more = rw (block_role (form_of c bus.A 
 planned_apart : (c : Codes) (ws bs cs : List Seen) (ds es fs : List (List Step)) (units : List LduValue) (loaded : Bool) → AreLosslessSteps c (ws ++ (bs ++ cs)) (ds ++ (es ++ fs)) units loaded → AreLosslessSteps c ((ws ++ bs) ++ cs) ((ds ++ es) ++ fs) units loaded
 planned_apart c ws bs cs ds es fs units loaded h = subst (λ (xs : List Seen). AreLosslessSteps c xs ((ds ++ es) ++ fs) units loaded) (sym (append_assoc ws bs cs)) (subst (λ (gs : List (List Step)). AreLosslessSteps c (ws ++ (bs ++ cs)) gs units loaded) (sym (append_assoc ds es fs)) h)
 
-pub planned_clean : (p : Contents) → IsProfile p → (us : List LduValue) (file ldu : ℕ) → file ≤ 255 → AllFit p ldu us → AreLosslessSteps p.codes (clean_blocks p.codes file ldu us) (clean_steps p.codes file ldu us) us false
-planned_clean p is [] file ldu f h = tt
-planned_clean p is (u ∷ us) file ldu f h =
+pub planned_clean : (p : Contents) → IsProfile p → (us : List LduValue) (place : UnitNumber) → place.file ≤ 255 → AllFit p place us → AreLosslessSteps p.codes (clean_blocks p.codes place us) (clean_steps p.codes place us) us false
+planned_clean p is [] place f h = tt
+planned_clean p is (u ∷ us) place f h =
     let c = p.codes in
-    let k = unit_said p is file ldu u f h.1 h.0 in
-    let block = block_of c u file ldu in
-    let last = word_number c (Ack file ldu) in
-    let xs = clean_blocks c (next_file c file u) (next_ldu c ldu u) us in
-    let gs = clean_steps c (next_file c file u) (next_ldu c ldu u) us in
-    let more : AreLosslessSteps c xs gs us false = planned_clean p is us (next_file c file u) (next_ldu c ldu u) (file_small c file u f) h.2 in
-    let acked : AreLosslessSteps c (on_b last ∷ xs) (replies last ∷ gs) us true = planned_cons c (on_b last) xs (replies last) gs us true (role.Acknowledged true) (rw k.settled (ap (λ (b : Bool). role.Acknowledged (not b)) (next_start_other p is file ldu u us f h.2))) refl refl more in
-    let words = planned_block c block (on_b last ∷ xs) (replies last ∷ gs) us (block_said p file ldu u k) acked in
+    let k = unit_has_forms p is place u f h.1 h.0 in
+    let block = block_of c u place.file place.ldu in
+    let last = word_number c (Ack place.file place.ldu) in
+    let xs = clean_blocks c (number_after c place u) us in
+    let gs = clean_steps c (number_after c place u) us in
+    let more : AreLosslessSteps c xs gs us false = planned_clean p is us (number_after c place u) (next_byte c place _ f) h.2 in
+    let acked : AreLosslessSteps c (on_b last ∷ xs) (replies last ∷ gs) us true = planned_cons c (on_b last) xs (replies last) gs us true (role.Acknowledged true) (rw k.settled (ap (λ (b : Bool). role.Acknowledged (not b)) (next_start_other p is place u us f h.1 h.2))) refl refl more in
+    let words = planned_block c block (on_b last ∷ xs) (replies last ∷ gs) us (block_has_forms p place u k) acked in
     let words : AreLosslessSteps c ((map on_a block ++ on_b last ∷ []) ++ xs) ((map sends_word block ++ replies last ∷ []) ++ gs) us true = planned_apart c (map on_a block) (on_b last ∷ []) xs (map sends_word block) (replies last ∷ []) gs us true words in
     let behind = (map on_a block ++ on_b last ∷ []) ++ xs in
     let more_steps = (map sends_word block ++ replies last ∷ []) ++ gs in
@@ -162,12 +164,12 @@ planned_clean p is (u ∷ us) file ldu f h =
 -- ---- the whole recording
 
 -- a recording without loss is on plan at its start
-pub plan_starts : (p : Contents) → IsProfile p → (us : List LduValue) (items : List Seen) (file : ℕ) (l : LinkValue) → file ≤ 255 → AllFit p p.codes.first_ldu us → without_free p.codes items ≡ clean_blocks p.codes file p.codes.first_ldu us → l ≡ record { profile = p; state = start p file } → OnPlan p items us false l
+pub plan_starts : (p : Contents) → IsProfile p → (us : List LduValue) (items : List Seen) (file : ℕ) (l : LinkValue) → file ≤ 255 → AllFit p (first_number p.codes file) us → without_free p.codes items ≡ clean_blocks p.codes (first_number p.codes file) us → l ≡ record { profile = p; state = start p file } → OnPlan p items us false l
 plan_starts p is us items file l f h e same = rw same (record {
   profile = refl;
-  groups = clean_steps p.codes file p.codes.first_ldu us;
+  groups = clean_steps p.codes (first_number p.codes file) us;
   run = (clean_is_run p file us items is f h e).run;
-  planned = subst (λ (xs : List Seen). AreLosslessSteps p.codes xs (clean_steps p.codes file p.codes.first_ldu us) us false) (sym e) (planned_clean p is us file p.codes.first_ldu f h);
+  planned = subst (λ (xs : List Seen). AreLosslessSteps p.codes xs (clean_steps p.codes (first_number p.codes file) us) us false) (sym e) (planned_clean p is us (first_number p.codes file) f h);
 })
 
 -- the role of an entry
@@ -188,7 +190,7 @@ pub goes_run : (p : Contents) (i : Seen) (items : List Seen) (r : Role) (units :
 goes_run p i items r units loaded l e h = rw e h.run
 
 -- the plan goes on
-pub plan_kept : (p : Contents) (i : Seen) (items : List Seen) (r : Role) (units left : List LduValue) (loaded now : Bool) (l m : LinkValue) → Goes p i items r units loaded l → left ≡ units_left r units → now ≡ loaded_after r loaded → m ≡ link_after (lossless_steps r i units) l → OnPlan p items left now m
+pub plan_kept : (p : Contents) (i : Seen) (items : List Seen) (r : Role) (units left : List LduValue) (loaded now : Bool) (l m : LinkValue) → Goes p i items r units loaded l → left ≡ units_left r loaded units → now ≡ loaded_after r loaded → m ≡ link_after (lossless_steps r i units) l → OnPlan p items left now m
 plan_kept p i items r units left loaded now l m h el en em = rw el (rw en (rw em h.more))
 
 -- the entries with the next one

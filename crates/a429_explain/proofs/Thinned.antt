@@ -12,7 +12,7 @@ use Rattle.a429_ldu.specs.Sight.{sight_of, sight_in}
 use Rattle.a429_ldu.specs.Ldu.{LduValue, count_of}
 use Rattle.a429_link.specs.declared.seen.Seen.{Seen}
 use Rattle.a429_link.specs.Clean.{without_free}
-use Rattle.a429_explain.specs.declared.matching.Place.{Place}
+use Rattle.a429_link.specs.declared.number.UnitNumber.{UnitNumber}
 use Rattle.a429_explain.specs.Attempts.{next_start}
 use Rattle.a429_explain.specs.Heard.{forms_of}
 use Rattle.a429_explain.specs.Matching.{is_word, passed_with, passing_as, passed_after}
@@ -36,15 +36,15 @@ first_whole-thin p count (i ∷ items) r = by (is_free p.codes i.bus i.word) ref
 -- ---- the words of the block
 
 -- how many are passed with a word of this form
-abbrev passes : Codes → LduValue → Place → ℕ → Option Form → ℕ → Option ℕ
+abbrev passes : Codes → LduValue → UnitNumber → ℕ → Option Form → ℕ → Option ℕ
 passes c u place word x k = passing_as x (passed_with (is_word c u place word) k (count_of u - k)) k
 
-passes-none : (c : Codes) (u : LduValue) (place : Place) (word : ℕ) (x : Option Form) (o : Option ℕ) → x ≡ None → option_and_then (passes c u place word x) o ≡ o
+passes-none : (c : Codes) (u : LduValue) (place : UnitNumber) (word : ℕ) (x : Option Form) (o : Option ℕ) → x ≡ None → option_and_then (passes c u place word x) o ≡ o
 passes-none c u place word None None e = refl
 passes-none c u place word None (Some k) e = refl
 passes-none c u place word (Some x) o e = absurd (cc e)
 
-pub passed_after-thin : (c : Codes) (u : LduValue) (place : Place) (items : List Seen) (o : Option ℕ) → passed_after c u place (without_free c items) o ≡ passed_after c u place items o
+pub passed_after-thin : (c : Codes) (u : LduValue) (place : UnitNumber) (items : List Seen) (o : Option ℕ) → passed_after c u place (without_free c items) o ≡ passed_after c u place items o
 passed_after-thin c u place [] o = refl
 passed_after-thin c u place (i ∷ items) o = by (is_free c i.bus i.word) refl (passed_after-thin c u place items)
   where

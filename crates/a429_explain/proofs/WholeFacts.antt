@@ -1,27 +1,25 @@
 -- Searches through the words of a group, one word after the other.
-use Rattle.std.proofs.Common.{◌≡◌, ◌≢◌, ℕ, zero, suc, ◌+◌, ◌-◌, ◌≤◌, ◌<◌, Bool, true, false, cond, not, ◌&&◌, List, [], ◌∷◌, length, take, drop, slice_get, slice_range, Option, Some, None, IfSome, is_some, refl, sym, ap, ◌∙◌, subst, arith, eq-eqb, get_or}
+use Rattle.std.proofs.Common.{◌≡◌, ◌≢◌, ℕ, zero, suc, ◌+◌, ◌-◌, ◌≤◌, ◌<◌, Bool, true, false, cond, not, ◌&&◌, List, [], ◌∷◌, length, take, drop, slice_get, slice_range, Option, Some, None, is_some, refl, sym, ap, ◌∙◌, subst, arith, eq-eqb}
 use Rattle.std.proofs.lemmas.Bool.{ne_eqb}
 use Rattle.std.proofs.lemmas.List.{drop_more}
 use Rattle.std.proofs.lemmas.Option.{slice_get_within, get_or_from_slice_get}
 use Rattle.std.specs.Option.{option_or}
-use Rattle.a429_word.specs.declared.bus.Bus.{Bus}
 use Rattle.a429_profile.specs.declared.codes.Codes.{Codes}
 use Rattle.a429_profile.specs.Profile.{Contents, IsProfile}
 use Rattle.a429_ldu.specs.declared.forms.Form.{Form}
 use Rattle.a429_ldu.specs.declared.forms.Form.TheVariants.{Rts, Cts, Ack, Nak, Sot, Part, Eot}
 use Rattle.a429_ldu.specs.declared.fault.LduFault.{LduFault}
 use Rattle.a429_ldu.specs.declared.fault.LduFault.TheVariants.{Count, NotBytes, CheckWrong, OutOfMemory}
-use Rattle.a429_ldu.specs.Form.{form_of, IsInRange}
 use Rattle.a429_ldu.specs.Sight.{sight_of}
-use Rattle.a429_ldu.specs.Carried.{bytes_carried}
+use Rattle.a429_ldu.specs.Carried.{bytes_carried, bytes_in}
 use Rattle.a429_ldu.specs.Ldu.{LduValue, IsLdu, IsFirstLduFault}
 use Rattle.a429_ldu.proofs.CarriedFacts.{carried_of, carries_of}
+use Rattle.a429_ldu.specs.CheckWord.{agrees}
 use Rattle.a429_link.specs.declared.seen.Seen.{Seen}
-use Rattle.a429_link.specs.Sink.{agrees, bytes_in}
 use Rattle.a429_ldu.specs.declared.sight.Sight.{Sight}
 use Rattle.a429_ldu.specs.declared.sight.Sight.TheVariants as sight
 use Rattle.a429_explain.specs.declared.verdict.Doubt.TheVariants.{NotOneBlock}
-use Rattle.a429_explain.specs.Doubt.{IsDoubtOf, IsDoubtAt}
+use Rattle.a429_explain.specs.Stop.{IsDoubtOf, IsDoubtAt}
 use Rattle.a429_explain.specs.declared.heard.HeardWord.{HeardWord}
 use Rattle.a429_explain.specs.Heard.{sight_at, IsHeardAt}
 use Rattle.a429_explain.specs.Whole.{Recorded, gathered_with, is_whole, unit_made, ended_by, first_whole, wanted, is_other, other_request}

@@ -15,7 +15,7 @@ use Rattle.a429_ldu.specs.Ldu.{LduValue, block_of}
 use Rattle.a429_ldu.proofs.CutFacts.{units}
 use Rattle.a429_link.specs.declared.fault.CleanFault.{CleanFault}
 use Rattle.a429_link.specs.declared.seen.Seen.{Seen}
-use Rattle.a429_link.specs.Clean.{AllFit, on_a, next_file, next_ldu, clean_block, clean_words, without_free, clean_blocks, clean_steps, weave, units_of_files, cut_fault, refused_or, first_refused}
+use Rattle.a429_link.specs.Clean.{AllFit, on_a, clean_block, clean_words, without_free, clean_blocks, clean_steps, weave, units_of_files, cut_fault, refused_or, first_refused}
 use Rattle.a429_link.specs.Run.{BeginsARun}
 use Rattle.a429_link.proofs.CleanFiles.{EachCut, all_fit}
 use Rattle.a429_link.proofs.CleanRuns.{clean_is_run}
@@ -27,13 +27,16 @@ use Rattle.a429_explain.specs.declared.stop.Stop.{Stop}
 use Rattle.a429_explain.specs.declared.stop.Stop.TheVariants.{Unexplained, OutOfMemory}
 use Rattle.a429_explain.specs.declared.verdict.Doubt.TheVariants.{NotReplayed}
 use Rattle.a429_explain.specs.Heard.{forms_of}
-use Rattle.a429_explain.specs.Doubt.{IsStop}
-use Rattle.a429_explain.specs.Crossed.{first_file_of}
-use Rattle.a429_explain.specs.WithoutLoss.{IsWithoutLoss}
+use Rattle.a429_explain.specs.Stop.{IsStop}
+use Rattle.a429_explain.specs.Guess.{first_file_of, heard, HaveCrossed}
+use Rattle.a429_explain.specs.WithoutLoss.{Crossing, CanCross, IsWithoutLoss}
 use Rattle.a429_explain.specs.Matching.{IsOfBlock}
-use Rattle.a429_explain.proofs.CleanBlock.{AreSaid, AreOfBlock, block_said, formed_free}
-use Rattle.a429_explain.proofs.CleanGroups.{clean_from_first, unit_said, file_small}
+use Rattle.a429_explain.proofs.CleanBlock.{HasForms, AreOfBlock, block_has_forms, formed_free}
+use Rattle.a429_explain.proofs.CleanGroups.{clean_from_first, unit_has_forms}
 use Rattle.a429_explain.proofs.ScribeWithoutLoss.{OnPlan, plan_starts}
+use Rattle.a429_link.specs.declared.number.UnitNumber.{UnitNumber}
+use Rattle.a429_link.specs.Number.{first_number, number_after}
+use Rattle.a429_link.proofs.NumberFacts.{next_byte}
 
 -- none of some files is refused: the first is not, and none of the others
 kept : (k : ℕ) (o : Option CutFault) (later : Option CleanFault) → refused_or k o later ≡ None → (o ≡ None) × (later ≡ None)
@@ -60,28 +63,28 @@ each_cut p is w k (bytes ∷ files) least most h e =
     (units p is w bytes least most h.0 r.some r.most, each_cut p is w (k + 1) files least most h.1 parts.1)
 
 abbrev pub its_units : (p : Contents) (items : List Seen) → IsWithoutLoss p items → List LduValue
-its_units p items h = units_of_files p h.max_words h.files
+its_units p items h = units_of_files p h.crossing.max_words h.crossing.files
 
 -- they may be loaded one after the other
-pub units_fit : (p : Contents) → IsProfile p → (items : List Seen) (h : IsWithoutLoss p items) → AllFit p p.codes.first_ldu (its_units p items h)
-units_fit p is items h = all_fit p h.max_words h.files (each_cut p is h.max_words 0 h.files h.least h.most h.bytes h.cut)
+units_fit : (p : Contents) → IsProfile p → (items : List Seen) (h : IsWithoutLoss p items) (first : ℕ) → AllFit p (first_number p.codes first) (its_units p items h)
+units_fit p is items h first = all_fit p h.crossing.max_words h.crossing.files (each_cut p is h.crossing.max_words 0 h.crossing.files h.can.least h.can.most h.can.bytes h.can.cut) first
 
 -- they are those that are found
-pub units_found : (p : Contents) → IsProfile p → (items : List Seen) (h : IsWithoutLoss p items) (first : ℕ) → first ≡ first_file_of (forms_of p.codes items) → without_free p.codes items ≡ clean_blocks p.codes first p.codes.first_ldu (its_units p items h)
-units_found p is items h first e = rw e (clean_from_first p is h.first (its_units p items h) items h.byte (units_fit p is items h) h.words)
+pub units_found : (p : Contents) → IsProfile p → (items : List Seen) (h : IsWithoutLoss p items) (first : ℕ) → first ≡ first_file_of (forms_of p.codes items) → HaveCrossed (heard p items) first (its_units p items h)
+units_found p is items h first e = rw e (record { fit = units_fit p is items h (first_file_of (forms_of p.codes items)); words = clean_from_first p is h.crossing.first (its_units p items h) items h.can.byte (units_fit p is items h h.crossing.first) h.words })
 
 -- a recording without loss is on plan at its start
 pub plan_begun : (p : Contents) → IsProfile p → (items : List Seen) (h : IsWithoutLoss p items) (first : ℕ) (units : List LduValue) (loaded : Bool) (l : LinkValue) → first ≤ 255 → first ≡ first_file_of (forms_of p.codes items) → units ≡ its_units p items h → loaded ≡ false → l ≡ record { profile = p; state = start p first } → OnPlan p items units loaded l
-plan_begun p is items h first units loaded l byte e eu el same = rw eu (rw el (plan_starts p is (its_units p items h) items first l byte (units_fit p is items h) (units_found p is items h first e) same))
+plan_begun p is items h first units loaded l byte e eu el same = rw eu (rw el (plan_starts p is (its_units p items h) items first l byte (units_fit p is items h first) (units_found p is items h first e).words same))
 
 -- a run's trace begins with any number of its words
 pub begins : (p : Contents) → IsProfile p → (items : List Seen) (n : ℕ) → IsWithoutLoss p items → BeginsARun p (take n items)
 begins p is items n h =
-    let run = clean_is_run p h.first (its_units p items h) items is h.byte (units_fit p is items h) h.words in
+    let run = clean_is_run p h.crossing.first (its_units p items h) items is h.can.byte (units_fit p is items h h.crossing.first) h.words in
     record {
-      first = h.first;
-      byte = h.byte;
-      steps = weave p.codes items (clean_steps p.codes h.first p.codes.first_ldu (its_units p items h));
+      first = h.crossing.first;
+      byte = h.can.byte;
+      steps = weave p.codes items (clean_steps p.codes (first_number p.codes h.crossing.first) (its_units p items h));
       run = run.run;
       more = drop n items;
       records = run.records ∙ sym (take-append-drop n items);
@@ -117,23 +120,16 @@ words_kept : (c : Codes) (ws : List ℕ) → AreOfBlock c ws → AreKept c (map 
 words_kept c [] h = tt
 words_kept c (w ∷ ws) h = (word_kept c w (form_of c bus.A w) refl h.0, words_kept c ws h.1)
 
-block_kept : (p : Contents) (file ldu : ℕ) (u : LduValue) → AreSaid p file ldu u → AreKept p.codes (clean_block p.codes file ldu u)
-block_kept p file ldu u s =
-    (formed_free p.codes bus.A _ _ s.request, (formed_free p.codes bus.B _ _ s.clear, kept_append p.codes (map on_a (block_of p.codes u file ldu)) _ (words_kept p.codes (block_of p.codes u file ldu) (block_said p file ldu u s)) (formed_free p.codes bus.B _ _ s.settled, tt)))
+block_kept : (p : Contents) (place : UnitNumber) (u : LduValue) → HasForms p place u → AreKept p.codes (clean_block p.codes place u)
+block_kept p place u s =
+    (formed_free p.codes bus.A _ _ s.request, (formed_free p.codes bus.B _ _ s.clear, kept_append p.codes (map on_a (block_of p.codes u place.file place.ldu)) _ (words_kept p.codes (block_of p.codes u place.file place.ldu) (block_has_forms p place u s)) (formed_free p.codes bus.B _ _ s.settled, tt)))
 
-clean_kept : (p : Contents) → IsProfile p → (us : List LduValue) (file ldu : ℕ) → file ≤ 255 → AllFit p ldu us → AreKept p.codes (clean_blocks p.codes file ldu us)
-clean_kept p is [] file ldu f h = tt
-clean_kept p is (u ∷ us) file ldu f h = kept_append p.codes (clean_block p.codes file ldu u) _ (block_kept p file ldu u (unit_said p is file ldu u f h.1 h.0)) (clean_kept p is us (next_file p.codes file u) (next_ldu p.codes ldu u) (file_small p.codes file u f) h.2)
+clean_kept : (p : Contents) → IsProfile p → (us : List LduValue) (place : UnitNumber) → place.file ≤ 255 → AllFit p place us → AreKept p.codes (clean_blocks p.codes place us)
+clean_kept p is [] place f h = tt
+clean_kept p is (u ∷ us) place f h = kept_append p.codes (clean_block p.codes place u) _ (block_kept p place u (unit_has_forms p is place u f h.1 h.0)) (clean_kept p is us (number_after p.codes place u) (next_byte p.codes place _ f) h.2)
 
-pub clean_without_loss : (p : Contents) (first w : ℕ) (files : List (List ℕ)) → IsProfile p → first ≤ 255 → 3 ≤ w → w ≤ 255 → AllByRecursion (All (λ b. b < 256)) files → first_refused w 0 files ≡ None → IsWithoutLoss p (clean_words p w first files)
-clean_without_loss p first w files is byte least most small whole = record {
-  first = first;
-  byte = byte;
-  max_words = w;
-  least = least;
-  most = most;
-  files = files;
-  bytes = small;
-  cut = whole;
-  words = thin_kept p.codes (clean_words p w first files) (clean_kept p is (units_of_files p w files) first p.codes.first_ldu byte (all_fit p w files (each_cut p is w 0 files least most small whole)));
-}
+pub clean_without_loss : (p : Contents) (x : Crossing) → IsProfile p → CanCross x → IsWithoutLoss p (clean_words p x.max_words x.first x.files)
+clean_without_loss p x is can =
+    let units = units_of_files p x.max_words x.files in
+    let fit = all_fit p x.max_words x.files (each_cut p is x.max_words 0 x.files can.least can.most can.bytes can.cut) x.first in
+    record { crossing = x; can = can; words = thin_kept p.codes (clean_words p x.max_words x.first x.files) (clean_kept p is units (first_number p.codes x.first) can.byte fit) }

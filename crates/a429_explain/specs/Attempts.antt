@@ -4,7 +4,7 @@ use Rattle.std.specs.Prelude.{◌≡◌, ℕ, ◌==◌, Bool, true, false, not, 
 use Rattle.a429_ldu.specs.declared.forms.Form.{Form}
 use Rattle.a429_ldu.specs.declared.forms.Form.TheVariants.{Rts, Cts, Ack, Nak, Sot, Part, Eot}
 use Rattle.a429_explain.specs.declared.attempts.Ahead.{Ahead}
-use Rattle.a429_explain.specs.declared.attempts.Numbers.{Numbers}
+use Rattle.a429_link.specs.declared.number.UnitNumber.{UnitNumber}
 use Rattle.a429_explain.specs.declared.attempts.Role.{Role}
 use Rattle.a429_explain.specs.declared.attempts.Role.TheVariants as role
 
@@ -18,12 +18,12 @@ sends_block (Some (Eot flags check) ∷ more) = true
 sends_block (_ ∷ more) = sends_block more
 
 -- the numbers of the next start word; behind an acknowledgement it is one of a later attempt
-abbrev pub next_start : List (Option Form) → Option Numbers
+abbrev pub next_start : List (Option Form) → Option UnitNumber
 next_start [] = None
 next_start (Some (Sot gfi file ldu) ∷ more) = Some (record { file = file; ldu = ldu })
 next_start (_ ∷ more) = next_start more
 
-abbrev pub are_numbers : Option Numbers → ℕ → ℕ → Bool
+abbrev pub are_numbers : Option UnitNumber → ℕ → ℕ → Bool
 are_numbers None file ldu = false
 are_numbers (Some n) file ldu = (n.file == file) && (n.ldu == ldu)
 

@@ -7,10 +7,9 @@ use Rattle.a429_profile.specs.Profile.{Contents}
 use Rattle.a429_ldu.specs.declared.forms.Form.{Form}
 use Rattle.a429_ldu.specs.declared.forms.Form.TheVariants.{Rts, Sot, Part, Eot}
 use Rattle.a429_ldu.specs.Form.{form_of, word_number}
-use Rattle.a429_ldu.specs.Carried.{semis_of_words}
+use Rattle.a429_ldu.specs.Carried.{semis_of_words, bytes_in}
 use Rattle.a429_ldu.specs.CheckWord.{check_of}
 use Rattle.a429_ldu.specs.Ldu.{LduValue}
-use Rattle.a429_link.specs.Sink.{bytes_in}
 use Rattle.a429_link.specs.declared.seen.Seen.{Seen}
 use Rattle.a429_explain.specs.Whole.{nothing_yet, unit_made, first_whole}
 

@@ -23,11 +23,6 @@ abbrev pub sight_at : Codes → Option Seen → Sight
 sight_at c None = sight.Free
 sight_at c (Some i) = sight_of c i.bus i.word
 
--- the form of a word that has one
-abbrev pub form_in : Sight → Option Form
-form_in (sight.Form x) = Some x
-form_in _ = None
-
 -- the word at this place is this one
 pub record IsHeardAt (c : Codes) (items : List Seen) (at : ℕ) (h : HeardWord) : Type 0 where
   pub item : Seen

@@ -1,9 +1,7 @@
 pub mod Walk
 pub mod Attempts
 pub mod Heard
-pub mod Doubt
-pub mod Units
-pub mod FirstDoubt
+pub mod Stop
 pub mod Verdict
 pub mod Groups
 pub mod Matching
@@ -11,4 +9,5 @@ pub mod Scribe
 pub mod WithoutLoss
 pub mod Whole
 pub mod Filled
-pub mod Crossed
+pub mod Block
+pub mod Guess

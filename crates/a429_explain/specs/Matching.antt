@@ -6,10 +6,10 @@ use Rattle.a429_ldu.specs.declared.forms.Form.TheVariants.{Rts, Sot, Part, Eot}
 use Rattle.a429_ldu.specs.Form.{form_of}
 use Rattle.a429_ldu.specs.Ldu.{LduValue, count_of, block_of}
 use Rattle.a429_link.specs.declared.seen.Seen.{Seen}
-use Rattle.a429_explain.specs.declared.matching.Place.{Place}
+use Rattle.a429_link.specs.declared.number.UnitNumber.{UnitNumber}
 
 -- word k of the block; a start word has no number above 255
-abbrev pub is_word : Codes → LduValue → Place → ℕ → ℕ → Bool
+abbrev pub is_word : Codes → LduValue → UnitNumber → ℕ → ℕ → Bool
 is_word c u place word k = (nat_le place.ldu 255 || not (k == 0)) && (word == slice_index (block_of c u place.file (place.ldu % 256)) k)
 
 -- how many words of the block are passed with the first of the next n that is this one
@@ -26,16 +26,20 @@ passing_as (Some (Part semis)) matched passed = matched
 passing_as (Some (Eot flags check)) matched passed = matched
 passing_as _ matched passed = Some passed
 
-abbrev pub passing : Codes → LduValue → Place → Seen → ℕ → Option ℕ
-passing c u place i passed = passing_as (form_of c i.bus i.word) (passed_with (is_word c u place i.word) passed (count_of u - passed)) passed
+-- with a word of this form and this number
+abbrev pub passing_with : Codes → LduValue → UnitNumber → Option Form → ℕ → ℕ → Option ℕ
+passing_with c u place form word passed = passing_as form (passed_with (is_word c u place word) passed (count_of u - passed)) passed
+
+abbrev pub passing : Codes → LduValue → UnitNumber → Seen → ℕ → Option ℕ
+passing c u place i passed = passing_with c u place (form_of c i.bus i.word) i.word passed
 
 -- with these words in their order; none where one is not matched
-abbrev pub passed_after : Codes → LduValue → Place → List Seen → Option ℕ → Option ℕ
+abbrev pub passed_after : Codes → LduValue → UnitNumber → List Seen → Option ℕ → Option ℕ
 passed_after c u place [] passed = passed
 passed_after c u place (i ∷ items) passed = passed_after c u place items (option_and_then (passing c u place i) passed)
 
 -- all words of a group from place `from` to place `to` are matched
-abbrev pub AreMatched : Codes → LduValue → Place → List Seen → ℕ → ℕ → Type 0
+abbrev pub AreMatched : Codes → LduValue → UnitNumber → List Seen → ℕ → ℕ → Type 0
 AreMatched c u place items from to = IsSome (passed_after c u place (slice_range items from to) (Some 0))
 
 -- a word of a block

@@ -13,8 +13,8 @@ use Rattle.a429_explain.specs.declared.verdict.Verdict.{Verdict}
 use Rattle.a429_explain.specs.declared.verdict.Verdict.TheVariants.{Explained, Impossible, Unexplained}
 use Rattle.a429_explain.specs.declared.stop.Stop.TheVariants as stop
 use Rattle.a429_explain.specs.Walk.{FitsAt, AreAllowed, IsFirstRefused}
-use Rattle.a429_explain.specs.Doubt.{IsDoubtAt}
-use Rattle.a429_explain.specs.FirstDoubt.{HasNoDoubt, IsFirstStop}
+use Rattle.a429_explain.specs.Stop.{IsDoubtAt}
+use Rattle.a429_explain.specs.Guess.{HasNoDoubt, IsFirstStop}
 
 -- a certificate explains the recorded words by a run that delivers the files, and every run that records them
 -- delivers these

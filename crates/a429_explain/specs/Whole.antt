@@ -2,6 +2,7 @@
 -- wants, that carry bytes, and an end word whose check word agrees.
 use Rattle.std.specs.Prelude.{◌≡◌, ◌<◌, ◌≤◌, ℕ, ◌+◌, ◌==◌, Bool, false, not, ◌&&◌, if◌then◌else◌, Option, Some, None, is_some, List, [], ◌∷◌, ◌++◌, length, slice_get}
 use Rattle.std.specs.Option.{option_or}
+use Rattle.a429_ldu.specs.CheckWord.{agrees}
 use Rattle.a429_profile.specs.declared.codes.Codes.{Codes}
 use Rattle.a429_profile.specs.Profile.{Contents}
 use Rattle.a429_ldu.specs.declared.forms.Form.{Form}
@@ -10,11 +11,11 @@ use Rattle.a429_ldu.specs.declared.sight.Sight.{Sight}
 use Rattle.a429_ldu.specs.declared.sight.Sight.TheVariants as sight
 use Rattle.a429_ldu.specs.Form.{form_of}
 use Rattle.a429_ldu.specs.Sight.{sight_of}
-use Rattle.a429_ldu.specs.Carried.{bytes_carried}
+use Rattle.a429_ldu.specs.Carried.{bytes_carried, bytes_in}
 use Rattle.a429_ldu.specs.Ldu.{LduValue}
-use Rattle.a429_link.specs.Sink.{agrees, bytes_in}
 use Rattle.a429_link.specs.declared.seen.Seen.{Seen}
 use Rattle.a429_explain.specs.declared.groups.Request.{Request}
+use Rattle.a429_explain.specs.Groups.{words_of_group}
 use Rattle.a429_explain.specs.Heard.{HeardValue, sight_at}
 
 -- what an attempt has recorded: the general format identifier of its start word, and its data words
@@ -70,3 +71,7 @@ pub record IsRequestOf (h : HeardValue) (r : Request) : Type 0 where
   pub some : r.group.from < r.group.to
   pub inside : r.group.to ≤ length h.items
   pub wants : wanted (sight_at h.profile.codes (slice_get h.items r.group.from)) ≡ Some r.count
+
+-- its words
+abbrev pub words_for : HeardValue → Request → List Seen
+words_for h r = words_of_group h.items r.group

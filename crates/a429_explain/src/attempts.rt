@@ -7,14 +7,8 @@ ghost use Rattle.a429_explain.specs.Attempts.{sends_block, next_start, are_numbe
 
 use crate::heard::Heard;
 use a429_ldu::Form;
+use a429_link::UnitNumber;
 use std::alloc::{AllocError, Global};
-
-/// The file number of a link data unit, and its own number in that file.
-#[derive(Clone, Copy, Debug, PartialEq, Eq)]
-pub(crate) struct Numbers {
-    pub file: u8,
-    pub ldu: u8,
-}
 
 /// What a recorded word is to the steps that are guessed.
 #[derive(Clone, Copy, Debug, PartialEq, Eq)]
@@ -38,8 +32,8 @@ pub(crate) enum Role {
 pub(crate) struct Ahead {
     /// A word of a block comes before the next request.
     pub sends_block: bool,
-    /// The numbers of the next start word.
-    pub start: Option<Numbers>,
+    /// The number of the next start word.
+    pub start: Option<UnitNumber>,
 }
 
 /// The role of each recorded word.
@@ -79,12 +73,12 @@ fn role_of(form: &Option<Form>, ahead: Ahead) -> Role
     }
 }
 
-fn are_numbers(start: Option<Numbers>, file: u8, ldu: u8) -> bool
+fn are_numbers(start: Option<UnitNumber>, file: u8, ldu: u8) -> bool
     ensures { result ≡ are_numbers start file ldu }
 {
     match start {
         None => false,
-        Some(start) => start.file == file && start.ldu == ldu,
+        Some(start) => start.file == file && start.ldu == u16::from(ldu),
     }
 }
 
@@ -101,7 +95,10 @@ fn before(form: &Option<Form>, ahead: Ahead) -> Ahead
         },
         Some(Form::Sot { file, ldu, .. }) => Ahead {
             sends_block: true,
-            start: Some(Numbers { file, ldu }),
+            start: Some(UnitNumber {
+                file,
+                ldu: u16::from(ldu),
+            }),
         },
         Some(Form::Part(_) | Form::Eot { .. }) => Ahead {
             sends_block: true,

@@ -1,24 +1,21 @@
 //! The link data unit of a group.
 
-ghost use Rattle.std.specs.Prelude.{◌≡◌, ◌≢◌, ◌≤◌, ℕ, Some, None, Err, IfOk, IfErr, IfSome, length};
-ghost use Rattle.a429_ldu.specs.Ldu.{LduValue, IsLdu, count_of};
+ghost use Rattle.std.specs.Prelude.{◌≡◌, ◌≤◌, ℕ, Some, Err, IfOk, IfErr, IfSome, length};
+ghost use Rattle.a429_ldu.specs.Ldu.{LduValue};
 ghost use Rattle.a429_explain.specs.declared.verdict.Doubt.TheVariants as doubt;
-ghost use Rattle.a429_explain.specs.Groups.{words_of_group};
-ghost use Rattle.a429_explain.specs.Doubt.{IsDoubtAt, IsStop};
-ghost use Rattle.a429_explain.specs.FirstDoubt.{IsStopIn};
-ghost use Rattle.a429_explain.specs.Whole.{IsRequestOf, other_request};
-ghost use Rattle.a429_explain.specs.Filled.{group_unit};
-ghost use Rattle.a429_explain.specs.Units.{IsUnitOf};
-ghost use Rattle.a429_explain.specs.Crossed.{HasCrossed};
+ghost use Rattle.a429_explain.specs.Stop.{IsDoubtAt, IsStop};
+ghost use Rattle.a429_explain.specs.Whole.{IsRequestOf};
+ghost use Rattle.a429_explain.specs.Block.{other_for, IsUnitFor, IsWhyNoUnit, IsMatchedUnit, IsStopIn, HasCrossed};
 
 use crate::filled::filled_unit;
 use crate::groups::{Request, wanted};
 use crate::heard::Heard;
-use crate::matching::{Place, first_unmatched};
+use crate::matching::first_unmatched;
 use crate::stop::Stop;
 use crate::verdict::Doubt;
 use crate::whole::whole_unit;
 use a429_ldu::Ldu;
+use a429_link::UnitNumber;
 use std::alloc::Global;
 
 /// The link data unit of a group, where each word of the group stands in its block under these numbers.
@@ -26,15 +23,15 @@ pub(crate) fn matched_unit(
     alloc: Global,
     heard: &Heard,
     request: Request,
-    place: Place,
+    place: UnitNumber,
 ) -> Result<Ldu, Stop>
     requires { IsRequestOf heard.now request }
-    ensures unit { IfOk result (λ u. IsUnitOf heard.now.profile heard.now.items request.group request.count place u) }
+    ensures unit { IfOk result (λ u. IsMatchedUnit heard.now request place u) }
     ensures fits { IfErr result (λ s. IsStop heard.now.profile.codes heard.now.items s) }
-    ensures first { IfErr result (λ s. IsStopIn heard.now.profile heard.now.items request.group request.count place s) }
-    ensures other { (i : ℕ) → other_request heard.now.profile.codes request.count (words_of_group heard.now.items request.group) request.group.from ≡ Some i → result ≡ Err (Stop.Unexplained i doubt.NotOneBlock) }
-    ensures crossed { (u : LduValue) → HasCrossed heard.now.profile (words_of_group heard.now.items request.group) place u → IfOk result (λ v. v ≡ u) }
-    ensures crossed_err { (u : LduValue) → HasCrossed heard.now.profile (words_of_group heard.now.items request.group) place u → IfErr result (λ s. s ≡ Stop.OutOfMemory) }
+    ensures first { IfErr result (λ s. IsStopIn heard.now request place s) }
+    ensures other { (i : ℕ) → other_for heard.now request ≡ Some i → result ≡ Err (Stop.Unexplained i doubt.NotOneBlock) }
+    ensures crossed { (u : LduValue) → HasCrossed heard.now request place u → IfOk result (λ v. v ≡ u) }
+    ensures crossed_err { (u : LduValue) → HasCrossed heard.now request place u → IfErr result (λ s. s ≡ Stop.OutOfMemory) }
 {
     let _profile = heard.profile();
     let unit = match unit_of(alloc, heard, request) {
@@ -55,15 +52,8 @@ pub(crate) fn matched_unit(
 // attempt that recorded any, and of filler words behind them.
 fn unit_of(alloc: Global, heard: &Heard, request: Request) -> Result<Ldu, Stop>
     requires { IsRequestOf heard.now request }
-    ensures unit { IfOk result (λ u. IsLdu heard.now.profile u) }
-    ensures count { IfOk result (λ u. count_of u ≡ request.count) }
-    ensures fits { IfErr result (λ s. IsStop heard.now.profile.codes heard.now.items s) }
-    ensures others { IfOk result (λ u. other_request heard.now.profile.codes request.count (words_of_group heard.now.items request.group) request.group.from ≡ None) }
-    ensures other { (i : ℕ) → other_request heard.now.profile.codes request.count (words_of_group heard.now.items request.group) request.group.from ≡ Some i → result ≡ Err (Stop.Unexplained i doubt.NotOneBlock) }
-    ensures is { IfOk result (λ u. group_unit heard.now.profile request.count (words_of_group heard.now.items request.group) ≡ Some u) }
-    ensures is_err { (u : LduValue) → other_request heard.now.profile.codes request.count (words_of_group heard.now.items request.group) request.group.from ≡ None → group_unit heard.now.profile request.count (words_of_group heard.now.items request.group) ≡ Some u → IfErr result (λ s. s ≡ Stop.OutOfMemory) }
-    ensures never { other_request heard.now.profile.codes request.count (words_of_group heard.now.items request.group) request.group.from ≡ None → IfErr result (λ s. s ≢ Stop.OutOfMemory → (s ≡ Stop.Unexplained request.group.from doubt.NeverWhole) × (group_unit heard.now.profile request.count (words_of_group heard.now.items request.group) ≡ None)) }
-    ensures first { (place : Place) → IfErr result (λ s. IsStopIn heard.now.profile heard.now.items request.group request.count place s) }
+    ensures ok { IfOk result (λ u. IsUnitFor heard.now request u) }
+    ensures err { IfErr result (λ s. IsWhyNoUnit heard.now request s × IsStop heard.now.profile.codes heard.now.items s) }
 {
     if let Some(entry) = other_request(heard, request) {
         let doubt = Doubt::NotOneBlock;
@@ -90,7 +80,7 @@ fn unit_of(alloc: Global, heard: &Heard, request: Request) -> Result<Ldu, Stop>
 // The first request of a group that wants another number of words.
 fn other_request(heard: &Heard, request: Request) -> Option<usize>
     requires { request.group.to ≤ length heard.now.items }
-    ensures first { result ≡ other_request heard.now.profile.codes request.count (words_of_group heard.now.items request.group) request.group.from }
+    ensures first { result ≡ other_for heard.now request }
     ensures fits { IfSome result (λ i. IsDoubtAt heard.now.profile.codes heard.now.items i doubt.NotOneBlock) }
 {
     for at in request.group.from..request.group.to {

@@ -1,6 +1,6 @@
 //! The check of a recording.
 
-ghost use Rattle.std.specs.Prelude.{IfOk, length};
+ghost use Rattle.std.specs.Prelude.{◌≡◌, IfOk, length};
 ghost use Rattle.a429_cert.specs.Explained.{items_of};
 ghost use Rattle.a429_explain.specs.Verdict.{IsSoundVerdict, IsAccepted, IsImpossible, IsDoubted, IsFirst, HasNoForm, IsImpossibility, IsExplanation};
 ghost use Rattle.a429_explain.specs.Walk.{AreAllowed};
@@ -8,9 +8,10 @@ ghost use Rattle.a429_explain.specs.WithoutLoss.{IsWithoutLoss};
 
 use crate::certificate::Certificate;
 use crate::guess::certificate_of;
+use crate::heard::Heard;
 use crate::stop::Stop;
 use crate::verdict::Verdict;
-use crate::walk::walk;
+use crate::walk::{Halt, walk};
 use a429_cert::{OutOfMemory, Verified};
 use a429_profile::Profile;
 use a429_record::Entry;
@@ -29,16 +30,20 @@ pub fn check(alloc: Global, profile: &Profile, entries: &[Entry]) -> Result<Verd
     ensures without_loss { IsWithoutLoss profile.now (items_of entries.now) → IfOk result IsExplanation }
 {
     match walk(alloc, profile, entries) {
-        Some(refused) => Ok(Verdict::Impossible {
-            entry: refused.entry,
-            reason: refused.reason,
-        }),
-        None => explain(alloc, profile, entries),
+        Ok(heard) => explain(alloc, profile, entries, heard),
+        Err(Halt::Refused { entry, reason }) => Ok(Verdict::Impossible { entry, reason }),
+        Err(Halt::OutOfMemory) => Err(OutOfMemory),
     }
 }
 
 // The verdict where no word is refused.
-fn explain(alloc: Global, profile: &Profile, entries: &[Entry]) -> Result<Verdict, OutOfMemory>
+fn explain(
+    alloc: Global,
+    profile: &Profile,
+    entries: &[Entry],
+    heard: Heard<'_>,
+) -> Result<Verdict, OutOfMemory>
+    requires heard { heard ≡ record { profile = profile.now; items = items_of entries.now } }
     requires allowed { AreAllowed profile.now (items_of entries.now) (length (items_of entries.now)) }
     ensures explained { IfOk result (λ v. IsSoundVerdict profile.now (items_of entries.now) v) }
     ensures accepted { IfOk result (λ v. IsAccepted profile.now (items_of entries.now) v) }
@@ -48,7 +53,7 @@ fn explain(alloc: Global, profile: &Profile, entries: &[Entry]) -> Result<Verdic
     ensures without_loss { IsWithoutLoss profile.now (items_of entries.now) → IfOk result IsExplanation }
 {
     let _codes = profile.codes();
-    match certificate_of(alloc, profile, entries) {
+    match certificate_of(alloc, profile, entries, heard) {
         Ok(found) => Ok(Verdict::Explained {
             certificate: Certificate::new(found.text),
             files: Verified::new(found.files),

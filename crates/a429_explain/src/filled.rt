@@ -6,11 +6,12 @@ ghost use Rattle.a429_ldu.specs.Form.{IsInRange, word_number};
 ghost use Rattle.a429_ldu.specs.Carried.{semis_of_words};
 ghost use Rattle.a429_ldu.specs.Ldu.{IsLdu, count_of};
 ghost use Rattle.a429_explain.specs.Groups.{words_of_group};
+ghost use Rattle.a429_explain.specs.Whole.{words_for};
 ghost use Rattle.a429_explain.specs.Filled.{filled, unit_filled, fillers, zeros, are_odd, is_end, has_end, gfi_of, first_gfi, last_data, none_yet, last_with};
 
 use crate::groups::{Group, Request};
 use crate::heard::{Heard, HeardWord};
-use crate::whole::{End, unit_with};
+use crate::whole::{Ends, unit_with};
 use a429_ldu::{Form, Ldu, Semis, bytes_of, check_word, word_of};
 use a429_profile::Profile;
 use a429_word::Word;
@@ -26,7 +27,7 @@ pub(crate) fn filled_unit(
     request: Request,
 ) -> Result<Option<Ldu>, AllocError>
     requires { request.group.to ≤ length heard.now.items }
-    ensures exact { IfOk result (λ found. found ≡ filled heard.now.profile request.count (words_of_group heard.now.items request.group)) }
+    ensures exact { IfOk result (λ found. found ≡ filled heard.now.profile request.count (words_for heard.now request)) }
     ensures unit { IfOk result (λ found. IfSome found (λ u. IsLdu heard.now.profile u)) }
     ensures count { IfOk result (λ found. IfSome found (λ u. count_of u ≡ request.count)) }
 {
@@ -206,9 +207,10 @@ fn unit_filled(
     let Some(bytes) = bytes_of(alloc, profile, words)? else {
         return Ok(None);
     };
-    let end = End {
+    let ends = Ends {
+        start: Some(gfi),
         flags: 0,
         check: check_word(profile.check(), bytes.as_slice()),
     };
-    unit_with(alloc, profile, Some(gfi), end, words, count)
+    unit_with(alloc, profile, ends, words, count)
 }

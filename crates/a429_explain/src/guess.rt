@@ -2,26 +2,24 @@
 
 ghost use Rattle.std.specs.Prelude.{◌≡◌, ◌≢◌, List, IfOk, IfErr};
 ghost use Rattle.a429_ldu.specs.Ldu.{LduValue};
-ghost use Rattle.a429_link.specs.Clean.{AllFit, without_free, clean_blocks};
 ghost use Rattle.a429_cert.specs.Explained.{items_of, IsExplained};
 ghost use Rattle.a429_explain.specs.Attempts.{roles as roles_of};
 ghost use Rattle.a429_explain.specs.Heard.{forms_of};
-ghost use Rattle.a429_explain.specs.Crossed.{started, first_file_of};
-ghost use Rattle.a429_explain.specs.Doubt.{IsStop};
-ghost use Rattle.a429_explain.specs.FirstDoubt.{IsGroupStop, IsFirstStop, HasNoDoubt};
-ghost use Rattle.a429_explain.specs.Units.{AreUnits, AreUnitsOf};
+ghost use Rattle.a429_explain.specs.Stop.{IsStop};
+ghost use Rattle.a429_explain.specs.Guess.{started, first_file_of, AreUnitsFrom, IsStopFrom, IsFirstStop, HasNoDoubt, HaveCrossed};
+ghost use Rattle.a429_explain.specs.Scribe.{AreUnits};
 ghost use Rattle.a429_explain.specs.WithoutLoss.{IsWithoutLoss};
 
 use crate::attempts::{Role, roles};
 use crate::block::matched_unit;
 use crate::groups::{Request, group_at, wanted};
-use crate::heard::{Heard, seen};
-use crate::matching::Place;
+use crate::heard::Heard;
 use crate::scribe::Scribe;
 use crate::stop::Stop;
 use crate::verdict::Doubt;
+use a429_cert::seen;
 use a429_ldu::{Form, Ldu};
-use a429_link::{FileBytes, StepFault};
+use a429_link::{FileBytes, StepFault, UnitNumber};
 use a429_profile::Profile;
 use a429_record::Entry;
 use std::alloc::Global;
@@ -41,7 +39,9 @@ pub(crate) fn certificate_of(
     alloc: Global,
     profile: &Profile,
     entries: &[Entry],
+    heard: Heard<'_>,
 ) -> Result<Explanation, Stop>
+    requires { heard ≡ record { profile = profile.now; items = items_of entries.now } }
     ensures explained { IfOk result (λ e. IsExplained profile.now e.text.items (items_of entries.now) e.files.items) }
     ensures fits { IfErr result (λ s. IsStop profile.now.codes (items_of entries.now) s) }
     ensures groups { IfOk result (λ e. HasNoDoubt profile.now (items_of entries.now)) }
@@ -49,9 +49,6 @@ pub(crate) fn certificate_of(
     ensures clean { IsWithoutLoss profile.now (items_of entries.now) → IfErr result (λ s. s ≡ Stop.OutOfMemory) }
 {
     let _codes = profile.codes();
-    let Ok(heard) = Heard::new(alloc, profile, entries) else {
-        return Err(Stop::OutOfMemory);
-    };
     let Ok(roles) = roles(alloc, &heard) else {
         return Err(Stop::OutOfMemory);
     };
@@ -121,18 +118,15 @@ fn units_of(
 ) -> Result<VecDeque<Ldu>, Stop>
     requires { roles.now ≡ roles_of (forms_of heard.now.profile.codes heard.now.items) }
     ensures units { IfOk result (λ units. AreUnits heard.now.profile units.items) }
-    ensures groups { IfOk result (λ units. AreUnitsOf heard.now.profile heard.now.items roles.now (record { file = first_file; ldu = heard.now.profile.codes.first_ldu }) 0 units.items) }
+    ensures groups { IfOk result (λ units. AreUnitsFrom heard.now roles.now first_file units.items) }
     ensures fits { IfErr result (λ s. IsStop heard.now.profile.codes heard.now.items s) }
-    ensures first { IfErr result (λ s. IsGroupStop heard.now.profile heard.now.items roles.now (record { file = first_file; ldu = heard.now.profile.codes.first_ldu }) s) }
-    ensures clean { (us : List LduValue) → AllFit heard.now.profile heard.now.profile.codes.first_ldu us → without_free heard.now.profile.codes heard.now.items ≡ clean_blocks heard.now.profile.codes first_file heard.now.profile.codes.first_ldu us → IfOk result (λ units. units.items ≡ us) }
-    ensures clean_err { (us : List LduValue) → AllFit heard.now.profile heard.now.profile.codes.first_ldu us → without_free heard.now.profile.codes heard.now.items ≡ clean_blocks heard.now.profile.codes first_file heard.now.profile.codes.first_ldu us → IfErr result (λ s. s ≡ Stop.OutOfMemory) }
+    ensures first { IfErr result (λ s. IsStopFrom heard.now roles.now first_file s) }
+    ensures clean { (us : List LduValue) → HaveCrossed heard.now first_file us → IfOk result (λ units. units.items ≡ us) }
+    ensures clean_err { (us : List LduValue) → HaveCrossed heard.now first_file us → IfErr result (λ s. s ≡ Stop.OutOfMemory) }
 {
     let profile = heard.profile();
     let mut units = VecDeque::new(alloc);
-    let mut place = Place {
-        file: first_file,
-        ldu: u16::from(profile.codes().first_ldu),
-    };
+    let mut place = UnitNumber::first(profile, first_file);
     let mut at = 0;
     while at < heard.len() {
         if let Some(count) = wanted(heard.sight(at)) {

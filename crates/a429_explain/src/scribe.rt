@@ -1,17 +1,15 @@
 //! The lines of a certificate, each written as a link makes its step.
 
 ghost use Rattle.std.specs.Prelude.{◌≡◌, ◌≢◌, List, ◌++◌, ◌∷◌, [], Ok, None, Some, true, false, IfOk, IfErr, IsSome, OnOk};
-ghost use Rattle.a429_ldu.specs.Ldu.{LduValue, IsLdu};
+ghost use Rattle.a429_ldu.specs.Ldu.{IsLdu};
 ghost use Rattle.a429_link.specs.declared.step.Step.TheVariants as step;
-ghost use Rattle.a429_link.specs.Run.{IsRun};
 ghost use Rattle.a429_link.specs.Sink.{Listens};
 ghost use Rattle.a429_link.specs.Source.{IsIdle};
 ghost use Rattle.a429_link.specs.Step.{Can, LoadsLdu, label};
 ghost use Rattle.a429_link.specs.State.{start};
 ghost use Rattle.a429_cert.specs.Line.{IsLine, IsHeld, spelling};
-ghost use Rattle.a429_explain.specs.Scribe.{IsLossless, lossless_steps, units_left, loaded_after, HasWritten, WritesNext, link_after};
+ghost use Rattle.a429_explain.specs.Scribe.{AreUnits, HasWritten, WritesNext, link_after, CanMake, OnlyLacksMemory, sent, answered, IsAtRest, load_steps, CanLoad, after_load, units_left, loaded_after, MakesLossless};
 ghost use Rattle.a429_cert.specs.Act.{letter_of};
-ghost use Rattle.a429_explain.specs.Units.{AreUnits};
 
 use crate::attempts::Role;
 use a429_cert::{CertLine, LoadLine, MovedLine, Words, letter_of, write_line};
@@ -79,10 +77,9 @@ impl<'a> Scribe<'a> {
         ensures profile { self.new.link.profile ≡ self.old.link.profile }
         ensures units { AreUnits self.old.link.profile units.new.items }
         ensures written { OnOk result (WritesNext (Some seen) self.old.text.items self.old.link self.new.text.items self.new.link) }
-        ensures lossless { IsLossless role self.old.is_loaded units.old.items → IsRun self.old.link.profile (lossless_steps role seen units.old.items) self.old.link.state → IfErr result (λ e. e ≡ StepFault.OutOfMemory) }
-        ensures reached { IsLossless role self.old.is_loaded units.old.items → IsRun self.old.link.profile (lossless_steps role seen units.old.items) self.old.link.state → OnOk result (self.new.link ≡ link_after (lossless_steps role seen units.old.items) self.old.link) }
-        ensures left { IsLossless role self.old.is_loaded units.old.items → OnOk result (units.new.items ≡ units_left role units.old.items) }
-        ensures loaded { IsLossless role self.old.is_loaded units.old.items → OnOk result (self.new.is_loaded ≡ loaded_after role self.old.is_loaded) }
+        ensures lossless { MakesLossless role seen self.old.is_loaded units.old.items self.old.link self.new.link result }
+        ensures left { OnOk result (units.new.items ≡ units_left role self.old.is_loaded units.old.items) }
+        ensures loaded { OnOk result (self.new.is_loaded ≡ loaded_after role self.old.is_loaded) }
     {
         match role {
             Role::Free => self.make(Step::FreeSeen(seen)),
@@ -110,7 +107,7 @@ impl<'a> Scribe<'a> {
         ensures profile { self.new.link.profile ≡ self.old.link.profile }
         ensures loaded { self.new.is_loaded ≡ self.old.is_loaded }
         ensures written { OnOk result (WritesNext None self.old.text.items self.old.link self.new.text.items self.new.link) }
-        ensures idle { IsIdle self.old.link.state.source.phase → Listens self.old.link.state.sink.phase → (result ≡ Ok tt) × (self.new.link ≡ self.old.link) }
+        ensures idle { IsAtRest self.old.link → (result ≡ Ok tt) × (self.new.link ≡ self.old.link) }
     {
         if self.is_sending() {
             self.lose_rest()?;
@@ -171,8 +168,8 @@ impl<'a> Scribe<'a> {
         ensures profile { self.new.link.profile ≡ self.old.link.profile }
         ensures loaded { self.new.is_loaded ≡ self.old.is_loaded }
         ensures written { OnOk result (WritesNext (Some seen) self.old.text.items self.old.link self.new.text.items self.new.link) }
-        ensures lossless { IsRun self.old.link.profile (step.Sent seen ∷ step.SinkTakes ∷ []) self.old.link.state → IfErr result (λ e. e ≡ StepFault.OutOfMemory) }
-        ensures reached { OnOk result (self.new.link ≡ link_after (step.Sent seen ∷ step.SinkTakes ∷ []) self.old.link) }
+        ensures lossless { CanMake (sent seen) self.old.link → OnlyLacksMemory result }
+        ensures reached { OnOk result (self.new.link ≡ link_after (sent seen) self.old.link) }
     {
         match self.make(Step::Sent(seen)) {
             Ok(()) => self.make(Step::SinkTakes),
@@ -185,8 +182,8 @@ impl<'a> Scribe<'a> {
         ensures profile { self.new.link.profile ≡ self.old.link.profile }
         ensures loaded { self.new.is_loaded ≡ self.old.is_loaded }
         ensures written { OnOk result (WritesNext (Some seen) self.old.text.items self.old.link self.new.text.items self.new.link) }
-        ensures lossless { IsRun self.old.link.profile (step.Sent seen ∷ step.SinkTakes ∷ []) self.old.link.state → IfErr result (λ e. e ≡ StepFault.OutOfMemory) }
-        ensures reached { IsRun self.old.link.profile (step.Sent seen ∷ step.SinkTakes ∷ []) self.old.link.state → OnOk result (self.new.link ≡ link_after (step.Sent seen ∷ step.SinkTakes ∷ []) self.old.link) }
+        ensures lossless { CanMake (sent seen) self.old.link → OnlyLacksMemory result }
+        ensures reached { CanMake (sent seen) self.old.link → OnOk result (self.new.link ≡ link_after (sent seen) self.old.link) }
     {
         let bus = seen.bus;
         let word = seen.word;
@@ -221,8 +218,8 @@ impl<'a> Scribe<'a> {
         ensures profile { self.new.link.profile ≡ self.old.link.profile }
         ensures loaded { self.new.is_loaded ≡ self.old.is_loaded }
         ensures written { OnOk result (WritesNext (Some seen) self.old.text.items self.old.link self.new.text.items self.new.link) }
-        ensures lossless { is_taken ≡ true → IsRun self.old.link.profile (step.Answered seen ∷ step.TakeAnswer ∷ []) self.old.link.state → IfErr result (λ e. e ≡ StepFault.OutOfMemory) }
-        ensures reached { is_taken ≡ true → OnOk result (self.new.link ≡ link_after (step.Answered seen ∷ step.TakeAnswer ∷ []) self.old.link) }
+        ensures lossless { is_taken ≡ true → CanMake (answered seen) self.old.link → OnlyLacksMemory result }
+        ensures reached { is_taken ≡ true → OnOk result (self.new.link ≡ link_after (answered seen) self.old.link) }
     {
         match self.make(Step::Answered(seen)) {
             Ok(()) => {}
@@ -241,9 +238,9 @@ impl<'a> Scribe<'a> {
         ensures profile { self.new.link.profile ≡ self.old.link.profile }
         ensures units { AreUnits self.old.link.profile units.new.items }
         ensures written { OnOk result (WritesNext None self.old.text.items self.old.link self.new.text.items self.new.link) }
-        ensures lossless { (u : LduValue) (us : List LduValue) → units.old.items ≡ u ∷ us → self.old.is_loaded ≡ false → Can self.old.link.profile (step.Load u) self.old.link.state → IfErr result (λ e. e ≡ StepFault.OutOfMemory) }
-        ensures reached { (u : LduValue) (us : List LduValue) → units.old.items ≡ u ∷ us → self.old.is_loaded ≡ false → OnOk result (self.new.link ≡ link_after (step.Load u ∷ []) self.old.link) }
-        ensures left { (u : LduValue) (us : List LduValue) → units.old.items ≡ u ∷ us → self.old.is_loaded ≡ false → OnOk result (units.new.items ≡ us) }
+        ensures lossless { CanLoad self.old.is_loaded units.old.items self.old.link → OnlyLacksMemory result }
+        ensures reached { OnOk result (self.new.link ≡ link_after (load_steps self.old.is_loaded units.old.items) self.old.link) }
+        ensures left { OnOk result (units.new.items ≡ after_load self.old.is_loaded units.old.items) }
         ensures loaded { OnOk result (self.new.is_loaded ≡ true) }
     {
         if self.is_loaded {
@@ -260,7 +257,7 @@ impl<'a> Scribe<'a> {
         requires { IsLdu self.old.link.profile unit }
         ensures profile { self.new.link.profile ≡ self.old.link.profile }
         ensures written { OnOk result (WritesNext None self.old.text.items self.old.link self.new.text.items self.new.link) }
-        ensures lossless { Can self.old.link.profile (step.Load unit) self.old.link.state → IfErr result (λ e. e ≡ StepFault.OutOfMemory) }
+        ensures lossless { Can self.old.link.profile (step.Load unit) self.old.link.state → OnlyLacksMemory result }
         ensures reached { OnOk result (self.new.link ≡ link_after (step.Load unit ∷ []) self.old.link) }
         ensures loaded { OnOk result (self.new.is_loaded ≡ true) }
     {
@@ -289,8 +286,9 @@ impl<'a> Scribe<'a> {
         ensures loaded { self.new.is_loaded ≡ self.old.is_loaded }
         ensures written { OnOk result (WritesNext (label step) self.old.text.items self.old.link self.new.text.items self.new.link) }
         ensures reached { OnOk result (self.new.link ≡ link_after (step ∷ []) self.old.link) }
-        ensures lossless { Can self.old.link.profile step self.old.link.state → IfErr result (λ e. e ≡ StepFault.OutOfMemory) }
-        ensures unchanged { IfErr result (λ e. e ≢ StepFault.OutOfMemory → (self.new.link ≡ self.old.link) × (self.new.text.items ≡ self.old.text.items)) }
+        ensures lossless { Can self.old.link.profile step self.old.link.state → OnlyLacksMemory result }
+        ensures unchanged { IfErr result (λ e. e ≢ StepFault.OutOfMemory → self.new.link ≡ self.old.link) }
+        ensures unwritten { IfErr result (λ e. e ≢ StepFault.OutOfMemory → self.new.text.items ≡ self.old.text.items) }
     {
         let Some(act) = letter_of(&step) else {
             return Err(StepFault::OutOfMemory);

@@ -1,70 +1,72 @@
-//! The words that no run records.
+//! What a recording says, word after word, up to the first that no run records.
 
-ghost use Rattle.std.specs.Prelude.{◌≡◌, ◌<◌, ◌+◌, None, IfSome, length, take, slice_get};
-ghost use Rattle.a429_link.specs.Run.{BeginsARun};
+ghost use Rattle.std.specs.Prelude.{◌≡◌, IfOk, IfErr, length};
+ghost use Rattle.a429_ldu.specs.Sight.{sight_in};
 ghost use Rattle.a429_cert.specs.Explained.{items_of};
 ghost use Rattle.a429_explain.specs.Verdict.{HasNoForm};
 ghost use Rattle.a429_explain.specs.WithoutLoss.{IsWithoutLoss};
-ghost use Rattle.a429_explain.specs.Walk.{IsFirstRefused, AreAllowed, IsRefusable, IsRequest, Fits, FitsSight, FitsAt};
+ghost use Rattle.a429_explain.specs.Walk.{AreAllowed, IsHalt, IsRefusable, FitsSight};
 
+use crate::heard::Heard;
 use crate::verdict::Reason;
-use a429_ldu::{Form, Sight, form};
+use a429_cert::seen;
+use a429_ldu::Form;
+use a429_link::Observer;
 use a429_link::laws::refused_is_impossible;
-use a429_link::{Observer, Seen};
 use a429_profile::Profile;
 use a429_record::Entry;
 use std::alloc::Global;
 
-/// A word that the words before it do not allow.
+/// Why a recording is not heard to its end.
 #[derive(Clone, Copy, Debug)]
-pub(crate) struct Refused {
-    /// Its entry, from 0.
-    pub entry: usize,
-    pub reason: Reason,
+pub(crate) enum Halt {
+    /// The words before this entry, counted from 0, do not allow it.
+    Refused { entry: usize, reason: Reason },
+    OutOfMemory,
 }
 
-/// The first entry that no run records after those before it, and why.
-pub(crate) fn walk(alloc: Global, profile: &Profile, entries: &[Entry]) -> Option<Refused>
-    ensures refused { IfSome result (λ r. IsFirstRefused profile.now (items_of entries.now) r.entry) }
-    ensures impossible { IfSome result (λ r. BeginsARun profile.now (take (r.entry + 1) (items_of entries.now)) → ⊥) }
-    ensures inside { IfSome result (λ r. r.entry < length entries.now) }
-    ensures fits { IfSome result (λ r. FitsAt profile.now.codes (slice_get (items_of entries.now) r.entry) r.reason) }
-    ensures allowed { result ≡ None → AreAllowed profile.now (items_of entries.now) (length (items_of entries.now)) }
-    ensures without_loss { IsWithoutLoss profile.now (items_of entries.now) → result ≡ None }
-    ensures formed { result ≡ None → ¬ HasNoForm profile.now.codes (items_of entries.now) }
+/// What a recording says, where its words allow each other. Else the first entry that no run records
+/// after those before it, and why. Each word is looked at once.
+pub(crate) fn walk<'a>(
+    alloc: Global,
+    profile: &'a Profile,
+    entries: &'a [Entry],
+) -> Result<Heard<'a>, Halt>
+    ensures heard { IfOk result (λ h. h ≡ record { profile = profile.now; items = items_of entries.now }) }
+    ensures allowed { IfOk result (λ h. AreAllowed profile.now (items_of entries.now) (length (items_of entries.now))) }
+    ensures formed { IfOk result (λ h. ¬ HasNoForm profile.now.codes (items_of entries.now)) }
+    ensures halt { IfErr result (IsHalt profile.now (items_of entries.now)) }
+    ensures without_loss { IsWithoutLoss profile.now (items_of entries.now) → IfErr result (λ h. h ≡ Halt.OutOfMemory) }
 {
     refused_is_impossible();
     let _codes = profile.codes();
     let mut observer = Observer::new(alloc);
-    for n in 0..entries.len() {
-        let entry = entries[n];
-        let bus = entry.bus;
-        let word = entry.word;
-        if !observer.see(profile, Seen { bus, word }) {
-            let reason = reason_of(profile, Seen { bus, word });
-            return Some(Refused { entry: n, reason });
+    let Ok(mut sights) = Vec::with_capacity(alloc, entries.len()) else {
+        return Err(Halt::OutOfMemory);
+    };
+    for entry in 0..entries.len() {
+        match observer.see(profile, seen(entries[entry])) {
+            Ok(sight) => match sights.push(sight) {
+                Ok(()) => {}
+                Err(_) => return Err(Halt::OutOfMemory),
+            },
+            Err(sight) => {
+                let reason = reason_of(sight.form());
+                return Err(Halt::Refused { entry, reason });
+            }
         }
     }
-    None
+    Ok(Heard::new(profile, entries, sights))
 }
 
-// Why a word is refused that may be.
-fn reason_of(profile: &Profile, seen: Seen) -> Reason
-    requires { IsRefusable profile.now seen }
-    ensures { Fits profile.now.codes seen result }
-{
-    match form(profile, seen.bus, seen.word) {
-        Sight::Form(form) => reason_of_form(&form),
-        Sight::Free | Sight::NoForm => Reason::NoForm,
-    }
-}
-
-fn reason_of_form(form: &Form) -> Reason
-    requires { ¬ IsRequest form.now }
-    ensures { FitsSight (Sight.Form form.now) result }
+// Why a word is refused that is not free and has this form, or none.
+fn reason_of(form: Option<Form>) -> Reason
+    requires { IsRefusable (sight_in form) }
+    ensures { FitsSight (sight_in form) result }
 {
     match form {
-        Form::Sot { .. } | Form::Part(_) | Form::Eot { .. } => Reason::NotGranted,
-        _ => Reason::WrongAnswer,
+        Some(Form::Sot { .. } | Form::Part(_) | Form::Eot { .. }) => Reason::NotGranted,
+        Some(_) => Reason::WrongAnswer,
+        None => Reason::NoForm,
     }
 }

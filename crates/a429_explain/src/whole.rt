@@ -3,8 +3,7 @@
 ghost use Rattle.std.specs.Prelude.{◌≡◌, ◌≤◌, IfOk, IfSome, OnOk, length};
 ghost use Rattle.a429_ldu.specs.Form.{IsInRange};
 ghost use Rattle.a429_ldu.specs.Ldu.{IsLdu, count_of};
-ghost use Rattle.a429_explain.specs.Groups.{words_of_group};
-ghost use Rattle.a429_explain.specs.Whole.{nothing_yet, gathered_with, unit_made, ended_by, first_whole};
+ghost use Rattle.a429_explain.specs.Whole.{nothing_yet, gathered_with, unit_made, ended_by, first_whole, words_for};
 
 use crate::groups::Request;
 use crate::heard::{Heard, HeardWord};
@@ -21,7 +20,7 @@ pub(crate) fn whole_unit(
     request: Request,
 ) -> Result<Option<Ldu>, AllocError>
     requires { request.group.to ≤ length heard.now.items }
-    ensures first { IfOk result (λ found. found ≡ first_whole heard.now.profile request.count (words_of_group heard.now.items request.group) nothing_yet) }
+    ensures first { IfOk result (λ found. found ≡ first_whole heard.now.profile request.count (words_for heard.now request) nothing_yet) }
     ensures unit { IfOk result (λ found. IfSome found (λ u. IsLdu heard.now.profile u)) }
     ensures count { IfOk result (λ found. IfSome found (λ u. count_of u ≡ request.count)) }
 {
@@ -102,52 +101,50 @@ impl Attempt {
     {
         match *form {
             Some(Form::Eot { flags, check }) => {
-                let end = End { flags, check };
-                unit_with(
-                    alloc,
-                    profile,
-                    self.start,
-                    end,
-                    self.words.as_slice(),
-                    count,
-                )
+                let ends = Ends {
+                    start: self.start,
+                    flags,
+                    check,
+                };
+                unit_with(alloc, profile, ends, self.words.as_slice(), count)
             }
             _ => Ok(None),
         }
     }
 }
 
-/// What an end word says.
+/// What the words around the data words say: the general format identifier of the start word, where there
+/// is one, and what the end word has.
 #[derive(Clone, Copy, Debug)]
-pub(crate) struct End {
+pub(crate) struct Ends {
+    pub start: Option<u8>,
     pub flags: u8,
     pub check: u16,
 }
 
-/// The link data unit that a start word with this general format identifier, data words and an end word
-/// make, where its requests want this many words.
+/// The link data unit that a start word, data words and an end word make, where its requests want this
+/// many words.
 pub(crate) fn unit_with(
     alloc: Global,
     profile: &Profile,
-    start: Option<u8>,
-    end: End,
+    ends: Ends,
     words: &[Word],
     count: u8,
 ) -> Result<Option<Ldu>, AllocError>
-    requires start { IfSome start (λ gfi. gfi ≤ 15) }
-    requires flags { end.flags ≤ 15 }
-    ensures made { IfOk result (λ found. found ≡ unit_made profile.now count start words.now end.flags end.check) }
+    requires start { IfSome ends.start (λ gfi. gfi ≤ 15) }
+    requires flags { ends.flags ≤ 15 }
+    ensures made { IfOk result (λ found. found ≡ unit_made profile.now count ends.start words.now ends.flags ends.check) }
     ensures unit { IfOk result (λ found. IfSome found (λ u. IsLdu profile.now u)) }
     ensures count { IfOk result (λ found. IfSome found (λ u. count_of u ≡ count)) }
 {
     let _codes = profile.codes();
-    let Some(gfi) = start else {
+    let Some(gfi) = ends.start else {
         return Ok(None);
     };
     if words.len() + 2 != usize::from(count) {
         return Ok(None);
     }
-    match Ldu::new(alloc, profile, gfi, end.flags, end.check, words) {
+    match Ldu::new(alloc, profile, gfi, ends.flags, ends.check, words) {
         Ok(unit) => Ok(Some(unit)),
         Err(fault) if fault == LduFault::OutOfMemory => Err(AllocError),
         Err(_) => Ok(None),

@@ -41,10 +41,15 @@ abbrev pub semis_of_words : Codes → List ℕ → Option (List ℕ)
 semis_of_words c [] = Some []
 semis_of_words c (w ∷ ws) = joined_to (semis_in (form_of c bus.A w)) (semis_of_words c ws)
 
--- the semi-octets of bytes, and one that waits for its byte; and how many they are
+-- the semi-octets of bytes, and one that waits for its byte
 abbrev pub semis_held : List ℕ → Option ℕ → List ℕ
 semis_held bytes low = semis_of_bytes bytes ++ option_to_list low
 
+-- what is held, and the semi-octets of words behind it; none where a word is no data word of bus A
+abbrev pub held_with_words : Codes → List ℕ → List ℕ → Option ℕ → Option (List ℕ)
+held_with_words c words bytes low = joined_to (Some (semis_held bytes low)) (semis_of_words c words)
+
+-- how many are held
 abbrev pub held_count : ℕ → Option ℕ → ℕ
 held_count bytes low = 2 * bytes + length (option_to_list low)
 

@@ -21,7 +21,8 @@ use crate::ldu::{MOST_DATA_WORDS, MOST_UNIT_BYTES};
 
 /// The word of a form is seen as this form on the form's bus, and so is not free, for each profile.
 pub fn a_form_is_read_back()
-    ensures seen { (p : Contents) (x : Form) → IsProfile p → IsInRange x → sight_of p.codes (bus_of x) (word_number p.codes x) ≡ sight.Form x }
+    ensures seen { (p : Contents) (x : Form) → IsProfile p → IsInRange x
+        → sight_of p.codes (bus_of x) (word_number p.codes x) ≡ sight.Form x }
     ensures form { (p : Contents) (x : Form) → IsProfile p → IsInRange x → IsForm p.codes (bus_of x) (word_number p.codes x) x }
     ensures kept { (p : Contents) (x : Form) → IsProfile p → IsInRange x → ¬ IsFree p.codes (bus_of x) (word_number p.codes x) }
 {}
@@ -39,7 +40,8 @@ pub fn a_form_has_one_word()
 /// What is computed of a word is what the table says of it.
 pub fn forms_are_computed()
     ensures free { (c : Codes) (b : Bus) (w : ℕ) → IsTrue (is_free c b w) ↔ IsFree c b w }
-    ensures form { (p : Contents) (b : Bus) (w : ℕ) (x : Form) → IsProfile p → (form_of p.codes b w ≡ Some x) ↔ IsTransferForm p.codes b w x }
+    ensures form { (p : Contents) (b : Bus) (w : ℕ) (x : Form) → IsProfile p
+        → (form_of p.codes b w ≡ Some x) ↔ IsTransferForm p.codes b w x }
 {}
 
 /// What is computed of words is what they carry, and they carry one list of bytes.

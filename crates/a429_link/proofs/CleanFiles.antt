@@ -16,38 +16,32 @@ use Rattle.a429_profile.specs.Profile.{Contents, IsProfile}
 use Rattle.a429_profile.specs.declared.codes.Codes.{Codes}
 use Rattle.a429_ldu.specs.Cut.{pieces, room, units_in, units_of, OnlyLastIsFinal}
 use Rattle.a429_ldu.proofs.CutFacts.{AreUnits}
-use Rattle.a429_link.specs.Clean.{next_file, next_ldu, clean_block, clean_blocks, AllFit, shelved, clean_steps, all_steps, units_of_files, clean_words, clean_run_steps, numbered, cut_fault, refused_or, first_refused, IsRunOf}
+use Rattle.a429_link.specs.Clean.{clean_block, clean_blocks, AllFit, shelved, clean_steps, all_steps, units_of_files, clean_words, clean_run_steps, numbered, cut_fault, refused_or, first_refused, IsRunOf}
 use Rattle.a429_ldu.specs.declared.fault.CutFault.{CutFault}
 use Rattle.a429_link.specs.declared.fault.CleanFault.TheVariants.{Cut}
 use Rattle.a429_link.proofs.CleanRuns.{clean_goes, clean_records, start_ready, Records, trace_append}
+use Rattle.a429_link.specs.declared.number.UnitNumber.{UnitNumber}
+use Rattle.a429_link.specs.Number.{first_number, next_number, number_after}
 
 -- ---- one file
 
 -- at the last link data unit of a file the next file begins
-file_ends : (c : Codes) (file : ℕ) (u : LduValue) → is_final c u.flags ≡ true → next_file c file u ≡ (file + 1) % 256
-file_ends c file u e = rw e refl
-
-ldu_ends : (c : Codes) (ldu : ℕ) (u : LduValue) → is_final c u.flags ≡ true → next_ldu c ldu u ≡ c.first_ldu
-ldu_ends c ldu u e = rw e refl
+file_ends : (c : Codes) (n : UnitNumber) (u : LduValue) → is_final c u.flags ≡ true → number_after c n u ≡ first_number c ((n.file + 1) % 256)
+file_ends c n u e = rw e refl
 
 -- at another the file goes on
-pub file_goes : (c : Codes) (file : ℕ) (u : LduValue) → is_final c u.flags ≡ false → next_file c file u ≡ file
-file_goes c file u e = rw e refl
-
-pub ldu_goes : (c : Codes) (ldu : ℕ) (u : LduValue) → is_final c u.flags ≡ false → next_ldu c ldu u ≡ ldu + 1
-ldu_goes c ldu u e = rw e refl
+file_goes : (c : Codes) (n : UnitNumber) (u : LduValue) → is_final c u.flags ≡ false → (number_after c n u).file ≡ n.file
+file_goes c n u e = rw e refl
 
 -- the words of a file, and of those behind it
-pub clean_append : (c : Codes) (file ldu : ℕ) (us vs : List LduValue) → OnlyLastIsFinal c us → clean_blocks c file ldu (us ++ vs) ≡ clean_blocks c file ldu us ++ clean_blocks c ((file + 1) % 256) c.first_ldu vs
-clean_append c file ldu [] vs h = absurd h
-clean_append c file ldu (u ∷ []) vs h =
-    ap (λ f. clean_block c file ldu u ++ clean_blocks c f (next_ldu c ldu u) vs) (file_ends c file u h)
-    ∙ ap (λ l. clean_block c file ldu u ++ clean_blocks c ((file + 1) % 256) l vs) (ldu_ends c ldu u h)
-    ∙ ap (λ (b : List Seen). b ++ clean_blocks c ((file + 1) % 256) c.first_ldu vs) (sym (append-nil (clean_block c file ldu u)))
-clean_append c file ldu (u ∷ (v ∷ us)) vs h =
-    ap (λ (b : List Seen). clean_block c file ldu u ++ b) (ap (λ f. clean_blocks c f (next_ldu c ldu u) ((v ∷ us) ++ vs)) (file_goes c file u h.0) ∙ clean_append c file (next_ldu c ldu u) (v ∷ us) vs h.1)
-    ∙ sym (append_assoc (clean_block c file ldu u) (clean_blocks c file (next_ldu c ldu u) (v ∷ us)) (clean_blocks c ((file + 1) % 256) c.first_ldu vs))
-    ∙ ap (λ f. (clean_block c file ldu u ++ clean_blocks c f (next_ldu c ldu u) (v ∷ us)) ++ clean_blocks c ((file + 1) % 256) c.first_ldu vs) (sym (file_goes c file u h.0))
+pub clean_append : (c : Codes) (n : UnitNumber) (us vs : List LduValue) → OnlyLastIsFinal c us → clean_blocks c n (us ++ vs) ≡ clean_blocks c n us ++ clean_blocks c (first_number c ((n.file + 1) % 256)) vs
+clean_append c n [] vs h = absurd h
+clean_append c n (u ∷ []) vs h =
+    ap (λ m. clean_block c n u ++ clean_blocks c m vs) (file_ends c n u h)
+    ∙ ap (λ (b : List Seen). b ++ clean_blocks c (first_number c ((n.file + 1) % 256)) vs) (sym (append-nil (clean_block c n u)))
+clean_append c n (u ∷ (v ∷ us)) vs h =
+    ap (λ (b : List Seen). clean_block c n u ++ b) (clean_append c (number_after c n u) (v ∷ us) vs h.1 ∙ ap (λ f. clean_blocks c (number_after c n u) (v ∷ us) ++ clean_blocks c (first_number c ((f + 1) % 256)) vs) (file_goes c n u h.0))
+    ∙ sym (append_assoc (clean_block c n u) (clean_blocks c (number_after c n u) (v ∷ us)) (clean_blocks c (first_number c ((n.file + 1) % 256)) vs))
 
 -- the files on a shelf, with one more
 abbrev closed : ℕ → List ℕ → Shelf → Shelf
@@ -59,25 +53,34 @@ put_last c file bytes u o e = rw e refl
 put_more : (c : Codes) (file : ℕ) (bytes : List ℕ) (u : LduValue) (o : Shelf) → is_final c u.flags ≡ false → put file bytes (is_final c u.flags) o ≡ record { files = o.files; open_bytes = o.open_bytes ++ bytes }
 put_more c file bytes u o e = rw e refl
 
-pub shelved_append : (c : Codes) (file : ℕ) (us vs : List LduValue) (o : Shelf) → OnlyLastIsFinal c us → shelved c file (us ++ vs) o ≡ shelved c ((file + 1) % 256) vs (closed file (concat (map (bytes_of c) us)) o)
-shelved_append c file [] vs o h = absurd h
-shelved_append c file (u ∷ []) vs o h =
-    ap (λ f. shelved c f vs (put file (bytes_of c u) (is_final c u.flags) o)) (file_ends c file u h)
-    ∙ ap (λ s. shelved c ((file + 1) % 256) vs s) (put_last c file (bytes_of c u) u o h ∙ ap (λ b. closed file b o) (sym (append-nil (bytes_of c u))))
-shelved_append c file (u ∷ (v ∷ us)) vs o h =
-    ap (λ f. shelved c f ((v ∷ us) ++ vs) (put file (bytes_of c u) (is_final c u.flags) o)) (file_goes c file u h.0)
-    ∙ ap (λ s. shelved c file ((v ∷ us) ++ vs) s) (put_more c file (bytes_of c u) u o h.0)
-    ∙ shelved_append c file (v ∷ us) vs (record { files = o.files; open_bytes = o.open_bytes ++ bytes_of c u }) h.1
-    ∙ ap (λ (b : List ℕ). shelved c ((file + 1) % 256) vs (on b)) (append_assoc o.open_bytes (bytes_of c u) (concat (map (bytes_of c) (v ∷ us))))
+pub shelved_append : (c : Codes) (n : UnitNumber) (us vs : List LduValue) (o : Shelf) → OnlyLastIsFinal c us → shelved c n (us ++ vs) o ≡ shelved c (first_number c ((n.file + 1) % 256)) vs (closed n.file (concat (map (bytes_of c) us)) o)
+shelved_append c n [] vs o h = absurd h
+shelved_append c n (u ∷ []) vs o h =
+    ap (λ m. shelved c m vs (put n.file (bytes_of c u) (is_final c u.flags) o)) (file_ends c n u h)
+    ∙ ap (λ s. shelved c (first_number c ((n.file + 1) % 256)) vs s) (put_last c n.file (bytes_of c u) u o h ∙ ap (λ b. closed n.file b o) (sym (append-nil (bytes_of c u))))
+shelved_append c n (u ∷ (v ∷ us)) vs o h =
+    ap (λ s. shelved c (number_after c n u) ((v ∷ us) ++ vs) s) (put_more c n.file (bytes_of c u) u o h.0)
+    ∙ shelved_append c (number_after c n u) (v ∷ us) vs more h.1
+    ∙ ap (λ f. shelved c (first_number c ((f + 1) % 256)) vs (closed f (concat (map (bytes_of c) (v ∷ us))) more)) (file_goes c n u h.0)
+    ∙ ap (λ (b : List ℕ). shelved c (first_number c ((n.file + 1) % 256)) vs (on b)) (append_assoc o.open_bytes (bytes_of c u) (concat (map (bytes_of c) (v ∷ us))))
   where
+    more : Shelf
+    more = record { files = o.files; open_bytes = o.open_bytes ++ bytes_of c u }
+
     on : List ℕ → Shelf
-    on b = record { files = o.files ++ record { number = file; bytes = b } ∷ []; open_bytes = [] }
+    on b = record { files = o.files ++ record { number = n.file; bytes = b } ∷ []; open_bytes = [] }
+
+-- the number of the file's next one is at most one more
+after_few : (c : Codes) (n : UnitNumber) (u : LduValue) → is_final c u.flags ≡ false → (number_after c n u).ldu ≤ n.ldu + 1
+after_few c n u e = rw e (omega arith)
 
 -- the link data units of a file may be loaded, and then those behind it
-pub fit_append : (p : Contents) (ldu : ℕ) (us vs : List LduValue) → AllByRecursion (IsLdu p) us → OnlyLastIsFinal p.codes us → ldu + length us ≤ p.codes.first_ldu + 255 → AllFit p p.codes.first_ldu vs → AllFit p ldu (us ++ vs)
-fit_append p ldu [] vs h l n k = absurd l
-fit_append p ldu (u ∷ []) vs h l n k = (h.0, omega arith, subst (λ q. AllFit p q vs) (sym (ldu_ends p.codes ldu u l)) k)
-fit_append p ldu (u ∷ (v ∷ us)) vs h l n k = (h.0, omega arith, subst (λ q. AllFit p q ((v ∷ us) ++ vs)) (sym (ldu_goes p.codes ldu u l.0)) (fit_append p (ldu + 1) (v ∷ us) vs h.1 l.1 (omega arith) k))
+pub fit_append : (p : Contents) (n : UnitNumber) (us vs : List LduValue) → AllByRecursion (IsLdu p) us → OnlyLastIsFinal p.codes us → n.ldu + length us ≤ p.codes.first_ldu + 255 → ((file : ℕ) → AllFit p (first_number p.codes file) vs) → AllFit p n (us ++ vs)
+fit_append p n [] vs h l few k = absurd l
+fit_append p n (u ∷ []) vs h l few k = (h.0, omega arith, subst (λ m. AllFit p m vs) (sym (file_ends p.codes n u l)) (k ((n.file + 1) % 256)))
+fit_append p n (u ∷ (v ∷ us)) vs h l few k =
+    let room = after_few p.codes n u l.0 in
+    (h.0, omega arith, fit_append p (number_after p.codes n u) (v ∷ us) vs h.1 l.1 (omega (arith, room)) k)
 
 -- how many there are
 in_length : (p : Contents) (ps : List (List ℕ)) → length (units_in p ps) ≡ length ps
@@ -104,16 +107,16 @@ abbrev pub EachCut : Contents → ℕ → List (List ℕ) → Type 0
 EachCut p w [] = Unit {0}
 EachCut p w (bytes ∷ files) = AreUnits p w bytes (units_of p w bytes) × EachCut p w files
 
-pub all_fit : (p : Contents) (w : ℕ) (files : List (List ℕ)) → EachCut p w files → AllFit p p.codes.first_ldu (units_of_files p w files)
-all_fit p w [] h = tt
-all_fit p w (bytes ∷ files) h =
-    fit_append p p.codes.first_ldu (units_of p w bytes) (units_of_files p w files) (recursion_from_All (IsLdu p) (units_of p w bytes) h.0.sound) h.0.last (omega (arith, units_length p w bytes)) (all_fit p w files h.1)
+pub all_fit : (p : Contents) (w : ℕ) (files : List (List ℕ)) → EachCut p w files → (first : ℕ) → AllFit p (first_number p.codes first) (units_of_files p w files)
+all_fit p w [] h first = tt
+all_fit p w (bytes ∷ files) h first =
+    fit_append p (first_number p.codes first) (units_of p w bytes) (units_of_files p w files) (recursion_from_All (IsLdu p) (units_of p w bytes) h.0.sound) h.0.last (omega (arith, units_length p w bytes)) (all_fit p w files h.1)
 
-all_shelved : (p : Contents) (w first : ℕ) (files : List (List ℕ)) (done : List FileBytes) → EachCut p w files → (shelved p.codes first (units_of_files p w files) (record { files = done; open_bytes = [] })).files ≡ done ++ numbered first files
+all_shelved : (p : Contents) (w first : ℕ) (files : List (List ℕ)) (done : List FileBytes) → EachCut p w files → (shelved p.codes (first_number p.codes first) (units_of_files p w files) (record { files = done; open_bytes = [] })).files ≡ done ++ numbered first files
 all_shelved p w first [] done h = sym (append-nil done)
 all_shelved p w first (bytes ∷ files) done h =
-    ap files_of (shelved_append p.codes first (units_of p w bytes) (units_of_files p w files) (record { files = done; open_bytes = [] }) h.0.last)
-    ∙ ap (λ (b : List ℕ). files_of (shelved p.codes ((first + 1) % 256) (units_of_files p w files) (record { files = done ++ record { number = first; bytes = b } ∷ []; open_bytes = [] }))) h.0.joined
+    ap files_of (shelved_append p.codes (first_number p.codes first) (units_of p w bytes) (units_of_files p w files) (record { files = done; open_bytes = [] }) h.0.last)
+    ∙ ap (λ (b : List ℕ). files_of (shelved p.codes (first_number p.codes ((first + 1) % 256)) (units_of_files p w files) (record { files = done ++ record { number = first; bytes = b } ∷ []; open_bytes = [] }))) h.0.joined
     ∙ all_shelved p w ((first + 1) % 256) files (done ++ record { number = first; bytes = bytes } ∷ []) h.1
     ∙ append_assoc done (record { number = first; bytes = bytes } ∷ []) (numbered ((first + 1) % 256) files)
   where
@@ -129,48 +132,39 @@ trace_all (g ∷ gs) [] h = absurd h
 pub files_cross : (p : Contents) (w first : ℕ) (files : List (List ℕ)) → IsProfile p → first ≤ 255 → EachCut p w files → IsRunOf p first (clean_run_steps p w first files) (clean_words p w first files) (record { files = numbered first files; open_bytes = [] })
 files_cross p w first files is l h =
     let us = units_of_files p w files in
-    let fit = all_fit p w files h in
-    let goes = clean_goes p is us first p.codes.first_ldu None empty_shelf 0 fit (start_ready p first us l fit) in
+    let fit = all_fit p w files h first in
+    let goes = clean_goes p is us (first_number p.codes first) None empty_shelf 0 fit (start_ready p first us l fit) in
     record {
       run = goes.run;
-      records = trace_all (clean_steps p.codes first p.codes.first_ldu us) (clean_blocks p.codes first p.codes.first_ldu us) (clean_records p.codes us first p.codes.first_ldu);
+      records = trace_all (clean_steps p.codes (first_number p.codes first) us) (clean_blocks p.codes (first_number p.codes first) us) (clean_records p.codes us (first_number p.codes first));
       gives = ap (λ (s : State). s.sink.shelf.files) goes.ends ∙ all_shelved p w first files [] h;
     }
 
 -- ---- the link data units still to come
 
-abbrev pub IsTail : Codes → List LduValue → Type 0
-IsTail c [] = Unit {0}
-IsTail c (u ∷ us) = OnlyLastIsFinal c (u ∷ us)
+-- the words so far, and those still to come, are all; so many are done, and the next one has a low number
+pub record AreWords (c : Codes) (file : ℕ) (next : UnitNumber) (i : ℕ) (us : List LduValue) (old now : List Seen) : Type 0 where
+  pub low : next.ldu ≤ c.first_ldu + i
+  pub records : now ++ clean_blocks c next (drop i us) ≡ old ++ clean_blocks c (first_number c file) us
 
-tail_step : (c : Codes) (file ldu : ℕ) (u : LduValue) (us : List LduValue) → OnlyLastIsFinal c (u ∷ us) → (clean_blocks c file ldu (u ∷ us) ≡ clean_block c file ldu u ++ clean_blocks c file (ldu + 1) us) × IsTail c us
-tail_step c file ldu u [] h = (refl, tt)
-tail_step c file ldu u (v ∷ us) h = (ap (λ f. clean_block c file ldu u ++ clean_blocks c f (next_ldu c ldu u) (v ∷ us)) (file_goes c file u h.0) ∙ ap (λ l. clean_block c file ldu u ++ clean_blocks c file l (v ∷ us)) (ldu_goes c ldu u h.0), h.1)
+after_low : (c : Codes) (n : UnitNumber) (i : ℕ) (final : Bool) → n.ldu ≤ c.first_ldu + i → (next_number c n final).ldu ≤ c.first_ldu + (i + 1)
+after_low c n i true l = omega arith
+after_low c n i false l = omega arith
 
--- the words so far, and those still to come, are all
-pub record AreWords (c : Codes) (file first ldu i : ℕ) (us : List LduValue) (old now : List Seen) : Type 0 where
-  pub number : ldu ≡ first + i
-  pub records : now ++ clean_blocks c file ldu (drop i us) ≡ old ++ clean_blocks c file first us
-  pub rest : IsTail c (drop i us)
-
-pub words_more : (c : Codes) (file first ldu i : ℕ) (us : List LduValue) (old now new : List Seen) (u : LduValue) → i < length us → u ≡ get_or us i u → new ≡ now ++ clean_block c file ldu u → AreWords c file first ldu i us old now → AreWords c file first (ldu + 1) (i + 1) us old new
-words_more c file first ldu i us old now new u l eu en h =
+pub words_more : (c : Codes) (file : ℕ) (n : UnitNumber) (i : ℕ) (us : List LduValue) (old now new : List Seen) (u : LduValue) → i < length us → u ≡ get_or us i u → new ≡ now ++ clean_block c n u → AreWords c file n i us old now → AreWords c file (number_after c n u) (i + 1) us old new
+words_more c file n i us old now new u l eu en h =
     let split : drop i us ≡ u ∷ drop (i + 1) us = drop_more us i u l ∙ ap (λ (v : LduValue). v ∷ drop (i + 1) us) (sym eu) in
-    let step = tail_step c file ldu u (drop (i + 1) us) (subst (IsTail c) split h.rest) in
-    let number = h.number in
     record {
-      number = omega arith;
+      low = after_low c n i _ h.low;
       records =
-          ap (λ (s : List Seen). s ++ clean_blocks c file (ldu + 1) (drop (i + 1) us)) en
-          ∙ append_assoc now (clean_block c file ldu u) (clean_blocks c file (ldu + 1) (drop (i + 1) us))
-          ∙ ap (λ (s : List Seen). now ++ s) (sym step.0)
-          ∙ ap (λ (vs : List LduValue). now ++ clean_blocks c file ldu vs) (sym split)
+          ap (λ (s : List Seen). s ++ clean_blocks c (number_after c n u) (drop (i + 1) us)) en
+          ∙ append_assoc now (clean_block c n u) (clean_blocks c (number_after c n u) (drop (i + 1) us))
+          ∙ ap (λ (vs : List LduValue). now ++ clean_blocks c n vs) (sym split)
           ∙ h.records;
-      rest = step.1;
     }
 
-pub words_end : (c : Codes) (file first ldu i : ℕ) (us : List LduValue) (old now : List Seen) → length us ≤ i → AreWords c file first ldu i us old now → now ≡ old ++ clean_blocks c file first us
-words_end c file first ldu i us old now l h = sym (append-nil now) ∙ ap (λ (vs : List LduValue). now ++ clean_blocks c file ldu vs) (sym (drop_all i us l)) ∙ h.records
+pub words_end : (c : Codes) (file : ℕ) (n : UnitNumber) (i : ℕ) (us : List LduValue) (old now : List Seen) → length us ≤ i → AreWords c file n i us old now → now ≡ old ++ clean_blocks c (first_number c file) us
+words_end c file n i us old now l h = sym (append-nil now) ∙ ap (λ (vs : List LduValue). now ++ clean_blocks c n vs) (sym (drop_all i us l)) ∙ h.records
 
 -- ---- the files still to come
 
@@ -181,15 +175,15 @@ pub record AreFiles (p : Contents) (w first file k : ℕ) (files : List (List �
   pub each : EachCut p w (drop k files) → EachCut p w files
 
 -- one more file is cut
-pub files_more : (p : Contents) (w first file k : ℕ) (files : List (List ℕ)) (now new : List Seen) (f : List ℕ) → k < length files → f ≡ get_or files k f → cut_fault w f ≡ None → AreUnits p w f (units_of p w f) → new ≡ now ++ clean_blocks p.codes file p.codes.first_ldu (units_of p w f) → AreFiles p w first file k files now → AreFiles p w first ((file + 1) % 256) (k + 1) files new
+pub files_more : (p : Contents) (w first file k : ℕ) (files : List (List ℕ)) (now new : List Seen) (f : List ℕ) → k < length files → f ≡ get_or files k f → cut_fault w f ≡ None → AreUnits p w f (units_of p w f) → new ≡ now ++ clean_blocks p.codes (first_number p.codes file) (units_of p w f) → AreFiles p w first file k files now → AreFiles p w first ((file + 1) % 256) (k + 1) files new
 files_more p w first file k files now new f l ef none made en h =
     let split : drop k files ≡ f ∷ drop (k + 1) files = drop_more files k f l ∙ ap (λ (g : List ℕ). g ∷ drop (k + 1) files) (sym ef) in
     let rest = drop (k + 1) files in
     record {
       records =
           ap (λ (s : List Seen). s ++ clean_words p w ((file + 1) % 256) rest) en
-          ∙ append_assoc now (clean_blocks p.codes file p.codes.first_ldu (units_of p w f)) (clean_words p w ((file + 1) % 256) rest)
-          ∙ ap (λ (s : List Seen). now ++ s) (sym (clean_append p.codes file p.codes.first_ldu (units_of p w f) (units_of_files p w rest) made.last))
+          ∙ append_assoc now (clean_blocks p.codes (first_number p.codes file) (units_of p w f)) (clean_words p w ((file + 1) % 256) rest)
+          ∙ ap (λ (s : List Seen). now ++ s) (sym (clean_append p.codes (first_number p.codes file) (units_of p w f) (units_of_files p w rest) made.last))
           ∙ ap (λ (fs : List (List ℕ)). now ++ clean_words p w file fs) (sym split)
           ∙ h.records;
       refused = sym (ap (λ (fs : List (List ℕ)). first_refused w k fs) split ∙ ap (λ o. refused_or k o (first_refused w (k + 1) rest)) none) ∙ h.refused;

@@ -1,13 +1,13 @@
 -- A run without loss goes through, and free words may stand anywhere in its recording.
-use Rattle.std.proofs.Common.{◌≡◌, ℕ, zero, suc, ◌+◌, ◌%◌, ◌≤◌, ◌<◌, Bool, true, false, cond, not, eqb, ◌&&◌, ◌||◌, List, [], ◌∷◌, ◌++◌, map, length, Option, Some, None, is_some, unwrap_or, slice_get, refl, sym, ap, ◌∙◌, subst, arith, append_assoc, append-nil, length-append, eqb-true, eq-eqb}
-use Rattle.std.proofs.lemmas.Bool.{ne_eqb, le-leb}
+use Rattle.std.proofs.Common.{◌≡◌, ℕ, zero, suc, ◌+◌, ◌≤◌, ◌<◌, Bool, true, false, cond, not, eqb, ◌||◌, List, [], ◌∷◌, ◌++◌, map, length, Option, Some, None, is_some, unwrap_or, slice_get, refl, sym, ap, ◌∙◌, subst, arith, append_assoc, append-nil, length-append, eqb-true, eq-eqb}
+use Rattle.std.proofs.lemmas.Bool.{le-leb}
 use Rattle.a429_word.specs.declared.bus.Bus.TheVariants as bus
 use Rattle.a429_ldu.specs.Form.{form_of, is_free, word_number}
 use Rattle.a429_ldu.specs.Ldu.{IsLdu, LduValue, block_of, count_of, is_final}
 use Rattle.a429_link.proofs.Message.{Ack, AllParts, Cts, Eot, IsFit, IsRead, MaySay, Nak, Part, Rts, Message, Sot, answers_as, answers_message, block_messages, block_words, hears_as, hears_message, end_message, next_message, message_in, message_of, takes_as, takes_message, word_of}
 use Rattle.a429_link.specs.Run.{IsRun, end_of, trace, with_label}
-use Rattle.a429_link.specs.Sink.{empty_shelf, Block, Granted, InBlock, Listens, MayAnswerForm, Number, OwesAck, OwesClear, OwesNak, Quiet, Shelf, Sink, SinkPhase, agrees, answers_word, bytes_in, in_sequence, is_good, is_same, put}
-use Rattle.a429_link.specs.Source.{Source, acknowledged, after_word, next_word}
+use Rattle.a429_link.specs.Sink.{empty_shelf, Block, Granted, InBlock, Listens, MayAnswerForm, Number, OwesAck, OwesClear, OwesNak, Quiet, Shelf, Sink, SinkPhase, answers_word, in_sequence, is_good, is_same, put}
+use Rattle.a429_link.specs.Source.{Source, after_word, next_word}
 use Rattle.a429_link.specs.Step.{after, label}
 use Rattle.a429_link.specs.State.{start, State}
 use Rattle.a429_link.specs.declared.state.SourceState.{SourceState}
@@ -19,12 +19,15 @@ use Rattle.a429_profile.specs.Profile.{Contents, IsProfile}
 use Rattle.a429_profile.specs.declared.codes.Codes.{Codes}
 use Rattle.a429_ldu.specs.declared.forms.Form.{Form}
 use Rattle.a429_ldu.specs.declared.forms.Form.TheVariants as form
-use Rattle.a429_ldu.specs.Carried.{bytes_carried}
-use Rattle.a429_ldu.specs.CheckWord.{check_of}
+use Rattle.a429_ldu.specs.Carried.{bytes_carried, bytes_in}
+use Rattle.a429_ldu.specs.CheckWord.{check_of, agrees}
 use Rattle.a429_ldu.proofs.CarriedFacts.{carried_of}
-use Rattle.a429_link.specs.Clean.{on_a, on_b, next_file, next_ldu, clean_block, clean_blocks, AllFit, shelved, without_free, asks, replies, sends_word, block_steps, clean_steps, all_steps, first_of, rest_of, weave, IsRunOf}
+use Rattle.a429_link.specs.Clean.{on_a, on_b, clean_block, clean_blocks, AllFit, shelved, without_free, asks, replies, sends_word, block_steps, clean_steps, all_steps, first_of, rest_of, weave, IsRunOf}
 use Rattle.a429_link.proofs.MessageRead.{is_read}
 use Rattle.a429_link.proofs.StateConfigs.{sink_at, unit_number}
+use Rattle.a429_link.specs.declared.number.UnitNumber.{UnitNumber}
+use Rattle.a429_link.specs.Number.{first_number, number_after}
+use Rattle.a429_link.proofs.NumberFacts.{number_same, next_other, next_byte}
 
 -- ---- steps one after another
 
@@ -54,26 +57,26 @@ joined_append (x ∷ xs) ys = ap (λ (l : List Step). x ++ l) (joined_append xs 
 -- ---- a word crosses
 
 -- nothing is on the way
-abbrev pub at : ℕ → ℕ → Option LduValue → SourceState → Sink → State
-at file ldu cur sp k = record { source = record { file = file; ldu = ldu; current = cur; phase = sp }; sink = k; to_sink = []; to_source = [] }
+abbrev pub at : UnitNumber → Option LduValue → SourceState → Sink → State
+at number cur sp k = record { source = record { number = number; current = cur; phase = sp }; sink = k; to_sink = []; to_source = [] }
 
 get_word : (p : Contents) (xs : List Message) (k : ℕ) (x : Message) → slice_get xs k ≡ Some x → slice_get (map (word_of p) xs) k ≡ Some (word_of p x)
 get_word p [] k x e = absurd (cc e)
 get_word p (y ∷ xs) zero x e = let same : y ≡ x = cc in ap (λ z. Some (word_of p z)) same
 get_word p (y ∷ xs) (suc k) x e = get_word p xs k x e
 
-next_word_of_message : (p : Contents) (file ldu : ℕ) (cur : Option LduValue) (sp : SourceState) (x : Message) → next_message file ldu cur sp ≡ Some x → next_word p.codes file ldu cur sp ≡ Some (word_of p x)
-next_word_of_message p file ldu (Some u) Idle x e = let same : Rts (count_of u) ≡ x = cc in ap (λ z. Some (word_of p z)) same
-next_word_of_message p file ldu (Some u) (Sending k) x e = subst (λ (l : List ℕ). slice_get l k ≡ Some (word_of p x)) (block_words p u file ldu) (get_word p (block_messages u file ldu) k x e)
-next_word_of_message p file ldu (Some u) Awaiting x e = absurd (cc e)
-next_word_of_message p file ldu (Some u) Waiting x e = absurd (cc e)
-next_word_of_message p file ldu None sp x e = absurd (cc e)
+next_word_of_message : (p : Contents) (number : UnitNumber) (cur : Option LduValue) (sp : SourceState) (x : Message) → next_message number cur sp ≡ Some x → next_word p.codes number cur sp ≡ Some (word_of p x)
+next_word_of_message p number (Some u) Idle x e = let same : Rts (count_of u) ≡ x = cc in ap (λ z. Some (word_of p z)) same
+next_word_of_message p number (Some u) (Sending k) x e = subst (λ (l : List ℕ). slice_get l k ≡ Some (word_of p x)) (block_words p u number) (get_word p (block_messages u number) k x e)
+next_word_of_message p number (Some u) Awaiting x e = absurd (cc e)
+next_word_of_message p number (Some u) Waiting x e = absurd (cc e)
+next_word_of_message p number None sp x e = absurd (cc e)
 
 -- a word of bus A is sent and taken
-word_goes : (p : Contents) (file ldu : ℕ) (cur : Option LduValue) (sp : SourceState) (k : Sink) (x : Message) → next_message file ldu cur sp ≡ Some x → Listens k.phase → message_of p bus.A (word_of p x) ≡ Some x → Goes p (sends_word (word_of p x)) (at file ldu cur sp k) (at file ldu cur (after_word cur sp) (takes_message p x k))
-word_goes p file ldu cur sp k x e l f = record {
-  run = ((refl, next_word_of_message p file ldu cur sp x e), ((tt, l), tt));
-  ends = ap (λ q. at file ldu cur (after_word cur sp) q) (takes_as p (word_of p x) x k f);
+word_goes : (p : Contents) (number : UnitNumber) (cur : Option LduValue) (sp : SourceState) (k : Sink) (x : Message) → next_message number cur sp ≡ Some x → Listens k.phase → message_of p bus.A (word_of p x) ≡ Some x → Goes p (sends_word (word_of p x)) (at number cur sp k) (at number cur (after_word cur sp) (takes_message p x k))
+word_goes p number cur sp k x e l f = record {
+  run = ((refl, next_word_of_message p number cur sp x e), ((tt, l), tt));
+  ends = ap (λ q. at number cur (after_word cur sp) q) (takes_as p (word_of p x) x k f);
 }
 
 -- an answer is given and heard
@@ -98,10 +101,10 @@ may_say count w kp x (Some (form.Part s)) m e = let same : Part w ≡ x = cc in 
     no_part OwesNak m = m
 may_say count w kp x (Some (form.Eot f c)) m e = let same : Eot f c ≡ x = cc in subst (MaySay count kp) (sym same) m
 
-reply_goes : (p : Contents) (file ldu : ℕ) (cur : Option LduValue) (sp : SourceState) (k : Sink) (x : Message) → MaySay k.count k.phase x → message_of p bus.B (word_of p x) ≡ Some x → Goes p (replies (word_of p x)) (at file ldu cur sp k) (heard_at (hears_message p cur sp x (record { file = file; ldu = ldu; current = cur; phase = sp })) (answers_message p x k))
-reply_goes p file ldu cur sp k x m f = record {
+reply_goes : (p : Contents) (number : UnitNumber) (cur : Option LduValue) (sp : SourceState) (k : Sink) (x : Message) → MaySay k.count k.phase x → message_of p bus.B (word_of p x) ≡ Some x → Goes p (replies (word_of p x)) (at number cur sp k) (heard_at (hears_message p cur sp x (record { number = number; current = cur; phase = sp })) (answers_message p x k))
+reply_goes p number cur sp k x m f = record {
   run = ((refl, may_say k.count (word_of p x) k.phase x (form_of p.codes bus.B (word_of p x)) m f), (tt, tt));
-  ends = ap (λ q. heard_at q (answers_word p.codes (word_of p x) k)) (hears_as p (word_of p x) x (record { file = file; ldu = ldu; current = cur; phase = sp }) f) ∙ ap (λ q. heard_at (hears_message p cur sp x (record { file = file; ldu = ldu; current = cur; phase = sp })) q) (answers_as p (word_of p x) x k f);
+  ends = ap (λ q. heard_at q (answers_word p.codes (word_of p x) k)) (hears_as p (word_of p x) x (record { number = number; current = cur; phase = sp }) f) ∙ ap (λ q. heard_at (hears_message p cur sp x (record { number = number; current = cur; phase = sp })) q) (answers_as p (word_of p x) x k f);
 }
 
 -- ---- a block crosses
@@ -116,11 +119,11 @@ get_last [] e = refl
 get_last (x ∷ ps) e = get_last ps e
 
 -- the numbers come next, and are not those of the last one
-pub record Comes (p : Contents) (file ldu : ℕ) (last : Option Number) : Type 0 where
-  pub new : is_same last file ldu ≡ false
-  pub follows : in_sequence p.codes last file ldu ≡ true
-  pub byte : file ≤ 255
-  pub room : ldu ≤ p.codes.first_ldu + 254
+pub record Comes (p : Contents) (number : UnitNumber) (last : Option Number) : Type 0 where
+  pub new : is_same last number ≡ false
+  pub follows : in_sequence p.codes last number ≡ true
+  pub byte : number.file ≤ 255
+  pub room : number.ldu ≤ p.codes.first_ldu + 254
 
 eqb_same : (n : ℕ) → eqb n n ≡ true
 eqb_same n = eq-eqb n n refl
@@ -148,56 +151,45 @@ sound p is u h =
     compared true e = rw e (eq-eqb _ _ (h.checked e))
     compared false e = rw e refl
 
-holding : LduValue → ℕ → ℕ → List ℕ → SinkPhase
-holding u file ldu qs = InBlock (record { gfi = u.gfi; file = file; ldu = ldu; words = qs })
+holding : LduValue → UnitNumber → List ℕ → SinkPhase
+holding u number qs = InBlock (record { gfi = u.gfi; file = number.file; ldu = number.ldu; words = qs })
 
-parts_goes : (p : Contents) → IsRead p → (file ldu : ℕ) (u : LduValue) → Sound p u → (last : Option Number) (shelf : Shelf) → Comes p file ldu last → (qs ps : List ℕ) → qs ++ ps ≡ u.words → AllParts p ps → (k : ℕ) → k ≡ suc (length qs) → Goes p (all_steps (map sends_word (ps ++ word_of p (end_message u) ∷ []))) (at file ldu (Some u) (Sending k) (sink_at last shelf (count_of u) (holding u file ldu qs))) (at file ldu (Some u) Waiting (sink_at last shelf (count_of u) (OwesAck (record { gfi = u.gfi; file = file; ldu = ldu; words = u.words }) u.flags)))
+parts_goes : (p : Contents) → IsRead p → (number : UnitNumber) (u : LduValue) → Sound p u → (last : Option Number) (shelf : Shelf) → Comes p number last → (qs ps : List ℕ) → qs ++ ps ≡ u.words → AllParts p ps → (k : ℕ) → k ≡ suc (length qs) → Goes p (all_steps (map sends_word (ps ++ word_of p (end_message u) ∷ []))) (at number (Some u) (Sending k) (sink_at last shelf (count_of u) (holding u number qs))) (at number (Some u) Waiting (sink_at last shelf (count_of u) (OwesAck (record { gfi = u.gfi; file = number.file; ldu = number.ldu; words = u.words }) u.flags)))
 unfolding holding
-parts_goes p good file ldu u s last shelf c qs [] e a k ek =
+parts_goes p good number u s last shelf c qs [] e a k ek =
     let same : qs ≡ u.words = sym (append-nil qs) ∙ e in
-    let place : slice_get (block_messages u file ldu) k ≡ Some (end_message u) = rw ek (rw same (get_last u.words (end_message u))) in
+    let place : slice_get (block_messages u number) k ≡ Some (end_message u) = rw ek (rw same (get_last u.words (end_message u))) in
     let h = s.fit in
     let form : message_of p bus.A (word_of p (end_message u)) ≡ Some (end_message u) = good.reads bus.A (end_message u) (h.flags, h.check) in
     let whole : eqb (suc k) (count_of u) ≡ true = rw ek (rw same (eq-eqb _ _ (omega arith))) in
-    let b : Block = record { gfi = u.gfi; file = file; ldu = ldu; words = qs } in
-    let is : is_good p last (count_of u) b u.check ≡ true = rw same (rw (eqb_same (length u.words + 2)) (rw s.carried (rw s.agrees (rw c.follows (or_true (is_same last file ldu)))))) in
-    let one = word_goes p file ldu (Some u) (Sending k) (sink_at last shelf (count_of u) (InBlock b)) (end_message u) place tt form in
+    let b : Block = record { gfi = u.gfi; file = number.file; ldu = number.ldu; words = qs } in
+    let is : is_good p last (count_of u) b u.check ≡ true = rw same (rw (eqb_same (length u.words + 2)) (rw s.carried (rw s.agrees (rw c.follows (or_true (is_same last number)))))) in
+    let one = word_goes p number (Some u) (Sending k) (sink_at last shelf (count_of u) (InBlock b)) (end_message u) place tt form in
     record { run = one.run; ends = one.ends ∙ rw whole (rw is (rw same refl)) }
   where
     or_true : (b : Bool) → (b || true) ≡ true
     or_true true = refl
     or_true false = refl
-parts_goes p good file ldu u s last shelf c qs (q ∷ ps) e a k ek =
-    let place : slice_get (block_messages u file ldu) k ≡ Some (Part q) = rw ek (subst (λ ws. slice_get (map Part ws ++ end_message u ∷ []) (length qs) ≡ Some (Part q)) e (get_part qs q ps (end_message u))) in
+parts_goes p good number u s last shelf c qs (q ∷ ps) e a k ek =
+    let place : slice_get (block_messages u number) k ≡ Some (Part q) = rw ek (subst (λ ws. slice_get (map Part ws ++ end_message u ∷ []) (length qs) ≡ Some (Part q)) e (get_part qs q ps (end_message u))) in
     let form : message_of p bus.A (word_of p (Part q)) ≡ Some (Part q) = good.reads bus.A (Part q) a.0 in
     let long : length (qs ++ q ∷ ps) ≡ length u.words = ap length e in
     let more : eqb (suc k) (count_of u) ≡ false = not_last (suc k) (count_of u) _ refl (omega (arith, long, length-append qs (q ∷ ps))) in
-    let b : Block = record { gfi = u.gfi; file = file; ldu = ldu; words = qs } in
-    let one = word_goes p file ldu (Some u) (Sending k) (sink_at last shelf (count_of u) (InBlock b)) (Part q) place tt form in
-    let next = parts_goes p good file ldu u s last shelf c (qs ++ q ∷ []) ps (append_assoc qs (q ∷ []) ps ∙ e) a.1 (suc k) (rw ek (omega (arith, length-append qs (q ∷ [])))) in
+    let b : Block = record { gfi = u.gfi; file = number.file; ldu = number.ldu; words = qs } in
+    let one = word_goes p number (Some u) (Sending k) (sink_at last shelf (count_of u) (InBlock b)) (Part q) place tt form in
+    let next = parts_goes p good number u s last shelf c (qs ++ q ∷ []) ps (append_assoc qs (q ∷ []) ps ∙ e) a.1 (suc k) (rw ek (omega (arith, length-append qs (q ∷ [])))) in
     goes_append p (sends_word q) _ _ _ _ (record { run = one.run; ends = one.ends ∙ rw more refl }) next
 
-abbrev pub idle_at : ℕ → ℕ → Option Number → Shelf → ℕ → State
-idle_at file ldu last shelf count = at file ldu None Idle (sink_at last shelf count Quiet)
-
-abbrev of_source : Source → Source
-of_source s = s
-
--- the source after its acknowledgement
-source_next : (c : Codes) (file ldu : ℕ) (u : LduValue) → acknowledged c u (record { file = file; ldu = ldu; current = Some u; phase = Waiting }) ≡ record { file = next_file c file u; ldu = next_ldu c ldu u; current = None; phase = Idle }
-source_next c file ldu u = by_final (is_final c u.flags)
-  where
-    by_final : (b : Bool) → of_source (cond b (of_source (record { file = (file + 1) % 256; ldu = c.first_ldu; current = None; phase = Idle })) (record { file = file; ldu = ldu + 1; current = None; phase = Idle })) ≡ record { file = cond b ((file + 1) % 256) file; ldu = cond b c.first_ldu (ldu + 1); current = None; phase = Idle }
-    by_final true = refl
-    by_final false = refl
+abbrev pub idle_at : UnitNumber → Option Number → Shelf → ℕ → State
+idle_at number last shelf count = at number None Idle (sink_at last shelf count Quiet)
 
 joined_words : (ws : List ℕ) (ack : ℕ) → all_steps (map sends_word ws ++ replies ack ∷ []) ≡ all_steps (map sends_word ws) ++ replies ack
 joined_words ws ack = joined_append (map sends_word ws) (replies ack ∷ []) ∙ ap (λ (l : List Step). all_steps (map sends_word ws) ++ l) (append-nil (replies ack))
 
 -- one link data unit crosses without loss
-block_goes : (p : Contents) → IsRead p → (file ldu : ℕ) (u : LduValue) → IsLdu p u → Sound p u → (last : Option Number) (shelf : Shelf) (count : ℕ) → Comes p file ldu last → Goes p (all_steps (block_steps p.codes file ldu u)) (idle_at file ldu last shelf count) (idle_at (next_file p.codes file u) (next_ldu p.codes ldu u) (Some (unit_number p.codes file ldu u)) (put file (bytes_in p.codes u.words) (is_final p.codes u.flags) shelf) (count_of u))
+block_goes : (p : Contents) → IsRead p → (number : UnitNumber) (u : LduValue) → IsLdu p u → Sound p u → (last : Option Number) (shelf : Shelf) (count : ℕ) → Comes p number last → Goes p (all_steps (block_steps p.codes number u)) (idle_at number last shelf count) (idle_at (number_after p.codes number u) (Some (unit_number p.codes number u)) (put number.file (bytes_in p.codes u.words) (is_final p.codes u.flags) shelf) (count_of u))
 unfolding holding
-block_goes p good file ldu u is s last shelf count c =
+block_goes p good number u is s last shelf count c =
     let h = s.fit in
     let some = h.some in
     let room = h.room in
@@ -207,83 +199,76 @@ block_goes p good file ldu u is s last shelf count c =
     let n = count_of u in
     let rts : message_of p bus.A (word_of p (Rts n)) ≡ Some (Rts n) = good.reads bus.A (Rts n) (omega arith, omega arith) in
     let cts : message_of p bus.B (word_of p (Cts n)) ≡ Some (Cts n) = good.reads bus.B (Cts n) (omega arith, omega arith) in
-    let ack : message_of p bus.B (word_of p (Ack file ldu)) ≡ Some (Ack file ldu) = good.reads bus.B (Ack file ldu) (byte, omega arith) in
-    let sot : message_of p bus.A (word_of p (Sot u.gfi file ldu)) ≡ Some (Sot u.gfi file ldu) = good.reads bus.A (Sot u.gfi file ldu) (h.gfi, byte, omega arith) in
-    let asked = word_goes p file ldu (Some u) Idle (sink_at last shelf count Quiet) (Rts n) refl tt rts in
-    let ask : Goes p (asks p.codes u) (idle_at file ldu last shelf count) (at file ldu (Some u) Awaiting (sink_at last shelf n OwesClear)) = record {
+    let ack : message_of p bus.B (word_of p (Ack number.file number.ldu)) ≡ Some (Ack number.file number.ldu) = good.reads bus.B (Ack number.file number.ldu) (byte, omega arith) in
+    let sot : message_of p bus.A (word_of p (Sot u.gfi number.file number.ldu)) ≡ Some (Sot u.gfi number.file number.ldu) = good.reads bus.A (Sot u.gfi number.file number.ldu) (h.gfi, byte, omega arith) in
+    let asked = word_goes p number (Some u) Idle (sink_at last shelf count Quiet) (Rts n) refl tt rts in
+    let ask : Goes p (asks p.codes u) (idle_at number last shelf count) (at number (Some u) Awaiting (sink_at last shelf n OwesClear)) = record {
       run = ((tt, refl, fit, is), asked.run);
       ends = asked.ends;
     } in
-    let cleared = reply_goes p file ldu (Some u) Awaiting (sink_at last shelf n OwesClear) (Cts n) refl cts in
-    let clear : Goes p (replies (word_of p (Cts n))) (at file ldu (Some u) Awaiting (sink_at last shelf n OwesClear)) (at file ldu (Some u) (Sending 0) (sink_at last shelf n Granted)) = record {
+    let cleared = reply_goes p number (Some u) Awaiting (sink_at last shelf n OwesClear) (Cts n) refl cts in
+    let clear : Goes p (replies (word_of p (Cts n))) (at number (Some u) Awaiting (sink_at last shelf n OwesClear)) (at number (Some u) (Sending 0) (sink_at last shelf n Granted)) = record {
       run = cleared.run;
       ends = cleared.ends ∙ rw (eqb_same n) refl;
     } in
-    let begun = word_goes p file ldu (Some u) (Sending 0) (sink_at last shelf n Granted) (Sot u.gfi file ldu) refl tt sot in
+    let begun = word_goes p number (Some u) (Sending 0) (sink_at last shelf n Granted) (Sot u.gfi number.file number.ldu) refl tt sot in
     let more : eqb 1 n ≡ false = not_last 1 n _ refl (omega arith) in
-    let begin : Goes p (sends_word (word_of p (Sot u.gfi file ldu))) (at file ldu (Some u) (Sending 0) (sink_at last shelf n Granted)) (at file ldu (Some u) (Sending 1) (sink_at last shelf n (holding u file ldu []))) = record {
+    let begin : Goes p (sends_word (word_of p (Sot u.gfi number.file number.ldu))) (at number (Some u) (Sending 0) (sink_at last shelf n Granted)) (at number (Some u) (Sending 1) (sink_at last shelf n (holding u number []))) = record {
       run = begun.run;
       ends = begun.ends ∙ rw more refl;
     } in
-    let words = parts_goes p good file ldu u s last shelf c [] u.words refl h.parts 1 refl in
-    let b : Block = record { gfi = u.gfi; file = file; ldu = ldu; words = u.words } in
-    let settled = reply_goes p file ldu (Some u) Waiting (sink_at last shelf n (OwesAck b u.flags)) (Ack file ldu) (refl, refl) ack in
-    let settle : Goes p (replies (word_of p (Ack file ldu))) (at file ldu (Some u) Waiting (sink_at last shelf n (OwesAck b u.flags))) (idle_at (next_file p.codes file u) (next_ldu p.codes ldu u) (Some (unit_number p.codes file ldu u)) (put file (bytes_in p.codes u.words) (is_final p.codes u.flags) shelf) n) = record {
+    let words = parts_goes p good number u s last shelf c [] u.words refl h.parts 1 refl in
+    let b : Block = record { gfi = u.gfi; file = number.file; ldu = number.ldu; words = u.words } in
+    let settled = reply_goes p number (Some u) Waiting (sink_at last shelf n (OwesAck b u.flags)) (Ack number.file number.ldu) (refl, refl) ack in
+    let settle : Goes p (replies (word_of p (Ack number.file number.ldu))) (at number (Some u) Waiting (sink_at last shelf n (OwesAck b u.flags))) (idle_at (number_after p.codes number u) (Some (unit_number p.codes number u)) (put number.file (bytes_in p.codes u.words) (is_final p.codes u.flags) shelf) n) = record {
       run = settled.run;
-      ends = settled.ends ∙ rw (eqb_same file) (rw (eqb_same ldu) (rw c.new (ap (λ s. heard_at s (sink_at (Some (unit_number p.codes file ldu u)) (put file (bytes_in p.codes u.words) (is_final p.codes u.flags) shelf) n Quiet)) (source_next p.codes file ldu u))));
+      ends = settled.ends ∙ rw (eqb_same number.file) (rw (eqb_same number.ldu) (rw c.new refl));
     } in
-    goes_append p (asks p.codes u) _ _ _ _ ask (goes_append p (replies (word_of p (Cts n))) _ _ _ _ clear (goes_append p (sends_word (word_of p (Sot u.gfi file ldu))) _ _ _ _ begin
-    (subst (λ acts. Goes p acts (at file ldu (Some u) (Sending 1) (sink_at last shelf n (holding u file ldu []))) (idle_at (next_file p.codes file u) (next_ldu p.codes ldu u) (Some (unit_number p.codes file ldu u)) (put file (bytes_in p.codes u.words) (is_final p.codes u.flags) shelf) n)) (sym (joined_words (u.words ++ word_of p (end_message u) ∷ []) (word_of p (Ack file ldu))))
+    goes_append p (asks p.codes u) _ _ _ _ ask (goes_append p (replies (word_of p (Cts n))) _ _ _ _ clear (goes_append p (sends_word (word_of p (Sot u.gfi number.file number.ldu))) _ _ _ _ begin
+    (subst (λ acts. Goes p acts (at number (Some u) (Sending 1) (sink_at last shelf n (holding u number []))) (idle_at (number_after p.codes number u) (Some (unit_number p.codes number u)) (put number.file (bytes_in p.codes u.words) (is_final p.codes u.flags) shelf) n)) (sym (joined_words (u.words ++ word_of p (end_message u) ∷ []) (word_of p (Ack number.file number.ldu))))
     (goes_append p _ _ _ _ _ words settle))))
 
--- the next numbers come after these
-next_comes : (p : Contents) (file ldu : ℕ) (u : LduValue) → file ≤ 255 → next_ldu p.codes ldu u ≤ p.codes.first_ldu + 254 → Comes p (next_file p.codes file u) (next_ldu p.codes ldu u) (Some (unit_number p.codes file ldu u))
-next_comes p file ldu u byte room = record { new = new (is_final p.codes u.flags); follows = follows (is_final p.codes u.flags) room; byte = small (is_final p.codes u.flags); room = room }
-  where
-    new : (b : Bool) → (eqb file (cond b ((file + 1) % 256) file) && eqb ldu (cond b p.codes.first_ldu (ldu + 1))) ≡ false
-    new true = rw (ne_eqb file ((file + 1) % 256) (λ e. omega arith)) refl
-    new false = rw (eqb_same file) (ne_eqb ldu (ldu + 1) (λ e. omega arith))
+-- the next number comes after this one
+next_comes : (p : Contents) → IsRead p → (number : UnitNumber) (u : LduValue) → number.file ≤ 255 → number.ldu ≤ p.codes.first_ldu + 254 → (number_after p.codes number u).ldu ≤ p.codes.first_ldu + 254 → Comes p (number_after p.codes number u) (Some (unit_number p.codes number u))
+next_comes p good number u byte fit room =
+    let first = good.first in
+    let next = number_after p.codes number u in
+    record {
+      new = next_other p.codes number _ (omega arith);
+      follows = rw (number_same next) (le-leb next.ldu (p.codes.first_ldu + 254) room);
+      byte = next_byte p.codes number _ byte;
+      room = room;
+    }
 
-    follows : (b : Bool) → cond b p.codes.first_ldu (ldu + 1) ≤ p.codes.first_ldu + 254 → in_sequence p.codes (Some (record { file = file; ldu = ldu; final = b })) (cond b ((file + 1) % 256) file) (cond b p.codes.first_ldu (ldu + 1)) ≡ true
-    follows true r = rw (eqb_same ((file + 1) % 256)) (eqb_same p.codes.first_ldu)
-    follows false r = rw (eqb_same file) (rw (eqb_same (ldu + 1)) (le-leb (ldu + 1) (p.codes.first_ldu + 254) r))
-
-    small : (b : Bool) → cond b ((file + 1) % 256) file ≤ 255
-    small true = omega arith
-    small false = byte
-
-abbrev pub last_after : Codes → ℕ → ℕ → Option Number → List LduValue → Option Number
-last_after c file ldu last [] = last
-last_after c file ldu last (u ∷ us) = last_after c (next_file c file u) (next_ldu c ldu u) (Some (unit_number c file ldu u)) us
+abbrev pub last_after : Codes → UnitNumber → Option Number → List LduValue → Option Number
+last_after c number last [] = last
+last_after c number last (u ∷ us) = last_after c (number_after c number u) (Some (unit_number c number u)) us
 
 abbrev pub count_after : ℕ → List LduValue → ℕ
 count_after count [] = count
 count_after count (u ∷ us) = count_after (count_of u) us
 
-abbrev pub file_after : Codes → ℕ → List LduValue → ℕ
-file_after c file [] = file
-file_after c file (u ∷ us) = file_after c (next_file c file u) us
+abbrev pub number_behind : Codes → UnitNumber → List LduValue → UnitNumber
+number_behind c number [] = number
+number_behind c number (u ∷ us) = number_behind c (number_after c number u) us
 
-abbrev pub ldu_after : Codes → ℕ → List LduValue → ℕ
-ldu_after c ldu [] = ldu
-ldu_after c ldu (u ∷ us) = ldu_after c (next_ldu c ldu u) us
+-- the number of the next one comes after the last one's, if there is a next one
+abbrev pub Ready : Contents → UnitNumber → Option Number → List LduValue → Type 0
+Ready p number last [] = Unit {0}
+Ready p number last (u ∷ us) = Comes p number last
 
--- the numbers of the next one come after the last one, if there is a next one
-abbrev pub Ready : Contents → ℕ → ℕ → Option Number → List LduValue → Type 0
-Ready p file ldu last [] = Unit {0}
-Ready p file ldu last (u ∷ us) = Comes p file ldu last
-
-ready_next : (p : Contents) (file ldu : ℕ) (u : LduValue) (us : List LduValue) → file ≤ 255 → AllFit p (next_ldu p.codes ldu u) us → Ready p (next_file p.codes file u) (next_ldu p.codes ldu u) (Some (unit_number p.codes file ldu u)) us
-ready_next p file ldu u [] byte h = tt
-ready_next p file ldu u (v ∷ us) byte h = next_comes p file ldu u byte h.1
+ready_next : (p : Contents) → IsRead p → (number : UnitNumber) (u : LduValue) (us : List LduValue) → number.file ≤ 255 → number.ldu ≤ p.codes.first_ldu + 254 → AllFit p (number_after p.codes number u) us → Ready p (number_after p.codes number u) (Some (unit_number p.codes number u)) us
+ready_next p good number u [] byte fit h = tt
+ready_next p good number u (v ∷ us) byte fit h = next_comes p good number u byte fit h.1
 
 -- all cross
-pub clean_goes : (p : Contents) → IsProfile p → (us : List LduValue) (file ldu : ℕ) (last : Option Number) (shelf : Shelf) (count : ℕ) → AllFit p ldu us → Ready p file ldu last us → Goes p (all_steps (clean_steps p.codes file ldu us)) (idle_at file ldu last shelf count) (idle_at (file_after p.codes file us) (ldu_after p.codes ldu us) (last_after p.codes file ldu last us) (shelved p.codes file us shelf) (count_after count us))
-clean_goes p is [] file ldu last shelf count h r = record { run = tt; ends = refl }
-clean_goes p is (u ∷ us) file ldu last shelf count h r =
-    let one = block_goes p (is_read p is) file ldu u h.0 (sound p is u h.0) last shelf count r in
-    let more = clean_goes p is us (next_file p.codes file u) (next_ldu p.codes ldu u) (Some (unit_number p.codes file ldu u)) (put file (bytes_in p.codes u.words) (is_final p.codes u.flags) shelf) (count_of u) h.2 (ready_next p file ldu u us r.byte h.2) in
-    subst (λ acts. Goes p acts (idle_at file ldu last shelf count) (idle_at (file_after p.codes file (u ∷ us)) (ldu_after p.codes ldu (u ∷ us)) (last_after p.codes file ldu last (u ∷ us)) (shelved p.codes file (u ∷ us) shelf) (count_after count (u ∷ us)))) (sym (joined_append (block_steps p.codes file ldu u) (clean_steps p.codes (next_file p.codes file u) (next_ldu p.codes ldu u) us)))
+pub clean_goes : (p : Contents) → IsProfile p → (us : List LduValue) (number : UnitNumber) (last : Option Number) (shelf : Shelf) (count : ℕ) → AllFit p number us → Ready p number last us → Goes p (all_steps (clean_steps p.codes number us)) (idle_at number last shelf count) (idle_at (number_behind p.codes number us) (last_after p.codes number last us) (shelved p.codes number us shelf) (count_after count us))
+clean_goes p is [] number last shelf count h r = record { run = tt; ends = refl }
+clean_goes p is (u ∷ us) number last shelf count h r =
+    let good = is_read p is in
+    let one = block_goes p good number u h.0 (sound p is u h.0) last shelf count r in
+    let more = clean_goes p is us (number_after p.codes number u) (Some (unit_number p.codes number u)) (put number.file (bytes_in p.codes u.words) (is_final p.codes u.flags) shelf) (count_of u) h.2 (ready_next p good number u us r.byte r.room h.2) in
+    subst (λ acts. Goes p acts (idle_at number last shelf count) (idle_at (number_behind p.codes number (u ∷ us)) (last_after p.codes number last (u ∷ us)) (shelved p.codes number (u ∷ us) shelf) (count_after count (u ∷ us)))) (sym (joined_append (block_steps p.codes number u) (clean_steps p.codes (number_after p.codes number u) us)))
     (goes_append p _ _ _ _ _ one more)
 
 -- ---- free words between
@@ -312,12 +297,12 @@ words_record : (ws : List ℕ) → Records (map sends_word ws) (map on_a ws)
 words_record [] = tt
 words_record (w ∷ ws) = (refl, words_record ws)
 
-block_records : (c : Codes) (file ldu : ℕ) (u : LduValue) → Records (block_steps c file ldu u) (clean_block c file ldu u)
-block_records c file ldu u = (refl, (refl, records_append (map sends_word (block_of c u file ldu)) (replies (word_number c (form.Ack file ldu)) ∷ []) (map on_a (block_of c u file ldu)) (on_b (word_number c (form.Ack file ldu)) ∷ []) (words_record (block_of c u file ldu)) (refl, tt)))
+block_records : (c : Codes) (number : UnitNumber) (u : LduValue) → Records (block_steps c number u) (clean_block c number u)
+block_records c number u = (refl, (refl, records_append (map sends_word (block_of c u number.file number.ldu)) (replies (word_number c (form.Ack number.file number.ldu)) ∷ []) (map on_a (block_of c u number.file number.ldu)) (on_b (word_number c (form.Ack number.file number.ldu)) ∷ []) (words_record (block_of c u number.file number.ldu)) (refl, tt)))
 
-pub clean_records : (c : Codes) (us : List LduValue) (file ldu : ℕ) → Records (clean_steps c file ldu us) (clean_blocks c file ldu us)
-clean_records c [] file ldu = tt
-clean_records c (u ∷ us) file ldu = records_append (block_steps c file ldu u) (clean_steps c (next_file c file u) (next_ldu c ldu u) us) (clean_block c file ldu u) (clean_blocks c (next_file c file u) (next_ldu c ldu u) us) (block_records c file ldu u) (clean_records c us (next_file c file u) (next_ldu c ldu u))
+pub clean_records : (c : Codes) (us : List LduValue) (number : UnitNumber) → Records (clean_steps c number us) (clean_blocks c number us)
+clean_records c [] number = tt
+clean_records c (u ∷ us) number = records_append (block_steps c number u) (clean_steps c (number_after c number u) us) (clean_block c number u) (clean_blocks c (number_after c number u) us) (block_records c number u) (clean_records c us (number_after c number u))
 
 record Woven (p : Contents) (items : List Seen) (gs : List (List Step)) (s : State) : Type 0 where
   goes : Goes p (weave p.codes items gs) s (end_of p (all_steps gs) s)
@@ -349,15 +334,15 @@ weave_goes p (i ∷ items) gs s r h =
     let both = woven_item p i items gs s (is_free p.codes i.bus i.word) refl r h (weave_goes p items) in
     record { goes = both.0; records = both.1 }
 
-pub start_ready : (p : Contents) (file : ℕ) (us : List LduValue) → file ≤ 255 → AllFit p p.codes.first_ldu us → Ready p file p.codes.first_ldu None us
+pub start_ready : (p : Contents) (file : ℕ) (us : List LduValue) → file ≤ 255 → AllFit p (first_number p.codes file) us → Ready p (first_number p.codes file) None us
 start_ready p file [] f h = tt
 start_ready p file (u ∷ us) f h = record { new = refl; follows = eqb_same p.codes.first_ldu; byte = f; room = h.1 }
 
 -- a recording of a run without loss is the trace of the woven steps, and these deliver its files
-pub clean_is_run : (p : Contents) (file : ℕ) (us : List LduValue) (items : List Seen) → IsProfile p → file ≤ 255 → AllFit p p.codes.first_ldu us → without_free p.codes items ≡ clean_blocks p.codes file p.codes.first_ldu us → IsRunOf p file (weave p.codes items (clean_steps p.codes file p.codes.first_ldu us)) items (shelved p.codes file us empty_shelf)
+pub clean_is_run : (p : Contents) (file : ℕ) (us : List LduValue) (items : List Seen) → IsProfile p → file ≤ 255 → AllFit p (first_number p.codes file) us → without_free p.codes items ≡ clean_blocks p.codes (first_number p.codes file) us → IsRunOf p file (weave p.codes items (clean_steps p.codes (first_number p.codes file) us)) items (shelved p.codes (first_number p.codes file) us empty_shelf)
 clean_is_run p file us items is f h e =
-    let goes = clean_goes p is us file p.codes.first_ldu None empty_shelf 0 h (start_ready p file us f h) in
-    let woven = weave_goes p items (clean_steps p.codes file p.codes.first_ldu us) (start p file) (subst (Records (clean_steps p.codes file p.codes.first_ldu us)) (sym e) (clean_records p.codes us file p.codes.first_ldu)) goes.run in
+    let goes = clean_goes p is us (first_number p.codes file) None empty_shelf 0 h (start_ready p file us f h) in
+    let woven = weave_goes p items (clean_steps p.codes (first_number p.codes file) us) (start p file) (subst (Records (clean_steps p.codes (first_number p.codes file) us)) (sym e) (clean_records p.codes us (first_number p.codes file))) goes.run in
     record {
       run = woven.goes.run;
       records = woven.records;

@@ -1,3 +1,4 @@
+pub mod NumberFacts
 pub mod Message
 pub mod MessageSubsequence
 pub mod StateConfigs
@@ -13,5 +14,6 @@ pub mod SinkGoodBlock
 pub mod LinkKept
 pub mod LinkCalls
 pub mod ObserverBlock
+pub mod ObserverSight
 pub mod CleanRuns
 pub mod CleanFiles

@@ -1,12 +1,13 @@
 -- The states of a link: files that were handed out change no step.
 use Rattle.std.proofs.Common.{◌≡◌, ℕ, ◌≤◌, Bool, true, false, cond, List, [], ◌∷◌, ◌++◌, Option, Some, None, IsSome, is_some, Result, Ok, Err, IfErr, refl, sym, ap, ◌∙◌, subst, arith, append_assoc, append-nil}
+use Rattle.a429_ldu.specs.Carried.{bytes_in}
 use Rattle.a429_word.specs.Word.{sum_below}
 use Rattle.a429_word.specs.declared.bus.Bus.TheVariants as bus
 use Rattle.a429_ldu.specs.Form.{form_of, is_free, word_number}
 use Rattle.a429_ldu.specs.Ldu.{LduValue, is_final}
 use Rattle.a429_link.proofs.Message.{IsRead, Message}
 use Rattle.a429_link.specs.Run.{IsBounded, IsRun, end_of}
-use Rattle.a429_link.specs.Sink.{Block, Granted, InBlock, MayAnswerForm, Owes, OwesAck, OwesClear, OwesNak, Quiet, Shelf, Sink, SinkPhase, accepts, accepts_owed, answers_form, bytes_in, is_same, put, takes_first, takes_form}
+use Rattle.a429_link.specs.Sink.{Block, Granted, InBlock, MayAnswerForm, Owes, OwesAck, OwesClear, OwesNak, Quiet, Shelf, Sink, SinkPhase, accepts, accepts_owed, answers_form, is_same, put, takes_first, takes_form, number_of}
 use Rattle.a429_link.specs.Step.{Can, IsNamedStep, after, IsFault}
 use Rattle.a429_link.specs.Source.{next_word_of}
 use Rattle.a429_link.specs.State.{rest, start, State}
@@ -27,6 +28,7 @@ use Rattle.a429_link.proofs.StateConfigs.{Config, idle, asked, unasked, heard, s
 use Rattle.a429_link.proofs.StateHolds.{HoldsAt, Current, step_holds, start_holds}
 use Rattle.a429_link.proofs.RunCrossing.{run_bounded}
 use Rattle.a429_link.proofs.MessageRead.{is_read}
+use Rattle.a429_link.specs.declared.number.UnitNumber.{UnitNumber}
 
 -- ---- steps and earlier files
 
@@ -58,12 +60,12 @@ put_with files n bytes true s = ap (λ (l : List FileBytes). put_on l) (append_a
 put_with files n bytes false s = refl
 
 accepts_with : (c : Codes) (files : List FileBytes) (b : Block) (flags : ℕ) (k : Sink) → accepts c b flags (sink_with files k) ≡ sink_with files (accepts c b flags k)
-accepts_with c files b flags k = by_same (is_same k.last b.file b.ldu)
+accepts_with c files b flags k = by_same (is_same k.last (number_of b))
   where
     taken_in : Shelf → Sink
-    taken_in s = record k { last = Some (record { file = b.file; ldu = b.ldu; final = is_final c flags }); shelf = s }
+    taken_in s = record k { last = Some (record { number = number_of b; final = is_final c flags }); shelf = s }
 
-    by_same : (t : Bool) → cond t (sink_with files k) (record (sink_with files k) { last = Some (record { file = b.file; ldu = b.ldu; final = is_final c flags }); shelf = put b.file (bytes_in c b.words) (is_final c flags) (shelf_with files k.shelf) }) ≡ sink_with files (cond t k (record k { last = Some (record { file = b.file; ldu = b.ldu; final = is_final c flags }); shelf = put b.file (bytes_in c b.words) (is_final c flags) k.shelf }))
+    by_same : (t : Bool) → cond t (sink_with files k) (record (sink_with files k) { last = Some (record { number = number_of b; final = is_final c flags }); shelf = put b.file (bytes_in c b.words) (is_final c flags) (shelf_with files k.shelf) }) ≡ sink_with files (cond t k (record k { last = Some (record { number = number_of b; final = is_final c flags }); shelf = put b.file (bytes_in c b.words) (is_final c flags) k.shelf }))
     by_same true = refl
     by_same false = ap taken_in (put_with files b.file (bytes_in c b.words) (is_final c flags) k.shelf)
 
@@ -204,18 +206,18 @@ some_word (Some w) h = (w, refl)
 some_word None h = absurd (cc h)
 
 -- the count of a clear answer that is owed
-owed_count : (p : Contents) (file ldu : ℕ) (cur : Option LduValue) (sp : SourceState) (count : ℕ) (xs ys : List Message) → Current p cur ldu → Config file ldu cur sp count OwesClear xs ys → (3 ≤ count) × (count ≤ 255)
-owed_count p file ldu cur sp count xs ys c (heard {u} r q) = let some = c.0.some in let room = c.0.room in (omega arith, omega arith)
-owed_count p file ldu cur sp count xs ys c (idle f s) = absurd s
-owed_count p file ldu cur sp count xs ys c (asked r s q) = absurd s
-owed_count p file ldu cur sp count xs ys c (unasked r s) = absurd s
-owed_count p file ldu cur sp count xs ys c (sending r g q le h) = absurd g
-owed_count p file ldu cur sp count xs ys c (waiting r g q h) = absurd g
+owed_count : (p : Contents) (number : UnitNumber) (cur : Option LduValue) (sp : SourceState) (count : ℕ) (xs ys : List Message) → Current p cur number.ldu → Config number cur sp count OwesClear xs ys → (3 ≤ count) × (count ≤ 255)
+owed_count p number cur sp count xs ys c (heard {u} r q) = let some = c.0.some in let room = c.0.room in (omega arith, omega arith)
+owed_count p number cur sp count xs ys c (idle f s) = absurd s
+owed_count p number cur sp count xs ys c (asked r s q) = absurd s
+owed_count p number cur sp count xs ys c (unasked r s) = absurd s
+owed_count p number cur sp count xs ys c (sending r g q le h) = absurd g
+owed_count p number cur sp count xs ys c (waiting r g q h) = absurd g
 
 -- a word that the sink owes
 owed_word : (p : Contents) → IsProfile p → (s : State) → HoldsAt p s → (kp : SinkPhase) → s.sink.phase ≡ kp → Owes kp → (w : ℕ) × MayAnswerForm s.sink.count kp (form_of p.codes bus.B w)
 owed_word p is s h OwesClear e o =
-    let range = owed_count p s.source.file s.source.ldu s.source.current s.source.phase s.sink.count h.xs h.ys h.current (subst (λ q. Config s.source.file s.source.ldu s.source.current s.source.phase s.sink.count q h.xs h.ys) e h.fits) in
+    let range = owed_count p s.source.number s.source.current s.source.phase s.sink.count h.xs h.ys h.current (subst (λ q. Config s.source.number s.source.current s.source.phase s.sink.count q h.xs h.ys) e h.fits) in
     (word_number p.codes (form.Cts s.sink.count), subst (MayAnswerForm s.sink.count OwesClear) (sym (form_of-word_number p is (form.Cts s.sink.count) range)) refl)
 owed_word p is s h (OwesAck b flags) e o = (word_number p.codes (form.Nak 0), subst (MayAnswerForm s.sink.count (OwesAck b flags)) (sym (form_of-word_number p is (form.Nak 0) (omega arith))) tt)
 owed_word p is s h OwesNak e o = (word_number p.codes (form.Nak 0), subst (MayAnswerForm s.sink.count OwesNak) (sym (form_of-word_number p is (form.Nak 0) (omega arith))) tt)

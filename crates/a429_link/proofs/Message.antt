@@ -1,5 +1,6 @@
 -- What words say, with a data word known by its own number; and the machine on what is said.
 use Rattle.std.proofs.Common.{◌≡◌, ℕ, zero, suc, ◌≤◌, Bool, true, false, List, [], ◌∷◌, ◌++◌, map, length, Option, Some, None, IsSome, slice_get, refl, sym, ap, ◌∙◌, subst}
+use Rattle.a429_ldu.specs.Carried.{bytes_in}
 use Rattle.a429_word.specs.declared.bus.Bus.{Bus}
 use Rattle.a429_word.specs.declared.bus.Bus.TheVariants as bus
 use Rattle.a429_profile.specs.Profile.{Contents}
@@ -10,8 +11,9 @@ use Rattle.a429_ldu.specs.Ldu.{LduValue, IsLdu, count_of, block_of}
 use Rattle.a429_link.specs.declared.state.SourceState.{SourceState}
 use Rattle.a429_link.specs.declared.state.SourceState.TheVariants.{Idle, Awaiting, Sending, Waiting}
 use Rattle.a429_link.specs.Source.{Source, next_word, hears, hears_form, is_own_ack}
-use Rattle.a429_link.specs.Sink.{Sink, SinkPhase, Quiet, OwesClear, Granted, InBlock, OwesAck, OwesNak, Block, bytes_in, takes, takes_form, takes_word, answers, answers_form, answers_word, MayAnswer, MayAnswerForm}
+use Rattle.a429_link.specs.Sink.{Sink, SinkPhase, Quiet, OwesClear, Granted, InBlock, OwesAck, OwesNak, Block, takes, takes_form, takes_word, answers, answers_form, answers_word, MayAnswer, MayAnswerForm}
 use Rattle.a429_link.specs.Run.{is_own_ack_form}
+use Rattle.a429_link.specs.declared.number.UnitNumber.{UnitNumber}
 
 pub data Message : Type 0 where
   Rts : (n : ℕ) → Message
@@ -85,14 +87,14 @@ pub record IsRead (p : Contents) : Type 0 where
 
 -- ---- blocks
 
-abbrev pub front : LduValue → ℕ → ℕ → List Message
-front u file ldu = Sot u.gfi file ldu ∷ map Part u.words
+abbrev pub front : LduValue → UnitNumber → List Message
+front u number = Sot u.gfi number.file number.ldu ∷ map Part u.words
 
 abbrev pub end_message : LduValue → Message
 end_message u = Eot u.flags u.check
 
-abbrev pub block_messages : LduValue → ℕ → ℕ → List Message
-block_messages u file ldu = front u file ldu ++ end_message u ∷ []
+abbrev pub block_messages : LduValue → UnitNumber → List Message
+block_messages u number = front u number ++ end_message u ∷ []
 
 abbrev pub taken_messages : Block → List Message
 taken_messages b = Sot b.gfi b.file b.ldu ∷ map Part b.words
@@ -101,16 +103,16 @@ parts_words : (p : Contents) (ws : List ℕ) (x : Message) → map (word_of p) (
 parts_words p [] x = refl
 parts_words p (w ∷ ws) x = ap (λ (l : List ℕ). w ∷ l) (parts_words p ws x)
 
-pub block_words : (p : Contents) (u : LduValue) (file ldu : ℕ) → map (word_of p) (block_messages u file ldu) ≡ block_of p.codes u file ldu
-block_words p u file ldu = ap (λ (l : List ℕ). word_number p.codes (form.Sot u.gfi file ldu) ∷ l) (parts_words p u.words (end_message u))
+pub block_words : (p : Contents) (u : LduValue) (number : UnitNumber) → map (word_of p) (block_messages u number) ≡ block_of p.codes u number.file number.ldu
+block_words p u number = ap (λ (l : List ℕ). word_number p.codes (form.Sot u.gfi number.file number.ldu) ∷ l) (parts_words p u.words (end_message u))
 
 -- ---- the source
 
 -- what the source says next
-abbrev pub next_message : ℕ → ℕ → Option LduValue → SourceState → Option Message
-next_message file ldu (Some u) Idle = Some (Rts (count_of u))
-next_message file ldu (Some u) (Sending k) = slice_get (block_messages u file ldu) k
-next_message file ldu _ _ = None
+abbrev pub next_message : UnitNumber → Option LduValue → SourceState → Option Message
+next_message number (Some u) Idle = Some (Rts (count_of u))
+next_message number (Some u) (Sending k) = slice_get (block_messages u number) k
+next_message number _ _ = None
 
 pub record Says (p : Contents) (o : Option Message) (w : ℕ) : Type 0 where
   pub said : Message
@@ -123,24 +125,24 @@ get_message p (x ∷ xs) zero w e = record { said = x; is = refl; word = cc }
 get_message p (x ∷ xs) (suc k) w e = get_message p xs k w e
 
 -- the next word says it
-pub next_says : (p : Contents) (file ldu : ℕ) (cur : Option LduValue) (sp : SourceState) (w : ℕ) → next_word p.codes file ldu cur sp ≡ Some w → Says p (next_message file ldu cur sp) w
-next_says p file ldu (Some u) Idle w e = record { said = Rts (count_of u); is = refl; word = cc }
-next_says p file ldu (Some u) (Sending k) w e = get_message p (block_messages u file ldu) k w (subst (λ (l : List ℕ). slice_get l k ≡ Some w) (sym (block_words p u file ldu)) e)
-next_says p file ldu (Some u) Awaiting w e = absurd (cc e)
-next_says p file ldu (Some u) Waiting w e = absurd (cc e)
-next_says p file ldu None sp w e = absurd (cc e)
+pub next_says : (p : Contents) (number : UnitNumber) (cur : Option LduValue) (sp : SourceState) (w : ℕ) → next_word p.codes number cur sp ≡ Some w → Says p (next_message number cur sp) w
+next_says p number (Some u) Idle w e = record { said = Rts (count_of u); is = refl; word = cc }
+next_says p number (Some u) (Sending k) w e = get_message p (block_messages u number) k w (subst (λ (l : List ℕ). slice_get l k ≡ Some w) (sym (block_words p u number)) e)
+next_says p number (Some u) Awaiting w e = absurd (cc e)
+next_says p number (Some u) Waiting w e = absurd (cc e)
+next_says p number None sp w e = absurd (cc e)
 
 some_message : (p : Contents) (xs : List Message) (k : ℕ) → IsSome (slice_get (map (word_of p) xs) k) → IsSome (slice_get xs k)
 some_message p [] k h = h
 some_message p (x ∷ xs) zero h = refl
 some_message p (x ∷ xs) (suc k) h = some_message p xs k h
 
-pub next_is_some : (p : Contents) (file ldu : ℕ) (cur : Option LduValue) (sp : SourceState) → IsSome (next_word p.codes file ldu cur sp) → IsSome (next_message file ldu cur sp)
-next_is_some p file ldu (Some u) Idle h = refl
-next_is_some p file ldu (Some u) (Sending k) h = some_message p (block_messages u file ldu) k (subst (λ (l : List ℕ). IsSome (slice_get l k)) (sym (block_words p u file ldu)) h)
-next_is_some p file ldu (Some u) Awaiting h = absurd (cc h)
-next_is_some p file ldu (Some u) Waiting h = absurd (cc h)
-next_is_some p file ldu None sp h = absurd (cc h)
+pub next_is_some : (p : Contents) (number : UnitNumber) (cur : Option LduValue) (sp : SourceState) → IsSome (next_word p.codes number cur sp) → IsSome (next_message number cur sp)
+next_is_some p number (Some u) Idle h = refl
+next_is_some p number (Some u) (Sending k) h = some_message p (block_messages u number) k (subst (λ (l : List ℕ). IsSome (slice_get l k)) (sym (block_words p u number)) h)
+next_is_some p number (Some u) Awaiting h = absurd (cc h)
+next_is_some p number (Some u) Waiting h = absurd (cc h)
+next_is_some p number None sp h = absurd (cc h)
 
 -- the source after an answer that says this
 abbrev pub hears_message : Contents → Option LduValue → SourceState → Message → Source → Source
@@ -167,22 +169,22 @@ hears_join p w (Some (form.Sot g f l)) s = refl
 hears_join p w (Some (form.Part semis)) s = hears_part p s.current s.phase semis [] s
 hears_join p w (Some (form.Eot f c)) s = refl
 
-abbrev pub is_own_ack_message : ℕ → ℕ → SourceState → Message → Bool
-is_own_ack_message file ldu sp x = is_own_ack file ldu sp (form_for x)
+abbrev pub is_own_ack_message : UnitNumber → SourceState → Message → Bool
+is_own_ack_message number sp x = is_own_ack number sp (form_for x)
 
 abbrev pub is_own_ack_seen : Source → Option Message → Bool
 is_own_ack_seen s None = false
-is_own_ack_seen s (Some x) = is_own_ack_message s.file s.ldu s.phase x
+is_own_ack_seen s (Some x) = is_own_ack_message s.number s.phase x
 
-own_part : (file ldu : ℕ) (sp : SourceState) (semis others : List ℕ) → is_own_ack file ldu sp (form.Part semis) ≡ is_own_ack file ldu sp (form.Part others)
-own_part file ldu Idle semis others = refl
-own_part file ldu Awaiting semis others = refl
-own_part file ldu (Sending k) semis others = refl
-own_part file ldu Waiting semis others = refl
+own_part : (number : UnitNumber) (sp : SourceState) (semis others : List ℕ) → is_own_ack number sp (form.Part semis) ≡ is_own_ack number sp (form.Part others)
+own_part number Idle semis others = refl
+own_part number Awaiting semis others = refl
+own_part number (Sending k) semis others = refl
+own_part number Waiting semis others = refl
 
 pub own_ack_join : (w : ℕ) (o : Option Form) (s : Source) → is_own_ack_form s o ≡ is_own_ack_seen s (message_in w o)
 own_ack_join w None s = refl
-own_ack_join w (Some (form.Part semis)) s = own_part s.file s.ldu s.phase semis []
+own_ack_join w (Some (form.Part semis)) s = own_part s.number s.phase semis []
 own_ack_join w (Some _) s = refl
 
 -- ---- the sink

@@ -1,12 +1,13 @@
 -- A word that the observer does not allow begins no run's trace.
 use Rattle.std.proofs.Common.{◌≡◌, ℕ, zero, suc, Bool, true, false, cond, List, [], ◌∷◌, ◌++◌, take, Option, Some, None, slice_get, refl, sym, ap, ◌∙◌, subst, inl, inr}
+use Rattle.a429_ldu.specs.Carried.{bytes_in}
 use Rattle.a429_word.specs.declared.bus.Bus.TheVariants as bus
 use Rattle.a429_ldu.specs.Form.{form_of}
 use Rattle.a429_ldu.specs.Ldu.{is_final}
 use Rattle.a429_link.proofs.Message.{IsRead, MaySay, Part, Message, Sot, message_in}
 use Rattle.a429_link.specs.Observer.{Allows, AllowsForm, AllowsNext, HasGrant, IsRefused, Observer, at_first, observed, sees, sees_form, watching}
 use Rattle.a429_link.specs.Run.{BeginsARun}
-use Rattle.a429_link.specs.Sink.{empty_shelf, Granted, InBlock, Number, OwesAck, OwesClear, OwesNak, Quiet, Sink, SinkPhase, accepts_owed, answers, answers_form, bytes_in, is_same, put, takes_form}
+use Rattle.a429_link.specs.Sink.{empty_shelf, Granted, InBlock, Number, OwesAck, OwesClear, OwesNak, Quiet, Sink, SinkPhase, accepts_owed, answers, answers_form, is_same, put, takes_form, number_of}
 use Rattle.a429_link.specs.declared.seen.Seen.{Seen}
 use Rattle.a429_profile.specs.Profile.{Contents}
 use Rattle.a429_word.specs.declared.bus.Bus.{Bus}
@@ -52,9 +53,9 @@ abbrev bare : Sink → Sink
 bare k = record k { shelf = empty_shelf }
 
 accepts_last : (c : Codes) (kp : SinkPhase) (k : Sink) → (accepts_owed c kp (bare k)).last ≡ (accepts_owed c kp k).last
-accepts_last c (OwesAck b flags) k = by_same (is_same k.last b.file b.ldu)
+accepts_last c (OwesAck b flags) k = by_same (is_same k.last (number_of b))
   where
-    by_same : (t : Bool) → (cond t (bare k) (record (bare k) { last = Some (record { file = b.file; ldu = b.ldu; final = is_final c flags }); shelf = put b.file (bytes_in c b.words) (is_final c flags) empty_shelf })).last ≡ (cond t k (record k { last = Some (record { file = b.file; ldu = b.ldu; final = is_final c flags }); shelf = put b.file (bytes_in c b.words) (is_final c flags) k.shelf })).last
+    by_same : (t : Bool) → (cond t (bare k) (record (bare k) { last = Some (record { number = number_of b; final = is_final c flags }); shelf = put b.file (bytes_in c b.words) (is_final c flags) empty_shelf })).last ≡ (cond t k (record k { last = Some (record { number = number_of b; final = is_final c flags }); shelf = put b.file (bytes_in c b.words) (is_final c flags) k.shelf })).last
     by_same true = refl
     by_same false = refl
 accepts_last c Quiet k = refl

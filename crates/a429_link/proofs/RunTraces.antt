@@ -1,8 +1,8 @@
 -- What no trace holds: each recorded word is one that the trace before it allows.
-use Rattle.std.proofs.Common.{◌≡◌, ◌⊎◌, ℕ, zero, suc, ◌+◌, ◌≤◌, ◌<◌, Bool, true, false, cond, eqb, ◌&&◌, ◌%◌, List, [], ◌∷◌, ◌++◌, map, length, take, Option, Some, None, IsSome, slice_get, refl, sym, ap, ◌∙◌, subst, inl, inr, arith, eq-eqb}
+use Rattle.std.proofs.Common.{◌≡◌, ◌⊎◌, ℕ, zero, suc, ◌+◌, ◌≤◌, ◌<◌, Bool, true, false, cond, eqb, ◌&&◌, List, [], ◌∷◌, ◌++◌, map, length, take, Option, Some, None, IsSome, slice_get, refl, sym, ap, ◌∙◌, subst, inl, inr, arith, eq-eqb}
 use Rattle.a429_word.specs.declared.bus.Bus.TheVariants as bus
 use Rattle.a429_ldu.specs.Form.{is_free}
-use Rattle.a429_ldu.specs.Ldu.{LduValue, count_of, is_final}
+use Rattle.a429_ldu.specs.Ldu.{LduValue, count_of}
 use Rattle.a429_link.proofs.Message.{AllSay, Cts, Eot, IsRead, MaySay, Part, Rts, Message, Sot, block_messages, front, hears_as, hears_message, end_message, next_is_some, next_message, none_say, message_in, message_of, takes_as, takes_message}
 use Rattle.a429_link.specs.Run.{IsRun, trace, with_label}
 use Rattle.a429_link.specs.Sink.{Granted, InBlock, Owes, Sink, SinkPhase, at_part, at_start}
@@ -20,6 +20,7 @@ use Rattle.a429_link.proofs.MessageSubsequence.{IsSubsequence, Each, IsFrontWord
 use Rattle.a429_link.proofs.StateConfigs.{Config, idle, asked, unasked, heard, cleared, sending, waiting, whole, spoiled, refused, acked, InGrant, block_taken, front_words, block_words_each, each_take, lost_front, length-front, may_owes, owes_stale, owes_grant, source_at}
 use Rattle.a429_link.proofs.StateHolds.{HoldsAt, step_holds, start_holds, sends, owed_form, alone_on_the_way}
 use Rattle.a429_link.proofs.SinkFromTrace.{sees, take_all, Alike, IsStill, step_alike, blank}
+use Rattle.a429_link.specs.declared.number.UnitNumber.{UnitNumber}
 
 abbrev pub parts_in : List Message → ℕ
 parts_in [] = 0
@@ -74,96 +75,92 @@ no_cts : (p : Contents) (vs : List ℕ) → vs ≡ [] → HasCts p vs → ⊥
 no_cts p [] e h = h
 no_cts p (v ∷ vs) e h = cc e
 
-abbrev SeenAt : Contents → ℕ → ℕ → Option LduValue → SourceState → List ℕ → List Message → Type 0
-SeenAt p file ldu (Some u) (Sending k) vs seen = IsSubsequence seen (take k (front u file ldu))
-SeenAt p file ldu (Some u) Awaiting vs seen = HasCts p vs → seen ≡ []
-SeenAt p file ldu _ _ vs seen = Unit {0}
+abbrev SeenAt : Contents → UnitNumber → Option LduValue → SourceState → List ℕ → List Message → Type 0
+SeenAt p number (Some u) (Sending k) vs seen = IsSubsequence seen (take k (front u number))
+SeenAt p number (Some u) Awaiting vs seen = HasCts p vs → seen ≡ []
+SeenAt p number _ _ vs seen = Unit {0}
 
 abbrev SeenIn : Contents → State → List Message → Type 0
-SeenIn p s seen = SeenAt p s.source.file s.source.ldu s.source.current s.source.phase s.to_source seen
+SeenIn p s seen = SeenAt p s.source.number s.source.current s.source.phase s.to_source seen
 
-next_seen : (p : Contents) (file ldu : ℕ) (u : LduValue) (k : ℕ) (vs : List ℕ) (seen : List Message) (b : Bool) → eqb (suc k) (count_of u) ≡ b → IsSubsequence seen (take (suc k) (front u file ldu)) ⊎ (suc k ≡ count_of u) → SeenAt p file ldu (Some u) (cond b Waiting (Sending (suc k))) vs seen
-next_seen p file ldu u k vs seen true e h = tt
-next_seen p file ldu u k vs seen false e (inl h) = h
-next_seen p file ldu u k vs seen false e (inr h) = absurd (cc (sym e ∙ eq-eqb (suc k) (count_of u) h))
+next_seen : (p : Contents) (number : UnitNumber) (u : LduValue) (k : ℕ) (vs : List ℕ) (seen : List Message) (b : Bool) → eqb (suc k) (count_of u) ≡ b → IsSubsequence seen (take (suc k) (front u number)) ⊎ (suc k ≡ count_of u) → SeenAt p number (Some u) (cond b Waiting (Sending (suc k))) vs seen
+next_seen p number u k vs seen true e h = tt
+next_seen p number u k vs seen false e (inl h) = h
+next_seen p number u k vs seen false e (inr h) = absurd (cc (sym e ∙ eq-eqb (suc k) (count_of u) h))
 
 -- a word of the block that comes
-pushed_seen : (file ldu : ℕ) (u : LduValue) (k : ℕ) (seen : List Message) (w : Message) → slice_get (block_messages u file ldu) k ≡ Some w → IsSubsequence seen (take k (front u file ldu)) → IsSubsequence (seen ++ w ∷ []) (take (suc k) (front u file ldu)) ⊎ (suc k ≡ count_of u)
-pushed_seen file ldu u k seen w e h =
-    elim (get_front k w (end_message u) (front u file ldu) e) [
-      | inl (l, g) ↦ inl (subst (λ x. IsSubsequence (seen ++ w ∷ []) x) (sym (take_next k w (front u file ldu) g)) (sub_push w seen (take k (front u file ldu)) h))
-      | inr (l, g) ↦ inr (omega (arith, length-front u file ldu))
+pushed_seen : (number : UnitNumber) (u : LduValue) (k : ℕ) (seen : List Message) (w : Message) → slice_get (block_messages u number) k ≡ Some w → IsSubsequence seen (take k (front u number)) → IsSubsequence (seen ++ w ∷ []) (take (suc k) (front u number)) ⊎ (suc k ≡ count_of u)
+pushed_seen number u k seen w e h =
+    elim (get_front k w (end_message u) (front u number) e) [
+      | inl (l, g) ↦ inl (subst (λ x. IsSubsequence (seen ++ w ∷ []) x) (sym (take_next k w (front u number) g)) (sub_push w seen (take k (front u number)) h))
+      | inr (l, g) ↦ inr (omega (arith, length-front u number))
     ]
 
-front_seen : (file ldu : ℕ) (u : LduValue) (k : ℕ) (seen : List Message) (w : Message) → slice_get (block_messages u file ldu) k ≡ Some w → IsSubsequence seen (take k (front u file ldu)) → IsSubsequence (see bus.A (Some w) seen) (take (suc k) (front u file ldu)) ⊎ (suc k ≡ count_of u)
-front_seen file ldu u k seen (Sot g f l) e h = pushed_seen file ldu u k seen (Sot g f l) e h
-front_seen file ldu u k seen (Part s) e h = pushed_seen file ldu u k seen (Part s) e h
-front_seen file ldu u k seen w e h = inl (lost_front k seen (front u file ldu) h)
+front_seen : (number : UnitNumber) (u : LduValue) (k : ℕ) (seen : List Message) (w : Message) → slice_get (block_messages u number) k ≡ Some w → IsSubsequence seen (take k (front u number)) → IsSubsequence (see bus.A (Some w) seen) (take (suc k) (front u number)) ⊎ (suc k ≡ count_of u)
+front_seen number u k seen (Sot g f l) e h = pushed_seen number u k seen (Sot g f l) e h
+front_seen number u k seen (Part s) e h = pushed_seen number u k seen (Part s) e h
+front_seen number u k seen w e h = inl (lost_front k seen (front u number) h)
 
-sent_seen : (p : Contents) (file ldu : ℕ) (cur : Option LduValue) (sp : SourceState) (count : ℕ) (kp : SinkPhase) (xs ys : List Message) (vs : List ℕ) (seen : List Message) (w : Message) → next_message file ldu cur sp ≡ Some w → AllSay p bus.B vs ys → Config file ldu cur sp count kp xs ys → SeenAt p file ldu cur sp vs seen → SeenAt p file ldu cur (after_word cur sp) vs (see bus.A (Some w) seen)
-sent_seen p file ldu None sp count kp xs ys vs seen w e d (idle f s) h = absurd (cc e)
-sent_seen p file ldu (Some u) sp count kp xs ys vs seen w e d (idle f s) h = λ i. absurd (no_cts p vs (none_say p bus.B vs ys d refl) i)
-sent_seen p file ldu cur sp count kp xs ys vs seen w e d (sending {u} {k} r g c le q) h = next_seen p file ldu u k vs (see bus.A (Some w) seen) (eqb (suc k) (count_of u)) refl (front_seen file ldu u k seen w e h)
-sent_seen p file ldu cur sp count kp xs ys vs seen w e d _ h = absurd (cc e)
+sent_seen : (p : Contents) (number : UnitNumber) (cur : Option LduValue) (sp : SourceState) (count : ℕ) (kp : SinkPhase) (xs ys : List Message) (vs : List ℕ) (seen : List Message) (w : Message) → next_message number cur sp ≡ Some w → AllSay p bus.B vs ys → Config number cur sp count kp xs ys → SeenAt p number cur sp vs seen → SeenAt p number cur (after_word cur sp) vs (see bus.A (Some w) seen)
+sent_seen p number None sp count kp xs ys vs seen w e d (idle f s) h = absurd (cc e)
+sent_seen p number (Some u) sp count kp xs ys vs seen w e d (idle f s) h = λ i. absurd (no_cts p vs (none_say p bus.B vs ys d refl) i)
+sent_seen p number cur sp count kp xs ys vs seen w e d (sending {u} {k} r g c le q) h = next_seen p number u k vs (see bus.A (Some w) seen) (eqb (suc k) (count_of u)) refl (front_seen number u k seen w e h)
+sent_seen p number cur sp count kp xs ys vs seen w e d _ h = absurd (cc e)
 
-lost_seen : (p : Contents) (file ldu : ℕ) (cur : Option LduValue) (sp : SourceState) (count : ℕ) (kp : SinkPhase) (xs ys : List Message) (vs : List ℕ) (seen : List Message) → IsSome (next_message file ldu cur sp) → AllSay p bus.B vs ys → Config file ldu cur sp count kp xs ys → SeenAt p file ldu cur sp vs seen → SeenAt p file ldu cur (after_word cur sp) vs seen
-lost_seen p file ldu None sp count kp xs ys vs seen e d (idle f s) h = absurd (cc e)
-lost_seen p file ldu (Some u) sp count kp xs ys vs seen e d (idle f s) h = λ i. absurd (no_cts p vs (none_say p bus.B vs ys d refl) i)
-lost_seen p file ldu cur sp count kp xs ys vs seen e d (sending {u} {k} r g c le q) h = next_seen p file ldu u k vs seen (eqb (suc k) (count_of u)) refl (inl (lost_front k seen (front u file ldu) h))
-lost_seen p file ldu cur sp count kp xs ys vs seen e d _ h = absurd (cc e)
+lost_seen : (p : Contents) (number : UnitNumber) (cur : Option LduValue) (sp : SourceState) (count : ℕ) (kp : SinkPhase) (xs ys : List Message) (vs : List ℕ) (seen : List Message) → IsSome (next_message number cur sp) → AllSay p bus.B vs ys → Config number cur sp count kp xs ys → SeenAt p number cur sp vs seen → SeenAt p number cur (after_word cur sp) vs seen
+lost_seen p number None sp count kp xs ys vs seen e d (idle f s) h = absurd (cc e)
+lost_seen p number (Some u) sp count kp xs ys vs seen e d (idle f s) h = λ i. absurd (no_cts p vs (none_say p bus.B vs ys d refl) i)
+lost_seen p number cur sp count kp xs ys vs seen e d (sending {u} {k} r g c le q) h = next_seen p number u k vs seen (eqb (suc k) (count_of u)) refl (inl (lost_front k seen (front u number) h))
+lost_seen p number cur sp count kp xs ys vs seen e d _ h = absurd (cc e)
 
 abbrev SeenBy : Contents → Source → List ℕ → List Message → Type 0
-SeenBy p s vs seen = SeenAt p s.file s.ldu s.current s.phase vs seen
+SeenBy p s vs seen = SeenAt p s.number s.current s.phase vs seen
 
 anywhere : (p : Contents) (s t : Source) (b : Bool) (vs : List ℕ) (seen : List Message) → SeenBy p s vs seen → SeenBy p t vs seen → SeenBy p (cond b s t) vs seen
 anywhere p s t true vs seen h k = h
 anywhere p s t false vs seen h k = k
 
-final_seen : (p : Contents) (file ldu : ℕ) (t : Bool) (vs : List ℕ) (seen : List Message) → SeenBy p (cond t (record { file = (file + 1) % 256; ldu = p.codes.first_ldu; current = None; phase = Idle }) (record { file = file; ldu = ldu + 1; current = None; phase = Idle })) vs seen
-final_seen p file ldu true vs seen = tt
-final_seen p file ldu false vs seen = tt
+ack_seen : (p : Contents) (number : UnitNumber) (u : LduValue) (t : Bool) (vs : List ℕ) (seen : List Message) → SeenBy p (cond t (acknowledged p.codes u (source_at number (Some u) Waiting)) (source_at number (Some u) Waiting)) vs seen
+ack_seen p number u true vs seen = tt
+ack_seen p number u false vs seen = tt
 
-ack_seen : (p : Contents) (file ldu : ℕ) (u : LduValue) (t : Bool) (vs : List ℕ) (seen : List Message) → SeenBy p (cond t (acknowledged p.codes u (source_at file ldu (Some u) Waiting)) (source_at file ldu (Some u) Waiting)) vs seen
-ack_seen p file ldu u true vs seen = final_seen p file ldu (is_final p.codes u.flags) vs seen
-ack_seen p file ldu u false vs seen = tt
+heard_message_seen : (p : Contents) (number : UnitNumber) (cur : Option LduValue) (sp : SourceState) (count : ℕ) (kp : SinkPhase) (xs : List Message) (y : Message) (ys : List Message) (v : ℕ) (vs : List ℕ) (seen : List Message) → message_of p bus.B v ≡ Some y → AllSay p bus.B vs ys → Config number cur sp count kp xs (y ∷ ys) → SeenAt p number cur sp (v ∷ vs) seen → SeenBy p (hears_message p cur sp y (source_at number cur sp)) vs seen
+heard_message_seen p number cur sp count kp xs y ys v vs seen e d (cleared {u} r q) h =
+    anywhere p (source_at number (Some u) (Sending 0)) (source_at number (Some u) Awaiting) _ vs seen (h (subst IsCts (sym e) tt)) (λ i. absurd (no_cts p vs (none_say p bus.B vs ys d refl) i))
+heard_message_seen p number cur sp count kp xs y ys v vs seen e d (refused r) h = tt
+heard_message_seen p number cur sp count kp xs y ys v vs seen e d (acked {u} {f} {l} r ef el) h = ack_seen p number u (eqb f number.file && eqb l number.ldu) vs seen
 
-heard_message_seen : (p : Contents) (file ldu : ℕ) (cur : Option LduValue) (sp : SourceState) (count : ℕ) (kp : SinkPhase) (xs : List Message) (y : Message) (ys : List Message) (v : ℕ) (vs : List ℕ) (seen : List Message) → message_of p bus.B v ≡ Some y → AllSay p bus.B vs ys → Config file ldu cur sp count kp xs (y ∷ ys) → SeenAt p file ldu cur sp (v ∷ vs) seen → SeenBy p (hears_message p cur sp y (source_at file ldu cur sp)) vs seen
-heard_message_seen p file ldu cur sp count kp xs y ys v vs seen e d (cleared {u} r q) h =
-    anywhere p (source_at file ldu (Some u) (Sending 0)) (source_at file ldu (Some u) Awaiting) _ vs seen (h (subst IsCts (sym e) tt)) (λ i. absurd (no_cts p vs (none_say p bus.B vs ys d refl) i))
-heard_message_seen p file ldu cur sp count kp xs y ys v vs seen e d (refused r) h = tt
-heard_message_seen p file ldu cur sp count kp xs y ys v vs seen e d (acked {u} {f} {l} r ef el) h = ack_seen p file ldu u (eqb f file && eqb l ldu) vs seen
-
-heard_seen : (p : Contents) (source : Source) (count : ℕ) (kp : SinkPhase) (xs ys : List Message) (vs : List ℕ) (seen : List Message) → IsNonEmpty vs → AllSay p bus.B vs ys → Config source.file source.ldu source.current source.phase count kp xs ys → SeenBy p source vs seen → SeenBy p (hears_first p.codes vs source) (rest vs) seen
+heard_seen : (p : Contents) (source : Source) (count : ℕ) (kp : SinkPhase) (xs ys : List Message) (vs : List ℕ) (seen : List Message) → IsNonEmpty vs → AllSay p bus.B vs ys → Config source.number source.current source.phase count kp xs ys → SeenBy p source vs seen → SeenBy p (hears_first p.codes vs source) (rest vs) seen
 heard_seen p source count kp xs ys [] seen n d c h = absurd n
 heard_seen p source count kp xs [] (v ∷ vs) seen n d c h = absurd d
 heard_seen p source count kp xs (y ∷ ys) (v ∷ vs) seen n d c h =
-    subst (λ q. SeenBy p q vs seen) (sym (hears_as p v y source d.0)) (heard_message_seen p source.file source.ldu source.current source.phase count kp xs y ys v vs seen d.0 d.1 c h)
+    subst (λ q. SeenBy p q vs seen) (sym (hears_as p v y source d.0)) (heard_message_seen p source.number source.current source.phase count kp xs y ys v vs seen d.0 d.1 c h)
 
-unheard_seen : (p : Contents) (file ldu : ℕ) (cur : Option LduValue) (sp : SourceState) (count : ℕ) (kp : SinkPhase) (xs ys : List Message) (vs : List ℕ) (seen : List Message) → IsNonEmpty vs → AllSay p bus.B vs ys → Config file ldu cur sp count kp xs ys → SeenAt p file ldu cur sp vs seen → SeenAt p file ldu cur sp (rest vs) seen
-unheard_seen p file ldu cur sp count kp xs ys [] seen n d c h = absurd n
-unheard_seen p file ldu cur sp count kp xs [] (v ∷ vs) seen n d c h = absurd d
-unheard_seen p file ldu cur sp count kp xs (y ∷ ys) (v ∷ vs) seen n d (cleared r q) h = λ i. absurd (no_cts p vs (none_say p bus.B vs ys d.1 refl) i)
-unheard_seen p file ldu cur sp count kp xs (y ∷ ys) (v ∷ vs) seen n d (refused r) h = tt
-unheard_seen p file ldu cur sp count kp xs (y ∷ ys) (v ∷ vs) seen n d (acked r f l) h = tt
+unheard_seen : (p : Contents) (number : UnitNumber) (cur : Option LduValue) (sp : SourceState) (count : ℕ) (kp : SinkPhase) (xs ys : List Message) (vs : List ℕ) (seen : List Message) → IsNonEmpty vs → AllSay p bus.B vs ys → Config number cur sp count kp xs ys → SeenAt p number cur sp vs seen → SeenAt p number cur sp (rest vs) seen
+unheard_seen p number cur sp count kp xs ys [] seen n d c h = absurd n
+unheard_seen p number cur sp count kp xs [] (v ∷ vs) seen n d c h = absurd d
+unheard_seen p number cur sp count kp xs (y ∷ ys) (v ∷ vs) seen n d (cleared r q) h = λ i. absurd (no_cts p vs (none_say p bus.B vs ys d.1 refl) i)
+unheard_seen p number cur sp count kp xs (y ∷ ys) (v ∷ vs) seen n d (refused r) h = tt
+unheard_seen p number cur sp count kp xs (y ∷ ys) (v ∷ vs) seen n d (acked r f l) h = tt
 
-idle_seen : (p : Contents) (file ldu : ℕ) (cur : Option LduValue) (vs : List ℕ) (seen : List Message) → SeenAt p file ldu cur Idle vs seen
-idle_seen p file ldu None vs seen = tt
-idle_seen p file ldu (Some u) vs seen = tt
+idle_seen : (p : Contents) (number : UnitNumber) (cur : Option LduValue) (vs : List ℕ) (seen : List Message) → SeenAt p number cur Idle vs seen
+idle_seen p number None vs seen = tt
+idle_seen p number (Some u) vs seen = tt
 
-load_seen : (p : Contents) (file ldu : ℕ) (cur : Option LduValue) (sp : SourceState) (count : ℕ) (kp : SinkPhase) (xs ys : List Message) (vs : List ℕ) (seen : List Message) (u : LduValue) → cur ≡ None → Config file ldu cur sp count kp xs ys → SeenAt p file ldu (Some u) sp vs seen
-load_seen p file ldu cur sp count kp xs ys vs seen u e (idle f s) = tt
-load_seen p file ldu cur sp count kp xs ys vs seen u e _ = absurd (cc e)
+load_seen : (p : Contents) (number : UnitNumber) (cur : Option LduValue) (sp : SourceState) (count : ℕ) (kp : SinkPhase) (xs ys : List Message) (vs : List ℕ) (seen : List Message) (u : LduValue) → cur ≡ None → Config number cur sp count kp xs ys → SeenAt p number (Some u) sp vs seen
+load_seen p number cur sp count kp xs ys vs seen u e (idle f s) = tt
+load_seen p number cur sp count kp xs ys vs seen u e _ = absurd (cc e)
 
-answered_seen : (p : Contents) (file ldu : ℕ) (cur : Option LduValue) (sp : SourceState) (count : ℕ) (kp : SinkPhase) (xs ys : List Message) (vs vs' : List ℕ) (seen : List Message) (w : Message) → MaySay count kp w → Config file ldu cur sp count kp xs ys → SeenAt p file ldu cur sp vs' (see bus.B (Some w) seen)
-answered_seen p file ldu cur sp count kp xs ys vs vs' seen (Cts n) m (heard r q) = λ i. refl
-answered_seen p file ldu cur sp count kp xs ys vs vs' seen w m (whole r h) = tt
-answered_seen p file ldu cur sp count kp xs ys vs vs' seen w m (spoiled r) = tt
-answered_seen p file ldu cur sp count kp xs ys vs vs' seen w m (idle r s) = absurd (owes_stale kp (may_owes count kp w m) s)
-answered_seen p file ldu cur sp count kp xs ys vs vs' seen w m (asked r s q) = absurd (owes_stale kp (may_owes count kp w m) s)
-answered_seen p file ldu cur sp count kp xs ys vs vs' seen w m (unasked r s) = absurd (owes_stale kp (may_owes count kp w m) s)
-answered_seen p file ldu cur sp count kp xs ys vs vs' seen w m (sending r g q le h) = absurd (owes_grant kp (may_owes count kp w m) g)
-answered_seen p file ldu cur sp count kp xs ys vs vs' seen w m (waiting r g q h) = absurd (owes_grant kp (may_owes count kp w m) g)
-answered_seen p file ldu cur sp count kp xs ys vs vs' seen w m _ = absurd m
+answered_seen : (p : Contents) (number : UnitNumber) (cur : Option LduValue) (sp : SourceState) (count : ℕ) (kp : SinkPhase) (xs ys : List Message) (vs vs' : List ℕ) (seen : List Message) (w : Message) → MaySay count kp w → Config number cur sp count kp xs ys → SeenAt p number cur sp vs' (see bus.B (Some w) seen)
+answered_seen p number cur sp count kp xs ys vs vs' seen (Cts n) m (heard r q) = λ i. refl
+answered_seen p number cur sp count kp xs ys vs vs' seen w m (whole r h) = tt
+answered_seen p number cur sp count kp xs ys vs vs' seen w m (spoiled r) = tt
+answered_seen p number cur sp count kp xs ys vs vs' seen w m (idle r s) = absurd (owes_stale kp (may_owes count kp w m) s)
+answered_seen p number cur sp count kp xs ys vs vs' seen w m (asked r s q) = absurd (owes_stale kp (may_owes count kp w m) s)
+answered_seen p number cur sp count kp xs ys vs vs' seen w m (unasked r s) = absurd (owes_stale kp (may_owes count kp w m) s)
+answered_seen p number cur sp count kp xs ys vs vs' seen w m (sending r g q le h) = absurd (owes_grant kp (may_owes count kp w m) g)
+answered_seen p number cur sp count kp xs ys vs vs' seen w m (waiting r g q h) = absurd (owes_grant kp (may_owes count kp w m) g)
+answered_seen p number cur sp count kp xs ys vs vs' seen w m _ = absurd m
 
 -- a free word tells nothing
 free_seen : (p : Contents) → IsRead p → (b : Bus) (w : ℕ) (seen : List Message) → is_free p.codes b w ≡ true → see b (message_of p b w) seen ≡ seen
@@ -178,19 +175,19 @@ on_bus : (p : Contents) (i : Seen) (b : Bus) (x : Message) (seen : List Message)
 on_bus p i b x seen e h = subst (λ (q : Bus). see q (message_of p q i.word) seen ≡ see b (Some x) seen) (sym e) (ap (λ o. see b o seen) h)
 
 step_seen : (p : Contents) → IsRead p → (a : Step) (s : State) (seen : List Message) → Can p a s → HoldsAt p s → SeenIn p s seen → SeenIn p (after p a s) (see_label p (label a) seen)
-step_seen p good (Load u) s seen c f h = load_seen p _ _ _ _ _ _ _ _ _ seen u c.1 f.fits
+step_seen p good (Load u) s seen c f h = load_seen p _ _ _ _ _ _ _ _ seen u c.1 f.fits
 step_seen p good (Sent i) s seen c f h =
     let says = sends p good s.source i.word f.file f.current c.1 in
-    subst (SeenIn p (after p (Sent i) s)) (sym (on_bus p i bus.A says.said seen c.0 says.says)) (sent_seen p _ _ _ _ _ _ _ _ s.to_source seen says.said says.next f.source_words f.fits h)
-step_seen p good SentLost s seen c f h = lost_seen p s.source.file s.source.ldu s.source.current s.source.phase _ _ _ _ s.to_source seen (next_is_some p s.source.file s.source.ldu s.source.current s.source.phase c) f.source_words f.fits h
-step_seen p good TimeOut s seen c f h = idle_seen p s.source.file s.source.ldu s.source.current s.to_source seen
+    subst (SeenIn p (after p (Sent i) s)) (sym (on_bus p i bus.A says.said seen c.0 says.says)) (sent_seen p _ _ _ _ _ _ _ s.to_source seen says.said says.next f.source_words f.fits h)
+step_seen p good SentLost s seen c f h = lost_seen p s.source.number s.source.current s.source.phase _ _ _ _ s.to_source seen (next_is_some p s.source.number s.source.current s.source.phase c) f.source_words f.fits h
+step_seen p good TimeOut s seen c f h = idle_seen p s.source.number s.source.current s.to_source seen
 step_seen p good TakeAnswer s seen c f h = heard_seen p s.source _ _ _ _ s.to_source seen c f.source_words f.fits h
-step_seen p good LoseAnswer s seen c f h = unheard_seen p _ _ _ _ _ _ _ _ s.to_source seen c f.source_words f.fits h
+step_seen p good LoseAnswer s seen c f h = unheard_seen p _ _ _ _ _ _ _ s.to_source seen c f.source_words f.fits h
 step_seen p good SinkTakes s seen c f h = h
 step_seen p good Silent s seen c f h = h
 step_seen p good (Answered i) s seen c f h =
     let r = owed_form p s i c in
-    subst (SeenIn p (after p (Answered i) s)) (sym (on_bus p i bus.B r.said seen c.0 r.is)) (answered_seen p s.source.file s.source.ldu s.source.current s.source.phase _ _ _ _ s.to_source (s.to_source ++ i.word ∷ []) seen r.said r.owed f.fits)
+    subst (SeenIn p (after p (Answered i) s)) (sym (on_bus p i bus.B r.said seen c.0 r.is)) (answered_seen p s.source.number s.source.current s.source.phase _ _ _ _ s.to_source (s.to_source ++ i.word ∷ []) seen r.said r.owed f.fits)
 step_seen p good (FreeSeen i) s seen c f h = subst (SeenIn p s) (sym (free_seen p good i.bus i.word seen c)) h
 
 -- words of a block leave a grant
@@ -249,29 +246,29 @@ block_word P k [] w h e = absurd (cc e)
 block_word P zero (y ∷ ys) w h e = let same : y ≡ w = cc in subst P same h.0
 block_word P (suc k) (y ∷ ys) w h e = block_word P k ys w h.1 e
 
-sending_allowed : (file ldu : ℕ) (u : LduValue) (k : ℕ) (seen : List Message) (w : Message) (sink : Sink) → slice_get (block_messages u file ldu) k ≡ Some w → InGrant sink.phase → sink.count ≡ count_of u → IsSubsequence seen (take k (front u file ldu)) → AllowsMessage sink seen bus.A (Some w)
-sending_allowed file ldu u zero seen (Sot g f l) sink e i c h = (i, h)
-sending_allowed file ldu u (suc k) seen (Sot g f l) sink e i c h = absurd (only_start k g f l u.words u.flags u.check e)
-sending_allowed file ldu u zero seen (Part s) sink e i c h = absurd (cc e)
-sending_allowed file ldu u (suc k) seen (Part s) sink e i c h =
-    (i, omega (arith, part_place k s u.words u.flags u.check e, parts_sub seen (take (suc k) (front u file ldu)) h, parts_take k u.words, c))
-sending_allowed file ldu u k seen (Eot fl ch) sink e i c h = i
-sending_allowed file ldu u k seen w sink e i c h = absurd (block_word IsBlockWord k (block_messages u file ldu) w (block_words_each u file ldu) e)
+sending_allowed : (number : UnitNumber) (u : LduValue) (k : ℕ) (seen : List Message) (w : Message) (sink : Sink) → slice_get (block_messages u number) k ≡ Some w → InGrant sink.phase → sink.count ≡ count_of u → IsSubsequence seen (take k (front u number)) → AllowsMessage sink seen bus.A (Some w)
+sending_allowed number u zero seen (Sot g f l) sink e i c h = (i, h)
+sending_allowed number u (suc k) seen (Sot g f l) sink e i c h = absurd (only_start k g f l u.words u.flags u.check e)
+sending_allowed number u zero seen (Part s) sink e i c h = absurd (cc e)
+sending_allowed number u (suc k) seen (Part s) sink e i c h =
+    (i, omega (arith, part_place k s u.words u.flags u.check e, parts_sub seen (take (suc k) (front u number)) h, parts_take k u.words, c))
+sending_allowed number u k seen (Eot fl ch) sink e i c h = i
+sending_allowed number u k seen w sink e i c h = absurd (block_word IsBlockWord k (block_messages u number) w (block_words_each u number) e)
 
-sent_allowed : (p : Contents) (file ldu : ℕ) (cur : Option LduValue) (sp : SourceState) (sink : Sink) (xs ys : List Message) (ws vs : List ℕ) (seen : List Message) (k : Sink) (w : Message) → next_message file ldu cur sp ≡ Some w → AllSay p bus.A ws xs → Config file ldu cur sp sink.count sink.phase xs ys → SeenAt p file ldu cur sp vs seen → (take_all p ws sink ≡ k) ⊎ IsStill sp → AllowsMessage k seen bus.A (Some w)
-sent_allowed p file ldu None sp sink xs ys ws vs seen k w e d (idle f s) h a = absurd (cc e)
-sent_allowed p file ldu (Some u) sp sink xs ys ws vs seen k w e d (idle f s) h a =
+sent_allowed : (p : Contents) (number : UnitNumber) (cur : Option LduValue) (sp : SourceState) (sink : Sink) (xs ys : List Message) (ws vs : List ℕ) (seen : List Message) (k : Sink) (w : Message) → next_message number cur sp ≡ Some w → AllSay p bus.A ws xs → Config number cur sp sink.count sink.phase xs ys → SeenAt p number cur sp vs seen → (take_all p ws sink ≡ k) ⊎ IsStill sp → AllowsMessage k seen bus.A (Some w)
+sent_allowed p number None sp sink xs ys ws vs seen k w e d (idle f s) h a = absurd (cc e)
+sent_allowed p number (Some u) sp sink xs ys ws vs seen k w e d (idle f s) h a =
     let same : Rts (count_of u) ≡ w = cc in subst (λ x. AllowsMessage k seen bus.A (Some x)) same tt
-sent_allowed p file ldu cur sp sink xs ys ws vs seen k w e d (sending {u} {k = n} r g c le q) h (inl a) =
-    let words = sub_each IsFrontWord (block_taken sink.phase ++ xs) (take n (front u file ldu)) q (each_take IsFrontWord n (front u file ldu) (front_words u file ldu)) in
+sent_allowed p number cur sp sink xs ys ws vs seen k w e d (sending {u} {k = n} r g c le q) h (inl a) =
+    let words = sub_each IsFrontWord (block_taken sink.phase ++ xs) (take n (front u number)) q (each_take IsFrontWord n (front u number) (front_words u number)) in
     let kept = grant_kept p ws xs sink d (each_back (block_taken sink.phase) xs words) g in
-    subst (λ x. AllowsMessage x seen bus.A (Some w)) a (sending_allowed file ldu u n seen w (take_all p ws sink) e kept.0 (kept.1 ∙ c) h)
+    subst (λ x. AllowsMessage x seen bus.A (Some w)) a (sending_allowed number u n seen w (take_all p ws sink) e kept.0 (kept.1 ∙ c) h)
   where
     each_back : (ws vs : List Message) → Each IsFrontWord (ws ++ vs) → Each IsFrontWord vs
     each_back [] vs h = h
     each_back (v ∷ ws) vs h = each_back ws vs h.1
-sent_allowed p file ldu cur sp sink xs ys ws vs seen k w e d (sending r g c le q) h (inr a) = absurd a
-sent_allowed p file ldu cur sp sink xs ys ws vs seen k w e d _ h a = absurd (cc e)
+sent_allowed p number cur sp sink xs ys ws vs seen k w e d (sending r g c le q) h (inr a) = absurd a
+sent_allowed p number cur sp sink xs ys ws vs seen k w e d _ h a = absurd (cc e)
 
 -- a word that says what is allowed on its bus
 allowed_on : (p : Contents) (k : Sink) (seen : List Message) (i : Seen) (b : Bus) (x : Message) → i.bus ≡ b → message_of p b i.word ≡ Some x → AllowsMessage k seen b (Some x) → Allowed p k seen i
@@ -280,7 +277,7 @@ allowed_on p k seen i b x e h a = inr (subst (λ (q : Bus). AllowsMessage k seen
 step_allowed : (p : Contents) → IsRead p → (a : Step) (s : State) (k : Sink) (seen : List Message) → Can p a s → HoldsAt p s → Alike p s k → SeenIn p s seen → AllowedLabel p k seen (label a)
 step_allowed p good (Sent i) s k seen c f m h =
     let says = sends p good s.source i.word f.file f.current c.1 in
-    allowed_on p k seen i bus.A says.said c.0 says.says (sent_allowed p _ _ _ _ s.sink _ _ s.to_sink s.to_source seen k says.said says.next f.sink_words f.fits h (still m))
+    allowed_on p k seen i bus.A says.said c.0 says.says (sent_allowed p _ _ _ s.sink _ _ s.to_sink s.to_source seen k says.said says.next f.sink_words f.fits h (still m))
   where
     still : Alike p s k → (take_all p s.to_sink s.sink ≡ k) ⊎ IsStill s.source.phase
     still (inl m) = inl m

@@ -20,6 +20,7 @@ use Rattle.a429_link.proofs.StateConfigs.{may_owes}
 use Rattle.a429_link.proofs.StateHolds.{HoldsAt, step_holds, start_holds, sends, owed_form, alone_on_the_way}
 use Rattle.a429_ldu.specs.declared.forms.Form.{Form}
 use Rattle.a429_ldu.specs.declared.forms.Form.TheVariants as form
+use Rattle.a429_link.specs.declared.number.UnitNumber.{UnitNumber}
 
 -- the sink after a recorded word, taken at once
 abbrev pub sees_on : Contents → Bus → ℕ → Sink → Sink
@@ -107,20 +108,20 @@ none_there [] e n = n
 none_there (w ∷ ws) e n = cc e
 
 -- the only word that a source sends where it is in no block
-sent_still : (p : Contents) (file ldu : ℕ) (cur : Option LduValue) (sp : SourceState) (x : Message) (k : Sink) → next_message file ldu cur sp ≡ Some x → IsStill sp → takes_message p x (quieted k) ≡ takes_message p x k
-sent_still p file ldu (Some u) Idle x k e i =
+sent_still : (p : Contents) (number : UnitNumber) (cur : Option LduValue) (sp : SourceState) (x : Message) (k : Sink) → next_message number cur sp ≡ Some x → IsStill sp → takes_message p x (quieted k) ≡ takes_message p x k
+sent_still p number (Some u) Idle x k e i =
     let same : Rts (count_of u) ≡ x = cc in subst (λ y. takes_message p y (quieted k) ≡ takes_message p y k) same refl
-sent_still p file ldu (Some u) (Sending n) x k e i = absurd i
-sent_still p file ldu (Some u) Awaiting x k e i = absurd (cc e)
-sent_still p file ldu (Some u) Waiting x k e i = absurd (cc e)
-sent_still p file ldu None sp x k e i = absurd (cc e)
+sent_still p number (Some u) (Sending n) x k e i = absurd i
+sent_still p number (Some u) Awaiting x k e i = absurd (cc e)
+sent_still p number (Some u) Waiting x k e i = absurd (cc e)
+sent_still p number None sp x k e i = absurd (cc e)
 
-lost_still : (file ldu : ℕ) (cur : Option LduValue) (sp : SourceState) → IsSome (next_message file ldu cur sp) → IsStill sp → IsStill (after_word cur sp)
-lost_still file ldu None sp h i = absurd (cc h)
-lost_still file ldu (Some u) Idle h i = tt
-lost_still file ldu (Some u) (Sending n) h i = absurd i
-lost_still file ldu (Some u) Awaiting h i = tt
-lost_still file ldu (Some u) Waiting h i = tt
+lost_still : (number : UnitNumber) (cur : Option LduValue) (sp : SourceState) → IsSome (next_message number cur sp) → IsStill sp → IsStill (after_word cur sp)
+lost_still number None sp h i = absurd (cc h)
+lost_still number (Some u) Idle h i = tt
+lost_still number (Some u) (Sending n) h i = absurd i
+lost_still number (Some u) Awaiting h i = tt
+lost_still number (Some u) Waiting h i = tt
 
 quiet_owes : (kp : SinkPhase) → kp ≡ Quiet → Owes kp → ⊥
 quiet_owes kp e o = subst Owes e o
@@ -130,10 +131,10 @@ step_off : (p : Contents) → IsRead p → (a : Step) (s : State) (k : Sink) →
 step_off p good (Load u) s k h c r = inr (record { alike = r.alike; still = r.still; no_words = r.no_words; no_answers = r.no_answers })
 step_off p good (Sent i) s k h c r =
     let says = sends p good s.source i.word c.file c.current h.1 in
-    let same : takes_word p i.word (quieted k) ≡ takes_word p i.word k = takes_as p i.word says.said (quieted k) says.says ∙ sent_still p _ _ _ _ says.said k says.next r.still ∙ sym (takes_as p i.word says.said k says.says) in
+    let same : takes_word p i.word (quieted k) ≡ takes_word p i.word k = takes_as p i.word says.said (quieted k) says.says ∙ sent_still p _ _ _ says.said k says.next r.still ∙ sym (takes_as p i.word says.said k says.says) in
     subst (λ b. Alike p (after p (Sent i) s) (sees_on p b i.word k)) (sym h.0)
     (inl (take_all_push p i.word s.to_sink s.sink ∙ ap (λ ws. takes_word p i.word (take_all p ws s.sink)) r.no_words ∙ ap (takes_word p i.word) r.alike ∙ same))
-step_off p good SentLost s k h c r = inr (record { alike = r.alike; still = lost_still s.source.file s.source.ldu s.source.current s.source.phase (next_is_some p s.source.file s.source.ldu s.source.current s.source.phase h) r.still; no_words = r.no_words; no_answers = r.no_answers })
+step_off p good SentLost s k h c r = inr (record { alike = r.alike; still = lost_still s.source.number s.source.current s.source.phase (next_is_some p s.source.number s.source.current s.source.phase h) r.still; no_words = r.no_words; no_answers = r.no_answers })
 step_off p good TimeOut s k h c r = inr (record { alike = r.alike; still = tt; no_words = r.no_words; no_answers = r.no_answers })
 step_off p good TakeAnswer s k h c r = absurd (none_there _ r.no_answers h)
 step_off p good LoseAnswer s k h c r = absurd (none_there _ r.no_answers h)

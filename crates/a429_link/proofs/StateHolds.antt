@@ -1,8 +1,8 @@
 -- The words on the way say what the phases want: the invariant of a run's states.
-use Rattle.std.proofs.Common.{◌≡◌, ℕ, zero, suc, ◌+◌, ◌%◌, ◌≤◌, Bool, true, false, cond, List, [], ◌∷◌, ◌++◌, map, Option, Some, None, slice_get, refl, sym, ap, ◌∙◌, subst, arith}
+use Rattle.std.proofs.Common.{◌≡◌, ℕ, zero, suc, ◌≤◌, Bool, true, false, cond, List, [], ◌∷◌, ◌++◌, map, Option, Some, None, slice_get, refl, sym, ap, ◌∙◌, subst, arith}
 use Rattle.a429_word.specs.declared.bus.Bus.TheVariants as bus
 use Rattle.a429_ldu.specs.Form.{form_of}
-use Rattle.a429_ldu.specs.Ldu.{IsLdu, LduValue, count_of}
+use Rattle.a429_ldu.specs.Ldu.{IsLdu, LduValue, count_of, is_final}
 use Rattle.a429_link.proofs.Message.{Ack, AllParts, AllSay, Cts, Eot, InRange, IsFit, IsRead, MaySay, Nak, Part, Replies, Rts, Message, answers_as, answers_message, block_messages, hears_as, hears_message, next_is_some, next_message, next_says, none_say, replies, message_of, say_none, say_push, takes_as}
 use Rattle.a429_link.specs.Sink.{Owes, Sink, SinkPhase, takes_first}
 use Rattle.a429_link.specs.Source.{Source, Waits, hears_first, next_word_of}
@@ -16,6 +16,8 @@ use Rattle.a429_link.specs.declared.step.Step.TheVariants.{Answered, FreeSeen, L
 use Rattle.a429_profile.specs.Profile.{Contents}
 use Rattle.a429_link.proofs.MessageSubsequence.{Each, each_push}
 use Rattle.a429_link.proofs.StateConfigs.{Config, idle, cleared, refused, acked, load_fits, sent_fits, lost_fits, late_fits, unheard_fits, silent_fits, answer_fits, taken_fits, heard_fits, phase_answered, acks_count, may_answer, owes_alone, source_at}
+use Rattle.a429_link.specs.declared.number.UnitNumber.{UnitNumber}
+use Rattle.a429_link.proofs.NumberFacts.{next_byte}
 
 -- the current link data unit is one of the profile, under a number that an answer can carry
 abbrev pub Current : Contents → Option LduValue → ℕ → Type 0
@@ -27,9 +29,9 @@ pub record Holds (p : Contents) (source : Source) (sink : Sink) (ws vs : List �
   pub ys : List Message
   pub sink_words : AllSay p bus.A ws xs
   pub source_words : AllSay p bus.B vs ys
-  pub file : source.file ≤ 255
-  pub current : Current p source.current source.ldu
-  pub fits : Config source.file source.ldu source.current source.phase sink.count sink.phase xs ys
+  pub file : source.number.file ≤ 255
+  pub current : Current p source.current source.number.ldu
+  pub fits : Config source.number source.current source.phase sink.count sink.phase xs ys
 
 abbrev pub HoldsAt : Contents → State → Type 0
 HoldsAt p s = Holds p s.source s.sink s.to_sink s.to_source
@@ -39,35 +41,35 @@ parts_forms : (p : Contents) (ws : List ℕ) → AllParts p ws → Each (InRange
 parts_forms p [] h = tt
 parts_forms p (w ∷ ws) h = (h.0, parts_forms p ws h.1)
 
-block_forms : (p : Contents) (u : LduValue) (file ldu : ℕ) → IsFit p u → file ≤ 255 → ldu ≤ 255 → Each (InRange p bus.A) (block_messages u file ldu)
-block_forms p u file ldu h f l = ((h.gfi, f, l), each_push (InRange p bus.A) (map Part u.words) (Eot u.flags u.check) (parts_forms p u.words h.parts) (h.flags, h.check))
+block_forms : (p : Contents) (u : LduValue) (number : UnitNumber) → IsFit p u → number.file ≤ 255 → number.ldu ≤ 255 → Each (InRange p bus.A) (block_messages u number)
+block_forms p u number h f l = ((h.gfi, f, l), each_push (InRange p bus.A) (map Part u.words) (Eot u.flags u.check) (parts_forms p u.words h.parts) (h.flags, h.check))
 
 each_get : (P : Message → Type 0) (k : ℕ) (xs : List Message) (x : Message) → Each P xs → slice_get xs k ≡ Some x → P x
 each_get P k [] x h e = absurd (cc e)
 each_get P zero (y ∷ ys) x h e = let same : y ≡ x = cc in subst P same h.0
 each_get P (suc k) (y ∷ ys) x h e = each_get P k ys x h.1 e
 
-pub next_in_range : (p : Contents) (file ldu : ℕ) (cur : Option LduValue) (sp : SourceState) (x : Message) → file ≤ 255 → Current p cur ldu → next_message file ldu cur sp ≡ Some x → InRange p bus.A x
-next_in_range p file ldu None sp x f c e = absurd (cc e)
-next_in_range p file ldu (Some u) Idle x f c e =
+pub next_in_range : (p : Contents) (number : UnitNumber) (cur : Option LduValue) (sp : SourceState) (x : Message) → number.file ≤ 255 → Current p cur number.ldu → next_message number cur sp ≡ Some x → InRange p bus.A x
+next_in_range p number None sp x f c e = absurd (cc e)
+next_in_range p number (Some u) Idle x f c e =
     let same : Rts (count_of u) ≡ x = cc in
     let room = c.0.room in let some = c.0.some in
     let range : InRange p bus.A (Rts (count_of u)) = (omega arith, omega arith) in
     subst (InRange p bus.A) same range
-next_in_range p file ldu (Some u) (Sending k) x f c e = each_get (InRange p bus.A) k (block_messages u file ldu) x (block_forms p u file ldu c.0 f c.1) e
-next_in_range p file ldu (Some u) Awaiting x f c e = absurd (cc e)
-next_in_range p file ldu (Some u) Waiting x f c e = absurd (cc e)
+next_in_range p number (Some u) (Sending k) x f c e = each_get (InRange p bus.A) k (block_messages u number) x (block_forms p u number c.0 f c.1) e
+next_in_range p number (Some u) Awaiting x f c e = absurd (cc e)
+next_in_range p number (Some u) Waiting x f c e = absurd (cc e)
 
 -- the word that the source sends
 pub record Sends (p : Contents) (s : Source) (w : ℕ) : Type 0 where
   pub said : Message
-  pub next : next_message s.file s.ldu s.current s.phase ≡ Some said
+  pub next : next_message s.number s.current s.phase ≡ Some said
   pub says : message_of p bus.A w ≡ Some said
 
-pub sends : (p : Contents) → IsRead p → (s : Source) (w : ℕ) → s.file ≤ 255 → Current p s.current s.ldu → next_word_of p s ≡ Some w → Sends p s w
+pub sends : (p : Contents) → IsRead p → (s : Source) (w : ℕ) → s.number.file ≤ 255 → Current p s.current s.number.ldu → next_word_of p s ≡ Some w → Sends p s w
 sends p good s w f c e =
-    let h = next_says p s.file s.ldu s.current s.phase w e in
-    let range = next_in_range p s.file s.ldu s.current s.phase h.said f c h.is in
+    let h = next_says p s.number s.current s.phase w e in
+    let range = next_in_range p s.number s.current s.phase h.said f c h.is in
     record { said = h.said; next = h.is; says = ap (message_of p bus.A) h.word ∙ good.reads bus.A h.said range }
 
 -- The steps.
@@ -81,10 +83,10 @@ sent_holds p good s i m h =
       source_words = h.source_words;
       file = h.file;
       current = h.current;
-      fits = sent_fits _ _ _ _ _ _ _ _ says.said says.next h.fits;
+      fits = sent_fits _ _ _ _ _ _ _ says.said says.next h.fits;
     }
 
-takes_holds : (p : Contents) (source : Source) (k : Sink) (ws vs : List ℕ) (xs ys : List Message) → IsNonEmpty ws → AllSay p bus.A ws xs → AllSay p bus.B vs ys → source.file ≤ 255 → Current p source.current source.ldu → Config source.file source.ldu source.current source.phase k.count k.phase xs ys → Holds p source (takes_first p ws k) (rest ws) vs
+takes_holds : (p : Contents) (source : Source) (k : Sink) (ws vs : List ℕ) (xs ys : List Message) → IsNonEmpty ws → AllSay p bus.A ws xs → AllSay p bus.B vs ys → source.number.file ≤ 255 → Current p source.current source.number.ldu → Config source.number source.current source.phase k.count k.phase xs ys → Holds p source (takes_first p ws k) (rest ws) vs
 takes_holds p source k [] vs xs ys n e d f c h = absurd n
 takes_holds p source k (w ∷ ws) vs [] ys n e d f c h = absurd e
 takes_holds p source k (w ∷ ws) vs (x ∷ xs) ys n e d f c h =
@@ -96,10 +98,10 @@ takes_holds p source k (w ∷ ws) vs (x ∷ xs) ys n e d f c h =
       source_words = d;
       file = f;
       current = c;
-      fits = taken_fits p k.last k.shelf _ _ _ _ _ _ x xs ys h;
+      fits = taken_fits p k.last k.shelf _ _ _ _ _ x xs ys h;
     })
 
-unheard_holds : (p : Contents) (source : Source) (k : Sink) (ws vs : List ℕ) (xs ys : List Message) → IsNonEmpty vs → AllSay p bus.A ws xs → AllSay p bus.B vs ys → source.file ≤ 255 → Current p source.current source.ldu → Config source.file source.ldu source.current source.phase k.count k.phase xs ys → Holds p source k ws (rest vs)
+unheard_holds : (p : Contents) (source : Source) (k : Sink) (ws vs : List ℕ) (xs ys : List Message) → IsNonEmpty vs → AllSay p bus.A ws xs → AllSay p bus.B vs ys → source.number.file ≤ 255 → Current p source.current source.number.ldu → Config source.number source.current source.phase k.count k.phase xs ys → Holds p source k ws (rest vs)
 unheard_holds p source k ws [] xs ys n e d f c h = absurd n
 unheard_holds p source k ws (v ∷ vs) xs [] n e d f c h = absurd d
 unheard_holds p source k ws (v ∷ vs) xs (y ∷ ys) n e d f c h =
@@ -110,29 +112,28 @@ unheard_holds p source k ws (v ∷ vs) xs (y ∷ ys) n e d f c h =
       source_words = d.1;
       file = f;
       current = c;
-      fits = unheard_fits _ _ _ _ _ _ _ (y ∷ ys) tt h;
+      fits = unheard_fits _ _ _ _ _ _ (y ∷ ys) tt h;
     }
 
 -- the source's numbers after an answer
 abbrev Numbers : Contents → Source → Type 0
-Numbers p s = (s.file ≤ 255) × Current p s.current s.ldu
+Numbers p s = (s.number.file ≤ 255) × Current p s.current s.number.ldu
 
 either : (p : Contents) (t : Bool) (a b : Source) → Numbers p a → Numbers p b → Numbers p (cond t a b)
 either p true a b h k = h
 either p false a b h k = k
 
-hear_numbers : (p : Contents) (file ldu : ℕ) (cur : Option LduValue) (sp : SourceState) (count : ℕ) (kp : SinkPhase) (xs : List Message) (y : Message) (ys : List Message) → Config file ldu cur sp count kp xs (y ∷ ys) → file ≤ 255 → Current p cur ldu → Numbers p (hears_message p cur sp y (source_at file ldu cur sp))
-hear_numbers p file ldu cur sp count kp xs y ys (cleared {u} {n} r q) f c = either p _ _ _ (f, c) (f, c)
-hear_numbers p file ldu cur sp count kp xs y ys (refused r) f c = (f, c)
-hear_numbers p file ldu cur sp count kp xs y ys (acked {u} r ef el) f c =
-    let next : (file + 1) % 256 ≤ 255 = omega arith in
-    either p _ _ _ (either p _ _ _ (next, tt) (f, tt)) (f, c)
+hear_numbers : (p : Contents) (number : UnitNumber) (cur : Option LduValue) (sp : SourceState) (count : ℕ) (kp : SinkPhase) (xs : List Message) (y : Message) (ys : List Message) → Config number cur sp count kp xs (y ∷ ys) → number.file ≤ 255 → Current p cur number.ldu → Numbers p (hears_message p cur sp y (source_at number cur sp))
+hear_numbers p number cur sp count kp xs y ys (cleared {u} {n} r q) f c = either p _ _ _ (f, c) (f, c)
+hear_numbers p number cur sp count kp xs y ys (refused r) f c = (f, c)
+hear_numbers p number cur sp count kp xs y ys (acked {u} r ef el) f c =
+    either p _ _ _ (next_byte p.codes number (is_final p.codes u.flags) f, tt) (f, c)
 
-hears_holds : (p : Contents) (source : Source) (k : Sink) (ws vs : List ℕ) (xs ys : List Message) → IsNonEmpty vs → AllSay p bus.A ws xs → AllSay p bus.B vs ys → source.file ≤ 255 → Current p source.current source.ldu → Config source.file source.ldu source.current source.phase k.count k.phase xs ys → Holds p (hears_first p.codes vs source) k ws (rest vs)
+hears_holds : (p : Contents) (source : Source) (k : Sink) (ws vs : List ℕ) (xs ys : List Message) → IsNonEmpty vs → AllSay p bus.A ws xs → AllSay p bus.B vs ys → source.number.file ≤ 255 → Current p source.current source.number.ldu → Config source.number source.current source.phase k.count k.phase xs ys → Holds p (hears_first p.codes vs source) k ws (rest vs)
 hears_holds p source k ws [] xs ys n e d f c h = absurd n
 hears_holds p source k ws (v ∷ vs) xs [] n e d f c h = absurd d
 hears_holds p source k ws (v ∷ vs) xs (y ∷ ys) n e d f c h =
-    let numbers = hear_numbers p source.file source.ldu source.current source.phase k.count k.phase xs y ys h f c in
+    let numbers = hear_numbers p source.number source.current source.phase k.count k.phase xs y ys h f c in
     subst (λ q. Holds p q k ws vs) (sym (hears_as p v y source d.0))
     (record {
       xs = xs;
@@ -141,7 +142,7 @@ hears_holds p source k ws (v ∷ vs) xs (y ∷ ys) n e d f c h =
       source_words = d.1;
       file = numbers.0;
       current = numbers.1;
-      fits = heard_fits p _ _ _ _ _ _ y xs ys h;
+      fits = heard_fits p _ _ _ _ _ y xs ys h;
     })
 
 answered_phase : (p : Contents) (x : Message) (k : Sink) (count : ℕ) (kp : SinkPhase) → MaySay count kp x → (answers_message p x k).phase ≡ phase_answered x
@@ -161,7 +162,7 @@ owed_form p s i m = replies s.sink.count s.sink.phase i.word (form_of p.codes bu
 answered_holds : (p : Contents) (s : State) (i : Seen) → Can p (Answered i) s → HoldsAt p s → HoldsAt p (after p (Answered i) s)
 answered_holds p s i m h =
     let r = owed_form p s i m in
-    let fits = answer_fits _ _ _ _ _ _ _ _ r.said r.owed h.fits in
+    let fits = answer_fits _ _ _ _ _ _ _ r.said r.owed h.fits in
     let k' = answers_message p r.said s.sink in
     subst (λ q. Holds p s.source q s.to_sink (s.to_source ++ i.word ∷ [])) (sym (answers_as p i.word r.said s.sink r.is))
     (record {
@@ -172,28 +173,28 @@ answered_holds p s i m h =
       file = h.file;
       current = h.current;
       fits =
-          subst (λ n. Config s.source.file s.source.ldu s.source.current s.source.phase n k'.phase h.xs (h.ys ++ r.said ∷ [])) (sym (answered_count p r.said s.sink))
-          (subst (λ q. Config s.source.file s.source.ldu s.source.current s.source.phase s.sink.count q h.xs (h.ys ++ r.said ∷ [])) (sym (answered_phase p r.said s.sink s.sink.count s.sink.phase r.owed)) fits);
+          subst (λ n. Config s.source.number s.source.current s.source.phase n k'.phase h.xs (h.ys ++ r.said ∷ [])) (sym (answered_count p r.said s.sink))
+          (subst (λ q. Config s.source.number s.source.current s.source.phase s.sink.count q h.xs (h.ys ++ r.said ∷ [])) (sym (answered_phase p r.said s.sink s.sink.count s.sink.phase r.owed)) fits);
     })
 
 -- the words stay, the phases go on
-on_way : (p : Contents) (s : State) (source : Source) (k : Sink) → (h : HoldsAt p s) → source.file ≡ s.source.file → Current p source.current source.ldu → Config source.file source.ldu source.current source.phase k.count k.phase h.xs h.ys → Holds p source k s.to_sink s.to_source
+on_way : (p : Contents) (s : State) (source : Source) (k : Sink) → (h : HoldsAt p s) → source.number.file ≡ s.source.number.file → Current p source.current source.number.ldu → Config source.number source.current source.phase k.count k.phase h.xs h.ys → Holds p source k s.to_sink s.to_source
 on_way p s source k h f c g = record { xs = h.xs; ys = h.ys; sink_words = h.sink_words; source_words = h.source_words; file = subst (λ n. n ≤ 255) (sym f) h.file; current = c; fits = g }
 
 pub step_holds : (p : Contents) → IsRead p → (a : Step) (s : State) → Can p a s → HoldsAt p s → HoldsAt p (after p a s)
 step_holds p good (Load u) s c h =
     let first = good.first in
     let below = c.2 in
-    let room : s.source.ldu ≤ 255 = omega arith in
+    let room : s.source.number.ldu ≤ 255 = omega arith in
     let fit = good.fit u c.3 in
-    on_way p s _ s.sink h refl (fit, room, c.3) (load_fits _ _ _ _ _ _ _ _ u c.0 fit.room h.fits)
+    on_way p s _ s.sink h refl (fit, room, c.3) (load_fits _ _ _ _ _ _ _ u c.0 fit.room h.fits)
 step_holds p good (Sent i) s c h = sent_holds p good s i c h
-step_holds p good SentLost s c h = on_way p s _ s.sink h refl h.current (lost_fits _ _ _ _ _ _ _ _ (next_is_some p s.source.file s.source.ldu s.source.current s.source.phase c) h.fits)
-step_holds p good TimeOut s c h = on_way p s _ s.sink h refl h.current (late_fits _ _ _ _ _ _ _ _ c.0 c.3 (say_none p bus.A s.to_sink h.xs h.sink_words c.1) (say_none p bus.B s.to_source h.ys h.source_words c.2) h.fits)
+step_holds p good SentLost s c h = on_way p s _ s.sink h refl h.current (lost_fits _ _ _ _ _ _ _ (next_is_some p s.source.number s.source.current s.source.phase c) h.fits)
+step_holds p good TimeOut s c h = on_way p s _ s.sink h refl h.current (late_fits _ _ _ _ _ _ _ c.0 c.3 (say_none p bus.A s.to_sink h.xs h.sink_words c.1) (say_none p bus.B s.to_source h.ys h.source_words c.2) h.fits)
 step_holds p good TakeAnswer s c h = hears_holds p s.source s.sink s.to_sink s.to_source h.xs h.ys c h.sink_words h.source_words h.file h.current h.fits
 step_holds p good LoseAnswer s c h = unheard_holds p s.source s.sink s.to_sink s.to_source h.xs h.ys c h.sink_words h.source_words h.file h.current h.fits
 step_holds p good SinkTakes s c h = takes_holds p s.source s.sink s.to_sink s.to_source h.xs h.ys c.0 h.sink_words h.source_words h.file h.current h.fits
-step_holds p good Silent s c h = on_way p s s.source _ h refl h.current (silent_fits _ _ _ _ _ _ _ _ c h.fits)
+step_holds p good Silent s c h = on_way p s s.source _ h refl h.current (silent_fits _ _ _ _ _ _ _ c h.fits)
 step_holds p good (Answered i) s c h = answered_holds p s i c h
 step_holds p good (FreeSeen i) s c h = h
 
@@ -204,5 +205,5 @@ start_holds p first f =
 -- where the sink owes an answer nothing is on the way
 pub alone_on_the_way : (p : Contents) (s : State) → Owes s.sink.phase → HoldsAt p s → Waits s.source.phase × (s.to_sink ≡ []) × (s.to_source ≡ [])
 alone_on_the_way p s o h =
-    let alone = owes_alone _ _ _ _ _ _ _ _ o h.fits in
+    let alone = owes_alone _ _ _ _ _ _ _ o h.fits in
     (alone.0, none_say p bus.A s.to_sink h.xs h.sink_words alone.1, none_say p bus.B s.to_source h.ys h.source_words alone.2)

@@ -13,6 +13,8 @@ use Rattle.a429_ldu.specs.Ldu.{LduValue, IsLdu, count_of, block_of, bytes_of, is
 use Rattle.a429_link.specs.declared.fault.CleanFault.{CleanFault}
 use Rattle.a429_link.specs.declared.fault.CleanFault.TheVariants.{Cut}
 use Rattle.a429_link.specs.declared.file.FileBytes.{FileBytes}
+use Rattle.a429_link.specs.declared.number.UnitNumber.{UnitNumber}
+use Rattle.a429_link.specs.Number.{first_number, number_after}
 use Rattle.a429_link.specs.declared.seen.Seen.{Seen}
 use Rattle.a429_link.specs.declared.step.Step.{Step}
 use Rattle.a429_link.specs.declared.step.Step.TheVariants.{Load, Sent, TakeAnswer, SinkTakes, Answered, FreeSeen}
@@ -28,31 +30,24 @@ on_b w = record { bus = bus.B; word = w }
 
 -- ---- the words
 
--- the numbers after a link data unit: the next one of its file, or the first of the next file
-abbrev pub next_file : Codes → ℕ → LduValue → ℕ
-next_file c file u = if is_final c u.flags then (file + 1) % 256 else file
-
-abbrev pub next_ldu : Codes → ℕ → LduValue → ℕ
-next_ldu c ldu u = if is_final c u.flags then c.first_ldu else ldu + 1
-
 -- the recorded words of a link data unit: the request, the clear answer, its block, the acknowledgement
-abbrev pub clean_block : Codes → ℕ → ℕ → LduValue → List Seen
-clean_block c file ldu u = on_a (word_number c (Rts (count_of u))) ∷ (on_b (word_number c (Cts (count_of u))) ∷ (map on_a (block_of c u file ldu) ++ on_b (word_number c (Ack file ldu)) ∷ []))
+abbrev pub clean_block : Codes → UnitNumber → LduValue → List Seen
+clean_block c n u = on_a (word_number c (Rts (count_of u))) ∷ (on_b (word_number c (Cts (count_of u))) ∷ (map on_a (block_of c u n.file n.ldu) ++ on_b (word_number c (Ack n.file n.ldu)) ∷ []))
 
--- those of link data units that begin under these numbers
-abbrev pub clean_blocks : Codes → ℕ → ℕ → List LduValue → List Seen
-clean_blocks c file ldu [] = []
-clean_blocks c file ldu (u ∷ us) = clean_block c file ldu u ++ clean_blocks c (next_file c file u) (next_ldu c ldu u) us
+-- those of link data units, the first of them under this number
+abbrev pub clean_blocks : Codes → UnitNumber → List LduValue → List Seen
+clean_blocks c n [] = []
+clean_blocks c n (u ∷ us) = clean_block c n u ++ clean_blocks c (number_after c n u) us
 
 -- each is one of the profile, and may be loaded under its number
-abbrev pub AllFit : Contents → ℕ → List LduValue → Type 0
-AllFit p ldu [] = Unit {0}
-AllFit p ldu (u ∷ us) = IsLdu p u × (ldu ≤ p.codes.first_ldu + 254) × AllFit p (next_ldu p.codes ldu u) us
+abbrev pub AllFit : Contents → UnitNumber → List LduValue → Type 0
+AllFit p n [] = Unit {0}
+AllFit p n (u ∷ us) = IsLdu p u × (n.ldu ≤ p.codes.first_ldu + 254) × AllFit p (number_after p.codes n u) us
 
 -- the shelf with these link data units put on it
-abbrev pub shelved : Codes → ℕ → List LduValue → Shelf → Shelf
-shelved c file [] o = o
-shelved c file (u ∷ us) o = shelved c (next_file c file u) us (put file (bytes_of c u) (is_final c u.flags) o)
+abbrev pub shelved : Codes → UnitNumber → List LduValue → Shelf → Shelf
+shelved c n [] o = o
+shelved c n (u ∷ us) o = shelved c (number_after c n u) us (put n.file (bytes_of c u) (is_final c u.flags) o)
 
 -- the words that are not free
 abbrev pub without_free : Codes → List Seen → List Seen
@@ -70,12 +65,12 @@ replies w = Answered (on_b w) ∷ (TakeAnswer ∷ [])
 abbrev pub sends_word : ℕ → List Step
 sends_word w = Sent (on_a w) ∷ (SinkTakes ∷ [])
 
-abbrev pub block_steps : Codes → ℕ → ℕ → LduValue → List (List Step)
-block_steps c file ldu u = asks c u ∷ (replies (word_number c (Cts (count_of u))) ∷ (map sends_word (block_of c u file ldu) ++ replies (word_number c (Ack file ldu)) ∷ []))
+abbrev pub block_steps : Codes → UnitNumber → LduValue → List (List Step)
+block_steps c n u = asks c u ∷ (replies (word_number c (Cts (count_of u))) ∷ (map sends_word (block_of c u n.file n.ldu) ++ replies (word_number c (Ack n.file n.ldu)) ∷ []))
 
-abbrev pub clean_steps : Codes → ℕ → ℕ → List LduValue → List (List Step)
-clean_steps c file ldu [] = []
-clean_steps c file ldu (u ∷ us) = block_steps c file ldu u ++ clean_steps c (next_file c file u) (next_ldu c ldu u) us
+abbrev pub clean_steps : Codes → UnitNumber → List LduValue → List (List Step)
+clean_steps c n [] = []
+clean_steps c n (u ∷ us) = block_steps c n u ++ clean_steps c (number_after c n u) us
 
 abbrev pub first_of : List (List Step) → List Step
 first_of [] = []
@@ -98,7 +93,7 @@ pub record IsRunOf (p : Contents) (file : ℕ) (steps : List Step) (items : List
 
 -- the steps of this recording, free words among them, are a run from the start that delivers the files of these link data units
 abbrev pub CarriesUnits : Contents → ℕ → List LduValue → List Seen → Type 0
-CarriesUnits p first units items = IsRunOf p first (weave p.codes items (clean_steps p.codes first p.codes.first_ldu units)) items (shelved p.codes first units empty_shelf)
+CarriesUnits p first units items = IsRunOf p first (weave p.codes items (clean_steps p.codes (first_number p.codes first) units)) items (shelved p.codes (first_number p.codes first) units empty_shelf)
 
 -- ---- files (profile: they are numbered upwards, 255 is followed by 0)
 
@@ -109,7 +104,7 @@ units_of_files p max_words (bytes ∷ files) = units_of p max_words bytes ++ uni
 
 -- what a run without loss records that carries these files, the first under this number
 abbrev pub clean_words : Contents → ℕ → ℕ → List (List ℕ) → List Seen
-clean_words p max_words first files = clean_blocks p.codes first p.codes.first_ldu (units_of_files p max_words files)
+clean_words p max_words first files = clean_blocks p.codes (first_number p.codes first) (units_of_files p max_words files)
 
 abbrev pub all_steps : List (List Step) → List Step
 all_steps [] = []
@@ -117,7 +112,7 @@ all_steps (g ∷ gs) = g ++ all_steps gs
 
 -- its steps
 abbrev pub clean_run_steps : Contents → ℕ → ℕ → List (List ℕ) → List Step
-clean_run_steps p max_words first files = all_steps (clean_steps p.codes first p.codes.first_ldu (units_of_files p max_words files))
+clean_run_steps p max_words first files = all_steps (clean_steps p.codes (first_number p.codes first) (units_of_files p max_words files))
 
 -- the files under their numbers
 abbrev pub numbered : ℕ → List (List ℕ) → List FileBytes

@@ -1,3 +1,4 @@
+pub mod Number
 pub mod Source
 pub mod Sink
 pub mod State

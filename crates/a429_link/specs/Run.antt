@@ -43,7 +43,7 @@ delivered p first steps = (end_of p steps (start p first)).sink.shelf.files
 
 -- a loaded link data unit joins its file, under the source's number; a final one closes it
 abbrev pub offers : Contents → Step → State → Shelf → Shelf
-offers p (Load u) s o = put s.source.file (bytes_of p.codes u) (is_final p.codes u.flags) o
+offers p (Load u) s o = put s.source.number.file (bytes_of p.codes u) (is_final p.codes u.flags) o
 offers p _ s o = o
 
 abbrev pub offered_from : Contents → List Step → State → Shelf → Shelf
@@ -57,7 +57,7 @@ offered p first steps = (offered_from p steps (start p first) empty_shelf).files
 
 abbrev pub is_own_ack_form : Source → Option Form → Bool
 is_own_ack_form s None = false
-is_own_ack_form s (Some x) = is_own_ack s.file s.ldu s.phase x
+is_own_ack_form s (Some x) = is_own_ack s.number s.phase x
 
 abbrev pub is_final_unit : Codes → Option LduValue → Bool
 is_final_unit c None = false

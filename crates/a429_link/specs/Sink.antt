@@ -1,16 +1,17 @@
 -- The sink of a file transfer (ARINC 429 Part 3; which blocks are in sequence: profile).
-use Rattle.std.specs.Prelude.{ℕ, ◌≡◌, ◌<◌, ◌+◌, ◌%◌, Bool, true, false, not, ◌==◌, ◌&&◌, ◌||◌, nat_le, if◌then◌else◌, List, [], ◌∷◌, ◌++◌, length, Option, Some, None, is_some, unwrap_or}
+use Rattle.std.specs.Prelude.{ℕ, ◌≡◌, ◌<◌, ◌+◌, Bool, true, false, ◌==◌, ◌&&◌, ◌||◌, nat_le, if◌then◌else◌, List, [], ◌∷◌, ◌++◌, length, Option, Some, None, is_some}
 use Rattle.a429_word.specs.declared.bus.Bus.TheVariants as bus
 use Rattle.a429_profile.specs.declared.codes.Codes.{Codes}
-use Rattle.a429_profile.specs.declared.codes.Check.{Check}
 use Rattle.a429_profile.specs.Profile.{Contents}
 use Rattle.a429_ldu.specs.declared.forms.Form.{Form}
 use Rattle.a429_ldu.specs.declared.forms.Form.TheVariants.{Rts, Cts, Ack, Nak, Sot, Part, Eot}
 use Rattle.a429_ldu.specs.Form.{form_of}
-use Rattle.a429_ldu.specs.Carried.{bytes_carried}
-use Rattle.a429_ldu.specs.CheckWord.{check_of}
+use Rattle.a429_ldu.specs.Carried.{bytes_carried, bytes_in}
+use Rattle.a429_ldu.specs.CheckWord.{agrees}
 use Rattle.a429_ldu.specs.Ldu.{is_final}
 use Rattle.a429_link.specs.declared.file.FileBytes.{FileBytes}
+use Rattle.a429_link.specs.declared.number.UnitNumber.{UnitNumber}
+use Rattle.a429_link.specs.Number.{is_number, next_number}
 use Rattle.a429_link.specs.declared.sink.Latest.{Latest}
 use Rattle.a429_link.specs.declared.sink.Phase.{Phase}
 use Rattle.a429_link.specs.declared.sink.Phase.TheVariants as phase
@@ -25,6 +26,10 @@ pub record Block : Type 0 where
 abbrev pub empty_block : ℕ → ℕ → ℕ → Block
 empty_block gfi file ldu = record { gfi = gfi; file = file; ldu = ldu; words = [] }
 
+-- the number that its start word tells
+abbrev pub number_of : Block → UnitNumber
+number_of b = record { file = b.file; ldu = b.ldu }
+
 pub data SinkPhase : Type 0 where
   Quiet : SinkPhase
   -- a request was taken
@@ -37,10 +42,9 @@ pub data SinkPhase : Type 0 where
   -- it is not, or there is none; its words are not looked at again
   OwesNak : SinkPhase
 
--- the numbers of a link data unit, and whether it is its file's last
+-- the number of a link data unit, and whether it is its file's last
 pub record Number : Type 0 where
-  pub file : ℕ
-  pub ldu : ℕ
+  pub number : UnitNumber
   pub final : Bool
 
 -- the files that are delivered, and the bytes of one that is not whole
@@ -61,33 +65,19 @@ pub record Sink : Type 0 where
 
 -- ---- which blocks are good
 
--- the bytes that data words carry, none where they carry none
-abbrev pub bytes_in : Codes → List ℕ → List ℕ
-bytes_in c words = unwrap_or (bytes_carried c words) []
+-- the number is that of the link data unit accepted last: it comes again
+abbrev pub is_same : Option Number → UnitNumber → Bool
+is_same None n = false
+is_same (Some last) n = is_number last.number n
 
--- the check word is that of these bytes, or check words are not compared
-abbrev pub agrees : Check → List ℕ → ℕ → Bool
-agrees k bytes check = not k.compare || (check == check_of k bytes)
+-- the number is the next one, and one of a file's 255; at first it is that of some file's first
+abbrev pub in_sequence : Codes → Option Number → UnitNumber → Bool
+in_sequence c None n = n.ldu == c.first_ldu
+in_sequence c (Some last) n = is_number n (next_number c last.number last.final) && nat_le n.ldu (c.first_ldu + 254)
 
--- the numbers are those of the link data unit accepted last: it comes again
-abbrev pub is_same : Option Number → ℕ → ℕ → Bool
-is_same None file ldu = false
-is_same (Some n) file ldu = (n.file == file) && (n.ldu == ldu)
-
--- the numbers come after these: after a file's last link data unit the first of the next file, else the next one
-abbrev pub comes_after : Codes → Number → ℕ → ℕ → Bool
-comes_after c n file ldu =
-    if n.final
-    then (file == (n.file + 1) % 256) && (ldu == c.first_ldu)
-    else (file == n.file) && (ldu == n.ldu + 1) && nat_le ldu (c.first_ldu + 254)
-
-abbrev pub in_sequence : Codes → Option Number → ℕ → ℕ → Bool
-in_sequence c None file ldu = ldu == c.first_ldu
-in_sequence c (Some n) file ldu = comes_after c n file ldu
-
--- a block of these numbers comes again, or in sequence
-abbrev pub may_come : Codes → Option Number → ℕ → ℕ → Bool
-may_come c last file ldu = is_same last file ldu || in_sequence c last file ldu
+-- a block of this number comes again, or in sequence
+abbrev pub may_come : Codes → Option Number → UnitNumber → Bool
+may_come c last n = is_same last n || in_sequence c last n
 
 -- the block has as many words as were asked for, carries bytes, ends by their check word, and comes again or in sequence
 abbrev pub is_good : Contents → Option Number → ℕ → Block → ℕ → Bool
@@ -95,7 +85,7 @@ is_good p last count b check =
     (length b.words + 2 == count)
     && (is_some (bytes_carried p.codes b.words)
     && (agrees p.check (bytes_in p.codes b.words) check
-    && may_come p.codes last b.file b.ldu))
+    && may_come p.codes last (number_of b)))
 
 -- ---- taking words
 
@@ -146,9 +136,9 @@ put file bytes false shelf = record { files = shelf.files; open_bytes = shelf.op
 -- the sink that accepts a block with these flags; one that comes again changes nothing
 abbrev pub accepts : Codes → Block → ℕ → Sink → Sink
 accepts c b flags k =
-    if is_same k.last b.file b.ldu
+    if is_same k.last (number_of b)
     then k
-    else record k { last = Some (record { file = b.file; ldu = b.ldu; final = is_final c flags }); shelf = put b.file (bytes_in c b.words) (is_final c flags) k.shelf }
+    else record k { last = Some (record { number = number_of b; final = is_final c flags }); shelf = put b.file (bytes_in c b.words) (is_final c flags) k.shelf }
 
 abbrev pub accepts_owed : Codes → SinkPhase → Sink → Sink
 accepts_owed c (OwesAck b flags) k = accepts c b flags k
@@ -209,7 +199,7 @@ held_count _ = 0
 -- ---- how the sink's fields are seen, and what they have room for
 
 abbrev pub latest_number : Latest → Number
-latest_number n = record { file = n.file; ldu = n.ldu; final = n.is_final }
+latest_number n = record { number = n.number; final = n.is_final }
 
 abbrev pub phase_of : Phase → Block → SinkPhase
 phase_of phase.Quiet b = Quiet

@@ -1,19 +1,20 @@
 -- The source of a file transfer (ARINC 429 Part 3; how files and link data units are numbered: profile).
-use Rattle.std.specs.Prelude.{ℕ, suc, ◌+◌, ◌%◌, Bool, false, ◌==◌, ◌&&◌, if◌then◌else◌, List, [], ◌∷◌, Option, Some, None, slice_get}
+use Rattle.std.specs.Prelude.{ℕ, suc, Bool, false, ◌==◌, if◌then◌else◌, List, [], ◌∷◌, Option, Some, None, slice_get}
 use Rattle.a429_word.specs.declared.bus.Bus.TheVariants as bus
 use Rattle.a429_profile.specs.declared.codes.Codes.{Codes}
 use Rattle.a429_profile.specs.Profile.{Contents}
 use Rattle.a429_ldu.specs.declared.forms.Form.{Form}
 use Rattle.a429_ldu.specs.declared.forms.Form.TheVariants.{Rts, Cts, Ack, Nak}
 use Rattle.a429_ldu.specs.Form.{form_of, word_number}
-use Rattle.a429_ldu.specs.Ldu.{LduValue, count_of, block_of, is_final}
+use Rattle.a429_ldu.specs.Ldu.{LduValue, count_of, block_of}
+use Rattle.a429_link.specs.declared.number.UnitNumber.{UnitNumber}
+use Rattle.a429_link.specs.Number.{is_number, number_after}
 use Rattle.a429_link.specs.declared.state.SourceState.{SourceState}
 use Rattle.a429_link.specs.declared.state.SourceState.TheVariants.{Idle, Awaiting, Sending, Waiting}
 
 pub record Source : Type 0 where
-  -- the number of the file, and of its link data unit that is current or next
-  pub file : ℕ
-  pub ldu : ℕ
+  -- the number of the link data unit that is current or next
+  pub number : UnitNumber
   -- the link data unit that is to cross, if one is loaded
   pub current : Option LduValue
   pub phase : SourceState
@@ -21,10 +22,10 @@ pub record Source : Type 0 where
 -- ---- sending
 
 -- the next word of a source in this phase: its request, or word k of the block
-abbrev pub next_word : Codes → ℕ → ℕ → Option LduValue → SourceState → Option ℕ
-next_word c file ldu (Some u) Idle = Some (word_number c (Rts (count_of u)))
-next_word c file ldu (Some u) (Sending k) = slice_get (block_of c u file ldu) k
-next_word c file ldu _ _ = None
+abbrev pub next_word : Codes → UnitNumber → Option LduValue → SourceState → Option ℕ
+next_word c n (Some u) Idle = Some (word_number c (Rts (count_of u)))
+next_word c n (Some u) (Sending k) = slice_get (block_of c u n.file n.ldu) k
+next_word c n _ _ = None
 
 -- its phase after that word: it waits after the request, and after the last word of the block
 abbrev pub after_word : Option LduValue → SourceState → SourceState
@@ -34,7 +35,7 @@ after_word _ phase = phase
 
 -- the next word of the source, if it sends one now
 abbrev pub next_word_of : Contents → Source → Option ℕ
-next_word_of p s = next_word p.codes s.file s.ldu s.current s.phase
+next_word_of p s = next_word p.codes s.number s.current s.phase
 
 -- the source with its next word sent
 abbrev pub with_word_sent : Source → Source
@@ -42,23 +43,20 @@ with_word_sent s = record s { phase = after_word s.current s.phase }
 
 -- ---- taking answers
 
--- the source once its link data unit is acknowledged: the next one of the file, or the first of the next file
+-- the source once its link data unit is acknowledged, at the number that comes next
 abbrev pub acknowledged : Codes → LduValue → Source → Source
-acknowledged c u s =
-    if is_final c u.flags
-    then record { file = (s.file + 1) % 256; ldu = c.first_ldu; current = None; phase = Idle }
-    else record { file = s.file; ldu = s.ldu + 1; current = None; phase = Idle }
+acknowledged c u s = record { number = number_after c s.number u; current = None; phase = Idle }
 
 -- the form is the acknowledgement of the current link data unit, and the source waits for it
-abbrev pub is_own_ack : ℕ → ℕ → SourceState → Form → Bool
-is_own_ack file ldu Waiting (Ack f l) = (f == file) && (l == ldu)
-is_own_ack file ldu _ _ = false
+abbrev pub is_own_ack : UnitNumber → SourceState → Form → Bool
+is_own_ack n Waiting (Ack file ldu) = is_number (record { file = file; ldu = ldu }) n
+is_own_ack n _ _ = false
 
 -- the source after an answer of this form: the clear answer to its request lets it send; the
 -- acknowledgement ends the link data unit; a negative answer lets it ask again; no other answer counts
 abbrev pub hears : Codes → Option LduValue → SourceState → Form → Source → Source
 hears c (Some u) Awaiting (Cts n) s = if n == count_of u then record s { phase = Sending 0 } else s
-hears c (Some u) Waiting (Ack f l) s = if is_own_ack s.file s.ldu Waiting (Ack f l) then acknowledged c u s else s
+hears c (Some u) Waiting (Ack f l) s = if is_own_ack s.number Waiting (Ack f l) then acknowledged c u s else s
 hears c (Some u) Waiting (Nak bits) s = record s { phase = Idle }
 hears c _ _ _ s = s
 

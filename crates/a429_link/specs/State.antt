@@ -5,6 +5,7 @@ use Rattle.a429_link.specs.declared.state.SourceState.TheVariants.{Idle}
 use Rattle.a429_link.specs.declared.state.SinkState.{SinkState}
 use Rattle.a429_link.specs.declared.state.SinkState.TheVariants as shown
 use Rattle.a429_link.specs.declared.state.States.{States}
+use Rattle.a429_link.specs.Number.{first_number}
 use Rattle.a429_link.specs.Source.{Source}
 use Rattle.a429_link.specs.Sink.{Sink, SinkPhase, Quiet, OwesClear, Granted, InBlock, OwesAck, OwesNak, empty_shelf}
 
@@ -20,7 +21,7 @@ pub record State : Type 0 where
 abbrev pub start : Contents → ℕ → State
 start p first =
     record {
-      source = record { file = first; ldu = p.codes.first_ldu; current = None; phase = Idle };
+      source = record { number = first_number p.codes first; current = None; phase = Idle };
       sink = record { last = None; shelf = empty_shelf; count = 0; phase = Quiet };
       to_sink = [];
       to_source = [];

@@ -18,7 +18,7 @@ use Rattle.a429_link.specs.State.{State, IsNonEmpty, rest}
 -- where a step may be made
 abbrev pub Can : Contents → Step → State → Type 0
 -- an idle source without a link data unit, whose file has room for one more
-Can p (Load u) s = IsIdle s.source.phase × (s.source.current ≡ None) × (s.source.ldu ≤ p.codes.first_ldu + 254) × IsLdu p u
+Can p (Load u) s = IsIdle s.source.phase × (s.source.current ≡ None) × (s.source.number.ldu ≤ p.codes.first_ldu + 254) × IsLdu p u
 -- the source's next word, on bus A
 Can p (Sent i) s = (i.bus ≡ bus.A) × (next_word_of p s.source ≡ Some i.word)
 -- the source has a next word

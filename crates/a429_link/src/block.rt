@@ -1,8 +1,9 @@
 //! A block as the sink takes it.
 
 ghost use Rattle.std.specs.Prelude.{◌≡◌, ◌<◌, [], ◌∷◌, ◌++◌, length};
-ghost use Rattle.a429_link.specs.Sink.{empty_block};
+ghost use Rattle.a429_link.specs.Sink.{empty_block, number_of};
 
+use crate::number::UnitNumber;
 use a429_word::Word;
 use arrayvec::ArrayVec;
 use std::marker::Model;
@@ -55,16 +56,14 @@ impl Block {
         self.words.push(word);
     }
 
-    pub(crate) fn file(&self) -> u8
-        ensures { result ≡ self.now.file }
+    /// The number that its start word tells.
+    pub(crate) fn number(&self) -> UnitNumber
+        ensures { result ≡ number_of self.now }
     {
-        self.file
-    }
-
-    pub(crate) fn ldu(&self) -> u8
-        ensures { result ≡ self.now.ldu }
-    {
-        self.ldu
+        UnitNumber {
+            file: self.file,
+            ldu: u16::from(self.ldu),
+        }
     }
 
     pub(crate) fn words(&self) -> &[Word]

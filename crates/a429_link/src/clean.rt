@@ -1,14 +1,14 @@
 //! The recording of a run without loss.
 
 ghost use Rattle.std.specs.Prelude.{◌≡◌, ◌≢◌, ◌≤◌, ◌++◌, [], ◌∷◌, map, length, Some, None, IfOk, IfErr, OnOk};
-ghost use Rattle.a429_ldu.specs.Cut.{OnlyLastIsFinal};
+ghost use Rattle.a429_link.specs.Number.{first_number};
 ghost use Rattle.a429_link.specs.Clean.{clean_blocks, clean_block, clean_words, first_refused, CarriesFiles};
 
 use crate::fault::CleanFault;
+use crate::number::UnitNumber;
 use crate::seen::Seen;
 use a429_ldu::{CutFault, Form, Ldu, cut, word_of};
 use a429_profile::Profile;
-use a429_profile::laws::each_number_lies_in_its_range;
 use a429_word::{Bus, Word};
 use std::alloc::{AllocError, Global};
 
@@ -19,17 +19,19 @@ fn push(run: &mut Vec<Seen>, bus: Bus, word: Word) -> Result<(), AllocError>
     Ok(())
 }
 
-// The words of a link data unit that crosses without loss under these numbers.
+// The words of a link data unit that crosses without loss under this number.
 fn push_unit(
     run: &mut Vec<Seen>,
     profile: &Profile,
-    file: u8,
-    ldu: u8,
+    number: UnitNumber,
     unit: &Ldu,
 ) -> Result<(), AllocError>
-    ensures { OnOk result (run.new.items ≡ run.old.items ++ clean_block profile.now.codes file ldu unit.now) }
+    requires { number.ldu ≤ 255 }
+    ensures { OnOk result (run.new.items ≡ run.old.items ++ clean_block profile.now.codes number unit.now) }
 {
     let count = unit.count();
+    let file = number.file;
+    let ldu = number.ldu as u8;
     push(run, Bus::A, word_of(profile, &Form::Rts { count }))?;
     push(run, Bus::B, word_of(profile, &Form::Cts { count }))?;
     for k in 0..count {
@@ -47,14 +49,12 @@ fn push_file(
     units: &[Ldu],
 ) -> Result<(), AllocError>
     requires few { length units.now ≤ 255 }
-    requires last { OnlyLastIsFinal profile.now.codes units.now }
-    ensures { OnOk result (run.new.items ≡ run.old.items ++ clean_blocks profile.now.codes file profile.now.codes.first_ldu units.now) }
+    ensures { OnOk result (run.new.items ≡ run.old.items ++ clean_blocks profile.now.codes (first_number profile.now.codes file) units.now) }
 {
-    each_number_lies_in_its_range();
-    let mut ldu = u16::from(profile.codes().first_ldu);
+    let mut number = UnitNumber::first(profile, file);
     for unit in units {
-        push_unit(run, profile, file, ldu as u8, unit)?;
-        ldu += 1;
+        push_unit(run, profile, number, unit)?;
+        number = number.after(profile, unit);
     }
     Ok(())
 }

@@ -6,6 +6,7 @@ ghost use Rattle.a429_link.specs.declared.seen.Seen.{Seen};
 ghost use Rattle.a429_link.specs.declared.step.Step.{Step};
 ghost use Rattle.a429_link.specs.State.{start};
 ghost use Rattle.a429_ldu.specs.Ldu.{LduValue};
+ghost use Rattle.a429_link.specs.Number.{first_number};
 ghost use Rattle.a429_link.specs.Clean.{AllFit, without_free, clean_blocks, CarriesUnits};
 ghost use Rattle.a429_link.specs.Run.{IsRun, IsRunFrom, end_of, trace, delivered, offered, settled, IsPrefixOf, IsBounded, BeginsARun};
 ghost use Rattle.a429_link.specs.Observer.{IsRefused};
@@ -61,7 +62,7 @@ pub fn refused_is_impossible()
 /// of a run which delivers their files.
 pub fn a_clean_recording_is_a_run()
     ensures { (p : Contents) (first : ℕ) (units : List LduValue) (items : List Seen)
-        → IsProfile p → first ≤ 255 → AllFit p p.codes.first_ldu units
-        → without_free p.codes items ≡ clean_blocks p.codes first p.codes.first_ldu units
+        → IsProfile p → first ≤ 255 → AllFit p (first_number p.codes first) units
+        → without_free p.codes items ≡ clean_blocks p.codes (first_number p.codes first) units
         → CarriesUnits p first units items }
 {}

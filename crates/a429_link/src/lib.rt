@@ -22,7 +22,7 @@ pub use crate::clean::clean_run;
 pub use crate::fault::{CleanFault, StepFault};
 pub use crate::file::{Bytes, FileBytes};
 pub use crate::link::Link;
-pub use crate::number::is_final;
+pub use crate::number::{UnitNumber, is_final};
 pub use crate::observer::Observer;
 pub use crate::reading::form_of;
 pub use crate::seen::Seen;

@@ -1,10 +1,57 @@
 //! The numbers of link data units.
 
-ghost use Rattle.std.specs.Prelude.{◌≡◌};
+ghost use Rattle.std.specs.Prelude.{◌≡◌, ◌≤◌};
 ghost use Rattle.a429_ldu.specs.Ldu.{is_final};
+ghost use Rattle.a429_link.specs.Number.{first_number, next_number, number_after};
 
+use a429_ldu::Ldu;
 use a429_profile::Profile;
 use a429_profile::laws::each_number_lies_in_its_range;
+
+/// The number of a link data unit: that of its file, and its own in the file (ARINC 429 Part 3).
+#[derive(Clone, Copy, Debug, PartialEq, Eq)]
+pub struct UnitNumber {
+    pub file: u8,
+    /// 256 only past a file's 255th, where nothing can be loaded.
+    pub ldu: u16,
+}
+
+impl UnitNumber {
+    /// That of the first link data unit of this file (profile).
+    pub fn first(profile: &Profile, file: u8) -> UnitNumber
+        ensures number { result ≡ first_number profile.now.codes file }
+        ensures low { result.ldu ≤ 1 }
+    {
+        UnitNumber {
+            file,
+            ldu: u16::from(profile.codes().first_ldu),
+        }
+    }
+
+    /// The one that comes next: after a file's last link data unit that of the next file's first, 255
+    /// followed by 0, else that of the file's next (profile).
+    pub fn next(self, profile: &Profile, is_final: bool) -> UnitNumber
+        ensures number { result ≡ next_number profile.now.codes self is_final }
+        ensures high { result.ldu ≤ 256 }
+    {
+        if is_final {
+            UnitNumber::first(profile, self.file.wrapping_add(1))
+        } else {
+            UnitNumber {
+                file: self.file,
+                ldu: self.ldu.min(255) + 1,
+            }
+        }
+    }
+
+    /// The one that comes next where this link data unit has this one.
+    pub fn after(self, profile: &Profile, unit: &Ldu) -> UnitNumber
+        ensures number { result ≡ number_after profile.now.codes self unit.now }
+        ensures high { result.ldu ≤ 256 }
+    {
+        self.next(profile, is_final(profile, unit.flags()))
+    }
+}
 
 /// These flags of an end word, whose lowest bit is bit 25, say that it ends its file (ARINC 429 Part 3; the
 /// bit is the profile's).

@@ -1,13 +1,13 @@
 //! The observer of a recording.
 
-ghost use Rattle.std.specs.Prelude.{◌≡◌, ◌↔◌, Some, true, false, IsTrue};
+ghost use Rattle.std.specs.Prelude.{◌≡◌, ◌↔◌, Some, IsTrue, IsOk, IfOk, IfErr, OnOk, OnErr};
+ghost use Rattle.a429_ldu.specs.Sight.{sight_of};
 ghost use Rattle.a429_link.specs.Observer as model;
 ghost use Rattle.a429_link.specs.Observer.{at_first, sees, sees_form, Allows, AllowsForm};
 
-use crate::reading::{form_of, is_free};
 use crate::seen::Seen;
 use crate::sink::Sink;
-use a429_ldu::Form;
+use a429_ldu::{Form, Sight, form};
 use a429_profile::Profile;
 use a429_word::{Bus, Word};
 use std::alloc::Global;
@@ -48,21 +48,27 @@ impl Observer {
         }
     }
 
-    /// Takes the next recorded word, and answers true, where the words before it allow it. Else the answer
-    /// is false, and the observer unchanged: no run records this word after those.
-    pub fn see(&mut self, profile: &Profile, seen: Seen) -> bool
-        ensures answer { IsTrue result ↔ Allows profile.now self.old seen }
-        ensures taken { result ≡ true → self.new ≡ sees profile.now seen self.old }
-        ensures unchanged { result ≡ false → self.new ≡ self.old }
+    /// Takes the next recorded word where the words before it allow it, and answers what it is. Where they do
+    /// not, the error is what it is, and the observer is unchanged: no run records this word after those.
+    pub fn see(&mut self, profile: &Profile, seen: Seen) -> Result<Sight, Sight>
+        ensures allowed { IsOk result ↔ Allows profile.now self.old seen }
+        ensures taken { OnOk result (self.new ≡ sees profile.now seen self.old) }
+        ensures unchanged { OnErr result (self.new ≡ self.old) }
+        ensures ok { IfOk result (λ sight. sight ≡ sight_of profile.now.codes seen.bus seen.word) }
+        ensures err { IfErr result (λ sight. sight ≡ sight_of profile.now.codes seen.bus seen.word) }
     {
-        let Some(form) = form_of(profile, seen.bus, seen.word) else {
-            return is_free(profile, seen.bus, seen.word);
-        };
-        if !self.allows(seen.bus, &form) {
-            return false;
+        let sight = form(profile, seen.bus, seen.word);
+        match &sight {
+            Sight::Free => Ok(sight),
+            Sight::NoForm => Err(sight),
+            Sight::Form(form) => {
+                if !self.allows(seen.bus, form) {
+                    return Err(sight);
+                }
+                self.take(profile, seen.bus, seen.word, form);
+                Ok(sight)
+            }
         }
-        self.take(profile, seen.bus, seen.word, &form);
-        true
     }
 
     // The words so far allow a word of this form.

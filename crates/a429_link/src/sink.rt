@@ -2,26 +2,25 @@
 
 ghost use Rattle.std.specs.Prelude.{◌≡◌, ◌≤◌, ◌↔◌, [], None, option_map, IsTrue, OnOk, OnErr};
 ghost use Rattle.a429_link.specs.Sink as model;
-ghost use Rattle.a429_link.specs.Sink.{agrees, takes, at_start, at_part, at_end, is_good, is_same, may_come, empty_block, accepts_owed, answers, MayAnswer, Listens, Owes, held_count, latest_number, TakesOneMore, HasRoom, empty_shelf};
+ghost use Rattle.a429_link.specs.Sink.{takes, at_start, at_part, at_end, is_good, is_same, may_come, empty_block, accepts_owed, answers, MayAnswer, Listens, Owes, held_count, latest_number, TakesOneMore, HasRoom, empty_shelf};
 ghost use Rattle.a429_link.specs.State.{sink_state_of};
 ghost use Rattle.a429_link.specs.Observer.{HasGrant};
 
 use crate::block::Block;
 use crate::file::FileBytes;
-use crate::number::is_final;
+use crate::number::{UnitNumber, is_final};
 use crate::shelf::Shelf;
 use crate::state::SinkState;
-use a429_ldu::{Form, block_bytes, check_word};
-use a429_profile::{Check, Profile};
+use a429_ldu::{Form, agrees, block_bytes};
+use a429_profile::Profile;
 use a429_word::Word;
 use std::alloc::{AllocError, Global};
 use std::marker::Model;
 
-/// The numbers of the link data unit accepted last, and whether it was its file's last.
+/// The number of the link data unit accepted last, and whether it was its file's last.
 #[derive(Clone, Copy, Debug)]
 pub(crate) struct Latest {
-    pub file: u8,
-    pub ldu: u8,
+    pub number: UnitNumber,
     pub is_final: bool,
 }
 
@@ -59,22 +58,15 @@ impl Model for Sink {
 }
 
 // The block comes again, or in sequence.
-fn may_come(profile: &Profile, last: &Option<Latest>, file: u8, ldu: u8) -> bool
-    ensures { result ≡ may_come profile.now.codes (option_map latest_number last.now) file ldu }
+fn may_come(profile: &Profile, last: &Option<Latest>, number: UnitNumber) -> bool
+    ensures { result ≡ may_come profile.now.codes (option_map latest_number last.now) number }
 {
-    let first_ldu = profile.codes().first_ldu;
+    let first_ldu = u16::from(profile.codes().first_ldu);
     let Some(last) = last else {
-        return ldu == first_ldu;
+        return number.ldu == first_ldu;
     };
-    let comes_again = last.file == file && last.ldu == ldu;
-    comes_again
-        || if last.is_final {
-            file == last.file.wrapping_add(1) && ldu == first_ldu
-        } else {
-            file == last.file
-                && u16::from(ldu) == u16::from(last.ldu) + 1
-                && u16::from(ldu) <= u16::from(first_ldu) + 254
-        }
+    let follows = number == last.number.next(profile, last.is_final);
+    last.number == number || follows && number.ldu <= first_ldu + 254
 }
 
 // The block that ends by a word with this check word is good, where the last request had this count.
@@ -90,23 +82,16 @@ fn ends_well(profile: &Profile, last: &Option<Latest>, count: u8, block: &Block,
     if !agrees(profile.check(), bytes.as_slice(), check) {
         return false;
     }
-    may_come(profile, last, block.file(), block.ldu())
-}
-
-// The check word is that of the bytes, or the profile compares none.
-fn agrees(rule: &Check, bytes: &[u8], check: u16) -> bool
-    ensures { result ≡ agrees rule.now bytes.now check }
-{
-    !rule.compare || check == check_word(rule, bytes)
+    may_come(profile, last, block.number())
 }
 
 // The number is that of the link data unit accepted last.
-fn is_last(last: &Option<Latest>, file: u8, ldu: u8) -> bool
-    ensures { result ≡ is_same (option_map latest_number last.now) file ldu }
+fn is_last(last: &Option<Latest>, number: UnitNumber) -> bool
+    ensures { result ≡ is_same (option_map latest_number last.now) number }
 {
     match last {
         None => false,
-        Some(last) => last.file == file && last.ldu == ldu,
+        Some(last) => last.number == number,
     }
 }
 
@@ -216,7 +201,8 @@ impl Sink {
         match (self.phase, *answer) {
             (Phase::OwesClear, Form::Cts { count }) => count == self.count,
             (Phase::OwesAck { .. }, Form::Ack { file, ldu }) => {
-                file == self.block.file() && ldu == self.block.ldu()
+                let number = self.block.number();
+                file == number.file && u16::from(ldu) == number.ldu
             }
             (Phase::OwesAck { .. } | Phase::OwesNak, Form::Nak { .. }) => true,
             _ => false,
@@ -255,21 +241,18 @@ impl Sink {
         let Phase::OwesAck { flags } = self.phase else {
             return Ok(());
         };
-        let file = self.block.file();
-        let ldu = self.block.ldu();
-        if is_last(&self.last, file, ldu) {
+        let number = self.block.number();
+        if is_last(&self.last, number) {
             return Ok(());
         }
         let is_final = is_final(profile, flags);
         match block_bytes(profile, self.block.words()) {
-            Some(bytes) => self.shelf.put(alloc, file, bytes.as_slice(), is_final)?,
-            None => self.shelf.put(alloc, file, &[], is_final)?,
+            Some(bytes) => self
+                .shelf
+                .put(alloc, number.file, bytes.as_slice(), is_final)?,
+            None => self.shelf.put(alloc, number.file, &[], is_final)?,
         }
-        self.last = Some(Latest {
-            file,
-            ldu,
-            is_final,
-        });
+        self.last = Some(Latest { number, is_final });
         Ok(())
     }
 
@@ -295,15 +278,10 @@ impl Sink {
         let Phase::OwesAck { flags } = self.phase else {
             return;
         };
-        let file = self.block.file();
-        let ldu = self.block.ldu();
-        if !is_last(&self.last, file, ldu) {
+        let number = self.block.number();
+        if !is_last(&self.last, number) {
             let is_final = is_final(profile, flags);
-            self.last = Some(Latest {
-                file,
-                ldu,
-                is_final,
-            });
+            self.last = Some(Latest { number, is_final });
         }
     }
 

@@ -5,20 +5,18 @@ ghost use Rattle.a429_ldu.specs.Ldu.{IsLdu};
 ghost use Rattle.a429_link.specs.Source as model;
 ghost use Rattle.a429_link.specs.Source.{next_word, hears, IsIdle, Waits, with_word_sent, next_word_of};
 
-use crate::number::is_final;
+use crate::number::UnitNumber;
 use crate::state::SourceState;
 use a429_ldu::{Form, Ldu, word_of};
 use a429_profile::Profile;
 use a429_word::Word;
 use std::marker::Model;
 
-/// The source: the number of its file, that of the link data unit that is current or next, this one if
-/// it is loaded, and what the source is doing.
+/// The source: the number of the link data unit that is current or next, this one if it is loaded, and
+/// what the source is doing.
 #[derive(Debug, Drop)]
 pub(crate) struct Source {
-    file: u8,
-    // 256 only past a file's 255th, where nothing can be loaded.
-    ldu: u16,
+    number: UnitNumber,
     current: Option<Ldu>,
     state: SourceState,
 }
@@ -29,19 +27,19 @@ impl Model for Source {
 
     ghost Value = { model.Source };
 
-    ghost view = { λ s. record { file = s.file; ldu = s.ldu; current = s.current; phase = s.state } };
+    ghost view = { λ s. record { number = s.number; current = s.current; phase = s.state } };
 
-    ghost invariant = { λ s. (s.ldu ≤ 256) × (IsSome s.current → s.ldu ≤ 255) };
+    ghost invariant = { λ s. (s.number.ldu ≤ 256) × (IsSome s.current → s.number.ldu ≤ 255) };
 }
 
 impl Source {
-    /// A source that has loaded nothing.
-    pub(crate) fn new(file: u8, first_ldu: u8) -> Source
-        ensures { result ≡ record { file = file; ldu = first_ldu; current = None; phase = SourceState.Idle } }
+    /// A source that has loaded nothing, and whose first link data unit has this number.
+    pub(crate) fn new(number: UnitNumber) -> Source
+        requires { number.ldu ≤ 255 }
+        ensures { result ≡ record { number = number; current = None; phase = SourceState.Idle } }
     {
         Source {
-            file,
-            ldu: u16::from(first_ldu),
+            number,
             current: None,
             state: SourceState::Idle,
         }
@@ -62,16 +60,16 @@ impl Source {
 
     /// It can load a link data unit.
     pub(crate) fn may_load(&self, first_ldu: u8) -> bool
-        ensures { IsTrue result ↔ (IsIdle self.now.phase × (self.now.current ≡ None) × (self.now.ldu ≤ first_ldu + 254)) }
+        ensures { IsTrue result ↔ (IsIdle self.now.phase × (self.now.current ≡ None) × (self.now.number.ldu ≤ first_ldu + 254)) }
     {
         self.state == SourceState::Idle
             && self.current.is_none()
-            && self.ldu <= u16::from(first_ldu) + 254
+            && self.number.ldu <= u16::from(first_ldu) + 254
     }
 
     /// Loads a link data unit.
     pub(crate) fn load(&mut self, unit: Ldu)
-        requires { self.old.ldu ≤ 255 }
+        requires { self.old.number.ldu ≤ 255 }
         ensures { self.new ≡ record (self.old) { current = Some unit } }
     {
         self.current = Some(unit);
@@ -94,7 +92,7 @@ impl Source {
                 if sent >= unit.count() {
                     return None;
                 }
-                Some(unit.word(profile, sent, self.file, self.ldu as u8))
+                Some(unit.word(profile, sent, self.number.file, self.number.ldu as u8))
             }
             SourceState::Awaiting | SourceState::Waiting => None,
         }
@@ -143,13 +141,8 @@ impl Source {
                 }
             }
             (SourceState::Waiting, Form::Ack { file, ldu }) => {
-                if file == self.file && u16::from(ldu) == self.ldu {
-                    if is_final(profile, unit.flags()) {
-                        self.file = self.file.wrapping_add(1);
-                        self.ldu = u16::from(profile.codes().first_ldu);
-                    } else {
-                        self.ldu += 1;
-                    }
+                if file == self.number.file && u16::from(ldu) == self.number.ldu {
+                    self.number = self.number.after(profile, unit);
                     self.current = None;
                     self.state = SourceState::Idle;
                 }

@@ -12,6 +12,7 @@ ghost use Rattle.a429_link.specs.Link.{handed_out};
 
 use crate::fault::StepFault;
 use crate::file::FileBytes;
+use crate::number::UnitNumber;
 use crate::reading::{form_of, is_free};
 use crate::seen::Seen;
 use crate::sink::Sink;
@@ -47,8 +48,9 @@ impl Transfer {
         ensures state { result ≡ start profile.now first_file }
         ensures sound { IsProfile profile.now }
     {
+        let _codes = profile.codes();
         Transfer {
-            source: Source::new(first_file, profile.codes().first_ldu),
+            source: Source::new(UnitNumber::first(profile, first_file)),
             sink: Sink::new(alloc),
             to_sink: Vec::new(alloc),
             to_source: Vec::new(alloc),

@@ -1,5 +1,5 @@
 -- What the label table of a profile says, and what is wrong with it (profile).
-use Rattle.std.specs.Prelude.{ℕ, suc, List, [], ◌∷◌, map, Bool, true, codes, Option, Some, None, unwrap_or, if◌then◌else◌}
+use Rattle.std.specs.Prelude.{ℕ, suc, List, [], ◌∷◌, map, Bool, true, codes, Option, Some, None, unwrap_or, if◌then◌else◌, Result}
 use Rattle.toml.specs.Data.{Data, Members, no_members, get_member, as_table}
 use Rattle.a429_profile.specs.declared.entry.Kind.{Kind}
 use Rattle.a429_profile.specs.declared.entry.Kind.TheVariants as kind
@@ -12,7 +12,7 @@ use Rattle.a429_profile.specs.declared.key.LabelKey.TheVariants as label
 use Rattle.a429_profile.specs.declared.fault.ProfileFault.{ProfileFault}
 use Rattle.a429_profile.specs.declared.fault.ProfileFault.TheVariants.{WrongKind}
 use Rattle.a429_profile.specs.Value.{text_of_value, number_of_value, octal_number, elements_of, flag_of, kind_word_of, is_table, is_array_of}
-use Rattle.a429_profile.specs.Fault.{first_or}
+use Rattle.a429_profile.specs.Fault.{first_or, Gives, GivesInMemory}
 use Rattle.a429_profile.specs.Key.{Place, nothing, value, place_fault, label_row, label_place}
 use Rattle.a429_profile.specs.Codes.{value_at_place}
 
@@ -82,6 +82,13 @@ kind_in ms (Some word.Bnr) = kind.Bnr (label_number ms label.Bits) (label_number
 kind_in ms (Some word.Bcd) = kind.Bcd (label_number ms label.Digits) (label_number ms label.Decimals)
 kind_in ms (Some word.Discrete) = kind.Discrete (map flag_of (elements_of (label_value ms label.Flags)))
 kind_in ms None = kind.Discrete []
+
+-- the kind of this word that a table says, or the first fault of its keys; the second takes memory
+abbrev pub GivesKind : ℕ → Members → KindWord → Result Kind ProfileFault → Type 0
+GivesKind i ms word = Gives (kind_in ms (Some word)) (kind_fault i ms word)
+
+abbrev pub GivesKindInMemory : ℕ → Members → KindWord → Result Kind ProfileFault → Type 0
+GivesKindInMemory i ms word = GivesInMemory (kind_in ms (Some word)) (kind_fault i ms word)
 
 abbrev pub entry_in_table : Members → LabelEntry
 entry_in_table ms = record {

@@ -7,7 +7,7 @@ ghost use Rattle.a429_profile.specs.Fault.{Gives, GivesInMemory};
 ghost use Rattle.a429_profile.specs.Value.{octal, number, printable, is_table};
 ghost use Rattle.a429_profile.specs.Key.{label_row};
 ghost use Rattle.a429_profile.specs.declared.entry.KindWord.TheVariants as word;
-ghost use Rattle.a429_profile.specs.Labels.{label_fault, label_number, kind_word_in_table, kind_in, entry_fault, entry_in_table, table_of, entries_fault, labels_fault, labels_of, label_text, label_in_table, sdi_in_table, kind_fault};
+ghost use Rattle.a429_profile.specs.Labels.{label_fault, label_number, kind_word_in_table, GivesKind, GivesKindInMemory, entry_fault, entry_in_table, table_of, entries_fault, labels_fault, labels_of, label_text, label_in_table, sdi_in_table};
 
 use crate::entry::{Kind, KindWord, LabelEntry, Text};
 use crate::fault::ProfileFault;
@@ -82,7 +82,7 @@ fn word_at(table: &Table, position: usize) -> Result<KindWord, ProfileFault>
 }
 
 fn read_bnr(table: &Table, position: usize) -> Result<Kind, ProfileFault>
-    ensures { let ms = table_view table.now in Gives (kind_in ms (Some word.Bnr)) (kind_fault position ms word.Bnr) result }
+    ensures { GivesKind position (table_view table.now) word.Bnr result }
 {
     let bits = small_at(table, position, LabelKey::Bits, 1, 18)?;
     let value = in_label(table, position, LabelKey::Range)?;
@@ -101,7 +101,7 @@ fn read_bnr(table: &Table, position: usize) -> Result<Kind, ProfileFault>
 }
 
 fn read_bcd(table: &Table, position: usize) -> Result<Kind, ProfileFault>
-    ensures { let ms = table_view table.now in Gives (kind_in ms (Some word.Bcd)) (kind_fault position ms word.Bcd) result }
+    ensures { GivesKind position (table_view table.now) word.Bcd result }
 {
     let digits = small_at(table, position, LabelKey::Digits, 1, 5)?;
     let decimals = small_at(table, position, LabelKey::Decimals, 0, 6)?;
@@ -109,7 +109,7 @@ fn read_bcd(table: &Table, position: usize) -> Result<Kind, ProfileFault>
 }
 
 fn read_discrete(alloc: Global, table: &Table, position: usize) -> Result<Kind, ProfileFault>
-    ensures { let ms = table_view table.now in GivesInMemory (kind_in ms (Some word.Discrete)) (kind_fault position ms word.Discrete) result }
+    ensures { GivesKindInMemory position (table_view table.now) word.Discrete result }
 {
     let value = in_label(table, position, LabelKey::Flags)?;
     let flags = flags(alloc, value, Key::Label(position, LabelKey::Flags))?;
@@ -122,7 +122,7 @@ fn read_kind(
     position: usize,
     word: KindWord,
 ) -> Result<Kind, ProfileFault>
-    ensures { let ms = table_view table.now in GivesInMemory (kind_in ms (Some word)) (kind_fault position ms word) result }
+    ensures { GivesKindInMemory position (table_view table.now) word result }
 {
     match word {
         KindWord::Bnr => read_bnr(table, position),

@@ -1,4 +1,5 @@
 //! Certificates: their lines, and what they explain of the recording of one byte.
 
+mod line_reader;
 mod lines;
 mod replay;

@@ -1,37 +1,29 @@
 //! `a429 make PROFILE FILE..`: the recording of a transfer of files without loss.
 
-ghost use Rattle.std.specs.Prelude.{◌≡◌, ◌≢◌, ◌+◌, ◌*◌, ◌/◌, [], ◌∷◌, ℕ, List, map, flat_map, true, false, None, Some, IsErr, IfOk, IfErr, OnOk, ◌≤◌, length};
+ghost use Rattle.std.specs.Prelude.{◌≡◌, ◌≢◌, ◌+◌, ◌*◌, ◌/◌, ℕ, List, map, flat_map, true, false, None, Some, IsErr, IfOk, IfErr, OnOk, ◌≤◌, length};
 ghost use Rattle.a429_word.specs.Page.{PutsOn};
 ghost use Rattle.a429_word.specs.Tally.{Puts, has_failed};
 ghost use Rattle.a429_profile.specs.Profile.{Contents};
-ghost use Rattle.a429_link.specs.Clean.{clean_words, cut_fault, first_refused};
+ghost use Rattle.a429_link.specs.Clean.{cut_fault, first_refused};
 ghost use Rattle.a429_record.specs.Recording.{most_entries};
-ghost use Rattle.a429_record.specs.Writing.{line_text, written_form};
-ghost use Rattle.a429_check.specs.Make.{timed, words_made, MakesRecording, IsMakeFault, IsFilesFault, IsPutFault};
+ghost use Rattle.a429_record.specs.Writing.{line_text};
+ghost use Rattle.a429_check.specs.Make.{timed, words_made, recording_made, MakesWords, MakesRecording, IsMakeFault, IsFilesFault, IsPutFault};
 
 use crate::engines::profile::profile_of;
 use crate::fault::RunFault;
-use a429_ldu::CutFault;
+use a429_ldu::{CutFault, MOST_UNIT_BYTES, MOST_UNITS};
 use a429_link::{CleanFault, Seen, clean_run};
 use a429_profile::Profile;
-use a429_record::{Entry, ReadFault, put_header, put_line};
+use a429_record::{Entry, MOST_ENTRIES, ReadFault, put_header, put_line};
 use a429_word::{Device, Page, Tally};
 use std::alloc::Global;
 use std::io::Write;
 use std::slice::from_ref;
 
-// How many entries a recording may have.
-const MOST_ENTRIES: usize = 1_000_000;
-
 // The first file has number 1, and a link data unit has at most 255 words.
 const FIRST_FILE: u8 = 1;
 
 const MAX_WORDS: u8 = 255;
-
-// How many bytes such a link data unit holds, and how many of them a file may have.
-const UNIT_BYTES: usize = 632;
-
-const MOST_UNITS: usize = 255;
 
 /// Writes the recording of a transfer of these files without loss, an entry each thousandth of a second,
 /// and answers status 0. `profile` is the bytes of its text. Nothing is written where the profile has a
@@ -78,18 +70,18 @@ fn check_files(files: &[Vec<u8>]) -> Result<(), RunFault>
 // How many words a file of so many bytes makes: those of its link data units, each full but the last.
 fn words_of_file(len: usize) -> Result<usize, CutFault>
     ensures fine { OnOk result ((bytes : List ℕ) → length bytes ≡ len → cut_fault 255 bytes ≡ None) }
-    ensures count { IfOk result (λ n. (bytes : List ℕ) → length bytes ≡ len → (p : Contents) → (file : ℕ) → length (clean_words p 255 file (bytes ∷ [])) ≡ n) }
+    ensures count { IfOk result (MakesWords len) }
     ensures refused { IfErr result (λ e. (bytes : List ℕ) → length bytes ≡ len → cut_fault 255 bytes ≡ Some e) }
     ensures fault { IfErr result (λ e. e ≢ CutFault.OutOfMemory) }
 {
     if len == 0 {
         return Err(CutFault::Empty);
     }
-    if len > MOST_UNITS * UNIT_BYTES {
+    if len > MOST_UNITS * MOST_UNIT_BYTES {
         return Err(CutFault::TooLong);
     }
-    let full = (len - 1) / UNIT_BYTES;
-    Ok(full * words_of_unit(UNIT_BYTES) + words_of_unit(len - full * UNIT_BYTES))
+    let full = (len - 1) / MOST_UNIT_BYTES;
+    Ok(full * words_of_unit(MOST_UNIT_BYTES) + words_of_unit(len - full * MOST_UNIT_BYTES))
 }
 
 // How many words a link data unit of so many bytes makes: its data words of five semi-octets, a start and
@@ -110,7 +102,7 @@ fn put_recording<W: Write>(
 ) -> Result<(), RunFault>
     requires cut { first_refused 255 0 (map (λ f. f.items) files.now) ≡ None }
     requires most { length (words_made profile.now (map (λ f. f.items) files.now)) ≤ most_entries }
-    ensures ok { OnOk result (Puts W.contents out.old out.new (written_form (timed 0 (words_made profile.now (map (λ f. f.items) files.now))))) }
+    ensures ok { OnOk result (Puts W.contents out.old out.new (recording_made profile.now (map (λ f. f.items) files.now))) }
     ensures err { IfErr result (IsPutFault (has_failed out.new)) }
     ensures device { OnOk result (has_failed out.new ≡ false) }
 {

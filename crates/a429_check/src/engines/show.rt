@@ -1,14 +1,12 @@
 //! `a429 show PROFILE REC`: the words of a recording, a line for each.
 
-ghost use Rattle.std.specs.Prelude.{◌≡◌, ◌≢◌, ◌⊎◌, ◌↔◌, ◌≤◌, ◌++◌, [], ℕ, List, codes, true, false, IsErr, IfOk, IfErr, OnOk};
+ghost use Rattle.std.specs.Prelude.{◌≡◌, ◌≢◌, ◌⊎◌, ◌↔◌, ◌≤◌, ◌++◌, [], ℕ, List, true, false, IsErr, IfOk, IfErr, OnOk};
 ghost use Rattle.a429_word.specs.Tally.{has_failed, unread, Puts};
 ghost use Rattle.a429_word.specs.Page.{PutsOn};
-ghost use Rattle.std.specs.Fmt.{decimal};
 ghost use Rattle.std.specs.List.{flat_map, AllByRecursion};
-ghost use Rattle.a429_word.specs.Fixed.{SpellsFraction};
 ghost use Rattle.a429_profile.specs.Shown.{HasItsRanges};
 ghost use Rattle.a429_profile.specs.Entry.{IsFlagBit, IsKindInRange};
-ghost use Rattle.a429_check.specs.Show.{IsShowFault, status_text, unit_text, test_text, flag_text, flags_text, IsShownText, recorded_text, fields_text, IsShowLine, AreShowLines, ShowsEntries};
+ghost use Rattle.a429_check.specs.Show.{IsShowFault, status_text, bad_digit_text, unit_text, test_text, flag_text, IsValueText, field_text, IsShownText, recorded_text, fields_text, PutsSome, IsShowLine, AreShowLines, ShowsEntries};
 
 use crate::engines::profile::profile_of;
 use crate::engines::recording::entries_of;
@@ -66,7 +64,7 @@ fn put_entry<W: Write>(
     profile: &Profile,
     entry: &Entry,
 ) -> Result<(), Device>
-    ensures ok { OnOk result ((line : List ℕ) × IsShowLine profile.now entry.now line × PutsOn W.contents out.old page.old out.new page.new line) }
+    ensures ok { OnOk result (PutsSome W.contents out.old page.old out.new page.new (IsShowLine profile.now entry.now)) }
     ensures device { IsErr result → has_failed out.new ≡ true }
 {
     put_recorded(page, out, entry)?;
@@ -102,7 +100,7 @@ fn fields(word: Word) -> [u8; 8]
 
 fn put_shown<W: Write>(page: &mut Page, out: &mut Tally<W>, shown: &Shown<'_>) -> Result<(), Device>
     requires { HasItsRanges shown.now }
-    ensures ok { OnOk result ((text : List ℕ) × IsShownText shown.now text × PutsOn W.contents out.old page.old out.new page.new text) }
+    ensures ok { OnOk result (PutsSome W.contents out.old page.old out.new page.new (IsShownText shown.now)) }
     ensures device { IsErr result → has_failed out.new ≡ true }
 {
     match shown {
@@ -148,7 +146,7 @@ fn put_bad_digit<W: Write>(
     entry: &LabelEntry,
     place: u8,
 ) -> Result<(), Device>
-    ensures ok { OnOk result (PutsOn W.contents out.old page.old out.new page.new (entry.now.name ++ codes " bad digit " ++ decimal place)) }
+    ensures ok { OnOk result (PutsOn W.contents out.old page.old out.new page.new (bad_digit_text entry.now place)) }
     ensures device { IsErr result → has_failed out.new ≡ true }
 {
     page.put(out, entry.name.as_str().as_bytes())?;
@@ -164,8 +162,7 @@ fn put_value<W: Write>(
     is_test: bool,
 ) -> Result<(), Device>
     requires { value.now.decimals ≤ 24 }
-    ensures ok { OnOk result ((digits : List ℕ) × SpellsFraction digits value.now.number value.now.decimals
-        × PutsOn W.contents out.old page.old out.new page.new (entry.now.name ++ codes " " ++ digits ++ unit_text entry.now.unit ++ test_text is_test)) }
+    ensures ok { OnOk result (PutsSome W.contents out.old page.old out.new page.new (IsValueText entry.now value.now is_test)) }
     ensures device { IsErr result → has_failed out.new ≡ true }
 {
     page.put(out, entry.name.as_str().as_bytes())?;
@@ -206,7 +203,7 @@ fn put_bits<W: Write>(
     is_test: bool,
 ) -> Result<(), Device>
     requires { IsKindInRange entry.now.kind }
-    ensures ok { OnOk result (PutsOn W.contents out.old page.old out.new page.new (entry.now.name ++ flags_text field entry.now.kind ++ test_text is_test)) }
+    ensures ok { OnOk result (PutsOn W.contents out.old page.old out.new page.new (field_text entry.now field is_test)) }
     ensures device { IsErr result → has_failed out.new ≡ true }
 {
     page.put(out, entry.name.as_str().as_bytes())?;

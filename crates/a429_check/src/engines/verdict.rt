@@ -3,7 +3,7 @@
 ghost use Rattle.std.specs.Prelude.{◌≡◌, ◌↔◌, ◌≢◌, true, false, Err, codes, ◌++◌, IsErr, IfOk, IfErr, OnOk};
 ghost use Rattle.std.specs.List.{flat_map};
 ghost use Rattle.a429_word.specs.Tally.{has_failed, unread, Puts};
-ghost use Rattle.a429_check.specs.Verdict.{file_line, yes_text, no_text, IsAnswer, PutsVerdict, IsVerifyFault, LeavesFault, AllWork, IsSilent};
+ghost use Rattle.a429_check.specs.Verdict.{file_line, yes_text, no_text, IsAnswer, PutsVerdict, LeavesReadFault, LeavesFault, AllWork, IsSilent};
 ghost use Rattle.a429_check.specs.Recording.{SayInput};
 ghost use Rattle.std.specs.Fmt.{decimal};
 
@@ -69,7 +69,7 @@ fn answer_of<R: Read, C: Read>(
     ensures says { OnOk result (SayInput profile.now (unread R.remaining rec.old)) }
     ensures verdict { IfOk result (λ a. a ≢ Err CertFault.OutOfMemory) }
     ensures device { OnOk result ((has_failed rec.new ≡ false) × (has_failed certificate.new ≡ false)) }
-    ensures err { IfErr result (IsVerifyFault profile.now (unread R.remaining rec.old) (has_failed rec.new) (has_failed certificate.new) false) }
+    ensures err { IfErr result (LeavesReadFault profile.now (unread R.remaining rec.old) rec.new certificate.new) }
 {
     let profile = profile_of(alloc, profile)?;
     let entries = entries_of(alloc, rec)?;

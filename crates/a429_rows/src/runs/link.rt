@@ -79,7 +79,7 @@ impl<'a> Pair<'a> {
     // The observer allows what the step records.
     fn allows(&mut self, made: Move) -> bool {
         match made.recorded() {
-            Some(seen) => self.observer.see(self.profile, seen),
+            Some(seen) => self.observer.see(self.profile, seen).is_ok(),
             None => true,
         }
     }

@@ -4,15 +4,14 @@ use Rattle.a429_link.specs.Link.{LinkValue}
 use Rattle.a429_cert.specs.Explained.{items_of, IsExplained}
 use Rattle.a429_explain.specs.Attempts.{roles}
 use Rattle.a429_explain.specs.Heard.{HeardValue, forms_of}
-use Rattle.a429_explain.specs.Crossed.{first_file_of}
-use Rattle.a429_explain.specs.Scribe.{HasWritten}
-use Rattle.a429_explain.specs.Units.{AreUnits}
+use Rattle.a429_explain.specs.Guess.{first_file_of}
+use Rattle.a429_explain.specs.Scribe.{AreUnits, HasWritten}
 use Rattle.a429_explain.proofs.GroupsFacts.{no_doubt, first_stop, step_stop}
 use Rattle.a429_explain.proofs.MatchingFacts.{length-items_of}
 use Rattle.a429_explain.proofs.ScribeWithoutLoss.{Goes, entries_next, entry_next, goes_run, plan_kept}
 use Rattle.a429_explain.proofs.AttemptsFacts.{length-roles}
 use Rattle.a429_explain.proofs.ScribeFacts.{certificate_written}
-use Rattle.a429_explain.proofs.WithoutLoss.{its_units, units_fit, units_found, plan_begun, stop_fits}
+use Rattle.a429_explain.proofs.WithoutLoss.{its_units, units_found, plan_begun, stop_fits}
 use Rattle.a429_explain.proofs.guess.certificate_of.Goals as goal
 use Rattle.a429_explain.proofs.guess.certificate_of.Goals.{After-first_file-first}
 
@@ -21,31 +20,31 @@ returns-in-Err-clause-clean c = λ h.
     let p = c.args.profile.now in
     let items = items_of c.args.entries.now in
     let is = c.codes-codes.ensures.sound in
-    let heard = c.in-Ok.ensures in
+    let heard = c.requires in
     let first = c.first_file-first.ensures ∙ ap (λ (v : HeardValue). first_file_of (forms_of v.profile.codes v.items)) heard in
-    (rw heard at c.in-Err.ensures.clean_err) (its_units p items h) (units_fit p is items h) (units_found p is items h c.first_file-first.result first)
+    (rw heard at c.in-Err.ensures.clean_err) (its_units p items h) (units_found p is items h c.first_file-first.result first)
 
 -- the roles are those of the recording's words, and the first file has the number of the first start word
-roles_are : (a : After-first_file-first) → a.in-Ok-roles.roles.items ≡ roles (forms_of a.args.profile.now.codes (items_of a.args.entries.now))
-roles_are a = a.in-Ok-roles.ensures ∙ ap (λ (v : HeardValue). roles (forms_of v.profile.codes v.items)) a.in-Ok.ensures
+roles_are : (a : After-first_file-first) → a.in-Ok.roles.items ≡ roles (forms_of a.args.profile.now.codes (items_of a.args.entries.now))
+roles_are a = a.in-Ok.ensures ∙ ap (λ (v : HeardValue). roles (forms_of v.profile.codes v.items)) a.requires
 
 first_is : (a : After-first_file-first) → a.first_file-first.result ≡ first_file_of (forms_of a.args.profile.now.codes (items_of a.args.entries.now))
-first_is a = a.first_file-first.ensures ∙ ap (λ (v : HeardValue). first_file_of (forms_of v.profile.codes v.items)) a.in-Ok.ensures
+first_is a = a.first_file-first.ensures ∙ ap (λ (v : HeardValue). first_file_of (forms_of v.profile.codes v.items)) a.requires
 
 pub returns-in-Err-clause-first : goal.returns-in-Err-clause-first
 returns-in-Err-clause-first c =
     let a = (goal.at.returns-in-Err-clause-first c).After-first_file-first in
-    first_stop c.args.profile.now (items_of c.args.entries.now) c.as_slice.result.now c.first_file-first.result c.in-Err.stop (c.as_slice.ensures.value ∙ roles_are a) (first_is a) (rw c.in-Ok.ensures at c.in-Err.ensures.first)
+    first_stop c.args.profile.now (items_of c.args.entries.now) c.as_slice.result.now c.first_file-first.result c.in-Err.stop (c.as_slice.ensures.value ∙ roles_are a) (first_is a) (rw c.requires at c.in-Err.ensures.first)
 
 pub returns-in-Err-write_entry-clause-first : goal.returns-in-Err-write_entry-clause-first
 returns-in-Err-write_entry-clause-first c =
     let a = (goal.at.returns-in-Err-write_entry-clause-first c).After-first_file-first in
-    step_stop c.args.profile.now (items_of c.args.entries.now) c.loop-at.at c.in-Err-write_entry.fault c.stopped_at.result c.stopped_at.ensures.memory c.stopped_at.ensures.step (no_doubt c.args.profile.now (items_of c.args.entries.now) c.as_slice.result.now c.first_file-first.result c.in-Ok-units_of.units.items (c.as_slice.ensures.value ∙ roles_are a) (first_is a) (rw c.in-Ok.ensures at c.in-Ok-units_of.ensures.groups))
+    step_stop c.args.profile.now (items_of c.args.entries.now) c.loop-at.at c.in-Err-write_entry.fault c.stopped_at.result c.stopped_at.ensures.memory c.stopped_at.ensures.step (no_doubt c.args.profile.now (items_of c.args.entries.now) c.as_slice.result.now c.first_file-first.result c.in-Ok-units_of.units.items (c.as_slice.ensures.value ∙ roles_are a) (first_is a) (rw c.requires at c.in-Ok-units_of.ensures.groups))
 
 pub returns-clause-groups : goal.returns-clause-groups
 returns-clause-groups c =
     let a = (goal.at.returns-clause-groups c).After-first_file-first in
-    no_doubt c.args.profile.now (items_of c.args.entries.now) c.as_slice.result.now c.first_file-first.result c.in-Ok-units_of.units.items (c.as_slice.ensures.value ∙ roles_are a) (first_is a) (rw c.in-Ok.ensures at c.in-Ok-units_of.ensures.groups)
+    no_doubt c.args.profile.now (items_of c.args.entries.now) c.as_slice.result.now c.first_file-first.result c.in-Ok-units_of.units.items (c.as_slice.ensures.value ∙ roles_are a) (first_is a) (rw c.requires at c.in-Ok-units_of.ensures.groups)
 
 pub loop-at-init : goal.loop-at-init
 loop-at-init c =
@@ -53,21 +52,21 @@ loop-at-init c =
     let items = items_of c.args.entries.now in
     let is = c.codes-codes.ensures.sound in
     let written = c.in-Ok-new.ensures.written in
-    let first = c.first_file-first.ensures ∙ ap (λ (v : HeardValue). first_file_of (forms_of v.profile.codes v.items)) c.in-Ok.ensures in
-    let are = c.in-Ok-roles.ensures ∙ ap (λ (v : HeardValue). roles (forms_of v.profile.codes v.items)) c.in-Ok.ensures in
+    let first = c.first_file-first.ensures ∙ ap (λ (v : HeardValue). first_file_of (forms_of v.profile.codes v.items)) c.requires in
+    let are = c.in-Ok.ensures ∙ ap (λ (v : HeardValue). roles (forms_of v.profile.codes v.items)) c.requires in
     record {
       profile = ap {A = LinkValue} (λ l. l.profile) c.in-Ok-new.ensures.start;
       roles = are;
       many = ap length are ∙ length-roles p.codes items ∙ length-items_of c.args.entries.now;
-      units = rw c.in-Ok.ensures at c.in-Ok-units_of.ensures.units;
+      units = rw c.requires at c.in-Ok-units_of.ensures.units;
       written = written;
-      plan = λ h. plan_begun p is items h c.first_file-first.result c.in-Ok-units_of.units.items c.in-Ok-new.scribe.is_loaded c.in-Ok-new.scribe.link written.byte first ((rw c.in-Ok.ensures at c.in-Ok-units_of.ensures.clean) (its_units p items h) (units_fit p is items h) (units_found p is items h c.first_file-first.result first)) c.in-Ok-new.ensures.loaded c.in-Ok-new.ensures.start;
+      plan = λ h. plan_begun p is items h c.first_file-first.result c.in-Ok-units_of.units.items c.in-Ok-new.scribe.is_loaded c.in-Ok-new.scribe.link written.byte first ((rw c.requires at c.in-Ok-units_of.ensures.clean) (its_units p items h) (units_found p is items h c.first_file-first.result first)) c.in-Ok-new.ensures.loaded c.in-Ok-new.ensures.start;
     }
 
 pub returns-in-Err-write_entry-clause-clean : goal.returns-in-Err-write_entry-clause-clean
 returns-in-Err-write_entry-clause-clean c = λ h.
-    let goes = subst (λ (i : Seen). Goes c.args.profile.now i (drop (c.loop-at.at + 1) (items_of c.args.entries.now)) c.index.result.now c.loop-at.units.items c.loop-at.scribe.is_loaded c.loop-at.scribe.link) (sym c.seen.ensures) (entry_next c.args.profile.now c.args.entries.now c.loop-at.at c.index-entries-at.result c.index.result.now c.in-Ok-roles.roles.items c.loop-at.units.items c.loop-at.scribe.is_loaded c.loop-at.scribe.link c.loop-at-test.true c.index-entries-at.is c.loop-at.invariant.roles c.index.ensures (c.loop-at.invariant.plan h)) in
-    c.stopped_at.ensures.memory (c.in-Err-write_entry.ensures.lossless goes.lossless (goes_run c.args.profile.now c.seen.result (drop (c.loop-at.at + 1) (items_of c.args.entries.now)) c.index.result.now c.loop-at.units.items c.loop-at.scribe.is_loaded c.loop-at.scribe.link c.loop-at.invariant.profile goes))
+    let goes = subst (λ (i : Seen). Goes c.args.profile.now i (drop (c.loop-at.at + 1) (items_of c.args.entries.now)) c.index.result.now c.loop-at.units.items c.loop-at.scribe.is_loaded c.loop-at.scribe.link) (sym c.seen.ensures) (entry_next c.args.profile.now c.args.entries.now c.loop-at.at c.index-entries-at.result c.index.result.now c.in-Ok.roles.items c.loop-at.units.items c.loop-at.scribe.is_loaded c.loop-at.scribe.link c.loop-at-test.true c.index-entries-at.is c.loop-at.invariant.roles c.index.ensures (c.loop-at.invariant.plan h)) in
+    c.stopped_at.ensures.memory (c.in-Err-write_entry.ensures.lossless goes.lossless (goes_run c.args.profile.now c.seen.result (drop (c.loop-at.at + 1) (items_of c.args.entries.now)) c.index.result.now c.loop-at.units.items c.loop-at.scribe.is_loaded c.loop-at.scribe.link c.loop-at.invariant.profile goes)).0
 
 pub returns-in-Err-write_entry-clause-fits : goal.returns-in-Err-write_entry-clause-fits
 returns-in-Err-write_entry-clause-fits c = stop_fits c.args.profile.now.codes (items_of c.args.entries.now) c.loop-at.at c.in-Err-write_entry.fault c.stopped_at.result (omega (arith, c.loop-at-test.true, length-items_of c.args.entries.now)) c.stopped_at.ensures.memory c.stopped_at.ensures.step
@@ -82,8 +81,8 @@ loop-at-preserved c =
       units = subst (λ q. AreUnits q c.write_entry.new.units.items) c.loop-at.invariant.profile c.in-Ok-write_entry.ensures.units;
       written = subst (λ (items : List Seen). HasWritten c.first_file-first.result items c.write_entry.new.self.text.items c.write_entry.new.self.link) (ap (λ (i : Seen). take c.loop-at.at (items_of es) ++ i ∷ []) c.seen.ensures ∙ entries_next es c.loop-at.at c.index-entries-at.result c.loop-at-test.true c.index-entries-at.is) (c.in-Ok-write_entry.ensures.written c.first_file-first.result (take c.loop-at.at (items_of es)) c.loop-at.invariant.written);
       plan = λ h.
-          let goes = subst (λ (i : Seen). Goes c.args.profile.now i (drop (c.loop-at.at + 1) (items_of c.args.entries.now)) c.index.result.now c.loop-at.units.items c.loop-at.scribe.is_loaded c.loop-at.scribe.link) (sym c.seen.ensures) (entry_next c.args.profile.now c.args.entries.now c.loop-at.at c.index-entries-at.result c.index.result.now c.in-Ok-roles.roles.items c.loop-at.units.items c.loop-at.scribe.is_loaded c.loop-at.scribe.link c.loop-at-test.true c.index-entries-at.is c.loop-at.invariant.roles c.index.ensures (c.loop-at.invariant.plan h)) in
-          plan_kept c.args.profile.now c.seen.result (drop (c.loop-at.at + 1) (items_of es)) c.index.result.now c.loop-at.units.items c.write_entry.new.units.items c.loop-at.scribe.is_loaded c.write_entry.new.self.is_loaded c.loop-at.scribe.link c.write_entry.new.self.link goes (c.in-Ok-write_entry.ensures.left goes.lossless) (c.in-Ok-write_entry.ensures.loaded goes.lossless) (c.in-Ok-write_entry.ensures.reached goes.lossless (goes_run c.args.profile.now c.seen.result (drop (c.loop-at.at + 1) (items_of c.args.entries.now)) c.index.result.now c.loop-at.units.items c.loop-at.scribe.is_loaded c.loop-at.scribe.link c.loop-at.invariant.profile goes));
+          let goes = subst (λ (i : Seen). Goes c.args.profile.now i (drop (c.loop-at.at + 1) (items_of c.args.entries.now)) c.index.result.now c.loop-at.units.items c.loop-at.scribe.is_loaded c.loop-at.scribe.link) (sym c.seen.ensures) (entry_next c.args.profile.now c.args.entries.now c.loop-at.at c.index-entries-at.result c.index.result.now c.in-Ok.roles.items c.loop-at.units.items c.loop-at.scribe.is_loaded c.loop-at.scribe.link c.loop-at-test.true c.index-entries-at.is c.loop-at.invariant.roles c.index.ensures (c.loop-at.invariant.plan h)) in
+          plan_kept c.args.profile.now c.seen.result (drop (c.loop-at.at + 1) (items_of es)) c.index.result.now c.loop-at.units.items c.write_entry.new.units.items c.loop-at.scribe.is_loaded c.write_entry.new.self.is_loaded c.loop-at.scribe.link c.write_entry.new.self.link goes c.in-Ok-write_entry.ensures.left c.in-Ok-write_entry.ensures.loaded (c.in-Ok-write_entry.ensures.lossless goes.lossless (goes_run c.args.profile.now c.seen.result (drop (c.loop-at.at + 1) (items_of c.args.entries.now)) c.index.result.now c.loop-at.units.items c.loop-at.scribe.is_loaded c.loop-at.scribe.link c.loop-at.invariant.profile goes)).1;
     }
 
 pub returns-clause-explained : goal.returns-clause-explained

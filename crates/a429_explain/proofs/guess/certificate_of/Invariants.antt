@@ -2,8 +2,7 @@ use Rattle.std.proofs.Common.{◌≡◌, length, take, drop}
 use Rattle.a429_cert.specs.Explained.{items_of}
 use Rattle.a429_explain.specs.Attempts.{roles}
 use Rattle.a429_explain.specs.Heard.{forms_of}
-use Rattle.a429_explain.specs.Scribe.{HasWritten}
-use Rattle.a429_explain.specs.Units.{AreUnits}
+use Rattle.a429_explain.specs.Scribe.{AreUnits, HasWritten}
 use Rattle.a429_explain.specs.WithoutLoss.{IsWithoutLoss}
 use Rattle.a429_explain.proofs.ScribeWithoutLoss.{OnPlan}
 use Rattle.a429_explain.proofs.guess.certificate_of.Given as goal

@@ -1,6 +1,6 @@
 use Rattle.std.proofs.Common.{◌+◌, drop, sym, ap, ◌∙◌}
 use Rattle.a429_explain.specs.Attempts.{next_start}
-use Rattle.a429_explain.specs.Crossed.{file_of}
+use Rattle.a429_explain.specs.Guess.{file_of}
 use Rattle.a429_explain.specs.Heard.{forms_of}
 use Rattle.a429_explain.proofs.HeardFacts.{forms_from}
 use Rattle.a429_explain.proofs.AttemptsFacts.{start_here, start_past}

@@ -1,4 +1,4 @@
-use Rattle.std.proofs.Common.{◌≡◌, ◌-◌, Option, ℕ, Some, None, refl, sym, ap, ◌∙◌, arith}
+use Rattle.std.proofs.Common.{◌≡◌, ◌-◌, Some, None, refl, sym, ap, ◌∙◌, arith}
 use Rattle.a429_profile.specs.Profile.{Contents}
 use Rattle.a429_ldu.specs.Ldu.{count_of}
 use Rattle.a429_explain.specs.Matching.{is_word, passed_with, passing_as}

@@ -1,29 +1,59 @@
-use Rattle.std.proofs.Common.{ℕ, ◌+◌, subst, take, arith}
-use Rattle.a429_link.specs.Run.{BeginsARun}
+use Rattle.std.proofs.Common.{◌≡◌, ◌+◌, Some, slice_get, refl, sym, ap, ◌∙◌, subst, arith}
+use Rattle.a429_ldu.specs.declared.sight.Sight.{Sight}
+use Rattle.a429_ldu.specs.Sight.{sight_in}
+use Rattle.a429_link.specs.Observer.{Allows}
 use Rattle.a429_cert.specs.Explained.{items_of}
-use Rattle.a429_explain.proofs.WalkFacts.{formed, not_both, seen_is, is_refused, walks_on, fits_at, next_is}
+use Rattle.a429_explain.specs.Walk.{FitsSight, IsRefusable}
+use Rattle.a429_explain.proofs.MatchingFacts.{length-items_of}
+use Rattle.a429_explain.proofs.WalkFacts.{IsAllowedAt, formed, form_told, is_refusal, item_at, refusable, walked, walks_on}
 use Rattle.a429_explain.proofs.WithoutLoss.{begins}
 use Rattle.a429_explain.proofs.walk.walk.Goals as goal
+use Rattle.a429_explain.proofs.walk.walk.Goals.{After-form, After-seen}
 
-pub returns-then-not-see-clause-refused : goal.returns-then-not-see-clause-refused
-returns-then-not-see-clause-refused c = record {
-  before = c.loop-n.invariant.allowed;
-  refused = is_refused c.args.profile.now c.args.entries.now c.loop-n.n c.index-entries-n.result c.loop-n.observer _ c.loop-n-test.true (seen_is c.args.entries.now c.loop-n.n c.index-entries-n.result c.index-entries-n.is) c.loop-n.invariant (λ a. not_both c.see.result c.if-not-see.true (c.see.ensures.answer.1 a));
-}
+-- the word of the entry
+item : (a : After-seen) → slice_get (items_of a.args.entries.now) a.loop-entry.entry ≡ Some a.seen.result
+item a = item_at a.args.entries.now a.loop-entry.entry a.index-entries-entry.result a.seen.result a.loop-entry-test.true a.index-entries-entry.is a.seen.ensures
 
-pub returns-then-not-see-clause-impossible : goal.returns-then-not-see-clause-impossible
-returns-then-not-see-clause-impossible c =
-    let refused = (returns-then-not-see-clause-refused c).refused in
-    λ begins. c.refused_is_impossible.ensures c.args.profile.now (items_of c.args.entries.now) c.loop-n.n c.codes-codes.ensures.sound refused (subst (λ (k : ℕ). BeginsARun c.args.profile.now (take k (items_of c.args.entries.now))) (next_is c.loop-n.n) begins)
+-- what is refused, and its form
+refused : (a : After-form) → Allows a.args.profile.now a.loop-entry.observer a.seen.result → ⊥
+refused a h = cc (a.in-Err.ensures.allowed.1 h)
 
-pub returns-then-not-see-clause-fits : goal.returns-then-not-see-clause-fits
-returns-then-not-see-clause-fits c = fits_at c.args.profile.now.codes c.args.entries.now c.loop-n.n c.index-entries-n.result c.reason_of-reason.result c.loop-n-test.true c.index-entries-n.is c.reason_of-reason.ensures
+may_be : (a : After-form) → IsRefusable a.in-Err.sight
+may_be a = refusable a.args.profile.now a.codes-codes.ensures.sound a.loop-entry.observer a.seen.result a.in-Err.sight a.in-Err.ensures.err (refused a)
 
-pub loop-n-preserved : goal.loop-n-preserved
-loop-n-preserved c = walks_on c.args.profile.now c.args.entries.now c.loop-n.n c.index-entries-n.result c.loop-n.observer c.see.new.self _ c.loop-n-test.true (seen_is c.args.entries.now c.loop-n.n c.index-entries-n.result c.index-entries-n.is) c.loop-n.invariant (c.see.ensures.answer.0 c.if-not-see.false) (c.see.ensures.taken c.if-not-see.false)
+told : (a : After-form) → sight_in a.form.result ≡ a.in-Err.sight
+told a = ap sight_in a.form.ensures ∙ form_told a.in-Err.sight (may_be a)
+
+pub reason_of-reason-requires : goal.reason_of-reason-requires
+reason_of-reason-requires c =
+    let a = (goal.at.reason_of-reason-requires c).After-form in
+    subst IsRefusable (sym (told a)) (may_be a)
+
+pub returns-in-Err-clause-halt : goal.returns-in-Err-clause-halt
+returns-in-Err-clause-halt c =
+    let a = (goal.at.returns-in-Err-clause-halt c).After-form in
+    let p = c.args.profile.now in
+    let items = items_of c.args.entries.now in
+    let n = c.loop-entry.entry in
+    let fits = subst (λ (s : Sight). FitsSight s c.reason_of-reason.result) (told a) c.reason_of-reason.ensures in
+    is_refusal p items n c.loop-entry.observer c.loop-entry.sights.items c.seen.result c.in-Err.sight c.reason_of-reason.result (c.refused_is_impossible.ensures p items n c.codes-codes.ensures.sound) (item (goal.at.returns-in-Err-clause-halt c).After-seen) c.in-Err.ensures.err fits (refused a) c.loop-entry.invariant
+
+pub returns-in-Err-clause-without_loss : goal.returns-in-Err-clause-without_loss
+returns-in-Err-clause-without_loss c = λ h. absurd ((returns-in-Err-clause-halt c).impossible (begins c.args.profile.now c.codes-codes.ensures.sound (items_of c.args.entries.now) (c.loop-entry.entry + 1) h))
+
+pub loop-entry-preserved : goal.loop-entry-preserved
+loop-entry-preserved c =
+    let may : IsAllowedAt c.args.profile.now (items_of c.args.entries.now) c.loop-entry.entry c.loop-entry.observer c.seen.result c.in-Ok-see.sight = record {
+      item = item (goal.at.loop-entry-preserved c).After-seen;
+      sight = c.in-Ok-see.ensures.ok;
+      allowed = c.in-Ok-see.ensures.allowed.0 refl;
+    } in
+    walks_on c.args.profile.now (items_of c.args.entries.now) c.loop-entry.entry c.loop-entry.observer c.see.new.self c.loop-entry.sights.items c.push.new.self.items c.seen.result c.in-Ok-see.sight c.loop-entry.invariant may c.in-Ok-see.ensures.taken c.in-Ok-push.ensures.items
+
+pub returns-clause-allowed : goal.returns-clause-allowed
+returns-clause-allowed c =
+    let items = items_of c.args.entries.now in
+    (walked c.args.profile.now items c.loop-entry.entry c.loop-entry.observer c.loop-entry.sights.items (omega (arith, c.loop-entry-test.false, length-items_of c.args.entries.now)) c.loop-entry.invariant).0
 
 pub returns-clause-formed : goal.returns-clause-formed
-returns-clause-formed c = λ none bad. formed c.args.profile.now c.args.entries.now (λ k l. c.loop-n.invariant.allowed k (omega (arith, l, c.loop-n-test.false))) bad
-
-pub returns-then-not-see-clause-without_loss : goal.returns-then-not-see-clause-without_loss
-returns-then-not-see-clause-without_loss c = λ h. absurd (returns-then-not-see-clause-impossible c (begins c.args.profile.now c.codes-codes.ensures.sound (items_of c.args.entries.now) (c.loop-n.n + 1) h))
+returns-clause-formed c = formed c.args.profile.now (items_of c.args.entries.now) (returns-clause-allowed c)

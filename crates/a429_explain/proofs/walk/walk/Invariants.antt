@@ -1,5 +1,6 @@
+use Rattle.a429_cert.specs.Explained.{items_of}
 use Rattle.a429_explain.proofs.WalkFacts.{Walks}
 use Rattle.a429_explain.proofs.walk.walk.Given as goal
 
-abbrev pub invariant-loop-n : goal.invariant-loop-n
-invariant-loop-n l = Walks l.profile l.entries l.n l.observer
+abbrev pub invariant-loop-entry : goal.invariant-loop-entry
+invariant-loop-entry l = Walks l.profile (items_of l.entries) l.entry l.observer l.sights.items

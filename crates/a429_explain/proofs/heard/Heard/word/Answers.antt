@@ -13,9 +13,9 @@ returns-clause-is c =
     let codes = c.self.inside.profile.now.codes in
     let es = c.self.inside.entries.now in
     let inside : c.args.at < length (items_of es) = subst (λ (h : HeardValue). c.args.at < length h.items) (sym c.self.view_is) c.requires in
-    let w : HeardWord = record { word = (get_or es c.args.at c.index-self-at.result).word; form = c.form_in.result } in
+    let w : HeardWord = record { word = (get_or es c.args.at c.index-self-at.result).word; form = c.form.result } in
     let sight = sight_here codes (items_of es) c.self.inside.sights.items c.args.at c.index.result.now c.self.invariant inside c.index.ensures in
-    subst (λ (h : HeardValue). IsHeardAt h.profile.codes h.items c.args.at w) c.self.view_is (heard_here codes es c.args.at c.index-self-at.result c.index.result.now w (omega (arith, inside, length-items_of es)) c.index-self-at.is sight c.form_in.ensures (ap (λ (x : Entry). x.word) (sym c.index-self-at.is)))
+    subst (λ (h : HeardValue). IsHeardAt h.profile.codes h.items c.args.at w) c.self.view_is (heard_here codes es c.args.at c.index-self-at.result c.index.result.now w (omega (arith, inside, length-items_of es)) c.index-self-at.is sight c.form.ensures (ap (λ (x : Entry). x.word) (sym c.index-self-at.is)))
 
 pub returns-clause-range : goal.returns-clause-range
 returns-clause-range c = heard_range c.args.self.now.profile (subst (λ (h : HeardValue). IsProfile h.profile) c.self.view_is c.codes-codes.ensures.sound) c.args.self.now.items c.args.at _ (returns-clause-is c)

@@ -1,0 +1,36 @@
+-- The lines of a certificate that is read as it comes (profile).
+use Rattle.std.specs.Prelude.{◌≡◌, ℕ, List, [], ◌∷◌, ◌++◌, length, drop, Bool, true, false, nat_le, if◌then◌else◌, Option, Some, None, option_and_then, option_map, slice_get, ⊤}
+use Rattle.memchr.specs.Find.{Nowhere, Passes, is_byte}
+use Rattle.a429_cert.specs.Lines.{certificate_lines}
+
+-- no byte of the text is a line feed
+abbrev pub HasNoEnd : List ℕ → Type 0
+HasNoEnd text = Nowhere (Passes (is_byte 10) text) 0 (length text)
+
+-- bytes begin with this line and its line feed, and these are behind it, whatever comes behind both
+abbrev pub BeginsWith : List ℕ → Option (List ℕ) → List ℕ → Type 0
+BeginsWith bytes line behind = (more : List ℕ) → certificate_lines (bytes ++ more) ≡ line ∷ certificate_lines (behind ++ more)
+
+-- a text of at most 2,287 bytes, and none for a longer one (profile)
+abbrev pub when_short : List ℕ → Option (List ℕ)
+when_short text = if nat_le (length text) 2287 then Some text else None
+
+-- a line as it is handed out: one of more than 2,287 bytes is not read to its end (profile)
+abbrev pub cut : Option (List ℕ) → Option (List ℕ)
+cut line = option_and_then when_short line
+
+-- what is still to come behind a line that was handed out: an unended one stays where it is
+abbrev pub StandsBehind : Option (List ℕ) → List ℕ → List ℕ → Type 0
+StandsBehind (Some line) old new = certificate_lines new ≡ drop 1 (certificate_lines old)
+StandsBehind None old new = new ≡ old
+
+-- the answer whether a line was handed out: it is the first of those to come, and there was none where nothing was to come
+abbrev pub IsFirstLine : Bool → List ℕ → List ℕ → Option (List ℕ) → Type 0
+IsFirstLine true old new line = (option_map cut (slice_get (certificate_lines old) 0) ≡ Some line) × StandsBehind line old new
+IsFirstLine false old new line = certificate_lines old ≡ []
+
+-- the same of the bytes still to come, where they are known
+abbrev pub HandsOut : Option (List ℕ) → Option (List ℕ) → Option (List ℕ) → Bool → Type 0
+HandsOut None new line found = ⊤
+HandsOut (Some xs) None line found = ⊥
+HandsOut (Some xs) (Some ys) line found = IsFirstLine found xs ys line

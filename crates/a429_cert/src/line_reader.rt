@@ -1,0 +1,126 @@
+//! The lines of a certificate that is read as it comes, by a buffer of a fixed size.
+
+ghost use Rattle.std.specs.Prelude.{◌≡◌, ◌⊎◌, ◌<◌, ◌≤◌, [], None, true, false, length, IsErr, IsSome, IfOk, OnOk};
+ghost use Rattle.std.specs.Io.KnownBytes.{Keeps, IsAtEnd};
+ghost use Rattle.a429_word.specs.Tally.{left_of, has_failed, unread};
+ghost use Rattle.a429_cert.specs.Lines.{line_bytes};
+ghost use Rattle.a429_cert.specs.CutLines.{BeginsWith, HasNoEnd, cut};
+
+use crate::lines::TextLine;
+use a429_word::{Device, Tally};
+use memchr::memchr;
+use std::io::Read;
+
+// The 2,287 bytes of the longest line, and its line feed.
+const ROOM: usize = 2288;
+
+/// What was read of a certificate: the line that was handed out last, with its line feed, from `at` to
+/// `next`, and what is ahead of it, from `next` to `filled`. Both are empty at first.
+#[derive(Drop)]
+pub struct LineReader {
+    buffer: [u8; ROOM],
+    at: usize,
+    next: usize,
+    filled: usize,
+    ghost begun: { at ≤ next },
+    ghost ordered: { next ≤ filled },
+    ghost in_range: { filled ≤ 2288 },
+}
+
+impl LineReader {
+    ghost use Rattle.a429_cert.specs.LineReader.{ahead_of, held_line, to_come, room_of, HandsOutLine};
+
+    /// Nothing was read.
+    pub fn new() -> LineReader
+        ensures { ahead_of result ≡ [] }
+    {
+        LineReader {
+            buffer: [0; ROOM],
+            at: 0,
+            next: 0,
+            filled: 0,
+        }
+    }
+
+    /// The line that was handed out last. It is unended where the text ends in it, and where it has more
+    /// than 2,287 bytes.
+    pub fn line(&self) -> TextLine<'_>
+        ensures { line_bytes result ≡ held_line self.now }
+    {
+        if self.at < self.next {
+            TextLine::Ended(&self.buffer[self.at..self.next - 1])
+        } else {
+            TextLine::Unended
+        }
+    }
+
+    /// Hands out the next line of a certificate, and answers whether there was one. An unended line stays
+    /// where it is. Of a line without a line feed no more than 2,288 bytes are read.
+    pub fn next_line<R: Read>(&mut self, cert: &mut Tally<R>) -> Result<bool, Device>
+        ensures given { IfOk result (HandsOutLine R.remaining self.old cert.old self.new cert.new) }
+        ensures shorter { OnOk result (IsSome (held_line self.new) → room_of self.new cert.new < room_of self.old cert.old) }
+        ensures device { IsErr result → has_failed cert.new ≡ true }
+        ensures stays { has_failed cert.old ≡ true → has_failed cert.new ≡ true }
+    {
+        'reads: loop {
+            if self.take_line() {
+                return Ok(true);
+            }
+            if !self.read_on(cert)? {
+                return Ok(!self.buffer[self.next..self.filled].is_empty());
+            }
+        }
+    }
+
+    // Hands out the next line, where its line feed was read.
+    fn take_line(&mut self) -> bool
+        ensures yes { result ≡ true → BeginsWith (ahead_of self.old) (held_line self.new) (ahead_of self.new) }
+        ensures line { result ≡ true → IsSome (held_line self.new) × (cut (held_line self.new) ≡ held_line self.new) }
+        ensures short { result ≡ true → length (ahead_of self.new) < length (ahead_of self.old) }
+        ensures no { result ≡ false → HasNoEnd (ahead_of self.old) }
+        ensures same { result ≡ false → ahead_of self.new ≡ ahead_of self.old }
+    {
+        self.at = self.next;
+        match memchr(b'\n', &self.buffer[self.next..self.filled]) {
+            Some(len) => {
+                self.next += len + 1;
+                true
+            }
+            None => false,
+        }
+    }
+
+    // Reads on behind what is ahead, and answers whether something came: at the certificate's end, and
+    // where there is no room, nothing does.
+    fn read_on<R: Read>(&mut self, cert: &mut Tally<R>) -> Result<bool, Device>
+        ensures line { held_line self.new ≡ None }
+        ensures keeps { OnOk result (Keeps (to_come R.remaining self.old cert.old) (to_come R.remaining self.new cert.new)) }
+        ensures same { IfOk result (λ more. more ≡ false → ahead_of self.new ≡ ahead_of self.old) }
+        ensures end { IfOk result (λ more. more ≡ false → (2288 ≤ length (ahead_of self.new)) ⊎ IsAtEnd (unread R.remaining cert.new)) }
+        ensures left { IfOk result (λ more. more ≡ true → left_of cert.new < left_of cert.old) }
+        ensures room { OnOk result (room_of self.new cert.new ≡ room_of self.old cert.old) }
+        ensures device { IsErr result → has_failed cert.new ≡ true }
+        ensures stays { has_failed cert.old ≡ true → has_failed cert.new ≡ true }
+    {
+        self.make_room();
+        if self.filled == ROOM {
+            return Ok(false);
+        }
+        let n = cert.pull(&mut self.buffer[self.filled..])?;
+        self.filled += n;
+        Ok(n > 0)
+    }
+
+    // Forgets the line that was handed out, and moves what is ahead of it to the front.
+    fn make_room(&mut self)
+        ensures ahead { ahead_of self.new ≡ ahead_of self.old }
+        ensures front { self.new.next ≡ 0 }
+        ensures len { length (ahead_of self.new) ≡ self.new.filled }
+        ensures line { held_line self.new ≡ None }
+    {
+        self.buffer.copy_within(self.next..self.filled, 0);
+        self.filled -= self.next;
+        self.at = 0;
+        self.next = 0;
+    }
+}

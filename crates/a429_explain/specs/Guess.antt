@@ -1,0 +1,128 @@
+-- The link data units of a recording's groups, and the first doubt (profile).
+use Rattle.std.specs.Prelude.{◌≡◌, ℕ, ◌≤◌, ◌<◌, Option, Some, None, List, [], ◌∷◌, slice_get}
+use Rattle.a429_profile.specs.declared.codes.Codes.{Codes}
+use Rattle.a429_profile.specs.Profile.{Contents}
+use Rattle.a429_ldu.specs.declared.forms.Form.{Form}
+use Rattle.a429_ldu.specs.declared.forms.Form.TheVariants.{Sot}
+use Rattle.a429_ldu.specs.Ldu.{LduValue}
+use Rattle.a429_link.specs.Clean.{AllFit, without_free, clean_blocks}
+use Rattle.a429_link.specs.declared.seen.Seen.{Seen}
+use Rattle.a429_explain.specs.declared.attempts.Role.{Role}
+use Rattle.a429_explain.specs.declared.groups.Request.{Request}
+use Rattle.a429_link.specs.declared.number.UnitNumber.{UnitNumber}
+use Rattle.a429_explain.specs.declared.stop.Stop.{Stop}
+use Rattle.a429_explain.specs.declared.stop.Stop.TheVariants.{Unexplained, OutOfMemory}
+use Rattle.a429_explain.specs.declared.verdict.Doubt.{Doubt}
+use Rattle.a429_explain.specs.declared.verdict.Doubt.TheVariants.{NotReplayed}
+use Rattle.a429_explain.specs.Attempts.{next_start, roles}
+use Rattle.a429_explain.specs.Block.{IsMatchedUnit, IsDoubtIn}
+use Rattle.a429_explain.specs.Groups.{group_from}
+use Rattle.a429_explain.specs.Heard.{HeardValue, sight_at, forms_of}
+use Rattle.a429_link.specs.Number.{number_after, first_number}
+use Rattle.a429_explain.specs.Whole.{wanted}
+
+-- ---- the first numbers
+
+-- the file number of a start word
+abbrev pub started : Option Form → Option ℕ
+started (Some (Sot gfi file ldu)) = Some file
+started _ = None
+
+abbrev pub file_of : Option UnitNumber → ℕ
+file_of None = 0
+file_of (Some n) = n.file
+
+-- the file number of the first start word, or 0
+abbrev pub first_file_of : List (Option Form) → ℕ
+first_file_of forms = file_of (next_start forms)
+
+-- the number of the first group: that of the first unit of the first start word's file, or of file 0
+abbrev pub first_place : Contents → List Seen → UnitNumber
+first_place p items = first_number p.codes (first_file_of (forms_of p.codes items))
+
+-- ---- link data units
+
+-- the first request from place `at` on stands here
+pub record IsFirstRequest (c : Codes) (items : List Seen) (at from wants : ℕ) : Type 0 where
+  pub behind : at ≤ from
+  pub request : wanted (sight_at c (slice_get items from)) ≡ Some wants
+  pub none : (k : ℕ) → at ≤ k → k < from → wanted (sight_at c (slice_get items k)) ≡ None
+
+-- no request stands from place `at` on
+abbrev pub IsNoRequestFrom : Codes → List Seen → ℕ → Type 0
+IsNoRequestFrom c items at = (k : ℕ) → at ≤ k → wanted (sight_at c (slice_get items k)) ≡ None
+
+-- the recording of these words
+abbrev pub heard : Contents → List Seen → HeardValue
+heard p items = record { profile = p; items = items }
+
+-- the group that begins with the request at this place
+abbrev pub request_at : List Role → ℕ → ℕ → Request
+request_at rs from wants = record { group = group_from rs from; count = wants }
+
+-- the link data unit of the first group from place `at` on
+pub record IsNextUnit (p : Contents) (items : List Seen) (rs : List Role) (place : UnitNumber) (at : ℕ) (u : LduValue) : Type 0 where
+  pub from : ℕ
+  pub wants : ℕ
+  pub first : IsFirstRequest p.codes items at from wants
+  pub is : IsMatchedUnit (heard p items) (request_at rs from wants) place u
+
+-- the first groups from place `at` on, the first of them under these numbers, give these link data units; behind them this
+-- comes, at the numbers and the place that follow
+abbrev pub AreUnitsBefore : (UnitNumber → ℕ → Type 0) → Contents → List Seen → List Role → UnitNumber → ℕ → List LduValue → Type 0
+AreUnitsBefore Comes p items rs place at [] = Comes place at
+AreUnitsBefore Comes p items rs place at (u ∷ us) = (next : IsNextUnit p items rs place at u) × AreUnitsBefore Comes p items rs (number_after p.codes place u) (group_from rs next.from).to us
+
+-- all groups from place `at` on do
+abbrev pub AreUnitsOf : Contents → List Seen → List Role → UnitNumber → ℕ → List LduValue → Type 0
+AreUnitsOf p items rs place at us = AreUnitsBefore (λ numbers n. IsNoRequestFrom p.codes items n) p items rs place at us
+
+-- all groups do, the first of them being that of the first link data unit of this file
+abbrev pub AreUnitsFrom : HeardValue → List Role → ℕ → List LduValue → Type 0
+AreUnitsFrom h rs first us = AreUnitsOf h.profile h.items rs (first_number h.profile.codes first) 0 us
+
+-- ---- doubts
+
+-- the first group from place `at` on is doubted
+pub record IsNextDoubt (p : Contents) (items : List Seen) (rs : List Role) (i : ℕ) (doubt : Doubt) (place : UnitNumber) (at : ℕ) : Type 0 where
+  pub from : ℕ
+  pub wants : ℕ
+  pub first : IsFirstRequest p.codes items at from wants
+  pub is : IsDoubtIn (heard p items) (request_at rs from wants) place i doubt
+
+-- the groups before it pass their tests, and this group does not
+pub record IsFirstDoubt (p : Contents) (items : List Seen) (rs : List Role) (place : UnitNumber) (i : ℕ) (doubt : Doubt) : Type 0 where
+  pub units : List LduValue
+  pub are : AreUnitsBefore (IsNextDoubt p items rs i doubt) p items rs place 0 units
+
+abbrev pub IsGroupStop : Contents → List Seen → List Role → UnitNumber → Stop → Type 0
+IsGroupStop p items rs place (Unexplained i doubt) = IsFirstDoubt p items rs place i doubt
+IsGroupStop p items rs place OutOfMemory = Unit {0}
+
+-- the same, where the first group is that of the first link data unit of this file
+abbrev pub IsStopFrom : HeardValue → List Role → ℕ → Stop → Type 0
+IsStopFrom h rs first stop = IsGroupStop h.profile h.items rs (first_number h.profile.codes first) stop
+
+-- ---- a recording
+
+abbrev pub HasFirstDoubt : Contents → List Seen → ℕ → Doubt → Type 0
+HasFirstDoubt p items = IsFirstDoubt p items (roles (forms_of p.codes items)) (first_place p items)
+
+-- each group passes its tests
+pub record HasNoDoubt (p : Contents) (items : List Seen) : Type 0 where
+  pub units : List LduValue
+  pub are : AreUnitsOf p items (roles (forms_of p.codes items)) (first_place p items) 0 units
+
+-- the doubts of all groups come before those of the steps
+abbrev pub IsFirstStop : Contents → List Seen → Stop → Type 0
+IsFirstStop p items (Unexplained i NotReplayed) = HasNoDoubt p items
+IsFirstStop p items (Unexplained i doubt) = HasFirstDoubt p items i doubt
+IsFirstStop p items OutOfMemory = Unit {0}
+
+-- ---- without loss
+
+-- the recorded words are, free ones left out, those of these link data units that cross without loss, the first of them
+-- the first of this file
+pub record HaveCrossed (h : HeardValue) (first : ℕ) (us : List LduValue) : Type 0 where
+  pub fit : AllFit h.profile (first_number h.profile.codes first) us
+  pub words : without_free h.profile.codes h.items ≡ clean_blocks h.profile.codes (first_number h.profile.codes first) us
