@@ -100,6 +100,12 @@ sent_named p i s n = named_of p act.Sent (Some i) (step.Sent i) s refl n
 pub answered_named : (p : Contents) (i : Seen) (s : State) → IsNamedStep p (step.Answered i) s → IsNamedOf p act.Answered s
 answered_named p i s n = named_of p act.Answered (Some i) (step.Answered i) s refl n
 
+pub named_sent : (p : Contents) (i : Seen) (s : State) → IsNamedOf p act.Sent s → IsNamedStep p (step.Sent i) s
+named_sent p i s n = of_named p act.Sent (Some i) n.0 (step.Sent i) n.1.0 s refl n.1.1 n.1.2
+
+pub named_answered : (p : Contents) (i : Seen) (s : State) → IsNamedOf p act.Answered s → IsNamedStep p (step.Answered i) s
+named_answered p i s n = of_named p act.Answered (Some i) n.0 (step.Answered i) n.1.0 s refl n.1.1 n.1.2
+
 free_named : (p : Contents) (s : State) → IsNamedOf p act.FreeSeen s
 free_named p s = let word : Seen = record { bus = bus.A; word = 0 } in (Some word, (step.FreeSeen word, refl, free_word p.codes))
 

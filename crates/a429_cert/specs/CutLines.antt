@@ -4,8 +4,8 @@ use Rattle.memchr.specs.Find.{Nowhere, Passes, is_byte}
 use Rattle.a429_cert.specs.Lines.{certificate_lines}
 
 -- no byte of the text is a line feed
-abbrev pub HasNoEnd : List ℕ → Type 0
-HasNoEnd text = Nowhere (Passes (is_byte 10) text) 0 (length text)
+abbrev pub HasNoLineFeed : List ℕ → Type 0
+HasNoLineFeed text = Nowhere (Passes (is_byte 10) text) 0 (length text)
 
 -- bytes begin with this line and its line feed, and these are behind it, whatever comes behind both
 abbrev pub BeginsWith : List ℕ → Option (List ℕ) → List ℕ → Type 0
@@ -30,7 +30,7 @@ IsFirstLine true old new line = (option_map cut (slice_get (certificate_lines ol
 IsFirstLine false old new line = certificate_lines old ≡ []
 
 -- the same of the bytes still to come, where they are known
-abbrev pub HandsOut : Option (List ℕ) → Option (List ℕ) → Option (List ℕ) → Bool → Type 0
-HandsOut None new line found = ⊤
-HandsOut (Some xs) None line found = ⊥
-HandsOut (Some xs) (Some ys) line found = IsFirstLine found xs ys line
+abbrev pub GivesLine : Option (List ℕ) → Option (List ℕ) → Option (List ℕ) → Bool → Type 0
+GivesLine None new line found = ⊤
+GivesLine (Some xs) None line found = ⊥
+GivesLine (Some xs) (Some ys) line found = IsFirstLine found xs ys line

@@ -3,12 +3,12 @@ use Rattle.std.specs.Prelude.{ℕ, ◌+◌, ◌-◌, List, length, take, drop, B
 use Rattle.std.specs.Io.KnownBytes.{prepend_known}
 use Rattle.a429_word.specs.declared.tally.Tally.{Tally}
 use Rattle.a429_word.specs.Tally.{left_of, unread}
-use Rattle.a429_cert.specs.CutLines.{HandsOut}
+use Rattle.a429_cert.specs.CutLines.{GivesLine}
 use Rattle.a429_cert.specs.declared.line_reader.LineReader.{LineReader}
 
 -- the bytes that were read and not yet handed out
-abbrev pub ahead_of : LineReader → List ℕ
-ahead_of s = take (s.filled - s.next) (drop s.next s.buffer)
+abbrev pub bytes_ahead : LineReader → List ℕ
+bytes_ahead s = take (s.filled - s.next) (drop s.next s.buffer)
 
 -- the line that was handed out last, without its line feed, and none where that has none
 abbrev pub held_line : LineReader → Option (List ℕ)
@@ -16,12 +16,12 @@ held_line s = if nat_lt s.at s.next then Some (take (s.next - 1 - s.at) (drop s.
 
 -- the bytes that are still to come, where they are known
 abbrev pub to_come : {R : Type 0} → (R → Option (List ℕ)) → LineReader → Tally R → Option (List ℕ)
-to_come remaining s cert = prepend_known (ahead_of s) (unread remaining cert)
+to_come remaining s cert = prepend_known (bytes_ahead s) (unread remaining cert)
 
 -- how many bytes may still come
-abbrev pub room_of : {R : Type 0} → LineReader → Tally R → ℕ
-room_of s cert = left_of cert + length (ahead_of s)
+abbrev pub room_left : {R : Type 0} → LineReader → Tally R → ℕ
+room_left s cert = left_of cert + length (bytes_ahead s)
 
 -- the answer whether a line is handed out of the bytes still to come
 abbrev pub HandsOutLine : {R : Type 0} → (R → Option (List ℕ)) → LineReader → Tally R → LineReader → Tally R → Bool → Type 0
-HandsOutLine remaining old cert new new_cert found = HandsOut (to_come remaining old cert) (to_come remaining new new_cert) (held_line new) found
+HandsOutLine remaining old cert new new_cert found = GivesLine (to_come remaining old cert) (to_come remaining new new_cert) (held_line new) found

@@ -4,7 +4,7 @@ ghost use Rattle.std.specs.Prelude.{◌≡◌, ◌⊎◌, ◌<◌, ◌≤◌, []
 ghost use Rattle.std.specs.Io.KnownBytes.{Keeps, IsAtEnd};
 ghost use Rattle.a429_word.specs.Tally.{left_of, has_failed, unread};
 ghost use Rattle.a429_cert.specs.Lines.{line_bytes};
-ghost use Rattle.a429_cert.specs.CutLines.{BeginsWith, HasNoEnd, cut};
+ghost use Rattle.a429_cert.specs.CutLines.{BeginsWith, HasNoLineFeed, cut};
 
 use crate::lines::TextLine;
 use a429_word::{Device, Tally};
@@ -28,11 +28,11 @@ pub struct LineReader {
 }
 
 impl LineReader {
-    ghost use Rattle.a429_cert.specs.LineReader.{ahead_of, held_line, to_come, room_of, HandsOutLine};
+    ghost use Rattle.a429_cert.specs.LineReader.{bytes_ahead, held_line, to_come, room_left, HandsOutLine};
 
     /// Nothing was read.
     pub fn new() -> LineReader
-        ensures { ahead_of result ≡ [] }
+        ensures { bytes_ahead result ≡ [] }
     {
         LineReader {
             buffer: [0; ROOM],
@@ -58,7 +58,7 @@ impl LineReader {
     /// where it is. Of a line without a line feed no more than 2,288 bytes are read.
     pub fn next_line<R: Read>(&mut self, cert: &mut Tally<R>) -> Result<bool, Device>
         ensures given { IfOk result (HandsOutLine R.remaining self.old cert.old self.new cert.new) }
-        ensures shorter { OnOk result (IsSome (held_line self.new) → room_of self.new cert.new < room_of self.old cert.old) }
+        ensures shorter { OnOk result (IsSome (held_line self.new) → room_left self.new cert.new < room_left self.old cert.old) }
         ensures device { IsErr result → has_failed cert.new ≡ true }
         ensures stays { has_failed cert.old ≡ true → has_failed cert.new ≡ true }
     {
@@ -74,11 +74,11 @@ impl LineReader {
 
     // Hands out the next line, where its line feed was read.
     fn take_line(&mut self) -> bool
-        ensures yes { result ≡ true → BeginsWith (ahead_of self.old) (held_line self.new) (ahead_of self.new) }
+        ensures yes { result ≡ true → BeginsWith (bytes_ahead self.old) (held_line self.new) (bytes_ahead self.new) }
         ensures line { result ≡ true → IsSome (held_line self.new) × (cut (held_line self.new) ≡ held_line self.new) }
-        ensures short { result ≡ true → length (ahead_of self.new) < length (ahead_of self.old) }
-        ensures no { result ≡ false → HasNoEnd (ahead_of self.old) }
-        ensures same { result ≡ false → ahead_of self.new ≡ ahead_of self.old }
+        ensures short { result ≡ true → length (bytes_ahead self.new) < length (bytes_ahead self.old) }
+        ensures no { result ≡ false → HasNoLineFeed (bytes_ahead self.old) }
+        ensures same { result ≡ false → bytes_ahead self.new ≡ bytes_ahead self.old }
     {
         self.at = self.next;
         match memchr(b'\n', &self.buffer[self.next..self.filled]) {
@@ -95,10 +95,10 @@ impl LineReader {
     fn read_on<R: Read>(&mut self, cert: &mut Tally<R>) -> Result<bool, Device>
         ensures line { held_line self.new ≡ None }
         ensures keeps { OnOk result (Keeps (to_come R.remaining self.old cert.old) (to_come R.remaining self.new cert.new)) }
-        ensures same { IfOk result (λ more. more ≡ false → ahead_of self.new ≡ ahead_of self.old) }
-        ensures end { IfOk result (λ more. more ≡ false → (2288 ≤ length (ahead_of self.new)) ⊎ IsAtEnd (unread R.remaining cert.new)) }
+        ensures same { IfOk result (λ more. more ≡ false → bytes_ahead self.new ≡ bytes_ahead self.old) }
+        ensures end { IfOk result (λ more. more ≡ false → (2288 ≤ length (bytes_ahead self.new)) ⊎ IsAtEnd (unread R.remaining cert.new)) }
         ensures left { IfOk result (λ more. more ≡ true → left_of cert.new < left_of cert.old) }
-        ensures room { OnOk result (room_of self.new cert.new ≡ room_of self.old cert.old) }
+        ensures room { OnOk result (room_left self.new cert.new ≡ room_left self.old cert.old) }
         ensures device { IsErr result → has_failed cert.new ≡ true }
         ensures stays { has_failed cert.old ≡ true → has_failed cert.new ≡ true }
     {
@@ -113,9 +113,9 @@ impl LineReader {
 
     // Forgets the line that was handed out, and moves what is ahead of it to the front.
     fn make_room(&mut self)
-        ensures ahead { ahead_of self.new ≡ ahead_of self.old }
+        ensures ahead { bytes_ahead self.new ≡ bytes_ahead self.old }
         ensures front { self.new.next ≡ 0 }
-        ensures len { length (ahead_of self.new) ≡ self.new.filled }
+        ensures len { length (bytes_ahead self.new) ≡ self.new.filled }
         ensures line { held_line self.new ≡ None }
     {
         self.buffer.copy_within(self.next..self.filled, 0);

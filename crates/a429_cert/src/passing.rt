@@ -2,7 +2,7 @@
 
 ghost use Rattle.std.specs.Prelude.{◌≡◌, ◌≢◌, ◌∷◌, Some, None, IfOk, IfErr, OnOk, true, false};
 ghost use Rattle.a429_profile.specs.Profile.{IsProfile};
-ghost use Rattle.a429_link.specs.Step.{Can, IsNamedStep, LoadsLdu};
+ghost use Rattle.a429_link.specs.Step.{Can, LoadsLdu};
 ghost use Rattle.a429_link.specs.State.{State, states_of};
 ghost use Rattle.a429_link.specs.declared.step.Step.TheVariants as step;
 ghost use Rattle.a429_cert.specs.declared.at.At.{At};
@@ -21,7 +21,6 @@ use crate::reading::{load_of, moved_of};
 use a429_ldu::{Ldu, LduFault};
 use a429_link::{Link, Seen, States, Step, StepFault};
 use a429_profile::Profile;
-use a429_word::{Bus, Word};
 use std::alloc::Global;
 
 /// Takes the line of a certificate that stands there: the link makes its step with the next entry.
@@ -47,20 +46,19 @@ pub fn pass(
 }
 
 /// Reads the step that line n lists, before its entry is known, if it wants one: a step of its name may
-/// then be made here. The link stays as it is.
+/// then be made here.
 #[inline(always)]
 pub fn list_step(
     alloc: Global,
     profile: &Profile,
-    link: &mut Link<'_>,
+    link: &Link<'_>,
     line: TextLine<'_>,
     n: usize,
 ) -> Result<Listed, CertFault>
     requires sound { IsProfile profile.now }
-    requires profile { link.old.profile ≡ profile.now }
-    ensures listed { IfOk result (λ x. Lists profile.now (line_bytes line.entry) x link.old.state) }
-    ensures refused { IfErr result (RefusesFirst profile.now (line_bytes line.entry) n link.old.state) }
-    ensures unchanged { link.new ≡ link.old }
+    requires profile { link.now.profile ≡ profile.now }
+    ensures listed { IfOk result (λ x. Lists profile.now (line_bytes line.entry) x link.now.state) }
+    ensures refused { IfErr result (RefusesFirst profile.now (line_bytes line.entry) n link.now.state) }
 {
     let TextLine::Ended(text) = line else {
         return Err(CertFault::Line(n));
@@ -133,11 +131,10 @@ fn list_unit(
 
 // Reads the other step that line n lists, by its letter and what stands behind it.
 #[inline(always)]
-fn list_moved(link: &mut Link<'_>, letter: u8, text: &[u8], n: usize) -> Result<Listed, CertFault>
+fn list_moved(link: &Link<'_>, letter: u8, text: &[u8], n: usize) -> Result<Listed, CertFault>
     requires { letter ≢ 76 }
-    ensures listed { IfOk result (λ x. Lists link.old.profile (Some (letter ∷ text.now)) x link.old.state) }
-    ensures refused { IfErr result (RefusesFirst link.old.profile (Some (letter ∷ text.now)) n link.old.state) }
-    ensures unchanged { link.new ≡ link.old }
+    ensures listed { IfOk result (λ x. Lists link.now.profile (Some (letter ∷ text.now)) x link.now.state) }
+    ensures refused { IfErr result (RefusesFirst link.now.profile (Some (letter ∷ text.now)) n link.now.state) }
 {
     match moved_of(letter, text) {
         Some(line) => {
@@ -223,28 +220,15 @@ fn make(link: &mut Link<'_>, act: Act, next: Option<Seen>) -> Result<(), StepFau
     }
 }
 
-// Whether a step of this letter may be made with some entry, where it uses one. The link stays as it is.
-fn may_record(link: &mut Link<'_>, act: Act) -> bool
-    ensures yes { result ≡ true → IsReadyOf link.old.profile act link.old.state }
-    ensures no { result ≡ false → IsNamedOf link.old.profile act link.old.state → ⊥ }
-    ensures unchanged { link.new ≡ link.old }
+// Whether a step of this letter may be made with some entry, where it uses one.
+#[inline(always)]
+fn may_record(link: &Link<'_>, act: Act) -> bool
+    ensures yes { result ≡ true → IsReadyOf link.now.profile act link.now.state }
+    ensures no { result ≡ false → IsNamedOf link.now.profile act link.now.state → ⊥ }
 {
-    let word = Word::from_u32(0);
     match act {
-        Act::Sent => is_named(link, Step::Sent(Seen { bus: Bus::B, word })),
-        Act::Answered => is_named(link, Step::Answered(Seen { bus: Bus::A, word })),
+        Act::Sent => link.may_send(),
+        Act::Answered => link.may_answer(),
         _ => true,
     }
-}
-
-// Whether there is a step of this name. With its own word, which is on the other bus, it can't be made,
-// so the link stays as it is.
-fn is_named(link: &mut Link<'_>, step: Step) -> bool
-    requires loads { LoadsLdu link.old.profile step }
-    requires other { Can link.old.profile step link.old.state → ⊥ }
-    ensures yes { result ≡ true → IsNamedStep link.old.profile step link.old.state }
-    ensures no { result ≡ false → IsNamedStep link.old.profile step link.old.state → ⊥ }
-    ensures unchanged { link.new ≡ link.old }
-{
-    !matches!(link.apply(step), Err(StepFault::NotAllowed))
 }

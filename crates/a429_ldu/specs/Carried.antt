@@ -50,8 +50,8 @@ abbrev pub held_with_words : Codes → List ℕ → List ℕ → Option ℕ → 
 held_with_words c words bytes low = joined_to (Some (semis_held bytes low)) (semis_of_words c words)
 
 -- how many are held
-abbrev pub held_count : ℕ → Option ℕ → ℕ
-held_count bytes low = 2 * bytes + length (option_to_list low)
+abbrev pub semis_count : ℕ → Option ℕ → ℕ
+semis_count bytes low = 2 * bytes + length (option_to_list low)
 
 -- the bytes of semi-octets
 abbrev pub paired : List ℕ → Option (List ℕ)

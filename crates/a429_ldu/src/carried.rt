@@ -7,7 +7,7 @@ ghost use Rattle.a429_word.specs.declared.bus.Bus.TheVariants as bus;
 ghost use Rattle.a429_profile.specs.Profile.{IsProfile};
 ghost use Rattle.a429_ldu.specs.Semis.{five_of};
 ghost use Rattle.a429_ldu.specs.Form.{fields_of, full_fields, form_of};
-ghost use Rattle.a429_ldu.specs.Carried.{CarryBytes, semis_in, semis_of_words, semis_held, held_with_words, held_count, paired, if_some, bytes_carried};
+ghost use Rattle.a429_ldu.specs.Carried.{CarryBytes, semis_in, semis_of_words, semis_held, held_with_words, semis_count, paired, if_some, bytes_carried};
 ghost use Rattle.a429_ldu.specs.Ldu.{most_data_words};
 
 use crate::forms::Form;
@@ -78,7 +78,7 @@ fn carry(
     bytes: &mut BlockBytes,
 ) -> Option<Option<u8>>
     requires low { IfSome low (λ digit. digit < 16) }
-    requires room { held_count (array_vec_len bytes.old) low + 5 * length words.now ≤ 1265 }
+    requires room { semis_count (array_vec_len bytes.old) low + 5 * length words.now ≤ 1265 }
     ensures semis { IfSome result (λ rest. held_with_words profile.now.codes words.now bytes.old.items low ≡ Some (semis_held bytes.new.items rest)) }
     ensures low { IfSome result (λ rest. IfSome rest (λ digit. digit < 16)) }
     ensures none { result ≡ None → semis_of_words profile.now.codes words.now ≡ None }
@@ -138,7 +138,7 @@ fn semis_in(form: &Form) -> Option<Semis>
 fn push_full(bytes: &mut BlockBytes, low: Option<u8>, number: u32) -> Option<u8>
     requires low { IfSome low (λ digit. digit < 16) }
     requires number { number < 2 ^ 20 }
-    requires room { held_count (array_vec_len bytes.old) low + 5 ≤ 1265 }
+    requires room { semis_count (array_vec_len bytes.old) low + 5 ≤ 1265 }
     ensures bytes { semis_held bytes.new.items result ≡ semis_held bytes.old.items low ++ five_of number }
     ensures low { IfSome result (λ digit. digit < 16) }
 {
@@ -163,10 +163,10 @@ fn push_full(bytes: &mut BlockBytes, low: Option<u8>, number: u32) -> Option<u8>
 #[inline(never)]
 fn push_semis(bytes: &mut BlockBytes, low: Option<u8>, semis: &Semis) -> Option<u8>
     requires low { IfSome low (λ digit. digit < 16) }
-    requires room { held_count (array_vec_len bytes.old) low + 5 ≤ 1265 }
+    requires room { semis_count (array_vec_len bytes.old) low + 5 ≤ 1265 }
     ensures bytes { semis_held bytes.new.items result ≡ semis_held bytes.old.items low ++ semis.now }
     ensures low { IfSome result (λ digit. digit < 16) }
-    ensures most { held_count (array_vec_len bytes.new) result ≤ held_count (array_vec_len bytes.old) low + 5 }
+    ensures most { semis_count (array_vec_len bytes.new) result ≤ semis_count (array_vec_len bytes.old) low + 5 }
 {
     let mut waiting = low;
     for digit in semis.as_slice() {
@@ -178,7 +178,7 @@ fn push_semis(bytes: &mut BlockBytes, low: Option<u8>, semis: &Semis) -> Option<
 fn push_digit(bytes: &mut BlockBytes, low: Option<u8>, digit: u8) -> Option<u8>
     requires low { IfSome low (λ digit. digit < 16) }
     requires digit { digit < 16 }
-    requires room { held_count (array_vec_len bytes.old) low + 1 ≤ 1265 }
+    requires room { semis_count (array_vec_len bytes.old) low + 1 ≤ 1265 }
     ensures bytes { semis_held bytes.new.items result ≡ semis_held bytes.old.items low ++ digit ∷ [] }
     ensures low { IfSome result (λ digit. digit < 16) }
 {

@@ -1,5 +1,5 @@
 -- The states of a link: files that were handed out change no step.
-use Rattle.std.proofs.Common.{◌≡◌, ℕ, ◌≤◌, Bool, true, false, cond, List, [], ◌∷◌, ◌++◌, Option, Some, None, IsSome, is_some, Result, Ok, Err, IfErr, refl, sym, ap, ◌∙◌, subst, arith, append_assoc, append-nil}
+use Rattle.std.proofs.Common.{◌≡◌, ◌↔◌, ℕ, ◌≤◌, Bool, true, false, cond, List, [], ◌∷◌, ◌++◌, Option, Some, None, IsSome, is_some, Result, Ok, Err, IfErr, refl, sym, ap, ◌∙◌, subst, arith, append_assoc, append-nil}
 use Rattle.a429_ldu.specs.Carried.{bytes_in}
 use Rattle.a429_word.specs.Word.{sum_below}
 use Rattle.a429_word.specs.declared.bus.Bus.TheVariants as bus
@@ -262,6 +262,9 @@ ready_if_named p SinkTakes s h = h
 ready_if_named p Silent s h = h
 ready_if_named p (Answered i) s h = owes_form s.sink.count s.sink.phase (form_of p.codes bus.B h.0.word) h.1.1
 ready_if_named p (FreeSeen i) s h = tt
+
+pub named_when_ready : (p : Contents) (a : Step) (s : State) → IsKept p s → IsReadyStep p a s ↔ IsNamedStep p a s
+named_when_ready p a s k = (named_if_ready p k.sound a s (kept_holds p s k), ready_if_named p a s)
 
 pub fault_by_name : (p : Contents) (a : Step) (s : State) (e : StepFault) → IsKept p s → IsFaultByName p a s e → IsFault p a s e
 fault_by_name p a s fault.NotAllowed k h = λ n. h (ready_if_named p a s n)

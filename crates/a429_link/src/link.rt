@@ -1,7 +1,8 @@
 //! A link: one run of a source and a sink, step by step.
 
-ghost use Rattle.std.specs.Prelude.{◌≡◌, [], IfErr, OnOk, OnErr};
-ghost use Rattle.a429_link.specs.Step.{Can, after, LoadsLdu, IsFault};
+ghost use Rattle.std.specs.Prelude.{◌≡◌, ◌↔◌, [], IsTrue, IfErr, OnOk, OnErr};
+ghost use Rattle.a429_link.specs.declared.seen.Seen.{Seen};
+ghost use Rattle.a429_link.specs.Step.{Can, after, LoadsLdu, IsFault, IsNamedStep};
 ghost use Rattle.a429_link.specs.State.{start, states_of};
 ghost use Rattle.a429_link.specs.Link.{handed_out};
 ghost use Rattle.a429_link.specs.Run.{IsBounded};
@@ -61,6 +62,22 @@ impl<'a> Link<'a> {
         ensures bounds { IsBounded self.new.state }
     {
         self.transfer.apply(self.alloc, self.profile, step)
+    }
+
+    /// There is a step that sends a word now, whatever the word is.
+    #[inline(always)]
+    pub fn may_send(&self) -> bool
+        ensures { (i : Seen) → IsTrue result ↔ IsNamedStep self.now.profile (Step.Sent i) self.now.state }
+    {
+        self.transfer.may_send()
+    }
+
+    /// There is a step that gives an answer now, whatever the answer is.
+    #[inline(always)]
+    pub fn may_answer(&self) -> bool
+        ensures { (i : Seen) → IsTrue result ↔ IsNamedStep self.now.profile (Step.Answered i) self.now.state }
+    {
+        self.transfer.may_answer()
     }
 
     /// What the source and the sink are doing, and how many words are on their way to the sink, 0 to 255,

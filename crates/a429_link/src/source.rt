@@ -1,6 +1,7 @@
 //! The source of a file transfer.
 
 ghost use Rattle.std.specs.Prelude.{◌≡◌, ◌≤◌, ◌+◌, ◌↔◌, IsTrue, IsSome, None, Some};
+ghost use Rattle.a429_profile.specs.Profile.{Contents};
 ghost use Rattle.a429_ldu.specs.Ldu.{IsLdu};
 ghost use Rattle.a429_link.specs.Source as model;
 ghost use Rattle.a429_link.specs.Source.{next_word, hears, IsIdle, Waits, with_word_sent, next_word_of};
@@ -73,6 +74,21 @@ impl Source {
         ensures { self.new ≡ record (self.old) { current = Some unit } }
     {
         self.current = Some(unit);
+    }
+
+    /// It sends a word now.
+    #[inline(always)]
+    pub(crate) fn sends(&self) -> bool
+        ensures { (p : Contents) → IsTrue result ↔ IsSome (next_word_of p self.now) }
+    {
+        let Some(unit) = &self.current else {
+            return false;
+        };
+        match self.state {
+            SourceState::Idle => true,
+            SourceState::Sending(sent) => sent < unit.count(),
+            SourceState::Awaiting | SourceState::Waiting => false,
+        }
     }
 
     /// Its next word, if it sends one now.

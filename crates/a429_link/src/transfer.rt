@@ -1,13 +1,14 @@
 //! The source, the sink, and the recorded words between them.
 
-ghost use Rattle.std.specs.Prelude.{◌≡◌, ◌≤◌, ◌+◌, length};
-ghost use Rattle.a429_profile.specs.Profile.{IsProfile};
+ghost use Rattle.std.specs.Prelude.{◌≡◌, ◌≤◌, ◌+◌, ◌↔◌, IsTrue, length};
+ghost use Rattle.a429_profile.specs.Profile.{Contents, IsProfile};
 ghost use Rattle.a429_ldu.specs.Ldu.{IsLdu};
 ghost use Rattle.a429_link.specs.declared.step.Step.TheVariants as step;
 ghost use Rattle.a429_link.specs.Sink.{held_count};
 ghost use Rattle.a429_link.specs.Step.{LoadsLdu};
 ghost use Rattle.a429_link.specs.State.{start, sink_state_of};
-ghost use Rattle.a429_link.specs.Transfer.{Applies};
+ghost use Rattle.a429_link.specs.Transfer.{Applies, IsReadyStep};
+ghost use Rattle.a429_link.specs.declared.seen.Seen.{Seen};
 ghost use Rattle.a429_link.specs.Link.{handed_out};
 
 use crate::fault::StepFault;
@@ -55,6 +56,22 @@ impl Transfer {
             to_sink: Vec::new(alloc),
             to_source: Vec::new(alloc),
         }
+    }
+
+    /// A word may be sent now.
+    #[inline(always)]
+    pub(crate) fn may_send(&self) -> bool
+        ensures { (p : Contents) (i : Seen) → IsTrue result ↔ IsReadyStep p (step.Sent i) self.now }
+    {
+        self.source.sends()
+    }
+
+    /// An answer may be given now.
+    #[inline(always)]
+    pub(crate) fn may_answer(&self) -> bool
+        ensures { (p : Contents) (i : Seen) → IsTrue result ↔ IsReadyStep p (step.Answered i) self.now }
+    {
+        self.sink.owes()
     }
 
     /// Makes a step, or refuses it and changes nothing.

@@ -35,8 +35,8 @@ PassesAt stage.Ended taken rest = ⊥
 PassesAt stage.Failed taken rest = ⊥
 
 -- an answer is the next entry, the end or the fault of what is still to come, and after an entry the rest is
-abbrev pub Gives : {R : Type 0} → (R → Option (List ℕ)) → Reading → Tally R → Reading → Tally R → Result (Option Entry) ReadFault → Type 0
-Gives remaining old rec new new_rec r = GivesNext (still_to_come remaining old.stage old.text rec) (still_to_come remaining new.stage new.text new_rec) r
+abbrev pub AnswersNext : {R : Type 0} → (R → Option (List ℕ)) → Reading → Tally R → Reading → Tally R → Result (Option Entry) ReadFault → Type 0
+AnswersNext remaining old rec new new_rec r = GivesNext (still_to_come remaining old.stage old.text rec) (still_to_come remaining new.stage new.text new_rec) r
 
 -- the lines of an entry are given
 abbrev pub HandsEntry : {R : Type 0} → (R → Option (List ℕ)) → Reading → Tally R → Reading → Tally R → Entry → Type 0

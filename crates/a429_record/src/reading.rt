@@ -25,7 +25,7 @@ impl Reading {
     ghost use Rattle.a429_record.specs.Lines.{room_of};
     ghost use Rattle.a429_record.specs.Text.{IfEntry, Follows};
     ghost use Rattle.a429_record.specs.Stage.{goes_on, stage_after, AnswersAt};
-    ghost use Rattle.a429_record.specs.Reading.{Gives, HandsEntry, FailsBehind};
+    ghost use Rattle.a429_record.specs.Reading.{AnswersNext, HandsEntry, FailsBehind};
     ghost use Rattle.a429_record.specs.declared.fault.ReadFault.TheVariants as fault;
 
     /// Nothing was read.
@@ -43,7 +43,7 @@ impl Reading {
     #[inline(always)]
     pub fn next<R: Read>(&mut self, rec: &mut Tally<R>) -> Result<Option<Entry>, ReadFault>
         requires { self.old.stage ≡ at.Rows → has_failed rec.old ≡ false }
-        ensures gives { Gives R.remaining self.old rec.old self.new rec.new result }
+        ensures gives { AnswersNext R.remaining self.old rec.old self.new rec.new result }
         ensures answers { AnswersAt self.old.stage result }
         ensures stage { self.new.stage ≡ stage_after result }
         ensures lines { IfEntry result (λ e. HandsEntry R.remaining self.old rec.old self.new rec.new e) }

@@ -11,7 +11,7 @@ returns-in-Ok-clause-refused c =
     let s = c.args.link.now.state in
     IfErr-weaker c.take_step.result (RefusesListed p c.in-Ok.listed c.args.at s) (RefusesText p (line_bytes c.args.line) c.args.at s)
     (λ f h. fault-listed p (line_bytes c.args.line) c.in-Ok.listed c.args.at s f c.in-Ok.ensures.listed h)
-    (rw (c.list_step.ensures.unchanged, c.requires.profile) at c.take_step.ensures.refused)
+    (rw c.requires.profile at c.take_step.ensures.refused)
 
 pub returns-in-Err-clause-refused : goal.returns-in-Err-clause-refused
 returns-in-Err-clause-refused c = c.in-Err.ensures.refused c.args.at refl

@@ -1,5 +1,5 @@
 use Rattle.std.proofs.Common.{inl, arith, take}
-use Rattle.a429_cert.specs.LineReader.{ahead_of}
+use Rattle.a429_cert.specs.LineReader.{bytes_ahead}
 use Rattle.a429_cert.proofs.LineReaderFacts.{read_behind, grown, none_grown}
 use Rattle.a429_cert.proofs.line_reader.LineReader.read_on.Goals as goal
 
@@ -10,12 +10,12 @@ pub returns-clause-keeps : goal.returns-clause-keeps
 returns-clause-keeps g c =
     let s = c.make_room.new.self in
     let got = c.pull.new.buf in
-    grown _ _ (ahead_of c.args.self.now) (ahead_of s) _ (take c.in_ok-n.n got) c.make_room.ensures.ahead
+    grown _ _ (bytes_ahead c.args.self.now) (bytes_ahead s) _ (take c.in_ok-n.n got) c.make_room.ensures.ahead
     (read_behind s.buffer got _ s.next s.filled c.in_ok-n.n c.make_room.ensures.front c.make_room.ensures.len c.in_ok-n.ensures.bound.0) c.in_ok-n.ensures.bytes.0
 
 pub returns-clause-same : goal.returns-clause-same
 returns-clause-same g c = λ none.
     let s = c.make_room.new.self in
     let got = c.pull.new.buf in
-    none_grown got _ (ahead_of s) (ahead_of c.args.self.now) c.in_ok-n.n none
+    none_grown got _ (bytes_ahead s) (bytes_ahead c.args.self.now) c.in_ok-n.n none
     (read_behind s.buffer got _ s.next s.filled c.in_ok-n.n c.make_room.ensures.front c.make_room.ensures.len c.in_ok-n.ensures.bound.0) c.make_room.ensures.ahead
