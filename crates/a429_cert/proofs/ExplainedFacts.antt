@@ -27,7 +27,7 @@ use Rattle.a429_cert.specs.Passing.{uses, MakesStep, PassesText}
 
 -- ---- lists
 
-take_next : {X : Type 0} (k : ℕ) (w : X) (ys : List X) → slice_get ys k ≡ Some w → take (suc k) ys ≡ take k ys ++ w ∷ []
+pub take_next : {X : Type 0} (k : ℕ) (w : X) (ys : List X) → slice_get ys k ≡ Some w → take (suc k) ys ≡ take k ys ++ w ∷ []
 take_next k w [] e = absurd (cc e)
 take_next zero w (y ∷ ys) e = let same : y ≡ w = cc in ap (λ v. v ∷ []) same
 take_next (suc k) w (y ∷ ys) e = ap (λ (l : List _). y ∷ l) (take_next k w ys e)
@@ -39,7 +39,7 @@ drop_get [] (suc k) = refl
 drop_get (x ∷ xs) zero = refl
 drop_get (x ∷ xs) (suc k) = drop_get xs k
 
-none_past : {X : Type 0} (xs : List X) (k : ℕ) → slice_get xs k ≡ None → length xs ≤ k
+pub none_past : {X : Type 0} (xs : List X) (k : ℕ) → slice_get xs k ≡ None → length xs ≤ k
 none_past [] k e = omega arith
 none_past (x ∷ xs) zero e = absurd (cc e)
 none_past (x ∷ xs) (suc k) e = let more = none_past xs k e in omega arith

@@ -17,3 +17,8 @@ pub mod PassingStep
 pub mod ExplainedFacts
 pub mod FaultFacts
 pub mod NoFault
+pub mod StreamFacts
+pub mod StreamHeadFacts
+pub mod StreamStands
+pub mod StreamWalk
+pub mod StreamRefused

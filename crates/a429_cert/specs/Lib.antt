@@ -11,3 +11,6 @@ pub mod Passing
 pub mod CutLines
 pub mod LineReader
 pub mod Shelf
+pub mod Stream
+pub mod StreamHead
+pub mod StreamExplained

@@ -72,8 +72,8 @@ fn begin(alloc: Global, lines: &mut Lines<'_>) -> Result<u8, CertFault>
     first_of(alloc, lines.next_line())
 }
 
-// Whether this is the first line of a certificate.
-fn is_version(line: Option<TextLine<'_>>) -> bool
+/// Whether this is the first line of a certificate.
+pub fn is_version(line: Option<TextLine<'_>>) -> bool
     ensures yes { result ≡ true → option_map line_bytes line.entry ≡ Some (Some version) }
     ensures no { result ≡ false → option_map line_bytes line.entry ≢ Some (Some version) }
 {
@@ -83,8 +83,8 @@ fn is_version(line: Option<TextLine<'_>>) -> bool
     }
 }
 
-// The number of the first file, which the second line of a certificate gives.
-fn first_of(alloc: Global, line: Option<TextLine<'_>>) -> Result<u8, CertFault>
+/// The number of the first file, which the second line of a certificate gives.
+pub fn first_of(alloc: Global, line: Option<TextLine<'_>>) -> Result<u8, CertFault>
     ensures ok { IfOk result (λ first. option_map line_bytes line.entry ≡ Some (Some (spelling (First first)))) }
     ensures err { IfErr result (UnlessMemory (IsNoFirst (option_map line_bytes line.entry))) }
 {

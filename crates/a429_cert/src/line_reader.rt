@@ -59,6 +59,7 @@ impl LineReader {
     pub fn next_line<R: Read>(&mut self, cert: &mut Tally<R>) -> Result<bool, Device>
         ensures given { IfOk result (HandsOutLine R.remaining self.old cert.old self.new cert.new) }
         ensures shorter { OnOk result (IsSome (held_line self.new) → room_left self.new cert.new < room_left self.old cert.old) }
+        ensures room { IfOk result (λ found. found ≡ true → 0 < room_left self.old cert.old) }
         ensures device { IsErr result → has_failed cert.new ≡ true }
         ensures stays { has_failed cert.old ≡ true → has_failed cert.new ≡ true }
     {

@@ -57,6 +57,13 @@ impl<T> Tally<T> {
             is_failed: false,
         }
     }
+
+    /// How many bytes reads may still hand out.
+    pub fn left(&self) -> u64
+        ensures { result ≡ left_of self.now }
+    {
+        self.left
+    }
 }
 
 impl<R: Read> Tally<R> {

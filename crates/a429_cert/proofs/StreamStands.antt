@@ -1,0 +1,134 @@
+-- Where a walk along a certificate's lines stands, and what each line says of it.
+use Rattle.std.proofs.Common.{◌≡◌, ◌≤◌, ◌+◌, ◌∙◌, ◌++◌, ◌∷◌, ℕ, zero, suc, List, [], length, take, drop, Bool, true, false, nat_le, if◌then◌else◌, Option, Some, None, option_map, slice_get, refl, sym, ap, subst, arith, append-nil}
+use Rattle.std.proofs.lemmas.List.{drop-drop}
+use Rattle.a429_profile.specs.Profile.{Contents}
+use Rattle.a429_link.specs.declared.file.FileBytes.{FileBytes}
+use Rattle.a429_link.specs.declared.seen.Seen.{Seen}
+use Rattle.a429_link.specs.declared.step.Step.{Step}
+use Rattle.a429_link.specs.State.{State}
+use Rattle.a429_link.specs.Link.{with_earlier, handed_out}
+use Rattle.a429_link.proofs.LinkKept.{after_earlier, can_earlier}
+use Rattle.a429_record.specs.declared.entry.Entry.{Entry}
+use Rattle.a429_record.specs.Recording.{Recording}
+use Rattle.a429_cert.specs.declared.line.CertLine.{CertLine}
+use Rattle.a429_cert.specs.declared.line.CertLine.TheVariants.{First, Load, Moved}
+use Rattle.a429_cert.specs.Lines.{certificate_lines}
+use Rattle.a429_cert.specs.CutLines.{cut, GivesLine}
+use Rattle.a429_cert.specs.Explained.{items_of, Reaches, ShowsStates}
+use Rattle.a429_cert.specs.Fault.{HasVersion, HasFirst, SaysLine}
+use Rattle.a429_cert.specs.Passing.{MakesStep, PassesText}
+use Rattle.a429_cert.specs.Stream.{behind, PassesOver}
+use Rattle.a429_cert.proofs.Options.{some_is}
+use Rattle.a429_cert.proofs.ExplainedFacts.{drop_get, passes_on}
+
+-- ---- files that were handed out
+
+step_earlier : (p : Contents) (o : Option Step) (files : List FileBytes) (s t : State) → MakesStep p o s t → MakesStep p o (with_earlier files s) (with_earlier files t)
+step_earlier p None files s t m = m
+step_earlier p (Some a) files s t m = (can_earlier p a files s m.0, ap (with_earlier files) m.1 ∙ sym (after_earlier p a files s))
+
+shows_earlier : (l : CertLine) (files : List FileBytes) (t : State) → ShowsStates l t → ShowsStates l (with_earlier files t)
+shows_earlier (First file) files t h = tt
+shows_earlier (Load u) files t h = tt
+shows_earlier (Moved m) files t h = h
+
+text_earlier : (p : Contents) (text : Option (List ℕ)) (next : Option Seen) (files : List FileBytes) (s t : State) (used : ℕ) → PassesText p text next s t used → PassesText p text next (with_earlier files s) (with_earlier files t) used
+text_earlier p text next files s t used h = (h.0, h.1, (step_earlier p _ files s t h.2.0, shows_earlier h.0 files t h.2.1, h.2.2))
+
+handed : (files : List FileBytes) (s : State) → with_earlier (files ++ s.sink.shelf.files) (handed_out s) ≡ with_earlier files s
+handed files s = ap (λ (l : List FileBytes). filed l) (append-nil (files ++ s.sink.shelf.files))
+  where
+    filed : List FileBytes → State
+    filed l = record s { sink = record (s.sink) { shelf = record (s.sink.shelf) { files = l } } }
+
+-- ---- lines and entries that come
+
+pub says_back : (line : Option (List ℕ)) (l : CertLine) → SaysLine (cut line) l → SaysLine line l
+says_back None l s = s
+says_back (Some text) l s = by (nat_le (length text) 2287) s
+  where
+    by : (test : Bool) → SaysLine (if test then Some text else None) l → SaysLine (Some text) l
+    by true s = s
+    by false s = absurd s
+
+-- the bytes still to come are those of the lines behind the first k, where they are known
+abbrev pub AreBehind : List (Option (List ℕ)) → ℕ → Option (List ℕ) → Type 0
+AreBehind lines k known = (bytes : List ℕ) × (known ≡ Some bytes) × (certificate_lines bytes ≡ drop k lines)
+
+pub line_next : (lines : List (Option (List ℕ))) (k : ℕ) (old new line : Option (List ℕ)) → AreBehind lines k old → GivesLine old new line true → option_map cut (slice_get lines k) ≡ Some line
+line_next lines k None new line h g = absurd (cc h.1)
+line_next lines k (Some xs) None line h g = absurd g
+line_next lines k (Some xs) (Some ys) line h g =
+    let same : certificate_lines xs ≡ drop k lines = ap certificate_lines (some_is xs h.0 h.1) ∙ h.2 in
+    ap (option_map cut) (sym (drop_get lines k) ∙ ap (λ (l : List (Option (List ℕ))). slice_get l 0) (sym same)) ∙ g.0
+
+lines_behind : (lines : List (Option (List ℕ))) (k : ℕ) (old new : Option (List ℕ)) (text : List ℕ) → AreBehind lines k old → GivesLine old new (Some text) true → AreBehind lines (suc k) new
+lines_behind lines k None new text h g = absurd (cc h.1)
+lines_behind lines k (Some xs) None text h g = absurd g
+lines_behind lines k (Some xs) (Some ys) text h g =
+    let same : certificate_lines xs ≡ drop k lines = ap certificate_lines (some_is xs h.0 h.1) ∙ h.2 in
+    let n : k + 1 ≡ suc k = omega arith in
+    (ys, refl, g.1 ∙ ap (drop 1) same ∙ drop-drop 1 k lines ∙ ap (λ m. drop m lines) n)
+
+pub next_at : (entries : List Entry) (i : ℕ) → slice_get (items_of (drop i entries)) 0 ≡ slice_get (items_of entries) i
+next_at [] zero = refl
+next_at [] (suc i) = refl
+next_at (e ∷ entries) zero = refl
+next_at (e ∷ entries) (suc i) = next_at entries i
+
+rest_behind : (r : Recording) (used i : ℕ) → behind used (behind i r) ≡ behind (i + used) r
+rest_behind r used i = ap (λ (l : List Entry). left l) (drop-drop used i r.entries)
+  where
+    left : List Entry → Recording
+    left l = record { entries = l; fault = r.fault }
+
+-- ---- where a walk stands
+
+-- k lines behind the first two were passed over the first i entries, and these files were handed out
+pub record Stands (p : Contents) (text : List ℕ) (r : Recording) (first k i : ℕ) (taken : List FileBytes) (s : State) (left : Option (List ℕ)) (rec : Option Recording) : Type 0 where
+  pub version : HasVersion text
+  pub has_first : HasFirst text first
+  pub lines : AreBehind (drop 2 (certificate_lines text)) k left
+  pub inside : i ≤ length (items_of r.entries)
+  pub reached : Reaches p first (take k (drop 2 (certificate_lines text))) (take i (items_of r.entries)) (with_earlier taken s)
+  pub rest : rec ≡ Some (behind i r)
+
+pub cut_of : (o : Option (Option (List ℕ))) (line : Option (List ℕ)) → option_map cut o ≡ Some line → (raw : Option (List ℕ)) × (o ≡ Some raw) × (cut raw ≡ line)
+cut_of None line e = absurd (cc e)
+cut_of (Some raw) line e = (raw, refl, some_is (cut raw) line e)
+
+text_back : (p : Contents) (raw line : Option (List ℕ)) (next : Option Seen) (s t : State) (used : ℕ) → cut raw ≡ line → PassesText p line next s t used → PassesText p raw next s t used
+text_back p raw line next s t used e h = (h.0, says_back raw h.0 (subst (λ o. SaysLine o h.0) (sym e) h.1), h.2)
+
+pub goes_on : (p : Contents) (text : List ℕ) (r : Recording) (first k i used : ℕ) (taken : List FileBytes) (s t : State) (line left more : Option (List ℕ)) (rec new : Option Recording)
+    → Stands p text r first k i taken s left rec → GivesLine left more line true → PassesOver p line s t rec new used → Stands p text r first (suc k) (i + used) taken t more new
+goes_on p text r first k i used taken s t None left more rec new h g m = absurd ((subst (λ o. PassesOver p None s t o new used) h.rest m).0.1)
+goes_on p text r first k i used taken s t (Some said) left more rec new h g m =
+    let lines = drop 2 (certificate_lines text) in
+    let items = items_of r.entries in
+    let raw = cut_of (slice_get lines k) (Some said) (line_next lines k left more (Some said) h.lines g) in
+    let here = subst (λ o. PassesOver p (Some said) s t o new used) h.rest m in
+    let passes = subst (λ o. PassesText p (Some said) o s t used) (next_at r.entries i) here.0 in
+    let on = passes_on p first lines items k i used raw.0 (with_earlier taken s) (with_earlier taken t) raw.1 h.inside h.reached
+    (text_back p raw.0 (Some said) (slice_get items i) (with_earlier taken s) (with_earlier taken t) used raw.2 (text_earlier p (Some said) (slice_get items i) taken s t used passes)) in
+    record {
+      version = h.version;
+      has_first = h.has_first;
+      lines = lines_behind lines k left more said h.lines g;
+      inside = on.inside;
+      reached = on.reached;
+      rest = here.1 ∙ ap (λ (q : Recording). Some q) (rest_behind r used i);
+    }
+
+-- its files are handed out
+pub hands_out : (p : Contents) (text : List ℕ) (r : Recording) (first k i : ℕ) (taken : List FileBytes) (s : State) (left : Option (List ℕ)) (rec : Option Recording)
+    → Stands p text r first k i taken s left rec → Stands p text r first k i (taken ++ s.sink.shelf.files) (handed_out s) left rec
+hands_out p text r first k i taken s left rec h =
+    record {
+      version = h.version;
+      has_first = h.has_first;
+      lines = h.lines;
+      inside = h.inside;
+      reached = subst (λ (q : State). Reaches p first (take k (drop 2 (certificate_lines text))) (take i (items_of r.entries)) q) (sym (handed taken s)) h.reached;
+      rest = h.rest;
+    }

@@ -1,0 +1,112 @@
+-- A certificate held against a recording, both read as they come (profile).
+use Rattle.std.specs.Prelude.{◌≡◌, ◌≢◌, ℕ, zero, suc, List, [], ◌∷◌, ◌++◌, length, drop, map, Option, Some, None, slice_get, ⊤}
+use Rattle.a429_profile.specs.Profile.{Contents}
+use Rattle.a429_link.specs.declared.seen.Seen.{Seen}
+use Rattle.a429_link.specs.State.{State}
+use Rattle.a429_record.specs.declared.fault.ReadFault.{ReadFault}
+use Rattle.a429_record.specs.declared.fault.ReadFault.TheVariants as read
+use Rattle.a429_record.specs.Recording.{Recording, whole}
+use Rattle.a429_record.specs.Text.{Stops}
+use Rattle.a429_cert.specs.declared.fault.CertFault.{CertFault}
+use Rattle.a429_cert.specs.declared.fault.CertFault.TheVariants as of
+use Rattle.a429_cert.specs.declared.stream_fault.StreamFault.{StreamFault}
+use Rattle.a429_cert.specs.declared.stream_fault.StreamFault.TheVariants as stream
+use Rattle.a429_cert.specs.declared.listed.Listed.{Listed}
+use Rattle.a429_cert.specs.declared.line.CertLine.{CertLine}
+use Rattle.a429_cert.specs.declared.shelf.PutFile.{PutFile}
+use Rattle.a429_link.specs.declared.file.FileBytes.{FileBytes}
+use Rattle.a429_link.specs.Run.{IsPrefixOf}
+use Rattle.a429_cert.specs.Explained.{items_of}
+use Rattle.a429_cert.specs.Fault.{SaysLine, IsNamed, IsFaultOfLine}
+use Rattle.a429_cert.specs.Passing.{uses, uses_listed, PassesListed, RefusesListed, PassesText}
+
+-- ---- a recording that is read as it comes
+
+-- what comes behind its first n entries
+abbrev pub behind : ℕ → Recording → Recording
+behind n r = record { entries = drop n r.entries; fault = r.fault }
+
+-- what a run records of the entry that comes next, if one does
+abbrev pub next_of : Recording → Option Seen
+next_of r = slice_get (items_of r.entries) 0
+
+-- of what was to come the next entry is taken where a step uses one, and none where it uses none
+abbrev pub TakesNext : ℕ → Option Recording → Option Recording → Option Seen → Type 0
+TakesNext n None new next = ⊤
+TakesNext zero (Some r) new next = new ≡ Some r
+TakesNext (suc n) (Some r) new (Some item) = (next_of r ≡ Some item) × (new ≡ Some (behind 1 r))
+TakesNext (suc n) (Some r) new None = r ≡ whole []
+
+-- a fault of what was to come is all of it, where a step uses an entry
+abbrev pub IsFaultNext : ℕ → Option Recording → ReadFault → Type 0
+IsFaultNext n None f = ⊤
+IsFaultNext n (Some r) f = (n ≡ 1) × Stops f r
+
+-- the faults of a stream by those of a certificate and of a recording: each want of memory is one fault
+abbrev pub of_cert : CertFault → StreamFault
+of_cert of.OutOfMemory = stream.OutOfMemory
+of_cert f = stream.Cert f
+
+abbrev pub of_read : ReadFault → StreamFault
+of_read read.OutOfMemory = stream.OutOfMemory
+of_read f = stream.Read f
+
+-- ---- one line
+
+-- a fault that says that no entry is left comes only where the recording has no fault there
+abbrev pub HasEnd : Recording → CertFault → Type 0
+HasEnd r (of.WordDiffers n i) = next_of r ≡ None → r.fault ≡ None
+HasEnd r _ = ⊤
+
+-- what a line lists passes over the recording, and uses so many entries
+abbrev pub PassesNext : Contents → Listed → State → State → Option Recording → Option Recording → ℕ → Type 0
+PassesNext p x s t None new used = ⊤
+PassesNext p x s t (Some r) new used = PassesListed p x (next_of r) s t used × (new ≡ Some (behind used r))
+
+-- why what line n lists is refused, where entry i is next: a fault of the recording comes where its entry is wanted
+abbrev pub RefusesNext : Contents → Listed → State → Option Recording → ℕ → ℕ → StreamFault → Type 0
+RefusesNext p x s None n i f = ⊤
+RefusesNext p x s (Some r) n i (stream.Cert f) = RefusesListed p x (record { line = n; entry = i; next = next_of r }) s f × HasEnd r f × (f ≢ of.OutOfMemory)
+RefusesNext p x s (Some r) n i (stream.Read f) = (uses_listed x ≡ 1) × Stops f r × (f ≢ read.OutOfMemory)
+RefusesNext p x s (Some r) n i stream.Device = ⊥
+RefusesNext p x s (Some r) n i stream.OutOfMemory = ⊤
+
+-- a line of the text passes over the recording, and uses so many entries
+abbrev pub PassesOver : Contents → Option (List ℕ) → State → State → Option Recording → Option Recording → ℕ → Type 0
+PassesOver p text s t None new used = ⊤
+PassesOver p text s t (Some r) new used = PassesText p text (next_of r) s t used × (new ≡ Some (behind used r))
+
+-- a line of the text wants an entry: a step of its name may be made with some
+abbrev pub WantsEntry : Contents → Option (List ℕ) → State → Type 0
+WantsEntry p text s = (l : CertLine) × SaysLine text l × (uses l ≡ 1) × IsNamed p l s
+
+-- why line n of the text is refused, where entry i is next
+abbrev pub RefusesOver : Contents → Option (List ℕ) → State → Option Recording → ℕ → ℕ → StreamFault → Type 0
+RefusesOver p text s None n i f = ⊤
+RefusesOver p text s (Some r) n i (stream.Cert f) = IsFaultOfLine p s (next_of r) n i text f × HasEnd r f
+RefusesOver p text s (Some r) n i (stream.Read f) = WantsEntry p text s × Stops f r × (f ≢ read.OutOfMemory)
+RefusesOver p text s (Some r) n i stream.Device = ⊥
+RefusesOver p text s (Some r) n i stream.OutOfMemory = ⊤
+
+-- ---- files that are put
+
+-- files, each at its place, from this place on
+abbrev pub placed : ℕ → List FileBytes → List PutFile
+placed i [] = []
+placed i (f ∷ files) = record { index = i; file = f } ∷ placed (suc i) files
+
+-- a shelf has these files behind those that it had, from this place on, where it tells its files
+abbrev pub GainsAll : Option (List PutFile) → Option (List PutFile) → ℕ → List FileBytes → Type 0
+GainsAll None new i files = ⊤
+GainsAll (Some xs) None i files = ⊥
+GainsAll (Some xs) (Some ys) i files = ys ≡ xs ++ placed i files
+
+-- it has the first of these files behind those that it had
+pub record GainsFront (old new : Option (List PutFile)) (i : ℕ) (files : List FileBytes) : Type 0 where
+  pub front : List FileBytes
+  pub first : IsPrefixOf front files
+  pub gained : GainsAll old new i front
+
+-- the number and the length of each file
+abbrev pub sizes : List FileBytes → List (ℕ × ℕ)
+sizes files = map (λ f. (f.number, length f.bytes)) files

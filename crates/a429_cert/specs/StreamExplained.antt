@@ -1,0 +1,94 @@
+-- What a certificate explains, and its first fault, where it and the recording are read as they come (profile).
+use Rattle.std.specs.Prelude.{◌≡◌, ◌≢◌, ◌⊎◌, ◌≤◌, ℕ, List, [], length, take, drop, Option, Some, None, slice_get, ⊤}
+use Rattle.a429_profile.specs.Profile.{Contents}
+use Rattle.a429_link.specs.declared.file.FileBytes.{FileBytes}
+use Rattle.a429_link.specs.State.{State}
+use Rattle.a429_link.specs.Run.{IsPrefixOf}
+use Rattle.a429_record.specs.declared.fault.ReadFault.{ReadFault}
+use Rattle.a429_record.specs.declared.fault.ReadFault.TheVariants as read
+use Rattle.a429_record.specs.Recording.{Recording}
+use Rattle.a429_record.specs.Text.{Stops}
+use Rattle.a429_cert.specs.declared.fault.CertFault.{CertFault}
+use Rattle.a429_cert.specs.declared.fault.CertFault.TheVariants as of
+use Rattle.a429_cert.specs.declared.shelf.PutFile.{PutFile}
+use Rattle.a429_cert.specs.declared.stream_fault.StreamFault.{StreamFault}
+use Rattle.a429_cert.specs.declared.stream_fault.StreamFault.TheVariants as stream
+use Rattle.a429_cert.specs.Lines.{certificate_lines}
+use Rattle.a429_cert.specs.Explained.{items_of, Reaches, IsExplained, AreInEveryRun}
+use Rattle.a429_cert.specs.Fault.{HasVersion, HasFirst, IsFaultOfHead, IsLaterFault, IsFirstCertFault}
+use Rattle.a429_cert.specs.Stream.{behind, WantsEntry, GainsAll, sizes}
+
+-- what holds of the certificate and the recording, where both are told
+abbrev pub WhereTold : Option (List ℕ) → Option Recording → (List ℕ → Recording → Type 0) → Type 0
+WhereTold None rec Holds = ⊤
+WhereTold (Some text) None Holds = ⊤
+WhereTold (Some text) (Some r) Holds = Holds text r
+
+-- ---- a yes
+
+-- the certificate explains the whole recording by a run, which delivers these files, as does each other run that records the same words
+abbrev pub IsYes : Contents → List FileBytes → List ℕ → Recording → Type 0
+IsYes p files text r = (r.fault ≡ None) × IsExplained p text (items_of r.entries) files × AreInEveryRun p (items_of r.entries) files
+
+-- such files are put, from place 1 on, and their numbers and lengths are the answer
+pub record Extracts (p : Contents) (known : Option (List ℕ)) (rec : Option Recording) (old new : Option (List PutFile)) (answer : List (ℕ × ℕ)) : Type 0 where
+  pub files : List FileBytes
+  pub yes : WhereTold known rec (IsYes p files)
+  pub put : GainsAll old new 1 files
+  pub answered : answer ≡ sizes files
+
+-- ---- a fault
+
+-- behind the first two lines, k lines are the steps of a run over the first i entries, and it delivers these files
+pub record Delivers (p : Contents) (text : List ℕ) (r : Recording) (k i : ℕ) (s : State) (files : List FileBytes) : Type 0 where
+  pub version : HasVersion text
+  pub first : ℕ
+  pub has_first : HasFirst text first
+  pub inside : i ≤ length (items_of r.entries)
+  pub before : Reaches p first (take k (drop 2 (certificate_lines text))) (take i (items_of r.entries)) s
+  pub gives : files ≡ s.sink.shelf.files
+
+-- a certificate's fault that says that no entry is left comes only where the recording has no fault there
+abbrev pub EndsAt : Recording → CertFault → Type 0
+EndsAt r (of.WordDiffers n i) = slice_get (items_of r.entries) i ≡ None → r.fault ≡ None
+EndsAt r _ = ⊤
+
+-- the files that the lines before a certificate's fault deliver
+abbrev pub AreBeforeFault : Contents → List ℕ → Recording → CertFault → List FileBytes → Type 0
+AreBeforeFault p text r f files = (IsFaultOfHead text f × (files ≡ [])) ⊎ ((h : IsLaterFault p text (items_of r.entries) f) × (files ≡ h.state.sink.shelf.files))
+
+-- the next line wants an entry, or there is none
+abbrev pub WantsNext : Contents → Option (Option (List ℕ)) → State → Type 0
+WantsNext p None s = ⊤
+WantsNext p (Some line) s = WantsEntry p line s
+
+-- the recording's fault comes where its entry is wanted first
+pub record IsFirstReadFault (p : Contents) (text : List ℕ) (r : Recording) (f : ReadFault) (files : List FileBytes) : Type 0 where
+  pub k : ℕ
+  pub i : ℕ
+  pub state : State
+  pub before : Delivers p text r k i state files
+  pub wants : WantsNext p (slice_get (drop 2 (certificate_lines text)) k) state
+  pub fault : Stops f (behind i r)
+  pub told : f ≢ read.OutOfMemory
+
+-- files that some lines deliver: the first of them, or none
+pub record AreOfLines (p : Contents) (text : List ℕ) (r : Recording) (files : List FileBytes) : Type 0 where
+  pub k : ℕ
+  pub i : ℕ
+  pub state : State
+  pub all : List FileBytes
+  pub before : Delivers p text r k i state all
+  pub first : IsPrefixOf files all
+
+abbrev pub IsStreamFault : Contents → StreamFault → List FileBytes → List ℕ → Recording → Type 0
+IsStreamFault p (stream.Cert f) files text r = IsFirstCertFault p text (items_of r.entries) f × EndsAt r f × AreBeforeFault p text r f files
+IsStreamFault p (stream.Read f) files text r = IsFirstReadFault p text r f files
+IsStreamFault p stream.Device files text r = (files ≡ []) ⊎ AreOfLines p text r files
+IsStreamFault p stream.OutOfMemory files text r = (files ≡ []) ⊎ AreOfLines p text r files
+
+-- the fault comes first, and the files of the lines before it are put, from place 1 on
+pub record Refuses (p : Contents) (known : Option (List ℕ)) (rec : Option Recording) (old new : Option (List PutFile)) (f : StreamFault) : Type 0 where
+  pub files : List FileBytes
+  pub fault : WhereTold known rec (IsStreamFault p f files)
+  pub put : GainsAll old new 1 files

@@ -1,0 +1,240 @@
+//! A certificate, held against a recording, both read as they come.
+
+ghost use Rattle.std.specs.Prelude.{◌≡◌, ◌≢◌, ◌≤◌, ◌⊎◌, ◌+◌, [], ◌∷◌, ◌++◌, length, true, IfOk, IfErr, IfSome, IsSome, IsErrOf, OnOk, OnErr};
+ghost use Rattle.a429_profile.specs.Profile.{IsProfile};
+ghost use Rattle.a429_record.specs.declared.fault.ReadFault.TheVariants as read;
+ghost use Rattle.a429_link.specs.Link.{handed_out};
+ghost use Rattle.a429_cert.specs.Lines.{line_bytes};
+ghost use Rattle.a429_cert.specs.Shelf.{Gains, IsUnchanged};
+ghost use Rattle.a429_cert.specs.Passing.{IsReady, uses_listed};
+ghost use Rattle.a429_word.specs.Tally.{has_failed, unread};
+ghost use Rattle.a429_cert.specs.StreamExplained.{Extracts, Refuses};
+ghost use Rattle.a429_cert.specs.Stream.{IsFaultNext, RefusesNext, RefusesOver, PassesNext, PassesOver, TakesNext, GainsAll, GainsFront, sizes};
+
+use crate::at::At;
+use crate::entry::seen;
+use crate::fault::CertFault;
+use crate::line_reader::LineReader;
+use crate::lines::TextLine;
+use crate::listed::Listed;
+use crate::passing::{list_step, take_step};
+use crate::shelf::{Shelf, ShelfFault};
+use crate::stream_fault::{StreamFault, of_cert, of_read};
+use crate::stream_head::begin;
+use a429_link::{FileBytes, Link, Seen};
+use a429_profile::Profile;
+use a429_record::{EntryReader, ReadFault};
+use a429_word::Tally;
+use std::alloc::Global;
+use std::io::Read;
+
+/// Holds a certificate against a recording, under the profile of the bench, both read as they come. Where
+/// it explains the recording, the files that cross are put on the shelf, in order, and the answer is their
+/// numbers and lengths. Else the fault is the first one in the order of the lines, where a recording's comes
+/// where its entry is wanted, and the files that the lines before it deliver are put.
+pub fn verify_stream<R: Read, C: Read, S: Shelf>(
+    alloc: Global,
+    profile: &Profile,
+    rec: &mut EntryReader<R>,
+    cert: &mut Tally<C>,
+    shelf: &mut S,
+) -> Result<Vec<(u8, u32)>, StreamFault>
+    ensures ok { IfOk result (λ files. Extracts profile.now (unread C.remaining cert.old) rec.old.to_come (S.files shelf.old) (S.files shelf.new) files.items) }
+    ensures err { IfErr result (Refuses profile.now (unread C.remaining cert.old) rec.old.to_come (S.files shelf.old) (S.files shelf.new)) }
+    ensures device { IsErrOf result StreamFault.Device → (has_failed cert.new ≡ true) ⊎ (S.failed shelf.new ≡ true) }
+    ensures read { IsErrOf result (StreamFault.Read read.Device) → rec.new.failed ≡ true }
+{
+    // No line is empty of bytes, so that lines and entries are no more than the bytes that may come.
+    let _most: u64 = cert.left();
+    let mut lines = LineReader::new();
+    let first = match begin(alloc, &mut lines, cert) {
+        Ok(first) => first,
+        Err(fault) => return Err(fault),
+    };
+    let mut walk = Walk {
+        alloc,
+        profile,
+        link: Link::start(alloc, profile, first),
+        lines: 2,
+        used: 0,
+        files: Vec::new(alloc),
+    };
+    'lines: loop {
+        let Ok(found) = lines.next_line(cert) else {
+            return Err(StreamFault::Device);
+        };
+        if !found {
+            break;
+        }
+        walk.lines += 1;
+        match pass_over(&mut walk, lines.line(), rec) {
+            Ok(used) => walk.used += used,
+            Err(fault) => return Err(fault),
+        }
+        match put_delivered(&mut walk, shelf) {
+            Ok(()) => {}
+            Err(fault) => return Err(fault),
+        }
+    }
+    match rec.next() {
+        Ok(None) => Ok(walk.files),
+        Ok(Some(_)) => Err(StreamFault::Cert(CertFault::Unfinished(walk.used))),
+        Err(fault) => Err(of_read(fault)),
+    }
+}
+
+// Reads what is recorded in the next entry, where the step that a line lists uses one.
+fn entry_for<R: Read>(rec: &mut EntryReader<R>, listed: &Listed) -> Result<Option<Seen>, ReadFault>
+    ensures taken { IfOk result (λ next. TakesNext (uses_listed listed.now) rec.old.to_come rec.new.to_come next) }
+    ensures fault { IfErr result (λ f. IsFaultNext (uses_listed listed.now) rec.old.to_come f) }
+    ensures device { IsErrOf result read.Device → rec.new.failed ≡ true }
+{
+    if listed.used() == 0 {
+        return Ok(None);
+    }
+    match rec.next() {
+        Ok(Some(entry)) => Ok(Some(seen(entry))),
+        Ok(None) => Ok(None),
+        Err(fault) => Err(fault),
+    }
+}
+
+// Takes the step that line n lists, with the next entry, number i, if it uses one. Answers how many
+// entries it uses, 0 or 1.
+fn take_next<R: Read>(
+    link: &mut Link<'_>,
+    listed: Listed,
+    rec: &mut EntryReader<R>,
+    n: usize,
+    i: usize,
+) -> Result<usize, StreamFault>
+    requires { IsReady link.old.profile listed link.old.state }
+    ensures passed { IfOk result (λ used. PassesNext link.old.profile listed link.old.state link.new.state rec.old.to_come rec.new.to_come used) }
+    ensures few { IfOk result (λ used. used ≤ 1) }
+    ensures refused { IfErr result (λ f. RefusesNext link.old.profile listed link.old.state rec.old.to_come n i f) }
+    ensures device { IsErrOf result (StreamFault.Read read.Device) → rec.new.failed ≡ true }
+    ensures other { IfErr result (λ f. f ≢ StreamFault.Device) }
+    ensures kept { link.new.profile ≡ link.old.profile }
+{
+    let next = match entry_for(rec, &listed) {
+        Ok(next) => next,
+        Err(fault) => return Err(of_read(fault)),
+    };
+    let at = At {
+        line: n,
+        entry: i,
+        next,
+    };
+    match take_step(link, listed, at) {
+        Ok(used) => Ok(used),
+        Err(fault) => Err(of_cert(fault)),
+    }
+}
+
+// A walk along the lines of a certificate, over a recording.
+#[derive(Drop)]
+pub struct Walk<'a> {
+    alloc: Global,
+    profile: &'a Profile,
+    link: Link<'a>,
+    // how many lines were handed out, and how many entries they use
+    lines: usize,
+    used: usize,
+    // the number and the length of each file that was put
+    files: Vec<(u8, u32)>,
+}
+
+// Takes the last line that was handed out, over the next entry, if its step uses one. Answers how many
+// entries it uses, 0 or 1.
+pub fn pass_over<R: Read>(
+    walk: &mut Walk<'_>,
+    line: TextLine<'_>,
+    rec: &mut EntryReader<R>,
+) -> Result<usize, StreamFault>
+    requires sound { IsProfile walk.old.profile.now }
+    requires profile { walk.old.link.profile ≡ walk.old.profile.now }
+    ensures passed { IfOk result (λ used. PassesOver walk.old.profile.now (line_bytes line.entry) walk.old.link.state walk.new.link.state rec.old.to_come rec.new.to_come used) }
+    ensures ended { OnOk result (IsSome (line_bytes line.entry)) }
+    ensures few { IfOk result (λ used. used ≤ 1) }
+    ensures refused { IfErr result (λ f. RefusesOver walk.old.profile.now (line_bytes line.entry) walk.old.link.state rec.old.to_come walk.old.lines walk.old.used f) }
+    ensures device { IsErrOf result (StreamFault.Read read.Device) → rec.new.failed ≡ true }
+    ensures other { IfErr result (λ f. f ≢ StreamFault.Device) }
+    ensures kept { walk.new ≡ record (walk.old) { link = walk.new.link } }
+    ensures profile { walk.new.link.profile ≡ walk.old.profile.now }
+{
+    match list_step(walk.alloc, walk.profile, &walk.link, line, walk.lines) {
+        Ok(listed) => take_next(&mut walk.link, listed, rec, walk.lines, walk.used),
+        Err(fault) => Err(of_cert(fault)),
+    }
+}
+
+// A number that 32 bits hold.
+fn in_u32(number: usize) -> Option<u32>
+    ensures { IfSome result (λ n. n ≡ number) }
+{
+    u32::try_from(number).ok()
+}
+
+// Puts a file behind those that were put, and notes its number and its length. A place or a length that
+// 32 bits do not hold, which no recording gives, would be told as want of memory.
+fn put_file<S: Shelf>(
+    files: &mut Vec<(u8, u32)>,
+    file: &FileBytes,
+    shelf: &mut S,
+) -> Result<(), StreamFault>
+    ensures noted { OnOk result (files.new.items ≡ files.old.items ++ sizes (file.now ∷ [])) }
+    ensures ok { OnOk result (Gains (S.files shelf.old) (S.files shelf.new) (length files.old.items + 1) file.now.number file.now.bytes) }
+    ensures err { OnErr result (IsUnchanged (S.files shelf.old) (S.files shelf.new)) }
+    ensures device { IsErrOf result StreamFault.Device → S.failed shelf.new ≡ true }
+    ensures fault { IfErr result (λ f. (f ≡ StreamFault.Device) ⊎ (f ≡ StreamFault.OutOfMemory)) }
+{
+    let bytes = file.bytes.as_slice();
+    let Some(index) = in_u32(files.len() + 1) else {
+        return Err(StreamFault::OutOfMemory);
+    };
+    let Some(len) = in_u32(bytes.len()) else {
+        return Err(StreamFault::OutOfMemory);
+    };
+    if files.push((file.number, len)).is_err() {
+        return Err(StreamFault::OutOfMemory);
+    }
+    match shelf.put(index, file.number, bytes) {
+        Ok(()) => Ok(()),
+        Err(ShelfFault::Device) => Err(StreamFault::Device),
+        Err(ShelfFault::OutOfMemory) => Err(StreamFault::OutOfMemory),
+    }
+}
+
+// Puts files, one after the other.
+fn put_all<S: Shelf>(
+    files: &[FileBytes],
+    notes: &mut Vec<(u8, u32)>,
+    shelf: &mut S,
+) -> Result<(), StreamFault>
+    ensures ok { OnOk result (GainsAll (S.files shelf.old) (S.files shelf.new) (length notes.old.items + 1) files.now) }
+    ensures noted { OnOk result (notes.new.items ≡ notes.old.items ++ sizes files.now) }
+    ensures err { OnErr result (GainsFront (S.files shelf.old) (S.files shelf.new) (length notes.old.items + 1) files.now) }
+    ensures device { IsErrOf result StreamFault.Device → S.failed shelf.new ≡ true }
+    ensures fault { IfErr result (λ f. (f ≡ StreamFault.Device) ⊎ (f ≡ StreamFault.OutOfMemory)) }
+{
+    for file in files {
+        match put_file(notes, file, shelf) {
+            Ok(()) => {}
+            Err(fault) => return Err(fault),
+        }
+    }
+    Ok(())
+}
+
+// Puts the files that the link has delivered since they were last taken.
+pub fn put_delivered<S: Shelf>(walk: &mut Walk<'_>, shelf: &mut S) -> Result<(), StreamFault>
+    ensures ok { OnOk result (GainsAll (S.files shelf.old) (S.files shelf.new) (length walk.old.files.items + 1) walk.old.link.state.sink.shelf.files) }
+    ensures noted { OnOk result (walk.new.files.items ≡ walk.old.files.items ++ sizes walk.old.link.state.sink.shelf.files) }
+    ensures err { OnErr result (GainsFront (S.files shelf.old) (S.files shelf.new) (length walk.old.files.items + 1) walk.old.link.state.sink.shelf.files) }
+    ensures device { IsErrOf result StreamFault.Device → S.failed shelf.new ≡ true }
+    ensures fault { IfErr result (λ f. (f ≡ StreamFault.Device) ⊎ (f ≡ StreamFault.OutOfMemory)) }
+    ensures kept { walk.new ≡ record (walk.old) { link = record (walk.old.link) { state = handed_out walk.old.link.state }; files = walk.new.files } }
+{
+    let files = walk.link.take_delivered();
+    put_all(files.as_slice(), &mut walk.files, shelf)
+}

@@ -1,0 +1,40 @@
+//! Why a certificate that is read as it comes, or its recording, is refused.
+
+ghost use Rattle.std.specs.Prelude.{◌≡◌};
+ghost use Rattle.a429_cert.specs.Stream.{of_cert, of_read};
+
+use crate::fault::CertFault;
+use a429_record::ReadFault;
+
+/// Why a certificate and a recording that are read as they come are refused.
+#[derive(Clone, Copy, Debug, PartialEq, Eq)]
+pub enum StreamFault {
+    /// The certificate's first fault. Lines are counted from 1, entries from 0.
+    Cert(CertFault),
+    /// The recording's fault, where the entry that it stands for is wanted first.
+    Read(ReadFault),
+    /// The certificate's reader or the shelf has failed.
+    Device,
+    /// Memory was refused.
+    OutOfMemory,
+}
+
+/// The fault of a stream for one of its certificate.
+pub fn of_cert(fault: CertFault) -> StreamFault
+    ensures { result ≡ of_cert fault }
+{
+    match fault {
+        CertFault::OutOfMemory => StreamFault::OutOfMemory,
+        _ => StreamFault::Cert(fault),
+    }
+}
+
+/// The fault of a stream for one of its recording.
+pub fn of_read(fault: ReadFault) -> StreamFault
+    ensures { result ≡ of_read fault }
+{
+    match fault {
+        ReadFault::OutOfMemory => StreamFault::OutOfMemory,
+        _ => StreamFault::Read(fault),
+    }
+}

@@ -1,0 +1,75 @@
+//! The first two lines of a certificate that is read as it comes.
+
+ghost use Rattle.std.specs.Prelude.{◌≡◌, ◌+◌, ◌≤◌, true, IfOk, IfErr, IsErrOf, OnOk};
+ghost use Rattle.a429_word.specs.Tally.{has_failed};
+ghost use Rattle.a429_cert.specs.declared.line.CertLine.TheVariants.{First};
+ghost use Rattle.a429_cert.specs.Line.{spelling};
+ghost use Rattle.a429_cert.specs.Lines.{version};
+ghost use Rattle.a429_cert.specs.LineReader.{to_come, room_left};
+ghost use Rattle.a429_cert.specs.Fault.{IsFaultOfHead};
+ghost use Rattle.a429_cert.specs.StreamHead.{TakesLine, TakesHead, RefusesHead, IsNoVersion, GivesNoFirst};
+
+use crate::explained::{first_of, is_version};
+use crate::fault::CertFault;
+use crate::line_reader::LineReader;
+use crate::stream_fault::{StreamFault, of_cert};
+use a429_word::Tally;
+use std::alloc::Global;
+use std::io::Read;
+
+/// The number of the first file, by the two lines that begin a certificate.
+pub fn begin<R: Read>(
+    alloc: Global,
+    lines: &mut LineReader,
+    cert: &mut Tally<R>,
+) -> Result<u8, StreamFault>
+    ensures ok { IfOk result (λ first. TakesHead (to_come R.remaining lines.old cert.old) (to_come R.remaining lines.new cert.new) first) }
+    ensures room { OnOk result (room_left lines.new cert.new + 2 ≤ room_left lines.old cert.old) }
+    ensures err { IfErr result (RefusesHead IsFaultOfHead (to_come R.remaining lines.old cert.old)) }
+    ensures device { IsErrOf result StreamFault.Device → has_failed cert.new ≡ true }
+{
+    match take_version(lines, cert) {
+        Ok(()) => take_first(alloc, lines, cert),
+        Err(fault) => Err(fault),
+    }
+}
+
+// Takes the first line of a certificate.
+fn take_version<R: Read>(lines: &mut LineReader, cert: &mut Tally<R>) -> Result<(), StreamFault>
+    ensures ok { OnOk result (TakesLine (to_come R.remaining lines.old cert.old) (to_come R.remaining lines.new cert.new) version) }
+    ensures room { OnOk result (room_left lines.new cert.new + 1 ≤ room_left lines.old cert.old) }
+    ensures err { IfErr result (RefusesHead IsNoVersion (to_come R.remaining lines.old cert.old)) }
+    ensures device { IsErrOf result StreamFault.Device → has_failed cert.new ≡ true }
+{
+    let Ok(found) = lines.next_line(cert) else {
+        return Err(StreamFault::Device);
+    };
+    if found && is_version(Some(lines.line())) {
+        Ok(())
+    } else {
+        Err(StreamFault::Cert(CertFault::Version))
+    }
+}
+
+// The number of the first file, which the next line gives.
+fn take_first<R: Read>(
+    alloc: Global,
+    lines: &mut LineReader,
+    cert: &mut Tally<R>,
+) -> Result<u8, StreamFault>
+    ensures ok { IfOk result (λ first. TakesLine (to_come R.remaining lines.old cert.old) (to_come R.remaining lines.new cert.new) (spelling (First first))) }
+    ensures room { OnOk result (room_left lines.new cert.new + 1 ≤ room_left lines.old cert.old) }
+    ensures err { IfErr result (RefusesHead GivesNoFirst (to_come R.remaining lines.old cert.old)) }
+    ensures device { IsErrOf result StreamFault.Device → has_failed cert.new ≡ true }
+{
+    let Ok(found) = lines.next_line(cert) else {
+        return Err(StreamFault::Device);
+    };
+    if !found {
+        return Err(StreamFault::Cert(CertFault::Line(2)));
+    }
+    match first_of(alloc, Some(lines.line())) {
+        Ok(first) => Ok(first),
+        Err(fault) => Err(of_cert(fault)),
+    }
+}
