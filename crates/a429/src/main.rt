@@ -2,11 +2,11 @@
 #![tactic(auto)]
 
 use a429_check::{
-    Claim, Command, RunFault, command, read_whole, report, run_check, run_extract, run_labels,
-    run_make, run_show, run_verify, run_word,
+    Claim, Command, Folder, RunFault, command, read_whole, report, run_check, run_extract,
+    run_labels, run_make, run_show, run_verify, run_word,
 };
-use a429_link::FileBytes;
-use a429_word::{Failing, Tally};
+use a429_record::EntryReader;
+use a429_word::Tally;
 use std::alloc::Global;
 use std::io::{BufWriter, ErrorKind, Write};
 use std::process::ExitCode;
@@ -92,7 +92,7 @@ fn verify<W: Write>(
     out: &mut Tally<W>,
 ) -> Result<u8, RunFault> {
     let profile = bytes_of(rt, alloc, claim.profile)?;
-    let mut rec = opened(rt, claim.recording, CAP)?;
+    let mut rec = EntryReader::new(alloc, opened(rt, claim.recording, CAP)?);
     let mut cert = opened(rt, claim.certificate, CERTIFICATE_CAP)?;
     run_verify(alloc, profile.as_slice(), &mut rec, &mut cert, out)
 }
@@ -105,28 +105,17 @@ fn extract<W: Write>(
     out: &mut Tally<W>,
 ) -> Result<u8, RunFault> {
     let profile = bytes_of(rt, alloc, claim.profile)?;
-    let mut rec = opened(rt, claim.recording, CAP)?;
+    let mut rec = EntryReader::new(alloc, opened(rt, claim.recording, CAP)?);
     let mut cert = opened(rt, claim.certificate, CERTIFICATE_CAP)?;
-    let mut files = Vec::new(alloc);
-    let mut verdict = Vec::new(alloc);
-    let mut told = Tally::new(&mut verdict, 0);
-    let answered = run_extract(
+    let mut folder = Folder::new(rt, alloc, folder).map_err(|_| RunFault::Memory)?;
+    run_extract(
         alloc,
         profile.as_slice(),
         &mut rec,
         &mut cert,
-        &mut files,
-        &mut told,
-    );
-    // The verdict is kept in memory, so that is what its writer wants where it fails.
-    if told.failed() {
-        return Err(RunFault::Memory);
-    }
-    let status = answered?;
-    // A yes is told only where its files are there.
-    write_files(rt, alloc, folder, files.as_slice())?;
-    out.put(verdict.as_slice())?;
-    Ok(status)
+        &mut folder,
+        out,
+    )
 }
 
 // The bytes of each of these files.
@@ -160,22 +149,6 @@ fn opened<F: Files>(rt: &F, path: &str, cap: u64) -> Result<Tally<F::File>, RunF
 fn created<F: Files>(rt: &F, path: &str) -> Result<Tally<F::File>, RunFault> {
     let file = fs::create(rt, path).map_err(|_| RunFault::Device)?;
     Ok(Tally::new(file, 0))
-}
-
-// Writes each file that crossed into a folder, under its place from 1 in six digits.
-fn write_files(
-    rt: &impl Files,
-    alloc: Global,
-    folder: &str,
-    files: &[FileBytes],
-) -> Result<(), RunFault> {
-    for (i, file) in files.iter().enumerate() {
-        let Ok(path) = format!(in alloc; "{folder}/{:06}.bin", i + 1) else {
-            return Err(RunFault::Memory);
-        };
-        created(rt, path.as_str())?.put(file.bytes.as_slice())?;
-    }
-    Ok(())
 }
 
 // The bytes of a file.

@@ -7,3 +7,4 @@ pub mod MakeWords
 pub mod MakeCrossed
 pub mod MakeBytes
 pub mod ShowOneLine
+pub mod VerdictFacts

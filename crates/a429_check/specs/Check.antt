@@ -1,5 +1,5 @@
 -- The verdict on a recording, and how it is written (profile).
-use Rattle.std.specs.Prelude.{◌≡◌, ◌⊎◌, ◌++◌, ℕ, List, [], codes, Option}
+use Rattle.std.specs.Prelude.{◌≡◌, ◌⊎◌, ◌++◌, ℕ, List, [], codes, Bool, true, Option}
 use Rattle.std.specs.Fmt.{decimal}
 use Rattle.a429_word.specs.declared.tally.Tally.{Tally}
 use Rattle.a429_cert.specs.Explained.{items_of}
@@ -11,8 +11,13 @@ use Rattle.a429_explain.specs.declared.verdict.Doubt.{Doubt}
 use Rattle.a429_explain.specs.declared.verdict.Doubt.TheVariants.{NeverWhole, NotOneBlock, NotReplayed}
 use Rattle.a429_explain.specs.Verdict.{IsSoundVerdict, IsImpossible, IsDoubted, IsFirst, HasNoForm, IsImpossibility, IsExplanation}
 use Rattle.a429_explain.specs.WithoutLoss.{IsWithoutLoss}
-use Rattle.a429_check.specs.Recording.{SayInput}
-use Rattle.a429_word.specs.Tally.{PutsFront}
+use Rattle.std.specs.Str.{IsUtf8}
+use Rattle.a429_cert.specs.Stream.{sizes}
+use Rattle.a429_word.specs.Tally.{has_failed, PutsFront}
+use Rattle.a429_check.specs.declared.fault.RunFault.{RunFault}
+use Rattle.a429_check.specs.Fault.{ComesBy, never}
+use Rattle.a429_check.specs.Profile.{IsSomeProfile, HasFault}
+use Rattle.a429_check.specs.Recording.{SayInput, IsRecordingFault}
 use Rattle.a429_check.specs.Verdict.{yes_text}
 
 -- ---- the text
@@ -28,7 +33,7 @@ doubt_text NotOneBlock = codes " NotOneBlock\n"
 doubt_text NotReplayed = codes " NotReplayed\n"
 
 abbrev pub verdict_text : Verdict → List ℕ
-verdict_text (Explained certificate files) = yes_text files
+verdict_text (Explained certificate files) = yes_text (sizes files)
 verdict_text (Impossible i reason) = codes "IMPOSSIBLE " ++ decimal i ++ reason_text reason
 verdict_text (Unexplained i doubt) = codes "UNEXPLAINED " ++ decimal i ++ doubt_text doubt
 
@@ -59,3 +64,18 @@ pub record IsVerdictOn (profile : List ℕ) (recording : Option (List ℕ)) (v :
 abbrev pub PutsFrontAtMost : {C : Type 0} → (C → Option (List ℕ)) → Tally C → Tally C → List ℕ → Option (List ℕ) → Type 0
 PutsFrontAtMost contents old new profile recording =
     (new ≡ old) ⊎ ((v : Verdict) × IsVerdictOn profile recording v × PutsFront contents old new (certificate_text v))
+
+-- ---- why there is none
+
+-- the profile's own fault, then the recording's; the recording's reader failed, or, once the recording was read whole, the certificate's or the output did; want of memory, once the profile is known to be a text
+abbrev pub IsCheckFault : List ℕ → Option (List ℕ) → Bool → Bool → Bool → RunFault → Type 0
+IsCheckFault profile known rec_failed cert_failed out_failed = ComesBy (record never {
+  profile = HasFault profile;
+  recording = λ f. IsSomeProfile profile × IsRecordingFault known f;
+  device = (IsSomeProfile profile × (rec_failed ≡ true)) ⊎ (SayInput profile known × ((cert_failed ≡ true) ⊎ (out_failed ≡ true)));
+  memory = IsUtf8 profile;
+})
+
+-- such a fault, as it left the recording's reader, the certificate's reader or writer, and the output
+abbrev pub LeavesFault : {R C W : Type 0} → List ℕ → Option (List ℕ) → Tally R → Tally C → Tally W → RunFault → Type 0
+LeavesFault profile known rec certificate out = IsCheckFault profile known (has_failed rec) (has_failed certificate) (has_failed out)

@@ -2,6 +2,7 @@
 
 pub mod check;
 pub mod extract;
+pub mod folder;
 pub mod labels;
 pub mod make;
 mod output;

@@ -1,8 +1,10 @@
 //! Calls of the commands with texts for files, under the sample profile.
 
+use a429_cert::MemoryShelf;
 use a429_check::{RunFault, run_check, run_extract, run_verify};
 use a429_link::{Bytes, FileBytes};
 use a429_profile::{Profile, read_profile};
+use a429_record::EntryReader;
 use a429_sample::PROFILE;
 use a429_word::Tally;
 use std::alloc::{AllocError, Global};
@@ -67,25 +69,27 @@ pub fn check<R: io::Read, C: io::Write, W: io::Write>(
 }
 
 /// What `verify` answers.
-pub fn verify<R: io::Read, C: io::Read, W: io::Write>(
+pub fn verify<C: io::Read, W: io::Write>(
     alloc: Global,
     profile: &str,
-    rec: &mut Tally<R>,
+    rec: Tally<&[u8]>,
     cert: &mut Tally<C>,
     out: &mut Tally<W>,
 ) -> Result<u8, RunFault> {
-    run_verify(alloc, profile.as_bytes(), rec, cert, out)
+    let mut rec = EntryReader::new(alloc, rec);
+    run_verify(alloc, profile.as_bytes(), &mut rec, cert, out)
 }
 
 // What `extract` answers.
-fn extract<R: io::Read, C: io::Read, W: io::Write>(
+fn extract<C: io::Read, W: io::Write>(
     alloc: Global,
-    rec: &mut Tally<R>,
+    rec: Tally<&[u8]>,
     cert: &mut Tally<C>,
-    files: &mut Vec<FileBytes>,
+    shelf: &mut MemoryShelf,
     out: &mut Tally<W>,
 ) -> Result<u8, RunFault> {
-    run_extract(alloc, PROFILE.as_bytes(), rec, cert, files, out)
+    let mut rec = EntryReader::new(alloc, rec);
+    run_extract(alloc, PROFILE.as_bytes(), &mut rec, cert, shelf, out)
 }
 
 /// What a command answers to the recording by the sample profile, and what it writes.
@@ -123,10 +127,10 @@ pub fn check_told(alloc: Global, recording: &str) -> Result<(String, Vec<u8>), F
 /// What `verify` answers to a certificate.
 pub fn verified(alloc: Global, recording: &str, certificate: &[u8]) -> Answered {
     let mut verdict = Vec::new(alloc);
-    let mut rec = Tally::new(recording.as_bytes(), MOST);
+    let rec = Tally::new(recording.as_bytes(), MOST);
     let mut cert = Tally::new(certificate, MOST);
     let mut out = Tally::new(&mut verdict, 0);
-    let status = verify(alloc, PROFILE, &mut rec, &mut cert, &mut out);
+    let status = verify(alloc, PROFILE, rec, &mut cert, &mut out);
     Answered { status, verdict }
 }
 
@@ -135,21 +139,32 @@ pub fn verify_told(alloc: Global, recording: &str, certificate: &[u8]) -> Result
     answer_told(alloc, verified(alloc, recording, certificate))
 }
 
-/// What `extract` answers to a certificate, and the files, among which there was one before.
+// The files of a shelf, in order.
+fn files_of(alloc: Global, shelf: &MemoryShelf) -> Result<Vec<FileBytes>, AllocError> {
+    let mut files = Vec::new(alloc);
+    for put in shelf.files() {
+        let mut bytes = Vec::new(alloc);
+        bytes.extend_from_slice(put.file.bytes.as_slice())?;
+        files.push(FileBytes {
+            number: put.file.number,
+            bytes: Bytes::new(bytes),
+        })?;
+    }
+    Ok(files)
+}
+
+/// What `extract` answers to a certificate, and the files that it put.
 pub fn extracted(
     alloc: Global,
     recording: &str,
     certificate: &[u8],
 ) -> Result<(Answered, Vec<FileBytes>), AllocError> {
-    let mut files = Vec::new(alloc);
-    files.push(FileBytes {
-        number: 7,
-        bytes: Bytes::new(Vec::new(alloc)),
-    })?;
+    let mut shelf = MemoryShelf::new(alloc);
     let mut verdict = Vec::new(alloc);
-    let mut rec = Tally::new(recording.as_bytes(), MOST);
+    let rec = Tally::new(recording.as_bytes(), MOST);
     let mut cert = Tally::new(certificate, MOST);
     let mut out = Tally::new(&mut verdict, 0);
-    let status = extract(alloc, &mut rec, &mut cert, &mut files, &mut out);
+    let status = extract(alloc, rec, &mut cert, &mut shelf, &mut out);
+    let files = files_of(alloc, &shelf)?;
     Ok((Answered { status, verdict }, files))
 }

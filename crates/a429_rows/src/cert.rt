@@ -3,3 +3,5 @@
 mod line_reader;
 mod lines;
 mod replay;
+mod shelf;
+mod stream;

@@ -5,13 +5,12 @@ ghost use Rattle.std.specs.Fmt.{decimal};
 ghost use Rattle.a429_word.specs.Tally.{has_failed, unread, PutsFront, Puts};
 ghost use Rattle.a429_explain.specs.declared.verdict.Verdict.{Verdict};
 ghost use Rattle.a429_check.specs.Recording.{SayInput};
-ghost use Rattle.a429_check.specs.Verdict.{IsVerifyFault, LeavesFault};
-ghost use Rattle.a429_check.specs.Check.{reason_text, doubt_text, verdict_text, certificate_text, verdict_status, IsVerdictOn, PutsFrontAtMost};
+ghost use Rattle.a429_check.specs.Check.{reason_text, doubt_text, verdict_text, certificate_text, verdict_status, IsVerdictOn, IsCheckFault, LeavesFault, PutsFrontAtMost};
 
 use crate::engines::output::put_decimal;
 use crate::engines::profile::profile_of;
 use crate::engines::recording::entries_of;
-use crate::engines::verdict::put_yes;
+use crate::engines::verdict::put_explained;
 use crate::fault::RunFault;
 use a429_explain::{Doubt, Reason, Verdict, check};
 use a429_word::{Device, Tally};
@@ -56,7 +55,7 @@ fn verdict_on<R: Read>(
     ensures verdict { IfOk result (IsVerdictOn profile.now (unread R.remaining rec.old)) }
     ensures says { OnOk result (SayInput profile.now (unread R.remaining rec.old)) }
     ensures device { OnOk result (has_failed rec.new ≡ false) }
-    ensures err { IfErr result (IsVerifyFault profile.now (unread R.remaining rec.old) (has_failed rec.new) false false) }
+    ensures err { IfErr result (IsCheckFault profile.now (unread R.remaining rec.old) (has_failed rec.new) false false) }
 {
     let profile = profile_of(alloc, profile)?;
     let entries = entries_of(alloc, rec)?;
@@ -94,7 +93,7 @@ fn put_verdict<W: Write>(out: &mut Tally<W>, verdict: &Verdict) -> Result<(), De
     ensures device { IsErr result ↔ (has_failed out.new ≡ true) }
 {
     match verdict {
-        Verdict::Explained { files, .. } => put_yes(out, files.files()),
+        Verdict::Explained { files, .. } => put_explained(out, files.files()),
         Verdict::Impossible { entry, reason } => put_impossible(out, *entry, *reason),
         Verdict::Unexplained { entry, doubt } => put_unexplained(out, *entry, *doubt),
     }

@@ -1,38 +1,35 @@
 //! `a429 extract PROFILE REC CERT DIR`: the files that crossed.
 
-ghost use Rattle.std.specs.Prelude.{◌≡◌, [], IfOk, IfErr, OnOk, OnErr};
-ghost use Rattle.a429_word.specs.Tally.{unread};
-ghost use Rattle.a429_check.specs.Verdict.{PutsVerdict, LeavesFault, AllWork, IsSilent};
+ghost use Rattle.std.specs.Prelude.{◌≡◌, ◌⊎◌, true, IfOk, IfErr, OnOk};
+ghost use Rattle.a429_word.specs.Tally.{has_failed, unread};
+ghost use Rattle.a429_check.specs.Verdict.{AllWork, HasFailed, IsSilent, IsVerdict, IsVerifyFault, PutsText};
 
-use crate::engines::verdict::{Judged, judge};
+use crate::engines::verdict::judge;
 use crate::fault::RunFault;
-use a429_link::FileBytes;
+use a429_cert::Shelf;
+use a429_record::EntryReader;
 use a429_word::Tally;
 use std::alloc::Global;
 use std::io::{Read, Write};
 
-/// Writes the verdict of a certificate as `run_verify` does. Where the status is 0, `files` are those
-/// that crossed, and else there are none, whatever it held before.
-pub fn run_extract<R: Read, C: Read, W: Write>(
+/// Puts each file of a certificate on a shelf once the lines before it are accepted, and writes the
+/// verdict at the end, as `run_verify` does. Where the status is 0 they are the files that crossed. Else
+/// those that were put stay, and tell nothing: they are what the lines before the fault deliver.
+pub fn run_extract<R: Read, C: Read, S: Shelf, W: Write>(
     alloc: Global,
     profile: &[u8],
-    rec: &mut Tally<R>,
+    rec: &mut EntryReader<R>,
     certificate: &mut Tally<C>,
-    files: &mut Vec<FileBytes>,
+    shelf: &mut S,
     out: &mut Tally<W>,
 ) -> Result<u8, RunFault>
-    ensures verdict { IfOk result (λ status. PutsVerdict W.contents out.old out.new
-        profile.now (unread R.remaining rec.old) (unread C.remaining certificate.old) files.new.items status) }
-    ensures device { OnOk result (AllWork rec.new certificate.new out.new) }
-    ensures no_verdict { OnErr result (files.new.items ≡ []) }
-    ensures err { IfErr result (LeavesFault profile.now (unread R.remaining rec.old) rec.new certificate.new out.new) }
-    ensures silent { IfErr result (IsSilent rec.new out.old out.new) }
+    ensures verdict { IfOk result (λ status. PutsText W.contents out.old out.new (IsVerdict profile.now
+        (unread C.remaining certificate.old) rec.old.to_come (S.files shelf.old) (S.files shelf.new) status)) }
+    ensures device { OnOk result (AllWork rec.new.failed (has_failed certificate.new) (S.failed shelf.new) (has_failed out.new)) }
+    ensures err { IfErr result (IsVerifyFault profile.now (unread C.remaining certificate.old) rec.old.to_come (S.files shelf.old)
+        (S.files shelf.new) (HasFailed rec.new.failed (has_failed certificate.new) (S.failed shelf.new) ⊎ (has_failed out.new ≡ true))) }
+    ensures silent { IfErr result (IsSilent (HasFailed rec.new.failed (has_failed certificate.new) (S.failed shelf.new))
+        (has_failed out.new) out.old out.new) }
 {
-    files.clear();
-    let Judged {
-        files: crossed,
-        status,
-    } = judge(alloc, profile, rec, certificate, out)?;
-    *files = crossed;
-    Ok(status)
+    judge(alloc, profile, rec, certificate, shelf, out)
 }

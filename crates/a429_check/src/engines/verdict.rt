@@ -1,81 +1,80 @@
-//! Holds a certificate against a recording, and tells the verdict, as each command that takes one does.
+//! Holds a certificate against a recording, both read as they come, and tells the verdict, as each command
+//! that takes one does.
 
-ghost use Rattle.std.specs.Prelude.{◌≡◌, ◌↔◌, ◌≢◌, true, false, Err, codes, ◌++◌, IsErr, IfOk, IfErr, OnOk};
+ghost use Rattle.std.specs.Prelude.{◌≡◌, ◌↔◌, ◌≢◌, ◌⊎◌, true, false, Ok, Err, codes, ◌++◌, IsErr, IfOk, IfErr, OnOk};
 ghost use Rattle.std.specs.List.{flat_map};
-ghost use Rattle.a429_word.specs.Tally.{has_failed, unread, Puts};
-ghost use Rattle.a429_check.specs.Verdict.{file_line, yes_text, no_text, IsAnswer, PutsVerdict, LeavesReadFault, LeavesFault, AllWork, IsSilent};
-ghost use Rattle.a429_check.specs.Recording.{SayInput};
 ghost use Rattle.std.specs.Fmt.{decimal};
+ghost use Rattle.a429_word.specs.Tally.{has_failed, unread, Puts};
+ghost use Rattle.a429_cert.specs.Stream.{sizes};
+ghost use Rattle.a429_check.specs.Verdict.{count_line, file_line, line_of_file, yes_text, no_text, of_stream, AllWork, HasFailed, IsSilent, IsVerdict, IsVerifyFault, Judges, PutsText};
 
 use crate::engines::output::put_decimal;
 use crate::engines::profile::profile_of;
-use crate::engines::recording::entries_of;
-use crate::engines::whole::read_whole;
 use crate::fault::RunFault;
-use a429_cert::{CertFault, Verified, verify};
+use a429_cert::{CertFault, Shelf, StreamFault, verify_stream};
 use a429_link::FileBytes;
-use a429_word::{Device, Tally};
+use a429_record::{EntryReader, ReadFault};
+use a429_word::{Device, Failing, Tally};
 use std::alloc::Global;
 use std::io::{Read, Write};
 
-/// The verdict of a certificate: the files that crossed, none where it is refused, and the exit status.
-#[derive(Drop)]
-pub(crate) struct Judged {
-    pub files: Vec<FileBytes>,
-    pub status: u8,
-}
+// The numbers and lengths of the files that a certificate puts on a shelf, or why it is refused.
+type Answer = Result<Vec<(u8, u32)>, CertFault>;
 
-/// Writes the verdict of a certificate, and answers it.
-pub(crate) fn judge<R: Read, C: Read, W: Write>(
+/// Puts the files that a certificate gives on a shelf, writes the verdict, and answers its status: 0 for a
+/// yes, 2 for a no.
+pub(crate) fn judge<R: Read, C: Read, S: Shelf, W: Write>(
     alloc: Global,
     profile: &[u8],
-    rec: &mut Tally<R>,
+    rec: &mut EntryReader<R>,
     certificate: &mut Tally<C>,
+    shelf: &mut S,
     out: &mut Tally<W>,
-) -> Result<Judged, RunFault>
-    ensures verdict { IfOk result (λ v. PutsVerdict W.contents out.old out.new
-        profile.now (unread R.remaining rec.old) (unread C.remaining certificate.old) v.files.items v.status) }
-    ensures device { OnOk result (AllWork rec.new certificate.new out.new) }
-    ensures err { IfErr result (LeavesFault profile.now (unread R.remaining rec.old) rec.new certificate.new out.new) }
-    ensures silent { IfErr result (IsSilent rec.new out.old out.new) }
+) -> Result<u8, RunFault>
+    ensures verdict { IfOk result (λ status. PutsText W.contents out.old out.new (IsVerdict profile.now
+        (unread C.remaining certificate.old) rec.old.to_come (S.files shelf.old) (S.files shelf.new) status)) }
+    ensures device { OnOk result (AllWork rec.new.failed (has_failed certificate.new) (S.failed shelf.new) (has_failed out.new)) }
+    ensures err { IfErr result (IsVerifyFault profile.now (unread C.remaining certificate.old) rec.old.to_come (S.files shelf.old)
+        (S.files shelf.new) (HasFailed rec.new.failed (has_failed certificate.new) (S.failed shelf.new) ⊎ (has_failed out.new ≡ true))) }
+    ensures silent { IfErr result (IsSilent (HasFailed rec.new.failed (has_failed certificate.new) (S.failed shelf.new))
+        (has_failed out.new) out.old out.new) }
 {
-    match answer_of(alloc, profile, rec, certificate)? {
-        Ok(verified) => {
-            put_yes(out, verified.files())?;
-            Ok(Judged {
-                files: verified.into_files(),
-                status: 0,
-            })
+    match answer_of(alloc, profile, rec, certificate, shelf)? {
+        Ok(files) => {
+            put_yes(out, files.as_slice())?;
+            Ok(0)
         }
         Err(fault) => {
             put_no(out, fault)?;
-            Ok(Judged {
-                files: Vec::new(alloc),
-                status: 2,
-            })
+            Ok(2)
         }
     }
 }
 
-// What `verify` answers to a certificate, under the profile whose text the bytes are. The recording is
-// read to its end, and then the certificate.
-fn answer_of<R: Read, C: Read>(
+// What `verify_stream` answers to a certificate, under the profile whose text the bytes are, where no
+// reader and no shelf has failed.
+fn answer_of<R: Read, C: Read, S: Shelf>(
     alloc: Global,
     profile: &[u8],
-    rec: &mut Tally<R>,
+    rec: &mut EntryReader<R>,
     certificate: &mut Tally<C>,
-) -> Result<Result<Verified, CertFault>, RunFault>
-    ensures answer { IfOk result (IsAnswer profile.now (unread R.remaining rec.old) (unread C.remaining certificate.old)) }
-    ensures says { OnOk result (SayInput profile.now (unread R.remaining rec.old)) }
-    ensures verdict { IfOk result (λ a. a ≢ Err CertFault.OutOfMemory) }
-    ensures device { OnOk result ((has_failed rec.new ≡ false) × (has_failed certificate.new ≡ false)) }
-    ensures err { IfErr result (LeavesReadFault profile.now (unread R.remaining rec.old) rec.new certificate.new) }
+    shelf: &mut S,
+) -> Result<Answer, RunFault>
+    ensures yes { IfOk result (λ a. IfOk a (λ files. Judges profile.now (unread C.remaining certificate.old) rec.old.to_come
+        (S.files shelf.old) (S.files shelf.new) (Ok files.items))) }
+    ensures no { IfOk result (λ a. IfErr a (λ f. Judges profile.now (unread C.remaining certificate.old) rec.old.to_come
+        (S.files shelf.old) (S.files shelf.new) (Err (StreamFault.Cert f)) × (f ≢ CertFault.OutOfMemory))) }
+    ensures works { OnOk result (AllWork rec.new.failed (has_failed certificate.new) (S.failed shelf.new) false) }
+    ensures err { IfErr result (IsVerifyFault profile.now (unread C.remaining certificate.old) rec.old.to_come (S.files shelf.old)
+        (S.files shelf.new) (HasFailed rec.new.failed (has_failed certificate.new) (S.failed shelf.new))) }
 {
     let profile = profile_of(alloc, profile)?;
-    let entries = entries_of(alloc, rec)?;
-    let text = read_whole(alloc, certificate)?;
-    match verify(alloc, &profile, entries.as_slice(), text.as_slice()) {
-        Ok(verified) => Ok(Ok(verified)),
+    let answer = verify_stream(alloc, &profile, rec, certificate, shelf);
+    if any_failed(rec, certificate, shelf) {
+        return Err(RunFault::Device);
+    }
+    match answer {
+        Ok(files) => Ok(Ok(files)),
         Err(fault) => match of_certificate(fault) {
             Ok(fault) => Ok(Err(fault)),
             Err(fault) => Err(fault),
@@ -83,52 +82,112 @@ fn answer_of<R: Read, C: Read>(
     }
 }
 
-// The fault, where it is one of the certificate: want of memory is none.
-fn of_certificate(fault: CertFault) -> Result<CertFault, RunFault>
-    ensures ok { IfOk result (λ f. (f ≡ fault) × (f ≢ CertFault.OutOfMemory)) }
-    ensures err { IfErr result (λ e. e ≡ RunFault.Memory) }
+// Whether a reader or the shelf has failed.
+fn any_failed<R: Read, C: Read, S: Shelf>(
+    rec: &EntryReader<R>,
+    certificate: &Tally<C>,
+    shelf: &S,
+) -> bool
+    ensures yes { result ≡ true → HasFailed rec.now.failed (has_failed certificate.now) (S.failed shelf.now) }
+    ensures no { result ≡ false → AllWork rec.now.failed (has_failed certificate.now) (S.failed shelf.now) false }
+{
+    rec.failed() || certificate.failed() || shelf.failed()
+}
+
+// The fault, where it is one of the certificate.
+fn of_certificate(fault: StreamFault) -> Result<CertFault, RunFault>
+    ensures ok { IfOk result (λ f. (fault ≡ StreamFault.Cert f) × (f ≢ CertFault.OutOfMemory)) }
+    ensures err { IfErr result (λ e. e ≡ of_stream fault) }
 {
     match fault {
-        CertFault::OutOfMemory => Err(RunFault::Memory),
-        _ => Ok(fault),
+        StreamFault::Cert(CertFault::OutOfMemory) | StreamFault::OutOfMemory => Err(RunFault::Memory),
+        StreamFault::Cert(fault) => Ok(fault),
+        StreamFault::Device => Err(RunFault::Device),
+        StreamFault::Read(fault) => Err(of_recording(fault)),
     }
 }
 
-/// Writes that the certificate is accepted, with its files.
-pub(crate) fn put_yes<W: Write>(out: &mut Tally<W>, files: &[FileBytes]) -> Result<(), Device>
+// The fault of a command for one of its recording.
+fn of_recording(fault: ReadFault) -> RunFault
+    ensures { result ≡ of_stream (StreamFault.Read fault) }
+{
+    match fault {
+        ReadFault::Device => RunFault::Device,
+        ReadFault::OutOfMemory => RunFault::Memory,
+        _ => RunFault::Read(fault),
+    }
+}
+
+// Writes that the certificate is accepted, with the number and the length of each of its files.
+fn put_yes<W: Write>(out: &mut Tally<W>, files: &[(u8, u32)]) -> Result<(), Device>
     ensures ok { OnOk result (Puts W.contents out.old out.new (yes_text files.now)) }
     ensures device { IsErr result ↔ (has_failed out.new ≡ true) }
 {
-    out.put(b"YES files ")?;
-    put_decimal(out, files.len() as u64)?;
-    out.put(b"\n")?;
+    put_count(out, files.len())?;
+    put_sizes(out, files)
+}
+
+/// Writes that a recording is explained, with its files.
+pub(crate) fn put_explained<W: Write>(out: &mut Tally<W>, files: &[FileBytes]) -> Result<(), Device>
+    ensures ok { OnOk result (Puts W.contents out.old out.new (yes_text (sizes files.now))) }
+    ensures device { IsErr result ↔ (has_failed out.new ≡ true) }
+{
+    put_count(out, files.len())?;
     put_files(out, files)
 }
 
-fn put_files<W: Write>(out: &mut Tally<W>, files: &[FileBytes]) -> Result<(), Device>
+fn put_count<W: Write>(out: &mut Tally<W>, count: usize) -> Result<(), Device>
+    ensures ok { OnOk result (Puts W.contents out.old out.new (count_line count)) }
+    ensures device { IsErr result ↔ (has_failed out.new ≡ true) }
+{
+    out.put(b"YES files ")?;
+    put_decimal(out, count as u64)?;
+    out.put(b"\n")
+}
+
+fn put_sizes<W: Write>(out: &mut Tally<W>, files: &[(u8, u32)]) -> Result<(), Device>
     ensures ok { OnOk result (Puts W.contents out.old out.new (flat_map file_line files.now)) }
     ensures device { IsErr result → has_failed out.new ≡ true }
     ensures goes_on { OnOk result (has_failed out.old ≡ false → has_failed out.new ≡ false) }
 {
     for file in files {
-        put_file(out, file)?;
+        put_size(out, file)?;
     }
     Ok(())
 }
 
-fn put_file<W: Write>(out: &mut Tally<W>, file: &FileBytes) -> Result<(), Device>
+fn put_size<W: Write>(out: &mut Tally<W>, file: &(u8, u32)) -> Result<(), Device>
     ensures ok { OnOk result (Puts W.contents out.old out.new (file_line file.now)) }
     ensures device { IsErr result ↔ (has_failed out.new ≡ true) }
 {
+    let (number, len) = *file;
+    put_file(out, number, u64::from(len))
+}
+
+fn put_files<W: Write>(out: &mut Tally<W>, files: &[FileBytes]) -> Result<(), Device>
+    ensures ok { OnOk result (Puts W.contents out.old out.new (flat_map line_of_file files.now)) }
+    ensures device { IsErr result → has_failed out.new ≡ true }
+    ensures goes_on { OnOk result (has_failed out.old ≡ false → has_failed out.new ≡ false) }
+{
+    for file in files {
+        put_file(out, file.number, file.bytes.as_slice().len() as u64)?;
+    }
+    Ok(())
+}
+
+fn put_file<W: Write>(out: &mut Tally<W>, number: u8, len: u64) -> Result<(), Device>
+    ensures ok { OnOk result (Puts W.contents out.old out.new (file_line (number, len))) }
+    ensures device { IsErr result ↔ (has_failed out.new ≡ true) }
+{
     out.put(b"file ")?;
-    put_decimal(out, u64::from(file.number))?;
+    put_decimal(out, u64::from(number))?;
     out.put(b" ")?;
-    put_decimal(out, file.bytes.as_slice().len() as u64)?;
+    put_decimal(out, len)?;
     out.put(b"\n")
 }
 
-/// Writes why the certificate is refused.
-pub(crate) fn put_no<W: Write>(out: &mut Tally<W>, fault: CertFault) -> Result<(), Device>
+// Writes why the certificate is refused.
+fn put_no<W: Write>(out: &mut Tally<W>, fault: CertFault) -> Result<(), Device>
     requires { fault ≢ CertFault.OutOfMemory }
     ensures ok { OnOk result (Puts W.contents out.old out.new (no_text fault)) }
     ensures device { IsErr result ↔ (has_failed out.new ≡ true) }

@@ -3,8 +3,8 @@
 use a429_cert::{MemoryShelf, NoShelf, PutFile, Shelf};
 use a429_word::Failing;
 
-// What a file that was put tells of its place and number, where these are its bytes.
-fn told(file: &PutFile, bytes: &[u8]) -> Option<(u32, u8)> {
+/// What a file that was put tells of its place and number, where these are its bytes.
+pub(super) fn told(file: &PutFile, bytes: &[u8]) -> Option<(u32, u8)> {
     if file.file.bytes.as_slice() != bytes {
         return None;
     }

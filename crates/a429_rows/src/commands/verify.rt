@@ -82,18 +82,37 @@ fn cut_off(rt: HostRuntime) -> Result<(), Fail> {
 fn another_recording(rt: HostRuntime) -> Result<(), Fail> {
     let other = "time,bus,word\n0,A,4141FF23\n";
     assert!(rt; verdict_is(rt.alloc(), other, CERTIFICATE, "2\nNO word differs 4 0\n")?);
-    assert!(rt; verdict_is(rt.alloc(), "", "", "recording: header\n")?);
+    assert!(rt; verdict_is(rt.alloc(), "", CERTIFICATE, "recording: header\n")?);
+    Ok(())
+}
+
+// Recording and certificate are read as they come: the fault that is met first is told.
+#[test]
+fn the_fault_that_is_met_first(rt: HostRuntime) -> Result<(), Fail> {
+    let alloc = rt.alloc();
+    let cut = with(alloc, RECORDING, "450101A3 -> 45010")?;
+    assert!(rt; verdict_is(alloc, cut.as_str(), CERTIFICATE, "recording: row 5\n")?);
+    let other = with(alloc, CERTIFICATE, "a C Q 1 0 -> a S0 Q 1 0")?;
+    assert!(rt;
+        verdict_is(
+            alloc,
+            cut.as_str(),
+            other.as_str(),
+            "2\nNO state differs 4\n"
+        )?
+    );
+    assert!(rt; verdict_is(alloc, "", "", "2\nNO version\n")?);
     Ok(())
 }
 
 // This is told where the profile is none, or a device fails. No byte of a certificate may be read.
 fn fails(alloc: Global, profile: &str, recording: (&str, u64), fault: &str) -> Result<bool, Fail> {
     let (recording, most) = recording;
-    let mut rec = Tally::new(recording.as_bytes(), most);
+    let rec = Tally::new(recording.as_bytes(), most);
     let mut cert = Tally::new(b"".as_slice(), 0);
     let mut written = Vec::new(alloc);
     let mut out = Tally::new(&mut written, 0);
-    let found = verify(alloc, profile, &mut rec, &mut cert, &mut out);
+    let found = verify(alloc, profile, rec, &mut cert, &mut out);
     Ok(told(alloc, found, written.as_slice())?.as_str() == fault)
 }
 

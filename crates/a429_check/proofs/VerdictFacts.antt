@@ -1,0 +1,52 @@
+-- What is answered of a certificate, and what a command tells where there is no verdict.
+use Rattle.std.proofs.Common.{◌≡◌, ◌∙◌, ◌++◌, inr, ℕ, List, length, Vec, Global, Option, Some, None, Result, Ok, Err, IfOk, IfErr, refl, ap}
+use Rattle.std.specs.List.{flat_map}
+use Rattle.std.proofs.lemmas.List.{length-map}
+use Rattle.std.proofs.lemmas.List.Folds.{flat_map-map}
+use Rattle.a429_link.specs.declared.file.FileBytes.{FileBytes}
+use Rattle.a429_cert.specs.Stream.{sizes}
+use Rattle.a429_profile.specs.Profile.{Contents}
+use Rattle.a429_record.specs.declared.fault.ReadFault.{ReadFault}
+use Rattle.a429_record.specs.declared.fault.ReadFault.TheVariants as read
+use Rattle.a429_record.specs.Recording.{Recording}
+use Rattle.a429_cert.specs.declared.shelf.PutFile.{PutFile}
+use Rattle.a429_cert.specs.declared.stream_fault.StreamFault.{StreamFault}
+use Rattle.a429_cert.specs.declared.stream_fault.StreamFault.TheVariants as stream
+use Rattle.a429_cert.specs.Shelf.{IsUnchanged}
+use Rattle.a429_cert.specs.StreamExplained.{Extracts, Refuses}
+use Rattle.a429_check.specs.Profile.{IsProfileOf}
+use Rattle.a429_check.specs.Verdict.{HasAnswer, IsVerifyFault, of_stream, count_line, file_line, line_of_file, yes_text}
+
+-- what is told of files, by their lines
+pub yes_of_files : (files : List FileBytes) → yes_text (sizes files) ≡ count_line (length files) ++ flat_map line_of_file files
+yes_of_files files =
+    ap (λ n. count_line n ++ flat_map file_line (sizes files)) (length-map files (λ f. (f.number, length f.bytes)))
+    ∙ ap (λ (t : List ℕ). count_line (length files) ++ t) (flat_map-map file_line (λ f. (f.number, length f.bytes)) files)
+
+pub unchanged : (files : Option (List PutFile)) → IsUnchanged files files
+unchanged None = tt
+unchanged (Some files) = refl
+
+pub answered : (profile : List ℕ) (p : Contents) (certificate : Option (List ℕ)) (rec : Option Recording) (old new : Option (List PutFile)) (r : Result (Vec (ℕ × ℕ) Global) StreamFault)
+    → IsProfileOf profile p → IfOk r (λ files. Extracts p certificate rec old new files.items) → IfErr r (Refuses p certificate rec old new) → HasAnswer profile certificate rec old new
+answered profile p certificate rec old new (Ok files) is here _ = (Ok files.items, record { contents = p; is_profile = is; is = here })
+answered profile p certificate rec old new (Err f) is _ here = (Err f, record { contents = p; is_profile = is; is = here })
+
+-- a fault of a stream, as a command tells it
+pub told : (profile : List ℕ) (p : Contents) (certificate : Option (List ℕ)) (rec : Option Recording) (old new : Option (List PutFile)) (Failed : Type 0) (f : StreamFault)
+    → IsProfileOf profile p → Refuses p certificate rec old new f → (f ≡ stream.Device → Failed) → (f ≡ stream.Read read.Device → Failed) → IsVerifyFault profile certificate rec old new Failed (of_stream f)
+told profile p certificate rec old new Failed f is here a b = by f here a b
+  where
+    answer : (f : StreamFault) → Refuses p certificate rec old new f → HasAnswer profile certificate rec old new
+    answer f here = (Err f, record { contents = p; is_profile = is; is = here })
+    by : (f : StreamFault) → Refuses p certificate rec old new f → (f ≡ stream.Device → Failed) → (f ≡ stream.Read read.Device → Failed) → IsVerifyFault profile certificate rec old new Failed (of_stream f)
+    by (stream.Cert f) here a b = (is.0, inr (answer (stream.Cert f) here))
+    by (stream.Read read.Header) here a b = record { contents = p; is_profile = is; is = here }
+    by (stream.Read (read.Row i)) here a b = record { contents = p; is_profile = is; is = here }
+    by (stream.Read (read.TimeBack i)) here a b = record { contents = p; is_profile = is; is = here }
+    by (stream.Read read.TooMany) here a b = record { contents = p; is_profile = is; is = here }
+    by (stream.Read read.Failed) here a b = record { contents = p; is_profile = is; is = here }
+    by (stream.Read read.Device) here a b = (b refl, answer (stream.Read read.Device) here)
+    by (stream.Read read.OutOfMemory) here a b = (is.0, inr (answer (stream.Read read.OutOfMemory) here))
+    by stream.Device here a b = (a refl, answer stream.Device here)
+    by stream.OutOfMemory here a b = (is.0, inr (answer stream.OutOfMemory here))
