@@ -1,6 +1,5 @@
 -- A list in front of a boundary and behind it.
-use Rattle.std.proofs.Common.{◌≡◌, ℕ, zero, suc, ◌+◌, ◌<◌, List, [], ◌∷◌, ◌++◌, length, take, drop, remove, refl, sym, ap, ◌∙◌, arith}
-use Rattle.std.proofs.Math.Seq.{take-add}
+use Rattle.std.proofs.Common.{◌≡◌, ℕ, zero, suc, ◌+◌, ◌<◌, List, [], ◌∷◌, ◌++◌, length, take, drop, remove, slice_index, refl, ap, ◌∙◌, arith}
 use Rattle.a429_link.specs.Lane.{Lane}
 use Rattle.a429_link.specs.State.{IsNonEmpty, rest}
 
@@ -20,11 +19,17 @@ drop_one_more zero (x ∷ xs) = refl
 drop_one_more (suc k) [] = refl
 drop_one_more (suc k) (x ∷ xs) = drop_one_more k xs
 
+front_grows : (k : ℕ) (xs : List ℕ) → k < length xs → take (suc k) xs ≡ take k xs ++ slice_index (drop k xs) 0 ∷ []
+front_grows zero [] h = absurd (omega (arith, h))
+front_grows zero (x ∷ xs) h = refl
+front_grows (suc k) [] h = absurd (omega (arith, h))
+front_grows (suc k) (x ∷ xs) h = ap (λ l. x ∷ l) (front_grows k xs (omega (arith, h)))
+
 -- the boundary goes one word on
-pub lane_moved : (k : ℕ) (xs : List ℕ) → lane_at (k + 1) xs ≡ record { taken = take k xs ++ take 1 (drop k xs); coming = rest (drop k xs) }
-lane_moved k xs =
-    let front = take-add k 1 xs in
+pub lane_moved : (k : ℕ) (xs : List ℕ) → k < length xs → lane_at (k + 1) xs ≡ record { taken = take k xs ++ slice_index (drop k xs) 0 ∷ []; coming = rest (drop k xs) }
+lane_moved k xs h =
     let next : k + 1 ≡ suc k = omega arith in
+    let front : take (k + 1) xs ≡ take k xs ++ slice_index (drop k xs) 0 ∷ [] = ap (λ n. take n xs) next ∙ front_grows k xs h in
     let behind : drop (k + 1) xs ≡ rest (drop k xs) = ap (λ n. drop n xs) next ∙ drop_one_more k xs in
     rw front (rw behind refl)
 

@@ -1,10 +1,10 @@
 -- The words of the observer's block.
-use Rattle.std.proofs.Common.{ℕ, ◌≡◌, ◌≤◌, ◌+◌, ◌++◌, Bool, true, false, cond, List, [], ◌∷◌, length, Option, refl, sym, ap, ◌∙◌, arith}
+use Rattle.std.proofs.Common.{ℕ, ◌≡◌, ◌≤◌, ◌++◌, Bool, true, false, cond, List, [], ◌∷◌, length, slice_index, Option, refl, ap, ◌∙◌, arith}
 use Rattle.a429_profile.specs.Profile.{Contents}
 use Rattle.a429_ldu.specs.declared.semis.Semis.{Semis}
 use Rattle.a429_ldu.specs.declared.forms.Form.{Form}
 use Rattle.a429_ldu.specs.declared.forms.Form.TheVariants.{Rts, Cts, Ack, Nak, Sot, Part, Eot}
-use Rattle.a429_link.specs.Sink.{Block, Number, Sink, SinkPhase, Quiet, OwesClear, Granted, InBlock, OwesAck, OwesNak, SinkSide, at_start, at_end, is_good, kept_words, takes, empty_block, empty_shelf}
+use Rattle.a429_link.specs.Sink.{Number, Sink, SinkPhase, Quiet, OwesClear, Granted, InBlock, OwesAck, OwesNak, SinkSide, at_start, at_end, is_good, kept_words, takes, empty_block, empty_shelf}
 use Rattle.a429_link.specs.State.{rest}
 use Rattle.a429_link.specs.Observer.{KeepsRecorded}
 
@@ -50,10 +50,10 @@ files_stay p w (Sot g f l) k = refl
 files_stay p w (Part s) k = refl
 files_stay p w (Eot f c) k = refl
 
--- the sink that was given a word and has taken it
-abbrev pub after_taking : Contents → ℕ → Form → SinkSide → SinkSide
-after_taking p w x k = record { sink = takes p w x k.sink; to_sink = rest k.to_sink }
+-- the sink that has taken the first word on its way
+abbrev pub after_taking : Contents → Form → SinkSide → SinkSide
+after_taking p x k = record { sink = takes p (slice_index k.to_sink 0) x k.sink; to_sink = rest k.to_sink }
 
 -- a word that is no data word adds none
-pub others_watched : (p : Contents) (w : ℕ) (x : Form) (k : SinkSide) (n : ℕ) → ((s : Semis) → x ≡ Part s → ⊥) → IsWatched k n → IsWatched (after_taking p w x (record k { to_sink = k.to_sink ++ w ∷ [] })) n
-others_watched p w x k n o h = (files_stay p w x k.sink ∙ h.0, ap (λ (ws : List ℕ). rest (ws ++ w ∷ [])) h.1, keeps_others p w x k.sink n o h.2)
+pub others_watched : (p : Contents) (w : ℕ) (x : Form) (k : SinkSide) (n : ℕ) → ((s : Semis) → x ≡ Part s → ⊥) → IsWatched k n → IsWatched (after_taking p x (record k { to_sink = k.to_sink ++ w ∷ [] })) n
+others_watched p w x k n o h = (files_stay p _ x k.sink ∙ h.0, ap (λ (ws : List ℕ). rest (ws ++ w ∷ [])) h.1, keeps_others p _ x k.sink n o h.2)

@@ -1,6 +1,6 @@
 //! The words between a source and its sink's block.
 
-ghost use Rattle.std.specs.Prelude.{◌≡◌, ◌+◌, ◌<◌, [], ◌∷◌, ◌++◌, length, take, IfSome, IsNone, ◌↔◌};
+ghost use Rattle.std.specs.Prelude.{◌≡◌, ◌+◌, ◌<◌, [], ◌∷◌, ◌++◌, length, slice_index, IfSome, IsNone, ◌↔◌};
 ghost use Rattle.a429_link.specs.State.{IsNonEmpty, rest};
 
 use a429_word::Word;
@@ -69,7 +69,7 @@ impl Lane {
     /// Takes the first word on its way.
     pub(crate) fn take_first(&mut self)
         requires { IsNonEmpty self.old.coming }
-        ensures { self.new ≡ record { taken = self.old.taken ++ take 1 self.old.coming; coming = rest self.old.coming } }
+        ensures { self.new ≡ record { taken = self.old.taken ++ slice_index self.old.coming 0 ∷ []; coming = rest self.old.coming } }
     {
         self.boundary += 1;
     }

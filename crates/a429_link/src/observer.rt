@@ -103,7 +103,7 @@ impl Observer {
     {
         let count = self.sink.count();
         self.sink.push(word);
-        self.sink.take(profile, word, form);
+        self.sink.take(profile, form);
         match *form {
             Form::Sot { .. } => self.begun = true,
             Form::Part(_) => {

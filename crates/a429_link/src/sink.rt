@@ -1,6 +1,6 @@
 //! The sink of a file transfer.
 
-ghost use Rattle.std.specs.Prelude.{◌≡◌, ◌≤◌, ◌↔◌, [], ◌∷◌, ◌++◌, length, Some, None, option_map, IfSome, IsNone, IsTrue, OnOk, OnErr};
+ghost use Rattle.std.specs.Prelude.{◌≡◌, ◌≤◌, ◌↔◌, [], ◌∷◌, ◌++◌, length, slice_index, Some, None, option_map, IfSome, IsNone, IsTrue, OnOk, OnErr};
 ghost use Rattle.a429_link.specs.Sink as model;
 ghost use Rattle.a429_link.specs.Sink.{takes, at_start, at_part, at_end, is_good, is_same, may_come, block_with, phase_of, accepts_owed, answers, IsAck, MayAnswer, Listens, Owes, held_count, latest_number, HasRoom, empty_shelf};
 ghost use Rattle.a429_link.specs.State.{sink_state_of, IsNonEmpty, rest};
@@ -209,14 +209,14 @@ impl Sink {
 
     /// Takes the first word on its way, a word of bus A that has this form.
     #[inline(always)]
-    pub(crate) fn take(&mut self, profile: &Profile, word: Word, form: &Form)
-        requires { self.old.to_sink ≡ word ∷ rest self.old.to_sink }
-        ensures { self.new ≡ record { sink = takes profile.now word form.now self.old.sink; to_sink = rest self.old.to_sink } }
+    pub(crate) fn take(&mut self, profile: &Profile, form: &Form)
+        requires { IsNonEmpty self.old.to_sink }
+        ensures { self.new ≡ record { sink = takes profile.now (slice_index self.old.to_sink 0) form.now self.old.sink; to_sink = rest self.old.to_sink } }
     {
         match *form {
             Form::Rts { count } => self.take_request(count),
             Form::Sot { gfi, file, ldu } => self.start_block(StartWord { gfi, file, ldu }),
-            Form::Part(_) => self.add_word(word),
+            Form::Part(_) => self.add_word(),
             Form::Eot { flags, check } => self.end_block(profile, flags, check),
             Form::Cts { .. } | Form::Ack { .. } | Form::Nak { .. } => self.pass(),
         }
@@ -241,9 +241,9 @@ impl Sink {
         }
     }
 
-    fn add_word(&mut self, word: Word)
-        requires { self.old.to_sink ≡ word ∷ rest self.old.to_sink }
-        ensures { self.new ≡ record { sink = record (self.old.sink) { phase = at_part word self.old.sink.phase }; to_sink = rest self.old.to_sink } }
+    fn add_word(&mut self)
+        requires { IsNonEmpty self.old.to_sink }
+        ensures { self.new ≡ record { sink = record (self.old.sink) { phase = at_part (slice_index self.old.to_sink 0) self.old.sink.phase }; to_sink = rest self.old.to_sink } }
     {
         if let Phase::InBlock(_) = self.phase {
             self.lane.take_first();

@@ -1,7 +1,6 @@
 use Rattle.std.proofs.Common.{◌≡◌, ℕ, ◌+◌, true, ◌&&◌, List, length, option_map, sym, ap, ◌∙◌, arith}
 use Rattle.a429_ldu.specs.CheckWord.{agrees}
 use Rattle.a429_profile.specs.declared.codes.Check.{Check}
-use Rattle.a429_ldu.specs.Carried.{bytes_carried}
 use Rattle.a429_link.specs.Sink.{may_come, latest_number, number_of, block_with}
 use Rattle.a429_link.proofs.SinkGoodBlock.{good_where, found_bytes}
 use Rattle.a429_link.proofs.sink.ends_well.Goals as goal

@@ -1,4 +1,4 @@
-use Rattle.std.proofs.Common.{◌≡◌, ◌+◌, ◌++◌, take, subst, sym, arith}
+use Rattle.std.proofs.Common.{◌≡◌, ◌+◌, [], ◌∷◌, ◌++◌, slice_index, subst, sym, arith}
 use Rattle.a429_link.specs.Lane.{Lane}
 use Rattle.a429_link.specs.State.{IsNonEmpty, rest}
 use Rattle.a429_link.proofs.LaneFacts.{lane_at, some_behind, lane_moved}
@@ -15,4 +15,6 @@ invariant_of-self c =
     (omega (arith, behind), c.self.invariant.1)
 
 pub returns : goal.returns
-returns c = subst (λ (l : Lane). lane_at (c.self.inside.boundary + 1) c.self.inside.words.items ≡ record { taken = l.taken ++ take 1 l.coming; coming = rest l.coming }) c.self.view_is (lane_moved c.self.inside.boundary c.self.inside.words.items)
+returns c =
+    let behind = some_behind c.self.inside.boundary c.self.inside.words.items (subst (λ (l : Lane). IsNonEmpty l.coming) (sym c.self.view_is) c.requires) in
+    subst (λ (l : Lane). lane_at (c.self.inside.boundary + 1) c.self.inside.words.items ≡ record { taken = l.taken ++ slice_index l.coming 0 ∷ []; coming = rest l.coming }) c.self.view_is (lane_moved c.self.inside.boundary c.self.inside.words.items behind)
