@@ -1,11 +1,7 @@
 -- A list in front of a boundary and behind it.
 use Rattle.std.proofs.Common.{◌≡◌, ℕ, zero, suc, ◌+◌, ◌<◌, List, [], ◌∷◌, ◌++◌, length, take, drop, remove, slice_index, refl, ap, ◌∙◌, arith}
-use Rattle.a429_link.specs.Lane.{Lane}
+use Rattle.a429_link.specs.Lane.{lane_at}
 use Rattle.a429_link.specs.State.{IsNonEmpty, rest}
-
--- the list with this boundary
-abbrev pub lane_at : ℕ → List ℕ → Lane
-lane_at k xs = record { taken = take k xs; coming = drop k xs }
 
 pub some_behind : (k : ℕ) (xs : List ℕ) → IsNonEmpty (drop k xs) → k < length xs
 some_behind zero [] h = absurd h

@@ -16,12 +16,13 @@ pub(crate) struct Lane {
 }
 
 impl Model for Lane {
-    ghost use Rattle.std.specs.Prelude.{◌≤◌, length, take, drop};
+    ghost use Rattle.std.specs.Prelude.{◌≤◌, length};
     ghost use Rattle.a429_link.specs.Lane as model;
+    ghost use Rattle.a429_link.specs.Lane.{lane_at};
 
     ghost Value = { model.Lane };
 
-    ghost view = { λ l. record { taken = take l.boundary l.words.items; coming = drop l.boundary l.words.items } };
+    ghost view = { λ l. lane_at l.boundary l.words.items };
 
     ghost invariant = { λ l. (l.boundary ≤ length l.words.items) × (length l.words.items ≤ 255) };
 }

@@ -248,7 +248,7 @@ impl Sink {
         if let Phase::InBlock(_) = self.phase {
             self.lane.take_first();
         } else {
-            self.lane.drop_first();
+            self.pass();
         }
     }
 

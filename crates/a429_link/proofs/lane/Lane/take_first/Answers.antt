@@ -1,7 +1,7 @@
 use Rattle.std.proofs.Common.{◌≡◌, ◌+◌, [], ◌∷◌, ◌++◌, slice_index, subst, sym, arith}
-use Rattle.a429_link.specs.Lane.{Lane}
+use Rattle.a429_link.specs.Lane.{Lane, lane_at}
 use Rattle.a429_link.specs.State.{IsNonEmpty, rest}
-use Rattle.a429_link.proofs.LaneFacts.{lane_at, some_behind, lane_moved}
+use Rattle.a429_link.proofs.LaneFacts.{some_behind, lane_moved}
 use Rattle.a429_link.proofs.lane.Lane.take_first.Goals as goal
 
 pub overflow_add-self : goal.overflow_add-self
