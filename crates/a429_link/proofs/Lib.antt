@@ -17,3 +17,4 @@ pub mod ObserverBlock
 pub mod ObserverSight
 pub mod CleanRuns
 pub mod CleanFiles
+mod LaneFacts

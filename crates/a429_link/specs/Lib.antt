@@ -2,6 +2,7 @@ pub mod Number
 pub mod Source
 pub mod Sink
 pub mod State
+pub mod Lane
 pub mod Step
 pub mod Transfer
 pub mod Run

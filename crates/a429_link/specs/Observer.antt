@@ -8,7 +8,7 @@ use Rattle.a429_ldu.specs.declared.forms.Form.{Form}
 use Rattle.a429_ldu.specs.declared.forms.Form.TheVariants.{Rts, Cts, Sot, Part, Eot}
 use Rattle.a429_ldu.specs.Form.{form_of, is_free}
 use Rattle.a429_link.specs.declared.seen.Seen.{Seen}
-use Rattle.a429_link.specs.Sink.{Sink, SinkPhase, Quiet, Granted, InBlock, Number, takes, answers, MayAnswer, empty_shelf}
+use Rattle.a429_link.specs.Sink.{Sink, SinkPhase, Quiet, Granted, InBlock, Number, takes, answers, MayAnswer, kept_words, empty_shelf}
 
 pub record Observer : Type 0 where
   -- the sink without its files: the link data unit accepted last, the count of the last request, and the phase
@@ -73,7 +73,6 @@ AllowsNext p o (Some i) = Allows p o i
 abbrev pub IsRefused : Contents → List Seen → ℕ → Type 0
 IsRefused p items i = AllowsNext p (observed p (take i items) at_first) (slice_get items i) → ⊥
 
--- a block has at most as many data words as were recorded
+-- a block that is kept has at most as many data words as were recorded, and those are few
 abbrev pub KeepsRecorded : SinkPhase → ℕ → Type 0
-KeepsRecorded (InBlock b) parts = length b.words ≤ parts
-KeepsRecorded _ parts = Unit {0}
+KeepsRecorded phase parts = (length (kept_words phase) ≤ parts) × (parts ≤ 253)

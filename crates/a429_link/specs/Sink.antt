@@ -13,6 +13,7 @@ use Rattle.a429_link.specs.declared.file.FileBytes.{FileBytes}
 use Rattle.a429_link.specs.declared.number.UnitNumber.{UnitNumber}
 use Rattle.a429_link.specs.Number.{is_number, next_number}
 use Rattle.a429_link.specs.declared.sink.Latest.{Latest}
+use Rattle.a429_link.specs.declared.sink.StartWord.{StartWord}
 use Rattle.a429_link.specs.declared.sink.Phase.{Phase}
 use Rattle.a429_link.specs.declared.sink.Phase.TheVariants as phase
 
@@ -62,6 +63,11 @@ pub record Sink : Type 0 where
   -- the count of the last request taken
   pub count : ℕ
   pub phase : SinkPhase
+
+-- the sink, and the words on their way to it, in order
+pub record SinkSide : Type 0 where
+  pub sink : Sink
+  pub to_sink : List ℕ
 
 -- ---- which blocks are good
 
@@ -174,6 +180,11 @@ abbrev pub MayAnswerForm : ℕ → SinkPhase → Option Form → Type 0
 MayAnswerForm count phase None = ⊥
 MayAnswerForm count phase (Some x) = MayAnswer count phase x
 
+-- the word is an acknowledgement
+abbrev pub IsAck : Option Form → Type 0
+IsAck (Some (Ack file ldu)) = Unit {0}
+IsAck _ = ⊥
+
 -- ---- where it stands
 
 -- it takes words
@@ -196,25 +207,29 @@ held_count (InBlock b) = length b.words + 1
 held_count (OwesAck b flags) = length b.words + 2
 held_count _ = 0
 
+-- the data words that it keeps
+abbrev pub kept_words : SinkPhase → List ℕ
+kept_words (InBlock b) = b.words
+kept_words (OwesAck b flags) = b.words
+kept_words _ = []
+
 -- ---- how the sink's fields are seen, and what they have room for
 
 abbrev pub latest_number : Latest → Number
 latest_number n = record { number = n.number; final = n.is_final }
 
-abbrev pub phase_of : Phase → Block → SinkPhase
-phase_of phase.Quiet b = Quiet
-phase_of phase.OwesClear b = OwesClear
-phase_of phase.Granted b = Granted
-phase_of phase.InBlock b = InBlock b
-phase_of (phase.OwesAck flags) b = OwesAck b flags
-phase_of phase.OwesNak b = OwesNak
+-- the block that begins with this start word and has these data words
+abbrev pub block_with : StartWord → List ℕ → Block
+block_with s words = record { gfi = s.gfi; file = s.file; ldu = s.ldu; words = words }
 
--- in a block there is room for a data word
-abbrev pub TakesOneMore : SinkPhase → Type 0
-TakesOneMore (InBlock b) = length b.words < 254
-TakesOneMore _ = Unit {0}
+abbrev pub phase_of : Phase → List ℕ → SinkPhase
+phase_of phase.Quiet words = Quiet
+phase_of phase.OwesClear words = OwesClear
+phase_of phase.Granted words = Granted
+phase_of (phase.InBlock start) words = InBlock (block_with start words)
+phase_of (phase.OwesAck start flags) words = OwesAck (block_with start words) flags
+phase_of phase.OwesNak words = OwesNak
 
--- there is room for a word of this form
-abbrev pub HasRoom : Form → SinkPhase → Type 0
-HasRoom (Part semis) phase = TakesOneMore phase
-HasRoom _ phase = Unit {0}
+-- among the words that it keeps and those on their way there is room for one more
+abbrev pub HasRoom : SinkSide → Type 0
+HasRoom k = length (kept_words k.sink.phase) + length k.to_sink < 255

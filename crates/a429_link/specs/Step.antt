@@ -12,7 +12,7 @@ use Rattle.a429_link.specs.declared.fault.StepFault.{StepFault}
 use Rattle.a429_link.specs.declared.fault.StepFault.TheVariants as fault
 use Rattle.a429_link.specs.declared.step.Step.TheVariants.{Load, Sent, SentLost, TimeOut, TakeAnswer, LoseAnswer, SinkTakes, Silent, Answered, FreeSeen}
 use Rattle.a429_link.specs.Source.{IsIdle, Waits, next_word_of, with_word_sent, hears_first}
-use Rattle.a429_link.specs.Sink.{Quiet, Listens, Owes, MayAnswerForm, takes_first, answers_word}
+use Rattle.a429_link.specs.Sink.{Quiet, Listens, Owes, IsAck, MayAnswerForm, takes_first, answers_word}
 use Rattle.a429_link.specs.State.{State, IsNonEmpty, rest}
 
 -- where a step may be made
@@ -79,15 +79,14 @@ abbrev pub LoadsLdu : Contents → Step → Type 0
 LoadsLdu p (Load u) = IsLdu p u
 LoadsLdu p _ = Unit {0}
 
--- steps that may want memory: a list or a file grows
-abbrev pub Grows : Step → Type 0
-Grows (Sent i) = Unit {0}
-Grows (Answered i) = Unit {0}
-Grows _ = ⊥
+-- steps that may want memory: an acknowledgement, by which a file grows
+abbrev pub Grows : Contents → Step → Type 0
+Grows p (Answered i) = IsAck (form_of p.codes bus.B i.word)
+Grows p _ = ⊥
 
 -- why a step is refused: there is none of its name here; there is one, but not with this word; or it may be
 -- made, and there is no memory
 abbrev pub IsFault : Contents → Step → State → StepFault → Type 0
 IsFault p a s fault.NotAllowed = ¬ IsNamedStep p a s
 IsFault p a s fault.WordDiffers = IsNamedStep p a s × (¬ Can p a s)
-IsFault p a s fault.OutOfMemory = Can p a s × Grows a
+IsFault p a s fault.OutOfMemory = Can p a s × Grows p a

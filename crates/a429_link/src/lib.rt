@@ -1,10 +1,10 @@
 //! The source and the sink of a file transfer, and the words between them.
 #![tactic(auto)]
 
-mod block;
 mod clean;
 mod fault;
 mod file;
+mod lane;
 pub mod laws;
 mod link;
 mod number;

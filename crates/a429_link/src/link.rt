@@ -51,7 +51,7 @@ impl<'a> Link<'a> {
 
     /// Makes one step. A step that is refused changes nothing: `NotAllowed` where there is no step of its
     /// name, `WordDiffers` where there is one, but not with this bus and word, and `OutOfMemory` where it
-    /// may be made and there is no memory. What is loaded is a link data unit of the link's profile.
+    /// is an acknowledgement that may be given and there is no memory. What is loaded is a link data unit of the link's profile.
     #[inline(always)]
     pub fn apply(&mut self, step: Step) -> Result<(), StepFault>
         requires { LoadsLdu self.old.profile step }

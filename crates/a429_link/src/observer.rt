@@ -24,16 +24,16 @@ pub struct Observer {
 }
 
 impl Model for Observer {
-    ghost use Rattle.std.specs.Prelude.{◌≡◌};
+    ghost use Rattle.std.specs.Prelude.{◌≡◌, []};
     ghost use Rattle.a429_link.specs.Observer as model;
     ghost use Rattle.a429_link.specs.Sink.{empty_shelf};
     ghost use Rattle.a429_link.specs.Observer.{KeepsRecorded};
 
     ghost Value = { model.Observer };
 
-    ghost view = { λ o. record { last = o.sink.last; count = o.sink.count; phase = o.sink.phase; begun = o.begun; parts = o.parts } };
+    ghost view = { λ o. record { last = o.sink.sink.last; count = o.sink.sink.count; phase = o.sink.sink.phase; begun = o.begun; parts = o.parts } };
 
-    ghost invariant = { λ o. (o.sink.shelf ≡ empty_shelf) × KeepsRecorded o.sink.phase o.parts };
+    ghost invariant = { λ o. (o.sink.sink.shelf ≡ empty_shelf) × (o.sink.to_sink ≡ []) × KeepsRecorded o.sink.sink.phase o.parts };
 }
 
 impl Observer {
@@ -102,7 +102,8 @@ impl Observer {
         ensures { self.new ≡ sees_form profile.now Bus.A word (Some form.now) self.old }
     {
         let count = self.sink.count();
-        self.sink.take(profile, word, form);
+        self.sink.push(word);
+        self.sink.take(profile, form);
         match *form {
             Form::Sot { .. } => self.begun = true,
             Form::Part(_) => {

@@ -1,13 +1,13 @@
 //! The sink of a file transfer.
 
-ghost use Rattle.std.specs.Prelude.{◌≡◌, ◌≤◌, ◌↔◌, [], None, option_map, IsTrue, OnOk, OnErr};
+ghost use Rattle.std.specs.Prelude.{◌≡◌, ◌≤◌, ◌↔◌, [], ◌∷◌, ◌++◌, length, slice_index, Some, None, option_map, IfSome, IsNone, IsTrue, OnOk, OnErr};
 ghost use Rattle.a429_link.specs.Sink as model;
-ghost use Rattle.a429_link.specs.Sink.{takes, at_start, at_part, at_end, is_good, is_same, may_come, empty_block, accepts_owed, answers, MayAnswer, Listens, Owes, held_count, latest_number, TakesOneMore, HasRoom, empty_shelf};
-ghost use Rattle.a429_link.specs.State.{sink_state_of};
+ghost use Rattle.a429_link.specs.Sink.{takes, at_start, at_part, at_end, is_good, is_same, may_come, block_with, phase_of, accepts_owed, answers, IsAck, MayAnswer, Listens, Owes, held_count, latest_number, HasRoom, empty_shelf};
+ghost use Rattle.a429_link.specs.State.{sink_state_of, IsNonEmpty, rest};
 ghost use Rattle.a429_link.specs.Observer.{HasGrant};
 
-use crate::block::Block;
 use crate::file::FileBytes;
+use crate::lane::Lane;
 use crate::number::{UnitNumber, is_final};
 use crate::shelf::Shelf;
 use crate::state::SinkState;
@@ -24,37 +24,61 @@ pub(crate) struct Latest {
     pub is_final: bool,
 }
 
+/// The numbers of a start word.
+#[derive(Clone, Copy, Debug, PartialEq, Eq)]
+pub(crate) struct StartWord {
+    pub gfi: u8,
+    pub file: u8,
+    pub ldu: u8,
+}
+
+impl StartWord {
+    /// The number of the link data unit that it begins.
+    fn number(self) -> UnitNumber
+        ensures { result ≡ record { file = self.file; ldu = self.ldu } }
+    {
+        UnitNumber {
+            file: self.file,
+            ldu: u16::from(self.ldu),
+        }
+    }
+}
+
 /// What the sink is doing (ARINC 429 Part 3).
 #[derive(Clone, Copy, Debug, PartialEq, Eq)]
 pub(crate) enum Phase {
     Quiet,
     OwesClear,
     Granted,
-    InBlock,
-    /// The end word of its block had these flags.
-    OwesAck { flags: u8 },
+    /// The block began with this start word.
+    InBlock(StartWord),
+    /// It did, and its end word had these flags.
+    OwesAck { start: StartWord, flags: u8 },
     OwesNak,
 }
 
-/// The sink: what it accepted last, its files, the count of the last request, and what it is doing.
+/// The sink: what it accepted last, its files, the count of the last request, and what it is doing; and the
+/// words on their way to it.
 #[derive(Debug, Drop)]
 pub(crate) struct Sink {
     last: Option<Latest>,
     shelf: Shelf,
     count: u8,
     phase: Phase,
-    // Looked at only in a block and where an acknowledgement is owed.
-    block: Block,
+    // What was taken are the data words of its block.
+    lane: Lane,
 }
 
 impl Model for Sink {
-    ghost use Rattle.std.specs.Prelude.{option_map};
+    ghost use Rattle.std.specs.Prelude.{◌≡◌, option_map};
     ghost use Rattle.a429_link.specs.Sink as model;
-    ghost use Rattle.a429_link.specs.Sink.{latest_number, phase_of};
+    ghost use Rattle.a429_link.specs.Sink.{latest_number, phase_of, kept_words};
 
-    ghost Value = { model.Sink };
+    ghost Value = { model.SinkSide };
 
-    ghost view = { λ s. record { last = option_map latest_number s.last; shelf = s.shelf; count = s.count; phase = phase_of s.phase s.block } };
+    ghost view = { λ s. record { sink = record { last = option_map latest_number s.last; shelf = s.shelf; count = s.count; phase = phase_of s.phase s.lane.taken }; to_sink = s.lane.coming } };
+
+    ghost invariant = { λ s. s.lane.taken ≡ kept_words (phase_of s.phase s.lane.taken) };
 }
 
 // The block comes again, or in sequence.
@@ -69,20 +93,28 @@ fn may_come(profile: &Profile, last: &Option<Latest>, number: UnitNumber) -> boo
     last.number == number || follows && number.ldu <= first_ldu + 254
 }
 
-// The block that ends by a word with this check word is good, where the last request had this count.
-fn ends_well(profile: &Profile, last: &Option<Latest>, count: u8, block: &Block, check: u16) -> bool
-    ensures { result ≡ is_good profile.now (option_map latest_number last.now) count block.now check }
+// The block of this start word and these data words, ended by a word with this check word, is good, where
+// the last request had this count.
+fn ends_well(
+    profile: &Profile,
+    last: &Option<Latest>,
+    count: u8,
+    start: StartWord,
+    words: &[Word],
+    check: u16,
+) -> bool
+    ensures { result ≡ is_good profile.now (option_map latest_number last.now) count (block_with start words.now) check }
 {
-    if block.words().len() + 2 != usize::from(count) {
+    if words.len() + 2 != usize::from(count) {
         return false;
     }
-    let Some(bytes) = block_bytes(profile, block.words()) else {
+    let Some(bytes) = block_bytes(profile, words) else {
         return false;
     };
     if !agrees(profile.check(), bytes.as_slice(), check) {
         return false;
     }
-    may_come(profile, last, block.number())
+    may_come(profile, last, start.number())
 }
 
 // The number is that of the link data unit accepted last.
@@ -96,29 +128,32 @@ fn is_last(last: &Option<Latest>, number: UnitNumber) -> bool
 }
 
 impl Sink {
-    /// A sink that has taken nothing.
+    /// A sink that has taken nothing, and no word is on its way to it.
     pub(crate) fn new(alloc: Global) -> Sink
-        ensures { result ≡ record { last = None; shelf = empty_shelf; count = 0; phase = model.Quiet } }
+        ensures { result ≡ record { sink = record { last = None; shelf = empty_shelf; count = 0; phase = model.Quiet }; to_sink = [] } }
     {
         Sink {
             last: None,
             shelf: Shelf::new(alloc),
             count: 0,
             phase: Phase::Quiet,
-            block: Block::new(),
+            lane: Lane::new(),
         }
     }
 
     /// It takes words.
     pub(crate) fn listens(&self) -> bool
-        ensures { IsTrue result ↔ Listens self.now.phase }
+        ensures { IsTrue result ↔ Listens self.now.sink.phase }
     {
-        matches!(self.phase, Phase::Quiet | Phase::Granted | Phase::InBlock)
+        matches!(
+            self.phase,
+            Phase::Quiet | Phase::Granted | Phase::InBlock(_)
+        )
     }
 
     /// It owes an answer.
     pub(crate) fn owes(&self) -> bool
-        ensures { IsTrue result ↔ Owes self.now.phase }
+        ensures { IsTrue result ↔ Owes self.now.sink.phase }
     {
         matches!(
             self.phase,
@@ -128,81 +163,130 @@ impl Sink {
 
     /// What it is doing, with the count of words of its block.
     pub(crate) fn state(&self) -> SinkState
-        requires { held_count self.now.phase ≤ 255 }
-        ensures { result ≡ sink_state_of self.now.phase }
+        requires { held_count self.now.sink.phase ≤ 255 }
+        ensures { result ≡ sink_state_of self.now.sink.phase }
     {
         match self.phase {
             Phase::Quiet => SinkState::Quiet,
             Phase::OwesClear => SinkState::OwesClear,
             Phase::Granted => SinkState::Granted,
-            Phase::InBlock => SinkState::InBlock(self.block.words().len() as u8 + 1),
+            Phase::InBlock(_) => SinkState::InBlock(self.lane.taken().len() as u8 + 1),
             Phase::OwesAck { .. } => SinkState::OwesAck,
             Phase::OwesNak => SinkState::OwesNak,
         }
     }
 
-    /// Takes a word of bus A that has this form.
+    /// How many words are on their way to it.
+    pub(crate) fn coming(&self) -> usize
+        ensures { result ≡ length self.now.to_sink }
+    {
+        self.lane.coming()
+    }
+
+    /// The first word on its way to it.
+    pub(crate) fn first(&self) -> Option<Word>
+        ensures some { IfSome result (λ w. self.now.to_sink ≡ w ∷ rest self.now.to_sink) }
+        ensures none { IsNone result ↔ (self.now.to_sink ≡ []) }
+    {
+        self.lane.first()
+    }
+
+    /// One more word is on its way to it.
+    pub(crate) fn push(&mut self, word: Word)
+        requires { HasRoom self.old }
+        ensures { self.new ≡ record (self.old) { to_sink = self.old.to_sink ++ word ∷ [] } }
+    {
+        self.lane.push(word);
+    }
+
+    /// Passes over the first word on its way.
+    pub(crate) fn pass(&mut self)
+        requires { IsNonEmpty self.old.to_sink }
+        ensures { self.new ≡ record (self.old) { to_sink = rest self.old.to_sink } }
+    {
+        self.lane.drop_first();
+    }
+
+    /// Takes the first word on its way, a word of bus A that has this form.
     #[inline(always)]
-    pub(crate) fn take(&mut self, profile: &Profile, word: Word, form: &Form)
-        requires { HasRoom form.now self.old.phase }
-        ensures { self.new ≡ takes profile.now word form.now self.old }
+    pub(crate) fn take(&mut self, profile: &Profile, form: &Form)
+        requires { IsNonEmpty self.old.to_sink }
+        ensures { self.new ≡ record { sink = takes profile.now (slice_index self.old.to_sink 0) form.now self.old.sink; to_sink = rest self.old.to_sink } }
     {
         match *form {
-            Form::Rts { count } => {
-                self.count = count;
-                self.phase = Phase::OwesClear;
-            }
-            Form::Sot { gfi, file, ldu } => self.start_block(gfi, file, ldu),
-            Form::Part(_) => self.add_word(word),
+            Form::Rts { count } => self.take_request(count),
+            Form::Sot { gfi, file, ldu } => self.start_block(StartWord { gfi, file, ldu }),
+            Form::Part(_) => self.add_word(),
             Form::Eot { flags, check } => self.end_block(profile, flags, check),
-            Form::Cts { .. } | Form::Ack { .. } | Form::Nak { .. } => {}
+            Form::Cts { .. } | Form::Ack { .. } | Form::Nak { .. } => self.pass(),
         }
     }
 
-    fn start_block(&mut self, gfi: u8, file: u8, ldu: u8)
-        ensures { self.new ≡ record (self.old) { phase = at_start (empty_block gfi file ldu) self.old.phase } }
+    fn take_request(&mut self, count: u8)
+        requires { IsNonEmpty self.old.to_sink }
+        ensures { self.new ≡ record { sink = record (self.old.sink) { count = count; phase = model.OwesClear }; to_sink = rest self.old.to_sink } }
     {
-        if matches!(self.phase, Phase::Granted | Phase::InBlock) {
-            self.block.begin(gfi, file, ldu);
-            self.phase = Phase::InBlock;
+        self.pass();
+        self.count = count;
+        self.enter(Phase::OwesClear);
+    }
+
+    fn start_block(&mut self, start: StartWord)
+        requires { IsNonEmpty self.old.to_sink }
+        ensures { self.new ≡ record { sink = record (self.old.sink) { phase = at_start (block_with start []) self.old.sink.phase }; to_sink = rest self.old.to_sink } }
+    {
+        self.pass();
+        if matches!(self.phase, Phase::Granted | Phase::InBlock(_)) {
+            self.enter(Phase::InBlock(start));
         }
     }
 
-    fn add_word(&mut self, word: Word)
-        requires { TakesOneMore self.old.phase }
-        ensures { self.new ≡ record (self.old) { phase = at_part word self.old.phase } }
+    fn add_word(&mut self)
+        requires { IsNonEmpty self.old.to_sink }
+        ensures { self.new ≡ record { sink = record (self.old.sink) { phase = at_part (slice_index self.old.to_sink 0) self.old.sink.phase }; to_sink = rest self.old.to_sink } }
     {
-        if self.phase == Phase::InBlock {
-            self.block.push(word);
+        if let Phase::InBlock(_) = self.phase {
+            self.lane.take_first();
+        } else {
+            self.pass();
         }
     }
 
     fn end_block(&mut self, profile: &Profile, flags: u8, check: u16)
-        ensures { self.new ≡ record (self.old) { phase = at_end profile.now self.old.last self.old.count flags check self.old.phase } }
+        requires { IsNonEmpty self.old.to_sink }
+        ensures { self.new ≡ record { sink = record (self.old.sink) { phase = at_end profile.now self.old.sink.last self.old.sink.count flags check self.old.sink.phase }; to_sink = rest self.old.to_sink } }
     {
+        self.pass();
         match self.phase {
-            Phase::Granted => self.phase = Phase::OwesNak,
-            Phase::InBlock => {
-                let good = ends_well(profile, &self.last, self.count, &self.block, check);
-                self.phase = if good {
-                    Phase::OwesAck { flags }
+            Phase::Granted => self.enter(Phase::OwesNak),
+            Phase::InBlock(start) => {
+                let words = self.lane.taken();
+                if ends_well(profile, &self.last, self.count, start, words, check) {
+                    self.phase = Phase::OwesAck { start, flags };
                 } else {
-                    Phase::OwesNak
-                };
+                    self.enter(Phase::OwesNak);
+                }
             }
             Phase::Quiet | Phase::OwesClear | Phase::OwesAck { .. } | Phase::OwesNak => {}
         }
     }
 
+    // It drops what it has taken, and is then in this phase.
+    fn enter(&mut self, phase: Phase)
+        ensures { self.new ≡ record (self.old) { sink = record (self.old.sink) { phase = phase_of phase [] } } }
+    {
+        self.lane.drop_taken();
+        self.phase = phase;
+    }
+
     /// It may give an answer of this form now.
     pub(crate) fn may_answer(&self, answer: &Form) -> bool
-        ensures { IsTrue result ↔ MayAnswer self.now.count self.now.phase answer.now }
+        ensures { IsTrue result ↔ MayAnswer self.now.sink.count self.now.sink.phase answer.now }
     {
         match (self.phase, *answer) {
             (Phase::OwesClear, Form::Cts { count }) => count == self.count,
-            (Phase::OwesAck { .. }, Form::Ack { file, ldu }) => {
-                let number = self.block.number();
-                file == number.file && u16::from(ldu) == number.ldu
+            (Phase::OwesAck { start, .. }, Form::Ack { file, ldu }) => {
+                file == start.file && ldu == start.ldu
             }
             (Phase::OwesAck { .. } | Phase::OwesNak, Form::Nak { .. }) => true,
             _ => false,
@@ -216,17 +300,18 @@ impl Sink {
         profile: &Profile,
         answer: &Form,
     ) -> Result<(), AllocError>
-        requires { held_count self.old.phase ≤ 255 }
-        ensures done { OnOk result (self.new ≡ answers profile.now.codes answer.now self.old) }
+        requires { held_count self.old.sink.phase ≤ 255 }
+        ensures done { OnOk result (self.new ≡ record (self.old) { sink = answers profile.now.codes answer.now self.old.sink }) }
         ensures unchanged { OnErr result (self.new ≡ self.old) }
+        ensures memory { OnErr result (IsAck (Some answer.now)) }
     {
         match *answer {
-            Form::Cts { .. } => self.phase = Phase::Granted,
+            Form::Cts { .. } => self.enter(Phase::Granted),
             Form::Ack { .. } => {
                 self.accept(alloc, profile)?;
-                self.phase = Phase::Quiet;
+                self.enter(Phase::Quiet);
             }
-            Form::Nak { .. } => self.phase = Phase::Quiet,
+            Form::Nak { .. } => self.enter(Phase::Quiet),
             Form::Rts { .. } | Form::Sot { .. } | Form::Part(_) | Form::Eot { .. } => {}
         }
         Ok(())
@@ -234,19 +319,19 @@ impl Sink {
 
     // Accepts the block that an acknowledgement is owed for. One that comes again is not put again.
     fn accept(&mut self, alloc: Global, profile: &Profile) -> Result<(), AllocError>
-        requires { held_count self.old.phase ≤ 255 }
-        ensures done { OnOk result (self.new ≡ accepts_owed profile.now.codes self.old.phase self.old) }
+        requires { held_count self.old.sink.phase ≤ 255 }
+        ensures done { OnOk result (self.new ≡ record (self.old) { sink = accepts_owed profile.now.codes self.old.sink.phase self.old.sink }) }
         ensures unchanged { OnErr result (self.new ≡ self.old) }
     {
-        let Phase::OwesAck { flags } = self.phase else {
+        let Phase::OwesAck { start, flags } = self.phase else {
             return Ok(());
         };
-        let number = self.block.number();
+        let number = start.number();
         if is_last(&self.last, number) {
             return Ok(());
         }
         let is_final = is_final(profile, flags);
-        match block_bytes(profile, self.block.words()) {
+        match block_bytes(profile, self.lane.taken()) {
             Some(bytes) => self
                 .shelf
                 .put(alloc, number.file, bytes.as_slice(), is_final)?,
@@ -258,27 +343,27 @@ impl Sink {
 
     /// Gives an answer of this form, and leaves the files as they are.
     pub(crate) fn answer_unfiled(&mut self, profile: &Profile, answer: &Form)
-        ensures { self.new ≡ record (answers profile.now.codes answer.now self.old) { shelf = self.old.shelf } }
+        ensures { self.new ≡ record (self.old) { sink = record (answers profile.now.codes answer.now self.old.sink) { shelf = self.old.sink.shelf } } }
     {
         match *answer {
-            Form::Cts { .. } => self.phase = Phase::Granted,
+            Form::Cts { .. } => self.enter(Phase::Granted),
             Form::Ack { .. } => {
                 self.accept_unfiled(profile);
-                self.phase = Phase::Quiet;
+                self.enter(Phase::Quiet);
             }
-            Form::Nak { .. } => self.phase = Phase::Quiet,
+            Form::Nak { .. } => self.enter(Phase::Quiet),
             Form::Rts { .. } | Form::Sot { .. } | Form::Part(_) | Form::Eot { .. } => {}
         }
     }
 
     // Accepts the block that an acknowledgement is owed for, without its bytes.
     fn accept_unfiled(&mut self, profile: &Profile)
-        ensures { self.new ≡ record (accepts_owed profile.now.codes self.old.phase self.old) { shelf = self.old.shelf } }
+        ensures { self.new ≡ record (self.old) { sink = record (accepts_owed profile.now.codes self.old.sink.phase self.old.sink) { shelf = self.old.sink.shelf } } }
     {
-        let Phase::OwesAck { flags } = self.phase else {
+        let Phase::OwesAck { start, flags } = self.phase else {
             return;
         };
-        let number = self.block.number();
+        let number = start.number();
         if !is_last(&self.last, number) {
             let is_final = is_final(profile, flags);
             self.last = Some(Latest { number, is_final });
@@ -287,36 +372,36 @@ impl Sink {
 
     /// It takes the words of a block.
     pub(crate) fn has_grant(&self) -> bool
-        ensures { IsTrue result ↔ HasGrant self.now.phase }
+        ensures { IsTrue result ↔ HasGrant self.now.sink.phase }
     {
-        matches!(self.phase, Phase::Granted | Phase::InBlock)
+        matches!(self.phase, Phase::Granted | Phase::InBlock(_))
     }
 
     /// The count of the last request.
     pub(crate) fn count(&self) -> u8
-        ensures { result ≡ self.now.count }
+        ensures { result ≡ self.now.sink.count }
     {
         self.count
     }
 
     /// Leaves its answer out.
     pub(crate) fn silence(&mut self)
-        ensures { self.new ≡ record (self.old) { phase = model.Quiet } }
+        ensures { self.new ≡ record (self.old) { sink = record (self.old.sink) { phase = model.Quiet } } }
     {
-        self.phase = Phase::Quiet;
+        self.enter(Phase::Quiet);
     }
 
     /// The files delivered since they were last taken.
     pub(crate) fn delivered(&self) -> &[FileBytes]
-        ensures { result.now ≡ self.now.shelf.files }
+        ensures { result.now ≡ self.now.sink.shelf.files }
     {
         self.shelf.files()
     }
 
     /// Hands these files out.
     pub(crate) fn take_delivered(&mut self, alloc: Global) -> Vec<FileBytes>
-        ensures files { result.items ≡ self.old.shelf.files }
-        ensures rest { self.new ≡ record (self.old) { shelf = record (self.old.shelf) { files = [] } } }
+        ensures files { result.items ≡ self.old.sink.shelf.files }
+        ensures rest { self.new ≡ record (self.old) { sink = record (self.old.sink) { shelf = record (self.old.sink.shelf) { files = [] } } } }
     {
         self.shelf.take_files(alloc)
     }

@@ -1,13 +1,14 @@
 //! The source, the sink, and the recorded words between them.
 
-ghost use Rattle.std.specs.Prelude.{◌≡◌, ◌≤◌, ◌+◌, ◌↔◌, IsTrue, length};
+ghost use Rattle.std.specs.Prelude.{◌≡◌, ◌≤◌, ◌↔◌, IsTrue, length};
 ghost use Rattle.a429_profile.specs.Profile.{Contents, IsProfile};
 ghost use Rattle.a429_ldu.specs.Ldu.{IsLdu};
 ghost use Rattle.a429_link.specs.declared.step.Step.TheVariants as step;
 ghost use Rattle.a429_link.specs.Sink.{held_count};
 ghost use Rattle.a429_link.specs.Step.{LoadsLdu};
 ghost use Rattle.a429_link.specs.State.{start, sink_state_of};
-ghost use Rattle.a429_link.specs.Transfer.{Applies, IsReadyStep};
+ghost use Rattle.a429_link.specs.Transfer.{Applies, IsReadyStep, LeadsToBounded};
+ghost use Rattle.a429_link.specs.Run.{IsBounded};
 ghost use Rattle.a429_link.specs.declared.seen.Seen.{Seen};
 ghost use Rattle.a429_link.specs.Link.{handed_out};
 
@@ -30,17 +31,18 @@ use std::marker::Model;
 #[derive(Debug, Drop)]
 pub(crate) struct Transfer {
     source: Source,
+    // It has the words on their way to it.
     sink: Sink,
-    to_sink: Vec<Word>,
-    to_source: Vec<Word>,
+    to_source: Option<Word>,
 }
 
 impl Model for Transfer {
+    ghost use Rattle.std.specs.Option.{option_to_list};
     ghost use Rattle.a429_link.specs.State.{State};
 
     ghost Value = { State };
 
-    ghost view = { λ t. record { source = t.source; sink = t.sink; to_sink = t.to_sink.items; to_source = t.to_source.items } };
+    ghost view = { λ t. record { source = t.source; sink = t.sink.sink; to_sink = t.sink.to_sink; to_source = option_to_list t.to_source } };
 }
 
 impl Transfer {
@@ -53,8 +55,7 @@ impl Transfer {
         Transfer {
             source: Source::new(UnitNumber::first(profile, first_file)),
             sink: Sink::new(alloc),
-            to_sink: Vec::new(alloc),
-            to_source: Vec::new(alloc),
+            to_source: None,
         }
     }
 
@@ -83,7 +84,8 @@ impl Transfer {
         step: Step,
     ) -> Result<(), StepFault>
         requires unit { LoadsLdu profile.now step }
-        requires bound { length self.old.to_sink + held_count self.old.sink.phase ≤ 255 }
+        requires bound { IsBounded self.old }
+        requires next { LeadsToBounded profile.now step self.old }
         ensures { Applies profile.now step self.old self.new result }
     {
         match step {
@@ -112,6 +114,7 @@ impl Transfer {
     }
 
     fn sent(&mut self, profile: &Profile, seen: Seen) -> Result<(), StepFault>
+        requires { LeadsToBounded profile.now (step.Sent seen) self.old }
         ensures { Applies profile.now (step.Sent seen) self.old self.new result }
     {
         let Some(next) = self.source.next(profile) else {
@@ -120,9 +123,7 @@ impl Transfer {
         if seen.bus != Bus::A || seen.word != next {
             return Err(StepFault::WordDiffers);
         }
-        if self.to_sink.push(seen.word).is_err() {
-            return Err(StepFault::OutOfMemory);
-        }
+        self.sink.push(seen.word);
         self.source.go_on(profile);
         Ok(())
     }
@@ -140,7 +141,7 @@ impl Transfer {
     fn time_out(&mut self, profile: &Profile) -> Result<(), StepFault>
         ensures { Applies profile.now step.TimeOut self.old self.new result }
     {
-        let nothing_on_its_way = self.to_sink.is_empty() && self.to_source.is_empty();
+        let nothing_on_its_way = self.sink.first().is_none() && self.to_source.is_none();
         if !self.source.waits() || !self.sink.listens() || !nothing_on_its_way {
             return Err(StepFault::NotAllowed);
         }
@@ -151,10 +152,9 @@ impl Transfer {
     fn take_answer(&mut self, profile: &Profile) -> Result<(), StepFault>
         ensures { Applies profile.now step.TakeAnswer self.old self.new result }
     {
-        if self.to_source.is_empty() {
+        let Some(word) = self.to_source.take() else {
             return Err(StepFault::NotAllowed);
-        }
-        let word = self.to_source.remove(0);
+        };
         if let Some(answer) = form_of(profile, Bus::B, word) {
             self.source.hear(profile, &answer);
         }
@@ -164,23 +164,25 @@ impl Transfer {
     fn lose_answer(&mut self, profile: &Profile) -> Result<(), StepFault>
         ensures { Applies profile.now step.LoseAnswer self.old self.new result }
     {
-        if self.to_source.is_empty() {
+        if self.to_source.is_none() {
             return Err(StepFault::NotAllowed);
         }
-        let _lost = self.to_source.remove(0);
+        self.to_source = None;
         Ok(())
     }
 
     fn sink_takes(&mut self, profile: &Profile) -> Result<(), StepFault>
-        requires { length self.old.to_sink + held_count self.old.sink.phase ≤ 255 }
         ensures { Applies profile.now step.SinkTakes self.old self.new result }
     {
-        if !self.sink.listens() || self.to_sink.is_empty() {
+        if !self.sink.listens() {
             return Err(StepFault::NotAllowed);
         }
-        let word = self.to_sink.remove(0);
-        if let Some(form) = form_of(profile, Bus::A, word) {
-            self.sink.take(profile, word, &form);
+        let Some(word) = self.sink.first() else {
+            return Err(StepFault::NotAllowed);
+        };
+        match form_of(profile, Bus::A, word) {
+            Some(form) => self.sink.take(profile, &form),
+            None => self.sink.pass(),
         }
         Ok(())
     }
@@ -196,7 +198,8 @@ impl Transfer {
     }
 
     fn answered(&mut self, alloc: Global, profile: &Profile, seen: Seen) -> Result<(), StepFault>
-        requires { held_count self.old.sink.phase ≤ 255 }
+        requires bound { IsBounded self.old }
+        requires next { LeadsToBounded profile.now (step.Answered seen) self.old }
         ensures { Applies profile.now (step.Answered seen) self.old self.new result }
     {
         if !self.sink.owes() {
@@ -208,13 +211,10 @@ impl Transfer {
         if seen.bus != Bus::B || !self.sink.may_answer(&answer) {
             return Err(StepFault::WordDiffers);
         }
-        if self.to_source.try_reserve(1).is_err() {
-            return Err(StepFault::OutOfMemory);
-        }
         if self.sink.answer(alloc, profile, &answer).is_err() {
             return Err(StepFault::OutOfMemory);
         }
-        self.to_source.push_reserved(seen.word);
+        self.to_source = Some(seen.word);
         Ok(())
     }
 
@@ -247,14 +247,14 @@ impl Transfer {
     pub(crate) fn to_sink(&self) -> usize
         ensures { result ≡ length self.now.to_sink }
     {
-        self.to_sink.len()
+        self.sink.coming()
     }
 
     /// How many answers are on their way to the source.
     pub(crate) fn to_source(&self) -> usize
         ensures { result ≡ length self.now.to_source }
     {
-        self.to_source.len()
+        usize::from(self.to_source.is_some())
     }
 
     /// The files delivered since they were last taken.
