@@ -1,25 +1,28 @@
--- What rows stand for where there is a fault.
-use Rattle.std.proofs.Common.{◌≡◌, ◌==◌, ◌∙◌, ◌+◌, ◌<◌, ◌≤◌, ℕ, List, [], ◌∷◌, ◌++◌, map, length, true, false, Option, Some, None, ◌⊎◌, inl, inr, nat_lt, refl, sym, ap, subst, arith}
+-- What rows stand for where there is a fault, in either form.
+use Rattle.std.proofs.Common.{◌≡◌, ◌==◌, ◌∙◌, ◌+◌, ◌<◌, ◌≤◌, ℕ, List, [], ◌∷◌, ◌++◌, map, length, drop, true, false, Option, Some, None, ◌⊎◌, inl, inr, nat_lt, refl, sym, ap, subst, arith}
 use Rattle.std.proofs.lemmas.Bool.{cases_Bool}
 use Rattle.std.proofs.lemmas.Bool.Decides.{nat_tests}
 use Rattle.a429_record.specs.declared.entry.Entry.{Entry}
 use Rattle.a429_record.specs.declared.fault.ReadFault.{ReadFault}
 use Rattle.a429_record.specs.declared.fault.ReadFault.TheVariants as fault
 use Rattle.a429_record.specs.Row.{Row, is_header, entry_in}
-use Rattle.a429_record.specs.Recording.{Recording, most_entries, row_stands_for, rows_stand_for, all_rows_stand_for, stands_for, rows_of, whole, stops, NeverFalls}
-use Rattle.a429_record.specs.FaultyRecordings.{stops_after, EndsAbove, IsRowRefused, IsRefusedAmong, HasNoHeader, IsFaulty}
+use Rattle.a429_record.specs.Binary.{is_binary, piece_entries}
+use Rattle.a429_record.specs.Recording.{Recording, most_entries, row_stands_for, entries_stand_for, all_rows_stand_for, stands_for, rows_of, whole, stops, NeverFalls}
+use Rattle.a429_record.specs.FaultyRecordings.{stops_after, EndsAbove, IsRefused, IsRefusedAmong, IsRefusedBehind, HasNoHeader, IsFaultyText, IsFaultyBinary}
+use Rattle.a429_record.proofs.BinaryFacts.{magic-split}
 use Rattle.a429_record.proofs.RecordingTimes.{last_time, last_time-push}
+use Rattle.a429_record.proofs.WholeRecordings.{text-stands, binary-stands}
 
 -- a row that is refused after n entries, the last of them at the time `last`
-abbrev Refuses : ℕ → ℕ → Row → ReadFault → Type 0
+abbrev Refuses : ℕ → ℕ → Option Entry → ReadFault → Type 0
 Refuses n last row fault.TooMany = n ≡ most_entries
-Refuses n last row (fault.Row i) = (i ≡ n) × (i < most_entries) × (entry_in row ≡ None)
-Refuses n last row (fault.TimeBack i) = (i ≡ n) × (i < most_entries) × ((e : Entry) × (entry_in row ≡ Some e) × (e.time < last))
+Refuses n last row (fault.Row i) = (i ≡ n) × (i < most_entries) × (row ≡ None)
+Refuses n last row (fault.TimeBack i) = (i ≡ n) × (i < most_entries) × ((e : Entry) × (row ≡ Some e) × (e.time < last))
 Refuses n last row _ = ⊥
 
 -- ---- from the rows
 
-refused-stops : (n last : ℕ) (row : Row) (behind : List Row) (f : ReadFault) → Refuses n last row f → rows_stand_for n last (row ∷ behind) ≡ stops f
+refused-stops : (n last : ℕ) (row : Option Entry) (behind : List (Option Entry)) (f : ReadFault) → Refuses n last row f → entries_stand_for n last (row ∷ behind) ≡ stops f
 refused-stops n last row behind fault.Header h = absurd h
 refused-stops n last row behind fault.Device h = absurd h
 refused-stops n last row behind fault.OutOfMemory h = absurd h
@@ -34,23 +37,19 @@ refused-stops n last row behind (fault.TimeBack i) h =
     let back : nat_lt h.2.0.time last ≡ true = grind (arith, nat_tests) in
     rw (room, h.2.1, back) (ap (λ k. stops (fault.TimeBack k)) (sym h.0))
 
--- rows of entries come before what the rest stands for
-rows-after : (n last : ℕ) (before rest : List Row) (es : List Entry) (f : ReadFault) → map entry_in before ≡ map Some es → n + length es ≤ most_entries → NeverFalls last es
-    → rows_stand_for (n + length es) (last_time last es) rest ≡ stops f → rows_stand_for n last (before ++ rest) ≡ stops_after es f
-rows-after n last [] rest [] f e few up h = let none : n + 0 ≡ n = omega arith in rw none at h
-rows-after n last [] rest (x ∷ es) f e few up h = cc e
-rows-after n last (r ∷ before) rest [] f e few up h = cc e
-rows-after n last (r ∷ before) rest (x ∷ es) f e few up h =
-    let here : entry_in r ≡ Some x = cc e in
-    let more : map entry_in before ≡ map Some es = cc e in
+-- entries come before what the rest stands for
+entries-after : (n last : ℕ) (rest : List (Option Entry)) (es : List Entry) (f : ReadFault) → n + length es ≤ most_entries → NeverFalls last es
+    → entries_stand_for (n + length es) (last_time last es) rest ≡ stops f → entries_stand_for n last (map Some es ++ rest) ≡ stops_after es f
+entries-after n last rest [] f few up h = let none : n + 0 ≡ n = omega arith in rw none at h
+entries-after n last rest (x ∷ es) f few up h =
     let least : last ≤ x.time = up.0 in
     let room : (n == most_entries) ≡ false = grind (arith, nat_tests) in
     let kept : nat_lt x.time last ≡ false = grind (arith, nat_tests) in
     let count : n + length (x ∷ es) ≡ n + 1 + length es = omega arith in
-    let after = rows-after (n + 1) x.time before rest es f more (omega arith) up.1 (subst (λ (k : ℕ). rows_stand_for k (last_time x.time es) rest ≡ stops f) count h) in
-    rw (room, here, kept, after) refl
+    let after = entries-after (n + 1) x.time rest es f (omega arith) up.1 (subst (λ (k : ℕ). entries_stand_for k (last_time x.time es) rest ≡ stops f) count h) in
+    rw (room, kept, after) refl
 
-refuses : (es : List Entry) (row : Row) (f : ReadFault) → IsRowRefused es row f → Refuses (0 + length es) (last_time 0 es) row f
+refuses : (es : List Entry) (row : Option Entry) (f : ReadFault) → IsRefused es row f → Refuses (0 + length es) (last_time 0 es) row f
 refuses es row fault.Header h = absurd h
 refuses es row fault.Device h = absurd h
 refuses es row fault.OutOfMemory h = absurd h
@@ -62,40 +61,47 @@ refuses es row (fault.TimeBack i) h =
     let last : last_time 0 es ≡ above.1.time = ap (last_time 0) above.2 ∙ last_time-push 0 above.0 above.1 in
     (omega (arith, h.0), h.1, (h.2.0, h.2.1, rw last above.3))
 
-refused-stands : (bytes : List ℕ) (es : List Entry) (f : ReadFault) → IsRefusedAmong (rows_of bytes) es f → stands_for bytes ≡ stops_after es f
-refused-stands bytes es f w =
+refused-stands : (rows : List (Option Entry)) (es : List Entry) (f : ReadFault) → IsRefusedAmong rows es f → entries_stand_for 0 0 rows ≡ stops_after es f
+refused-stands rows es f w =
     let c = w.comes in
-    let stop = refused-stops (0 + length es) (last_time 0 es) w.row c.behind f (refuses es w.row f w.refused) in
-    ap all_rows_stand_for w.all ∙ rw (w.first, c.all) (rows-after 0 0 c.before (w.row ∷ c.behind) es f c.entries (omega (arith, c.recordable.0)) c.recordable.1 stop)
+    let stop = refused-stops (0 + length es) (last_time 0 es) w.entry c.behind f (refuses es w.entry f w.refused) in
+    ap (entries_stand_for 0 0) c.all ∙ entries-after 0 0 (w.entry ∷ c.behind) es f (omega (arith, c.recordable.0)) c.recordable.1 stop
+
+behind-stands : (rows : List Row) (es : List Entry) (f : ReadFault) → IsRefusedBehind rows es f → all_rows_stand_for rows ≡ stops_after es f
+behind-stands rows es f w = ap all_rows_stand_for w.all ∙ rw w.first (refused-stands (map entry_in w.more) es f w.among)
 
 headless : (rows : List Row) → HasNoHeader rows → all_rows_stand_for rows ≡ stops fault.Header
 headless [] h = refl
 headless (r ∷ rows) h = rw h refl
 
-pub faulty-stands : (bytes : List ℕ) (es : List Entry) (f : ReadFault) → IsFaulty bytes es f → stands_for bytes ≡ stops_after es f
-faulty-stands bytes es fault.Header h = headless (rows_of bytes) h.1 ∙ ap (λ (l : List Entry). stops_after l fault.Header) (sym h.0)
-faulty-stands bytes es (fault.Row i) h = refused-stands bytes es (fault.Row i) h
-faulty-stands bytes es (fault.TimeBack i) h = refused-stands bytes es (fault.TimeBack i) h
-faulty-stands bytes es fault.TooMany h = refused-stands bytes es fault.TooMany h
-faulty-stands bytes es fault.Device h = refused-stands bytes es fault.Device h
-faulty-stands bytes es fault.OutOfMemory h = refused-stands bytes es fault.OutOfMemory h
-faulty-stands bytes es fault.Failed h = refused-stands bytes es fault.Failed h
+text-faulty : (bytes : List ℕ) (es : List Entry) (f : ReadFault) → IsFaultyText bytes es f → all_rows_stand_for (rows_of bytes) ≡ stops_after es f
+text-faulty bytes es fault.Header h = headless (rows_of bytes) h.1 ∙ ap (λ (l : List Entry). stops_after l fault.Header) (sym h.0)
+text-faulty bytes es (fault.Row i) h = behind-stands (rows_of bytes) es (fault.Row i) h
+text-faulty bytes es (fault.TimeBack i) h = behind-stands (rows_of bytes) es (fault.TimeBack i) h
+text-faulty bytes es fault.TooMany h = behind-stands (rows_of bytes) es fault.TooMany h
+text-faulty bytes es fault.Device h = behind-stands (rows_of bytes) es fault.Device h
+text-faulty bytes es fault.OutOfMemory h = behind-stands (rows_of bytes) es fault.OutOfMemory h
+text-faulty bytes es fault.Failed h = behind-stands (rows_of bytes) es fault.Failed h
+
+pub faulty_text-stands : (bytes : List ℕ) (es : List Entry) (f : ReadFault) → is_binary bytes ≡ false → IsFaultyText bytes es f → stands_for bytes ≡ stops_after es f
+faulty_text-stands bytes es f text h = text-stands bytes text ∙ text-faulty bytes es f h
+
+pub faulty_binary-stands : (bytes : List ℕ) (es : List Entry) (f : ReadFault) → IsFaultyBinary bytes es f → stands_for bytes ≡ stops_after es f
+faulty_binary-stands bytes es f w = rw w.all (refused-stands (piece_entries w.behind) es f w.among)
 
 -- ---- and back
 
 -- the row at which a fault stops rows
-record StopsAt (n last : ℕ) (rows : List Row) (es : List Entry) (f : ReadFault) : Type 0 where
-  before : List Row
-  row : Row
-  behind : List Row
-  all : rows ≡ before ++ (row ∷ behind)
-  entries : map entry_in before ≡ map Some es
+record StopsAt (n last : ℕ) (rows : List (Option Entry)) (es : List Entry) (f : ReadFault) : Type 0 where
+  row : Option Entry
+  behind : List (Option Entry)
+  all : rows ≡ map Some es ++ (row ∷ behind)
   few : n + length es ≤ most_entries
   up : NeverFalls last es
   refuses : Refuses (n + length es) (last_time last es) row f
 
 -- at once
-stops_here : (n last : ℕ) (r : Row) (rows : List Row) (es : List Entry) (f g : ReadFault) → n ≤ most_entries → stops g ≡ stops_after es f → Refuses n last r g
+stops_here : (n last : ℕ) (r : Option Entry) (rows : List (Option Entry)) (es : List Entry) (f g : ReadFault) → n ≤ most_entries → stops g ≡ stops_after es f → Refuses n last r g
     → StopsAt n last (r ∷ rows) es f
 stops_here n last r rows es f g few e h =
     let none : [] ≡ es = ap (λ (t : Recording). t.entries) e in
@@ -103,20 +109,18 @@ stops_here n last r rows es f g few e h =
     let zero : n ≡ n + length {A = Entry} [] = omega arith in
     let moved : Refuses (n + length {A = Entry} []) last r g = subst (λ (k : ℕ). Refuses k last r g) zero h in
     let There : List Entry → Type 0 = λ l. StopsAt n last (r ∷ rows) l f in
-    subst There none (record { before = []; row = r; behind = rows; all = refl; entries = refl; few = omega arith; up = tt; refuses = subst (λ (x : ReadFault). Refuses (n + length {A = Entry} []) last r x) same moved })
+    subst There none (record { row = r; behind = rows; all = refl; few = omega arith; up = tt; refuses = subst (λ (x : ReadFault). Refuses (n + length {A = Entry} []) last r x) same moved })
 
 -- after an entry
-stops_later : (n last : ℕ) (r : Row) (x : Entry) (rows : List Row) (es : List Entry) (f : ReadFault) → entry_in r ≡ Some x → last ≤ x.time
+stops_later : (n last : ℕ) (r : Option Entry) (x : Entry) (rows : List (Option Entry)) (es : List Entry) (f : ReadFault) → r ≡ Some x → last ≤ x.time
     → StopsAt (n + 1) x.time rows es f → StopsAt n last (r ∷ rows) (x ∷ es) f
 stops_later n last r x rows es f here least s =
     let count : n + 1 + length es ≡ n + length (x ∷ es) = omega arith in
-    let entries : map entry_in (r ∷ s.before) ≡ map Some (x ∷ es) = cc (here, s.entries) in
+    let all : r ∷ rows ≡ Some x ∷ (map Some es ++ (s.row ∷ s.behind)) = rw (here, s.all) refl in
     record {
-      before = r ∷ s.before;
       row = s.row;
       behind = s.behind;
-      all = ap (λ (l : List Row). r ∷ l) s.all;
-      entries = entries;
+      all = all;
       few = omega (arith, s.few);
       up = (least, s.up);
       refuses = subst (λ (k : ℕ). Refuses k (last_time x.time es) s.row f) count s.refuses;
@@ -131,10 +135,10 @@ record TellsOn (last : ℕ) (o : Option Entry) (more : Entry → Recording) (es 
   rest : (more entry).fault ≡ Some f
 
 -- a row makes the fault, or names an entry
-abbrev Either : ℕ → ℕ → Row → (Entry → Recording) → List Entry → ReadFault → Type 0
-Either n last r more es f = ((g : ReadFault) × (stops g ≡ stops_after es f) × Refuses n last r g) ⊎ TellsOn last (entry_in r) more es f
+abbrev Either : ℕ → ℕ → Option Entry → (Entry → Recording) → List Entry → ReadFault → Type 0
+Either n last r more es f = ((g : ReadFault) × (stops g ≡ stops_after es f) × Refuses n last r g) ⊎ TellsOn last r more es f
 
-row-stands : (n last : ℕ) (r : Row) (o : Option Entry) (more : Entry → Recording) (es : List Entry) (f : ReadFault) → n < most_entries → entry_in r ≡ o
+row-stands : (n last : ℕ) (r o : Option Entry) (more : Entry → Recording) (es : List Entry) (f : ReadFault) → n < most_entries → r ≡ o
     → row_stands_for n last o more ≡ stops_after es f → Either n last r more es f
 row-stands n last r None more es f under is e = inl (fault.Row n, e, (refl, under, is))
 row-stands n last r (Some x) more es f under is e = elim (cases_Bool (nat_lt x.time last)) [
@@ -148,16 +152,16 @@ row-stands n last r (Some x) more es f under is e = elim (cases_Bool (nat_lt x.t
 nothing_stops : (es : List Entry) (f : ReadFault) → whole [] ≡ stops_after es f → ⊥
 nothing_stops es f e = cc (ap (λ (t : Recording). t.fault) e)
 
-rows-stop : (n last : ℕ) (rows : List Row) (es : List Entry) (f : ReadFault) → n ≤ most_entries → rows_stand_for n last rows ≡ stops_after es f → StopsAt n last rows es f
+rows-stop : (n last : ℕ) (rows : List (Option Entry)) (es : List Entry) (f : ReadFault) → n ≤ most_entries → entries_stand_for n last rows ≡ stops_after es f → StopsAt n last rows es f
 rows-stop n last [] es f few e = absurd (nothing_stops es f e)
 rows-stop n last (r ∷ rows) es f few e = elim (cases_Bool (n == most_entries)) [
   | inl full ↦ let all : n ≡ most_entries = grind (arith, nat_tests) in stops_here n last r rows es f fault.TooMany few (rw full at e) all
   | inr room ↦
       let under : n < most_entries = grind (arith, nat_tests) in
-      elim (row-stands n last r (entry_in r) (λ x. rows_stand_for (n + 1) x.time rows) es f under refl (rw room at e)) [
+      elim (row-stands n last r r (λ x. entries_stand_for (n + 1) x.time rows) es f under refl (rw room at e)) [
         | inl h ↦ stops_here n last r rows es f h.0 few h.1 h.2
         | inr w ↦
-            let rest = rows_stand_for (n + 1) w.entry.time rows in
+            let rest = entries_stand_for (n + 1) w.entry.time rows in
             let same : rest ≡ stops_after rest.entries f = ap (λ (o : Option ReadFault). record { entries = rest.entries; fault = o }) w.rest in
             let later = rows-stop (n + 1) w.entry.time rows rest.entries f (omega arith) same in
             let There : List Entry → Type 0 = λ l. StopsAt n last (r ∷ rows) l f in
@@ -182,7 +186,7 @@ ends_above : (t : ℕ) (es : List Entry) → t < last_time 0 es → EndsAbove t 
 ends_above t [] h = absurd (omega arith)
 ends_above t (x ∷ es) h = let l = last_of x es in (l.earlier, l.last, l.all, rw l.time at h)
 
-refused : (es : List Entry) (row : Row) (f : ReadFault) → Refuses (0 + length es) (last_time 0 es) row f → IsRowRefused es row f
+refused : (es : List Entry) (row : Option Entry) (f : ReadFault) → Refuses (0 + length es) (last_time 0 es) row f → IsRefused es row f
 refused es row fault.Header h = absurd h
 refused es row fault.Device h = absurd h
 refused es row fault.OutOfMemory h = absurd h
@@ -191,43 +195,54 @@ refused es row fault.TooMany h = omega (arith, h)
 refused es row (fault.Row i) h = (omega (arith, h.0), h.1, h.2)
 refused es row (fault.TimeBack i) h = (omega (arith, h.0), h.1, (h.2.0, h.2.1, ends_above h.2.0.time es h.2.2))
 
-refused_in : (header : Row) (rows all : List Row) (es : List Entry) (f : ReadFault) → all ≡ header ∷ rows → is_header header ≡ true → StopsAt 0 0 rows es f → IsRefusedAmong all es f
-refused_in header rows all es f is first s = record {
-  header = header;
-  more = rows;
-  all = is;
-  first = first;
-  row = s.row;
-  comes = record { before = s.before; behind = s.behind; all = s.all; entries = s.entries; recordable = (omega (arith, s.few), s.up) };
+refused_among : (rows : List (Option Entry)) (es : List Entry) (f : ReadFault) → StopsAt 0 0 rows es f → IsRefusedAmong rows es f
+refused_among rows es f s = record {
+  entry = s.row;
+  comes = record { behind = s.behind; all = s.all; recordable = (omega (arith, s.few), s.up) };
   refused = refused es s.row f s.refuses;
 }
 
+refused_behind : (header : Row) (rows all : List Row) (es : List Entry) (f : ReadFault) → all ≡ header ∷ rows → is_header header ≡ true → StopsAt 0 0 (map entry_in rows) es f
+    → IsRefusedBehind all es f
+refused_behind header rows all es f is first s = record { header = header; more = rows; all = is; first = first; among = refused_among (map entry_in rows) es f s }
+
 -- what stops behind the header is no fault of the header, of the device or of memory
 behind_header : (bytes : List ℕ) (header : Row) (rows : List Row) (es : List Entry) (f : ReadFault) → rows_of bytes ≡ header ∷ rows → is_header header ≡ true
-    → StopsAt 0 0 rows es f → IsFaulty bytes es f
+    → StopsAt 0 0 (map entry_in rows) es f → IsFaultyText bytes es f
 behind_header bytes header rows es fault.Header is first s = absurd s.refuses
-behind_header bytes header rows es fault.Device is first s = refused_in header rows (rows_of bytes) es fault.Device is first s
-behind_header bytes header rows es fault.OutOfMemory is first s = refused_in header rows (rows_of bytes) es fault.OutOfMemory is first s
-behind_header bytes header rows es fault.Failed is first s = refused_in header rows (rows_of bytes) es fault.Failed is first s
-behind_header bytes header rows es fault.TooMany is first s = refused_in header rows (rows_of bytes) es fault.TooMany is first s
-behind_header bytes header rows es (fault.Row i) is first s = refused_in header rows (rows_of bytes) es (fault.Row i) is first s
-behind_header bytes header rows es (fault.TimeBack i) is first s = refused_in header rows (rows_of bytes) es (fault.TimeBack i) is first s
+behind_header bytes header rows es fault.Device is first s = refused_behind header rows (rows_of bytes) es fault.Device is first s
+behind_header bytes header rows es fault.OutOfMemory is first s = refused_behind header rows (rows_of bytes) es fault.OutOfMemory is first s
+behind_header bytes header rows es fault.Failed is first s = refused_behind header rows (rows_of bytes) es fault.Failed is first s
+behind_header bytes header rows es fault.TooMany is first s = refused_behind header rows (rows_of bytes) es fault.TooMany is first s
+behind_header bytes header rows es (fault.Row i) is first s = refused_behind header rows (rows_of bytes) es (fault.Row i) is first s
+behind_header bytes header rows es (fault.TimeBack i) is first s = refused_behind header rows (rows_of bytes) es (fault.TimeBack i) is first s
 
-no_header : (bytes : List ℕ) (rows : List Row) (es : List Entry) (f : ReadFault) → rows_of bytes ≡ rows → HasNoHeader rows → stops fault.Header ≡ stops_after es f → IsFaulty bytes es f
+no_header : (bytes : List ℕ) (rows : List Row) (es : List Entry) (f : ReadFault) → rows_of bytes ≡ rows → HasNoHeader rows → stops fault.Header ≡ stops_after es f → IsFaultyText bytes es f
 no_header bytes rows es f is none e =
     let same : fault.Header ≡ f = cc (ap (λ (t : Recording). t.fault) e) in
-    let There : ReadFault → Type 0 = λ g. IsFaulty bytes es g in
+    let There : ReadFault → Type 0 = λ g. IsFaultyText bytes es g in
     subst There same (sym (ap (λ (t : Recording). t.entries) e), rw is none)
 
-pub stands-faulty : (bytes : List ℕ) (es : List Entry) (f : ReadFault) → stands_for bytes ≡ stops_after es f → IsFaulty bytes es f
+stands-faulty : (bytes : List ℕ) (es : List Entry) (f : ReadFault) → all_rows_stand_for (rows_of bytes) ≡ stops_after es f → IsFaultyText bytes es f
 stands-faulty bytes es f e = from_rows (rows_of bytes) refl e where
-  from_rows : (rows : List Row) → rows_of bytes ≡ rows → all_rows_stand_for rows ≡ stops_after es f → IsFaulty bytes es f
+  from_rows : (rows : List Row) → rows_of bytes ≡ rows → all_rows_stand_for rows ≡ stops_after es f → IsFaultyText bytes es f
   from_rows [] is e = no_header bytes [] es f is tt e
   from_rows (r ∷ rows) is e = elim (cases_Bool (is_header r)) [
-    | inl first ↦ behind_header bytes r rows es f is first (rows-stop 0 0 rows es f (omega arith) (rw first at e))
+    | inl first ↦ behind_header bytes r rows es f is first (rows-stop 0 0 (map entry_in rows) es f (omega arith) (rw first at e))
     | inr other ↦ no_header bytes (r ∷ rows) es f is other (rw other at e)
   ]
 
 -- the fault alone, after whatever entries
-pub fault-faulty : (bytes : List ℕ) (f : ReadFault) → (stands_for bytes).fault ≡ Some f → IsFaulty bytes (stands_for bytes).entries f
-fault-faulty bytes f e = stands-faulty bytes (stands_for bytes).entries f (ap (λ (o : Option ReadFault). record { entries = (stands_for bytes).entries; fault = o }) e)
+with_fault : (t : Recording) (f : ReadFault) → t.fault ≡ Some f → t ≡ stops_after t.entries f
+with_fault t f e = ap (λ (o : Option ReadFault). record { entries = t.entries; fault = o }) e
+
+pub fault-faulty_text : (bytes : List ℕ) (f : ReadFault) → is_binary bytes ≡ false → (stands_for bytes).fault ≡ Some f → IsFaultyText bytes (stands_for bytes).entries f
+fault-faulty_text bytes f text e = stands-faulty bytes (stands_for bytes).entries f (sym (text-stands bytes text) ∙ with_fault (stands_for bytes) f e)
+
+pub fault-faulty_binary : (bytes : List ℕ) (f : ReadFault) → is_binary bytes ≡ true → (stands_for bytes).fault ≡ Some f → IsFaultyBinary bytes (stands_for bytes).entries f
+fault-faulty_binary bytes f binary e = record {
+  behind = drop 8 bytes;
+  all = magic-split bytes binary;
+  among = refused_among (piece_entries (drop 8 bytes)) (stands_for bytes).entries f
+      (rows-stop 0 0 (piece_entries (drop 8 bytes)) (stands_for bytes).entries f (omega arith) (sym (binary-stands bytes binary) ∙ with_fault (stands_for bytes) f e));
+}

@@ -8,15 +8,12 @@ use Rattle.std.specs.Io.KnownBytes.{Consumes, Keeps, prepend_known}
 use Rattle.std.proofs.KnownBytes.{Consumes-kept, prepend_known-nil}
 use Rattle.a429_record.specs.declared.entry.Entry.{Entry}
 use Rattle.a429_record.specs.declared.fault.ReadFault.{ReadFault}
-use Rattle.a429_record.specs.declared.stage.Stage.{Stage}
-use Rattle.a429_record.specs.declared.stage.Stage.TheVariants as stage
 use Rattle.a429_record.specs.Ends.{HasNoEnd}
 use Rattle.a429_record.specs.Row.{Row, is_header, entry_in, line_rows}
-use Rattle.a429_record.specs.Recording.{Recording, recording_lines, with_first, rows_of, most_entries, row_stands_for, rows_stand_for, IsRecordable}
-use Rattle.a429_record.specs.Reading.{AreHandedAt, PassesAt}
-use Rattle.a429_record.specs.Handed.{onto_first, ended_lines, ended_rows, AreSound, Loses, HasNoFault, HasNoRow, IsOpen, IsLineHanded, IsEnded, AreLines, AreHeader, AreEntryOf, AreGiven}
+use Rattle.a429_record.specs.Recording.{Recording, recording_lines, with_first, rows_of, most_entries, row_stands_for, entries_stand_for, IsRecordable}
+use Rattle.a429_record.specs.Handed.{onto_first, ended_lines, ended_rows, AreSound, Loses, HasNoTextFault, HasNoRow, IsOpen, IsLineHanded, IsEnded, AreLines, AreHeader, AreEntryOf, AreGiven}
 use Rattle.a429_record.proofs.LinesFacts.{lines_of-ended, lines_of-last, given}
-use Rattle.a429_record.proofs.WholeRecordings.{rows-whole}
+use Rattle.a429_record.proofs.WholeRecordings.{recordable-whole}
 
 -- ---- known bytes
 
@@ -175,11 +172,11 @@ row-front n last (Some x) long short h e = elim (cases_Bool (nat_lt x.time last)
   | inr kept ↦ rw kept (h x (rw kept at e))
 ]
 
-rows-front : (n last : ℕ) (rows more : List Row) → (rows_stand_for n last (rows ++ more)).fault ≡ None → (rows_stand_for n last rows).fault ≡ None
-rows-front n last [] more e = refl
-rows-front n last (r ∷ rows) more e = elim (cases_Bool (n == most_entries)) [
+entries-front : (n last : ℕ) (rows more : List (Option Entry)) → (entries_stand_for n last (rows ++ more)).fault ≡ None → (entries_stand_for n last rows).fault ≡ None
+entries-front n last [] more e = refl
+entries-front n last (r ∷ rows) more e = elim (cases_Bool (n == most_entries)) [
   | inl full ↦ rw full (rw full at e)
-  | inr room ↦ rw room (row-front n last (entry_in r) (λ x. rows_stand_for (n + 1) x.time (rows ++ more)) (λ x. rows_stand_for (n + 1) x.time rows) (λ x. rows-front (n + 1) x.time rows more) (rw room at e))
+  | inr room ↦ rw room (row-front n last r (λ x. entries_stand_for (n + 1) x.time (rows ++ more)) (λ x. entries_stand_for (n + 1) x.time rows) (λ x. entries-front (n + 1) x.time rows more) (rw room at e))
 ]
 
 given-sound : (es : List Entry) (rows more : List Row) → IsRecordable es → AreGiven es (rows ++ more) → AreSound rows
@@ -188,11 +185,12 @@ given-sound es (r ∷ rows) more h g =
     let here : r ≡ g.header = cc g.all in
     let rest : rows ++ more ≡ g.more = cc g.all in
     let first : is_header r ≡ true = rw here g.first in
-    let holds = rows-whole 0 0 g.more es g.entries (omega (arith, h.0)) h.1 in
-    rw first (rows-front 0 0 rows more (ap (λ (t : Recording). t.fault) (ap (rows_stand_for 0 0) rest ∙ holds)))
+    let all : map entry_in rows ++ map entry_in more ≡ map entry_in g.more = sym (map-append entry_in rows more) ∙ ap (map entry_in) rest in
+    let holds = ap (entries_stand_for 0 0) all ∙ recordable-whole (map entry_in g.more) es g.entries h in
+    rw first (entries-front 0 0 (map entry_in rows) (map entry_in more) (ap (λ (t : Recording). t.fault) holds))
 
 -- entries were given, and then there was no row
-pub sound : (es : List Entry) (t u rest : List ℕ) → IsRecordable es → AreLines (AreGiven es) t (u ++ rest) → HasNoRow u rest → HasNoFault (t ++ u) rest
+pub sound : (es : List Entry) (t u rest : List ℕ) → IsRecordable es → AreLines (AreGiven es) t (u ++ rest) → HasNoRow u rest → HasNoTextFault (t ++ u) rest
 sound es t u rest h p none = let (more, g) = lines_no_row (AreGiven es) t u rest p none in given-sound es (ended_rows (t ++ u)) more h g
 
 -- a row more
@@ -207,11 +205,12 @@ given_row es e x y g h = record {
 
 -- ---- the steps
 
--- the reader fails behind a front of a line
-pub open_lost : (a k k' : Option (List ℕ)) (ahead part line : List ℕ) → Consumes a (prepend_known ahead k) line → ahead ≡ part ++ [] → HasNoEnd (line ++ part) → Keeps k k' → Loses IsOpen a k'
-open_lost a k k' ahead part line gone cut one kept =
+-- the reader fails behind bytes that are so
+pub front_lost : (P : List ℕ → List ℕ → Type 0) (a k k' : Option (List ℕ)) (ahead part line : List ℕ) → Consumes a (prepend_known ahead k) line → ahead ≡ part ++ []
+    → ((rest : List ℕ) → P (line ++ part) rest) → Keeps k k' → Loses P a k'
+front_lost P a k k' ahead part line gone cut so kept =
     let all : Consumes a k (line ++ part) = rw prepend_known-nil at (given a k ahead part [] line gone cut) in
-    consumed IsOpen a k' (line ++ part) (Consumes-kept a k k' (line ++ part) all kept) (λ rest. one)
+    consumed P a k' (line ++ part) (Consumes-kept a k k' (line ++ part) all kept) so
 
 -- a line without a row is lost behind such lines
 pub blank_lost : (a b c : Option (List ℕ)) (line : List ℕ) → Loses (AreLines (λ rows. rows ≡ [])) a b → Loses (IsLineHanded line) b c → line_rows line ≡ [] → Loses (AreLines (λ rows. rows ≡ [])) a c
@@ -261,30 +260,17 @@ given_next es more e a b c is p q =
     lines_both (AreGiven es) (AreEntryOf e) (AreGiven (es ++ (e ∷ []))) t u rest before after (given_row es e)))
 
 -- the reader fails before an entry
-pub failed_next : (es : List Entry) (a b c : Option (List ℕ)) → IsRecordable es → Loses (AreLines (AreGiven es)) a b → Loses HasNoRow b c → Loses HasNoFault a c
+pub failed_next : (es : List Entry) (a b c : Option (List ℕ)) → IsRecordable es → Loses (AreLines (AreGiven es)) a b → Loses HasNoRow b c → Loses HasNoTextFault a c
 failed_next es a b c h p q = lost_both _ _ _ a b c p q (λ t u rest before after. sound es t u rest h before after)
 
 -- ---- the header and the first entry
 
--- by where a reading stands: these entries' lines are handed out, behind the header's
-abbrev pub AreGivenAt : Stage → List Entry → List ℕ → List ℕ → Type 0
-AreGivenAt stage.Begins es taken rest = (es ≡ []) × (taken ≡ [])
-AreGivenAt stage.Rows es taken rest = AreLines (AreGiven es) taken rest
-AreGivenAt stage.Ended es taken rest = ⊥
-AreGivenAt stage.Failed es taken rest = ⊥
-
--- nothing was read, and the reader has failed
-pub failed_begun : (k : Option (List ℕ)) (ahead : List ℕ) → ahead ≡ [] → Loses HasNoFault (prepend_known ahead k) k
-failed_begun k ahead none =
-    let own : prepend_known ahead k ≡ k = rw none (prepend_known-nil k) in
-    subst (λ (o : Option (List ℕ)). Loses HasNoFault o k) (sym own) (nothing_lost HasNoFault k (λ rest. tt))
-
 -- the reader fails before the header
-pub failed_header : (a b : Option (List ℕ)) → Loses HasNoRow a b → Loses HasNoFault a b
-failed_header a b h = lost_so HasNoRow HasNoFault a b h (λ t rest none. subst AreSound (sym none) tt)
+pub failed_header : (a b : Option (List ℕ)) → Loses HasNoRow a b → Loses HasNoTextFault a b
+failed_header a b h = lost_so HasNoRow HasNoTextFault a b h (λ t rest none. subst AreSound (sym none) tt)
 
 -- it fails behind the header
-pub failed_first : (a b c : Option (List ℕ)) → Loses (AreLines AreHeader) a b → Loses HasNoRow b c → Loses HasNoFault a c
+pub failed_first : (a b c : Option (List ℕ)) → Loses (AreLines AreHeader) a b → Loses HasNoRow b c → Loses HasNoTextFault a c
 failed_first a b c p q = failed_next [] a b c (omega arith, tt) (given_header a b p) q
 
 -- the header comes, and then an entry, where the answer is one
@@ -293,25 +279,3 @@ pub given_first : (r : Result (Option Entry) ReadFault) (a b c : Option (List �
 given_first (Ok None) a b c p h = tt
 given_first (Ok (Some e)) a b c p h = given_next [] (e ∷ []) e a b c refl (given_header a b p) h
 given_first (Err f) a b c p h = tt
-
--- ---- the answers of a reading
-
--- an entry more, and its lines
-pub given_more_at : (at : Stage) (es more : List Entry) (e : Entry) (a b c : Option (List ℕ)) → more ≡ es ++ (e ∷ []) → Loses (AreGivenAt at es) a b → Loses (AreHandedAt at e) b c
-    → Loses (AreLines (AreGiven more)) a c
-given_more_at stage.Begins es more e a b c is p q = lost_both _ _ _ a b c p q (λ t u rest before after.
-    let one : e ∷ [] ≡ more = sym (is ∙ ap (λ (l : List Entry). l ++ (e ∷ [])) before.0) in
-    let There : List ℕ → Type 0 = λ l. AreLines (AreGiven more) (l ++ u) rest in
-    subst There (sym before.1) (subst (λ (l : List Entry). AreLines (AreGiven l) u rest) one after))
-given_more_at stage.Rows es more e a b c is p q = given_next es more e a b c is p q
-given_more_at stage.Ended es more e a b c is p q = lost_both _ _ _ a b c p q (λ t u rest before after. absurd before)
-given_more_at stage.Failed es more e a b c is p q = lost_both _ _ _ a b c p q (λ t u rest before after. absurd before)
-
--- the reader fails
-pub failed_at : (at : Stage) (es : List Entry) (a b c : Option (List ℕ)) → IsRecordable es → Loses (AreGivenAt at es) a b → Loses (PassesAt at) b c → Loses HasNoFault a c
-failed_at stage.Begins es a b c h p q = lost_both _ _ _ a b c p q (λ t u rest before after.
-    let There : List ℕ → Type 0 = λ l. HasNoFault (l ++ u) rest in
-    subst There (sym before.1) after)
-failed_at stage.Rows es a b c h p q = failed_next es a b c h p q
-failed_at stage.Ended es a b c h p q = lost_both _ _ _ a b c p q (λ t u rest before after. absurd before)
-failed_at stage.Failed es a b c h p q = lost_both _ _ _ a b c p q (λ t u rest before after. absurd before)

@@ -2,11 +2,16 @@ pub mod RowDigits
 pub mod LineRecords
 pub mod LinePlain
 pub mod LinesFacts
-pub mod TextFacts
+pub mod BinaryFacts
+pub mod FormFacts
+pub mod RowsFacts
 pub mod WritingFacts
 pub mod WholeRecordings
 pub mod FaultyRecordings
 pub mod Handed
+pub mod HandedForms
+pub mod PiecesFacts
 pub mod WrittenIsReadBack
+pub mod PackedIsReadBack
 pub mod RecordingTimes
 pub mod WritingTexts

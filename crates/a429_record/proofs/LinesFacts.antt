@@ -2,8 +2,11 @@
 use Rattle.std.specs.Option.{IfSome, IfNone}
 use Rattle.memchr.specs.Find.{is_byte, Passes, IsFirstByte}
 use Rattle.a429_record.proofs.RowDigits.{not_true}
-use Rattle.std.proofs.Common.{◌≡◌, ◌∙◌, ◌+◌, ◌-◌, ◌<◌, ◌≤◌, ℕ, length, take, drop, get_or, arith, List, [], ◌∷◌, ◌++◌, Option, Some, None, inl, inr, refl, sym, ap, append_assoc, zero, suc, ◌==◌, eqb-true, slice_index}
-use Rattle.std.proofs.lemmas.List.{append-nil, drop-take, drop_more, take-append-drop, take_all}
+use Rattle.std.proofs.Common.{◌≡◌, ◌∙◌, ◌+◌, ◌-◌, ◌<◌, ◌≤◌, ℕ, length, take, drop, get_or, arith, List, [], ◌∷◌, ◌++◌, Option, Some, None, inl, inr, refl, sym, ap, subst, append_assoc, zero, suc, ◌==◌, eqb-true, slice_index}
+use borrow.Rule.Slice.PartMut.{put_mid}
+use Rattle.a429_word.proofs.TallySlices.{take-put_mid_within}
+use Rattle.std.proofs.lemmas.List.{append-nil, length-drop, length-take-le, drop-drop, drop-take, drop_more, take-append-drop, take_all}
+use Rattle.std.proofs.Math.Seq.{take-append_seam}
 use Rattle.std.specs.Io.KnownBytes.{Consumes, IsAtEnd, prepend_known}
 use Rattle.std.proofs.KnownBytes.{Consumes-trans}
 use Rattle.a429_record.specs.Ends.{HasNoEnd}
@@ -78,3 +81,29 @@ given a k ahead part rest line h e = Consumes-trans a (prepend_known ahead k) (p
 
 pub split_end : (xs : List ℕ) (n : ℕ) → n < length xs → get_or xs n 0 ≡ 10 → xs ≡ (take n xs ++ (10 ∷ [])) ++ drop (n + 1) xs
 split_end xs n h e = sym (append_assoc (take n xs) (10 ∷ []) (drop (n + 1) xs) ∙ ap (λ (l : List ℕ). take n xs ++ l) (sym (drop_more xs n 0 h ∙ ap (λ (b : ℕ). b ∷ drop (n + 1) xs) e)) ∙ take-append-drop n xs)
+
+-- a front of the bytes that were read, and what is behind it
+pub ahead_taken : (buffer : List ℕ) (at filled n : ℕ) (part rest : List ℕ) → at ≤ filled → filled ≤ length buffer → n ≤ filled - at → part ≡ take n (take (filled - at) (drop at buffer))
+    → drop at (take filled buffer) ≡ take n (part ++ rest) ++ drop (at + n) (take filled buffer)
+ahead_taken buffer at filled n part rest ordered inside few is =
+    let all = drop at (take filled buffer) in
+    let here : length (take (filled - at) (drop at buffer)) ≡ filled - at = length-take-le (filled - at) (drop at buffer) (omega (arith, length-drop at buffer)) in
+    let size : length part ≡ n = ap length is ∙ length-take-le n (take (filled - at) (drop at buffer)) (omega (arith, here)) in
+    let front : take n (part ++ rest) ≡ part = subst (λ (k : ℕ). take k (part ++ rest) ≡ part) size (take-append_seam part rest) in
+    let first : part ≡ take n all = is ∙ ap (take n) (ahead_slice buffer at filled ordered) in
+    let behind : drop (at + n) (take filled buffer) ≡ drop n all = sym (drop-drop n at (take filled buffer)) in
+    rw (front, behind) (first_rest part all n first)
+  where
+    first_rest : (part all : List ℕ) (n : ℕ) → part ≡ take n all → all ≡ part ++ drop n all
+    first_rest part all n e = sym (ap (λ (l : List ℕ). l ++ drop n all) e ∙ take-append-drop n all)
+
+-- a part of them is put behind those that were given before
+pub part_given : (a k : Option (List ℕ)) (ahead rest bytes part : List ℕ) (at m n : ℕ) → at ≤ length bytes → n ≤ length part → Consumes a (prepend_known ahead k) (take at bytes)
+    → ahead ≡ take n part ++ rest → Consumes a (prepend_known rest k) (take (at + n) (put_mid at m bytes part))
+part_given a k ahead rest bytes part at m n inside few gone cut =
+    rw (take-put_mid_within at m n bytes part inside few) (given a k ahead (take n part) rest (take at bytes) gone cut)
+
+pub take_most : (n : ℕ) (xs : List ℕ) → length (take n xs) ≤ n
+take_most zero xs = omega arith
+take_most (suc n) [] = omega arith
+take_most (suc n) (x ∷ xs) = let h = take_most n xs in omega (arith, h)

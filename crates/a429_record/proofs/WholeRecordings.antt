@@ -1,32 +1,43 @@
--- What rows stand for where there is no fault.
-use Rattle.std.proofs.Common.{◌≡◌, ◌==◌, ◌∙◌, ◌+◌, ◌≤◌, ℕ, List, [], ◌∷◌, map, length, false, Option, Some, None, inl, inr, nat_lt, refl, sym, ap, subst, arith}
+-- What rows stand for where there is no fault, in either form.
+use Rattle.std.proofs.Common.{◌≡◌, ◌==◌, ◌∙◌, ◌+◌, ◌≤◌, ℕ, List, [], ◌∷◌, map, length, drop, true, false, Option, Some, None, inl, inr, nat_lt, refl, sym, ap, subst, arith}
 use Rattle.std.proofs.lemmas.Bool.{cases_Bool}
 use Rattle.std.proofs.lemmas.Bool.Decides.{nat_tests}
 use Rattle.a429_record.specs.declared.entry.Entry.{Entry}
 use Rattle.a429_record.specs.declared.fault.ReadFault.{ReadFault}
 use Rattle.a429_record.specs.declared.fault.ReadFault.TheVariants as fault
 use Rattle.a429_record.specs.Row.{Row, is_header, entry_in}
-use Rattle.a429_record.specs.Recording.{Recording, most_entries, row_stands_for, rows_stand_for, all_rows_stand_for, stands_for, rows_of, whole, stops, NeverFalls}
-use Rattle.a429_record.specs.WholeRecordings.{IsWholeRecording}
+use Rattle.a429_record.specs.Binary.{is_binary, piece_entries}
+use Rattle.a429_record.specs.Recording.{Recording, most_entries, row_stands_for, entries_stand_for, all_rows_stand_for, text_stands_for, binary_stands_for, stands_for, rows_of, whole, stops, NeverFalls, IsRecordable}
+use Rattle.a429_record.specs.WholeRecordings.{IsWholeText, IsWholeBinary}
+use Rattle.a429_record.proofs.BinaryFacts.{magic-split}
+
+-- ---- by their form
+
+pub text-stands : (bytes : List ℕ) → is_binary bytes ≡ false → stands_for bytes ≡ text_stands_for bytes
+text-stands bytes text = rw text refl
+
+pub binary-stands : (bytes : List ℕ) → is_binary bytes ≡ true → stands_for bytes ≡ binary_stands_for bytes
+binary-stands bytes binary = rw binary refl
 
 -- ---- from the rows
 
-pub rows-whole : (n last : ℕ) (rows : List Row) (es : List Entry) → map entry_in rows ≡ map Some es → n + length es ≤ most_entries → NeverFalls last es
-    → rows_stand_for n last rows ≡ whole es
-rows-whole n last [] [] e few up = refl
-rows-whole n last [] (x ∷ es) e few up = cc e
-rows-whole n last (r ∷ rows) [] e few up = cc e
-rows-whole n last (r ∷ rows) (x ∷ es) e few up =
-    let here : entry_in r ≡ Some x = cc e in
-    let rest : map entry_in rows ≡ map Some es = cc e in
+pub entries-whole : (n last : ℕ) (es : List Entry) → n + length es ≤ most_entries → NeverFalls last es → entries_stand_for n last (map Some es) ≡ whole es
+entries-whole n last [] few up = refl
+entries-whole n last (x ∷ es) few up =
     let least : last ≤ x.time = up.0 in
     let room : (n == most_entries) ≡ false = grind (arith, nat_tests) in
     let kept : nat_lt x.time last ≡ false = grind (arith, nat_tests) in
-    rw (room, here, kept, rows-whole (n + 1) x.time rows es rest (omega arith) up.1) refl
+    rw (room, kept, entries-whole (n + 1) x.time es (omega arith) up.1) refl
 
-pub stands-whole : (bytes : List ℕ) (es : List Entry) → IsWholeRecording bytes es → stands_for bytes ≡ whole es
-stands-whole bytes es w =
-    ap all_rows_stand_for w.all ∙ rw w.first (rows-whole 0 0 w.rows es w.entries (omega (arith, w.recordable.0)) w.recordable.1)
+-- all entries, from the first on
+pub recordable-whole : (rows : List (Option Entry)) (es : List Entry) → rows ≡ map Some es → IsRecordable es → entries_stand_for 0 0 rows ≡ whole es
+recordable-whole rows es is h = ap (entries_stand_for 0 0) is ∙ entries-whole 0 0 es (omega (arith, h.0)) h.1
+
+pub text-whole : (bytes : List ℕ) (es : List Entry) → is_binary bytes ≡ false → IsWholeText bytes es → stands_for bytes ≡ whole es
+text-whole bytes es text w = text-stands bytes text ∙ ap all_rows_stand_for w.all ∙ rw w.first (recordable-whole (map entry_in w.rows) es w.entries w.recordable)
+
+pub binary-whole : (bytes : List ℕ) (es : List Entry) → IsWholeBinary bytes es → stands_for bytes ≡ whole es
+binary-whole bytes es w = rw w.0.all (recordable-whole (piece_entries w.0.behind) es w.0.entries w.1)
 
 -- ---- and back
 
@@ -55,32 +66,38 @@ row-stands n last (Some x) more es e = elim (cases_Bool (nat_lt x.time last)) [
       record { entry = x; is = refl; up = least; es_is = sym (ap (λ (t : Recording). t.entries) rest); none = ap (λ (t : Recording). t.fault) rest }
 ]
 
-first_row : (r : Row) (x : Entry) (rows : List Row) (es : List Entry) → entry_in r ≡ Some x → map entry_in rows ≡ map Some es → map entry_in (r ∷ rows) ≡ map Some (x ∷ es)
-first_row r x rows es here rest = cc
+first_entry : (r : Option Entry) (x : Entry) (rows : List (Option Entry)) (es : List Entry) → r ≡ Some x → rows ≡ map Some es → r ∷ rows ≡ map Some (x ∷ es)
+first_entry r x rows es here rest = rw (here, rest) refl
 
-rows-entries : (n last : ℕ) (rows : List Row) (es : List Entry) → n ≤ most_entries → rows_stand_for n last rows ≡ whole es
-    → (map entry_in rows ≡ map Some es) × (n + length es ≤ most_entries) × NeverFalls last es
-rows-entries n last [] [] few e = (refl, omega arith, tt)
-rows-entries n last [] (x ∷ es) few e = absurd (nothing_more x es e)
-rows-entries n last (r ∷ rows) es few e = elim (cases_Bool (n == most_entries)) [
+entries-of : (n last : ℕ) (rows : List (Option Entry)) (es : List Entry) → n ≤ most_entries → entries_stand_for n last rows ≡ whole es
+    → (rows ≡ map Some es) × (n + length es ≤ most_entries) × NeverFalls last es
+entries-of n last [] [] few e = (refl, omega arith, tt)
+entries-of n last [] (x ∷ es) few e = absurd (nothing_more x es e)
+entries-of n last (r ∷ rows) es few e = elim (cases_Bool (n == most_entries)) [
   | inl full ↦ absurd (faulty fault.TooMany es (rw full at e))
   | inr room ↦
-      let w = row-stands n last (entry_in r) (λ x. rows_stand_for (n + 1) x.time rows) es (rw room at e) in
-      let rest = rows_stand_for (n + 1) w.entry.time rows in
+      let w = row-stands n last r (λ x. entries_stand_for (n + 1) x.time rows) es (rw room at e) in
+      let rest = entries_stand_for (n + 1) w.entry.time rows in
       let more : n + 1 ≤ most_entries = grind (arith, nat_tests) in
       let same : rest ≡ whole rest.entries = ap (λ (f : Option ReadFault). record { entries = rest.entries; fault = f }) w.none in
-      let (maps, count, up) = rows-entries (n + 1) w.entry.time rows rest.entries more same in
-      let Kept : List Entry → Type 0 = λ xs. (map entry_in (r ∷ rows) ≡ map Some xs) × (n + length xs ≤ most_entries) × NeverFalls last xs in
-      subst Kept (sym w.es_is) (first_row r w.entry rows rest.entries w.is maps, omega arith, (w.up, up))
+      let (maps, count, up) = entries-of (n + 1) w.entry.time rows rest.entries more same in
+      let first = first_entry r w.entry rows rest.entries w.is maps in
+      let Kept : List Entry → Type 0 = λ xs. (r ∷ rows ≡ map Some xs) × (n + length xs ≤ most_entries) × NeverFalls last xs in
+      subst Kept (sym w.es_is) (first, omega arith, (w.up, up))
 ]
 
-pub whole-stands : (bytes : List ℕ) (es : List Entry) → stands_for bytes ≡ whole es → IsWholeRecording bytes es
-whole-stands bytes es e = from_rows (rows_of bytes) refl e where
-  from_rows : (rows : List Row) → rows_of bytes ≡ rows → all_rows_stand_for rows ≡ whole es → IsWholeRecording bytes es
+pub whole-text : (bytes : List ℕ) (es : List Entry) → is_binary bytes ≡ false → stands_for bytes ≡ whole es → IsWholeText bytes es
+whole-text bytes es text e = from_rows (rows_of bytes) refl (sym (text-stands bytes text) ∙ e) where
+  from_rows : (rows : List Row) → rows_of bytes ≡ rows → all_rows_stand_for rows ≡ whole es → IsWholeText bytes es
   from_rows [] is e = absurd (faulty fault.Header es e)
   from_rows (r ∷ rows) is e = elim (cases_Bool (is_header r)) [
     | inl first ↦
-        let t = rows-entries 0 0 rows es (omega arith) (rw first at e) in
+        let t = entries-of 0 0 (map entry_in rows) es (omega arith) (rw first at e) in
         record { header = r; rows = rows; all = is; first = first; entries = t.0; recordable = (omega (arith, t.1), t.2) }
     | inr other ↦ absurd (faulty fault.Header es (rw other at e))
   ]
+
+pub whole-binary : (bytes : List ℕ) (es : List Entry) → is_binary bytes ≡ true → stands_for bytes ≡ whole es → IsWholeBinary bytes es
+whole-binary bytes es binary e =
+    let t = entries-of 0 0 (piece_entries (drop 8 bytes)) es (omega arith) (sym (binary-stands bytes binary) ∙ e) in
+    (record { behind = drop 8 bytes; all = magic-split bytes binary; entries = t.0 }, (omega (arith, t.1), t.2))

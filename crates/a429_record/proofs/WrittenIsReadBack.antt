@@ -25,7 +25,7 @@ use Rattle.a429_record.proofs.RowDigits.{time_in-is, word_in-reads}
 use Rattle.a429_record.proofs.LinePlain.{AllHigh, high, plain_line}
 use Rattle.a429_record.proofs.LinesFacts.{HasNoEnd-append, lines_of-ended}
 use Rattle.a429_record.proofs.WritingFacts.{AllHigh-decimal, AllHigh-bus, AllHigh-numeral}
-use Rattle.a429_record.proofs.WholeRecordings.{stands-whole}
+use Rattle.a429_record.proofs.WholeRecordings.{text-whole}
 
 -- ---- fields
 
@@ -107,7 +107,7 @@ rows-header rest =
 -- ---- all of it
 
 pub written-back : (es : List Entry) → AreEntries es → IsRecordable es → stands_for (written_form es) ≡ whole es
-written-back es fit recordable = stands-whole (written_form es) es record {
+written-back es fit recordable = text-whole (written_form es) es refl record {
   header = header_row;
   rows = rows_of (flat_map line_text es);
   all = rows-header (flat_map line_text es);

@@ -3,18 +3,20 @@ use Rattle.std.specs.Prelude.{◌≡◌, ◌≤◌, ◌+◌, ℕ, List, Bool, fa
 use Rattle.a429_word.specs.declared.tally.Tally.{Tally}
 use Rattle.a429_word.specs.Tally.{has_failed, unread}
 use Rattle.a429_record.specs.declared.entry.Entry.{Entry}
+use Rattle.a429_record.specs.declared.form.Form.{Form}
 use Rattle.a429_record.specs.declared.stage.Stage.{Stage}
 use Rattle.a429_record.specs.declared.stage.Stage.TheVariants as stage
 use Rattle.a429_record.specs.declared.reading.Reading.{Reading}
 use Rattle.a429_record.specs.Recording.{Recording, most_entries}
 use Rattle.a429_record.specs.Lines.{pending_of, room_of}
-use Rattle.a429_record.specs.Reading.{still_to_come}
+use Rattle.a429_record.specs.Reading.{still_to_come, PassesAt}
 
--- what is still to come, where the bytes are known; where the reading stands; how many entries were given, and the time of the last;
--- the bytes whose lines were not given, those of them that the reader has still to give, and how many may still be given; whether it has failed
+-- what is still to come, where the bytes are known; where the reading stands, and in which form, once an entry was given; how many entries were
+-- given, and the time of the last; the bytes that were not given, those of them that the reader has still to give, and how many may still be given; whether it has failed
 pub record EntriesLeft : Type 0 where
   pub to_come : Option Recording
   pub stage : Stage
+  pub form : Form
   pub count : ℕ
   pub last : ℕ
   pub bytes : Option (List ℕ)
@@ -25,13 +27,14 @@ pub record EntriesLeft : Type 0 where
 -- what a reading has left of a reader
 abbrev pub entries_left : {R : Type 0} → (R → Option (List ℕ)) → Reading → Tally R → EntriesLeft
 entries_left remaining s rec = record {
-  to_come = still_to_come remaining s.stage s.text rec;
+  to_come = still_to_come remaining s.stage s.rows rec;
   stage = s.stage;
-  count = s.text.count;
-  last = s.text.last;
-  bytes = pending_of remaining s.text.lines rec;
+  form = s.rows.form;
+  count = s.rows.count;
+  last = s.rows.last;
+  bytes = pending_of remaining s.rows.lines rec;
   unread = unread remaining rec;
-  room = room_of s.text.lines rec;
+  room = room_of s.rows.lines rec;
   failed = has_failed rec;
 }
 
@@ -42,3 +45,7 @@ IsWorking s rec = s.stage ≡ stage.Rows → has_failed rec ≡ false
 -- an entry comes next, no earlier than the last one, and is then the last one; so many a recording may have
 abbrev pub ComesNext : EntriesLeft → EntriesLeft → Entry → Type 0
 ComesNext old new e = (old.last ≤ e.time) × (new.last ≡ e.time) × (new.count ≡ old.count + 1) × (new.count ≤ most_entries)
+
+-- what is handed out makes no fault, by where a reader of entries stands
+abbrev pub PassesFrom : EntriesLeft → List ℕ → List ℕ → Type 0
+PassesFrom old taken rest = PassesAt old.stage old.form old.count taken rest

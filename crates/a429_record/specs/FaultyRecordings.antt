@@ -1,21 +1,20 @@
 -- Recordings with a fault (profile).
-use Rattle.std.specs.Prelude.{◌≡◌, ◌<◌, ℕ, List, [], ◌∷◌, ◌++◌, map, length, true, false, Some, None, ⊤}
+use Rattle.std.specs.Prelude.{◌≡◌, ◌<◌, ℕ, List, [], ◌∷◌, ◌++◌, map, length, true, false, Option, Some, None, ⊤}
 use Rattle.a429_record.specs.declared.entry.Entry.{Entry}
 use Rattle.a429_record.specs.declared.fault.ReadFault.{ReadFault}
 use Rattle.a429_record.specs.declared.fault.ReadFault.TheVariants as fault
 use Rattle.a429_record.specs.Row.{Row, is_header, entry_in}
+use Rattle.a429_record.specs.Binary.{magic, piece_entries}
 use Rattle.a429_record.specs.Recording.{Recording, rows_of, most_entries, IsRecordable}
 
 -- these entries, and then a fault
 abbrev pub stops_after : List Entry → ReadFault → Recording
 stops_after es f = record { entries = es; fault = Some f }
 
--- rows begin with a row for each of these entries, which a recording may hold, and then comes this row
-pub record ComesAfter (es : List Entry) (row : Row) (rows : List Row) : Type 0 where
-  pub before : List Row
-  pub behind : List Row
-  pub all : rows ≡ before ++ (row ∷ behind)
-  pub entries : map entry_in before ≡ map Some es
+-- rows begin with these entries, which a recording may hold, and then comes one with this entry, or with none
+pub record ComesAfter (es : List Entry) (entry : Option Entry) (rows : List (Option Entry)) : Type 0 where
+  pub behind : List (Option Entry)
+  pub all : rows ≡ map Some es ++ (entry ∷ behind)
   pub recordable : IsRecordable es
 
 -- the last of these entries has a time above t
@@ -23,31 +22,41 @@ abbrev pub EndsAbove : ℕ → List Entry → Type 0
 EndsAbove t es = (earlier : List Entry) × (last : Entry) × (es ≡ earlier ++ (last ∷ [])) × (t < last.time)
 
 -- behind these entries a row makes a fault: one row too many, no entry, or an entry whose time is below the one before
-abbrev pub IsRowRefused : List Entry → Row → ReadFault → Type 0
-IsRowRefused es row fault.TooMany = length es ≡ most_entries
-IsRowRefused es row (fault.Row i) = (i ≡ length es) × (i < most_entries) × (entry_in row ≡ None)
-IsRowRefused es row (fault.TimeBack i) = (i ≡ length es) × (i < most_entries) × ((e : Entry) × (entry_in row ≡ Some e) × EndsAbove e.time es)
-IsRowRefused es row fault.Header = ⊥
-IsRowRefused es row fault.Device = ⊥
-IsRowRefused es row fault.OutOfMemory = ⊥
-IsRowRefused es row fault.Failed = ⊥
+abbrev pub IsRefused : List Entry → Option Entry → ReadFault → Type 0
+IsRefused es entry fault.TooMany = length es ≡ most_entries
+IsRefused es entry (fault.Row i) = (i ≡ length es) × (i < most_entries) × (entry ≡ None)
+IsRefused es entry (fault.TimeBack i) = (i ≡ length es) × (i < most_entries) × ((e : Entry) × (entry ≡ Some e) × EndsAbove e.time es)
+IsRefused es entry fault.Header = ⊥
+IsRefused es entry fault.Device = ⊥
+IsRefused es entry fault.OutOfMemory = ⊥
+IsRefused es entry fault.Failed = ⊥
+
+-- behind these entries a row makes this fault
+pub record IsRefusedAmong (rows : List (Option Entry)) (es : List Entry) (f : ReadFault) : Type 0 where
+  pub entry : Option Entry
+  pub comes : ComesAfter es entry rows
+  pub refused : IsRefused es entry f
 
 -- there is no first row, or it is not the header
 abbrev pub HasNoHeader : List Row → Type 0
 HasNoHeader [] = ⊤
 HasNoHeader (row ∷ rows) = is_header row ≡ false
 
--- rows are a header's, and behind it a row makes a fault after these entries
-pub record IsRefusedAmong (rows : List Row) (es : List Entry) (f : ReadFault) : Type 0 where
+-- rows of a text are the header's, and behind it one makes a fault after these entries
+pub record IsRefusedBehind (rows : List Row) (es : List Entry) (f : ReadFault) : Type 0 where
   pub header : Row
   pub more : List Row
   pub all : rows ≡ header ∷ more
   pub first : is_header header ≡ true
-  pub row : Row
-  pub comes : ComesAfter es row more
-  pub refused : IsRowRefused es row f
+  pub among : IsRefusedAmong (map entry_in more) es f
 
--- bytes are entries, and then a fault
-abbrev pub IsFaulty : List ℕ → List Entry → ReadFault → Type 0
-IsFaulty bytes es fault.Header = (es ≡ []) × HasNoHeader (rows_of bytes)
-IsFaulty bytes es f = IsRefusedAmong (rows_of bytes) es f
+-- the bytes of a text are entries, and then a fault
+abbrev pub IsFaultyText : List ℕ → List Entry → ReadFault → Type 0
+IsFaultyText bytes es fault.Header = (es ≡ []) × HasNoHeader (rows_of bytes)
+IsFaultyText bytes es f = IsRefusedBehind (rows_of bytes) es f
+
+-- bytes are the eight of a binary recording, and behind them a piece makes a fault after these entries
+pub record IsFaultyBinary (bytes : List ℕ) (es : List Entry) (f : ReadFault) : Type 0 where
+  pub behind : List ℕ
+  pub all : bytes ≡ magic ++ behind
+  pub among : IsRefusedAmong (piece_entries behind) es f

@@ -1,9 +1,11 @@
 -- What a reader has handed out (profile).
-use Rattle.std.specs.Prelude.{◌≡◌, ◌<◌, ◌⊎◌, ℕ, List, [], ◌∷◌, ◌++◌, length, map, flat_map, true, ◌==◌, if◌then◌else◌, Option, Some, None, ⊤}
+use Rattle.std.specs.Prelude.{◌≡◌, ◌<◌, ◌⊎◌, ℕ, List, [], ◌∷◌, ◌++◌, length, map, flat_map, true, false, ◌==◌, if◌then◌else◌, Option, Some, None, ⊤}
 use Rattle.a429_record.specs.declared.entry.Entry.{Entry}
 use Rattle.a429_record.specs.Ends.{HasNoEnd}
 use Rattle.a429_record.specs.Row.{Row, line_rows, is_header, entry_in}
-use Rattle.a429_record.specs.Recording.{rows_of, all_rows_stand_for}
+use Rattle.a429_record.specs.Binary.{is_binary, entry_bytes, piece_entry}
+use Rattle.a429_record.specs.Recording.{rows_of, all_rows_stand_for, most_entries}
+use Rattle.a429_record.specs.WholeRecordings.{IsWholeBinary}
 
 -- lines with a byte before the first of them, if there is one
 abbrev pub onto_first : ℕ → List (List ℕ) → List (List ℕ)
@@ -30,9 +32,30 @@ Loses P None new = ⊤
 Loses P (Some xs) None = ⊥
 Loses P (Some xs) (Some ys) = (taken : List ℕ) × (xs ≡ taken ++ ys) × P taken ys
 
--- no line that is handed out with its line feed makes a fault
+-- bytes may be a front of an entry's that comes after so many: they are too few for it, and none where there are as many as may be
+abbrev pub IsCut : ℕ → List ℕ → Type 0
+IsCut count bytes = (length bytes < entry_bytes) × (count ≡ most_entries → bytes ≡ [])
+
+abbrev pub IsCutAfter : ℕ → List ℕ → List ℕ → Type 0
+IsCutAfter count taken rest = IsCut count taken
+
+-- bytes are those of a binary recording, and then at most a front of an entry's
+pub record IsCutBinary (bytes : List ℕ) : Type 0 where
+  pub entries : List Entry
+  pub front : List ℕ
+  pub cut : List ℕ
+  pub all : bytes ≡ front ++ cut
+  pub whole : IsWholeBinary front entries
+  pub short : IsCut (length entries) cut
+
+-- no line of a text that is handed out with its line feed makes a fault
+abbrev pub HasNoTextFault : List ℕ → List ℕ → Type 0
+HasNoTextFault taken rest = AreSound (ended_rows taken)
+
+-- nothing that is handed out makes a fault, whatever comes behind it: of a binary recording no whole entry and no byte behind the last that
+-- may be, of a text no line with its line feed
 abbrev pub HasNoFault : List ℕ → List ℕ → Type 0
-HasNoFault taken rest = AreSound (ended_rows taken)
+HasNoFault taken rest = (is_binary taken ≡ true → IsCutBinary taken) × (is_binary taken ≡ false → HasNoTextFault taken rest)
 
 -- no line that is handed out with its line feed has a row
 abbrev pub HasNoRow : List ℕ → List ℕ → Type 0
@@ -69,3 +92,7 @@ pub record AreGiven (es : List Entry) (rows : List Row) : Type 0 where
   pub all : rows ≡ header ∷ more
   pub first : is_header header ≡ true
   pub entries : map entry_in more ≡ map Some es
+
+-- the piece of this entry is handed out
+abbrev pub ArePieceOf : Entry → List ℕ → List ℕ → Type 0
+ArePieceOf e taken rest = piece_entry taken ≡ Some e

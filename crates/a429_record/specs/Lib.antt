@@ -2,13 +2,14 @@ pub mod Row
 pub mod Ends
 pub mod Lines
 pub mod Line
+pub mod Binary
 pub mod Recording
 pub mod Fault
 pub mod Writing
 pub mod WholeRecordings
 pub mod FaultyRecordings
 pub mod Handed
-pub mod Text
+pub mod Rows
 pub mod Stage
 pub mod Reading
 pub mod Entries

@@ -1,9 +1,12 @@
 -- What a reader of lines has still to give, and what it gives (profile).
-use Rattle.std.specs.Prelude.{ℕ, ◌+◌, List, length, take, drop, Option}
-use Rattle.std.specs.Io.KnownBytes.{prepend_known}
+use Rattle.std.specs.Prelude.{◌≡◌, ◌<◌, ℕ, ◌+◌, List, [], length, take, drop, false, Option, IfSome}
+use Rattle.std.specs.Io.KnownBytes.{prepend_known, Consumes, Keeps}
 use Rattle.a429_word.specs.declared.tally.Tally.{Tally}
 use Rattle.a429_word.specs.Tally.{left_of, unread}
 use Rattle.a429_record.specs.declared.lines.Lines.{Lines}
+use Rattle.a429_record.specs.declared.form.Form.{Form}
+use Rattle.a429_record.specs.declared.form.Form.TheVariants as form
+use Rattle.a429_record.specs.Binary.{magic, is_binary}
 use Rattle.a429_record.specs.Row.{Row}
 use Rattle.a429_record.specs.Handed.{Loses, IsLineHanded, AreLines}
 
@@ -34,3 +37,20 @@ HandsRows P remaining old rec new new_rec = HandsOut (AreLines P) remaining old 
 -- the reader fails: what it has given until then, with what was ahead, and what it leaves, are so
 abbrev pub FailsAfter : {R : Type 0} → (List ℕ → List ℕ → Type 0) → (R → Option (List ℕ)) → Lines → Tally R → Tally R → Type 0
 FailsAfter P remaining old rec new_rec = Loses P (pending_of remaining old rec) (unread remaining new_rec)
+
+-- known bytes choose a form: those of a binary recording lose the eight that it begins with, those of a text stay
+abbrev pub Chooses : Form → Option (List ℕ) → Option (List ℕ) → Type 0
+Chooses form.Text old new = Keeps old new × IfSome old (λ bytes. is_binary bytes ≡ false)
+Chooses form.Binary old new = Consumes old new magic
+
+-- fewer of these eight are handed out
+abbrev pub IsMagicFront : List ℕ → List ℕ → Type 0
+IsMagicFront taken rest = (n : ℕ) × (n < 8) × (taken ≡ take n magic)
+
+-- fewer than n bytes are handed out
+abbrev pub IsShort : ℕ → List ℕ → List ℕ → Type 0
+IsShort n taken rest = length taken < n
+
+-- nothing is handed out
+abbrev pub IsNothing : List ℕ → List ℕ → Type 0
+IsNothing taken rest = taken ≡ []

@@ -1,47 +1,85 @@
 -- What a reading has still to give, by where it stands (profile).
-use Rattle.std.specs.Prelude.{ℕ, List, [], ◌∷◌, Option, Some, option_map, Result}
+use Rattle.std.specs.Prelude.{ℕ, List, [], ◌∷◌, ◌≡◌, Option, Some, IfSome, Result}
 use Rattle.a429_word.specs.declared.tally.Tally.{Tally}
 use Rattle.a429_record.specs.declared.entry.Entry.{Entry}
 use Rattle.a429_record.specs.declared.fault.ReadFault.{ReadFault}
 use Rattle.a429_record.specs.declared.fault.ReadFault.TheVariants as fault
 use Rattle.a429_record.specs.declared.reading.Reading.{Reading}
+use Rattle.a429_record.specs.declared.form.Form.{Form}
+use Rattle.a429_record.specs.declared.form.Form.TheVariants as form
 use Rattle.a429_record.specs.declared.stage.Stage.{Stage}
 use Rattle.a429_record.specs.declared.stage.Stage.TheVariants as stage
-use Rattle.a429_record.specs.declared.text.TextReader.{TextReader}
-use Rattle.a429_record.specs.Recording.{Recording, whole, stops, all_rows_stand_for}
-use Rattle.a429_record.specs.Handed.{HasNoFault, HasNoRow, AreLines, AreGiven, AreEntryOf}
-use Rattle.a429_record.specs.Lines.{HandsOut, FailsAfter}
-use Rattle.a429_record.specs.Text.{rows_left, recording_left, GivesNext}
+use Rattle.a429_record.specs.declared.rows.RowReader.{RowReader}
+use Rattle.a429_record.specs.Recording.{Recording, whole, stops}
+use Rattle.a429_record.specs.WholeRecordings.{AreBinary}
+use Rattle.a429_record.specs.Handed.{HasNoFault, HasNoRow, IsCutAfter, AreLines, AreGiven, AreEntryOf, ArePieceOf}
+use Rattle.a429_record.specs.Lines.{pending_of, HandsOut, FailsAfter}
+use Rattle.a429_record.specs.Rows.{all_left, recording_left, form_of, GivesNext}
 
 -- what is still to come, where the bytes are known: entries, and the fault that comes after them, if one does
-abbrev pub still_to_come : {R : Type 0} → (R → Option (List ℕ)) → Stage → TextReader → Tally R → Option Recording
-still_to_come remaining stage.Begins s rec = option_map all_rows_stand_for (rows_left remaining s rec)
+abbrev pub still_to_come : {R : Type 0} → (R → Option (List ℕ)) → Stage → RowReader → Tally R → Option Recording
+still_to_come remaining stage.Begins s rec = all_left remaining s rec
 still_to_come remaining stage.Rows s rec = recording_left remaining s rec
 still_to_come remaining stage.Ended s rec = Some (whole [])
 still_to_come remaining stage.Failed s rec = Some (stops fault.Failed)
 
--- the lines of an entry are handed out: before it the header's, where that was not read
-abbrev pub AreHandedAt : Stage → Entry → List ℕ → List ℕ → Type 0
-AreHandedAt stage.Begins e taken rest = AreLines (AreGiven (e ∷ [])) taken rest
-AreHandedAt stage.Rows e taken rest = AreLines (AreEntryOf e) taken rest
-AreHandedAt stage.Ended e taken rest = ⊥
-AreHandedAt stage.Failed e taken rest = ⊥
+-- the bytes of the first entry are handed out, in this form, with those that come before all entries
+abbrev pub AreFirstHanded : Form → Entry → List ℕ → List ℕ → Type 0
+AreFirstHanded form.Text e taken rest = AreLines (AreGiven (e ∷ [])) taken rest
+AreFirstHanded form.Binary e taken rest = AreBinary taken (e ∷ [])
 
--- no line that is handed out with its line feed makes a fault: it has no row, or is the header's, where that was not read
-abbrev pub PassesAt : Stage → List ℕ → List ℕ → Type 0
-PassesAt stage.Begins taken rest = HasNoFault taken rest
-PassesAt stage.Rows taken rest = HasNoRow taken rest
-PassesAt stage.Ended taken rest = ⊥
-PassesAt stage.Failed taken rest = ⊥
+-- the bytes of a further entry are
+abbrev pub AreNextHanded : Form → Entry → List ℕ → List ℕ → Type 0
+AreNextHanded form.Text e taken rest = AreLines (AreEntryOf e) taken rest
+AreNextHanded form.Binary e taken rest = ArePieceOf e taken rest
+
+-- the bytes of an entry are, by where a reading stands
+abbrev pub AreHandedAt : Stage → Form → Entry → List ℕ → List ℕ → Type 0
+AreHandedAt stage.Begins f e taken rest = AreFirstHanded f e taken rest
+AreHandedAt stage.Rows f e taken rest = AreNextHanded f e taken rest
+AreHandedAt stage.Ended f e taken rest = ⊥
+AreHandedAt stage.Failed f e taken rest = ⊥
+
+-- what is handed out makes no fault after so many entries, in this form: the lines of a text that have their line feed are no row, and of a
+-- binary recording it is a front of an entry at most
+abbrev pub PassesNext : Form → ℕ → List ℕ → List ℕ → Type 0
+PassesNext form.Text count taken rest = HasNoRow taken rest
+PassesNext form.Binary count taken rest = IsCutAfter count taken rest
+
+-- a reader of rows fails before the next: what it has given until then is so
+abbrev pub FailsNext : {R : Type 0} → (R → Option (List ℕ)) → RowReader → Tally R → Tally R → Type 0
+FailsNext remaining old rec new_rec = FailsAfter (PassesNext old.form old.count) remaining old.lines rec new_rec
+
+-- by where a reading stands: before all entries in whatever form
+abbrev pub PassesAt : Stage → Form → ℕ → List ℕ → List ℕ → Type 0
+PassesAt stage.Begins f count taken rest = HasNoFault taken rest
+PassesAt stage.Rows f count taken rest = PassesNext f count taken rest
+PassesAt stage.Ended f count taken rest = ⊥
+PassesAt stage.Failed f count taken rest = ⊥
+
+-- known bytes choose this form
+abbrev pub IsChosen : Option (List ℕ) → Form → Type 0
+IsChosen bytes f = IfSome bytes (λ known. f ≡ form_of known)
+
+-- the form is the one that the bytes choose, and then it stays
+abbrev pub IsFormAfter : Stage → Form → Option (List ℕ) → Form → Type 0
+IsFormAfter stage.Begins old bytes new = IsChosen bytes new
+IsFormAfter stage.Rows old bytes new = new ≡ old
+IsFormAfter stage.Ended old bytes new = new ≡ old
+IsFormAfter stage.Failed old bytes new = new ≡ old
 
 -- an answer is the next entry, the end or the fault of what is still to come, and after an entry the rest is
 abbrev pub AnswersNext : {R : Type 0} → (R → Option (List ℕ)) → Reading → Tally R → Reading → Tally R → Result (Option Entry) ReadFault → Type 0
-AnswersNext remaining old rec new new_rec r = GivesNext (still_to_come remaining old.stage old.text rec) (still_to_come remaining new.stage new.text new_rec) r
+AnswersNext remaining old rec new new_rec r = GivesNext (still_to_come remaining old.stage old.rows rec) (still_to_come remaining new.stage new.rows new_rec) r
 
--- the lines of an entry are given
+-- the bytes of an entry are given
 abbrev pub HandsEntry : {R : Type 0} → (R → Option (List ℕ)) → Reading → Tally R → Reading → Tally R → Entry → Type 0
-HandsEntry remaining old rec new new_rec e = HandsOut (AreHandedAt old.stage e) remaining old.text.lines rec new.text.lines new_rec
+HandsEntry remaining old rec new new_rec e = HandsOut (AreHandedAt old.stage new.rows.form e) remaining old.rows.lines rec new.rows.lines new_rec
 
--- the reader fails: no line that was given whole until then makes a fault
+-- the reader fails: nothing that was given until then makes a fault
 abbrev pub FailsBehind : {R : Type 0} → (R → Option (List ℕ)) → Reading → Tally R → Tally R → Type 0
-FailsBehind remaining old rec new_rec = FailsAfter (PassesAt old.stage) remaining old.text.lines rec new_rec
+FailsBehind remaining old rec new_rec = FailsAfter (PassesAt old.stage old.rows.form old.rows.count) remaining old.rows.lines rec new_rec
+
+-- the form of what comes is chosen, or stays
+abbrev pub KeepsForm : {R : Type 0} → (R → Option (List ℕ)) → Reading → Tally R → Reading → Type 0
+KeepsForm remaining old rec new = IsFormAfter old.stage old.rows.form (pending_of remaining old.rows.lines rec) new.rows.form

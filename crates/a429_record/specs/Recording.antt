@@ -1,9 +1,10 @@
 -- What the bytes of a recording stand for (profile).
-use Rattle.std.specs.Prelude.{ℕ, ◌+◌, ◌≤◌, List, [], ◌∷◌, length, flat_map, nat_lt, ◌==◌, if◌then◌else◌, Option, Some, None}
+use Rattle.std.specs.Prelude.{ℕ, ◌+◌, ◌≤◌, List, [], ◌∷◌, length, drop, map, flat_map, nat_lt, ◌==◌, if◌then◌else◌, Option, Some, None}
 use Rattle.a429_record.specs.declared.entry.Entry.{Entry}
 use Rattle.a429_record.specs.declared.fault.ReadFault.{ReadFault}
 use Rattle.a429_record.specs.declared.fault.ReadFault.TheVariants as fault
 use Rattle.a429_record.specs.Row.{Row, line_rows, is_header, entry_in}
+use Rattle.a429_record.specs.Binary.{is_binary, piece_entries}
 
 -- lines with a byte before the first of them
 abbrev pub with_first : ℕ → List (List ℕ) → List (List ℕ)
@@ -54,16 +55,28 @@ abbrev pub row_stands_for : ℕ → ℕ → Option Entry → (Entry → Recordin
 row_stands_for n last None more = stops (fault.Row n)
 row_stands_for n last (Some e) more = if nat_lt e.time last then stops (fault.TimeBack n) else with_entry e (more e)
 
--- what rows stand for after n entries, the last of them at the time `last`
-abbrev pub rows_stand_for : ℕ → ℕ → List Row → Recording
-rows_stand_for n last [] = whole []
-rows_stand_for n last (row ∷ rows) = if n == most_entries then stops fault.TooMany else row_stands_for n last (entry_in row) (λ e. rows_stand_for (n + 1) e.time rows)
+-- what rows with these entries, or with none, stand for after n entries, the last of them at the time `last`
+abbrev pub entries_stand_for : ℕ → ℕ → List (Option Entry) → Recording
+entries_stand_for n last [] = whole []
+entries_stand_for n last (entry ∷ more) = if n == most_entries then stops fault.TooMany else row_stands_for n last entry (λ e. entries_stand_for (n + 1) e.time more)
 
--- what all rows stand for: the header comes first
+-- what rows of a text stand for after n entries, the last of them at the time `last`
+abbrev pub rows_stand_for : ℕ → ℕ → List Row → Recording
+rows_stand_for n last rows = entries_stand_for n last (map entry_in rows)
+
+-- what all rows of a text stand for: the header comes first
 abbrev pub all_rows_stand_for : List Row → Recording
 all_rows_stand_for [] = stops fault.Header
 all_rows_stand_for (row ∷ rows) = if is_header row then rows_stand_for 0 0 rows else stops fault.Header
 
--- what bytes stand for
+-- what the bytes of a text recording stand for
+abbrev pub text_stands_for : List ℕ → Recording
+text_stands_for bytes = all_rows_stand_for (rows_of bytes)
+
+-- what the bytes of a binary recording stand for
+abbrev pub binary_stands_for : List ℕ → Recording
+binary_stands_for bytes = entries_stand_for 0 0 (piece_entries (drop 8 bytes))
+
+-- what bytes stand for: their first eight choose the form
 abbrev pub stands_for : List ℕ → Recording
-stands_for bytes = all_rows_stand_for (rows_of bytes)
+stands_for bytes = if is_binary bytes then binary_stands_for bytes else text_stands_for bytes

@@ -42,10 +42,10 @@ impl<R: Read> Failing for EntryReader<R> {
 impl<R: Read> EntryReader<R> {
     ghost use Rattle.a429_record.specs.Recording.{stands_for};
     ghost use Rattle.a429_record.specs.Handed.{Loses};
-    ghost use Rattle.a429_record.specs.Reading.{AreHandedAt, PassesAt};
+    ghost use Rattle.a429_record.specs.Reading.{AreHandedAt, IsFormAfter};
     ghost use Rattle.a429_record.specs.Stage.{goes_on, stage_after, AnswersAt};
-    ghost use Rattle.a429_record.specs.Text.{GivesNext, IfEntry};
-    ghost use Rattle.a429_record.specs.Entries.{ComesNext};
+    ghost use Rattle.a429_record.specs.Rows.{GivesNext, IfEntry};
+    ghost use Rattle.a429_record.specs.Entries.{ComesNext, PassesFrom};
     ghost use Rattle.a429_record.specs.declared.fault.ReadFault.TheVariants as fault;
     ghost use Rattle.a429_record.specs.declared.stage.Stage.TheVariants as at;
 
@@ -63,18 +63,19 @@ impl<R: Read> EntryReader<R> {
         }
     }
 
-    /// The next entry, or none at the end; the first call reads the header too. After the end there is
-    /// none again, and after a fault every call answers `Failed`, which comes nowhere else. `Device` is
-    /// answered where the reader has failed, and no line makes a fault that it handed out before with its
-    /// line feed, `OutOfMemory` where memory was refused, and any other fault where it is the recording's
-    /// first.
+    /// The next entry, or none at the end; the first call also reads the first eight bytes, which choose
+    /// the form, and the header of a text. After the end there is none again, and after a fault every
+    /// call answers `Failed`, which comes nowhere else. `Device` is answered where the reader has failed,
+    /// and nothing makes a fault that it handed out whole before, `OutOfMemory` where memory was refused,
+    /// and any other fault where it is the recording's first.
     pub fn next(&mut self) -> Result<Option<Entry>, ReadFault>
         ensures gives { GivesNext self.old.to_come self.new.to_come result }
         ensures answers { AnswersAt self.old.stage result }
         ensures stage { self.new.stage ≡ stage_after result }
         ensures follows { IfEntry result (λ e. ComesNext self.old self.new e) }
-        ensures lines { IfEntry result (λ e. Loses (AreHandedAt self.old.stage e) self.old.bytes self.new.bytes) }
-        ensures before { IsErrOf result fault.Device → Loses (PassesAt self.old.stage) self.old.bytes self.new.unread }
+        ensures form { IfEntry result (λ _. IsFormAfter self.old.stage self.old.form self.old.bytes self.new.form) }
+        ensures lines { IfEntry result (λ e. Loses (AreHandedAt self.old.stage self.new.form e) self.old.bytes self.new.bytes) }
+        ensures before { IsErrOf result fault.Device → Loses (PassesFrom self.old) self.old.bytes self.new.unread }
         ensures room { IfEntry result (λ _. self.new.room < self.old.room) }
         ensures device { IsErrOf result fault.Device ↔ (goes_on self.old.stage ≡ true) × (self.new.failed ≡ true) }
         ensures stays { goes_on self.old.stage ≡ false → self.new ≡ self.old }

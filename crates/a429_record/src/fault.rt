@@ -5,16 +5,16 @@ use thiserror::Error;
 /// Why a recording was not read. A place counts entries from 0. Its text is the line that names it.
 #[derive(Clone, Copy, Debug, PartialEq, Eq, Drop, Error)]
 pub enum ReadFault {
-    /// The first record is not the header.
+    /// The first row of a text is not the header.
     #[error("header")]
     Header,
-    /// The record at this entry's place is no entry.
+    /// The row at this entry's place is no entry.
     #[error("row {0}")]
     Row(usize),
     /// The entry at this place has a time below the one before.
     #[error("time back {0}")]
     TimeBack(usize),
-    /// A record comes after 1,000,000 entries.
+    /// A row, or the first byte of one, comes after 1,000,000 entries.
     #[error("too many")]
     TooMany,
     /// The reader has failed.

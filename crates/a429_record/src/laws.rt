@@ -1,12 +1,13 @@
 //! Laws of the definitions that the contracts of this crate cite.
 
-ghost use Rattle.std.specs.Prelude.{◌≡◌, ◌<◌, ◌^◌, ℕ, List, Some};
+ghost use Rattle.std.specs.Prelude.{◌≡◌, ◌<◌, ◌^◌, ℕ, List, Some, true, false};
 ghost use Rattle.csv.specs.Writing.{row_text, default_writer};
 ghost use Rattle.a429_record.specs.declared.entry.Entry.{Entry};
+ghost use Rattle.a429_record.specs.Binary.{is_binary, binary_form};
 ghost use Rattle.a429_record.specs.Recording.{stands_for, whole, most_entries, IsRecordable};
 ghost use Rattle.a429_record.specs.declared.fault.ReadFault.{ReadFault};
-ghost use Rattle.a429_record.specs.WholeRecordings.{IsWholeRecording, AreEntries};
-ghost use Rattle.a429_record.specs.FaultyRecordings.{stops_after, IsFaulty};
+ghost use Rattle.a429_record.specs.WholeRecordings.{IsWholeText, IsWholeBinary, AreEntries};
+ghost use Rattle.a429_record.specs.FaultyRecordings.{stops_after, IsFaultyText, IsFaultyBinary};
 ghost use Rattle.a429_record.specs.Writing.{header_fields, entry_fields, header_text, line_text, written_form};
 
 use crate::entry::MOST_ENTRIES;
@@ -16,24 +17,45 @@ pub fn the_most_entries()
     ensures { MOST_ENTRIES ≡ most_entries }
 {}
 
-/// Bytes stand for entries with no fault where they are the header and the entries' rows, at most
-/// 1,000,000 whose times never fall, and nowhere else.
-pub fn whole_recordings()
-    ensures there { (bytes : List ℕ) (es : List Entry) → IsWholeRecording bytes es → stands_for bytes ≡ whole es }
-    ensures only { (bytes : List ℕ) (es : List Entry) → stands_for bytes ≡ whole es → IsWholeRecording bytes es }
+/// The bytes of a text recording stand for entries with no fault where they are the header and the
+/// entries' rows, at most 1,000,000 whose times never fall, and nowhere else.
+pub fn whole_texts()
+    ensures there { (bytes : List ℕ) (es : List Entry) → is_binary bytes ≡ false → IsWholeText bytes es → stands_for bytes ≡ whole es }
+    ensures only { (bytes : List ℕ) (es : List Entry) → is_binary bytes ≡ false → stands_for bytes ≡ whole es → IsWholeText bytes es }
 {}
 
-/// Bytes stand for entries and a fault after them where the header is missing, or else where behind it
-/// and these entries' rows comes a row too many, one that is no entry or one whose time is below the
-/// one before, and nowhere else.
-pub fn recordings_with_a_fault()
-    ensures there { (bytes : List ℕ) (es : List Entry) (f : ReadFault) → IsFaulty bytes es f → stands_for bytes ≡ stops_after es f }
-    ensures only { (bytes : List ℕ) (f : ReadFault) → (stands_for bytes).fault ≡ Some f → IsFaulty bytes (stands_for bytes).entries f }
+/// Those of a binary recording do where the entries' pieces come behind their first eight.
+pub fn whole_binaries()
+    ensures there { (bytes : List ℕ) (es : List Entry) → IsWholeBinary bytes es → stands_for bytes ≡ whole es }
+    ensures only { (bytes : List ℕ) (es : List Entry) → is_binary bytes ≡ true → stands_for bytes ≡ whole es → IsWholeBinary bytes es }
 {}
 
-/// What is written of entries stands for these entries.
+/// The bytes of a text recording stand for entries and a fault after them where the header is missing,
+/// or else where behind it and these entries' rows comes a row too many, one that is no entry or one
+/// whose time is below the one before, and nowhere else.
+pub fn texts_with_a_fault()
+    ensures there { (bytes : List ℕ) (es : List Entry) (f : ReadFault) → is_binary bytes ≡ false
+        → IsFaultyText bytes es f → stands_for bytes ≡ stops_after es f }
+    ensures only { (bytes : List ℕ) (f : ReadFault) → is_binary bytes ≡ false
+        → (stands_for bytes).fault ≡ Some f → IsFaultyText bytes (stands_for bytes).entries f }
+{}
+
+/// Those of a binary recording do where behind its entries' pieces comes such a piece, which is no entry
+/// where it is cut too.
+pub fn binaries_with_a_fault()
+    ensures there { (bytes : List ℕ) (es : List Entry) (f : ReadFault) → IsFaultyBinary bytes es f → stands_for bytes ≡ stops_after es f }
+    ensures only { (bytes : List ℕ) (f : ReadFault) → is_binary bytes ≡ true
+        → (stands_for bytes).fault ≡ Some f → IsFaultyBinary bytes (stands_for bytes).entries f }
+{}
+
+/// What is written of entries as a text stands for these entries.
 pub fn written_is_read_back()
     ensures { (es : List Entry) → AreEntries es → IsRecordable es → stands_for (written_form es) ≡ whole es }
+{}
+
+/// What is written of them in binary does too.
+pub fn packed_is_read_back()
+    ensures { (es : List Entry) → AreEntries es → IsRecordable es → stands_for (binary_form es) ≡ whole es }
 {}
 
 /// The lines are those that `csv` writes of the same fields: none of them needs quotes.

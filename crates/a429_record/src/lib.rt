@@ -1,21 +1,25 @@
 //! Recordings of a pair of buses: what their bytes stand for, read and written.
 #![tactic(auto)]
 
+mod binary;
 mod entries;
 mod entry;
 mod fault;
+mod form;
 pub mod laws;
 mod line;
 mod lines;
+mod packing;
 mod reading;
 mod recording;
 mod row;
+mod rows;
 mod stage;
-mod text;
 mod writing;
 
 pub use crate::entries::EntryReader;
 pub use crate::entry::{Entry, MOST_ENTRIES};
 pub use crate::fault::{ReadFault, WriteFault};
+pub use crate::packing::write_binary;
 pub use crate::recording::read_entries;
 pub use crate::writing::{put_header, put_line, put_parts, write_entries};

@@ -6,7 +6,9 @@ ghost use Rattle.a429_word.specs.Tally.{left_of, has_failed, unread};
 ghost use Rattle.a429_record.specs.Ends.{HasNoEnd};
 ghost use Rattle.a429_record.specs.Handed.{IsOpen};
 
+use crate::binary::{MAGIC, begins_magic};
 use crate::fault::ReadFault;
+use crate::form::Form;
 use a429_word::{Device, Tally};
 use memchr::memchr;
 use std::alloc::AllocError;
@@ -23,7 +25,7 @@ pub struct Lines {
 }
 
 impl Lines {
-    ghost use Rattle.a429_record.specs.Lines.{ahead_of, pending_of, room_of, HandsLine, FailsAfter};
+    ghost use Rattle.a429_record.specs.Lines.{ahead_of, pending_of, room_of, HandsLine, FailsAfter, Chooses, IsMagicFront, IsShort, IsNothing};
     ghost use Rattle.a429_record.specs.declared.fault.ReadFault.TheVariants as fault;
 
     /// Nothing was read.
@@ -35,6 +37,118 @@ impl Lines {
             at: 0,
             filled: 0,
         }
+    }
+
+    /// Reads on until what was read chooses the form. The eight bytes that a binary recording begins with
+    /// are given then, those of a text are not.
+    pub fn form<R: Read>(&mut self, rec: &mut Tally<R>) -> Result<Form, ReadFault>
+        requires none { ahead_of self.old ≡ [] }
+        requires works { has_failed rec.old ≡ false }
+        ensures chosen { IfOk result (λ f. Chooses f (pending_of R.remaining self.old rec.old) (pending_of R.remaining self.new rec.new)) }
+        ensures room { OnOk result (room_of self.new rec.new ≤ room_of self.old rec.old) }
+        ensures err { IfErr result (λ f. f ≡ fault.Device) }
+        ensures before { OnErr result (FailsAfter IsMagicFront R.remaining self.old rec.old rec.new) }
+        ensures device { IsErr result ↔ (has_failed rec.new ≡ true) }
+    {
+        self.at = 0;
+        self.filled = 0;
+        'bytes: while self.filled < MAGIC.len() {
+            match self.read_on(rec, MAGIC.len()) {
+                Ok(true) => {}
+                Ok(false) => return Ok(Form::Text),
+                Err(Device) => return Err(ReadFault::Device),
+            }
+            if !begins_magic(&self.buffer[..self.filled]) {
+                return Ok(Form::Text);
+            }
+        }
+        self.at = MAGIC.len();
+        Ok(Form::Binary)
+    }
+
+    // Reads on behind what was read, up to this place at most, and answers whether there was more.
+    fn read_on<R: Read>(&mut self, rec: &mut Tally<R>, end: usize) -> Result<bool, Device>
+        requires start { self.old.at ≡ 0 }
+        requires some { self.old.filled < end }
+        requires fits { end ≤ 16384 }
+        ensures start { self.new.at ≡ 0 }
+        ensures filled { IfOk result (λ more. (self.new.filled ≤ end) × (more ≡ false → self.new.filled ≡ self.old.filled)) }
+        ensures more { IfOk result (λ more. more ≡ true → self.old.filled < self.new.filled) }
+        ensures came { OnOk result ((came : List ℕ) × (take self.new.filled self.new.buffer ≡ take self.old.filled self.old.buffer ++ came)
+            × Consumes (unread R.remaining rec.old) (unread R.remaining rec.new) came) }
+        ensures end { IfOk result (λ more. more ≡ false → IsAtEnd (unread R.remaining rec.new)) }
+        ensures none { OnErr result (Keeps (unread R.remaining rec.old) (unread R.remaining rec.new)) }
+        ensures left { OnOk result (left_of rec.new + self.new.filled ≡ left_of rec.old + self.old.filled) }
+        ensures device { IsErr result ↔ (has_failed rec.new ≡ true) }
+    {
+        let n = rec.pull(&mut self.buffer[self.filled..end])?;
+        self.filled += n;
+        Ok(n > 0)
+    }
+
+    /// Whether a byte comes, which is read and not given.
+    pub fn is_more<R: Read>(&mut self, rec: &mut Tally<R>) -> Result<bool, ReadFault>
+        requires { has_failed rec.old ≡ false }
+        ensures keeps { OnOk result (Keeps (pending_of R.remaining self.old rec.old) (pending_of R.remaining self.new rec.new)) }
+        ensures some { IfOk result (λ more. more ≡ true → 0 < length (ahead_of self.new)) }
+        ensures end { IfOk result (λ more. more ≡ false → IsAtEnd (pending_of R.remaining self.new rec.new)) }
+        ensures room { OnOk result (room_of self.new rec.new ≡ room_of self.old rec.old) }
+        ensures err { IfErr result (λ f. f ≡ fault.Device) }
+        ensures before { OnErr result (FailsAfter IsNothing R.remaining self.old rec.old rec.new) }
+        ensures device { IsErr result ↔ (has_failed rec.new ≡ true) }
+    {
+        if self.at < self.filled {
+            return Ok(true);
+        }
+        match self.refill(rec) {
+            Ok(more) => Ok(more),
+            Err(Device) => Err(ReadFault::Device),
+        }
+    }
+
+    /// Reads as many bytes as there is room for, or else all that are left, and answers their number.
+    pub fn fill<R: Read>(
+        &mut self,
+        rec: &mut Tally<R>,
+        bytes: &mut [u8],
+    ) -> Result<usize, ReadFault>
+        requires { has_failed rec.old ≡ false }
+        ensures size { length bytes.new ≡ length bytes.old }
+        ensures most { IfOk result (λ n. n ≤ length bytes.new) }
+        ensures takes { IfOk result (λ n. Consumes (pending_of R.remaining self.old rec.old)
+            (pending_of R.remaining self.new rec.new) (take n bytes.new)) }
+        ensures end { IfOk result (λ n. n < length bytes.new → IsAtEnd (pending_of R.remaining self.new rec.new)) }
+        ensures room { IfOk result (λ n. room_of self.new rec.new + n ≡ room_of self.old rec.old) }
+        ensures err { IfErr result (λ f. f ≡ fault.Device) }
+        ensures before { OnErr result (FailsAfter (IsShort (length bytes.new)) R.remaining self.old rec.old rec.new) }
+        ensures device { IsErr result ↔ (has_failed rec.new ≡ true) }
+    {
+        let mut at = 0;
+        'parts: loop {
+            at += self.take_bytes(&mut bytes[at..]);
+            if at == bytes.len() {
+                return Ok(at);
+            }
+            match self.refill(rec) {
+                Ok(true) => {}
+                Ok(false) => return Ok(at),
+                Err(Device) => return Err(ReadFault::Device),
+            }
+        }
+    }
+
+    // Gives as many of the bytes that were read as there is room for, and answers their number.
+    fn take_bytes(&mut self, bytes: &mut [u8]) -> usize
+        ensures size { length bytes.new ≡ length bytes.old }
+        ensures most { result ≤ length bytes.new }
+        ensures takes { ahead_of self.old ≡ take result bytes.new ++ ahead_of self.new }
+        ensures all { result < length bytes.new → ahead_of self.new ≡ [] }
+    {
+        let ahead = &self.buffer[self.at..self.filled];
+        let n = ahead.len().min(bytes.len());
+        bytes[..n].copy_from_slice(&ahead[..n]);
+        self.at += n;
+        n
     }
 
     /// Reads the next line, without its line feed, into `line`, and answers whether there was one.

@@ -2,13 +2,13 @@
 
 ghost use Rattle.std.specs.Prelude.{◌≡◌, ◌↔◌, ◌<◌, true, false, IsErrOf};
 ghost use Rattle.a429_word.specs.Tally.{has_failed};
-ghost use Rattle.a429_record.specs.Text.{IsFresh};
+ghost use Rattle.a429_record.specs.Rows.{IsFresh};
 ghost use Rattle.a429_record.specs.declared.stage.Stage.TheVariants as at;
 
 use crate::entry::Entry;
 use crate::fault::ReadFault;
+use crate::rows::RowReader;
 use crate::stage::Stage;
-use crate::text::TextReader;
 use a429_word::Tally;
 use std::alloc::Global;
 use std::io::Read;
@@ -16,16 +16,16 @@ use std::io::Read;
 /// How far a recording was read, and what was answered last.
 #[derive(Drop)]
 pub struct Reading {
-    text: TextReader,
+    rows: RowReader,
     stage: Stage,
-    ghost fresh: { stage ≡ at.Begins → IsFresh text },
+    ghost fresh: { stage ≡ at.Begins → IsFresh rows },
 }
 
 impl Reading {
     ghost use Rattle.a429_record.specs.Lines.{room_of};
-    ghost use Rattle.a429_record.specs.Text.{IfEntry, Follows};
+    ghost use Rattle.a429_record.specs.Rows.{IfEntry, Follows};
     ghost use Rattle.a429_record.specs.Stage.{goes_on, stage_after, AnswersAt};
-    ghost use Rattle.a429_record.specs.Reading.{AnswersNext, HandsEntry, FailsBehind};
+    ghost use Rattle.a429_record.specs.Reading.{AnswersNext, HandsEntry, FailsBehind, KeepsForm};
     ghost use Rattle.a429_record.specs.declared.fault.ReadFault.TheVariants as fault;
 
     /// Nothing was read.
@@ -33,12 +33,13 @@ impl Reading {
         ensures { result.stage ≡ at.Begins }
     {
         Reading {
-            text: TextReader::new(alloc),
+            rows: RowReader::new(alloc),
             stage: Stage::Begins,
         }
     }
 
-    /// Reads the next entry, where there is one; the header before the first. After the end there is
+    /// Reads the next entry, where there is one; what comes before all
+    /// entries before the first. After the end there is
     /// none, and after a fault comes the fault `Failed`.
     #[inline(always)]
     pub fn next<R: Read>(&mut self, rec: &mut Tally<R>) -> Result<Option<Entry>, ReadFault>
@@ -46,21 +47,22 @@ impl Reading {
         ensures gives { AnswersNext R.remaining self.old rec.old self.new rec.new result }
         ensures answers { AnswersAt self.old.stage result }
         ensures stage { self.new.stage ≡ stage_after result }
+        ensures form { IfEntry result (λ _. KeepsForm R.remaining self.old rec.old self.new) }
         ensures lines { IfEntry result (λ e. HandsEntry R.remaining self.old rec.old self.new rec.new e) }
         ensures before { IsErrOf result fault.Device → FailsBehind R.remaining self.old rec.old rec.new }
-        ensures follows { IfEntry result (λ e. Follows self.old.text self.new.text e) }
-        ensures room { IfEntry result (λ _. room_of self.new.text.lines rec.new < room_of self.old.text.lines rec.old) }
+        ensures follows { IfEntry result (λ e. Follows self.old.rows self.new.rows e) }
+        ensures room { IfEntry result (λ _. room_of self.new.rows.lines rec.new < room_of self.old.rows.lines rec.old) }
         ensures device { IsErrOf result fault.Device ↔ (goes_on self.old.stage ≡ true) × (has_failed rec.new ≡ true) }
         ensures stays { goes_on self.old.stage ≡ false → (self.new ≡ self.old) × (rec.new ≡ rec.old) }
     {
         match self.stage {
             Stage::Begins => {
-                let answer = self.text.first(rec);
+                let answer = self.rows.first(rec);
                 self.stage = Stage::after(&answer);
                 answer
             }
             Stage::Rows => {
-                let answer = self.text.next(rec);
+                let answer = self.rows.next(rec);
                 self.stage = Stage::after(&answer);
                 answer
             }

@@ -13,9 +13,9 @@ use a429_word::Tally;
 use std::alloc::Global;
 use std::io::Read;
 
-/// Reads a text recording to its end and answers all its entries, or its first fault. `Device` is
-/// answered exactly where `rec` has failed, and no line makes a fault that `rec` handed out before with
-/// its line feed. `OutOfMemory` is answered where memory was refused. `Failed` is never answered.
+/// Reads a recording in either form to its end and answers all its entries, or its first fault.
+/// `Device` is answered exactly where `rec` has failed, and nothing makes a fault that it handed out
+/// whole before. `OutOfMemory` is answered where memory was refused. `Failed` is never answered.
 pub fn read_entries<R: Read>(alloc: Global, rec: &mut Tally<R>) -> Result<Vec<Entry>, ReadFault>
     ensures ok { IfOk result (λ v. IfSome (unread R.remaining rec.old) (λ bytes. stands_for bytes ≡ whole v.items)) }
     ensures recordable { IfOk result (λ v. IsRecordable v.items) }

@@ -49,7 +49,8 @@ fn digit_of(byte: u8) -> Option<u64>
     }
 }
 
-fn bus_of(text: &[u8]) -> Option<Bus>
+/// The bus of a letter.
+pub fn bus_of(text: &[u8]) -> Option<Bus>
     ensures { result ≡ bus_in text.now }
 {
     match text {

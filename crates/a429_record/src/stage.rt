@@ -9,9 +9,9 @@ use crate::fault::ReadFault;
 /// Where a reading of a recording stands.
 #[derive(Clone, Copy)]
 pub enum Stage {
-    /// Nothing was read: the header comes first.
+    /// Nothing was read: what comes before all entries is first.
     Begins,
-    /// The header was read: the rows of entries come.
+    /// The rows of entries come.
     Rows,
     /// The end was answered.
     Ended,

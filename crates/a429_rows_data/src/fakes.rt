@@ -96,27 +96,20 @@ impl Write for Narrow {
     }
 }
 
-/// Gives the header of a recording, and then one row without end.
+/// Gives some bytes, and then others without end.
 #[derive(Drop)]
-pub struct Endless {
-    /// Whether the header has been given.
-    pub has_begun: bool,
+pub struct Endless<'a> {
+    /// What it gives next.
+    pub next: &'a [u8],
+    /// What it gives then, and again.
+    pub again: &'a [u8],
 }
 
-impl Read for Endless {
+impl Read for Endless<'_> {
     fn read(&mut self, buf: &mut [u8]) -> io::Result<usize> {
-        let text: &[u8] = if self.has_begun {
-            b"0,A,41410323\n"
-        } else {
-            b"time,bus,word\n"
-        };
-        if buf.len() < text.len() {
-            return Ok(0);
+        if self.next.is_empty() {
+            self.next = self.again;
         }
-        self.has_begun = true;
-        for (place, byte) in buf.iter_mut().zip(text) {
-            *place = *byte;
-        }
-        Ok(text.len())
+        self.next.read(buf)
     }
 }

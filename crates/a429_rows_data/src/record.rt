@@ -2,6 +2,7 @@
 
 ghost use Rattle.std.specs.Prelude.{◌≡◌};
 
+mod binary;
 mod entries;
 mod reading;
 mod writing;

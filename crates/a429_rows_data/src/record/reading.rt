@@ -157,7 +157,11 @@ fn texts_with_no_header(rt: HostRuntime) {
 
 #[test]
 fn a_million_and_one_entries(rt: HostRuntime) {
-    let mut rec = Tally::new(Endless { has_begun: false }, 67_108_864);
+    let rows = Endless {
+        next: b"time,bus,word\n",
+        again: b"0,A,41410323\n",
+    };
+    let mut rec = Tally::new(rows, 67_108_864);
     assert!(rt; count(rt.alloc(), &mut rec) == Err(ReadFault::TooMany));
     assert!(rt; !rec.failed());
 }

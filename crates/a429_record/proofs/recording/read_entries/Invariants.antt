@@ -6,21 +6,22 @@ use Rattle.a429_record.specs.Lines.{pending_of, room_of}
 use Rattle.a429_record.specs.Stage.{goes_on}
 use Rattle.a429_record.specs.Reading.{still_to_come}
 use Rattle.a429_record.specs.Handed.{Loses}
-use Rattle.a429_record.proofs.TextFacts.{Given}
-use Rattle.a429_record.proofs.Handed.{AreGivenAt}
+use Rattle.a429_record.proofs.RowsFacts.{Given}
+use Rattle.a429_record.proofs.HandedForms.{AreGivenAt, IsFormOf}
 use Rattle.a429_record.proofs.RecordingTimes.{last_time}
 use Rattle.a429_record.proofs.recording.read_entries.Given as goal
 
 abbrev pub invariant-entries : goal.invariant-entries
 invariant-entries g l = record {
-  given : Given (unread g.R.Read.remaining l.fn.rec) l.entries.items (still_to_come g.R.Read.remaining l.reading.stage l.reading.text l.rec);
-  lines : Loses (AreGivenAt l.reading.stage l.entries.items) (unread g.R.Read.remaining l.fn.rec) (pending_of g.R.Read.remaining l.reading.text.lines l.rec);
+  given : Given (unread g.R.Read.remaining l.fn.rec) l.entries.items (still_to_come g.R.Read.remaining l.reading.stage l.reading.rows l.rec);
+  lines : Loses (AreGivenAt l.reading.stage l.reading.rows.form l.entries.items) (unread g.R.Read.remaining l.fn.rec) (pending_of g.R.Read.remaining l.reading.rows.lines l.rec);
+  form : IsFormOf l.reading.stage (unread g.R.Read.remaining l.fn.rec) l.reading.rows.form;
   times : NeverFalls 0 l.entries.items;
-  last : last_time 0 l.entries.items ≡ l.reading.text.last;
-  count : length l.entries.items ≡ l.reading.text.count;
+  last : last_time 0 l.entries.items ≡ l.reading.rows.last;
+  count : length l.entries.items ≡ l.reading.rows.count;
   goes : goes_on l.reading.stage ≡ true;
   works : l.reading.stage ≡ stage.Rows → has_failed l.rec ≡ false;
 }
 
 abbrev pub decreases-entries : goal.decreases-entries
-decreases-entries g l = room_of l.reading.text.lines l.rec
+decreases-entries g l = room_of l.reading.rows.lines l.rec

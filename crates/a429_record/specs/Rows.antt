@@ -1,0 +1,92 @@
+-- What a reader of rows has still to give (profile).
+use Rattle.std.specs.Prelude.{◌≡◌, ◌≤◌, ◌+◌, ℕ, List, [], ◌∷◌, if◌then◌else◌, Option, Some, None, option_map, Result, Ok, Err, IfOk, IfSome, ⊤}
+use Rattle.a429_word.specs.declared.tally.Tally.{Tally}
+use Rattle.a429_record.specs.declared.entry.Entry.{Entry}
+use Rattle.a429_record.specs.declared.fault.ReadFault.{ReadFault}
+use Rattle.a429_record.specs.declared.fault.ReadFault.TheVariants as fault
+use Rattle.a429_record.specs.declared.rows.RowReader.{RowReader}
+use Rattle.a429_record.specs.declared.form.Form.{Form}
+use Rattle.a429_record.specs.declared.form.Form.TheVariants as form
+use Rattle.a429_record.specs.Row.{Row}
+use Rattle.a429_record.specs.Binary.{is_binary, piece_entries}
+use Rattle.a429_record.specs.Recording.{Recording, rows_of, whole, stops, with_entry, entries_stand_for, rows_stand_for, all_rows_stand_for, stands_for}
+use Rattle.a429_record.specs.Lines.{ahead_of, pending_of}
+
+-- no entry was given
+abbrev pub IsUncounted : RowReader → Type 0
+IsUncounted s = (s.count ≡ 0) × (s.last ≡ 0)
+
+-- and nothing was read
+abbrev pub IsFresh : RowReader → Type 0
+IsFresh s = IsUncounted s × (ahead_of s.lines ≡ [])
+
+-- the rows of a text that are left, where the bytes are known
+abbrev pub rows_left : {R : Type 0} → (R → Option (List ℕ)) → RowReader → Tally R → Option (List Row)
+rows_left remaining s rec = option_map rows_of (pending_of remaining s.lines rec)
+
+-- what rows with these entries, or with none, stand for after the entries that were given
+abbrev pub stands_from : RowReader → List (Option Entry) → Recording
+stands_from s = entries_stand_for s.count s.last
+
+-- what the rows of a text that are left stand for
+abbrev pub text_left : {R : Type 0} → (R → Option (List ℕ)) → RowReader → Tally R → Option Recording
+text_left remaining s rec = option_map (rows_stand_for s.count s.last) (rows_left remaining s rec)
+
+-- what the pieces of a binary recording that are left stand for
+abbrev pub binary_left : {R : Type 0} → (R → Option (List ℕ)) → RowReader → Tally R → Option Recording
+binary_left remaining s rec = option_map (λ bytes. stands_from s (piece_entries bytes)) (pending_of remaining s.lines rec)
+
+-- what is left stands for, in either form
+abbrev pub left_in : {R : Type 0} → (R → Option (List ℕ)) → Form → RowReader → Tally R → Option Recording
+left_in remaining form.Text s rec = text_left remaining s rec
+left_in remaining form.Binary s rec = binary_left remaining s rec
+
+abbrev pub recording_left : {R : Type 0} → (R → Option (List ℕ)) → RowReader → Tally R → Option Recording
+recording_left remaining s rec = left_in remaining s.form s rec
+
+-- what all bytes stand for, where nothing was given
+abbrev pub all_left : {R : Type 0} → (R → Option (List ℕ)) → RowReader → Tally R → Option Recording
+all_left remaining s rec = option_map stands_for (pending_of remaining s.lines rec)
+
+-- the form that bytes choose
+abbrev pub form_of : List ℕ → Form
+form_of bytes = if is_binary bytes then form.Binary else form.Text
+
+-- a fault is all that is left, where it is no fault of the device or for want of memory
+abbrev pub Stops : ReadFault → Recording → Type 0
+Stops fault.Device t = ⊤
+Stops fault.OutOfMemory t = ⊤
+Stops fault.Header t = t ≡ stops fault.Header
+Stops (fault.Row i) t = t ≡ stops (fault.Row i)
+Stops (fault.TimeBack i) t = t ≡ stops (fault.TimeBack i)
+Stops fault.TooMany t = t ≡ stops fault.TooMany
+Stops fault.Failed t = t ≡ stops fault.Failed
+
+-- the header is taken from known rows
+abbrev pub TakesHeader : Option (List Row) → Option (List Row) → Result (Unit {0}) ReadFault → Type 0
+TakesHeader None new r = ⊤
+TakesHeader (Some rows) new (Ok u) = (more : List Row) × (new ≡ Some more) × (all_rows_stand_for rows ≡ rows_stand_for 0 0 more)
+TakesHeader (Some rows) new (Err f) = Stops f (all_rows_stand_for rows)
+
+-- an answer is the next entry, the end or the fault of what is left, and after an entry the rest is left
+abbrev pub GivesNext : Option Recording → Option Recording → Result (Option Entry) ReadFault → Type 0
+GivesNext None new r = ⊤
+GivesNext (Some t) new (Ok (Some e)) = (u : Recording) × (new ≡ Some u) × (t ≡ with_entry e u)
+GivesNext (Some t) new (Ok None) = t ≡ whole []
+GivesNext (Some t) new (Err f) = Stops f t
+
+-- an answer is the first entry, the end or the fault of all rows of a text, the header's first, and after an entry the rest is left
+abbrev pub GivesFirst : {R : Type 0} → (R → Option (List ℕ)) → RowReader → Tally R → RowReader → Tally R → Result (Option Entry) ReadFault → Type 0
+GivesFirst remaining old rec new new_rec r = GivesNext (option_map all_rows_stand_for (rows_left remaining old rec)) (text_left remaining new new_rec) r
+
+-- an answer is that to a row with this entry, or with none, whatever rows come behind it
+abbrev pub GivesRow : RowReader → Option Entry → RowReader → Result (Option Entry) ReadFault → Type 0
+GivesRow old entry new r = (more : List (Option Entry)) → GivesNext (Some (stands_from old (entry ∷ more))) (Some (stands_from new more)) r
+
+-- where the answer is an entry, it is so
+abbrev pub IfEntry : Result (Option Entry) ReadFault → (Entry → Type 0) → Type 0
+IfEntry answer P = IfOk answer (λ o. IfSome o P)
+
+-- an entry is given after the last one, and is then the last one
+abbrev pub Follows : RowReader → RowReader → Entry → Type 0
+Follows old new e = (old.last ≤ e.time) × (new.last ≡ e.time) × (new.count ≡ old.count + 1)

@@ -1,0 +1,253 @@
+//! The rows of a recording, read one by one: the lines of a text, or the pieces of a binary recording.
+
+ghost use Rattle.std.specs.Prelude.{◌≡◌, ◌≢◌, ◌↔◌, ◌∷◌, ◌<◌, ◌≤◌, [], false, true, IsErrOf, IsTrue, IfOk, IfErr, IfSome, IfNone, OnOk, Err};
+ghost use Rattle.a429_word.specs.Tally.{has_failed};
+ghost use Rattle.a429_record.specs.Recording.{most_entries};
+
+use crate::binary::{ENTRY_BYTES, entry_of_piece};
+use crate::entry::{Entry, MOST_ENTRIES};
+use crate::fault::ReadFault;
+use crate::form::Form;
+use crate::line::{LineEntry, LineRow, entry_in_line, plain_entry, row_in_line};
+use crate::lines::Lines;
+use crate::row::is_header_row;
+use a429_word::{Failing, Tally};
+use std::alloc::Global;
+use std::io::Read;
+
+/// How far a recording was read: its form, what was read of the reader and not yet given, how many
+/// entries were given, and the time of the last of them.
+#[derive(Drop)]
+pub struct RowReader {
+    alloc: Global,
+    form: Form,
+    lines: Lines,
+    line: Vec<u8>,
+    count: usize,
+    last: u64,
+    ghost in_range: { count ≤ most_entries },
+}
+
+impl RowReader {
+    ghost use Rattle.a429_record.specs.Lines.{ahead_of, pending_of, room_of, HandsRows, HandsOut, FailsAfter, Chooses, IsMagicFront};
+    ghost use Rattle.a429_record.specs.Line.{GivesEntry};
+    ghost use Rattle.a429_record.specs.Handed.{HasNoRow, HasNoFault, HasNoTextFault, IsCutAfter, AreHeader, AreEntryOf, AreGiven, ArePieceOf};
+    ghost use Rattle.a429_record.specs.Rows.{IsFresh, IsUncounted, rows_left, text_left, binary_left, recording_left, all_left, TakesHeader, GivesNext, GivesFirst, GivesRow, IfEntry, Follows};
+    ghost use Rattle.a429_record.specs.Reading.{AreFirstHanded, AreNextHanded, FailsNext, IsChosen};
+    ghost use Rattle.a429_record.specs.declared.fault.ReadFault.TheVariants as fault;
+
+    /// Nothing was read.
+    pub fn new(alloc: Global) -> Self
+        ensures { IsFresh result }
+    {
+        RowReader {
+            alloc,
+            form: Form::Text,
+            lines: Lines::new(),
+            line: Vec::new(alloc),
+            count: 0,
+            last: 0,
+        }
+    }
+
+    /// Reads what comes before all entries, and the first of them, where there is one.
+    pub fn first<R: Read>(&mut self, rec: &mut Tally<R>) -> Result<Option<Entry>, ReadFault>
+        requires { IsFresh self.old }
+        ensures gives { GivesNext (all_left R.remaining self.old rec.old) (recording_left R.remaining self.new rec.new) result }
+        ensures form { IfEntry result (λ _. IsChosen (pending_of R.remaining self.old.lines rec.old) self.new.form) }
+        ensures lines { IfEntry result (λ e. HandsOut (AreFirstHanded self.new.form e) R.remaining self.old.lines rec.old
+            self.new.lines rec.new) }
+        ensures before { IsErrOf result fault.Device → FailsAfter HasNoFault R.remaining self.old.lines rec.old rec.new }
+        ensures follows { IfEntry result (λ e. Follows self.old self.new e) }
+        ensures room { IfEntry result (λ _. room_of self.new.lines rec.new < room_of self.old.lines rec.old) }
+        ensures device { IsErrOf result fault.Device ↔ (has_failed rec.new ≡ true) }
+        ensures no_failed { result ≢ Err fault.Failed }
+    {
+        if rec.failed() {
+            return Err(ReadFault::Device);
+        }
+        match self.lines.form(rec) {
+            Ok(form) => self.form = form,
+            Err(fault) => return Err(fault),
+        }
+        match self.form {
+            Form::Text => self.first_row(rec),
+            Form::Binary => self.next_piece(rec),
+        }
+    }
+
+    /// Reads the next entry, where there is one. What comes before all entries was read.
+    #[inline(always)]
+    pub fn next<R: Read>(&mut self, rec: &mut Tally<R>) -> Result<Option<Entry>, ReadFault>
+        requires { has_failed rec.old ≡ false }
+        ensures gives { GivesNext (recording_left R.remaining self.old rec.old) (recording_left R.remaining self.new rec.new) result }
+        ensures form { self.new.form ≡ self.old.form }
+        ensures lines { IfEntry result (λ e. HandsOut (AreNextHanded self.old.form e) R.remaining self.old.lines rec.old
+            self.new.lines rec.new) }
+        ensures before { IsErrOf result fault.Device → FailsNext R.remaining self.old rec.old rec.new }
+        ensures follows { IfEntry result (λ e. Follows self.old self.new e) }
+        ensures room { IfEntry result (λ _. room_of self.new.lines rec.new < room_of self.old.lines rec.old) }
+        ensures device { IsErrOf result fault.Device ↔ (has_failed rec.new ≡ true) }
+        ensures no_failed { result ≢ Err fault.Failed }
+    {
+        match self.form {
+            Form::Text => self.next_row(rec),
+            Form::Binary => self.next_piece(rec),
+        }
+    }
+
+    // Reads the header of a text, which comes before the first entry.
+    fn header<R: Read>(&mut self, rec: &mut Tally<R>) -> Result<(), ReadFault>
+        requires { has_failed rec.old ≡ false }
+        ensures takes { TakesHeader (rows_left R.remaining self.old rec.old) (rows_left R.remaining self.new rec.new) result }
+        ensures lines { OnOk result (HandsRows AreHeader R.remaining self.old.lines rec.old self.new.lines rec.new) }
+        ensures before { IsErrOf result fault.Device → FailsAfter HasNoRow R.remaining self.old.lines rec.old rec.new }
+        ensures form { self.new.form ≡ self.old.form }
+        ensures count { self.new.count ≡ self.old.count }
+        ensures last { self.new.last ≡ self.old.last }
+        ensures room { OnOk result (room_of self.new.lines rec.new ≤ room_of self.old.lines rec.old) }
+        ensures device { IsErrOf result fault.Device ↔ (has_failed rec.new ≡ true) }
+        ensures no_failed { result ≢ Err fault.Failed }
+    {
+        'lines: loop {
+            match self.lines.next_line(rec, &mut self.line) {
+                Ok(true) => {}
+                Ok(false) => return Err(ReadFault::Header),
+                Err(fault) => return Err(fault),
+            }
+            match row_in_line(self.alloc, self.line.as_slice()) {
+                Ok(LineRow::Blank) => {}
+                Ok(LineRow::One(row)) => {
+                    if is_header_row(&row) {
+                        return Ok(());
+                    }
+                    return Err(ReadFault::Header);
+                }
+                Ok(LineRow::Several) => return Err(ReadFault::Header),
+                Err(fault) => return Err(fault),
+            }
+        }
+    }
+
+    // Reads the header of a text, and the entry behind it, where there is one.
+    fn first_row<R: Read>(&mut self, rec: &mut Tally<R>) -> Result<Option<Entry>, ReadFault>
+        requires fresh { IsUncounted self.old }
+        requires works { has_failed rec.old ≡ false }
+        ensures gives { GivesFirst R.remaining self.old rec.old self.new rec.new result }
+        ensures form { self.new.form ≡ self.old.form }
+        ensures lines { IfEntry result (λ e. HandsRows (AreGiven (e ∷ [])) R.remaining self.old.lines rec.old self.new.lines rec.new) }
+        ensures before { IsErrOf result fault.Device → FailsAfter HasNoTextFault R.remaining self.old.lines rec.old rec.new }
+        ensures follows { IfEntry result (λ e. Follows self.old self.new e) }
+        ensures room { IfEntry result (λ _. room_of self.new.lines rec.new < room_of self.old.lines rec.old) }
+        ensures device { IsErrOf result fault.Device ↔ (has_failed rec.new ≡ true) }
+        ensures no_failed { result ≢ Err fault.Failed }
+    {
+        match self.header(rec) {
+            Ok(()) => {}
+            Err(fault) => return Err(fault),
+        }
+        self.next_row(rec)
+    }
+
+    // Reads the next entry of a text, where there is one. The header was read before.
+    #[inline(always)]
+    fn next_row<R: Read>(&mut self, rec: &mut Tally<R>) -> Result<Option<Entry>, ReadFault>
+        requires { has_failed rec.old ≡ false }
+        ensures gives { GivesNext (text_left R.remaining self.old rec.old) (text_left R.remaining self.new rec.new) result }
+        ensures form { self.new.form ≡ self.old.form }
+        ensures lines { IfEntry result (λ e. HandsRows (AreEntryOf e) R.remaining self.old.lines rec.old self.new.lines rec.new) }
+        ensures before { IsErrOf result fault.Device → FailsAfter HasNoRow R.remaining self.old.lines rec.old rec.new }
+        ensures follows { IfEntry result (λ e. Follows self.old self.new e) }
+        ensures room { IfEntry result (λ _. room_of self.new.lines rec.new < room_of self.old.lines rec.old) }
+        ensures device { IsErrOf result fault.Device ↔ (has_failed rec.new ≡ true) }
+        ensures no_failed { result ≢ Err fault.Failed }
+    {
+        if let Some(entry) = self.plain_entry() {
+            return self.take_row(Some(entry));
+        }
+        'lines: loop {
+            match self.lines.next_line(rec, &mut self.line) {
+                Ok(true) => {}
+                Ok(false) => return Ok(None),
+                Err(fault) => return Err(fault),
+            }
+            match entry_in_line(self.alloc, self.line.as_slice()) {
+                Ok(LineEntry::Blank) => {}
+                Ok(LineEntry::One(entry)) => return self.take_row(Some(entry)),
+                Ok(LineEntry::Bad) => return self.take_row(None),
+                Err(fault) => return Err(fault),
+            }
+        }
+    }
+
+    // The entry of the next line, where all of the line was read and it is plain. The line is given then.
+    #[inline(always)]
+    fn plain_entry(&mut self) -> Option<Entry>
+        ensures some { IfSome result (λ e. GivesEntry (ahead_of self.old.lines) (ahead_of self.new.lines) e) }
+        ensures none { IfNone result (self.new ≡ self.old) }
+        ensures count { self.new.count ≡ self.old.count }
+        ensures last { self.new.last ≡ self.old.last }
+        ensures form { self.new.form ≡ self.old.form }
+    {
+        let line = self.lines.whole_line()?;
+        let entry = plain_entry(line)?;
+        let len = line.len();
+        self.lines.pass(len);
+        Some(entry)
+    }
+
+    // Reads the next entry of a binary recording, where there is one.
+    fn next_piece<R: Read>(&mut self, rec: &mut Tally<R>) -> Result<Option<Entry>, ReadFault>
+        requires { has_failed rec.old ≡ false }
+        ensures gives { GivesNext (binary_left R.remaining self.old rec.old) (binary_left R.remaining self.new rec.new) result }
+        ensures form { self.new.form ≡ self.old.form }
+        ensures piece { IfEntry result (λ e. HandsOut (ArePieceOf e) R.remaining self.old.lines rec.old self.new.lines rec.new) }
+        ensures before { IsErrOf result fault.Device → FailsAfter (IsCutAfter self.old.count) R.remaining self.old.lines rec.old rec.new }
+        ensures follows { IfEntry result (λ e. Follows self.old self.new e) }
+        ensures room { IfEntry result (λ _. room_of self.new.lines rec.new < room_of self.old.lines rec.old) }
+        ensures device { IsErrOf result fault.Device ↔ (has_failed rec.new ≡ true) }
+        ensures no_failed { result ≢ Err fault.Failed }
+    {
+        match self.lines.is_more(rec) {
+            Ok(true) if self.is_full() => return Err(ReadFault::TooMany),
+            Ok(true) => {}
+            Ok(false) => return Ok(None),
+            Err(fault) => return Err(fault),
+        }
+        let mut piece = [0; ENTRY_BYTES];
+        match self.lines.fill(rec, &mut piece) {
+            Ok(len) => self.take_row(entry_of_piece(&piece[..len])),
+            Err(fault) => Err(fault),
+        }
+    }
+
+    // Whether as many entries were given as a recording may have.
+    fn is_full(&self) -> bool
+        ensures { IsTrue result ↔ (self.now.count ≡ most_entries) }
+    {
+        self.count == MOST_ENTRIES
+    }
+
+    // Takes a row for the next entry, which it may not be.
+    fn take_row(&mut self, row: Option<Entry>) -> Result<Option<Entry>, ReadFault>
+        ensures gives { GivesRow self.old row self.new result }
+        ensures entry { IfOk result (λ o. o ≡ row) }
+        ensures follows { IfEntry result (λ e. Follows self.old self.new e) }
+        ensures lines { self.new.lines ≡ self.old.lines }
+        ensures form { self.new.form ≡ self.old.form }
+        ensures err { IfErr result (λ f. (f ≢ fault.Device) × (f ≢ fault.Failed)) }
+    {
+        if self.is_full() {
+            return Err(ReadFault::TooMany);
+        }
+        let Some(entry) = row else {
+            return Err(ReadFault::Row(self.count));
+        };
+        if entry.time < self.last {
+            return Err(ReadFault::TimeBack(self.count));
+        }
+        self.count += 1;
+        self.last = entry.time;
+        Ok(Some(entry))
+    }
+}

@@ -1,0 +1,176 @@
+//! Binary recordings, read and written: values from outside, cuts at each byte, and devices that fail.
+
+ghost use Rattle.a429_record.specs.Recording.{IsRecordable};
+
+use crate::fakes::{Endless, Narrow, Shaky};
+use crate::record::{entry, stands_for};
+use a429_record::{Entry, EntryReader, ReadFault, read_entries, write_binary};
+use a429_sample::{ACK, CTS, EOT, PART, RTS, SOT};
+use a429_word::{Bus, Device, Tally};
+use std::alloc::{AllocError, Global};
+use std::io::{ErrorKind, Read, Write};
+use std::test::Fail;
+
+// The transfer of a file of one byte: eight bytes, and thirteen for each of its six entries.
+const PACKED: &[u8] = b"A429REC1\
+\x00\x00\x00\x00\x00\x00\x00\x00\x41\x41\x41\x03\x23\
+\x00\x00\x00\x00\x00\x00\x03\xE8\x42\xC2\x41\x03\xA3\
+\x00\x00\x00\x00\x00\x00\x07\xD0\x41\x60\x01\x01\x23\
+\x00\x00\x00\x00\x00\x00\x0B\xB8\x41\x12\x00\x41\x23\
+\x00\x00\x00\x00\x00\x00\x0F\xA0\x41\x71\xA3\xF5\x23\
+\x00\x00\x00\x00\x00\x00\x13\x88\x42\x45\x01\x01\xA3";
+
+// How many entries a tally gives, or its fault.
+fn count<R: Read>(alloc: Global, rec: &mut Tally<R>) -> Result<usize, ReadFault> {
+    let entries = read_entries(alloc, rec)?;
+    Ok(entries.len())
+}
+
+fn count_in(alloc: Global, bytes: &[u8]) -> Result<usize, ReadFault> {
+    count(alloc, &mut Tally::new(bytes, 1000))
+}
+
+// The packed recording with other bytes from a place on.
+fn with_bytes(alloc: Global, place: usize, bytes: &[u8]) -> Result<Vec<u8>, AllocError> {
+    let mut changed = PACKED.to_vec(alloc)?;
+    for (old, new) in changed.iter_mut().skip(place).zip(bytes) {
+        *old = *new;
+    }
+    Ok(changed)
+}
+
+// How many entries it then has, or its fault.
+fn count_with(alloc: Global, place: usize, bytes: &[u8]) -> Result<usize, ReadFault> {
+    match with_bytes(alloc, place, bytes) {
+        Ok(changed) => count_in(alloc, &changed),
+        Err(_) => Err(ReadFault::OutOfMemory),
+    }
+}
+
+// What a writer answers to a binary recording of these entries.
+fn pack<W: Write>(out: &mut Tally<W>, entries: &[Entry]) -> Result<(), Device>
+    requires { IsRecordable entries.now }
+{
+    write_binary(out, entries)
+}
+
+// Whether these bytes are written of entries.
+fn is_packed(alloc: Global, entries: &[Entry], wanted: &[u8]) -> bool
+    requires { IsRecordable entries.now }
+{
+    let mut bytes = Vec::new(alloc);
+    let answer = pack(&mut Tally::new(&mut bytes, 0), entries);
+    answer == Ok(()) && bytes.as_slice() == wanted
+}
+
+#[test]
+fn a_file_of_one_byte(rt: HostRuntime) -> Result<(), Fail> {
+    let entries = [
+        entry(0, Bus::A, RTS),
+        entry(1000, Bus::B, CTS),
+        entry(2000, Bus::A, SOT),
+        entry(3000, Bus::A, PART),
+        entry(4000, Bus::A, EOT),
+        entry(5000, Bus::B, ACK),
+    ];
+    assert!(rt; PACKED.len() == 86);
+    assert!(rt; is_packed(rt.alloc(), &entries, PACKED));
+    assert!(rt; stands_for(rt.alloc(), PACKED, &entries)?);
+    assert!(rt; is_packed(rt.alloc(), &[], b"A429REC1"));
+    Ok(())
+}
+
+#[test]
+fn cut_at_each_byte(rt: HostRuntime) {
+    for len in 0..8 {
+        assert!(rt; count_in(rt.alloc(), &PACKED[..len]) == Err(ReadFault::Header));
+    }
+    for whole in 0..6 {
+        let start = 8 + 13 * whole;
+        assert!(rt; count_in(rt.alloc(), &PACKED[..start]) == Ok(whole));
+        for len in start + 1..start + 13 {
+            assert!(rt; count_in(rt.alloc(), &PACKED[..len]) == Err(ReadFault::Row(whole)));
+        }
+    }
+    assert!(rt; count_in(rt.alloc(), PACKED) == Ok(6));
+}
+
+#[test]
+fn changed_bytes(rt: HostRuntime) {
+    let cases: [(usize, &[u8], ReadFault); 7] = [
+        (16, b"\x43", ReadFault::Row(0)),
+        (16, b"\x61", ReadFault::Row(0)),
+        (81, b"\x00", ReadFault::Row(5)),
+        (14, b"\x07\xD0", ReadFault::TimeBack(1)),
+        (8, b"\x01", ReadFault::TimeBack(1)),
+        (7, b"2", ReadFault::Header),
+        (0, b"a", ReadFault::Header),
+    ];
+    for (place, bytes, fault) in cases {
+        assert!(rt; count_with(rt.alloc(), place, bytes) == Err(fault));
+    }
+}
+
+#[test]
+fn readers_that_fail_at_each_call(rt: HostRuntime) {
+    for call in 1..88 {
+        let mut rec = Tally::new(Shaky::new(PACKED, call), 1000);
+        assert!(rt; count(rt.alloc(), &mut rec) == Err(ReadFault::Device));
+    }
+    let mut rec = Tally::new(Shaky::new(PACKED, 88), 1000);
+    assert!(rt; count(rt.alloc(), &mut rec) == Ok(6));
+}
+
+// What a reader answers that fails behind these bytes.
+fn fails_behind(alloc: Global, bytes: &[u8]) -> Result<usize, ReadFault> {
+    count(alloc, &mut Tally::new(bytes, bytes.len() as u64))
+}
+
+#[test]
+fn a_fault_before_the_reader_fails(rt: HostRuntime) {
+    let cases: [(&[u8], ReadFault); 5] = [
+        (b"A429REC1\0\0\0\0\0\0\0\0CABCD", ReadFault::Row(0)),
+        (b"A429REC1\0\0\0\0\0\0\0\0CABC", ReadFault::Device),
+        (b"A429REC1", ReadFault::Device),
+        (b"A429", ReadFault::Device),
+        (b"A4\n", ReadFault::Header),
+    ];
+    for (bytes, fault) in cases {
+        assert!(rt; fails_behind(rt.alloc(), bytes) == Err(fault));
+    }
+}
+
+#[test]
+fn a_million_and_one_pieces(rt: HostRuntime) {
+    let pieces = Endless {
+        next: b"A429REC1",
+        again: b"\0\0\0\0\0\0\0\0A\x41\x41\x03\x23",
+    };
+    let mut rec = Tally::new(pieces, 67_108_864);
+    assert!(rt; count(rt.alloc(), &mut rec) == Err(ReadFault::TooMany));
+}
+
+#[test]
+fn entry_by_entry(rt: HostRuntime) {
+    let mut reader = EntryReader::new(rt.alloc(), Tally::new(&PACKED[..40], 1000));
+    assert!(rt; reader.next() == Ok(Some(entry(0, Bus::A, RTS))));
+    assert!(rt; reader.next() == Ok(Some(entry(1000, Bus::B, CTS))));
+    assert!(rt; reader.next() == Err(ReadFault::Row(2)));
+    assert!(rt; reader.next() == Err(ReadFault::Failed));
+}
+
+// What a writer of so many bytes answers to a binary recording of one entry.
+fn pack_within(alloc: Global, room: usize) -> Result<(), Device> {
+    pack(
+        &mut Tally::new(Narrow::new(alloc, room, Some(ErrorKind::Other)), 0),
+        &[entry(7, Bus::A, RTS)],
+    )
+}
+
+#[test]
+fn writers_that_fail(rt: HostRuntime) {
+    for room in 0..21 {
+        assert!(rt; pack_within(rt.alloc(), room) == Err(Device));
+    }
+    assert!(rt; pack_within(rt.alloc(), 21) == Ok(()));
+}
