@@ -1,7 +1,7 @@
 //! What is shown of a word.
 
 ghost use Rattle.std.specs.Prelude.{◌≡◌, ◌≤◌};
-ghost use Rattle.a429_word.specs.Word.{ssm_of};
+ghost use Rattle.a429_word.specs.Word.{ssm_of, HasOddParity};
 ghost use Rattle.a429_profile.specs.Shown.{sense_of, signed_by, HasValue, IsBnrValue, IsEntryOf, IsShown, HasItsRanges};
 ghost use Rattle.a429_profile.specs.Entry.{IsKindInRange};
 ghost use Rattle.a429_profile.specs.Profile.{Contents};
@@ -69,6 +69,16 @@ impl Profile {
         if !word.parity_ok() {
             return Shown::BadParity;
         }
+        self.shown_of_good(word)
+    }
+
+    /// What is shown of a word whose parity is known to be odd: the same as `shown` answers, without a
+    /// test of it.
+    pub fn shown_of_good(&self, word: &Word) -> Shown<'_>
+        requires { HasOddParity word.now }
+        ensures shown { IsShown self.now word.now result }
+        ensures ranges { HasItsRanges result }
+    {
         let Some(entry) = self.entry(word.label(), word.sdi()) else {
             return Shown::NoEntry;
         };

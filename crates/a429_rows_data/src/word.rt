@@ -4,4 +4,5 @@ mod bcd;
 mod fields;
 mod fixed;
 mod page;
+mod screening;
 mod tally;

@@ -2,6 +2,7 @@ pub mod Powers
 pub mod Tables
 pub mod WordBits
 pub mod WordMade
+pub mod ScreeningLanes
 pub mod BnrRaw
 pub mod BnrEncoded
 pub mod BcdDigits

@@ -1,4 +1,5 @@
 pub mod Word
+pub mod Screening
 pub mod Bnr
 pub mod Bcd
 pub mod Digits

@@ -8,6 +8,7 @@ mod digits;
 mod fixed;
 pub mod laws;
 mod page;
+mod screening;
 mod tally;
 mod word;
 
@@ -16,5 +17,6 @@ pub use crate::bus::Bus;
 pub use crate::digits::octal;
 pub use crate::fixed::Fixed;
 pub use crate::page::Page;
+pub use crate::screening::{BAD_PARITY, OTHER_LABEL, THIS_LABEL, screen};
 pub use crate::tally::{Device, Failing, Tally};
 pub use crate::word::Word;

@@ -1,10 +1,12 @@
 //! `a429 show PROFILE REC`: the words of a recording, a line for each.
 
-ghost use Rattle.std.specs.Prelude.{◌≡◌, ◌≢◌, ◌⊎◌, ◌↔◌, ◌≤◌, ◌++◌, [], ℕ, List, true, false, IsErr, IfOk, IfErr, OnOk};
+ghost use Rattle.std.specs.Prelude.{◌≡◌, ◌≢◌, ◌⊎◌, ◌↔◌, ◌≤◌, ◌++◌, [], ℕ, List, true, false, IsTrue, IsErr, IfOk, IfErr, OnOk, length, take, map};
 ghost use Rattle.a429_word.specs.Tally.{has_failed, unread, Puts};
 ghost use Rattle.a429_word.specs.Page.{PutsOn};
+ghost use Rattle.a429_word.specs.Word.{HasOddParity};
+ghost use Rattle.a429_word.specs.Screening.{screened};
 ghost use Rattle.std.specs.List.{flat_map, AllByRecursion};
-ghost use Rattle.a429_profile.specs.Shown.{HasItsRanges};
+ghost use Rattle.a429_profile.specs.Shown.{IsShown, HasItsRanges};
 ghost use Rattle.a429_profile.specs.Entry.{IsFlagBit, IsKindInRange};
 ghost use Rattle.a429_check.specs.Show.{IsShowFault, status_text, bad_digit_text, unit_text, test_text, flag_text, IsValueText, field_text, IsShownText, recorded_text, fields_text, PutsSome, IsShowLine, AreShowLines, ShowsEntries};
 
@@ -13,9 +15,12 @@ use crate::engines::recording::entries_of;
 use crate::fault::RunFault;
 use a429_profile::{Flag, Kind, LabelEntry, Profile, Shown, Status};
 use a429_record::{Entry, put_parts};
-use a429_word::{Device, Fixed, Page, Tally, Word, octal};
+use a429_word::{BAD_PARITY, Device, Fixed, Page, Tally, Word, octal, screen};
 use std::alloc::Global;
 use std::io::{Read, Write};
+
+// How many words are screened at once.
+const PIECE: usize = 256;
 
 /// Writes what each word of a recording shows by a profile, a line for each, and answers status 0.
 /// `profile` is the bytes of its text. The recording is read to its end first: nothing is written where
@@ -52,24 +57,72 @@ fn put_entries<W: Write>(
     ensures device { IsErr result ↔ (has_failed out.new ≡ true) }
 {
     let mut page = page;
-    for entry in entries {
-        put_entry(&mut page, out, profile, entry)?;
+    for piece in entries.chunks(PIECE) {
+        put_piece(&mut page, out, profile, piece)?;
     }
     page.finish(out)
 }
 
+// A line for each of some entries, whose words are screened together.
+fn put_piece<W: Write>(
+    page: &mut Page,
+    out: &mut Tally<W>,
+    profile: &Profile,
+    piece: &[Entry],
+) -> Result<(), Device>
+    requires { length piece.now ≤ PIECE }
+    ensures ok { OnOk result (PutsSome W.contents out.old page.old out.new page.new (AreShowLines profile.now piece.now)) }
+    ensures device { IsErr result → has_failed out.new ≡ true }
+{
+    let answers = answers_for(piece);
+    for i in 0..piece.len() {
+        put_entry(page, out, profile, &piece[i], answers[i] != BAD_PARITY)?;
+    }
+    Ok(())
+}
+
+// What a screening answers for the words of some entries, by a label that is of no concern here.
+fn answers_for(piece: &[Entry]) -> [u8; PIECE]
+    requires { length piece.now ≤ PIECE }
+    ensures { take (length piece.now) result ≡ map (λ e. screened 0 e.word) piece.now }
+{
+    let mut words = [0; PIECE];
+    for i in 0..piece.len() {
+        words[i] = piece[i].word.to_u32();
+    }
+    let mut answers = [0; PIECE];
+    screen(&words[..piece.len()], 0, &mut answers[..piece.len()]);
+    answers
+}
+
+// The line of an entry whose parity is known.
 fn put_entry<W: Write>(
     page: &mut Page,
     out: &mut Tally<W>,
     profile: &Profile,
     entry: &Entry,
+    is_good: bool,
 ) -> Result<(), Device>
+    requires { IsTrue is_good ↔ HasOddParity entry.now.word }
     ensures ok { OnOk result (PutsSome W.contents out.old page.old out.new page.new (IsShowLine profile.now entry.now)) }
     ensures device { IsErr result → has_failed out.new ≡ true }
 {
     put_recorded(page, out, entry)?;
-    put_shown(page, out, &profile.shown(&entry.word))?;
+    put_shown(page, out, &shown_by_parity(profile, &entry.word, is_good))?;
     page.put(out, b"\n")
+}
+
+// What is shown of a word whose parity is known.
+fn shown_by_parity<'a>(profile: &'a Profile, word: &Word, is_good: bool) -> Shown<'a>
+    requires { IsTrue is_good ↔ HasOddParity word.now }
+    ensures shown { IsShown profile.now word.now result }
+    ensures ranges { HasItsRanges result }
+{
+    if is_good {
+        profile.shown_of_good(word)
+    } else {
+        Shown::BadParity
+    }
 }
 
 // When, on which bus and which word, and the word's label, SDI and SSM.

@@ -1,24 +1,21 @@
-use Rattle.std.proofs.Common.{[], refl}
-use Rattle.std.proofs.KnownBytes.{Appends-trans, Appends-kept}
-use Rattle.std.proofs.lemmas.List.{take_all}
-use Rattle.std.proofs.lemmas.Result.{on_ok_weaker}
-use Rattle.a429_word.proofs.PageFacts.{Appends-empty}
-use Rattle.a429_check.proofs.ShowFacts.{AreShowLines-next}
+use Rattle.std.proofs.Common.{sym, ap, ◌∙◌, ◌++◌, append_assoc, rules}
+use Rattle.std.proofs.KnownBytes.{Appends-trans}
+use Rattle.std.specs.Slice.Iter.{chunks_rest}
+use Rattle.a429_check.proofs.ShowFacts.{AreShowLines-join}
 use Rattle.a429_check.proofs.engines.show.put_entries.Goals as goal
 
-pub loop-entry-init : goal.loop-entry-init
-loop-entry-init g c = ([], refl, Appends-empty _ c.args.page c.requires)
-
-pub loop-entry-preserved : goal.loop-entry-preserved
-loop-entry-preserved g c =
-    let so_far = c.loop-entry.invariant in
-    let line = c.in_ok-put_entry.ensures.ok in (
-      _,
-      AreShowLines-next c.args.profile.now c.args.entries.now c.loop-entry.entry-index c.entry-item.result so_far.0 line.0 c.loop-entry-test.true c.entry-item.is so_far.1 line.1,
-      Appends-trans _ _ _ _ _ so_far.2 line.2,
+pub loop-piece-preserved : goal.loop-piece-preserved
+loop-piece-preserved g c =
+    let before = c.loop-piece.invariant in
+    let steps = c.in-Some.ensures.steps in
+    let lines = c.in_ok-put_piece.ensures.ok in
+    let piece = c.in-Some.piece.now in (
+      search rules,
+      tt,
+      steps.0 ∙ before.2,
+      before.3 ++ piece,
+      before.4 ++ lines.0,
+      append_assoc before.3 piece (chunks_rest c.next.new.self) ∙ ap (λ l. before.3 ++ l) (sym steps.1.0) ∙ before.5,
+      AreShowLines-join c.args.profile.now before.3 piece before.4 lines.0 before.6 lines.1,
+      Appends-trans _ _ _ _ _ before.7 lines.2,
     )
-
-pub returns-clause-ok : goal.returns-clause-ok
-returns-clause-ok g c =
-    let all = rw (take_all c.loop-entry.entry-index c.args.entries.now c.loop-entry-test.false) at c.loop-entry.invariant in
-    on_ok_weaker c.finish.result (λ kept. (all.0, all.1, Appends-kept _ _ _ _ all.2 kept)) c.finish.ensures.ok

@@ -9,7 +9,7 @@ returns-clause-ok g c =
     on_ok_weaker c.put.result
     (λ last. (
       _,
-      record { what = c.shown.result; text = shown.0; is_shown = c.shown.ensures.shown; is_text = shown.1; layout = refl },
+      record { what = c.shown_by_parity.result; text = shown.0; is_shown = c.shown_by_parity.ensures.shown; is_text = shown.1; layout = refl },
       Appends-trans _ _ _ _ _ (Appends-trans _ _ _ _ _ c.in_ok-put_recorded.ensures.ok shown.2) last,
     ))
     c.put.ensures.ok
