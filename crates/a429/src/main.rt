@@ -3,7 +3,7 @@
 
 use a429_check::{
     Claim, Command, Folder, RunFault, command, read_whole, report, run_check, run_extract,
-    run_labels, run_make, run_show, run_verify, run_word,
+    run_labels, run_make, run_pack, run_show, run_verify, run_word,
 };
 use a429_record::EntryReader;
 use a429_word::Tally;
@@ -41,6 +41,7 @@ fn run(rt: &(impl Files + Env + Print + AllocGlobal)) -> Result<u8, RunFault> {
         }
         Command::Show { profile, recording } => show(rt, alloc, profile, recording, &mut out)?,
         Command::Make { profile, files } => make(rt, alloc, profile, files.as_slice(), &mut out)?,
+        Command::Pack(recording) => run_pack(alloc, &mut opened(rt, recording, CAP)?, &mut out)?,
         Command::Check(claim) => check(rt, alloc, claim, &mut out)?,
         Command::Verify(claim) => verify(rt, alloc, claim, &mut out)?,
         Command::Extract { claim, folder } => extract(rt, alloc, claim, folder, &mut out)?,

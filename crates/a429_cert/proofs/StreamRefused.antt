@@ -12,7 +12,7 @@ use Rattle.a429_record.specs.declared.entry.Entry.{Entry}
 use Rattle.a429_record.specs.declared.fault.ReadFault.{ReadFault}
 use Rattle.a429_record.specs.declared.fault.ReadFault.TheVariants as read
 use Rattle.a429_record.specs.Recording.{Recording}
-use Rattle.a429_record.specs.Text.{Stops, GivesNext}
+use Rattle.a429_record.specs.Rows.{Stops, GivesNext}
 use Rattle.a429_cert.specs.declared.line.CertLine.{CertLine}
 use Rattle.a429_cert.specs.declared.line.CertLine.TheVariants.{First, Load, Moved}
 use Rattle.a429_cert.specs.declared.fault.CertFault.{CertFault}
@@ -262,3 +262,10 @@ told_stopped p first k i taken s held known left more start_rec rec new f none g
     (λ told. read_fault p first k i taken s left rec f text r none
     (subst (λ o. WantsNext p o (with_earlier taken s)) (sym (none_next (drop 2 (certificate_lines text)) k left more held h.lines g)) tt)
     (subst (λ o. GivesNext o new (Err f)) h.rest e) told h))
+
+-- a device has failed before the next line
+pub told_device : (p : Contents) (first k i : ℕ) (taken : List FileBytes) (s : State) (known left : Option (List ℕ)) (start_rec rec : Option Recording)
+    → WhereTold known start_rec (λ text r. Stands p text r first k i taken s left rec) → WhereTold known start_rec (IsStreamFault p stream.Device taken)
+told_device p first k i taken s known left start_rec rec =
+    told_map known start_rec (λ text r. Stands p text r first k i taken s left rec) (IsStreamFault p stream.Device taken)
+      (λ text r h. inr (all_of_lines p first k i taken s left rec text r h))

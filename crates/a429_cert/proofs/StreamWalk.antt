@@ -2,7 +2,7 @@
 use Rattle.std.proofs.Common.{◌≡◌, ◌≤◌, ◌+◌, ◌∙◌, ◌++◌, ◌∷◌, ℕ, suc, List, [], length, drop, true, Option, Some, None, slice_get, refl, sym, ap, subst, arith, append_assoc, append-nil, false, Ok}
 use Rattle.a429_profile.specs.Profile.{IsProfile}
 use Rattle.a429_record.specs.Recording.{whole}
-use Rattle.a429_record.specs.Text.{GivesNext}
+use Rattle.a429_record.specs.Rows.{GivesNext}
 use Rattle.a429_cert.specs.Explained.{items_of, IsExplained}
 use Rattle.a429_cert.specs.StreamExplained.{IsYes}
 use Rattle.a429_cert.specs.Stream.{next_of}

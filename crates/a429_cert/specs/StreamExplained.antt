@@ -7,7 +7,7 @@ use Rattle.a429_link.specs.Run.{IsPrefixOf}
 use Rattle.a429_record.specs.declared.fault.ReadFault.{ReadFault}
 use Rattle.a429_record.specs.declared.fault.ReadFault.TheVariants as read
 use Rattle.a429_record.specs.Recording.{Recording}
-use Rattle.a429_record.specs.Text.{Stops}
+use Rattle.a429_record.specs.Rows.{Stops}
 use Rattle.a429_cert.specs.declared.fault.CertFault.{CertFault}
 use Rattle.a429_cert.specs.declared.fault.CertFault.TheVariants as of
 use Rattle.a429_cert.specs.declared.shelf.PutFile.{PutFile}

@@ -8,3 +8,4 @@ pub mod Show
 pub mod Make
 pub mod Verdict
 pub mod Check
+pub mod Pack

@@ -29,6 +29,10 @@ pub fn command<'a>(alloc: Global, words: &'a [String]) -> Result<Command<'a>, Ru
             Some(profile) => Ok(Command::Labels(profile)),
             None => Err(RunFault::Usage),
         },
+        Some(("pack", given)) => match given.get_str("REC") {
+            Some(recording) => Ok(Command::Pack(recording)),
+            None => Err(RunFault::Usage),
+        },
         Some(("make", given)) => match given.get_str("PROFILE") {
             Some(profile) => Ok(Command::Make {
                 profile,
@@ -77,6 +81,7 @@ fn parser<'a>(alloc: Global) -> Result<Parser<'a>, AllocError> {
         .subcommand_required(true);
     let all = with(all, Parser::new(alloc, "word").arg(once(alloc, "HEX")))?;
     let all = with(all, with_profile(alloc, "labels"))?;
+    let all = with(all, Parser::new(alloc, "pack").arg(once(alloc, "REC")))?;
     let all = with(all, with_recording(alloc, "show"))?;
     let all = with(all, with_certificate(alloc, "check"))?;
     let all = with(all, with_certificate(alloc, "verify"))?;

@@ -6,6 +6,7 @@ pub mod folder;
 pub mod labels;
 pub mod make;
 mod output;
+pub mod pack;
 mod profile;
 mod recording;
 pub mod show;

@@ -30,6 +30,8 @@ pub enum Command<'a> {
     },
     /// `verify PROFILE REC CERT`: holds a certificate against a recording.
     Verify(Claim<'a>),
+    /// `pack REC`: writes a recording in binary.
+    Pack(&'a str),
     /// `make PROFILE FILE..`: writes the recording of a transfer of these files.
     Make {
         profile: &'a str,

@@ -1,13 +1,13 @@
 use Rattle.std.proofs.Common.{◌≡◌, ◌+◌, ◌++◌, ◌∙◌, ℕ, suc, List, [], true, false, Option, Some, None, Ok, Err, IsSome, length, refl, sym, ap, subst, arith, rules}
 use Rattle.a429_cert.specs.declared.stream.Walk.{Walk}
 use Rattle.a429_cert.specs.CutLines.{GivesLine}
-use Rattle.a429_record.specs.Text.{GivesNext}
+use Rattle.a429_record.specs.Rows.{GivesNext}
 use Rattle.a429_record.specs.declared.entry.Entry.{Entry}
 use Rattle.a429_cert.specs.Lines.{line_bytes}
 use Rattle.a429_cert.specs.declared.stream_fault.StreamFault.{StreamFault}
 use Rattle.a429_cert.specs.Stream.{PassesOver, RefusesOver, sizes}
 use Rattle.a429_cert.specs.StreamExplained.{WhereTold, IsStreamFault}
-use Rattle.a429_cert.proofs.StreamRefused.{told_refused, told_not_put, told_unfinished, told_stopped}
+use Rattle.a429_cert.proofs.StreamRefused.{told_refused, told_not_put, told_unfinished, told_stopped, told_device}
 use Rattle.a429_link.specs.State.{State, start}
 use Rattle.a429_link.specs.Link.{LinkValue, handed_out}
 use Rattle.a429_record.specs.declared.fault.ReadFault.TheVariants as read
@@ -36,6 +36,17 @@ lines-init g c =
       room = omega (arith, c.in-Ok.ensures.room, none);
       link = ap (λ (l : LinkValue). l.profile) c.start.ensures.begins;
       bench = refl;
+    }
+
+pub returns-in_default-clause-err : goal.returns-in_default-clause-err
+returns-in_default-clause-err g c =
+    let v = c.lines.invariant in
+    let known = unread g.C.Read.remaining c.args.cert.now in
+    let left = to_come g.C.Read.remaining c.lines.lines c.lines.cert in
+    record {
+      files = v.taken;
+      fault = told_device c.args.profile.now c.in-Ok.first v.k c.lines.walk.used v.taken c.lines.walk.link.state known left c.args.rec.now.to_come c.lines.rec.to_come v.told;
+      put = v.put;
     }
 
 pub overflow_add-walk : goal.overflow_add-walk
