@@ -268,4 +268,4 @@ pub told_device : (p : Contents) (first k i : ℕ) (taken : List FileBytes) (s :
     → WhereTold known start_rec (λ text r. Stands p text r first k i taken s left rec) → WhereTold known start_rec (IsStreamFault p stream.Device taken)
 told_device p first k i taken s known left start_rec rec =
     told_map known start_rec (λ text r. Stands p text r first k i taken s left rec) (IsStreamFault p stream.Device taken)
-      (λ text r h. inr (all_of_lines p first k i taken s left rec text r h))
+    (λ text r h. inr (all_of_lines p first k i taken s left rec text r h))

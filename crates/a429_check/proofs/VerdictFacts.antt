@@ -6,7 +6,6 @@ use Rattle.std.proofs.lemmas.List.Folds.{flat_map-map}
 use Rattle.a429_link.specs.declared.file.FileBytes.{FileBytes}
 use Rattle.a429_cert.specs.Stream.{sizes}
 use Rattle.a429_profile.specs.Profile.{Contents}
-use Rattle.a429_record.specs.declared.fault.ReadFault.{ReadFault}
 use Rattle.a429_record.specs.declared.fault.ReadFault.TheVariants as read
 use Rattle.a429_record.specs.Recording.{Recording}
 use Rattle.a429_cert.specs.declared.shelf.PutFile.{PutFile}
@@ -39,6 +38,7 @@ told profile p certificate rec old new Failed f is here a b = by f here a b
   where
     answer : (f : StreamFault) → Refuses p certificate rec old new f → HasAnswer profile certificate rec old new
     answer f here = (Err f, record { contents = p; is_profile = is; is = here })
+
     by : (f : StreamFault) → Refuses p certificate rec old new f → (f ≡ stream.Device → Failed) → (f ≡ stream.Read read.Device → Failed) → IsVerifyFault profile certificate rec old new Failed (of_stream f)
     by (stream.Cert f) here a b = (is.0, inr (answer (stream.Cert f) here))
     by (stream.Read read.Header) here a b = record { contents = p; is_profile = is; is = here }

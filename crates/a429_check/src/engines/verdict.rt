@@ -100,7 +100,9 @@ fn of_certificate(fault: StreamFault) -> Result<CertFault, RunFault>
     ensures err { IfErr result (λ e. e ≡ of_stream fault) }
 {
     match fault {
-        StreamFault::Cert(CertFault::OutOfMemory) | StreamFault::OutOfMemory => Err(RunFault::Memory),
+        StreamFault::Cert(CertFault::OutOfMemory) | StreamFault::OutOfMemory => Err(
+            RunFault::Memory,
+        ),
         StreamFault::Cert(fault) => Ok(fault),
         StreamFault::Device => Err(RunFault::Device),
         StreamFault::Read(fault) => Err(of_recording(fault)),

@@ -16,4 +16,4 @@ returns-clause-err g c =
     let new = g.S.Shelf.files c.verify_stream-answer.new.shelf in
     let Failed = HasFailed c.verify_stream-answer.new.rec.failed (has_failed c.verify_stream-answer.new.cert) (g.S.Failing.failed c.verify_stream-answer.new.shelf) in
     subst (λ (e : RunFault). IsVerifyFault c.args.profile.now certificate c.args.rec.now.to_come old new Failed e) (sym c.in-Err-of_certificate.ensures.err)
-      (told c.args.profile.now c.in_ok-profile.profile certificate c.args.rec.now.to_come old new Failed c.in-Err.fault c.in_ok-profile.ensures.ok c.in-Err.ensures.err (λ e. inr (c.in-Err.ensures.device (cc e))) (λ e. inl (c.in-Err.ensures.read (cc e))))
+    (told c.args.profile.now c.in_ok-profile.profile certificate c.args.rec.now.to_come old new Failed c.in-Err.fault c.in_ok-profile.ensures.ok c.in-Err.ensures.err (λ e. inr (c.in-Err.ensures.device (cc e))) (λ e. inl (c.in-Err.ensures.read (cc e))))

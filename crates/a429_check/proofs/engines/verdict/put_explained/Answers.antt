@@ -1,4 +1,3 @@
-use Rattle.std.proofs.Common.{◌≡◌, sym, subst, length}
 use Rattle.std.proofs.KnownBytes.{Appends-trans}
 use Rattle.std.proofs.lemmas.Result.{on_ok_weaker}
 use Rattle.a429_check.proofs.VerdictFacts.{yes_of_files}
