@@ -22,6 +22,9 @@
 #include <sys/uio.h>
 #include <unistd.h>
 
+// After so many seconds the program is ended by a signal.
+#define SECONDS 20
+
 void *__libc_malloc(size_t);
 void *__libc_calloc(size_t, size_t);
 void *__libc_realloc(void *, size_t);
@@ -40,6 +43,7 @@ __attribute__((constructor)) static void begin(void)
     if (faults && sscanf(faults, "%15s %15s %ld %ld %d", call_wanted, how, &first, &last, &mark) != 5)
         _exit(126);
     seen = 0;
+    alarm(SECONDS);
 }
 
 // Puts a byte on the mark.
