@@ -7,7 +7,8 @@
 //               interrupt: a signal came before anything was done
 //               short: one byte is read or written, and no more
 //               none: a write takes nothing
-//       MARK    the open file to which a byte is written for each call that failed so
+//       MARK    the open file to which `.` is written for each call that failed so, and `w` for each write
+//               of some bytes to a file that is neither standard output nor standard error
 //   FAULTS_CUT=N                        no read or write handles more than N bytes
 #define _GNU_SOURCE
 #include <errno.h>
@@ -20,6 +21,9 @@
 #include <sys/syscall.h>
 #include <sys/uio.h>
 #include <unistd.h>
+
+// After so many seconds the program is ended by a signal.
+#define SECONDS 20
 
 void *__libc_malloc(size_t);
 void *__libc_calloc(size_t, size_t);
@@ -39,9 +43,17 @@ __attribute__((constructor)) static void begin(void)
     if (faults && sscanf(faults, "%15s %15s %ld %ld %d", call_wanted, how, &first, &last, &mark) != 5)
         _exit(126);
     seen = 0;
+    alarm(SECONDS);
 }
 
-// Whether this call is one of those that fail. A byte goes to the mark where it is.
+// Puts a byte on the mark.
+static void note(const char *byte)
+{
+    if (mark >= 0)
+        syscall(SYS_write, mark, byte, 1);
+}
+
+// Whether this call is one of those that fail, which is noted where it is.
 static int fails(const char *call)
 {
     if (mark < 0 || strcmp(call, call_wanted) != 0)
@@ -49,7 +61,7 @@ static int fails(const char *call)
     seen++;
     if (seen < first || seen > last)
         return 0;
-    syscall(SYS_write, mark, ".", 1);
+    note(".");
     return 1;
 }
 
@@ -101,6 +113,8 @@ ssize_t read(int file, void *bytes, size_t size)
 ssize_t write(int file, const void *bytes, size_t size)
 {
     ssize_t count = handled("write", size, ENOSPC);
+    if (count > 0 && file > STDERR_FILENO)
+        note("w");
     return count <= 0 && size > 0 ? count : syscall(SYS_write, file, bytes, (size_t)count);
 }
 

@@ -1,6 +1,6 @@
 //! Calls of the commands with texts for files, under the sample profile.
 
-use a429_cert::MemoryShelf;
+use a429_cert::{MemoryShelf, Shelf};
 use a429_check::{RunFault, run_check, run_extract, run_verify};
 use a429_link::{Bytes, FileBytes};
 use a429_profile::{Profile, read_profile};
@@ -69,10 +69,10 @@ pub fn check<R: io::Read, C: io::Write, W: io::Write>(
 }
 
 /// What `verify` answers.
-pub fn verify<C: io::Read, W: io::Write>(
+pub fn verify<R: io::Read + Drop, C: io::Read, W: io::Write>(
     alloc: Global,
     profile: &str,
-    rec: Tally<&[u8]>,
+    rec: Tally<R>,
     cert: &mut Tally<C>,
     out: &mut Tally<W>,
 ) -> Result<u8, RunFault> {
@@ -80,12 +80,12 @@ pub fn verify<C: io::Read, W: io::Write>(
     run_verify(alloc, profile.as_bytes(), &mut rec, cert, out)
 }
 
-// What `extract` answers.
-fn extract<C: io::Read, W: io::Write>(
+/// What `extract` answers.
+pub fn extract<R: io::Read + Drop, C: io::Read, S: Shelf, W: io::Write>(
     alloc: Global,
-    rec: Tally<&[u8]>,
+    rec: Tally<R>,
     cert: &mut Tally<C>,
-    shelf: &mut MemoryShelf,
+    shelf: &mut S,
     out: &mut Tally<W>,
 ) -> Result<u8, RunFault> {
     let mut rec = EntryReader::new(alloc, rec);

@@ -3,5 +3,5 @@
 mod line_reader;
 mod lines;
 mod replay;
-mod shelf;
+pub(crate) mod shelf;
 mod stream;

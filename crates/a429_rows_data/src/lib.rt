@@ -4,8 +4,6 @@
 #[cfg(test)]
 mod callers;
 #[cfg(test)]
-mod fakes;
-#[cfg(test)]
 mod ldu;
 #[cfg(test)]
 mod profile;

@@ -1,9 +1,12 @@
-//! What the tests share: the sample profile, changes of texts, and the transfer of a file of the one byte 41.
+//! What the tests share: the sample profile, changes of texts, the transfer of a file of the one byte 41, and readers and
+//! writers that fail.
 #![tactic(auto)]
 
 mod changes;
+mod fakes;
 
 pub use crate::changes::{joined, with};
+pub use crate::fakes::{Endless, Narrow, Shaky};
 
 /// The profile of the examples (examples/sample.toml) without its remarks, a key in a line, so that a change of
 /// one line leaves the others as they are.

@@ -1,7 +1,60 @@
 //! Files that are put on a shelf.
 
-use a429_cert::{MemoryShelf, NoShelf, PutFile, Shelf};
+ghost use Rattle.std.specs.Prelude.{Some};
+
+use a429_cert::{MemoryShelf, NoShelf, PutFile, Shelf, ShelfFault};
 use a429_word::Failing;
+use std::alloc::Global;
+
+/// A shelf over one in memory that fails at one put, counted from 1, and from then on.
+#[derive(Drop)]
+pub(crate) struct Frail {
+    shelf: MemoryShelf,
+    puts: u32,
+    fails_at: u32,
+    is_failed: bool,
+}
+
+impl Frail {
+    /// One without files; it does not fail at a put 0.
+    pub(crate) fn new(alloc: Global, fails_at: u32) -> Frail {
+        Frail {
+            shelf: MemoryShelf::new(alloc),
+            puts: 0,
+            fails_at,
+            is_failed: false,
+        }
+    }
+
+    /// The files that were put, lent.
+    pub(crate) fn files(&self) -> &[PutFile] {
+        self.shelf.files()
+    }
+}
+
+impl Failing for Frail {
+    ghost failed = { λ s. s.is_failed };
+
+    fn failed(&self) -> bool {
+        self.is_failed
+    }
+}
+
+impl Shelf for Frail {
+    ghost files = { λ s. Some s.shelf };
+
+    fn put(&mut self, index: u32, number: u8, bytes: &[u8]) -> Result<(), ShelfFault> {
+        self.puts = self.puts.saturating_add(1);
+        self.is_failed |= self.puts == self.fails_at;
+        if self.is_failed {
+            return Err(ShelfFault::Device);
+        }
+        match self.shelf.put(index, number, bytes) {
+            Ok(()) => Ok(()),
+            Err(_) => Err(ShelfFault::OutOfMemory),
+        }
+    }
+}
 
 /// What a file that was put tells of its place and number, where these are its bytes.
 pub(super) fn told(file: &PutFile, bytes: &[u8]) -> Option<(u32, u8)> {

@@ -1,13 +1,15 @@
-//! A certificate of two files, held against their recording, both read as they come.
+//! A certificate of two files, held against their recording, both read as they come, also over devices that fail.
 
 use crate::calls::{checked, sample};
-use crate::cert::shelf::told;
+use crate::cert::shelf::{Frail, told};
 use crate::recordings::recorded;
-use a429_cert::{MemoryShelf, StreamFault, verify_stream};
+use a429_cert::{Shelf, StreamFault, verify_stream};
+use a429_profile::Profile;
 use a429_record::{EntryReader, ReadFault};
-use a429_sample::with;
+use a429_sample::{Shaky, with};
 use a429_word::Tally;
 use std::alloc::Global;
+use std::io::Read;
 use std::test::Fail;
 
 // Files 255 and 0, each of the byte 41.
@@ -16,55 +18,144 @@ const WORDS: &str = "RTS CTS E0FF0123 PART EOT C5FF01A3 RTS CTS E0000123 PART EO
 // How many bytes of a text are read at most.
 const MOST: u64 = 1_000;
 
-// What the answers of a stream are.
-#[derive(Drop)]
-struct Streamed {
-    answer: Result<Vec<(u8, u32)>, StreamFault>,
-    shelf: MemoryShelf,
-    // what the reader of the recording answers afterwards, twice
-    failed: bool,
+// The answer of a stream.
+type Answer = Result<Vec<(u8, u32)>, StreamFault>;
+
+// What a stream answers, and whether the reader of its recording has a fault then, so that it answers nothing else,
+// twice.
+fn streamed<R: Read + Drop, C: Read + Drop, S: Shelf>(
+    alloc: Global,
+    profile: &Profile,
+    rec: R,
+    cert: C,
+    shelf: &mut S,
+) -> (Answer, bool) {
+    let mut rec = EntryReader::new(alloc, Tally::new(rec, MOST));
+    let mut cert = Tally::new(cert, MOST);
+    let answer = verify_stream(alloc, profile, &mut rec, &mut cert, shelf);
+    let failed = rec.next() == Err(ReadFault::Failed) && rec.next() == Err(ReadFault::Failed);
+    (answer, failed)
 }
 
-// Holds the certificate of the whole recording against one.
-fn stream_over(alloc: Global, recording: &str) -> Result<Streamed, Fail> {
-    let whole = recorded(alloc, WORDS)?;
-    let (_, certificate) = checked(alloc, whole.as_str());
+// What is given to a stream: the sample profile, the recording of two files, and its certificate.
+#[derive(Drop)]
+struct Given {
+    profile: Profile,
+    recording: String,
+    certificate: Vec<u8>,
+}
+
+fn two_files(alloc: Global) -> Result<Given, Fail> {
     let profile = sample(alloc).ok_or("no profile")?;
-    let mut rec = EntryReader::new(alloc, Tally::new(recording.as_bytes(), MOST));
-    let mut cert = Tally::new(certificate.as_slice(), MOST);
-    let mut shelf = MemoryShelf::new(alloc);
-    let answer = verify_stream(alloc, &profile, &mut rec, &mut cert, &mut shelf);
-    let failed = rec.next() == Err(ReadFault::Failed) && rec.next() == Err(ReadFault::Failed);
-    Ok(Streamed {
-        answer,
-        shelf,
-        failed,
+    let recording = recorded(alloc, WORDS)?;
+    let (_, certificate) = checked(alloc, recording.as_str());
+    Ok(Given {
+        profile,
+        recording,
+        certificate,
     })
+}
+
+// At which call the readers of the recording and of the certificate, and the shelf fail; 0 for none.
+type Calls = (u32, u32, u32);
+
+// What a stream over a recording answers, with the certificate of the whole, whether the reader of the recording has a
+// fault then, and the shelf.
+fn stream_over(
+    alloc: Global,
+    given: &Given,
+    recording: &str,
+    fails_at: Calls,
+) -> (Answer, bool, Frail) {
+    let rec = Shaky::new(recording.as_bytes(), fails_at.0);
+    let cert = Shaky::new(given.certificate.as_slice(), fails_at.1);
+    let mut shelf = Frail::new(alloc, fails_at.2);
+    let (answer, failed) = streamed(alloc, &given.profile, rec, cert, &mut shelf);
+    (answer, failed, shelf)
+}
+
+// File 255, and no other, was put.
+fn has_first_alone(shelf: &Frail) -> bool {
+    match shelf.files() {
+        [file] => told(file, b"A") == Some((1, 255)),
+        _ => false,
+    }
+}
+
+// Both files were put.
+fn has_both(shelf: &Frail) -> bool {
+    match shelf.files() {
+        [first, second] => {
+            told(first, b"A") == Some((1, 255)) && told(second, b"A") == Some((2, 0))
+        }
+        _ => false,
+    }
+}
+
+// The answer tells both files.
+fn is_yes(answer: &Answer) -> bool {
+    matches!(answer, Ok(sizes) if sizes.as_slice() == [(255, 1), (0, 1)].as_slice())
 }
 
 #[test]
 fn two_files_are_put_in_order(rt: HostRuntime) -> Result<(), Fail> {
-    let whole = recorded(rt.alloc(), WORDS)?;
-    let found = stream_over(rt.alloc(), whole.as_str())?;
-    let files = found.shelf.files();
-    assert!(rt;
-        matches!(&found.answer, Ok(sizes) if sizes.as_slice() == [(255, 1), (0, 1)].as_slice())
-    );
-    assert!(rt; files.len() == 2 && !found.failed);
-    assert!(rt; told(&files[0], b"A") == Some((1, 255)));
-    assert!(rt; told(&files[1], b"A") == Some((2, 0)));
+    let given = two_files(rt.alloc())?;
+    let whole = given.recording.as_str();
+    let (answer, failed, shelf) = stream_over(rt.alloc(), &given, whole, (0, 0, 0));
+    assert!(rt; is_yes(&answer) && !failed && has_both(&shelf));
     Ok(())
 }
 
 // The last word is cut off: the file before it was put.
 #[test]
 fn a_file_before_a_fault_stays(rt: HostRuntime) -> Result<(), Fail> {
-    let whole = recorded(rt.alloc(), WORDS)?;
-    let cut = with(rt.alloc(), whole.as_str(), "C50001A3 -> C5000")?;
-    let found = stream_over(rt.alloc(), cut.as_str())?;
-    let files = found.shelf.files();
-    assert!(rt; matches!(found.answer, Err(StreamFault::Read(ReadFault::Row(11)))));
-    assert!(rt; files.len() == 1 && found.failed);
-    assert!(rt; told(&files[0], b"A") == Some((1, 255)));
+    let given = two_files(rt.alloc())?;
+    let cut = with(rt.alloc(), given.recording.as_str(), "C50001A3 -> C5000")?;
+    let (answer, failed, shelf) = stream_over(rt.alloc(), &given, cut.as_str(), (0, 0, 0));
+    assert!(rt; matches!(answer, Err(StreamFault::Read(ReadFault::Row(11)))));
+    assert!(rt; failed && has_first_alone(&shelf));
+    Ok(())
+}
+
+#[test]
+fn a_shelf_that_fails_at_a_put(rt: HostRuntime) -> Result<(), Fail> {
+    let given = two_files(rt.alloc())?;
+    let whole = given.recording.as_str();
+    let (answer, _, shelf) = stream_over(rt.alloc(), &given, whole, (0, 0, 1));
+    assert!(rt; matches!(answer, Err(StreamFault::Device)) && shelf.files().is_empty());
+    let (answer, _, shelf) = stream_over(rt.alloc(), &given, whole, (0, 0, 2));
+    assert!(rt; matches!(answer, Err(StreamFault::Device)) && has_first_alone(&shelf));
+    Ok(())
+}
+
+// How many runs end in a failure of the recording's reader, or else of the certificate's, one call later each, until
+// one does not fail; 0 where one of them is told as another fault.
+fn failing_runs(alloc: Global, given: &Given, is_recording: bool) -> u32 {
+    let whole = given.recording.as_str();
+    for call in 1..1_000 {
+        let fails_at = if is_recording {
+            (call, 0, 0)
+        } else {
+            (0, call, 0)
+        };
+        let (answer, _, _) = stream_over(alloc, given, whole, fails_at);
+        match answer {
+            Ok(_) => return call - 1,
+            Err(StreamFault::Read(ReadFault::Device)) if is_recording => {}
+            Err(StreamFault::Device) if !is_recording => {}
+            Err(_) => return 0,
+        }
+    }
+    0
+}
+
+// A reader is called once for each byte and for the end.
+#[test]
+fn readers_that_fail_at_each_call(rt: HostRuntime) -> Result<(), Fail> {
+    let given = two_files(rt.alloc())?;
+    let recording = given.recording.as_str().len() + 1;
+    let certificate = given.certificate.len() + 1;
+    assert!(rt; failing_runs(rt.alloc(), &given, true) as usize == recording);
+    assert!(rt; failing_runs(rt.alloc(), &given, false) as usize == certificate);
     Ok(())
 }

@@ -1,9 +1,12 @@
 //! The files of a certificate.
 
-use crate::calls::{YES, extracted, told};
+use crate::calls::{YES, extract, extracted, told};
+use a429_check::Folder;
 use a429_sample::{CERTIFICATE, RECORDING};
+use a429_word::Tally;
 use std::alloc::Global;
 use std::fmt::Write;
+use std::rt::Files;
 use std::test::Fail;
 
 // The verdict on a certificate, and below it a line for each file: its number and its bytes.
@@ -34,5 +37,34 @@ fn none_of_a_refused_one(rt: HostRuntime) -> Result<(), Fail> {
 fn none_without_a_verdict(rt: HostRuntime) -> Result<(), Fail> {
     let text = taken(rt.alloc(), "", CERTIFICATE)?;
     assert!(rt; text.as_str() == "recording: header\n");
+    Ok(())
+}
+
+// What is told of a certificate whose files go to a folder of this name.
+fn into_folder(
+    rt: &(impl Files + AllocGlobal),
+    dir: &str,
+    recording: &str,
+    certificate: &str,
+) -> Result<String, Fail> {
+    let alloc = rt.alloc();
+    let mut folder = Folder::new(rt, alloc, dir).ok().ok_or("memory")?;
+    let mut verdict = Vec::new(alloc);
+    let rec = Tally::new(recording.as_bytes(), 1000);
+    let mut cert = Tally::new(certificate.as_bytes(), 1000);
+    let mut out = Tally::new(&mut verdict, 0);
+    let status = extract(alloc, rec, &mut cert, &mut folder, &mut out);
+    told(alloc, status, verdict.as_slice())
+}
+
+// One that is not there, and one that takes no file: neither is asked where there is no file.
+#[test]
+fn folders_that_fail(rt: HostRuntime) -> Result<(), Fail> {
+    let none = "arinc429-cert 1\nfirst 0\n";
+    for dir in ["no-such-folder", "/dev/null"] {
+        let one = into_folder(&rt, dir, RECORDING, CERTIFICATE)?;
+        let nothing = into_folder(&rt, dir, "time,bus,word\n", none)?;
+        assert!(rt; one.as_str() == "device\n" && nothing.as_str() == "0\nYES files 0\n");
+    }
     Ok(())
 }

@@ -8,8 +8,12 @@ use std::alloc::Global;
 use std::io::Write;
 use std::test::Fail;
 
-// What `labels` answers.
-fn list<W: Write>(alloc: Global, profile: &[u8], out: &mut Tally<W>) -> Result<u8, RunFault> {
+/// What `labels` answers.
+pub(crate) fn list<W: Write>(
+    alloc: Global,
+    profile: &[u8],
+    out: &mut Tally<W>,
+) -> Result<u8, RunFault> {
     run_labels(alloc, profile, out)
 }
 

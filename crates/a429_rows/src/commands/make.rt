@@ -9,8 +9,8 @@ use std::alloc::{AllocError, Global};
 use std::io::Write;
 use std::test::Fail;
 
-// What `make` answers.
-fn make<W: Write>(
+/// What `make` answers.
+pub(crate) fn make<W: Write>(
     alloc: Global,
     profile: &str,
     files: &[Vec<u8>],
@@ -19,8 +19,12 @@ fn make<W: Write>(
     run_make(alloc, profile.as_bytes(), files, out)
 }
 
-// Files of so many bytes, all of them this one.
-fn files_of(alloc: Global, byte: u8, lengths: &[usize]) -> Result<Vec<Vec<u8>>, AllocError> {
+/// Files of so many bytes, all of them this one.
+pub(crate) fn files_of(
+    alloc: Global,
+    byte: u8,
+    lengths: &[usize],
+) -> Result<Vec<Vec<u8>>, AllocError> {
     let mut files = Vec::new(alloc);
     for length in lengths {
         files.push(filled(alloc, byte, *length)?)?;

@@ -5,14 +5,14 @@ use a429_check::{RunFault, run_show};
 use a429_sample::PROFILE;
 use a429_word::Tally;
 use std::alloc::Global;
-use std::io::Write;
+use std::io::{Read, Write};
 use std::test::Fail;
 
-// What `show` answers.
-fn show<W: Write>(
+/// What `show` answers.
+pub(crate) fn show<R: Read, W: Write>(
     alloc: Global,
     profile: &str,
-    rec: &mut Tally<&[u8]>,
+    rec: &mut Tally<R>,
     out: &mut Tally<W>,
 ) -> Result<u8, RunFault> {
     run_show(alloc, profile.as_bytes(), rec, out)

@@ -7,8 +7,8 @@ use std::alloc::Global;
 use std::io::Write;
 use std::test::Fail;
 
-// What `word` answers.
-fn word<W: Write>(text: &str, out: &mut Tally<W>) -> Result<u8, RunFault> {
+/// What `word` answers.
+pub(crate) fn word<W: Write>(text: &str, out: &mut Tally<W>) -> Result<u8, RunFault> {
     run_word(text, out)
 }
 

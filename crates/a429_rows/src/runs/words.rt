@@ -1,5 +1,8 @@
 //! The words of the sample profile, as its numbers make them.
 
+use crate::runs::chance::Chance;
+use a429_word::Bus;
+
 /// The labels 304 and 305, octal, as they stand in bits 1 to 8.
 pub(crate) const TO_SINK: u32 = 0x23;
 
@@ -76,4 +79,23 @@ pub(crate) fn behind(register: u16, semi: u32) -> u16 {
 /// The check word that a register comes to.
 pub(crate) fn check_of(register: u16) -> u16 {
     register.reverse_bits() ^ 0xFFFF
+}
+
+/// Either bus.
+pub(crate) fn any_bus(chance: &mut Chance) -> Bus {
+    if chance.one_in(2) { Bus::A } else { Bus::B }
+}
+
+/// Any word on either bus, often one of the transfer, now and then of wrong parity.
+pub(crate) fn any_word(chance: &mut Chance) -> (Bus, u32) {
+    let label = match chance.below(8) {
+        0 => chance.byte(),
+        1..=4 => TO_SINK,
+        _ => TO_SOURCE,
+    };
+    let bits = chance.byte() << 8 | chance.byte();
+    let kind = chance.below(8);
+    let word = joined(label, kind, chance.below(16), bits);
+    let wrong_parity = if chance.one_in(8) { 0x8000_0000 } else { 0 };
+    (any_bus(chance), word ^ wrong_parity)
 }

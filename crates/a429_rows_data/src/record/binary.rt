@@ -2,10 +2,9 @@
 
 ghost use Rattle.a429_record.specs.Recording.{IsRecordable};
 
-use crate::fakes::{Endless, Narrow, Shaky};
 use crate::record::{entry, stands_for};
 use a429_record::{Entry, EntryReader, ReadFault, read_entries, write_binary};
-use a429_sample::{ACK, CTS, EOT, PART, RTS, SOT};
+use a429_sample::{ACK, CTS, EOT, Endless, Narrow, PART, RTS, SOT, Shaky};
 use a429_word::{Bus, Device, Tally};
 use std::alloc::{AllocError, Global};
 use std::io::{ErrorKind, Read, Write};

@@ -1,8 +1,8 @@
 //! Values from outside for what a text stands for, and readers that fail or give it in pieces.
 
-use crate::fakes::{Endless, Shaky};
 use crate::record::{entry, stands_for};
 use a429_record::{Entry, ReadFault, read_entries};
+use a429_sample::{Endless, Shaky};
 use a429_word::{Bus, Failing, Tally};
 use std::alloc::{AllocError, Global};
 use std::io::Read;
@@ -164,6 +164,19 @@ fn a_million_and_one_entries(rt: HostRuntime) {
     let mut rec = Tally::new(rows, 67_108_864);
     assert!(rt; count(rt.alloc(), &mut rec) == Err(ReadFault::TooMany));
     assert!(rt; !rec.failed());
+}
+
+// A row, and a field, that do not end: the limit on the bytes is met first.
+#[test]
+fn endless_lines(rt: HostRuntime) {
+    for begins in [b"".as_slice(), b"time,bus,word\n", b"time,bus,word\n\""] {
+        let digits = Endless {
+            next: begins,
+            again: b"99999999",
+        };
+        let mut rec = Tally::new(digits, 100_000);
+        assert!(rt; count(rt.alloc(), &mut rec) == Err(ReadFault::Device) && rec.failed());
+    }
 }
 
 // What a reading of a text answers under a cap, and whether the reader has failed then.

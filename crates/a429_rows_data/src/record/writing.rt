@@ -2,10 +2,9 @@
 
 ghost use Rattle.a429_record.specs.Recording.{IsRecordable};
 
-use crate::fakes::Narrow;
 use crate::record::{entry, stands_for};
 use a429_record::{Entry, ReadFault, WriteFault, read_entries, write_entries};
-use a429_sample::{CTS, EOT, PART, RTS, SOT};
+use a429_sample::{CTS, EOT, Narrow, PART, RTS, SOT};
 use a429_word::{Bus, Failing, Tally};
 use std::alloc::Global;
 use std::io::{ErrorKind, Write};

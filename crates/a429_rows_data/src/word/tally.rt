@@ -1,6 +1,6 @@
 //! What no clause says of a tally: when the one underneath answers an error.
 
-use crate::fakes::{Narrow, Shaky};
+use a429_sample::{Narrow, Shaky};
 use a429_word::{Failing, Tally};
 use std::io::{ErrorKind, Read, Write};
 

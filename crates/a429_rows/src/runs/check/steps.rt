@@ -10,7 +10,9 @@ use crate::runs::draft::Draft;
 use crate::runs::same_files;
 use crate::runs::source::Source;
 use crate::runs::tried::Move;
-use crate::runs::words::{acknowledgement, clear, refusal};
+use crate::runs::words::{
+    TO_SINK, TO_SOURCE, acknowledgement, any_word, clear, is_free, is_refusal, refusal,
+};
 use a429_ldu::cut;
 use a429_link::{FileBytes, Link, Seen, SinkState, StepFault};
 use a429_profile::Profile;
@@ -27,18 +29,25 @@ struct Told {
     recorded: Vec<Seen>,
 }
 
-// A run: its link, what it has come to, and whether each step was made, or none of its name was there.
+// A run: its link, what it has come to, whether no file is to end, and whether each step was made exactly where one of
+// its name was there and its word fits.
 #[derive(Drop)]
 struct Run<'a> {
     profile: &'a Profile,
     link: Link<'a>,
     told: Told,
+    is_open: bool,
     is_right: bool,
     ghost same: { link.profile ≡ profile.now },
 }
 
-// A link data unit of some bytes. Often its flags end the file.
-fn some_draft(alloc: Global, profile: &Profile, chance: &mut Chance) -> Result<Draft, Fail> {
+// A link data unit of some bytes. Often its flags end the file, unless it is to stay open.
+fn some_draft(
+    alloc: Global,
+    profile: &Profile,
+    chance: &mut Chance,
+    is_open: bool,
+) -> Result<Draft, Fail> {
     let mut bytes = Vec::new(alloc);
     for _ in 0..1 + chance.below(8) {
         bytes.push(chance.below(3) as u8)?;
@@ -53,19 +62,33 @@ fn some_draft(alloc: Global, profile: &Profile, chance: &mut Chance) -> Result<D
     }
     Ok(Draft {
         gfi: 0,
-        flags: chance.below(16) as u8,
+        flags: if is_open { 0 } else { chance.below(16) as u8 },
         check: unit.check(),
         count: unit.count(),
         words,
     })
 }
 
-// A word of bad parity, on either bus.
-fn passing_by(chance: &mut Chance) -> Move {
-    let bus = if chance.one_in(2) { Bus::A } else { Bus::B };
-    let upper = chance.below(1 << 31);
-    let is_odd = upper.count_ones() % 2 == 1;
-    Move::FreeSeen(bus, if is_odd { upper | 1 << 31 } else { upper })
+// A step to try, and whether its word is one that a step of its name may have.
+type Chosen = (Move, bool);
+
+// A word that passes by, damaged, of another label or one that is passed over; or one of the transfer, which may not.
+fn passing_by(chance: &mut Chance) -> Chosen {
+    let (bus, word) = any_word(chance);
+    let label = match bus {
+        Bus::A => TO_SINK,
+        Bus::B => TO_SOURCE,
+    };
+    (Move::FreeSeen(bus, word), is_free(label, word))
+}
+
+// An answer that is owed, now and then with two other bits, which only a refusal may have.
+fn answering(chance: &mut Chance, owed: u32) -> Chosen {
+    if !chance.one_in(8) {
+        return (Move::Answered(Bus::B, owed), true);
+    }
+    let word = owed ^ 3 << (8 + chance.below(15));
+    (Move::Answered(Bus::B, word), is_refusal(word))
 }
 
 impl Told {
@@ -107,24 +130,27 @@ impl Told {
 
 impl<'a> Run<'a> {
     // A step to try, if the source has a word to send or the sink an answer to give where one is chosen.
-    fn chosen(&self, alloc: Global, chance: &mut Chance) -> Result<Option<Move>, Fail> {
+    fn chosen(&self, alloc: Global, chance: &mut Chance) -> Result<Option<Chosen>, Fail> {
         let sink = self.link.states().sink;
         Ok(match chance.below(32) {
-            0..=1 => Some(Move::Load(some_draft(alloc, self.profile, chance)?)),
+            0..=1 => {
+                let draft = some_draft(alloc, self.profile, chance, self.is_open)?;
+                Some((Move::Load(draft), true))
+            }
             2..=10 => match self.told.source.next() {
-                Some(word) => Some(Move::Sent(Bus::A, word)),
+                Some(word) => Some((Move::Sent(Bus::A, word), true)),
                 None => None,
             },
-            11..=18 => Some(Move::SinkTakes),
+            11..=18 => Some((Move::SinkTakes, true)),
             19..=22 => match self.told.owed(sink, chance) {
-                Some(word) => Some(Move::Answered(Bus::B, word)),
+                Some(word) => Some(answering(chance, word)),
                 None => None,
             },
-            23..=26 => Some(Move::TakeAnswer),
-            27 => Some(Move::SentLost),
-            28 => Some(Move::TimeOut),
-            29 => Some(Move::Silent),
-            30 => Some(Move::LoseAnswer),
+            23..=26 => Some((Move::TakeAnswer, true)),
+            27 => Some((Move::SentLost, true)),
+            28 => Some((Move::TimeOut, true)),
+            29 => Some((Move::Silent, true)),
+            30 => Some((Move::LoseAnswer, true)),
             _ => Some(passing_by(chance)),
         })
     }
@@ -133,14 +159,15 @@ impl<'a> Run<'a> {
     fn go(&mut self, alloc: Global, chance: &mut Chance) -> Result<(), Fail> {
         let source = self.link.states().source;
         self.told.source.state = source;
-        let Some(chosen) = self.chosen(alloc, chance)? else {
+        let Some((chosen, fits)) = self.chosen(alloc, chance)? else {
             return Ok(());
         };
         let step = chosen.step(alloc, self.profile).ok_or("a unit")?;
         match self.link.apply(step) {
-            Ok(()) => self.told.note(chosen)?,
+            Ok(()) if fits => self.told.note(chosen)?,
+            Err(StepFault::WordDiffers) if !fits => {}
             Err(StepFault::NotAllowed) => {}
-            Err(_) => self.is_right = false,
+            _ => self.is_right = false,
         }
         Ok(())
     }
@@ -181,8 +208,14 @@ fn judged(alloc: Global, recorded: &[Seen], delivered: &[FileBytes]) -> Result<O
     }
 }
 
-// A run of up to 200 steps.
-fn trial(rt: &impl AllocGlobal, profile: &Profile, chance: &mut Chance) -> Result<Outcome, Fail> {
+// A run of so many tries, and the number of the link data unit that its source comes to.
+fn trial(
+    rt: &impl AllocGlobal,
+    profile: &Profile,
+    chance: &mut Chance,
+    tries: u32,
+    is_open: bool,
+) -> Result<(Outcome, u16), Fail> {
     let file = chance.below(256) as u8;
     let told = Told {
         source: Source::new(file, 1),
@@ -193,9 +226,10 @@ fn trial(rt: &impl AllocGlobal, profile: &Profile, chance: &mut Chance) -> Resul
         profile,
         link: Link::start(rt.alloc(), profile, file),
         told,
+        is_open,
         is_right: true,
     };
-    for _ in 0..chance.below(201) {
+    for _ in 0..tries {
         run.go(rt.alloc(), chance)?;
     }
     let outcome = judged(
@@ -203,10 +237,11 @@ fn trial(rt: &impl AllocGlobal, profile: &Profile, chance: &mut Chance) -> Resul
         run.told.recorded.as_slice(),
         run.link.delivered(),
     )?;
+    let ldu = run.told.source.ldu;
     Ok(if run.is_right {
-        outcome
+        (outcome, ldu)
     } else {
-        Outcome::Wrong
+        (Outcome::Wrong, ldu)
     })
 }
 
@@ -217,12 +252,23 @@ fn runs_by_chance(rt: HostRuntime) -> Result<(), Fail> {
     let mut wrong = 0u32;
     let mut has_crossed = false;
     for _ in 0..10_000 {
-        match trial(&rt, &profile, &mut chance)? {
+        let tries = chance.below(201);
+        match trial(&rt, &profile, &mut chance, tries, false)?.0 {
             Outcome::Explained(files) => has_crossed |= files > 0,
             Outcome::Unexplained => {}
             Outcome::Wrong => wrong = wrong.saturating_add(1),
         }
     }
     assert!(rt; wrong == 0 && has_crossed);
+    Ok(())
+}
+
+// The link data units of a file that does not end come to number 255, behind which there is none.
+#[test]
+fn a_file_of_all_its_units(rt: HostRuntime) -> Result<(), Fail> {
+    let profile = sample(rt.alloc()).expect(&rt, "a profile");
+    let mut chance = Chance::new(4);
+    let (outcome, ldu) = trial(&rt, &profile, &mut chance, 200_000, true)?;
+    assert!(rt; !matches!(outcome, Outcome::Wrong) && ldu == 256);
     Ok(())
 }

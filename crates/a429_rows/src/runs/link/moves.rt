@@ -4,7 +4,7 @@ use crate::runs::chance::Chance;
 use crate::runs::draft::Draft;
 use crate::runs::link::model::Model;
 use crate::runs::tried::Move;
-use crate::runs::words::{TO_SINK, TO_SOURCE, joined, refusal};
+use crate::runs::words::{any_bus, any_word, refusal};
 use a429_word::Bus;
 
 /// How steps are drawn, and under which profile.
@@ -78,22 +78,4 @@ fn wanted(chance: &mut Chance, bus: Bus, word: Option<u32>) -> (Bus, u32) {
         2 => (bus, word ^ 3 << (8 + chance.below(15))),
         _ => (bus, word),
     }
-}
-
-fn any_bus(chance: &mut Chance) -> Bus {
-    if chance.one_in(2) { Bus::A } else { Bus::B }
-}
-
-// Any word, often one of the transfer.
-fn any_word(chance: &mut Chance) -> (Bus, u32) {
-    let label = match chance.below(8) {
-        0 => chance.byte(),
-        1..=4 => TO_SINK,
-        _ => TO_SOURCE,
-    };
-    let bits = chance.byte() << 8 | chance.byte();
-    let kind = chance.below(8);
-    let word = joined(label, kind, chance.below(16), bits);
-    let wrong_parity = if chance.one_in(8) { 0x8000_0000 } else { 0 };
-    (any_bus(chance), word ^ wrong_parity)
 }

@@ -4,11 +4,13 @@ use std::alloc::Global;
 use std::io;
 use std::io::{ErrorKind, Read, Write};
 
-/// Gives its bytes one at a time, and answers an error at one call, counted from 1.
+/// Gives its bytes in pieces, and answers an error at one call, counted from 1.
 #[derive(Drop)]
 pub struct Shaky<'a> {
     /// What it has left to give.
     pub bytes: &'a [u8],
+    /// How many it gives at most at a time.
+    pub piece: usize,
     /// How often it has been called.
     pub calls: u32,
     /// The call that fails; 0 for none.
@@ -16,13 +18,19 @@ pub struct Shaky<'a> {
 }
 
 impl Shaky<'_> {
-    /// One that has not been called.
+    /// One that has not been called, and gives a byte at a time.
     pub fn new(bytes: &[u8], fails_at: u32) -> Shaky<'_> {
         Shaky {
             bytes,
+            piece: 1,
             calls: 0,
             fails_at,
         }
+    }
+
+    /// Whether a call of it has failed.
+    pub fn has_failed(&self) -> bool {
+        0 < self.fails_at && self.fails_at <= self.calls
     }
 }
 
@@ -32,14 +40,8 @@ impl Read for Shaky<'_> {
         if self.calls == self.fails_at {
             return Err(io::Error::from(ErrorKind::Interrupted));
         }
-        match (self.bytes.split_first(), buf.split_first_mut()) {
-            (Some((first, rest)), Some((place, _))) => {
-                *place = *first;
-                self.bytes = rest;
-                Ok(1)
-            }
-            _ => Ok(0),
-        }
+        let most = self.piece.min(buf.len());
+        self.bytes.read(&mut buf[..most])
     }
 }
 
@@ -55,6 +57,8 @@ pub struct Narrow {
     pub full: Option<ErrorKind>,
     /// Whether a flush works.
     pub flushes: bool,
+    /// Whether a write has failed.
+    pub has_failed: bool,
 }
 
 impl Narrow {
@@ -65,6 +69,7 @@ impl Narrow {
             room,
             full,
             flushes: true,
+            has_failed: false,
         }
     }
 }
@@ -72,6 +77,7 @@ impl Narrow {
 impl Write for Narrow {
     fn write(&mut self, buf: &[u8]) -> io::Result<usize> {
         if self.room == 0 {
+            self.has_failed = true;
             return match self.full {
                 Some(kind) => Err(io::Error::from(kind)),
                 None => Ok(0),
