@@ -1,5 +1,5 @@
 -- The number of a link data unit, and the one that comes next.
-use Rattle.std.proofs.Common.{◌≡◌, ℕ, ◌+◌, ◌-◌, ◌%◌, ◌≤◌, min, Bool, true, false, eqb, refl, ap, ◌∙◌, arith, eq-eqb}
+use Rattle.std.proofs.Common.{◌≡◌, ℕ, ◌+◌, ◌%◌, ◌≤◌, min, Bool, true, false, eqb, refl, ap, ◌∙◌, arith, eq-eqb}
 use Rattle.std.proofs.lemmas.Bool.{and_from, and_left, and_right, ne_eqb}
 use Rattle.a429_profile.specs.declared.codes.Codes.{Codes}
 use Rattle.a429_link.specs.declared.number.UnitNumber.{UnitNumber}

@@ -1,6 +1,6 @@
 -- What has crossed: the files that the sink delivered are some of those that were offered, and those that are settled some of
 -- them; how far the source is past what the sink accepted last.
-use Rattle.std.proofs.Common.{◌≡◌, ◌⊎◌, ℕ, suc, ◌+◌, ◌-◌, ◌*◌, ◌%◌, ◌≤◌, Bool, true, false, cond, eqb, ◌&&◌, List, [], ◌∷◌, ◌++◌, length, Option, Some, None, refl, sym, ap, ◌∙◌, subst, inl, inr, arith, length-append, eqb-true, eq-eqb}
+use Rattle.std.proofs.Common.{◌≡◌, ◌⊎◌, ℕ, suc, ◌+◌, ◌*◌, ◌%◌, ◌≤◌, Bool, true, false, cond, eqb, ◌&&◌, List, [], ◌∷◌, ◌++◌, length, Option, Some, None, refl, sym, ap, ◌∙◌, subst, inl, inr, arith, length-append, eqb-true, eq-eqb}
 use Rattle.std.proofs.lemmas.Bool.{and_left, and_right, ne_eqb}
 use Rattle.a429_ldu.specs.Carried.{bytes_in}
 use Rattle.a429_word.specs.declared.bus.Bus.TheVariants as bus
@@ -10,7 +10,7 @@ use Rattle.a429_link.proofs.Message.{Ack, AllSay, Cts, IsRead, MaySay, Nak, Mess
 use Rattle.a429_link.proofs.Subsequence.{sub_forth, sub_lost, sub_push}
 use Rattle.a429_link.specs.Run.{IsBounded, IsNear, IsRun, IsSubsequenceOf, delivered, end_of, ends_file, is_final_unit, is_own_ack_form, newest, offered, offered_from, offers, settled, settled_from, settles}
 use Rattle.a429_link.specs.Sink.{empty_shelf, emptied, Block, Number, Shelf, Sink, SinkPhase, accepts, accepts_owed, is_same, is_same_file, put, shelf_for, takes_first, takes_form, takes_word}
-use Rattle.a429_link.specs.Source.{IsIdle, Source, acknowledged, given_up, hears_first}
+use Rattle.a429_link.specs.Source.{IsIdle, Source, acknowledged, hears_first}
 use Rattle.a429_link.specs.Step.{Can, after}
 use Rattle.a429_link.specs.State.{rest, IsNonEmpty, start, State}
 use Rattle.a429_link.specs.declared.file.FileBytes.{FileBytes}

@@ -1,5 +1,5 @@
 -- Lists that are some of others, in their order.
-use Rattle.std.proofs.Common.{◌≡◌, ◌⊎◌, ℕ, zero, suc, ◌≤◌, List, [], ◌∷◌, ◌++◌, length, take, refl, sym, ap, subst, inl, inr, arith}
+use Rattle.std.proofs.Common.{◌≡◌, ℕ, zero, suc, ◌≤◌, List, [], ◌∷◌, ◌++◌, length, take, refl, ap, subst, inl, inr, arith}
 use Rattle.a429_link.specs.Run.{IsSubsequenceOf}
 
 -- none are some of any

@@ -356,8 +356,11 @@ impl Sink {
         bytes: &[u8],
         is_final: bool,
     ) -> Result<(), AllocError>
-        ensures done { OnOk result (self.new ≡ record (self.old) { sink = record (self.old.sink) {
-            shelf = put file bytes.now is_final (shelf_for self.old.sink.last file self.old.sink.shelf) } }) }
+        ensures done { OnOk result (self.new ≡ record (self.old) {
+          sink = record (self.old.sink) {
+            shelf = put file bytes.now is_final (shelf_for self.old.sink.last file self.old.sink.shelf);
+          };
+        }) }
         ensures unchanged { OnErr result (self.new ≡ self.old) }
     {
         if is_last_file(&self.last, file) {
