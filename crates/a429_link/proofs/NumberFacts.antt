@@ -31,7 +31,7 @@ past_next : (file : ℕ) → file ≤ 255 → files_past ((file + 1) % 256) file
 past_next file h = omega arith
 
 pub next_begins : (c : Codes) (n : UnitNumber) → n.file ≤ 255 → begins_file c n (first_number c ((n.file + 1) % 256)) ≡ true
-next_begins c n h = rw (number_same (first_number c ((n.file + 1) % 256))) (rw (past_next n.file h) refl)
+next_begins c n h = rw (eq-eqb c.first_ldu c.first_ldu refl) (rw (past_next n.file h) refl)
 
 -- two numbers are the same by their parts
 pub number_from : (m n : UnitNumber) → m.file ≡ n.file → m.ldu ≡ n.ldu → m ≡ n

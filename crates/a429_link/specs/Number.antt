@@ -30,7 +30,7 @@ goes_on c last n = is_number n (next_number c last false) && nat_le n.ldu (c.fir
 
 -- it is that of the first of a file that is 1 to 128 past: as many as 127 may have been given up between
 abbrev pub begins_file : Codes → UnitNumber → UnitNumber → Bool
-begins_file c last n = is_number n (first_number c n.file) && (nat_le 1 (files_past n.file last.file) && nat_le (files_past n.file last.file) 128)
+begins_file c last n = (n.ldu == c.first_ldu) && (nat_le 1 (files_past n.file last.file) && nat_le (files_past n.file last.file) 128)
 
 -- the number that comes next where this link data unit has this one
 abbrev pub number_after : Codes → UnitNumber → LduValue → UnitNumber

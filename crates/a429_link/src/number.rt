@@ -65,7 +65,7 @@ impl UnitNumber {
         ensures { result ≡ begins_file profile.now.codes self other }
     {
         let past = other.file.wrapping_sub(self.file);
-        other == UnitNumber::first(profile, other.file) && 1 <= past && past <= 128
+        other.ldu == u16::from(profile.codes().first_ldu) && 1 <= past && past <= 128
     }
 }
 

@@ -90,9 +90,18 @@ impl Source {
         requires { self.old.give_ups ≤ 126 }
         ensures { self.new ≡ given_up profile.now.codes self.old }
     {
-        self.number = UnitNumber::first(profile, self.number.file.wrapping_add(1));
-        self.current = None;
+        let file = self.number.file.wrapping_add(1);
+        self.pass_to(UnitNumber::first(profile, file));
         self.give_ups += 1;
+    }
+
+    // It is at this number, with nothing loaded.
+    fn pass_to(&mut self, number: UnitNumber)
+        requires { number.ldu ≤ 256 }
+        ensures { self.new ≡ record (self.old) { number = number; current = None } }
+    {
+        self.number = number;
+        self.current = None;
     }
 
     /// It sends a word now.
@@ -177,8 +186,8 @@ impl Source {
             }
             (SourceState::Waiting, Form::Ack { file, ldu }) => {
                 if file == self.number.file && u16::from(ldu) == self.number.ldu {
-                    self.number = self.number.after(profile, unit);
-                    self.current = None;
+                    let next = self.number.after(profile, unit);
+                    self.pass_to(next);
                     self.state = SourceState::Idle;
                     self.give_ups = 0;
                 }
