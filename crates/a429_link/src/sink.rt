@@ -348,7 +348,7 @@ impl Sink {
         Ok(())
     }
 
-    // Puts the bytes of a link data unit of this file on the shelf. Those of another file, which is not whole, are dropped.
+    // Puts the bytes of a link data unit of this file on the shelf, and drops those of another file that is not whole.
     fn put(
         &mut self,
         alloc: Global,
