@@ -1,5 +1,6 @@
 pub mod NumberFacts
 pub mod Message
+pub mod Subsequence
 pub mod MessageSubsequence
 pub mod StateConfigs
 pub mod StateHolds

@@ -7,14 +7,14 @@ use Rattle.a429_ldu.specs.Form.{form_of, is_free, word_number}
 use Rattle.a429_ldu.specs.Ldu.{LduValue, is_final}
 use Rattle.a429_link.proofs.Message.{IsRead, Message}
 use Rattle.a429_link.specs.Run.{IsBounded, IsRun, end_of}
-use Rattle.a429_link.specs.Sink.{Block, Granted, InBlock, MayAnswerForm, Owes, OwesAck, OwesClear, OwesNak, Quiet, Shelf, Sink, SinkPhase, accepts, accepts_owed, answers_form, is_same, put, takes_first, takes_form, number_of}
+use Rattle.a429_link.specs.Sink.{Block, Granted, InBlock, MayAnswerForm, Number, Owes, OwesAck, OwesClear, OwesNak, Quiet, Shelf, Sink, SinkPhase, accepts, accepts_owed, answers_form, emptied, is_same, is_same_file, put, shelf_for, takes_first, takes_form, number_of}
 use Rattle.a429_link.specs.Step.{Can, IsNamedStep, after, IsFault}
 use Rattle.a429_link.specs.Source.{next_word_of}
 use Rattle.a429_link.specs.State.{rest, start, State}
 use Rattle.a429_link.specs.declared.file.FileBytes.{FileBytes}
 use Rattle.a429_link.specs.declared.state.SourceState.{SourceState}
 use Rattle.a429_link.specs.declared.step.Step.{Step}
-use Rattle.a429_link.specs.declared.step.Step.TheVariants.{Answered, FreeSeen, Load, LoseAnswer, Sent, SentLost, Silent, SinkTakes, TakeAnswer, TimeOut}
+use Rattle.a429_link.specs.declared.step.Step.TheVariants.{Answered, FreeSeen, GiveUp, Load, LoseAnswer, Sent, SentLost, Silent, SinkTakes, TakeAnswer, TimeOut}
 use Rattle.a429_profile.specs.Profile.{Contents, IsProfile}
 use Rattle.a429_profile.specs.declared.codes.Codes.{Codes}
 use Rattle.a429_ldu.specs.declared.forms.Form.{Form}
@@ -59,15 +59,22 @@ put_with files n bytes true s = ap (λ (l : List FileBytes). put_on l) (append_a
     put_on l = record { files = l; open_bytes = [] }
 put_with files n bytes false s = refl
 
+shelf_for_with : (files : List FileBytes) (last : Option Number) (n : ℕ) (s : Shelf) → shelf_for last n (shelf_with files s) ≡ shelf_with files (shelf_for last n s)
+shelf_for_with files last n s = by_file (is_same_file last n)
+  where
+    by_file : (t : Bool) → cond t (shelf_with files s) (emptied (shelf_with files s)) ≡ shelf_with files (cond t s (emptied s))
+    by_file true = refl
+    by_file false = refl
+
 accepts_with : (c : Codes) (files : List FileBytes) (b : Block) (flags : ℕ) (k : Sink) → accepts c b flags (sink_with files k) ≡ sink_with files (accepts c b flags k)
 accepts_with c files b flags k = by_same (is_same k.last (number_of b))
   where
     taken_in : Shelf → Sink
     taken_in s = record k { last = Some (record { number = number_of b; final = is_final c flags }); shelf = s }
 
-    by_same : (t : Bool) → cond t (sink_with files k) (record (sink_with files k) { last = Some (record { number = number_of b; final = is_final c flags }); shelf = put b.file (bytes_in c b.words) (is_final c flags) (shelf_with files k.shelf) }) ≡ sink_with files (cond t k (record k { last = Some (record { number = number_of b; final = is_final c flags }); shelf = put b.file (bytes_in c b.words) (is_final c flags) k.shelf }))
+    by_same : (t : Bool) → cond t (sink_with files k) (record (sink_with files k) { last = Some (record { number = number_of b; final = is_final c flags }); shelf = put b.file (bytes_in c b.words) (is_final c flags) (shelf_for k.last b.file (shelf_with files k.shelf)) }) ≡ sink_with files (cond t k (record k { last = Some (record { number = number_of b; final = is_final c flags }); shelf = put b.file (bytes_in c b.words) (is_final c flags) (shelf_for k.last b.file k.shelf) }))
     by_same true = refl
-    by_same false = ap taken_in (put_with files b.file (bytes_in c b.words) (is_final c flags) k.shelf)
+    by_same false = ap taken_in (ap (put b.file (bytes_in c b.words) (is_final c flags)) (shelf_for_with files k.last b.file k.shelf) ∙ put_with files b.file (bytes_in c b.words) (is_final c flags) (shelf_for k.last b.file k.shelf))
 
 accepts_owed_with : (c : Codes) (files : List FileBytes) (kp : SinkPhase) (k : Sink) → accepts_owed c kp (sink_with files k) ≡ sink_with files (accepts_owed c kp k)
 accepts_owed_with c files (OwesAck b flags) k = accepts_with c files b flags k
@@ -108,6 +115,7 @@ after_earlier p (Answered i) files s = ap (λ (k : Sink). state_of k) (answers_w
     state_of : Sink → State
     state_of k = record s { sink = k; to_source = s.to_source ++ i.word ∷ [] }
 after_earlier p (FreeSeen i) files s = refl
+after_earlier p GiveUp files s = refl
 
 -- and may be made in both or in none
 pub can_earlier : (p : Contents) (a : Step) (files : List FileBytes) (s : State) → Can p a s → Can p a (with_earlier files s)
@@ -121,6 +129,7 @@ can_earlier p SinkTakes files s h = h
 can_earlier p Silent files s h = h
 can_earlier p (Answered i) files s h = h
 can_earlier p (FreeSeen i) files s h = h
+can_earlier p GiveUp files s h = h
 
 pub can_later : (p : Contents) (a : Step) (files : List FileBytes) (s : State) → Can p a (with_earlier files s) → Can p a s
 can_later p (Load u) files s h = h
@@ -133,6 +142,7 @@ can_later p SinkTakes files s h = h
 can_later p Silent files s h = h
 can_later p (Answered i) files s h = h
 can_later p (FreeSeen i) files s h = h
+can_later p GiveUp files s h = h
 
 -- ---- runs, and one step more
 
@@ -241,6 +251,7 @@ named_if_ready p is SinkTakes s h r = r
 named_if_ready p is Silent s h r = r
 named_if_ready p is (Answered i) s h r = let owed = owed_word p is s h s.sink.phase refl r in (record { bus = bus.B; word = owed.0 }, (refl, owed.1))
 named_if_ready p is (FreeSeen i) s h r = (record { bus = bus.A; word = 0 }, free_word p.codes)
+named_if_ready p is GiveUp s h r = r
 
 owes_form : (count : ℕ) (kp : SinkPhase) (o : Option Form) → MayAnswerForm count kp o → Owes kp
 owes_form count kp None m = absurd m
@@ -262,6 +273,7 @@ ready_if_named p SinkTakes s h = h
 ready_if_named p Silent s h = h
 ready_if_named p (Answered i) s h = owes_form s.sink.count s.sink.phase (form_of p.codes bus.B h.0.word) h.1.1
 ready_if_named p (FreeSeen i) s h = tt
+ready_if_named p GiveUp s h = h
 
 pub named_when_ready : (p : Contents) (a : Step) (s : State) → IsKept p s → IsReadyStep p a s ↔ IsNamedStep p a s
 named_when_ready p a s k = (named_if_ready p k.sound a s (kept_holds p s k), ready_if_named p a s)

@@ -1,58 +1,8 @@
 -- Words that are some of others, in order.
 use Rattle.std.proofs.Common.{◌≡◌, ◌⊎◌, ℕ, zero, suc, ◌≤◌, List, [], ◌∷◌, ◌++◌, map, length, take, Some, slice_get, refl, sym, ap, subst, inl, inr, arith}
 use Rattle.a429_link.proofs.Message.{Eot, Part, Message, Sot}
-use Rattle.a429_link.specs.State.{rest}
-
--- the words, in order, are some of those
-abbrev pub IsSubsequence : List Message → List Message → Type 0
-IsSubsequence xs [] = xs ≡ []
-IsSubsequence xs (y ∷ ys) = IsSubsequence xs ys ⊎ ((zs : List Message) × (xs ≡ y ∷ zs) × IsSubsequence zs ys)
-
--- none are some of any
-pub sub_none : (ys : List Message) → IsSubsequence [] ys
-sub_none [] = refl
-sub_none (y ∷ ys) = inl (sub_none ys)
-
--- without the first
-pub sub_rest : (x : Message) (xs ys : List Message) → IsSubsequence (x ∷ xs) ys → IsSubsequence xs ys
-sub_rest x xs [] h = absurd (cc h)
-sub_rest x xs (y ∷ ys) (inl h) = inl (sub_rest x xs ys h)
-sub_rest x xs (y ∷ ys) (inr (zs, e, h)) =
-    let same : zs ≡ xs = cc in inl (subst (λ l. IsSubsequence l ys) same h)
-
--- without a front
-pub sub_back : (ws xs ys : List Message) → IsSubsequence (ws ++ xs) ys → IsSubsequence xs ys
-sub_back [] xs ys h = h
-sub_back (w ∷ ws) xs ys h = sub_back ws xs ys (sub_rest w (ws ++ xs) ys h)
-
--- without a back
-pub sub_forth : (xs ws ys : List Message) → IsSubsequence (xs ++ ws) ys → IsSubsequence xs ys
-sub_forth [] ws ys h = sub_none ys
-sub_forth (x ∷ xs) ws [] h = absurd (cc h)
-sub_forth (x ∷ xs) ws (y ∷ ys) (inl h) = inl (sub_forth (x ∷ xs) ws ys h)
-sub_forth (x ∷ xs) ws (y ∷ ys) (inr (zs, e, h)) =
-    let same : zs ≡ xs ++ ws = cc in
-    let first : x ≡ y = cc in
-    inr (xs, ap (λ (z : Message). z ∷ xs) first, sub_forth xs ws ys (subst (λ l. IsSubsequence l ys) same h))
-
--- of a front, of all
-pub sub_take : (k : ℕ) (xs ys : List Message) → IsSubsequence xs (take k ys) → IsSubsequence xs ys
-sub_take zero xs ys h = rw h (sub_none ys)
-sub_take (suc k) xs [] h = h
-sub_take (suc k) xs (y ∷ ys) (inl h) = inl (sub_take k xs ys h)
-sub_take (suc k) xs (y ∷ ys) (inr (zs, e, h)) = inr (zs, e, sub_take k zs ys h)
-
--- one more word, on both sides
-pub sub_push : (w : Message) (xs ys : List Message) → IsSubsequence xs ys → IsSubsequence (xs ++ w ∷ []) (ys ++ w ∷ [])
-sub_push w xs [] h = inr ([], ap (λ (l : List Message). l ++ w ∷ []) h, refl)
-sub_push w xs (y ∷ ys) (inl h) = inl (sub_push w xs ys h)
-sub_push w xs (y ∷ ys) (inr (zs, e, h)) = inr (zs ++ w ∷ [], ap (λ (l : List Message). l ++ w ∷ []) e, sub_push w zs ys h)
-
--- one more word on the right
-pub sub_lost : (w : Message) (xs ys : List Message) → IsSubsequence xs ys → IsSubsequence xs (ys ++ w ∷ [])
-sub_lost w xs [] h = inl h
-sub_lost w xs (y ∷ ys) (inl h) = inl (sub_lost w xs ys h)
-sub_lost w xs (y ∷ ys) (inr (zs, e, h)) = inr (zs, e, sub_lost w zs ys h)
+use Rattle.a429_link.specs.Run.{IsSubsequenceOf}
+use Rattle.a429_link.proofs.Subsequence.{sub_length}
 
 -- the words so far and the next one
 pub take_next : (k : ℕ) (w : Message) (ys : List Message) → slice_get ys k ≡ Some w → take (suc k) ys ≡ take k ys ++ w ∷ []
@@ -68,17 +18,12 @@ get_front zero w e (y ∷ ys) h = inl (omega arith, h)
 get_front (suc k) w e (y ∷ ys) h =
     elim (get_front k w e ys h) [ inl (l, g) ↦ inl (omega arith, g) | inr (l, g) ↦ inr (ap suc l, g) ]
 
-pub sub_length : (xs ys : List Message) → IsSubsequence xs ys → length xs ≤ length ys
-sub_length xs [] h = let e : length xs ≡ 0 = ap length h in omega arith
-sub_length xs (y ∷ ys) (inl h) = omega (arith, sub_length xs ys h)
-sub_length xs (y ∷ ys) (inr (zs, e, h)) = omega (arith, sub_length zs ys h, ap length e)
-
 -- what holds of each word
 abbrev pub Each : (Message → Type 0) → List Message → Type 0
 Each P [] = Unit {0}
 Each P (x ∷ xs) = P x × Each P xs
 
-pub sub_each : (P : Message → Type 0) (xs ys : List Message) → IsSubsequence xs ys → Each P ys → Each P xs
+pub sub_each : (P : Message → Type 0) (xs ys : List Message) → IsSubsequenceOf xs ys → Each P ys → Each P xs
 sub_each P xs [] h e = rw h tt
 sub_each P xs (y ∷ ys) (inl h) e = sub_each P xs ys h e.1
 sub_each P xs (y ∷ ys) (inr (zs, q, h)) e = rw q (e.0, sub_each P zs ys h e.1)
@@ -112,7 +57,7 @@ parts_block [] = tt
 parts_block (s ∷ ps) = (tt, parts_block ps)
 
 -- an end word among words that end by one: nothing comes behind it
-pub sub_end : (f c : ℕ) (e : Message) (xs rest ys : List Message) → Each IsFrontWord ys → IsSubsequence (xs ++ Eot f c ∷ rest) (ys ++ e ∷ []) → (Eot f c ≡ e) × (rest ≡ []) × IsSubsequence xs ys
+pub sub_end : (f c : ℕ) (e : Message) (xs rest ys : List Message) → Each IsFrontWord ys → IsSubsequenceOf (xs ++ Eot f c ∷ rest) (ys ++ e ∷ []) → (Eot f c ≡ e) × (rest ≡ []) × IsSubsequenceOf xs ys
 sub_end f c e [] rest [] a (inl h) = absurd (cc h)
 sub_end f c e [] rest [] a (inr (zs, q, h)) = (cc, cc, refl)
 sub_end f c e (x ∷ xs) rest [] a (inl h) = absurd (cc h)
@@ -122,12 +67,12 @@ sub_end f c e xs rest (y ∷ ys) a (inl h) = let r = sub_end f c e xs rest ys a.
 sub_end f c e [] rest (y ∷ ys) a (inr (zs, q, h)) = let k : Eot f c ≡ y = cc in absurd (subst IsFrontWord (sym k) a.0)
 sub_end f c e (x ∷ xs) rest (y ∷ ys) a (inr (zs, q, h)) =
     let same : zs ≡ xs ++ Eot f c ∷ rest = cc in
-    let r = sub_end f c e xs rest ys a.1 (subst (λ l. IsSubsequence l (ys ++ e ∷ [])) same h) in
+    let r = sub_end f c e xs rest ys a.1 (subst (λ l. IsSubsequenceOf l (ys ++ e ∷ [])) same h) in
     let head : x ≡ y = cc in
     (r.0, r.1, inr (xs, ap (λ (z : Message). z ∷ xs) head, r.2))
 
 -- words without an end word
-pub sub_no_end : (f c : ℕ) (xs ys : List Message) → Each IsFrontWord xs → IsSubsequence xs (ys ++ Eot f c ∷ []) → IsSubsequence xs ys
+pub sub_no_end : (f c : ℕ) (xs ys : List Message) → Each IsFrontWord xs → IsSubsequenceOf xs (ys ++ Eot f c ∷ []) → IsSubsequenceOf xs ys
 sub_no_end f c xs [] a (inl h) = h
 sub_no_end f c xs [] a (inr (zs, q, h)) = absurd ((subst (Each IsFrontWord) q a).0)
 sub_no_end f c xs (y ∷ ys) a (inl h) = inl (sub_no_end f c xs ys a h)
@@ -138,7 +83,7 @@ length-parts [] = refl
 length-parts (s ∷ l) = ap suc (length-parts l)
 
 -- as many data words are all of them
-pub same_parts : (ps qs : List ℕ) → length ps ≡ length qs → IsSubsequence (map Part ps) (map Part qs) → ps ≡ qs
+pub same_parts : (ps qs : List ℕ) → length ps ≡ length qs → IsSubsequenceOf (map Part ps) (map Part qs) → ps ≡ qs
 same_parts [] [] n h = refl
 same_parts (s ∷ ps) [] n h = absurd (omega arith)
 same_parts [] (t ∷ qs) n h = absurd (omega arith)
@@ -147,17 +92,17 @@ same_parts (s ∷ ps) (t ∷ qs) n (inr (zs, q, h)) =
     let same : zs ≡ map Part ps = cc in
     let head : s ≡ t = cc in
     let len : length ps ≡ length qs = omega arith in
-    let tail = same_parts ps qs len (subst (λ l. IsSubsequence l (map Part qs)) same h) in
+    let tail = same_parts ps qs len (subst (λ l. IsSubsequenceOf l (map Part qs)) same h) in
     cc
 
 -- the start word is the only one
-pub sub_start : (g f l g' f' l' : ℕ) (ps qs : List ℕ) → IsSubsequence (Sot g f l ∷ map Part ps) (Sot g' f' l' ∷ map Part qs) → (f ≡ f') × (l ≡ l') × IsSubsequence (map Part ps) (map Part qs)
+pub sub_start : (g f l g' f' l' : ℕ) (ps qs : List ℕ) → IsSubsequenceOf (Sot g f l ∷ map Part ps) (Sot g' f' l' ∷ map Part qs) → (f ≡ f') × (l ≡ l') × IsSubsequenceOf (map Part ps) (map Part qs)
 sub_start g f l g' f' l' ps qs (inl h) = absurd (no_start qs h)
   where
-    no_start : (qs : List ℕ) → IsSubsequence (Sot g f l ∷ map Part ps) (map Part qs) → ⊥
+    no_start : (qs : List ℕ) → IsSubsequenceOf (Sot g f l ∷ map Part ps) (map Part qs) → ⊥
     no_start [] h = cc h
     no_start (t ∷ qs) (inl h) = no_start qs h
     no_start (t ∷ qs) (inr (zs, q, h)) = cc q
 sub_start g f l g' f' l' ps qs (inr (zs, q, h)) =
     let same : zs ≡ map Part ps = cc in
-    (cc, cc, subst (λ x. IsSubsequence x (map Part qs)) same h)
+    (cc, cc, subst (λ x. IsSubsequenceOf x (map Part qs)) same h)

@@ -3,7 +3,7 @@ use Rattle.std.proofs.Common.{◌≡◌, ℕ, ◌+◌, ◌%◌, ◌≤◌, min, 
 use Rattle.std.proofs.lemmas.Bool.{and_from, and_left, and_right, ne_eqb}
 use Rattle.a429_profile.specs.declared.codes.Codes.{Codes}
 use Rattle.a429_link.specs.declared.number.UnitNumber.{UnitNumber}
-use Rattle.a429_link.specs.Number.{is_number, next_number}
+use Rattle.a429_link.specs.Number.{begins_file, files_past, first_number, is_number, next_number}
 
 -- a number that may be loaded is below the one that stops the counting
 pub next_ldu : (l : ℕ) → l ≤ 255 → min (l + 1) 256 ≡ l + 1
@@ -21,6 +21,17 @@ next_other c n false h = and_right _ _ (ne_eqb n.ldu (min (n.ldu + 1) 256) (λ e
 pub next_byte : (c : Codes) (n : UnitNumber) (final : Bool) → n.file ≤ 255 → (next_number c n final).file ≤ 255
 next_byte c n true h = omega arith
 next_byte c n false h = h
+
+-- a file that is 1 to 128 past is another
+pub other_file : (file d : ℕ) → 1 ≤ d → d ≤ 128 → file ≡ (file + d) % 256 → ⊥
+other_file file d low high e = omega arith
+
+-- the next file is one past
+past_next : (file : ℕ) → file ≤ 255 → files_past ((file + 1) % 256) file ≡ 1
+past_next file h = omega arith
+
+pub next_begins : (c : Codes) (n : UnitNumber) → n.file ≤ 255 → begins_file c n (first_number c ((n.file + 1) % 256)) ≡ true
+next_begins c n h = rw (eq-eqb c.first_ldu c.first_ldu refl) (rw (past_next n.file h) refl)
 
 -- two numbers are the same by their parts
 pub number_from : (m n : UnitNumber) → m.file ≡ n.file → m.ldu ≡ n.ldu → m ≡ n

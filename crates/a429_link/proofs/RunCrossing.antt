@@ -1,12 +1,15 @@
--- What has crossed: the LDUs that the sink accepted are those that were loaded, all but perhaps the current one.
-use Rattle.std.proofs.Common.{◌≡◌, ◌⊎◌, ℕ, ◌+◌, ◌*◌, ◌≤◌, Bool, true, false, cond, eqb, ◌&&◌, List, [], ◌∷◌, ◌++◌, length, Option, Some, None, refl, sym, ap, ◌∙◌, subst, inl, inr, arith, append-nil, length-append}
+-- What has crossed: the files that the sink delivered are some of those that were offered, and those that are settled some of
+-- them; how far the source is past what the sink accepted last.
+use Rattle.std.proofs.Common.{◌≡◌, ◌⊎◌, ℕ, suc, ◌+◌, ◌*◌, ◌%◌, ◌≤◌, Bool, true, false, cond, eqb, ◌&&◌, List, [], ◌∷◌, ◌++◌, length, Option, Some, None, refl, sym, ap, ◌∙◌, subst, inl, inr, arith, length-append, eqb-true, eq-eqb}
+use Rattle.std.proofs.lemmas.Bool.{and_left, and_right, ne_eqb}
 use Rattle.a429_ldu.specs.Carried.{bytes_in}
 use Rattle.a429_word.specs.declared.bus.Bus.TheVariants as bus
 use Rattle.a429_ldu.specs.Form.{form_of}
 use Rattle.a429_ldu.specs.Ldu.{LduValue, count_of, is_final}
 use Rattle.a429_link.proofs.Message.{Ack, AllSay, Cts, IsRead, MaySay, Nak, Message, answers_as, answers_message, hears_as, hears_message, is_own_ack_seen, none_say, own_ack_join, message_of, say_length}
-use Rattle.a429_link.specs.Run.{IsBounded, IsPrefixOf, IsRun, delivered, end_of, ends_file, is_final_unit, is_own_ack_form, newest, offered, offered_from, offers, settled, settled_from, settles}
-use Rattle.a429_link.specs.Sink.{empty_shelf, Block, Number, Shelf, Sink, SinkPhase, accepts, accepts_owed, is_same, put, takes_first, takes_form, takes_word}
+use Rattle.a429_link.proofs.Subsequence.{sub_forth, sub_lost, sub_push}
+use Rattle.a429_link.specs.Run.{IsBounded, IsNear, IsRun, IsSubsequenceOf, delivered, end_of, ends_file, is_final_unit, is_own_ack_form, newest, offered, offered_from, offers, settled, settled_from, settles}
+use Rattle.a429_link.specs.Sink.{empty_shelf, emptied, Block, Number, Shelf, Sink, SinkPhase, accepts, accepts_owed, is_same, is_same_file, put, shelf_for, takes_first, takes_form, takes_word}
 use Rattle.a429_link.specs.Source.{IsIdle, Source, acknowledged, hears_first}
 use Rattle.a429_link.specs.Step.{Can, after}
 use Rattle.a429_link.specs.State.{rest, IsNonEmpty, start, State}
@@ -15,39 +18,167 @@ use Rattle.a429_link.specs.declared.state.SourceState.{SourceState}
 use Rattle.a429_link.specs.declared.state.SourceState.TheVariants.{Awaiting, Idle, Sending, Waiting}
 use Rattle.a429_link.specs.declared.seen.Seen.{Seen}
 use Rattle.a429_link.specs.declared.step.Step.{Step}
-use Rattle.a429_link.specs.declared.step.Step.TheVariants.{Answered, FreeSeen, Load, LoseAnswer, Sent, SentLost, Silent, SinkTakes, TakeAnswer, TimeOut}
+use Rattle.a429_link.specs.declared.step.Step.TheVariants.{Answered, FreeSeen, GiveUp, Load, LoseAnswer, Sent, SentLost, Silent, SinkTakes, TakeAnswer, TimeOut}
 use Rattle.a429_profile.specs.Profile.{Contents}
+use Rattle.a429_profile.specs.declared.codes.Codes.{Codes}
 use Rattle.a429_link.proofs.StateConfigs.{Config, idle, asked, unasked, cleared, sending, waiting, whole, refused, acked, Whole, may_owes, owes_stale, owes_grant, may_answer, config_bounded, config_few, source_at, unit_number}
 use Rattle.a429_link.proofs.StateHolds.{HoldsAt, step_holds, start_holds, owed_form, alone_on_the_way}
 use Rattle.a429_link.proofs.SinkFromTrace.{takes_shelf}
 use Rattle.a429_ldu.specs.declared.forms.Form.{Form}
 use Rattle.a429_ldu.specs.declared.forms.Form.TheVariants as form
 use Rattle.a429_link.specs.declared.number.UnitNumber.{UnitNumber}
-use Rattle.a429_link.specs.Number.{next_number}
-use Rattle.a429_link.proofs.NumberFacts.{next_ldu, number_same, next_other}
+use Rattle.a429_link.specs.Number.{first_number, files_past, next_number}
+use Rattle.a429_link.proofs.NumberFacts.{next_ldu, number_same, other_file}
 
--- what was offered before the current LDU, and with it
-abbrev pub with_current : Contents → ℕ → Option LduValue → Shelf → Shelf
-with_current p file None before = before
-with_current p file (Some u) before = put file (bytes_in p.codes u.words) (is_final p.codes u.flags) before
+-- ---- shelves
 
--- the current LDU is accepted
-pub record Accepted (p : Contents) (number : UnitNumber) (u : LduValue) (last : Option Number) (shelf before : Shelf) : Type 0 where
-  pub same : shelf ≡ put number.file (bytes_in p.codes u.words) (is_final p.codes u.flags) before
+-- a link data unit that is put on both
+put_both : (file : ℕ) (bytes : List ℕ) (t : Bool) (a b : Shelf) → IsSubsequenceOf a.files b.files → a.open_bytes ≡ b.open_bytes → IsSubsequenceOf (put file bytes t a).files (put file bytes t b).files
+put_both file bytes true a b h e =
+    subst (λ x. IsSubsequenceOf (a.files ++ record { number = file; bytes = a.open_bytes ++ bytes } ∷ []) (b.files ++ record { number = file; bytes = x ++ bytes } ∷ [])) e (sub_push _ a.files b.files h)
+put_both file bytes false a b h e = h
+
+-- one that is put on the second
+put_second : (file : ℕ) (bytes : List ℕ) (t : Bool) (xs : List FileBytes) (b : Shelf) → IsSubsequenceOf xs b.files → IsSubsequenceOf xs (put file bytes t b).files
+put_second file bytes true xs b h = sub_lost _ xs b.files h
+put_second file bytes false xs b h = h
+
+put_open : (file : ℕ) (bytes : List ℕ) (t : Bool) (a b : Shelf) → a.open_bytes ≡ b.open_bytes → (put file bytes t a).open_bytes ≡ (put file bytes t b).open_bytes
+put_open file bytes true a b e = refl
+put_open file bytes false a b e = ap (λ x. x ++ bytes) e
+
+put_closed : (file : ℕ) (bytes : List ℕ) (t : Bool) (s : Shelf) → t ≡ true → (put file bytes t s).open_bytes ≡ []
+put_closed file bytes true s e = refl
+put_closed file bytes false s e = absurd (cc e)
+
+put_room : (file : ℕ) (bytes : List ℕ) (t : Bool) (s : Shelf) → length (put file bytes t s).open_bytes ≤ length s.open_bytes + length bytes
+put_room file bytes true s = omega arith
+put_room file bytes false s = omega (arith, length-append s.open_bytes bytes)
+
+newest_push : (x : FileBytes) (xs : List FileBytes) → newest (xs ++ x ∷ []) ≡ x ∷ []
+newest_push x [] = refl
+newest_push x (y ∷ []) = refl
+newest_push x (y ∷ (z ∷ zs)) = newest_push x (z ∷ zs)
+
+-- what is settled once the link data unit is acknowledged
+put_settled : (file : ℕ) (bytes : List ℕ) (t : Bool) (a b : Shelf) (fs : List FileBytes) → IsSubsequenceOf fs a.files → a.open_bytes ≡ b.open_bytes → IsSubsequenceOf (cond t (fs ++ newest (put file bytes t b).files) fs) (put file bytes t a).files
+put_settled file bytes true a b fs h e =
+    let z : FileBytes = record { number = file; bytes = b.open_bytes ++ bytes } in
+    let same = ap (λ x. a.files ++ record { number = file; bytes = x ++ bytes } ∷ []) e in
+    subst (λ l. IsSubsequenceOf (fs ++ l) (put file bytes true a).files) (sym (newest_push z b.files)) (subst (λ l. IsSubsequenceOf (fs ++ z ∷ []) l) (sym same) (sub_push z fs a.files h))
+put_settled file bytes false a b fs h e = h
+
+shelf_for_files : (last : Option Number) (file : ℕ) (s : Shelf) → (shelf_for last file s).files ≡ s.files
+shelf_for_files last file s = by_file (is_same_file last file)
+  where
+    by_file : (t : Bool) → (cond t s (emptied s)).files ≡ s.files
+    by_file true = refl
+    by_file false = refl
+
+shelf_for_empty : (last : Option Number) (file : ℕ) (s : Shelf) → s.open_bytes ≡ [] → (shelf_for last file s).open_bytes ≡ []
+shelf_for_empty last file s e = by_file (is_same_file last file)
+  where
+    by_file : (t : Bool) → (cond t s (emptied s)).open_bytes ≡ []
+    by_file true = e
+    by_file false = refl
+
+-- ---- how far the source is past what was accepted last
+
+-- it is later in the same file, or in a file that is as many past as were given up, and one
+abbrev pub Past : Option Number → UnitNumber → ℕ → Type 0
+Past None n g = Unit {0}
+Past (Some last) n g = ((n.file ≡ last.number.file) × (suc last.number.ldu ≤ n.ldu)) ⊎ ((d : ℕ) × (1 ≤ d) × (d ≤ suc g) × (n.file ≡ (last.number.file + d) % 256))
+
+past_new : (last : Option Number) (n : UnitNumber) (g : ℕ) → g ≤ 127 → Past last n g → is_same last n ≡ false
+past_new None n g l h = refl
+past_new (Some last) n g l (inl h) = and_right _ _ (ne_eqb last.number.ldu n.ldu (λ e. omega (arith, h.1)))
+past_new (Some last) n g l (inr (d, a, b, e)) = and_left _ _ (ne_eqb last.number.file n.file (λ q. other_file last.number.file d a (omega arith) (q ∙ e)))
+
+past_given_up : (c : Codes) (last : Option Number) (n : UnitNumber) (g : ℕ) → Past last n g → Past last (first_number c ((n.file + 1) % 256)) (suc g)
+past_given_up c None n g h = tt
+past_given_up c (Some last) n g (inl (e, q)) = inr (1, omega arith, omega arith, ap (λ x. (x + 1) % 256) e)
+past_given_up c (Some last) n g (inr (d, a, b, e)) = inr (suc d, omega arith, omega arith, omega arith)
+
+-- what the sink has of a file that is given up is not of the next one
+past_emptied : (last : Option Number) (n : UnitNumber) (g : ℕ) (s : Shelf) → g ≤ 126 → Past last n g → (shelf_for last ((n.file + 1) % 256) s).open_bytes ≡ []
+past_emptied None n g s l h = refl
+past_emptied (Some last) n g s l h = by_file (eqb last.number.file ((n.file + 1) % 256)) refl
+  where
+    far : Past (Some last) n g → last.number.file ≡ (n.file + 1) % 256 → ⊥
+    far (inl (e, q)) r = other_file last.number.file 1 (omega arith) (omega arith) (r ∙ ap (λ x. (x + 1) % 256) e)
+    far (inr (d, a, b, e)) r = omega arith
+
+    by_file : (t : Bool) → eqb last.number.file ((n.file + 1) % 256) ≡ t → (cond t s (emptied s)).open_bytes ≡ []
+    by_file true e = absurd (far h (eqb-true last.number.file ((n.file + 1) % 256) e))
+    by_file false e = refl
+
+-- at the link data unit behind the one accepted last
+past_next : (c : Codes) (n : UnitNumber) (t : Bool) → n.ldu ≤ 255 → Past (Some (record { number = n; final = t })) (next_number c n t) 0
+past_next c n true l = inr (1, omega arith, omega arith, refl)
+past_next c n false l = inl (refl, omega (arith, next_ldu n.ldu l))
+
+-- the number accepted last is one of a file's 255, and the file that is not whole has at most the bytes of those up to it
+pub record LastFits (first : ℕ) (last : Number) (bytes : List ℕ) : Type 0 where
+  pub byte : last.number.file ≤ 255
+  pub room : last.number.ldu ≤ first + 254
+  pub most : length bytes + 632 * first ≤ 632 * (last.number.ldu + 1)
+
+abbrev pub Fits : ℕ → Option Number → List ℕ → Type 0
+Fits first None bytes = bytes ≡ []
+Fits first (Some last) bytes = LastFits first last bytes
+
+fits_bytes : (first : ℕ) (last : Option Number) (bytes : List ℕ) → Fits first last bytes → length bytes ≤ 161160
+fits_bytes first None bytes h = omega (arith, ap length h)
+fits_bytes first (Some last) bytes h = let room = h.room in let most = h.most in omega arith
+
+past_near : (first : ℕ) (last : Option Number) (bytes : List ℕ) (n : UnitNumber) (g : ℕ) → g ≤ 127 → Fits first last bytes → n.file ≤ 255 → Past last n g → IsNear last n
+past_near first None bytes n g l f byte h = tt
+past_near first (Some last) bytes n g l f byte (inl (e, q)) = omega arith
+past_near first (Some last) bytes n g l f byte (inr (d, a, b, e)) = let low = f.byte in omega arith
+
+-- the bytes of the file that the next link data unit is put on
+room_for : (first : ℕ) (last : Option Number) (n : UnitNumber) (g : ℕ) (s : Shelf) → g ≤ 127 → Past last n g → first ≤ n.ldu → Fits first last s.open_bytes → length (shelf_for last n.file s).open_bytes + 632 * first ≤ 632 * n.ldu
+room_for first None n g s l h low f = omega arith
+room_for first (Some last) n g s l h low f = by_file (eqb last.number.file n.file) refl
+  where
+    later : Past (Some last) n g → last.number.file ≡ n.file → suc last.number.ldu ≤ n.ldu
+    later (inl (e, q)) r = q
+    later (inr (d, a, b, e)) r = absurd (other_file last.number.file d a (omega arith) (r ∙ e))
+
+    by_file : (t : Bool) → eqb last.number.file n.file ≡ t → length (cond t s (emptied s)).open_bytes + 632 * first ≤ 632 * n.ldu
+    by_file true e = let most = f.most in omega (arith, later h (eqb-true last.number.file n.file e))
+    by_file false e = omega arith
+
+-- ---- what was offered, and what crossed of it
+
+-- the sink's files against what was offered before the current link data unit
+pub record Behind (number : UnitNumber) (g : ℕ) (last : Option Number) (shelf before : Shelf) (fs : List FileBytes) : Type 0 where
+  pub some : IsSubsequenceOf shelf.files before.files
+  pub opened : (shelf_for last number.file shelf).open_bytes ≡ before.open_bytes
+  pub past : Past last number g
+  pub settled : IsSubsequenceOf fs shelf.files
+
+-- the current link data unit is still to be accepted
+pub record Ahead (p : Contents) (number : UnitNumber) (g : ℕ) (u : LduValue) (last : Option Number) (shelf o : Shelf) (fs : List FileBytes) : Type 0 where
+  pub before : Shelf
+  pub with_it : o ≡ put number.file (bytes_in p.codes u.words) (is_final p.codes u.flags) before
+  pub behind : Behind number g last shelf before fs
+
+-- it is accepted
+pub record Accepted (p : Contents) (number : UnitNumber) (u : LduValue) (last : Option Number) (shelf o : Shelf) (fs : List FileBytes) : Type 0 where
+  pub some : IsSubsequenceOf shelf.files o.files
+  pub opened : shelf.open_bytes ≡ o.open_bytes
+  pub closed : is_final p.codes u.flags ≡ true → shelf.open_bytes ≡ []
   pub last_is : last ≡ Some (unit_number p.codes number u)
+  pub settled : IsSubsequenceOf (cond (is_final p.codes u.flags) (fs ++ newest o.files) fs) shelf.files
 
--- all before the current LDU is accepted
-pub record Behind (number : UnitNumber) (last : Option Number) (shelf before : Shelf) : Type 0 where
-  pub same : shelf ≡ before
-  pub new : is_same last number ≡ false
+abbrev pub Stand : Contents → UnitNumber → ℕ → Option LduValue → Option Number → Shelf → Shelf → List FileBytes → Type 0
+Stand p number g None last shelf o fs = Behind number g last shelf o fs
+Stand p number g (Some u) last shelf o fs = Ahead p number g u last shelf o fs ⊎ Accepted p number u last shelf o fs
 
-abbrev pub Stand : Contents → UnitNumber → Option LduValue → Option Number → Shelf → Shelf → Type 0
-Stand p number None last shelf before = Behind number last shelf before
-Stand p number (Some u) last shelf before = Behind number last shelf before ⊎ Accepted p number u last shelf before
-
-abbrev pub HasAccepted : Contents → UnitNumber → Option LduValue → Option Number → Shelf → Shelf → Type 0
-HasAccepted p number None last shelf before = ⊥
-HasAccepted p number (Some u) last shelf before = Accepted p number u last shelf before
+abbrev pub HasAccepted : Contents → UnitNumber → Option LduValue → Option Number → Shelf → Shelf → List FileBytes → Type 0
+HasAccepted p number None last shelf o fs = ⊥
+HasAccepted p number (Some u) last shelf o fs = Accepted p number u last shelf o fs
 
 abbrev pub IsAck : Option Message → Type 0
 IsAck (Some (Ack f l)) = Unit {0}
@@ -57,21 +188,17 @@ abbrev pub HasAck : Contents → List ℕ → Type 0
 HasAck p [] = ⊥
 HasAck p (v ∷ vs) = IsAck (message_of p bus.B v)
 
--- the bytes of the unfinished file are those of the LDUs so far
-pub record Room (p : Contents) (ldu : ℕ) (cur : Option LduValue) (before : Shelf) : Type 0 where
-  pub done : ℕ
-  pub number : ldu ≡ p.codes.first_ldu + done
-  pub bytes : length before.open_bytes ≤ 632 * done
-  pub most : done ≤ 255
-  pub more : (u : LduValue) → cur ≡ Some u → (done ≤ 254) × (length (bytes_in p.codes u.words) ≤ 632)
+-- the source's number is one of a file's, and a current link data unit is one of 255 of at most 632 bytes
+pub record Room (p : Contents) (ldu : ℕ) (cur : Option LduValue) : Type 0 where
+  pub low : p.codes.first_ldu ≤ ldu
+  pub more : (u : LduValue) → cur ≡ Some u → (ldu ≤ p.codes.first_ldu + 254) × (length (bytes_in p.codes u.words) ≤ 632)
 
 pub record Crosses (p : Contents) (source : Source) (last : Option Number) (shelf : Shelf) (vs : List ℕ) (o : Shelf) (fs : List FileBytes) : Type 0 where
-  pub before : Shelf
-  pub with_it : o ≡ with_current p source.number.file source.current before
-  pub settled : fs ≡ before.files
-  pub stand : Stand p source.number source.current last shelf before
-  pub accepted : HasAck p vs → HasAccepted p source.number source.current last shelf before
-  pub room : Room p source.number.ldu source.current before
+  pub few : source.give_ups ≤ 127
+  pub stand : Stand p source.number source.give_ups source.current last shelf o fs
+  pub accepted : HasAck p vs → HasAccepted p source.number source.current last shelf o fs
+  pub room : Room p source.number.ldu source.current
+  pub fits : Fits p.codes.first_ldu last shelf.open_bytes
 
 abbrev pub CrossesAt : Contents → State → Shelf → List FileBytes → Type 0
 CrossesAt p s o fs = Crosses p s.source s.sink.last s.sink.shelf s.to_source o fs
@@ -85,83 +212,118 @@ idle_alone : (number : UnitNumber) (cur : Option LduValue) (sp : SourceState) (c
 idle_alone number cur sp count kp xs ys i (idle f s) = refl
 idle_alone number cur sp count kp xs ys i _ = absurd i
 
+-- other answers are on the way
+with_answers : (p : Contents) (source : Source) (last : Option Number) (shelf : Shelf) (vs ws : List ℕ) (o : Shelf) (fs : List FileBytes) → (HasAck p ws → ⊥) → Crosses p source last shelf vs o fs → Crosses p source last shelf ws o fs
+with_answers p source last shelf vs ws o fs none c = record { few = c.few; stand = c.stand; accepted = λ h. absurd (none h); room = c.room; fits = c.fits }
+
+-- the source is in another phase
+in_phase : (p : Contents) (source : Source) (phase : SourceState) (last : Option Number) (shelf : Shelf) (vs : List ℕ) (o : Shelf) (fs : List FileBytes) → Crosses p source last shelf vs o fs → Crosses p (record source { phase = phase }) last shelf vs o fs
+in_phase p source phase last shelf vs o fs c = record { few = c.few; stand = c.stand; accepted = c.accepted; room = c.room; fits = c.fits }
+
 load_crosses : (p : Contents) → IsRead p → (s : State) (u : LduValue) (o : Shelf) (fs : List FileBytes) → Can p (Load u) s → HoldsAt p s → (cur : Option LduValue) → s.source.current ≡ cur → cur ≡ None → CrossesAt p s o fs → CrossesAt p (after p (Load u) s) (put s.source.number.file (bytes_in p.codes u.words) (is_final p.codes u.flags) o) fs
 load_crosses p good s u o fs i h (Some v) e n c = absurd (cc n)
 load_crosses p good s u o fs i h None e n c =
-    let stand = subst (λ x. Stand p s.source.number x s.sink.last s.sink.shelf c.before) e c.stand in
-    let with_it = subst (λ x. o ≡ with_current p s.source.number.file x c.before) e c.with_it in
+    let stand = subst (λ x. Stand p s.source.number s.source.give_ups x s.sink.last s.sink.shelf o fs) e c.stand in
     let alone = none_say p bus.B s.to_source h.ys h.source_words (idle_alone _ _ _ _ _ _ _ i.0 h.fits) in
-    let limit = i.2 in
-    let number = c.room.number in
     record {
-      before = c.before;
-      with_it = ap (put s.source.number.file (bytes_in p.codes u.words) (is_final p.codes u.flags)) with_it;
-      settled = c.settled;
-      stand = inl stand;
+      few = c.few;
+      stand = inl (record { before = o; with_it = refl; behind = stand });
       accepted = λ a. absurd (no_ack p s.to_source alone a);
-      room = record {
-        done = c.room.done;
-        number = c.room.number;
-        bytes = c.room.bytes;
-        most = c.room.most;
-        more = λ v q. (omega arith, let same : u ≡ v = cc in subst (λ (x : LduValue). length (bytes_in p.codes x.words) ≤ 632) same (good.fit u i.3).bytes_room);
-      };
+      room = record { low = c.room.low; more = λ v q. (i.2, let same : u ≡ v = cc in subst (λ (x : LduValue). length (bytes_in p.codes x.words) ≤ 632) same (good.fit u i.3).bytes_room) };
+      fits = c.fits;
     }
 
-newest_push : (x : FileBytes) (xs : List FileBytes) → newest (xs ++ x ∷ []) ≡ x ∷ []
-newest_push x [] = refl
-newest_push x (y ∷ []) = refl
-newest_push x (y ∷ (z ∷ zs)) = newest_push x (z ∷ zs)
+-- ---- a file is given up
 
--- what is settled and offered once the current LDU is acknowledged
-now_settled : (file : ℕ) (bytes : List ℕ) (t : Bool) (before o : Shelf) (fs : List FileBytes) → o ≡ put file bytes t before → fs ≡ before.files → cond t (fs ++ newest o.files) fs ≡ o.files
-now_settled file bytes true before o fs e q =
-    let z : FileBytes = record { number = file; bytes = before.open_bytes ++ bytes } in
-    let files = ap (λ (x : Shelf). x.files) e in
-    ap (λ l. fs ++ l) (ap newest files ∙ newest_push z before.files) ∙ ap (λ l. l ++ z ∷ []) q ∙ sym files
-now_settled file bytes false before o fs e q = q ∙ sym (ap (λ (x : Shelf). x.files) e)
+settled_before : (t : Bool) (fs : List FileBytes) (o shelf : Shelf) → IsSubsequenceOf (cond t (fs ++ newest o.files) fs) shelf.files → IsSubsequenceOf fs shelf.files
+settled_before true fs o shelf h = sub_forth fs (newest o.files) shelf.files h
+settled_before false fs o shelf h = h
 
-put_room : (file : ℕ) (bytes : List ℕ) (before : Shelf) → length (put file bytes false before).open_bytes ≡ length before.open_bytes + length bytes
-put_room file bytes before = length-append before.open_bytes bytes
+give_up_stand : (p : Contents) (number : UnitNumber) (g : ℕ) (cur : Option LduValue) (last : Option Number) (shelf o : Shelf) (fs : List FileBytes) → g ≤ 126 → Stand p number g cur last shelf o fs → Behind (first_number p.codes ((number.file + 1) % 256)) (suc g) last shelf (emptied o) fs
+give_up_stand p number g None last shelf o fs l b =
+    record { some = b.some; opened = past_emptied last number g shelf l b.past; past = past_given_up p.codes last number g b.past; settled = b.settled }
+give_up_stand p number g (Some u) last shelf o fs l (inl a) =
+    let b = a.behind in
+    record {
+      some = subst (λ (x : Shelf). IsSubsequenceOf shelf.files x.files) (sym a.with_it) (put_second number.file (bytes_in p.codes u.words) (is_final p.codes u.flags) shelf.files a.before b.some);
+      opened = past_emptied last number g shelf l b.past;
+      past = past_given_up p.codes last number g b.past;
+      settled = b.settled;
+    }
+give_up_stand p number g (Some u) last shelf o fs l (inr a) =
+    let next = first_number p.codes ((number.file + 1) % 256) in
+    let now : Past (Some (unit_number p.codes number u)) next (suc g) = inr (1, omega arith, omega arith, refl) in
+    record {
+      some = a.some;
+      opened = subst (λ n. (shelf_for n ((number.file + 1) % 256) shelf).open_bytes ≡ []) (sym a.last_is) (by_file (eqb number.file ((number.file + 1) % 256)) refl);
+      past = subst (λ n. Past n next (suc g)) (sym a.last_is) now;
+      settled = settled_before (is_final p.codes u.flags) fs o shelf a.settled;
+    }
+  where
+    by_file : (t : Bool) → eqb number.file ((number.file + 1) % 256) ≡ t → (cond t shelf (emptied shelf)).open_bytes ≡ []
+    by_file true e = absurd (other_file number.file 1 (omega arith) (omega arith) (eqb-true number.file ((number.file + 1) % 256) e))
+    by_file false e = refl
 
-hear_final : (p : Contents) → IsRead p → (number : UnitNumber) (u : LduValue) (t : Bool) (last : Option Number) (shelf before o : Shelf) (fs : List FileBytes) → is_final p.codes u.flags ≡ t → o ≡ put number.file (bytes_in p.codes u.words) t before → fs ≡ before.files → Accepted p number u last shelf before → Room p number.ldu (Some u) before → Crosses p (record { number = next_number p.codes number t; current = None; phase = Idle }) last shelf [] o (cond t (fs ++ newest o.files) fs)
-hear_final p good number u t last shelf before o fs q e w a r = record {
-  before = o;
-  with_it = refl;
-  settled = now_settled number.file (bytes_in p.codes u.words) t before o fs e w;
-  stand = record { same = a.same ∙ ap (λ t. put number.file (bytes_in p.codes u.words) t before) q ∙ sym e; new = subst (λ x. is_same x (next_number p.codes number t) ≡ false) (sym a.last_is) (next_other p.codes number t low) };
+give_up_crosses : (p : Contents) (s : State) (o : Shelf) (fs : List FileBytes) → Can p GiveUp s → HoldsAt p s → CrossesAt p s o fs → CrossesAt p (after p GiveUp s) (emptied o) fs
+give_up_crosses p s o fs i h c =
+    let few = i.1 in
+    let alone = none_say p bus.B s.to_source h.ys h.source_words (idle_alone _ _ _ _ _ _ _ i.0 h.fits) in
+    record {
+      few = omega arith;
+      stand = give_up_stand p s.source.number s.source.give_ups s.source.current s.sink.last s.sink.shelf o fs i.1 c.stand;
+      accepted = λ a. absurd (no_ack p s.to_source alone a);
+      room = record { low = omega arith; more = λ v q. absurd (cc q) };
+      fits = c.fits;
+    }
+
+-- ---- answers
+
+hear_final : (p : Contents) → IsRead p → (number : UnitNumber) (u : LduValue) (t : Bool) (last : Option Number) (shelf o : Shelf) (fs : List FileBytes) → is_final p.codes u.flags ≡ t → Accepted p number u last shelf o fs → Room p number.ldu (Some u) → Fits p.codes.first_ldu last shelf.open_bytes → Crosses p (source_at 0 (next_number p.codes number t) None Idle) last shelf [] o (cond t (fs ++ newest o.files) fs)
+hear_final p good number u t last shelf o fs q a r f = record {
+  few = omega arith;
+  stand = record {
+    some = a.some;
+    opened = opened t q;
+    past = subst (λ n. Past n (next_number p.codes number t) 0) (sym last_is) (past_next p.codes number t low);
+    settled = subst (λ b. IsSubsequenceOf (cond b (fs ++ newest o.files) fs) shelf.files) q a.settled;
+  };
   accepted = λ h. absurd h;
-  room = room t e;
+  room = record { low = begins t; more = λ v k. absurd (cc k) };
+  fits = f;
 }
   where
     low : number.ldu ≤ 255
-    low = let more = r.more u refl in let counts = r.number in let first = good.first in omega (arith, more.0)
+    low = let more = r.more u refl in let first = good.first in omega (arith, more.0)
 
-    room : (t : Bool) → o ≡ put number.file (bytes_in p.codes u.words) t before → Room p (next_number p.codes number t).ldu None o
-    room true e =
-        let opened : o.open_bytes ≡ [] = ap (λ (x : Shelf). x.open_bytes) e in
-        record { done = 0; number = omega arith; bytes = omega (arith, ap length opened); most = omega arith; more = λ v k. absurd (cc k) }
-    room false e =
-        let opened = ap (λ (x : Shelf). length x.open_bytes) e ∙ put_room number.file (bytes_in p.codes u.words) before in
-        let more = r.more u refl in
-        let few = r.bytes in
-        let counts = r.number in
-        record { done = r.done + 1; number = omega (arith, next_ldu number.ldu low); bytes = omega (arith, more.1, few, opened); most = omega (arith, more.0); more = λ v k. absurd (cc k) }
+    last_is : last ≡ Some (record { number = number; final = t })
+    last_is = a.last_is ∙ ap (λ b. Some (record { number = number; final = b })) q
 
-hear_ack : (p : Contents) → IsRead p → (number : UnitNumber) (u : LduValue) (t : Bool) (last : Option Number) (shelf : Shelf) (vs : List ℕ) (o : Shelf) (fs : List FileBytes) → (c : Crosses p (source_at number (Some u) Waiting) last shelf vs o fs) → Accepted p number u last shelf c.before → Crosses p (cond t (acknowledged p.codes u (source_at number (Some u) Waiting)) (source_at number (Some u) Waiting)) last shelf [] o (cond (t && is_final p.codes u.flags) (fs ++ newest o.files) fs)
-hear_ack p good number u true last shelf vs o fs c a = hear_final p good number u (is_final p.codes u.flags) last shelf c.before o fs refl c.with_it c.settled a c.room
-hear_ack p good number u false last shelf vs o fs c a = record { before = c.before; with_it = c.with_it; settled = c.settled; stand = inr a; accepted = λ h. absurd h; room = c.room }
+    begins : (t : Bool) → p.codes.first_ldu ≤ (next_number p.codes number t).ldu
+    begins true = omega arith
+    begins false = let first = r.low in omega (arith, next_ldu number.ldu low)
 
-hear_clear : (p : Contents) (number : UnitNumber) (u : LduValue) (t : Bool) (last : Option Number) (shelf : Shelf) (vs : List ℕ) (o : Shelf) (fs : List FileBytes) → (c : Crosses p (source_at number (Some u) Awaiting) last shelf vs o fs) → Crosses p (cond t (record (source_at number (Some u) Awaiting) { phase = Sending 0 }) (source_at number (Some u) Awaiting)) last shelf [] o fs
-hear_clear p number u true last shelf vs o fs c = record { before = c.before; with_it = c.with_it; settled = c.settled; stand = c.stand; accepted = λ h. absurd h; room = c.room }
-hear_clear p number u false last shelf vs o fs c = record { before = c.before; with_it = c.with_it; settled = c.settled; stand = c.stand; accepted = λ h. absurd h; room = c.room }
+    here : (t : Bool) → t ≡ true → (cond t shelf (emptied shelf)).open_bytes ≡ o.open_bytes
+    here true e = a.opened
+    here false e = absurd (cc e)
+
+    opened : (t : Bool) → is_final p.codes u.flags ≡ t → (shelf_for last (next_number p.codes number t).file shelf).open_bytes ≡ o.open_bytes
+    opened true q = shelf_for_empty last ((number.file + 1) % 256) shelf (a.closed q) ∙ sym (a.closed q) ∙ a.opened
+    opened false q = subst (λ n. (shelf_for n number.file shelf).open_bytes ≡ o.open_bytes) (sym a.last_is) (here (eqb number.file number.file) (eq-eqb number.file number.file refl))
+
+hear_ack : (p : Contents) → IsRead p → (g : ℕ) (number : UnitNumber) (u : LduValue) (t : Bool) (last : Option Number) (shelf : Shelf) (vs : List ℕ) (o : Shelf) (fs : List FileBytes) → (c : Crosses p (source_at g number (Some u) Waiting) last shelf vs o fs) → Accepted p number u last shelf o fs → Crosses p (cond t (acknowledged p.codes u (source_at g number (Some u) Waiting)) (source_at g number (Some u) Waiting)) last shelf [] o (cond (t && is_final p.codes u.flags) (fs ++ newest o.files) fs)
+hear_ack p good g number u true last shelf vs o fs c a = hear_final p good number u (is_final p.codes u.flags) last shelf o fs refl a c.room c.fits
+hear_ack p good g number u false last shelf vs o fs c a = with_answers p _ last shelf vs [] o fs (λ h. h) c
+
+hear_clear : (p : Contents) (g : ℕ) (number : UnitNumber) (u : LduValue) (t : Bool) (last : Option Number) (shelf : Shelf) (vs : List ℕ) (o : Shelf) (fs : List FileBytes) → (c : Crosses p (source_at g number (Some u) Awaiting) last shelf vs o fs) → Crosses p (cond t (record (source_at g number (Some u) Awaiting) { phase = Sending 0 }) (source_at g number (Some u) Awaiting)) last shelf [] o fs
+hear_clear p g number u true last shelf vs o fs c = with_answers p _ last shelf vs [] o fs (λ h. h) (in_phase p _ (Sending 0) last shelf vs o fs c)
+hear_clear p g number u false last shelf vs o fs c = with_answers p _ last shelf vs [] o fs (λ h. h) c
 
 -- the answer that is taken, by its form
-hear_form : (p : Contents) → IsRead p → (number : UnitNumber) (cur : Option LduValue) (sp : SourceState) (count : ℕ) (kp : SinkPhase) (xs : List Message) (y : Message) (ys : List Message) (last : Option Number) (shelf : Shelf) (v : ℕ) (vs : List ℕ) (o : Shelf) (fs : List FileBytes) → message_of p bus.B v ≡ Some y → Config number cur sp count kp xs (y ∷ ys) → Crosses p (source_at number cur sp) last shelf (v ∷ vs) o fs → Crosses p (hears_message p cur sp y (source_at number cur sp)) last shelf [] o (cond (is_own_ack_seen (source_at number cur sp) (Some y) && is_final_unit p.codes cur) (fs ++ newest o.files) fs)
-hear_form p good number cur sp count kp xs y ys last shelf v vs o fs e (cleared {u} {n} r q) c = hear_clear p number u (eqb n (count_of u)) last shelf (v ∷ vs) o fs c
-hear_form p good number cur sp count kp xs y ys last shelf v vs o fs e (refused r) c = record { before = c.before; with_it = c.with_it; settled = c.settled; stand = c.stand; accepted = λ h. absurd h; room = c.room }
-hear_form p good number cur sp count kp xs y ys last shelf v vs o fs e (acked {u} {f} {l} r ef el) c =
-    hear_ack p good number u (eqb f number.file && eqb l number.ldu) last shelf (v ∷ vs) o fs c (c.accepted (subst IsAck (sym e) tt))
+hear_form : (p : Contents) → IsRead p → (g : ℕ) (number : UnitNumber) (cur : Option LduValue) (sp : SourceState) (count : ℕ) (kp : SinkPhase) (xs : List Message) (y : Message) (ys : List Message) (last : Option Number) (shelf : Shelf) (v : ℕ) (vs : List ℕ) (o : Shelf) (fs : List FileBytes) → message_of p bus.B v ≡ Some y → Config number cur sp count kp xs (y ∷ ys) → Crosses p (source_at g number cur sp) last shelf (v ∷ vs) o fs → Crosses p (hears_message p cur sp y (source_at g number cur sp)) last shelf [] o (cond (is_own_ack_seen (source_at g number cur sp) (Some y) && is_final_unit p.codes cur) (fs ++ newest o.files) fs)
+hear_form p good g number cur sp count kp xs y ys last shelf v vs o fs e (cleared {u} {n} r q) c = hear_clear p g number u (eqb n (count_of u)) last shelf (v ∷ vs) o fs c
+hear_form p good g number cur sp count kp xs y ys last shelf v vs o fs e (refused r) c = with_answers p _ last shelf (v ∷ vs) [] o fs (λ h. h) (in_phase p _ Idle last shelf (v ∷ vs) o fs c)
+hear_form p good g number cur sp count kp xs y ys last shelf v vs o fs e (acked {u} {f} {l} r ef el) c =
+    hear_ack p good g number u (eqb f number.file && eqb l number.ldu) last shelf (v ∷ vs) o fs c (c.accepted (subst IsAck (sym e) tt))
 
 one_answer : (number : UnitNumber) (cur : Option LduValue) (sp : SourceState) (count : ℕ) (kp : SinkPhase) (xs : List Message) (y : Message) (ys : List Message) → Config number cur sp count kp xs (y ∷ ys) → ys ≡ []
 one_answer number cur sp count kp xs y ys (cleared r q) = refl
@@ -177,14 +339,14 @@ hear_crosses p good source k (v ∷ vs) xs (y ∷ ys) o fs n d h c =
     subst (λ q. Crosses p q k.last k.shelf vs o (cond (ends_file p.codes source (v ∷ vs)) (fs ++ newest o.files) fs)) (sym (hears_as p v y source d.0))
     (subst (λ q. Crosses p (hears_message p source.current source.phase y source) k.last k.shelf vs o (cond (q && is_final_unit p.codes source.current) (fs ++ newest o.files) fs)) (sym own)
     (subst (λ l. Crosses p (hears_message p source.current source.phase y source) k.last k.shelf l o (cond (is_own_ack_seen source (Some y) && is_final_unit p.codes source.current) (fs ++ newest o.files) fs)) (sym none)
-    (hear_form p good source.number source.current source.phase k.count k.phase xs y ys k.last k.shelf v vs o fs d.0 h c)))
+    (hear_form p good source.give_ups source.number source.current source.phase k.count k.phase xs y ys k.last k.shelf v vs o fs d.0 h c)))
 
 lose_crosses : (p : Contents) → (source : Source) (k : Sink) (vs : List ℕ) (xs ys : List Message) (o : Shelf) (fs : List FileBytes) → IsNonEmpty vs → AllSay p bus.B vs ys → Config source.number source.current source.phase k.count k.phase xs ys → Crosses p source k.last k.shelf vs o fs → Crosses p source k.last k.shelf (rest vs) o fs
 lose_crosses p source k [] xs ys o fs n d h c = absurd n
 lose_crosses p source k (v ∷ vs) xs [] o fs n d h c = absurd d
 lose_crosses p source k (v ∷ vs) xs (y ∷ ys) o fs n d h c =
     let none : vs ≡ [] = none_say p bus.B vs ys d.1 (one_answer _ _ _ _ _ _ y ys h) in
-    record { before = c.before; with_it = c.with_it; settled = c.settled; stand = c.stand; accepted = λ a. absurd (no_ack p vs none a); room = c.room }
+    with_answers p source k.last k.shelf (v ∷ vs) vs o fs (no_ack p vs none) c
 
 -- a word that is taken leaves the files and the last numbers
 takes_last : (p : Contents) (w : ℕ) (o : Option Form) (k : Sink) → (takes_form p w o k).last ≡ k.last
@@ -197,42 +359,73 @@ takes_crosses p source k [] vs o fs c = c
 takes_crosses p source k (w ∷ ws) vs o fs c =
     subst (λ x. Crosses p source (takes_word p w k).last x vs o fs) (sym (takes_shelf p w (form_of p.codes bus.A w) k)) (subst (λ n. Crosses p source n k.shelf vs o fs) (sym (takes_last p w (form_of p.codes bus.A w) k)) c)
 
+-- ---- a block is accepted
+
 -- the sink with a block of this number accepted
 abbrev accepts_as : Contents → UnitNumber → List ℕ → ℕ → Bool → Sink → Sink
 accepts_as p number parts fl t k =
-    cond t k (record k { last = Some (record { number = number; final = is_final p.codes fl }); shelf = put number.file (bytes_in p.codes parts) (is_final p.codes fl) k.shelf })
+    cond t k (record k { last = Some (record { number = number; final = is_final p.codes fl }); shelf = put number.file (bytes_in p.codes parts) (is_final p.codes fl) (shelf_for k.last number.file k.shelf) })
 
-accept_crosses : (p : Contents) (number : UnitNumber) (u : LduValue) (k : Sink) (before : Shelf) (t : Bool) → is_same k.last number ≡ t → Behind number k.last k.shelf before ⊎ Accepted p number u k.last k.shelf before → Accepted p number u (accepts_as p number u.words u.flags t k).last (accepts_as p number u.words u.flags t k).shelf before
-accept_crosses p number u k before true e (inl a) = absurd (cc (e, a.new))
-accept_crosses p number u k before true e (inr a) = a
-accept_crosses p number u k before false e (inl a) = record { same = ap (put number.file (bytes_in p.codes u.words) (is_final p.codes u.flags)) a.same; last_is = refl }
-accept_crosses p number u k before false e (inr a) =
+-- the link data unit is accepted, and what the sink then has fits
+pub record Taken (p : Contents) (number : UnitNumber) (u : LduValue) (last : Option Number) (shelf o : Shelf) (fs : List FileBytes) : Type 0 where
+  pub accepted : Accepted p number u last shelf o fs
+  pub fits : Fits p.codes.first_ldu last shelf.open_bytes
+
+-- it is new to the sink
+new_taken : (p : Contents) (g : ℕ) (number : UnitNumber) (u : LduValue) (last : Option Number) (shelf o : Shelf) (fs : List FileBytes) → g ≤ 127 → number.file ≤ 255 → Room p number.ldu (Some u) → Fits p.codes.first_ldu last shelf.open_bytes → Ahead p number g u last shelf o fs → Taken p number u (Some (unit_number p.codes number u)) (put number.file (bytes_in p.codes u.words) (is_final p.codes u.flags) (shelf_for last number.file shelf)) o fs
+new_taken p g number u last shelf o fs l byte r f a =
+    let b = a.behind in
+    let kept = shelf_for last number.file shelf in
+    let files = sym (shelf_for_files last number.file shelf) in
+    let bytes = bytes_in p.codes u.words in
+    let final = is_final p.codes u.flags in
+    let more = r.more u refl in
+    record {
+      accepted = record {
+        some = subst (λ (x : Shelf). IsSubsequenceOf (put number.file bytes final kept).files x.files) (sym a.with_it) (put_both number.file bytes final kept a.before (subst (λ x. IsSubsequenceOf x a.before.files) files b.some) b.opened);
+        opened = put_open number.file bytes final kept a.before b.opened ∙ ap (λ (x : Shelf). x.open_bytes) (sym a.with_it);
+        closed = put_closed number.file bytes final kept;
+        last_is = refl;
+        settled = subst (λ (x : Shelf). IsSubsequenceOf (cond final (fs ++ newest x.files) fs) (put number.file bytes final kept).files) (sym a.with_it) (put_settled number.file bytes final kept a.before fs (subst (λ x. IsSubsequenceOf fs x) files b.settled) b.opened);
+      };
+      fits = record {
+        byte = byte;
+        room = more.0;
+        most = omega (arith, more.1, put_room number.file bytes final kept, room_for p.codes.first_ldu last number g shelf l b.past r.low f);
+      };
+    }
+
+taken_by : (p : Contents) (g : ℕ) (number : UnitNumber) (u : LduValue) (k : Sink) (o : Shelf) (fs : List FileBytes) (t : Bool) → is_same k.last number ≡ t → g ≤ 127 → number.file ≤ 255 → Room p number.ldu (Some u) → Fits p.codes.first_ldu k.last k.shelf.open_bytes → Ahead p number g u k.last k.shelf o fs ⊎ Accepted p number u k.last k.shelf o fs → Taken p number u (accepts_as p number u.words u.flags t k).last (accepts_as p number u.words u.flags t k).shelf o fs
+taken_by p g number u k o fs true e l byte r f (inl a) = absurd (cc (e, past_new k.last number g l a.behind.past))
+taken_by p g number u k o fs true e l byte r f (inr a) = record { accepted = a; fits = f }
+taken_by p g number u k o fs false e l byte r f (inl a) = new_taken p g number u k.last k.shelf o fs l byte r f a
+taken_by p g number u k o fs false e l byte r f (inr a) =
     absurd (cc (sym e ∙ ap (λ n. is_same n number) a.last_is ∙ number_same number))
 
-ack_accepted : (p : Contents) (number : UnitNumber) (u : LduValue) (b : Block) (fl : ℕ) (k : Sink) (before : Shelf) → Whole u number b fl → Stand p number (Some u) k.last k.shelf before → Accepted p number u (accepts p.codes b fl k).last (accepts p.codes b fl k).shelf before
-ack_accepted p number u b fl k before h c =
-    let P = λ (m : UnitNumber) (parts : List ℕ) (q : ℕ). Accepted p number u (accepts_as p m parts q (is_same k.last m) k).last (accepts_as p m parts q (is_same k.last m) k).shelf before in
-    let here = accept_crosses p number u k before (is_same k.last number) refl c in
+ack_taken : (p : Contents) (g : ℕ) (number : UnitNumber) (u : LduValue) (b : Block) (fl : ℕ) (k : Sink) (o : Shelf) (fs : List FileBytes) → g ≤ 127 → number.file ≤ 255 → Room p number.ldu (Some u) → Fits p.codes.first_ldu k.last k.shelf.open_bytes → Whole u number b fl → Stand p number g (Some u) k.last k.shelf o fs → Taken p number u (accepts p.codes b fl k).last (accepts p.codes b fl k).shelf o fs
+ack_taken p g number u b fl k o fs l byte r f h c =
+    let P = λ (m : UnitNumber) (parts : List ℕ) (q : ℕ). Taken p number u (accepts_as p m parts q (is_same k.last m) k).last (accepts_as p m parts q (is_same k.last m) k).shelf o fs in
+    let here = taken_by p g number u k o fs (is_same k.last number) refl l byte r f c in
     subst (λ x. P x b.words fl) (sym h.told) (subst (λ x. P number x fl) (sym h.words) (subst (λ x. P number u.words x) (sym h.flags) here))
 
 -- the answer that is given, by its form
-answer_form : (p : Contents) (number : UnitNumber) (cur : Option LduValue) (sp : SourceState) (count : ℕ) (kp : SinkPhase) (xs ys : List Message) (k : Sink) (vs : List ℕ) (w : ℕ) (o : Shelf) (fs : List FileBytes) (f l : ℕ) → MaySay count kp (Ack f l) → Config number cur sp count kp xs ys → Crosses p (source_at number cur sp) k.last k.shelf vs o fs → Crosses p (source_at number cur sp) (accepts_owed p.codes kp k).last (accepts_owed p.codes kp k).shelf (vs ++ w ∷ []) o fs
-answer_form p number cur sp count kp xs ys k vs w o fs f l m (whole {u} {b} {flags} r h) c =
-    let a = ack_accepted p number u b flags k c.before h c.stand in
-    record { before = c.before; with_it = c.with_it; settled = c.settled; stand = inr a; accepted = λ i. a; room = c.room }
-answer_form p number cur sp count kp xs ys k vs w o fs f l m (idle r s) c = absurd (owes_stale kp (may_owes count kp (Ack f l) m) s)
-answer_form p number cur sp count kp xs ys k vs w o fs f l m (asked r s q) c = absurd (owes_stale kp (may_owes count kp (Ack f l) m) s)
-answer_form p number cur sp count kp xs ys k vs w o fs f l m (unasked r s) c = absurd (owes_stale kp (may_owes count kp (Ack f l) m) s)
-answer_form p number cur sp count kp xs ys k vs w o fs f l m (sending r g q le h) c = absurd (owes_grant kp (may_owes count kp (Ack f l) m) g)
-answer_form p number cur sp count kp xs ys k vs w o fs f l m (waiting r g q h) c = absurd (owes_grant kp (may_owes count kp (Ack f l) m) g)
-answer_form p number cur sp count kp xs ys k vs w o fs f l m _ c = absurd m
+answer_form : (p : Contents) (g : ℕ) (number : UnitNumber) (cur : Option LduValue) (sp : SourceState) (count : ℕ) (kp : SinkPhase) (xs ys : List Message) (k : Sink) (vs : List ℕ) (w : ℕ) (o : Shelf) (fs : List FileBytes) (f l : ℕ) → MaySay count kp (Ack f l) → number.file ≤ 255 → Config number cur sp count kp xs ys → Crosses p (source_at g number cur sp) k.last k.shelf vs o fs → Crosses p (source_at g number cur sp) (accepts_owed p.codes kp k).last (accepts_owed p.codes kp k).shelf (vs ++ w ∷ []) o fs
+answer_form p g number cur sp count kp xs ys k vs w o fs f l m byte (whole {u} {b} {flags} r h) c =
+    let a = ack_taken p g number u b flags k o fs c.few byte c.room c.fits h c.stand in
+    record { few = c.few; stand = inr a.accepted; accepted = λ i. a.accepted; room = c.room; fits = a.fits }
+answer_form p g number cur sp count kp xs ys k vs w o fs f l m byte (idle r s) c = absurd (owes_stale kp (may_owes count kp (Ack f l) m) s)
+answer_form p g number cur sp count kp xs ys k vs w o fs f l m byte (asked r s q) c = absurd (owes_stale kp (may_owes count kp (Ack f l) m) s)
+answer_form p g number cur sp count kp xs ys k vs w o fs f l m byte (unasked r s) c = absurd (owes_stale kp (may_owes count kp (Ack f l) m) s)
+answer_form p g number cur sp count kp xs ys k vs w o fs f l m byte (sending r i q le h) c = absurd (owes_grant kp (may_owes count kp (Ack f l) m) i)
+answer_form p g number cur sp count kp xs ys k vs w o fs f l m byte (waiting r i q h) c = absurd (owes_grant kp (may_owes count kp (Ack f l) m) i)
+answer_form p g number cur sp count kp xs ys k vs w o fs f l m byte _ c = absurd m
 
 answer_crosses : (p : Contents) (s : State) (w : ℕ) (x : Message) (o : Shelf) (fs : List FileBytes) → message_of p bus.B w ≡ Some x → s.to_source ≡ [] → MaySay s.sink.count s.sink.phase x → HoldsAt p s → CrossesAt p s o fs → Crosses p s.source (answers_message p x s.sink).last (answers_message p x s.sink).shelf (s.to_source ++ w ∷ []) o fs
-answer_crosses p s w (Ack f l) o fs e n m h c = answer_form p _ _ _ _ _ h.xs h.ys s.sink s.to_source w o fs f l m h.fits c
+answer_crosses p s w (Ack f l) o fs e n m h c = answer_form p s.source.give_ups _ _ _ _ _ h.xs h.ys s.sink s.to_source w o fs f l m h.file h.fits c
 answer_crosses p s w (Cts q) o fs e n m h c =
-    record { before = c.before; with_it = c.with_it; settled = c.settled; stand = c.stand; accepted = λ i. absurd (subst IsAck e (subst (λ l. HasAck p (l ++ w ∷ [])) n i)); room = c.room }
+    with_answers p s.source s.sink.last s.sink.shelf s.to_source (s.to_source ++ w ∷ []) o fs (λ i. subst IsAck e (subst (λ l. HasAck p (l ++ w ∷ [])) n i)) c
 answer_crosses p s w (Nak q) o fs e n m h c =
-    record { before = c.before; with_it = c.with_it; settled = c.settled; stand = c.stand; accepted = λ i. absurd (subst IsAck e (subst (λ l. HasAck p (l ++ w ∷ [])) n i)); room = c.room }
+    with_answers p s.source s.sink.last s.sink.shelf s.to_source (s.to_source ++ w ∷ []) o fs (λ i. subst IsAck e (subst (λ l. HasAck p (l ++ w ∷ [])) n i)) c
 answer_crosses p s w x o fs e n m h c = absurd (may_answer s.sink.count s.sink.phase x m)
 
 answered_crosses : (p : Contents) (s : State) (i : Seen) (o : Shelf) (fs : List FileBytes) → Can p (Answered i) s → HoldsAt p s → CrossesAt p s o fs → CrossesAt p (after p (Answered i) s) o fs
@@ -243,15 +436,16 @@ answered_crosses p s i o fs m h c =
 
 step_crosses : (p : Contents) → IsRead p → (a : Step) (s : State) (o : Shelf) (fs : List FileBytes) → Can p a s → HoldsAt p s → CrossesAt p s o fs → CrossesAt p (after p a s) (offers p a s o) (settles p a s o fs)
 step_crosses p good (Load u) s o fs i h c = load_crosses p good s u o fs i h s.source.current refl i.1 c
-step_crosses p good (Sent w) s o fs i h c = record { before = c.before; with_it = c.with_it; settled = c.settled; stand = c.stand; accepted = c.accepted; room = c.room }
-step_crosses p good SentLost s o fs i h c = record { before = c.before; with_it = c.with_it; settled = c.settled; stand = c.stand; accepted = c.accepted; room = c.room }
-step_crosses p good TimeOut s o fs i h c = record { before = c.before; with_it = c.with_it; settled = c.settled; stand = c.stand; accepted = c.accepted; room = c.room }
+step_crosses p good (Sent w) s o fs i h c = in_phase p s.source _ _ _ _ o fs c
+step_crosses p good SentLost s o fs i h c = in_phase p s.source _ _ _ _ o fs c
+step_crosses p good TimeOut s o fs i h c = in_phase p s.source _ _ _ _ o fs c
 step_crosses p good TakeAnswer s o fs i h c = hear_crosses p good s.source s.sink s.to_source h.xs h.ys o fs i h.source_words h.fits c
 step_crosses p good LoseAnswer s o fs i h c = lose_crosses p s.source s.sink s.to_source h.xs h.ys o fs i h.source_words h.fits c
 step_crosses p good SinkTakes s o fs i h c = takes_crosses p s.source s.sink s.to_sink s.to_source o fs c
-step_crosses p good Silent s o fs i h c = record { before = c.before; with_it = c.with_it; settled = c.settled; stand = c.stand; accepted = c.accepted; room = c.room }
+step_crosses p good Silent s o fs i h c = record { few = c.few; stand = c.stand; accepted = c.accepted; room = c.room; fits = c.fits }
 step_crosses p good (Answered w) s o fs i h c = answered_crosses p s w o fs i h c
 step_crosses p good (FreeSeen w) s o fs i h c = c
+step_crosses p good GiveUp s o fs i h c = give_up_crosses p s o fs i h c
 
 -- Whole runs.
 pub record Books (p : Contents) (s : State) (o : Shelf) (fs : List FileBytes) : Type 0 where
@@ -268,60 +462,45 @@ start_books p first f =
     record {
       holds = start_holds p first f;
       crosses = record {
-        before = empty_shelf;
-        with_it = refl;
-        settled = refl;
-        stand = record { same = refl; new = refl };
+        few = omega arith;
+        stand = record { some = refl; opened = refl; past = tt; settled = refl };
         accepted = λ h. absurd h;
-        room = record { done = 0; number = omega arith; bytes = omega arith; most = omega arith; more = λ v k. absurd (cc k) };
+        room = record { low = omega arith; more = λ v k. absurd (cc k) };
+        fits = refl;
       };
     }
 
 all_books : (p : Contents) (f : ℕ) (acts : List Step) → IsRead p → f ≤ 255 → IsRun p acts (start p f) → Books p (end_of p acts (start p f)) (offered_from p acts (start p f) empty_shelf) (settled_from p acts (start p f) empty_shelf [])
 all_books p f acts good l h = run_books p good acts (start p f) empty_shelf [] h (start_books p f l)
 
-put_prefix : (file : ℕ) (bytes : List ℕ) (t : Bool) (shelf : Shelf) → IsPrefixOf shelf.files (put file bytes t shelf).files
-put_prefix file bytes true shelf = (record { number = file; bytes = shelf.open_bytes ++ bytes } ∷ [], refl)
-put_prefix file bytes false shelf = ([], append-nil shelf.files)
+stand_some : (p : Contents) (number : UnitNumber) (g : ℕ) (cur : Option LduValue) (last : Option Number) (shelf o : Shelf) (fs : List FileBytes) → Stand p number g cur last shelf o fs → IsSubsequenceOf shelf.files o.files
+stand_some p number g None last shelf o fs b = b.some
+stand_some p number g (Some u) last shelf o fs (inl a) = subst (λ (x : Shelf). IsSubsequenceOf shelf.files x.files) (sym a.with_it) (put_second number.file (bytes_in p.codes u.words) (is_final p.codes u.flags) shelf.files a.before a.behind.some)
+stand_some p number g (Some u) last shelf o fs (inr a) = a.some
 
-same_prefix : (xs ys : List FileBytes) → xs ≡ ys → IsPrefixOf xs ys
-same_prefix xs ys e = ([], append-nil xs ∙ e)
+stand_settled : (p : Contents) (number : UnitNumber) (g : ℕ) (cur : Option LduValue) (last : Option Number) (shelf o : Shelf) (fs : List FileBytes) → Stand p number g cur last shelf o fs → IsSubsequenceOf fs shelf.files
+stand_settled p number g None last shelf o fs b = b.settled
+stand_settled p number g (Some u) last shelf o fs (inl a) = a.behind.settled
+stand_settled p number g (Some u) last shelf o fs (inr a) = settled_before (is_final p.codes u.flags) fs o shelf a.settled
 
-abbrev files_of : Shelf → List FileBytes
-files_of s = s.files
+stand_near : (p : Contents) (number : UnitNumber) (g : ℕ) (cur : Option LduValue) (last : Option Number) (shelf o : Shelf) (fs : List FileBytes) → g ≤ 127 → Fits p.codes.first_ldu last shelf.open_bytes → number.file ≤ 255 → Stand p number g cur last shelf o fs → IsNear last number
+stand_near p number g None last shelf o fs l f byte b = past_near p.codes.first_ldu last shelf.open_bytes number g l f byte b.past
+stand_near p number g (Some u) last shelf o fs l f byte (inl a) = past_near p.codes.first_ldu last shelf.open_bytes number g l f byte a.behind.past
+stand_near p number g (Some u) last shelf o fs l f byte (inr a) =
+    let here : files_past number.file number.file ≤ 128 = omega arith in
+    subst (λ n. IsNear n number) (sym a.last_is) here
 
-stand_prefix : (p : Contents) (number : UnitNumber) (cur : Option LduValue) (last : Option Number) (shelf before : Shelf) → Stand p number cur last shelf before → IsPrefixOf shelf.files (with_current p number.file cur before).files
-stand_prefix p number None last shelf before b = same_prefix _ _ (ap files_of b.same)
-stand_prefix p number (Some u) last shelf before (inl b) = subst (λ (x : Shelf). IsPrefixOf x.files (with_current p number.file (Some u) before).files) (sym b.same) (put_prefix number.file (bytes_in p.codes u.words) (is_final p.codes u.flags) before)
-stand_prefix p number (Some u) last shelf before (inr a) = same_prefix _ _ (ap files_of a.same)
+pub delivered_subsequence : (p : Contents) (f : ℕ) (xs : List Step) → IsRead p → f ≤ 255 → IsRun p xs (start p f) → IsSubsequenceOf (delivered p f xs) (offered p f xs)
+delivered_subsequence p f xs good l h = stand_some p _ _ _ _ _ _ _ (all_books p f xs good l h).crosses.stand
 
-before_prefix : (p : Contents) (number : UnitNumber) (cur : Option LduValue) (last : Option Number) (shelf before : Shelf) → Stand p number cur last shelf before → IsPrefixOf before.files shelf.files
-before_prefix p number None last shelf before b = same_prefix _ _ (sym (ap files_of b.same))
-before_prefix p number (Some u) last shelf before (inl b) = same_prefix _ _ (sym (ap files_of b.same))
-before_prefix p number (Some u) last shelf before (inr a) = subst (λ (x : Shelf). IsPrefixOf before.files x.files) (sym a.same) (put_prefix number.file (bytes_in p.codes u.words) (is_final p.codes u.flags) before)
+pub settled_subsequence : (p : Contents) (f : ℕ) (xs : List Step) → IsRead p → f ≤ 255 → IsRun p xs (start p f) → IsSubsequenceOf (settled p f xs) (delivered p f xs)
+settled_subsequence p f xs good l h = stand_settled p _ _ _ _ _ _ _ (all_books p f xs good l h).crosses.stand
 
-pub delivered_prefix : (p : Contents) (f : ℕ) (xs : List Step) → IsRead p → f ≤ 255 → IsRun p xs (start p f) → IsPrefixOf (delivered p f xs) (offered p f xs)
-delivered_prefix p f xs good l h =
-    let c = (all_books p f xs good l h).crosses in
-    subst (λ (x : Shelf). IsPrefixOf (delivered p f xs) x.files) (sym c.with_it) (stand_prefix p _ _ _ _ _ c.stand)
-
-pub settled_prefix : (p : Contents) (f : ℕ) (xs : List Step) → IsRead p → f ≤ 255 → IsRun p xs (start p f) → IsPrefixOf (settled p f xs) (delivered p f xs)
-settled_prefix p f xs good l h =
-    let c = (all_books p f xs good l h).crosses in
-    subst (λ x. IsPrefixOf x (delivered p f xs)) (sym c.settled) (before_prefix p _ _ _ _ _ c.stand)
-
--- the bytes of the unfinished file
-put_bytes : (file : ℕ) (bytes : List ℕ) (t : Bool) (before : Shelf) → length (put file bytes t before).open_bytes ≤ length before.open_bytes + length bytes
-put_bytes file bytes true before = omega arith
-put_bytes file bytes false before = omega (arith, length-append before.open_bytes bytes)
-
-stand_bytes : (p : Contents) (number : UnitNumber) (cur : Option LduValue) (last : Option Number) (shelf before : Shelf) → Stand p number cur last shelf before → Room p number.ldu cur before → length shelf.open_bytes ≤ 161160
-stand_bytes p number None last shelf before b r = let few = r.bytes in let most = r.most in omega (arith, ap (λ (x : Shelf). length x.open_bytes) b.same)
-stand_bytes p number (Some u) last shelf before (inl b) r = let few = r.bytes in let most = r.most in omega (arith, ap (λ (x : Shelf). length x.open_bytes) b.same)
-stand_bytes p number (Some u) last shelf before (inr a) r =
-    let few = r.bytes in
-    let more = r.more u refl in
-    omega (arith, more.0, more.1, ap (λ (x : Shelf). length x.open_bytes) a.same, put_bytes number.file (bytes_in p.codes u.words) (is_final p.codes u.flags) before)
+pub run_near : (p : Contents) (f : ℕ) (xs : List Step) → IsRead p → f ≤ 255 → IsRun p xs (start p f) → IsNear (end_of p xs (start p f)).sink.last (end_of p xs (start p f)).source.number
+run_near p f xs good l h =
+    let b = all_books p f xs good l h in
+    let c = b.crosses in
+    stand_near p _ _ _ _ _ _ _ c.few c.fits b.holds.file c.stand
 
 pub run_bounded : (p : Contents) (f : ℕ) (xs : List Step) → IsRead p → f ≤ 255 → IsRun p xs (start p f) → IsBounded (end_of p xs (start p f))
 run_bounded p f xs good l h =
@@ -333,5 +512,5 @@ run_bounded p f xs good l h =
       took = left.1;
       words = omega (arith, few.0, say_length p bus.A _ _ b.holds.sink_words);
       answers = omega (arith, few.1, say_length p bus.B _ _ b.holds.source_words);
-      bytes = stand_bytes p _ _ _ _ _ b.crosses.stand b.crosses.room;
+      bytes = fits_bytes _ _ _ b.crosses.fits;
     }

@@ -4,7 +4,7 @@ use Rattle.a429_word.specs.declared.bus.Bus.TheVariants as bus
 use Rattle.a429_ldu.specs.Form.{is_free}
 use Rattle.a429_ldu.specs.Ldu.{LduValue, count_of}
 use Rattle.a429_link.proofs.Message.{AllSay, Cts, Eot, IsRead, MaySay, Part, Rts, Message, Sot, block_messages, front, hears_as, hears_message, end_message, next_is_some, next_message, none_say, message_in, message_of, takes_as, takes_message}
-use Rattle.a429_link.specs.Run.{IsRun, trace, with_label}
+use Rattle.a429_link.specs.Run.{IsSubsequenceOf, IsRun, trace, with_label}
 use Rattle.a429_link.specs.Sink.{Granted, InBlock, Owes, Sink, SinkPhase, at_part, at_start}
 use Rattle.a429_link.specs.Source.{Source, acknowledged, after_word, hears_first}
 use Rattle.a429_link.specs.Step.{Can, after, label}
@@ -13,10 +13,11 @@ use Rattle.a429_link.specs.declared.state.SourceState.{SourceState}
 use Rattle.a429_link.specs.declared.state.SourceState.TheVariants.{Awaiting, Idle, Sending, Waiting}
 use Rattle.a429_link.specs.declared.seen.Seen.{Seen}
 use Rattle.a429_link.specs.declared.step.Step.{Step}
-use Rattle.a429_link.specs.declared.step.Step.TheVariants.{Answered, FreeSeen, Load, LoseAnswer, Sent, SentLost, Silent, SinkTakes, TakeAnswer, TimeOut}
+use Rattle.a429_link.specs.declared.step.Step.TheVariants.{Answered, FreeSeen, GiveUp, Load, LoseAnswer, Sent, SentLost, Silent, SinkTakes, TakeAnswer, TimeOut}
 use Rattle.a429_profile.specs.Profile.{Contents}
 use Rattle.a429_word.specs.declared.bus.Bus.{Bus}
-use Rattle.a429_link.proofs.MessageSubsequence.{IsSubsequence, Each, IsFrontWord, IsBlockWord, sub_push, take_next, get_front, sub_each}
+use Rattle.a429_link.proofs.MessageSubsequence.{Each, IsFrontWord, IsBlockWord, take_next, get_front, sub_each}
+use Rattle.a429_link.proofs.Subsequence.{sub_push}
 use Rattle.a429_link.proofs.StateConfigs.{Config, idle, asked, unasked, heard, cleared, sending, waiting, whole, spoiled, refused, acked, InGrant, block_taken, front_words, block_words_each, each_take, lost_front, length-front, may_owes, owes_stale, owes_grant, source_at}
 use Rattle.a429_link.proofs.StateHolds.{HoldsAt, step_holds, start_holds, sends, owed_form, alone_on_the_way}
 use Rattle.a429_link.proofs.SinkFromTrace.{sees, take_all, Alike, IsStill, step_alike, blank}
@@ -76,27 +77,27 @@ no_cts p [] e h = h
 no_cts p (v ∷ vs) e h = cc e
 
 abbrev SeenAt : Contents → UnitNumber → Option LduValue → SourceState → List ℕ → List Message → Type 0
-SeenAt p number (Some u) (Sending k) vs seen = IsSubsequence seen (take k (front u number))
+SeenAt p number (Some u) (Sending k) vs seen = IsSubsequenceOf seen (take k (front u number))
 SeenAt p number (Some u) Awaiting vs seen = HasCts p vs → seen ≡ []
 SeenAt p number _ _ vs seen = Unit {0}
 
 abbrev SeenIn : Contents → State → List Message → Type 0
 SeenIn p s seen = SeenAt p s.source.number s.source.current s.source.phase s.to_source seen
 
-next_seen : (p : Contents) (number : UnitNumber) (u : LduValue) (k : ℕ) (vs : List ℕ) (seen : List Message) (b : Bool) → eqb (suc k) (count_of u) ≡ b → IsSubsequence seen (take (suc k) (front u number)) ⊎ (suc k ≡ count_of u) → SeenAt p number (Some u) (cond b Waiting (Sending (suc k))) vs seen
+next_seen : (p : Contents) (number : UnitNumber) (u : LduValue) (k : ℕ) (vs : List ℕ) (seen : List Message) (b : Bool) → eqb (suc k) (count_of u) ≡ b → IsSubsequenceOf seen (take (suc k) (front u number)) ⊎ (suc k ≡ count_of u) → SeenAt p number (Some u) (cond b Waiting (Sending (suc k))) vs seen
 next_seen p number u k vs seen true e h = tt
 next_seen p number u k vs seen false e (inl h) = h
 next_seen p number u k vs seen false e (inr h) = absurd (cc (sym e ∙ eq-eqb (suc k) (count_of u) h))
 
 -- a word of the block that comes
-pushed_seen : (number : UnitNumber) (u : LduValue) (k : ℕ) (seen : List Message) (w : Message) → slice_get (block_messages u number) k ≡ Some w → IsSubsequence seen (take k (front u number)) → IsSubsequence (seen ++ w ∷ []) (take (suc k) (front u number)) ⊎ (suc k ≡ count_of u)
+pushed_seen : (number : UnitNumber) (u : LduValue) (k : ℕ) (seen : List Message) (w : Message) → slice_get (block_messages u number) k ≡ Some w → IsSubsequenceOf seen (take k (front u number)) → IsSubsequenceOf (seen ++ w ∷ []) (take (suc k) (front u number)) ⊎ (suc k ≡ count_of u)
 pushed_seen number u k seen w e h =
     elim (get_front k w (end_message u) (front u number) e) [
-      | inl (l, g) ↦ inl (subst (λ x. IsSubsequence (seen ++ w ∷ []) x) (sym (take_next k w (front u number) g)) (sub_push w seen (take k (front u number)) h))
+      | inl (l, g) ↦ inl (subst (λ x. IsSubsequenceOf (seen ++ w ∷ []) x) (sym (take_next k w (front u number) g)) (sub_push w seen (take k (front u number)) h))
       | inr (l, g) ↦ inr (omega (arith, length-front u number))
     ]
 
-front_seen : (number : UnitNumber) (u : LduValue) (k : ℕ) (seen : List Message) (w : Message) → slice_get (block_messages u number) k ≡ Some w → IsSubsequence seen (take k (front u number)) → IsSubsequence (see bus.A (Some w) seen) (take (suc k) (front u number)) ⊎ (suc k ≡ count_of u)
+front_seen : (number : UnitNumber) (u : LduValue) (k : ℕ) (seen : List Message) (w : Message) → slice_get (block_messages u number) k ≡ Some w → IsSubsequenceOf seen (take k (front u number)) → IsSubsequenceOf (see bus.A (Some w) seen) (take (suc k) (front u number)) ⊎ (suc k ≡ count_of u)
 front_seen number u k seen (Sot g f l) e h = pushed_seen number u k seen (Sot g f l) e h
 front_seen number u k seen (Part s) e h = pushed_seen number u k seen (Part s) e h
 front_seen number u k seen w e h = inl (lost_front k seen (front u number) h)
@@ -120,21 +121,21 @@ anywhere : (p : Contents) (s t : Source) (b : Bool) (vs : List ℕ) (seen : List
 anywhere p s t true vs seen h k = h
 anywhere p s t false vs seen h k = k
 
-ack_seen : (p : Contents) (number : UnitNumber) (u : LduValue) (t : Bool) (vs : List ℕ) (seen : List Message) → SeenBy p (cond t (acknowledged p.codes u (source_at number (Some u) Waiting)) (source_at number (Some u) Waiting)) vs seen
-ack_seen p number u true vs seen = tt
-ack_seen p number u false vs seen = tt
+ack_seen : (p : Contents) (g : ℕ) (number : UnitNumber) (u : LduValue) (t : Bool) (vs : List ℕ) (seen : List Message) → SeenBy p (cond t (acknowledged p.codes u (source_at g number (Some u) Waiting)) (source_at g number (Some u) Waiting)) vs seen
+ack_seen p g number u true vs seen = tt
+ack_seen p g number u false vs seen = tt
 
-heard_message_seen : (p : Contents) (number : UnitNumber) (cur : Option LduValue) (sp : SourceState) (count : ℕ) (kp : SinkPhase) (xs : List Message) (y : Message) (ys : List Message) (v : ℕ) (vs : List ℕ) (seen : List Message) → message_of p bus.B v ≡ Some y → AllSay p bus.B vs ys → Config number cur sp count kp xs (y ∷ ys) → SeenAt p number cur sp (v ∷ vs) seen → SeenBy p (hears_message p cur sp y (source_at number cur sp)) vs seen
-heard_message_seen p number cur sp count kp xs y ys v vs seen e d (cleared {u} r q) h =
-    anywhere p (source_at number (Some u) (Sending 0)) (source_at number (Some u) Awaiting) _ vs seen (h (subst IsCts (sym e) tt)) (λ i. absurd (no_cts p vs (none_say p bus.B vs ys d refl) i))
-heard_message_seen p number cur sp count kp xs y ys v vs seen e d (refused r) h = tt
-heard_message_seen p number cur sp count kp xs y ys v vs seen e d (acked {u} {f} {l} r ef el) h = ack_seen p number u (eqb f number.file && eqb l number.ldu) vs seen
+heard_message_seen : (p : Contents) (g : ℕ) (number : UnitNumber) (cur : Option LduValue) (sp : SourceState) (count : ℕ) (kp : SinkPhase) (xs : List Message) (y : Message) (ys : List Message) (v : ℕ) (vs : List ℕ) (seen : List Message) → message_of p bus.B v ≡ Some y → AllSay p bus.B vs ys → Config number cur sp count kp xs (y ∷ ys) → SeenAt p number cur sp (v ∷ vs) seen → SeenBy p (hears_message p cur sp y (source_at g number cur sp)) vs seen
+heard_message_seen p g number cur sp count kp xs y ys v vs seen e d (cleared {u} r q) h =
+    anywhere p (source_at g number (Some u) (Sending 0)) (source_at g number (Some u) Awaiting) _ vs seen (h (subst IsCts (sym e) tt)) (λ i. absurd (no_cts p vs (none_say p bus.B vs ys d refl) i))
+heard_message_seen p g number cur sp count kp xs y ys v vs seen e d (refused r) h = tt
+heard_message_seen p g number cur sp count kp xs y ys v vs seen e d (acked {u} {f} {l} r ef el) h = ack_seen p g number u (eqb f number.file && eqb l number.ldu) vs seen
 
 heard_seen : (p : Contents) (source : Source) (count : ℕ) (kp : SinkPhase) (xs ys : List Message) (vs : List ℕ) (seen : List Message) → IsNonEmpty vs → AllSay p bus.B vs ys → Config source.number source.current source.phase count kp xs ys → SeenBy p source vs seen → SeenBy p (hears_first p.codes vs source) (rest vs) seen
 heard_seen p source count kp xs ys [] seen n d c h = absurd n
 heard_seen p source count kp xs [] (v ∷ vs) seen n d c h = absurd d
 heard_seen p source count kp xs (y ∷ ys) (v ∷ vs) seen n d c h =
-    subst (λ q. SeenBy p q vs seen) (sym (hears_as p v y source d.0)) (heard_message_seen p source.number source.current source.phase count kp xs y ys v vs seen d.0 d.1 c h)
+    subst (λ q. SeenBy p q vs seen) (sym (hears_as p v y source d.0)) (heard_message_seen p source.give_ups source.number source.current source.phase count kp xs y ys v vs seen d.0 d.1 c h)
 
 unheard_seen : (p : Contents) (number : UnitNumber) (cur : Option LduValue) (sp : SourceState) (count : ℕ) (kp : SinkPhase) (xs ys : List Message) (vs : List ℕ) (seen : List Message) → IsNonEmpty vs → AllSay p bus.B vs ys → Config number cur sp count kp xs ys → SeenAt p number cur sp vs seen → SeenAt p number cur sp (rest vs) seen
 unheard_seen p number cur sp count kp xs ys [] seen n d c h = absurd n
@@ -189,6 +190,7 @@ step_seen p good (Answered i) s seen c f h =
     let r = owed_form p s i c in
     subst (SeenIn p (after p (Answered i) s)) (sym (on_bus p i bus.B r.said seen c.0 r.is)) (answered_seen p s.source.number s.source.current s.source.phase _ _ _ _ s.to_source (s.to_source ++ i.word ∷ []) seen r.said r.owed f.fits)
 step_seen p good (FreeSeen i) s seen c f h = subst (SeenIn p s) (sym (free_seen p good i.bus i.word seen c)) h
+step_seen p good GiveUp s seen c f h = tt
 
 -- words of a block leave a grant
 grant_kept : (p : Contents) (ws : List ℕ) (xs : List Message) (k : Sink) → AllSay p bus.A ws xs → Each IsFrontWord xs → InGrant k.phase → InGrant (take_all p ws k).phase × ((take_all p ws k).count ≡ k.count)
@@ -211,7 +213,7 @@ grant_kept p (w ∷ ws) (Part s ∷ xs) k d e g =
 grant_kept p (w ∷ ws) (x ∷ xs) k d e g = absurd e.0
 
 -- how many data words there are
-parts_sub : (xs ys : List Message) → IsSubsequence xs ys → parts_in xs ≤ parts_in ys
+parts_sub : (xs ys : List Message) → IsSubsequenceOf xs ys → parts_in xs ≤ parts_in ys
 parts_sub xs [] h = rw h (omega arith)
 parts_sub xs (y ∷ ys) (inl h) = le y (parts_sub xs ys h)
   where
@@ -246,7 +248,7 @@ block_word P k [] w h e = absurd (cc e)
 block_word P zero (y ∷ ys) w h e = let same : y ≡ w = cc in subst P same h.0
 block_word P (suc k) (y ∷ ys) w h e = block_word P k ys w h.1 e
 
-sending_allowed : (number : UnitNumber) (u : LduValue) (k : ℕ) (seen : List Message) (w : Message) (sink : Sink) → slice_get (block_messages u number) k ≡ Some w → InGrant sink.phase → sink.count ≡ count_of u → IsSubsequence seen (take k (front u number)) → AllowsMessage sink seen bus.A (Some w)
+sending_allowed : (number : UnitNumber) (u : LduValue) (k : ℕ) (seen : List Message) (w : Message) (sink : Sink) → slice_get (block_messages u number) k ≡ Some w → InGrant sink.phase → sink.count ≡ count_of u → IsSubsequenceOf seen (take k (front u number)) → AllowsMessage sink seen bus.A (Some w)
 sending_allowed number u zero seen (Sot g f l) sink e i c h = (i, h)
 sending_allowed number u (suc k) seen (Sot g f l) sink e i c h = absurd (only_start k g f l u.words u.flags u.check e)
 sending_allowed number u zero seen (Part s) sink e i c h = absurd (cc e)
@@ -292,6 +294,7 @@ step_allowed p good (Answered i) s k seen c f (inl m) h =
     answer_allowed k w m = m
 step_allowed p good (Answered i) s k seen c f (inr r) h = let o = owed_form p s i c in absurd (subst Owes (ap (λ (x : Sink). x.phase) r.alike) (may_owes s.sink.count s.sink.phase o.said o.owed))
 step_allowed p good (FreeSeen i) s k seen c f m h = inl c
+step_allowed p good GiveUp s k seen c f m h = tt
 step_allowed p good _ s k seen c f m h = tt
 
 push_label : (p : Contents) (l : Option Seen) (items : List Seen) (k : Sink) (seen : List Message) → AllowedLabel p k seen l → AllAllowed p items (sees p l k) (see_label p l seen) → AllAllowed p (with_label l items) k seen

@@ -13,7 +13,7 @@ use Rattle.a429_link.specs.declared.state.SourceState.{SourceState}
 use Rattle.a429_link.specs.declared.state.SourceState.TheVariants.{Awaiting, Idle, Sending, Waiting}
 use Rattle.a429_link.specs.declared.seen.Seen.{Seen}
 use Rattle.a429_link.specs.declared.step.Step.{Step}
-use Rattle.a429_link.specs.declared.step.Step.TheVariants.{Answered, FreeSeen, Load, LoseAnswer, Sent, SentLost, Silent, SinkTakes, TakeAnswer, TimeOut}
+use Rattle.a429_link.specs.declared.step.Step.TheVariants.{Answered, FreeSeen, GiveUp, Load, LoseAnswer, Sent, SentLost, Silent, SinkTakes, TakeAnswer, TimeOut}
 use Rattle.a429_profile.specs.Profile.{Contents}
 use Rattle.a429_word.specs.declared.bus.Bus.{Bus}
 use Rattle.a429_link.proofs.StateConfigs.{may_owes}
@@ -102,6 +102,7 @@ step_on p good (Answered i) s k h c e =
     let alone = alone_on_the_way p s (may_owes s.sink.count s.sink.phase r.said r.owed) c in
     subst (λ b. Alike p (after p (Answered i) s) (sees_on p b i.word k)) (sym h.0) (inl (ap (λ ws. take_all p ws (answers_word p.codes i.word s.sink)) alone.1 ∙ ap (answers_word p.codes i.word) (subst (λ ws. take_all p ws s.sink ≡ k) alone.1 e)))
 step_on p good (FreeSeen i) s k h c e = inl (e ∙ sym (free_sees p good i.bus i.word k h))
+step_on p good GiveUp s k h c e = inl e
 
 none_there : (ws : List ℕ) → ws ≡ [] → IsNonEmpty ws → ⊥
 none_there [] e n = n
@@ -143,6 +144,7 @@ step_off p good Silent s k h c r = absurd (quiet_owes _ (ap (λ (x : Sink). x.ph
 step_off p good (Answered i) s k h c r = let o = owed_form p s i h in absurd (quiet_owes _ (ap (λ (x : Sink). x.phase) r.alike) (may_owes s.sink.count s.sink.phase o.said o.owed))
 step_off p good (FreeSeen i) s k h c r =
     subst (λ x. Alike p s x) (sym (free_sees p good i.bus i.word k h)) (inr r)
+step_off p good GiveUp s k h c r = inr (record { alike = r.alike; still = r.still; no_words = r.no_words; no_answers = r.no_answers })
 
 pub step_alike : (p : Contents) → IsRead p → (a : Step) (s : State) (k : Sink) → Can p a s → HoldsAt p s → Alike p s k → Alike p (after p a s) (sees p (label a) k)
 step_alike p good a s k h c (inl e) = step_on p good a s k h c e

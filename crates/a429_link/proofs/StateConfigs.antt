@@ -5,15 +5,16 @@ use Rattle.std.proofs.lemmas.List.{map_push}
 use Rattle.a429_ldu.specs.Carried.{bytes_in}
 use Rattle.a429_ldu.specs.Ldu.{LduValue, count_of, is_final}
 use Rattle.a429_link.proofs.Message.{Ack, Cts, Eot, MaySay, Nak, Part, Rts, Message, Sot, block_messages, front, hears_message, end_message, next_message, takes_message, taken_messages}
-use Rattle.a429_link.specs.Sink.{Block, Granted, InBlock, Listens, Number, Owes, OwesAck, OwesClear, OwesNak, Quiet, Shelf, Sink, SinkPhase, accepts_owed, held_count, is_good, is_same, put, number_of}
-use Rattle.a429_link.specs.Run.{SentFew, TookFew}
+use Rattle.a429_link.specs.Sink.{Block, Granted, InBlock, Listens, Number, Owes, OwesAck, OwesClear, OwesNak, Quiet, Shelf, Sink, SinkPhase, accepts_owed, held_count, is_good, is_same, put, shelf_for, number_of}
+use Rattle.a429_link.specs.Run.{IsSubsequenceOf, SentFew, TookFew}
 use Rattle.a429_link.specs.Source.{IsIdle, Source, Waits, acknowledged, after_word}
 use Rattle.a429_link.specs.State.{rest, IsNonEmpty}
 use Rattle.a429_link.specs.declared.state.SourceState.{SourceState}
 use Rattle.a429_link.specs.declared.state.SourceState.TheVariants.{Awaiting, Idle, Sending, Waiting}
 use Rattle.a429_profile.specs.Profile.{Contents}
 use Rattle.a429_profile.specs.declared.codes.Codes.{Codes}
-use Rattle.a429_link.proofs.MessageSubsequence.{IsSubsequence, Each, IsFrontWord, IsBlockWord, sub_none, sub_rest, sub_back, sub_forth, sub_take, sub_push, sub_lost, take_next, get_front, sub_length, sub_each, each_at, each_push, parts_front, parts_block, sub_end, sub_no_end, length-parts, same_parts, sub_start}
+use Rattle.a429_link.proofs.MessageSubsequence.{Each, IsFrontWord, IsBlockWord, take_next, get_front, sub_each, each_at, each_push, parts_front, parts_block, sub_end, sub_no_end, length-parts, same_parts, sub_start}
+use Rattle.a429_link.proofs.Subsequence.{sub_none, sub_rest, sub_back, sub_forth, sub_take, sub_push, sub_lost, sub_length}
 use Rattle.a429_link.specs.declared.number.UnitNumber.{UnitNumber}
 use Rattle.a429_link.proofs.NumberFacts.{number_from}
 
@@ -52,8 +53,8 @@ pub data Config (number : UnitNumber) : Option LduValue → SourceState → ℕ 
   unasked : {u : LduValue} {count : ℕ} {sink : SinkPhase} → length u.words ≤ 253 → Stale sink → Config number (Some u) Awaiting count sink [] []
   heard : {u : LduValue} {count : ℕ} → length u.words ≤ 253 → count ≡ count_of u → Config number (Some u) Awaiting count OwesClear [] []
   cleared : {u : LduValue} {count : ℕ} {n : ℕ} → length u.words ≤ 253 → n ≡ count → Config number (Some u) Awaiting count Granted [] (Cts n ∷ [])
-  sending : {u : LduValue} {k : ℕ} {count : ℕ} {sink : SinkPhase} {words : List Message} → length u.words ≤ 253 → InGrant sink → count ≡ count_of u → suc k ≤ count_of u → IsSubsequence (block_taken sink ++ words) (take k (front u number)) → Config number (Some u) (Sending k) count sink words []
-  waiting : {u : LduValue} {count : ℕ} {sink : SinkPhase} {words : List Message} → length u.words ≤ 253 → InGrant sink → count ≡ count_of u → IsSubsequence (block_taken sink ++ words) (block_messages u number) → Config number (Some u) Waiting count sink words []
+  sending : {u : LduValue} {k : ℕ} {count : ℕ} {sink : SinkPhase} {words : List Message} → length u.words ≤ 253 → InGrant sink → count ≡ count_of u → suc k ≤ count_of u → IsSubsequenceOf (block_taken sink ++ words) (take k (front u number)) → Config number (Some u) (Sending k) count sink words []
+  waiting : {u : LduValue} {count : ℕ} {sink : SinkPhase} {words : List Message} → length u.words ≤ 253 → InGrant sink → count ≡ count_of u → IsSubsequenceOf (block_taken sink ++ words) (block_messages u number) → Config number (Some u) Waiting count sink words []
   whole : {u : LduValue} {count : ℕ} {b : Block} {flags : ℕ} → length u.words ≤ 253 → Whole u number b flags → Config number (Some u) Waiting count (OwesAck b flags) [] []
   spoiled : {u : LduValue} {count : ℕ} → length u.words ≤ 253 → Config number (Some u) Waiting count OwesNak [] []
   over : {u : LduValue} {count : ℕ} → length u.words ≤ 253 → Config number (Some u) Waiting count Quiet [] []
@@ -63,6 +64,11 @@ pub data Config (number : UnitNumber) : Option LduValue → SourceState → ℕ 
 pub load_fits : (number : UnitNumber) (cur : Option LduValue) (sp : SourceState) (count : ℕ) (kp : SinkPhase) (xs ys : List Message) (u : LduValue) → IsIdle sp → length u.words ≤ 253 → Config number cur sp count kp xs ys → Config number (Some u) sp count kp xs ys
 load_fits number cur sp count kp xs ys u i r (idle f s) = idle r s
 load_fits number cur sp count kp xs ys u i r _ = absurd i
+
+-- a file is given up
+pub give_up_fits : (number next : UnitNumber) (cur : Option LduValue) (sp : SourceState) (count : ℕ) (kp : SinkPhase) (xs ys : List Message) → IsIdle sp → Config number cur sp count kp xs ys → Config next None sp count kp xs ys
+give_up_fits number next cur sp count kp xs ys i (idle f s) = idle tt s
+give_up_fits number next cur sp count kp xs ys i _ = absurd i
 
 pub length-front : (u : LduValue) (number : UnitNumber) → suc (length (front u number)) ≡ count_of u
 length-front u number = omega (arith, length-parts u.words)
@@ -74,28 +80,28 @@ pub block_words_each : (u : LduValue) (number : UnitNumber) → Each IsBlockWord
 block_words_each u number = (tt, each_push IsBlockWord (map Part u.words) (end_message u) (parts_block u.words) tt)
 
 -- one more word is sent, and comes or is lost
-next_fits : (number : UnitNumber) (u : LduValue) (k count : ℕ) (kp : SinkPhase) (xs : List Message) (b : Bool) → eqb (suc k) (count_of u) ≡ b → length u.words ≤ 253 → InGrant kp → count ≡ count_of u → suc k ≤ count_of u → (suc k < count_of u → IsSubsequence (block_taken kp ++ xs) (take (suc k) (front u number))) → (suc k ≡ count_of u → IsSubsequence (block_taken kp ++ xs) (block_messages u number)) → Config number (Some u) (cond b Waiting (Sending (suc k))) count kp xs []
+next_fits : (number : UnitNumber) (u : LduValue) (k count : ℕ) (kp : SinkPhase) (xs : List Message) (b : Bool) → eqb (suc k) (count_of u) ≡ b → length u.words ≤ 253 → InGrant kp → count ≡ count_of u → suc k ≤ count_of u → (suc k < count_of u → IsSubsequenceOf (block_taken kp ++ xs) (take (suc k) (front u number))) → (suc k ≡ count_of u → IsSubsequenceOf (block_taken kp ++ xs) (block_messages u number)) → Config number (Some u) (cond b Waiting (Sending (suc k))) count kp xs []
 next_fits number u k count kp xs true e r g c le front_case end_case = waiting r g c (end_case (eqb-true (suc k) (count_of u) e))
 next_fits number u k count kp xs false e r g c le front_case end_case =
     let lt : suc k < count_of u = omega (arith, eqb-false (suc k) (count_of u) e) in
     sending r g c lt (front_case lt)
 
 -- the words so far and the one that is sent, in front of the last
-sent_front : (number : UnitNumber) (u : LduValue) (k : ℕ) (ws xs : List Message) (w : Message) → slice_get (block_messages u number) k ≡ Some w → suc k < count_of u → IsSubsequence (ws ++ xs) (take k (front u number)) → IsSubsequence (ws ++ (xs ++ w ∷ [])) (take (suc k) (front u number))
+sent_front : (number : UnitNumber) (u : LduValue) (k : ℕ) (ws xs : List Message) (w : Message) → slice_get (block_messages u number) k ≡ Some w → suc k < count_of u → IsSubsequenceOf (ws ++ xs) (take k (front u number)) → IsSubsequenceOf (ws ++ (xs ++ w ∷ [])) (take (suc k) (front u number))
 sent_front number u k ws xs w e lt h =
     elim (get_front k w (end_message u) (front u number) e) [
-      | inl (l, g) ↦ subst (λ x. IsSubsequence (ws ++ (xs ++ w ∷ [])) x) (sym (take_next k w (front u number) g)) (subst (λ x. IsSubsequence x (take k (front u number) ++ w ∷ [])) (append_assoc ws xs (w ∷ [])) (sub_push w (ws ++ xs) (take k (front u number)) h))
+      | inl (l, g) ↦ subst (λ x. IsSubsequenceOf (ws ++ (xs ++ w ∷ [])) x) (sym (take_next k w (front u number) g)) (subst (λ x. IsSubsequenceOf x (take k (front u number) ++ w ∷ [])) (append_assoc ws xs (w ∷ [])) (sub_push w (ws ++ xs) (take k (front u number)) h))
       | inr (l, g) ↦ absurd (omega (arith, length-front u number))
     ]
 
-sent_last : (number : UnitNumber) (u : LduValue) (k : ℕ) (ws xs : List Message) (w : Message) → slice_get (block_messages u number) k ≡ Some w → suc k ≡ count_of u → IsSubsequence (ws ++ xs) (take k (front u number)) → IsSubsequence (ws ++ (xs ++ w ∷ [])) (block_messages u number)
+sent_last : (number : UnitNumber) (u : LduValue) (k : ℕ) (ws xs : List Message) (w : Message) → slice_get (block_messages u number) k ≡ Some w → suc k ≡ count_of u → IsSubsequenceOf (ws ++ xs) (take k (front u number)) → IsSubsequenceOf (ws ++ (xs ++ w ∷ [])) (block_messages u number)
 sent_last number u k ws xs w e q h =
     elim (get_front k w (end_message u) (front u number) e) [
       | inl (l, g) ↦ absurd (omega (arith, length-front u number))
-      | inr (l, g) ↦ rw g (subst (λ x. IsSubsequence x (block_messages u number)) (append_assoc ws xs (end_message u ∷ [])) (sub_push (end_message u) (ws ++ xs) (front u number) (sub_take k (ws ++ xs) (front u number) h)))
+      | inr (l, g) ↦ rw g (subst (λ x. IsSubsequenceOf x (block_messages u number)) (append_assoc ws xs (end_message u ∷ [])) (sub_push (end_message u) (ws ++ xs) (front u number) (sub_take k (ws ++ xs) (front u number) h)))
     ]
 
-pub lost_front : (k : ℕ) (xs ys : List Message) → IsSubsequence xs (take k ys) → IsSubsequence xs (take (suc k) ys)
+pub lost_front : (k : ℕ) (xs ys : List Message) → IsSubsequenceOf xs (take k ys) → IsSubsequenceOf xs (take (suc k) ys)
 lost_front zero xs ys h = rw h (sub_none (take 1 ys))
 lost_front (suc k) xs [] h = h
 lost_front (suc k) xs (y ∷ ys) (inl h) = inl (lost_front k xs ys h)
@@ -117,11 +123,11 @@ lost_fits number cur sp count kp xs ys e (sending {u} {k} r g c le h) =
 lost_fits number cur sp count kp xs ys e _ = absurd (cc e)
 
 -- what the sink holds after a block that is cut short
-cut_short : (number : UnitNumber) (u : LduValue) (kp : SinkPhase) → length u.words ≤ 253 → InGrant kp → IsSubsequence (block_taken kp ++ []) (block_messages u number) → Stale kp
+cut_short : (number : UnitNumber) (u : LduValue) (kp : SinkPhase) → length u.words ≤ 253 → InGrant kp → IsSubsequenceOf (block_taken kp ++ []) (block_messages u number) → Stale kp
 cut_short number u Granted r g h = tt
 cut_short number u (InBlock b) r g h =
     let e : block_taken (InBlock b) ++ [] ≡ taken_messages b = append-nil (taken_messages b) in
-    let h' = subst (λ x. IsSubsequence x (block_messages u number)) e h in
+    let h' = subst (λ x. IsSubsequenceOf x (block_messages u number)) e h in
     let l = sub_length (taken_messages b) (front u number) (sub_no_end u.flags u.check (taken_messages b) (front u number) (tt, parts_front b.words) h') in
     omega (arith, l, length-parts b.words, length-parts u.words)
 cut_short number u Quiet r g h = absurd g
@@ -134,7 +140,7 @@ pub late_fits : (number : UnitNumber) (cur : Option LduValue) (sp : SourceState)
 late_fits number cur sp count kp xs ys w l ea eb (unasked r s) = idle r s
 late_fits number cur sp count kp xs ys w l ea eb (over r) = idle r tt
 late_fits number cur sp count kp xs ys w l ea eb (waiting {u} r g c h) =
-    let h' = subst (λ x. IsSubsequence (block_taken kp ++ x) (block_messages u number)) ea h in
+    let h' = subst (λ x. IsSubsequenceOf (block_taken kp ++ x) (block_messages u number)) ea h in
     subst (λ x. Config number (Some u) Idle count kp x []) (sym ea) (idle r (cut_short number u kp r g h'))
 late_fits number cur sp count kp xs ys w l ea eb (idle f s) = absurd w
 late_fits number cur sp count kp xs ys w l ea eb (asked r s q) = absurd (cc ea)
@@ -215,7 +221,7 @@ answer_fits number cur sp count kp xs ys w m _ = absurd m
 pub acks_count : (c : Codes) (kp : SinkPhase) (k : Sink) → (accepts_owed c kp k).count ≡ k.count
 acks_count c (OwesAck b f) k = acks_count_at (is_same k.last (number_of b))
   where
-    acks_count_at : (t : Bool) → (cond t k (record k { last = Some (record { number = number_of b; final = is_final c f }); shelf = put b.file (bytes_in c b.words) (is_final c f) k.shelf })).count ≡ k.count
+    acks_count_at : (t : Bool) → (cond t k (record k { last = Some (record { number = number_of b; final = is_final c f }); shelf = put b.file (bytes_in c b.words) (is_final c f) (shelf_for k.last b.file k.shelf) })).count ≡ k.count
     acks_count_at true = refl
     acks_count_at false = refl
 acks_count c _ k = refl
@@ -248,12 +254,12 @@ part_behind b s xs =
     let e : map Part (b.words ++ s ∷ []) ++ xs ≡ (map Part b.words ++ Part s ∷ []) ++ xs = ap (λ l. l ++ xs) (map_push Part b.words s) in
     ap (λ l. Sot b.gfi b.file b.ldu ∷ l) (sym (append_assoc (map Part b.words) (Part s ∷ []) xs) ∙ sym e)
 
-sending_takes : (p : Contents) (last : Option Number) (shelf : Shelf) (number : UnitNumber) (u : LduValue) (k count : ℕ) (kp : SinkPhase) (w : Message) (xs : List Message) → length u.words ≤ 253 → InGrant kp → count ≡ count_of u → suc k ≤ count_of u → IsSubsequence (block_taken kp ++ w ∷ xs) (take k (front u number)) → Config number (Some u) (Sending k) (takes_message p w (sink_at last shelf count kp)).count (takes_message p w (sink_at last shelf count kp)).phase xs []
+sending_takes : (p : Contents) (last : Option Number) (shelf : Shelf) (number : UnitNumber) (u : LduValue) (k count : ℕ) (kp : SinkPhase) (w : Message) (xs : List Message) → length u.words ≤ 253 → InGrant kp → count ≡ count_of u → suc k ≤ count_of u → IsSubsequenceOf (block_taken kp ++ w ∷ xs) (take k (front u number)) → Config number (Some u) (Sending k) (takes_message p w (sink_at last shelf count kp)).count (takes_message p w (sink_at last shelf count kp)).phase xs []
 sending_takes p last shelf number u k count Granted (Sot g f l) xs r i c le h = sending r tt c le h
 sending_takes p last shelf number u k count Granted (Part s) xs r i c le h = sending r tt c le (sub_rest (Part s) xs (take k (front u number)) h)
 sending_takes p last shelf number u k count (InBlock b) (Sot g f l) xs r i c le h = sending r tt c le (sub_back (taken_messages b) (Sot g f l ∷ xs) (take k (front u number)) h)
 sending_takes p last shelf number u k count (InBlock b) (Part s) xs r i c le h =
-    sending r tt c le (subst (λ x. IsSubsequence x (take k (front u number))) (part_behind b s xs) h)
+    sending r tt c le (subst (λ x. IsSubsequenceOf x (take k (front u number))) (part_behind b s xs) h)
 sending_takes p last shelf number u k count Granted w xs r i c le h =
     absurd (each_at IsFrontWord [] w xs (sub_each IsFrontWord (w ∷ xs) (take k (front u number)) h (each_take IsFrontWord k (front u number) (front_words u number))))
 sending_takes p last shelf number u k count (InBlock b) w xs r i c le h =
@@ -261,7 +267,7 @@ sending_takes p last shelf number u k count (InBlock b) w xs r i c le h =
 sending_takes p last shelf number u k count _ w xs r i c le h = absurd i
 
 -- the end word of a block
-closes : (p : Contents) (last : Option Number) (number : UnitNumber) (u : LduValue) (count : ℕ) (b : Block) (fl ch : ℕ) (t : Bool) → is_good p last count b ch ≡ t → length u.words ≤ 253 → count ≡ count_of u → fl ≡ u.flags → IsSubsequence (taken_messages b) (front u number) → Config number (Some u) Waiting count (cond t (OwesAck b fl) OwesNak) [] []
+closes : (p : Contents) (last : Option Number) (number : UnitNumber) (u : LduValue) (count : ℕ) (b : Block) (fl ch : ℕ) (t : Bool) → is_good p last count b ch ≡ t → length u.words ≤ 253 → count ≡ count_of u → fl ≡ u.flags → IsSubsequenceOf (taken_messages b) (front u number) → Config number (Some u) Waiting count (cond t (OwesAck b fl) OwesNak) [] []
 closes p last number u count b fl ch false e r c q h = spoiled r
 closes p last number u count b fl ch true e r c q h =
     let n = (and_parts (eqb (length b.words + 2) count) _ e).0 in
@@ -269,7 +275,7 @@ closes p last number u count b fl ch true e r c q h =
     let all = sub_start b.gfi b.file b.ldu u.gfi number.file number.ldu b.words u.words h in
     whole r (record { told = number_from (number_of b) number all.0 all.1; words = same_parts b.words u.words len all.2; flags = q })
 
-waiting_takes : (p : Contents) (last : Option Number) (shelf : Shelf) (number : UnitNumber) (u : LduValue) (count : ℕ) (kp : SinkPhase) (w : Message) (xs : List Message) → length u.words ≤ 253 → InGrant kp → count ≡ count_of u → IsSubsequence (block_taken kp ++ w ∷ xs) (block_messages u number) → Config number (Some u) Waiting (takes_message p w (sink_at last shelf count kp)).count (takes_message p w (sink_at last shelf count kp)).phase xs []
+waiting_takes : (p : Contents) (last : Option Number) (shelf : Shelf) (number : UnitNumber) (u : LduValue) (count : ℕ) (kp : SinkPhase) (w : Message) (xs : List Message) → length u.words ≤ 253 → InGrant kp → count ≡ count_of u → IsSubsequenceOf (block_taken kp ++ w ∷ xs) (block_messages u number) → Config number (Some u) Waiting (takes_message p w (sink_at last shelf count kp)).count (takes_message p w (sink_at last shelf count kp)).phase xs []
 waiting_takes p last shelf number u count Granted (Sot g f l) xs r i c h = waiting r tt c h
 waiting_takes p last shelf number u count Granted (Part s) xs r i c h = waiting r tt c (sub_rest (Part s) xs (block_messages u number) h)
 waiting_takes p last shelf number u count Granted (Eot fl ch) xs r i c h =
@@ -277,7 +283,7 @@ waiting_takes p last shelf number u count Granted (Eot fl ch) xs r i c h =
     subst (λ x. Config number (Some u) Waiting count OwesNak x []) (sym e.1) (spoiled r)
 waiting_takes p last shelf number u count (InBlock b) (Sot g f l) xs r i c h = waiting r tt c (sub_back (taken_messages b) (Sot g f l ∷ xs) (block_messages u number) h)
 waiting_takes p last shelf number u count (InBlock b) (Part s) xs r i c h =
-    waiting r tt c (subst (λ x. IsSubsequence x (block_messages u number)) (part_behind b s xs) h)
+    waiting r tt c (subst (λ x. IsSubsequenceOf x (block_messages u number)) (part_behind b s xs) h)
 waiting_takes p last shelf number u count (InBlock b) (Eot fl ch) xs r i c h =
     let e = sub_end fl ch (end_message u) (taken_messages b) xs (front u number) (front_words u number) h in
     let same : fl ≡ u.flags = cc (e.0) in
@@ -298,27 +304,27 @@ taken_fits p last shelf number cur sp count kp w xs ys (waiting {u} r g c h) = w
 abbrev pub unit_number : Codes → UnitNumber → LduValue → Number
 unit_number c number u = record { number = number; final = is_final c u.flags }
 
-abbrev pub source_at : UnitNumber → Option LduValue → SourceState → Source
-source_at number cur sp = record { number = number; current = cur; phase = sp }
+abbrev pub source_at : ℕ → UnitNumber → Option LduValue → SourceState → Source
+source_at g number cur sp = record { number = number; current = cur; phase = sp; give_ups = g }
 
 -- the invariant of a source and the rest
 abbrev pub At : Source → ℕ → SinkPhase → List Message → List Message → Type 0
 At s count kp xs ys = Config s.number s.current s.phase count kp xs ys
 
-hear_clear : (number : UnitNumber) (u : LduValue) (count : ℕ) (n : ℕ) (t : Bool) → eqb n (count_of u) ≡ t → length u.words ≤ 253 → n ≡ count → At (cond t (record (source_at number (Some u) Awaiting) { phase = Sending 0 }) (source_at number (Some u) Awaiting)) count Granted [] []
-hear_clear number u count n true e r q =
+hear_clear : (g : ℕ) (number : UnitNumber) (u : LduValue) (count : ℕ) (n : ℕ) (t : Bool) → eqb n (count_of u) ≡ t → length u.words ≤ 253 → n ≡ count → At (cond t (record (source_at g number (Some u) Awaiting) { phase = Sending 0 }) (source_at g number (Some u) Awaiting)) count Granted [] []
+hear_clear g number u count n true e r q =
     let c : count ≡ count_of u = sym q ∙ eqb-true n (count_of u) e in
     sending r tt c (omega arith) refl
-hear_clear number u count n false e r q = unasked r tt
+hear_clear g number u count n false e r q = unasked r tt
 
-hear_ack : (p : Contents) (number : UnitNumber) (u : LduValue) (count : ℕ) (t : Bool) → length u.words ≤ 253 → At (cond t (acknowledged p.codes u (source_at number (Some u) Waiting)) (source_at number (Some u) Waiting)) count Quiet [] []
-hear_ack p number u count true r = idle tt tt
-hear_ack p number u count false r = over r
+hear_ack : (p : Contents) (g : ℕ) (number : UnitNumber) (u : LduValue) (count : ℕ) (t : Bool) → length u.words ≤ 253 → At (cond t (acknowledged p.codes u (source_at g number (Some u) Waiting)) (source_at g number (Some u) Waiting)) count Quiet [] []
+hear_ack p g number u count true r = idle tt tt
+hear_ack p g number u count false r = over r
 
-pub heard_fits : (p : Contents) (number : UnitNumber) (cur : Option LduValue) (sp : SourceState) (count : ℕ) (kp : SinkPhase) (w : Message) (xs ys : List Message) → Config number cur sp count kp xs (w ∷ ys) → At (hears_message p cur sp w (source_at number cur sp)) count kp xs ys
-heard_fits p number cur sp count kp w xs ys (cleared {u} {n} r q) = hear_clear number u count n (eqb n (count_of u)) refl r q
-heard_fits p number cur sp count kp w xs ys (refused r) = idle r tt
-heard_fits p number cur sp count kp w xs ys (acked {u} {f} {l} r ef el) = hear_ack p number u count _ r
+pub heard_fits : (p : Contents) (g : ℕ) (number : UnitNumber) (cur : Option LduValue) (sp : SourceState) (count : ℕ) (kp : SinkPhase) (w : Message) (xs ys : List Message) → Config number cur sp count kp xs (w ∷ ys) → At (hears_message p cur sp w (source_at g number cur sp)) count kp xs ys
+heard_fits p g number cur sp count kp w xs ys (cleared {u} {n} r q) = hear_clear g number u count n (eqb n (count_of u)) refl r q
+heard_fits p g number cur sp count kp w xs ys (refused r) = idle r tt
+heard_fits p g number cur sp count kp w xs ys (acked {u} {f} {l} r ef el) = hear_ack p g number u count _ r
 
 -- how much is on the way and in the sink's block
 held_taken : (kp : SinkPhase) → InGrant kp → held_count kp ≡ length (block_taken kp)
@@ -359,8 +365,8 @@ stale_few (OwesAck b f) i = absurd i
 stale_few OwesNak i = absurd i
 
 -- a block that is still taken lacks its last word
-grant_few : (number : UnitNumber) (u : LduValue) (kp : SinkPhase) (xs : List Message) → length u.words ≤ 253 → InGrant kp → IsSubsequence (block_taken kp ++ xs) (block_messages u number) → TookFew kp
-grant_few number u kp xs r g h = stale_few kp (cut_short number u kp r g (subst (λ x. IsSubsequence x (block_messages u number)) (sym (append-nil (block_taken kp))) (sub_forth (block_taken kp) xs (block_messages u number) h)))
+grant_few : (number : UnitNumber) (u : LduValue) (kp : SinkPhase) (xs : List Message) → length u.words ≤ 253 → InGrant kp → IsSubsequenceOf (block_taken kp ++ xs) (block_messages u number) → TookFew kp
+grant_few number u kp xs r g h = stale_few kp (cut_short number u kp r g (subst (λ x. IsSubsequenceOf x (block_messages u number)) (sym (append-nil (block_taken kp))) (sub_forth (block_taken kp) xs (block_messages u number) h)))
 
 -- a block that is still on its way lacks its last word
 pub config_few : (number : UnitNumber) (cur : Option LduValue) (sp : SourceState) (count : ℕ) (kp : SinkPhase) (xs ys : List Message) → Config number cur sp count kp xs ys → SentFew sp × TookFew kp

@@ -12,10 +12,10 @@ use Rattle.a429_link.specs.declared.state.SourceState.{SourceState}
 use Rattle.a429_link.specs.declared.state.SourceState.TheVariants.{Awaiting, Idle, Sending, Waiting}
 use Rattle.a429_link.specs.declared.seen.Seen.{Seen}
 use Rattle.a429_link.specs.declared.step.Step.{Step}
-use Rattle.a429_link.specs.declared.step.Step.TheVariants.{Answered, FreeSeen, Load, LoseAnswer, Sent, SentLost, Silent, SinkTakes, TakeAnswer, TimeOut}
+use Rattle.a429_link.specs.declared.step.Step.TheVariants.{Answered, FreeSeen, GiveUp, Load, LoseAnswer, Sent, SentLost, Silent, SinkTakes, TakeAnswer, TimeOut}
 use Rattle.a429_profile.specs.Profile.{Contents}
 use Rattle.a429_link.proofs.MessageSubsequence.{Each, each_push}
-use Rattle.a429_link.proofs.StateConfigs.{Config, idle, cleared, refused, acked, load_fits, sent_fits, lost_fits, late_fits, unheard_fits, silent_fits, answer_fits, taken_fits, heard_fits, phase_answered, acks_count, may_answer, owes_alone, source_at}
+use Rattle.a429_link.proofs.StateConfigs.{Config, idle, cleared, refused, acked, load_fits, give_up_fits, sent_fits, lost_fits, late_fits, unheard_fits, silent_fits, answer_fits, taken_fits, heard_fits, phase_answered, acks_count, may_answer, owes_alone, source_at}
 use Rattle.a429_link.specs.declared.number.UnitNumber.{UnitNumber}
 use Rattle.a429_link.proofs.NumberFacts.{next_byte}
 
@@ -123,17 +123,17 @@ either : (p : Contents) (t : Bool) (a b : Source) → Numbers p a → Numbers p 
 either p true a b h k = h
 either p false a b h k = k
 
-hear_numbers : (p : Contents) (number : UnitNumber) (cur : Option LduValue) (sp : SourceState) (count : ℕ) (kp : SinkPhase) (xs : List Message) (y : Message) (ys : List Message) → Config number cur sp count kp xs (y ∷ ys) → number.file ≤ 255 → Current p cur number.ldu → Numbers p (hears_message p cur sp y (source_at number cur sp))
-hear_numbers p number cur sp count kp xs y ys (cleared {u} {n} r q) f c = either p _ _ _ (f, c) (f, c)
-hear_numbers p number cur sp count kp xs y ys (refused r) f c = (f, c)
-hear_numbers p number cur sp count kp xs y ys (acked {u} r ef el) f c =
+hear_numbers : (p : Contents) (g : ℕ) (number : UnitNumber) (cur : Option LduValue) (sp : SourceState) (count : ℕ) (kp : SinkPhase) (xs : List Message) (y : Message) (ys : List Message) → Config number cur sp count kp xs (y ∷ ys) → number.file ≤ 255 → Current p cur number.ldu → Numbers p (hears_message p cur sp y (source_at g number cur sp))
+hear_numbers p g number cur sp count kp xs y ys (cleared {u} {n} r q) f c = either p _ _ _ (f, c) (f, c)
+hear_numbers p g number cur sp count kp xs y ys (refused r) f c = (f, c)
+hear_numbers p g number cur sp count kp xs y ys (acked {u} r ef el) f c =
     either p _ _ _ (next_byte p.codes number (is_final p.codes u.flags) f, tt) (f, c)
 
 hears_holds : (p : Contents) (source : Source) (k : Sink) (ws vs : List ℕ) (xs ys : List Message) → IsNonEmpty vs → AllSay p bus.A ws xs → AllSay p bus.B vs ys → source.number.file ≤ 255 → Current p source.current source.number.ldu → Config source.number source.current source.phase k.count k.phase xs ys → Holds p (hears_first p.codes vs source) k ws (rest vs)
 hears_holds p source k ws [] xs ys n e d f c h = absurd n
 hears_holds p source k ws (v ∷ vs) xs [] n e d f c h = absurd d
 hears_holds p source k ws (v ∷ vs) xs (y ∷ ys) n e d f c h =
-    let numbers = hear_numbers p source.number source.current source.phase k.count k.phase xs y ys h f c in
+    let numbers = hear_numbers p source.give_ups source.number source.current source.phase k.count k.phase xs y ys h f c in
     subst (λ q. Holds p q k ws vs) (sym (hears_as p v y source d.0))
     (record {
       xs = xs;
@@ -142,7 +142,7 @@ hears_holds p source k ws (v ∷ vs) xs (y ∷ ys) n e d f c h =
       source_words = d.1;
       file = numbers.0;
       current = numbers.1;
-      fits = heard_fits p _ _ _ _ _ y xs ys h;
+      fits = heard_fits p source.give_ups _ _ _ _ _ y xs ys h;
     })
 
 answered_phase : (p : Contents) (x : Message) (k : Sink) (count : ℕ) (kp : SinkPhase) → MaySay count kp x → (answers_message p x k).phase ≡ phase_answered x
@@ -178,8 +178,8 @@ answered_holds p s i m h =
     })
 
 -- the words stay, the phases go on
-on_way : (p : Contents) (s : State) (source : Source) (k : Sink) → (h : HoldsAt p s) → source.number.file ≡ s.source.number.file → Current p source.current source.number.ldu → Config source.number source.current source.phase k.count k.phase h.xs h.ys → Holds p source k s.to_sink s.to_source
-on_way p s source k h f c g = record { xs = h.xs; ys = h.ys; sink_words = h.sink_words; source_words = h.source_words; file = subst (λ n. n ≤ 255) (sym f) h.file; current = c; fits = g }
+on_way : (p : Contents) (s : State) (source : Source) (k : Sink) → (h : HoldsAt p s) → source.number.file ≤ 255 → Current p source.current source.number.ldu → Config source.number source.current source.phase k.count k.phase h.xs h.ys → Holds p source k s.to_sink s.to_source
+on_way p s source k h f c g = record { xs = h.xs; ys = h.ys; sink_words = h.sink_words; source_words = h.source_words; file = f; current = c; fits = g }
 
 pub step_holds : (p : Contents) → IsRead p → (a : Step) (s : State) → Can p a s → HoldsAt p s → HoldsAt p (after p a s)
 step_holds p good (Load u) s c h =
@@ -187,16 +187,17 @@ step_holds p good (Load u) s c h =
     let below = c.2 in
     let room : s.source.number.ldu ≤ 255 = omega arith in
     let fit = good.fit u c.3 in
-    on_way p s _ s.sink h refl (fit, room, c.3) (load_fits _ _ _ _ _ _ _ u c.0 fit.room h.fits)
+    on_way p s _ s.sink h h.file (fit, room, c.3) (load_fits _ _ _ _ _ _ _ u c.0 fit.room h.fits)
 step_holds p good (Sent i) s c h = sent_holds p good s i c h
-step_holds p good SentLost s c h = on_way p s _ s.sink h refl h.current (lost_fits _ _ _ _ _ _ _ (next_is_some p s.source.number s.source.current s.source.phase c) h.fits)
-step_holds p good TimeOut s c h = on_way p s _ s.sink h refl h.current (late_fits _ _ _ _ _ _ _ c.0 c.3 (say_none p bus.A s.to_sink h.xs h.sink_words c.1) (say_none p bus.B s.to_source h.ys h.source_words c.2) h.fits)
+step_holds p good SentLost s c h = on_way p s _ s.sink h h.file h.current (lost_fits _ _ _ _ _ _ _ (next_is_some p s.source.number s.source.current s.source.phase c) h.fits)
+step_holds p good TimeOut s c h = on_way p s _ s.sink h h.file h.current (late_fits _ _ _ _ _ _ _ c.0 c.3 (say_none p bus.A s.to_sink h.xs h.sink_words c.1) (say_none p bus.B s.to_source h.ys h.source_words c.2) h.fits)
 step_holds p good TakeAnswer s c h = hears_holds p s.source s.sink s.to_sink s.to_source h.xs h.ys c h.sink_words h.source_words h.file h.current h.fits
 step_holds p good LoseAnswer s c h = unheard_holds p s.source s.sink s.to_sink s.to_source h.xs h.ys c h.sink_words h.source_words h.file h.current h.fits
 step_holds p good SinkTakes s c h = takes_holds p s.source s.sink s.to_sink s.to_source h.xs h.ys c.0 h.sink_words h.source_words h.file h.current h.fits
-step_holds p good Silent s c h = on_way p s s.source _ h refl h.current (silent_fits _ _ _ _ _ _ _ c h.fits)
+step_holds p good Silent s c h = on_way p s s.source _ h h.file h.current (silent_fits _ _ _ _ _ _ _ c h.fits)
 step_holds p good (Answered i) s c h = answered_holds p s i c h
 step_holds p good (FreeSeen i) s c h = h
+step_holds p good GiveUp s c h = on_way p s _ s.sink h (omega arith) tt (give_up_fits _ _ _ _ _ _ _ _ c.0 h.fits)
 
 pub start_holds : (p : Contents) (first : ℕ) → first ≤ 255 → HoldsAt p (start p first)
 start_holds p first f =

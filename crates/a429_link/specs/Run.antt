@@ -1,5 +1,5 @@
 -- Runs of a source and a sink: what they record, deliver, offer and settle.
-use Rattle.std.specs.Prelude.{ℕ, ◌≡◌, ◌+◌, ◌≤◌, Bool, false, ◌&&◌, if◌then◌else◌, List, [], ◌∷◌, ◌++◌, length, Option, Some, None}
+use Rattle.std.specs.Prelude.{ℕ, ◌≡◌, ◌⊎◌, ◌+◌, ◌≤◌, Bool, false, ◌&&◌, if◌then◌else◌, List, [], ◌∷◌, ◌++◌, length, Option, Some, None}
 use Rattle.a429_word.specs.declared.bus.Bus.TheVariants as bus
 use Rattle.a429_profile.specs.declared.codes.Codes.{Codes}
 use Rattle.a429_profile.specs.Profile.{Contents, IsProfile}
@@ -9,11 +9,13 @@ use Rattle.a429_ldu.specs.Ldu.{LduValue, bytes_of, is_final}
 use Rattle.a429_link.specs.declared.file.FileBytes.{FileBytes}
 use Rattle.a429_link.specs.declared.seen.Seen.{Seen}
 use Rattle.a429_link.specs.declared.step.Step.{Step}
-use Rattle.a429_link.specs.declared.step.Step.TheVariants.{Load, TakeAnswer}
+use Rattle.a429_link.specs.declared.step.Step.TheVariants.{Load, TakeAnswer, GiveUp}
 use Rattle.a429_link.specs.Source.{Source, is_own_ack}
 use Rattle.a429_link.specs.declared.state.SourceState.{SourceState}
 use Rattle.a429_link.specs.declared.state.SourceState.TheVariants.{Sending}
-use Rattle.a429_link.specs.Sink.{Shelf, SinkPhase, InBlock, put, held_count, empty_shelf}
+use Rattle.a429_link.specs.declared.number.UnitNumber.{UnitNumber}
+use Rattle.a429_link.specs.Number.{files_past}
+use Rattle.a429_link.specs.Sink.{Number, Shelf, SinkPhase, InBlock, put, emptied, held_count, empty_shelf}
 use Rattle.a429_link.specs.Step.{Can, after, label}
 use Rattle.a429_link.specs.State.{start, State}
 
@@ -39,11 +41,13 @@ trace (a ∷ steps) = with_label (label a) (trace steps)
 abbrev pub delivered : Contents → ℕ → List Step → List FileBytes
 delivered p first steps = (end_of p steps (start p first)).sink.shelf.files
 
--- ---- offered: the link data units that were loaded, in order, cut after each final one
+-- ---- offered: the link data units that were loaded, in order, cut after each final one, and where a file is given up
 
--- a loaded link data unit joins its file, under the source's number; a final one closes it
+-- a loaded link data unit joins its file, under the source's number; a final one closes it. Of a file that is given up
+-- before it is closed nothing is left
 abbrev pub offers : Contents → Step → State → Shelf → Shelf
 offers p (Load u) s o = put s.source.number.file (bytes_of p.codes u) (is_final p.codes u.flags) o
+offers p GiveUp s o = emptied o
 offers p _ s o = o
 
 abbrev pub offered_from : Contents → List Step → State → Shelf → Shelf
@@ -96,6 +100,11 @@ pub record IsRunFrom (p : Contents) (first : ℕ) (steps : List Step) : Type 0 w
 abbrev pub IsPrefixOf : List FileBytes → List FileBytes → Type 0
 IsPrefixOf xs ys = (more : List FileBytes) × (xs ++ more ≡ ys)
 
+-- the first are some of the second, in their order
+abbrev pub IsSubsequenceOf : {X : Type 0} → List X → List X → Type 0
+IsSubsequenceOf xs [] = xs ≡ []
+IsSubsequenceOf {X} xs (y ∷ ys) = IsSubsequenceOf xs ys ⊎ ((zs : List X) × (xs ≡ y ∷ zs) × IsSubsequenceOf zs ys)
+
 -- of a block that it still sends, the source has sent at most 254 words
 abbrev pub SentFew : SourceState → Type 0
 SentFew (Sending k) = k ≤ 254
@@ -113,6 +122,11 @@ pub record IsBounded (s : State) : Type 0 where
   pub words : length s.to_sink + held_count s.sink.phase ≤ 255
   pub answers : length s.to_source ≤ 1
   pub bytes : length s.sink.shelf.open_bytes ≤ 161160
+
+-- the file of this number is at most 128 past that of the link data unit accepted last
+abbrev pub IsNear : Option Number → UnitNumber → Type 0
+IsNear None n = Unit {0}
+IsNear (Some last) n = files_past n.file last.number.file ≤ 128
 
 -- some run from the start leads here
 pub record IsReached (p : Contents) (s : State) : Type 0 where

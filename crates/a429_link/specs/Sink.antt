@@ -1,5 +1,5 @@
 -- The sink of a file transfer (ARINC 429 Part 3; which blocks are in sequence: profile).
-use Rattle.std.specs.Prelude.{ℕ, ◌≡◌, ◌<◌, ◌+◌, Bool, true, false, ◌==◌, ◌&&◌, ◌||◌, nat_le, if◌then◌else◌, List, [], ◌∷◌, ◌++◌, length, Option, Some, None, is_some}
+use Rattle.std.specs.Prelude.{ℕ, ◌≡◌, ◌<◌, ◌+◌, Bool, true, false, ◌==◌, ◌&&◌, ◌||◌, not, if◌then◌else◌, List, [], ◌∷◌, ◌++◌, length, Option, Some, None, is_some}
 use Rattle.a429_word.specs.declared.bus.Bus.TheVariants as bus
 use Rattle.a429_profile.specs.declared.codes.Codes.{Codes}
 use Rattle.a429_profile.specs.Profile.{Contents}
@@ -11,7 +11,7 @@ use Rattle.a429_ldu.specs.CheckWord.{agrees}
 use Rattle.a429_ldu.specs.Ldu.{is_final}
 use Rattle.a429_link.specs.declared.file.FileBytes.{FileBytes}
 use Rattle.a429_link.specs.declared.number.UnitNumber.{UnitNumber}
-use Rattle.a429_link.specs.Number.{is_number, next_number}
+use Rattle.a429_link.specs.Number.{begins_file, goes_on, is_number}
 use Rattle.a429_link.specs.declared.sink.Latest.{Latest}
 use Rattle.a429_link.specs.declared.sink.StartWord.{StartWord}
 use Rattle.a429_link.specs.declared.sink.Phase.{Phase}
@@ -76,10 +76,11 @@ abbrev pub is_same : Option Number → UnitNumber → Bool
 is_same None n = false
 is_same (Some last) n = is_number last.number n
 
--- the number is the next one, and one of a file's 255; at first it is that of some file's first
+-- the number is that of the first of a file that is 1 to 128 past, or the next one of a file that is not whole; at first
+-- it is that of some file's first
 abbrev pub in_sequence : Codes → Option Number → UnitNumber → Bool
 in_sequence c None n = n.ldu == c.first_ldu
-in_sequence c (Some last) n = is_number n (next_number c last.number last.final) && nat_le n.ldu (c.first_ldu + 254)
+in_sequence c (Some last) n = begins_file c last.number n || (not last.final && goes_on c last.number n)
 
 -- a block of this number comes again, or in sequence
 abbrev pub may_come : Codes → Option Number → UnitNumber → Bool
@@ -139,12 +140,25 @@ abbrev pub put : ℕ → List ℕ → Bool → Shelf → Shelf
 put file bytes true shelf = record { files = shelf.files ++ record { number = file; bytes = shelf.open_bytes ++ bytes } ∷ []; open_bytes = [] }
 put file bytes false shelf = record { files = shelf.files; open_bytes = shelf.open_bytes ++ bytes }
 
+-- the link data unit accepted last was one of the file with this number
+abbrev pub is_same_file : Option Number → ℕ → Bool
+is_same_file None file = false
+is_same_file (Some last) file = last.number.file == file
+
+-- the shelf without the bytes of the file that is not whole
+abbrev pub emptied : Shelf → Shelf
+emptied shelf = record { files = shelf.files; open_bytes = [] }
+
+-- the shelf that a link data unit of this file is put on: the bytes of another file, which is not whole, are dropped
+abbrev pub shelf_for : Option Number → ℕ → Shelf → Shelf
+shelf_for last file shelf = if is_same_file last file then shelf else emptied shelf
+
 -- the sink that accepts a block with these flags; one that comes again changes nothing
 abbrev pub accepts : Codes → Block → ℕ → Sink → Sink
 accepts c b flags k =
     if is_same k.last (number_of b)
     then k
-    else record k { last = Some (record { number = number_of b; final = is_final c flags }); shelf = put b.file (bytes_in c b.words) (is_final c flags) k.shelf }
+    else record k { last = Some (record { number = number_of b; final = is_final c flags }); shelf = put b.file (bytes_in c b.words) (is_final c flags) (shelf_for k.last b.file k.shelf) }
 
 abbrev pub accepts_owed : Codes → SinkPhase → Sink → Sink
 accepts_owed c (OwesAck b flags) k = accepts c b flags k

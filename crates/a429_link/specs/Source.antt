@@ -1,5 +1,5 @@
 -- The source of a file transfer (ARINC 429 Part 3; how files and link data units are numbered: profile).
-use Rattle.std.specs.Prelude.{ℕ, suc, Bool, false, ◌==◌, if◌then◌else◌, List, [], ◌∷◌, Option, Some, None, slice_get}
+use Rattle.std.specs.Prelude.{ℕ, suc, ◌+◌, ◌%◌, Bool, false, ◌==◌, if◌then◌else◌, List, [], ◌∷◌, Option, Some, None, slice_get}
 use Rattle.a429_word.specs.declared.bus.Bus.TheVariants as bus
 use Rattle.a429_profile.specs.declared.codes.Codes.{Codes}
 use Rattle.a429_profile.specs.Profile.{Contents}
@@ -8,7 +8,7 @@ use Rattle.a429_ldu.specs.declared.forms.Form.TheVariants.{Rts, Cts, Ack, Nak}
 use Rattle.a429_ldu.specs.Form.{form_of, word_number}
 use Rattle.a429_ldu.specs.Ldu.{LduValue, count_of, block_of}
 use Rattle.a429_link.specs.declared.number.UnitNumber.{UnitNumber}
-use Rattle.a429_link.specs.Number.{is_number, number_after}
+use Rattle.a429_link.specs.Number.{first_number, is_number, number_after}
 use Rattle.a429_link.specs.declared.state.SourceState.{SourceState}
 use Rattle.a429_link.specs.declared.state.SourceState.TheVariants.{Idle, Awaiting, Sending, Waiting}
 
@@ -18,6 +18,8 @@ pub record Source : Type 0 where
   -- the link data unit that is to cross, if one is loaded
   pub current : Option LduValue
   pub phase : SourceState
+  -- the files given up since its last acknowledgement
+  pub give_ups : ℕ
 
 -- ---- sending
 
@@ -45,7 +47,7 @@ with_word_sent s = record s { phase = after_word s.current s.phase }
 
 -- the source once its link data unit is acknowledged, at the number that comes next
 abbrev pub acknowledged : Codes → LduValue → Source → Source
-acknowledged c u s = record { number = number_after c s.number u; current = None; phase = Idle }
+acknowledged c u s = record { number = number_after c s.number u; current = None; phase = Idle; give_ups = 0 }
 
 -- the form is the acknowledgement of the current link data unit, and the source waits for it
 abbrev pub is_own_ack : UnitNumber → SourceState → Form → Bool
@@ -68,6 +70,12 @@ hears_form c (Some x) s = hears c s.current s.phase x s
 abbrev pub hears_first : Codes → List ℕ → Source → Source
 hears_first c [] s = s
 hears_first c (w ∷ ws) s = hears_form c (form_of c bus.B w) s
+
+-- ---- giving a file up
+
+-- the source with its file given up, and with it the link data unit that was current: it is at the first of the next file
+abbrev pub given_up : Codes → Source → Source
+given_up c s = record s { number = first_number c ((s.number.file + 1) % 256); current = None; give_ups = suc s.give_ups }
 
 -- ---- where it stands
 

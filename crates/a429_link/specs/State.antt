@@ -21,7 +21,7 @@ pub record State : Type 0 where
 abbrev pub start : Contents → ℕ → State
 start p first =
     record {
-      source = record { number = first_number p.codes first; current = None; phase = Idle };
+      source = record { number = first_number p.codes first; current = None; phase = Idle; give_ups = 0 };
       sink = record { last = None; shelf = empty_shelf; count = 0; phase = Quiet };
       to_sink = [];
       to_source = [];

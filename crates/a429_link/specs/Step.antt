@@ -10,8 +10,8 @@ use Rattle.a429_link.specs.declared.seen.Seen.{Seen}
 use Rattle.a429_link.specs.declared.step.Step.{Step}
 use Rattle.a429_link.specs.declared.fault.StepFault.{StepFault}
 use Rattle.a429_link.specs.declared.fault.StepFault.TheVariants as fault
-use Rattle.a429_link.specs.declared.step.Step.TheVariants.{Load, Sent, SentLost, TimeOut, TakeAnswer, LoseAnswer, SinkTakes, Silent, Answered, FreeSeen}
-use Rattle.a429_link.specs.Source.{IsIdle, Waits, next_word_of, with_word_sent, hears_first}
+use Rattle.a429_link.specs.declared.step.Step.TheVariants.{Load, Sent, SentLost, TimeOut, TakeAnswer, LoseAnswer, SinkTakes, Silent, Answered, FreeSeen, GiveUp}
+use Rattle.a429_link.specs.Source.{IsIdle, Waits, next_word_of, with_word_sent, hears_first, given_up}
 use Rattle.a429_link.specs.Sink.{Quiet, Listens, Owes, IsAck, MayAnswerForm, takes_first, answers_word}
 use Rattle.a429_link.specs.State.{State, IsNonEmpty, rest}
 
@@ -36,6 +36,8 @@ Can p Silent s = Owes s.sink.phase
 Can p (Answered i) s = (i.bus ≡ bus.B) × MayAnswerForm s.sink.count s.sink.phase (form_of p.codes bus.B i.word)
 -- a free word, on either bus, at any time
 Can p (FreeSeen i) s = is_free p.codes i.bus i.word ≡ true
+-- an idle source, with or without a link data unit, that has given up at most 126 files since its last acknowledgement
+Can p GiveUp s = IsIdle s.source.phase × (s.source.give_ups ≤ 126)
 
 -- the state that a step leads to
 abbrev pub after : Contents → Step → State → State
@@ -59,6 +61,8 @@ after p Silent s = record s { sink = record (s.sink) { phase = Quiet } }
 after p (Answered i) s = record s { sink = answers_word p.codes i.word s.sink; to_source = s.to_source ++ i.word ∷ [] }
 -- nothing changes
 after p (FreeSeen i) s = s
+-- the source has given its file up
+after p GiveUp s = record s { source = given_up p.codes s.source }
 
 -- what a step records
 abbrev pub label : Step → Option Seen

@@ -1,4 +1,4 @@
-//! Laws of all runs, whatever is lost, times out or is left unanswered on the way.
+//! Laws of all runs, whatever is lost, times out, is left unanswered or given up on the way.
 
 ghost use Rattle.std.specs.Prelude.{◌≡◌, ◌↔◌, ◌≤◌, ◌++◌, ℕ, suc, List, take};
 ghost use Rattle.a429_profile.specs.Profile.{Contents, IsProfile};
@@ -8,7 +8,7 @@ ghost use Rattle.a429_link.specs.State.{start};
 ghost use Rattle.a429_ldu.specs.Ldu.{LduValue};
 ghost use Rattle.a429_link.specs.Number.{first_number};
 ghost use Rattle.a429_link.specs.Clean.{AllFit, without_free, clean_blocks, CarriesUnits};
-ghost use Rattle.a429_link.specs.Run.{IsRun, IsRunFrom, end_of, trace, delivered, offered, settled, IsPrefixOf, IsBounded, BeginsARun};
+ghost use Rattle.a429_link.specs.Run.{IsRun, IsRunFrom, end_of, trace, delivered, offered, settled, IsSubsequenceOf, IsNear, IsBounded, BeginsARun};
 ghost use Rattle.a429_link.specs.Observer.{IsRefused};
 ghost use Rattle.a429_link.specs.Link.{Call, AreMade, applied, left_by, taken, with_earlier};
 
@@ -19,17 +19,17 @@ pub fn one_trace_one_delivery()
         → trace steps ≡ trace others → delivered p first steps ≡ delivered p other others }
 {}
 
-/// The files that a run delivers are the first of those that its source offered, numbers and bytes, in
-/// their order, also where check words are not compared.
+/// The files that a run delivers are some of those that its source offered, numbers and bytes, in their
+/// order, also where check words are not compared.
 pub fn delivered_was_offered()
     ensures { (p : Contents) (first : ℕ) (steps : List Step)
-        → IsRunFrom p first steps → IsPrefixOf (delivered p first steps) (offered p first steps) }
+        → IsRunFrom p first steps → IsSubsequenceOf (delivered p first steps) (offered p first steps) }
 {}
 
-/// The files that the source takes as acknowledged are the first of those that are delivered.
+/// The files that the source takes as acknowledged are some of those that are delivered, in their order.
 pub fn settled_was_delivered()
     ensures { (p : Contents) (first : ℕ) (steps : List Step)
-        → IsRunFrom p first steps → IsPrefixOf (settled p first steps) (delivered p first steps) }
+        → IsRunFrom p first steps → IsSubsequenceOf (settled p first steps) (delivered p first steps) }
 {}
 
 /// A caller may take files while a run goes on: the files taken, in order, and then those that wait at the
@@ -50,6 +50,13 @@ pub fn taken_then_delivered_is_the_runs()
 pub fn every_state_is_bounded()
     ensures { (p : Contents) (first : ℕ) (steps : List Step)
         → IsRunFrom p first steps → IsBounded (end_of p steps (start p first)) }
+{}
+
+/// After each run the source's file is at most 128 past that of the link data unit accepted last.
+pub fn the_source_is_near()
+    ensures { (p : Contents) (first : ℕ) (steps : List Step)
+        → IsRunFrom p first steps
+        → IsNear (end_of p steps (start p first)).sink.last (end_of p steps (start p first)).source.number }
 {}
 
 /// What the observer of the words before it refuses, no run records after them.

@@ -2,7 +2,7 @@
 
 ghost use Rattle.std.specs.Prelude.{◌≡◌, ◌≤◌};
 ghost use Rattle.a429_ldu.specs.Ldu.{is_final};
-ghost use Rattle.a429_link.specs.Number.{first_number, next_number, number_after};
+ghost use Rattle.a429_link.specs.Number.{first_number, next_number, number_after, goes_on, begins_file};
 
 use a429_ldu::Ldu;
 use a429_profile::Profile;
@@ -50,6 +50,22 @@ impl UnitNumber {
         ensures high { result.ldu ≤ 256 }
     {
         self.next(profile, is_final(profile, unit.flags()))
+    }
+
+    /// The other is that of the next one of the same file, one of its 255 (profile).
+    pub(crate) fn goes_on(self, profile: &Profile, other: UnitNumber) -> bool
+        ensures { result ≡ goes_on profile.now.codes self other }
+    {
+        let last = u16::from(profile.codes().first_ldu) + 254;
+        other == self.next(profile, false) && other.ldu <= last
+    }
+
+    /// The other is that of the first of a file that is 1 to 128 past this one's, 255 followed by 0 (profile).
+    pub(crate) fn begins_file(self, profile: &Profile, other: UnitNumber) -> bool
+        ensures { result ≡ begins_file profile.now.codes self other }
+    {
+        let past = other.file.wrapping_sub(self.file);
+        other.ldu == u16::from(profile.codes().first_ldu) && 1 <= past && past <= 128
     }
 }
 

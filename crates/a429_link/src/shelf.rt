@@ -1,7 +1,7 @@
 //! The files that a sink delivers.
 
 ghost use Rattle.std.specs.Prelude.{◌≡◌, [], OnOk, OnErr};
-ghost use Rattle.a429_link.specs.Sink.{put};
+ghost use Rattle.a429_link.specs.Sink.{put, emptied};
 
 use crate::file::{Bytes, FileBytes};
 use std::alloc::{AllocError, Global};
@@ -52,6 +52,25 @@ impl Shelf {
             self.files.push_reserved(FileBytes { number, bytes });
         }
         Ok(())
+    }
+
+    /// The same, of a link data unit that begins a file: the bytes of one that is not whole are dropped.
+    pub(crate) fn put_first(
+        &mut self,
+        alloc: Global,
+        number: u8,
+        bytes: &[u8],
+        is_final: bool,
+    ) -> Result<(), AllocError>
+        ensures done { OnOk result (self.new ≡ put number bytes.now is_final (emptied self.old)) }
+        ensures unchanged { OnErr result (self.new ≡ self.old) }
+    {
+        let open_bytes = mem::replace(&mut self.open_bytes, Vec::new(alloc));
+        let done = self.put(alloc, number, bytes, is_final);
+        if done.is_err() {
+            self.open_bytes = open_bytes;
+        }
+        done
     }
 
     pub(crate) fn files(&self) -> &[FileBytes]

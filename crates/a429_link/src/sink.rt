@@ -2,7 +2,7 @@
 
 ghost use Rattle.std.specs.Prelude.{◌≡◌, ◌≤◌, ◌↔◌, [], ◌∷◌, ◌++◌, length, slice_index, Some, None, option_map, IfSome, IsNone, IsTrue, OnOk, OnErr};
 ghost use Rattle.a429_link.specs.Sink as model;
-ghost use Rattle.a429_link.specs.Sink.{takes, at_start, at_part, at_end, is_good, is_same, may_come, block_with, phase_of, accepts_owed, answers, IsAck, MayAnswer, Listens, Owes, held_count, latest_number, HasRoom, empty_shelf};
+ghost use Rattle.a429_link.specs.Sink.{takes, at_start, at_part, at_end, is_good, is_same, is_same_file, may_come, put, shelf_for, block_with, phase_of, accepts_owed, answers, IsAck, MayAnswer, Listens, Owes, held_count, latest_number, HasRoom, empty_shelf};
 ghost use Rattle.a429_link.specs.State.{sink_state_of, IsNonEmpty, rest};
 ghost use Rattle.a429_link.specs.Observer.{HasGrant};
 
@@ -85,12 +85,11 @@ impl Model for Sink {
 fn may_come(profile: &Profile, last: &Option<Latest>, number: UnitNumber) -> bool
     ensures { result ≡ may_come profile.now.codes (option_map latest_number last.now) number }
 {
-    let first_ldu = u16::from(profile.codes().first_ldu);
     let Some(last) = last else {
-        return number.ldu == first_ldu;
+        return number.ldu == u16::from(profile.codes().first_ldu);
     };
-    let follows = number == last.number.next(profile, last.is_final);
-    last.number == number || follows && number.ldu <= first_ldu + 254
+    let goes_on = !last.is_final && last.number.goes_on(profile, number);
+    last.number == number || last.number.begins_file(profile, number) || goes_on
 }
 
 // The block of this start word and these data words, ended by a word with this check word, is good, where
@@ -124,6 +123,16 @@ fn is_last(last: &Option<Latest>, number: UnitNumber) -> bool
     match last {
         None => false,
         Some(last) => last.number == number,
+    }
+}
+
+// The link data unit accepted last was one of the file with this number.
+fn is_last_file(last: &Option<Latest>, file: u8) -> bool
+    ensures { result ≡ is_same_file (option_map latest_number last.now) file }
+{
+    match last {
+        None => false,
+        Some(last) => last.number.file == file,
     }
 }
 
@@ -332,13 +341,33 @@ impl Sink {
         }
         let is_final = is_final(profile, flags);
         match block_bytes(profile, self.lane.taken()) {
-            Some(bytes) => self
-                .shelf
-                .put(alloc, number.file, bytes.as_slice(), is_final)?,
-            None => self.shelf.put(alloc, number.file, &[], is_final)?,
+            Some(bytes) => self.put(alloc, number.file, bytes.as_slice(), is_final)?,
+            None => self.put(alloc, number.file, &[], is_final)?,
         }
         self.last = Some(Latest { number, is_final });
         Ok(())
+    }
+
+    // Puts the bytes of a link data unit of this file on the shelf, and drops those of another file that is not whole.
+    fn put(
+        &mut self,
+        alloc: Global,
+        file: u8,
+        bytes: &[u8],
+        is_final: bool,
+    ) -> Result<(), AllocError>
+        ensures done { OnOk result (self.new ≡ record (self.old) {
+          sink = record (self.old.sink) {
+            shelf = put file bytes.now is_final (shelf_for self.old.sink.last file self.old.sink.shelf);
+          };
+        }) }
+        ensures unchanged { OnErr result (self.new ≡ self.old) }
+    {
+        if is_last_file(&self.last, file) {
+            self.shelf.put(alloc, file, bytes, is_final)
+        } else {
+            self.shelf.put_first(alloc, file, bytes, is_final)
+        }
     }
 
     /// Gives an answer of this form, and leaves the files as they are.

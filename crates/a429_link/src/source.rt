@@ -4,7 +4,7 @@ ghost use Rattle.std.specs.Prelude.{◌≡◌, ◌≤◌, ◌+◌, ◌↔◌, Is
 ghost use Rattle.a429_profile.specs.Profile.{Contents};
 ghost use Rattle.a429_ldu.specs.Ldu.{IsLdu};
 ghost use Rattle.a429_link.specs.Source as model;
-ghost use Rattle.a429_link.specs.Source.{next_word, hears, IsIdle, Waits, with_word_sent, next_word_of};
+ghost use Rattle.a429_link.specs.Source.{next_word, hears, IsIdle, Waits, with_word_sent, next_word_of, given_up};
 
 use crate::number::UnitNumber;
 use crate::state::SourceState;
@@ -13,13 +13,14 @@ use a429_profile::Profile;
 use a429_word::Word;
 use std::marker::Model;
 
-/// The source: the number of the link data unit that is current or next, this one if it is loaded, and
-/// what the source is doing.
+/// The source: the number of the link data unit that is current or next, this one if it is loaded, what
+/// the source is doing, and how many files it has given up since its last acknowledgement.
 #[derive(Debug, Drop)]
 pub(crate) struct Source {
     number: UnitNumber,
     current: Option<Ldu>,
     state: SourceState,
+    give_ups: u8,
 }
 
 impl Model for Source {
@@ -28,7 +29,7 @@ impl Model for Source {
 
     ghost Value = { model.Source };
 
-    ghost view = { λ s. record { number = s.number; current = s.current; phase = s.state } };
+    ghost view = { λ s. record { number = s.number; current = s.current; phase = s.state; give_ups = s.give_ups } };
 
     ghost invariant = { λ s. (s.number.ldu ≤ 256) × (IsSome s.current → s.number.ldu ≤ 255) };
 }
@@ -37,12 +38,13 @@ impl Source {
     /// A source that has loaded nothing, and whose first link data unit has this number.
     pub(crate) fn new(number: UnitNumber) -> Source
         requires { number.ldu ≤ 255 }
-        ensures { result ≡ record { number = number; current = None; phase = SourceState.Idle } }
+        ensures { result ≡ record { number = number; current = None; phase = SourceState.Idle; give_ups = 0 } }
     {
         Source {
             number,
             current: None,
             state: SourceState::Idle,
+            give_ups: 0,
         }
     }
 
@@ -74,6 +76,32 @@ impl Source {
         ensures { self.new ≡ record (self.old) { current = Some unit } }
     {
         self.current = Some(unit);
+    }
+
+    /// It can give its file up.
+    pub(crate) fn may_give_up(&self) -> bool
+        ensures { IsTrue result ↔ (IsIdle self.now.phase × (self.now.give_ups ≤ 126)) }
+    {
+        self.state == SourceState::Idle && self.give_ups <= 126
+    }
+
+    /// Gives its file up, with what it has loaded, and goes on to the next file.
+    pub(crate) fn give_up(&mut self, profile: &Profile)
+        requires { self.old.give_ups ≤ 126 }
+        ensures { self.new ≡ given_up profile.now.codes self.old }
+    {
+        let file = self.number.file.wrapping_add(1);
+        self.pass_to(UnitNumber::first(profile, file));
+        self.give_ups += 1;
+    }
+
+    // It is at this number, with nothing loaded.
+    fn pass_to(&mut self, number: UnitNumber)
+        requires { number.ldu ≤ 256 }
+        ensures { self.new ≡ record (self.old) { number = number; current = None } }
+    {
+        self.number = number;
+        self.current = None;
     }
 
     /// It sends a word now.
@@ -158,9 +186,10 @@ impl Source {
             }
             (SourceState::Waiting, Form::Ack { file, ldu }) => {
                 if file == self.number.file && u16::from(ldu) == self.number.ldu {
-                    self.number = self.number.after(profile, unit);
-                    self.current = None;
+                    let next = self.number.after(profile, unit);
+                    self.pass_to(next);
                     self.state = SourceState::Idle;
+                    self.give_ups = 0;
                 }
             }
             (SourceState::Waiting, Form::Nak { .. }) => self.state = SourceState::Idle,

@@ -27,4 +27,6 @@ pub enum Step {
     Answered(Seen),
     /// A word that is none of the transfer's is recorded.
     FreeSeen(Seen),
+    /// The source gives its file up, with the link data unit that it has loaded, and goes on to the next file.
+    GiveUp,
 }

@@ -99,6 +99,7 @@ impl Transfer {
             Step::Silent => self.silent(profile),
             Step::Answered(seen) => self.answered(alloc, profile, seen),
             Step::FreeSeen(seen) => self.free_seen(profile, seen),
+            Step::GiveUp => self.give_up(profile),
         }
     }
 
@@ -226,6 +227,16 @@ impl Transfer {
         } else {
             Err(StepFault::WordDiffers)
         }
+    }
+
+    fn give_up(&mut self, profile: &Profile) -> Result<(), StepFault>
+        ensures { Applies profile.now step.GiveUp self.old self.new result }
+    {
+        if !self.source.may_give_up() {
+            return Err(StepFault::NotAllowed);
+        }
+        self.source.give_up(profile);
+        Ok(())
     }
 
     /// What the source is doing.
