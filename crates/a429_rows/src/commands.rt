@@ -5,6 +5,7 @@ mod check;
 mod command_line;
 mod extract;
 mod faults;
+mod forms;
 mod labels;
 mod make;
 mod show;
