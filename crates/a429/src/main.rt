@@ -3,7 +3,7 @@
 
 use a429_check::{
     Claim, Command, Folder, RunFault, command, read_whole, report, run_check, run_extract,
-    run_labels, run_make, run_pack, run_show, run_verify, run_word,
+    run_forms, run_labels, run_make, run_pack, run_show, run_verify, run_word,
 };
 use a429_record::EntryReader;
 use a429_word::Tally;
@@ -40,6 +40,7 @@ fn run(rt: &(impl Files + Env + Print + AllocGlobal)) -> Result<u8, RunFault> {
             run_labels(alloc, profile.as_slice(), &mut out)?
         }
         Command::Show { profile, recording } => show(rt, alloc, profile, recording, &mut out)?,
+        Command::Forms { profile, recording } => forms(rt, alloc, profile, recording, &mut out)?,
         Command::Make { profile, files } => make(rt, alloc, profile, files.as_slice(), &mut out)?,
         Command::Pack(recording) => run_pack(alloc, &mut opened(rt, recording, CAP)?, &mut out)?,
         Command::Check(claim) => check(rt, alloc, claim, &mut out)?,
@@ -60,6 +61,18 @@ fn show<W: Write>(
     let profile = bytes_of(rt, alloc, profile)?;
     let mut rec = opened(rt, recording, CAP)?;
     run_show(alloc, profile.as_slice(), &mut rec, out)
+}
+
+fn forms<W: Write>(
+    rt: &impl Files,
+    alloc: Global,
+    profile: &str,
+    recording: &str,
+    out: &mut Tally<W>,
+) -> Result<u8, RunFault> {
+    let profile = bytes_of(rt, alloc, profile)?;
+    let mut rec = opened(rt, recording, CAP)?;
+    run_forms(alloc, profile.as_slice(), &mut rec, out)
 }
 
 fn make<W: Write>(

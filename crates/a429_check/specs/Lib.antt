@@ -5,6 +5,7 @@ pub mod Whole
 pub mod Word
 pub mod Labels
 pub mod Show
+pub mod Forms
 pub mod Make
 pub mod Verdict
 pub mod Check

@@ -55,8 +55,10 @@ fn of_recording<'a>(name: &str, given: &ArgMatches<'a>) -> Result<Command<'a>, R
     let Some(recording) = given.get_str("REC") else {
         return Err(RunFault::Usage);
     };
-    if name == "show" {
-        return Ok(Command::Show { profile, recording });
+    match name {
+        "show" => return Ok(Command::Show { profile, recording }),
+        "forms" => return Ok(Command::Forms { profile, recording }),
+        _ => {}
     }
     let Some(certificate) = given.get_str("CERT") else {
         return Err(RunFault::Usage);
@@ -83,6 +85,7 @@ fn parser<'a>(alloc: Global) -> Result<Parser<'a>, AllocError> {
     let all = with(all, with_profile(alloc, "labels"))?;
     let all = with(all, Parser::new(alloc, "pack").arg(once(alloc, "REC")))?;
     let all = with(all, with_recording(alloc, "show"))?;
+    let all = with(all, with_recording(alloc, "forms"))?;
     let all = with(all, with_certificate(alloc, "check"))?;
     let all = with(all, with_certificate(alloc, "verify"))?;
     let all = with(all, with_folder(alloc, "extract"))?;

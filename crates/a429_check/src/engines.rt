@@ -3,6 +3,7 @@
 pub mod check;
 pub mod extract;
 pub mod folder;
+pub mod forms;
 pub mod labels;
 pub mod make;
 mod output;

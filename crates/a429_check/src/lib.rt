@@ -12,6 +12,7 @@ pub use crate::command_line::commands::{Claim, Command};
 pub use crate::engines::check::run_check;
 pub use crate::engines::extract::run_extract;
 pub use crate::engines::folder::Folder;
+pub use crate::engines::forms::run_forms;
 pub use crate::engines::labels::run_labels;
 pub use crate::engines::make::run_make;
 pub use crate::engines::pack::run_pack;

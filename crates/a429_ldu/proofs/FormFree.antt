@@ -28,7 +28,7 @@ found n [] k h e = absurd (omega arith)
 found n (m ∷ ms) zero h e = or_left (m == n) (list_any (λ m. m == n) ms) (eq-eqb m n e)
 found n (m ∷ ms) (suc k) h e = or_right (m == n) (list_any (λ m. m == n) ms) (found n ms k (omega arith) e)
 
-Decides-contains : (n : ℕ) (ms : List ℕ) → Decides (list_any (λ m. m == n) ms) (Contains ms n)
+pub Decides-contains : (n : ℕ) (ms : List ℕ) → Decides (list_any (λ m. m == n) ms) (Contains ms n)
 Decides-contains n ms = (contained n ms, λ h. found n ms h.0 h.1 h.2)
 
 pub is_free-decides : (c : Codes) (b : Bus) (w : ℕ) → Decides (is_free c b w) (IsFree c b w)

@@ -5,6 +5,7 @@ pub mod FormMade
 pub mod FormFacts
 pub mod FormPacked
 pub mod SightFacts
+pub mod FreedomFacts
 pub mod CheckWordDivision
 pub mod CheckWordDown
 pub mod CheckWordFacts

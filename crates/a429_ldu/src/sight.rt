@@ -1,6 +1,6 @@
 //! What a word says on a bus.
 
-ghost use Rattle.std.specs.Prelude.{◌≡◌, ◌↔◌, IsTrue};
+ghost use Rattle.std.specs.Prelude.{◌≡◌, ◌↔◌, IsTrue, Contains};
 ghost use Rattle.a429_word.specs.Word.{label_of, HasOddParity};
 ghost use Rattle.a429_profile.specs.Profile.{IsProfile};
 ghost use Rattle.a429_ldu.specs.declared.forms.Form.{Form};
@@ -92,6 +92,21 @@ pub(crate) fn is_addressed(codes: &Codes, bus: Bus, word: Word) -> bool
 fn is_ignored(codes: &Codes, parts: Parts) -> bool
     ensures { IsTrue result ↔ IsIgnored codes.now parts.kind parts.upper }
 {
+    ignores_type(codes, parts) || ignores_code(codes, parts)
+}
+
+/// Whether the profile ignores words of this type.
+#[inline]
+pub(crate) fn ignores_type(codes: &Codes, parts: Parts) -> bool
+    ensures { IsTrue result ↔ Contains codes.now.ignored_types parts.kind }
+{
     codes.ignored_types.as_slice().contains(&parts.kind)
-        || parts.kind == codes.protocol && codes.ignored_codes.as_slice().contains(&parts.upper)
+}
+
+/// Whether these are numbers of a protocol word whose code the profile ignores.
+#[inline]
+pub(crate) fn ignores_code(codes: &Codes, parts: Parts) -> bool
+    ensures { IsTrue result ↔ ((parts.kind ≡ codes.now.protocol) × Contains codes.now.ignored_codes parts.upper) }
+{
+    parts.kind == codes.protocol && codes.ignored_codes.as_slice().contains(&parts.upper)
 }

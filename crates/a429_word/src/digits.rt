@@ -64,8 +64,17 @@ impl Word {
         requires { place < 8 }
         ensures { result ≡ digit_glyph true (self / 2 ^ (4 * place) % 16) }
     {
-        HEX_DIGITS[(self.to_u32() >> (4 * place) & 15) as usize]
+        hex_digit((self.to_u32() >> (4 * place) & 15) as u8)
     }
+}
+
+/// A number below 16 as a hexadecimal digit in upper case.
+#[inline]
+pub fn hex_digit(number: u8) -> u8
+    requires { number < 16 }
+    ensures { result ≡ digit_glyph true number }
+{
+    HEX_DIGITS[usize::from(number)]
 }
 
 // The value of a byte as a digit.

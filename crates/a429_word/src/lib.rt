@@ -14,7 +14,7 @@ mod word;
 
 pub use crate::bcd::BadDigit;
 pub use crate::bus::Bus;
-pub use crate::digits::octal;
+pub use crate::digits::{hex_digit, octal};
 pub use crate::fixed::Fixed;
 pub use crate::page::Page;
 pub use crate::screening::{BAD_PARITY, OTHER_LABEL, THIS_LABEL, screen};

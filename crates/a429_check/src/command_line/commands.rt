@@ -21,6 +21,11 @@ pub enum Command<'a> {
         profile: &'a str,
         recording: &'a str,
     },
+    /// `forms PROFILE REC`: tells what each word of a recording is to the transfer of a profile.
+    Forms {
+        profile: &'a str,
+        recording: &'a str,
+    },
     /// `check PROFILE REC CERT`: finds a certificate for a recording, and writes it to CERT.
     Check(Claim<'a>),
     /// `extract PROFILE REC CERT DIR`: takes out the files that crossed, into the folder DIR.

@@ -1,0 +1,12 @@
+# Completion of a429 for bash: the commands, then files, and folders for the last word of extract.
+_a429() {
+    local word=${COMP_WORDS[COMP_CWORD]}
+    if [ "$COMP_CWORD" -eq 1 ]; then
+        mapfile -t COMPREPLY < <(compgen -W "word labels show forms make pack check verify extract" -- "$word")
+    elif [ "${COMP_WORDS[1]}" = extract ] && [ "$COMP_CWORD" -eq 5 ]; then
+        mapfile -t COMPREPLY < <(compgen -d -- "$word")
+    elif [ "${COMP_WORDS[1]}" != word ]; then
+        mapfile -t COMPREPLY < <(compgen -f -- "$word")
+    fi
+}
+complete -o filenames -F _a429 a429
