@@ -8,10 +8,10 @@ use Rattle.a429_link.specs.declared.seen.Seen.{Seen}
 use Rattle.a429_link.specs.declared.step.Step.{Step}
 use Rattle.a429_link.specs.Step.{Can, after, label}
 use Rattle.a429_link.specs.State.{start, State}
-use Rattle.a429_link.specs.Run.{IsRun, end_of, with_label, trace, delivered, offered, settled, IsPrefixOf}
+use Rattle.a429_link.specs.Run.{IsRun, end_of, with_label, trace, delivered, offered, settled, IsSubsequenceOf}
 use Rattle.a429_link.proofs.MessageRead.{is_read}
 use Rattle.a429_link.proofs.SinkFromTrace.{same_delivered}
-use Rattle.a429_link.proofs.RunCrossing.{delivered_prefix, settled_prefix}
+use Rattle.a429_link.proofs.RunCrossing.{delivered_subsequence, settled_subsequence}
 use Rattle.a429_link.proofs.LinkKept.{end_push}
 use Rattle.a429_cert.specs.declared.act.Act.{Act}
 use Rattle.a429_cert.specs.declared.act.Act.TheVariants as act
@@ -188,7 +188,7 @@ in_every_run p is certificate items files h = λ f steps byte run same.
     let read = is_read p is in
     let own = in_some_run p certificate items files h in
     let these : files ≡ delivered p f steps = own.gives ∙ same_delivered p own.first f own.steps steps read own.byte byte own.run run (own.recorded ∙ sym same) in
-    (these, subst (λ (l : List FileBytes). IsPrefixOf l (offered p f steps)) (sym these) (delivered_prefix p f steps read byte run), subst (λ (l : List FileBytes). IsPrefixOf (settled p f steps) l) (sym these) (settled_prefix p f steps read byte run))
+    (these, subst (λ (l : List FileBytes). IsSubsequenceOf l (offered p f steps)) (sym these) (delivered_subsequence p f steps read byte run), subst (λ (l : List FileBytes). IsSubsequenceOf (settled p f steps) l) (sym these) (settled_subsequence p f steps read byte run))
 
 -- ---- where a loop stands
 

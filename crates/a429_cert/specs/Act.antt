@@ -25,7 +25,7 @@ act_in b =
     else if b == 103 then Some TakeAnswer else if b == 100 then Some LoseAnswer else if b == 107 then Some SinkTakes
     else if b == 115 then Some Silent else if b == 98 then Some Answered else if b == 110 then Some FreeSeen else None
 
--- the letter of a step; a link data unit that is loaded has a line of its own
+-- the letter of a step; a link data unit that is loaded has a line of its own, and no line says that a file is given up
 abbrev pub letter_of : Step → Option Act
 letter_of (step.Load u) = None
 letter_of (step.Sent i) = Some Sent
@@ -37,6 +37,7 @@ letter_of step.SinkTakes = Some SinkTakes
 letter_of step.Silent = Some Silent
 letter_of (step.Answered i) = Some Answered
 letter_of (step.FreeSeen i) = Some FreeSeen
+letter_of step.GiveUp = None
 
 -- the step of this letter: it records the next entry, if it records one
 abbrev pub step_with : Act → Option Seen → Option Step

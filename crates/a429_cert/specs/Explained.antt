@@ -8,7 +8,7 @@ use Rattle.a429_link.specs.declared.step.Step.TheVariants as step
 use Rattle.a429_link.specs.Step.{Can, after}
 use Rattle.a429_link.specs.State.{start, State, states_of}
 use Rattle.a429_link.specs.declared.file.FileBytes.{FileBytes}
-use Rattle.a429_link.specs.Run.{IsRun, IsPrefixOf, end_of, trace, delivered, offered, settled}
+use Rattle.a429_link.specs.Run.{IsRun, IsSubsequenceOf, end_of, trace, delivered, offered, settled}
 use Rattle.a429_record.specs.declared.entry.Entry.{Entry}
 use Rattle.a429_cert.specs.declared.line.LoadLine.{LoadLine}
 use Rattle.a429_cert.specs.declared.line.CertLine.{CertLine}
@@ -94,7 +94,7 @@ pub record AreInSomeRun (p : Contents) (items : List Seen) (files : List FileByt
   pub gives : files ≡ delivered p first steps
 
 -- in each run that records these words and no others, whatever it loses out of sight, these files are
--- delivered, they are the first of those that its source offered, and those that its source takes as
--- acknowledged are the first of them
+-- delivered, they are some of those that its source offered, in their order, and those that its source
+-- takes as acknowledged are some of them, in their order
 abbrev pub AreInEveryRun : Contents → List Seen → List FileBytes → Type 0
-AreInEveryRun p items files = (first : ℕ) (steps : List Step) → first ≤ 255 → IsRun p steps (start p first) → trace steps ≡ items → (files ≡ delivered p first steps) × IsPrefixOf files (offered p first steps) × IsPrefixOf (settled p first steps) files
+AreInEveryRun p items files = (first : ℕ) (steps : List Step) → first ≤ 255 → IsRun p steps (start p first) → trace steps ≡ items → (files ≡ delivered p first steps) × IsSubsequenceOf files (offered p first steps) × IsSubsequenceOf (settled p first steps) files

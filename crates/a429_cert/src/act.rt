@@ -30,7 +30,7 @@ pub enum Act {
 }
 
 /// The name of a step, which a certificate writes as a letter; none where a link data unit is loaded,
-/// since that has a line of its own.
+/// since that has a line of its own, and none where a file is given up, which no certificate says.
 pub fn letter_of(step: &Step) -> Option<Act>
     ensures { result ≡ letter_of step.now }
 {
@@ -45,6 +45,7 @@ pub fn letter_of(step: &Step) -> Option<Act>
         Step::Silent => Some(Act::Silent),
         Step::Answered(_) => Some(Act::Answered),
         Step::FreeSeen(_) => Some(Act::FreeSeen),
+        Step::GiveUp => None,
     }
 }
 

@@ -134,6 +134,7 @@ lettered step.LoseAnswer x e = let same : act.LoseAnswer ≡ x = cc in subst (λ
 lettered step.SinkTakes x e = let same : act.SinkTakes ≡ x = cc in subst (λ y. (next : Option Seen) × (step_with y next ≡ Some step.SinkTakes)) same (None, refl)
 lettered step.Silent x e = let same : act.Silent ≡ x = cc in subst (λ y. (next : Option Seen) × (step_with y next ≡ Some step.Silent)) same (None, refl)
 lettered (step.Answered i) x e = let same : act.Answered ≡ x = cc in subst (λ y. (next : Option Seen) × (step_with y next ≡ Some (step.Answered i))) same (Some i, refl)
+lettered step.GiveUp x e = absurd (cc e)
 lettered (step.FreeSeen i) x e = let same : act.FreeSeen ≡ x = cc in subst (λ y. (next : Option Seen) × (step_with y next ≡ Some (step.FreeSeen i))) same (Some i, refl)
 
 -- the line of a state can be written

@@ -87,7 +87,7 @@ fn answers_that_are_not_owed(rt: HostRuntime) -> Result<(), Fail> {
 1 IMPOSSIBLE 2 WrongAnswer: RTS CTS CTS
 1 IMPOSSIBLE 4 WrongAnswer: RTS CTS SOT EOT ACK
 1 IMPOSSIBLE 6 WrongAnswer: RTS CTS SOT PART EOT NAK ACK
-1 IMPOSSIBLE 11 WrongAnswer: RTS CTS E0FF0123 PART EOT C5FF01A3 RTS CTS SOT PART EOT ACK";
+1 IMPOSSIBLE 11 WrongAnswer: RTS CTS E0FF0123 PART EOT C5FF01A3 RTS CTS 60800123 PART EOT 458001A3";
     assert_eq!(rt; first_that_differs(rt.alloc(), cases)?, None);
     Ok(())
 }
@@ -105,7 +105,9 @@ fn words_that_are_not_granted(rt: HostRuntime) -> Result<(), Fail> {
 fn recordings_in_doubt(rt: HostRuntime) -> Result<(), Fail> {
     let cases = "2 UNEXPLAINED 0 NeverWhole: RTS CTS PART EOT NAK
 2 UNEXPLAINED 0 NeverWhole: RTS CTS SOT 92004123 EOT NAK
-2 UNEXPLAINED 2 NotOneBlock: RTS CTS 60010223";
+2 UNEXPLAINED 2 NotOneBlock: RTS CTS 60010223
+2 UNEXPLAINED 8 NotOneBlock: RTS CTS E0FF0123 PART EOT C5FF01A3 RTS CTS SOT PART EOT ACK
+2 UNEXPLAINED 8 NotOneBlock: RTS CTS E0FF0123 PART EOT C5FF01A3 RTS CTS 607F0123 PART EOT 457F01A3";
     assert_eq!(rt; first_that_differs(rt.alloc(), cases)?, None);
     Ok(())
 }

@@ -24,12 +24,12 @@ pub(crate) struct Stage<'a> {
 }
 
 impl<'a> Stage<'a> {
-    /// A link on which nothing has happened, whose first file has number 1.
-    pub(crate) fn new(alloc: Global, profile: &'a Profile) -> Stage<'a> {
+    /// A link on which nothing has happened, whose first file has this number.
+    pub(crate) fn new(alloc: Global, profile: &'a Profile, first: u8) -> Stage<'a> {
         Stage {
             alloc,
             profile,
-            link: Link::start(alloc, profile, 1),
+            link: Link::start(alloc, profile, first),
         }
     }
 
@@ -72,6 +72,7 @@ impl<'a> Stage<'a> {
             "delivered" => debug(self.alloc, &self.link.delivered()),
             "take_delivered" => debug(self.alloc, &self.taken()),
             "255 open units cross" => debug(self.alloc, &self.open_units_cross()),
+            "127 files are given up" => debug(self.alloc, &self.gives_up_most()),
             _ => self.step_answer(name),
         }
     }
@@ -98,6 +99,16 @@ impl<'a> Stage<'a> {
     fn open_units_cross(&mut self) -> bool {
         for ldu in 1..=255 {
             if !self.open_unit_crosses(ldu) {
+                return false;
+            }
+        }
+        true
+    }
+
+    // Whether as many files are given up, one behind the other, as may be.
+    fn gives_up_most(&mut self) -> bool {
+        for _ in 0..127 {
+            if !self.made(Step::GiveUp) {
                 return false;
             }
         }
@@ -156,6 +167,7 @@ fn step(alloc: Global, profile: &Profile, text: &str) -> Option<Step>
         "TakeAnswer" => Some(Step::TakeAnswer),
         "LoseAnswer" => Some(Step::LoseAnswer),
         "SinkTakes" => Some(Step::SinkTakes),
+        "GiveUp" => Some(Step::GiveUp),
         _ => recorded_step(text),
     }
 }

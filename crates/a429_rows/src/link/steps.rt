@@ -87,20 +87,75 @@ const FULL_FILE: &str = "\
 Load open: Err(NotAllowed)
 delivered: []";
 
+// The file 255 crosses, in the block of the byte 41 too.
+const FILE_255: &str = "\
+Load final
+Sent A 41410323
+SinkTakes
+Answered B C24103A3
+TakeAnswer
+Sent A E0FF0123
+SinkTakes
+Sent A 12004123
+SinkTakes
+Sent A 71A3F523
+SinkTakes
+Answered B C5FF01A3
+TakeAnswer";
+
+// File 0 is given up behind it, with the unit that was loaded.
+const FILE_0_GIVEN_UP: &str = "\
+Load final
+GiveUp
+states: (Idle, Quiet, 0, 0)";
+
+const FILES_255_AND_1: &str = "\
+TakeAnswer
+delivered: [FileBytes { number: 255, bytes: Bytes { bytes: [65] } }, FileBytes { number: 1, bytes: Bytes { bytes: [65] } }]";
+
+// A file is given up between two others.
+const GIVEN_UP: [&str; 5] = [
+    FILE_255,
+    FILE_0_GIVEN_UP,
+    "Load final",
+    BLOCK,
+    FILES_255_AND_1,
+];
+
+// A source that waits gives nothing up, and an idle one at most 127 files behind one another.
+const MOST_GIVEN_UP: &str = "\
+127 files are given up: true
+GiveUp: Err(NotAllowed)";
+
+const WAITING: &str = "\
+Load final
+Sent A 41410323
+GiveUp: Err(NotAllowed)";
+
+// An acknowledgement that the source takes lets it give up as many again.
+const MORE_GIVEN_UP: [&str; 3] = ["GiveUp", FILE_255, MOST_GIVEN_UP];
+
 // The first line of a script in parts that goes otherwise than it says on a link under a profile.
 fn played<'s>(alloc: Global, profile: &str, parts: &[&'s str]) -> Option<&'s str> {
+    from_file(alloc, profile, 1, parts)
+}
+
+// The same where the first file has this number.
+fn from_file<'s>(alloc: Global, profile: &str, first: u8, parts: &[&'s str]) -> Option<&'s str> {
     match read(alloc, profile) {
-        Some(profile) => Stage::new(alloc, &profile).first_in_parts(parts),
+        Some(profile) => Stage::new(alloc, &profile, first).first_in_parts(parts),
         None => Some("no profile"),
     }
 }
 
 #[test]
 fn steps_go_as_the_scripts_say(rt: HostRuntime) {
-    for script in [ONE_BYTE, NOT_THERE, FULL_FILE] {
+    for script in [ONE_BYTE, NOT_THERE, FULL_FILE, MOST_GIVEN_UP, WAITING] {
         assert_eq!(rt; played(rt.alloc(), PROFILE, &[script]), None);
     }
     assert_eq!(rt; played(rt.alloc(), PROFILE, &AGAIN), None);
+    assert_eq!(rt; from_file(rt.alloc(), PROFILE, 255, &GIVEN_UP), None);
+    assert_eq!(rt; from_file(rt.alloc(), PROFILE, 254, &MORE_GIVEN_UP), None);
 }
 
 #[test]

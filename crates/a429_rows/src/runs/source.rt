@@ -4,7 +4,8 @@ use crate::runs::draft::Draft;
 use crate::runs::words::{acknowledgement, clear, is_refusal, request};
 use a429_link::SourceState;
 
-/// A source: its file number, its link data unit's number, this unit if there is one, and its phase.
+/// A source: its file number, its link data unit's number, this unit if there is one, its phase, and the files given
+/// up since its last acknowledgement.
 #[derive(Clone, Copy)]
 pub(crate) struct Source {
     pub first_ldu: u8,
@@ -12,6 +13,7 @@ pub(crate) struct Source {
     pub ldu: u16,
     pub draft: Option<Draft>,
     pub state: SourceState,
+    give_ups: u8,
 }
 
 impl Source {
@@ -22,6 +24,7 @@ impl Source {
             ldu: u16::from(first_ldu),
             draft: None,
             state: SourceState::Idle,
+            give_ups: 0,
         }
     }
 
@@ -85,11 +88,28 @@ impl Source {
     fn end_unit(&mut self, ends_file: bool) {
         self.state = SourceState::Idle;
         self.draft = None;
+        self.give_ups = 0;
         if ends_file {
-            self.file = self.file.wrapping_add(1);
-            self.ldu = u16::from(self.first_ldu);
+            self.begin_next_file();
         } else {
             self.ldu = self.ldu.wrapping_add(1);
         }
+    }
+
+    fn begin_next_file(&mut self) {
+        self.file = self.file.wrapping_add(1);
+        self.ldu = u16::from(self.first_ldu);
+    }
+
+    /// Idle, with at most 126 files given up since its last acknowledgement.
+    pub(crate) fn may_give_up(self) -> bool {
+        self.state == SourceState::Idle && self.give_ups <= 126
+    }
+
+    /// It gives its file up.
+    pub(crate) fn give_up(&mut self) {
+        self.draft = None;
+        self.give_ups = self.give_ups.wrapping_add(1);
+        self.begin_next_file();
     }
 }

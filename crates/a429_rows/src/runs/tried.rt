@@ -23,6 +23,7 @@ pub(crate) enum Move {
     Silent,
     Answered(Bus, u32),
     FreeSeen(Bus, u32),
+    GiveUp,
 }
 
 impl Move {
@@ -51,6 +52,7 @@ impl Move {
             Move::Silent => Step::Silent,
             Move::Answered(bus, word) => Step::Answered(seen(bus, word)),
             Move::FreeSeen(bus, word) => Step::FreeSeen(seen(bus, word)),
+            Move::GiveUp => Step::GiveUp,
         })
     }
 }

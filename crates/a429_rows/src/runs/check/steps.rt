@@ -119,6 +119,7 @@ impl Told {
                 self.answer = None;
             }
             Move::LoseAnswer => self.answer = None,
+            Move::GiveUp => self.source.give_up(),
             _ => {}
         }
         if let Some(seen) = made.recorded() {
@@ -133,6 +134,7 @@ impl<'a> Run<'a> {
     fn chosen(&self, alloc: Global, chance: &mut Chance) -> Result<Option<Chosen>, Fail> {
         let sink = self.link.states().sink;
         Ok(match chance.below(32) {
+            0 if !self.is_open && chance.one_in(4) => Some((Move::GiveUp, true)),
             0..=1 => {
                 let draft = some_draft(alloc, self.profile, chance, self.is_open)?;
                 Some((Move::Load(draft), true))

@@ -70,6 +70,7 @@ impl Model {
             Move::Answered(bus, word) => (owes, bus == Bus::B && self.sink.may_answer(word)),
             Move::FreeSeen(Bus::A, word) => (true, is_free(TO_SINK, word)),
             Move::FreeSeen(Bus::B, word) => (true, is_free(TO_SOURCE, word)),
+            Move::GiveUp => (self.source.may_give_up(), true),
         }
     }
 
@@ -102,6 +103,7 @@ impl Model {
                 self.to_source = Some(word);
             }
             Move::FreeSeen(_, _) => {}
+            Move::GiveUp => self.source.give_up(),
         }
         Ok(())
     }

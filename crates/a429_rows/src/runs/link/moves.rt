@@ -24,6 +24,7 @@ pub(super) struct Plan {
 pub(super) fn drawn(chance: &mut Chance, plan: Plan, model: &Model) -> Move {
     let is_loss = chance.below(16) < plan.losses;
     match (chance.below(8), is_loss) {
+        (0, true) if !plan.is_open => Move::GiveUp,
         (0, _) => some_load(chance, plan),
         (1 | 2, true) => Move::SentLost,
         (1 | 2, false) => {

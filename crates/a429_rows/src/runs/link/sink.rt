@@ -151,21 +151,33 @@ impl Sink {
         }
     }
 
+    // The block is of the file accepted from last.
+    fn is_of_last_file(&self) -> bool {
+        match self.last {
+            Some(last) => self.block.file == last.file,
+            None => true,
+        }
+    }
+
     // The block has the numbers that follow those accepted last.
     fn is_in_sequence(&self) -> bool {
         let is_first = self.block.ldu == self.first_ldu;
         match self.last {
             None => is_first,
-            Some(last) if last.is_final => {
-                is_first && self.block.file == last.file.wrapping_add(1)
-            }
             Some(last) => {
-                let ldu = u16::from(self.block.ldu);
-                self.block.file == last.file
-                    && ldu == u16::from(last.ldu) + 1
-                    && ldu <= u16::from(self.first_ldu) + 254
+                let past = self.block.file.wrapping_sub(last.file);
+                is_first && past >= 1 && past <= 128 || self.goes_on(last)
             }
         }
+    }
+
+    // The block has the next number of a file that is not whole.
+    fn goes_on(&self, last: Accepted) -> bool {
+        let ldu = u16::from(self.block.ldu);
+        !last.is_final
+            && self.block.file == last.file
+            && ldu == u16::from(last.ldu) + 1
+            && ldu <= u16::from(self.first_ldu) + 254
     }
 
     /// The answer that it owes, and that is no refusal of a good block.
@@ -197,8 +209,11 @@ impl Sink {
         Ok(())
     }
 
-    // The block's bytes join the file.
+    // The block's bytes join the file; those of another file, which is not whole, are dropped.
     fn accept(&mut self) -> Result<(), AllocError> {
+        if !self.is_of_last_file() {
+            self.open_bytes.clear();
+        }
         self.open_bytes.extend_from_slice(self.bytes.as_slice())?;
         let Block {
             file,
