@@ -3,7 +3,7 @@
 
 use a429_check::{
     Claim, Command, Folder, RunFault, command, read_whole, report, run_check, run_extract,
-    run_forms, run_labels, run_make, run_pack, run_show, run_verify, run_word,
+    run_forms, run_labels, run_make, run_pack, run_show, run_upgrade, run_verify, run_word,
 };
 use a429_record::EntryReader;
 use a429_word::Tally;
@@ -46,6 +46,7 @@ fn run(rt: &(impl Files + Env + Print + AllocGlobal)) -> Result<u8, RunFault> {
         Command::Check(claim) => check(rt, alloc, claim, &mut out)?,
         Command::Verify(claim) => verify(rt, alloc, claim, &mut out)?,
         Command::Extract { claim, folder } => extract(rt, alloc, claim, folder, &mut out)?,
+        Command::Upgrade { cert, new_cert } => upgrade(rt, cert, new_cert, &mut out)?,
     };
     out.flush().map_err(|_| RunFault::Device)?;
     Ok(status)
@@ -130,6 +131,17 @@ fn extract<W: Write>(
         &mut folder,
         out,
     )
+}
+
+fn upgrade<W: Write>(
+    rt: &impl Files,
+    cert: &str,
+    new_cert: &str,
+    out: &mut Tally<W>,
+) -> Result<u8, RunFault> {
+    let mut cert = opened(rt, cert, CERTIFICATE_CAP)?;
+    let mut new_cert = created(rt, new_cert)?;
+    run_upgrade(&mut cert, &mut new_cert, out)
 }
 
 // The bytes of each of these files.

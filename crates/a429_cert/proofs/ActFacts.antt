@@ -1,7 +1,7 @@
 -- Letters are read as the steps that they stand for.
 use Rattle.std.proofs.Common.{◌≡◌, ◌==◌, ◌∙◌, inl, inr, if◌then◌else◌, ℕ, [], ◌∷◌, Option, Some, refl, sym, ap}
 use Rattle.a429_cert.specs.declared.act.Act.{Act}
-use Rattle.a429_cert.specs.declared.act.Act.TheVariants.{Sent, SentLost, TimeOut, TakeAnswer, LoseAnswer, SinkTakes, Silent, Answered, FreeSeen}
+use Rattle.a429_cert.specs.declared.act.Act.TheVariants.{Sent, SentLost, TimeOut, TakeAnswer, LoseAnswer, SinkTakes, Silent, Answered, FreeSeen, GiveUp}
 use Rattle.a429_cert.specs.Act.{act_text, act_in}
 use Rattle.a429_cert.proofs.Options.{some_is, split}
 use Rattle.a429_cert.proofs.FieldNumbers.{is_same}
@@ -17,6 +17,7 @@ act_byte SinkTakes = 107
 act_byte Silent = 115
 act_byte Answered = 98
 act_byte FreeSeen = 110
+act_byte GiveUp = 120
 
 pub act-back : (a : Act) → act_in (act_byte a) ≡ Some a
 act-back Sent = refl
@@ -28,6 +29,7 @@ act-back SinkTakes = refl
 act-back Silent = refl
 act-back Answered = refl
 act-back FreeSeen = refl
+act-back GiveUp = refl
 
 -- it is this one, or one of those behind it
 named : (b c : ℕ) (x a : Act) (others : Option Act) → act_text x ≡ c ∷ [] → (if b == c then Some x else others) ≡ Some a → (others ≡ Some a → b ∷ [] ≡ act_text a) → b ∷ [] ≡ act_text a
@@ -48,4 +50,5 @@ act-only b a e =
     named b 115 Silent a _ refl e6 (λ e7.
     named b 98 Answered a _ refl e7 (λ e8.
     named b 110 FreeSeen a _ refl e8 (λ e9.
-    absurd cc)))))))))
+    named b 120 GiveUp a _ refl e9 (λ e10.
+    absurd cc))))))))))

@@ -1,5 +1,5 @@
 -- Lines that are passed one after the other: the run that they list, and what it says of a certificate.
-use Rattle.std.proofs.Common.{◌≡◌, ℕ, zero, suc, ◌+◌, ◌≤◌, List, [], ◌∷◌, ◌++◌, take, drop, length, Option, Some, None, option_map, slice_get, refl, sym, ap, ◌∙◌, subst, arith, append-nil}
+use Rattle.std.proofs.Common.{◌≡◌, ℕ, zero, suc, ◌+◌, ◌≤◌, List, [], ◌∷◌, ◌++◌, map, take, drop, length, Option, Some, None, option_map, slice_get, refl, sym, ap, ◌∙◌, subst, arith, append-nil}
 use Rattle.std.proofs.lemmas.Option.{slice_get_within}
 use Rattle.std.proofs.lemmas.List.{take_all, drop-drop}
 use Rattle.a429_profile.specs.Profile.{Contents, IsProfile}
@@ -19,10 +19,13 @@ use Rattle.a429_cert.specs.declared.line.CertLine.{CertLine}
 use Rattle.a429_cert.specs.declared.line.CertLine.TheVariants.{First, Load, Moved}
 use Rattle.a429_cert.specs.Line.{spelling, SpellsLine}
 use Rattle.a429_cert.proofs.Options.{some_is}
-use Rattle.a429_cert.specs.Lines.{certificate_lines, version}
+use Rattle.a429_cert.specs.declared.version.Version.{Version}
+use Rattle.a429_cert.specs.declared.explained.Head.{Head}
+use Rattle.a429_cert.specs.Lines.{certificate_lines}
+use Rattle.a429_cert.specs.Version.{version_line, read_as, step_lines}
 use Rattle.a429_cert.specs.Explained.{step_of, ShowsStates, ListsStep, ListsSteps, Reaches, IsExplained, AreInSomeRun, AreInEveryRun}
 use Rattle.a429_cert.specs.Act.{step_with, uses_of}
-use Rattle.a429_cert.specs.Fault.{HasVersion, HasFirst}
+use Rattle.a429_cert.specs.Fault.{HasHead}
 use Rattle.a429_cert.specs.Passing.{uses, MakesStep, PassesText}
 
 -- ---- lists
@@ -85,6 +88,7 @@ act_used act.TakeAnswer a items i next g e = subst (λ b. take (i + 0) items ≡
 act_used act.LoseAnswer a items i next g e = subst (λ b. take (i + 0) items ≡ take i items ++ trace (b ∷ [])) (some_is _ a e) (let n : i + 0 ≡ i = omega arith in rw n (sym (append-nil (take i items))))
 act_used act.SinkTakes a items i next g e = subst (λ b. take (i + 0) items ≡ take i items ++ trace (b ∷ [])) (some_is _ a e) (let n : i + 0 ≡ i = omega arith in rw n (sym (append-nil (take i items))))
 act_used act.Silent a items i next g e = subst (λ b. take (i + 0) items ≡ take i items ++ trace (b ∷ [])) (some_is _ a e) (let n : i + 0 ≡ i = omega arith in rw n (sym (append-nil (take i items))))
+act_used act.GiveUp a items i next g e = subst (λ b. take (i + 0) items ≡ take i items ++ trace (b ∷ [])) (some_is _ a e) (let n : i + 0 ≡ i = omega arith in rw n (sym (append-nil (take i items))))
 
 line_used : (l : CertLine) (a : Step) (items : List Seen) (i : ℕ) → step_of l (slice_get items i) ≡ Some a → take (i + uses l) items ≡ take i items ++ trace (a ∷ [])
 line_used (First file) a items i e = absurd (cc e)
@@ -104,6 +108,7 @@ act_inside act.TakeAnswer a items i next g e l = omega arith
 act_inside act.LoseAnswer a items i next g e l = omega arith
 act_inside act.SinkTakes a items i next g e l = omega arith
 act_inside act.Silent a items i next g e l = omega arith
+act_inside act.GiveUp a items i next g e l = omega arith
 
 line_inside : (l : CertLine) (a : Step) (items : List Seen) (i : ℕ) → step_of l (slice_get items i) ≡ Some a → i ≤ length items → i + uses l ≤ length items
 line_inside (First file) a items i e l = absurd (cc e)
@@ -153,18 +158,19 @@ header_is (x ∷ []) a b e h = absurd (cc h)
 header_is (x ∷ (y ∷ xs)) a b e h = rw (some_is x a e, some_is y b h) refl
 
 -- lines that are all passed, with all entries used
-pub explained : (p : Contents) (certificate : List ℕ) (items : List Seen) (first k i : ℕ) (s : State)
-    → HasVersion certificate → HasFirst certificate first → slice_get (drop 2 (certificate_lines certificate)) k ≡ None → length items ≤ i
-    → Reaches p first (take k (drop 2 (certificate_lines certificate))) (take i items) s → IsExplained p certificate items s.sink.shelf.files
-explained p certificate items first k i s v w g all h =
+pub explained : (p : Contents) (certificate : List ℕ) (items : List Seen) (d : Head) (k i : ℕ) (s : State)
+    → HasHead certificate d → slice_get (step_lines d.version certificate) k ≡ None → length items ≤ i
+    → Reaches p d.first (take k (step_lines d.version certificate)) (take i items) s → IsExplained p certificate items s.sink.shelf.files
+explained p certificate items d k i s w g all h =
     record {
-      first = first;
+      first = d.first;
       steps = h.steps;
       explains = record {
+        version = d.version;
         lines = drop 2 (certificate_lines certificate);
-        byte = w.0;
-        header = header_is (certificate_lines certificate) (Some version) (Some (spelling (First first))) v w.1;
-        lists = subst (λ (l : List (Option (List ℕ))). ListsSteps p l h.steps (start p first)) (take_all k (drop 2 (certificate_lines certificate)) (none_past (drop 2 (certificate_lines certificate)) k g)) h.lists;
+        byte = w.1.0;
+        header = header_is (certificate_lines certificate) (Some (version_line d.version)) (Some (spelling (First d.first))) w.0 w.1.1;
+        lists = subst (λ (l : List (Option (List ℕ))). ListsSteps p l h.steps (start p d.first)) (take_all k (step_lines d.version certificate) (none_past (step_lines d.version certificate) k g)) h.lists;
         used = h.used ∙ take_all i items all;
       };
       delivers = ap (λ (t : State). t.sink.shelf.files) h.ends;
@@ -177,7 +183,7 @@ in_some_run p certificate items files h =
       first = h.first;
       byte = h.explains.byte;
       steps = h.steps;
-      run = lists_run p h.explains.lines h.steps (start p h.first) h.explains.lists;
+      run = lists_run p (map (read_as h.explains.version) h.explains.lines) h.steps (start p h.first) h.explains.lists;
       recorded = h.explains.used;
       gives = h.delivers;
     }
@@ -201,6 +207,18 @@ none_here f lines left k r e g h = sym (drop_get lines k) ∙ ap (λ (l : List (
 pub none_of : {V : Type 0} (r : Option V) → ((x : V) → r ≡ Some x → ⊥) → r ≡ None
 none_of None h = refl
 none_of (Some x) h = absurd (h x refl)
+
+-- the same of the lines as a version reads them
+get_map : {X Y : Type 0} (f : X → Y) (xs : List X) (k : ℕ) → slice_get (map f xs) k ≡ option_map f (slice_get xs k)
+get_map f [] k = refl
+get_map f (x ∷ xs) zero = refl
+get_map f (x ∷ xs) (suc k) = get_map f xs k
+
+pub line_read : (v : Version) (lines : List (Option (List ℕ))) (k : ℕ) (line : Option (List ℕ)) → slice_get lines k ≡ Some line → slice_get (map (read_as v) lines) k ≡ Some (read_as v line)
+line_read v lines k line e = get_map (read_as v) lines k ∙ ap (option_map (read_as v)) e
+
+pub none_read : (v : Version) (lines : List (Option (List ℕ))) (k : ℕ) → slice_get lines k ≡ None → slice_get (map (read_as v) lines) k ≡ None
+none_read v lines k e = get_map (read_as v) lines k ∙ ap (option_map (read_as v)) e
 
 pub left_on : (lines : List (Option (List ℕ))) (left more : List ℕ) (k : ℕ) → certificate_lines left ≡ drop k lines → certificate_lines more ≡ drop 1 (certificate_lines left) → certificate_lines more ≡ drop (suc k) lines
 left_on lines left more k e g = let n : k + 1 ≡ suc k = omega arith in g ∙ ap (drop 1) e ∙ drop-drop 1 k lines ∙ ap (λ m. drop m lines) n

@@ -9,9 +9,12 @@ use Rattle.a429_cert.specs.declared.line.CertLine.TheVariants.{First, Load, Move
 use Rattle.a429_cert.specs.declared.fault.CertFault.{CertFault}
 use Rattle.a429_cert.specs.declared.fault.CertFault.TheVariants as of
 use Rattle.a429_cert.specs.Line.{spelling, Reads}
-use Rattle.a429_cert.specs.Lines.{certificate_lines, version}
+use Rattle.a429_cert.specs.declared.version.Version.{Version}
+use Rattle.a429_cert.specs.declared.explained.Head.{Head}
+use Rattle.a429_cert.specs.Lines.{certificate_lines}
+use Rattle.a429_cert.specs.Version.{version_line, step_lines}
 use Rattle.a429_cert.specs.Explained.{Reaches}
-use Rattle.a429_cert.specs.Fault.{HasVersion, HasFirst, IsFaultOfLine, IsFaultAt, IsLaterFault, IsFirstCertFault, Begins, file_in}
+use Rattle.a429_cert.specs.Fault.{IsVersioned, HasHead, IsFaultOfLine, IsFaultAt, IsLaterFault, IsFirstCertFault, Begins, file_in}
 use Rattle.a429_cert.proofs.Options.{some_is}
 use Rattle.a429_cert.proofs.ReadingFacts.{one-line}
 use Rattle.a429_cert.proofs.ExplainedFacts.{drop_get}
@@ -32,8 +35,8 @@ first_err f q x text l None r e g reads is same = rw same (λ h. (refl, λ first
 
 -- ---- the first two lines
 
-pub begun : (text certificate : List ℕ) (first : ℕ) (behind : List ℕ) → text ≡ certificate → Begins text first behind → Begins certificate first behind
-begun text certificate first behind e h = subst (λ (l : List ℕ). Begins l first behind) e h
+pub begun : (text certificate : List ℕ) (h : Head) (behind : List ℕ) → text ≡ certificate → Begins text h behind → Begins certificate h behind
+begun text certificate h behind e b = subst (λ (l : List ℕ). Begins l h behind) e b
 
 is_some_of : {V W : Type 0} (f : V → W) (r : Option V) (x : W) → option_map f r ≡ Some x → IsSome r
 is_some_of f None x e = absurd (cc e)
@@ -42,16 +45,15 @@ is_some_of f (Some v) x e = refl
 pub second_is : {V : Type 0} (f : V → Option (List ℕ)) (text mid : List ℕ) (r : Option V) → option_map f r ≡ slice_get (certificate_lines mid) 0 → certificate_lines mid ≡ drop 1 (certificate_lines text) → option_map f r ≡ slice_get (certificate_lines text) 1
 second_is f text mid r g e = g ∙ ap (λ (l : List (Option (List ℕ))). slice_get l 0) e ∙ drop_get (certificate_lines text) 1
 
-pub head : {V : Type 0} (f : V → Option (List ℕ)) (text mid behind : List ℕ) (r q : Option V) (first : ℕ) → first ≤ 255
-    → option_map f r ≡ slice_get (certificate_lines text) 0 → certificate_lines mid ≡ drop 1 (certificate_lines text) → (IsSome r → length mid < length text) → option_map f r ≡ Some (Some version)
+pub head : {V : Type 0} (f : V → Option (List ℕ)) (text mid behind : List ℕ) (r q : Option V) (v : Version) (first : ℕ) → first ≤ 255
+    → option_map f r ≡ slice_get (certificate_lines text) 0 → certificate_lines mid ≡ drop 1 (certificate_lines text) → (IsSome r → length mid < length text) → option_map f r ≡ Some (Some (version_line v))
     → option_map f q ≡ slice_get (certificate_lines mid) 0 → certificate_lines behind ≡ drop 1 (certificate_lines mid) → (IsSome q → length behind < length mid) → option_map f q ≡ Some (Some (spelling (First first)))
-    → Begins text first behind
-head f text mid behind r q first byte g e l v g' e' l' w =
-    let one = l (is_some_of f r (Some version) v) in
+    → Begins text (record { version = v; first = first }) behind
+head f text mid behind r q v first byte g e l named g' e' l' w =
+    let one = l (is_some_of f r (Some (version_line v)) named) in
     let two = l' (is_some_of f q (Some (spelling (First first))) w) in
     record {
-      version = sym g ∙ v;
-      first_file = (byte, sym (second_is f text mid q g' e) ∙ w);
+      says = (sym g ∙ named, (byte, sym (second_is f text mid q g' e) ∙ w));
       lines = e' ∙ ap (drop 1) e ∙ drop-drop 1 1 (certificate_lines text);
       shorter = omega arith;
     }
@@ -73,9 +75,9 @@ no_memory p s next n i (Some line) d = d.3
 no_memory p s (Some item) n i None d = d
 no_memory p s None n i None d = d
 
-later : (p : Contents) (certificate : List ℕ) (items : List Seen) (f : CertFault) → HasVersion certificate → IsLaterFault p certificate items f → IsFirstCertFault p certificate items f
-later p certificate items of.Version v h = absurd (no_version p h.state (slice_get items h.i) (h.k + 3) h.i (slice_get (drop 2 (certificate_lines certificate)) h.k) h.fault)
-later p certificate items of.OutOfMemory v h = no_memory p h.state (slice_get items h.i) (h.k + 3) h.i (slice_get (drop 2 (certificate_lines certificate)) h.k) h.fault
+later : (p : Contents) (certificate : List ℕ) (items : List Seen) (f : CertFault) → IsVersioned certificate → IsLaterFault p certificate items f → IsFirstCertFault p certificate items f
+later p certificate items of.Version v h = absurd (no_version p h.state (slice_get items h.i) (h.k + 3) h.i (slice_get (step_lines h.head.version certificate) h.k) h.fault)
+later p certificate items of.OutOfMemory v h = no_memory p h.state (slice_get items h.i) (h.k + 3) h.i (slice_get (step_lines h.head.version certificate) h.k) h.fault
 later p certificate items (of.Line n) v h = (v, inr h)
 later p certificate items (of.NotAllowed n) v h = (v, inr h)
 later p certificate items (of.StateDiffers n) v h = (v, inr h)
@@ -83,23 +85,23 @@ later p certificate items (of.WordDiffers n i) v h = (v, inr h)
 later p certificate items (of.Unfinished i) v h = (v, inr h)
 
 -- the fault of the next line
-pub faulty : (p : Contents) (certificate : List ℕ) (items : List Seen) (first k i : ℕ) (line : Option (List ℕ)) (s : State) (f : CertFault)
-    → HasVersion certificate → HasFirst certificate first → slice_get (drop 2 (certificate_lines certificate)) k ≡ Some line → i ≤ length items
-    → Reaches p first (take k (drop 2 (certificate_lines certificate))) (take i items) s → IsFaultOfLine p s (slice_get items i) (k + 3) i line f → IsFirstCertFault p certificate items f
-faulty p certificate items first k i line s f v w g inside h m =
-    later p certificate items f v (record { first = first; has_first = w; k = k; i = i; inside = inside; state = s; before = h; fault = subst (λ o. IsFaultAt p s (slice_get items i) (k + 3) i o f) (sym g) m })
+pub faulty : (p : Contents) (certificate : List ℕ) (items : List Seen) (d : Head) (k i : ℕ) (line : Option (List ℕ)) (s : State) (f : CertFault)
+    → HasHead certificate d → slice_get (step_lines d.version certificate) k ≡ Some line → i ≤ length items
+    → Reaches p d.first (take k (step_lines d.version certificate)) (take i items) s → IsFaultOfLine p s (slice_get items i) (k + 3) i line f → IsFirstCertFault p certificate items f
+faulty p certificate items d k i line s f w g inside h m =
+    later p certificate items f (d.version, w.0) (record { head = d; says = w; k = k; i = i; inside = inside; state = s; before = h; fault = subst (λ o. IsFaultAt p s (slice_get items i) (k + 3) i o f) (sym g) m })
 
 -- an entry that is left
-pub left_over : (p : Contents) (certificate : List ℕ) (items : List Seen) (first k i : ℕ) (s : State)
-    → HasVersion certificate → HasFirst certificate first → slice_get (drop 2 (certificate_lines certificate)) k ≡ None → i < length items
-    → Reaches p first (take k (drop 2 (certificate_lines certificate))) (take i items) s → IsFirstCertFault p certificate items (of.Unfinished i)
-left_over p certificate items first k i s v w g more h =
+pub left_over : (p : Contents) (certificate : List ℕ) (items : List Seen) (d : Head) (k i : ℕ) (s : State)
+    → HasHead certificate d → slice_get (step_lines d.version certificate) k ≡ None → i < length items
+    → Reaches p d.first (take k (step_lines d.version certificate)) (take i items) s → IsFirstCertFault p certificate items (of.Unfinished i)
+left_over p certificate items d k i s w g more h =
     let next = some_within items i more in
     let here : IsFaultAt p s (slice_get items i) (k + 3) i None (of.Unfinished i) = subst (λ o. IsFaultAt p s o (k + 3) i None (of.Unfinished i)) (sym next.1) refl in
-    later p certificate items (of.Unfinished i) v (record { first = first; has_first = w; k = k; i = i; inside = omega arith; state = s; before = h; fault = subst (λ o. IsFaultAt p s (slice_get items i) (k + 3) i o (of.Unfinished i)) (sym g) here })
+    later p certificate items (of.Unfinished i) (d.version, w.0) (record { head = d; says = w; k = k; i = i; inside = omega arith; state = s; before = h; fault = subst (λ o. IsFaultAt p s (slice_get items i) (k + 3) i o (of.Unfinished i)) (sym g) here })
 
-pub faulty_now : (p : Contents) (certificate : List ℕ) (items : List Seen) (first k i n : ℕ) (line : Option (List ℕ)) (next : Option Seen) (s : State) (f : CertFault)
-    → HasVersion certificate → HasFirst certificate first → slice_get (drop 2 (certificate_lines certificate)) k ≡ Some line → n ≡ k + 3 → next ≡ slice_get items i → i ≤ length items
-    → Reaches p first (take k (drop 2 (certificate_lines certificate))) (take i items) s → IsFaultOfLine p s next n i line f → IsFirstCertFault p certificate items f
-faulty_now p certificate items first k i n line next s f v w g e o inside h m =
-    faulty p certificate items first k i line s f v w g inside h (subst (λ x. IsFaultOfLine p s (slice_get items i) x i line f) e (subst (λ x. IsFaultOfLine p s x n i line f) o m))
+pub faulty_now : (p : Contents) (certificate : List ℕ) (items : List Seen) (d : Head) (k i n : ℕ) (line : Option (List ℕ)) (next : Option Seen) (s : State) (f : CertFault)
+    → HasHead certificate d → slice_get (step_lines d.version certificate) k ≡ Some line → n ≡ k + 3 → next ≡ slice_get items i → i ≤ length items
+    → Reaches p d.first (take k (step_lines d.version certificate)) (take i items) s → IsFaultOfLine p s next n i line f → IsFirstCertFault p certificate items f
+faulty_now p certificate items d k i n line next s f w g e o inside h m =
+    faulty p certificate items d k i line s f w g inside h (subst (λ x. IsFaultOfLine p s (slice_get items i) x i line f) e (subst (λ x. IsFaultOfLine p s x n i line f) o m))

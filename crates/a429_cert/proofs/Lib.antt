@@ -17,6 +17,7 @@ pub mod PassingStep
 pub mod ExplainedFacts
 pub mod FaultFacts
 pub mod NoFault
+pub mod VersionFacts
 pub mod StreamFacts
 pub mod StreamHeadFacts
 pub mod StreamStands

@@ -12,7 +12,7 @@ use Rattle.a429_link.specs.declared.state.SourceState.TheVariants.{Idle, Awaitin
 use Rattle.a429_link.specs.declared.state.SinkState.{SinkState}
 use Rattle.a429_link.specs.declared.state.SinkState.TheVariants.{Quiet, OwesClear, Granted, InBlock, OwesAck, OwesNak}
 use Rattle.a429_cert.specs.declared.act.Act.{Act}
-use Rattle.a429_cert.specs.declared.act.Act.TheVariants.{Sent, SentLost, TimeOut, TakeAnswer, LoseAnswer, SinkTakes, Silent, Answered, FreeSeen}
+use Rattle.a429_cert.specs.declared.act.Act.TheVariants.{Sent, SentLost, TimeOut, TakeAnswer, LoseAnswer, SinkTakes, Silent, Answered, FreeSeen, GiveUp}
 use Rattle.a429_cert.specs.declared.line.CertLine.{CertLine}
 use Rattle.a429_cert.specs.declared.line.CertLine.TheVariants.{First, Load, Moved}
 use Rattle.a429_cert.specs.Line.{spelling, IsLine, IsHeld}
@@ -70,6 +70,7 @@ act-visible SinkTakes = letter 107 (omega arith) (omega arith)
 act-visible Silent = letter 115 (omega arith) (omega arith)
 act-visible Answered = letter 98 (omega arith) (omega arith)
 act-visible FreeSeen = letter 110 (omega arith) (omega arith)
+act-visible GiveUp = letter 120 (omega arith) (omega arith)
 
 source-visible : (source : SourceState) → IsSource source → IsText (source_text source)
 source-visible Idle h = letter 73 (omega arith) (omega arith)
@@ -120,6 +121,7 @@ length-act SinkTakes = omega arith
 length-act Silent = omega arith
 length-act Answered = omega arith
 length-act FreeSeen = omega arith
+length-act GiveUp = omega arith
 
 length-source : (source : SourceState) → IsSource source → length (source_text source) ≤ 4
 length-source Idle h = omega arith

@@ -1,5 +1,5 @@
 -- A certificate that explains a recording has no first fault.
-use Rattle.std.proofs.Common.{◌≡◌, ◌⊎◌, inl, inr, ℕ, zero, suc, ◌+◌, ◌≤◌, List, [], ◌∷◌, take, drop, Option, Some, None, slice_get, refl, sym, ap, ◌∙◌, subst, arith}
+use Rattle.std.proofs.Common.{◌≡◌, ◌⊎◌, inl, inr, ℕ, zero, suc, ◌+◌, ◌≤◌, List, [], ◌∷◌, map, take, drop, Option, Some, None, slice_get, refl, sym, ap, ◌∙◌, subst, arith}
 use Rattle.a429_profile.specs.Profile.{Contents}
 use Rattle.a429_link.specs.declared.seen.Seen.{Seen}
 use Rattle.a429_link.specs.declared.step.Step.{Step}
@@ -14,10 +14,13 @@ use Rattle.a429_cert.specs.declared.line.CertLine.TheVariants.{First, Load, Move
 use Rattle.a429_cert.specs.declared.fault.CertFault.{CertFault}
 use Rattle.a429_cert.specs.declared.fault.CertFault.TheVariants as of
 use Rattle.a429_cert.specs.Line.{spelling, SpellsLine}
+use Rattle.a429_cert.specs.declared.version.Version.{Version}
+use Rattle.a429_cert.specs.declared.version.Version.TheVariants.{One, Two}
 use Rattle.a429_cert.specs.Lines.{certificate_lines}
+use Rattle.a429_cert.specs.Version.{version_line, read_as, step_lines}
 use Rattle.a429_cert.specs.Explained.{listed_ldu, step_of, ShowsStates, ListsStep, ListsSteps, Explains}
 use Rattle.a429_cert.specs.Act.{step_with}
-use Rattle.a429_cert.specs.Fault.{HasVersion, HasFirst, IsOfAStep, IsFaultOfStep, IsFaultOfLine, IsFaultAt, IsLaterFault, IsFirstCertFault}
+use Rattle.a429_cert.specs.Fault.{IsVersioned, HasFirst, IsOfAStep, IsFaultOfStep, IsFaultOfLine, IsFaultAt, IsLaterFault, IsFirstCertFault}
 use Rattle.a429_cert.proofs.ReadingFacts.{one-line}
 use Rattle.a429_cert.proofs.Options.{some_is}
 
@@ -49,6 +52,7 @@ alike act.TakeAnswer next other a b e h = silent step.TakeAnswer a b refl e h
 alike act.LoseAnswer next other a b e h = silent step.LoseAnswer a b refl e h
 alike act.SinkTakes next other a b e h = silent step.SinkTakes a b refl e h
 alike act.Silent next other a b e h = silent step.Silent a b refl e h
+alike act.GiveUp next other a b e h = silent step.GiveUp a b refl e h
 
 line_alike : (l : CertLine) (next other : Option Seen) (a b : Step) → step_of l next ≡ Some a → step_of l other ≡ Some b → Alike a b
 line_alike (First file) next other a b e h = absurd (cc e)
@@ -101,6 +105,7 @@ own_act act.TakeAnswer next a xs i e q = e
 own_act act.LoseAnswer next a xs i e q = e
 own_act act.SinkTakes next a xs i e q = e
 own_act act.Silent next a xs i e q = e
+own_act act.GiveUp next a xs i e q = e
 
 own_step : (l : CertLine) (next : Option Seen) (a : Step) (xs : List Step) (i : ℕ) → step_of l next ≡ Some a → [] ≡ take i (trace (a ∷ xs)) → step_of l (slice_get (trace (a ∷ xs)) i) ≡ Some a
 own_step (First file) next a xs i e q = absurd (cc e)
@@ -164,20 +169,32 @@ same_first first other l m e =
     let line : First first ≡ First other = one-line (spelling (First first)) (First first) (First other) (record { line = tt; held = omega arith; spelled = refl }) (record { line = tt; held = omega arith; spelled = e }) in
     cc
 
+pub other_digit : ◌≡◌ {A = ℕ} 49 50 → ⊥
+other_digit e = omega (arith, e)
+
+same_version : (v w : Version) → version_line v ≡ version_line w → v ≡ w
+same_version One One e = refl
+same_version One Two e = absurd (other_digit (some_is 49 50 (ap (λ (l : List ℕ). slice_get l 14) e)))
+same_version Two One e = absurd (other_digit (sym (some_is 50 49 (ap (λ (l : List ℕ). slice_get l 14) e))))
+same_version Two Two e = refl
+
 later_fault : (p : Contents) (certificate : List ℕ) (items : List Seen) (first : ℕ) (steps : List Step) (f : CertFault) → Explains p certificate items first steps → IsLaterFault p certificate items f → ⊥
 later_fault p certificate items first steps f h k =
     let own : slice_get (certificate_lines certificate) 1 ≡ Some (Some (spelling (First first))) = ap (λ (l : List (Option (List ℕ))). slice_get l 1) h.header in
-    let same : k.first ≡ first = same_first k.first first k.has_first.0 h.byte (some_is _ _ (some_is _ _ (sym k.has_first.1 ∙ own))) in
-    let lines : drop 2 (certificate_lines certificate) ≡ h.lines = ap (drop 2) h.header in
+    let same : k.head.first ≡ first = same_first k.head.first first k.says.1.0 h.byte (some_is _ _ (some_is _ _ (sym k.says.1.1 ∙ own))) in
+    let named : slice_get (certificate_lines certificate) 0 ≡ Some (Some (version_line h.version)) = ap (λ (l : List (Option (List ℕ))). slice_get l 0) h.header in
+    let version : k.head.version ≡ h.version = same_version k.head.version h.version (some_is _ _ (some_is _ _ (sym k.says.0 ∙ named))) in
+    let read = map (read_as h.version) h.lines in
+    let lines : step_lines k.head.version certificate ≡ read = ap (λ v. step_lines v certificate) version ∙ ap (λ (l : List (Option (List ℕ))). map (read_as h.version) (drop 2 l)) h.header in
     let before = k.before in
-    let lists : ListsSteps p (take k.k h.lines) before.steps (start p first) = subst (λ n. ListsSteps p (take k.k h.lines) before.steps (start p n)) same (subst (λ (l : List (Option (List ℕ))). ListsSteps p (take k.k l) before.steps (start p k.first)) lines before.lists) in
+    let lists : ListsSteps p (take k.k read) before.steps (start p first) = subst (λ n. ListsSteps p (take k.k read) before.steps (start p n)) same (subst (λ (l : List (Option (List ℕ))). ListsSteps p (take k.k l) before.steps (start p k.head.first)) lines before.lists) in
     let ends : k.state ≡ end_of p before.steps (start p first) = before.ends ∙ ap (λ n. end_of p before.steps (start p n)) same in
-    let fault : IsFaultAt p (end_of p before.steps (start p first)) (slice_get (trace steps) k.i) (k.k + 3) k.i (slice_get h.lines k.k) f =
-    subst (λ (l : List Seen). IsFaultAt p (end_of p before.steps (start p first)) (slice_get l k.i) (k.k + 3) k.i (slice_get h.lines k.k) f) (sym h.used) (subst (λ (l : List (Option (List ℕ))). IsFaultAt p (end_of p before.steps (start p first)) (slice_get items k.i) (k.k + 3) k.i (slice_get l k.k) f) lines (subst (λ t. IsFaultAt p t (slice_get items k.i) (k.k + 3) k.i (slice_get (drop 2 (certificate_lines certificate)) k.k) f) ends k.fault)) in
-    clash p h.lines steps before.steps (start p first) k.k k.i (k.k + 3) k.i f h.lists lists (before.used ∙ ap (take k.i) (sym h.used)) fault
+    let fault : IsFaultAt p (end_of p before.steps (start p first)) (slice_get (trace steps) k.i) (k.k + 3) k.i (slice_get read k.k) f =
+    subst (λ (l : List Seen). IsFaultAt p (end_of p before.steps (start p first)) (slice_get l k.i) (k.k + 3) k.i (slice_get read k.k) f) (sym h.used) (subst (λ (l : List (Option (List ℕ))). IsFaultAt p (end_of p before.steps (start p first)) (slice_get items k.i) (k.k + 3) k.i (slice_get l k.k) f) lines (subst (λ t. IsFaultAt p t (slice_get items k.i) (k.k + 3) k.i (slice_get (step_lines k.head.version certificate) k.k) f) ends k.fault)) in
+    clash p read steps before.steps (start p first) k.k k.i (k.k + 3) k.i f h.lists lists (before.used ∙ ap (take k.i) (sym h.used)) fault
 
 no_other : (p : Contents) (certificate : List ℕ) (items : List Seen) (first : ℕ) (steps : List Step) (f : CertFault) → Explains p certificate items first steps
-    → HasVersion certificate × ((((n : ℕ) → ¬ HasFirst certificate n) × (f ≡ of.Line 2)) ⊎ IsLaterFault p certificate items f) → ⊥
+    → IsVersioned certificate × ((((n : ℕ) → ¬ HasFirst certificate n) × (f ≡ of.Line 2)) ⊎ IsLaterFault p certificate items f) → ⊥
 no_other p certificate items first steps f h d = either d.1
   where
     either : (((n : ℕ) → ¬ HasFirst certificate n) × (f ≡ of.Line 2)) ⊎ IsLaterFault p certificate items f → ⊥
@@ -185,7 +202,7 @@ no_other p certificate items first steps f h d = either d.1
     either (inr k) = later_fault p certificate items first steps f h k
 
 pub no_fault : (p : Contents) (certificate : List ℕ) (items : List Seen) (first : ℕ) (steps : List Step) (f : CertFault) → Explains p certificate items first steps → IsFirstCertFault p certificate items f → ⊥
-no_fault p certificate items first steps of.Version h d = d (ap (λ (l : List (Option (List ℕ))). slice_get l 0) h.header)
+no_fault p certificate items first steps of.Version h d = d (h.version, ap (λ (l : List (Option (List ℕ))). slice_get l 0) h.header)
 no_fault p certificate items first steps of.OutOfMemory h d = d
 no_fault p certificate items first steps (of.Line n) h d = no_other p certificate items first steps (of.Line n) h d
 no_fault p certificate items first steps (of.NotAllowed n) h d = no_other p certificate items first steps (of.NotAllowed n) h d

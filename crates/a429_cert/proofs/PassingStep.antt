@@ -47,6 +47,7 @@ loads_none p act.TakeAnswer next a e = subst (LoadsLdu p) (some_is _ a e) tt
 loads_none p act.LoseAnswer next a e = subst (LoadsLdu p) (some_is _ a e) tt
 loads_none p act.SinkTakes next a e = subst (LoadsLdu p) (some_is _ a e) tt
 loads_none p act.Silent next a e = subst (LoadsLdu p) (some_is _ a e) tt
+loads_none p act.GiveUp next a e = subst (LoadsLdu p) (some_is _ a e) tt
 
 -- a step of its name is one of its letter
 pub named_of : (p : Contents) (x : Act) (next : Option Seen) (a : Step) (s : State) → step_with x next ≡ Some a → IsNamedStep p a s → IsNamedOf p x s
@@ -62,6 +63,7 @@ named_of p act.TakeAnswer next a s e n = (next, (step.TakeAnswer, refl, subst (�
 named_of p act.LoseAnswer next a s e n = (next, (step.LoseAnswer, refl, subst (λ b. IsNamedStep p b s) (sym (some_is _ a e)) n))
 named_of p act.SinkTakes next a s e n = (next, (step.SinkTakes, refl, subst (λ b. IsNamedStep p b s) (sym (some_is _ a e)) n))
 named_of p act.Silent next a s e n = (next, (step.Silent, refl, subst (λ b. IsNamedStep p b s) (sym (some_is _ a e)) n))
+named_of p act.GiveUp next a s e n = (next, (step.GiveUp, refl, subst (λ b. IsNamedStep p b s) (sym (some_is _ a e)) n))
 
 -- and the other way round
 pub of_named : (p : Contents) (x : Act) (next other : Option Seen) (a b : Step) (s : State) → step_with x next ≡ Some a → step_with x other ≡ Some b → Can p b s → IsNamedStep p a s
@@ -80,6 +82,7 @@ of_named p act.TakeAnswer next other a b s e h can = subst (λ c. IsNamedStep p 
 of_named p act.LoseAnswer next other a b s e h can = subst (λ c. IsNamedStep p c s) (some_is _ a e) (subst (λ c. Can p c s) (sym (some_is _ b h)) can)
 of_named p act.SinkTakes next other a b s e h can = subst (λ c. IsNamedStep p c s) (some_is _ a e) (subst (λ c. Can p c s) (sym (some_is _ b h)) can)
 of_named p act.Silent next other a b s e h can = subst (λ c. IsNamedStep p c s) (some_is _ a e) (subst (λ c. Can p c s) (sym (some_is _ b h)) can)
+of_named p act.GiveUp next other a b s e h can = subst (λ c. IsNamedStep p c s) (some_is _ a e) (subst (λ c. Can p c s) (sym (some_is _ b h)) can)
 
 -- what the link says of the step, said of its letter
 pub fault_of : (p : Contents) (x : Act) (next : Option Seen) (a : Step) (s : State) (e : StepFault) → step_with x next ≡ Some a → IsFault p a s e → IsStepFault p x next s e
@@ -120,6 +123,7 @@ ready_other p act.TakeAnswer s a b = tt
 ready_other p act.LoseAnswer s a b = tt
 ready_other p act.SinkTakes s a b = tt
 ready_other p act.Silent s a b = tt
+ready_other p act.GiveUp s a b = tt
 
 -- ---- link data units
 

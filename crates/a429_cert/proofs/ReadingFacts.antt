@@ -1,5 +1,5 @@
 -- Lines are read as they are spelled.
-use Rattle.std.proofs.Common.{◌≡◌, take, drop, ◌==◌, ◌∙◌, ◌/◌, ◌*◌, ◌^◌, ◌≤◌, ◌<◌, inl, inr, ℕ, zero, suc, List, [], ◌∷◌, ◌++◌, length, true, ◌&&◌, nat_le, Option, Some, None, option_map, refl, sym, ap, subst, arith, append_assoc, codes, flat_map}
+use Rattle.std.proofs.Common.{◌≡◌, take, drop, ◌==◌, ◌∙◌, ◌/◌, ◌*◌, ◌^◌, ◌<◌, inl, inr, ℕ, zero, suc, List, [], ◌∷◌, ◌++◌, length, true, ◌&&◌, nat_le, Option, Some, None, option_map, refl, sym, ap, subst, arith, append_assoc, codes, flat_map}
 use Rattle.std.specs.Fmt.{decimal}
 use Rattle.std.specs.List.{AllByRecursion}
 use Rattle.std.specs.Str.{bytes_eq}
@@ -7,8 +7,9 @@ use Rattle.std.proofs.lemmas.Bool.{and_parts}
 use Rattle.std.proofs.lemmas.List.{length-append, take-append-drop}
 use Rattle.std.proofs.lemmas.Slice.Eq.{bytes_eq-Decides}
 use Rattle.a429_word.specs.Digits.{numeral, hex_text}
+use Rattle.a429_ldu.specs.Ldu.{most_data_words, HasLength}
 use Rattle.a429_cert.specs.declared.act.Act.{Act}
-use Rattle.a429_cert.specs.declared.act.Act.TheVariants.{Sent, SentLost, TimeOut, TakeAnswer, LoseAnswer, SinkTakes, Silent, Answered, FreeSeen}
+use Rattle.a429_cert.specs.declared.act.Act.TheVariants.{Sent, SentLost, TimeOut, TakeAnswer, LoseAnswer, SinkTakes, Silent, Answered, FreeSeen, GiveUp}
 use Rattle.a429_cert.specs.declared.line.LoadLine.{LoadLine}
 use Rattle.a429_cert.specs.declared.line.MovedLine.{MovedLine}
 use Rattle.a429_cert.specs.declared.line.CertLine.{CertLine}
@@ -66,22 +67,22 @@ words_at-only (suc n) text words e =
       many = ap suc rest.many;
     })
 
-words_in-back : (words : List ℕ) → AllByRecursion (λ w. w < 2 ^ 32) words → 1 ≤ length words → length words ≤ 253 → unit_words_in (words_text words) ≡ Some words
+words_in-back : (words : List ℕ) → AllByRecursion (λ w. w < 2 ^ 32) words → HasLength words → unit_words_in (words_text words) ≡ Some words
 unfolding unit_words_in
-words_in-back words held least most =
+words_in-back words held long =
     let count : length (words_text words) / 9 ≡ length words = omega (arith, length-words words) in
-    rw (count, fits 1 (length words) least, fits (length words) 253 most, words_at-back words held) refl
+    rw (count, fits 1 (length words) long.0, fits (length words) most_data_words long.1, words_at-back words held) refl
 
-words_in-only : (text words : List ℕ) → unit_words_in text ≡ Some words → AreWords text (length words) words × (1 ≤ length words) × (length words ≤ 253)
+words_in-only : (text words : List ℕ) → unit_words_in text ≡ Some words → AreWords text (length words) words × HasLength words
 unfolding unit_words_in
 words_in-only text words e =
     let count = length text / 9 in
-    let c = bind_some (when (nat_le 1 count && nat_le count 253) count) _ words e in
-    let tests = when_some (nat_le 1 count && nat_le count 253) count c.0 c.1 in
-    let parts = and_parts (nat_le 1 count) (nat_le count 253) tests.0 in
+    let c = bind_some (when (nat_le 1 count && nat_le count most_data_words) count) _ words e in
+    let tests = when_some (nat_le 1 count && nat_le count most_data_words) count c.0 c.1 in
+    let parts = and_parts (nat_le 1 count) (nat_le count most_data_words) tests.0 in
     let are = words_at-only c.0 text words c.2 in
     let many : length words ≡ count = are.many ∙ sym tests.1 in
-    (record { spelled = are.spelled; held = are.held; many = refl }, omega (arith, below 1 count parts.0), omega (arith, below count 253 parts.1))
+    (record { spelled = are.spelled; held = are.held; many = refl }, (omega (arith, below 1 count parts.0), omega (arith, below count most_data_words parts.1)))
 
 -- ---- lines, as they are spelled
 
@@ -107,7 +108,7 @@ load-back l is held =
       field-back (hex_in 1) (numeral 16 1) (λ n. n < 16 ^ 1) (numerals 1) l.gfi more (omega (arith, is.0)) refl,
       field-back (hex_in 1) (numeral 16 1) (λ n. n < 16 ^ 1) (numerals 1) l.flags last (omega (arith, is.1)) refl,
       field-back (hex_in 4) (numeral 16 4) (λ n. n < 16 ^ 4) (numerals 4) l.check (words_text l.words) held.0 (words-next l.words),
-      words_in-back l.words held.1 is.2 is.3,
+      words_in-back l.words held.1 (is.2, is.3),
     ) refl
 
 moved-text : (l : MovedLine) → spelling (Moved l) ≡ act_text l.act ++ states_text l.states
@@ -125,6 +126,7 @@ act-line SinkTakes more = refl
 act-line Silent more = refl
 act-line Answered more = refl
 act-line FreeSeen more = refl
+act-line GiveUp more = refl
 
 -- a step
 moved-back : (l : MovedLine) → IsLine (Moved l) → IsHeld (Moved l) → line_in (spelling (Moved l)) ≡ Some (Moved l)
@@ -174,7 +176,7 @@ load-only bytes l e =
     first.0 ∙ ap (λ t. field (numeral 16 1 gfi.0.0) ++ t) (second.0 ∙ ap (λ t. field (numeral 16 1 flags.0.0) ++ t) (third.0 ∙ ap (λ t. field (numeral 16 4 check.0.0) ++ t) rest.0.spelled)) in
     let read : LoadLine = record { gfi = gfi.0.0; flags = flags.0.0; check = check.0.0; words = words.0 } in
     subst (λ (x : LoadLine). SpellsLine (codes "L" ++ bytes) (Load x)) (some_is read l words.2) (record {
-      line = (omega (arith, first.1), omega (arith, second.1), rest.1, rest.2);
+      line = (omega (arith, first.1), omega (arith, second.1), rest.1.0, rest.1.1);
       held = (third.1, rest.0.held);
       spelled = ap (λ t. codes "L" ++ t) text ∙ sym (load-text read);
     })

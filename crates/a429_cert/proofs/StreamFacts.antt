@@ -51,6 +51,7 @@ act_few act.TakeAnswer = omega arith
 act_few act.LoseAnswer = omega arith
 act_few act.SinkTakes = omega arith
 act_few act.Silent = omega arith
+act_few act.GiveUp = omega arith
 
 listed_few : (x : Listed) → uses_listed x ≤ 1
 listed_few (listed.Load u) = omega arith
@@ -67,6 +68,7 @@ act_alone act.TakeAnswer a b e = refl
 act_alone act.LoseAnswer a b e = refl
 act_alone act.SinkTakes a b e = refl
 act_alone act.Silent a b e = refl
+act_alone act.GiveUp a b e = refl
 
 alone : (l : CertLine) (a b : Option Seen) → uses l ≡ 0 → step_of l a ≡ step_of l b
 alone (First file) a b e = refl
@@ -83,6 +85,7 @@ act_wants act.TakeAnswer e = absurd (cc e)
 act_wants act.LoseAnswer e = absurd (cc e)
 act_wants act.SinkTakes e = absurd (cc e)
 act_wants act.Silent e = absurd (cc e)
+act_wants act.GiveUp e = absurd (cc e)
 
 wants : (l : CertLine) → uses l ≡ 1 → step_of l None ≡ None
 wants (First file) e = refl
@@ -200,6 +203,7 @@ act_named p act.TakeAnswer s e h = absurd (cc e)
 act_named p act.LoseAnswer s e h = absurd (cc e)
 act_named p act.SinkTakes s e h = absurd (cc e)
 act_named p act.Silent s e h = absurd (cc e)
+act_named p act.GiveUp s e h = absurd (cc e)
 
 named : (p : Contents) (x : Listed) (l : CertLine) (s : State) → IsStepOfLine x l → uses_listed x ≡ 1 → IsReady p x s → IsNamed p l s
 named p (listed.Load u) l s is e h = absurd (cc e)
@@ -236,18 +240,18 @@ refused_first p text s (Some r) n i f h = first_refused p text s r n i f h
 
 -- ---- files that are put
 
-placed_push : (i : ℕ) (files : List FileBytes) (f : FileBytes) → placed i (files ++ f ∷ []) ≡ placed i files ++ record { index = i + length files; file = f } ∷ []
-placed_push i [] f = let n : i ≡ i + 0 = omega arith in ap (λ (k : ℕ). record { index = k; file = f } ∷ []) n
-placed_push i (x ∷ files) f =
-    let n : suc i + length files ≡ i + suc (length files) = omega arith in
-    ap (λ (l : List PutFile). record { index = i; file = x } ∷ l) (placed_push (suc i) files f ∙ ap (λ (k : ℕ). placed (suc i) files ++ record { index = k; file = f } ∷ []) n)
+placed_append : (i : ℕ) (xs ys : List FileBytes) → placed i (xs ++ ys) ≡ placed i xs ++ placed (i + length xs) ys
+placed_append i [] ys = let n : i ≡ i + 0 = omega arith in ap (λ (k : ℕ). placed k ys) n
+placed_append i (x ∷ xs) ys =
+    let n : suc i + length xs ≡ i + suc (length xs) = omega arith in
+    ap (λ (l : List PutFile). record { index = i; file = x } ∷ l) (placed_append (suc i) xs ys ∙ ap (λ (k : ℕ). placed (suc i) xs ++ placed k ys) n)
 
-pub gains_more : (a b c : Option (List PutFile)) (i : ℕ) (files : List FileBytes) (f : FileBytes) → GainsAll a b i files → Gains b c (i + length files) f.number f.bytes → GainsAll a c i (files ++ f ∷ [])
-gains_more None b c i files f h g = tt
-gains_more (Some x) None c i files f h g = absurd h
-gains_more (Some x) (Some y) None i files f h g = absurd g
-gains_more (Some x) (Some y) (Some z) i files f h g =
-    g ∙ ap (λ (l : List PutFile). l ++ record { index = i + length files; file = f } ∷ []) h ∙ append_assoc x (placed i files) (record { index = i + length files; file = f } ∷ []) ∙ ap (λ (l : List PutFile). x ++ l) (sym (placed_push i files f))
+gains_both : (a b c : Option (List PutFile)) (i : ℕ) (xs ys : List FileBytes) → GainsAll a b i xs → GainsAll b c (i + length xs) ys → GainsAll a c i (xs ++ ys)
+gains_both None b c i xs ys h g = tt
+gains_both (Some x) None c i xs ys h g = absurd h
+gains_both (Some x) (Some y) None i xs ys h g = absurd g
+gains_both (Some x) (Some y) (Some z) i xs ys h g =
+    g ∙ ap (λ (l : List PutFile). l ++ placed (i + length xs) ys) h ∙ append_assoc x (placed i xs) (placed (i + length xs) ys) ∙ ap (λ (l : List PutFile). x ++ l) (sym (placed_append i xs ys))
 
 pub gains_none : (a : Option (List PutFile)) (i : ℕ) → GainsAll a a i []
 gains_none None i = tt
@@ -259,17 +263,22 @@ gains_same (Some x) None c i files h g = absurd h
 gains_same (Some x) (Some y) None i files h g = absurd g
 gains_same (Some x) (Some y) (Some z) i files h g = g ∙ h
 
--- the place of the next file is behind those that were noted
-pub put_on : (a b c : Option (List PutFile)) (init now : List (ℕ × ℕ)) (files : List FileBytes) (f : FileBytes)
-    → GainsAll a b (length init + 1) files → now ≡ init ++ sizes files → Gains b c (length now + 1) f.number f.bytes → GainsAll a c (length init + 1) (files ++ f ∷ [])
-put_on a b c init now files f h e g =
-    let all : length now ≡ length init + length files = ap (λ (l : List (ℕ × ℕ)). length l) e ∙ length-append init (sizes files) ∙ ap (λ n. length init + n) (length-map files (λ f. (f.number, length f.bytes))) in
-    let place : length now + 1 ≡ length init + 1 + length files = omega (arith, all) in
-    gains_more a b c (length init + 1) files f h (subst (λ n. Gains b c n f.number f.bytes) place g)
+pub gains_one : (a b : Option (List PutFile)) (i : ℕ) (f : FileBytes) → Gains a b i f.number f.bytes → GainsAll a b i (f ∷ [])
+gains_one None b i f g = tt
+gains_one (Some x) None i f g = absurd g
+gains_one (Some x) (Some y) i f g = g
 
-pub noted_on : (init now new : List (ℕ × ℕ)) (files : List FileBytes) (f : FileBytes) → now ≡ init ++ sizes files → new ≡ now ++ sizes (f ∷ []) → new ≡ init ++ sizes (files ++ f ∷ [])
-noted_on init now new files f e g =
-    g ∙ ap (λ (l : List (ℕ × ℕ)). l ++ sizes (f ∷ [])) e ∙ append_assoc init (sizes files) (sizes (f ∷ [])) ∙ ap (λ (l : List (ℕ × ℕ)). init ++ l) (sym (map-append (λ f. (f.number, length f.bytes)) files (f ∷ [])))
+-- the place of the next files is behind those that were noted
+pub put_on : (a b c : Option (List PutFile)) (init now : List (ℕ × ℕ)) (xs ys : List FileBytes)
+    → GainsAll a b (length init + 1) xs → now ≡ init ++ sizes xs → GainsAll b c (length now + 1) ys → GainsAll a c (length init + 1) (xs ++ ys)
+put_on a b c init now xs ys h e g =
+    let all : length now ≡ length init + length xs = ap (λ (l : List (ℕ × ℕ)). length l) e ∙ length-append init (sizes xs) ∙ ap (λ n. length init + n) (length-map xs (λ f. (f.number, length f.bytes))) in
+    let place : length now + 1 ≡ length init + 1 + length xs = omega (arith, all) in
+    gains_both a b c (length init + 1) xs ys h (subst (λ n. GainsAll b c n ys) place g)
+
+pub noted_on : (init now new : List (ℕ × ℕ)) (xs ys : List FileBytes) → now ≡ init ++ sizes xs → new ≡ now ++ sizes ys → new ≡ init ++ sizes (xs ++ ys)
+noted_on init now new xs ys e g =
+    g ∙ ap (λ (l : List (ℕ × ℕ)). l ++ sizes ys) e ∙ append_assoc init (sizes xs) (sizes ys) ∙ ap (λ (l : List (ℕ × ℕ)). init ++ l) (sym (map-append (λ f. (f.number, length f.bytes)) xs ys))
 
 pub front_put : (a b c : Option (List PutFile)) (i k : ℕ) (files all : List FileBytes) → all ≡ files → GainsAll a b i (take k files) → IsUnchanged b c → GainsFront a c i all
 front_put a b c i k files all e h g =

@@ -8,7 +8,10 @@ use Rattle.a429_cert.specs.declared.stream_fault.StreamFault.{StreamFault}
 use Rattle.a429_cert.specs.declared.stream_fault.StreamFault.TheVariants as stream
 use Rattle.a429_cert.specs.declared.line.CertLine.TheVariants.{First}
 use Rattle.a429_cert.specs.Line.{spelling}
-use Rattle.a429_cert.specs.Lines.{certificate_lines, version}
+use Rattle.a429_cert.specs.declared.version.Version.{Version}
+use Rattle.a429_cert.specs.declared.version.Version.TheVariants.{One, Two}
+use Rattle.a429_cert.specs.Lines.{certificate_lines}
+use Rattle.a429_cert.specs.Version.{version_line}
 use Rattle.a429_cert.specs.CutLines.{cut, GivesLine}
 use Rattle.a429_cert.specs.Fault.{IsNoFirst, IsFaultOfHead, UnlessMemory}
 use Rattle.a429_cert.specs.Stream.{of_cert}
@@ -53,11 +56,15 @@ other_line xs line text short g other e = other (some_inside line text (sym g �
 
 -- ---- the version
 
-pub no_version : (old new line : Option (List ℕ)) (found : Bool) → GivesLine old new line found → (found ≡ true → line ≢ Some version) → RefusesHead IsNoVersion old (stream.Cert of.Version)
+version_short : (v : Version) → length (version_line v) ≤ 2287
+version_short One = omega arith
+version_short Two = omega arith
+
+pub no_version : (old new line : Option (List ℕ)) (found : Bool) → GivesLine old new line found → (found ≡ true → (v : Version) → line ≢ Some (version_line v)) → RefusesHead IsNoVersion old (stream.Cert of.Version)
 no_version None new line found g h = tt
 no_version (Some xs) None line found g h = absurd g
-no_version (Some xs) (Some ys) line true g h = (refl, other_line xs line version (omega arith) g.0 (h refl))
-no_version (Some xs) (Some ys) line false g h = (refl, λ e. cc (g, e))
+no_version (Some xs) (Some ys) line true g h = (refl, λ e. other_line xs line (version_line e.0) (version_short e.0) g.0 (h refl e.0) e.1)
+no_version (Some xs) (Some ys) line false g h = (refl, λ e. cc (g, e.1))
 
 -- ---- the number of the first file
 
@@ -88,21 +95,21 @@ other_first (Some xs) (Some ys) line (of.Unfinished j) g h = absurd (cc (h (λ z
 second : (xs ys : List ℕ) → certificate_lines ys ≡ drop 1 (certificate_lines xs) → slice_get (certificate_lines ys) 0 ≡ slice_get (certificate_lines xs) 1
 second xs ys e = ap (λ (l : List (Option (List ℕ))). slice_get l 0) e ∙ drop_get (certificate_lines xs) 1
 
-pub both : (old mid new : Option (List ℕ)) (first : ℕ) → first ≤ 255 → TakesLine old mid version → TakesLine mid new (spelling (First first)) → TakesHead old new first
-both None mid new first byte g h = tt
-both (Some xs) None new first byte g h = absurd g
-both (Some xs) (Some ys) None first byte g h = absurd h
-both (Some xs) (Some ys) (Some zs) first byte g h = (g.0, (byte, sym (second xs ys g.1) ∙ h.0), h.1 ∙ ap (drop 1) g.1 ∙ drop-drop 1 1 (certificate_lines xs))
+pub both : (old mid new : Option (List ℕ)) (v : Version) (first : ℕ) → first ≤ 255 → TakesLine old mid (version_line v) → TakesLine mid new (spelling (First first)) → TakesHead old new (record { version = v; first = first })
+both None mid new v first byte g h = tt
+both (Some xs) None new v first byte g h = absurd g
+both (Some xs) (Some ys) None v first byte g h = absurd h
+both (Some xs) (Some ys) (Some zs) v first byte g h = ((g.0, (byte, sym (second xs ys g.1) ∙ h.0)), h.1 ∙ ap (drop 1) g.1 ∙ drop-drop 1 1 (certificate_lines xs))
 
 -- the version was there, and the next line is refused
-pub no_second : (old mid : Option (List ℕ)) (f : StreamFault) → TakesLine old mid version → RefusesHead GivesNoFirst mid f → RefusesHead IsFaultOfHead old f
-no_second old mid (stream.Read f) g h = h
-no_second None mid (stream.Cert f) g h = tt
-no_second (Some xs) None (stream.Cert f) g h = absurd g
-no_second (Some xs) (Some ys) (stream.Cert f) g h =
-    subst (IsFaultOfHead xs) (sym h.0) (refl, g.0, λ first here. h.1 first here.0 (second xs ys g.1 ∙ here.1))
-no_second old mid stream.Device g h = tt
-no_second old mid stream.OutOfMemory g h = tt
+pub no_second : (old mid : Option (List ℕ)) (v : Version) (f : StreamFault) → TakesLine old mid (version_line v) → RefusesHead GivesNoFirst mid f → RefusesHead IsFaultOfHead old f
+no_second old mid v (stream.Read f) g h = h
+no_second None mid v (stream.Cert f) g h = tt
+no_second (Some xs) None v (stream.Cert f) g h = absurd g
+no_second (Some xs) (Some ys) v (stream.Cert f) g h =
+    subst (IsFaultOfHead xs) (sym h.0) (refl, (v, g.0), λ first here. h.1 first here.0 (second xs ys g.1 ∙ here.1))
+no_second old mid v stream.Device g h = tt
+no_second old mid v stream.OutOfMemory g h = tt
 
 pub no_head : (old : Option (List ℕ)) (f : StreamFault) → RefusesHead IsNoVersion old f → RefusesHead IsFaultOfHead old f
 no_head old (stream.Read f) h = h

@@ -1,5 +1,5 @@
 -- Why a walk along a certificate's lines ends before the last of them, where both are told.
-use Rattle.std.proofs.Common.{◌≡◌, ◌≢◌, ◌⊎◌, ◌+◌, ◌∙◌, ◌++◌, inl, inr, ℕ, suc, List, [], drop, true, false, Option, Some, slice_get, Ok, Err, refl, sym, ap, subst, append_assoc, append-nil}
+use Rattle.std.proofs.Common.{◌≡◌, ◌≢◌, ◌⊎◌, ◌+◌, ◌∙◌, ◌++◌, inl, inr, ℕ, suc, List, [], map, drop, true, false, Option, Some, None, slice_get, Ok, Err, refl, sym, ap, subst, append_assoc, append-nil}
 use Rattle.a429_profile.specs.Profile.{Contents}
 use Rattle.a429_link.specs.declared.file.FileBytes.{FileBytes}
 use Rattle.a429_link.specs.declared.seen.Seen.{Seen}
@@ -19,14 +19,19 @@ use Rattle.a429_cert.specs.declared.fault.CertFault.{CertFault}
 use Rattle.a429_cert.specs.declared.fault.CertFault.TheVariants as of
 use Rattle.a429_cert.specs.declared.stream_fault.StreamFault.{StreamFault}
 use Rattle.a429_cert.specs.declared.stream_fault.StreamFault.TheVariants as stream
+use Rattle.a429_cert.specs.declared.version.Version.{Version}
+use Rattle.a429_cert.specs.declared.explained.Head.{Head}
 use Rattle.a429_cert.specs.Lines.{certificate_lines}
+use Rattle.a429_cert.specs.Version.{read_as, step_lines}
 use Rattle.a429_cert.specs.CutLines.{cut, GivesLine}
 use Rattle.a429_cert.specs.Explained.{items_of, seen_of, ShowsStates}
-use Rattle.a429_cert.specs.Fault.{HasVersion, SaysLine, CanBe, IsNamed, IsFaultOfStep, IsFaultOfLine, IsFaultAt, IsLaterFault, IsFirstCertFault}
+use Rattle.a429_cert.specs.Fault.{IsVersioned, IsFaultOfHead, SaysLine, CanBe, IsNamed, IsFaultOfStep, IsFaultOfLine, IsFaultAt, IsLaterFault, IsFirstCertFault}
 use Rattle.a429_cert.specs.Stream.{behind, next_of, HasEnd, WantsEntry, RefusesOver, PassesOver, of_read}
+use Rattle.a429_cert.specs.StreamHead.{RefusesHead}
 use Rattle.a429_cert.specs.StreamExplained.{WhereTold, Delivers, EndsAt, WantsNext, IsFirstReadFault, AreOfLines, IsStreamFault}
 use Rattle.a429_cert.proofs.CutFacts.{says-uncut}
-use Rattle.a429_cert.proofs.StreamStands.{Stands, AreBehind, says_back, line_next, cut_of, next_at, goes_on}
+use Rattle.a429_cert.proofs.ExplainedFacts.{none_read}
+use Rattle.a429_cert.proofs.StreamStands.{Stands, AreBehind, says_back, line_cut, next_at, goes_on}
 use Rattle.a429_cert.proofs.StreamWalk.{told_map, none_next}
 
 -- ---- a fault where files were handed out before it
@@ -78,17 +83,17 @@ line_fault p files s next n i line of.OutOfMemory h = (h.0, says_back line h.0 h
 given_out : (files : List FileBytes) (s : State) → s.sink.shelf.files ≡ [] → files ≡ (with_earlier files s).sink.shelf.files
 given_out files s none = sym (ap (λ (l : List FileBytes). files ++ l) none ∙ append-nil files)
 
-delivers : (p : Contents) (first k i : ℕ) (taken : List FileBytes) (s : State) (left : Option (List ℕ)) (rec : Option Recording) (text : List ℕ) (r : Recording)
-    → Stands p text r first k i taken s left rec → Delivers p text r k i (with_earlier taken s) (taken ++ s.sink.shelf.files)
-delivers p first k i taken s left rec text r h = record { version = h.version; first = first; has_first = h.has_first; inside = h.inside; before = h.reached; gives = refl }
+delivers : (p : Contents) (d : Head) (k i : ℕ) (taken : List FileBytes) (s : State) (left : Option (List ℕ)) (rec : Option Recording) (text : List ℕ) (r : Recording)
+    → Stands p text r d k i taken s left rec → Delivers p text r k i (with_earlier taken s) (taken ++ s.sink.shelf.files)
+delivers p d k i taken s left rec text r h = record { head = d; says = h.says; inside = h.inside; before = h.reached; gives = refl }
 
-later : (p : Contents) (first k i : ℕ) (taken : List FileBytes) (s : State) (left : Option (List ℕ)) (rec : Option Recording) (text : List ℕ) (r : Recording) (f : CertFault)
-    → Stands p text r first k i taken s left rec → IsFaultAt p (with_earlier taken s) (slice_get (items_of r.entries) i) (k + 3) i (slice_get (drop 2 (certificate_lines text)) k) f
+later : (p : Contents) (d : Head) (k i : ℕ) (taken : List FileBytes) (s : State) (left : Option (List ℕ)) (rec : Option Recording) (text : List ℕ) (r : Recording) (f : CertFault)
+    → Stands p text r d k i taken s left rec → IsFaultAt p (with_earlier taken s) (slice_get (items_of r.entries) i) (k + 3) i (slice_get (step_lines d.version text) k) f
     → IsLaterFault p text (items_of r.entries) f
-later p first k i taken s left rec text r f h g = record { first = first; has_first = h.has_first; k = k; i = i; inside = h.inside; state = with_earlier taken s; before = h.reached; fault = g }
+later p d k i taken s left rec text r f h g = record { head = d; says = h.says; k = k; i = i; inside = h.inside; state = with_earlier taken s; before = h.reached; fault = g }
 
 -- it is the certificate's first
-is_first : (p : Contents) (text : List ℕ) (items : List Seen) (f : CertFault) → f ≢ of.Version → f ≢ of.OutOfMemory → HasVersion text → IsLaterFault p text items f → IsFirstCertFault p text items f
+is_first : (p : Contents) (text : List ℕ) (items : List Seen) (f : CertFault) → f ≢ of.Version → f ≢ of.OutOfMemory → IsVersioned text → IsLaterFault p text items f → IsFirstCertFault p text items f
 is_first p text items of.Version a b v h = absurd (a refl)
 is_first p text items (of.Line m) a b v h = (v, inr h)
 is_first p text items (of.NotAllowed m) a b v h = (v, inr h)
@@ -97,14 +102,14 @@ is_first p text items (of.WordDiffers m j) a b v h = (v, inr h)
 is_first p text items (of.Unfinished j) a b v h = (v, inr h)
 is_first p text items of.OutOfMemory a b v h = absurd (b refl)
 
-cert_fault : (p : Contents) (first k i : ℕ) (taken : List FileBytes) (s : State) (left : Option (List ℕ)) (rec : Option Recording) (text : List ℕ) (r : Recording) (f : CertFault)
-    → f ≢ of.Version → f ≢ of.OutOfMemory → s.sink.shelf.files ≡ [] → EndsAt r f → Stands p text r first k i taken s left rec
-    → IsFaultAt p (with_earlier taken s) (slice_get (items_of r.entries) i) (k + 3) i (slice_get (drop 2 (certificate_lines text)) k) f
+cert_fault : (p : Contents) (d : Head) (k i : ℕ) (taken : List FileBytes) (s : State) (left : Option (List ℕ)) (rec : Option Recording) (text : List ℕ) (r : Recording) (f : CertFault)
+    → f ≢ of.Version → f ≢ of.OutOfMemory → s.sink.shelf.files ≡ [] → EndsAt r f → Stands p text r d k i taken s left rec
+    → IsFaultAt p (with_earlier taken s) (slice_get (items_of r.entries) i) (k + 3) i (slice_get (step_lines d.version text) k) f
     → IsStreamFault p (stream.Cert f) taken text r
 unfolding later
-cert_fault p first k i taken s left rec text r f a b none e h g =
-    let here = later p first k i taken s left rec text r f h g in
-    (is_first p text (items_of r.entries) f a b h.version here, e, inr (here, given_out taken s none))
+cert_fault p d k i taken s left rec text r f a b none e h g =
+    let here = later p d k i taken s left rec text r f h g in
+    (is_first p text (items_of r.entries) f a b (d.version, h.says.0) here, e, inr (here, given_out taken s none))
 
 -- no fault of a line is one of the version, or for want of memory
 no_version : (p : Contents) (s : State) (next : Option Seen) (n i : ℕ) (line : Option (List ℕ)) (f : CertFault) → IsFaultOfLine p s next n i line f → f ≢ of.Version
@@ -136,14 +141,15 @@ ends_at p s r n i line (of.Unfinished j) h e = tt
 ends_at p s r n i line of.OutOfMemory h e = tt
 
 -- the fault of the line that comes
-line_refused : (p : Contents) (first k i : ℕ) (taken : List FileBytes) (s : State) (held left more : Option (List ℕ)) (rec : Option Recording) (f : CertFault) (text : List ℕ) (r : Recording)
-    → s.sink.shelf.files ≡ [] → GivesLine left more held true → IsFaultOfLine p s (next_of (behind i r)) (k + 3) i held f → HasEnd (behind i r) f → Stands p text r first k i taken s left rec
+line_refused : (p : Contents) (d : Head) (k i : ℕ) (taken : List FileBytes) (s : State) (held left more : Option (List ℕ)) (rec : Option Recording) (f : CertFault) (text : List ℕ) (r : Recording)
+    → s.sink.shelf.files ≡ [] → GivesLine left more held true → IsFaultOfLine p s (next_of (behind i r)) (k + 3) i (read_as d.version held) f → HasEnd (behind i r) f → Stands p text r d k i taken s left rec
     → IsStreamFault p (stream.Cert f) taken text r
-line_refused p first k i taken s held left more rec f text r none g m e h =
-    let raw = cut_of (slice_get (drop 2 (certificate_lines text)) k) held (line_next (drop 2 (certificate_lines text)) k left more held h.lines g) in
+line_refused p d k i taken s held left more rec f text r none g m e h =
+    let read = read_as d.version held in
+    let raw = line_cut d.version (drop 2 (certificate_lines text)) k left more held h.lines g in
     let uncut = line_fault p taken s (next_of (behind i r)) (k + 3) i raw.0 f (subst (λ o. IsFaultOfLine p s (next_of (behind i r)) (k + 3) i o f) (sym raw.2) m) in
     let here = subst (λ o. IsFaultOfLine p (with_earlier taken s) o (k + 3) i raw.0 f) (next_at r.entries i) uncut in
-    cert_fault p first k i taken s left rec text r f (no_version p s (next_of (behind i r)) (k + 3) i held f m) (no_memory p s (next_of (behind i r)) (k + 3) i held f m) none (ends_at p s r (k + 3) i held f m e) h
+    cert_fault p d k i taken s left rec text r f (no_version p s (next_of (behind i r)) (k + 3) i read f m) (no_memory p s (next_of (behind i r)) (k + 3) i read f m) none (ends_at p s r (k + 3) i read f m e) h
     (subst (λ o. IsFaultAt p (with_earlier taken s) (slice_get (items_of r.entries) i) (k + 3) i o f) (sym raw.1) here)
 
 -- ---- a fault of the recording where a walk stands
@@ -151,21 +157,21 @@ line_refused p first k i taken s held left more rec f text r none g m e h =
 wants_uncut : (p : Contents) (files : List FileBytes) (s : State) (line : Option (List ℕ)) → WantsEntry p (cut line) s → WantsEntry p line (with_earlier files s)
 wants_uncut p files s line h = (h.0, says_back line h.0 h.1, h.2, named_earlier p h.0 files s h.3)
 
-wants_line : (p : Contents) (k : ℕ) (taken : List FileBytes) (s : State) (held left more : Option (List ℕ)) (lines : List (Option (List ℕ)))
-    → GivesLine left more held true → AreBehind lines k left → WantsEntry p held s → WantsNext p (slice_get lines k) (with_earlier taken s)
-wants_line p k taken s held left more lines g h m =
-    let raw = cut_of (slice_get lines k) held (line_next lines k left more held h g) in
+wants_line : (p : Contents) (v : Version) (k : ℕ) (taken : List FileBytes) (s : State) (held left more : Option (List ℕ)) (lines : List (Option (List ℕ)))
+    → GivesLine left more held true → AreBehind lines k left → WantsEntry p (read_as v held) s → WantsNext p (slice_get (map (read_as v) lines) k) (with_earlier taken s)
+wants_line p v k taken s held left more lines g h m =
+    let raw = line_cut v lines k left more held h g in
     subst (λ o. WantsNext p o (with_earlier taken s)) (sym raw.1) (wants_uncut p taken s raw.0 (subst (λ o. WantsEntry p o s) (sym raw.2) m))
 
-read_fault : (p : Contents) (first k i : ℕ) (taken : List FileBytes) (s : State) (left : Option (List ℕ)) (rec : Option Recording) (f : ReadFault) (text : List ℕ) (r : Recording)
-    → s.sink.shelf.files ≡ [] → WantsNext p (slice_get (drop 2 (certificate_lines text)) k) (with_earlier taken s) → Stops f (behind i r) → f ≢ read.OutOfMemory
-    → Stands p text r first k i taken s left rec → IsFirstReadFault p text r f taken
-read_fault p first k i taken s left rec f text r none wants stops told h =
+read_fault : (p : Contents) (d : Head) (k i : ℕ) (taken : List FileBytes) (s : State) (left : Option (List ℕ)) (rec : Option Recording) (f : ReadFault) (text : List ℕ) (r : Recording)
+    → s.sink.shelf.files ≡ [] → WantsNext p (slice_get (step_lines d.version text) k) (with_earlier taken s) → Stops f (behind i r) → f ≢ read.OutOfMemory
+    → Stands p text r d k i taken s left rec → IsFirstReadFault p text r f taken
+read_fault p d k i taken s left rec f text r none wants stops told h =
     record {
       k = k;
       i = i;
       state = with_earlier taken s;
-      before = record { version = h.version; first = first; has_first = h.has_first; inside = h.inside; before = h.reached; gives = given_out taken s none };
+      before = record { head = d; says = h.says; inside = h.inside; before = h.reached; gives = given_out taken s none };
       wants = wants;
       fault = stops;
       told = told;
@@ -173,22 +179,22 @@ read_fault p first k i taken s left rec f text r none wants stops told h =
 
 -- ---- files of some lines
 
-of_lines : (p : Contents) (first k i : ℕ) (taken front : List FileBytes) (s : State) (left : Option (List ℕ)) (rec : Option Recording) (text : List ℕ) (r : Recording)
-    → IsPrefixOf front s.sink.shelf.files → Stands p text r first k i taken s left rec → AreOfLines p text r (taken ++ front)
-of_lines p first k i taken front s left rec text r h g =
+of_lines : (p : Contents) (d : Head) (k i : ℕ) (taken front : List FileBytes) (s : State) (left : Option (List ℕ)) (rec : Option Recording) (text : List ℕ) (r : Recording)
+    → IsPrefixOf front s.sink.shelf.files → Stands p text r d k i taken s left rec → AreOfLines p text r (taken ++ front)
+of_lines p d k i taken front s left rec text r h g =
     record {
       k = k;
       i = i;
       state = with_earlier taken s;
       all = taken ++ s.sink.shelf.files;
-      before = delivers p first k i taken s left rec text r g;
+      before = delivers p d k i taken s left rec text r g;
       first = (h.0, append_assoc taken front h.0 ∙ ap (λ (l : List FileBytes). taken ++ l) h.1);
     }
 
-all_of_lines : (p : Contents) (first k i : ℕ) (taken : List FileBytes) (s : State) (left : Option (List ℕ)) (rec : Option Recording) (text : List ℕ) (r : Recording)
-    → Stands p text r first k i taken s left rec → AreOfLines p text r taken
-all_of_lines p first k i taken s left rec text r h =
-    subst (AreOfLines p text r) (append-nil taken) (of_lines p first k i taken [] s left rec text r (s.sink.shelf.files, refl) h)
+all_of_lines : (p : Contents) (d : Head) (k i : ℕ) (taken : List FileBytes) (s : State) (left : Option (List ℕ)) (rec : Option Recording) (text : List ℕ) (r : Recording)
+    → Stands p text r d k i taken s left rec → AreOfLines p text r taken
+all_of_lines p d k i taken s left rec text r h =
+    subst (AreOfLines p text r) (append-nil taken) (of_lines p d k i taken [] s left rec text r (s.sink.shelf.files, refl) h)
 
 -- a fault of a device or for want of memory, where these files are put
 no_more : (p : Contents) (files : List FileBytes) (text : List ℕ) (r : Recording) (f : StreamFault) → (f ≡ stream.Device) ⊎ (f ≡ stream.OutOfMemory) → AreOfLines p text r files → IsStreamFault p f files text r
@@ -199,49 +205,72 @@ no_more p files text r (stream.Cert f) (inr e) h = absurd (cc e)
 no_more p files text r (stream.Read f) (inl e) h = absurd (cc e)
 no_more p files text r (stream.Read f) (inr e) h = absurd (cc e)
 
+-- ---- the first two lines are refused
+
+of_head : (p : Contents) (text : List ℕ) (r : Recording) (f : CertFault) → IsFaultOfHead text f → IsStreamFault p (stream.Cert f) [] text r
+of_head p text r of.Version h = (h, tt, inl (h, refl))
+of_head p text r (of.Line n) h = ((h.1, inl (h.2, ap (λ (m : ℕ). of.Line m) h.0)), tt, inl (h, refl))
+of_head p text r (of.NotAllowed n) h = absurd h
+of_head p text r (of.StateDiffers n) h = absurd h
+of_head p text r (of.WordDiffers n i) h = absurd h
+of_head p text r (of.Unfinished i) h = absurd h
+of_head p text r of.OutOfMemory h = absurd h
+
+-- no file is put
+pub told_head : (p : Contents) (known old : Option (List ℕ)) (rec : Option Recording) (f : StreamFault) → old ≡ known → RefusesHead IsFaultOfHead old f → WhereTold known rec (IsStreamFault p f [])
+told_head p None old rec f e h = tt
+told_head p (Some text) old None f e h = tt
+told_head p (Some text) old (Some r) f e h = by f (subst (λ o. RefusesHead IsFaultOfHead o f) e h)
+  where
+    by : (f : StreamFault) → RefusesHead IsFaultOfHead (Some text) f → IsStreamFault p f [] text r
+    by (stream.Cert f) h = of_head p text r f h
+    by (stream.Read f) h = absurd h
+    by stream.Device h = inl refl
+    by stream.OutOfMemory h = inl refl
+
 -- ---- what a walk answers, where both are told
 
-refused : (p : Contents) (first k i : ℕ) (taken : List FileBytes) (s : State) (held left more : Option (List ℕ)) (f : StreamFault) (text : List ℕ) (r : Recording)
-    → s.sink.shelf.files ≡ [] → GivesLine left more held true → RefusesOver p held s (Some (behind i r)) (k + 3) i f → Stands p text r first k i taken s left (Some (behind i r))
+refused : (p : Contents) (d : Head) (k i : ℕ) (taken : List FileBytes) (s : State) (held left more : Option (List ℕ)) (f : StreamFault) (text : List ℕ) (r : Recording)
+    → s.sink.shelf.files ≡ [] → GivesLine left more held true → RefusesOver p (read_as d.version held) s (Some (behind i r)) (k + 3) i f → Stands p text r d k i taken s left (Some (behind i r))
     → IsStreamFault p f taken text r
-refused p first k i taken s held left more (stream.Cert f) text r none g m h = line_refused p first k i taken s held left more (Some (behind i r)) f text r none g m.0 m.1 h
-refused p first k i taken s held left more (stream.Read f) text r none g m h =
-    read_fault p first k i taken s left (Some (behind i r)) f text r none (wants_line p k taken s held left more (drop 2 (certificate_lines text)) g h.lines m.0) m.1 m.2 h
-refused p first k i taken s held left more stream.Device text r none g m h = absurd m
-refused p first k i taken s held left more stream.OutOfMemory text r none g m h = inr (all_of_lines p first k i taken s left (Some (behind i r)) text r h)
+refused p d k i taken s held left more (stream.Cert f) text r none g m h = line_refused p d k i taken s held left more (Some (behind i r)) f text r none g m.0 m.1 h
+refused p d k i taken s held left more (stream.Read f) text r none g m h =
+    read_fault p d k i taken s left (Some (behind i r)) f text r none (wants_line p d.version k taken s held left more (drop 2 (certificate_lines text)) g h.lines m.0) m.1 m.2 h
+refused p d k i taken s held left more stream.Device text r none g m h = absurd m
+refused p d k i taken s held left more stream.OutOfMemory text r none g m h = inr (all_of_lines p d k i taken s left (Some (behind i r)) text r h)
 
-pub told_refused : (p : Contents) (first k i n : ℕ) (taken : List FileBytes) (s : State) (held known left more : Option (List ℕ)) (start_rec rec : Option Recording) (f : StreamFault)
-    → n ≡ k + 3 → s.sink.shelf.files ≡ [] → GivesLine left more held true → RefusesOver p held s rec n i f
-    → WhereTold known start_rec (λ text r. Stands p text r first k i taken s left rec) → WhereTold known start_rec (IsStreamFault p f taken)
-told_refused p first k i n taken s held known left more start_rec rec f e none g m =
-    told_map known start_rec (λ text r. Stands p text r first k i taken s left rec) (IsStreamFault p f taken)
-    (λ text r h. refused p first k i taken s held left more f text r none g
-    (subst (λ (j : ℕ). RefusesOver p held s (Some (behind i r)) j i f) e (subst (λ o. RefusesOver p held s o n i f) h.rest m))
-    (subst (λ o. Stands p text r first k i taken s left o) h.rest h))
+pub told_refused : (p : Contents) (d : Head) (k i n : ℕ) (taken : List FileBytes) (s : State) (held known left more : Option (List ℕ)) (start_rec rec : Option Recording) (f : StreamFault)
+    → n ≡ k + 3 → s.sink.shelf.files ≡ [] → GivesLine left more held true → RefusesOver p (read_as d.version held) s rec n i f
+    → WhereTold known start_rec (λ text r. Stands p text r d k i taken s left rec) → WhereTold known start_rec (IsStreamFault p f taken)
+told_refused p d k i n taken s held known left more start_rec rec f e none g m =
+    told_map known start_rec (λ text r. Stands p text r d k i taken s left rec) (IsStreamFault p f taken)
+    (λ text r h. refused p d k i taken s held left more f text r none g
+    (subst (λ (j : ℕ). RefusesOver p (read_as d.version held) s (Some (behind i r)) j i f) e (subst (λ o. RefusesOver p (read_as d.version held) s o n i f) h.rest m))
+    (subst (λ o. Stands p text r d k i taken s left o) h.rest h))
 
 -- the files of the line that was passed are not all put
-pub told_not_put : (p : Contents) (first k i used : ℕ) (taken front : List FileBytes) (s t : State) (held known left more : Option (List ℕ)) (start_rec rec new : Option Recording) (f : StreamFault)
-    → (f ≡ stream.Device) ⊎ (f ≡ stream.OutOfMemory) → IsPrefixOf front t.sink.shelf.files → GivesLine left more held true → PassesOver p held s t rec new used
-    → WhereTold known start_rec (λ text r. Stands p text r first k i taken s left rec) → WhereTold known start_rec (IsStreamFault p f (taken ++ front))
-told_not_put p first k i used taken front s t held known left more start_rec rec new f e is g m =
-    told_map known start_rec (λ text r. Stands p text r first k i taken s left rec) (IsStreamFault p f (taken ++ front))
-    (λ text r h. no_more p (taken ++ front) text r f e (of_lines p first (suc k) (i + used) taken front t more new text r is (goes_on p text r first k i used taken s t held left more rec new h g m)))
+pub told_not_put : (p : Contents) (d : Head) (k i used : ℕ) (taken front : List FileBytes) (s t : State) (held known left more : Option (List ℕ)) (start_rec rec new : Option Recording) (f : StreamFault)
+    → (f ≡ stream.Device) ⊎ (f ≡ stream.OutOfMemory) → IsPrefixOf front t.sink.shelf.files → GivesLine left more held true → PassesOver p (read_as d.version held) s t rec new used
+    → WhereTold known start_rec (λ text r. Stands p text r d k i taken s left rec) → WhereTold known start_rec (IsStreamFault p f (taken ++ front))
+told_not_put p d k i used taken front s t held known left more start_rec rec new f e is g m =
+    told_map known start_rec (λ text r. Stands p text r d k i taken s left rec) (IsStreamFault p f (taken ++ front))
+    (λ text r h. no_more p (taken ++ front) text r f e (of_lines p d (suc k) (i + used) taken front t more new text r is (goes_on p text r d k i used taken s t held left more rec new h g m)))
 
 -- an entry is left
-unfinished : (p : Contents) (first k i : ℕ) (taken : List FileBytes) (s : State) (held left more : Option (List ℕ)) (item : Entry) (new : Option Recording) (text : List ℕ) (r : Recording)
-    → s.sink.shelf.files ≡ [] → GivesLine left more held false → GivesNext (Some (behind i r)) new (Ok (Some item)) → Stands p text r first k i taken s left (Some (behind i r))
+unfinished : (p : Contents) (d : Head) (k i : ℕ) (taken : List FileBytes) (s : State) (held left more : Option (List ℕ)) (item : Entry) (new : Option Recording) (text : List ℕ) (r : Recording)
+    → s.sink.shelf.files ≡ [] → GivesLine left more held false → GivesNext (Some (behind i r)) new (Ok (Some item)) → Stands p text r d k i taken s left (Some (behind i r))
     → IsStreamFault p (stream.Cert (of.Unfinished i)) taken text r
-unfinished p first k i taken s held left more item new text r none g e h =
+unfinished p d k i taken s held left more item new text r none g e h =
     let next : slice_get (items_of r.entries) i ≡ Some (seen_of item) = sym (next_at r.entries i) ∙ ap next_of e.2 in
-    cert_fault p first k i taken s left (Some (behind i r)) text r (of.Unfinished i) (λ z. cc) (λ z. cc) none tt h
-    (rw (next, none_next (drop 2 (certificate_lines text)) k left more held h.lines g) refl)
+    cert_fault p d k i taken s left (Some (behind i r)) text r (of.Unfinished i) (λ z. cc) (λ z. cc) none tt h
+    (rw (next, none_read d.version (drop 2 (certificate_lines text)) k (none_next (drop 2 (certificate_lines text)) k left more held h.lines g)) refl)
 
-pub told_unfinished : (p : Contents) (first k i : ℕ) (taken : List FileBytes) (s : State) (held known left more : Option (List ℕ)) (item : Entry) (start_rec rec new : Option Recording)
+pub told_unfinished : (p : Contents) (d : Head) (k i : ℕ) (taken : List FileBytes) (s : State) (held known left more : Option (List ℕ)) (item : Entry) (start_rec rec new : Option Recording)
     → s.sink.shelf.files ≡ [] → GivesLine left more held false → GivesNext rec new (Ok (Some item))
-    → WhereTold known start_rec (λ text r. Stands p text r first k i taken s left rec) → WhereTold known start_rec (IsStreamFault p (stream.Cert (of.Unfinished i)) taken)
-told_unfinished p first k i taken s held known left more item start_rec rec new none g e =
-    told_map known start_rec (λ text r. Stands p text r first k i taken s left rec) (IsStreamFault p (stream.Cert (of.Unfinished i)) taken)
-    (λ text r h. unfinished p first k i taken s held left more item new text r none g (subst (λ o. GivesNext o new (Ok (Some item))) h.rest e) (subst (λ o. Stands p text r first k i taken s left o) h.rest h))
+    → WhereTold known start_rec (λ text r. Stands p text r d k i taken s left rec) → WhereTold known start_rec (IsStreamFault p (stream.Cert (of.Unfinished i)) taken)
+told_unfinished p d k i taken s held known left more item start_rec rec new none g e =
+    told_map known start_rec (λ text r. Stands p text r d k i taken s left rec) (IsStreamFault p (stream.Cert (of.Unfinished i)) taken)
+    (λ text r h. unfinished p d k i taken s held left more item new text r none g (subst (λ o. GivesNext o new (Ok (Some item))) h.rest e) (subst (λ o. Stands p text r d k i taken s left o) h.rest h))
 
 -- the recording has a fault behind the last line
 known_stop : (p : Contents) (files : List FileBytes) (text : List ℕ) (r : Recording) (f : ReadFault) → AreOfLines p text r files → (f ≢ read.OutOfMemory → IsFirstReadFault p text r f files) → IsStreamFault p (of_read f) files text r
@@ -253,19 +282,19 @@ known_stop p files text r read.Device h g = g (λ z. cc)
 known_stop p files text r read.OutOfMemory h g = inr h
 known_stop p files text r read.Failed h g = g (λ z. cc)
 
-pub told_stopped : (p : Contents) (first k i : ℕ) (taken : List FileBytes) (s : State) (held known left more : Option (List ℕ)) (start_rec rec new : Option Recording) (f : ReadFault)
+pub told_stopped : (p : Contents) (d : Head) (k i : ℕ) (taken : List FileBytes) (s : State) (held known left more : Option (List ℕ)) (start_rec rec new : Option Recording) (f : ReadFault)
     → s.sink.shelf.files ≡ [] → GivesLine left more held false → GivesNext rec new (Err f)
-    → WhereTold known start_rec (λ text r. Stands p text r first k i taken s left rec) → WhereTold known start_rec (IsStreamFault p (of_read f) taken)
-told_stopped p first k i taken s held known left more start_rec rec new f none g e =
-    told_map known start_rec (λ text r. Stands p text r first k i taken s left rec) (IsStreamFault p (of_read f) taken)
-    (λ text r h. known_stop p taken text r f (all_of_lines p first k i taken s left rec text r h)
-    (λ told. read_fault p first k i taken s left rec f text r none
-    (subst (λ o. WantsNext p o (with_earlier taken s)) (sym (none_next (drop 2 (certificate_lines text)) k left more held h.lines g)) tt)
+    → WhereTold known start_rec (λ text r. Stands p text r d k i taken s left rec) → WhereTold known start_rec (IsStreamFault p (of_read f) taken)
+told_stopped p d k i taken s held known left more start_rec rec new f none g e =
+    told_map known start_rec (λ text r. Stands p text r d k i taken s left rec) (IsStreamFault p (of_read f) taken)
+    (λ text r h. known_stop p taken text r f (all_of_lines p d k i taken s left rec text r h)
+    (λ told. read_fault p d k i taken s left rec f text r none
+    (subst (λ o. WantsNext p o (with_earlier taken s)) (sym (none_read d.version (drop 2 (certificate_lines text)) k (none_next (drop 2 (certificate_lines text)) k left more held h.lines g))) tt)
     (subst (λ o. GivesNext o new (Err f)) h.rest e) told h))
 
 -- a device has failed before the next line
-pub told_device : (p : Contents) (first k i : ℕ) (taken : List FileBytes) (s : State) (known left : Option (List ℕ)) (start_rec rec : Option Recording)
-    → WhereTold known start_rec (λ text r. Stands p text r first k i taken s left rec) → WhereTold known start_rec (IsStreamFault p stream.Device taken)
-told_device p first k i taken s known left start_rec rec =
-    told_map known start_rec (λ text r. Stands p text r first k i taken s left rec) (IsStreamFault p stream.Device taken)
-    (λ text r h. inr (all_of_lines p first k i taken s left rec text r h))
+pub told_device : (p : Contents) (d : Head) (k i : ℕ) (taken : List FileBytes) (s : State) (known left : Option (List ℕ)) (start_rec rec : Option Recording)
+    → WhereTold known start_rec (λ text r. Stands p text r d k i taken s left rec) → WhereTold known start_rec (IsStreamFault p stream.Device taken)
+told_device p d k i taken s known left start_rec rec =
+    told_map known start_rec (λ text r. Stands p text r d k i taken s left rec) (IsStreamFault p stream.Device taken)
+    (λ text r h. inr (all_of_lines p d k i taken s left rec text r h))

@@ -1,5 +1,5 @@
 -- Where a walk along a certificate's lines stands, and what each line says of it.
-use Rattle.std.proofs.Common.{◌≡◌, ◌≤◌, ◌+◌, ◌∙◌, ◌++◌, ◌∷◌, ℕ, zero, suc, List, [], length, take, drop, Bool, true, false, nat_le, if◌then◌else◌, Option, Some, None, option_map, slice_get, refl, sym, ap, subst, arith, append-nil}
+use Rattle.std.proofs.Common.{◌≡◌, ◌≤◌, ◌+◌, ◌∙◌, ◌++◌, ◌∷◌, ℕ, zero, suc, List, [], length, map, take, drop, Bool, true, false, ◌==◌, nat_le, if◌then◌else◌, Option, Some, None, option_map, option_and_then, slice_get, refl, sym, ap, subst, arith, append-nil}
 use Rattle.std.proofs.lemmas.List.{drop-drop}
 use Rattle.a429_profile.specs.Profile.{Contents}
 use Rattle.a429_link.specs.declared.file.FileBytes.{FileBytes}
@@ -13,13 +13,17 @@ use Rattle.a429_record.specs.Recording.{Recording}
 use Rattle.a429_cert.specs.declared.line.CertLine.{CertLine}
 use Rattle.a429_cert.specs.declared.line.CertLine.TheVariants.{First, Load, Moved}
 use Rattle.a429_cert.specs.Lines.{certificate_lines}
-use Rattle.a429_cert.specs.CutLines.{cut, GivesLine}
+use Rattle.a429_cert.specs.CutLines.{cut, when_short, GivesLine}
 use Rattle.a429_cert.specs.Explained.{items_of, Reaches, ShowsStates}
-use Rattle.a429_cert.specs.Fault.{HasVersion, HasFirst, SaysLine}
+use Rattle.a429_cert.specs.declared.version.Version.{Version}
+use Rattle.a429_cert.specs.declared.version.Version.TheVariants.{One, Two}
+use Rattle.a429_cert.specs.declared.explained.Head.{Head}
+use Rattle.a429_cert.specs.Version.{without_x, read_as, step_lines}
+use Rattle.a429_cert.specs.Fault.{HasHead, SaysLine}
 use Rattle.a429_cert.specs.Passing.{MakesStep, PassesText}
 use Rattle.a429_cert.specs.Stream.{behind, PassesOver}
 use Rattle.a429_cert.proofs.Options.{some_is}
-use Rattle.a429_cert.proofs.ExplainedFacts.{drop_get, passes_on}
+use Rattle.a429_cert.proofs.ExplainedFacts.{drop_get, line_read, passes_on}
 
 -- ---- files that were handed out
 
@@ -85,35 +89,58 @@ rest_behind r used i = ap (λ (l : List Entry). left l) (drop-drop used i r.entr
 -- ---- where a walk stands
 
 -- k lines behind the first two were passed over the first i entries, and these files were handed out
-pub record Stands (p : Contents) (text : List ℕ) (r : Recording) (first k i : ℕ) (taken : List FileBytes) (s : State) (left : Option (List ℕ)) (rec : Option Recording) : Type 0 where
-  pub version : HasVersion text
-  pub has_first : HasFirst text first
+pub record Stands (p : Contents) (text : List ℕ) (r : Recording) (d : Head) (k i : ℕ) (taken : List FileBytes) (s : State) (left : Option (List ℕ)) (rec : Option Recording) : Type 0 where
+  pub says : HasHead text d
   pub lines : AreBehind (drop 2 (certificate_lines text)) k left
   pub inside : i ≤ length (items_of r.entries)
-  pub reached : Reaches p first (take k (drop 2 (certificate_lines text))) (take i (items_of r.entries)) (with_earlier taken s)
+  pub reached : Reaches p d.first (take k (step_lines d.version text)) (take i (items_of r.entries)) (with_earlier taken s)
   pub rest : rec ≡ Some (behind i r)
 
 pub cut_of : (o : Option (Option (List ℕ))) (line : Option (List ℕ)) → option_map cut o ≡ Some line → (raw : Option (List ℕ)) × (o ≡ Some raw) × (cut raw ≡ line)
 cut_of None line e = absurd (cc e)
 cut_of (Some raw) line e = (raw, refl, some_is (cut raw) line e)
 
+-- a line that is cut is none of a version that reads it
+read_cut : (v : Version) (raw : Option (List ℕ)) → read_as v (cut raw) ≡ cut (read_as v raw)
+read_cut Two raw = refl
+read_cut One None = refl
+read_cut One (Some []) = refl
+read_cut One (Some (b ∷ text)) = by (nat_le (length (b ∷ text)) 2287) (b == 120) refl refl
+  where
+    by : (short is_x : Bool) → nat_le (length (b ∷ text)) 2287 ≡ short → (b == 120) ≡ is_x → option_and_then without_x (if short then Some (b ∷ text) else None) ≡ option_and_then when_short (if is_x then None else Some (b ∷ text))
+    by true true e g = rw g refl
+    by true false e g = rw (g, e) refl
+    by false true e g = refl
+    by false false e g = rw e refl
+
+nothing_read : (v : Version) → read_as v None ≡ None
+nothing_read One = refl
+nothing_read Two = refl
+
+-- the next line, as the version reads it; what was handed out of it may be cut
+pub line_cut : (v : Version) (lines : List (Option (List ℕ))) (k : ℕ) (left more line : Option (List ℕ)) → AreBehind lines k left → GivesLine left more line true
+    → (raw : Option (List ℕ)) × (slice_get (map (read_as v) lines) k ≡ Some raw) × (cut raw ≡ read_as v line)
+line_cut v lines k left more line h g =
+    let raw = cut_of (slice_get lines k) line (line_next lines k left more line h g) in
+    (read_as v raw.0, line_read v lines k raw.0 raw.1, sym (read_cut v raw.0) ∙ ap (read_as v) raw.2)
+
 text_back : (p : Contents) (raw line : Option (List ℕ)) (next : Option Seen) (s t : State) (used : ℕ) → cut raw ≡ line → PassesText p line next s t used → PassesText p raw next s t used
 text_back p raw line next s t used e h = (h.0, says_back raw h.0 (subst (λ o. SaysLine o h.0) (sym e) h.1), h.2)
 
-pub goes_on : (p : Contents) (text : List ℕ) (r : Recording) (first k i used : ℕ) (taken : List FileBytes) (s t : State) (line left more : Option (List ℕ)) (rec new : Option Recording)
-    → Stands p text r first k i taken s left rec → GivesLine left more line true → PassesOver p line s t rec new used → Stands p text r first (suc k) (i + used) taken t more new
-goes_on p text r first k i used taken s t None left more rec new h g m = absurd ((subst (λ o. PassesOver p None s t o new used) h.rest m).0.1)
-goes_on p text r first k i used taken s t (Some said) left more rec new h g m =
+pub goes_on : (p : Contents) (text : List ℕ) (r : Recording) (d : Head) (k i used : ℕ) (taken : List FileBytes) (s t : State) (line left more : Option (List ℕ)) (rec new : Option Recording)
+    → Stands p text r d k i taken s left rec → GivesLine left more line true → PassesOver p (read_as d.version line) s t rec new used → Stands p text r d (suc k) (i + used) taken t more new
+goes_on p text r d k i used taken s t None left more rec new h g m = absurd ((subst (λ q. PassesOver p q s t (Some (behind i r)) new used) (nothing_read d.version) (subst (λ o. PassesOver p (read_as d.version None) s t o new used) h.rest m)).0.1)
+goes_on p text r d k i used taken s t (Some said) left more rec new h g m =
     let lines = drop 2 (certificate_lines text) in
     let items = items_of r.entries in
-    let raw = cut_of (slice_get lines k) (Some said) (line_next lines k left more (Some said) h.lines g) in
-    let here = subst (λ o. PassesOver p (Some said) s t o new used) h.rest m in
-    let passes = subst (λ o. PassesText p (Some said) o s t used) (next_at r.entries i) here.0 in
-    let on = passes_on p first lines items k i used raw.0 (with_earlier taken s) (with_earlier taken t) raw.1 h.inside h.reached
-    (text_back p raw.0 (Some said) (slice_get items i) (with_earlier taken s) (with_earlier taken t) used raw.2 (text_earlier p (Some said) (slice_get items i) taken s t used passes)) in
+    let read = read_as d.version (Some said) in
+    let raw = line_cut d.version lines k left more (Some said) h.lines g in
+    let here = subst (λ o. PassesOver p read s t o new used) h.rest m in
+    let passes = subst (λ o. PassesText p read o s t used) (next_at r.entries i) here.0 in
+    let on = passes_on p d.first (step_lines d.version text) items k i used raw.0 (with_earlier taken s) (with_earlier taken t) raw.1 h.inside h.reached
+    (text_back p raw.0 read (slice_get items i) (with_earlier taken s) (with_earlier taken t) used raw.2 (text_earlier p read (slice_get items i) taken s t used passes)) in
     record {
-      version = h.version;
-      has_first = h.has_first;
+      says = h.says;
       lines = lines_behind lines k left more said h.lines g;
       inside = on.inside;
       reached = on.reached;
@@ -121,14 +148,13 @@ goes_on p text r first k i used taken s t (Some said) left more rec new h g m =
     }
 
 -- its files are handed out
-pub hands_out : (p : Contents) (text : List ℕ) (r : Recording) (first k i : ℕ) (taken : List FileBytes) (s : State) (left : Option (List ℕ)) (rec : Option Recording)
-    → Stands p text r first k i taken s left rec → Stands p text r first k i (taken ++ s.sink.shelf.files) (handed_out s) left rec
-hands_out p text r first k i taken s left rec h =
+pub hands_out : (p : Contents) (text : List ℕ) (r : Recording) (d : Head) (k i : ℕ) (taken : List FileBytes) (s : State) (left : Option (List ℕ)) (rec : Option Recording)
+    → Stands p text r d k i taken s left rec → Stands p text r d k i (taken ++ s.sink.shelf.files) (handed_out s) left rec
+hands_out p text r d k i taken s left rec h =
     record {
-      version = h.version;
-      has_first = h.has_first;
+      says = h.says;
       lines = h.lines;
       inside = h.inside;
-      reached = subst (λ (q : State). Reaches p first (take k (drop 2 (certificate_lines text))) (take i (items_of r.entries)) q) (sym (handed taken s)) h.reached;
+      reached = subst (λ (q : State). Reaches p d.first (take k (step_lines d.version text)) (take i (items_of r.entries)) q) (sym (handed taken s)) h.reached;
       rest = h.rest;
     }

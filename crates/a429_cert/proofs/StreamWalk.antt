@@ -1,5 +1,5 @@
 -- A walk along a certificate's lines over a recording, where both are told.
-use Rattle.std.proofs.Common.{◌≡◌, ◌≤◌, ◌+◌, ◌∙◌, ◌++◌, ◌∷◌, ℕ, suc, List, [], length, drop, true, Option, Some, None, slice_get, refl, sym, ap, subst, arith, append_assoc, append-nil, false, Ok}
+use Rattle.std.proofs.Common.{◌≡◌, ◌≤◌, ◌+◌, ◌∙◌, ◌++◌, ℕ, suc, List, [], length, drop, true, Option, Some, None, slice_get, refl, sym, ap, subst, arith, append-nil, false, Ok}
 use Rattle.a429_profile.specs.Profile.{IsProfile}
 use Rattle.a429_record.specs.Recording.{whole}
 use Rattle.a429_record.specs.Rows.{GivesNext}
@@ -7,9 +7,8 @@ use Rattle.a429_cert.specs.Explained.{items_of, IsExplained}
 use Rattle.a429_cert.specs.StreamExplained.{IsYes}
 use Rattle.a429_cert.specs.Stream.{next_of}
 use Rattle.a429_cert.proofs.Options.{some_is}
-use Rattle.a429_cert.proofs.ExplainedFacts.{drop_get, none_past, explained, in_every_run}
+use Rattle.a429_cert.proofs.ExplainedFacts.{drop_get, none_past, none_read, explained, in_every_run}
 use Rattle.a429_cert.proofs.StreamStands.{AreBehind, next_at}
-use Rattle.std.proofs.lemmas.List.{length-map, map-append}
 use Rattle.std.specs.Io.KnownBytes.{prepend_known}
 use Rattle.a429_profile.specs.Profile.{Contents}
 use Rattle.a429_link.specs.declared.file.FileBytes.{FileBytes}
@@ -18,11 +17,12 @@ use Rattle.a429_link.specs.Link.{with_earlier, handed_out}
 use Rattle.a429_record.specs.Recording.{Recording}
 use Rattle.a429_record.specs.declared.fault.ReadFault.{ReadFault}
 use Rattle.a429_record.specs.declared.fault.ReadFault.TheVariants as read
-use Rattle.a429_cert.specs.declared.shelf.PutFile.{PutFile}
 use Rattle.a429_cert.specs.declared.stream_fault.StreamFault.TheVariants as stream
+use Rattle.a429_cert.specs.declared.explained.Head.{Head}
 use Rattle.a429_cert.specs.Lines.{certificate_lines}
+use Rattle.a429_cert.specs.Version.{read_as}
 use Rattle.a429_cert.specs.CutLines.{GivesLine}
-use Rattle.a429_cert.specs.Stream.{behind, PassesOver, of_read, GainsAll, placed, sizes}
+use Rattle.a429_cert.specs.Stream.{behind, PassesOver, of_read}
 use Rattle.a429_cert.specs.StreamHead.{TakesHead}
 use Rattle.a429_cert.specs.StreamExplained.{WhereTold}
 use Rattle.a429_cert.proofs.ExplainedFacts.{begins}
@@ -35,23 +35,23 @@ told_map None rec A B f h = tt
 told_map (Some text) None A B f h = tt
 told_map (Some text) (Some r) A B f h = f text r h
 
-pub told_init : (p : Contents) (first : ℕ) (s : State) (known old left : Option (List ℕ)) (rec : Option Recording)
-    → old ≡ known → TakesHead old left first → s ≡ start p first → WhereTold known rec (λ text r. Stands p text r first 0 0 [] s left rec)
-told_init p first s None old left rec e h z = tt
-told_init p first s (Some text) old left None e h z = tt
-told_init p first s (Some text) old left (Some r) e h z = by left (subst (λ o. TakesHead o left first) e h)
+pub told_init : (p : Contents) (d : Head) (s : State) (known old left : Option (List ℕ)) (rec : Option Recording)
+    → old ≡ known → TakesHead old left d → s ≡ start p d.first → WhereTold known rec (λ text r. Stands p text r d 0 0 [] s left rec)
+told_init p d s None old left rec e h z = tt
+told_init p d s (Some text) old left None e h z = tt
+told_init p d s (Some text) old left (Some r) e h z = by left (subst (λ o. TakesHead o left d) e h)
   where
-    by : (left : Option (List ℕ)) → TakesHead (Some text) left first → Stands p text r first 0 0 [] s left (Some r)
+    by : (left : Option (List ℕ)) → TakesHead (Some text) left d → Stands p text r d 0 0 [] s left (Some r)
     by None h = absurd h
-    by (Some ys) h = record { version = h.0; has_first = h.1; lines = (ys, refl, h.2); inside = omega arith; reached = begins p first (with_earlier [] s) z; rest = refl }
+    by (Some ys) h = record { says = h.0; lines = (ys, refl, h.1); inside = omega arith; reached = begins p d.first (with_earlier [] s) z; rest = refl }
 
-pub told_on : (p : Contents) (first k i used : ℕ) (taken : List FileBytes) (s t : State) (line known left more : Option (List ℕ)) (start_rec rec new : Option Recording)
-    → GivesLine left more line true → PassesOver p line s t rec new used
-    → WhereTold known start_rec (λ text r. Stands p text r first k i taken s left rec)
-    → WhereTold known start_rec (λ text r. Stands p text r first (suc k) (i + used) (taken ++ t.sink.shelf.files) (handed_out t) more new)
-told_on p first k i used taken s t line known left more start_rec rec new g m =
-    told_map known start_rec (λ text r. Stands p text r first k i taken s left rec) (λ text r. Stands p text r first (suc k) (i + used) (taken ++ t.sink.shelf.files) (handed_out t) more new)
-    (λ text r h. hands_out p text r first (suc k) (i + used) taken t more new (goes_on p text r first k i used taken s t line left more rec new h g m))
+pub told_on : (p : Contents) (d : Head) (k i used : ℕ) (taken : List FileBytes) (s t : State) (line known left more : Option (List ℕ)) (start_rec rec new : Option Recording)
+    → GivesLine left more line true → PassesOver p (read_as d.version line) s t rec new used
+    → WhereTold known start_rec (λ text r. Stands p text r d k i taken s left rec)
+    → WhereTold known start_rec (λ text r. Stands p text r d (suc k) (i + used) (taken ++ t.sink.shelf.files) (handed_out t) more new)
+told_on p d k i used taken s t line known left more start_rec rec new g m =
+    told_map known start_rec (λ text r. Stands p text r d k i taken s left rec) (λ text r. Stands p text r d (suc k) (i + used) (taken ++ t.sink.shelf.files) (handed_out t) more new)
+    (λ text r h. hands_out p text r d (suc k) (i + used) taken t more new (goes_on p text r d k i used taken s t line left more rec new h g m))
 
 -- ---- faults of a recording
 
@@ -78,30 +78,6 @@ pub fresh : (ahead : List ℕ) (known : Option (List ℕ)) → ahead ≡ [] → 
 fresh ahead None e = refl
 fresh ahead (Some xs) e = rw e refl
 
--- ---- files that are put in two parts
-
-placed_append : (i : ℕ) (xs ys : List FileBytes) → placed i (xs ++ ys) ≡ placed i xs ++ placed (i + length xs) ys
-placed_append i [] ys = let n : i ≡ i + 0 = omega arith in ap (λ (k : ℕ). placed k ys) n
-placed_append i (x ∷ xs) ys =
-    let n : suc i + length xs ≡ i + suc (length xs) = omega arith in
-    ap (λ (l : List PutFile). record { index = i; file = x } ∷ l) (placed_append (suc i) xs ys ∙ ap (λ (k : ℕ). placed (suc i) xs ++ placed k ys) n)
-
-gains_both : (a b c : Option (List PutFile)) (i : ℕ) (xs ys : List FileBytes) → GainsAll a b i xs → GainsAll b c (i + length xs) ys → GainsAll a c i (xs ++ ys)
-gains_both None b c i xs ys h g = tt
-gains_both (Some x) None c i xs ys h g = absurd h
-gains_both (Some x) (Some y) None i xs ys h g = absurd g
-gains_both (Some x) (Some y) (Some z) i xs ys h g =
-    g ∙ ap (λ (l : List PutFile). l ++ placed (i + length xs) ys) h ∙ append_assoc x (placed i xs) (placed (i + length xs) ys) ∙ ap (λ (l : List PutFile). x ++ l) (sym (placed_append i xs ys))
-
-pub put_behind : (a b c : Option (List PutFile)) (xs ys : List FileBytes) (notes : List (ℕ × ℕ)) → GainsAll a b 1 xs → notes ≡ sizes xs → GainsAll b c (length notes + 1) ys → GainsAll a c 1 (xs ++ ys)
-put_behind a b c xs ys notes h e g =
-    let all : length notes ≡ length xs = ap (λ (l : List (ℕ × ℕ)). length l) e ∙ length-map xs (λ f. (f.number, length f.bytes)) in
-    let place : length notes + 1 ≡ 1 + length xs = omega (arith, all) in
-    gains_both a b c 1 xs ys h (subst (λ n. GainsAll b c n ys) place g)
-
-pub noted_behind : (xs ys : List FileBytes) (notes new : List (ℕ × ℕ)) → notes ≡ sizes xs → new ≡ notes ++ sizes ys → new ≡ sizes (xs ++ ys)
-noted_behind xs ys notes new e g = g ∙ ap (λ (l : List (ℕ × ℕ)). l ++ sizes ys) e ∙ sym (map-append (λ f. (f.number, length f.bytes)) xs ys)
-
 -- ---- the end
 
 pub none_next : (lines : List (Option (List ℕ))) (k : ℕ) (old new line : Option (List ℕ)) → AreBehind lines k old → GivesLine old new line false → slice_get lines k ≡ None
@@ -111,19 +87,19 @@ none_next lines k (Some xs) (Some ys) line h g =
     let same : certificate_lines xs ≡ drop k lines = ap certificate_lines (some_is xs h.0 h.1) ∙ h.2 in
     sym (drop_get lines k) ∙ ap (λ (l : List (Option (List ℕ))). slice_get l 0) (sym same ∙ g)
 
-yes : (p : Contents) (first k i : ℕ) (taken : List FileBytes) (s : State) (held left more : Option (List ℕ)) (rec new : Option Recording) (text : List ℕ) (r : Recording)
-    → IsProfile p → s.sink.shelf.files ≡ [] → GivesLine left more held false → GivesNext rec new (Ok None) → Stands p text r first k i taken s left rec → IsYes p taken text r
-yes p first k i taken s held left more rec new text r is none g e h =
+yes : (p : Contents) (d : Head) (k i : ℕ) (taken : List FileBytes) (s : State) (held left more : Option (List ℕ)) (rec new : Option Recording) (text : List ℕ) (r : Recording)
+    → IsProfile p → s.sink.shelf.files ≡ [] → GivesLine left more held false → GivesNext rec new (Ok None) → Stands p text r d k i taken s left rec → IsYes p taken text r
+yes p d k i taken s held left more rec new text r is none g e h =
     let end : behind i r ≡ whole [] = subst (λ o. GivesNext o new (Ok None)) h.rest e in
     let items = items_of r.entries in
     let all : length items ≤ i = none_past items i (sym (next_at r.entries i) ∙ ap next_of end) in
     let files : (with_earlier taken s).sink.shelf.files ≡ taken = ap (λ (l : List FileBytes). taken ++ l) none ∙ append-nil taken in
     let here : IsExplained p text items taken = subst (λ (l : List FileBytes). IsExplained p text items l) files
-    (explained p text items first k i (with_earlier taken s) h.version h.has_first (none_next (drop 2 (certificate_lines text)) k left more held h.lines g) all h.reached) in
+    (explained p text items d k i (with_earlier taken s) h.says (none_read d.version (drop 2 (certificate_lines text)) k (none_next (drop 2 (certificate_lines text)) k left more held h.lines g)) all h.reached) in
     (ap (λ (q : Recording). q.fault) end, here, in_every_run p is text items taken here)
 
-pub told_yes : (p : Contents) (first k i : ℕ) (taken : List FileBytes) (s : State) (held left more known : Option (List ℕ)) (start_rec rec new : Option Recording)
+pub told_yes : (p : Contents) (d : Head) (k i : ℕ) (taken : List FileBytes) (s : State) (held left more known : Option (List ℕ)) (start_rec rec new : Option Recording)
     → IsProfile p → s.sink.shelf.files ≡ [] → GivesLine left more held false → GivesNext rec new (Ok None)
-    → WhereTold known start_rec (λ text r. Stands p text r first k i taken s left rec) → WhereTold known start_rec (IsYes p taken)
-told_yes p first k i taken s held left more known start_rec rec new is none g e =
-    told_map known start_rec (λ text r. Stands p text r first k i taken s left rec) (IsYes p taken) (λ text r h. yes p first k i taken s held left more rec new text r is none g e h)
+    → WhereTold known start_rec (λ text r. Stands p text r d k i taken s left rec) → WhereTold known start_rec (IsYes p taken)
+told_yes p d k i taken s held left more known start_rec rec new is none g e =
+    told_map known start_rec (λ text r. Stands p text r d k i taken s left rec) (IsYes p taken) (λ text r h. yes p d k i taken s held left more rec new text r is none g e h)

@@ -15,7 +15,9 @@ use Rattle.a429_cert.specs.declared.line.CertLine.{CertLine}
 use Rattle.a429_cert.specs.declared.line.CertLine.TheVariants.{First, Load, Moved}
 use Rattle.a429_cert.specs.Act.{step_with}
 use Rattle.a429_cert.specs.Line.{spelling, SpellsLine}
-use Rattle.a429_cert.specs.Lines.{certificate_lines, version}
+use Rattle.a429_cert.specs.Lines.{certificate_lines}
+use Rattle.a429_cert.specs.declared.version.Version.{Version}
+use Rattle.a429_cert.specs.Version.{version_line, read_as}
 
 -- what a run records of an entry: its time is not looked at
 abbrev pub seen_of : Entry → Seen
@@ -67,12 +69,14 @@ pub record Reaches (p : Contents) (first : ℕ) (lines : List (Option (List ℕ)
   pub ends : s ≡ end_of p steps (start p first)
 
 -- the certificate explains the recorded words by this run: its first two lines are the version and the
--- number of the first file, its others are the run's steps, and the run records these words and no others
+-- number of the first file, its others, as that version reads them, are the run's steps, and the run records
+-- these words and no others
 pub record Explains (p : Contents) (certificate : List ℕ) (items : List Seen) (first : ℕ) (steps : List Step) : Type 0 where
+  pub version : Version
   pub lines : List (Option (List ℕ))
   pub byte : first ≤ 255
-  pub header : certificate_lines certificate ≡ Some version ∷ Some (spelling (First first)) ∷ lines
-  pub lists : ListsSteps p lines steps (start p first)
+  pub header : certificate_lines certificate ≡ Some (version_line version) ∷ Some (spelling (First first)) ∷ lines
+  pub lists : ListsSteps p (map (read_as version) lines) steps (start p first)
   pub used : trace steps ≡ items
 
 -- ---- what a yes says

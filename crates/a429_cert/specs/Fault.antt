@@ -8,24 +8,36 @@ use Rattle.a429_link.specs.State.{State}
 use Rattle.a429_cert.specs.declared.line.CertLine.{CertLine}
 use Rattle.a429_cert.specs.declared.line.CertLine.TheVariants.{First, Load, Moved}
 use Rattle.a429_cert.specs.declared.fault.CertFault.{CertFault}
-use Rattle.a429_cert.specs.declared.fault.CertFault.TheVariants.{Version, Line, NotAllowed, StateDiffers, WordDiffers, Unfinished, OutOfMemory}
+use Rattle.a429_cert.specs.declared.fault.CertFault.TheVariants as of
+use Rattle.a429_cert.specs.declared.fault.CertFault.TheVariants.{Line, NotAllowed, StateDiffers, WordDiffers, Unfinished, OutOfMemory}
 use Rattle.a429_cert.specs.Line.{spelling, SpellsLine}
-use Rattle.a429_cert.specs.Lines.{certificate_lines, version}
+use Rattle.a429_cert.specs.declared.version.Version.{Version}
+use Rattle.a429_cert.specs.declared.explained.Head.{Head}
+use Rattle.a429_cert.specs.Lines.{certificate_lines}
+use Rattle.a429_cert.specs.Version.{version_line, step_lines}
 use Rattle.a429_cert.specs.Explained.{step_of, ShowsStates, Reaches}
 
 -- ---- the first two lines
 
-abbrev pub HasVersion : List ℕ → Type 0
-HasVersion certificate = slice_get (certificate_lines certificate) 0 ≡ Some (Some version)
+-- the first line names this version
+abbrev pub HasVersion : List ℕ → Version → Type 0
+HasVersion certificate v = slice_get (certificate_lines certificate) 0 ≡ Some (Some (version_line v))
+
+-- it names some version
+abbrev pub IsVersioned : List ℕ → Type 0
+IsVersioned certificate = (v : Version) × HasVersion certificate v
 
 -- the second line gives the number of the first file
 abbrev pub HasFirst : List ℕ → ℕ → Type 0
 HasFirst certificate first = (first ≤ 255) × (slice_get (certificate_lines certificate) 1 ≡ Some (Some (spelling (First first))))
 
--- the text begins with them, they give the number of the first file, and this is behind them
-pub record Begins (text : List ℕ) (first : ℕ) (behind : List ℕ) : Type 0 where
-  pub version : HasVersion text
-  pub first_file : HasFirst text first
+-- they say this
+abbrev pub HasHead : List ℕ → Head → Type 0
+HasHead certificate h = HasVersion certificate h.version × HasFirst certificate h.first
+
+-- the text begins with them, they say this, and this is behind them
+pub record Begins (text : List ℕ) (head : Head) (behind : List ℕ) : Type 0 where
+  pub says : HasHead text head
   pub lines : certificate_lines behind ≡ drop 2 (certificate_lines text)
   pub shorter : length behind + 2 ≤ length text
 
@@ -36,8 +48,8 @@ file_in _ = None
 
 -- why they are refused
 abbrev pub IsFaultOfHead : List ℕ → CertFault → Type 0
-IsFaultOfHead text Version = ¬ HasVersion text
-IsFaultOfHead text (Line n) = (n ≡ 2) × HasVersion text × ((first : ℕ) → ¬ HasFirst text first)
+IsFaultOfHead text of.Version = ¬ IsVersioned text
+IsFaultOfHead text (Line n) = (n ≡ 2) × IsVersioned text × ((first : ℕ) → ¬ HasFirst text first)
 IsFaultOfHead text _ = ⊥
 
 -- the second line gives no number, and that is the fault
@@ -89,20 +101,20 @@ IsFaultAt p s _ n i None _ = ⊥
 
 -- behind the first two lines, k lines are the steps of a run over the first i entries, and the fault comes next
 pub record IsLaterFault (p : Contents) (certificate : List ℕ) (items : List Seen) (f : CertFault) : Type 0 where
-  pub first : ℕ
-  pub has_first : HasFirst certificate first
+  pub head : Head
+  pub says : HasHead certificate head
   pub k : ℕ
   pub i : ℕ
   pub inside : i ≤ length items
   pub state : State
-  pub before : Reaches p first (take k (drop 2 (certificate_lines certificate))) (take i items) state
-  pub fault : IsFaultAt p state (slice_get items i) (k + 3) i (slice_get (drop 2 (certificate_lines certificate)) k) f
+  pub before : Reaches p head.first (take k (step_lines head.version certificate)) (take i items) state
+  pub fault : IsFaultAt p state (slice_get items i) (k + 3) i (slice_get (step_lines head.version certificate) k) f
 
 -- the first fault in the order of the lines
 abbrev pub IsFirstCertFault : Contents → List ℕ → List Seen → CertFault → Type 0
-IsFirstCertFault p certificate items Version = ¬ HasVersion certificate
+IsFirstCertFault p certificate items of.Version = ¬ IsVersioned certificate
 IsFirstCertFault p certificate items OutOfMemory = ⊥
-IsFirstCertFault p certificate items f = HasVersion certificate × ((((first : ℕ) → ¬ HasFirst certificate first) × (f ≡ Line 2)) ⊎ IsLaterFault p certificate items f)
+IsFirstCertFault p certificate items f = IsVersioned certificate × ((((first : ℕ) → ¬ HasFirst certificate first) × (f ≡ Line 2)) ⊎ IsLaterFault p certificate items f)
 
 -- what holds of a fault, where it is not want of memory
 abbrev pub UnlessMemory : (CertFault → Type 0) → CertFault → Type 0

@@ -5,6 +5,7 @@ pub mod Line
 pub mod Reading
 pub mod Writing
 pub mod Lines
+pub mod Version
 pub mod Explained
 pub mod Fault
 pub mod Passing

@@ -3,6 +3,7 @@ use Rattle.std.specs.Prelude.{◌≡◌, ◌≤◌, ◌<◌, ◌^◌, ℕ, List,
 use Rattle.std.specs.Fmt.{decimal}
 use Rattle.std.specs.List.{AllByRecursion}
 use Rattle.a429_word.specs.Digits.{numeral, hex_text}
+use Rattle.a429_ldu.specs.Ldu.{most_data_words}
 use Rattle.a429_cert.specs.declared.line.CertLine.{CertLine}
 use Rattle.a429_cert.specs.declared.line.CertLine.TheVariants.{First, Load, Moved}
 use Rattle.a429_cert.specs.Field.{field}
@@ -20,7 +21,7 @@ spelling (Moved l) = act_text l.act ++ field (source_text l.states.source) ++ fi
 -- the ranges of a line's fields (profile); a file's number and the words on their way are bytes, 0 to 255, a check word has 16 bits
 abbrev pub IsLine : CertLine → Type 0
 IsLine (First file) = ⊤
-IsLine (Load l) = (l.gfi ≤ 15) × (l.flags ≤ 15) × (1 ≤ length l.words) × (length l.words ≤ 253)
+IsLine (Load l) = (l.gfi ≤ 15) × (l.flags ≤ 15) × (1 ≤ length l.words) × (length l.words ≤ most_data_words)
 IsLine (Moved l) = IsSource l.states.source × IsSink l.states.sink
 
 -- words of 32 bits (ARINC 429 Part 1)

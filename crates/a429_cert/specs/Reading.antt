@@ -1,5 +1,6 @@
 -- How a line is read, from its first field to its last. That this is the spelling, backwards, is a law.
 use Rattle.std.specs.Prelude.{ℕ, zero, suc, ◌/◌, List, [], ◌∷◌, length, take, drop, ◌&&◌, ◌==◌, nat_le, if◌then◌else◌, Option, Some, None, option_map, codes, bytes_eq}
+use Rattle.a429_ldu.specs.Ldu.{most_data_words}
 use Rattle.a429_cert.specs.declared.line.CertLine.{CertLine}
 use Rattle.a429_cert.specs.declared.line.CertLine.TheVariants.{First, Load, Moved}
 use Rattle.a429_cert.specs.declared.line.LoadLine.{LoadLine}
@@ -18,10 +19,10 @@ words_at (suc n) text = do
   words ← words_at n word.1
   Some (word.0 ∷ words)
 
--- 1 to 253 words, each a space and eight digits
+-- as many words as a link data unit has, each a space and eight digits
 unfoldable pub unit_words_in : List ℕ → Option (List ℕ)
 unit_words_in text = do
-  count ← when (nat_le 1 (length text / 9) && nat_le (length text / 9) 253) (length text / 9)
+  count ← when (nat_le 1 (length text / 9) && nat_le (length text / 9) most_data_words) (length text / 9)
   words_at count text
 
 -- ---- lines

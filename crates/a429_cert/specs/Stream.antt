@@ -1,8 +1,9 @@
 -- A certificate held against a recording, both read as they come (profile).
-use Rattle.std.specs.Prelude.{◌≡◌, ◌≢◌, ℕ, zero, suc, List, [], ◌∷◌, ◌++◌, length, drop, map, Option, Some, None, slice_get, ⊤}
+use Rattle.std.specs.Prelude.{◌≡◌, ◌≢◌, ◌+◌, ℕ, zero, suc, List, [], ◌∷◌, ◌++◌, length, drop, map, Option, Some, None, slice_get, ⊤}
 use Rattle.a429_profile.specs.Profile.{Contents}
 use Rattle.a429_link.specs.declared.seen.Seen.{Seen}
 use Rattle.a429_link.specs.State.{State}
+use Rattle.a429_link.specs.Link.{handed_out}
 use Rattle.a429_record.specs.declared.fault.ReadFault.{ReadFault}
 use Rattle.a429_record.specs.declared.fault.ReadFault.TheVariants as read
 use Rattle.a429_record.specs.Recording.{Recording, whole}
@@ -12,11 +13,13 @@ use Rattle.a429_cert.specs.declared.fault.CertFault.TheVariants as of
 use Rattle.a429_cert.specs.declared.stream_fault.StreamFault.{StreamFault}
 use Rattle.a429_cert.specs.declared.stream_fault.StreamFault.TheVariants as stream
 use Rattle.a429_cert.specs.declared.listed.Listed.{Listed}
+use Rattle.a429_cert.specs.declared.stream.Walk.{Walk}
 use Rattle.a429_cert.specs.declared.line.CertLine.{CertLine}
 use Rattle.a429_cert.specs.declared.shelf.PutFile.{PutFile}
 use Rattle.a429_link.specs.declared.file.FileBytes.{FileBytes}
 use Rattle.a429_link.specs.Run.{IsPrefixOf}
 use Rattle.a429_cert.specs.Explained.{items_of}
+use Rattle.a429_cert.specs.Version.{read_as}
 use Rattle.a429_cert.specs.Fault.{SaysLine, IsNamed, IsFaultOfLine}
 use Rattle.a429_cert.specs.Passing.{uses, uses_listed, PassesListed, RefusesListed, PassesText}
 
@@ -88,6 +91,20 @@ RefusesOver p text s (Some r) n i (stream.Read f) = WantsEntry p text s × Stops
 RefusesOver p text s (Some r) n i stream.Device = ⊥
 RefusesOver p text s (Some r) n i stream.OutOfMemory = ⊤
 
+-- ---- a walk along the lines
+
+-- a walk passes over the next line, as its version reads it, and that uses so many entries of the recording
+abbrev pub WalksOver : Walk → Walk → Option (List ℕ) → Option Recording → Option Recording → ℕ → Type 0
+WalksOver old new text rec rest used = PassesOver old.profile.now (read_as old.version text) old.link.state new.link.state rec rest used
+
+-- why a walk ends at this line, which was handed out last
+abbrev pub EndsWalk : Walk → Option (List ℕ) → Option Recording → StreamFault → Type 0
+EndsWalk walk text rec f = RefusesOver walk.profile.now (read_as walk.version text) walk.link.state rec walk.lines walk.used f
+
+-- a walk hands out the files that its link has delivered: nothing else changes, but what was noted
+abbrev pub HandsOut : Walk → Walk → Type 0
+HandsOut old new = new ≡ record old { link = record (old.link) { state = handed_out old.link.state }; files = new.files }
+
 -- ---- files that are put
 
 -- files, each at its place, from this place on
@@ -106,6 +123,14 @@ pub record GainsFront (old new : Option (List PutFile)) (i : ℕ) (files : List 
   pub front : List FileBytes
   pub first : IsPrefixOf front files
   pub gained : GainsAll old new i front
+
+-- these files are put on a shelf, from the place behind those that were noted on
+abbrev pub PutsFiles : {S : Type 0} → (S → Option (List PutFile)) → S → S → List (ℕ × ℕ) → List FileBytes → Type 0
+PutsFiles shelved old new notes files = GainsAll (shelved old) (shelved new) (length notes + 1) files
+
+-- the first of them are
+abbrev pub PutsFirstFiles : {S : Type 0} → (S → Option (List PutFile)) → S → S → List (ℕ × ℕ) → List FileBytes → Type 0
+PutsFirstFiles shelved old new notes files = GainsFront (shelved old) (shelved new) (length notes + 1) files
 
 -- the number and the length of each file
 abbrev pub sizes : List FileBytes → List (ℕ × ℕ)

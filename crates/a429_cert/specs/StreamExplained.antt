@@ -1,5 +1,5 @@
 -- What a certificate explains, and its first fault, where it and the recording are read as they come (profile).
-use Rattle.std.specs.Prelude.{◌≡◌, ◌≢◌, ◌⊎◌, ◌≤◌, ℕ, List, [], length, take, drop, Option, Some, None, slice_get, ⊤}
+use Rattle.std.specs.Prelude.{◌≡◌, ◌≢◌, ◌⊎◌, ◌≤◌, ℕ, List, [], length, take, Option, Some, None, slice_get, ⊤, Vec}
 use Rattle.a429_profile.specs.Profile.{Contents}
 use Rattle.a429_link.specs.declared.file.FileBytes.{FileBytes}
 use Rattle.a429_link.specs.State.{State}
@@ -13,9 +13,10 @@ use Rattle.a429_cert.specs.declared.fault.CertFault.TheVariants as of
 use Rattle.a429_cert.specs.declared.shelf.PutFile.{PutFile}
 use Rattle.a429_cert.specs.declared.stream_fault.StreamFault.{StreamFault}
 use Rattle.a429_cert.specs.declared.stream_fault.StreamFault.TheVariants as stream
-use Rattle.a429_cert.specs.Lines.{certificate_lines}
+use Rattle.a429_cert.specs.declared.explained.Head.{Head}
+use Rattle.a429_cert.specs.Version.{step_lines}
 use Rattle.a429_cert.specs.Explained.{items_of, Reaches, IsExplained, AreInEveryRun}
-use Rattle.a429_cert.specs.Fault.{HasVersion, HasFirst, IsFaultOfHead, IsLaterFault, IsFirstCertFault}
+use Rattle.a429_cert.specs.Fault.{HasHead, IsFaultOfHead, IsLaterFault, IsFirstCertFault}
 use Rattle.a429_cert.specs.Stream.{behind, WantsEntry, GainsAll, sizes}
 
 -- what holds of the certificate and the recording, where both are told
@@ -37,15 +38,18 @@ pub record Extracts (p : Contents) (known : Option (List ℕ)) (rec : Option Rec
   pub put : GainsAll old new 1 files
   pub answered : answer ≡ sizes files
 
+-- the answer is those of such files
+abbrev pub Answers : {Z : Type 0} → Contents → Option (List ℕ) → Option Recording → Option (List PutFile) → Option (List PutFile) → Vec (ℕ × ℕ) Z → Type 0
+Answers p known rec old new answer = Extracts p known rec old new answer.items
+
 -- ---- a fault
 
 -- behind the first two lines, k lines are the steps of a run over the first i entries, and it delivers these files
 pub record Delivers (p : Contents) (text : List ℕ) (r : Recording) (k i : ℕ) (s : State) (files : List FileBytes) : Type 0 where
-  pub version : HasVersion text
-  pub first : ℕ
-  pub has_first : HasFirst text first
+  pub head : Head
+  pub says : HasHead text head
   pub inside : i ≤ length (items_of r.entries)
-  pub before : Reaches p first (take k (drop 2 (certificate_lines text))) (take i (items_of r.entries)) s
+  pub before : Reaches p head.first (take k (step_lines head.version text)) (take i (items_of r.entries)) s
   pub gives : files ≡ s.sink.shelf.files
 
 -- a certificate's fault that says that no entry is left comes only where the recording has no fault there
@@ -68,7 +72,7 @@ pub record IsFirstReadFault (p : Contents) (text : List ℕ) (r : Recording) (f 
   pub i : ℕ
   pub state : State
   pub before : Delivers p text r k i state files
-  pub wants : WantsNext p (slice_get (drop 2 (certificate_lines text)) k) state
+  pub wants : WantsNext p (slice_get (step_lines before.head.version text) k) state
   pub fault : Stops f (behind i r)
   pub told : f ≢ read.OutOfMemory
 

@@ -27,10 +27,12 @@ pub enum Act {
     Answered,
     /// `n`: a word that is no word of the transfer is recorded.
     FreeSeen,
+    /// `x`: the source gives its file up. No certificate of version 1 says so.
+    GiveUp,
 }
 
 /// The name of a step, which a certificate writes as a letter; none where a link data unit is loaded,
-/// since that has a line of its own, and none where a file is given up, which no certificate says.
+/// since that has a line of its own.
 pub fn letter_of(step: &Step) -> Option<Act>
     ensures { result ≡ letter_of step.now }
 {
@@ -45,7 +47,7 @@ pub fn letter_of(step: &Step) -> Option<Act>
         Step::Silent => Some(Act::Silent),
         Step::Answered(_) => Some(Act::Answered),
         Step::FreeSeen(_) => Some(Act::FreeSeen),
-        Step::GiveUp => None,
+        Step::GiveUp => Some(Act::GiveUp),
     }
 }
 
@@ -63,6 +65,7 @@ pub(crate) fn step_with(act: Act, next: Option<Seen>) -> Option<Step>
         Act::Silent => Some(Step::Silent),
         Act::Answered => Some(Step::Answered(next?)),
         Act::FreeSeen => Some(Step::FreeSeen(next?)),
+        Act::GiveUp => Some(Step::GiveUp),
     }
 }
 
@@ -90,6 +93,7 @@ pub(crate) fn act_letter(act: Act) -> u8
         Act::Silent => b's',
         Act::Answered => b'b',
         Act::FreeSeen => b'n',
+        Act::GiveUp => b'x',
     }
 }
 
@@ -108,6 +112,7 @@ pub(crate) fn act_of(letter: u8) -> Option<Act>
         b's' => Some(Act::Silent),
         b'b' => Some(Act::Answered),
         b'n' => Some(Act::FreeSeen),
+        b'x' => Some(Act::GiveUp),
         _ => None,
     }
 }

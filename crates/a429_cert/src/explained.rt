@@ -1,9 +1,9 @@
 //! Certificates, held against recordings.
 
-ghost use Rattle.std.specs.Prelude.{◌≡◌, ◌≢◌, ◌≤◌, ℕ, Some, IfOk, IfErr, option_and_then, option_map, true, false};
+ghost use Rattle.std.specs.Prelude.{◌≡◌, ◌≤◌, ℕ, Some, IfOk, IfErr, option_and_then, option_map};
 ghost use Rattle.a429_cert.specs.declared.line.CertLine.TheVariants.{First};
 ghost use Rattle.a429_cert.specs.Line.{spelling};
-ghost use Rattle.a429_cert.specs.Lines.{line_bytes, version};
+ghost use Rattle.a429_cert.specs.Lines.{line_bytes};
 ghost use Rattle.a429_cert.specs.Explained.{items_of, IsExplained, AreInEveryRun};
 ghost use Rattle.a429_cert.specs.Fault.{file_in, Begins, IsNoFirst, IsFaultOfHead, IsFirstCertFault, UnlessMemory};
 
@@ -15,6 +15,7 @@ use crate::lines::{Lines, TextLine};
 use crate::passing::pass;
 use crate::reading::read_line;
 use crate::verified::Verified;
+use crate::version::Version;
 use a429_link::Link;
 use a429_profile::Profile;
 use a429_record::Entry;
@@ -35,11 +36,11 @@ pub fn verify(
     ensures err { IfErr result (UnlessMemory (IsFirstCertFault profile.now certificate.now (items_of entries.now))) }
 {
     let mut lines = Lines::new(certificate);
-    let first = match begin(alloc, &mut lines) {
-        Ok(first) => first,
+    let head = match begin(alloc, &mut lines) {
+        Ok(head) => head,
         Err(fault) => return Err(fault),
     };
-    let mut link = Link::start(alloc, profile, first);
+    let mut link = Link::start(alloc, profile, head.first);
     let mut used = 0;
     let mut n = 3;
     while let Some(line) = lines.next_line() {
@@ -48,7 +49,7 @@ pub fn verify(
             entry: used,
             next: seen_at(entries, used),
         };
-        match pass(alloc, profile, &mut link, line, at) {
+        match pass(alloc, profile, &mut link, head.version.read(line), at) {
             Ok(count) => used += count,
             Err(fault) => return Err(fault),
         }
@@ -61,25 +62,26 @@ pub fn verify(
     Ok(Verified::new(files))
 }
 
-// The number of the first file, by the two lines that begin a certificate.
-fn begin(alloc: Global, lines: &mut Lines<'_>) -> Result<u8, CertFault>
-    ensures ok { IfOk result (λ first. Begins lines.old first lines.new) }
-    ensures err { IfErr result (UnlessMemory (IsFaultOfHead lines.old)) }
-{
-    if !is_version(lines.next_line()) {
-        return Err(CertFault::Version);
-    }
-    first_of(alloc, lines.next_line())
+/// What the two lines say that begin a certificate.
+#[derive(Clone, Copy, Debug)]
+pub struct Head {
+    /// Its version.
+    pub version: Version,
+    /// The number of the first file.
+    pub first: u8,
 }
 
-/// Whether this is the first line of a certificate.
-pub fn is_version(line: Option<TextLine<'_>>) -> bool
-    ensures yes { result ≡ true → option_map line_bytes line.entry ≡ Some (Some version) }
-    ensures no { result ≡ false → option_map line_bytes line.entry ≢ Some (Some version) }
+// What the two lines say that begin a certificate.
+fn begin(alloc: Global, lines: &mut Lines<'_>) -> Result<Head, CertFault>
+    ensures ok { IfOk result (λ head. Begins lines.old head lines.new) }
+    ensures err { IfErr result (UnlessMemory (IsFaultOfHead lines.old)) }
 {
-    match line {
-        Some(TextLine::Ended(text)) => text == b"arinc429-cert 1".as_slice(),
-        _ => false,
+    let Some(version) = Version::of(lines.next_line()) else {
+        return Err(CertFault::Version);
+    };
+    match first_of(alloc, lines.next_line()) {
+        Ok(first) => Ok(Head { version, first }),
+        Err(fault) => Err(fault),
     }
 }
 

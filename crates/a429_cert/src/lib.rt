@@ -21,6 +21,7 @@ mod stream;
 mod stream_fault;
 mod stream_head;
 mod verified;
+mod version;
 mod words;
 mod writing;
 
@@ -36,5 +37,6 @@ pub use crate::shelf::{MemoryShelf, NoShelf, PutFile, Shelf, ShelfFault};
 pub use crate::stream::verify_stream;
 pub use crate::stream_fault::StreamFault;
 pub use crate::verified::Verified;
+pub use crate::version::Version;
 pub use crate::words::Words;
 pub use crate::writing::write_line;

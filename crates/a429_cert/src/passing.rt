@@ -1,13 +1,12 @@
 //! One line of a certificate, held against a link and the next entry of a recording.
 
-ghost use Rattle.std.specs.Prelude.{◌≡◌, ◌≢◌, ◌∷◌, Some, None, IfOk, IfErr, OnOk, true, false};
+ghost use Rattle.std.specs.Prelude.{◌≡◌, ◌≢◌, ◌∷◌, Some, None, IfOk, IfErr, OnOk, option_map, true, false};
 ghost use Rattle.a429_profile.specs.Profile.{IsProfile};
 ghost use Rattle.a429_link.specs.Step.{Can, LoadsLdu};
 ghost use Rattle.a429_link.specs.State.{State, states_of};
 ghost use Rattle.a429_link.specs.declared.step.Step.TheVariants as step;
 ghost use Rattle.a429_cert.specs.declared.at.At.{At};
 ghost use Rattle.a429_cert.specs.Line.{IsLine};
-ghost use Rattle.a429_cert.specs.Lines.{line_bytes};
 ghost use Rattle.a429_cert.specs.Act.{step_with};
 ghost use Rattle.a429_cert.specs.Passing.{IsNamedOf, IsReady, IsReadyOf, IsStepFault, IsStepOfLine, Lists, MakesStep, PassesLine, PassesListed, PassesText, RefusesFirst, RefusesLine, RefusesListed, RefusesText, no_step, no_unit};
 
@@ -15,7 +14,6 @@ use crate::act::{Act, step_with, used_by};
 use crate::at::At;
 use crate::fault::CertFault;
 use crate::line::{CertLine, LoadLine, MovedLine};
-use crate::lines::TextLine;
 use crate::listed::Listed;
 use crate::reading::{load_of, moved_of};
 use a429_ldu::{Ldu, LduFault};
@@ -23,44 +21,44 @@ use a429_link::{Link, Seen, States, Step, StepFault};
 use a429_profile::Profile;
 use std::alloc::Global;
 
-/// Takes the line of a certificate that stands there: the link makes its step with the next entry.
-/// Answers how many entries it uses, 0 or 1.
+/// Takes the line of a certificate that stands there and says this: the link makes its step with the next
+/// entry. Answers how many entries it uses, 0 or 1.
 #[inline(always)]
 pub fn pass(
     alloc: Global,
     profile: &Profile,
     link: &mut Link<'_>,
-    line: TextLine<'_>,
+    text: Option<&[u8]>,
     at: At,
 ) -> Result<usize, CertFault>
     requires sound { IsProfile profile.now }
     requires profile { link.old.profile ≡ profile.now }
-    ensures passed { IfOk result (PassesText profile.now (line_bytes line.entry) at.next link.old.state link.new.state) }
-    ensures refused { IfErr result (RefusesText profile.now (line_bytes line.entry) at link.old.state) }
+    ensures passed { IfOk result (PassesText profile.now (option_map (λ b. b.now) text.entry) at.next link.old.state link.new.state) }
+    ensures refused { IfErr result (RefusesText profile.now (option_map (λ b. b.now) text.entry) at link.old.state) }
     ensures kept { link.new.profile ≡ profile.now }
 {
-    match list_step(alloc, profile, link, line, at.line) {
+    match list_step(alloc, profile, link, text, at.line) {
         Ok(listed) => take_step(link, listed, at),
         Err(fault) => Err(fault),
     }
 }
 
-/// Reads the step that line n lists, before its entry is known, if it wants one: a step of its name may
-/// then be made here.
+/// Reads the step that line n lists, which says this, before its entry is known, if it wants one: a step of
+/// its name may then be made here.
 #[inline(always)]
 pub fn list_step(
     alloc: Global,
     profile: &Profile,
     link: &Link<'_>,
-    line: TextLine<'_>,
+    text: Option<&[u8]>,
     n: usize,
 ) -> Result<Listed, CertFault>
     requires sound { IsProfile profile.now }
     requires profile { link.now.profile ≡ profile.now }
-    ensures listed { IfOk result (λ x. Lists profile.now (line_bytes line.entry) x link.now.state) }
-    ensures refused { IfErr result (RefusesFirst profile.now (line_bytes line.entry) n link.now.state) }
+    ensures listed { IfOk result (λ x. Lists profile.now (option_map (λ b. b.now) text.entry) x link.now.state) }
+    ensures refused { IfErr result (RefusesFirst profile.now (option_map (λ b. b.now) text.entry) n link.now.state) }
 {
-    let TextLine::Ended(text) = line else {
+    let Some(text) = text else {
         return Err(CertFault::Line(n));
     };
     match text {

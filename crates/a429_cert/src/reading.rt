@@ -10,14 +10,12 @@ use crate::field::{hex_at, last_decimal_at};
 use crate::line::{CertLine, LoadLine, MovedLine};
 use crate::states::states_at;
 use crate::words::Words;
+use a429_ldu::MOST_DATA_WORDS;
 use a429_word::Word;
 use std::alloc::Global;
 
 // How many bytes a word takes in a line: a space and eight digits.
 const WORD_LEN: usize = 9;
-
-// How many words a link data unit has at most.
-const MOST_WORDS: usize = 253;
 
 /// Reads a line of a certificate, which comes without its line feed: the one line whose spelling the
 /// bytes are, and `None` where they spell no line. Only the words of a link data unit take memory.
@@ -75,13 +73,13 @@ pub fn load_of(alloc: Global, text: &[u8]) -> Result<Option<LoadLine>, OutOfMemo
     }))
 }
 
-// 1 to 253 words.
+// As many words as a link data unit has.
 #[tactic(auto, unfolding(crate::specs::Reading::unit_words_in))]
 fn words_of(alloc: Global, text: &[u8]) -> Result<Option<Words>, OutOfMemory>
     ensures { IfOk result (λ read. read ≡ unit_words_in text.now) }
 {
     let count = text.len() / WORD_LEN;
-    if 1 <= count && count <= MOST_WORDS {
+    if 1 <= count && count <= MOST_DATA_WORDS {
         words_at(alloc, count, text)
     } else {
         Ok(None)

@@ -1,15 +1,14 @@
 //! A certificate, held against a recording, both read as they come.
 
-ghost use Rattle.std.specs.Prelude.{◌≡◌, ◌≢◌, ◌≤◌, ◌⊎◌, ◌+◌, [], ◌∷◌, ◌++◌, length, true, IfOk, IfErr, IfSome, IsSome, IsErrOf, OnOk, OnErr};
+ghost use Rattle.std.specs.Prelude.{◌≡◌, ◌≢◌, ◌≤◌, ◌⊎◌, [], ◌∷◌, ◌++◌, true, IfOk, IfErr, IfSome, IsSome, IsErrOf, OnOk, OnErr};
 ghost use Rattle.a429_profile.specs.Profile.{IsProfile};
 ghost use Rattle.a429_record.specs.declared.fault.ReadFault.TheVariants as read;
-ghost use Rattle.a429_link.specs.Link.{handed_out};
 ghost use Rattle.a429_cert.specs.Lines.{line_bytes};
-ghost use Rattle.a429_cert.specs.Shelf.{Gains, IsUnchanged};
+ghost use Rattle.a429_cert.specs.Shelf.{IsUnchanged};
 ghost use Rattle.a429_cert.specs.Passing.{IsReady, uses_listed};
 ghost use Rattle.a429_word.specs.Tally.{has_failed, unread};
-ghost use Rattle.a429_cert.specs.StreamExplained.{Extracts, Refuses};
-ghost use Rattle.a429_cert.specs.Stream.{IsFaultNext, RefusesNext, RefusesOver, PassesNext, PassesOver, TakesNext, GainsAll, GainsFront, sizes};
+ghost use Rattle.a429_cert.specs.StreamExplained.{Answers, Refuses};
+ghost use Rattle.a429_cert.specs.Stream.{IsFaultNext, RefusesNext, PassesNext, TakesNext, WalksOver, EndsWalk, HandsOut, PutsFiles, PutsFirstFiles, sizes};
 
 use crate::at::At;
 use crate::entry::seen;
@@ -21,6 +20,7 @@ use crate::passing::{list_step, take_step};
 use crate::shelf::{Shelf, ShelfFault};
 use crate::stream_fault::{StreamFault, of_cert, of_read};
 use crate::stream_head::begin;
+use crate::version::Version;
 use a429_link::{FileBytes, Link, Seen};
 use a429_profile::Profile;
 use a429_record::{EntryReader, ReadFault};
@@ -39,7 +39,7 @@ pub fn verify_stream<R: Read, C: Read, S: Shelf>(
     cert: &mut Tally<C>,
     shelf: &mut S,
 ) -> Result<Vec<(u8, u32)>, StreamFault>
-    ensures ok { IfOk result (λ files. Extracts profile.now (unread C.remaining cert.old) rec.old.to_come (S.files shelf.old) (S.files shelf.new) files.items) }
+    ensures ok { IfOk result (Answers profile.now (unread C.remaining cert.old) rec.old.to_come (S.files shelf.old) (S.files shelf.new)) }
     ensures err { IfErr result (Refuses profile.now (unread C.remaining cert.old) rec.old.to_come (S.files shelf.old) (S.files shelf.new)) }
     ensures device { IsErrOf result StreamFault.Device → (has_failed cert.new ≡ true) ⊎ (S.failed shelf.new ≡ true) }
     ensures read { IsErrOf result (StreamFault.Read read.Device) → rec.new.failed ≡ true }
@@ -47,14 +47,15 @@ pub fn verify_stream<R: Read, C: Read, S: Shelf>(
     // No line is empty of bytes, so that lines and entries are no more than the bytes that may come.
     let _most: u64 = cert.left();
     let mut lines = LineReader::new();
-    let first = match begin(alloc, &mut lines, cert) {
-        Ok(first) => first,
+    let head = match begin(alloc, &mut lines, cert) {
+        Ok(head) => head,
         Err(fault) => return Err(fault),
     };
     let mut walk = Walk {
         alloc,
         profile,
-        link: Link::start(alloc, profile, first),
+        version: head.version,
+        link: Link::start(alloc, profile, head.first),
         lines: 2,
         used: 0,
         files: Vec::new(alloc),
@@ -109,7 +110,7 @@ fn take_next<R: Read>(
     i: usize,
 ) -> Result<usize, StreamFault>
     requires { IsReady link.old.profile listed link.old.state }
-    ensures passed { IfOk result (λ used. PassesNext link.old.profile listed link.old.state link.new.state rec.old.to_come rec.new.to_come used) }
+    ensures passed { IfOk result (PassesNext link.old.profile listed link.old.state link.new.state rec.old.to_come rec.new.to_come) }
     ensures few { IfOk result (λ used. used ≤ 1) }
     ensures refused { IfErr result (λ f. RefusesNext link.old.profile listed link.old.state rec.old.to_come n i f) }
     ensures device { IsErrOf result (StreamFault.Read read.Device) → rec.new.failed ≡ true }
@@ -136,6 +137,7 @@ fn take_next<R: Read>(
 pub struct Walk<'a> {
     alloc: Global,
     profile: &'a Profile,
+    version: Version,
     link: Link<'a>,
     // how many lines were handed out, and how many entries they use
     lines: usize,
@@ -153,16 +155,17 @@ pub fn pass_over<R: Read>(
 ) -> Result<usize, StreamFault>
     requires sound { IsProfile walk.old.profile.now }
     requires profile { walk.old.link.profile ≡ walk.old.profile.now }
-    ensures passed { IfOk result (λ used. PassesOver walk.old.profile.now (line_bytes line.entry) walk.old.link.state walk.new.link.state rec.old.to_come rec.new.to_come used) }
+    ensures passed { IfOk result (WalksOver walk.old walk.new (line_bytes line.entry) rec.old.to_come rec.new.to_come) }
     ensures ended { OnOk result (IsSome (line_bytes line.entry)) }
     ensures few { IfOk result (λ used. used ≤ 1) }
-    ensures refused { IfErr result (λ f. RefusesOver walk.old.profile.now (line_bytes line.entry) walk.old.link.state rec.old.to_come walk.old.lines walk.old.used f) }
+    ensures refused { IfErr result (EndsWalk walk.old (line_bytes line.entry) rec.old.to_come) }
     ensures device { IsErrOf result (StreamFault.Read read.Device) → rec.new.failed ≡ true }
     ensures other { IfErr result (λ f. f ≢ StreamFault.Device) }
     ensures kept { walk.new ≡ record (walk.old) { link = walk.new.link } }
     ensures profile { walk.new.link.profile ≡ walk.old.profile.now }
 {
-    match list_step(walk.alloc, walk.profile, &walk.link, line, walk.lines) {
+    let text = walk.version.read(line);
+    match list_step(walk.alloc, walk.profile, &walk.link, text, walk.lines) {
         Ok(listed) => take_next(&mut walk.link, listed, rec, walk.lines, walk.used),
         Err(fault) => Err(of_cert(fault)),
     }
@@ -177,13 +180,14 @@ fn in_u32(number: usize) -> Option<u32>
 
 // Puts a file behind those that were put, and notes its number and its length. A place or a length that
 // 32 bits do not hold, which no recording gives, would be told as want of memory.
+#[tactic(auto, using(crate::proofs::StreamFacts::gains_one))]
 fn put_file<S: Shelf>(
     files: &mut Vec<(u8, u32)>,
     file: &FileBytes,
     shelf: &mut S,
 ) -> Result<(), StreamFault>
     ensures noted { OnOk result (files.new.items ≡ files.old.items ++ sizes (file.now ∷ [])) }
-    ensures ok { OnOk result (Gains (S.files shelf.old) (S.files shelf.new) (length files.old.items + 1) file.now.number file.now.bytes) }
+    ensures ok { OnOk result (PutsFiles S.files shelf.old shelf.new files.old.items (file.now ∷ [])) }
     ensures err { OnErr result (IsUnchanged (S.files shelf.old) (S.files shelf.new)) }
     ensures device { IsErrOf result StreamFault.Device → S.failed shelf.new ≡ true }
     ensures fault { IfErr result (λ f. (f ≡ StreamFault.Device) ⊎ (f ≡ StreamFault.OutOfMemory)) }
@@ -211,9 +215,9 @@ fn put_all<S: Shelf>(
     notes: &mut Vec<(u8, u32)>,
     shelf: &mut S,
 ) -> Result<(), StreamFault>
-    ensures ok { OnOk result (GainsAll (S.files shelf.old) (S.files shelf.new) (length notes.old.items + 1) files.now) }
+    ensures ok { OnOk result (PutsFiles S.files shelf.old shelf.new notes.old.items files.now) }
     ensures noted { OnOk result (notes.new.items ≡ notes.old.items ++ sizes files.now) }
-    ensures err { OnErr result (GainsFront (S.files shelf.old) (S.files shelf.new) (length notes.old.items + 1) files.now) }
+    ensures err { OnErr result (PutsFirstFiles S.files shelf.old shelf.new notes.old.items files.now) }
     ensures device { IsErrOf result StreamFault.Device → S.failed shelf.new ≡ true }
     ensures fault { IfErr result (λ f. (f ≡ StreamFault.Device) ⊎ (f ≡ StreamFault.OutOfMemory)) }
 {
@@ -228,12 +232,12 @@ fn put_all<S: Shelf>(
 
 // Puts the files that the link has delivered since they were last taken.
 pub fn put_delivered<S: Shelf>(walk: &mut Walk<'_>, shelf: &mut S) -> Result<(), StreamFault>
-    ensures ok { OnOk result (GainsAll (S.files shelf.old) (S.files shelf.new) (length walk.old.files.items + 1) walk.old.link.state.sink.shelf.files) }
+    ensures ok { OnOk result (PutsFiles S.files shelf.old shelf.new walk.old.files.items walk.old.link.state.sink.shelf.files) }
     ensures noted { OnOk result (walk.new.files.items ≡ walk.old.files.items ++ sizes walk.old.link.state.sink.shelf.files) }
-    ensures err { OnErr result (GainsFront (S.files shelf.old) (S.files shelf.new) (length walk.old.files.items + 1) walk.old.link.state.sink.shelf.files) }
+    ensures err { OnErr result (PutsFirstFiles S.files shelf.old shelf.new walk.old.files.items walk.old.link.state.sink.shelf.files) }
     ensures device { IsErrOf result StreamFault.Device → S.failed shelf.new ≡ true }
     ensures fault { IfErr result (λ f. (f ≡ StreamFault.Device) ⊎ (f ≡ StreamFault.OutOfMemory)) }
-    ensures kept { walk.new ≡ record (walk.old) { link = record (walk.old.link) { state = handed_out walk.old.link.state }; files = walk.new.files } }
+    ensures kept { HandsOut walk.old walk.new }
 {
     let files = walk.link.take_delivered();
     put_all(files.as_slice(), &mut walk.files, shelf)

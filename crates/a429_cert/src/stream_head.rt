@@ -4,39 +4,47 @@ ghost use Rattle.std.specs.Prelude.{◌≡◌, ◌+◌, ◌≤◌, true, IfOk, I
 ghost use Rattle.a429_word.specs.Tally.{has_failed};
 ghost use Rattle.a429_cert.specs.declared.line.CertLine.TheVariants.{First};
 ghost use Rattle.a429_cert.specs.Line.{spelling};
-ghost use Rattle.a429_cert.specs.Lines.{version};
+ghost use Rattle.a429_cert.specs.Version.{version_line};
 ghost use Rattle.a429_cert.specs.LineReader.{to_come, room_left};
 ghost use Rattle.a429_cert.specs.Fault.{IsFaultOfHead};
-ghost use Rattle.a429_cert.specs.StreamHead.{TakesLine, TakesHead, RefusesHead, IsNoVersion, GivesNoFirst};
+ghost use Rattle.a429_cert.specs.StreamHead.{ReadsLine, TakesHead, RefusesHead, IsNoVersion, GivesNoFirst};
 
-use crate::explained::{first_of, is_version};
+use crate::explained::{Head, first_of};
 use crate::fault::CertFault;
 use crate::line_reader::LineReader;
 use crate::stream_fault::{StreamFault, of_cert};
+use crate::version::Version;
 use a429_word::Tally;
 use std::alloc::Global;
 use std::io::Read;
 
-/// The number of the first file, by the two lines that begin a certificate.
+/// What the two lines say that begin a certificate.
 pub fn begin<R: Read>(
     alloc: Global,
     lines: &mut LineReader,
     cert: &mut Tally<R>,
-) -> Result<u8, StreamFault>
-    ensures ok { IfOk result (λ first. TakesHead (to_come R.remaining lines.old cert.old) (to_come R.remaining lines.new cert.new) first) }
+) -> Result<Head, StreamFault>
+    ensures ok { IfOk result (TakesHead (to_come R.remaining lines.old cert.old) (to_come R.remaining lines.new cert.new)) }
     ensures room { OnOk result (room_left lines.new cert.new + 2 ≤ room_left lines.old cert.old) }
     ensures err { IfErr result (RefusesHead IsFaultOfHead (to_come R.remaining lines.old cert.old)) }
     ensures device { IsErrOf result StreamFault.Device → has_failed cert.new ≡ true }
 {
-    match take_version(lines, cert) {
-        Ok(()) => take_first(alloc, lines, cert),
+    let version = match take_version(lines, cert) {
+        Ok(version) => version,
+        Err(fault) => return Err(fault),
+    };
+    match take_first(alloc, lines, cert) {
+        Ok(first) => Ok(Head { version, first }),
         Err(fault) => Err(fault),
     }
 }
 
-// Takes the first line of a certificate.
-fn take_version<R: Read>(lines: &mut LineReader, cert: &mut Tally<R>) -> Result<(), StreamFault>
-    ensures ok { OnOk result (TakesLine (to_come R.remaining lines.old cert.old) (to_come R.remaining lines.new cert.new) version) }
+// The version of a certificate, which the next line names.
+fn take_version<R: Read>(
+    lines: &mut LineReader,
+    cert: &mut Tally<R>,
+) -> Result<Version, StreamFault>
+    ensures ok { IfOk result (λ v. ReadsLine R.remaining lines.old cert.old lines.new cert.new (version_line v)) }
     ensures room { OnOk result (room_left lines.new cert.new + 1 ≤ room_left lines.old cert.old) }
     ensures err { IfErr result (RefusesHead IsNoVersion (to_come R.remaining lines.old cert.old)) }
     ensures device { IsErrOf result StreamFault.Device → has_failed cert.new ≡ true }
@@ -44,11 +52,12 @@ fn take_version<R: Read>(lines: &mut LineReader, cert: &mut Tally<R>) -> Result<
     let Ok(found) = lines.next_line(cert) else {
         return Err(StreamFault::Device);
     };
-    if found && is_version(Some(lines.line())) {
-        Ok(())
+    let named = if found {
+        Version::of(Some(lines.line()))
     } else {
-        Err(StreamFault::Cert(CertFault::Version))
-    }
+        None
+    };
+    named.ok_or(StreamFault::Cert(CertFault::Version))
 }
 
 // The number of the first file, which the next line gives.
@@ -57,7 +66,7 @@ fn take_first<R: Read>(
     lines: &mut LineReader,
     cert: &mut Tally<R>,
 ) -> Result<u8, StreamFault>
-    ensures ok { IfOk result (λ first. TakesLine (to_come R.remaining lines.old cert.old) (to_come R.remaining lines.new cert.new) (spelling (First first))) }
+    ensures ok { IfOk result (λ first. ReadsLine R.remaining lines.old cert.old lines.new cert.new (spelling (First first))) }
     ensures room { OnOk result (room_left lines.new cert.new + 1 ≤ room_left lines.old cert.old) }
     ensures err { IfErr result (RefusesHead GivesNoFirst (to_come R.remaining lines.old cert.old)) }
     ensures device { IsErrOf result StreamFault.Device → has_failed cert.new ≡ true }

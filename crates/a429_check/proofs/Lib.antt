@@ -8,3 +8,4 @@ pub mod MakeCrossed
 pub mod MakeBytes
 pub mod ShowOneLine
 pub mod VerdictFacts
+pub mod UpgradeFacts

@@ -10,3 +10,4 @@ pub mod Make
 pub mod Verdict
 pub mod Check
 pub mod Pack
+pub mod Upgrade

@@ -33,6 +33,10 @@ pub fn command<'a>(alloc: Global, words: &'a [String]) -> Result<Command<'a>, Ru
             Some(recording) => Ok(Command::Pack(recording)),
             None => Err(RunFault::Usage),
         },
+        Some(("upgrade", given)) => match (given.get_str("CERT"), given.get_str("OUT")) {
+            (Some(cert), Some(new_cert)) => Ok(Command::Upgrade { cert, new_cert }),
+            _ => Err(RunFault::Usage),
+        },
         Some(("make", given)) => match given.get_str("PROFILE") {
             Some(profile) => Ok(Command::Make {
                 profile,
@@ -89,6 +93,7 @@ fn parser<'a>(alloc: Global) -> Result<Parser<'a>, AllocError> {
     let all = with(all, with_certificate(alloc, "check"))?;
     let all = with(all, with_certificate(alloc, "verify"))?;
     let all = with(all, with_folder(alloc, "extract"))?;
+    let all = with(all, with_output(alloc, "upgrade"))?;
     with(all, with_files(alloc, "make"))
 }
 
@@ -118,6 +123,12 @@ fn with_certificate<'a>(alloc: Global, name: &'a str) -> Result<Parser<'a>, Allo
 // A command that takes a profile, a recording, a certificate and a folder.
 fn with_folder<'a>(alloc: Global, name: &'a str) -> Result<Parser<'a>, AllocError> {
     with_certificate(alloc, name)?.arg(once(alloc, "DIR"))
+}
+
+// A command that takes a certificate, and where to write another.
+fn with_output<'a>(alloc: Global, name: &'a str) -> Result<Parser<'a>, AllocError> {
+    let parser = Parser::new(alloc, name).arg(once(alloc, "CERT"))?;
+    parser.arg(once(alloc, "OUT"))
 }
 
 // A command that takes a profile and any number of files.

@@ -1,5 +1,5 @@
 -- The groups of a recording without loss.
-use Rattle.std.proofs.Common.{◌≡◌, ℕ, suc, ◌+◌, ◌%◌, ◌≤◌, Bool, true, false, cond, not, List, [], ◌∷◌, ◌++◌, map, take, drop, Option, Some, None, refl, sym, ap, ◌∙◌, subst, arith, append_assoc, eq-eqb, min}
+use Rattle.std.proofs.Common.{◌≡◌, ℕ, zero, suc, ◌+◌, ◌-◌, ◌%◌, ◌≤◌, Bool, true, false, cond, not, List, [], ◌∷◌, ◌++◌, map, take, drop, slice_get, Option, Some, None, refl, sym, ap, ◌∙◌, subst, arith, append_assoc, eq-eqb, min}
 use Rattle.std.proofs.lemmas.Bool.{ne_eqb}
 use Rattle.a429_word.specs.declared.bus.Bus.TheVariants as bus
 use Rattle.a429_profile.specs.declared.codes.Codes.{Codes}
@@ -13,118 +13,149 @@ use Rattle.a429_link.specs.declared.seen.Seen.{Seen}
 use Rattle.a429_link.specs.Clean.{on_a, on_b, clean_block, clean_blocks, AllFit, without_free}
 use Rattle.a429_link.specs.declared.number.UnitNumber.{UnitNumber}
 use Rattle.a429_explain.specs.declared.attempts.Role.{Role}
-use Rattle.a429_explain.specs.Attempts.{next_start, are_numbers, role_of, roles}
+use Rattle.a429_explain.specs.declared.attempts.Role.TheVariants.{Request, Acknowledged}
+use Rattle.a429_explain.specs.declared.groups.Grouping.TheVariants.{Between, Within}
+use Rattle.a429_explain.specs.Attempts.{attempt_start, next_start, are_numbers, role_of, roles}
 use Rattle.a429_explain.specs.Heard.{forms_of}
-use Rattle.a429_explain.specs.Groups.{group_length}
+use Rattle.a429_explain.specs.Groups.{words_in, group_length, first_started, settles}
 use Rattle.a429_explain.specs.Matching.{IsOfBlock}
 use Rattle.a429_explain.specs.Guess.{first_file_of, file_of}
 use Rattle.a429_explain.proofs.WalkFacts.{free_none}
-use Rattle.a429_explain.proofs.Thinned.{next_start-thin}
+use Rattle.a429_explain.proofs.Thinned.{attempt_start-thin, next_start-thin}
 use Rattle.a429_explain.proofs.CleanBlock.{HasForms, AreOfBlock, has_forms, block_has_forms}
 use Rattle.a429_link.specs.Number.{first_number, next_number, number_after}
 use Rattle.a429_link.proofs.NumberFacts.{next_byte}
 
 -- ---- a group ends at its acknowledgement
 
-abbrev pub IsNoAck : Option Form → Type 0
-IsNoAck (Some (Ack file ldu)) = ⊥
-IsNoAck _ = Unit {0}
+-- neither a request nor an acknowledgement
+abbrev pub IsInner : Option Form → Type 0
+IsInner (Some (Rts n)) = ⊥
+IsInner (Some (Ack file ldu)) = ⊥
+IsInner _ = Unit {0}
 
-abbrev pub NoneAcknowledges : Codes → List Seen → Type 0
-NoneAcknowledges c [] = Unit {0}
-NoneAcknowledges c (i ∷ items) = IsNoAck (form_of c i.bus i.word) × NoneAcknowledges c items
+abbrev pub AreInner : Codes → List Seen → Type 0
+AreInner c [] = Unit {0}
+AreInner c (i ∷ items) = IsInner (form_of c i.bus i.word) × AreInner c items
 
-goes_on : (o : Option Form) (more : List (Option Form)) (rs : List Role) → IsNoAck o → group_length (role_of o more ∷ rs) ≡ suc (group_length rs)
-goes_on None more rs h = refl
-goes_on (Some (Rts n)) more rs h = refl
-goes_on (Some (Cts n)) more rs h = refl
-goes_on (Some (Ack f l)) more rs h = absurd h
-goes_on (Some (Nak b)) more rs h = refl
-goes_on (Some (Sot g f l)) more rs h = refl
-goes_on (Some (Part s)) more rs h = refl
-goes_on (Some (Eot f k)) more rs h = refl
+goes_past : (o : Option Form) (more : List (Option Form)) (rs : List Role) (start : Option UnitNumber) → IsInner o → words_in (Within start) (role_of o more ∷ rs) ≡ suc (words_in (Within start) rs)
+goes_past None more rs start h = refl
+goes_past (Some (Rts n)) more rs start h = absurd h
+goes_past (Some (Cts n)) more rs start h = refl
+goes_past (Some (Ack f l)) more rs start h = absurd h
+goes_past (Some (Nak b)) more rs start h = refl
+goes_past (Some (Sot g f l)) more rs start h = refl
+goes_past (Some (Part s)) more rs start h = refl
+goes_past (Some (Eot f k)) more rs start h = refl
 
-ends : (o : Option Form) (more : List (Option Form)) (rs : List Role) (file ldu : ℕ) → o ≡ Some (Ack file ldu) → are_numbers (next_start more) file ldu ≡ false → group_length (role_of o more ∷ rs) ≡ 1
-ends o more rs file ldu e n =
-    let last : group_length (role_of (Some (Ack file ldu)) more ∷ rs) ≡ 1 = ap (λ (t : Bool). cond (not t) 1 (suc (group_length rs))) n in
-    ap (λ (x : Option Form). group_length (role_of x more ∷ rs)) e ∙ last
+words_between : (rs : List Role) → words_in Between rs ≡ 0
+words_between [] = refl
+words_between (r ∷ rs) = refl
 
--- the first n words are the group, and these come behind it
+ack_role : (o : Option Form) (more : List (Option Form)) (file ldu : ℕ) → o ≡ Some (Ack file ldu) → are_numbers (next_start more) file ldu ≡ false → role_of o more ≡ Acknowledged true
+ack_role o more file ldu e n = ap (λ (x : Option Form). role_of x more) e ∙ ap (λ (t : Bool). Acknowledged (not t)) n
+
+ends : (r : Role) (rs : List Role) (start : Option UnitNumber) → r ≡ Acknowledged true → words_in (Within start) (r ∷ rs) ≡ 1
+ends r rs start e = ap (λ (q : Role). words_in (Within start) (q ∷ rs)) e ∙ ap suc (words_between rs)
+
+-- the first n words end the group, and these come behind it
 pub record Parts (c : Codes) (items group rest : List Seen) (n : ℕ) : Type 0 where
   pub group_is : without_free c (take n items) ≡ group
   pub rest_is : without_free c (drop n items) ≡ rest
+  pub some : 1 ≤ n
+  pub settled : settles (slice_get (roles (forms_of c items)) (n - 1)) ≡ true
 
-abbrev pub words_to_go : Codes → List Seen → ℕ
-words_to_go c items = group_length (roles (forms_of c items))
+abbrev pub words_to_go : Codes → Option UnitNumber → List Seen → ℕ
+words_to_go c start items = words_in (Within start) (roles (forms_of c items))
 
-parts_free : (c : Codes) (i : Seen) (items group rest : List Seen) → is_free c i.bus i.word ≡ true → Parts c items group rest (words_to_go c items) → Parts c (i ∷ items) group rest (words_to_go c (i ∷ items))
-parts_free c i items group rest e h =
-    let n : words_to_go c (i ∷ items) ≡ suc (words_to_go c items) = goes_on (form_of c i.bus i.word) (forms_of c items) (roles (forms_of c items)) (subst IsNoAck (sym (free_none c i.bus i.word e)) tt) in
+-- the last of some words, where one more comes before them
+later : (r : Role) (rs : List Role) (n : ℕ) → 1 ≤ n → slice_get (r ∷ rs) (suc n - 1) ≡ slice_get rs (n - 1)
+later r rs zero l = absurd (omega arith)
+later r rs (suc n) l =
+    let more : suc (suc n) - 1 ≡ suc n = omega arith in
+    let less : suc n - 1 ≡ n = omega arith in
+    ap (λ (k : ℕ). slice_get (r ∷ rs) k) more ∙ sym (ap (λ (k : ℕ). slice_get rs k) less)
+
+parts_free : (c : Codes) (start : Option UnitNumber) (i : Seen) (items group rest : List Seen) → is_free c i.bus i.word ≡ true → Parts c items group rest (words_to_go c start items) → Parts c (i ∷ items) group rest (words_to_go c start (i ∷ items))
+parts_free c start i items group rest e h =
+    let k = words_to_go c start items in
+    let n : words_to_go c start (i ∷ items) ≡ suc k = goes_past (form_of c i.bus i.word) (forms_of c items) (roles (forms_of c items)) start (subst IsInner (sym (free_none c i.bus i.word e)) tt) in
     subst (Parts c (i ∷ items) group rest) (sym n) (record {
-      group_is = ap (λ (t : Bool). cond t (without_free c (take (words_to_go c items) items)) (i ∷ without_free c (take (words_to_go c items) items))) e ∙ h.group_is;
+      group_is = ap (λ (t : Bool). cond t (without_free c (take k items)) (i ∷ without_free c (take k items))) e ∙ h.group_is;
       rest_is = h.rest_is;
+      some = omega arith;
+      settled = ap settles (later (role_of (form_of c i.bus i.word) (forms_of c items)) (roles (forms_of c items)) k h.some) ∙ h.settled;
     })
 
-parts_next : (c : Codes) (i : Seen) (items group rest : List Seen) → is_free c i.bus i.word ≡ false → IsNoAck (form_of c i.bus i.word) → Parts c items group rest (words_to_go c items) → Parts c (i ∷ items) (i ∷ group) rest (words_to_go c (i ∷ items))
-parts_next c i items group rest e a h =
-    let n : words_to_go c (i ∷ items) ≡ suc (words_to_go c items) = goes_on (form_of c i.bus i.word) (forms_of c items) (roles (forms_of c items)) a in
-    subst (Parts c (i ∷ items) (i ∷ group) rest) (sym n) (record {
-      group_is = ap (λ (t : Bool). cond t (without_free c (take (words_to_go c items) items)) (i ∷ without_free c (take (words_to_go c items) items))) e ∙ ap (λ (xs : List Seen). i ∷ xs) h.group_is;
-      rest_is = h.rest_is;
-    })
+-- a word more, before those that end the group
+pub parts_next : (c : Codes) (i : Seen) (items group rest : List Seen) (k : ℕ) → is_free c i.bus i.word ≡ false → Parts c items group rest k → Parts c (i ∷ items) (i ∷ group) rest (suc k)
+parts_next c i items group rest k e h = record {
+  group_is = ap (λ (t : Bool). cond t (without_free c (take k items)) (i ∷ without_free c (take k items))) e ∙ ap (λ (xs : List Seen). i ∷ xs) h.group_is;
+  rest_is = h.rest_is;
+  some = omega arith;
+  settled = ap settles (later (role_of (form_of c i.bus i.word) (forms_of c items)) (roles (forms_of c items)) k h.some) ∙ h.settled;
+}
 
-parts_last : (c : Codes) (i : Seen) (items : List Seen) (file ldu : ℕ) → is_free c i.bus i.word ≡ false → form_of c i.bus i.word ≡ Some (Ack file ldu) → are_numbers (next_start (forms_of c items)) file ldu ≡ false → Parts c (i ∷ items) (i ∷ []) (without_free c items) (words_to_go c (i ∷ items))
-parts_last c i items file ldu e a n =
-    let one : words_to_go c (i ∷ items) ≡ 1 = ends (form_of c i.bus i.word) (forms_of c items) (roles (forms_of c items)) file ldu a n in
+parts_inner : (c : Codes) (start : Option UnitNumber) (i : Seen) (items group rest : List Seen) → is_free c i.bus i.word ≡ false → IsInner (form_of c i.bus i.word) → Parts c items group rest (words_to_go c start items) → Parts c (i ∷ items) (i ∷ group) rest (words_to_go c start (i ∷ items))
+parts_inner c start i items group rest e a h =
+    let n : words_to_go c start (i ∷ items) ≡ suc (words_to_go c start items) = goes_past (form_of c i.bus i.word) (forms_of c items) (roles (forms_of c items)) start a in
+    subst (Parts c (i ∷ items) (i ∷ group) rest) (sym n) (parts_next c i items group rest (words_to_go c start items) e h)
+
+parts_last : (c : Codes) (start : Option UnitNumber) (i : Seen) (items : List Seen) (file ldu : ℕ) → is_free c i.bus i.word ≡ false → form_of c i.bus i.word ≡ Some (Ack file ldu) → are_numbers (next_start (forms_of c items)) file ldu ≡ false → Parts c (i ∷ items) (i ∷ []) (without_free c items) (words_to_go c start (i ∷ items))
+parts_last c start i items file ldu e a n =
+    let role = ack_role (form_of c i.bus i.word) (forms_of c items) file ldu a n in
+    let one : words_to_go c start (i ∷ items) ≡ 1 = ends (role_of (form_of c i.bus i.word) (forms_of c items)) (roles (forms_of c items)) start role in
     subst (Parts c (i ∷ items) (i ∷ []) (without_free c items)) (sym one) (record {
       group_is = ap (λ (t : Bool). cond t [] (i ∷ [])) e;
       rest_is = refl;
+      some = omega arith;
+      settled = ap (λ (r : Role). settles (Some r)) role;
     })
 
 no_word : (b : List Seen) (ack : Seen) (rest : List Seen) → [] ≡ b ++ ack ∷ rest → ⊥
 no_word [] ack rest e = cc e
 no_word (x ∷ b) ack rest e = cc e
 
-pub group_parts : (c : Codes) (file ldu : ℕ) (ack : Seen) (rest : List Seen) → form_of c ack.bus ack.word ≡ Some (Ack file ldu) → are_numbers (next_start (forms_of c rest)) file ldu ≡ false → (items b : List Seen) → NoneAcknowledges c b → without_free c items ≡ b ++ ack ∷ rest → Parts c items (b ++ ack ∷ []) rest (words_to_go c items)
-group_parts c file ldu ack rest a n [] b h e = absurd (no_word b ack rest e)
-group_parts c file ldu ack rest a n (i ∷ items) b h e = by (is_free c i.bus i.word) refl e (group_parts c file ldu ack rest a n items)
+pub group_parts : (c : Codes) (start : Option UnitNumber) (file ldu : ℕ) (ack : Seen) (rest : List Seen) → form_of c ack.bus ack.word ≡ Some (Ack file ldu) → are_numbers (next_start (forms_of c rest)) file ldu ≡ false → (items b : List Seen) → AreInner c b → without_free c items ≡ b ++ ack ∷ rest → Parts c items (b ++ ack ∷ []) rest (words_to_go c start items)
+group_parts c start file ldu ack rest a n [] b h e = absurd (no_word b ack rest e)
+group_parts c start file ldu ack rest a n (i ∷ items) b h e = by (is_free c i.bus i.word) refl e (group_parts c start file ldu ack rest a n items)
   where
-    word : is_free c i.bus i.word ≡ false → (b : List Seen) → NoneAcknowledges c b → i ∷ without_free c items ≡ b ++ ack ∷ rest → ((b : List Seen) → NoneAcknowledges c b → without_free c items ≡ b ++ ack ∷ rest → Parts c items (b ++ ack ∷ []) rest (words_to_go c items)) → Parts c (i ∷ items) (b ++ ack ∷ []) rest (words_to_go c (i ∷ items))
+    word : is_free c i.bus i.word ≡ false → (b : List Seen) → AreInner c b → i ∷ without_free c items ≡ b ++ ack ∷ rest → ((b : List Seen) → AreInner c b → without_free c items ≡ b ++ ack ∷ rest → Parts c items (b ++ ack ∷ []) rest (words_to_go c start items)) → Parts c (i ∷ items) (b ++ ack ∷ []) rest (words_to_go c start (i ∷ items))
     word f [] h e more =
         let same : i ≡ ack = cc e in
         let left : without_free c items ≡ rest = cc e in
         let said : form_of c i.bus i.word ≡ Some (Ack file ldu) = ap (λ (x : Seen). form_of c x.bus x.word) same ∙ a in
         let next : are_numbers (next_start (forms_of c items)) file ldu ≡ false = ap (λ (o : Option UnitNumber). are_numbers o file ldu) (sym (next_start-thin c items) ∙ ap (λ (xs : List Seen). next_start (forms_of c xs)) left) ∙ n in
-        let last = parts_last c i items file ldu f said next in
-        record { group_is = last.group_is ∙ ap (λ (x : Seen). x ∷ []) same; rest_is = last.rest_is ∙ left }
+        let last = parts_last c start i items file ldu f said next in
+        record { group_is = last.group_is ∙ ap (λ (x : Seen). x ∷ []) same; rest_is = last.rest_is ∙ left; some = last.some; settled = last.settled }
     word f (x ∷ b) h e more =
         let same : x ≡ i = cc e in
         let left : without_free c items ≡ b ++ ack ∷ rest = cc e in
-        let parts = parts_next c i items (b ++ ack ∷ []) rest f (subst (λ (y : Seen). IsNoAck (form_of c y.bus y.word)) same h.0) (more b h.1 left) in
-        record { group_is = parts.group_is ∙ ap (λ (y : Seen). y ∷ (b ++ ack ∷ [])) (sym same); rest_is = parts.rest_is }
+        let parts = parts_inner c start i items (b ++ ack ∷ []) rest f (subst (λ (y : Seen). IsInner (form_of c y.bus y.word)) same h.0) (more b h.1 left) in
+        record { group_is = parts.group_is ∙ ap (λ (y : Seen). y ∷ (b ++ ack ∷ [])) (sym same); rest_is = parts.rest_is; some = parts.some; settled = parts.settled }
 
-    by : (t : Bool) → is_free c i.bus i.word ≡ t → cond t (without_free c items) (i ∷ without_free c items) ≡ b ++ ack ∷ rest → ((b : List Seen) → NoneAcknowledges c b → without_free c items ≡ b ++ ack ∷ rest → Parts c items (b ++ ack ∷ []) rest (words_to_go c items)) → Parts c (i ∷ items) (b ++ ack ∷ []) rest (words_to_go c (i ∷ items))
-    by true f e more = parts_free c i items (b ++ ack ∷ []) rest f (more b h e)
+    by : (t : Bool) → is_free c i.bus i.word ≡ t → cond t (without_free c items) (i ∷ without_free c items) ≡ b ++ ack ∷ rest → ((b : List Seen) → AreInner c b → without_free c items ≡ b ++ ack ∷ rest → Parts c items (b ++ ack ∷ []) rest (words_to_go c start items)) → Parts c (i ∷ items) (b ++ ack ∷ []) rest (words_to_go c start (i ∷ items))
+    by true f e more = parts_free c start i items (b ++ ack ∷ []) rest f (more b h e)
     by false f e more = word f b h e more
 
 -- ---- the group of a link data unit
 
-of_block_no_ack : (o : Option Form) → IsOfBlock o → IsNoAck o
-of_block_no_ack (Some (Sot g f l)) h = tt
-of_block_no_ack (Some (Part s)) h = tt
-of_block_no_ack (Some (Eot f k)) h = tt
-of_block_no_ack _ h = absurd h
+of_block_inner : (o : Option Form) → IsOfBlock o → IsInner o
+of_block_inner (Some (Sot g f l)) h = tt
+of_block_inner (Some (Part s)) h = tt
+of_block_inner (Some (Eot f k)) h = tt
+of_block_inner _ h = absurd h
 
-words_no_ack : (c : Codes) (ws : List ℕ) → AreOfBlock c ws → NoneAcknowledges c (map on_a ws)
-words_no_ack c [] h = tt
-words_no_ack c (w ∷ ws) h = (of_block_no_ack (form_of c bus.A w) h.0, words_no_ack c ws h.1)
+words_inner : (c : Codes) (ws : List ℕ) → AreOfBlock c ws → AreInner c (map on_a ws)
+words_inner c [] h = tt
+words_inner c (w ∷ ws) h = (of_block_inner (form_of c bus.A w) h.0, words_inner c ws h.1)
 
--- what is recorded before the acknowledgement
-abbrev front : Codes → UnitNumber → LduValue → List Seen
-front c place u = on_a (word_number c (Rts (count_of u))) ∷ (on_b (word_number c (Cts (count_of u))) ∷ map on_a (block_of c u place.file place.ldu))
+-- what is recorded between the request and the acknowledgement
+abbrev inner : Codes → UnitNumber → LduValue → List Seen
+inner c place u = on_b (word_number c (Cts (count_of u))) ∷ map on_a (block_of c u place.file place.ldu)
 
-front_no_ack : (p : Contents) (place : UnitNumber) (u : LduValue) → HasForms p place u → NoneAcknowledges p.codes (front p.codes place u)
-front_no_ack p place u s = (subst IsNoAck (sym s.request) tt, (subst IsNoAck (sym s.clear) tt, words_no_ack p.codes (block_of p.codes u place.file place.ldu) (block_has_forms p place u s)))
+are_inner : (p : Contents) (place : UnitNumber) (u : LduValue) → HasForms p place u → AreInner p.codes (inner p.codes place u)
+are_inner p place u s = (subst IsInner (sym s.clear) tt, words_inner p.codes (block_of p.codes u place.file place.ldu) (block_has_forms p place u s))
 
 -- a recording that begins with it has its numbers in the first start word
 pub first_start : (p : Contents) (place : UnitNumber) (u : LduValue) (rest : List Seen) → HasForms p place u → next_start (forms_of p.codes (clean_block p.codes place u ++ rest)) ≡ Some place
@@ -153,12 +184,38 @@ next_start_other p is place u (v ∷ us) f l h =
     ap (λ (o : Option UnitNumber). are_numbers o place.file place.ldu) (first_start p next v (clean_blocks p.codes (number_after p.codes next v) us) (unit_has_forms p is next v (next_byte p.codes place _ f) h.1 h.0))
     ∙ others_start p.codes place _ (omega arith)
 
-pub unit_parts : (p : Contents) → IsProfile p → (place : UnitNumber) (u : LduValue) (us : List LduValue) (items : List Seen) → place.file ≤ 255 → AllFit p place (u ∷ us) → without_free p.codes items ≡ clean_blocks p.codes place (u ∷ us) → Parts p.codes items (clean_block p.codes place u) (clean_blocks p.codes (number_after p.codes place u) us) (words_to_go p.codes items)
-unit_parts p is place u us items f h e =
+-- the start word of its attempt has its numbers
+pub attempt_start_is : (p : Contents) (place : UnitNumber) (u : LduValue) (behind : List Seen) → HasForms p place u → attempt_start (forms_of p.codes (on_b (word_number p.codes (Cts (count_of u))) ∷ (map on_a (block_of p.codes u place.file place.ldu) ++ behind))) ≡ Some place
+attempt_start_is p place u behind s =
+    let c = p.codes in
+    let more = forms_of c (map on_a (u.words ++ word_number c (Eot u.flags u.check) ∷ []) ++ behind) in
+    ap (λ (o : Option Form). attempt_start (o ∷ (form_of c bus.A (word_number c (Sot u.gfi place.file place.ldu)) ∷ more))) s.clear
+    ∙ ap (λ (o : Option Form). attempt_start (o ∷ more)) s.start
+
+-- the group of a link data unit that begins with this word
+pub record UnitParts (c : Codes) (place : UnitNumber) (i : Seen) (items group rest : List Seen) : Type 0 where
+  pub parts : Parts c (i ∷ items) group rest (group_length (roles (forms_of c (i ∷ items))))
+  pub start : first_started (take (group_length (roles (forms_of c (i ∷ items)))) (roles (forms_of c (i ∷ items)))) ≡ Some place
+
+pub unit_parts : (p : Contents) → IsProfile p → (place : UnitNumber) (u : LduValue) (us : List LduValue) (i : Seen) (items : List Seen) → place.file ≤ 255 → AllFit p place (u ∷ us) → is_free p.codes i.bus i.word ≡ false → without_free p.codes (i ∷ items) ≡ clean_blocks p.codes place (u ∷ us) → UnitParts p.codes place i items (clean_block p.codes place u) (clean_blocks p.codes (number_after p.codes place u) us)
+unit_parts p is place u us i items f h kept e =
+    let c = p.codes in
     let said = unit_has_forms p is place u f h.1 h.0 in
-    let rest = clean_blocks p.codes (number_after p.codes place u) us in
-    let ack = on_b (word_number p.codes (Ack place.file place.ldu)) in
-    group_parts p.codes place.file place.ldu ack rest said.settled (next_start_other p is place u us f h.1 h.2) items (front p.codes place u) (front_no_ack p place u said) (e ∙ append_assoc (front p.codes place u) (ack ∷ []) rest)
+    let rest = clean_blocks c (number_after c place u) us in
+    let rts = on_a (word_number c (Rts (count_of u))) in
+    let ack = on_b (word_number c (Ack place.file place.ldu)) in
+    let all : i ∷ without_free c items ≡ rts ∷ (inner c place u ++ ack ∷ rest) = sym (ap (λ (t : Bool). cond t (without_free c items) (i ∷ without_free c items)) kept) ∙ e ∙ ap (λ (xs : List Seen). rts ∷ xs) (append_assoc (inner c place u) (ack ∷ []) rest) in
+    let same : i ≡ rts = cc all in
+    let left : without_free c items ≡ inner c place u ++ ack ∷ rest = cc all in
+    let begun : attempt_start (forms_of c items) ≡ Some place = sym (attempt_start-thin c items) ∙ ap (λ (xs : List Seen). attempt_start (forms_of c xs)) left ∙ attempt_start_is p place u (ack ∷ rest) said in
+    let role : role_of (form_of c i.bus i.word) (forms_of c items) ≡ Request (count_of u) (Some place) = ap (λ (x : Seen). role_of (form_of c x.bus x.word) (forms_of c items)) same ∙ ap (λ (o : Option Form). role_of o (forms_of c items)) said.request ∙ ap (λ (o : Option UnitNumber). Request (count_of u) o) begun in
+    let rs = roles (forms_of c items) in
+    let long : group_length (roles (forms_of c (i ∷ items))) ≡ suc (words_to_go c (Some place) items) = ap (λ (r : Role). group_length (r ∷ rs)) role in
+    let parts = parts_next c i items (inner c place u ++ ack ∷ []) rest (words_to_go c (Some place) items) kept (group_parts c (Some place) place.file place.ldu ack rest said.settled (next_start_other p is place u us f h.1 h.2) items (inner c place u) (are_inner p place u said) left) in
+    record {
+      parts = subst (Parts c (i ∷ items) (clean_block c place u) rest) (sym long) (subst (λ (x : Seen). Parts c (i ∷ items) (x ∷ (inner c place u ++ ack ∷ [])) rest (suc (words_to_go c (Some place) items))) same parts);
+      start = ap (λ (n : ℕ). first_started (take n (roles (forms_of c (i ∷ items))))) long ∙ ap (λ (r : Role). first_started (r ∷ take (words_to_go c (Some place) items) rs)) role;
+    }
 
 -- ---- the number of the first file
 

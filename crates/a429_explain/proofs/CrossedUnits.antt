@@ -1,5 +1,5 @@
 -- The groups of a recording without loss, one after the other.
-use Rattle.std.proofs.Common.{◌≡◌, ℕ, zero, suc, ◌+◌, ◌-◌, ◌≤◌, ◌<◌, Bool, true, false, cond, List, [], ◌∷◌, ◌++◌, length, take, drop, slice_get, Option, Some, None, refl, sym, ap, ◌∙◌, subst, arith, append_assoc, append-nil}
+use Rattle.std.proofs.Common.{◌≡◌, ℕ, zero, suc, ◌+◌, ◌-◌, ◌≤◌, ◌<◌, Bool, true, false, cond, List, [], ◌∷◌, ◌++◌, map, length, take, drop, slice_get, Option, Some, None, refl, sym, ap, ◌∙◌, subst, arith, append_assoc, append-nil, eq-eqb}
 use Rattle.std.proofs.lemmas.List.{drop-drop, drop_all}
 use Rattle.a429_word.specs.declared.bus.Bus.TheVariants as bus
 use Rattle.a429_profile.specs.declared.codes.Codes.{Codes}
@@ -20,14 +20,15 @@ use Rattle.a429_explain.specs.declared.stop.Stop.{Stop}
 use Rattle.a429_explain.specs.declared.stop.Stop.TheVariants.{Unexplained, OutOfMemory}
 use Rattle.a429_explain.specs.Attempts.{roles}
 use Rattle.a429_explain.specs.Heard.{forms_of, sight_at}
-use Rattle.a429_explain.specs.Groups.{group_length}
+use Rattle.a429_explain.specs.Groups.{group_length, first_started, group_start, settles, is_settled}
+use Rattle.a429_explain.specs.declared.plan.Plan.{Plan}
+use Rattle.a429_explain.specs.Plan.{place_from, give_ups_from, place_behind, ArePlans, plain}
 use Rattle.a429_explain.specs.Block.{IsMatchedUnit, HasCrossed, IsStopIn}
-use Rattle.a429_explain.specs.Guess.{heard, AreUnitsFrom, IsStopFrom, HaveCrossed}
-use Rattle.a429_explain.specs.Scribe.{AreUnits}
+use Rattle.a429_explain.specs.Guess.{heard, place_of, place_past, ArePlansFrom, IsStopFrom, HaveCrossed}
 use Rattle.a429_explain.specs.Whole.{wanted}
 use Rattle.a429_explain.proofs.GroupsFacts.{asked, AreSearched, searched_none, searched_free, searched_group, searched_all, searched_doubt}
 use Rattle.a429_explain.proofs.CleanBlock.{formed_sight}
-use Rattle.a429_explain.proofs.CleanGroups.{words_to_go, unit_has_forms, unit_parts}
+use Rattle.a429_explain.proofs.CleanGroups.{unit_has_forms, unit_parts}
 use Rattle.a429_explain.proofs.WholeFacts.{has_item, drop_next}
 use Rattle.a429_explain.proofs.CrossedUnit.{request_kept}
 use Rattle.a429_link.proofs.NumberFacts.{next_byte}
@@ -35,26 +36,26 @@ use Rattle.a429_link.proofs.NumberFacts.{next_byte}
 -- ---- where the walk has come to
 
 -- the link data units that are still to be found behind these
-pub record IsLeft (p : Contents) (items : List Seen) (done us : List LduValue) (place : UnitNumber) (at : ℕ) : Type 0 where
+pub record IsLeft (p : Contents) (items : List Seen) (done : List Plan) (us : List LduValue) (place : UnitNumber) (at : ℕ) : Type 0 where
   pub rest : List LduValue
-  pub all : us ≡ done ++ rest
+  pub all : map plain us ≡ done ++ map plain rest
+  pub file : place.file ≤ 255
   pub words : without_free p.codes (drop at items) ≡ clean_blocks p.codes place rest
   pub fit : AllFit p place rest
 
-pub record Finds (p : Contents) (items : List Seen) (rs : List Role) (first : ℕ) (done : List LduValue) (place : UnitNumber) (at : ℕ) : Type 0 where
-  pub units : AreUnits p done
+pub record Finds (p : Contents) (items : List Seen) (rs : List Role) (first : ℕ) (done : List Plan) (place : UnitNumber) (at : ℕ) : Type 0 where
+  pub units : ArePlans p done
   pub groups : AreSearched p items rs (first_number p.codes first) done place at
-  pub file : place.file ≤ 255
   pub left : (us : List LduValue) → HaveCrossed (heard p items) first us → IsLeft p items done us place at
 
-pub finds_none : (p : Contents) (items : List Seen) (rs : List Role) (first : ℕ) (done : List LduValue) (place : UnitNumber) → first ≤ 255 → done ≡ [] → place ≡ first_number p.codes first → Finds p items rs first done place 0
+pub finds_none : (p : Contents) (items : List Seen) (rs : List Role) (first : ℕ) (done : List Plan) (place : UnitNumber) → first ≤ 255 → done ≡ [] → place ≡ first_number p.codes first → Finds p items rs first done place 0
 finds_none p items rs first done place f none same = record {
-  units = subst (AreUnits p) (sym none) tt;
+  units = subst (ArePlans p) (sym none) tt;
   groups = searched_none p items rs _ _ done none same;
-  file = subst (λ (n : UnitNumber). n.file ≤ 255) (sym same) f;
   left = λ us h. record {
     rest = us;
-    all = ap (λ (xs : List LduValue). xs ++ us) (sym none);
+    all = ap (λ (xs : List Plan). xs ++ map plain us) (sym none);
+    file = subst (λ (n : UnitNumber). n.file ≤ 255) (sym same) f;
     words = h.words ∙ ap (λ (n : UnitNumber). clean_blocks p.codes n us) (sym same);
     fit = subst (λ (n : UnitNumber). AllFit p n us) (sym same) h.fit;
   };
@@ -79,18 +80,18 @@ passed_free p is place f rest h i xs w e = by (is_free p.codes i.bus i.word) e
     by true e = e
     by false e = absurd (first_wants p is place f rest h i (without_free p.codes xs) w e)
 
-pub finds_free : (p : Contents) → IsProfile p → (items : List Seen) (rs : List Role) (first : ℕ) (done : List LduValue) (place : UnitNumber) (at : ℕ) → at < length items → None ≡ wanted (sight_at p.codes (slice_get items at)) → Finds p items rs first done place at → Finds p items rs first done place (at + 1)
+pub finds_free : (p : Contents) → IsProfile p → (items : List Seen) (rs : List Role) (first : ℕ) (done : List Plan) (place : UnitNumber) (at : ℕ) → at < length items → None ≡ wanted (sight_at p.codes (slice_get items at)) → Finds p items rs first done place at → Finds p items rs first done place (at + 1)
 finds_free p is items rs first done place at l w h =
     let here = has_item items at l in
     let none : wanted (sight_of p.codes here.item.bus here.item.word) ≡ None = ap (λ (o : Option Seen). wanted (sight_at p.codes o)) (sym here.is) ∙ sym w in
     record {
       units = h.units;
       groups = searched_free p items rs _ place done at (sym w) h.groups;
-      file = h.file;
       left = λ us crossed. let old = h.left us crossed in record {
         rest = old.rest;
         all = old.all;
-        words = passed_free p is place h.file old.rest old.fit here.item (drop (at + 1) items) none (ap (without_free p.codes) (sym (drop_next items at here.item here.is)) ∙ old.words);
+        file = old.file;
+        words = passed_free p is place old.file old.rest old.fit here.item (drop (at + 1) items) none (ap (without_free p.codes) (sym (drop_next items at here.item here.is)) ∙ old.words);
         fit = old.fit;
       };
     }
@@ -102,85 +103,123 @@ roles-drop c items zero = refl
 roles-drop c [] (suc n) = refl
 roles-drop c (i ∷ items) (suc n) = roles-drop c items n
 
+get_dropped : (rs : List Role) (n k : ℕ) → slice_get rs (n + k) ≡ slice_get (drop n rs) k
+get_dropped rs zero k = let none : 0 + k ≡ k = omega arith in ap (λ (m : ℕ). slice_get rs m) none
+get_dropped [] (suc n) k = refl
+get_dropped (r ∷ rs) (suc n) k = let one : suc n + k ≡ suc (n + k) = omega arith in ap (λ (m : ℕ). slice_get (r ∷ rs) m) one ∙ get_dropped rs n k
+
 -- the group is that of the next link data unit
-pub record IsNext (p : Contents) (items : List Seen) (done us : List LduValue) (place : UnitNumber) (r : Request) : Type 0 where
+pub record IsNext (p : Contents) (items : List Seen) (rs : List Role) (done : List Plan) (us : List LduValue) (place : UnitNumber) (r : Request) : Type 0 where
   pub unit : LduValue
   pub more : List LduValue
-  pub all : us ≡ done ++ unit ∷ more
+  pub all : map plain us ≡ done ++ plain unit ∷ map plain more
+  pub file : place.file ≤ 255
   pub crossed : HasCrossed (heard p items) r place unit
+  pub start : group_start rs r.group ≡ Some place
+  pub settled : is_settled rs r.group ≡ true
   pub words : without_free p.codes (drop r.group.to items) ≡ clean_blocks p.codes (number_after p.codes place unit) more
   pub fit : AllFit p (number_after p.codes place unit) more
 
-next_is : (p : Contents) → IsProfile p → (items : List Seen) (done us : List LduValue) (place : UnitNumber) (at to count : ℕ) → to ≡ at + words_to_go p.codes (drop at items) → place.file ≤ 255 → (rest : List LduValue) → us ≡ done ++ rest → AllFit p place rest → without_free p.codes (drop at items) ≡ clean_blocks p.codes place rest → (i : Seen) (xs : List Seen) → i ∷ xs ≡ without_free p.codes (drop at items) → IsNext p items done us place (asked (record { from = at; to = to }) count)
-next_is p is items done us place at to count t f [] all h e i xs k = absurd (let none : i ∷ xs ≡ [] = k ∙ e in cc none)
-next_is p is items done us place at to count t f (u ∷ more) all h e i xs k =
-    let n = words_to_go p.codes (drop at items) in
-    let parts = unit_parts p is place u more (drop at items) f h e in
+next_is : (p : Contents) → IsProfile p → (items : List Seen) (done : List Plan) (us : List LduValue) (place : UnitNumber) (at to count : ℕ) (rest : List LduValue) (i : Seen) (xs : List Seen) → to ≡ at + group_length (roles (forms_of p.codes (i ∷ xs))) → place.file ≤ 255 → map plain us ≡ done ++ map plain rest → AllFit p place rest → drop at items ≡ i ∷ xs → is_free p.codes i.bus i.word ≡ false → without_free p.codes (i ∷ xs) ≡ clean_blocks p.codes place rest → IsNext p items (roles (forms_of p.codes items)) done us place (asked (record { from = at; to = to }) count)
+next_is p is items done us place at to count [] i xs t f all h list kept e = absurd (let none : i ∷ without_free p.codes xs ≡ [] = sym (ap (λ (b : Bool). cond b (without_free p.codes xs) (i ∷ without_free p.codes xs)) kept) ∙ e in cc none)
+next_is p is items done us place at to count (u ∷ more) i xs t f all h list kept e =
+    let n = group_length (roles (forms_of p.codes (i ∷ xs))) in
+    let found = unit_parts p is place u more i xs f h kept e in
+    let parts = found.parts in
     let low = (in_range p is).first_ldu in
     let room = h.1 in
+    let some = parts.some in
     let long : to - at ≡ n = omega arith in
+    let last : to - 1 ≡ at + (n - 1) = omega arith in
+    let said : drop at (roles (forms_of p.codes items)) ≡ roles (forms_of p.codes (i ∷ xs)) = roles-drop p.codes items at ∙ ap (λ (ys : List Seen). roles (forms_of p.codes ys)) list in
     record {
       unit = u;
       more = more;
       all = all;
+      file = f;
       crossed = record {
         unit = h.0;
         file = f;
         ldu = omega arith;
-        words = ap (λ (m : ℕ). without_free p.codes (take m (drop at items))) long ∙ parts.group_is;
+        words = ap (λ (m : ℕ). without_free p.codes (take m (drop at items))) long ∙ ap (λ (ys : List Seen). without_free p.codes (take n ys)) list ∙ parts.group_is;
       };
-      words = ap (λ (m : ℕ). without_free p.codes (drop m items)) t ∙ ap (without_free p.codes) (sym (drop-drop n at items)) ∙ parts.rest_is;
+      start = ap (λ (m : ℕ). first_started (take m (drop at (roles (forms_of p.codes items))))) long ∙ ap (λ (ys : List Role). first_started (take n ys)) said ∙ found.start;
+      settled = ap (λ (m : ℕ). settles (slice_get (roles (forms_of p.codes items)) m)) last ∙ ap settles (get_dropped (roles (forms_of p.codes items)) at (n - 1)) ∙ ap (λ (ys : List Role). settles (slice_get ys (n - 1))) said ∙ parts.settled;
+      words = ap (λ (m : ℕ). without_free p.codes (drop m items)) t ∙ ap (without_free p.codes) (sym (drop-drop n at items)) ∙ ap (λ (ys : List Seen). without_free p.codes (drop n ys)) list ∙ parts.rest_is;
       fit = h.2;
     }
 
-pub finds_group : (p : Contents) → IsProfile p → (items : List Seen) (rs : List Role) (first : ℕ) (done : List LduValue) (place : UnitNumber) (at from to count : ℕ) → rs ≡ roles (forms_of p.codes items) → at < length items → from ≡ at → to ≡ at + group_length (drop at rs) → Some count ≡ wanted (sight_at p.codes (slice_get items at)) → Finds p items rs first done place at → (us : List LduValue) → HaveCrossed (heard p items) first us → IsNext p items done us place (asked (record { from = from; to = to }) count)
+pub finds_group : (p : Contents) → IsProfile p → (items : List Seen) (rs : List Role) (first : ℕ) (done : List Plan) (place : UnitNumber) (at from to count : ℕ) → rs ≡ roles (forms_of p.codes items) → at < length items → from ≡ at → to ≡ at + group_length (drop at rs) → Some count ≡ wanted (sight_at p.codes (slice_get items at)) → Finds p items rs first done place at → (us : List LduValue) → HaveCrossed (heard p items) first us → IsNext p items rs done us place (asked (record { from = from; to = to }) count)
 finds_group p is items rs first done place at from to count r l same t w h us crossed =
     let old = h.left us crossed in
     let here = has_item items at l in
     let asks : wanted (sight_of p.codes here.item.bus here.item.word) ≡ Some count = ap (λ (o : Option Seen). wanted (sight_at p.codes o)) (sym here.is) ∙ sym w in
     let kept = request_kept p.codes here.item count asks in
-    let begins : here.item ∷ without_free p.codes (drop (at + 1) items) ≡ without_free p.codes (drop at items) = sym (ap (without_free p.codes) (drop_next items at here.item here.is) ∙ ap (λ (b : Bool). cond b (without_free p.codes (drop (at + 1) items)) (here.item ∷ without_free p.codes (drop (at + 1) items))) kept) in
-    let goes : group_length (drop at rs) ≡ words_to_go p.codes (drop at items) = ap (λ (xs : List Role). group_length (drop at xs)) r ∙ ap group_length (roles-drop p.codes items at) in
-    subst (λ (n : ℕ). IsNext p items done us place (asked (record { from = n; to = to }) count)) (sym same) (next_is p is items done us place at to count (t ∙ ap (λ (n : ℕ). at + n) goes) h.file old.rest old.all old.fit old.words here.item (without_free p.codes (drop (at + 1) items)) begins)
+    let list : drop at items ≡ here.item ∷ drop (at + 1) items = drop_next items at here.item here.is in
+    let goes : group_length (drop at rs) ≡ group_length (roles (forms_of p.codes (here.item ∷ drop (at + 1) items))) = ap (λ (xs : List Role). group_length (drop at xs)) r ∙ ap group_length (roles-drop p.codes items at) ∙ ap (λ (ys : List Seen). group_length (roles (forms_of p.codes ys))) list in
+    let next = next_is p is items done us place at to count old.rest here.item (drop (at + 1) items) (t ∙ ap (λ (n : ℕ). at + n) goes) old.file old.all old.fit list kept (ap (without_free p.codes) (sym list) ∙ old.words) in
+    subst (λ (n : ℕ). IsNext p items rs done us place (asked (record { from = n; to = to }) count)) (sym same) (subst (λ (xs : List Role). IsNext p items xs done us place (asked (record { from = at; to = to }) count)) (sym r) next)
 
-units_push : (p : Contents) (us : List LduValue) (u : LduValue) → AreUnits p us → IsLdu p u → AreUnits p (us ++ u ∷ [])
-units_push p [] u h k = (k, tt)
-units_push p (v ∷ us) u h k = (h.0, units_push p us u h.1 k)
+-- a group without loss begins and ends under the numbers that the source comes to it with, and no file is given up
+no_more : (place : UnitNumber) → place.file ≤ 255 → give_ups_from place (Some place) ≡ 0
+no_more place l = omega arith
 
--- the unit that is found is the next one, and the walk goes on behind its group
-pub finds_next : (p : Contents) → IsProfile p → (items : List Seen) (rs : List Role) (first : ℕ) (done new : List LduValue) (place next : UnitNumber) (at wants : ℕ) (g : Group) (unit : LduValue) → g.from ≡ at → g.to ≡ at + group_length (drop at rs) → wanted (sight_at p.codes (slice_get items at)) ≡ Some wants → IsMatchedUnit (heard p items) (asked g wants) place unit → new ≡ done ++ unit ∷ [] → next ≡ number_after p.codes place unit → ((u : LduValue) → HasCrossed (heard p items) (asked g wants) place u → unit ≡ u) → ((us : List LduValue) → HaveCrossed (heard p items) first us → IsNext p items done us place (asked g wants)) → Finds p items rs first done place at → Finds p items rs first new next g.to
-finds_next p is items rs first done new place next at wants group_at unit from to asks unit_is pushed number found group h = record {
-  units = subst (AreUnits p) (sym pushed) (units_push p done unit h.units unit_is.gives.unit);
-  groups = searched_group p items rs _ place next done new at wants group_at unit from to asks unit_is pushed number h.groups;
-  file = subst (λ (n : UnitNumber). n.file ≤ 255) (sym number) (next_byte p.codes place _ h.file);
+same_place : (c : Codes) (place : UnitNumber) → place_from c place (Some place) ≡ place
+same_place c place = ap (λ (b : Bool). cond b place (first_number c place.file)) (eq-eqb place.file place.file refl)
+
+pub next_place : (p : Contents) (items : List Seen) (rs : List Role) (done : List Plan) (us : List LduValue) (place : UnitNumber) (r : Request) → IsNext p items rs done us place r → place_of p.codes rs r.group place ≡ place
+next_place p items rs done us place r h = ap (place_from p.codes place) h.start ∙ same_place p.codes place
+
+next_plan : (p : Contents) (items : List Seen) (rs : List Role) (done : List Plan) (us : List LduValue) (place : UnitNumber) (r : Request) (plan : Plan) (h : IsNext p items rs done us place r) → plan.give_ups ≡ give_ups_from place (group_start rs r.group) → plan.unit ≡ h.unit → plan ≡ plain h.unit
+next_plan p items rs done us place r plan h gives same = ap (λ (n : ℕ). planned n plan.unit) (gives ∙ ap (give_ups_from place) h.start ∙ no_more place h.file) ∙ ap (planned 0) same
+  where
+    planned : ℕ → LduValue → Plan
+    planned n u = record { give_ups = n; unit = u }
+
+next_number_is : (p : Contents) (items : List Seen) (rs : List Role) (done : List Plan) (us : List LduValue) (place : UnitNumber) (r : Request) (u : LduValue) (h : IsNext p items rs done us place r) → u ≡ h.unit → place_past p.codes rs r.group place u ≡ number_after p.codes place h.unit
+next_number_is p items rs done us place r u h same =
+    ap (place_behind p.codes (place_of p.codes rs r.group place) u) h.settled
+    ∙ ap (λ (n : UnitNumber). number_after p.codes n u) (next_place p items rs done us place r h)
+    ∙ ap (number_after p.codes place) same
+
+units_push : (p : Contents) (plans : List Plan) (plan : Plan) → ArePlans p plans → IsLdu p plan.unit → ArePlans p (plans ++ plan ∷ [])
+units_push p [] plan h k = (k, tt)
+units_push p (v ∷ plans) plan h k = (h.0, units_push p plans plan h.1 k)
+
+-- the plan that is found is the next one, and the walk goes on behind its group
+pub finds_next : (p : Contents) (items : List Seen) (rs : List Role) (first : ℕ) (done new : List Plan) (place next : UnitNumber) (at wants : ℕ) (g : Group) (plan : Plan) → g.from ≡ at → g.to ≡ at + group_length (drop at rs) → wanted (sight_at p.codes (slice_get items at)) ≡ Some wants → plan.give_ups ≡ give_ups_from place (group_start rs g) → IsMatchedUnit (heard p items) (asked g wants) (place_of p.codes rs g place) plan.unit → new ≡ done ++ plan ∷ [] → next ≡ place_past p.codes rs g place plan.unit → ((u : LduValue) → HasCrossed (heard p items) (asked g wants) (place_of p.codes rs g place) u → plan.unit ≡ u) → ((us : List LduValue) → HaveCrossed (heard p items) first us → IsNext p items rs done us place (asked g wants)) → Finds p items rs first done place at → Finds p items rs first new next g.to
+finds_next p items rs first done new place next at wants g plan from to asks gives unit_is pushed number found group h = record {
+  units = subst (ArePlans p) (sym pushed) (units_push p done plan h.units unit_is.gives.unit);
+  groups = searched_group p items rs _ place next done new at wants g plan from to asks gives unit_is pushed number h.groups;
   left = λ us crossed.
-      let g = group us crossed in
-      let same : unit ≡ g.unit = found g.unit g.crossed in
-      let after : next ≡ number_after p.codes place g.unit = number ∙ ap (number_after p.codes place) same in
+      let k = group us crossed in
+      let same : plan.unit ≡ k.unit = found k.unit (subst (λ (n : UnitNumber). HasCrossed (heard p items) (asked g wants) n k.unit) (sym (next_place p items rs done us place (asked g wants) k)) k.crossed) in
+      let after : next ≡ number_after p.codes place k.unit = number ∙ next_number_is p items rs done us place (asked g wants) plan.unit k same in
       record {
-        rest = g.more;
-        all = g.all ∙ sym (append_assoc done (g.unit ∷ []) g.more) ∙ ap (λ (xs : List LduValue). xs ++ g.more) (sym (pushed ∙ ap (λ (u : LduValue). done ++ u ∷ []) same));
-        words = g.words ∙ ap (λ (n : UnitNumber). clean_blocks p.codes n g.more) (sym after);
-        fit = subst (λ (n : UnitNumber). AllFit p n g.more) (sym after) g.fit;
+        rest = k.more;
+        all = k.all ∙ sym (append_assoc done (plain k.unit ∷ []) (map plain k.more)) ∙ ap (λ (xs : List Plan). xs ++ map plain k.more) (sym (pushed ∙ ap (λ (x : Plan). done ++ x ∷ []) (next_plan p items rs done us place (asked g wants) plan k gives same)));
+        file = subst (λ (n : UnitNumber). n.file ≤ 255) (sym after) (next_byte p.codes place _ k.file);
+        words = k.words ∙ ap (λ (n : UnitNumber). clean_blocks p.codes n k.more) (sym after);
+        fit = subst (λ (n : UnitNumber). AllFit p n k.more) (sym after) k.fit;
       };
 }
 
 -- ---- the end
 
-nothing_left : (p : Contents) (done us : List LduValue) (place : UnitNumber) (rest : List LduValue) → us ≡ done ++ rest → [] ≡ clean_blocks p.codes place rest → done ≡ us
+nothing_left : (p : Contents) (done : List Plan) (us : List LduValue) (place : UnitNumber) (rest : List LduValue) → map plain us ≡ done ++ map plain rest → [] ≡ clean_blocks p.codes place rest → done ≡ map plain us
 nothing_left p done us place [] all e = sym (all ∙ append-nil done)
 nothing_left p done us place (u ∷ rest) all e = absurd (cc e)
 
-pub finds_all : (p : Contents) (items : List Seen) (rs : List Role) (first : ℕ) (done : List LduValue) (place : UnitNumber) (at : ℕ) → length items ≤ at → Finds p items rs first done place at → (us : List LduValue) → HaveCrossed (heard p items) first us → done ≡ us
+pub finds_all : (p : Contents) (items : List Seen) (rs : List Role) (first : ℕ) (done : List Plan) (place : UnitNumber) (at : ℕ) → length items ≤ at → Finds p items rs first done place at → (us : List LduValue) → HaveCrossed (heard p items) first us → done ≡ map plain us
 finds_all p items rs first done place at l h us crossed =
     let old = h.left us crossed in
     nothing_left p done us place old.rest old.all (sym (ap (without_free p.codes) (drop_all at items l)) ∙ old.words)
 
 -- those that are found are those of the groups
-pub finds_groups : (p : Contents) (items : List Seen) (rs : List Role) (first : ℕ) (done : List LduValue) (place : UnitNumber) (at : ℕ) → length items ≤ at → Finds p items rs first done place at → AreUnitsFrom (heard p items) rs first done
+pub finds_groups : (p : Contents) (items : List Seen) (rs : List Role) (first : ℕ) (done : List Plan) (place : UnitNumber) (at : ℕ) → length items ≤ at → Finds p items rs first done place at → ArePlansFrom (heard p items) rs first done
 finds_groups p items rs first done place at l h = searched_all p items rs _ place done at l h.groups
 
 -- or a group is doubted
-pub finds_doubt : (p : Contents) (items : List Seen) (rs : List Role) (first : ℕ) (done : List LduValue) (place : UnitNumber) (at wants : ℕ) (g : Group) (stop : Stop) → g.from ≡ at → g.to ≡ at + group_length (drop at rs) → wanted (sight_at p.codes (slice_get items at)) ≡ Some wants → IsStopIn (heard p items) (asked g wants) place stop → Finds p items rs first done place at → IsStopFrom (heard p items) rs first stop
-finds_doubt p items rs first done place at wants g (Unexplained i doubt) from to asks is h = record { units = done; are = searched_doubt p items rs _ place done at wants i doubt g from to asks is h.groups }
+pub finds_doubt : (p : Contents) (items : List Seen) (rs : List Role) (first : ℕ) (done : List Plan) (place : UnitNumber) (at wants : ℕ) (g : Group) (stop : Stop) → g.from ≡ at → g.to ≡ at + group_length (drop at rs) → wanted (sight_at p.codes (slice_get items at)) ≡ Some wants → IsStopIn (heard p items) (asked g wants) (place_of p.codes rs g place) stop → Finds p items rs first done place at → IsStopFrom (heard p items) rs first stop
+finds_doubt p items rs first done place at wants g (Unexplained i doubt) from to asks is h = record { plans = done; are = searched_doubt p items rs _ place done at wants i doubt g from to asks is h.groups }
 finds_doubt p items rs first done place at wants g OutOfMemory from to asks is h = tt

@@ -1,17 +1,17 @@
 -- How far the groups of a recording are searched.
-use Rattle.std.proofs.Common.{◌≡◌, ◌≢◌, ℕ, ◌+◌, ◌≤◌, ◌<◌, List, [], ◌∷◌, ◌++◌, length, drop, slice_get, Option, Some, None, inl, inr, refl, sym, ap, ◌∙◌, subst, arith, append-nil}
+use Rattle.std.proofs.Common.{◌≡◌, ◌≢◌, ℕ, suc, ◌+◌, ◌-◌, ◌≤◌, ◌<◌, List, [], ◌∷◌, ◌++◌, length, take, drop, get_or, drop-cons, slice_get, slice_range, Option, Some, None, inl, inr, refl, sym, ap, ◌∙◌, subst, arith, append-nil}
 use Rattle.std.proofs.lemmas.Bool.{cases_order}
 use Rattle.std.proofs.lemmas.Option.{slice_get_past}
+use Rattle.std.specs.Option.{option_or}
 use Rattle.a429_profile.specs.declared.codes.Codes.{Codes}
 use Rattle.a429_profile.specs.Profile.{Contents}
-use Rattle.a429_ldu.specs.Ldu.{LduValue}
 use Rattle.a429_link.specs.declared.fault.StepFault.{StepFault}
 use Rattle.a429_link.specs.declared.fault.StepFault.TheVariants as step
 use Rattle.a429_link.specs.declared.seen.Seen.{Seen}
-use Rattle.a429_link.specs.Number.{number_after}
 use Rattle.a429_explain.specs.declared.attempts.Role.{Role}
 use Rattle.a429_explain.specs.declared.groups.Group.{Group}
 use Rattle.a429_explain.specs.declared.groups.Request.{Request}
+use Rattle.a429_explain.specs.declared.plan.Plan.{Plan}
 use Rattle.a429_link.specs.declared.number.UnitNumber.{UnitNumber}
 use Rattle.a429_explain.specs.declared.stop.Stop.{Stop}
 use Rattle.a429_explain.specs.declared.stop.Stop.TheVariants.{Unexplained, OutOfMemory}
@@ -20,8 +20,9 @@ use Rattle.a429_explain.specs.declared.verdict.Doubt.TheVariants.{NeverWhole, No
 use Rattle.a429_explain.specs.Attempts.{roles}
 use Rattle.a429_explain.specs.Heard.{forms_of, sight_at}
 use Rattle.a429_explain.specs.Block.{IsMatchedUnit, IsDoubtIn}
-use Rattle.a429_explain.specs.Groups.{group_length, group_from}
-use Rattle.a429_explain.specs.Guess.{first_file_of, first_place, heard, IsNoRequestFrom, IsFirstRequest, AreUnitsBefore, AreUnitsOf, AreUnitsFrom, IsNextDoubt, IsGroupStop, IsStopFrom, IsFirstStop, HasNoDoubt}
+use Rattle.a429_explain.specs.Groups.{group_length, group_from, group_start, start_of, first_started}
+use Rattle.a429_explain.specs.Plan.{give_ups_from}
+use Rattle.a429_explain.specs.Guess.{first_file_of, first_place, heard, IsNoRequestFrom, IsFirstRequest, place_of, place_past, ArePlansBefore, ArePlansOf, ArePlansFrom, IsNextDoubt, IsGroupStop, IsStopFrom, IsFirstStop, HasNoDoubt}
 use Rattle.a429_explain.specs.Whole.{wanted}
 
 -- a group whose first request wants so many words
@@ -34,26 +35,42 @@ pub record HasCome (c : Codes) (items : List Seen) (place : UnitNumber) (at : �
   pub behind : from ≤ at
   pub none : (k : ℕ) → from ≤ k → k < at → wanted (sight_at c (slice_get items k)) ≡ None
 
--- these link data units are those of the groups before place `at`
-abbrev pub AreSearched : Contents → List Seen → List Role → UnitNumber → List LduValue → UnitNumber → ℕ → Type 0
-AreSearched p items rs start done place at = AreUnitsBefore (HasCome p.codes items place at) p items rs start 0 done
+-- these plans are those of the groups before place `at`
+abbrev pub AreSearched : Contents → List Seen → List Role → UnitNumber → List Plan → UnitNumber → ℕ → Type 0
+AreSearched p items rs start done place at = ArePlansBefore (HasCome p.codes items place at) p items rs start 0 done
+
+-- ---- the start word of a group
+
+-- that of the next word, or of those behind it
+starts_next : (rs : List Role) (at to : ℕ) (d : Role) → at < to → at < length rs → first_started (slice_range rs at to) ≡ option_or (start_of (get_or rs at d)) (first_started (slice_range rs (at + 1) to))
+starts_next rs at to d l m =
+    let one : at + 1 ≡ suc at = omega arith in
+    let more : to - at ≡ suc (to - (at + 1)) = omega arith in
+    ap (λ (n : ℕ). first_started (take n (drop at rs))) more
+    ∙ ap (λ (xs : List Role). first_started (take (suc (to - (at + 1))) xs)) (drop-cons rs at d m ∙ ap (λ (n : ℕ). get_or rs at d ∷ drop n rs) (sym one))
+
+pub starts_here : (rs : List Role) (at to : ℕ) (d : Role) (start : UnitNumber) → at < to → at < length rs → start_of (get_or rs at d) ≡ Some start → first_started (slice_range rs at to) ≡ Some start
+starts_here rs at to d start l m e = starts_next rs at to d l m ∙ ap (λ (o : Option UnitNumber). option_or o (first_started (slice_range rs (at + 1) to))) e
+
+pub starts_later : (rs : List Role) (at to : ℕ) (d : Role) → at < to → at < length rs → start_of (get_or rs at d) ≡ None → first_started (slice_range rs at to) ≡ first_started (slice_range rs (at + 1) to)
+starts_later rs at to d l m e = starts_next rs at to d l m ∙ ap (λ (o : Option UnitNumber). option_or o (first_started (slice_range rs (at + 1) to))) e
 
 -- ---- what comes behind them
 
-followed : (Comes Goes : UnitNumber → ℕ → Type 0) (p : Contents) (items : List Seen) (rs : List Role) (place : UnitNumber) (at : ℕ) (us vs : List LduValue) → ((q : UnitNumber) (n : ℕ) → Comes q n → AreUnitsBefore Goes p items rs q n vs) → AreUnitsBefore Comes p items rs place at us → AreUnitsBefore Goes p items rs place at (us ++ vs)
+followed : (Comes Goes : UnitNumber → ℕ → Type 0) (p : Contents) (items : List Seen) (rs : List Role) (place : UnitNumber) (at : ℕ) (us vs : List Plan) → ((q : UnitNumber) (n : ℕ) → Comes q n → ArePlansBefore Goes p items rs q n vs) → ArePlansBefore Comes p items rs place at us → ArePlansBefore Goes p items rs place at (us ++ vs)
 followed Comes Goes p items rs place at [] vs on h = on place at h
-followed Comes Goes p items rs place at (u ∷ us) vs on h = (h.0, followed Comes Goes p items rs (number_after p.codes place u) (group_from rs h.0.from).to us vs on h.1)
+followed Comes Goes p items rs place at (u ∷ us) vs on h = (h.0, followed Comes Goes p items rs (place_past p.codes rs (group_from rs h.0.from) place u.unit) (group_from rs h.0.from).to us vs on h.1)
 
-ended : (Comes Goes : UnitNumber → ℕ → Type 0) (p : Contents) (items : List Seen) (rs : List Role) (place : UnitNumber) (at : ℕ) (us : List LduValue) → ((q : UnitNumber) (n : ℕ) → Comes q n → Goes q n) → AreUnitsBefore Comes p items rs place at us → AreUnitsBefore Goes p items rs place at us
-ended Comes Goes p items rs place at us on h = subst (AreUnitsBefore Goes p items rs place at) (append-nil us) (followed Comes Goes p items rs place at us [] on h)
+ended : (Comes Goes : UnitNumber → ℕ → Type 0) (p : Contents) (items : List Seen) (rs : List Role) (place : UnitNumber) (at : ℕ) (us : List Plan) → ((q : UnitNumber) (n : ℕ) → Comes q n → Goes q n) → ArePlansBefore Comes p items rs place at us → ArePlansBefore Goes p items rs place at us
+ended Comes Goes p items rs place at us on h = subst (ArePlansBefore Goes p items rs place at) (append-nil us) (followed Comes Goes p items rs place at us [] on h)
 
 -- ---- the search
 
-pub searched_none : (p : Contents) (items : List Seen) (rs : List Role) (start place : UnitNumber) (done : List LduValue) → done ≡ [] → place ≡ start → AreSearched p items rs start done place 0
-searched_none p items rs start place done none same = subst (λ (us : List LduValue). AreSearched p items rs start us place 0) (sym none) (record { same = sym same; behind = omega arith; none = λ k l m. absurd (omega arith) })
+pub searched_none : (p : Contents) (items : List Seen) (rs : List Role) (start place : UnitNumber) (done : List Plan) → done ≡ [] → place ≡ start → AreSearched p items rs start done place 0
+searched_none p items rs start place done none same = subst (λ (us : List Plan). AreSearched p items rs start us place 0) (sym none) (record { same = sym same; behind = omega arith; none = λ k l m. absurd (omega arith) })
 
 -- past a word that is no request
-pub searched_free : (p : Contents) (items : List Seen) (rs : List Role) (start place : UnitNumber) (done : List LduValue) (at : ℕ) → wanted (sight_at p.codes (slice_get items at)) ≡ None → AreSearched p items rs start done place at → AreSearched p items rs start done place (at + 1)
+pub searched_free : (p : Contents) (items : List Seen) (rs : List Role) (start place : UnitNumber) (done : List Plan) (at : ℕ) → wanted (sight_at p.codes (slice_get items at)) ≡ None → AreSearched p items rs start done place at → AreSearched p items rs start done place (at + 1)
 searched_free p items rs start place done at w h = ended _ (HasCome p.codes items place (at + 1)) p items rs start 0 done on h
   where
     on : (q : UnitNumber) (n : ℕ) → HasCome p.codes items place at q n → HasCome p.codes items place (at + 1) q n
@@ -74,22 +91,23 @@ group_is rs at g from to = ap (λ (n : ℕ). begun n g.to) from ∙ ap (begun at
     begun from to = record { from = from; to = to }
 
 -- past a group
-pub searched_group : (p : Contents) (items : List Seen) (rs : List Role) (start place next : UnitNumber) (done new : List LduValue) (at wants : ℕ) (g : Group) (u : LduValue) → g.from ≡ at → g.to ≡ at + group_length (drop at rs) → wanted (sight_at p.codes (slice_get items at)) ≡ Some wants → IsMatchedUnit (heard p items) (asked g wants) place u → new ≡ done ++ u ∷ [] → next ≡ number_after p.codes place u → AreSearched p items rs start done place at → AreSearched p items rs start new next g.to
-searched_group p items rs start place next done new at wants g u from to w is pushed after h = subst (λ (us : List LduValue). AreSearched p items rs start us next g.to) (sym pushed) (followed _ (HasCome p.codes items next g.to) p items rs start 0 done (u ∷ []) on h)
+pub searched_group : (p : Contents) (items : List Seen) (rs : List Role) (start place next : UnitNumber) (done new : List Plan) (at wants : ℕ) (g : Group) (plan : Plan) → g.from ≡ at → g.to ≡ at + group_length (drop at rs) → wanted (sight_at p.codes (slice_get items at)) ≡ Some wants → plan.give_ups ≡ give_ups_from place (group_start rs g) → IsMatchedUnit (heard p items) (asked g wants) (place_of p.codes rs g place) plan.unit → new ≡ done ++ plan ∷ [] → next ≡ place_past p.codes rs g place plan.unit → AreSearched p items rs start done place at → AreSearched p items rs start new next g.to
+searched_group p items rs start place next done new at wants g plan from to w gives is pushed after h = subst (λ (us : List Plan). AreSearched p items rs start us next g.to) (sym pushed) (followed _ (HasCome p.codes items next g.to) p items rs start 0 done (plan ∷ []) on h)
   where
     same : g ≡ group_from rs at
     same = group_is rs at g from to
 
-    on : (q : UnitNumber) (n : ℕ) → HasCome p.codes items place at q n → AreUnitsBefore (HasCome p.codes items next g.to) p items rs q n (u ∷ [])
+    on : (q : UnitNumber) (n : ℕ) → HasCome p.codes items place at q n → ArePlansBefore (HasCome p.codes items next g.to) p items rs q n (plan ∷ [])
     on q n c = (
       record {
         from = at;
         wants = wants;
         first = next_request p.codes items place q at n wants w c;
-        is = subst (λ (r : UnitNumber). IsMatchedUnit (heard p items) (asked (group_from rs at) wants) r u) (sym c.same) (subst (λ (x : Group). IsMatchedUnit (heard p items) (asked x wants) place u) same is);
+        give_ups = subst (λ (r : UnitNumber). plan.give_ups ≡ give_ups_from r (group_start rs (group_from rs at))) (sym c.same) (subst (λ (x : Group). plan.give_ups ≡ give_ups_from place (group_start rs x)) same gives);
+        is = subst (λ (r : UnitNumber). IsMatchedUnit (heard p items) (asked (group_from rs at) wants) (place_of p.codes rs (group_from rs at) r) plan.unit) (sym c.same) (subst (λ (x : Group). IsMatchedUnit (heard p items) (asked x wants) (place_of p.codes rs x place) plan.unit) same is);
       },
       record {
-        same = ap (λ (r : UnitNumber). number_after p.codes r u) c.same ∙ sym after;
+        same = ap (λ (r : UnitNumber). place_past p.codes rs (group_from rs at) r plan.unit) c.same ∙ ap (λ (x : Group). place_past p.codes rs x place plan.unit) (sym same) ∙ sym after;
         behind = omega (arith, to);
         none = λ k l m. absurd (omega (arith, to));
       },
@@ -98,7 +116,7 @@ searched_group p items rs start place next done new at wants g u from to w is pu
 -- ---- its end
 
 -- no word is left
-pub searched_all : (p : Contents) (items : List Seen) (rs : List Role) (start place : UnitNumber) (done : List LduValue) (at : ℕ) → length items ≤ at → AreSearched p items rs start done place at → AreUnitsOf p items rs start 0 done
+pub searched_all : (p : Contents) (items : List Seen) (rs : List Role) (start place : UnitNumber) (done : List Plan) (at : ℕ) → length items ≤ at → AreSearched p items rs start done place at → ArePlansOf p items rs start 0 done
 searched_all p items rs start place done at l h = ended _ (λ numbers n. IsNoRequestFrom p.codes items n) p items rs start 0 done on h
   where
     on : (q : UnitNumber) (n : ℕ) → HasCome p.codes items place at q n → IsNoRequestFrom p.codes items n
@@ -108,7 +126,7 @@ searched_all p items rs start place done at l h = ended _ (λ numbers n. IsNoReq
         past k o = ap (λ (s : Option Seen). wanted (sight_at p.codes s)) (slice_get_past items k o)
 
 -- the next group is doubted
-pub searched_doubt : (p : Contents) (items : List Seen) (rs : List Role) (start place : UnitNumber) (done : List LduValue) (at wants i : ℕ) (doubt : Doubt) (g : Group) → g.from ≡ at → g.to ≡ at + group_length (drop at rs) → wanted (sight_at p.codes (slice_get items at)) ≡ Some wants → IsDoubtIn (heard p items) (asked g wants) place i doubt → AreSearched p items rs start done place at → AreUnitsBefore (IsNextDoubt p items rs i doubt) p items rs start 0 done
+pub searched_doubt : (p : Contents) (items : List Seen) (rs : List Role) (start place : UnitNumber) (done : List Plan) (at wants i : ℕ) (doubt : Doubt) (g : Group) → g.from ≡ at → g.to ≡ at + group_length (drop at rs) → wanted (sight_at p.codes (slice_get items at)) ≡ Some wants → IsDoubtIn (heard p items) (asked g wants) (place_of p.codes rs g place) i doubt → AreSearched p items rs start done place at → ArePlansBefore (IsNextDoubt p items rs i doubt) p items rs start 0 done
 searched_doubt p items rs start place done at wants i doubt g from to w is h = ended _ (IsNextDoubt p items rs i doubt) p items rs start 0 done on h
   where
     on : (q : UnitNumber) (n : ℕ) → HasCome p.codes items place at q n → IsNextDoubt p items rs i doubt q n
@@ -116,20 +134,20 @@ searched_doubt p items rs start place done at wants i doubt g from to w is h = e
       from = at;
       wants = wants;
       first = next_request p.codes items place q at n wants w c;
-      is = subst (λ (r : UnitNumber). IsDoubtIn (heard p items) (asked (group_from rs at) wants) r i doubt) (sym c.same) (subst (λ (x : Group). IsDoubtIn (heard p items) (asked x wants) place i doubt) (group_is rs at g from to) is);
+      is = subst (λ (r : UnitNumber). IsDoubtIn (heard p items) (asked (group_from rs at) wants) (place_of p.codes rs (group_from rs at) r) i doubt) (sym c.same) (subst (λ (x : Group). IsDoubtIn (heard p items) (asked x wants) (place_of p.codes rs x place) i doubt) (group_is rs at g from to) is);
     }
 
 -- no group is doubted for its steps
-pub not_replayed : (p : Contents) (items : List Seen) (rs : List Role) (place : UnitNumber) (at i : ℕ) (us : List LduValue) → AreUnitsBefore (IsNextDoubt p items rs i NotReplayed) p items rs place at us → ⊥
+pub not_replayed : (p : Contents) (items : List Seen) (rs : List Role) (place : UnitNumber) (at i : ℕ) (us : List Plan) → ArePlansBefore (IsNextDoubt p items rs i NotReplayed) p items rs place at us → ⊥
 not_replayed p items rs place at i [] h = h.is
-not_replayed p items rs place at i (u ∷ us) h = not_replayed p items rs (number_after p.codes place u) (group_from rs h.0.from).to i us h.1
+not_replayed p items rs place at i (u ∷ us) h = not_replayed p items rs (place_past p.codes rs (group_from rs h.0.from) place u.unit) (group_from rs h.0.from).to i us h.1
 
 -- ---- a recording
 
-pub no_doubt : (p : Contents) (items : List Seen) (rs : List Role) (first : ℕ) (units : List LduValue) → rs ≡ roles (forms_of p.codes items) → first ≡ first_file_of (forms_of p.codes items) → AreUnitsFrom (heard p items) rs first units → HasNoDoubt p items
-no_doubt p items rs first units are from h = record {
-  units = units;
-  are = subst (λ (n : ℕ). AreUnitsFrom (heard p items) (roles (forms_of p.codes items)) n units) from (subst (λ (q : List Role). AreUnitsFrom (heard p items) q first units) are h);
+pub no_doubt : (p : Contents) (items : List Seen) (rs : List Role) (first : ℕ) (plans : List Plan) → rs ≡ roles (forms_of p.codes items) → first ≡ first_file_of (forms_of p.codes items) → ArePlansFrom (heard p items) rs first plans → HasNoDoubt p items
+no_doubt p items rs first plans are from h = record {
+  plans = plans;
+  are = subst (λ (n : ℕ). ArePlansFrom (heard p items) (roles (forms_of p.codes items)) n plans) from (subst (λ (q : List Role). ArePlansFrom (heard p items) q first plans) are h);
 }
 
 pub first_stop : (p : Contents) (items : List Seen) (rs : List Role) (first : ℕ) (stop : Stop) → rs ≡ roles (forms_of p.codes items) → first ≡ first_file_of (forms_of p.codes items) → IsStopFrom (heard p items) rs first stop → IsFirstStop p items stop
@@ -137,7 +155,7 @@ first_stop p items rs first stop are from h = by stop (subst (λ (n : ℕ). IsSt
   where
     by : (s : Stop) → IsGroupStop p items (roles (forms_of p.codes items)) (first_place p items) s → IsFirstStop p items s
     by OutOfMemory h = tt
-    by (Unexplained i NotReplayed) h = absurd (not_replayed p items (roles (forms_of p.codes items)) (first_place p items) 0 i h.units h.are)
+    by (Unexplained i NotReplayed) h = absurd (not_replayed p items (roles (forms_of p.codes items)) (first_place p items) 0 i h.plans h.are)
     by (Unexplained i NeverWhole) h = h
     by (Unexplained i NotOneBlock) h = h
 

@@ -1,5 +1,5 @@
 -- What the scribe has written: its text is one of lines, and each line lists a step of a run.
-use Rattle.std.proofs.Common.{◌≡◌, ℕ, ◌≤◌, ◌==◌, Bool, true, false, List, [], ◌∷◌, ◌++◌, map, Option, Some, None, Result, Ok, Err, OnOk, refl, sym, ap, ◌∙◌, subst, arith, append_assoc, append-nil}
+use Rattle.std.proofs.Common.{◌≡◌, ℕ, zero, suc, ◌≤◌, ◌<◌, ◌==◌, length, if◌then◌else◌, Bool, true, false, ◌||◌, List, [], ◌∷◌, ◌++◌, map, Option, Some, None, Result, Ok, Err, OnOk, refl, sym, ap, ◌∙◌, subst, arith, append_assoc, append-nil}
 use Rattle.std.specs.List.{AllByRecursion}
 use Rattle.std.proofs.lemmas.Bool.{ne_eqb}
 use Rattle.a429_profile.specs.Profile.{Contents}
@@ -10,11 +10,14 @@ use Rattle.a429_link.specs.declared.step.Step.TheVariants as step
 use Rattle.a429_link.specs.declared.state.SourceState.{SourceState}
 use Rattle.a429_link.specs.declared.state.SourceState.TheVariants as source
 use Rattle.a429_link.specs.Link.{LinkValue}
-use Rattle.a429_link.specs.Run.{IsBounded, SentFew, TookFew, trace, with_label}
-use Rattle.a429_link.specs.Sink.{SinkPhase, Quiet, OwesClear, Granted, InBlock, OwesAck, OwesNak}
+use Rattle.a429_link.specs.Run.{IsRun, end_of, IsBounded, SentFew, TookFew, trace, with_label}
+use Rattle.a429_link.specs.Source.{IsIdle}
+use Rattle.a429_link.specs.Sink.{Sink, Listens, SinkPhase, Quiet, OwesClear, Granted, InBlock, OwesAck, OwesNak}
 use Rattle.a429_link.specs.Step.{Can, after, label}
-use Rattle.a429_link.specs.State.{start, State, sink_state_of, states_of}
+use Rattle.a429_link.specs.State.{start, State, IsNonEmpty, sink_state_of, states_of}
+use Rattle.a429_link.specs.declared.number.UnitNumber.{UnitNumber}
 use Rattle.a429_link.proofs.LinkKept.{end_push}
+use Rattle.a429_link.proofs.CleanRuns.{run_split}
 use Rattle.a429_cert.specs.declared.act.Act.{Act}
 use Rattle.a429_cert.specs.declared.act.Act.TheVariants as act
 use Rattle.a429_cert.specs.declared.line.CertLine.{CertLine}
@@ -22,14 +25,23 @@ use Rattle.a429_cert.specs.declared.line.LoadLine.{LoadLine}
 use Rattle.a429_cert.specs.declared.line.CertLine.TheVariants.{First, Load, Moved}
 use Rattle.a429_cert.specs.Line.{spelling, IsLine, IsHeld}
 use Rattle.a429_cert.specs.States.{IsSink, IsSource}
-use Rattle.a429_cert.specs.Lines.{certificate_lines, begun_with, version}
-use Rattle.a429_cert.specs.Explained.{step_of, ShowsStates, ListsSteps, IsExplained}
+use Rattle.a429_cert.specs.declared.version.Version.{Version}
+use Rattle.a429_cert.specs.declared.version.Version.TheVariants.{One, Two}
+use Rattle.a429_cert.specs.Version.{version_line, is_give_up, gives_up, least_version}
+use Rattle.a429_cert.specs.Lines.{certificate_lines, begun_with}
+use Rattle.a429_cert.proofs.VersionFacts.{least_lists}
+use Rattle.a429_explain.specs.Verdict.{HasLeastVersion}
+use Rattle.a429_cert.specs.Explained.{step_of, ShowsStates, ListsSteps, IsExplained, Explains}
 use Rattle.a429_cert.specs.Act.{step_with, letter_of}
 use Rattle.a429_cert.proofs.LineShape.{IsVisible, line-visible}
 use Rattle.a429_cert.proofs.ExplainedFacts.{trace_push, lists_push}
 use Rattle.a429_explain.specs.declared.attempts.Role.{Role}
 use Rattle.a429_explain.specs.declared.attempts.Role.TheVariants.{Request}
-use Rattle.a429_explain.specs.Scribe.{IsLossless, lossless_steps, lines_text, HasWritten, with_next, WritesNext, link_after, CanMake, CanLoad, load_steps, sent, IsAtRest}
+use Rattle.a429_explain.specs.declared.groups.Grouping.{Grouping}
+use Rattle.a429_explain.specs.declared.plan.Plan.{Plan}
+use Rattle.a429_explain.specs.declared.scribe.Scribe.{Scribe}
+use Rattle.a429_explain.specs.Groups.{goes_on}
+use Rattle.a429_explain.specs.Scribe.{IsLossless, lossless_steps, lines_text, in_version, HasWritten, with_next, WritesNext, link_after, CanMake, CanBegin, given_up, begin_steps, sent, IsAtRest, IsClosing, Closes, ClosesOn, HasAsked}
 
 -- ---- the lines of a text
 
@@ -65,14 +77,15 @@ listed_visible p (l ∷ lines) [] s h = absurd h
 listed_visible p (l ∷ lines) (a ∷ steps) s h =
     (subst (AllByRecursion IsVisible) (sym h.0.spelled.spelled) (line-visible h.0.line h.0.spelled.line h.0.spelled.held), listed_visible p lines steps (after p a s) h.1)
 
-version_visible : AllByRecursion IsVisible version
-version_visible = omega arith
+version_visible : (v : Version) → AllByRecursion IsVisible (version_line v)
+version_visible One = omega arith
+version_visible Two = omega arith
 
 -- ---- what is written
 
 -- the first two lines
-pub written_first : (first : ℕ) (p : Contents) (text : List ℕ) (l : LinkValue) → first ≤ 255 → text ≡ lines_text (version ∷ spelling (First first) ∷ []) → l ≡ record { profile = p; state = start p first } → HasWritten first [] text l
-written_first first p text l byte e same = rw same (record { byte = byte; lines = []; steps = []; text_is = e; lists = tt; used = refl; ends = refl })
+pub written_first : (first : ℕ) (p : Contents) (text : List ℕ) (l : LinkValue) → first ≤ 255 → text ≡ lines_text (version_line One ∷ spelling (First first) ∷ []) → l ≡ record { profile = p; state = start p first } → HasWritten first [] text false l
+written_first first p text l byte e same = rw same (record { byte = byte; lines = []; steps = []; text_is = e; lists = tt; used = refl; ends = refl; gave_up_is = refl })
 
 with_trace : (a : Step) (items : List Seen) → items ++ trace (a ∷ []) ≡ with_next (label a) items
 with_trace a items = by (label a)
@@ -81,16 +94,28 @@ with_trace a items = by (label a)
     by None = append-nil items
     by (Some i) = refl
 
+or-false : (b : Bool) → (b || false) ≡ b
+or-false true = refl
+or-false false = refl
+
+or-assoc : (a b c : Bool) → (a || (b || c)) ≡ ((a || b) || c)
+or-assoc true b c = refl
+or-assoc false b c = refl
+
+gives_up-push : (steps : List Step) (a : Step) → gives_up (steps ++ a ∷ []) ≡ (gives_up steps || is_give_up a)
+gives_up-push [] a = or-false (is_give_up a)
+gives_up-push (b ∷ steps) a = ap (λ (t : Bool). is_give_up b || t) (gives_up-push steps a) ∙ or-assoc (is_give_up b) (gives_up steps) (is_give_up a)
+
 -- one more line
-pub written_on : (items : List Seen) (first : ℕ) (text more : List ℕ) (l m : LinkValue) (a : Step) (line : CertLine) (next : Option Seen) → HasWritten first items text l → m ≡ link_after (a ∷ []) l → more ≡ text ++ (spelling line ++ 10 ∷ []) → IsLine line → IsHeld line → step_of line next ≡ Some a → Can l.profile a l.state → ShowsStates line (after l.profile a l.state) → HasWritten first (with_next (label a) items) more m
-written_on items first text more l m a line next h same e is held of can shows =
+pub written_on : (items : List Seen) (first : ℕ) (text more : List ℕ) (gave gives : Bool) (l m : LinkValue) (a : Step) (line : CertLine) (next : Option Seen) → HasWritten first items text gave l → gives ≡ (gave || is_give_up a) → m ≡ link_after (a ∷ []) l → more ≡ text ++ (spelling line ++ 10 ∷ []) → IsLine line → IsHeld line → step_of line next ≡ Some a → Can l.profile a l.state → ShowsStates line (after l.profile a l.state) → HasWritten first (with_next (label a) items) more gives m
+written_on items first text more gave gives l m a line next h given same e is held of can shows =
     let p = l.profile in
     let s = start p first in
-    subst (HasWritten first (with_next (label a) items) more) (sym same) (record {
+    subst (HasWritten first (with_next (label a) items) more gives) (sym same) (record {
       byte = h.byte;
       lines = h.lines ++ spelling line ∷ [];
       steps = h.steps ++ a ∷ [];
-      text_is = e ∙ ap (λ (t : List ℕ). t ++ (spelling line ++ 10 ∷ [])) h.text_is ∙ sym (text_push (version ∷ spelling (First first) ∷ h.lines) (spelling line));
+      text_is = e ∙ ap (λ (t : List ℕ). t ++ (spelling line ++ 10 ∷ [])) h.text_is ∙ sym (text_push (version_line One ∷ spelling (First first) ∷ h.lines) (spelling line));
       lists = subst (λ t. ListsSteps p t (h.steps ++ a ∷ []) s) (sym (ended_push h.lines (spelling line))) (lists_push p (ended h.lines) h.steps s (spelling line) a h.lists (record {
         line = line;
         spelled = record { line = is; held = held; spelled = refl };
@@ -101,25 +126,47 @@ written_on items first text more l m a line next h same e is held of can shows =
       }));
       used = trace_push h.steps a ∙ ap (λ (t : List Seen). t ++ trace (a ∷ [])) h.used ∙ with_trace a items;
       ends = ap (after p a) h.ends ∙ sym (end_push p h.steps a s);
+      gave_up_is = given ∙ ap (λ (t : Bool). t || is_give_up a) h.gave_up_is ∙ sym (gives_up-push h.steps a);
     })
 
--- the text explains the words written, by a run that delivers what the link has delivered
-pub certificate_written : (items : List Seen) (first : ℕ) (text : List ℕ) (l : LinkValue) → HasWritten first items text l → IsExplained l.profile text items l.state.sink.shelf.files
-certificate_written items first text l h =
+-- the text has its first line
+pub written_long : (items : List Seen) (first : ℕ) (text : List ℕ) (gave : Bool) (l : LinkValue) → HasWritten first items text gave l → 14 < length text
+written_long items first text gave l h = rw h.text_is (omega arith)
+
+-- under the first line of its version
+named : (b : Bool) (lines : List (List ℕ)) → in_version b (lines_text (version_line One ∷ lines)) ≡ lines_text (version_line (if b then Two else One) ∷ lines)
+named true lines = refl
+named false lines = refl
+
+explains : (items : List Seen) (first : ℕ) (text : List ℕ) (gave : Bool) (l : LinkValue) → (h : HasWritten first items text gave l) → Explains l.profile (in_version gave text) items first h.steps
+explains items first text gave l h =
     let p = l.profile in
+    let v = least_version h.steps in
     let visible = listed_visible p h.lines h.steps (start p first) h.lists in
+    let text_is : in_version gave text ≡ lines_text (version_line v ∷ spelling (First first) ∷ h.lines) = ap (λ (b : Bool). in_version b text) h.gave_up_is ∙ ap (in_version (gives_up h.steps)) h.text_is ∙ named (gives_up h.steps) (spelling (First first) ∷ h.lines) in
+    record {
+      version = v;
+      lines = ended h.lines;
+      byte = h.byte;
+      header = ap certificate_lines text_is ∙ lines_of_text (version_line v ∷ spelling (First first) ∷ h.lines) (version_visible v, (line-visible (First first) tt (omega (arith, h.byte)), visible));
+      lists = least_lists p (ended h.lines) h.steps (start p first) h.lists;
+      used = h.used;
+    }
+
+-- the text explains the words written, by a run that delivers what the link has delivered
+pub certificate_written : (items : List Seen) (first : ℕ) (text : List ℕ) (gave : Bool) (l : LinkValue) → HasWritten first items text gave l → IsExplained l.profile (in_version gave text) items l.state.sink.shelf.files
+certificate_written items first text gave l h =
     record {
       first = first;
       steps = h.steps;
-      explains = record {
-        lines = ended h.lines;
-        byte = h.byte;
-        header = ap certificate_lines h.text_is ∙ lines_of_text (version ∷ spelling (First first) ∷ h.lines) (version_visible, (line-visible (First first) tt (omega (arith, h.byte)), visible));
-        lists = h.lists;
-        used = h.used;
-      };
+      explains = explains items first text gave l h;
       delivers = ap (λ (s : State). s.sink.shelf.files) h.ends;
     }
+
+-- and is of the least version
+pub version_written : (items : List Seen) (first : ℕ) (text : List ℕ) (gave : Bool) (l : LinkValue) → HasWritten first items text gave l → HasLeastVersion l.profile (in_version gave text) items
+unfolding explains
+version_written items first text gave l h = record { first = first; steps = h.steps; explains = explains items first text gave l h; least = refl }
 
 -- ---- the line of a step
 
@@ -134,7 +181,7 @@ lettered step.LoseAnswer x e = let same : act.LoseAnswer ≡ x = cc in subst (λ
 lettered step.SinkTakes x e = let same : act.SinkTakes ≡ x = cc in subst (λ y. (next : Option Seen) × (step_with y next ≡ Some step.SinkTakes)) same (None, refl)
 lettered step.Silent x e = let same : act.Silent ≡ x = cc in subst (λ y. (next : Option Seen) × (step_with y next ≡ Some step.Silent)) same (None, refl)
 lettered (step.Answered i) x e = let same : act.Answered ≡ x = cc in subst (λ y. (next : Option Seen) × (step_with y next ≡ Some (step.Answered i))) same (Some i, refl)
-lettered step.GiveUp x e = absurd (cc e)
+lettered step.GiveUp x e = let same : act.GiveUp ≡ x = cc in subst (λ y. (next : Option Seen) × (step_with y next ≡ Some step.GiveUp)) same (None, refl)
 lettered (step.FreeSeen i) x e = let same : act.FreeSeen ≡ x = cc in subst (λ y. (next : Option Seen) × (step_with y next ≡ Some (step.FreeSeen i))) same (Some i, refl)
 
 -- the line of a state can be written
@@ -159,40 +206,108 @@ line_is x s b = (source_is s.source.phase b.sent, sink_is s.sink.phase b.took)
     sink_is OwesNak h = tt
 
 -- a step is made, and its line is written
-pub make_written : {X E : Type 0} (r : Result X E) (text more : List ℕ) (l m n : LinkValue) (a : Step) (x : Act) (line : CertLine) → letter_of a ≡ Some x → Can l.profile a l.state → m ≡ link_after (a ∷ []) l → n ≡ m → line ≡ line_at x m.state → IsBounded m.state → OnOk r (more ≡ text ++ (spelling line ++ 10 ∷ [])) → OnOk r (IsHeld line) → OnOk r (WritesNext (label a) text l more n)
-make_written (Err e) text more l m n a x line letter can made same is bounds w h = tt
-make_written (Ok z) text more l m n a x line letter can made same is bounds w h =
+pub make_written : {X E : Type 0} (r : Result X E) (s t : Scribe) (m : LinkValue) (a : Step) (x : Act) (line : CertLine) → letter_of a ≡ Some x → Can s.link.profile a s.link.state → m ≡ link_after (a ∷ []) s.link → t.link ≡ m → t.gave_up ≡ (s.gave_up || is_give_up a) → line ≡ line_at x m.state → IsBounded m.state → OnOk r (t.text.items ≡ s.text.items ++ (spelling line ++ 10 ∷ [])) → OnOk r (IsHeld line) → OnOk r (WritesNext (label a) s t)
+make_written (Err e) s t m a x line letter can made same gives is bounds w h = tt
+make_written (Ok z) s t m a x line letter can made same gives is bounds w h =
     let named = lettered a x letter in
-    λ first items t. written_on items first text more l n a line named.0 t (same ∙ made) w (subst IsLine (sym is) (line_is x m.state bounds)) h
+    λ first items k. written_on items first s.text.items t.text.items s.gave_up t.gave_up s.link t.link a line named.0 k gives (same ∙ made) w (subst IsLine (sym is) (line_is x m.state bounds)) h
     (ap (λ (y : CertLine). step_of y named.0) is ∙ named.1)
     can
-    (subst (λ y. ShowsStates y (after l.profile a l.state)) (sym is) (ap {A = LinkValue} (λ q. states_of q.state) (sym made)))
+    (subst (λ y. ShowsStates y (after s.link.profile a s.link.state)) (sym is) (ap {A = LinkValue} (λ q. states_of q.state) (sym made)))
 
 -- the line of a link data unit
 abbrev pub line_of : LduValue → LoadLine
 line_of u = record { gfi = u.gfi; flags = u.flags; check = u.check; words = u.words }
 
 -- a link data unit is loaded, and its line is written
-pub load_written : {X E : Type 0} (r : Result X E) (text more : List ℕ) (l m n : LinkValue) (u v : LduValue) → u ≡ v → IsLdu l.profile u → Can l.profile (step.Load u) l.state → m ≡ link_after (step.Load u ∷ []) l → n ≡ m → OnOk r (more ≡ text ++ (spelling (Load (line_of v)) ++ 10 ∷ [])) → OnOk r (IsHeld (Load (line_of v))) → OnOk r (WritesNext None text l more n)
-load_written (Err e) text more l m n u v eu is can made same w h = tt
-load_written (Ok z) text more l m n u v eu is can made same w h =
-    λ first items t. written_on items first text more l n (step.Load u) (Load (line_of v)) None t (same ∙ made) w (subst (λ (x : LduValue). IsLine (Load (line_of x))) eu (is.gfi, is.flags, is.length.0, is.length.1)) h (ap (λ (x : LduValue). Some (step.Load x)) (sym eu)) can tt
+pub load_written : {X E : Type 0} (r : Result X E) (s t : Scribe) (m : LinkValue) (u v : LduValue) → u ≡ v → IsLdu s.link.profile u → Can s.link.profile (step.Load u) s.link.state → m ≡ link_after (step.Load u ∷ []) s.link → t.link ≡ m → t.gave_up ≡ s.gave_up → OnOk r (t.text.items ≡ s.text.items ++ (spelling (Load (line_of v)) ++ 10 ∷ [])) → OnOk r (IsHeld (Load (line_of v))) → OnOk r (WritesNext None s t)
+load_written (Err e) s t m u v eu is can made same gives w h = tt
+load_written (Ok z) s t m u v eu is can made same gives w h =
+    λ first items k. written_on items first s.text.items t.text.items s.gave_up t.gave_up s.link t.link (step.Load u) (Load (line_of v)) None k (gives ∙ sym (or-false s.gave_up)) (same ∙ made) w (subst (λ (x : LduValue). IsLine (Load (line_of x))) eu (is.gfi, is.flags, is.length.0, is.length.1)) h (ap (λ (x : LduValue). Some (step.Load x)) (sym eu)) can tt
+
+-- ---- files given up
+
+idle_first : (p : Contents) (n : ℕ) (u : LduValue) (s : State) → IsRun p (given_up n ++ step.Load u ∷ []) s → IsIdle s.source.phase
+idle_first p zero u s h = h.0.0
+idle_first p (suc n) u s h = h.0.0
+
+-- the sink knows nothing of them
+sink_stays : (p : Contents) (n : ℕ) (u : LduValue) (s : State) → (end_of p (given_up n ++ step.Load u ∷ []) s).sink ≡ s.sink
+sink_stays p zero u s = refl
+sink_stays p (suc n) u s = sink_stays p n u (after p step.GiveUp s)
+
+end_both : (p : Contents) (xs ys : List Step) (s : State) → end_of p (xs ++ ys) s ≡ end_of p ys (end_of p xs s)
+end_both p [] ys s = refl
+end_both p (x ∷ xs) ys s = end_both p xs ys (after p x s)
+
+-- the first plan can be carried out where its steps can be made
+pub plan_can : (goes : Bool) (plans left : List Plan) (plan : Plan) (l : LinkValue) → goes ≡ false → plans ≡ plan ∷ left → CanBegin goes plans l → CanMake (given_up plan.give_ups) l × Can l.profile (step.Load plan.unit) (link_after (given_up plan.give_ups) l).state
+plan_can true plans left plan l e first can = absurd (cc e)
+plan_can false plans left plan l e first can =
+    let parts = run_split l.profile (given_up plan.give_ups) (step.Load plan.unit ∷ []) l.state (subst (λ (ps : List Plan). CanBegin false ps l) first can) in
+    (parts.0, parts.1.0)
+
+-- they are its steps
+pub plan_made : (goes : Bool) (plans left : List Plan) (plan : Plan) (l : LinkValue) → goes ≡ false → plans ≡ plan ∷ left → link_after (step.Load plan.unit ∷ []) (link_after (given_up plan.give_ups) l) ≡ link_after (begin_steps goes plans) l
+plan_made true plans left plan l e first = absurd (cc e)
+plan_made false plans left plan l e first =
+    ap (λ (s : State). record l { state = s }) (sym (end_both l.profile (given_up plan.give_ups) (step.Load plan.unit ∷ []) l.state))
+    ∙ ap (λ (ps : List Plan). link_after (begin_steps false ps) l) (sym first)
 
 -- ---- a request that nothing is lost before
 
-pub record Asks (r : Role) (i : Seen) (loaded : Bool) (units : List LduValue) (l : LinkValue) : Type 0 where
+pub record Asks (r : Role) (i : Seen) (goes : Bool) (plans : List Plan) (l : LinkValue) : Type 0 where
   pub rests : IsAtRest l
-  pub can : CanLoad loaded units l
-  pub sends : CanMake (sent i) (link_after (load_steps loaded units) l)
-  pub leads : link_after (lossless_steps r i units) l ≡ link_after (sent i) (link_after (load_steps loaded units) l)
+  pub can : CanBegin goes plans l
+  pub sends : CanMake (sent i) (link_after (begin_steps goes plans) l)
+  pub leads : link_after (lossless_steps r i plans) l ≡ link_after (sent i) (link_after (begin_steps goes plans) l)
 
-pub asks_parts : (r : Role) (n : ℕ) (i : Seen) (loaded : Bool) (units : List LduValue) (l : LinkValue) → r ≡ Request n → IsLossless r loaded units → CanMake (lossless_steps r i units) l → Asks r i loaded units l
-asks_parts r n i loaded units l e h run = subst (λ q. Asks q i loaded units l) (sym e) (by loaded units (subst (λ q. IsLossless q loaded units) e h) (subst (λ q. CanMake (lossless_steps q i units) l) e run))
+pub asks_parts : (r : Role) (n : ℕ) (start : Option UnitNumber) (i : Seen) (g : Grouping) (goes : Bool) (plans : List Plan) (l : LinkValue) → r ≡ Request n start → goes ≡ goes_on g r → IsLossless r g plans → CanMake (lossless_steps r i plans) l → Asks r i goes plans l
+asks_parts r n start i g goes plans l e eg h run = subst (λ q. Asks q i goes plans l) (sym e) (subst (λ (t : Bool). Asks (Request n start) i t plans l) (sym (eg ∙ ap (goes_on g) e ∙ fresh.0)) (by plans fresh.1 (subst (λ q. CanMake (lossless_steps q i plans) l) e run)))
   where
-    by : (t : Bool) (us : List LduValue) → IsLossless (Request n) t us → CanMake (lossless_steps (Request n) i us) l → Asks (Request n) i t us l
-    by true us g q = absurd (let fresh = g.0 in cc fresh)
-    by false [] g q = absurd g.1
-    by false (u ∷ us) g q = record { rests = (q.0.0, q.1.1.0.1); can = q.0; sends = q.1; leads = refl }
+    fresh : IsLossless (Request n start) g plans
+    fresh = subst (λ q. IsLossless q g plans) e h
+
+    by : (ps : List Plan) → IsNonEmpty ps → CanMake (lossless_steps (Request n start) i ps) l → Asks (Request n start) i false ps l
+    by [] f q = absurd f
+    by (plan ∷ ps) f q =
+        let begin = begin_steps false (plan ∷ ps) in
+        let parts = run_split l.profile begin (sent i) l.state q in
+        record {
+          rests = (idle_first l.profile plan.give_ups plan.unit l.state parts.0, subst (λ (k : Sink). Listens k.phase) (sink_stays l.profile plan.give_ups plan.unit l.state) parts.1.1.0.1);
+          can = parts.0;
+          sends = parts.1;
+          leads = ap (λ (s : State). record l { state = s }) (end_both l.profile begin (sent i) l.state);
+        }
+
+-- ---- a request, whatever was lost before it
+
+all_push : (steps : List Step) (a : Step) → AllByRecursion IsClosing steps → IsClosing a → AllByRecursion IsClosing (steps ++ a ∷ [])
+all_push [] a h k = (k, tt)
+all_push (b ∷ steps) a h k = (h.0, all_push steps a h.1 k)
+
+pub closes_none : (l : LinkValue) → Closes l l
+closes_none l = record { steps = []; closing = tt; leads = refl }
+
+pub closes_on : {X E : Type 0} (r : Result X E) (l m : LinkValue) (a : Step) → m ≡ link_after (a ∷ []) l → IsClosing a → OnOk r (ClosesOn l m)
+closes_on (Err e) l m a made h = tt
+closes_on (Ok x) l m a made h = λ k c. record {
+  steps = c.steps ++ a ∷ [];
+  closing = all_push c.steps a c.closing h;
+  leads = made ∙ ap (link_after (a ∷ [])) c.leads ∙ ap (λ (s : State). record k { state = s }) (sym (end_both k.profile c.steps (a ∷ []) k.state));
+}
+
+pub has_asked : {X E : Type 0} (r : Result X E) (role : Role) (n : ℕ) (start : Option UnitNumber) (i : Seen) (g : Grouping) (goes : Bool) (plans : List Plan) (l closed begun m : LinkValue) → role ≡ Request n start → goes ≡ goes_on g role → Closes l closed → begun ≡ link_after (begin_steps goes plans) closed → OnOk r (m ≡ link_after (sent i) begun) → OnOk r (HasAsked role i g plans l m)
+has_asked (Err e) role n start i g goes plans l closed begun m is eg closes b h = tt
+has_asked (Ok x) role n start i g goes plans l closed begun m is eg closes b h =
+    let begin = begin_steps (goes_on g (Request n start)) plans in
+    let same : goes ≡ goes_on g (Request n start) = eg ∙ ap (goes_on g) is in
+    subst (λ (q : Role). HasAsked q i g plans l m) (sym is) (
+      closed,
+      closes,
+      h ∙ ap (link_after (sent i)) (b ∙ ap (λ (t : Bool). link_after (begin_steps t plans) closed) same)
+          ∙ ap (λ (s : State). record closed { state = s }) (sym (end_both closed.profile begin (sent i) closed.state)),
+    )
 
 pub on_ok : {X E : Type 0} {A B : Type 0} (r : Result X E) → OnOk r A → (A → B) → OnOk r B
 on_ok (Ok x) a f = f a

@@ -5,7 +5,7 @@ use Rattle.a429_word.specs.declared.bus.Bus.{Bus}
 use Rattle.a429_profile.specs.declared.codes.Codes.{Codes}
 use Rattle.a429_profile.specs.Profile.{Contents}
 use Rattle.a429_ldu.specs.declared.forms.Form.{Form}
-use Rattle.a429_ldu.specs.declared.forms.Form.TheVariants.{Sot}
+use Rattle.a429_ldu.specs.declared.forms.Form.TheVariants.{Rts, Sot}
 use Rattle.a429_ldu.specs.declared.sight.Sight.TheVariants as sight
 use Rattle.a429_ldu.specs.Form.{form_of, is_free}
 use Rattle.a429_ldu.specs.Sight.{sight_of, sight_in}
@@ -13,7 +13,7 @@ use Rattle.a429_ldu.specs.Ldu.{LduValue, count_of}
 use Rattle.a429_link.specs.declared.seen.Seen.{Seen}
 use Rattle.a429_link.specs.Clean.{without_free}
 use Rattle.a429_link.specs.declared.number.UnitNumber.{UnitNumber}
-use Rattle.a429_explain.specs.Attempts.{next_start}
+use Rattle.a429_explain.specs.Attempts.{attempt_start, next_start}
 use Rattle.a429_explain.specs.Heard.{forms_of}
 use Rattle.a429_explain.specs.Matching.{is_word, passed_with, passing_as, passed_after}
 use Rattle.a429_explain.specs.Whole.{Recorded, gathered_with, ended_by, first_whole, wanted, is_other, other_request}
@@ -69,6 +69,25 @@ next_start-thin c (i ∷ items) = by (is_free c i.bus i.word) refl (next_start-t
     by : (t : Bool) → is_free c i.bus i.word ≡ t → next_start (forms_of c (without_free c items)) ≡ next_start (forms_of c items) → next_start (forms_of c (cond t (without_free c items) (i ∷ without_free c items))) ≡ next_start (forms_of c (i ∷ items))
     by true e more = more ∙ sym (next_start-none (form_of c i.bus i.word) (forms_of c items) (free_none c i.bus i.word e))
     by false e more = next_start-cons (form_of c i.bus i.word) (forms_of c (without_free c items)) (forms_of c items) more
+
+-- ---- the start word of an attempt
+
+attempt_start-cons : (o : Option Form) (xs ys : List (Option Form)) → attempt_start xs ≡ attempt_start ys → attempt_start (o ∷ xs) ≡ attempt_start (o ∷ ys)
+attempt_start-cons (Some (Sot g f l)) xs ys e = refl
+attempt_start-cons (Some (Rts n)) xs ys e = refl
+attempt_start-cons _ xs ys e = e
+
+attempt_start-none : (o : Option Form) (xs : List (Option Form)) → o ≡ None → attempt_start (o ∷ xs) ≡ attempt_start xs
+attempt_start-none None xs e = refl
+attempt_start-none (Some x) xs e = absurd (cc e)
+
+pub attempt_start-thin : (c : Codes) (items : List Seen) → attempt_start (forms_of c (without_free c items)) ≡ attempt_start (forms_of c items)
+attempt_start-thin c [] = refl
+attempt_start-thin c (i ∷ items) = by (is_free c i.bus i.word) refl (attempt_start-thin c items)
+  where
+    by : (t : Bool) → is_free c i.bus i.word ≡ t → attempt_start (forms_of c (without_free c items)) ≡ attempt_start (forms_of c items) → attempt_start (forms_of c (cond t (without_free c items) (i ∷ without_free c items))) ≡ attempt_start (forms_of c (i ∷ items))
+    by true e more = more ∙ sym (attempt_start-none (form_of c i.bus i.word) (forms_of c items) (free_none c i.bus i.word e))
+    by false e more = attempt_start-cons (form_of c i.bus i.word) (forms_of c (without_free c items)) (forms_of c items) more
 
 -- ---- requests
 

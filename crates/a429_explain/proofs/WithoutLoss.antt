@@ -23,6 +23,10 @@ use Rattle.a429_link.specs.Link.{LinkValue}
 use Rattle.a429_link.specs.State.{start}
 use Rattle.a429_link.specs.declared.fault.StepFault.{StepFault}
 use Rattle.a429_link.specs.declared.fault.StepFault.TheVariants as step
+use Rattle.a429_explain.specs.declared.groups.Grouping.{Grouping}
+use Rattle.a429_explain.specs.declared.groups.Grouping.TheVariants.{Between}
+use Rattle.a429_explain.specs.declared.plan.Plan.{Plan}
+use Rattle.a429_explain.specs.Plan.{plain}
 use Rattle.a429_explain.specs.declared.stop.Stop.{Stop}
 use Rattle.a429_explain.specs.declared.stop.Stop.TheVariants.{Unexplained, OutOfMemory}
 use Rattle.a429_explain.specs.declared.verdict.Doubt.TheVariants.{NotReplayed}
@@ -74,8 +78,8 @@ pub units_found : (p : Contents) → IsProfile p → (items : List Seen) (h : Is
 units_found p is items h first e = rw e (record { fit = units_fit p is items h (first_file_of (forms_of p.codes items)); words = clean_from_first p is h.crossing.first (its_units p items h) items h.can.byte (units_fit p is items h h.crossing.first) h.words })
 
 -- a recording without loss is on plan at its start
-pub plan_begun : (p : Contents) → IsProfile p → (items : List Seen) (h : IsWithoutLoss p items) (first : ℕ) (units : List LduValue) (loaded : Bool) (l : LinkValue) → first ≤ 255 → first ≡ first_file_of (forms_of p.codes items) → units ≡ its_units p items h → loaded ≡ false → l ≡ record { profile = p; state = start p first } → OnPlan p items units loaded l
-plan_begun p is items h first units loaded l byte e eu el same = rw eu (rw el (plan_starts p is (its_units p items h) items first l byte (units_fit p is items h first) (units_found p is items h first e).words same))
+pub plan_begun : (p : Contents) → IsProfile p → (items : List Seen) (h : IsWithoutLoss p items) (first : ℕ) (plans : List Plan) (stands : Grouping) (l : LinkValue) → first ≤ 255 → first ≡ first_file_of (forms_of p.codes items) → plans ≡ map plain (its_units p items h) → stands ≡ Between → l ≡ record { profile = p; state = start p first } → OnPlan p items plans stands l
+plan_begun p is items h first plans stands l byte e eu el same = rw eu (rw el (plan_starts p is (its_units p items h) items first l byte (units_fit p is items h first) (units_found p is items h first e).words same))
 
 -- a run's trace begins with any number of its words
 pub begins : (p : Contents) → IsProfile p → (items : List Seen) (n : ℕ) → IsWithoutLoss p items → BeginsARun p (take n items)

@@ -23,6 +23,13 @@ next_start [] = None
 next_start (Some (Sot gfi file ldu) ∷ more) = Some (record { file = file; ldu = ldu })
 next_start (_ ∷ more) = next_start more
 
+-- the numbers of the first start word that is recorded before the next request
+abbrev pub attempt_start : List (Option Form) → Option UnitNumber
+attempt_start [] = None
+attempt_start (Some (Rts n) ∷ more) = None
+attempt_start (Some (Sot gfi file ldu) ∷ more) = Some (record { file = file; ldu = ldu })
+attempt_start (_ ∷ more) = attempt_start more
+
 abbrev pub are_numbers : Option UnitNumber → ℕ → ℕ → Bool
 are_numbers None file ldu = false
 are_numbers (Some n) file ldu = (n.file == file) && (n.ldu == ldu)
@@ -30,7 +37,7 @@ are_numbers (Some n) file ldu = (n.file == file) && (n.ldu == ldu)
 -- what a word is, where these come after it: an acknowledgement ends its group, unless its link data unit starts again
 abbrev pub role_of : Option Form → List (Option Form) → Role
 role_of None more = role.Free
-role_of (Some (Rts n)) more = role.Request n
+role_of (Some (Rts n)) more = role.Request n (attempt_start more)
 role_of (Some (Cts n)) more = role.Clear (sends_block more)
 role_of (Some (Ack file ldu)) more = role.Acknowledged (not (are_numbers (next_start more) file ldu))
 role_of (Some (Nak bits)) more = role.Refused
@@ -45,4 +52,5 @@ roles (x ∷ more) = role_of x more ∷ roles more
 -- what the pass from the last entry to the first keeps
 pub record IsAhead (more : List (Option Form)) (ahead : Ahead) : Type 0 where
   pub sends_is : ahead.sends_block ≡ sends_block more
+  pub attempt_is : ahead.attempt ≡ attempt_start more
   pub start_is : ahead.start ≡ next_start more

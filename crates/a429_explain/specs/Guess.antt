@@ -1,4 +1,4 @@
--- The link data units of a recording's groups, and the first doubt (profile).
+-- What the source does before each group of a recording, and the first doubt (profile).
 use Rattle.std.specs.Prelude.{◌≡◌, ℕ, ◌≤◌, ◌<◌, Option, Some, None, List, [], ◌∷◌, slice_get}
 use Rattle.a429_profile.specs.declared.codes.Codes.{Codes}
 use Rattle.a429_profile.specs.Profile.{Contents}
@@ -8,6 +8,7 @@ use Rattle.a429_ldu.specs.Ldu.{LduValue}
 use Rattle.a429_link.specs.Clean.{AllFit, without_free, clean_blocks}
 use Rattle.a429_link.specs.declared.seen.Seen.{Seen}
 use Rattle.a429_explain.specs.declared.attempts.Role.{Role}
+use Rattle.a429_explain.specs.declared.groups.Group.{Group}
 use Rattle.a429_explain.specs.declared.groups.Request.{Request}
 use Rattle.a429_link.specs.declared.number.UnitNumber.{UnitNumber}
 use Rattle.a429_explain.specs.declared.stop.Stop.{Stop}
@@ -16,9 +17,11 @@ use Rattle.a429_explain.specs.declared.verdict.Doubt.{Doubt}
 use Rattle.a429_explain.specs.declared.verdict.Doubt.TheVariants.{NotReplayed}
 use Rattle.a429_explain.specs.Attempts.{next_start, roles}
 use Rattle.a429_explain.specs.Block.{IsMatchedUnit, IsDoubtIn}
-use Rattle.a429_explain.specs.Groups.{group_from}
+use Rattle.a429_explain.specs.Groups.{group_from, group_start, is_settled}
 use Rattle.a429_explain.specs.Heard.{HeardValue, sight_at, forms_of}
-use Rattle.a429_link.specs.Number.{number_after, first_number}
+use Rattle.a429_link.specs.Number.{first_number}
+use Rattle.a429_explain.specs.declared.plan.Plan.{Plan}
+use Rattle.a429_explain.specs.Plan.{place_from, give_ups_from, place_behind}
 use Rattle.a429_explain.specs.Whole.{wanted}
 
 -- ---- the first numbers
@@ -36,11 +39,11 @@ file_of (Some n) = n.file
 abbrev pub first_file_of : List (Option Form) → ℕ
 first_file_of forms = file_of (next_start forms)
 
--- the number of the first group: that of the first unit of the first start word's file, or of file 0
+-- the source begins with the first link data unit of the first start word's file, or of file 0
 abbrev pub first_place : Contents → List Seen → UnitNumber
 first_place p items = first_number p.codes (first_file_of (forms_of p.codes items))
 
--- ---- link data units
+-- ---- plans
 
 -- the first request from place `at` on stands here
 pub record IsFirstRequest (c : Codes) (items : List Seen) (at from wants : ℕ) : Type 0 where
@@ -60,26 +63,37 @@ heard p items = record { profile = p; items = items }
 abbrev pub request_at : List Role → ℕ → ℕ → Request
 request_at rs from wants = record { group = group_from rs from; count = wants }
 
--- the link data unit of the first group from place `at` on
-pub record IsNextUnit (p : Contents) (items : List Seen) (rs : List Role) (place : UnitNumber) (at : ℕ) (u : LduValue) : Type 0 where
+-- the numbers of a group, where the source comes to it with those of `place`
+abbrev pub place_of : Codes → List Role → Group → UnitNumber → UnitNumber
+place_of c rs g place = place_from c place (group_start rs g)
+
+-- those with which it leaves the group, where this is its link data unit
+abbrev pub place_past : Codes → List Role → Group → UnitNumber → LduValue → UnitNumber
+place_past c rs g place u = place_behind c (place_of c rs g place) u (is_settled rs g)
+
+-- the plan of the first group from place `at` on: the files that are given up before it, and its link data unit
+pub record IsNextPlan (p : Contents) (items : List Seen) (rs : List Role) (place : UnitNumber) (at : ℕ) (plan : Plan) : Type 0 where
   pub from : ℕ
   pub wants : ℕ
   pub first : IsFirstRequest p.codes items at from wants
-  pub is : IsMatchedUnit (heard p items) (request_at rs from wants) place u
+  pub give_ups : plan.give_ups ≡ give_ups_from place (group_start rs (group_from rs from))
+  pub is : IsMatchedUnit (heard p items) (request_at rs from wants) (place_of p.codes rs (group_from rs from) place) plan.unit
 
--- the first groups from place `at` on, the first of them under these numbers, give these link data units; behind them this
--- comes, at the numbers and the place that follow
-abbrev pub AreUnitsBefore : (UnitNumber → ℕ → Type 0) → Contents → List Seen → List Role → UnitNumber → ℕ → List LduValue → Type 0
-AreUnitsBefore Comes p items rs place at [] = Comes place at
-AreUnitsBefore Comes p items rs place at (u ∷ us) = (next : IsNextUnit p items rs place at u) × AreUnitsBefore Comes p items rs (number_after p.codes place u) (group_from rs next.from).to us
+-- the first groups from place `at` on, to the first of which the source comes with these numbers, have these plans; behind
+-- them this comes, at the numbers and the place that follow
+abbrev pub ArePlansBefore : (UnitNumber → ℕ → Type 0) → Contents → List Seen → List Role → UnitNumber → ℕ → List Plan → Type 0
+ArePlansBefore Comes p items rs place at [] = Comes place at
+ArePlansBefore Comes p items rs place at (plan ∷ plans) =
+    (next : IsNextPlan p items rs place at plan)
+    × ArePlansBefore Comes p items rs (place_past p.codes rs (group_from rs next.from) place plan.unit) (group_from rs next.from).to plans
 
--- all groups from place `at` on do
-abbrev pub AreUnitsOf : Contents → List Seen → List Role → UnitNumber → ℕ → List LduValue → Type 0
-AreUnitsOf p items rs place at us = AreUnitsBefore (λ numbers n. IsNoRequestFrom p.codes items n) p items rs place at us
+-- all groups from place `at` on have
+abbrev pub ArePlansOf : Contents → List Seen → List Role → UnitNumber → ℕ → List Plan → Type 0
+ArePlansOf p items rs place at plans = ArePlansBefore (λ numbers n. IsNoRequestFrom p.codes items n) p items rs place at plans
 
--- all groups do, the first of them being that of the first link data unit of this file
-abbrev pub AreUnitsFrom : HeardValue → List Role → ℕ → List LduValue → Type 0
-AreUnitsFrom h rs first us = AreUnitsOf h.profile h.items rs (first_number h.profile.codes first) 0 us
+-- all groups have, where the source begins with the first link data unit of this file
+abbrev pub ArePlansFrom : HeardValue → List Role → ℕ → List Plan → Type 0
+ArePlansFrom h rs first plans = ArePlansOf h.profile h.items rs (first_number h.profile.codes first) 0 plans
 
 -- ---- doubts
 
@@ -88,18 +102,18 @@ pub record IsNextDoubt (p : Contents) (items : List Seen) (rs : List Role) (i : 
   pub from : ℕ
   pub wants : ℕ
   pub first : IsFirstRequest p.codes items at from wants
-  pub is : IsDoubtIn (heard p items) (request_at rs from wants) place i doubt
+  pub is : IsDoubtIn (heard p items) (request_at rs from wants) (place_of p.codes rs (group_from rs from) place) i doubt
 
 -- the groups before it pass their tests, and this group does not
 pub record IsFirstDoubt (p : Contents) (items : List Seen) (rs : List Role) (place : UnitNumber) (i : ℕ) (doubt : Doubt) : Type 0 where
-  pub units : List LduValue
-  pub are : AreUnitsBefore (IsNextDoubt p items rs i doubt) p items rs place 0 units
+  pub plans : List Plan
+  pub are : ArePlansBefore (IsNextDoubt p items rs i doubt) p items rs place 0 plans
 
 abbrev pub IsGroupStop : Contents → List Seen → List Role → UnitNumber → Stop → Type 0
 IsGroupStop p items rs place (Unexplained i doubt) = IsFirstDoubt p items rs place i doubt
 IsGroupStop p items rs place OutOfMemory = Unit {0}
 
--- the same, where the first group is that of the first link data unit of this file
+-- the same, where the source begins with the first link data unit of this file
 abbrev pub IsStopFrom : HeardValue → List Role → ℕ → Stop → Type 0
 IsStopFrom h rs first stop = IsGroupStop h.profile h.items rs (first_number h.profile.codes first) stop
 
@@ -110,8 +124,8 @@ HasFirstDoubt p items = IsFirstDoubt p items (roles (forms_of p.codes items)) (f
 
 -- each group passes its tests
 pub record HasNoDoubt (p : Contents) (items : List Seen) : Type 0 where
-  pub units : List LduValue
-  pub are : AreUnitsOf p items (roles (forms_of p.codes items)) (first_place p items) 0 units
+  pub plans : List Plan
+  pub are : ArePlansOf p items (roles (forms_of p.codes items)) (first_place p items) 0 plans
 
 -- the doubts of all groups come before those of the steps
 abbrev pub IsFirstStop : Contents → List Seen → Stop → Type 0

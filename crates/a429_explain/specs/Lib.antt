@@ -5,6 +5,7 @@ pub mod Stop
 pub mod Verdict
 pub mod Groups
 pub mod Matching
+pub mod Plan
 pub mod Scribe
 pub mod WithoutLoss
 pub mod Whole

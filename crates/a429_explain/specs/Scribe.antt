@@ -1,8 +1,7 @@
 -- What the scribe writes: the text of a certificate, line by line, and the steps of each entry where nothing is lost on
 -- the way (profile).
-use Rattle.std.specs.Prelude.{◌≡◌, ◌≤◌, ℕ, Bool, true, false, if◌then◌else◌, List, [], ◌∷◌, ◌++◌, map, Option, Some, None, Result, IfErr, OnOk}
-use Rattle.a429_profile.specs.Profile.{Contents}
-use Rattle.a429_ldu.specs.Ldu.{LduValue, IsLdu}
+use Rattle.std.specs.Prelude.{◌≡◌, ◌≤◌, ℕ, Bool, true, false, List, [], ◌∷◌, ◌++◌, if◌then◌else◌, map, replicate, slice_set, Option, Some, None, Result, IfErr, OnOk}
+use Rattle.std.specs.List.{AllByRecursion}
 use Rattle.a429_link.specs.declared.seen.Seen.{Seen}
 use Rattle.a429_link.specs.declared.step.Step.{Step}
 use Rattle.a429_link.specs.declared.step.Step.TheVariants as step
@@ -10,21 +9,20 @@ use Rattle.a429_link.specs.declared.fault.StepFault.{StepFault}
 use Rattle.a429_link.specs.declared.fault.StepFault.TheVariants.{OutOfMemory}
 use Rattle.a429_link.specs.Sink.{Listens}
 use Rattle.a429_link.specs.Source.{IsIdle}
-use Rattle.a429_link.specs.Step.{Can}
 use Rattle.a429_link.specs.State.{rest, IsNonEmpty, start}
 use Rattle.a429_link.specs.Run.{IsRun, end_of, trace}
 use Rattle.a429_link.specs.Link.{LinkValue}
 use Rattle.a429_cert.specs.declared.line.CertLine.TheVariants.{First}
 use Rattle.a429_cert.specs.Line.{spelling}
-use Rattle.a429_cert.specs.Lines.{version}
+use Rattle.a429_cert.specs.declared.version.Version.TheVariants.{One}
+use Rattle.a429_cert.specs.Version.{version_line, gives_up}
 use Rattle.a429_cert.specs.Explained.{ListsSteps}
 use Rattle.a429_explain.specs.declared.attempts.Role.{Role}
 use Rattle.a429_explain.specs.declared.attempts.Role.TheVariants.{Free, Request, Clear, OfBlock, Acknowledged}
-
--- each link data unit is one of the profile
-abbrev pub AreUnits : Contents → List LduValue → Type 0
-AreUnits p [] = Unit {0}
-AreUnits p (u ∷ us) = IsLdu p u × AreUnits p us
+use Rattle.a429_explain.specs.declared.groups.Grouping.{Grouping}
+use Rattle.a429_explain.specs.declared.plan.Plan.{Plan}
+use Rattle.a429_explain.specs.declared.scribe.Scribe.{Scribe}
+use Rattle.a429_explain.specs.Groups.{goes_on}
 
 -- ---- the text
 
@@ -33,24 +31,34 @@ abbrev pub lines_text : List (List ℕ) → List ℕ
 lines_text [] = []
 lines_text (line ∷ lines) = line ++ 10 ∷ lines_text lines
 
--- the text is a certificate of a run that records these words and leads to the link's state
-pub record HasWritten (first : ℕ) (items : List Seen) (text : List ℕ) (l : LinkValue) : Type 0 where
+-- a text that begins with the first line of version 1, and with that of version 2 where a file is given up
+abbrev pub in_version : Bool → List ℕ → List ℕ
+in_version gave_up text = if gave_up then slice_set text 14 50 else text
+
+-- the text is a certificate of a run that records these words and leads to the link's state, save that its first line is
+-- that of version 1, and `gave_up` says whether it gives a file up
+pub record HasWritten (first : ℕ) (items : List Seen) (text : List ℕ) (gave_up : Bool) (l : LinkValue) : Type 0 where
   pub byte : first ≤ 255
   pub lines : List (List ℕ)
   pub steps : List Step
-  pub text_is : text ≡ lines_text (version ∷ spelling (First first) ∷ lines)
+  pub text_is : text ≡ lines_text (version_line One ∷ spelling (First first) ∷ lines)
   pub lists : ListsSteps l.profile (map (λ line. Some line) lines) steps (start l.profile first)
   pub used : trace steps ≡ items
   pub ends : l.state ≡ end_of l.profile steps (start l.profile first)
+  pub gave_up_is : gave_up ≡ gives_up steps
 
 -- words, and one behind them where there is one
 abbrev pub with_next : Option Seen → List Seen → List Seen
 with_next None items = items
 with_next (Some i) items = items ++ i ∷ []
 
+-- a scribe has written a certificate of these words
+abbrev pub Wrote : ℕ → List Seen → Scribe → Type 0
+Wrote first items s = HasWritten first items s.text.items s.gave_up s.link
+
 -- where some words were written, one more is now where there is one
-abbrev pub WritesNext : Option Seen → List ℕ → LinkValue → List ℕ → LinkValue → Type 0
-WritesNext next text l more m = (first : ℕ) (items : List Seen) → HasWritten first items text l → HasWritten first (with_next next items) more m
+abbrev pub WritesNext : Option Seen → Scribe → Scribe → Type 0
+WritesNext next s t = (first : ℕ) (items : List Seen) → Wrote first items s → Wrote first (with_next next items) t
 
 -- the link after these steps
 abbrev pub link_after : List Step → LinkValue → LinkValue
@@ -76,55 +84,76 @@ answered i = step.Answered i ∷ (step.TakeAnswer ∷ [])
 abbrev pub IsAtRest : LinkValue → Type 0
 IsAtRest l = IsIdle l.state.source.phase × Listens l.state.sink.phase
 
--- ---- the link data unit of a request: the source is given the next one, where it has none
+-- ---- the first request of a group: the source gives up the files of the next plan, and is given its link data unit
 
-abbrev pub load_steps : Bool → List LduValue → List Step
-load_steps true units = []
-load_steps false [] = []
-load_steps false (u ∷ units) = step.Load u ∷ []
+abbrev pub given_up : ℕ → List Step
+given_up files = replicate files step.GiveUp
 
-abbrev pub CanLoad : Bool → List LduValue → LinkValue → Type 0
-CanLoad true units l = Unit {0}
-CanLoad false [] l = ⊥
-CanLoad false (u ∷ units) l = Can l.profile (step.Load u) l.state
+abbrev pub begin_steps : Bool → List Plan → List Step
+begin_steps true plans = []
+begin_steps false [] = []
+begin_steps false (plan ∷ plans) = given_up plan.give_ups ++ step.Load plan.unit ∷ []
 
-abbrev pub after_load : Bool → List LduValue → List LduValue
-after_load true units = units
-after_load false units = rest units
+-- they can be made, and there is a plan
+abbrev pub CanBegin : Bool → List Plan → LinkValue → Type 0
+CanBegin true plans l = Unit {0}
+CanBegin false [] l = ⊥
+CanBegin false (plan ∷ plans) l = CanMake (begin_steps false (plan ∷ plans)) l
+
+abbrev pub after_begin : Bool → List Plan → List Plan
+after_begin true plans = plans
+after_begin false plans = rest plans
 
 -- ---- an entry
 
--- the link data units that come next after it
-abbrev pub units_left : Role → Bool → List LduValue → List LduValue
-units_left (Request n) loaded units = after_load loaded units
-units_left _ loaded units = units
+-- the plans that come next after it
+abbrev pub plans_left : Role → Grouping → List Plan → List Plan
+plans_left (Request n start) g plans = after_begin (goes_on g (Request n start)) plans
+plans_left _ g plans = plans
 
--- whether the source has one that has not crossed
-abbrev pub loaded_after : Role → Bool → Bool
-loaded_after (Request n) loaded = true
-loaded_after (Acknowledged ends) loaded = if ends then false else loaded
-loaded_after _ loaded = loaded
+-- ---- the steps of a request, whatever is lost on the way
+
+-- what is left of a block is lost, the answer is left out that the sink owes, or the source no longer waits
+abbrev pub IsClosing : Step → Type 0
+IsClosing step.SentLost = Unit {0}
+IsClosing step.Silent = Unit {0}
+IsClosing step.TimeOut = Unit {0}
+IsClosing _ = ⊥
+
+-- such steps lead from the one link to the other
+pub record Closes (l m : LinkValue) : Type 0 where
+  pub steps : List Step
+  pub closing : AllByRecursion IsClosing steps
+  pub leads : m ≡ link_after steps l
+
+-- where they led to the one, they lead to the other
+abbrev pub ClosesOn : LinkValue → LinkValue → Type 0
+ClosesOn l m = (k : LinkValue) → Closes k l → Closes k m
+
+-- the attempt before a request is closed; where a group begins the next plan is carried out; and the request is sent
+abbrev pub HasAsked : Role → Seen → Grouping → List Plan → LinkValue → LinkValue → Type 0
+HasAsked (Request n start) i g plans l m = (closed : LinkValue) × Closes l closed × (m ≡ link_after (begin_steps (goes_on g (Request n start)) plans ++ sent i) closed)
+HasAsked _ i g plans l m = Unit {0}
 
 -- ---- where nothing is lost on the way
 
--- the source takes each answer, and each request is the first one of its link data unit
-abbrev pub IsLossless : Role → Bool → List LduValue → Type 0
-IsLossless (Request n) loaded units = (loaded ≡ false) × IsNonEmpty units
-IsLossless (Clear used) loaded units = used ≡ true
-IsLossless (Acknowledged ends) loaded units = ends ≡ true
-IsLossless _ loaded units = Unit {0}
+-- the source takes each answer, and each request is the first one of its group
+abbrev pub IsLossless : Role → Grouping → List Plan → Type 0
+IsLossless (Request n start) g plans = (goes_on g (Request n start) ≡ false) × IsNonEmpty plans
+IsLossless (Clear used) g plans = used ≡ true
+IsLossless (Acknowledged ends) g plans = ends ≡ true
+IsLossless _ g plans = Unit {0}
 
--- the steps of an entry, where these link data units come next
-abbrev pub lossless_steps : Role → Seen → List LduValue → List Step
-lossless_steps Free i units = step.FreeSeen i ∷ []
-lossless_steps (Request n) i [] = []
-lossless_steps (Request n) i (u ∷ units) = step.Load u ∷ sent i
-lossless_steps OfBlock i units = sent i
-lossless_steps _ i units = answered i
+-- the steps of an entry, where these plans come next
+abbrev pub lossless_steps : Role → Seen → List Plan → List Step
+lossless_steps Free i plans = step.FreeSeen i ∷ []
+lossless_steps (Request n start) i plans = begin_steps false plans ++ sent i
+lossless_steps OfBlock i plans = sent i
+lossless_steps _ i plans = answered i
 
 -- where nothing is lost on the way, and these steps can be made, they are, unless memory is refused
-abbrev pub MakesLossless : {X : Type 0} → Role → Seen → Bool → List LduValue → LinkValue → LinkValue → Result X StepFault → Type 0
-MakesLossless role i loaded units l m r =
-    IsLossless role loaded units
-    → CanMake (lossless_steps role i units) l
-    → OnlyLacksMemory r × OnOk r (m ≡ link_after (lossless_steps role i units) l)
+abbrev pub MakesLossless : {X : Type 0} → Role → Seen → Grouping → List Plan → LinkValue → LinkValue → Result X StepFault → Type 0
+MakesLossless role i g plans l m r =
+    IsLossless role g plans
+    → CanMake (lossless_steps role i plans) l
+    → OnlyLacksMemory r × OnOk r (m ≡ link_after (lossless_steps role i plans) l)

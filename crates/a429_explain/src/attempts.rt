@@ -15,16 +15,24 @@ use std::alloc::{AllocError, Global};
 pub(crate) enum Role {
     /// The transfer passes over it.
     Free,
-    /// A request: an attempt begins, whose block has so many words.
-    Request { count: u8 },
+    /// A request: an attempt begins, whose block has so many words; and the numbers of its start word,
+    /// where one was recorded.
+    Request {
+        count: u8,
+        start: Option<UnitNumber>,
+    },
     /// The clear answer, and whether a word of the block was recorded in its attempt.
-    Clear { is_used: bool },
+    Clear {
+        is_used: bool,
+    },
     /// A start, data or end word.
     OfBlock,
     /// The negative answer.
     Refused,
     /// The acknowledgement, and whether it ends its group.
-    Acknowledged { ends_group: bool },
+    Acknowledged {
+        ends_group: bool,
+    },
 }
 
 // What is recorded behind a word.
@@ -32,6 +40,8 @@ pub(crate) enum Role {
 pub(crate) struct Ahead {
     /// A word of a block comes before the next request.
     pub sends_block: bool,
+    /// The number of the first start word before the next request.
+    pub attempt: Option<UnitNumber>,
     /// The number of the next start word.
     pub start: Option<UnitNumber>,
 }
@@ -43,6 +53,7 @@ pub(crate) fn roles(alloc: Global, heard: &Heard) -> Result<Vec<Role>, AllocErro
     let mut found = Vec::with_capacity(alloc, heard.len())?;
     let mut ahead = Ahead {
         sends_block: false,
+        attempt: None,
         start: None,
     };
     let mut left = heard.len();
@@ -61,7 +72,10 @@ fn role_of(form: &Option<Form>, ahead: Ahead) -> Role
 {
     match *form {
         None => Role::Free,
-        Some(Form::Rts { count }) => Role::Request { count },
+        Some(Form::Rts { count }) => Role::Request {
+            count,
+            start: ahead.attempt,
+        },
         Some(Form::Cts { .. }) => Role::Clear {
             is_used: ahead.sends_block,
         },
@@ -86,23 +100,26 @@ fn are_numbers(start: Option<UnitNumber>, file: u8, ldu: u8) -> bool
 fn before(form: &Option<Form>, ahead: Ahead) -> Ahead
     ensures { (more : List (Option Form)) → IsAhead more ahead → IsAhead (form.now ∷ more) result }
 {
-    let start = ahead.start;
     match *form {
         None | Some(Form::Cts { .. } | Form::Ack { .. } | Form::Nak { .. }) => ahead,
         Some(Form::Rts { .. }) => Ahead {
             sends_block: false,
-            start,
+            attempt: None,
+            start: ahead.start,
         },
-        Some(Form::Sot { file, ldu, .. }) => Ahead {
-            sends_block: true,
-            start: Some(UnitNumber {
-                file,
-                ldu: u16::from(ldu),
-            }),
-        },
+        Some(Form::Sot { file, ldu, .. }) => {
+            let ldu = u16::from(ldu);
+            let start = Some(UnitNumber { file, ldu });
+            Ahead {
+                sends_block: true,
+                attempt: start,
+                start,
+            }
+        }
         Some(Form::Part(_) | Form::Eot { .. }) => Ahead {
             sends_block: true,
-            start,
+            attempt: ahead.attempt,
+            start: ahead.start,
         },
     }
 }

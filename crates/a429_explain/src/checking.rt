@@ -2,7 +2,7 @@
 
 ghost use Rattle.std.specs.Prelude.{◌≡◌, IfOk, length};
 ghost use Rattle.a429_cert.specs.Explained.{items_of};
-ghost use Rattle.a429_explain.specs.Verdict.{IsSoundVerdict, IsAccepted, IsImpossible, IsDoubted, IsFirst, HasNoForm, IsImpossibility, IsExplanation};
+ghost use Rattle.a429_explain.specs.Verdict.{IsSoundVerdict, IsAccepted, IsOfLeastVersion, IsImpossible, IsDoubted, IsFirst, HasNoForm, IsImpossibility, IsExplanation};
 ghost use Rattle.a429_explain.specs.Walk.{AreAllowed};
 ghost use Rattle.a429_explain.specs.WithoutLoss.{IsWithoutLoss};
 
@@ -19,10 +19,11 @@ use std::alloc::Global;
 
 /// The verdict on a recording, under the profile of its bench: whether no run of source and sink records
 /// its words; or else the certificate of one that does, as far as one is found. `verify` accepts that
-/// certificate.
+/// certificate, which is of version 2 exactly where a file is given up.
 pub fn check(alloc: Global, profile: &Profile, entries: &[Entry]) -> Result<Verdict, OutOfMemory>
     ensures explained { IfOk result (λ v. IsSoundVerdict profile.now (items_of entries.now) v) }
     ensures accepted { IfOk result (λ v. IsAccepted profile.now (items_of entries.now) v) }
+    ensures version { IfOk result (λ v. IsOfLeastVersion profile.now (items_of entries.now) v) }
     ensures impossible { IfOk result (λ v. IsImpossible profile.now (items_of entries.now) v) }
     ensures doubted { IfOk result (λ v. IsDoubted profile.now (items_of entries.now) v) }
     ensures first { IfOk result (λ v. IsFirst profile.now (items_of entries.now) v) }
@@ -47,6 +48,7 @@ fn explain(
     requires allowed { AreAllowed profile.now (items_of entries.now) (length (items_of entries.now)) }
     ensures explained { IfOk result (λ v. IsSoundVerdict profile.now (items_of entries.now) v) }
     ensures accepted { IfOk result (λ v. IsAccepted profile.now (items_of entries.now) v) }
+    ensures version { IfOk result (λ v. IsOfLeastVersion profile.now (items_of entries.now) v) }
     ensures impossible { IfOk result (λ v. IsImpossible profile.now (items_of entries.now) v) }
     ensures doubted { IfOk result (λ v. IsDoubted profile.now (items_of entries.now) v) }
     ensures first { IfOk result (λ v. IsFirst profile.now (items_of entries.now) v) }

@@ -1,11 +1,12 @@
 //! Where a group of attempts stands in a recording, and how many words its requests want.
 
-ghost use Rattle.std.specs.Prelude.{◌≡◌, ◌<◌, ◌≤◌, ◌+◌, drop, length};
-ghost use Rattle.a429_explain.specs.Groups.{ends_group, group_length};
+ghost use Rattle.std.specs.Prelude.{◌≡◌, ◌<◌, ◌≤◌, ◌+◌, Some, drop, length};
+ghost use Rattle.a429_explain.specs.Groups.{are_other, goes_on, start_in, with_role, group_length, start_of, group_start, settles, is_settled};
 ghost use Rattle.a429_explain.specs.Whole.{wanted};
 
 use crate::attempts::Role;
 use a429_ldu::{Form, Sight};
+use a429_link::UnitNumber;
 
 /// The entries of a group: those from its first request on, and before this one.
 #[derive(Clone, Copy, Debug)]
@@ -21,7 +22,64 @@ pub(crate) struct Request {
     pub count: u8,
 }
 
-/// The group that begins at this request: it goes up to the acknowledgement that ends it.
+/// Where a recording stands between two words.
+#[derive(Clone, Copy, Debug, PartialEq, Eq)]
+pub(crate) enum Grouping {
+    /// Between two groups.
+    Between,
+    /// Within a group, and the numbers of its start words, where one was recorded.
+    Within { start: Option<UnitNumber> },
+}
+
+impl Grouping {
+    /// A word belongs to the group that those before it have begun: it is no request of an attempt that
+    /// records a start word of other numbers.
+    pub(crate) fn goes_on(self, role: Role) -> bool
+        ensures { result ≡ goes_on self role }
+    {
+        let Grouping::Within { start: first } = self else {
+            return false;
+        };
+        match role {
+            Role::Request { start, .. } => !are_other(first, start),
+            _ => true,
+        }
+    }
+
+    /// Where it stands behind a word.
+    pub(crate) fn with_role(self, role: Role) -> Grouping
+        ensures { result ≡ with_role self role }
+    {
+        match role {
+            Role::Request { start, .. } => Grouping::Within {
+                start: start.or(self.start()),
+            },
+            Role::Acknowledged { ends_group: true } => Grouping::Between,
+            _ => self,
+        }
+    }
+
+    fn start(self) -> Option<UnitNumber>
+        ensures { result ≡ start_in self }
+    {
+        match self {
+            Grouping::Between => None,
+            Grouping::Within { start } => start,
+        }
+    }
+}
+
+// Two start words were recorded, and they have other numbers.
+fn are_other(first: Option<UnitNumber>, start: Option<UnitNumber>) -> bool
+    ensures { result ≡ are_other first start }
+{
+    match (first, start) {
+        (Some(first), Some(start)) => first != start,
+        _ => false,
+    }
+}
+
+/// The group that begins at this request.
 pub(crate) fn group_at(roles: &[Role], from: usize) -> Group
     requires { from < length roles.now }
     ensures from { result.from ≡ from }
@@ -29,10 +87,12 @@ pub(crate) fn group_at(roles: &[Role], from: usize) -> Group
     ensures some { from < result.to }
     ensures inside { result.to ≤ length roles.now }
 {
-    for at in from..roles.len() {
-        if ends_group(roles[at]) {
-            return Group { from, to: at + 1 };
+    let mut grouping = Grouping::Between.with_role(roles[from]);
+    for to in from + 1..roles.len() {
+        if !grouping.goes_on(roles[to]) {
+            return Group { from, to };
         }
+        grouping = grouping.with_role(roles[to]);
     }
     Group {
         from,
@@ -40,8 +100,41 @@ pub(crate) fn group_at(roles: &[Role], from: usize) -> Group
     }
 }
 
-fn ends_group(role: Role) -> bool
-    ensures { result ≡ ends_group role }
+/// The numbers of a group's first start word, where one was recorded.
+pub(crate) fn group_start(roles: &[Role], group: Group) -> Option<UnitNumber>
+    requires { group.to ≤ length roles.now }
+    ensures { result ≡ group_start roles.now group }
+{
+    for at in group.from..group.to {
+        if let Some(start) = start_of(roles[at]) {
+            return Some(start);
+        }
+    }
+    None
+}
+
+// The numbers of the start word of an attempt that begins here.
+fn start_of(role: Role) -> Option<UnitNumber>
+    ensures { result ≡ start_of role }
+{
+    match role {
+        Role::Request { start, .. } => start,
+        _ => None,
+    }
+}
+
+/// The last word of a group is the acknowledgement that ends it.
+pub(crate) fn is_settled(roles: &[Role], group: Group) -> bool
+    requires some { group.from < group.to }
+    requires inside { group.to ≤ length roles.now }
+    ensures { result ≡ is_settled roles.now group }
+{
+    settles(roles[group.to - 1])
+}
+
+// A word is the acknowledgement that ends its group.
+fn settles(role: Role) -> bool
+    ensures { result ≡ settles (Some role) }
 {
     matches!(role, Role::Acknowledged { ends_group: true })
 }

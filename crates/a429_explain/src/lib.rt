@@ -11,6 +11,7 @@ mod guess;
 mod heard;
 pub mod laws;
 mod matching;
+mod plan;
 mod scribe;
 mod stop;
 mod verdict;

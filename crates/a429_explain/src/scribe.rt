@@ -1,6 +1,6 @@
 //! The lines of a certificate, each written as a link makes its step.
 
-ghost use Rattle.std.specs.Prelude.{◌≡◌, ◌≢◌, List, ◌++◌, ◌∷◌, [], Ok, None, Some, true, false, IfOk, IfErr, IsSome, OnOk};
+ghost use Rattle.std.specs.Prelude.{◌≡◌, ◌≢◌, ◌<◌, List, length, ◌++◌, ◌∷◌, [], Ok, None, Some, true, false, IfOk, IfErr, IsSome, OnOk};
 ghost use Rattle.a429_ldu.specs.Ldu.{IsLdu};
 ghost use Rattle.a429_link.specs.declared.step.Step.TheVariants as step;
 ghost use Rattle.a429_link.specs.Sink.{Listens};
@@ -8,10 +8,16 @@ ghost use Rattle.a429_link.specs.Source.{IsIdle};
 ghost use Rattle.a429_link.specs.Step.{Can, LoadsLdu, label};
 ghost use Rattle.a429_link.specs.State.{start};
 ghost use Rattle.a429_cert.specs.Line.{IsLine, IsHeld, spelling};
-ghost use Rattle.a429_explain.specs.Scribe.{AreUnits, HasWritten, WritesNext, link_after, CanMake, OnlyLacksMemory, sent, answered, IsAtRest, load_steps, CanLoad, after_load, units_left, loaded_after, MakesLossless};
+ghost use Rattle.a429_explain.specs.Scribe.{in_version, Wrote, WritesNext, link_after, CanMake, OnlyLacksMemory, sent, answered, IsAtRest, given_up, begin_steps, CanBegin, after_begin, plans_left, IsClosing, ClosesOn, HasAsked, MakesLossless};
 ghost use Rattle.a429_cert.specs.Act.{letter_of};
+ghost use Rattle.a429_cert.specs.Version.{is_give_up};
+ghost use Rattle.a429_explain.specs.Plan.{ArePlans};
+ghost use Rattle.a429_explain.specs.Groups.{with_role};
+ghost use Rattle.a429_explain.specs.declared.groups.Grouping.TheVariants as grouping;
 
 use crate::attempts::Role;
+use crate::groups::Grouping;
+use crate::plan::Plan;
 use a429_cert::{CertLine, LoadLine, MovedLine, Words, letter_of, write_line};
 use a429_ldu::Ldu;
 use a429_link::{FileBytes, Link, Seen, SinkState, SourceState, Step, StepFault};
@@ -19,14 +25,18 @@ use a429_profile::Profile;
 use std::alloc::{AllocError, Global};
 use std::collections::VecDeque;
 
+// Where the first line has the digit of its version.
+const VERSION_AT: usize = 14;
+
 /// A certificate that is being written, and the link on which its lines' steps are made.
 #[derive(Drop)]
 pub(crate) struct Scribe<'a> {
     alloc: Global,
     link: Link<'a>,
     text: Vec<u8>,
-    // The source was given a link data unit, and it has not crossed.
-    is_loaded: bool,
+    grouping: Grouping,
+    // The source has given a file up.
+    gave_up: bool,
 }
 
 impl<'a> Scribe<'a> {
@@ -37,8 +47,8 @@ impl<'a> Scribe<'a> {
         first_file: u8,
     ) -> Result<Scribe<'a>, StepFault>
         ensures start { IfOk result (λ s. s.link ≡ record { profile = profile.now; state = start profile.now first_file }) }
-        ensures written { IfOk result (λ s. HasWritten first_file [] s.text.items s.link) }
-        ensures loaded { IfOk result (λ s. s.is_loaded ≡ false) }
+        ensures written { IfOk result (λ s. Wrote first_file [] s) }
+        ensures grouping { IfOk result (λ s. s.grouping ≡ grouping.Between) }
     {
         let mut text = Vec::new(alloc);
         match text.extend_from_slice(b"arinc429-cert 1\n") {
@@ -49,43 +59,57 @@ impl<'a> Scribe<'a> {
             alloc,
             link: Link::start(alloc, profile, first_file),
             text,
-            is_loaded: false,
+            grouping: Grouping::Between,
+            gave_up: false,
         };
         scribe.write(&CertLine::First(first_file))?;
         Ok(scribe)
     }
 
-    /// The text of the lines, and the files that the link has delivered.
+    /// The text of the lines, under the first line of the version that they need, and the files that the link
+    /// has delivered.
     pub(crate) fn into_parts(self) -> (Vec<u8>, Vec<FileBytes>)
-        ensures text { result.0 ≡ self.entry.text }
+        requires { VERSION_AT < length self.text.items }
+        ensures text { result.0.items ≡ in_version self.entry.gave_up self.entry.text.items }
         ensures files { result.1.items ≡ self.entry.link.state.sink.shelf.files }
     {
-        let Scribe { text, mut link, .. } = self;
+        let Scribe {
+            mut text,
+            mut link,
+            gave_up,
+            ..
+        } = self;
+        if gave_up {
+            text[VERSION_AT] = b'2';
+        }
         let files = link.take_delivered();
         (text, files)
     }
 
-    /// Writes the lines of the next entry, and takes the link data unit of its group where it begins one.
+    /// Writes the lines of the next entry, and takes the plan of its group where it begins one.
     /// A step that can't be made is refused.
     pub(crate) fn write_entry(
         &mut self,
         seen: Seen,
         role: Role,
-        units: &mut VecDeque<Ldu>,
+        plans: &mut VecDeque<Plan>,
     ) -> Result<(), StepFault>
-        requires { AreUnits self.old.link.profile units.old.items }
+        requires { ArePlans self.old.link.profile plans.old.items }
         ensures profile { self.new.link.profile ≡ self.old.link.profile }
-        ensures units { AreUnits self.old.link.profile units.new.items }
-        ensures written { OnOk result (WritesNext (Some seen) self.old.text.items self.old.link self.new.text.items self.new.link) }
-        ensures lossless { MakesLossless role seen self.old.is_loaded units.old.items self.old.link self.new.link result }
-        ensures left { OnOk result (units.new.items ≡ units_left role self.old.is_loaded units.old.items) }
-        ensures loaded { OnOk result (self.new.is_loaded ≡ loaded_after role self.old.is_loaded) }
+        ensures plans { ArePlans self.old.link.profile plans.new.items }
+        ensures written { OnOk result (WritesNext (Some seen) self.old self.new) }
+        ensures lossless { MakesLossless role seen self.old.grouping plans.old.items self.old.link self.new.link result }
+        ensures asked { OnOk result (HasAsked role seen self.old.grouping plans.old.items self.old.link self.new.link) }
+        ensures left { OnOk result (plans.new.items ≡ plans_left role self.old.grouping plans.old.items) }
+        ensures grouping { OnOk result (self.new.grouping ≡ with_role self.old.grouping role) }
     {
+        let goes_on = self.grouping.goes_on(role);
+        self.grouping = self.grouping.with_role(role);
         match role {
             Role::Free => self.make(Step::FreeSeen(seen)),
             Role::Request { .. } => {
                 self.close()?;
-                match self.load_next(units) {
+                match self.begin(goes_on, plans) {
                     Ok(()) => self.send(seen),
                     Err(fault) => Err(fault),
                 }
@@ -93,20 +117,16 @@ impl<'a> Scribe<'a> {
             Role::OfBlock => self.send_of_block(seen),
             Role::Clear { is_used } => self.answer(seen, is_used),
             Role::Refused => self.answer(seen, true),
-            Role::Acknowledged { ends_group } => {
-                if ends_group {
-                    self.is_loaded = false;
-                }
-                self.answer(seen, ends_group)
-            }
+            Role::Acknowledged { ends_group } => self.answer(seen, ends_group),
         }
     }
 
     // Ends the attempt before a request: what is left of the block is lost, and the answer is left out.
     fn close(&mut self) -> Result<(), StepFault>
         ensures profile { self.new.link.profile ≡ self.old.link.profile }
-        ensures loaded { self.new.is_loaded ≡ self.old.is_loaded }
-        ensures written { OnOk result (WritesNext None self.old.text.items self.old.link self.new.text.items self.new.link) }
+        ensures grouping { self.new.grouping ≡ self.old.grouping }
+        ensures written { OnOk result (WritesNext None self.old self.new) }
+        ensures closed { OnOk result (ClosesOn self.old.link self.new.link) }
         ensures idle { IsAtRest self.old.link → (result ≡ Ok tt) × (self.new.link ≡ self.old.link) }
     {
         if self.is_sending() {
@@ -151,8 +171,9 @@ impl<'a> Scribe<'a> {
     // Loses the words of a block that the source has still to send.
     fn lose_rest(&mut self) -> Result<(), StepFault>
         ensures profile { self.new.link.profile ≡ self.old.link.profile }
-        ensures loaded { self.new.is_loaded ≡ self.old.is_loaded }
-        ensures written { OnOk result (WritesNext None self.old.text.items self.old.link self.new.text.items self.new.link) }
+        ensures grouping { self.new.grouping ≡ self.old.grouping }
+        ensures written { OnOk result (WritesNext None self.old self.new) }
+        ensures closed { OnOk result (ClosesOn self.old.link self.new.link) }
     {
         for _ in 0..=u8::MAX {
             if !self.is_sending() {
@@ -166,8 +187,8 @@ impl<'a> Scribe<'a> {
     // A word of the source is recorded, and the sink takes it.
     fn send(&mut self, seen: Seen) -> Result<(), StepFault>
         ensures profile { self.new.link.profile ≡ self.old.link.profile }
-        ensures loaded { self.new.is_loaded ≡ self.old.is_loaded }
-        ensures written { OnOk result (WritesNext (Some seen) self.old.text.items self.old.link self.new.text.items self.new.link) }
+        ensures grouping { self.new.grouping ≡ self.old.grouping }
+        ensures written { OnOk result (WritesNext (Some seen) self.old self.new) }
         ensures lossless { CanMake (sent seen) self.old.link → OnlyLacksMemory result }
         ensures reached { OnOk result (self.new.link ≡ link_after (sent seen) self.old.link) }
     {
@@ -180,8 +201,8 @@ impl<'a> Scribe<'a> {
     // A word of a block is recorded, and the sink takes it. The words of the block before it are lost.
     fn send_of_block(&mut self, seen: Seen) -> Result<(), StepFault>
         ensures profile { self.new.link.profile ≡ self.old.link.profile }
-        ensures loaded { self.new.is_loaded ≡ self.old.is_loaded }
-        ensures written { OnOk result (WritesNext (Some seen) self.old.text.items self.old.link self.new.text.items self.new.link) }
+        ensures grouping { self.new.grouping ≡ self.old.grouping }
+        ensures written { OnOk result (WritesNext (Some seen) self.old self.new) }
         ensures lossless { CanMake (sent seen) self.old.link → OnlyLacksMemory result }
         ensures reached { CanMake (sent seen) self.old.link → OnOk result (self.new.link ≡ link_after (sent seen) self.old.link) }
     {
@@ -197,8 +218,8 @@ impl<'a> Scribe<'a> {
     // Loses words of a block until this one comes.
     fn send_later(&mut self, seen: Seen) -> Result<(), StepFault>
         ensures profile { self.new.link.profile ≡ self.old.link.profile }
-        ensures loaded { self.new.is_loaded ≡ self.old.is_loaded }
-        ensures written { OnOk result (WritesNext (Some seen) self.old.text.items self.old.link self.new.text.items self.new.link) }
+        ensures grouping { self.new.grouping ≡ self.old.grouping }
+        ensures written { OnOk result (WritesNext (Some seen) self.old self.new) }
     {
         let bus = seen.bus;
         let word = seen.word;
@@ -216,8 +237,8 @@ impl<'a> Scribe<'a> {
     // An answer of the sink is recorded, and the source takes it, or it is lost behind the recorder.
     fn answer(&mut self, seen: Seen, is_taken: bool) -> Result<(), StepFault>
         ensures profile { self.new.link.profile ≡ self.old.link.profile }
-        ensures loaded { self.new.is_loaded ≡ self.old.is_loaded }
-        ensures written { OnOk result (WritesNext (Some seen) self.old.text.items self.old.link self.new.text.items self.new.link) }
+        ensures grouping { self.new.grouping ≡ self.old.grouping }
+        ensures written { OnOk result (WritesNext (Some seen) self.old self.new) }
         ensures lossless { is_taken ≡ true → CanMake (answered seen) self.old.link → OnlyLacksMemory result }
         ensures reached { is_taken ≡ true → OnOk result (self.new.link ≡ link_after (answered seen) self.old.link) }
     {
@@ -232,34 +253,57 @@ impl<'a> Scribe<'a> {
         }
     }
 
-    // The source is given the next link data unit, where it has none.
-    fn load_next(&mut self, units: &mut VecDeque<Ldu>) -> Result<(), StepFault>
-        requires { AreUnits self.old.link.profile units.old.items }
+    // Where a request begins a group, the source gives up the files of the next plan, and is given its link
+    // data unit.
+    fn begin(&mut self, goes_on: bool, plans: &mut VecDeque<Plan>) -> Result<(), StepFault>
+        requires { ArePlans self.old.link.profile plans.old.items }
         ensures profile { self.new.link.profile ≡ self.old.link.profile }
-        ensures units { AreUnits self.old.link.profile units.new.items }
-        ensures written { OnOk result (WritesNext None self.old.text.items self.old.link self.new.text.items self.new.link) }
-        ensures lossless { CanLoad self.old.is_loaded units.old.items self.old.link → OnlyLacksMemory result }
-        ensures reached { OnOk result (self.new.link ≡ link_after (load_steps self.old.is_loaded units.old.items) self.old.link) }
-        ensures left { OnOk result (units.new.items ≡ after_load self.old.is_loaded units.old.items) }
-        ensures loaded { OnOk result (self.new.is_loaded ≡ true) }
+        ensures grouping { self.new.grouping ≡ self.old.grouping }
+        ensures plans { ArePlans self.old.link.profile plans.new.items }
+        ensures written { OnOk result (WritesNext None self.old self.new) }
+        ensures lossless { CanBegin goes_on plans.old.items self.old.link → OnlyLacksMemory result }
+        ensures reached { OnOk result (self.new.link ≡ link_after (begin_steps goes_on plans.old.items) self.old.link) }
+        ensures left { OnOk result (plans.new.items ≡ after_begin goes_on plans.old.items) }
     {
-        if self.is_loaded {
+        if goes_on {
             return Ok(());
         }
-        match units.pop_front() {
-            Some(unit) => self.load(unit),
+        match plans.pop_front() {
+            Some(Plan { give_ups, unit }) => match self.give_up(give_ups) {
+                Ok(()) => self.load(unit),
+                Err(fault) => Err(fault),
+            },
             None => Err(StepFault::NotAllowed),
         }
+    }
+
+    // The source gives so many files up.
+    fn give_up(&mut self, files: u8) -> Result<(), StepFault>
+        ensures profile { self.new.link.profile ≡ self.old.link.profile }
+        ensures grouping { self.new.grouping ≡ self.old.grouping }
+        ensures written { OnOk result (WritesNext None self.old self.new) }
+        ensures lossless { CanMake (given_up files) self.old.link → OnlyLacksMemory result }
+        ensures reached { OnOk result (self.new.link ≡ link_after (given_up files) self.old.link) }
+    {
+        let mut left = files;
+        while left > 0 {
+            left -= 1;
+            match self.make(Step::GiveUp) {
+                Ok(()) => {}
+                Err(fault) => return Err(fault),
+            }
+        }
+        Ok(())
     }
 
     // The source is given a link data unit.
     fn load(&mut self, unit: Ldu) -> Result<(), StepFault>
         requires { IsLdu self.old.link.profile unit }
         ensures profile { self.new.link.profile ≡ self.old.link.profile }
-        ensures written { OnOk result (WritesNext None self.old.text.items self.old.link self.new.text.items self.new.link) }
+        ensures written { OnOk result (WritesNext None self.old self.new) }
         ensures lossless { Can self.old.link.profile (step.Load unit) self.old.link.state → OnlyLacksMemory result }
         ensures reached { OnOk result (self.new.link ≡ link_after (step.Load unit ∷ []) self.old.link) }
-        ensures loaded { OnOk result (self.new.is_loaded ≡ true) }
+        ensures grouping { self.new.grouping ≡ self.old.grouping }
     {
         let Ok(words) = Vec::from_slice(self.alloc, unit.words()) else {
             return Err(StepFault::OutOfMemory);
@@ -274,7 +318,6 @@ impl<'a> Scribe<'a> {
             Ok(()) => {}
             Err(fault) => return Err(fault),
         }
-        self.is_loaded = true;
         self.write(&line)
     }
 
@@ -283,20 +326,22 @@ impl<'a> Scribe<'a> {
         requires loads { LoadsLdu self.old.link.profile step }
         requires letter { IsSome (letter_of step) }
         ensures profile { self.new.link.profile ≡ self.old.link.profile }
-        ensures loaded { self.new.is_loaded ≡ self.old.is_loaded }
-        ensures written { OnOk result (WritesNext (label step) self.old.text.items self.old.link self.new.text.items self.new.link) }
+        ensures grouping { self.new.grouping ≡ self.old.grouping }
+        ensures written { OnOk result (WritesNext (label step) self.old self.new) }
         ensures reached { OnOk result (self.new.link ≡ link_after (step ∷ []) self.old.link) }
+        ensures closed { IsClosing step → OnOk result (ClosesOn self.old.link self.new.link) }
         ensures lossless { Can self.old.link.profile step self.old.link.state → OnlyLacksMemory result }
-        ensures unchanged { IfErr result (λ e. e ≢ StepFault.OutOfMemory → self.new.link ≡ self.old.link) }
-        ensures unwritten { IfErr result (λ e. e ≢ StepFault.OutOfMemory → self.new.text.items ≡ self.old.text.items) }
+        ensures unchanged { IfErr result (λ e. e ≢ StepFault.OutOfMemory → self.new ≡ self.old) }
     {
         let Some(act) = letter_of(&step) else {
             return Err(StepFault::OutOfMemory);
         };
+        let gives_up = is_give_up(&step);
         match self.link.apply(step) {
             Ok(()) => {}
             Err(fault) => return Err(fault),
         }
+        self.gave_up |= gives_up;
         let states = self.link.states();
         self.write(&CertLine::Moved(MovedLine { act, states }))
     }
@@ -305,7 +350,8 @@ impl<'a> Scribe<'a> {
     fn write(&mut self, line: &CertLine) -> Result<(), StepFault>
         requires { IsLine line.now }
         ensures link { self.new.link ≡ self.old.link }
-        ensures loaded { self.new.is_loaded ≡ self.old.is_loaded }
+        ensures gave_up { self.new.gave_up ≡ self.old.gave_up }
+        ensures grouping { self.new.grouping ≡ self.old.grouping }
         ensures ok { OnOk result (self.new.text.items ≡ self.old.text.items ++ (spelling line.now ++ 10 ∷ [])) }
         ensures held { OnOk result (IsHeld line.now) }
         ensures err { IfErr result (λ e. e ≡ StepFault.OutOfMemory) }
@@ -315,4 +361,10 @@ impl<'a> Scribe<'a> {
         }
         Ok(())
     }
+}
+
+fn is_give_up(step: &Step) -> bool
+    ensures { result ≡ is_give_up step.now }
+{
+    matches!(*step, Step::GiveUp)
 }

@@ -35,7 +35,7 @@ fn failing_runs(alloc: Global, given: &Given, command: Command, device: Device) 
     None
 }
 
-const READS: [(Command, Device); 8] = [
+const READS: [(Command, Device); 9] = [
     (Command::Show, Device::Recording),
     (Command::Pack, Device::Recording),
     (Command::Check, Device::Recording),
@@ -44,18 +44,21 @@ const READS: [(Command, Device); 8] = [
     (Command::Verify, Device::Certificate),
     (Command::Extract, Device::Certificate),
     (Command::Extract, Device::Shelf),
+    (Command::Upgrade, Device::Certificate),
 ];
 
-const WRITES: [(Command, Device); 9] = [
+const WRITES: [(Command, Device); 11] = [
     (Command::Word, Device::Output),
     (Command::Labels, Device::Output),
     (Command::Show, Device::Output),
     (Command::Make, Device::Output),
     (Command::Pack, Device::Output),
-    (Command::Check, Device::Certificate),
+    (Command::Check, Device::Lines),
     (Command::Check, Device::Output),
     (Command::Verify, Device::Output),
     (Command::Extract, Device::Output),
+    (Command::Upgrade, Device::Lines),
+    (Command::Upgrade, Device::Output),
 ];
 
 // Whether each of these devices fails at least once, and as it has to.

@@ -35,6 +35,11 @@ pub enum Command<'a> {
     },
     /// `verify PROFILE REC CERT`: holds a certificate against a recording.
     Verify(Claim<'a>),
+    /// `upgrade CERT OUT`: writes a certificate as one of version 2 to OUT.
+    Upgrade {
+        cert: &'a str,
+        new_cert: &'a str,
+    },
     /// `pack REC`: writes a recording in binary.
     Pack(&'a str),
     /// `make PROFILE FILE..`: writes the recording of a transfer of these files.

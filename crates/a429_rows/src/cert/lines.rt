@@ -14,6 +14,7 @@ first 0
 first 255
 l S254 B254 255 255
 t I N 100 9
+x I Q 0 0
 L F F 0000 00000000 FFFFFFFF";
 
 const NO_LINES: &str = "\
@@ -28,7 +29,7 @@ k S1 B255 0 0
 k S Q 0 0
 k S01 Q 0 0
 First 1
-x I Q 0 0
+y I Q 0 0
 a  C Q 1 0
 a C Q 1
 a C Q 1 0 0

@@ -10,7 +10,10 @@ fn lines_of(part: &str) -> &'static str {
     match part {
         "HEAD" => "arinc429-cert 1\nfirst 1\n",
         "HEAD255" => "arinc429-cert 1\nfirst 255\n",
+        "SECOND" => "arinc429-cert 2\nfirst 1\n",
+        "SECOND255" => "arinc429-cert 2\nfirst 255\n",
         "LOAD" => "L 0 1 A3F5 12004123\n",
+        "NOTFINAL" => "L 0 0 A3F5 12004123\n",
         "FILLED" => "L 0 0 F078 12000023\n",
         "ASK" => "a C Q 1 0\nk C c 0 0\n",
         "UNANSWERED" => "s C Q 0 0\nt I Q 0 0\n",
@@ -18,6 +21,9 @@ fn lines_of(part: &str) -> &'static str {
         "REST" => "a S2 B1 1 0\nk S2 B2 0 0\na W B2 1 0\nk W A 0 0\nb W Q 0 1\n",
         "REFUSED" => "n S1 B1 0 0\nl S2 B1 0 0\na W B1 1 0\nk W N 0 0\nb W Q 0 1\ng I Q 0 0\n",
         "DONE" => "g I Q 0 0\n",
+        "BROKEN" => "a S2 B1 1 0\nk S2 B2 0 0\nl W B2 0 0\nt I B2 0 0\nx I B2 0 0\n",
+        "ANEW" => "a C B2 1 0\nk C c 0 0\n",
+        "GIVENUP" => "x I Q 0 0\n",
         "LOST" => "d W Q 0 0\nt I Q 0 0\n",
         _ => "no such part",
     }
@@ -82,12 +88,59 @@ fn file_0_comes_after_file_255(rt: HostRuntime) -> Result<(), Fail> {
     Ok(())
 }
 
-// A certificate of these parts is accepted, and no file crosses where these words are recorded.
-fn has_no_file(alloc: Global, parts: &str, words: &str) -> Result<bool, Fail> {
+// A file is given up inside a block, one behind a link data unit that does not end it, and one between two.
+#[test]
+fn files_given_up(rt: HostRuntime) -> Result<(), Fail> {
+    let cases = "\
+1: SECOND NOTFINAL ASK START BROKEN LOAD ANEW START REST DONE: RTS CTS SOT PART RTS CTS 60020123 PART EOT 450201A3
+1: SECOND NOTFINAL ASK START REST DONE GIVENUP LOAD ASK START REST DONE: RTS CTS SOT PART F0A3F523 ACK RTS CTS 60020123 PART EOT 450201A3
+2: SECOND255 LOAD ASK START REST DONE GIVENUP LOAD ASK START REST DONE: RTS CTS E0FF0123 PART EOT C5FF01A3 RTS CTS SOT PART EOT ACK";
+    assert_eq!(rt; first_that_differs(rt.alloc(), cases)?, None);
+    Ok(())
+}
+
+// The certificate of the files 255 and 127.
+fn most_given_up(alloc: Global) -> Result<String, Fail> {
+    let mut text = text_of(alloc, "SECOND255 LOAD ASK START REST DONE")?;
+    for _ in 0..127 {
+        text.push_str(lines_of("GIVENUP"))?;
+    }
+    let last = text_of(alloc, "LOAD ASK START REST DONE")?;
+    text.push_str(last.as_str())?;
+    Ok(text)
+}
+
+#[test]
+fn most_files_given_up(rt: HostRuntime) -> Result<(), Fail> {
+    let alloc = rt.alloc();
+    let words = "RTS CTS E0FF0123 PART EOT C5FF01A3 RTS CTS 607F0123 PART EOT 457F01A3";
+    let recording = recorded(alloc, words)?;
+    let (_, certificate) = check_told(alloc, recording.as_str())?;
+    let wanted = most_given_up(alloc)?;
+    assert!(rt; certificate.as_slice() == wanted.as_bytes());
+    Ok(())
+}
+
+// This is the verdict of a certificate of these parts on the recording of these words.
+fn verdict_is(alloc: Global, parts: &str, words: &str, verdict: &str) -> Result<bool, Fail> {
     let recording = recorded(alloc, words)?;
     let certificate = text_of(alloc, parts)?;
     let text = verify_told(alloc, recording.as_str(), certificate.as_bytes())?;
-    Ok(text.as_str() == "0\nYES files 0\n")
+    Ok(text.as_str() == verdict)
+}
+
+// No file is given up in a certificate of version 1.
+#[test]
+fn given_up_in_version_1(rt: HostRuntime) -> Result<(), Fail> {
+    let words = "RTS CTS SOT PART RTS CTS 60020123 PART EOT 450201A3";
+    let parts = "HEAD NOTFINAL ASK START BROKEN LOAD ANEW START REST DONE";
+    assert!(rt; verdict_is(rt.alloc(), parts, words, "2\nNO line 14\n")?);
+    Ok(())
+}
+
+// A certificate of these parts is accepted, and no file crosses where these words are recorded.
+fn has_no_file(alloc: Global, parts: &str, words: &str) -> Result<bool, Fail> {
+    verdict_is(alloc, parts, words, "0\nYES files 0\n")
 }
 
 // The block is cut off before its data words, which may have been either.

@@ -106,8 +106,8 @@ fn recordings_in_doubt(rt: HostRuntime) -> Result<(), Fail> {
     let cases = "2 UNEXPLAINED 0 NeverWhole: RTS CTS PART EOT NAK
 2 UNEXPLAINED 0 NeverWhole: RTS CTS SOT 92004123 EOT NAK
 2 UNEXPLAINED 2 NotOneBlock: RTS CTS 60010223
-2 UNEXPLAINED 8 NotOneBlock: RTS CTS E0FF0123 PART EOT C5FF01A3 RTS CTS SOT PART EOT ACK
-2 UNEXPLAINED 8 NotOneBlock: RTS CTS E0FF0123 PART EOT C5FF01A3 RTS CTS 607F0123 PART EOT 457F01A3";
+2 UNEXPLAINED 6 NotOneBlock: RTS CTS SOT PART RTS CTS 60010223 PART
+2 UNEXPLAINED 6 NotReplayed: RTS CTS SOT PART EOT ACK RTS CTS E0000123";
     assert_eq!(rt; first_that_differs(rt.alloc(), cases)?, None);
     Ok(())
 }
@@ -121,6 +121,34 @@ fn none_and_two_files(rt: HostRuntime) -> Result<(), Fail> {
         (
             "RTS CTS E0FF0123 PART EOT C5FF01A3 RTS CTS E0000123 PART EOT C50001A3",
             "0\nYES files 2\nfile 255 1\nfile 0 1\n",
+        ),
+    ];
+    for (words, verdict) in cases {
+        assert!(rt; says(rt.alloc(), words, verdict)?);
+    }
+    Ok(())
+}
+
+// Files that are given up: those between 255 and 1, and between 255 and 127; one behind an acknowledged link data unit
+// that does not end it, and one inside a block.
+#[test]
+fn files_given_up(rt: HostRuntime) -> Result<(), Fail> {
+    let cases = [
+        (
+            "RTS CTS E0FF0123 PART EOT C5FF01A3 RTS CTS SOT PART EOT ACK",
+            "0\nYES files 2\nfile 255 1\nfile 1 1\n",
+        ),
+        (
+            "RTS CTS E0FF0123 PART EOT C5FF01A3 RTS CTS 607F0123 PART EOT 457F01A3",
+            "0\nYES files 2\nfile 255 1\nfile 127 1\n",
+        ),
+        (
+            "RTS CTS SOT PART F0A3F523 ACK RTS CTS 60020123 PART EOT 450201A3",
+            "0\nYES files 1\nfile 2 1\n",
+        ),
+        (
+            "RTS CTS SOT PART RTS CTS 60020123 PART EOT 450201A3",
+            "0\nYES files 1\nfile 2 1\n",
         ),
     ];
     for (words, verdict) in cases {

@@ -55,6 +55,7 @@ show bench.toml bench.csv -> Ok(Show { profile: "bench.toml", recording: "bench.
 check bench.toml bench.csv bench.cert -> Ok(Check(Claim { profile: "bench.toml", recording: "bench.csv", certificate: "bench.cert" }))
 verify bench.toml bench.csv bench.cert -> Ok(Verify(Claim { profile: "bench.toml", recording: "bench.csv", certificate: "bench.cert" }))
 extract bench.toml bench.csv bench.cert files -> Ok(Extract { claim: Claim { profile: "bench.toml", recording: "bench.csv", certificate: "bench.cert" }, folder: "files" })
+upgrade bench.cert new.cert -> Ok(Upgrade { cert: "bench.cert", new_cert: "new.cert" })
 make bench.toml -> Ok(Make { profile: "bench.toml", files: [] })
 make bench.toml one.bin two.bin -> Ok(Make { profile: "bench.toml", files: ["one.bin", "two.bin"] })"#;
     assert_eq!(rt; first_that_differs(rt.alloc(), cases)?, None);
@@ -68,6 +69,9 @@ fn other_words_are_usage(rt: HostRuntime) -> Result<(), Fail> {
 check bench.toml bench.csv -> Err(Usage)
 extract bench.toml bench.csv bench.cert -> Err(Usage)
 verify bench.toml bench.csv -> Err(Usage)
+upgrade -> Err(Usage)
+upgrade bench.cert -> Err(Usage)
+upgrade bench.cert new.cert other.cert -> Err(Usage)
 make -> Err(Usage)
 show bench.toml -> Err(Usage)
 show bench.toml bench.csv other.csv -> Err(Usage)

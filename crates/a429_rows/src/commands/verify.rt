@@ -19,6 +19,8 @@ fn verdict_is(
 #[test]
 fn accepted(rt: HostRuntime) -> Result<(), Fail> {
     assert!(rt; verdict_is(rt.alloc(), RECORDING, CERTIFICATE, YES)?);
+    let second = with(rt.alloc(), CERTIFICATE, "arinc429-cert 1 -> arinc429-cert 2")?;
+    assert!(rt; verdict_is(rt.alloc(), RECORDING, second.as_str(), YES)?);
     let none = "arinc429-cert 1\nfirst 0\n";
     assert!(rt; verdict_is(rt.alloc(), "time,bus,word\n", none, "0\nYES files 0\n")?);
     Ok(())
@@ -49,7 +51,8 @@ a C Q 1 0 -> a  C Q 1 0: NO line 4
 a C Q 1 0 -> a S0 Q 1 0: NO state differs 4
 a C Q 1 0 -> n I Q 0 0: NO word differs 4 0
 a C Q 1 0 -> b C G 0 1: NO not allowed 4
-k C c 0 0 -> t I Q 0 0: NO not allowed 5";
+k C c 0 0 -> t I Q 0 0: NO not allowed 5
+g I Q 0 0 -> g I Q 0 0; x I Q 0 0: NO line 16";
     for case in cases.split('\n') {
         assert!(rt; refuses(rt.alloc(), case)?);
     }

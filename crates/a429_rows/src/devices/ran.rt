@@ -6,6 +6,7 @@ use crate::commands::labels::list;
 use crate::commands::make::{files_of, make};
 use crate::commands::pack::pack;
 use crate::commands::show::show;
+use crate::commands::upgrade::upgrade;
 use crate::commands::word::word;
 use crate::recordings::recorded;
 use a429_check::RunFault;
@@ -32,13 +33,15 @@ pub(super) enum Command {
     Check,
     Verify,
     Extract,
+    Upgrade,
 }
 
-/// A device that fails.
+/// A device that fails. A certificate is read, and lines are those of one that is written.
 #[derive(Clone, Copy)]
 pub(super) enum Device {
     Recording,
     Certificate,
+    Lines,
     Shelf,
     Output,
 }
@@ -48,6 +51,7 @@ pub(super) enum Device {
 pub(super) struct Plan {
     recording: u32,
     certificate: u32,
+    lines: u32,
     shelf: u32,
     output: u32,
     piece: usize,
@@ -58,6 +62,7 @@ impl Plan {
     pub(super) const NONE: Plan = Plan {
         recording: 0,
         certificate: 0,
+        lines: 0,
         shelf: 0,
         output: 0,
         piece: 1,
@@ -69,6 +74,7 @@ impl Plan {
         match device {
             Device::Recording => plan.recording = call,
             Device::Certificate => plan.certificate = call,
+            Device::Lines => plan.lines = call,
             Device::Shelf => plan.shelf = call,
             Device::Output => plan.output = call,
         }
@@ -135,7 +141,7 @@ pub(super) struct Ran {
 pub(super) fn run(alloc: Global, given: &Given, command: Command, plan: Plan) -> Ran {
     let mut reader = plan.reader(given.recording.as_bytes(), plan.recording);
     let mut listed = plan.reader(given.certificate.as_slice(), plan.certificate);
-    let mut lines = writer(alloc, plan.certificate);
+    let mut lines = writer(alloc, plan.lines);
     let mut output = writer(alloc, plan.output);
     let mut shelf = Frail::new(alloc, plan.shelf);
     let mut rec = Tally::new(&mut reader, MOST);
@@ -156,6 +162,7 @@ pub(super) fn run(alloc: Global, given: &Given, command: Command, plan: Plan) ->
         ),
         Command::Verify => verify(alloc, PROFILE, rec, &mut cert, &mut out),
         Command::Extract => extract(alloc, rec, &mut cert, &mut shelf, &mut out),
+        Command::Upgrade => upgrade(&mut cert, &mut Tally::new(&mut lines, 0), &mut out),
     };
     let has_failed = reader.has_failed()
         || listed.has_failed()

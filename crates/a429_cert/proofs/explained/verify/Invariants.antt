@@ -1,5 +1,6 @@
 use Rattle.std.proofs.Common.{ℕ, ◌≡◌, ◌+◌, ◌≤◌, length, take, drop}
 use Rattle.a429_cert.specs.Lines.{certificate_lines}
+use Rattle.a429_cert.specs.Version.{step_lines}
 use Rattle.a429_cert.specs.Explained.{items_of, Reaches}
 use Rattle.a429_cert.proofs.explained.verify.Given as goal
 
@@ -11,7 +12,7 @@ invariant-loop-line l = record {
   rest : certificate_lines l.lines ≡ drop k (drop 2 (certificate_lines l.certificate));
   inside : l.used ≤ length (items_of l.entries);
   profile : l.link.profile ≡ l.profile;
-  reached : Reaches l.profile l.first (take k (drop 2 (certificate_lines l.certificate))) (take l.used (items_of l.entries)) l.link.state;
+  reached : Reaches l.profile l.head.first (take k (step_lines l.head.version l.certificate)) (take l.used (items_of l.entries)) l.link.state;
 }
 
 abbrev pub decreases-loop-line : goal.decreases-loop-line

@@ -1,6 +1,7 @@
 use Rattle.std.proofs.Common.{subst, sym}
 use Rattle.std.proofs.lemmas.Result.{IfErr-weaker}
 use Rattle.a429_cert.specs.Lines.{line_bytes}
+use Rattle.a429_cert.specs.Version.{read_as}
 use Rattle.a429_cert.specs.Stream.{RefusesNext, RefusesOver}
 use Rattle.a429_cert.proofs.StreamFacts.{refused_text, refused_first}
 use Rattle.a429_cert.proofs.stream.pass_over.Goals as goal
@@ -9,13 +10,13 @@ pub returns-in-Ok-clause-refused : goal.returns-in-Ok-clause-refused
 returns-in-Ok-clause-refused g c =
     let p = c.args.walk.now.profile.now in
     let s = c.args.walk.now.link.state in
-    IfErr-weaker c.take_next.result (RefusesNext p c.in-Ok.listed s c.args.rec.now.to_come c.args.walk.now.lines c.args.walk.now.used) (RefusesOver p (line_bytes c.args.line) s c.args.rec.now.to_come c.args.walk.now.lines c.args.walk.now.used)
-    (λ f h. refused_text p (line_bytes c.args.line) c.in-Ok.listed s c.args.rec.now.to_come c.args.walk.now.lines c.args.walk.now.used f c.in-Ok.ensures.listed h)
+    IfErr-weaker c.take_next.result (RefusesNext p c.in-Ok.listed s c.args.rec.now.to_come c.args.walk.now.lines c.args.walk.now.used) (RefusesOver p (read_as c.args.walk.now.version (line_bytes c.args.line)) s c.args.rec.now.to_come c.args.walk.now.lines c.args.walk.now.used)
+    (λ f h. refused_text p (read_as c.args.walk.now.version (line_bytes c.args.line)) c.in-Ok.listed s c.args.rec.now.to_come c.args.walk.now.lines c.args.walk.now.used f (rw c.read-text.ensures at c.in-Ok.ensures.listed) h)
     (rw c.requires.profile at c.take_next.ensures.refused)
 
 pub returns-in-Err-clause-refused : goal.returns-in-Err-clause-refused
 returns-in-Err-clause-refused g c =
     let p = c.args.walk.now.profile.now in
     let s = c.args.walk.now.link.state in
-    subst (RefusesOver p (line_bytes c.args.line) s c.args.rec.now.to_come c.args.walk.now.lines c.args.walk.now.used) (sym c.of_cert.ensures)
-    (refused_first p (line_bytes c.args.line) s c.args.rec.now.to_come c.args.walk.now.lines c.args.walk.now.used c.in-Err.fault c.in-Err.ensures.refused)
+    subst (RefusesOver p (read_as c.args.walk.now.version (line_bytes c.args.line)) s c.args.rec.now.to_come c.args.walk.now.lines c.args.walk.now.used) (sym c.of_cert.ensures)
+    (refused_first p (read_as c.args.walk.now.version (line_bytes c.args.line)) s c.args.rec.now.to_come c.args.walk.now.lines c.args.walk.now.used c.in-Err.fault (rw c.read-text.ensures at c.in-Err.ensures.refused))

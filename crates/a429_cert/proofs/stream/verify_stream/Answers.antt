@@ -4,17 +4,18 @@ use Rattle.a429_cert.specs.CutLines.{GivesLine}
 use Rattle.a429_record.specs.Rows.{GivesNext}
 use Rattle.a429_record.specs.declared.entry.Entry.{Entry}
 use Rattle.a429_cert.specs.Lines.{line_bytes}
+use Rattle.a429_cert.specs.Version.{read_as}
 use Rattle.a429_cert.specs.declared.stream_fault.StreamFault.{StreamFault}
 use Rattle.a429_cert.specs.Stream.{PassesOver, RefusesOver, sizes}
 use Rattle.a429_cert.specs.StreamExplained.{WhereTold, IsStreamFault}
-use Rattle.a429_cert.proofs.StreamRefused.{told_refused, told_not_put, told_unfinished, told_stopped, told_device}
+use Rattle.a429_cert.proofs.StreamRefused.{told_head, told_refused, told_not_put, told_unfinished, told_stopped, told_device}
 use Rattle.a429_link.specs.State.{State, start}
 use Rattle.a429_link.specs.Link.{LinkValue, handed_out}
 use Rattle.a429_record.specs.declared.fault.ReadFault.TheVariants as read
 use Rattle.a429_cert.specs.LineReader.{bytes_ahead, held_line, to_come}
-use Rattle.a429_cert.proofs.StreamFacts.{gains_none}
+use Rattle.a429_cert.proofs.StreamFacts.{gains_none, put_on, noted_on}
 use Rattle.a429_word.specs.Tally.{unread}
-use Rattle.a429_cert.proofs.StreamWalk.{told_init, told_on, told_yes, put_behind, noted_behind, fresh, read_no_device, read_device}
+use Rattle.a429_cert.proofs.StreamWalk.{told_init, told_on, told_yes, fresh, read_no_device, read_device}
 use Rattle.a429_cert.proofs.stream.verify_stream.Goals as goal
 
 pub lines-init : goal.lines-init
@@ -22,13 +23,14 @@ lines-init g c =
     let known = unread g.C.Read.remaining c.args.cert.now in
     let old = to_come g.C.Read.remaining c.new-lines.result c.args.cert.now in
     let left = to_come g.C.Read.remaining c.begin.new.lines c.begin.new.cert in
-    let state : c.start.result.state ≡ start c.args.profile.now c.in-Ok.first = ap (λ (l : LinkValue). l.state) c.start.ensures.begins in
+    let state : c.start.result.state ≡ start c.args.profile.now c.in-Ok.head.first = ap (λ (l : LinkValue). l.state) c.start.ensures.begins in
     let none : length (bytes_ahead c.new-lines.result) ≡ 0 = ap (λ (l : List ℕ). length l) c.new-lines.ensures in
     record {
+      head = c.in-Ok.head;
       k = 0;
       taken = [];
       number = refl;
-      told = told_init c.args.profile.now c.in-Ok.first c.start.result.state known old left c.args.rec.now.to_come (fresh (bytes_ahead c.new-lines.result) known c.new-lines.ensures) c.in-Ok.ensures.ok state;
+      told = told_init c.args.profile.now c.in-Ok.head c.start.result.state known old left c.args.rec.now.to_come (fresh (bytes_ahead c.new-lines.result) known c.new-lines.ensures) c.in-Ok.ensures.ok state;
       none_left = ap (λ (t : State). t.sink.shelf.files) state;
       put = gains_none (g.S.Shelf.files c.args.shelf.now) 1;
       noted = c.new.ensures.items;
@@ -36,6 +38,17 @@ lines-init g c =
       room = omega (arith, c.in-Ok.ensures.room, none);
       link = ap (λ (l : LinkValue). l.profile) c.start.ensures.begins;
       bench = refl;
+      version = refl;
+    }
+
+pub returns-in-Err-clause-err : goal.returns-in-Err-clause-err
+returns-in-Err-clause-err g c =
+    let known = unread g.C.Read.remaining c.args.cert.now in
+    let old = to_come g.C.Read.remaining c.new-lines.result c.args.cert.now in
+    record {
+      files = [];
+      fault = told_head c.args.profile.now known old c.args.rec.now.to_come c.in-Err.fault (fresh (bytes_ahead c.new-lines.result) known c.new-lines.ensures) c.in-Err.ensures.err;
+      put = gains_none (g.S.Shelf.files c.args.shelf.now) 1;
     }
 
 pub returns-in_default-clause-err : goal.returns-in_default-clause-err
@@ -45,7 +58,7 @@ returns-in_default-clause-err g c =
     let left = to_come g.C.Read.remaining c.lines.lines c.lines.cert in
     record {
       files = v.taken;
-      fault = told_device c.args.profile.now c.in-Ok.first v.k c.lines.walk.used v.taken c.lines.walk.link.state known left c.args.rec.now.to_come c.lines.rec.to_come v.told;
+      fault = told_device c.args.profile.now v.head v.k c.lines.walk.used v.taken c.lines.walk.link.state known left c.args.rec.now.to_come c.lines.rec.to_come v.told;
       put = v.put;
     }
 
@@ -72,11 +85,11 @@ returns-in-Err-pass_over-clause-err g c =
     let s = c.lines.walk.link.state in
     let n : c.lines.walk.lines + 1 ≡ v.k + 3 = let number = v.number in omega (arith, number) in
     let given = subst (GivesLine left more held) found c.in-Ok-next_line.ensures.given in
-    let refused = subst (λ q. RefusesOver q (line_bytes c.line.result) s c.lines.rec.to_come (c.lines.walk.lines + 1) c.lines.walk.used c.in-Err-pass_over.fault) v.bench c.in-Err-pass_over.ensures.refused in
-    let here = subst (λ (o : Option (List ℕ)). RefusesOver p o s c.lines.rec.to_come (c.lines.walk.lines + 1) c.lines.walk.used c.in-Err-pass_over.fault) c.line.ensures refused in
+    let refused = subst (λ w. RefusesOver p (read_as w (line_bytes c.line.result)) s c.lines.rec.to_come (c.lines.walk.lines + 1) c.lines.walk.used c.in-Err-pass_over.fault) v.version (subst (λ q. RefusesOver q (read_as c.lines.walk.version (line_bytes c.line.result)) s c.lines.rec.to_come (c.lines.walk.lines + 1) c.lines.walk.used c.in-Err-pass_over.fault) v.bench c.in-Err-pass_over.ensures.refused) in
+    let here = subst (λ (o : Option (List ℕ)). RefusesOver p (read_as v.head.version o) s c.lines.rec.to_come (c.lines.walk.lines + 1) c.lines.walk.used c.in-Err-pass_over.fault) c.line.ensures refused in
     record {
       files = v.taken;
-      fault = told_refused p c.in-Ok.first v.k c.lines.walk.used (c.lines.walk.lines + 1) v.taken s held known left more c.args.rec.now.to_come c.lines.rec.to_come c.in-Err-pass_over.fault n v.none_left given here v.told;
+      fault = told_refused p v.head v.k c.lines.walk.used (c.lines.walk.lines + 1) v.taken s held known left more c.args.rec.now.to_come c.lines.rec.to_come c.in-Err-pass_over.fault n v.none_left given here v.told;
       put = v.put;
     }
 
@@ -99,21 +112,23 @@ lines-preserved g c =
     let notes : c.pass_over.new.walk.files.items ≡ sizes v.taken = ap (λ (w : Walk). w.files.items) one ∙ v.noted in
     let shorter = c.in-Ok-next_line.ensures.shorter (subst (λ (o : Option (List ℕ)). IsSome o) c.line.ensures c.in-Ok-pass_over.ensures.ended) in
     let given = subst (GivesLine left more held) found c.in-Ok-next_line.ensures.given in
-    let passed = subst (λ q. PassesOver q (line_bytes c.line.result) s t c.lines.rec.to_come c.pass_over.new.rec.to_come c.in-Ok-pass_over.used) v.bench c.in-Ok-pass_over.ensures.passed in
-    let held_passed = subst (λ (o : Option (List ℕ)). PassesOver p o s t c.lines.rec.to_come c.pass_over.new.rec.to_come c.in-Ok-pass_over.used) c.line.ensures passed in
-    let told = told_on p c.in-Ok.first v.k c.lines.walk.used c.in-Ok-pass_over.used v.taken s t held known left more c.args.rec.now.to_come c.lines.rec.to_come c.pass_over.new.rec.to_come given held_passed v.told in
+    let passed = subst (λ w. PassesOver p (read_as w (line_bytes c.line.result)) s t c.lines.rec.to_come c.pass_over.new.rec.to_come c.in-Ok-pass_over.used) v.version (subst (λ q. PassesOver q (read_as c.lines.walk.version (line_bytes c.line.result)) s t c.lines.rec.to_come c.pass_over.new.rec.to_come c.in-Ok-pass_over.used) v.bench c.in-Ok-pass_over.ensures.passed) in
+    let held_passed = subst (λ (o : Option (List ℕ)). PassesOver p (read_as v.head.version o) s t c.lines.rec.to_come c.pass_over.new.rec.to_come c.in-Ok-pass_over.used) c.line.ensures passed in
+    let told = told_on p v.head v.k c.lines.walk.used c.in-Ok-pass_over.used v.taken s t held known left more c.args.rec.now.to_come c.lines.rec.to_come c.pass_over.new.rec.to_come given held_passed v.told in
     record {
+      head = v.head;
       k = suc v.k;
       taken = v.taken ++ t.sink.shelf.files;
       number = lines ∙ omega (arith, v.number);
       told = rw (used, state) told;
       none_left = ap (λ (q : State). q.sink.shelf.files) state;
-      put = put_behind (g.S.Shelf.files c.args.shelf.now) (g.S.Shelf.files c.lines.shelf) (g.S.Shelf.files c.put_delivered.new.shelf) v.taken t.sink.shelf.files c.pass_over.new.walk.files.items v.put notes c.in-Ok-put_delivered.ensures.ok;
-      noted = noted_behind v.taken t.sink.shelf.files c.pass_over.new.walk.files.items c.put_delivered.new.walk.files.items notes c.in-Ok-put_delivered.ensures.noted;
+      put = put_on (g.S.Shelf.files c.args.shelf.now) (g.S.Shelf.files c.lines.shelf) (g.S.Shelf.files c.put_delivered.new.shelf) [] c.pass_over.new.walk.files.items v.taken t.sink.shelf.files v.put notes c.in-Ok-put_delivered.ensures.ok;
+      noted = noted_on [] c.pass_over.new.walk.files.items c.put_delivered.new.walk.files.items v.taken t.sink.shelf.files notes c.in-Ok-put_delivered.ensures.noted;
       few = omega (arith, lines, used, v.few, c.in-Ok-pass_over.ensures.few);
       room = omega (arith, lines, v.room, shorter);
       link = ap (λ (w : Walk). w.link.profile) two ∙ c.in-Ok-pass_over.ensures.profile ∙ v.bench;
       bench = ap (λ (w : Walk). w.profile.now) two ∙ ap (λ (w : Walk). w.profile.now) one ∙ v.bench;
+      version = ap (λ (w : Walk). w.version) two ∙ ap (λ (w : Walk). w.version) one ∙ v.version;
     }
 
 pub returns-in-Err-put_delivered-clause-err : goal.returns-in-Err-put_delivered-clause-err
@@ -130,13 +145,13 @@ returns-in-Err-put_delivered-clause-err g c =
     let one = c.in-Ok-pass_over.ensures.kept in
     let notes : c.pass_over.new.walk.files.items ≡ sizes v.taken = ap (λ (w : Walk). w.files.items) one ∙ v.noted in
     let given = subst (GivesLine left more held) found c.in-Ok-next_line.ensures.given in
-    let passed = subst (λ q. PassesOver q (line_bytes c.line.result) s t c.lines.rec.to_come c.pass_over.new.rec.to_come c.in-Ok-pass_over.used) v.bench c.in-Ok-pass_over.ensures.passed in
-    let here = subst (λ (o : Option (List ℕ)). PassesOver p o s t c.lines.rec.to_come c.pass_over.new.rec.to_come c.in-Ok-pass_over.used) c.line.ensures passed in
+    let passed = subst (λ w. PassesOver p (read_as w (line_bytes c.line.result)) s t c.lines.rec.to_come c.pass_over.new.rec.to_come c.in-Ok-pass_over.used) v.version (subst (λ q. PassesOver q (read_as c.lines.walk.version (line_bytes c.line.result)) s t c.lines.rec.to_come c.pass_over.new.rec.to_come c.in-Ok-pass_over.used) v.bench c.in-Ok-pass_over.ensures.passed) in
+    let here = subst (λ (o : Option (List ℕ)). PassesOver p (read_as v.head.version o) s t c.lines.rec.to_come c.pass_over.new.rec.to_come c.in-Ok-pass_over.used) c.line.ensures passed in
     let front = c.in-Err-put_delivered.ensures.err in
     record {
       files = v.taken ++ front.front;
-      fault = told_not_put p c.in-Ok.first v.k c.lines.walk.used c.in-Ok-pass_over.used v.taken front.front s t held known left more c.args.rec.now.to_come c.lines.rec.to_come c.pass_over.new.rec.to_come c.in-Err-put_delivered.fault c.in-Err-put_delivered.ensures.fault front.first given here v.told;
-      put = put_behind (g.S.Shelf.files c.args.shelf.now) (g.S.Shelf.files c.lines.shelf) (g.S.Shelf.files c.put_delivered.new.shelf) v.taken front.front c.pass_over.new.walk.files.items v.put notes front.gained;
+      fault = told_not_put p v.head v.k c.lines.walk.used c.in-Ok-pass_over.used v.taken front.front s t held known left more c.args.rec.now.to_come c.lines.rec.to_come c.pass_over.new.rec.to_come c.in-Err-put_delivered.fault c.in-Err-put_delivered.ensures.fault front.first given here v.told;
+      put = put_on (g.S.Shelf.files c.args.shelf.now) (g.S.Shelf.files c.lines.shelf) (g.S.Shelf.files c.put_delivered.new.shelf) [] c.pass_over.new.walk.files.items v.taken front.front v.put notes front.gained;
     }
 
 pub returns-in-Ok-None-clause-ok : goal.returns-in-Ok-None-clause-ok
@@ -151,7 +166,7 @@ returns-in-Ok-None-clause-ok g c =
     let end : GivesNext c.lines.rec.to_come c.next.new.self.to_come (Ok None) = subst (GivesNext c.lines.rec.to_come c.next.new.self.to_come) (c.in-Ok-None.is ∙ ap (λ (o : Option Entry). Ok o) c.in-Ok-None.field-0-is) c.next.ensures.gives in
     record {
       files = v.taken;
-      yes = told_yes c.args.profile.now c.in-Ok.first v.k c.lines.walk.used v.taken c.lines.walk.link.state held left more known c.args.rec.now.to_come c.lines.rec.to_come c.next.new.self.to_come (search rules) v.none_left given end v.told;
+      yes = told_yes c.args.profile.now v.head v.k c.lines.walk.used v.taken c.lines.walk.link.state held left more known c.args.rec.now.to_come c.lines.rec.to_come c.next.new.self.to_come (search rules) v.none_left given end v.told;
       put = v.put;
       answered = v.noted;
     }
@@ -168,7 +183,7 @@ returns-in-Ok-Some-clause-err g c =
     let item : GivesNext c.lines.rec.to_come c.next.new.self.to_come (Ok (Some c.in-Ok-Some.field-0-0)) = subst (GivesNext c.lines.rec.to_come c.next.new.self.to_come) (c.in-Ok-Some.is ∙ ap (λ (o : Option Entry). Ok o) c.in-Ok-Some.field-0-is) c.next.ensures.gives in
     record {
       files = v.taken;
-      fault = told_unfinished c.args.profile.now c.in-Ok.first v.k c.lines.walk.used v.taken c.lines.walk.link.state held known left more c.in-Ok-Some.field-0-0 c.args.rec.now.to_come c.lines.rec.to_come c.next.new.self.to_come v.none_left given item v.told;
+      fault = told_unfinished c.args.profile.now v.head v.k c.lines.walk.used v.taken c.lines.walk.link.state held known left more c.in-Ok-Some.field-0-0 c.args.rec.now.to_come c.lines.rec.to_come c.next.new.self.to_come v.none_left given item v.told;
       put = v.put;
     }
 
@@ -183,7 +198,7 @@ returns-in-Err-next-clause-err g c =
     let found : c.in-Ok-next_line.found ≡ false = search rules in
     let given = subst (GivesLine left more held) found c.in-Ok-next_line.ensures.given in
     let stops : GivesNext c.lines.rec.to_come c.next.new.self.to_come (Err c.in-Err-next.fault) = subst (GivesNext c.lines.rec.to_come c.next.new.self.to_come) c.in-Err-next.is c.next.ensures.gives in
-    let fault = told_stopped p c.in-Ok.first v.k c.lines.walk.used v.taken c.lines.walk.link.state held known left more c.args.rec.now.to_come c.lines.rec.to_come c.next.new.self.to_come c.in-Err-next.fault v.none_left given stops v.told in
+    let fault = told_stopped p v.head v.k c.lines.walk.used v.taken c.lines.walk.link.state held known left more c.args.rec.now.to_come c.lines.rec.to_come c.next.new.self.to_come c.in-Err-next.fault v.none_left given stops v.told in
     record {
       files = v.taken;
       fault = subst (λ (f : StreamFault). WhereTold known c.args.rec.now.to_come (IsStreamFault p f v.taken)) (sym c.of_read.ensures) fault;

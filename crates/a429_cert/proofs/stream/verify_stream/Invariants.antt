@@ -1,6 +1,7 @@
 use Rattle.std.proofs.Common.{◌≡◌, ◌+◌, ◌≤◌, ℕ, List, []}
 use Rattle.a429_word.specs.Tally.{left_of, unread}
 use Rattle.a429_link.specs.declared.file.FileBytes.{FileBytes}
+use Rattle.a429_cert.specs.declared.explained.Head.{Head}
 use Rattle.a429_cert.specs.LineReader.{to_come, room_left}
 use Rattle.a429_cert.specs.Stream.{GainsAll, sizes}
 use Rattle.a429_cert.specs.StreamExplained.{WhereTold}
@@ -9,10 +10,11 @@ use Rattle.a429_cert.proofs.stream.verify_stream.Given as goal
 
 abbrev pub invariant-lines : goal.invariant-lines
 invariant-lines g l = record {
+  head : Head;
   k : ℕ;
   taken : List FileBytes;
   number : l.walk.lines ≡ k + 2;
-  told : WhereTold (unread g.C.Read.remaining l.fn.cert) l.fn.rec.to_come (λ text r. Stands l.profile text r l.first k l.walk.used taken l.walk.link.state (to_come g.C.Read.remaining l.lines l.cert) l.rec.to_come);
+  told : WhereTold (unread g.C.Read.remaining l.fn.cert) l.fn.rec.to_come (λ text r. Stands l.profile text r head k l.walk.used taken l.walk.link.state (to_come g.C.Read.remaining l.lines l.cert) l.rec.to_come);
   none_left : l.walk.link.state.sink.shelf.files ≡ [];
   put : GainsAll (g.S.Shelf.files l.fn.shelf) (g.S.Shelf.files l.shelf) 1 taken;
   noted : l.walk.files.items ≡ sizes taken;
@@ -20,6 +22,7 @@ invariant-lines g l = record {
   room : l.walk.lines + room_left l.lines l.cert ≤ left_of l.fn.cert;
   link : l.walk.link.profile ≡ l.profile;
   bench : l.walk.profile.now ≡ l.profile;
+  version : l.walk.version ≡ head.version;
 }
 
 abbrev pub decreases-lines : goal.decreases-lines

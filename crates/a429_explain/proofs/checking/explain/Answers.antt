@@ -13,3 +13,6 @@ pub returns-in-Ok-clause-accepted : goal.returns-in-Ok-clause-accepted
 returns-in-Ok-clause-accepted c = λ f h.
     let explained = c.in-Ok.ensures.explained in
     no_fault c.args.profile.now c.in-Ok.found.text.items (items_of c.args.entries.now) explained.first explained.steps f explained.explains (rw (sym c.new.ensures) h)
+
+pub returns-in-Ok-clause-version : goal.returns-in-Ok-clause-version
+returns-in-Ok-clause-version c = rw c.new.ensures c.in-Ok.ensures.version

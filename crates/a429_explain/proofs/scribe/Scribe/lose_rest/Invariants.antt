@@ -1,10 +1,11 @@
 use Rattle.std.proofs.Common.{◌≡◌, None}
-use Rattle.a429_explain.specs.Scribe.{WritesNext}
+use Rattle.a429_explain.specs.Scribe.{WritesNext, ClosesOn}
 use Rattle.a429_explain.proofs.scribe.Scribe.lose_rest.Given as goal
 
 abbrev pub invariant-loop : goal.invariant-loop
 invariant-loop l = record {
   profile : l.self.link.profile ≡ l.fn.self.link.profile;
-  loaded : l.self.is_loaded ≡ l.fn.self.is_loaded;
-  written : WritesNext None l.fn.self.text.items l.fn.self.link l.self.text.items l.self.link;
+  grouping : l.self.grouping ≡ l.fn.self.grouping;
+  written : WritesNext None l.fn.self l.self;
+  closed : ClosesOn l.fn.self.link l.self.link;
 }

@@ -5,6 +5,6 @@ use Rattle.a429_explain.proofs.scribe.Scribe.send_later.Given as goal
 abbrev pub invariant-loop : goal.invariant-loop
 invariant-loop l = record {
   profile : l.self.link.profile ≡ l.fn.self.link.profile;
-  loaded : l.self.is_loaded ≡ l.fn.self.is_loaded;
-  written : WritesNext None l.fn.self.text.items l.fn.self.link l.self.text.items l.self.link;
+  grouping : l.self.grouping ≡ l.fn.self.grouping;
+  written : WritesNext None l.fn.self l.self;
 }

@@ -1,0 +1,6 @@
+use Rattle.std.proofs.Common.{rules}
+use Rattle.a429_check.proofs.UpgradeFacts.{version_taken}
+use Rattle.a429_check.proofs.engines.upgrade.take_version.Goals as goal
+
+pub returns-in-Ok-clause-taken : goal.returns-in-Ok-clause-taken
+returns-in-Ok-clause-taken g c = version_taken _ _ c.read_exact.new.buf c.is_version.result (search rules) c.read_exact.auto.buf c.is_version.ensures
