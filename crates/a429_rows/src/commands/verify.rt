@@ -19,7 +19,11 @@ fn verdict_is(
 #[test]
 fn accepted(rt: HostRuntime) -> Result<(), Fail> {
     assert!(rt; verdict_is(rt.alloc(), RECORDING, CERTIFICATE, YES)?);
-    let second = with(rt.alloc(), CERTIFICATE, "arinc429-cert 1 -> arinc429-cert 2")?;
+    let second = with(
+        rt.alloc(),
+        CERTIFICATE,
+        "arinc429-cert 1 -> arinc429-cert 2",
+    )?;
     assert!(rt; verdict_is(rt.alloc(), RECORDING, second.as_str(), YES)?);
     let none = "arinc429-cert 1\nfirst 0\n";
     assert!(rt; verdict_is(rt.alloc(), "time,bus,word\n", none, "0\nYES files 0\n")?);
