@@ -82,7 +82,7 @@ fn certificate_of_one_byte(rt: HostRuntime) {
 
 #[test]
 fn ends_of_the_ranges(rt: HostRuntime) {
-    assert!(rt; ENDS.lines().count() == 5);
+    assert!(rt; ENDS.lines().count() == 6);
     for line in ENDS.lines() {
         assert!(rt; is_line(rt.alloc(), line));
     }
