@@ -23,7 +23,7 @@ use Rattle.a429_cert.specs.declared.version.Version.{Version}
 use Rattle.a429_cert.specs.declared.explained.Head.{Head}
 use Rattle.a429_cert.specs.Lines.{certificate_lines}
 use Rattle.a429_cert.specs.Version.{version_line, read_as, step_lines}
-use Rattle.a429_cert.specs.Explained.{step_of, ShowsStates, ListsStep, ListsSteps, Reaches, IsExplained, AreInSomeRun, AreInEveryRun}
+use Rattle.a429_cert.specs.Explained.{step_of, ShowsStates, ListsStep, ListsSteps, Reaches, Explains, IsExplained, AreInSomeRun, AreInEveryRun}
 use Rattle.a429_cert.specs.Act.{step_with, uses_of}
 use Rattle.a429_cert.specs.Fault.{HasHead}
 use Rattle.a429_cert.specs.Passing.{uses, MakesStep, PassesText}
@@ -120,35 +120,41 @@ line_inside (Moved m) a items i e l = act_inside m.act a items i (slice_get item
 pub begins : (p : Contents) (first : ℕ) (s : State) → s ≡ start p first → Reaches p first [] [] s
 begins p first s e = record { steps = []; lists = tt; used = refl; ends = e }
 
--- what passes is a step
-pub record Passed (p : Contents) (first : ℕ) (lines : List (Option (List ℕ))) (items : List Seen) (k i : ℕ) (t : State) : Type 0 where
+-- what passes is a step, which comes behind the others
+pub record Passed (p : Contents) (first : ℕ) (lines : List (Option (List ℕ))) (items : List Seen) (k i : ℕ) (t : State) (before : List Step) (o : Option Step) : Type 0 where
   pub reached : Reaches p first (take (suc k) lines) (take i items) t
   pub inside : i ≤ length items
+  pub step : Step
+  pub is : o ≡ Some step
+  pub behind : reached.steps ≡ before ++ step ∷ []
 
 passed : (p : Contents) (first : ℕ) (lines : List (Option (List ℕ))) (items : List Seen) (k i : ℕ) (text : List ℕ) (l : CertLine) (s t : State)
-    → slice_get lines k ≡ Some (Some text) → SpellsLine text l → i ≤ length items → Reaches p first (take k lines) (take i items) s
-    → (o : Option Step) → step_of l (slice_get items i) ≡ o → MakesStep p o s t → ShowsStates l t → Passed p first lines items k (i + uses l) t
+    → slice_get lines k ≡ Some (Some text) → SpellsLine text l → i ≤ length items → (h : Reaches p first (take k lines) (take i items) s)
+    → (o : Option Step) → step_of l (slice_get items i) ≡ o → MakesStep p o s t → ShowsStates l t → Passed p first lines items k (i + uses l) t h.steps (step_of l (slice_get items i))
 passed p first lines items k i text l s t g is inside h None e m q = absurd m
 passed p first lines items k i text l s t g is inside h (Some a) e m q =
     let can : Can p a (end_of p h.steps (start p first)) = subst (Can p a) h.ends m.0 in
     let same : t ≡ after p a (end_of p h.steps (start p first)) = m.1 ∙ ap (after p a) h.ends in
     let here : ListsStep p text a (end_of p h.steps (start p first)) = record { line = l; spelled = is; next = slice_get items i; step = e; can = can; shows = subst (ShowsStates l) same q } in
     record {
-      reached = rw (take_next k (Some text) lines g) (record {
+      reached = record {
         steps = h.steps ++ a ∷ [];
-        lists = lists_push p (take k lines) h.steps (start p first) text a h.lists here;
+        lists = rw (take_next k (Some text) lines g) (lists_push p (take k lines) h.steps (start p first) text a h.lists here);
         used = trace_push h.steps a ∙ ap (λ (l : List Seen). l ++ trace (a ∷ [])) h.used ∙ sym (line_used l a items i e);
         ends = same ∙ sym (end_push p h.steps a (start p first));
-      });
+      };
       inside = line_inside l a items i e inside;
+      step = a;
+      is = e;
+      behind = refl;
     }
 
 pub passes_on : (p : Contents) (first : ℕ) (lines : List (Option (List ℕ))) (items : List Seen) (k i used : ℕ) (line : Option (List ℕ)) (s t : State)
-    → slice_get lines k ≡ Some line → i ≤ length items → Reaches p first (take k lines) (take i items) s → PassesText p line (slice_get items i) s t used
-    → Passed p first lines items k (i + used) t
+    → slice_get lines k ≡ Some line → i ≤ length items → (h : Reaches p first (take k lines) (take i items) s) → (m : PassesText p line (slice_get items i) s t used)
+    → Passed p first lines items k (i + used) t h.steps (step_of m.0 (slice_get items i))
 passes_on p first lines items k i used None s t g inside h m = absurd m.1
 passes_on p first lines items k i used (Some text) s t g inside h m =
-    subst (λ n. Passed p first lines items k (i + n) t) (sym m.2.2) (passed p first lines items k i text m.0 s t g m.1 inside h (step_of m.0 (slice_get items i)) refl m.2.0 m.2.1)
+    subst (λ n. Passed p first lines items k (i + n) t h.steps (step_of m.0 (slice_get items i))) (sym m.2.2) (passed p first lines items k i text m.0 s t g m.1 inside h (step_of m.0 (slice_get items i)) refl m.2.0 m.2.1)
 
 -- ---- the end
 
@@ -158,6 +164,19 @@ header_is (x ∷ []) a b e h = absurd (cc h)
 header_is (x ∷ (y ∷ xs)) a b e h = rw (some_is x a e, some_is y b h) refl
 
 -- lines that are all passed, with all entries used
+pub explains_all : (p : Contents) (certificate : List ℕ) (items : List Seen) (d : Head) (k i : ℕ) (s : State)
+    → HasHead certificate d → slice_get (step_lines d.version certificate) k ≡ None → length items ≤ i
+    → (h : Reaches p d.first (take k (step_lines d.version certificate)) (take i items) s) → Explains p certificate items d.first h.steps
+explains_all p certificate items d k i s w g all h =
+    record {
+      version = d.version;
+      lines = drop 2 (certificate_lines certificate);
+      byte = w.1.0;
+      header = header_is (certificate_lines certificate) (Some (version_line d.version)) (Some (spelling (First d.first))) w.0 w.1.1;
+      lists = subst (λ (l : List (Option (List ℕ))). ListsSteps p l h.steps (start p d.first)) (take_all k (step_lines d.version certificate) (none_past (step_lines d.version certificate) k g)) h.lists;
+      used = h.used ∙ take_all i items all;
+    }
+
 pub explained : (p : Contents) (certificate : List ℕ) (items : List Seen) (d : Head) (k i : ℕ) (s : State)
     → HasHead certificate d → slice_get (step_lines d.version certificate) k ≡ None → length items ≤ i
     → Reaches p d.first (take k (step_lines d.version certificate)) (take i items) s → IsExplained p certificate items s.sink.shelf.files
@@ -165,14 +184,7 @@ explained p certificate items d k i s w g all h =
     record {
       first = d.first;
       steps = h.steps;
-      explains = record {
-        version = d.version;
-        lines = drop 2 (certificate_lines certificate);
-        byte = w.1.0;
-        header = header_is (certificate_lines certificate) (Some (version_line d.version)) (Some (spelling (First d.first))) w.0 w.1.1;
-        lists = subst (λ (l : List (Option (List ℕ))). ListsSteps p l h.steps (start p d.first)) (take_all k (step_lines d.version certificate) (none_past (step_lines d.version certificate) k g)) h.lists;
-        used = h.used ∙ take_all i items all;
-      };
+      explains = explains_all p certificate items d k i s w g all h;
       delivers = ap (λ (t : State). t.sink.shelf.files) h.ends;
     }
 
@@ -224,7 +236,7 @@ pub left_on : (lines : List (Option (List ℕ))) (left more : List ℕ) (k : ℕ
 left_on lines left more k e g = let n : k + 1 ≡ suc k = omega arith in g ∙ ap (drop 1) e ∙ drop-drop 1 k lines ∙ ap (λ m. drop m lines) n
 
 pub passed_on : (p : Contents) (first : ℕ) (lines : List (Option (List ℕ))) (items : List Seen) (k i used : ℕ) (line : Option (List ℕ)) (next : Option Seen) (s t : State)
-    → slice_get lines k ≡ Some line → next ≡ slice_get items i → i ≤ length items → Reaches p first (take k lines) (take i items) s → PassesText p line next s t used
-    → Passed p first lines items k (i + used) t
+    → slice_get lines k ≡ Some line → next ≡ slice_get items i → i ≤ length items → (h : Reaches p first (take k lines) (take i items) s) → (m : PassesText p line next s t used)
+    → Passed p first lines items k (i + used) t h.steps (step_of m.0 (slice_get items i))
 passed_on p first lines items k i used line next s t g o inside h m =
     passes_on p first lines items k i used line s t g inside h (subst (λ x. PassesText p line x s t used) o m)

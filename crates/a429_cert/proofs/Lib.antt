@@ -23,3 +23,4 @@ pub mod StreamHeadFacts
 pub mod StreamStands
 pub mod StreamWalk
 pub mod StreamRefused
+pub mod ToldFacts

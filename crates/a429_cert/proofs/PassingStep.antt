@@ -16,7 +16,7 @@ use Rattle.a429_link.specs.declared.step.Step.{Step}
 use Rattle.a429_link.specs.declared.step.Step.TheVariants as step
 use Rattle.a429_link.specs.declared.fault.StepFault.{StepFault}
 use Rattle.a429_link.specs.declared.fault.StepFault.TheVariants as fault
-use Rattle.a429_link.specs.Step.{Can, IsNamedStep, LoadsLdu, IsFault}
+use Rattle.a429_link.specs.Step.{Can, IsNamedStep, IsFault}
 use Rattle.a429_cert.specs.declared.act.Act.{Act}
 use Rattle.a429_cert.specs.declared.act.Act.TheVariants as act
 use Rattle.a429_cert.specs.Act.{step_with}
@@ -32,22 +32,6 @@ use Rattle.a429_cert.specs.Explained.{listed_ldu}
 use Rattle.a429_cert.proofs.Options.{some_is}
 
 -- ---- a step by its letter
-
--- no letter loads
-pub loads_none : (p : Contents) (x : Act) (next : Option Seen) (a : Step) → step_with x next ≡ Some a → LoadsLdu p a
-loads_none p act.Sent (Some i) a e = subst (LoadsLdu p) (some_is _ a e) tt
-loads_none p act.Sent None a e = absurd (cc e)
-loads_none p act.Answered (Some i) a e = subst (LoadsLdu p) (some_is _ a e) tt
-loads_none p act.Answered None a e = absurd (cc e)
-loads_none p act.FreeSeen (Some i) a e = subst (LoadsLdu p) (some_is _ a e) tt
-loads_none p act.FreeSeen None a e = absurd (cc e)
-loads_none p act.SentLost next a e = subst (LoadsLdu p) (some_is _ a e) tt
-loads_none p act.TimeOut next a e = subst (LoadsLdu p) (some_is _ a e) tt
-loads_none p act.TakeAnswer next a e = subst (LoadsLdu p) (some_is _ a e) tt
-loads_none p act.LoseAnswer next a e = subst (LoadsLdu p) (some_is _ a e) tt
-loads_none p act.SinkTakes next a e = subst (LoadsLdu p) (some_is _ a e) tt
-loads_none p act.Silent next a e = subst (LoadsLdu p) (some_is _ a e) tt
-loads_none p act.GiveUp next a e = subst (LoadsLdu p) (some_is _ a e) tt
 
 -- a step of its name is one of its letter
 pub named_of : (p : Contents) (x : Act) (next : Option Seen) (a : Step) (s : State) → step_with x next ≡ Some a → IsNamedStep p a s → IsNamedOf p x s

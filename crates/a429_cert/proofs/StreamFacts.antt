@@ -24,7 +24,7 @@ use Rattle.a429_cert.specs.declared.line.MovedLine.{MovedLine}
 use Rattle.a429_cert.specs.declared.shelf.PutFile.{PutFile}
 use Rattle.a429_link.specs.declared.file.FileBytes.{FileBytes}
 use Rattle.a429_cert.specs.Shelf.{Gains, IsUnchanged}
-use Rattle.a429_cert.specs.Stream.{next_of, TakesNext, PassesNext, RefusesNext, HasEnd, of_cert, PassesOver, RefusesOver, placed, GainsAll, GainsFront, sizes}
+use Rattle.a429_cert.specs.Stream.{next_of, TakesNext, PassesNext, RefusesNext, HasEnd, of_cert, RefusesOver, placed, GainsAll, GainsFront, sizes}
 use Rattle.a429_cert.proofs.PassingText.{fault-listed}
 
 -- ---- the line of a step, and the entries that it uses
@@ -187,10 +187,6 @@ refused_next p x s (Some r) new next n i f g h =
     known_refused p x s r n i f (refuses_over p x s r new next n i (uses_listed x) f refl g h) (has_end p x s r new next n i (uses_listed x) f refl g h)
 
 -- ---- a line of the text
-
-pub passes_text : (p : Contents) (text : Option (List ℕ)) (x : Listed) (s t : State) (old new : Option Recording) (used : ℕ) → Lists p text x s → PassesNext p x s t old new used → PassesOver p text s t old new used
-passes_text p text x s t None new used h m = tt
-passes_text p text x s t (Some r) new used h m = ((h.0, h.1, m.0 h.0 h.2), m.1)
 
 -- a letter that uses an entry may be made with some
 act_named : (p : Contents) (x : Act) (s : State) → uses_of x ≡ 1 → IsReadyOf p x s → IsNamedOf p x s

@@ -36,10 +36,10 @@ shows_earlier (First file) files t h = tt
 shows_earlier (Load u) files t h = tt
 shows_earlier (Moved m) files t h = h
 
-text_earlier : (p : Contents) (text : Option (List ℕ)) (next : Option Seen) (files : List FileBytes) (s t : State) (used : ℕ) → PassesText p text next s t used → PassesText p text next (with_earlier files s) (with_earlier files t) used
+pub text_earlier : (p : Contents) (text : Option (List ℕ)) (next : Option Seen) (files : List FileBytes) (s t : State) (used : ℕ) → PassesText p text next s t used → PassesText p text next (with_earlier files s) (with_earlier files t) used
 text_earlier p text next files s t used h = (h.0, h.1, (step_earlier p _ files s t h.2.0, shows_earlier h.0 files t h.2.1, h.2.2))
 
-handed : (files : List FileBytes) (s : State) → with_earlier (files ++ s.sink.shelf.files) (handed_out s) ≡ with_earlier files s
+pub handed : (files : List FileBytes) (s : State) → with_earlier (files ++ s.sink.shelf.files) (handed_out s) ≡ with_earlier files s
 handed files s = ap (λ (l : List FileBytes). filed l) (append-nil (files ++ s.sink.shelf.files))
   where
     filed : List FileBytes → State
@@ -124,7 +124,7 @@ line_cut v lines k left more line h g =
     let raw = cut_of (slice_get lines k) line (line_next lines k left more line h g) in
     (read_as v raw.0, line_read v lines k raw.0 raw.1, sym (read_cut v raw.0) ∙ ap (read_as v) raw.2)
 
-text_back : (p : Contents) (raw line : Option (List ℕ)) (next : Option Seen) (s t : State) (used : ℕ) → cut raw ≡ line → PassesText p line next s t used → PassesText p raw next s t used
+pub text_back : (p : Contents) (raw line : Option (List ℕ)) (next : Option Seen) (s t : State) (used : ℕ) → cut raw ≡ line → PassesText p line next s t used → PassesText p raw next s t used
 text_back p raw line next s t used e h = (h.0, says_back raw h.0 (subst (λ o. SaysLine o h.0) (sym e) h.1), h.2)
 
 pub goes_on : (p : Contents) (text : List ℕ) (r : Recording) (d : Head) (k i used : ℕ) (taken : List FileBytes) (s t : State) (line left more : Option (List ℕ)) (rec new : Option Recording)

@@ -15,3 +15,4 @@ pub mod Shelf
 pub mod Stream
 pub mod StreamHead
 pub mod StreamExplained
+pub mod Told

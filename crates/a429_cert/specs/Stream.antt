@@ -21,6 +21,7 @@ use Rattle.a429_link.specs.Run.{IsPrefixOf}
 use Rattle.a429_cert.specs.Explained.{items_of}
 use Rattle.a429_cert.specs.Version.{read_as}
 use Rattle.a429_cert.specs.Fault.{SaysLine, IsNamed, IsFaultOfLine}
+use Rattle.a429_cert.specs.Told.{Hearing, HearsText}
 use Rattle.a429_cert.specs.Passing.{uses, uses_listed, PassesListed, RefusesListed, PassesText}
 
 -- ---- a recording that is read as it comes
@@ -100,6 +101,10 @@ WalksOver old new text rec rest used = PassesOver old.profile.now (read_as old.v
 -- why a walk ends at this line, which was handed out last
 abbrev pub EndsWalk : Walk → Option (List ℕ) → Option Recording → StreamFault → Type 0
 EndsWalk walk text rec f = RefusesOver walk.profile.now (read_as walk.version text) walk.link.state rec walk.lines walk.used f
+
+-- a listener is told of what this line lists, which was handed out last
+abbrev pub HearsLine : {T : Type 0} → Hearing T → Walk → Option (List ℕ) → Option Recording → T → T → Type 0
+HearsLine hears walk text rec old new = HearsText hears walk.profile.now (read_as walk.version text) walk.link.state rec walk.used old new
 
 -- a walk hands out the files that its link has delivered: nothing else changes, but what was noted
 abbrev pub HandsOut : Walk → Walk → Type 0

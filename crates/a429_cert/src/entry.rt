@@ -1,6 +1,6 @@
 //! What a run records of the entries of a recording.
 
-ghost use Rattle.std.specs.Prelude.{◌≡◌, slice_get};
+ghost use Rattle.std.specs.Prelude.{◌≡◌, option_map, slice_get};
 ghost use Rattle.a429_cert.specs.Explained.{seen_of, items_of};
 
 use a429_link::Seen;
@@ -13,6 +13,16 @@ pub fn seen(entry: Entry) -> Seen
     Seen {
         bus: entry.bus,
         word: entry.word,
+    }
+}
+
+/// What a run records of an entry, if there is one.
+pub(crate) fn seen_in(entry: &Option<Entry>) -> Option<Seen>
+    ensures { result ≡ option_map seen_of entry.now }
+{
+    match entry {
+        Some(entry) => Some(seen(*entry)),
+        None => None,
     }
 }
 

@@ -1,29 +1,32 @@
 //! A certificate, held against a recording, both read as they come.
 
-ghost use Rattle.std.specs.Prelude.{◌≡◌, ◌≢◌, ◌≤◌, ◌⊎◌, [], ◌∷◌, ◌++◌, true, IfOk, IfErr, IfSome, IsSome, IsErrOf, OnOk, OnErr};
+ghost use Rattle.std.specs.Prelude.{◌≡◌, ◌≢◌, ◌≤◌, ◌⊎◌, [], ◌∷◌, ◌++◌, true, option_map, IfOk, IfErr, IfSome, IsSome, IsErrOf, OnOk, OnErr};
 ghost use Rattle.a429_profile.specs.Profile.{IsProfile};
 ghost use Rattle.a429_record.specs.declared.fault.ReadFault.TheVariants as read;
 ghost use Rattle.a429_cert.specs.Lines.{line_bytes};
 ghost use Rattle.a429_cert.specs.Shelf.{IsUnchanged};
 ghost use Rattle.a429_cert.specs.Passing.{IsReady, uses_listed};
 ghost use Rattle.a429_word.specs.Tally.{has_failed, unread};
-ghost use Rattle.a429_cert.specs.StreamExplained.{Answers, Refuses};
-ghost use Rattle.a429_cert.specs.Stream.{IsFaultNext, RefusesNext, PassesNext, TakesNext, WalksOver, EndsWalk, HandsOut, PutsFiles, PutsFirstFiles, sizes};
+ghost use Rattle.a429_cert.specs.Explained.{seen_of};
+ghost use Rattle.a429_cert.specs.StreamExplained.{Answers, Refuses, WhereTold};
+ghost use Rattle.a429_cert.specs.Told.{IsHeard, IsNextEntry, HearsListed, told_listed, numbered};
+ghost use Rattle.a429_cert.specs.Stream.{IsFaultNext, RefusesNext, PassesNext, TakesNext, WalksOver, EndsWalk, HandsOut, HearsLine, PutsFiles, PutsFirstFiles, sizes};
 
 use crate::at::At;
-use crate::entry::seen;
-use crate::fault::CertFault;
+use crate::entry::seen_in;
+use crate::fault::{CertFault, OutOfMemory};
 use crate::line_reader::LineReader;
 use crate::lines::TextLine;
 use crate::listed::Listed;
+use crate::listener::{Listener, NoListener};
 use crate::passing::{list_step, take_step};
 use crate::shelf::{Shelf, ShelfFault};
 use crate::stream_fault::{StreamFault, of_cert, of_read};
 use crate::stream_head::begin;
 use crate::version::Version;
-use a429_link::{FileBytes, Link, Seen};
+use a429_link::{FileBytes, Link};
 use a429_profile::Profile;
-use a429_record::{EntryReader, ReadFault};
+use a429_record::{Entry, EntryReader, ReadFault};
 use a429_word::Tally;
 use std::alloc::Global;
 use std::io::Read;
@@ -40,6 +43,25 @@ pub fn verify_stream<R: Read, C: Read, S: Shelf>(
     shelf: &mut S,
 ) -> Result<Vec<(u8, u32)>, StreamFault>
     ensures ok { IfOk result (Answers profile.now (unread C.remaining cert.old) rec.old.to_come (S.files shelf.old) (S.files shelf.new)) }
+    ensures err { IfErr result (Refuses profile.now (unread C.remaining cert.old) rec.old.to_come (S.files shelf.old) (S.files shelf.new)) }
+    ensures device { IsErrOf result StreamFault.Device → (has_failed cert.new ≡ true) ⊎ (S.failed shelf.new ≡ true) }
+    ensures read { IsErrOf result (StreamFault.Read read.Device) → rec.new.failed ≡ true }
+{
+    replay_stream(alloc, profile, rec, cert, shelf, &mut NoListener)
+}
+
+/// The same, and a listener is told of each step as it comes. Where the answer is a yes, it has heard the
+/// steps of the run by which the certificate explains the recording, each once and in order.
+pub fn replay_stream<R: Read, C: Read, S: Shelf, T: Listener>(
+    alloc: Global,
+    profile: &Profile,
+    rec: &mut EntryReader<R>,
+    cert: &mut Tally<C>,
+    shelf: &mut S,
+    listener: &mut T,
+) -> Result<Vec<(u8, u32)>, StreamFault>
+    ensures ok { IfOk result (Answers profile.now (unread C.remaining cert.old) rec.old.to_come (S.files shelf.old) (S.files shelf.new)) }
+    ensures heard { OnOk result (WhereTold (unread C.remaining cert.old) rec.old.to_come (IsHeard T.hears profile.now listener.old listener.new)) }
     ensures err { IfErr result (Refuses profile.now (unread C.remaining cert.old) rec.old.to_come (S.files shelf.old) (S.files shelf.new)) }
     ensures device { IsErrOf result StreamFault.Device → (has_failed cert.new ≡ true) ⊎ (S.failed shelf.new ≡ true) }
     ensures read { IsErrOf result (StreamFault.Read read.Device) → rec.new.failed ≡ true }
@@ -68,7 +90,7 @@ pub fn verify_stream<R: Read, C: Read, S: Shelf>(
             break;
         }
         walk.lines += 1;
-        match pass_over(&mut walk, lines.line(), rec) {
+        match pass_over(&mut walk, lines.line(), rec, listener) {
             Ok(used) => walk.used += used,
             Err(fault) => return Err(fault),
         }
@@ -84,52 +106,17 @@ pub fn verify_stream<R: Read, C: Read, S: Shelf>(
     }
 }
 
-// Reads what is recorded in the next entry, where the step that a line lists uses one.
-fn entry_for<R: Read>(rec: &mut EntryReader<R>, listed: &Listed) -> Result<Option<Seen>, ReadFault>
-    ensures taken { IfOk result (λ next. TakesNext (uses_listed listed.now) rec.old.to_come rec.new.to_come next) }
+// Reads the next entry, where the step that a line lists uses one.
+fn entry_for<R: Read>(rec: &mut EntryReader<R>, listed: &Listed) -> Result<Option<Entry>, ReadFault>
+    ensures taken { IfOk result (λ next. TakesNext (uses_listed listed.now) rec.old.to_come rec.new.to_come (option_map seen_of next)) }
+    ensures entry { IfOk result (IsNextEntry (uses_listed listed.now) rec.old.to_come) }
     ensures fault { IfErr result (λ f. IsFaultNext (uses_listed listed.now) rec.old.to_come f) }
     ensures device { IsErrOf result read.Device → rec.new.failed ≡ true }
 {
     if listed.used() == 0 {
         return Ok(None);
     }
-    match rec.next() {
-        Ok(Some(entry)) => Ok(Some(seen(entry))),
-        Ok(None) => Ok(None),
-        Err(fault) => Err(fault),
-    }
-}
-
-// Takes the step that line n lists, with the next entry, number i, if it uses one. Answers how many
-// entries it uses, 0 or 1.
-fn take_next<R: Read>(
-    link: &mut Link<'_>,
-    listed: Listed,
-    rec: &mut EntryReader<R>,
-    n: usize,
-    i: usize,
-) -> Result<usize, StreamFault>
-    requires { IsReady link.old.profile listed link.old.state }
-    ensures passed { IfOk result (PassesNext link.old.profile listed link.old.state link.new.state rec.old.to_come rec.new.to_come) }
-    ensures few { IfOk result (λ used. used ≤ 1) }
-    ensures refused { IfErr result (λ f. RefusesNext link.old.profile listed link.old.state rec.old.to_come n i f) }
-    ensures device { IsErrOf result (StreamFault.Read read.Device) → rec.new.failed ≡ true }
-    ensures other { IfErr result (λ f. f ≢ StreamFault.Device) }
-    ensures kept { link.new.profile ≡ link.old.profile }
-{
-    let next = match entry_for(rec, &listed) {
-        Ok(next) => next,
-        Err(fault) => return Err(of_read(fault)),
-    };
-    let at = At {
-        line: n,
-        entry: i,
-        next,
-    };
-    match take_step(link, listed, at) {
-        Ok(used) => Ok(used),
-        Err(fault) => Err(of_cert(fault)),
-    }
+    rec.next()
 }
 
 // A walk along the lines of a certificate, over a recording.
@@ -146,16 +133,77 @@ pub struct Walk<'a> {
     files: Vec<(u8, u32)>,
 }
 
-// Takes the last line that was handed out, over the next entry, if its step uses one. Answers how many
-// entries it uses, 0 or 1.
-pub fn pass_over<R: Read>(
+// Tells a listener of the step that a line lists, with the entry that it uses.
+fn tell<T: Listener>(
+    walk: &Walk<'_>,
+    listed: &Listed,
+    next: Option<Entry>,
+    listener: &mut T,
+) -> Result<(), OutOfMemory>
+    ensures { OnOk result (T.hears walk.now.profile.now listener.old (told_listed walk.now.link.state.source.number listed.now (numbered walk.now.used next)) listener.new) }
+{
+    match listed {
+        Listed::Load(unit) => listener.load(walk.profile, walk.link.number(), unit),
+        Listed::Moved(line) => listener.make(walk.profile, line.act, numbered(walk.used, next)),
+    }
+}
+
+// An entry with its number.
+fn numbered(number: usize, entry: Option<Entry>) -> Option<(usize, Entry)>
+    ensures { result ≡ numbered number entry }
+{
+    Some((number, entry?))
+}
+
+// Takes the step that the last line lists, with the next entry, if it uses one. Answers how many entries
+// it uses, 0 or 1.
+fn take_next<R: Read, T: Listener>(
+    walk: &mut Walk<'_>,
+    listed: Listed,
+    rec: &mut EntryReader<R>,
+    listener: &mut T,
+) -> Result<usize, StreamFault>
+    requires { IsReady walk.old.link.profile listed walk.old.link.state }
+    ensures passed { IfOk result (PassesNext walk.old.link.profile listed walk.old.link.state walk.new.link.state rec.old.to_come rec.new.to_come) }
+    ensures heard { OnOk result (HearsListed T.hears walk.old.profile.now listed walk.old.link.state rec.old.to_come walk.old.used listener.old listener.new) }
+    ensures few { IfOk result (λ used. used ≤ 1) }
+    ensures refused { IfErr result (RefusesNext walk.old.link.profile listed walk.old.link.state rec.old.to_come walk.old.lines walk.old.used) }
+    ensures device { IsErrOf result (StreamFault.Read read.Device) → rec.new.failed ≡ true }
+    ensures other { IfErr result (λ f. f ≢ StreamFault.Device) }
+    ensures kept { walk.new ≡ record (walk.old) { link = walk.new.link } }
+    ensures profile { walk.new.link.profile ≡ walk.old.link.profile }
+{
+    let next = match entry_for(rec, &listed) {
+        Ok(next) => next,
+        Err(fault) => return Err(of_read(fault)),
+    };
+    let at = At {
+        line: walk.lines,
+        entry: walk.used,
+        next: seen_in(&next),
+    };
+    match tell(walk, &listed, next, listener) {
+        Ok(()) => {}
+        Err(_) => return Err(StreamFault::OutOfMemory),
+    }
+    match take_step(&mut walk.link, listed, at) {
+        Ok(used) => Ok(used),
+        Err(fault) => Err(of_cert(fault)),
+    }
+}
+
+// Takes the last line that was handed out, over the next entry, if its step uses one, and tells a listener.
+// Answers how many entries it uses, 0 or 1.
+pub fn pass_over<R: Read, T: Listener>(
     walk: &mut Walk<'_>,
     line: TextLine<'_>,
     rec: &mut EntryReader<R>,
+    listener: &mut T,
 ) -> Result<usize, StreamFault>
     requires sound { IsProfile walk.old.profile.now }
     requires profile { walk.old.link.profile ≡ walk.old.profile.now }
     ensures passed { IfOk result (WalksOver walk.old walk.new (line_bytes line.entry) rec.old.to_come rec.new.to_come) }
+    ensures heard { OnOk result (HearsLine T.hears walk.old (line_bytes line.entry) rec.old.to_come listener.old listener.new) }
     ensures ended { OnOk result (IsSome (line_bytes line.entry)) }
     ensures few { IfOk result (λ used. used ≤ 1) }
     ensures refused { IfErr result (EndsWalk walk.old (line_bytes line.entry) rec.old.to_come) }
@@ -166,7 +214,7 @@ pub fn pass_over<R: Read>(
 {
     let text = walk.version.read(line);
     match list_step(walk.alloc, walk.profile, &walk.link, text, walk.lines) {
-        Ok(listed) => take_next(&mut walk.link, listed, rec, walk.lines, walk.used),
+        Ok(listed) => take_next(walk, listed, rec, listener),
         Err(fault) => Err(of_cert(fault)),
     }
 }

@@ -48,10 +48,6 @@ heard_range p is items n h k = formed_range p is k.item.bus k.item.word h.form (
 
 -- ---- the forms of all words
 
-pub items_long : (c : Codes) (items : List Seen) → length (forms_of c items) ≡ length items
-items_long c [] = refl
-items_long c (i ∷ items) = ap suc (items_long c items)
-
 -- those from a word on
 pub forms_from : (c : Codes) (items : List Seen) (n : ℕ) (h : HeardWord) → IsHeardAt c items n h → drop n (forms_of c items) ≡ h.form ∷ drop (n + 1) (forms_of c items)
 forms_from c items n h k =

@@ -16,7 +16,7 @@ use Rattle.a429_explain.specs.Whole.{words_for, other_request}
 
 -- ---- the first two tests
 
--- the first request of the group that wants another number of words
+-- the first request of the group that wants another number of words than its first one
 abbrev pub other_for : HeardValue → Request → Option ℕ
 other_for h r = other_request h.profile.codes r.count (words_for h r) r.group.from
 
@@ -42,12 +42,13 @@ IsWhyNoUnit h r OutOfMemory = other_for h r ≡ None
 
 -- ---- all three
 
--- the words of the group stand, too, in the block of its link data unit under these numbers
+-- the words of the group stand, too, in the block of its link data unit under these numbers: each is matched with the
+-- first equal word there that is not yet passed, at each request from the start of the block on
 pub record IsMatchedUnit (h : HeardValue) (r : Request) (place : UnitNumber) (u : LduValue) : Type 0 where
   pub gives : IsUnitFor h r u
   pub matched : AreMatched h.profile.codes u place h.items r.group.from r.group.to
 
--- word i is the first of the group that does not
+-- word i is the first of the group that is matched with none
 pub record IsUnmatched (h : HeardValue) (r : Request) (place : UnitNumber) (i : ℕ) : Type 0 where
   pub unit : LduValue
   pub gives : IsUnitFor h r unit
@@ -55,7 +56,8 @@ pub record IsUnmatched (h : HeardValue) (r : Request) (place : UnitNumber) (i : 
   pub before : AreMatched h.profile.codes unit place h.items r.group.from i
   pub unmatched : ¬ AreMatched h.profile.codes unit place h.items r.group.from (i + 1)
 
--- the first test that the group fails, and the place where it does
+-- the first test that the group fails, and the place where it does: a request of another count, the group's first request
+-- where there is no link data unit, or the first word that is matched with none
 abbrev pub IsDoubtIn : HeardValue → Request → UnitNumber → ℕ → Doubt → Type 0
 IsDoubtIn h r place i NotOneBlock = IsWhyNoUnit h r (Unexplained i NotOneBlock) ⊎ IsUnmatched h r place i
 IsDoubtIn h r place i doubt = IsWhyNoUnit h r (Unexplained i doubt)

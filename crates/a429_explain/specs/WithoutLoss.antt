@@ -11,7 +11,7 @@ pub record Crossing : Type 0 where
   pub max_words : ℕ
   pub files : List (List ℕ)
 
--- these numbers are in their ranges, and none of the files is refused
+-- these numbers are in their ranges, and none of the files is refused: each has bytes, and not too many
 pub record CanCross (x : Crossing) : Type 0 where
   pub byte : x.first ≤ 255
   pub least : 3 ≤ x.max_words
@@ -19,7 +19,8 @@ pub record CanCross (x : Crossing) : Type 0 where
   pub bytes : AllByRecursion (All (λ b. b < 256)) x.files
   pub cut : first_refused x.max_words 0 x.files ≡ None
 
--- the words that are not free are those of files that cross without loss
+-- the words that are not free are those of files that cross without loss: each of their link data units is asked for,
+-- cleared, sent and acknowledged once
 pub record IsWithoutLoss (p : Contents) (items : List Seen) : Type 0 where
   pub crossing : Crossing
   pub can : CanCross crossing

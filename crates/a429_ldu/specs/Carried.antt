@@ -45,9 +45,9 @@ semis_of_words c (w ∷ ws) = joined_to (semis_in (form_of c bus.A w)) (semis_of
 abbrev pub semis_held : List ℕ → Option ℕ → List ℕ
 semis_held bytes low = semis_of_bytes bytes ++ option_to_list low
 
--- what is held, and the semi-octets of words behind it; none where a word is no data word of bus A
-abbrev pub held_with_words : Codes → List ℕ → List ℕ → Option ℕ → Option (List ℕ)
-held_with_words c words bytes low = joined_to (Some (semis_held bytes low)) (semis_of_words c words)
+-- each word is a data word of bus A, and with their semi-octets the bytes and the semi-octet that were held become these
+abbrev pub AddSemis : Codes → List ℕ → List ℕ → Option ℕ → List ℕ → Option ℕ → Type 0
+AddSemis c words bytes low more rest = joined_to (Some (semis_held bytes low)) (semis_of_words c words) ≡ Some (semis_held more rest)
 
 -- how many are held
 abbrev pub semis_count : ℕ → Option ℕ → ℕ

@@ -7,7 +7,7 @@ ghost use Rattle.a429_word.specs.declared.bus.Bus.TheVariants as bus;
 ghost use Rattle.a429_profile.specs.Profile.{IsProfile};
 ghost use Rattle.a429_ldu.specs.Semis.{five_of};
 ghost use Rattle.a429_ldu.specs.Form.{fields_of, full_fields, form_of};
-ghost use Rattle.a429_ldu.specs.Carried.{CarryBytes, semis_in, semis_of_words, semis_held, held_with_words, semis_count, paired, if_some, bytes_carried};
+ghost use Rattle.a429_ldu.specs.Carried.{CarryBytes, semis_in, semis_of_words, semis_held, AddSemis, semis_count, paired, if_some, bytes_carried};
 ghost use Rattle.a429_ldu.specs.Ldu.{most_data_words};
 
 use crate::forms::Form;
@@ -79,7 +79,7 @@ fn carry(
 ) -> Option<Option<u8>>
     requires low { IfSome low (λ digit. digit < 16) }
     requires room { semis_count (array_vec_len bytes.old) low + 5 * length words.now ≤ 1265 }
-    ensures semis { IfSome result (λ rest. held_with_words profile.now.codes words.now bytes.old.items low ≡ Some (semis_held bytes.new.items rest)) }
+    ensures semis { IfSome result (λ rest. AddSemis profile.now.codes words.now bytes.old.items low bytes.new.items rest) }
     ensures low { IfSome result (λ rest. IfSome rest (λ digit. digit < 16)) }
     ensures none { result ≡ None → semis_of_words profile.now.codes words.now ≡ None }
     ensures sound { IsProfile profile.now }

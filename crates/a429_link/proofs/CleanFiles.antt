@@ -21,7 +21,7 @@ use Rattle.a429_ldu.specs.declared.fault.CutFault.{CutFault}
 use Rattle.a429_link.specs.declared.fault.CleanFault.TheVariants.{Cut}
 use Rattle.a429_link.proofs.CleanRuns.{clean_goes, clean_records, start_ready, Records, trace_append}
 use Rattle.a429_link.specs.declared.number.UnitNumber.{UnitNumber}
-use Rattle.a429_link.specs.Number.{first_number, next_number, number_after}
+use Rattle.a429_link.specs.Number.{first_number, number_after}
 
 -- ---- one file
 
@@ -146,25 +146,6 @@ files_cross p w first files is l h =
 pub record AreWords (c : Codes) (file : ℕ) (next : UnitNumber) (i : ℕ) (us : List LduValue) (old now : List Seen) : Type 0 where
   pub low : next.ldu ≤ c.first_ldu + i
   pub records : now ++ clean_blocks c next (drop i us) ≡ old ++ clean_blocks c (first_number c file) us
-
-after_low : (c : Codes) (n : UnitNumber) (i : ℕ) (final : Bool) → n.ldu ≤ c.first_ldu + i → (next_number c n final).ldu ≤ c.first_ldu + (i + 1)
-after_low c n i true l = omega arith
-after_low c n i false l = omega arith
-
-pub words_more : (c : Codes) (file : ℕ) (n : UnitNumber) (i : ℕ) (us : List LduValue) (old now new : List Seen) (u : LduValue) → i < length us → u ≡ get_or us i u → new ≡ now ++ clean_block c n u → AreWords c file n i us old now → AreWords c file (number_after c n u) (i + 1) us old new
-words_more c file n i us old now new u l eu en h =
-    let split : drop i us ≡ u ∷ drop (i + 1) us = drop_more us i u l ∙ ap (λ (v : LduValue). v ∷ drop (i + 1) us) (sym eu) in
-    record {
-      low = after_low c n i _ h.low;
-      records =
-          ap (λ (s : List Seen). s ++ clean_blocks c (number_after c n u) (drop (i + 1) us)) en
-          ∙ append_assoc now (clean_block c n u) (clean_blocks c (number_after c n u) (drop (i + 1) us))
-          ∙ ap (λ (vs : List LduValue). now ++ clean_blocks c n vs) (sym split)
-          ∙ h.records;
-    }
-
-pub words_end : (c : Codes) (file : ℕ) (n : UnitNumber) (i : ℕ) (us : List LduValue) (old now : List Seen) → length us ≤ i → AreWords c file n i us old now → now ≡ old ++ clean_blocks c (first_number c file) us
-words_end c file n i us old now l h = sym (append-nil now) ∙ ap (λ (vs : List LduValue). now ++ clean_blocks c n vs) (sym (drop_all i us l)) ∙ h.records
 
 -- ---- the files still to come
 

@@ -13,6 +13,9 @@ good_where p last count b check bytes n e =
     ap (λ t. t && (is_some (bytes_carried p.codes b.words) && (agrees p.check (bytes_in p.codes b.words) check && may))) (eq-eqb (length b.words + 2) count n)
     ∙ ap (λ (o : Option (List ℕ)). is_some o && (agrees p.check (unwrap_or o []) check && may)) e
 
--- bytes that are found
-pub found_bytes : (o : Option (ArrayVec ℕ)) (v : ArrayVec ℕ) (r : Option (List ℕ)) → option_map (λ (b : ArrayVec ℕ). b.items) o ≡ r → o ≡ Some v → r ≡ Some v.items
-found_bytes o v r e h = sym e ∙ ap (option_map (λ (b : ArrayVec ℕ). b.items)) h
+-- a block of the right count, whose words are these, and of whose words these bytes were made
+pub good_made : (p : Contents) (last : Option Number) (count : ℕ) (b : Block) (check : ℕ) (words : List ℕ) (o : Option (ArrayVec ℕ)) (v : ArrayVec ℕ) → words ≡ b.words → length words + 2 ≡ count → option_map (λ (a : ArrayVec ℕ). a.items) o ≡ bytes_carried p.codes words → o ≡ Some v → is_good p last count b check ≡ (agrees p.check v.items check && may_come p.codes last (number_of b))
+good_made p last count b check words o v same n made is =
+    good_where p last count b check v.items
+    (ap (λ ws. length ws + 2) (sym same) ∙ n)
+    (ap (bytes_carried p.codes) (sym same) ∙ (sym made ∙ ap (option_map (λ (a : ArrayVec ℕ). a.items)) is))

@@ -39,6 +39,10 @@ abbrev pub clean_blocks : Codes → UnitNumber → List LduValue → List Seen
 clean_blocks c n [] = []
 clean_blocks c n (u ∷ us) = clean_block c n u ++ clean_blocks c (number_after c n u) us
 
+-- those of a file's link data units, the file under this number
+abbrev pub clean_file : Codes → ℕ → List LduValue → List Seen
+clean_file c file us = clean_blocks c (first_number c file) us
+
 -- each is one of the profile, and may be loaded under its number
 abbrev pub AllFit : Contents → UnitNumber → List LduValue → Type 0
 AllFit p n [] = Unit {0}
@@ -104,7 +108,7 @@ units_of_files p max_words (bytes ∷ files) = units_of p max_words bytes ++ uni
 
 -- what a run without loss records that carries these files, the first under this number
 abbrev pub clean_words : Contents → ℕ → ℕ → List (List ℕ) → List Seen
-clean_words p max_words first files = clean_blocks p.codes (first_number p.codes first) (units_of_files p max_words files)
+clean_words p max_words first files = clean_file p.codes first (units_of_files p max_words files)
 
 abbrev pub all_steps : List (List Step) → List Step
 all_steps [] = []

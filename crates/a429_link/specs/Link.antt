@@ -4,6 +4,7 @@ use Rattle.a429_profile.specs.Profile.{Contents, IsProfile}
 use Rattle.a429_link.specs.declared.file.FileBytes.{FileBytes}
 use Rattle.a429_link.specs.declared.step.Step.{Step}
 use Rattle.a429_link.specs.Step.{Can, after}
+use Rattle.a429_link.specs.Sink.{without_files}
 use Rattle.a429_link.specs.State.{State}
 use Rattle.a429_link.specs.Run.{IsReached}
 
@@ -18,7 +19,7 @@ with_earlier files s = record s { sink = record (s.sink) { shelf = record (s.sin
 
 -- the state with its delivered files handed out
 abbrev pub handed_out : State → State
-handed_out s = record s { sink = record (s.sink) { shelf = record (s.sink.shelf) { files = [] } } }
+handed_out s = record s { sink = without_files s.sink }
 
 -- some run of the profile leads here, where files that were handed out count as delivered
 pub record IsKept (p : Contents) (s : State) : Type 0 where

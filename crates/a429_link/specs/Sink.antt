@@ -94,6 +94,10 @@ is_good p last count b check =
     && (agrees p.check (bytes_in p.codes b.words) check
     && may_come p.codes last (number_of b)))
 
+-- the same by what this sink accepted last, and by the count of its last request
+abbrev pub is_good_for : Sink → Contents → Block → ℕ → Bool
+is_good_for k p b check = is_good p k.last k.count b check
+
 -- ---- taking words
 
 -- a start word begins a block where the sink is granted, or in a block; a data word joins a block;
@@ -112,12 +116,30 @@ at_end p last count flags check Granted = OwesNak
 at_end p last count flags check (InBlock b) = if is_good p last count b check then OwesAck b flags else OwesNak
 at_end p last count flags check phase = phase
 
--- the sink after a word of this form; a request is taken in each phase, and ends a block
+-- the sink in this phase, with all else as it was
+abbrev pub in_phase : SinkPhase → Sink → Sink
+in_phase phase k = record k { phase = phase }
+
+-- the sink after a request, which is taken in each phase, and ends a block
+abbrev pub takes_request : ℕ → Sink → Sink
+takes_request count k = record k { count = count; phase = OwesClear }
+
+-- the sink after the start word of this block, after this data word, and after an end word
+abbrev pub takes_start : Block → Sink → Sink
+takes_start b k = in_phase (at_start b k.phase) k
+
+abbrev pub takes_part : ℕ → Sink → Sink
+takes_part word k = in_phase (at_part word k.phase) k
+
+abbrev pub takes_end : Contents → ℕ → ℕ → Sink → Sink
+takes_end p flags check k = in_phase (at_end p k.last k.count flags check k.phase) k
+
+-- the sink after a word of this form
 abbrev pub takes : Contents → ℕ → Form → Sink → Sink
-takes p word (Rts n) k = record k { count = n; phase = OwesClear }
-takes p word (Sot gfi file ldu) k = record k { phase = at_start (empty_block gfi file ldu) k.phase }
-takes p word (Part semis) k = record k { phase = at_part word k.phase }
-takes p word (Eot flags check) k = record k { phase = at_end p k.last k.count flags check k.phase }
+takes p word (Rts n) k = takes_request n k
+takes p word (Sot gfi file ldu) k = takes_start (empty_block gfi file ldu) k
+takes p word (Part semis) k = takes_part word k
+takes p word (Eot flags check) k = takes_end p flags check k
 takes p word _ k = k
 
 abbrev pub takes_form : Contents → ℕ → Option Form → Sink → Sink
@@ -164,11 +186,15 @@ abbrev pub accepts_owed : Codes → SinkPhase → Sink → Sink
 accepts_owed c (OwesAck b flags) k = accepts c b flags k
 accepts_owed c phase k = k
 
+-- the sink that accepts the block for which it owes an acknowledgement; where it owes none, it stays
+abbrev pub accepts_block : Codes → Sink → Sink
+accepts_block c k = accepts_owed c k.phase k
+
 -- the sink after it has given an answer of this form: an acknowledgement accepts its block
 abbrev pub answers : Codes → Form → Sink → Sink
-answers c (Cts n) k = record k { phase = Granted }
-answers c (Ack file ldu) k = record (accepts_owed c k.phase k) { phase = Quiet }
-answers c (Nak bits) k = record k { phase = Quiet }
+answers c (Cts n) k = in_phase Granted k
+answers c (Ack file ldu) k = in_phase Quiet (accepts_block c k)
+answers c (Nak bits) k = in_phase Quiet k
 answers c _ k = k
 
 abbrev pub answers_form : Codes → Option Form → Sink → Sink
@@ -178,6 +204,18 @@ answers_form c (Some x) k = answers c x k
 -- the sink after it has given this word of bus B
 abbrev pub answers_word : Codes → ℕ → Sink → Sink
 answers_word c word k = answers_form c (form_of c bus.B word) k
+
+-- the sink with this shelf
+abbrev pub with_shelf : Shelf → Sink → Sink
+with_shelf shelf k = record k { shelf = shelf }
+
+-- what the first of these sinks becomes that is then the second, but keeps its shelf
+abbrev pub unfiled : Sink → Sink → Sink
+unfiled old new = with_shelf old.shelf new
+
+-- the sink with its delivered files handed out
+abbrev pub without_files : Sink → Sink
+without_files k = with_shelf (record (k.shelf) { files = [] }) k
 
 -- a sink in this phase, whose last request had this count, may give an answer of this form: the clear
 -- answer with that count; the acknowledgement with the block's numbers; a negative answer with any bits,

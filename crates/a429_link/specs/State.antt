@@ -7,7 +7,7 @@ use Rattle.a429_link.specs.declared.state.SinkState.TheVariants as shown
 use Rattle.a429_link.specs.declared.state.States.{States}
 use Rattle.a429_link.specs.Number.{first_number}
 use Rattle.a429_link.specs.Source.{Source}
-use Rattle.a429_link.specs.Sink.{Sink, SinkPhase, Quiet, OwesClear, Granted, InBlock, OwesAck, OwesNak, empty_shelf}
+use Rattle.a429_link.specs.Sink.{Sink, SinkSide, SinkPhase, Quiet, OwesClear, Granted, InBlock, OwesAck, OwesNak, empty_shelf}
 
 pub record State : Type 0 where
   pub source : Source
@@ -35,6 +35,10 @@ IsNonEmpty (w ∷ ws) = Unit {0}
 abbrev pub rest : {X : Type 0} → List X → List X
 rest [] = []
 rest (w ∷ ws) = ws
+
+-- the first word on its way to the sink has come, and the sink is now this one
+abbrev pub past_first : SinkSide → Sink → SinkSide
+past_first s k = record { sink = k; to_sink = rest s.to_sink }
 
 -- ---- a state as a certificate writes it (profile)
 

@@ -1,8 +1,7 @@
 //! The recording of a run without loss.
 
 ghost use Rattle.std.specs.Prelude.{◌≡◌, ◌≢◌, ◌≤◌, ◌++◌, [], ◌∷◌, map, length, Some, None, IfOk, IfErr, OnOk};
-ghost use Rattle.a429_link.specs.Number.{first_number};
-ghost use Rattle.a429_link.specs.Clean.{clean_blocks, clean_block, clean_words, first_refused, CarriesFiles};
+ghost use Rattle.a429_link.specs.Clean.{clean_file, clean_block, clean_words, first_refused, CarriesFiles};
 
 use crate::fault::CleanFault;
 use crate::number::UnitNumber;
@@ -49,7 +48,7 @@ fn push_file(
     units: &[Ldu],
 ) -> Result<(), AllocError>
     requires few { length units.now ≤ 255 }
-    ensures { OnOk result (run.new.items ≡ run.old.items ++ clean_blocks profile.now.codes (first_number profile.now.codes file) units.now) }
+    ensures { OnOk result (run.new.items ≡ run.old.items ++ clean_file profile.now.codes file units.now) }
 {
     let mut number = UnitNumber::first(profile, file);
     for unit in units {

@@ -9,6 +9,7 @@ ghost use Rattle.a429_link.specs.Run.{IsBounded};
 
 use crate::fault::StepFault;
 use crate::file::FileBytes;
+use crate::number::UnitNumber;
 use crate::state::States;
 use crate::step::Step;
 use crate::transfer::Transfer;
@@ -94,6 +95,13 @@ impl<'a> Link<'a> {
             to_sink: transfer.to_sink() as u8,
             to_source: transfer.to_source() as u8,
         }
+    }
+
+    /// The number of the link data unit that the source has loaded, or loads next.
+    pub fn number(&self) -> UnitNumber
+        ensures { result ≡ self.now.state.source.number }
+    {
+        self.transfer.number()
     }
 
     /// The files that the sink has delivered since they were last taken.

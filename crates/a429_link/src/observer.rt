@@ -27,11 +27,11 @@ impl Model for Observer {
     ghost use Rattle.std.specs.Prelude.{◌≡◌, []};
     ghost use Rattle.a429_link.specs.Observer as model;
     ghost use Rattle.a429_link.specs.Sink.{empty_shelf};
-    ghost use Rattle.a429_link.specs.Observer.{KeepsRecorded};
+    ghost use Rattle.a429_link.specs.Observer.{watching, KeepsRecorded};
 
     ghost Value = { model.Observer };
 
-    ghost view = { λ o. record { last = o.sink.sink.last; count = o.sink.sink.count; phase = o.sink.sink.phase; begun = o.begun; parts = o.parts } };
+    ghost view = { λ o. watching o.sink.sink o.begun o.parts };
 
     ghost invariant = { λ o. (o.sink.sink.shelf ≡ empty_shelf) × (o.sink.to_sink ≡ []) × KeepsRecorded o.sink.sink.phase o.parts };
 }

@@ -2,8 +2,8 @@
 
 ghost use Rattle.std.specs.Prelude.{◌≡◌, ◌≤◌, ◌↔◌, [], ◌∷◌, ◌++◌, length, slice_index, Some, None, option_map, IfSome, IsNone, IsTrue, OnOk, OnErr};
 ghost use Rattle.a429_link.specs.Sink as model;
-ghost use Rattle.a429_link.specs.Sink.{takes, at_start, at_part, at_end, is_good, is_same, is_same_file, may_come, put, shelf_for, block_with, phase_of, accepts_owed, answers, IsAck, MayAnswer, Listens, Owes, held_count, latest_number, HasRoom, empty_shelf};
-ghost use Rattle.a429_link.specs.State.{sink_state_of, IsNonEmpty, rest};
+ghost use Rattle.a429_link.specs.Sink.{takes, takes_request, takes_start, takes_part, takes_end, in_phase, is_good_for, is_same, is_same_file, may_come, put, shelf_for, block_with, phase_of, kept_words, accepts_block, with_shelf, unfiled, without_files, answers, IsAck, MayAnswer, Listens, Owes, held_count, latest_number, HasRoom, empty_shelf};
+ghost use Rattle.a429_link.specs.State.{sink_state_of, IsNonEmpty, rest, past_first};
 ghost use Rattle.a429_link.specs.Observer.{HasGrant};
 
 use crate::file::FileBytes;
@@ -76,7 +76,10 @@ impl Model for Sink {
 
     ghost Value = { model.SinkSide };
 
-    ghost view = { λ s. record { sink = record { last = option_map latest_number s.last; shelf = s.shelf; count = s.count; phase = phase_of s.phase s.lane.taken }; to_sink = s.lane.coming } };
+    ghost view = { λ s. record {
+      sink = record { last = option_map latest_number s.last; shelf = s.shelf; count = s.count; phase = phase_of s.phase s.lane.taken };
+      to_sink = s.lane.coming;
+    } };
 
     ghost invariant = { λ s. s.lane.taken ≡ kept_words (phase_of s.phase s.lane.taken) };
 }
@@ -90,30 +93,6 @@ fn may_come(profile: &Profile, last: &Option<Latest>, number: UnitNumber) -> boo
     };
     let goes_on = !last.is_final && last.number.goes_on(profile, number);
     last.number == number || last.number.begins_file(profile, number) || goes_on
-}
-
-// The block of this start word and these data words, ended by a word with this check word, is good, where
-// the last request had this count.
-fn ends_well(
-    profile: &Profile,
-    last: &Option<Latest>,
-    count: u8,
-    start: StartWord,
-    words: &[Word],
-    check: u16,
-) -> bool
-    ensures { result ≡ is_good profile.now (option_map latest_number last.now) count (block_with start words.now) check }
-{
-    if words.len() + 2 != usize::from(count) {
-        return false;
-    }
-    let Some(bytes) = block_bytes(profile, words) else {
-        return false;
-    };
-    if !agrees(profile.check(), bytes.as_slice(), check) {
-        return false;
-    }
-    may_come(profile, last, start.number())
 }
 
 // The number is that of the link data unit accepted last.
@@ -220,7 +199,7 @@ impl Sink {
     #[inline(always)]
     pub(crate) fn take(&mut self, profile: &Profile, form: &Form)
         requires { IsNonEmpty self.old.to_sink }
-        ensures { self.new ≡ record { sink = takes profile.now (slice_index self.old.to_sink 0) form.now self.old.sink; to_sink = rest self.old.to_sink } }
+        ensures { self.new ≡ past_first self.old (takes profile.now (slice_index self.old.to_sink 0) form.now self.old.sink) }
     {
         match *form {
             Form::Rts { count } => self.take_request(count),
@@ -233,7 +212,7 @@ impl Sink {
 
     fn take_request(&mut self, count: u8)
         requires { IsNonEmpty self.old.to_sink }
-        ensures { self.new ≡ record { sink = record (self.old.sink) { count = count; phase = model.OwesClear }; to_sink = rest self.old.to_sink } }
+        ensures { self.new ≡ past_first self.old (takes_request count self.old.sink) }
     {
         self.pass();
         self.count = count;
@@ -242,7 +221,7 @@ impl Sink {
 
     fn start_block(&mut self, start: StartWord)
         requires { IsNonEmpty self.old.to_sink }
-        ensures { self.new ≡ record { sink = record (self.old.sink) { phase = at_start (block_with start []) self.old.sink.phase }; to_sink = rest self.old.to_sink } }
+        ensures { self.new ≡ past_first self.old (takes_start (block_with start []) self.old.sink) }
     {
         self.pass();
         if matches!(self.phase, Phase::Granted | Phase::InBlock(_)) {
@@ -252,7 +231,7 @@ impl Sink {
 
     fn add_word(&mut self)
         requires { IsNonEmpty self.old.to_sink }
-        ensures { self.new ≡ record { sink = record (self.old.sink) { phase = at_part (slice_index self.old.to_sink 0) self.old.sink.phase }; to_sink = rest self.old.to_sink } }
+        ensures { self.new ≡ past_first self.old (takes_part (slice_index self.old.to_sink 0) self.old.sink) }
     {
         if let Phase::InBlock(_) = self.phase {
             self.lane.take_first();
@@ -263,14 +242,13 @@ impl Sink {
 
     fn end_block(&mut self, profile: &Profile, flags: u8, check: u16)
         requires { IsNonEmpty self.old.to_sink }
-        ensures { self.new ≡ record { sink = record (self.old.sink) { phase = at_end profile.now self.old.sink.last self.old.sink.count flags check self.old.sink.phase }; to_sink = rest self.old.to_sink } }
+        ensures { self.new ≡ past_first self.old (takes_end profile.now flags check self.old.sink) }
     {
         self.pass();
         match self.phase {
             Phase::Granted => self.enter(Phase::OwesNak),
             Phase::InBlock(start) => {
-                let words = self.lane.taken();
-                if ends_well(profile, &self.last, self.count, start, words, check) {
+                if self.ends_well(profile, start, check) {
                     self.phase = Phase::OwesAck { start, flags };
                 } else {
                     self.enter(Phase::OwesNak);
@@ -280,9 +258,27 @@ impl Sink {
         }
     }
 
+    // The block of this start word and the data words that it has taken is good, ended by a word with this check word.
+    fn ends_well(&self, profile: &Profile, start: StartWord, check: u16) -> bool
+        ensures { result ≡ is_good_for self.now.sink profile.now (block_with start (kept_words self.now.sink.phase)) check }
+    {
+        let count = self.count;
+        let words = self.lane.taken();
+        if words.len() + 2 != usize::from(count) {
+            return false;
+        }
+        let Some(bytes) = block_bytes(profile, words) else {
+            return false;
+        };
+        if !agrees(profile.check(), bytes.as_slice(), check) {
+            return false;
+        }
+        may_come(profile, &self.last, start.number())
+    }
+
     // It drops what it has taken, and is then in this phase.
     fn enter(&mut self, phase: Phase)
-        ensures { self.new ≡ record (self.old) { sink = record (self.old.sink) { phase = phase_of phase [] } } }
+        ensures { self.new ≡ record (self.old) { sink = in_phase (phase_of phase []) self.old.sink } }
     {
         self.lane.drop_taken();
         self.phase = phase;
@@ -329,7 +325,7 @@ impl Sink {
     // Accepts the block that an acknowledgement is owed for. One that comes again is not put again.
     fn accept(&mut self, alloc: Global, profile: &Profile) -> Result<(), AllocError>
         requires { held_count self.old.sink.phase ≤ 255 }
-        ensures done { OnOk result (self.new ≡ record (self.old) { sink = accepts_owed profile.now.codes self.old.sink.phase self.old.sink }) }
+        ensures done { OnOk result (self.new ≡ record (self.old) { sink = accepts_block profile.now.codes self.old.sink }) }
         ensures unchanged { OnErr result (self.new ≡ self.old) }
     {
         let Phase::OwesAck { start, flags } = self.phase else {
@@ -357,9 +353,7 @@ impl Sink {
         is_final: bool,
     ) -> Result<(), AllocError>
         ensures done { OnOk result (self.new ≡ record (self.old) {
-          sink = record (self.old.sink) {
-            shelf = put file bytes.now is_final (shelf_for self.old.sink.last file self.old.sink.shelf);
-          };
+          sink = with_shelf (put file bytes.now is_final (shelf_for self.old.sink.last file self.old.sink.shelf)) self.old.sink;
         }) }
         ensures unchanged { OnErr result (self.new ≡ self.old) }
     {
@@ -372,7 +366,7 @@ impl Sink {
 
     /// Gives an answer of this form, and leaves the files as they are.
     pub(crate) fn answer_unfiled(&mut self, profile: &Profile, answer: &Form)
-        ensures { self.new ≡ record (self.old) { sink = record (answers profile.now.codes answer.now self.old.sink) { shelf = self.old.sink.shelf } } }
+        ensures { self.new ≡ record (self.old) { sink = unfiled self.old.sink (answers profile.now.codes answer.now self.old.sink) } }
     {
         match *answer {
             Form::Cts { .. } => self.enter(Phase::Granted),
@@ -387,7 +381,7 @@ impl Sink {
 
     // Accepts the block that an acknowledgement is owed for, without its bytes.
     fn accept_unfiled(&mut self, profile: &Profile)
-        ensures { self.new ≡ record (self.old) { sink = record (accepts_owed profile.now.codes self.old.sink.phase self.old.sink) { shelf = self.old.sink.shelf } } }
+        ensures { self.new ≡ record (self.old) { sink = unfiled self.old.sink (accepts_block profile.now.codes self.old.sink) } }
     {
         let Phase::OwesAck { start, flags } = self.phase else {
             return;
@@ -415,7 +409,7 @@ impl Sink {
 
     /// Leaves its answer out.
     pub(crate) fn silence(&mut self)
-        ensures { self.new ≡ record (self.old) { sink = record (self.old.sink) { phase = model.Quiet } } }
+        ensures { self.new ≡ record (self.old) { sink = in_phase model.Quiet self.old.sink } }
     {
         self.enter(Phase::Quiet);
     }
@@ -430,7 +424,7 @@ impl Sink {
     /// Hands these files out.
     pub(crate) fn take_delivered(&mut self, alloc: Global) -> Vec<FileBytes>
         ensures files { result.items ≡ self.old.sink.shelf.files }
-        ensures rest { self.new ≡ record (self.old) { sink = record (self.old.sink) { shelf = record (self.old.sink.shelf) { files = [] } } } }
+        ensures rest { self.new ≡ record (self.old) { sink = without_files self.old.sink } }
     {
         self.shelf.take_files(alloc)
     }

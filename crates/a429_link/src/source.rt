@@ -54,6 +54,13 @@ impl Source {
         self.state
     }
 
+    /// The number of the link data unit that is current or next.
+    pub(crate) fn number(&self) -> UnitNumber
+        ensures { result ≡ self.now.number }
+    {
+        self.number
+    }
+
     /// It waits for an answer.
     pub(crate) fn waits(&self) -> bool
         ensures { IsTrue result ↔ Waits self.now.phase }

@@ -42,7 +42,12 @@ impl Model for Transfer {
 
     ghost Value = { State };
 
-    ghost view = { λ t. record { source = t.source; sink = t.sink.sink; to_sink = t.sink.to_sink; to_source = option_to_list t.to_source } };
+    ghost view = { λ t. record {
+      source = t.source;
+      sink = t.sink.sink;
+      to_sink = t.sink.to_sink;
+      to_source = option_to_list t.to_source;
+    } };
 }
 
 impl Transfer {
@@ -244,6 +249,13 @@ impl Transfer {
         ensures { result ≡ self.now.source.phase }
     {
         self.source.state()
+    }
+
+    /// The number of the source's link data unit, current or next.
+    pub(crate) fn number(&self) -> UnitNumber
+        ensures { result ≡ self.now.source.number }
+    {
+        self.source.number()
     }
 
     /// What the sink is doing.

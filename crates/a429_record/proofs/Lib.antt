@@ -1,6 +1,7 @@
 pub mod RowDigits
 pub mod LineRecords
 pub mod LinePlain
+pub mod PlainFacts
 pub mod LinesFacts
 pub mod BinaryFacts
 pub mod FormFacts

@@ -1,5 +1,5 @@
 -- Lines whose records need no reader: three plain fields, or nothing but carriage returns.
-use Rattle.std.proofs.Common.{◌≡◌, ◌∙◌, ◌==◌, ◌≤◌, ◌⊎◌, ℕ, List, [], ◌∷◌, ◌++◌, length, Bool, true, false, Some, None, Option, arith, ap, refl, inl, inr, nat_lt, IsSome, get_or, take, drop}
+use Rattle.std.proofs.Common.{◌≡◌, ◌∙◌, ◌==◌, ◌≤◌, ℕ, List, [], ◌∷◌, ◌++◌, length, Bool, true, false, Some, None, Option, arith, ap, refl, inl, inr, nat_lt, IsSome}
 use Rattle.std.proofs.lemmas.Bool.{and_parts}
 use Rattle.std.proofs.lemmas.Bool.Decides.{nat_tests}
 use Rattle.std.specs.List.{list_all, list_any}
@@ -13,6 +13,7 @@ use Rattle.a429_word.specs.declared.bus.Bus.{Bus}
 use Rattle.a429_record.specs.declared.entry.Entry.{Entry}
 use Rattle.a429_record.specs.Row.{records_of, all_digits, time_in, bus_in, word_in, entry_in, entry_with}
 use Rattle.a429_record.specs.Line.{line_entries}
+use Rattle.a429_record.specs.Plain.{IsLineEnd}
 use Rattle.a429_record.proofs.LineRecords.{records-none, records-one}
 
 -- ---- plain fields
@@ -71,30 +72,26 @@ no_mark a [] h = refl
 no_mark a (b ∷ []) h = refl
 no_mark a (b ∷ c ∷ rest) h = let n : (a == 239) ≡ false = grind (arith, nat_tests) in rw n refl
 
-whole : (o : Option ℕ) (p : Option Bus) (q : Option ℕ) (e : Entry) → entry_with o p q ≡ Some e → IsSome o × IsSome p × IsSome q
+pub whole : (o : Option ℕ) (p : Option Bus) (q : Option ℕ) (e : Entry) → entry_with o p q ≡ Some e → IsSome o × IsSome p × IsSome q
 whole (Some t) (Some b) (Some w) e h = (refl, refl, refl)
 whole (Some t) (Some b) None e h = cc h
 whole (Some t) None q e h = cc h
 whole None p q e h = cc h
 
-time_plain : (t : List ℕ) → IsSome (time_in t) → (1 ≤ length t) × (all_digits 10 t ≡ true)
+pub time_plain : (t : List ℕ) → IsSome (time_in t) → (1 ≤ length t) × (all_digits 10 t ≡ true)
 time_plain t h = grind (arith, nat_tests)
 
-bus_plain : (x : List ℕ) → IsSome (bus_in x) → (1 ≤ length x) × AllHigh x
+pub bus_plain : (x : List ℕ) → IsSome (bus_in x) → (1 ≤ length x) × AllHigh x
 bus_plain [] h = cc h
 bus_plain (b ∷ []) h = (one, (grind (arith, nat_tests), tt)) where
   one : 1 ≤ length (b ∷ [])
   one = omega arith
 bus_plain (b ∷ c ∷ u) h = cc h
 
-word_plain : (w : List ℕ) → IsSome (word_in w) → (length w ≡ 8) × (all_digits 16 w ≡ true)
+pub word_plain : (w : List ℕ) → IsSome (word_in w) → (length w ≡ 8) × (all_digits 16 w ≡ true)
 word_plain w h = grind (arith, nat_tests)
 
 -- ---- their line
-
--- what may stand behind the last field
-abbrev pub IsLineEnd : List ℕ → Type 0
-IsLineEnd tail = (tail ≡ []) ⊎ (tail ≡ 13 ∷ [])
 
 ended : (fields : List (List ℕ)) (x tail : List ℕ) → IsLineEnd tail
     → (p : Read) × (next_record default_config st.InField fields x tail ≡ Some p) × (p.0 ≡ fields ++ (x ∷ [])) × (next_record default_config p.1 [] [] p.2 ≡ None)
@@ -123,14 +120,6 @@ plain_line t x w tail e h end =
     let (lx, hx) = bus_plain x sx in
     let (lw, dw) = word_plain w sw in
     rw (one_record t x w tail lt dt lx hx (omega arith) (digits_high 16 w (omega arith) dw) end, h) refl
-
--- the parts of a row's end, put together again
-pub parts : (r : List ℕ) → length r ≡ 11 → get_or r 0 0 ≡ 44 → get_or r 2 0 ≡ 44
-    → r ≡ 44 ∷ (take 1 (drop 1 r) ++ (44 ∷ drop 3 r))
-parts [] n a b = cc a
-parts (x ∷ []) n a b = cc b
-parts (x ∷ y ∷ []) n a b = cc b
-parts (x ∷ y ∷ z ∷ r) n a b = rw (a, b) refl
 
 -- ---- carriage returns alone
 

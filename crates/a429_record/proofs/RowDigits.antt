@@ -44,11 +44,9 @@ word_in-reads text None h =
     rw other refl
 
 -- eighteen digits leave room for one more
-pub room : (i n : ℕ) (text : List ℕ) → i < length text → length text ≤ 19 → n ≡ digits_value 10 (take i text) → AllDigits 10 (take i text)
-    → n < 10 ^ 18
-room i n text h long e all =
+pub room : (i n : ℕ) (text : List ℕ) → i ≤ length text → i ≤ 18 → n ≡ digits_value 10 (take i text) → AllDigits 10 (take i text) → n < 10 ^ 18
+room i n text h few e all =
     let short = length-take-le i text (omega arith) in
-    let few : i ≤ 18 = omega arith in
     let below = digits_value-lt 10 (take i text) all in
     let most : 10 ^ i ≤ 10 ^ 18 = pow-le-pow_right (omega arith) few in
     let under : digits_value 10 (take i text) < 10 ^ i = rw short at below in

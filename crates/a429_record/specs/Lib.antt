@@ -2,6 +2,7 @@ pub mod Row
 pub mod Ends
 pub mod Lines
 pub mod Line
+pub mod Plain
 pub mod Binary
 pub mod Recording
 pub mod Fault

@@ -10,6 +10,7 @@ pub mod laws;
 mod line;
 mod lines;
 mod packing;
+mod plain;
 mod reading;
 mod recording;
 mod row;

@@ -1,14 +1,17 @@
 //! What one line holds: its row, by `csv`, and its entry.
 
-ghost use Rattle.std.specs.Prelude.{◌≡◌, ◌⊎◌, ◌∷◌, ◌++◌, [], ◌==◌, IfOk, IfErr, IfSome};
+ghost use Rattle.std.specs.Prelude.{◌≡◌, ◌↔◌, ◌<◌, ◌∷◌, [], ◌==◌, IsTrue, IfOk, IfErr, IfSome, length, take, slice_index};
 ghost use Rattle.std.specs.List.{list_all};
+ghost use Rattle.a429_record.specs.Ends.{HasNoEnd};
 ghost use Rattle.a429_record.specs.Line.{line_entries, found_rows, found_entries};
+ghost use Rattle.a429_record.specs.Plain.{IsLineEnd};
 ghost use Rattle.a429_record.specs.Row.{line_rows};
 ghost use Rattle.a429_record.specs.declared.fault.ReadFault.TheVariants as fault;
 
 use crate::entry::Entry;
 use crate::fault::ReadFault;
-use crate::row::{entry_from, entry_of};
+use crate::plain::plain_row;
+use crate::row::entry_of;
 use csv::{ByteRecord, ReaderBuilder};
 use std::alloc::Global;
 
@@ -99,29 +102,52 @@ fn is_blank(line: &[u8]) -> bool
     line.iter().all(|byte| *byte == b'\r')
 }
 
-/// The entry of a line that has nothing but three plain fields and at most a carriage return after
-/// them: the last eleven bytes are a bus and a word, each after a comma.
-#[inline(always)]
-pub fn plain_entry(line: &[u8]) -> Option<Entry>
-    ensures { IfSome result (λ e. line_entries line.now ≡ Some e ∷ []) }
-{
-    let row = without_return(line);
-    if row.len() < 12 {
-        return None;
-    }
-    let (time, rest) = row.split_at(row.len() - 11);
-    if rest[0] != b',' || rest[2] != b',' {
-        return None;
-    }
-    entry_from(time, &rest[1..2], &rest[3..])
+/// A line at the front of bytes.
+#[derive(Clone, Copy, Drop)]
+pub struct FrontLine {
+    pub entry: Entry,
+    /// How many bytes it has, without its line feed.
+    pub len: usize,
 }
 
-// The line without a carriage return at its end.
-fn without_return(line: &[u8]) -> &[u8]
-    ensures { (line.now ≡ result.now) ⊎ (line.now ≡ result.now ++ 13 ∷ []) }
+/// The entry of the line that bytes begin with, where it has its line feed, and nothing but a plain row
+/// and at most a carriage return behind it.
+#[inline(always)]
+pub fn front_line(bytes: &[u8]) -> Option<FrontLine>
+    ensures inside { IfSome result (λ l. l.len < length bytes.now) }
+    ensures one { IfSome result (λ l. HasNoEnd (take l.len bytes.now)) }
+    ensures entry { IfSome result (λ l. line_entries (take l.len bytes.now) ≡ Some l.entry ∷ []) }
+    ensures ended { IfSome result (λ l. slice_index bytes.now l.len ≡ 10) }
 {
-    match line {
-        [row @ .., b'\r'] => row,
-        _ => line,
+    let row = plain_row(bytes)?;
+    match &bytes[row.len..] {
+        [b'\n', ..] => Some(FrontLine {
+            entry: row.entry,
+            len: row.len,
+        }),
+        [b'\r', b'\n', ..] => Some(FrontLine {
+            entry: row.entry,
+            len: row.len + 1,
+        }),
+        _ => None,
     }
+}
+
+// The entry of a line that has nothing but a plain row, and at most a carriage return behind it.
+fn plain_entry(line: &[u8]) -> Option<Entry>
+    ensures { IfSome result (λ e. line_entries line.now ≡ Some e ∷ []) }
+{
+    let row = plain_row(line)?;
+    if is_line_end(&line[row.len..]) {
+        Some(row.entry)
+    } else {
+        None
+    }
+}
+
+// Whether bytes are nothing, or a carriage return.
+fn is_line_end(rest: &[u8]) -> bool
+    ensures { IsTrue result ↔ IsLineEnd rest.now }
+{
+    rest.is_empty() || rest == b"\r".as_slice()
 }

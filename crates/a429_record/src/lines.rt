@@ -182,24 +182,21 @@ impl Lines {
         }
     }
 
-    /// The next line, without its line feed, where both were read.
+    /// What was read and not yet given.
     #[inline(always)]
-    pub fn whole_line(&self) -> Option<&[u8]>
-        ensures { IfSome result (λ l. HasNoEnd l.now × (length l.now < length (ahead_of self.now))
-            × (ahead_of self.now ≡ (l.now ++ 10 ∷ []) ++ drop (length l.now + 1) (ahead_of self.now))) }
+    pub fn ahead(&self) -> &[u8]
+        ensures { result.now ≡ ahead_of self.now }
     {
-        let ahead = &self.buffer[self.at..self.filled];
-        let n = line_end(ahead)?;
-        Some(&ahead[..n])
+        &self.buffer[self.at..self.filled]
     }
 
-    /// Gives a line of this length and its line feed, which were read.
+    /// Gives this many of the bytes that were read.
     #[inline(always)]
-    pub fn pass(&mut self, len: usize)
-        requires { len < length (ahead_of self.old) }
-        ensures { ahead_of self.new ≡ drop (len + 1) (ahead_of self.old) }
+    pub fn pass(&mut self, count: usize)
+        requires { count ≤ length (ahead_of self.old) }
+        ensures { ahead_of self.new ≡ drop count (ahead_of self.old) }
     {
-        self.at += len + 1;
+        self.at += count;
     }
 
     // Gives what was read of the line, and answers whether the line ends there.

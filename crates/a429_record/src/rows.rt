@@ -8,7 +8,7 @@ use crate::binary::{ENTRY_BYTES, entry_of_piece};
 use crate::entry::{Entry, MOST_ENTRIES};
 use crate::fault::ReadFault;
 use crate::form::Form;
-use crate::line::{LineEntry, LineRow, entry_in_line, plain_entry, row_in_line};
+use crate::line::{LineEntry, LineRow, entry_in_line, front_line, row_in_line};
 use crate::lines::Lines;
 use crate::row::is_header_row;
 use a429_word::{Failing, Tally};
@@ -189,15 +189,35 @@ impl RowReader {
         ensures last { self.new.last ≡ self.old.last }
         ensures form { self.new.form ≡ self.old.form }
     {
-        let line = self.lines.whole_line()?;
-        let entry = plain_entry(line)?;
-        let len = line.len();
-        self.lines.pass(len);
-        Some(entry)
+        let line = front_line(self.lines.ahead())?;
+        self.lines.pass(line.len + 1);
+        Some(line.entry)
     }
 
     // Reads the next entry of a binary recording, where there is one.
+    #[inline(always)]
     fn next_piece<R: Read>(&mut self, rec: &mut Tally<R>) -> Result<Option<Entry>, ReadFault>
+        requires { has_failed rec.old ≡ false }
+        ensures gives { GivesNext (binary_left R.remaining self.old rec.old) (binary_left R.remaining self.new rec.new) result }
+        ensures form { self.new.form ≡ self.old.form }
+        ensures piece { IfEntry result (λ e. HandsOut (ArePieceOf e) R.remaining self.old.lines rec.old self.new.lines rec.new) }
+        ensures before { IsErrOf result fault.Device → FailsAfter (IsCutAfter self.old.count) R.remaining self.old.lines rec.old rec.new }
+        ensures follows { IfEntry result (λ e. Follows self.old self.new e) }
+        ensures room { IfEntry result (λ _. room_of self.new.lines rec.new < room_of self.old.lines rec.old) }
+        ensures device { IsErrOf result fault.Device ↔ (has_failed rec.new ≡ true) }
+        ensures no_failed { result ≢ Err fault.Failed }
+    {
+        let ahead = self.lines.ahead();
+        if ahead.len() < ENTRY_BYTES {
+            return self.piece_in_parts(rec);
+        }
+        let row = entry_of_piece(&ahead[..ENTRY_BYTES]);
+        self.lines.pass(ENTRY_BYTES);
+        self.take_row(row)
+    }
+
+    // The same, where not all bytes of it were read.
+    fn piece_in_parts<R: Read>(&mut self, rec: &mut Tally<R>) -> Result<Option<Entry>, ReadFault>
         requires { has_failed rec.old ≡ false }
         ensures gives { GivesNext (binary_left R.remaining self.old rec.old) (binary_left R.remaining self.new rec.new) result }
         ensures form { self.new.form ≡ self.old.form }

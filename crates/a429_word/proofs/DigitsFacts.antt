@@ -1,5 +1,5 @@
 -- Hexadecimal digits, written and read.
-use Rattle.std.proofs.Common.{◌≡◌, ℕ, zero, suc, ◌+◌, ◌/◌, ◌%◌, ◌^◌, ◌<◌, ◌≤◌, refl, ap, ◌∙◌, arith, List, [], ◌∷◌, length, get_or, take, Option, Some, None, true, bit_and}
+use Rattle.std.proofs.Common.{◌≡◌, ℕ, zero, suc, ◌+◌, ◌*◌, ◌/◌, ◌%◌, ◌^◌, ◌<◌, ◌≤◌, refl, ap, ◌∙◌, arith, List, [], ◌∷◌, length, get_or, take, Option, Some, None, true, bit_and}
 use Rattle.std.specs.Char.{digit_value}
 use Rattle.std.specs.Fmt.{digit_glyph}
 use Rattle.std.specs.Str.Parse.{digits_value, AllDigits}
@@ -12,20 +12,23 @@ use Rattle.a429_word.specs.Digits.{numeral, hex_text, octal_text, ReadsHex}
 
 -- ---- reading
 
-pub digit_value-lt : (radix : ℕ) (ds : List ℕ) (i : ℕ) → i < length ds → AllDigits radix ds → digit_value (get_or ds i 0) < radix
-digit_value-lt radix [] i h all = absurd (omega arith)
-digit_value-lt radix (d ∷ ds) zero h all = all.0
-digit_value-lt radix (d ∷ ds) (suc i) h all = digit_value-lt radix ds i (omega arith) all.1
-
--- seven digits leave room for one more
-pub room : (i n : ℕ) (text : List ℕ) → i < 8 → length text ≡ 8 → n ≡ digits_value 16 (take i text) → AllDigits 16 (take i text) → n < 268435456
-room i n text h long e all =
-    let short = length-take-le i text (omega arith) in
-    let few : i ≤ 7 = omega arith in
-    let below = digits_value-lt 16 (take i text) all in
-    let most : 16 ^ i ≤ 16 ^ 7 = pow-le-pow_right (omega arith) few in
-    let under : digits_value 16 (take i text) < 16 ^ i = rw short at below in
-    omega arith
+-- eight digits, told in halves
+pub eight_hex : (text : List ℕ) (w : ℕ) → length text ≡ 8
+    → AllDigits 16 (get_or text 0 0 ∷ get_or text 1 0 ∷ get_or text 2 0 ∷ get_or text 3 0 ∷ [])
+    → AllDigits 16 (get_or text 4 0 ∷ get_or text 5 0 ∷ get_or text 6 0 ∷ get_or text 7 0 ∷ [])
+    → w ≡ digits_value 16 (get_or text 0 0 ∷ get_or text 1 0 ∷ get_or text 2 0 ∷ get_or text 3 0 ∷ []) * 65536
+    + digits_value 16 (get_or text 4 0 ∷ get_or text 5 0 ∷ get_or text 6 0 ∷ get_or text 7 0 ∷ [])
+    → ReadsHex text (Some w)
+eight_hex (a ∷ b ∷ c ∷ d ∷ e ∷ f ∷ g ∷ h ∷ []) w long high low is = ((refl, (high.0, (high.1.0, (high.1.1.0, (high.1.1.1.0, low))))), omega arith)
+eight_hex (a ∷ b ∷ c ∷ d ∷ e ∷ f ∷ g ∷ h ∷ i ∷ text) w long high low is = absurd (omega arith)
+eight_hex [] w long high low is = absurd (omega arith)
+eight_hex (a ∷ []) w long high low is = absurd (omega arith)
+eight_hex (a ∷ b ∷ []) w long high low is = absurd (omega arith)
+eight_hex (a ∷ b ∷ c ∷ []) w long high low is = absurd (omega arith)
+eight_hex (a ∷ b ∷ c ∷ d ∷ []) w long high low is = absurd (omega arith)
+eight_hex (a ∷ b ∷ c ∷ d ∷ e ∷ []) w long high low is = absurd (omega arith)
+eight_hex (a ∷ b ∷ c ∷ d ∷ e ∷ f ∷ []) w long high low is = absurd (omega arith)
+eight_hex (a ∷ b ∷ c ∷ d ∷ e ∷ f ∷ g ∷ []) w long high low is = absurd (omega arith)
 
 -- ---- writing
 

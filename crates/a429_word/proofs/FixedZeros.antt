@@ -3,8 +3,8 @@ use Rattle.std.proofs.Common.{◌≡◌, ◌≢◌, ℕ, zero, suc, ◌+◌, ◌
 use Rattle.std.specs.Int.{bit_at, w128}
 use Rattle.std.specs.Int.Count.{count_trailing_zeros, trailing_of_zero}
 use Rattle.std.proofs.lemmas.Nat.Bits.{bit_at-trailing_zeros}
-use Rattle.std.proofs.lemmas.Nat.{mod-pow-add, div-add-mod', mul-pow}
-use Rattle.std.proofs.Math.Nat.{zero-mod, one-le-pow, pow-le-pow_right}
+use Rattle.std.proofs.lemmas.Nat.{mod-pow-add, div-add-mod', mul-pow, mul-le, div-mul-add}
+use Rattle.std.proofs.Math.Nat.{zero-mod, one-le-pow, pow-le-pow_right, mod-eq-sub-div-mul}
 
 -- ---- powers of five
 
@@ -42,20 +42,30 @@ low_zeros zero k fits h = zero-mod (2 ^ k)
 low_zeros (suc m) k fits h = no_low_bits k (suc m) (λ i l. (bit_at-trailing_zeros w128 (suc m) (omega arith) fits).2 i (omega arith))
 
 -- an odd number has no trailing zero, nor has what it is a multiple of
-pub odd_ends : (n p rest : ℕ) → n % 2 ≡ 1 → n % p ≡ 0 → rest ≡ n / p → rest % 10 ≢ 0
-odd_ends n p rest odd none is tens =
-    let parts : n ≡ rest * p = sym (div-add-mod' n p) ∙ ap (λ x. n / p * p + x) none ∙ ap (λ x. x * p + 0) (sym is) ∙ omega arith in
+pub odd_ends : (n p rest : ℕ) → n % 2 ≡ 1 → n ≡ rest * p → rest % 10 ≢ 0
+odd_ends n p rest odd parts tens =
     let ten : rest ≡ 2 * (5 * (rest / 10)) = omega arith in
     let even : n ≡ 2 * (5 * (rest / 10) * p) = parts ∙ ap (λ x. x * p) ten ∙ mul_assoc 2 (5 * (rest / 10)) p in
     omega arith
 
 -- as many twos as fives are as many tens
-pub tens_dropped : (n rest zeros d : ℕ) → zeros ≤ d → n % 2 ^ zeros ≡ 0 → n / 2 ^ zeros % 5 ^ zeros ≡ 0 → rest ≡ n / 2 ^ zeros / 5 ^ zeros → n ≡ rest * 10 ^ (d - (d - zeros))
-tens_dropped n rest zeros d less twos fives_none is =
+pub tens_dropped : (n rest zeros d : ℕ) → zeros ≤ d → n % 2 ^ zeros ≡ 0 → n / 2 ^ zeros ≡ rest * 5 ^ zeros → n ≡ rest * 10 ^ (d - (d - zeros))
+tens_dropped n rest zeros d less twos parts =
     let two = 2 ^ zeros in
     let five = 5 ^ zeros in
     let whole : n ≡ n / two * two = sym (div-add-mod' n two) ∙ ap (λ x. n / two * two + x) twos ∙ omega arith in
-    let parts : n / two ≡ n / two / five * five = sym (div-add-mod' (n / two) five) ∙ ap (λ x. n / two / five * five + x) fives_none ∙ omega arith in
     let same : d - (d - zeros) ≡ zeros = omega arith in
     let ten : five * two ≡ 10 ^ zeros = sym (mul-pow 5 2 zeros) in
-    whole ∙ ap (λ x. x * two) parts ∙ mul_assoc (n / two / five) five two ∙ ap (λ x. n / two / five * x) ten ∙ ap (λ x. x * 10 ^ zeros) (sym is) ∙ ap (λ x. rest * 10 ^ x) (sym same)
+    whole ∙ ap (λ x. x * two) parts ∙ mul_assoc rest five two ∙ ap (λ x. rest * x) ten ∙ ap (λ x. rest * 10 ^ x) (sym same)
+
+-- ---- quotients that are guessed
+
+-- a guess is the quotient where what is left of the number is less than the divisor
+pub guess_is : (n d q : ℕ) → q * d ≤ n → n - q * d < d → (q ≡ n / d) × (n - q * d ≡ n % d)
+guess_is n d q low high =
+    let parts : n ≡ q * d + (n - q * d) = omega arith in
+    let quotient : n / d ≡ q = ap (λ x. x / d) parts ∙ div-mul-add q d (n - q * d) high in
+    (sym quotient, sym (mod-eq-sub-div-mul n d ∙ ap (λ x. n - x * d) quotient))
+
+pub product_fits : (a b : ℕ) → a < 2 ^ 64 → b < 2 ^ 64 → a * b < 2 ^ 128
+product_fits a b ha hb = let h = mul-le a b 18446744073709551615 18446744073709551615 (omega arith) (omega arith) in omega (arith, h)

@@ -1,8 +1,9 @@
 //! Words in hexadecimal digits, and labels in octal ones.
 
-ghost use Rattle.std.specs.Prelude.{◌≡◌, ◌<◌, ◌^◌, ◌*◌, ◌/◌, ◌%◌, true};
+ghost use Rattle.std.specs.Prelude.{◌≡◌, ◌<◌, ◌^◌, ◌*◌, ◌/◌, ◌%◌, ◌∷◌, [], ◌↔◌, IsTrue, true};
 ghost use Rattle.std.specs.Char.{digit_value};
 ghost use Rattle.std.specs.Fmt.{digit_glyph};
+ghost use Rattle.std.specs.Str.Parse.{digits_value, AllDigits};
 ghost use Rattle.a429_word.specs.Digits.{hex_text, octal_text, ReadsHex};
 
 use crate::word::Word;
@@ -32,15 +33,14 @@ impl Word {
         if text.len() != 8 {
             return None;
         }
-        let mut number = 0;
-        for digit in text {
-            let value = digit_of(*digit);
-            if value > 15 {
-                return None;
-            }
-            number = number * 16 + u32::from(value);
+        let high = are_hex(text[0], text[1], text[2], text[3]);
+        let low = are_hex(text[4], text[5], text[6], text[7]);
+        if !(high & low) {
+            return None;
         }
-        Some(Word::from_u32(number))
+        let upper = number_of_four(text[0], text[1], text[2], text[3]);
+        let lower = number_of_four(text[4], text[5], text[6], text[7]);
+        Some(Word::from_u32(upper * 65536 + lower))
     }
 
     /// The number as eight hexadecimal digits in upper case.
@@ -75,6 +75,26 @@ pub fn hex_digit(number: u8) -> u8
     ensures { result ≡ digit_glyph true number }
 {
     HEX_DIGITS[usize::from(number)]
+}
+
+// Whether each of four bytes is a hexadecimal digit. There is no branch among the tests.
+#[inline(always)]
+fn are_hex(a: u8, b: u8, c: u8, d: u8) -> bool
+    ensures { IsTrue result ↔ AllDigits 16 (a ∷ b ∷ c ∷ d ∷ []) }
+{
+    (digit_of(a) < 16) & (digit_of(b) < 16) & (digit_of(c) < 16) & (digit_of(d) < 16)
+}
+
+// The number that four hexadecimal digits write.
+#[inline(always)]
+fn number_of_four(a: u8, b: u8, c: u8, d: u8) -> u32
+    requires { AllDigits 16 (a ∷ b ∷ c ∷ d ∷ []) }
+    ensures value { result ≡ digits_value 16 (a ∷ b ∷ c ∷ d ∷ []) }
+    ensures below { result < 65536 }
+{
+    let upper = u32::from(digit_of(a)) * 16 + u32::from(digit_of(b));
+    let lower = u32::from(digit_of(c)) * 16 + u32::from(digit_of(d));
+    upper * 256 + lower
 }
 
 // The value of a byte as a digit.

@@ -8,7 +8,7 @@ ghost use Rattle.a429_word.specs.Page.{PutsOn};
 mod division;
 mod text;
 
-use crate::fixed::division::{divided, power_of_five};
+use crate::fixed::division::{power_of_five, without_fives};
 use crate::fixed::text::Text;
 use crate::page::Page;
 use crate::tally::{Device, Tally};
@@ -90,11 +90,9 @@ fn shortest(number: u128, decimals: u8) -> (u128, u8)
     ensures ends { (result.1 ≡ 0) ⊎ (result.0 % 10 ≢ 0) }
 {
     let twos = twos_of(number, decimals);
-    let (rest, remainder) = divided(number >> twos, power_of_five(twos));
-    if remainder == 0 {
-        (rest, decimals - twos)
-    } else {
-        shortened(number, decimals)
+    match without_fives(number >> twos, twos) {
+        Some(rest) => (rest, decimals - twos),
+        None => shortened(number, decimals),
     }
 }
 

@@ -5,7 +5,7 @@ ghost use Rattle.std.specs.Fmt.{decimal};
 ghost use Rattle.a429_word.specs.Digits.{numeral};
 ghost use Rattle.a429_word.specs.Fixed.{sign_text, with_point};
 
-use crate::fixed::division::{divided, power_of_ten};
+use crate::fixed::division::{over_power_of_ten, power_of_ten};
 use itoa::write_digits;
 use std::marker::Model;
 
@@ -65,7 +65,7 @@ impl Text {
         }
         // A 1 before the digits keeps the zeros that they may begin with. The text starts behind it.
         let one = power_of_ten(left);
-        let (whole, decimals) = divided(rest, one);
+        let (whole, decimals) = over_power_of_ten(rest, left);
         self.start = write_digits(one + decimals, &mut self.bytes, self.start) + 1;
         whole
     }
@@ -110,7 +110,7 @@ impl Text {
         ensures text { self.new ≡ (48 + number % 10) ∷ self.old }
         ensures rest { result ≡ number / 10 }
     {
-        let (rest, digit) = divided(number, 10);
+        let (rest, digit) = over_power_of_ten(number, 1);
         self.push_front(b'0' + digit as u8);
         rest
     }

@@ -1,9 +1,10 @@
 use Rattle.std.proofs.Common.{subst, sym}
-use Rattle.std.proofs.lemmas.Result.{IfErr-weaker}
+use Rattle.std.proofs.lemmas.Result.{IfErr-weaker, on_ok_weaker}
 use Rattle.a429_cert.specs.Lines.{line_bytes}
 use Rattle.a429_cert.specs.Version.{read_as}
 use Rattle.a429_cert.specs.Stream.{RefusesNext, RefusesOver}
 use Rattle.a429_cert.proofs.StreamFacts.{refused_text, refused_first}
+use Rattle.a429_cert.proofs.ToldFacts.{hears_text}
 use Rattle.a429_cert.proofs.stream.pass_over.Goals as goal
 
 pub returns-in-Ok-clause-refused : goal.returns-in-Ok-clause-refused
@@ -13,6 +14,13 @@ returns-in-Ok-clause-refused g c =
     IfErr-weaker c.take_next.result (RefusesNext p c.in-Ok.listed s c.args.rec.now.to_come c.args.walk.now.lines c.args.walk.now.used) (RefusesOver p (read_as c.args.walk.now.version (line_bytes c.args.line)) s c.args.rec.now.to_come c.args.walk.now.lines c.args.walk.now.used)
     (λ f h. refused_text p (read_as c.args.walk.now.version (line_bytes c.args.line)) c.in-Ok.listed s c.args.rec.now.to_come c.args.walk.now.lines c.args.walk.now.used f (rw c.read-text.ensures at c.in-Ok.ensures.listed) h)
     (rw c.requires.profile at c.take_next.ensures.refused)
+
+pub returns-in-Ok-clause-heard : goal.returns-in-Ok-clause-heard
+returns-in-Ok-clause-heard g c =
+    let p = c.args.walk.now.profile.now in
+    on_ok_weaker c.take_next.result
+    (λ h. hears_text g.T.Listener.hears p (read_as c.args.walk.now.version (line_bytes c.args.line)) c.in-Ok.listed c.args.walk.now.link.state c.args.rec.now.to_come c.args.walk.now.used c.args.listener.now c.take_next.new.listener (rw c.read-text.ensures at c.in-Ok.ensures.listed) h)
+    c.take_next.ensures.heard
 
 pub returns-in-Err-clause-refused : goal.returns-in-Err-clause-refused
 returns-in-Err-clause-refused g c =

@@ -1,17 +1,30 @@
-use Rattle.std.proofs.Common.{subst, sym}
-use Rattle.a429_cert.specs.Stream.{RefusesNext}
+use Rattle.std.proofs.Common.{Option, subst, sym}
+use Rattle.a429_link.specs.declared.seen.Seen.{Seen}
+use Rattle.a429_cert.specs.Passing.{uses_listed}
+use Rattle.a429_cert.specs.Stream.{RefusesNext, TakesNext}
 use Rattle.a429_cert.proofs.StreamFacts.{passes_next, few_used, refused_next}
+use Rattle.a429_cert.proofs.ToldFacts.{hears_listed, no_memory}
 use Rattle.a429_cert.proofs.stream.take_next.Goals as goal
+
+pub returns-in-Err-tell-clause-refused : goal.returns-in-Err-tell-clause-refused
+returns-in-Err-tell-clause-refused g c =
+    no_memory c.args.walk.now.link.profile c.args.listed c.args.walk.now.link.state c.args.rec.now.to_come c.args.walk.now.lines c.args.walk.now.used
 
 pub returns-in-Ok-take_step-clause-passed : goal.returns-in-Ok-take_step-clause-passed
 returns-in-Ok-take_step-clause-passed g c =
-    passes_next c.args.link.now.profile c.args.listed c.args.link.now.state c.take_step.new.link.state c.args.rec.now.to_come c.entry_for.new.rec.to_come c.in-Ok.next c.in-Ok-take_step.used c.in-Ok.ensures.taken c.in-Ok-take_step.ensures.passed
+    let taken = subst (λ (o : Option Seen). TakesNext (uses_listed c.args.listed) c.args.rec.now.to_come c.entry_for.new.rec.to_come o) (sym c.seen_in.ensures) c.in-Ok.ensures.taken in
+    passes_next c.args.walk.now.link.profile c.args.listed c.args.walk.now.link.state c.take_step.new.link.state c.args.rec.now.to_come c.entry_for.new.rec.to_come c.seen_in.result c.in-Ok-take_step.used taken c.in-Ok-take_step.ensures.passed
+
+pub returns-in-Ok-take_step-clause-heard : goal.returns-in-Ok-take_step-clause-heard
+returns-in-Ok-take_step-clause-heard g c =
+    hears_listed g.T.Listener.hears c.args.walk.now.profile.now c.args.listed c.args.walk.now.link.state c.args.rec.now.to_come c.in-Ok.next c.args.walk.now.used c.args.listener.now c.tell.new.listener c.in-Ok.ensures.entry c.in-Ok-tell.ensures
 
 pub returns-in-Ok-take_step-clause-few : goal.returns-in-Ok-take_step-clause-few
 returns-in-Ok-take_step-clause-few g c =
-    few_used c.args.link.now.profile c.args.listed c.in-Ok.next c.args.link.now.state c.take_step.new.link.state c.in-Ok-take_step.used c.in-Ok-take_step.ensures.passed
+    few_used c.args.walk.now.link.profile c.args.listed c.seen_in.result c.args.walk.now.link.state c.take_step.new.link.state c.in-Ok-take_step.used c.in-Ok-take_step.ensures.passed
 
 pub returns-in-Err-take_step-clause-refused : goal.returns-in-Err-take_step-clause-refused
 returns-in-Err-take_step-clause-refused g c =
-    subst (RefusesNext c.args.link.now.profile c.args.listed c.args.link.now.state c.args.rec.now.to_come c.args.n c.args.i) (sym c.of_cert.ensures)
-    (refused_next c.args.link.now.profile c.args.listed c.args.link.now.state c.args.rec.now.to_come c.entry_for.new.rec.to_come c.in-Ok.next c.args.n c.args.i c.in-Err-take_step.fault c.in-Ok.ensures.taken c.in-Err-take_step.ensures.refused)
+    let taken = subst (λ (o : Option Seen). TakesNext (uses_listed c.args.listed) c.args.rec.now.to_come c.entry_for.new.rec.to_come o) (sym c.seen_in.ensures) c.in-Ok.ensures.taken in
+    subst (RefusesNext c.args.walk.now.link.profile c.args.listed c.args.walk.now.link.state c.args.rec.now.to_come c.args.walk.now.lines c.args.walk.now.used) (sym c.of_cert.ensures)
+    (refused_next c.args.walk.now.link.profile c.args.listed c.args.walk.now.link.state c.args.rec.now.to_come c.entry_for.new.rec.to_come c.seen_in.result c.args.walk.now.lines c.args.walk.now.used c.in-Err-take_step.fault taken c.in-Err-take_step.ensures.refused)

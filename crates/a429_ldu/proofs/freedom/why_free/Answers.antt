@@ -1,7 +1,5 @@
-use Rattle.std.proofs.Common.{◌≡◌, ◌≢◌, ◌↔◌, Some, None, inr, inl, sym, ◌∙◌, subst, rules}
-use Rattle.a429_ldu.specs.declared.freedom.Freedom.TheVariants.{IgnoredType, IgnoredCode}
+use Rattle.std.proofs.Common.{◌≢◌, ◌↔◌, None, inr, inl, sym, ◌∙◌, subst, rules}
 use Rattle.a429_ldu.specs.Form.{IsFree}
-use Rattle.a429_ldu.specs.Freedom.{freedom_of}
 use Rattle.a429_ldu.proofs.FreedomFacts.{IsAddressed, reason, some_where_free}
 use Rattle.a429_ldu.proofs.freedom.why_free.Goals as goal
 

@@ -1,26 +1,42 @@
-use Rattle.std.proofs.Common.{◌≡◌, take, length, arith, rules}
-use Rattle.std.proofs.lemmas.List.{length-take-le}
+use Rattle.std.proofs.Common.{◌≡◌, ◌∙◌, ◌≤◌, ◌++◌, List, ℕ, take, drop, length, arith, sym, ap}
+use Rattle.std.proofs.lemmas.List.{length-take-le, take-append-drop}
+use Rattle.std.specs.Io.KnownBytes.{Consumes}
+use Rattle.std.proofs.KnownBytes.{Keeps-refl}
 use Rattle.a429_word.specs.Tally.{inner_of}
-use Rattle.a429_record.specs.Binary.{entry_bytes}
-use Rattle.a429_record.specs.Recording.{most_entries}
+use Rattle.a429_record.specs.Binary.{piece_entry}
 use Rattle.a429_record.specs.Lines.{ahead_of, pending_of}
-use Rattle.a429_record.proofs.PiecesFacts.{pieces_full, piece_given}
+use Rattle.a429_record.proofs.LinesFacts.{gives}
+use Rattle.a429_record.proofs.PiecesFacts.{piece_given, piece_lost}
+use Rattle.a429_record.proofs.rows.RowReader.next_piece.Given.{Over}
 use Rattle.a429_record.proofs.rows.RowReader.next_piece.Goals as goal
+use Rattle.a429_record.proofs.rows.RowReader.next_piece.Goals.{After-take_row}
 
-pub returns-in-Ok-true-clause-gives : goal.returns-in-Ok-true-clause-gives
-returns-in-Ok-true-clause-gives g c =
-    let full : c.args.self.now.count ≡ most_entries = search rules in
-    pieces_full c.args.self.now.count c.args.self.now.last (pending_of g.R.Read.remaining c.args.self.now.lines c.args.rec.now) (g.R.Read.remaining (inner_of c.is_more.new.rec))
-    (ahead_of c.is_more.new.self) _ full (c.in-Ok-true.ensures.some c.in-Ok-true.field-0-test) c.in-Ok-true.ensures.keeps
+-- the bytes lose those of the piece
+took : (g : Over) (c : After-take_row g)
+    → Consumes (pending_of g.R.Read.remaining c.args.self.now.lines c.args.rec.now) (pending_of g.R.Read.remaining c.pass.new.self c.args.rec.now) (take 13 (ahead_of c.args.self.now.lines))
+took g c =
+    let ahead = ahead_of c.args.self.now.lines in
+    gives (g.R.Read.remaining (inner_of c.args.rec.now)) ahead (take 13 ahead) (ahead_of c.pass.new.self) (sym (take-append-drop 13 ahead) ∙ ap (λ (r : List ℕ). take 13 ahead ++ r) (sym c.pass.ensures))
 
-pub returns-in-Ok-clause-gives : goal.returns-in-Ok-clause-gives
-returns-in-Ok-clause-gives g c =
+-- its entry
+row_is : (g : Over) (c : After-take_row g) → c.entry_of_piece-row.result ≡ piece_entry (take 13 (ahead_of c.args.self.now.lines))
+row_is g c = rw c.ahead-ahead.ensures at c.entry_of_piece-row.ensures
+
+pub returns-clause-gives : goal.returns-clause-gives
+returns-clause-gives g c =
     let s = c.args.self.now in
-    let part = take c.in-Ok.len c.fill.new.bytes in
-    let all : length c.fill.new.bytes ≡ entry_bytes = c.in-Ok.ensures.size in
-    let size = length-take-le c.in-Ok.len c.fill.new.bytes c.in-Ok.ensures.most in
-    let given = piece_given s.count s.last c.take_row.new.self.count c.take_row.new.self.last (pending_of g.R.Read.remaining s.lines c.args.rec.now) (g.R.Read.remaining (inner_of c.is_more.new.rec))
-    (pending_of g.R.Read.remaining c.fill.new.self c.fill.new.rec) (ahead_of c.is_more.new.self) part c.entry_of_piece.result c.take_row.result c.in-Ok-true.ensures.keeps
-    (c.in-Ok-true.ensures.some c.in-Ok-true.field-0-test) c.in-Ok.ensures.takes (omega (arith, size, all, c.in-Ok.ensures.most)) (λ few. c.in-Ok.ensures.end (omega (arith, size, all, few)))
-    c.entry_of_piece.ensures c.take_row.ensures.gives in
+    let ahead = ahead_of s.lines in
+    let before = pending_of g.R.Read.remaining s.lines c.args.rec.now in
+    let long : 13 ≤ length ahead = rw c.ahead-ahead.ensures at c.if-ahead-lt-ENTRY_BYTES.false in
+    let size = length-take-le 13 ahead long in
+    let given = piece_given s.count s.last c.take_row.new.self.count c.take_row.new.self.last before (g.R.Read.remaining (inner_of c.args.rec.now))
+    (pending_of g.R.Read.remaining c.pass.new.self c.args.rec.now) ahead (take 13 ahead) c.entry_of_piece-row.result c.take_row.result (Keeps-refl before)
+    (omega arith) (took g c) (omega (arith, size)) (λ few. absurd (omega (arith, size, few))) (row_is g c) c.take_row.ensures.gives in
     rw c.take_row.ensures.lines given
+
+pub returns-clause-piece : goal.returns-clause-piece
+returns-clause-piece g c =
+    let before = pending_of g.R.Read.remaining c.args.self.now.lines c.args.rec.now in
+    let lost = piece_lost before before (pending_of g.R.Read.remaining c.pass.new.self c.args.rec.now) (take 13 (ahead_of c.args.self.now.lines))
+    c.entry_of_piece-row.result c.take_row.result (Keeps-refl before) (took g c) (row_is g c) c.take_row.ensures.entry in
+    rw c.take_row.ensures.lines lost

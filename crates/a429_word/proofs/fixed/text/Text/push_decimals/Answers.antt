@@ -1,4 +1,4 @@
-use Rattle.std.proofs.Common.{refl, ◌≡◌, ◌-◌, ◌+◌, ◌^◌, suc, ap, ◌∙◌, sym, arith, ◌/◌, ◌++◌, length, length-append, length-drop, rules}
+use Rattle.std.proofs.Common.{refl, ◌≡◌, ◌-◌, ◌+◌, ◌^◌, suc, ap, ◌∙◌, sym, arith, ◌/◌, ◌%◌, ◌++◌, length, length-append, length-drop, rules}
 use Rattle.std.specs.Fmt.{decimal}
 use Rattle.a429_word.specs.Digits.{numeral}
 use Rattle.a429_word.proofs.FixedDecimals.{numeral-none, numeral-moves, quotient-more, length-numeral, one_and_part, behind_one}
@@ -21,29 +21,26 @@ loop-left-preserved c =
       len = rw pushed.text (omega (arith, l.invariant.len));
     }
 
-pub divided-whole-requires : goal.divided-whole-requires
-divided-whole-requires c = (one_and_part c.loop-left.left c.loop-left.rest c.power_of_ten-one.result _ (omega arith) c.power_of_ten-one.ensures refl).2
-
 pub overflow_add-one : goal.overflow_add-one
-overflow_add-one c = omega (arith, (one_and_part c.loop-left.left c.loop-left.rest c.power_of_ten-one.result c.divided-whole.result.1 (omega arith) c.power_of_ten-one.ensures c.divided-whole.ensures.remainder).1)
+overflow_add-one c = omega (arith, (one_and_part c.loop-left.left c.loop-left.rest c.power_of_ten-one.result c.over_power_of_ten-whole.result.1 (omega arith) c.power_of_ten-one.ensures (c.over_power_of_ten-whole.ensures.remainder ∙ ap (λ p. c.loop-left.rest % p) (sym c.power_of_ten-one.ensures))).1)
 
 pub write_digits-requires : goal.write_digits-requires
 write_digits-requires c =
     let l = c.loop-left in
-    let one = one_and_part l.left l.rest c.power_of_ten-one.result c.divided-whole.result.1 (omega arith) c.power_of_ten-one.ensures c.divided-whole.ensures.remainder in
+    let one = one_and_part l.left l.rest c.power_of_ten-one.result c.over_power_of_ten-whole.result.1 (omega arith) c.power_of_ten-one.ensures (c.over_power_of_ten-whole.ensures.remainder ∙ ap (λ p. c.loop-left.rest % p) (sym c.power_of_ten-one.ensures)) in
     (omega (arith, ap length one.0, length-numeral l.left l.rest, ap length c.self.view_is, length-drop c.self.inside.start c.self.inside.bytes, l.invariant.len, c.requires), search rules)
 
 pub invariant_of-self : goal.invariant_of-self
 invariant_of-self c =
     let l = c.loop-left in
-    let one = one_and_part l.left l.rest c.power_of_ten-one.result c.divided-whole.result.1 (omega arith) c.power_of_ten-one.ensures c.divided-whole.ensures.remainder in
+    let one = one_and_part l.left l.rest c.power_of_ten-one.result c.over_power_of_ten-whole.result.1 (omega arith) c.power_of_ten-one.ensures (c.over_power_of_ten-whole.ensures.remainder ∙ ap (λ p. c.loop-left.rest % p) (sym c.power_of_ten-one.ensures)) in
     omega (arith, ap length one.0, length-numeral l.left l.rest, c.write_digits.ensures.start, c.self.invariant)
 
 pub returns-clause-text : goal.returns-clause-text
 returns-clause-text c =
     let l = c.loop-left in
-    let one = one_and_part l.left l.rest c.power_of_ten-one.result c.divided-whole.result.1 (omega arith) c.power_of_ten-one.ensures c.divided-whole.ensures.remainder in
-    let written = c.write_digits.ensures.written ∙ ap (λ t. decimal (c.power_of_ten-one.result + c.divided-whole.result.1) ++ t) c.self.view_is ∙ ap (λ t. t ++ l.self) one.0 in
+    let one = one_and_part l.left l.rest c.power_of_ten-one.result c.over_power_of_ten-whole.result.1 (omega arith) c.power_of_ten-one.ensures (c.over_power_of_ten-whole.ensures.remainder ∙ ap (λ p. c.loop-left.rest % p) (sym c.power_of_ten-one.ensures)) in
+    let written = c.write_digits.ensures.written ∙ ap (λ t. decimal (c.power_of_ten-one.result + c.over_power_of_ten-whole.result.1) ++ t) c.self.view_is ∙ ap (λ t. t ++ l.self) one.0 in
     behind_one c.write_digits.new.buf (numeral 10 l.left l.rest) l.self c.write_digits.result written ∙ l.invariant.text
 
 pub returns-clause-len : goal.returns-clause-len
@@ -55,4 +52,4 @@ pub returns-clause-rest : goal.returns-clause-rest
 returns-clause-rest c =
     let l = c.loop-left in
     let all : (c.args.count - l.left) + l.left ≡ c.args.count = omega (arith, l.invariant.few) in
-    c.divided-whole.ensures.quotient ∙ ap (λ p. l.rest / p) c.power_of_ten-one.ensures ∙ ap (λ n. n / 10 ^ l.left) l.invariant.rest ∙ quotient-more c.args.number (c.args.count - l.left) l.left ∙ ap (λ k. c.args.number / 10 ^ k) all
+    c.over_power_of_ten-whole.ensures.quotient ∙ ap (λ n. n / 10 ^ l.left) l.invariant.rest ∙ quotient-more c.args.number (c.args.count - l.left) l.left ∙ ap (λ k. c.args.number / 10 ^ k) all

@@ -5,8 +5,11 @@ use Rattle.a429_cert.specs.declared.explained.Head.{Head}
 use Rattle.a429_cert.specs.LineReader.{to_come, room_left}
 use Rattle.a429_cert.specs.Stream.{GainsAll, sizes}
 use Rattle.a429_cert.specs.StreamExplained.{WhereTold}
+use Rattle.a429_cert.specs.Version.{step_lines}
+use Rattle.a429_link.specs.Link.{with_earlier}
 use Rattle.a429_cert.proofs.StreamStands.{Stands}
-use Rattle.a429_cert.proofs.stream.verify_stream.Given as goal
+use Rattle.a429_cert.proofs.ToldFacts.{Hears}
+use Rattle.a429_cert.proofs.stream.replay_stream.Given as goal
 
 abbrev pub invariant-lines : goal.invariant-lines
 invariant-lines g l = record {
@@ -15,6 +18,7 @@ invariant-lines g l = record {
   taken : List FileBytes;
   number : l.walk.lines ≡ k + 2;
   told : WhereTold (unread g.C.Read.remaining l.fn.cert) l.fn.rec.to_come (λ text r. Stands l.profile text r head k l.walk.used taken l.walk.link.state (to_come g.C.Read.remaining l.lines l.cert) l.rec.to_come);
+  heard : WhereTold (unread g.C.Read.remaining l.fn.cert) l.fn.rec.to_come (λ text r. Hears g.T.Listener.hears l.profile head.first (step_lines head.version text) r k l.walk.used (with_earlier taken l.walk.link.state) l.fn.listener l.listener);
   none_left : l.walk.link.state.sink.shelf.files ≡ [];
   put : GainsAll (g.S.Shelf.files l.fn.shelf) (g.S.Shelf.files l.shelf) 1 taken;
   noted : l.walk.files.items ≡ sizes taken;

@@ -16,7 +16,9 @@ use Rattle.a429_cert.specs.LineReader.{bytes_ahead, held_line, to_come}
 use Rattle.a429_cert.proofs.StreamFacts.{gains_none, put_on, noted_on}
 use Rattle.a429_word.specs.Tally.{unread}
 use Rattle.a429_cert.proofs.StreamWalk.{told_init, told_on, told_yes, fresh, read_no_device, read_device}
-use Rattle.a429_cert.proofs.stream.verify_stream.Goals as goal
+use Rattle.a429_cert.specs.Told.{HearsText}
+use Rattle.a429_cert.proofs.ToldFacts.{hears_init, hears_on, hears_all}
+use Rattle.a429_cert.proofs.stream.replay_stream.Goals as goal
 
 pub lines-init : goal.lines-init
 lines-init g c =
@@ -31,6 +33,7 @@ lines-init g c =
       taken = [];
       number = refl;
       told = told_init c.args.profile.now c.in-Ok.head c.start.result.state known old left c.args.rec.now.to_come (fresh (bytes_ahead c.new-lines.result) known c.new-lines.ensures) c.in-Ok.ensures.ok state;
+      heard = hears_init g.T.Listener.hears c.args.profile.now c.in-Ok.head c.start.result.state c.args.listener.now known c.args.rec.now.to_come state;
       none_left = ap (λ (t : State). t.sink.shelf.files) state;
       put = gains_none (g.S.Shelf.files c.args.shelf.now) 1;
       noted = c.new.ensures.items;
@@ -114,6 +117,9 @@ lines-preserved g c =
     let given = subst (GivesLine left more held) found c.in-Ok-next_line.ensures.given in
     let passed = subst (λ w. PassesOver p (read_as w (line_bytes c.line.result)) s t c.lines.rec.to_come c.pass_over.new.rec.to_come c.in-Ok-pass_over.used) v.version (subst (λ q. PassesOver q (read_as c.lines.walk.version (line_bytes c.line.result)) s t c.lines.rec.to_come c.pass_over.new.rec.to_come c.in-Ok-pass_over.used) v.bench c.in-Ok-pass_over.ensures.passed) in
     let held_passed = subst (λ (o : Option (List ℕ)). PassesOver p (read_as v.head.version o) s t c.lines.rec.to_come c.pass_over.new.rec.to_come c.in-Ok-pass_over.used) c.line.ensures passed in
+    let q = subst (λ w. HearsText g.T.Listener.hears p (read_as w (line_bytes c.line.result)) s c.lines.rec.to_come c.lines.walk.used c.lines.listener c.pass_over.new.listener) v.version (subst (λ q. HearsText g.T.Listener.hears q (read_as c.lines.walk.version (line_bytes c.line.result)) s c.lines.rec.to_come c.lines.walk.used c.lines.listener c.pass_over.new.listener) v.bench c.in-Ok-pass_over.ensures.heard) in
+    let held_heard = subst (λ (o : Option (List ℕ)). HearsText g.T.Listener.hears p (read_as v.head.version o) s c.lines.rec.to_come c.lines.walk.used c.lines.listener c.pass_over.new.listener) c.line.ensures q in
+    let heard = hears_on g.T.Listener.hears p v.head v.k c.lines.walk.used c.in-Ok-pass_over.used v.taken s t held known left more c.args.rec.now.to_come c.lines.rec.to_come c.pass_over.new.rec.to_come c.args.listener.now c.lines.listener c.pass_over.new.listener given held_passed held_heard v.told v.heard in
     let told = told_on p v.head v.k c.lines.walk.used c.in-Ok-pass_over.used v.taken s t held known left more c.args.rec.now.to_come c.lines.rec.to_come c.pass_over.new.rec.to_come given held_passed v.told in
     record {
       head = v.head;
@@ -121,6 +127,7 @@ lines-preserved g c =
       taken = v.taken ++ t.sink.shelf.files;
       number = lines ∙ omega (arith, v.number);
       told = rw (used, state) told;
+      heard = rw (used, state) heard;
       none_left = ap (λ (q : State). q.sink.shelf.files) state;
       put = put_on (g.S.Shelf.files c.args.shelf.now) (g.S.Shelf.files c.lines.shelf) (g.S.Shelf.files c.put_delivered.new.shelf) [] c.pass_over.new.walk.files.items v.taken t.sink.shelf.files v.put notes c.in-Ok-put_delivered.ensures.ok;
       noted = noted_on [] c.pass_over.new.walk.files.items c.put_delivered.new.walk.files.items v.taken t.sink.shelf.files notes c.in-Ok-put_delivered.ensures.noted;
@@ -170,6 +177,18 @@ returns-in-Ok-None-clause-ok g c =
       put = v.put;
       answered = v.noted;
     }
+
+pub returns-in-Ok-None-clause-heard : goal.returns-in-Ok-None-clause-heard
+returns-in-Ok-None-clause-heard g c =
+    let v = c.lines.invariant in
+    let known = unread g.C.Read.remaining c.args.cert.now in
+    let left = to_come g.C.Read.remaining c.lines.lines c.lines.cert in
+    let more = to_come g.C.Read.remaining c.next_line.new.self c.next_line.new.cert in
+    let held = held_line c.next_line.new.self in
+    let found : c.in-Ok-next_line.found ≡ false = search rules in
+    let given = subst (GivesLine left more held) found c.in-Ok-next_line.ensures.given in
+    let end : GivesNext c.lines.rec.to_come c.next.new.self.to_come (Ok None) = subst (GivesNext c.lines.rec.to_come c.next.new.self.to_come) (c.in-Ok-None.is ∙ ap (λ (o : Option Entry). Ok o) c.in-Ok-None.field-0-is) c.next.ensures.gives in
+    hears_all g.T.Listener.hears c.args.profile.now v.head v.k c.lines.walk.used v.taken c.lines.walk.link.state held known left more c.args.rec.now.to_come c.lines.rec.to_come c.next.new.self.to_come c.args.listener.now c.lines.listener given end v.told v.heard
 
 pub returns-in-Ok-Some-clause-err : goal.returns-in-Ok-Some-clause-err
 returns-in-Ok-Some-clause-err g c =

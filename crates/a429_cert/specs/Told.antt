@@ -1,0 +1,99 @@
+-- What a listener is told of the steps of a certificate (profile).
+use Rattle.std.specs.Prelude.{◌≡◌, ◌+◌, ℕ, zero, suc, List, [], ◌∷◌, length, Option, Some, None, option_map, slice_get, ⊤}
+use Rattle.std.specs.List.{FoldsTo}
+use Rattle.a429_profile.specs.Profile.{Contents}
+use Rattle.a429_ldu.specs.Ldu.{LduValue}
+use Rattle.a429_link.specs.declared.number.UnitNumber.{UnitNumber}
+use Rattle.a429_link.specs.declared.step.Step.{Step}
+use Rattle.a429_link.specs.declared.step.Step.TheVariants as step
+use Rattle.a429_link.specs.Step.{after}
+use Rattle.a429_link.specs.State.{State, start}
+use Rattle.a429_link.specs.Run.{trace}
+use Rattle.a429_record.specs.declared.entry.Entry.{Entry}
+use Rattle.a429_record.specs.Recording.{Recording}
+use Rattle.a429_cert.specs.declared.act.Act.{Act}
+use Rattle.a429_cert.specs.declared.act.Act.TheVariants as act
+use Rattle.a429_cert.specs.declared.listed.Listed.{Listed}
+use Rattle.a429_cert.specs.declared.listed.Listed.TheVariants as listed
+use Rattle.a429_cert.specs.declared.line.CertLine.{CertLine}
+use Rattle.a429_cert.specs.Explained.{items_of, Explains}
+use Rattle.a429_cert.specs.Fault.{SaysLine}
+use Rattle.a429_cert.specs.Passing.{uses_listed, IsStepOfLine}
+
+-- ---- what is told of a step
+
+pub data Told : Type 0 where
+  -- the source is given this link data unit, which has this number
+  Loads : (number : UnitNumber) (unit : LduValue) → Told
+  -- another step, by its name, and the entry that it records, if it records one, with its number, counted from 0
+  Makes : (act : Act) (entry : Option (ℕ × Entry)) → Told
+
+-- an entry with this number
+abbrev pub numbered : ℕ → Option Entry → Option (ℕ × Entry)
+numbered i entry = option_map (λ e. (i, e)) entry
+
+-- entry i, with its number
+abbrev pub entry_at : List Entry → ℕ → Option (ℕ × Entry)
+entry_at entries i = numbered i (slice_get entries i)
+
+-- of a step that is made in this state, where entry i comes next
+abbrev pub told : List Entry → State → ℕ → Step → Told
+told es s i (step.Load u) = Loads s.source.number u
+told es s i (step.Sent item) = Makes act.Sent (entry_at es i)
+told es s i step.SentLost = Makes act.SentLost None
+told es s i step.TimeOut = Makes act.TimeOut None
+told es s i step.TakeAnswer = Makes act.TakeAnswer None
+told es s i step.LoseAnswer = Makes act.LoseAnswer None
+told es s i step.SinkTakes = Makes act.SinkTakes None
+told es s i step.Silent = Makes act.Silent None
+told es s i (step.Answered item) = Makes act.Answered (entry_at es i)
+told es s i (step.FreeSeen item) = Makes act.FreeSeen (entry_at es i)
+told es s i step.GiveUp = Makes act.GiveUp None
+
+-- of steps, one after the other, from this state on, where entry i comes next
+abbrev pub told_steps : Contents → List Entry → List Step → State → ℕ → List Told
+told_steps p es [] s i = []
+told_steps p es (a ∷ steps) s i = told es s i a ∷ told_steps p es steps (after p a s) (i + length (trace (a ∷ [])))
+
+-- of a run from its start
+abbrev pub told_run : Contents → List Entry → ℕ → List Step → List Told
+told_run p es first steps = told_steps p es steps (start p first) 0
+
+-- ---- who is told
+
+-- how a listener changes by what it is told, under a profile
+abbrev pub Hearing : Type 0 → Type 1
+Hearing T = Contents → T → Told → T → Type 0
+
+-- a listener has heard the steps of the run by which the certificate explains the recorded words, each once and in order
+pub record IsHeard {T : Type 0} (hears : Hearing T) (p : Contents) (old new : T) (text : List ℕ) (r : Recording) : Type 0 where
+  pub first : ℕ
+  pub steps : List Step
+  pub explains : Explains p text (items_of r.entries) first steps
+  pub heard : FoldsTo (hears p) old (told_run p r.entries first steps) new
+
+-- ---- one line
+
+-- what a line lists, told with the entry that it uses
+abbrev pub told_listed : UnitNumber → Listed → Option (ℕ × Entry) → Told
+told_listed number (listed.Load u) entry = Loads number u
+told_listed number (listed.Moved l) entry = Makes l.act entry
+
+-- of the entries that come next the first, where one is used
+abbrev pub entry_used : ℕ → List Entry → Option Entry
+entry_used zero entries = None
+entry_used (suc n) entries = slice_get entries 0
+
+-- this is the entry that comes next, where a step uses one
+abbrev pub IsNextEntry : ℕ → Option Recording → Option Entry → Type 0
+IsNextEntry n None entry = ⊤
+IsNextEntry n (Some r) entry = entry ≡ entry_used n r.entries
+
+-- a listener is told of what a line lists, where entry i comes next
+abbrev pub HearsListed : {T : Type 0} → Hearing T → Contents → Listed → State → Option Recording → ℕ → T → T → Type 0
+HearsListed hears p x s None i old new = ⊤
+HearsListed hears p x s (Some r) i old new = hears p old (told_listed s.source.number x (numbered i (entry_used (uses_listed x) r.entries))) new
+
+-- of what a line of the text lists
+abbrev pub HearsText : {T : Type 0} → Hearing T → Contents → Option (List ℕ) → State → Option Recording → ℕ → T → T → Type 0
+HearsText hears p text s rec i old new = (l : CertLine) × (x : Listed) × SaysLine text l × IsStepOfLine x l × HearsListed hears p x s rec i old new

@@ -1,0 +1,56 @@
+//! Who is told of the steps of a certificate, one after the other.
+
+ghost use Rattle.std.specs.Prelude.{IsOk};
+
+use crate::act::Act;
+use crate::fault::OutOfMemory;
+use a429_ldu::Ldu;
+use a429_link::UnitNumber;
+use a429_profile::Profile;
+use a429_record::Entry;
+
+/// What is told of each step that a certificate lists, before it is known whether the step may be made: what
+/// it has heard is a run only where the whole certificate is accepted.
+pub trait Listener {
+    ghost use Rattle.std.specs.Prelude.{OnOk};
+    ghost use Rattle.a429_profile.specs.Profile.{Contents};
+    ghost use Rattle.a429_cert.specs.Told.{Told, Loads, Makes};
+
+    // Relates the listener before it is told something, under a profile, and the listener after it.
+    ghost hears: { Contents → Self → Told → Self → Type 0 };
+
+    /// The source is given a link data unit, which has this number.
+    fn load(&mut self, profile: &Profile, number: UnitNumber, unit: &Ldu) -> Result<(), OutOfMemory>
+        ensures { OnOk result (hears profile.now self.old (Loads number unit.now) self.new) };
+
+    /// Another step is made. It records this entry, which has this number, counted from 0.
+    fn make(
+        &mut self,
+        profile: &Profile,
+        act: Act,
+        entry: Option<(usize, Entry)>,
+    ) -> Result<(), OutOfMemory>
+        ensures { OnOk result (hears profile.now self.old (Makes act entry) self.new) };
+}
+
+/// A listener that does not listen.
+#[derive(Debug, Drop)]
+pub struct NoListener;
+
+impl Listener for NoListener {
+    ghost use Rattle.std.specs.Prelude.{⊤};
+
+    ghost hears = { λ _ _ _ _. ⊤ };
+
+    fn load(&mut self, _: &Profile, _: UnitNumber, _: &Ldu) -> Result<(), OutOfMemory>
+        ensures told { IsOk result }
+    {
+        Ok(())
+    }
+
+    fn make(&mut self, _: &Profile, _: Act, _: Option<(usize, Entry)>) -> Result<(), OutOfMemory>
+        ensures told { IsOk result }
+    {
+        Ok(())
+    }
+}

@@ -1,0 +1,16 @@
+-- Plain rows (profile): three fields, a comma between them, and nothing around them.
+use Rattle.std.specs.Prelude.{◌≡◌, ◌⊎◌, ℕ, List, [], ◌∷◌, ◌++◌, Some}
+use Rattle.a429_record.specs.declared.entry.Entry.{Entry}
+use Rattle.a429_record.specs.Row.{entry_in}
+
+-- bytes are three fields, a comma before the second and before the third, and the fields are this entry's
+pub record IsPlainRow (bytes : List ℕ) (e : Entry) : Type 0 where
+  pub time : List ℕ
+  pub bus : List ℕ
+  pub word : List ℕ
+  pub layout : bytes ≡ time ++ (44 ∷ (bus ++ (44 ∷ word)))
+  pub says : entry_in (Some (time ∷ bus ∷ word ∷ [])) ≡ Some e
+
+-- what may stand behind a plain row on its line
+abbrev pub IsLineEnd : List ℕ → Type 0
+IsLineEnd tail = (tail ≡ []) ⊎ (tail ≡ 13 ∷ [])

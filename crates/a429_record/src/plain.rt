@@ -1,0 +1,133 @@
+//! Plain rows: three fields with nothing around them, as nearly all rows are.
+
+ghost use Rattle.std.specs.Prelude.{◌≡◌, ◌<◌, ◌≤◌, ◌*◌, ◌+◌, ◌∷◌, [], ◌↔◌, IsTrue, IfSome, length, take};
+ghost use Rattle.std.specs.Char.{digit_value};
+ghost use Rattle.std.specs.Str.Parse.{digits_value, AllDigits};
+ghost use Rattle.a429_record.specs.Plain.{IsPlainRow};
+
+use crate::entry::Entry;
+use crate::row::bus_of;
+use a429_word::Word;
+
+// How many digits fit 64 bits, whatever they are.
+const SURE_DIGITS: usize = 19;
+
+// How many bytes come behind the time: a bus and a word, each after a comma.
+const BEHIND: usize = 11;
+
+/// A row at the front of bytes.
+#[derive(Clone, Copy, Drop)]
+pub struct PlainRow {
+    pub entry: Entry,
+    /// How many bytes it has.
+    pub len: usize,
+}
+
+// A number at the front of bytes.
+#[derive(Clone, Copy, Drop)]
+struct Leading {
+    number: u64,
+    len: usize,
+}
+
+/// The entry of a row that bytes begin with, where it is plain. What comes behind it is not looked at. A
+/// row whose time has twenty digits is not found.
+#[inline(always)]
+pub fn plain_row(bytes: &[u8]) -> Option<PlainRow>
+    ensures { IfSome result (λ r. (r.len ≤ length bytes.now) × IsPlainRow (take r.len bytes.now) r.entry) }
+{
+    let time = leading_number(bytes);
+    let rest = &bytes[time.len..];
+    if time.len == 0 || rest.len() < BEHIND || rest[0] != b',' || rest[2] != b',' {
+        return None;
+    }
+    let bus = bus_of(&rest[1..2])?;
+    let word = Word::parse_hex(&rest[3..BEHIND])?;
+    Some(PlainRow {
+        entry: Entry {
+            time: time.number,
+            bus,
+            word,
+        },
+        len: time.len + BEHIND,
+    })
+}
+
+// The number that the first digits write, all of them or as many as surely fit.
+#[inline(always)]
+fn leading_number(bytes: &[u8]) -> Leading
+    ensures inside { result.len ≤ length bytes.now }
+    ensures few { result.len ≤ SURE_DIGITS }
+    ensures digits { AllDigits 10 (take result.len bytes.now) }
+    ensures number { result.number ≡ digits_value 10 (take result.len bytes.now) }
+{
+    let (mut number, mut len) = match eight_digits(bytes) {
+        Some(eight) => (eight, 8),
+        None => (0, 0),
+    };
+    let most = bytes.len().min(SURE_DIGITS);
+    'digits: while len < most {
+        let byte = bytes[len];
+        if !is_digit(byte) {
+            return Leading { number, len };
+        }
+        number = number * 10 + digit_of(byte);
+        len += 1;
+    }
+    Leading { number, len }
+}
+
+// The number of the first eight bytes, where each is a digit. It is told at once, since most times have
+// that many digits, and one by one they take three times as long.
+#[inline(always)]
+fn eight_digits(bytes: &[u8]) -> Option<u64>
+    ensures long { IfSome result (λ n. 8 ≤ length bytes.now) }
+    ensures digits { IfSome result (λ n. AllDigits 10 (take 8 bytes.now)) }
+    ensures number { IfSome result (λ n. n ≡ digits_value 10 (take 8 bytes.now)) }
+{
+    if bytes.len() < 8 {
+        return None;
+    }
+    let high = are_digits(bytes[0], bytes[1], bytes[2], bytes[3]);
+    let low = are_digits(bytes[4], bytes[5], bytes[6], bytes[7]);
+    if !(high & low) {
+        return None;
+    }
+    let thousands = number_of_four(bytes[0], bytes[1], bytes[2], bytes[3]);
+    Some(thousands * 10_000 + number_of_four(bytes[4], bytes[5], bytes[6], bytes[7]))
+}
+
+// Whether each of four bytes is a digit. There is no branch among the tests.
+#[inline(always)]
+fn are_digits(a: u8, b: u8, c: u8, d: u8) -> bool
+    ensures { IsTrue result ↔ AllDigits 10 (a ∷ b ∷ c ∷ d ∷ []) }
+{
+    is_digit(a) & is_digit(b) & is_digit(c) & is_digit(d)
+}
+
+// The number that four digits write.
+#[inline(always)]
+fn number_of_four(a: u8, b: u8, c: u8, d: u8) -> u64
+    requires { AllDigits 10 (a ∷ b ∷ c ∷ d ∷ []) }
+    ensures value { result ≡ digits_value 10 (a ∷ b ∷ c ∷ d ∷ []) }
+    ensures below { result < 10000 }
+{
+    (digit_of(a) * 10 + digit_of(b)) * 100 + digit_of(c) * 10 + digit_of(d)
+}
+
+// The number of a decimal digit.
+#[inline(always)]
+fn digit_of(byte: u8) -> u64
+    requires { digit_value byte < 10 }
+    ensures { result ≡ digit_value byte }
+{
+    u64::from(byte - b'0')
+}
+
+// Whether a byte is a decimal digit.
+#[inline(always)]
+fn is_digit(byte: u8) -> bool
+    ensures { IsTrue result ↔ (digit_value byte < 10) }
+{
+    byte.is_ascii_digit()
+}

@@ -1,6 +1,0 @@
-use Rattle.std.proofs.Common.{◌≡◌, take}
-use Rattle.std.specs.Str.Parse.{digits_value, AllDigits}
-use Rattle.a429_word.proofs.word.Word.parse_hex.Given as goal
-
-abbrev pub invariant-loop-digit : goal.invariant-loop-digit
-invariant-loop-digit l = (l.number ≡ digits_value 16 (take l.digit-index l.text)) × AllDigits 16 (take l.digit-index l.text)
