@@ -1,0 +1,2 @@
+//! What people look at who look for a fault: the units of a certificate as rows, and its messages as a picture.
+#![tactic(auto)]
