@@ -24,3 +24,4 @@ pub mod StreamStands
 pub mod StreamWalk
 pub mod StreamRefused
 pub mod ToldFacts
+pub mod EarlierFiles

@@ -1,5 +1,5 @@
 -- The lines of steps, by their first letter.
-use Rattle.std.proofs.Common.{◌≡◌, ◌≢◌, ◌==◌, ◌∙◌, inl, inr, ℕ, List, [], ◌∷◌, Option, Some, None, option_map, Result, Ok, Err, IfOk, refl, sym, ap, subst}
+use Rattle.std.proofs.Common.{◌≡◌, ◌≢◌, ◌==◌, ◌∙◌, inl, inr, ℕ, List, ◌∷◌, Option, Some, None, option_map, Result, Ok, Err, IfOk, sym, ap, subst}
 use Rattle.a429_profile.specs.Profile.{Contents}
 use Rattle.a429_link.specs.declared.seen.Seen.{Seen}
 use Rattle.a429_link.specs.State.{State}
@@ -46,11 +46,6 @@ no_move letter bytes l other e is s =
         | inr q ↦ none-some l (option_map (λ x. Moved x) (moved_in letter bytes)) (ap (option_map (λ x. Moved x)) e) q
       ]
     ]
-
--- no text spells no line
-pub no_empty : (l : CertLine) → SpellsLine [] l → ⊥
-unfolding line_in
-no_empty l s = none-some l (line_in []) refl (read-as [] l s)
 
 -- the fault of a line that was read is that of its text
 pub fault-read : (p : Contents) (s : State) (next : Option Seen) (n i : ℕ) (text : List ℕ) (l : CertLine) (f : CertFault) → SpellsLine text l → IsOfAStep l → IsFaultOfRead p s next n i l f → IsFaultOfLine p s next n i (Some text) f

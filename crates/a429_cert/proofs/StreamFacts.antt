@@ -1,6 +1,6 @@
 -- A line that is held against a recording that is read as it comes.
-use Rattle.std.proofs.Common.{◌≡◌, ◌≤◌, ◌+◌, ◌∙◌, ℕ, zero, suc, List, [], ◌∷◌, Option, Some, None, refl, sym, ap, subst, arith, append-nil, append_assoc, length-append, length, take, drop, ◌++◌}
-use Rattle.std.proofs.lemmas.List.{length-map, map-append, take-append-drop}
+use Rattle.std.proofs.Common.{◌≡◌, ◌<◌, ◌≤◌, ◌+◌, ◌∙◌, ℕ, zero, suc, List, [], ◌∷◌, Option, Some, None, refl, sym, ap, subst, arith, append-nil, append_assoc, length-append, length, take, ◌++◌}
+use Rattle.std.proofs.lemmas.List.{length-map, map-append}
 use Rattle.a429_profile.specs.Profile.{Contents}
 use Rattle.a429_link.specs.declared.seen.Seen.{Seen}
 use Rattle.a429_link.specs.declared.step.Step.{Step}
@@ -276,6 +276,12 @@ pub noted_on : (init now new : List (ℕ × ℕ)) (xs ys : List FileBytes) → n
 noted_on init now new xs ys e g =
     g ∙ ap (λ (l : List (ℕ × ℕ)). l ++ sizes ys) e ∙ append_assoc init (sizes xs) (sizes ys) ∙ ap (λ (l : List (ℕ × ℕ)). init ++ l) (sym (map-append (λ f. (f.number, length f.bytes)) xs ys))
 
-pub front_put : (a b c : Option (List PutFile)) (i k : ℕ) (files all : List FileBytes) → all ≡ files → GainsAll a b i (take k files) → IsUnchanged b c → GainsFront a c i all
-front_put a b c i k files all e h g =
-    subst (GainsFront a c i) (sym e) (record { front = take k files; first = (drop k files, take-append-drop k files); gained = gains_same a b c i (take k files) h g })
+past_front : (k : ℕ) (files : List FileBytes) → k < length files → (f : FileBytes) × (more : List FileBytes) × (files ≡ take k files ++ f ∷ more)
+past_front k [] h = absurd (omega arith)
+past_front zero (f ∷ files) h = (f, files, refl)
+past_front (suc k) (f ∷ files) h = let next = past_front k files (omega arith) in (next.0, next.1, ap (λ (l : List FileBytes). f ∷ l) next.2)
+
+pub front_put : (a b c : Option (List PutFile)) (i k : ℕ) (files : List FileBytes) → k < length files → GainsAll a b i (take k files) → IsUnchanged b c → GainsFront a c i files
+front_put a b c i k files inside h g =
+    let past = past_front k files inside in
+    record { front = take k files; next = past.0; more = past.1; first = past.2; gained = gains_same a b c i (take k files) h g }

@@ -1,20 +1,20 @@
 -- Why a walk along a certificate's lines ends before the last of them, where both are told.
-use Rattle.std.proofs.Common.{◌≡◌, ◌≢◌, ◌⊎◌, ◌+◌, ◌∙◌, ◌++◌, inl, inr, ℕ, suc, List, [], map, drop, true, false, Option, Some, None, slice_get, Ok, Err, refl, sym, ap, subst, append_assoc, append-nil}
+use Rattle.std.proofs.Common.{◌≡◌, ◌≢◌, ◌⊎◌, ◌≤◌, ◌+◌, ◌∙◌, ◌++◌, ◌∷◌, arith, length, length-append, inl, inr, ℕ, suc, List, [], map, drop, true, false, Option, Some, None, slice_get, Ok, Err, refl, sym, ap, subst, append-nil}
 use Rattle.a429_profile.specs.Profile.{Contents}
 use Rattle.a429_link.specs.declared.file.FileBytes.{FileBytes}
 use Rattle.a429_link.specs.declared.seen.Seen.{Seen}
 use Rattle.a429_link.specs.State.{State}
 use Rattle.a429_link.specs.Step.{after}
 use Rattle.a429_link.specs.Link.{with_earlier}
-use Rattle.a429_link.specs.Run.{IsPrefixOf}
-use Rattle.a429_link.proofs.LinkKept.{after_earlier, can_earlier, can_later}
+use Rattle.a429_link.specs.declared.step.Step.{Step}
+use Rattle.a429_link.proofs.DeliveredFiles.{delivers_one}
+use Rattle.a429_cert.proofs.EarlierFiles.{fault_earlier, named_earlier, given_out}
 use Rattle.a429_record.specs.declared.entry.Entry.{Entry}
 use Rattle.a429_record.specs.declared.fault.ReadFault.{ReadFault}
 use Rattle.a429_record.specs.declared.fault.ReadFault.TheVariants as read
 use Rattle.a429_record.specs.Recording.{Recording}
 use Rattle.a429_record.specs.Rows.{Stops, GivesNext}
 use Rattle.a429_cert.specs.declared.line.CertLine.{CertLine}
-use Rattle.a429_cert.specs.declared.line.CertLine.TheVariants.{First, Load, Moved}
 use Rattle.a429_cert.specs.declared.fault.CertFault.{CertFault}
 use Rattle.a429_cert.specs.declared.fault.CertFault.TheVariants as of
 use Rattle.a429_cert.specs.declared.stream_fault.StreamFault.{StreamFault}
@@ -24,68 +24,36 @@ use Rattle.a429_cert.specs.declared.explained.Head.{Head}
 use Rattle.a429_cert.specs.Lines.{certificate_lines}
 use Rattle.a429_cert.specs.Version.{read_as, step_lines}
 use Rattle.a429_cert.specs.CutLines.{cut, GivesLine}
-use Rattle.a429_cert.specs.Explained.{items_of, seen_of, ShowsStates}
-use Rattle.a429_cert.specs.Fault.{IsVersioned, IsFaultOfHead, SaysLine, CanBe, IsNamed, IsFaultOfStep, IsFaultOfLine, IsFaultAt, IsLaterFault, IsFirstCertFault}
+use Rattle.a429_cert.specs.Explained.{items_of, seen_of, step_of}
+use Rattle.a429_cert.specs.Passing.{MakesStep}
+use Rattle.a429_cert.specs.Fault.{IsVersioned, IsFaultOfHead, SaysLine, IsFaultOfLine, IsFaultAt, IsLaterFault, IsFirstCertFault}
 use Rattle.a429_cert.specs.Stream.{behind, next_of, HasEnd, WantsEntry, RefusesOver, PassesOver, of_read}
 use Rattle.a429_cert.specs.StreamHead.{RefusesHead}
 use Rattle.a429_cert.specs.StreamExplained.{WhereTold, Delivers, EndsAt, WantsNext, IsFirstReadFault, AreOfLines, IsStreamFault}
 use Rattle.a429_cert.proofs.CutFacts.{says-uncut}
 use Rattle.a429_cert.proofs.ExplainedFacts.{none_read}
-use Rattle.a429_cert.proofs.StreamStands.{Stands, AreBehind, says_back, line_cut, next_at, goes_on}
+use Rattle.a429_cert.proofs.StreamStands.{Stands, AreBehind, says_back, line_cut, next_at}
 use Rattle.a429_cert.proofs.StreamWalk.{told_map, none_next}
-
--- ---- a fault where files were handed out before it
-
-can_be_earlier : (p : Contents) (l : CertLine) (next : Option Seen) (files : List FileBytes) (s : State) → CanBe p l next s → CanBe p l next (with_earlier files s)
-can_be_earlier p l next files s h = (h.0, h.1, can_earlier p h.0 files s h.2)
-
-can_be_later : (p : Contents) (l : CertLine) (next : Option Seen) (files : List FileBytes) (s : State) → CanBe p l next (with_earlier files s) → CanBe p l next s
-can_be_later p l next files s h = (h.0, h.1, can_later p h.0 files s h.2)
-
-named_earlier : (p : Contents) (l : CertLine) (files : List FileBytes) (s : State) → IsNamed p l s → IsNamed p l (with_earlier files s)
-named_earlier p l files s h = (h.0, can_be_earlier p l h.0 files s h.1)
-
-named_later : (p : Contents) (l : CertLine) (files : List FileBytes) (s : State) → IsNamed p l (with_earlier files s) → IsNamed p l s
-named_later p l files s h = (h.0, can_be_later p l h.0 files s h.1)
-
-shows_later : (l : CertLine) (files : List FileBytes) (t : State) → ShowsStates l (with_earlier files t) → ShowsStates l t
-shows_later (First file) files t h = tt
-shows_later (Load u) files t h = tt
-shows_later (Moved m) files t h = h
-
-step_fault_earlier : (p : Contents) (files : List FileBytes) (s : State) (next : Option Seen) (n i : ℕ) (l : CertLine) (f : CertFault) → IsFaultOfStep p s next n i l f → IsFaultOfStep p (with_earlier files s) next n i l f
-step_fault_earlier p files s next n i l of.Version h = h
-step_fault_earlier p files s next n i l (of.Line m) h = h
-step_fault_earlier p files s next n i l (of.NotAllowed m) h = (h.0, λ c. h.1 (named_later p l files s c))
-step_fault_earlier p files s next n i l (of.StateDiffers m) h =
-    (h.0, h.1, h.2, can_earlier p h.1 files s h.3, λ c. h.4 (shows_later l files (after p h.1 s) (subst (ShowsStates l) (after_earlier p h.1 files s) c)))
-step_fault_earlier p files s next n i l (of.WordDiffers m j) h = (h.0, h.1, named_earlier p l files s h.2, λ c. h.3 (can_be_later p l next files s c))
-step_fault_earlier p files s next n i l (of.Unfinished j) h = h
-step_fault_earlier p files s next n i l of.OutOfMemory h = h
 
 -- ---- a fault of a line that may be cut
 
 says_same : (line : Option (List ℕ)) (l : CertLine) → SaysLine line l → SaysLine (cut line) l
 says_same line l s = subst (λ o. SaysLine o l) (sym (says-uncut line l s)) s
 
-line_fault : (p : Contents) (files : List FileBytes) (s : State) (next : Option Seen) (n i : ℕ) (line : Option (List ℕ)) (f : CertFault) → IsFaultOfLine p s next n i (cut line) f → IsFaultOfLine p (with_earlier files s) next n i line f
-line_fault p files s next n i line of.Version h = (h.0, says_back line h.0 h.1, h.2, step_fault_earlier p files s next n i h.0 of.Version h.3)
-line_fault p files s next n i line (of.Line m) h = (h.0, λ l is says. h.1 l is (says_same line l says))
-line_fault p files s next n i line (of.NotAllowed m) h = (h.0, says_back line h.0 h.1, h.2, step_fault_earlier p files s next n i h.0 (of.NotAllowed m) h.3)
-line_fault p files s next n i line (of.StateDiffers m) h = (h.0, says_back line h.0 h.1, h.2, step_fault_earlier p files s next n i h.0 (of.StateDiffers m) h.3)
-line_fault p files s next n i line (of.WordDiffers m j) h = (h.0, says_back line h.0 h.1, h.2, step_fault_earlier p files s next n i h.0 (of.WordDiffers m j) h.3)
-line_fault p files s next n i line (of.Unfinished j) h = (h.0, says_back line h.0 h.1, h.2, step_fault_earlier p files s next n i h.0 (of.Unfinished j) h.3)
-line_fault p files s next n i line of.OutOfMemory h = (h.0, says_back line h.0 h.1, h.2, step_fault_earlier p files s next n i h.0 of.OutOfMemory h.3)
+line_fault : (p : Contents) (s : State) (next : Option Seen) (n i : ℕ) (line : Option (List ℕ)) (f : CertFault) → IsFaultOfLine p s next n i (cut line) f → IsFaultOfLine p s next n i line f
+line_fault p s next n i line of.Version h = (h.0, says_back line h.0 h.1, h.2, h.3)
+line_fault p s next n i line (of.Line m) h = (h.0, λ l is says. h.1 l is (says_same line l says))
+line_fault p s next n i line (of.NotAllowed m) h = (h.0, says_back line h.0 h.1, h.2, h.3)
+line_fault p s next n i line (of.StateDiffers m) h = (h.0, says_back line h.0 h.1, h.2, h.3)
+line_fault p s next n i line (of.WordDiffers m j) h = (h.0, says_back line h.0 h.1, h.2, h.3)
+line_fault p s next n i line (of.Unfinished j) h = (h.0, says_back line h.0 h.1, h.2, h.3)
+line_fault p s next n i line of.OutOfMemory h = (h.0, says_back line h.0 h.1, h.2, h.3)
 
 -- ---- a fault where a walk stands
 
--- the files that were handed out are those of the lines before it
-given_out : (files : List FileBytes) (s : State) → s.sink.shelf.files ≡ [] → files ≡ (with_earlier files s).sink.shelf.files
-given_out files s none = sym (ap (λ (l : List FileBytes). files ++ l) none ∙ append-nil files)
-
 delivers : (p : Contents) (d : Head) (k i : ℕ) (taken : List FileBytes) (s : State) (left : Option (List ℕ)) (rec : Option Recording) (text : List ℕ) (r : Recording)
-    → Stands p text r d k i taken s left rec → Delivers p text r k i (with_earlier taken s) (taken ++ s.sink.shelf.files)
-delivers p d k i taken s left rec text r h = record { head = d; says = h.says; inside = h.inside; before = h.reached; gives = refl }
+    → s.sink.shelf.files ≡ [] → Stands p text r d k i taken s left rec → Delivers p text r k i (with_earlier taken s) taken
+delivers p d k i taken s left rec text r none h = record { head = d; says = h.says; inside = h.inside; before = h.reached; gives = given_out taken s none }
 
 later : (p : Contents) (d : Head) (k i : ℕ) (taken : List FileBytes) (s : State) (left : Option (List ℕ)) (rec : Option Recording) (text : List ℕ) (r : Recording) (f : CertFault)
     → Stands p text r d k i taken s left rec → IsFaultAt p (with_earlier taken s) (slice_get (items_of r.entries) i) (k + 3) i (slice_get (step_lines d.version text) k) f
@@ -147,7 +115,7 @@ line_refused : (p : Contents) (d : Head) (k i : ℕ) (taken : List FileBytes) (s
 line_refused p d k i taken s held left more rec f text r none g m e h =
     let read = read_as d.version held in
     let raw = line_cut d.version (drop 2 (certificate_lines text)) k left more held h.lines g in
-    let uncut = line_fault p taken s (next_of (behind i r)) (k + 3) i raw.0 f (subst (λ o. IsFaultOfLine p s (next_of (behind i r)) (k + 3) i o f) (sym raw.2) m) in
+    let uncut = fault_earlier p taken s (next_of (behind i r)) (k + 3) i raw.0 f (line_fault p s (next_of (behind i r)) (k + 3) i raw.0 f (subst (λ o. IsFaultOfLine p s (next_of (behind i r)) (k + 3) i o f) (sym raw.2) m)) in
     let here = subst (λ o. IsFaultOfLine p (with_earlier taken s) o (k + 3) i raw.0 f) (next_at r.entries i) uncut in
     cert_fault p d k i taken s left rec text r f (no_version p s (next_of (behind i r)) (k + 3) i read f m) (no_memory p s (next_of (behind i r)) (k + 3) i read f m) none (ends_at p s r (k + 3) i read f m e) h
     (subst (λ o. IsFaultAt p (with_earlier taken s) (slice_get (items_of r.entries) i) (k + 3) i o f) (sym raw.1) here)
@@ -166,12 +134,13 @@ wants_line p v k taken s held left more lines g h m =
 read_fault : (p : Contents) (d : Head) (k i : ℕ) (taken : List FileBytes) (s : State) (left : Option (List ℕ)) (rec : Option Recording) (f : ReadFault) (text : List ℕ) (r : Recording)
     → s.sink.shelf.files ≡ [] → WantsNext p (slice_get (step_lines d.version text) k) (with_earlier taken s) → Stops f (behind i r) → f ≢ read.OutOfMemory
     → Stands p text r d k i taken s left rec → IsFirstReadFault p text r f taken
+unfolding delivers
 read_fault p d k i taken s left rec f text r none wants stops told h =
     record {
       k = k;
       i = i;
       state = with_earlier taken s;
-      before = record { head = d; says = h.says; inside = h.inside; before = h.reached; gives = given_out taken s none };
+      before = delivers p d k i taken s left rec text r none h;
       wants = wants;
       fault = stops;
       told = told;
@@ -179,22 +148,32 @@ read_fault p d k i taken s left rec f text r none wants stops told h =
 
 -- ---- files of some lines
 
-of_lines : (p : Contents) (d : Head) (k i : ℕ) (taken front : List FileBytes) (s : State) (left : Option (List ℕ)) (rec : Option Recording) (text : List ℕ) (r : Recording)
-    → IsPrefixOf front s.sink.shelf.files → Stands p text r d k i taken s left rec → AreOfLines p text r (taken ++ front)
-of_lines p d k i taken front s left rec text r h g =
-    record {
-      k = k;
-      i = i;
-      state = with_earlier taken s;
-      all = taken ++ s.sink.shelf.files;
-      before = delivers p d k i taken s left rec text r g;
-      first = (h.0, append_assoc taken front h.0 ∙ ap (λ (l : List FileBytes). taken ++ l) h.1);
-    }
+of_lines : (p : Contents) (d : Head) (k i : ℕ) (taken : List FileBytes) (s : State) (left : Option (List ℕ)) (rec : Option Recording) (text : List ℕ) (r : Recording)
+    → s.sink.shelf.files ≡ [] → Stands p text r d k i taken s left rec → AreOfLines p text r taken
+of_lines p d k i taken s left rec text r none h =
+    record { k = k; i = i; state = with_earlier taken s; before = delivers p d k i taken s left rec text r none h }
 
-all_of_lines : (p : Contents) (d : Head) (k i : ℕ) (taken : List FileBytes) (s : State) (left : Option (List ℕ)) (rec : Option Recording) (text : List ℕ) (r : Recording)
-    → Stands p text r d k i taken s left rec → AreOfLines p text r taken
-all_of_lines p d k i taken s left rec text r h =
-    subst (AreOfLines p text r) (append-nil taken) (of_lines p d k i taken [] s left rec text r (s.sink.shelf.files, refl) h)
+-- a line delivers at most one file: where one is not put, none is
+one_of : (p : Contents) (o : Option Step) (s t : State) → s.sink.shelf.files ≡ [] → MakesStep p o s t → length t.sink.shelf.files ≤ 1
+one_of p None s t none m = absurd m
+one_of p (Some a) s t none m =
+    let old : length s.sink.shelf.files ≡ 0 = ap (λ (l : List FileBytes). length l) none in
+    let new : length t.sink.shelf.files ≡ length (after p a s).sink.shelf.files = ap (λ (q : State). length q.sink.shelf.files) m.1 in
+    let one = delivers_one p a s in
+    omega (arith, old, new, one)
+
+no_front : (front more : List FileBytes) (f : FileBytes) (files : List FileBytes) → length files ≤ 1 → files ≡ front ++ f ∷ more → front ≡ []
+no_front [] more f files few e = refl
+no_front (x ∷ front) more f files few e =
+    let all : length files ≡ suc (length (front ++ f ∷ more)) = ap (λ (l : List FileBytes). length l) e in
+    let behind = length-append front (f ∷ more) in
+    absurd (omega (arith, all, behind))
+
+none_of_line : (p : Contents) (text : Option (List ℕ)) (s t : State) (rec : Option Recording) (r : Recording) (new : Option Recording) (used : ℕ) (front more : List FileBytes) (f : FileBytes)
+    → rec ≡ Some r → s.sink.shelf.files ≡ [] → PassesOver p text s t rec new used → t.sink.shelf.files ≡ front ++ f ∷ more → front ≡ []
+none_of_line p text s t rec r new used front more f e none m first =
+    let passes = subst (λ o. PassesOver p text s t o new used) e m in
+    no_front front more f t.sink.shelf.files (one_of p (step_of passes.0.0 (next_of r)) s t none passes.0.2.0) first
 
 -- a fault of a device or for want of memory, where these files are put
 no_more : (p : Contents) (files : List FileBytes) (text : List ℕ) (r : Recording) (f : StreamFault) → (f ≡ stream.Device) ⊎ (f ≡ stream.OutOfMemory) → AreOfLines p text r files → IsStreamFault p f files text r
@@ -236,8 +215,8 @@ refused : (p : Contents) (d : Head) (k i : ℕ) (taken : List FileBytes) (s : St
 refused p d k i taken s held left more (stream.Cert f) text r none g m h = line_refused p d k i taken s held left more (Some (behind i r)) f text r none g m.0 m.1 h
 refused p d k i taken s held left more (stream.Read f) text r none g m h =
     read_fault p d k i taken s left (Some (behind i r)) f text r none (wants_line p d.version k taken s held left more (drop 2 (certificate_lines text)) g h.lines m.0) m.1 m.2 h
-refused p d k i taken s held left more stream.Device text r none g m h = inr (all_of_lines p d k i taken s left (Some (behind i r)) text r h)
-refused p d k i taken s held left more stream.OutOfMemory text r none g m h = inr (all_of_lines p d k i taken s left (Some (behind i r)) text r h)
+refused p d k i taken s held left more stream.Device text r none g m h = inr (of_lines p d k i taken s left (Some (behind i r)) text r none h)
+refused p d k i taken s held left more stream.OutOfMemory text r none g m h = inr (of_lines p d k i taken s left (Some (behind i r)) text r none h)
 
 pub told_refused : (p : Contents) (d : Head) (k i n : ℕ) (taken : List FileBytes) (s : State) (held known left more : Option (List ℕ)) (start_rec rec : Option Recording) (f : StreamFault)
     → n ≡ k + 3 → s.sink.shelf.files ≡ [] → GivesLine left more held true → RefusesOver p (read_as d.version held) s rec n i f
@@ -248,13 +227,15 @@ told_refused p d k i n taken s held known left more start_rec rec f e none g m =
     (subst (λ (j : ℕ). RefusesOver p (read_as d.version held) s (Some (behind i r)) j i f) e (subst (λ o. RefusesOver p (read_as d.version held) s o n i f) h.rest m))
     (subst (λ o. Stands p text r d k i taken s left o) h.rest h))
 
--- the files of the line that was passed are not all put
-pub told_not_put : (p : Contents) (d : Head) (k i used : ℕ) (taken front : List FileBytes) (s t : State) (held known left more : Option (List ℕ)) (start_rec rec new : Option Recording) (f : StreamFault)
-    → (f ≡ stream.Device) ⊎ (f ≡ stream.OutOfMemory) → IsPrefixOf front t.sink.shelf.files → GivesLine left more held true → PassesOver p (read_as d.version held) s t rec new used
+-- the file of the line that was passed is not put
+pub told_not_put : (p : Contents) (d : Head) (k i used : ℕ) (taken front rest : List FileBytes) (next : FileBytes) (s t : State) (line known left : Option (List ℕ)) (start_rec rec new : Option Recording) (f : StreamFault)
+    → (f ≡ stream.Device) ⊎ (f ≡ stream.OutOfMemory) → s.sink.shelf.files ≡ [] → t.sink.shelf.files ≡ front ++ next ∷ rest → PassesOver p line s t rec new used
     → WhereTold known start_rec (λ text r. Stands p text r d k i taken s left rec) → WhereTold known start_rec (IsStreamFault p f (taken ++ front))
-told_not_put p d k i used taken front s t held known left more start_rec rec new f e is g m =
+told_not_put p d k i used taken front rest next s t line known left start_rec rec new f e none first m =
     told_map known start_rec (λ text r. Stands p text r d k i taken s left rec) (IsStreamFault p f (taken ++ front))
-    (λ text r h. no_more p (taken ++ front) text r f e (of_lines p d (suc k) (i + used) taken front t more new text r is (goes_on p text r d k i used taken s t held left more rec new h g m)))
+    (λ text r h.
+    let same : taken ++ front ≡ taken = ap (λ (l : List FileBytes). taken ++ l) (none_of_line p line s t rec (behind i r) new used front rest next h.rest none m first) ∙ append-nil taken in
+    no_more p (taken ++ front) text r f e (subst (AreOfLines p text r) (sym same) (of_lines p d k i taken s left rec text r none h)))
 
 -- an entry is left
 unfinished : (p : Contents) (d : Head) (k i : ℕ) (taken : List FileBytes) (s : State) (held left more : Option (List ℕ)) (item : Entry) (new : Option Recording) (text : List ℕ) (r : Recording)
@@ -287,14 +268,14 @@ pub told_stopped : (p : Contents) (d : Head) (k i : ℕ) (taken : List FileBytes
     → WhereTold known start_rec (λ text r. Stands p text r d k i taken s left rec) → WhereTold known start_rec (IsStreamFault p (of_read f) taken)
 told_stopped p d k i taken s held known left more start_rec rec new f none g e =
     told_map known start_rec (λ text r. Stands p text r d k i taken s left rec) (IsStreamFault p (of_read f) taken)
-    (λ text r h. known_stop p taken text r f (all_of_lines p d k i taken s left rec text r h)
+    (λ text r h. known_stop p taken text r f (of_lines p d k i taken s left rec text r none h)
     (λ told. read_fault p d k i taken s left rec f text r none
     (subst (λ o. WantsNext p o (with_earlier taken s)) (sym (none_read d.version (drop 2 (certificate_lines text)) k (none_next (drop 2 (certificate_lines text)) k left more held h.lines g))) tt)
     (subst (λ o. GivesNext o new (Err f)) h.rest e) told h))
 
 -- a device has failed before the next line
 pub told_device : (p : Contents) (d : Head) (k i : ℕ) (taken : List FileBytes) (s : State) (known left : Option (List ℕ)) (start_rec rec : Option Recording)
-    → WhereTold known start_rec (λ text r. Stands p text r d k i taken s left rec) → WhereTold known start_rec (IsStreamFault p stream.Device taken)
-told_device p d k i taken s known left start_rec rec =
+    → s.sink.shelf.files ≡ [] → WhereTold known start_rec (λ text r. Stands p text r d k i taken s left rec) → WhereTold known start_rec (IsStreamFault p stream.Device taken)
+told_device p d k i taken s known left start_rec rec none =
     told_map known start_rec (λ text r. Stands p text r d k i taken s left rec) (IsStreamFault p stream.Device taken)
-    (λ text r h. inr (all_of_lines p d k i taken s left rec text r h))
+    (λ text r h. inr (of_lines p d k i taken s left rec text r none h))

@@ -1,49 +1,28 @@
 -- Where a walk along a certificate's lines stands, and what each line says of it.
-use Rattle.std.proofs.Common.{◌≡◌, ◌≤◌, ◌+◌, ◌∙◌, ◌++◌, ◌∷◌, ℕ, zero, suc, List, [], length, map, take, drop, Bool, true, false, ◌==◌, nat_le, if◌then◌else◌, Option, Some, None, option_map, option_and_then, slice_get, refl, sym, ap, subst, arith, append-nil}
+use Rattle.std.proofs.Common.{◌≡◌, ◌≤◌, ◌+◌, ◌∙◌, ◌++◌, ◌∷◌, ℕ, zero, suc, List, [], length, map, take, drop, Bool, true, false, ◌==◌, nat_le, if◌then◌else◌, Option, Some, None, option_map, option_and_then, slice_get, refl, sym, ap, subst, arith}
 use Rattle.std.proofs.lemmas.List.{drop-drop}
 use Rattle.a429_profile.specs.Profile.{Contents}
 use Rattle.a429_link.specs.declared.file.FileBytes.{FileBytes}
 use Rattle.a429_link.specs.declared.seen.Seen.{Seen}
-use Rattle.a429_link.specs.declared.step.Step.{Step}
 use Rattle.a429_link.specs.State.{State}
 use Rattle.a429_link.specs.Link.{with_earlier, handed_out}
-use Rattle.a429_link.proofs.LinkKept.{after_earlier, can_earlier}
+use Rattle.a429_link.proofs.LinkCalls.{handed_earlier}
 use Rattle.a429_record.specs.declared.entry.Entry.{Entry}
 use Rattle.a429_record.specs.Recording.{Recording}
 use Rattle.a429_cert.specs.declared.line.CertLine.{CertLine}
-use Rattle.a429_cert.specs.declared.line.CertLine.TheVariants.{First, Load, Moved}
 use Rattle.a429_cert.specs.Lines.{certificate_lines}
 use Rattle.a429_cert.specs.CutLines.{cut, when_short, GivesLine}
-use Rattle.a429_cert.specs.Explained.{items_of, Reaches, ShowsStates}
+use Rattle.a429_cert.specs.Explained.{items_of, Reaches}
 use Rattle.a429_cert.specs.declared.version.Version.{Version}
 use Rattle.a429_cert.specs.declared.version.Version.TheVariants.{One, Two}
 use Rattle.a429_cert.specs.declared.explained.Head.{Head}
 use Rattle.a429_cert.specs.Version.{without_x, read_as, step_lines}
 use Rattle.a429_cert.specs.Fault.{HasHead, SaysLine}
-use Rattle.a429_cert.specs.Passing.{MakesStep, PassesText}
+use Rattle.a429_cert.specs.Passing.{PassesText}
 use Rattle.a429_cert.specs.Stream.{behind, PassesOver}
 use Rattle.a429_cert.proofs.Options.{some_is}
 use Rattle.a429_cert.proofs.ExplainedFacts.{drop_get, line_read, passes_on}
-
--- ---- files that were handed out
-
-step_earlier : (p : Contents) (o : Option Step) (files : List FileBytes) (s t : State) → MakesStep p o s t → MakesStep p o (with_earlier files s) (with_earlier files t)
-step_earlier p None files s t m = m
-step_earlier p (Some a) files s t m = (can_earlier p a files s m.0, ap (with_earlier files) m.1 ∙ sym (after_earlier p a files s))
-
-shows_earlier : (l : CertLine) (files : List FileBytes) (t : State) → ShowsStates l t → ShowsStates l (with_earlier files t)
-shows_earlier (First file) files t h = tt
-shows_earlier (Load u) files t h = tt
-shows_earlier (Moved m) files t h = h
-
-pub text_earlier : (p : Contents) (text : Option (List ℕ)) (next : Option Seen) (files : List FileBytes) (s t : State) (used : ℕ) → PassesText p text next s t used → PassesText p text next (with_earlier files s) (with_earlier files t) used
-text_earlier p text next files s t used h = (h.0, h.1, (step_earlier p _ files s t h.2.0, shows_earlier h.0 files t h.2.1, h.2.2))
-
-pub handed : (files : List FileBytes) (s : State) → with_earlier (files ++ s.sink.shelf.files) (handed_out s) ≡ with_earlier files s
-handed files s = ap (λ (l : List FileBytes). filed l) (append-nil (files ++ s.sink.shelf.files))
-  where
-    filed : List FileBytes → State
-    filed l = record s { sink = record (s.sink) { shelf = record (s.sink.shelf) { files = l } } }
+use Rattle.a429_cert.proofs.EarlierFiles.{text_earlier}
 
 -- ---- lines and entries that come
 
@@ -155,6 +134,6 @@ hands_out p text r d k i taken s left rec h =
       says = h.says;
       lines = h.lines;
       inside = h.inside;
-      reached = subst (λ (q : State). Reaches p d.first (take k (step_lines d.version text)) (take i (items_of r.entries)) q) (sym (handed taken s)) h.reached;
+      reached = subst (λ (q : State). Reaches p d.first (take k (step_lines d.version text)) (take i (items_of r.entries)) q) (sym (handed_earlier taken s)) h.reached;
       rest = h.rest;
     }

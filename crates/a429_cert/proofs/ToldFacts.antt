@@ -11,6 +11,7 @@ use Rattle.a429_link.specs.Step.{after}
 use Rattle.a429_link.specs.State.{State, start}
 use Rattle.a429_link.specs.Run.{end_of, trace}
 use Rattle.a429_link.specs.Link.{with_earlier, handed_out}
+use Rattle.a429_link.proofs.LinkCalls.{handed_earlier}
 use Rattle.a429_record.specs.declared.entry.Entry.{Entry}
 use Rattle.a429_record.specs.Recording.{Recording, whole}
 use Rattle.a429_record.specs.Rows.{GivesNext}
@@ -37,7 +38,8 @@ use Rattle.a429_cert.specs.Told.{Told, Loads, Makes, numbered, told, told_steps,
 use Rattle.a429_cert.proofs.Options.{some_is}
 use Rattle.a429_cert.proofs.ReadingFacts.{one-line}
 use Rattle.a429_cert.proofs.ExplainedFacts.{drop_get, none_past, none_read, passes_on, explains_all}
-use Rattle.a429_cert.proofs.StreamStands.{Stands, says_back, next_at, line_cut, text_back, text_earlier, handed}
+use Rattle.a429_cert.proofs.StreamStands.{Stands, says_back, next_at, line_cut, text_back}
+use Rattle.a429_cert.proofs.EarlierFiles.{text_earlier}
 use Rattle.a429_cert.proofs.StreamWalk.{none_next}
 
 -- ---- what is told of steps
@@ -165,7 +167,7 @@ hears_more hears p d k i used taken s t held left more rec new_rec old now new t
     let passed = text_back p raw.0 read (slice_get items i) (with_earlier taken s) (with_earlier taken t) used raw.2 (text_earlier p read (slice_get items i) taken s t used passes) in
     let told = subst (λ o. HearsText hears p read s o i now new) h.rest q in
     let says : SaysLine raw.0 told.0 = says_back raw.0 told.0 (subst (λ o. SaysLine o told.0) (sym raw.2) told.2) in
-    subst (λ (z : State). Hears hears p d.first (step_lines d.version text) r (suc k) (i + used) z old new) (sym (handed taken t))
+    subst (λ (z : State). Hears hears p d.first (step_lines d.version text) r (suc k) (i + used) z old new) (sym (handed_earlier taken t))
     (hears_line hears p d.first (step_lines d.version text) r k i used raw.0 (with_earlier taken s) (with_earlier taken t) old now new raw.1 h.inside b passed (told.0, told.1, says, told.3, told.4))
 
 pub hears_on : {T : Type 0} (hears : Hearing T) (p : Contents) (d : Head) (k i used : ℕ) (taken : List FileBytes) (s t : State) (held known left more : Option (List ℕ)) (start_rec rec new_rec : Option Recording) (old now new : T)

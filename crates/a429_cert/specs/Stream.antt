@@ -20,7 +20,6 @@ use Rattle.a429_cert.specs.declared.stream.Walk.{Walk}
 use Rattle.a429_cert.specs.declared.line.CertLine.{CertLine}
 use Rattle.a429_cert.specs.declared.shelf.PutFile.{PutFile}
 use Rattle.a429_link.specs.declared.file.FileBytes.{FileBytes}
-use Rattle.a429_link.specs.Run.{IsPrefixOf}
 use Rattle.a429_cert.specs.Explained.{items_of}
 use Rattle.a429_cert.specs.Version.{read_as}
 use Rattle.a429_cert.specs.Fault.{SaysLine, IsNamed, IsFaultOfLine}
@@ -150,17 +149,19 @@ GainsAll None new i files = ⊤
 GainsAll (Some xs) None i files = ⊥
 GainsAll (Some xs) (Some ys) i files = ys ≡ xs ++ placed i files
 
--- it has the first of these files behind those that it had
+-- it has the first of these files behind those that it had, and not all of them
 pub record GainsFront (old new : Option (List PutFile)) (i : ℕ) (files : List FileBytes) : Type 0 where
   pub front : List FileBytes
-  pub first : IsPrefixOf front files
+  pub next : FileBytes
+  pub more : List FileBytes
+  pub first : files ≡ front ++ next ∷ more
   pub gained : GainsAll old new i front
 
 -- these files are put on a shelf, from the place behind those that were noted on
 abbrev pub PutsFiles : {S : Type 0} → (S → Option (List PutFile)) → S → S → List (ℕ × ℕ) → List FileBytes → Type 0
 PutsFiles shelved old new notes files = GainsAll (shelved old) (shelved new) (length notes + 1) files
 
--- the first of them are
+-- the first of them are, and not all
 abbrev pub PutsFirstFiles : {S : Type 0} → (S → Option (List PutFile)) → S → S → List (ℕ × ℕ) → List FileBytes → Type 0
 PutsFirstFiles shelved old new notes files = GainsFront (shelved old) (shelved new) (length notes + 1) files
 

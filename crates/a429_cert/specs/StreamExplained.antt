@@ -3,7 +3,6 @@ use Rattle.std.specs.Prelude.{◌≡◌, ◌≢◌, ◌⊎◌, ◌≤◌, ℕ, L
 use Rattle.a429_profile.specs.Profile.{Contents}
 use Rattle.a429_link.specs.declared.file.FileBytes.{FileBytes}
 use Rattle.a429_link.specs.State.{State}
-use Rattle.a429_link.specs.Run.{IsPrefixOf}
 use Rattle.a429_record.specs.declared.fault.ReadFault.{ReadFault}
 use Rattle.a429_record.specs.declared.fault.ReadFault.TheVariants as read
 use Rattle.a429_record.specs.Recording.{Recording}
@@ -81,14 +80,12 @@ pub record IsFirstReadFault (p : Contents) (text : List ℕ) (r : Recording) (f 
   pub fault : Stops f (behind i r)
   pub told : f ≢ read.OutOfMemory
 
--- files that some lines deliver: the first of them, or none
+-- some lines deliver these files, and no others
 pub record AreOfLines (p : Contents) (text : List ℕ) (r : Recording) (files : List FileBytes) : Type 0 where
   pub k : ℕ
   pub i : ℕ
   pub state : State
-  pub all : List FileBytes
-  pub before : Delivers p text r k i state all
-  pub first : IsPrefixOf files all
+  pub before : Delivers p text r k i state files
 
 abbrev pub IsStreamFault : Contents → StreamFault → List FileBytes → List ℕ → Recording → Type 0
 IsStreamFault p (stream.Cert f) files text r = IsFirstCertFault p text (items_of r.entries) f × EndsAt r f × AreBeforeFault p text r f files

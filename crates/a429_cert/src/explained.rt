@@ -1,6 +1,7 @@
 //! Certificates, held against recordings.
 
-ghost use Rattle.std.specs.Prelude.{◌≡◌, ◌≤◌, ℕ, Some, IfOk, IfErr, option_and_then, option_map};
+ghost use Rattle.std.specs.Prelude.{◌≡◌, ◌++◌, ◌≤◌, ℕ, Some, IfOk, IfErr, OnOk, option_and_then, option_map};
+ghost use Rattle.a429_link.specs.Link.{handed_out};
 ghost use Rattle.a429_cert.specs.declared.line.CertLine.TheVariants.{First};
 ghost use Rattle.a429_cert.specs.Line.{spelling};
 ghost use Rattle.a429_cert.specs.Lines.{line_bytes};
@@ -9,14 +10,14 @@ ghost use Rattle.a429_cert.specs.Fault.{file_in, Begins, IsNoFirst, IsFaultOfHea
 
 use crate::at::At;
 use crate::entry::seen_at;
-use crate::fault::CertFault;
+use crate::fault::{CertFault, OutOfMemory};
 use crate::line::CertLine;
 use crate::lines::{Lines, TextLine};
 use crate::passing::pass;
 use crate::reading::read_line;
 use crate::verified::Verified;
 use crate::version::Version;
-use a429_link::Link;
+use a429_link::{FileBytes, Link};
 use a429_profile::Profile;
 use a429_record::Entry;
 use std::alloc::Global;
@@ -41,6 +42,7 @@ pub fn verify(
         Err(fault) => return Err(fault),
     };
     let mut link = Link::start(alloc, profile, head.first);
+    let mut files = Vec::new(alloc);
     let mut used = 0;
     let mut n = 3;
     while let Some(line) = lines.next_line() {
@@ -53,13 +55,26 @@ pub fn verify(
             Ok(count) => used += count,
             Err(fault) => return Err(fault),
         }
+        match take_files(&mut link, &mut files) {
+            Ok(()) => {}
+            Err(_) => return Err(CertFault::OutOfMemory),
+        }
         n += 1;
     }
     if used < entries.len() {
         return Err(CertFault::Unfinished(used));
     }
-    let files = link.take_delivered();
     Ok(Verified::new(files))
+}
+
+// Takes the files out of a link that it has delivered, and puts them behind those that were taken.
+fn take_files(link: &mut Link<'_>, files: &mut Vec<FileBytes>) -> Result<(), OutOfMemory>
+    ensures taken { OnOk result (files.new.items ≡ files.old.items ++ link.old.state.sink.shelf.files) }
+    ensures rest { OnOk result (link.new ≡ record (link.old) { state = handed_out link.old.state }) }
+{
+    let mut delivered = link.take_delivered();
+    files.append(&mut delivered)?;
+    Ok(())
 }
 
 /// What the two lines say that begin a certificate.

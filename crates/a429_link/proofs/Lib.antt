@@ -18,4 +18,5 @@ pub mod ObserverBlock
 pub mod ObserverSight
 pub mod CleanRuns
 pub mod CleanFiles
+pub mod DeliveredFiles
 mod LaneFacts

@@ -9,7 +9,7 @@ use Rattle.a429_link.specs.State.{start, State}
 use Rattle.a429_link.proofs.LinkKept.{after_earlier, can_earlier, can_later}
 
 -- files that are handed out are earlier ones
-handed_earlier : (files : List FileBytes) (s : State) → with_earlier (files ++ s.sink.shelf.files) (handed_out s) ≡ with_earlier files s
+pub handed_earlier : (files : List FileBytes) (s : State) → with_earlier (files ++ s.sink.shelf.files) (handed_out s) ≡ with_earlier files s
 handed_earlier files s = ap (λ (l : List FileBytes). filed l) (append-nil (files ++ s.sink.shelf.files))
   where
     filed : List FileBytes → State

@@ -41,7 +41,7 @@ keeps_others p w (Sot g f l) k n o h = (start_keeps g f l k.phase n h.0, h.1)
 keeps_others p w (Part s) k n o h = absurd (o s refl)
 keeps_others p w (Eot f c) k n o h = (end_keeps p k.last k.count f c k.phase n h.0, h.1)
 
-files_stay : (p : Contents) (w : ℕ) (x : Form) (k : Sink) → (takes p w x k).shelf ≡ k.shelf
+pub files_stay : (p : Contents) (w : ℕ) (x : Form) (k : Sink) → (takes p w x k).shelf ≡ k.shelf
 files_stay p w (Rts c) k = refl
 files_stay p w (Cts c) k = refl
 files_stay p w (Ack f l) k = refl

@@ -68,7 +68,7 @@ put_settled file bytes true a b fs h e =
     subst (λ l. IsSubsequenceOf (fs ++ l) (put file bytes true a).files) (sym (newest_push z b.files)) (subst (λ l. IsSubsequenceOf (fs ++ z ∷ []) l) (sym same) (sub_push z fs a.files h))
 put_settled file bytes false a b fs h e = h
 
-shelf_for_files : (last : Option Number) (file : ℕ) (s : Shelf) → (shelf_for last file s).files ≡ s.files
+pub shelf_for_files : (last : Option Number) (file : ℕ) (s : Shelf) → (shelf_for last file s).files ≡ s.files
 shelf_for_files last file s = by_file (is_same_file last file)
   where
     by_file : (t : Bool) → (cond t s (emptied s)).files ≡ s.files

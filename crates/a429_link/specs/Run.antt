@@ -97,9 +97,6 @@ pub record IsRunFrom (p : Contents) (first : ℕ) (steps : List Step) : Type 0 w
   pub byte : first ≤ 255
   pub run : IsRun p steps (start p first)
 
-abbrev pub IsPrefixOf : List FileBytes → List FileBytes → Type 0
-IsPrefixOf xs ys = (more : List FileBytes) × (xs ++ more ≡ ys)
-
 -- the first are some of the second, in their order
 abbrev pub IsSubsequenceOf : {X : Type 0} → List X → List X → Type 0
 IsSubsequenceOf xs [] = xs ≡ []

@@ -1,4 +1,5 @@
-use Rattle.std.proofs.Common.{ℕ, ◌≡◌, ◌+◌, ◌≤◌, length, take, drop}
+use Rattle.std.proofs.Common.{ℕ, ◌≡◌, ◌+◌, ◌≤◌, [], length, take, drop}
+use Rattle.a429_link.specs.Link.{with_earlier}
 use Rattle.a429_cert.specs.Lines.{certificate_lines}
 use Rattle.a429_cert.specs.Version.{step_lines}
 use Rattle.a429_cert.specs.Explained.{items_of, Reaches}
@@ -12,7 +13,8 @@ invariant-loop-line l = record {
   rest : certificate_lines l.lines ≡ drop k (drop 2 (certificate_lines l.certificate));
   inside : l.used ≤ length (items_of l.entries);
   profile : l.link.profile ≡ l.profile;
-  reached : Reaches l.profile l.head.first (take k (step_lines l.head.version l.certificate)) (take l.used (items_of l.entries)) l.link.state;
+  none_left : l.link.state.sink.shelf.files ≡ [];
+  reached : Reaches l.profile l.head.first (take k (step_lines l.head.version l.certificate)) (take l.used (items_of l.entries)) (with_earlier l.files.items l.link.state);
 }
 
 abbrev pub decreases-loop-line : goal.decreases-loop-line

@@ -1,4 +1,4 @@
-use Rattle.std.proofs.Common.{◌≡◌, ◌+◌, ◌++◌, ◌∷◌, ◌<◌, [], ◌∙◌, suc, take, refl, sym, ap, length, arith, rules}
+use Rattle.std.proofs.Common.{◌≡◌, ◌+◌, ◌++◌, ◌∷◌, ◌<◌, [], ◌∙◌, suc, take, sym, ap, length, arith, rules}
 use Rattle.std.proofs.Math.Seq.{take-suc}
 use Rattle.a429_link.specs.declared.file.FileBytes.{FileBytes}
 use Rattle.a429_cert.proofs.StreamFacts.{put_on, noted_on, front_put}
@@ -6,8 +6,8 @@ use Rattle.a429_cert.proofs.stream.put_all.Goals as goal
 
 pub returns-in-Err-clause-err : goal.returns-in-Err-clause-err
 returns-in-Err-clause-err g c =
-    front_put (g.S.Shelf.files c.args.shelf.now) (g.S.Shelf.files c.loop-file.shelf) (g.S.Shelf.files c.put_file.new.shelf) (length c.args.notes.now.items + 1) c.loop-file.file-index c.args.files.now c.args.files.now
-    refl c.loop-file.invariant.gained c.in-Err.ensures.err
+    front_put (g.S.Shelf.files c.args.shelf.now) (g.S.Shelf.files c.loop-file.shelf) (g.S.Shelf.files c.put_file.new.shelf) (length c.args.notes.now.items + 1) c.loop-file.file-index c.args.files.now
+    (search rules) c.loop-file.invariant.gained c.in-Err.ensures.err
 
 pub loop-file-preserved : goal.loop-file-preserved
 loop-file-preserved g c =

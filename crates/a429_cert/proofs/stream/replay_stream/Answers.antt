@@ -61,7 +61,7 @@ returns-in_default-clause-err g c =
     let left = to_come g.C.Read.remaining c.lines.lines c.lines.cert in
     record {
       files = v.taken;
-      fault = told_device c.args.profile.now v.head v.k c.lines.walk.used v.taken c.lines.walk.link.state known left c.args.rec.now.to_come c.lines.rec.to_come v.told;
+      fault = told_device c.args.profile.now v.head v.k c.lines.walk.used v.taken c.lines.walk.link.state known left c.args.rec.now.to_come c.lines.rec.to_come v.none_left v.told;
       put = v.put;
     }
 
@@ -144,20 +144,17 @@ returns-in-Err-put_delivered-clause-err g c =
     let v = c.lines.invariant in
     let known = unread g.C.Read.remaining c.args.cert.now in
     let left = to_come g.C.Read.remaining c.lines.lines c.lines.cert in
-    let more = to_come g.C.Read.remaining c.next_line.new.self c.next_line.new.cert in
     let held = held_line c.next_line.new.self in
-    let found : c.in-Ok-next_line.found ≡ true = search rules in
     let s = c.lines.walk.link.state in
     let t = c.pass_over.new.walk.link.state in
     let one = c.in-Ok-pass_over.ensures.kept in
     let notes : c.pass_over.new.walk.files.items ≡ sizes v.taken = ap (λ (w : Walk). w.files.items) one ∙ v.noted in
-    let given = subst (GivesLine left more held) found c.in-Ok-next_line.ensures.given in
     let passed = subst (λ w. PassesOver p (read_as w (line_bytes c.line.result)) s t c.lines.rec.to_come c.pass_over.new.rec.to_come c.in-Ok-pass_over.used) v.version (subst (λ q. PassesOver q (read_as c.lines.walk.version (line_bytes c.line.result)) s t c.lines.rec.to_come c.pass_over.new.rec.to_come c.in-Ok-pass_over.used) v.bench c.in-Ok-pass_over.ensures.passed) in
     let here = subst (λ (o : Option (List ℕ)). PassesOver p (read_as v.head.version o) s t c.lines.rec.to_come c.pass_over.new.rec.to_come c.in-Ok-pass_over.used) c.line.ensures passed in
     let front = c.in-Err-put_delivered.ensures.err in
     record {
       files = v.taken ++ front.front;
-      fault = told_not_put p v.head v.k c.lines.walk.used c.in-Ok-pass_over.used v.taken front.front s t held known left more c.args.rec.now.to_come c.lines.rec.to_come c.pass_over.new.rec.to_come c.in-Err-put_delivered.fault c.in-Err-put_delivered.ensures.fault front.first given here v.told;
+      fault = told_not_put p v.head v.k c.lines.walk.used c.in-Ok-pass_over.used v.taken front.front front.more front.next s t (read_as v.head.version held) known left c.args.rec.now.to_come c.lines.rec.to_come c.pass_over.new.rec.to_come c.in-Err-put_delivered.fault c.in-Err-put_delivered.ensures.fault v.none_left front.first here v.told;
       put = put_on (g.S.Shelf.files c.args.shelf.now) (g.S.Shelf.files c.lines.shelf) (g.S.Shelf.files c.put_delivered.new.shelf) [] c.pass_over.new.walk.files.items v.taken front.front v.put notes front.gained;
     }
 
