@@ -5,6 +5,7 @@ pub mod ProfileFaults
 pub mod Apart
 pub mod ProfileLookup
 pub mod ProfileKept
+pub mod PlacesFacts
 pub mod ProfileOneEntry
 pub mod ShownOnce
 pub mod ClashNumbers

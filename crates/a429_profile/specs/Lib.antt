@@ -6,4 +6,5 @@ pub mod Labels
 pub mod Entry
 pub mod Clash
 pub mod Profile
+pub mod Places
 pub mod Shown

@@ -9,6 +9,7 @@ mod flags;
 mod key;
 mod labels;
 pub mod laws;
+mod places;
 mod profile;
 mod shown;
 mod value;

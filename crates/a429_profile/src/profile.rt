@@ -7,12 +7,14 @@ ghost use Rattle.toml.specs.Parse.{parse_document};
 ghost use Rattle.toml.specs.View.{table_view};
 ghost use Rattle.a429_profile.specs.Profile.{Answers, IsProfile, contents_of, fault_of, is_for, entries_of, AreKeyed, ApartAfter};
 ghost use Rattle.a429_profile.specs.Entry.{IsKindInRange};
+ghost use Rattle.a429_profile.specs.Places.{IsPlace};
 
 use crate::clash::first_clash;
 use crate::codes::{Check, Codes, read_check, read_codes};
 use crate::entry::LabelEntry;
 use crate::fault::ProfileFault;
 use crate::labels::read_labels;
+use crate::places::{SDIS, place_of, places_of};
 use indexmap::IndexMap;
 use std::alloc::{AllocError, Global};
 use std::marker::Model;
@@ -24,16 +26,20 @@ pub struct Profile {
     codes: Codes,
     check: Check,
     labels: IndexMap<(u8, Option<u8>), LabelEntry>,
+    // Of each label and SDI, where in `labels` its entry stands.
+    places: Vec<Option<usize>>,
 }
 
 impl Model for Profile {
     ghost use Rattle.a429_profile.specs.Profile.{Contents, IsProfile, entries_of, AreKeyed};
+    ghost use Rattle.a429_profile.specs.Places.{ArePlaces};
 
     ghost Value = { Contents };
 
     ghost view = { λ p. record { codes = p.codes; check = p.check; labels = entries_of p.labels.entries } };
 
-    ghost invariant = { λ p. AreKeyed p.labels.entries × IsProfile (record { codes = p.codes; check = p.check; labels = entries_of p.labels.entries }) };
+    ghost invariant = { λ p. AreKeyed p.labels.entries × IsProfile (record { codes = p.codes; check = p.check; labels = entries_of p.labels.entries })
+        × ArePlaces (entries_of p.labels.entries) p.places.items };
 }
 
 /// Reads a profile from its text. The fault is the first one in the order of the keys, and then the
@@ -68,11 +74,15 @@ fn read_document(alloc: Global, doc: &Table) -> Result<Profile, ProfileFault>
     if let Some(fault) = clash {
         return Err(fault);
     }
-    match keyed(alloc, entries) {
-        Ok(labels) => Ok(Profile {
+    let Ok(labels) = keyed(alloc, entries) else {
+        return Err(ProfileFault::OutOfMemory);
+    };
+    match places_of(alloc, &labels) {
+        Ok(places) => Ok(Profile {
             codes,
             check,
             labels,
+            places,
         }),
         Err(_) => Err(ProfileFault::OutOfMemory),
     }
@@ -147,9 +157,20 @@ impl Profile {
         ensures entry { option_map (λ e. e.now) result ≡ find (is_for label sdi) self.now.labels }
         ensures range { IfSome result (λ e. IsKindInRange e.now.kind) }
     {
-        match self.labels.get(&(label, None)) {
-            Some(entry) => Some(entry),
-            None => self.labels.get(&(label, Some(sdi))),
+        let _codes = self.codes();
+        let place = self.place(label, sdi)?;
+        self.entries(place)
+    }
+
+    // The place of the entry for words of this label and SDI.
+    fn place(&self, label: u8, sdi: u8) -> Option<usize>
+        ensures { IsPlace self.now.labels label sdi result }
+    {
+        let sdi_place = usize::from(sdi);
+        if sdi_place < SDIS {
+            self.places[SDIS * usize::from(label) + sdi_place]
+        } else {
+            place_of(&self.labels, label, sdi)
         }
     }
 }

@@ -16,3 +16,4 @@ pub mod WrittenIsReadBack
 pub mod PackedIsReadBack
 pub mod RecordingTimes
 pub mod WritingTexts
+pub mod ScreeningFacts

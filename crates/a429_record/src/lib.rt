@@ -15,6 +15,7 @@ mod reading;
 mod recording;
 mod row;
 mod rows;
+mod screening;
 mod stage;
 mod writing;
 
@@ -23,4 +24,5 @@ pub use crate::entry::{Entry, MOST_ENTRIES};
 pub use crate::fault::{ReadFault, WriteFault};
 pub use crate::packing::write_binary;
 pub use crate::recording::read_entries;
+pub use crate::screening::{SCREENED, screen_entries};
 pub use crate::writing::{put_header, put_line, put_parts, write_entries};
