@@ -211,7 +211,7 @@ pub refused_text : (p : Contents) (text : Option (List ℕ)) (x : Listed) (s : S
 refused_text p text x s None n i f h m = tt
 refused_text p text x s (Some r) n i (stream.Cert f) h m = (fault-listed p text x (record { line = n; entry = i; next = next_of r }) s f h m.0 m.2, m.1)
 refused_text p text x s (Some r) n i (stream.Read f) h m = ((h.0, h.1, same_uses x h.0 h.2 ∙ m.0, named p x h.0 s h.2 m.0 h.3), m.1, m.2)
-refused_text p text x s (Some r) n i stream.Device h m = m
+refused_text p text x s (Some r) n i stream.Device h m = tt
 refused_text p text x s (Some r) n i stream.OutOfMemory h m = tt
 
 -- before its entry is known it is refused whatever the next entry is

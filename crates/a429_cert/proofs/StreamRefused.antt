@@ -236,7 +236,7 @@ refused : (p : Contents) (d : Head) (k i : ℕ) (taken : List FileBytes) (s : St
 refused p d k i taken s held left more (stream.Cert f) text r none g m h = line_refused p d k i taken s held left more (Some (behind i r)) f text r none g m.0 m.1 h
 refused p d k i taken s held left more (stream.Read f) text r none g m h =
     read_fault p d k i taken s left (Some (behind i r)) f text r none (wants_line p d.version k taken s held left more (drop 2 (certificate_lines text)) g h.lines m.0) m.1 m.2 h
-refused p d k i taken s held left more stream.Device text r none g m h = absurd m
+refused p d k i taken s held left more stream.Device text r none g m h = inr (all_of_lines p d k i taken s left (Some (behind i r)) text r h)
 refused p d k i taken s held left more stream.OutOfMemory text r none g m h = inr (all_of_lines p d k i taken s left (Some (behind i r)) text r h)
 
 pub told_refused : (p : Contents) (d : Head) (k i n : ℕ) (taken : List FileBytes) (s : State) (held known left more : Option (List ℕ)) (start_rec rec : Option Recording) (f : StreamFault)

@@ -29,8 +29,9 @@ use Rattle.a429_cert.specs.Act.{step_with, uses_of}
 use Rattle.a429_cert.specs.Explained.{items_of, step_of, Reaches}
 use Rattle.a429_cert.specs.Fault.{SaysLine}
 use Rattle.a429_cert.specs.Passing.{uses_listed, IsStepOfLine, PassesText, Lists}
-use Rattle.a429_cert.specs.declared.stream_fault.StreamFault.TheVariants as stream
-use Rattle.a429_cert.specs.Stream.{behind, next_of, PassesOver, RefusesNext}
+use Rattle.a429_cert.specs.declared.listener.ListenFault.{ListenFault}
+use Rattle.a429_cert.specs.declared.listener.ListenFault.TheVariants as listen
+use Rattle.a429_cert.specs.Stream.{behind, next_of, PassesOver, RefusesNext, of_listener}
 use Rattle.a429_cert.specs.StreamExplained.{WhereTold}
 use Rattle.a429_cert.specs.Told.{Told, Loads, Makes, numbered, told, told_steps, told_run, Hearing, IsHeard, told_listed, entry_used, IsNextEntry, HearsListed, HearsText}
 use Rattle.a429_cert.proofs.Options.{some_is}
@@ -217,6 +218,7 @@ pub hears_text : {T : Type 0} (hears : Hearing T) (p : Contents) (text : Option 
 hears_text hears p text x s rec i old new h g = (h.0, x, h.1, h.2, g)
 
 -- want of memory is told at any place
-pub no_memory : (p : Contents) (x : Listed) (s : State) (rec : Option Recording) (n i : ℕ) → RefusesNext p x s rec n i stream.OutOfMemory
-no_memory p x s None n i = tt
-no_memory p x s (Some r) n i = tt
+pub not_heard : (p : Contents) (x : Listed) (s : State) (rec : Option Recording) (n i : ℕ) (f : ListenFault) → RefusesNext p x s rec n i (of_listener f)
+not_heard p x s None n i f = tt
+not_heard p x s (Some r) n i listen.Device = tt
+not_heard p x s (Some r) n i listen.OutOfMemory = tt

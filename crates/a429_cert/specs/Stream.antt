@@ -1,17 +1,20 @@
 -- A certificate held against a recording, both read as they come (profile).
-use Rattle.std.specs.Prelude.{◌≡◌, ◌≢◌, ◌+◌, ℕ, zero, suc, List, [], ◌∷◌, ◌++◌, length, drop, map, Option, Some, None, slice_get, ⊤}
+use Rattle.std.specs.Prelude.{◌≡◌, ◌≢◌, ◌⊎◌, Bool, true, ◌+◌, ℕ, zero, suc, List, [], ◌∷◌, ◌++◌, length, drop, map, Option, Some, None, slice_get, ⊤}
 use Rattle.a429_profile.specs.Profile.{Contents}
 use Rattle.a429_link.specs.declared.seen.Seen.{Seen}
 use Rattle.a429_link.specs.State.{State}
 use Rattle.a429_link.specs.Link.{handed_out}
 use Rattle.a429_record.specs.declared.fault.ReadFault.{ReadFault}
 use Rattle.a429_record.specs.declared.fault.ReadFault.TheVariants as read
+use Rattle.a429_record.specs.declared.entry.Entry.{Entry}
 use Rattle.a429_record.specs.Recording.{Recording, whole}
 use Rattle.a429_record.specs.Rows.{Stops}
 use Rattle.a429_cert.specs.declared.fault.CertFault.{CertFault}
 use Rattle.a429_cert.specs.declared.fault.CertFault.TheVariants as of
 use Rattle.a429_cert.specs.declared.stream_fault.StreamFault.{StreamFault}
 use Rattle.a429_cert.specs.declared.stream_fault.StreamFault.TheVariants as stream
+use Rattle.a429_cert.specs.declared.listener.ListenFault.{ListenFault}
+use Rattle.a429_cert.specs.declared.listener.ListenFault.TheVariants as listen
 use Rattle.a429_cert.specs.declared.listed.Listed.{Listed}
 use Rattle.a429_cert.specs.declared.stream.Walk.{Walk}
 use Rattle.a429_cert.specs.declared.line.CertLine.{CertLine}
@@ -21,7 +24,7 @@ use Rattle.a429_link.specs.Run.{IsPrefixOf}
 use Rattle.a429_cert.specs.Explained.{items_of}
 use Rattle.a429_cert.specs.Version.{read_as}
 use Rattle.a429_cert.specs.Fault.{SaysLine, IsNamed, IsFaultOfLine}
-use Rattle.a429_cert.specs.Told.{Hearing, HearsText}
+use Rattle.a429_cert.specs.Told.{Hearing, HearsListed, HearsText, told_listed, numbered}
 use Rattle.a429_cert.specs.Passing.{uses, uses_listed, PassesListed, RefusesListed, PassesText}
 
 -- ---- a recording that is read as it comes
@@ -46,7 +49,7 @@ abbrev pub IsFaultNext : ℕ → Option Recording → ReadFault → Type 0
 IsFaultNext n None f = ⊤
 IsFaultNext n (Some r) f = (n ≡ 1) × Stops f r
 
--- the faults of a stream by those of a certificate and of a recording: each want of memory is one fault
+-- the faults of a stream by those of a certificate, of a recording and of a listener: each want of memory is one fault
 abbrev pub of_cert : CertFault → StreamFault
 of_cert of.OutOfMemory = stream.OutOfMemory
 of_cert f = stream.Cert f
@@ -54,6 +57,10 @@ of_cert f = stream.Cert f
 abbrev pub of_read : ReadFault → StreamFault
 of_read read.OutOfMemory = stream.OutOfMemory
 of_read f = stream.Read f
+
+abbrev pub of_listener : ListenFault → StreamFault
+of_listener listen.Device = stream.Device
+of_listener listen.OutOfMemory = stream.OutOfMemory
 
 -- ---- one line
 
@@ -72,7 +79,7 @@ abbrev pub RefusesNext : Contents → Listed → State → Option Recording → 
 RefusesNext p x s None n i f = ⊤
 RefusesNext p x s (Some r) n i (stream.Cert f) = RefusesListed p x (record { line = n; entry = i; next = next_of r }) s f × HasEnd r f × (f ≢ of.OutOfMemory)
 RefusesNext p x s (Some r) n i (stream.Read f) = (uses_listed x ≡ 1) × Stops f r × (f ≢ read.OutOfMemory)
-RefusesNext p x s (Some r) n i stream.Device = ⊥
+RefusesNext p x s (Some r) n i stream.Device = ⊤
 RefusesNext p x s (Some r) n i stream.OutOfMemory = ⊤
 
 -- a line of the text passes over the recording, and uses so many entries
@@ -89,10 +96,18 @@ abbrev pub RefusesOver : Contents → Option (List ℕ) → State → Option Rec
 RefusesOver p text s None n i f = ⊤
 RefusesOver p text s (Some r) n i (stream.Cert f) = IsFaultOfLine p s (next_of r) n i text f × HasEnd r f
 RefusesOver p text s (Some r) n i (stream.Read f) = WantsEntry p text s × Stops f r × (f ≢ read.OutOfMemory)
-RefusesOver p text s (Some r) n i stream.Device = ⊥
+RefusesOver p text s (Some r) n i stream.Device = ⊤
 RefusesOver p text s (Some r) n i stream.OutOfMemory = ⊤
 
 -- ---- a walk along the lines
+
+-- a walk passes over what the next line lists, and that uses so many entries of the recording
+abbrev pub WalksNext : Walk → Walk → Listed → Option Recording → Option Recording → ℕ → Type 0
+WalksNext old new x rec rest used = PassesNext old.link.profile x old.link.state new.link.state rec rest used
+
+-- why a walk ends at what the last line lists
+abbrev pub EndsNext : Walk → Listed → Option Recording → StreamFault → Type 0
+EndsNext walk x rec f = RefusesNext walk.link.profile x walk.link.state rec walk.lines walk.used f
 
 -- a walk passes over the next line, as its version reads it, and that uses so many entries of the recording
 abbrev pub WalksOver : Walk → Walk → Option (List ℕ) → Option Recording → Option Recording → ℕ → Type 0
@@ -102,6 +117,14 @@ WalksOver old new text rec rest used = PassesOver old.profile.now (read_as old.v
 abbrev pub EndsWalk : Walk → Option (List ℕ) → Option Recording → StreamFault → Type 0
 EndsWalk walk text rec f = RefusesOver walk.profile.now (read_as walk.version text) walk.link.state rec walk.lines walk.used f
 
+-- a listener is told of what the next line lists, with this entry, if it uses one
+abbrev pub TellsListed : {T : Type 0} → Hearing T → Walk → Listed → Option Entry → T → T → Type 0
+TellsListed hears walk x next old new = hears walk.profile.now old (told_listed walk.link.state.source.number x (numbered walk.used next)) new
+
+-- with the entry that comes next, if it uses one
+abbrev pub HearsNext : {T : Type 0} → Hearing T → Walk → Listed → Option Recording → T → T → Type 0
+HearsNext hears walk x rec old new = HearsListed hears walk.profile.now x walk.link.state rec walk.used old new
+
 -- a listener is told of what this line lists, which was handed out last
 abbrev pub HearsLine : {T : Type 0} → Hearing T → Walk → Option (List ℕ) → Option Recording → T → T → Type 0
 HearsLine hears walk text rec old new = HearsText hears walk.profile.now (read_as walk.version text) walk.link.state rec walk.used old new
@@ -109,6 +132,10 @@ HearsLine hears walk text rec old new = HearsText hears walk.profile.now (read_a
 -- a walk hands out the files that its link has delivered: nothing else changes, but what was noted
 abbrev pub HandsOut : Walk → Walk → Type 0
 HandsOut old new = new ≡ record old { link = record (old.link) { state = handed_out old.link.state }; files = new.files }
+
+-- one of certificate, shelf and listener has failed
+abbrev pub OneFailed : Bool → Bool → Bool → Type 0
+OneFailed cert shelf listener = (cert ≡ true) ⊎ (shelf ≡ true) ⊎ (listener ≡ true)
 
 -- ---- files that are put
 

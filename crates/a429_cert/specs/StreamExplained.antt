@@ -17,6 +17,7 @@ use Rattle.a429_cert.specs.declared.explained.Head.{Head}
 use Rattle.a429_cert.specs.Version.{step_lines}
 use Rattle.a429_cert.specs.Explained.{items_of, Reaches, IsExplained, AreInEveryRun}
 use Rattle.a429_cert.specs.Fault.{HasHead, IsFaultOfHead, IsLaterFault, IsFirstCertFault}
+use Rattle.a429_cert.specs.Told.{Hearing, IsHeard}
 use Rattle.a429_cert.specs.Stream.{behind, WantsEntry, GainsAll, sizes}
 
 -- what holds of the certificate and the recording, where both are told
@@ -41,6 +42,10 @@ pub record Extracts (p : Contents) (known : Option (List ℕ)) (rec : Option Rec
 -- the answer is those of such files
 abbrev pub Answers : {Z : Type 0} → Contents → Option (List ℕ) → Option Recording → Option (List PutFile) → Option (List PutFile) → Vec (ℕ × ℕ) Z → Type 0
 Answers p known rec old new answer = Extracts p known rec old new answer.items
+
+-- a listener has heard the run by which the certificate explains the recording, where both are told
+abbrev pub HearsRun : {T : Type 0} → Hearing T → Contents → Option (List ℕ) → Option Recording → T → T → Type 0
+HearsRun hears p known rec old new = WhereTold known rec (IsHeard hears p old new)
 
 -- ---- a fault
 

@@ -33,7 +33,7 @@ pub use crate::fault::{CertFault, OutOfMemory};
 pub use crate::line::{CertLine, LoadLine, MovedLine};
 pub use crate::line_reader::LineReader;
 pub use crate::lines::TextLine;
-pub use crate::listener::{Listener, NoListener};
+pub use crate::listener::{ListenFault, Listener, NoListener};
 pub use crate::reading::read_line;
 pub use crate::shelf::{MemoryShelf, NoShelf, PutFile, Shelf, ShelfFault};
 pub use crate::stream::{replay_stream, verify_stream};

@@ -1,18 +1,27 @@
 //! Who is told of the steps of a certificate, one after the other.
 
-ghost use Rattle.std.specs.Prelude.{IsOk};
+ghost use Rattle.std.specs.Prelude.{IsOk, false};
 
 use crate::act::Act;
-use crate::fault::OutOfMemory;
 use a429_ldu::Ldu;
 use a429_link::UnitNumber;
 use a429_profile::Profile;
 use a429_record::Entry;
+use a429_word::Failing;
+
+/// Why a listener has not taken what it was told.
+#[derive(Clone, Copy, Debug, PartialEq, Eq)]
+pub enum ListenFault {
+    /// The listener has failed.
+    Device,
+    /// Memory was refused.
+    OutOfMemory,
+}
 
 /// What is told of each step that a certificate lists, before it is known whether the step may be made: what
 /// it has heard is a run only where the whole certificate is accepted.
-pub trait Listener {
-    ghost use Rattle.std.specs.Prelude.{OnOk};
+pub trait Listener: Failing {
+    ghost use Rattle.std.specs.Prelude.{◌≡◌, IsErrOf, OnOk, true};
     ghost use Rattle.a429_profile.specs.Profile.{Contents};
     ghost use Rattle.a429_cert.specs.Told.{Told, Loads, Makes};
 
@@ -20,8 +29,9 @@ pub trait Listener {
     ghost hears: { Contents → Self → Told → Self → Type 0 };
 
     /// The source is given a link data unit, which has this number.
-    fn load(&mut self, profile: &Profile, number: UnitNumber, unit: &Ldu) -> Result<(), OutOfMemory>
-        ensures { OnOk result (hears profile.now self.old (Loads number unit.now) self.new) };
+    fn load(&mut self, profile: &Profile, number: UnitNumber, unit: &Ldu) -> Result<(), ListenFault>
+        ensures heard { OnOk result (hears profile.now self.old (Loads number unit.now) self.new) }
+        ensures device { IsErrOf result ListenFault.Device → Self.failed self.new ≡ true };
 
     /// Another step is made. It records this entry, which has this number, counted from 0.
     fn make(
@@ -29,26 +39,35 @@ pub trait Listener {
         profile: &Profile,
         act: Act,
         entry: Option<(usize, Entry)>,
-    ) -> Result<(), OutOfMemory>
-        ensures { OnOk result (hears profile.now self.old (Makes act entry) self.new) };
+    ) -> Result<(), ListenFault>
+        ensures heard { OnOk result (hears profile.now self.old (Makes act entry) self.new) }
+        ensures device { IsErrOf result ListenFault.Device → Self.failed self.new ≡ true };
 }
 
 /// A listener that does not listen.
 #[derive(Debug, Drop)]
 pub struct NoListener;
 
+impl Failing for NoListener {
+    ghost failed = { λ s. false };
+
+    fn failed(&self) -> bool {
+        false
+    }
+}
+
 impl Listener for NoListener {
     ghost use Rattle.std.specs.Prelude.{⊤};
 
     ghost hears = { λ _ _ _ _. ⊤ };
 
-    fn load(&mut self, _: &Profile, _: UnitNumber, _: &Ldu) -> Result<(), OutOfMemory>
+    fn load(&mut self, _: &Profile, _: UnitNumber, _: &Ldu) -> Result<(), ListenFault>
         ensures told { IsOk result }
     {
         Ok(())
     }
 
-    fn make(&mut self, _: &Profile, _: Act, _: Option<(usize, Entry)>) -> Result<(), OutOfMemory>
+    fn make(&mut self, _: &Profile, _: Act, _: Option<(usize, Entry)>) -> Result<(), ListenFault>
         ensures told { IsOk result }
     {
         Ok(())

@@ -1,6 +1,6 @@
 //! A certificate, held against a recording, both read as they come.
 
-ghost use Rattle.std.specs.Prelude.{◌≡◌, ◌≢◌, ◌≤◌, ◌⊎◌, [], ◌∷◌, ◌++◌, true, option_map, IfOk, IfErr, IfSome, IsSome, IsErrOf, OnOk, OnErr};
+ghost use Rattle.std.specs.Prelude.{◌≡◌, ◌≤◌, ◌⊎◌, [], ◌∷◌, ◌++◌, true, option_map, IfOk, IfErr, IfSome, IsSome, IsErrOf, OnOk, OnErr};
 ghost use Rattle.a429_profile.specs.Profile.{IsProfile};
 ghost use Rattle.a429_record.specs.declared.fault.ReadFault.TheVariants as read;
 ghost use Rattle.a429_cert.specs.Lines.{line_bytes};
@@ -8,20 +8,21 @@ ghost use Rattle.a429_cert.specs.Shelf.{IsUnchanged};
 ghost use Rattle.a429_cert.specs.Passing.{IsReady, uses_listed};
 ghost use Rattle.a429_word.specs.Tally.{has_failed, unread};
 ghost use Rattle.a429_cert.specs.Explained.{seen_of};
-ghost use Rattle.a429_cert.specs.StreamExplained.{Answers, Refuses, WhereTold};
-ghost use Rattle.a429_cert.specs.Told.{IsHeard, IsNextEntry, HearsListed, told_listed, numbered};
-ghost use Rattle.a429_cert.specs.Stream.{IsFaultNext, RefusesNext, PassesNext, TakesNext, WalksOver, EndsWalk, HandsOut, HearsLine, PutsFiles, PutsFirstFiles, sizes};
+ghost use Rattle.a429_cert.specs.StreamExplained.{Answers, HearsRun, Refuses};
+ghost use Rattle.a429_cert.specs.Told.{IsNextEntry, numbered};
+ghost use Rattle.a429_cert.specs.Stream.{IsFaultNext, TakesNext, WalksNext, EndsNext, TellsListed, HearsNext, WalksOver, EndsWalk, HearsLine};
+ghost use Rattle.a429_cert.specs.Stream.{OneFailed, HandsOut, PutsFiles, PutsFirstFiles, sizes};
 
 use crate::at::At;
 use crate::entry::seen_in;
-use crate::fault::{CertFault, OutOfMemory};
+use crate::fault::CertFault;
 use crate::line_reader::LineReader;
 use crate::lines::TextLine;
 use crate::listed::Listed;
-use crate::listener::{Listener, NoListener};
+use crate::listener::{ListenFault, Listener, NoListener};
 use crate::passing::{list_step, take_step};
 use crate::shelf::{Shelf, ShelfFault};
-use crate::stream_fault::{StreamFault, of_cert, of_read};
+use crate::stream_fault::{StreamFault, of_cert, of_listener, of_read};
 use crate::stream_head::begin;
 use crate::version::Version;
 use a429_link::{FileBytes, Link};
@@ -51,7 +52,8 @@ pub fn verify_stream<R: Read, C: Read, S: Shelf>(
 }
 
 /// The same, and a listener is told of each step as it comes. Where the answer is a yes, it has heard the
-/// steps of the run by which the certificate explains the recording, each once and in order.
+/// steps of the run by which the certificate explains the recording, each once and in order. Where it has
+/// not taken a step, that is the fault, and the files of the lines before are put.
 pub fn replay_stream<R: Read, C: Read, S: Shelf, T: Listener>(
     alloc: Global,
     profile: &Profile,
@@ -61,9 +63,9 @@ pub fn replay_stream<R: Read, C: Read, S: Shelf, T: Listener>(
     listener: &mut T,
 ) -> Result<Vec<(u8, u32)>, StreamFault>
     ensures ok { IfOk result (Answers profile.now (unread C.remaining cert.old) rec.old.to_come (S.files shelf.old) (S.files shelf.new)) }
-    ensures heard { OnOk result (WhereTold (unread C.remaining cert.old) rec.old.to_come (IsHeard T.hears profile.now listener.old listener.new)) }
+    ensures heard { OnOk result (HearsRun T.hears profile.now (unread C.remaining cert.old) rec.old.to_come listener.old listener.new) }
     ensures err { IfErr result (Refuses profile.now (unread C.remaining cert.old) rec.old.to_come (S.files shelf.old) (S.files shelf.new)) }
-    ensures device { IsErrOf result StreamFault.Device → (has_failed cert.new ≡ true) ⊎ (S.failed shelf.new ≡ true) }
+    ensures device { IsErrOf result StreamFault.Device → OneFailed (has_failed cert.new) (S.failed shelf.new) (T.failed listener.new) }
     ensures read { IsErrOf result (StreamFault.Read read.Device) → rec.new.failed ≡ true }
 {
     // No line is empty of bytes, so that lines and entries are no more than the bytes that may come.
@@ -139,8 +141,9 @@ fn tell<T: Listener>(
     listed: &Listed,
     next: Option<Entry>,
     listener: &mut T,
-) -> Result<(), OutOfMemory>
-    ensures { OnOk result (T.hears walk.now.profile.now listener.old (told_listed walk.now.link.state.source.number listed.now (numbered walk.now.used next)) listener.new) }
+) -> Result<(), ListenFault>
+    ensures heard { OnOk result (TellsListed T.hears walk.now listed.now next listener.old listener.new) }
+    ensures device { IsErrOf result ListenFault.Device → T.failed listener.new ≡ true }
 {
     match listed {
         Listed::Load(unit) => listener.load(walk.profile, walk.link.number(), unit),
@@ -164,12 +167,12 @@ fn take_next<R: Read, T: Listener>(
     listener: &mut T,
 ) -> Result<usize, StreamFault>
     requires { IsReady walk.old.link.profile listed walk.old.link.state }
-    ensures passed { IfOk result (PassesNext walk.old.link.profile listed walk.old.link.state walk.new.link.state rec.old.to_come rec.new.to_come) }
-    ensures heard { OnOk result (HearsListed T.hears walk.old.profile.now listed walk.old.link.state rec.old.to_come walk.old.used listener.old listener.new) }
+    ensures passed { IfOk result (WalksNext walk.old walk.new listed rec.old.to_come rec.new.to_come) }
+    ensures heard { OnOk result (HearsNext T.hears walk.old listed rec.old.to_come listener.old listener.new) }
     ensures few { IfOk result (λ used. used ≤ 1) }
-    ensures refused { IfErr result (RefusesNext walk.old.link.profile listed walk.old.link.state rec.old.to_come walk.old.lines walk.old.used) }
-    ensures device { IsErrOf result (StreamFault.Read read.Device) → rec.new.failed ≡ true }
-    ensures other { IfErr result (λ f. f ≢ StreamFault.Device) }
+    ensures refused { IfErr result (EndsNext walk.old listed rec.old.to_come) }
+    ensures device { IsErrOf result StreamFault.Device → T.failed listener.new ≡ true }
+    ensures read { IsErrOf result (StreamFault.Read read.Device) → rec.new.failed ≡ true }
     ensures kept { walk.new ≡ record (walk.old) { link = walk.new.link } }
     ensures profile { walk.new.link.profile ≡ walk.old.link.profile }
 {
@@ -184,7 +187,7 @@ fn take_next<R: Read, T: Listener>(
     };
     match tell(walk, &listed, next, listener) {
         Ok(()) => {}
-        Err(_) => return Err(StreamFault::OutOfMemory),
+        Err(fault) => return Err(of_listener(fault)),
     }
     match take_step(&mut walk.link, listed, at) {
         Ok(used) => Ok(used),
@@ -207,8 +210,8 @@ pub fn pass_over<R: Read, T: Listener>(
     ensures ended { OnOk result (IsSome (line_bytes line.entry)) }
     ensures few { IfOk result (λ used. used ≤ 1) }
     ensures refused { IfErr result (EndsWalk walk.old (line_bytes line.entry) rec.old.to_come) }
-    ensures device { IsErrOf result (StreamFault.Read read.Device) → rec.new.failed ≡ true }
-    ensures other { IfErr result (λ f. f ≢ StreamFault.Device) }
+    ensures device { IsErrOf result StreamFault.Device → T.failed listener.new ≡ true }
+    ensures read { IsErrOf result (StreamFault.Read read.Device) → rec.new.failed ≡ true }
     ensures kept { walk.new ≡ record (walk.old) { link = walk.new.link } }
     ensures profile { walk.new.link.profile ≡ walk.old.profile.now }
 {

@@ -1,9 +1,10 @@
 //! Why a certificate that is read as it comes, or its recording, is refused.
 
 ghost use Rattle.std.specs.Prelude.{◌≡◌};
-ghost use Rattle.a429_cert.specs.Stream.{of_cert, of_read};
+ghost use Rattle.a429_cert.specs.Stream.{of_cert, of_listener, of_read};
 
 use crate::fault::CertFault;
+use crate::listener::ListenFault;
 use a429_record::ReadFault;
 
 /// Why a certificate and a recording that are read as they come are refused.
@@ -13,7 +14,7 @@ pub enum StreamFault {
     Cert(CertFault),
     /// The recording's fault, where the entry that it stands for is wanted first.
     Read(ReadFault),
-    /// The certificate's reader or the shelf has failed.
+    /// The certificate's reader, the shelf or the listener has failed.
     Device,
     /// Memory was refused.
     OutOfMemory,
@@ -36,5 +37,15 @@ pub fn of_read(fault: ReadFault) -> StreamFault
     match fault {
         ReadFault::OutOfMemory => StreamFault::OutOfMemory,
         _ => StreamFault::Read(fault),
+    }
+}
+
+/// The fault of a stream for one of its listener.
+pub fn of_listener(fault: ListenFault) -> StreamFault
+    ensures { result ≡ of_listener fault }
+{
+    match fault {
+        ListenFault::Device => StreamFault::Device,
+        ListenFault::OutOfMemory => StreamFault::OutOfMemory,
     }
 }
