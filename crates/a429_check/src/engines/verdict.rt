@@ -70,12 +70,13 @@ pub(crate) fn answer_of<R: Read, C: Read, S: Shelf, T: Listener>(
         listener.old listener.new)) }
     ensures works { OnOk result (AllWork rec.new.failed (has_failed certificate.new) (S.failed shelf.new) (T.failed listener.new)) }
     ensures err { IfErr result (IsVerifyFault profile.now (unread C.remaining certificate.old) rec.old.to_come (S.files shelf.old)
-        (S.files shelf.new) (HasFailed rec.new.failed (has_failed certificate.new) (S.failed shelf.new) ⊎ (T.failed listener.new ≡ true))) }
+        (S.files shelf.new) (HasFailed rec.new.failed (has_failed certificate.new) (S.failed shelf.new)
+            ⊎ (T.failed listener.new ≡ true))) }
     ensures unheard { (f : ProfileFault) → result ≡ Err (RunFault.Profile f) → listener.new ≡ listener.old }
 {
     let profile = profile_of(alloc, profile)?;
     let answer = replay_stream(alloc, &profile, rec, certificate, shelf, listener);
-    if any_failed(rec, certificate, shelf) || listener.failed() {
+    if any_failed(rec, certificate, shelf, listener) {
         return Err(RunFault::Device);
     }
     match answer {
@@ -87,16 +88,18 @@ pub(crate) fn answer_of<R: Read, C: Read, S: Shelf, T: Listener>(
     }
 }
 
-// Whether a reader or the shelf has failed.
-fn any_failed<R: Read, C: Read, S: Shelf>(
+// Whether a reader, the shelf or the listener has failed.
+fn any_failed<R: Read, C: Read, S: Shelf, T: Listener>(
     rec: &EntryReader<R>,
     certificate: &Tally<C>,
     shelf: &S,
+    listener: &T,
 ) -> bool
-    ensures yes { result ≡ true → HasFailed rec.now.failed (has_failed certificate.now) (S.failed shelf.now) }
-    ensures no { result ≡ false → AllWork rec.now.failed (has_failed certificate.now) (S.failed shelf.now) false }
+    ensures yes { result ≡ true → HasFailed rec.now.failed (has_failed certificate.now) (S.failed shelf.now)
+        ⊎ (T.failed listener.now ≡ true) }
+    ensures no { result ≡ false → AllWork rec.now.failed (has_failed certificate.now) (S.failed shelf.now) (T.failed listener.now) }
 {
-    rec.failed() || certificate.failed() || shelf.failed()
+    rec.failed() || certificate.failed() || shelf.failed() || listener.failed()
 }
 
 // The fault, where it is one of the certificate.
