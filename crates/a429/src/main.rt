@@ -3,9 +3,11 @@
 
 use a429_check::{
     Claim, Command, Folder, RunFault, command, read_whole, report, run_check, run_extract,
-    run_forms, run_labels, run_make, run_pack, run_show, run_upgrade, run_verify, run_word,
+    run_forms, run_labels, run_make, run_pack, run_show, run_units, run_upgrade, run_verify,
+    run_word,
 };
 use a429_record::EntryReader;
+use a429_view::UnitRows;
 use a429_word::Tally;
 use std::alloc::Global;
 use std::io::{BufWriter, ErrorKind, Write};
@@ -45,6 +47,7 @@ fn run(rt: &(impl Files + Env + Print + AllocGlobal)) -> Result<u8, RunFault> {
         Command::Pack(recording) => run_pack(alloc, &mut opened(rt, recording, CAP)?, &mut out)?,
         Command::Check(claim) => check(rt, alloc, claim, &mut out)?,
         Command::Verify(claim) => verify(rt, alloc, claim, &mut out)?,
+        Command::Units(claim) => return units(rt, alloc, claim, out),
         Command::Extract { claim, folder } => extract(rt, alloc, claim, folder, &mut out)?,
         Command::Upgrade { cert, new_cert } => upgrade(rt, cert, new_cert, &mut out)?,
     };
@@ -110,6 +113,22 @@ fn verify<W: Write>(
     let mut rec = EntryReader::new(alloc, opened(rt, claim.recording, CAP)?);
     let mut cert = opened(rt, claim.certificate, CERTIFICATE_CAP)?;
     run_verify(alloc, profile.as_slice(), &mut rec, &mut cert, out)
+}
+
+// Rows have the output to themselves: what waits to be written is flushed here.
+fn units<W: Write + Drop>(
+    rt: &impl Files,
+    alloc: Global,
+    claim: Claim<'_>,
+    out: Tally<W>,
+) -> Result<u8, RunFault> {
+    let profile = bytes_of(rt, alloc, claim.profile)?;
+    let mut rec = EntryReader::new(alloc, opened(rt, claim.recording, CAP)?);
+    let mut cert = opened(rt, claim.certificate, CERTIFICATE_CAP)?;
+    let mut rows = UnitRows::new(alloc, out)?;
+    let status = run_units(alloc, profile.as_slice(), &mut rec, &mut cert, &mut rows)?;
+    rows.out.flush().map_err(|_| RunFault::Device)?;
+    Ok(status)
 }
 
 fn extract<W: Write>(

@@ -8,4 +8,5 @@ pub mod MakeCrossed
 pub mod MakeBytes
 pub mod ShowOneLine
 pub mod VerdictFacts
+pub mod UnitsFacts
 pub mod UpgradeFacts

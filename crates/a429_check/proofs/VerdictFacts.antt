@@ -1,10 +1,10 @@
 -- What is answered of a certificate, and what a command tells where there is no verdict.
-use Rattle.std.proofs.Common.{◌≡◌, ◌∙◌, ◌++◌, inr, ℕ, List, length, Vec, Global, Option, Some, None, Result, Ok, Err, IfOk, IfErr, refl, ap}
+use Rattle.std.proofs.Common.{◌≡◌, ◌⊎◌, ◌∙◌, ◌++◌, inl, inr, ℕ, Bool, true, List, length, Vec, Global, Option, Some, None, Result, Ok, Err, IfOk, IfErr, refl, ap}
 use Rattle.std.specs.List.{flat_map}
 use Rattle.std.proofs.lemmas.List.{length-map}
 use Rattle.std.proofs.lemmas.List.Folds.{flat_map-map}
 use Rattle.a429_link.specs.declared.file.FileBytes.{FileBytes}
-use Rattle.a429_cert.specs.Stream.{sizes}
+use Rattle.a429_cert.specs.Stream.{OneFailed, sizes}
 use Rattle.a429_profile.specs.Profile.{Contents}
 use Rattle.a429_record.specs.declared.fault.ReadFault.TheVariants as read
 use Rattle.a429_record.specs.Recording.{Recording}
@@ -13,8 +13,11 @@ use Rattle.a429_cert.specs.declared.stream_fault.StreamFault.{StreamFault}
 use Rattle.a429_cert.specs.declared.stream_fault.StreamFault.TheVariants as stream
 use Rattle.a429_cert.specs.Shelf.{IsUnchanged}
 use Rattle.a429_cert.specs.StreamExplained.{Extracts, Refuses}
+use Rattle.a429_profile.specs.declared.fault.ProfileFault.{ProfileFault}
+use Rattle.a429_check.specs.declared.fault.RunFault.{RunFault}
+use Rattle.a429_check.specs.declared.fault.RunFault.TheVariants as run
 use Rattle.a429_check.specs.Profile.{IsProfileOf}
-use Rattle.a429_check.specs.Verdict.{HasAnswer, IsVerifyFault, of_stream, count_line, file_line, line_of_file, yes_text}
+use Rattle.a429_check.specs.Verdict.{HasAnswer, HasFailed, IsVerifyFault, of_stream, count_line, file_line, line_of_file, yes_text}
 
 -- what is told of files, by their lines
 pub yes_of_files : (files : List FileBytes) → yes_text (sizes files) ≡ count_line (length files) ++ flat_map line_of_file files
@@ -50,3 +53,33 @@ told profile p certificate rec old new Failed f is here a b = by f here a b
     by (stream.Read read.OutOfMemory) here a b = (is.0, inr (answer (stream.Read read.OutOfMemory) here))
     by stream.Device here a b = (a refl, answer stream.Device here)
     by stream.OutOfMemory here a b = (is.0, inr (answer stream.OutOfMemory here))
+
+-- what has failed may be more
+pub weaker_fault : (profile : List ℕ) (certificate : Option (List ℕ)) (rec : Option Recording) (old new : Option (List PutFile)) (Failed More : Type 0) (e : RunFault)
+    → (Failed → More) → IsVerifyFault profile certificate rec old new Failed e → IsVerifyFault profile certificate rec old new More e
+weaker_fault profile certificate rec old new Failed More (run.Profile f) more h = h
+weaker_fault profile certificate rec old new Failed More (run.Read f) more h = h
+weaker_fault profile certificate rec old new Failed More (run.Cut k f) more h = h
+weaker_fault profile certificate rec old new Failed More run.Device more h = (more h.0, h.1)
+weaker_fault profile certificate rec old new Failed More run.Memory more h = h
+weaker_fault profile certificate rec old new Failed More run.BadWord more h = h
+weaker_fault profile certificate rec old new Failed More run.Usage more h = h
+
+-- no fault of a stream is one of a profile
+pub no_profile : (f : StreamFault) (fault : ProfileFault) → of_stream f ≡ run.Profile fault → ⊥
+no_profile (stream.Cert f) fault e = cc e
+no_profile (stream.Read read.Header) fault e = cc e
+no_profile (stream.Read (read.Row i)) fault e = cc e
+no_profile (stream.Read (read.TimeBack i)) fault e = cc e
+no_profile (stream.Read read.TooMany) fault e = cc e
+no_profile (stream.Read read.Failed) fault e = cc e
+no_profile (stream.Read read.Device) fault e = cc e
+no_profile (stream.Read read.OutOfMemory) fault e = cc e
+no_profile stream.Device fault e = cc e
+no_profile stream.OutOfMemory fault e = cc e
+
+-- what has failed where a stream tells a device
+pub one_failed : (rec cert shelf listener : Bool) → OneFailed cert shelf listener → HasFailed rec cert shelf ⊎ (listener ≡ true)
+one_failed rec cert shelf listener (inl a) = inl (inr (inl a))
+one_failed rec cert shelf listener (inr (inl b)) = inl (inr (inr b))
+one_failed rec cert shelf listener (inr (inr d)) = inr d

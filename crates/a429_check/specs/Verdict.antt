@@ -15,7 +15,8 @@ use Rattle.a429_cert.specs.declared.shelf.PutFile.{PutFile}
 use Rattle.a429_cert.specs.declared.stream_fault.StreamFault.{StreamFault}
 use Rattle.a429_cert.specs.declared.stream_fault.StreamFault.TheVariants as stream
 use Rattle.a429_cert.specs.Shelf.{IsUnchanged}
-use Rattle.a429_cert.specs.StreamExplained.{Extracts, Refuses}
+use Rattle.a429_cert.specs.StreamExplained.{Extracts, Refuses, WhereTold}
+use Rattle.a429_cert.specs.Told.{Hearing, IsHeard}
 use Rattle.a429_check.specs.declared.fault.RunFault.{RunFault}
 use Rattle.a429_check.specs.declared.fault.RunFault.TheVariants as run
 use Rattle.a429_check.specs.Fault.{ComesBy, never}
@@ -61,6 +62,12 @@ pub record Judges (profile : List ℕ) (certificate : Option (List ℕ)) (rec : 
   pub contents : Contents
   pub is_profile : IsProfileOf profile contents
   pub is : IsAnswer contents certificate rec old new answer
+
+-- a listener has heard the steps of the run by which the certificate explains the recording, by such a profile
+pub record HasHeard {T : Type 0} (hears : Hearing T) (profile : List ℕ) (certificate : Option (List ℕ)) (rec : Option Recording) (old new : T) : Type 0 where
+  pub contents : Contents
+  pub is_profile : IsProfileOf profile contents
+  pub heard : WhereTold certificate rec (IsHeard hears contents old new)
 
 -- an answer, told: 0 and a yes with its files, or 2 and a no; other faults are no verdict
 abbrev pub IsTold : Answer → ℕ → List ℕ → Type 0

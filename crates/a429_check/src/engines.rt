@@ -11,6 +11,7 @@ pub mod pack;
 mod profile;
 mod recording;
 pub mod show;
+pub mod units;
 pub mod upgrade;
 mod verdict;
 pub mod verify;

@@ -17,6 +17,7 @@ pub use crate::engines::labels::run_labels;
 pub use crate::engines::make::run_make;
 pub use crate::engines::pack::run_pack;
 pub use crate::engines::show::run_show;
+pub use crate::engines::units::run_units;
 pub use crate::engines::upgrade::run_upgrade;
 pub use crate::engines::verify::run_verify;
 pub use crate::engines::whole::read_whole;

@@ -10,6 +10,7 @@ pub(crate) mod labels;
 pub(crate) mod make;
 pub(crate) mod pack;
 pub(crate) mod show;
+pub(crate) mod units;
 pub(crate) mod upgrade;
 mod verify;
 pub(crate) mod word;

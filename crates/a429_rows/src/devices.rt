@@ -35,19 +35,21 @@ fn failing_runs(alloc: Global, given: &Given, command: Command, device: Device) 
     None
 }
 
-const READS: [(Command, Device); 9] = [
+const READS: [(Command, Device); 11] = [
     (Command::Show, Device::Recording),
     (Command::Pack, Device::Recording),
     (Command::Check, Device::Recording),
     (Command::Verify, Device::Recording),
     (Command::Extract, Device::Recording),
     (Command::Verify, Device::Certificate),
+    (Command::Units, Device::Recording),
+    (Command::Units, Device::Certificate),
     (Command::Extract, Device::Certificate),
     (Command::Extract, Device::Shelf),
     (Command::Upgrade, Device::Certificate),
 ];
 
-const WRITES: [(Command, Device); 11] = [
+const WRITES: [(Command, Device); 12] = [
     (Command::Word, Device::Output),
     (Command::Labels, Device::Output),
     (Command::Show, Device::Output),
@@ -56,6 +58,7 @@ const WRITES: [(Command, Device); 11] = [
     (Command::Check, Device::Lines),
     (Command::Check, Device::Output),
     (Command::Verify, Device::Output),
+    (Command::Units, Device::Output),
     (Command::Extract, Device::Output),
     (Command::Upgrade, Device::Lines),
     (Command::Upgrade, Device::Output),

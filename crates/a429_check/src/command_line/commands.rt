@@ -35,6 +35,8 @@ pub enum Command<'a> {
     },
     /// `verify PROFILE REC CERT`: holds a certificate against a recording.
     Verify(Claim<'a>),
+    /// `units PROFILE REC CERT`: lists the link data units that a certificate loads, a row for each.
+    Units(Claim<'a>),
     /// `upgrade CERT OUT`: writes a certificate as one of version 2 to OUT.
     Upgrade {
         cert: &'a str,

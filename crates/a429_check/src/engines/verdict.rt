@@ -6,20 +6,21 @@ ghost use Rattle.std.specs.List.{flat_map};
 ghost use Rattle.std.specs.Fmt.{decimal};
 ghost use Rattle.a429_word.specs.Tally.{has_failed, unread, Puts};
 ghost use Rattle.a429_cert.specs.Stream.{sizes};
-ghost use Rattle.a429_check.specs.Verdict.{count_line, file_line, line_of_file, yes_text, no_text, of_stream, AllWork, HasFailed, IsSilent, IsVerdict, IsVerifyFault, Judges, PutsText};
+ghost use Rattle.a429_check.specs.Verdict.{count_line, file_line, line_of_file, yes_text, no_text, of_stream, AllWork, HasFailed, HasHeard, IsSilent, IsVerdict, IsVerifyFault, Judges, PutsText};
 
 use crate::engines::output::put_decimal;
 use crate::engines::profile::profile_of;
 use crate::fault::RunFault;
-use a429_cert::{CertFault, Shelf, StreamFault, verify_stream};
+use a429_cert::{CertFault, Listener, NoListener, Shelf, StreamFault, replay_stream};
 use a429_link::FileBytes;
+use a429_profile::ProfileFault;
 use a429_record::{EntryReader, ReadFault};
 use a429_word::{Device, Failing, Tally};
 use std::alloc::Global;
 use std::io::{Read, Write};
 
-// The numbers and lengths of the files that a certificate puts on a shelf, or why it is refused.
-type Answer = Result<Vec<(u8, u32)>, CertFault>;
+/// The numbers and lengths of the files that a certificate puts on a shelf, or why it is refused.
+pub(crate) type Answer = Result<Vec<(u8, u32)>, CertFault>;
 
 /// Puts the files that a certificate gives on a shelf, writes the verdict, and answers its status: 0 for a
 /// yes, 2 for a no.
@@ -39,7 +40,7 @@ pub(crate) fn judge<R: Read, C: Read, S: Shelf, W: Write>(
     ensures silent { IfErr result (IsSilent (HasFailed rec.new.failed (has_failed certificate.new) (S.failed shelf.new))
         (has_failed out.new) out.old out.new) }
 {
-    match answer_of(alloc, profile, rec, certificate, shelf)? {
+    match answer_of(alloc, profile, rec, certificate, shelf, &mut NoListener)? {
         Ok(files) => {
             put_yes(out, files.as_slice())?;
             Ok(0)
@@ -51,26 +52,31 @@ pub(crate) fn judge<R: Read, C: Read, S: Shelf, W: Write>(
     }
 }
 
-// What `verify_stream` answers to a certificate, under the profile whose text the bytes are, where no
-// reader and no shelf has failed.
-fn answer_of<R: Read, C: Read, S: Shelf>(
+/// What is answered to a certificate, under the profile whose text the bytes are, where no reader, no shelf and
+/// no listener has failed. The listener is told of the certificate's steps.
+pub(crate) fn answer_of<R: Read, C: Read, S: Shelf, T: Listener>(
     alloc: Global,
     profile: &[u8],
     rec: &mut EntryReader<R>,
     certificate: &mut Tally<C>,
     shelf: &mut S,
+    listener: &mut T,
 ) -> Result<Answer, RunFault>
     ensures yes { IfOk result (λ a. IfOk a (λ files. Judges profile.now (unread C.remaining certificate.old) rec.old.to_come
         (S.files shelf.old) (S.files shelf.new) (Ok files.items))) }
     ensures no { IfOk result (λ a. IfErr a (λ f. Judges profile.now (unread C.remaining certificate.old) rec.old.to_come
         (S.files shelf.old) (S.files shelf.new) (Err (StreamFault.Cert f)) × (f ≢ CertFault.OutOfMemory))) }
-    ensures works { OnOk result (AllWork rec.new.failed (has_failed certificate.new) (S.failed shelf.new) false) }
+    ensures heard { IfOk result (λ a. OnOk a (HasHeard T.hears profile.now (unread C.remaining certificate.old) rec.old.to_come
+        listener.old listener.new)) }
+    ensures works { OnOk result (AllWork rec.new.failed (has_failed certificate.new) (S.failed shelf.new) (T.failed listener.new)) }
     ensures err { IfErr result (IsVerifyFault profile.now (unread C.remaining certificate.old) rec.old.to_come (S.files shelf.old)
-        (S.files shelf.new) (HasFailed rec.new.failed (has_failed certificate.new) (S.failed shelf.new))) }
+        (S.files shelf.new) (HasFailed rec.new.failed (has_failed certificate.new) (S.failed shelf.new)
+            ⊎ (T.failed listener.new ≡ true))) }
+    ensures unheard { (f : ProfileFault) → result ≡ Err (RunFault.Profile f) → listener.new ≡ listener.old }
 {
     let profile = profile_of(alloc, profile)?;
-    let answer = verify_stream(alloc, &profile, rec, certificate, shelf);
-    if any_failed(rec, certificate, shelf) {
+    let answer = replay_stream(alloc, &profile, rec, certificate, shelf, listener);
+    if any_failed(rec, certificate, shelf, listener) {
         return Err(RunFault::Device);
     }
     match answer {
@@ -82,16 +88,18 @@ fn answer_of<R: Read, C: Read, S: Shelf>(
     }
 }
 
-// Whether a reader or the shelf has failed.
-fn any_failed<R: Read, C: Read, S: Shelf>(
+// Whether a reader, the shelf or the listener has failed.
+fn any_failed<R: Read, C: Read, S: Shelf, T: Listener>(
     rec: &EntryReader<R>,
     certificate: &Tally<C>,
     shelf: &S,
+    listener: &T,
 ) -> bool
-    ensures yes { result ≡ true → HasFailed rec.now.failed (has_failed certificate.now) (S.failed shelf.now) }
-    ensures no { result ≡ false → AllWork rec.now.failed (has_failed certificate.now) (S.failed shelf.now) false }
+    ensures yes { result ≡ true → HasFailed rec.now.failed (has_failed certificate.now) (S.failed shelf.now)
+        ⊎ (T.failed listener.now ≡ true) }
+    ensures no { result ≡ false → AllWork rec.now.failed (has_failed certificate.now) (S.failed shelf.now) (T.failed listener.now) }
 {
-    rec.failed() || certificate.failed() || shelf.failed()
+    rec.failed() || certificate.failed() || shelf.failed() || listener.failed()
 }
 
 // The fault, where it is one of the certificate.
@@ -188,8 +196,8 @@ fn put_file<W: Write>(out: &mut Tally<W>, number: u8, len: u64) -> Result<(), De
     out.put(b"\n")
 }
 
-// Writes why the certificate is refused.
-fn put_no<W: Write>(out: &mut Tally<W>, fault: CertFault) -> Result<(), Device>
+/// Writes why the certificate is refused.
+pub(crate) fn put_no<W: Write>(out: &mut Tally<W>, fault: CertFault) -> Result<(), Device>
     requires { fault ≢ CertFault.OutOfMemory }
     ensures ok { OnOk result (Puts W.contents out.old out.new (no_text fault)) }
     ensures device { IsErr result ↔ (has_failed out.new ≡ true) }

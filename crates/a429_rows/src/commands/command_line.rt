@@ -54,6 +54,7 @@ forms bench.toml bench.csv -> Ok(Forms { profile: "bench.toml", recording: "benc
 show bench.toml bench.csv -> Ok(Show { profile: "bench.toml", recording: "bench.csv" })
 check bench.toml bench.csv bench.cert -> Ok(Check(Claim { profile: "bench.toml", recording: "bench.csv", certificate: "bench.cert" }))
 verify bench.toml bench.csv bench.cert -> Ok(Verify(Claim { profile: "bench.toml", recording: "bench.csv", certificate: "bench.cert" }))
+units bench.toml bench.csv bench.cert -> Ok(Units(Claim { profile: "bench.toml", recording: "bench.csv", certificate: "bench.cert" }))
 extract bench.toml bench.csv bench.cert files -> Ok(Extract { claim: Claim { profile: "bench.toml", recording: "bench.csv", certificate: "bench.cert" }, folder: "files" })
 upgrade bench.cert new.cert -> Ok(Upgrade { cert: "bench.cert", new_cert: "new.cert" })
 make bench.toml -> Ok(Make { profile: "bench.toml", files: [] })

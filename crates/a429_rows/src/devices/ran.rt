@@ -6,6 +6,7 @@ use crate::commands::labels::list;
 use crate::commands::make::{files_of, make};
 use crate::commands::pack::pack;
 use crate::commands::show::show;
+use crate::commands::units::units;
 use crate::commands::upgrade::upgrade;
 use crate::commands::word::word;
 use crate::recordings::recorded;
@@ -32,6 +33,7 @@ pub(super) enum Command {
     Pack,
     Check,
     Verify,
+    Units,
     Extract,
     Upgrade,
 }
@@ -161,6 +163,7 @@ pub(super) fn run(alloc: Global, given: &Given, command: Command, plan: Plan) ->
             &mut out,
         ),
         Command::Verify => verify(alloc, PROFILE, rec, &mut cert, &mut out),
+        Command::Units => units(alloc, rec, &mut cert, out),
         Command::Extract => extract(alloc, rec, &mut cert, &mut shelf, &mut out),
         Command::Upgrade => upgrade(&mut cert, &mut Tally::new(&mut lines, 0), &mut out),
     };

@@ -1,0 +1,70 @@
+-- What has been written where the rows of a certificate's units are finished.
+use Rattle.std.proofs.Common.{◌≡◌, ◌≢◌, ◌++◌, ℕ, List, [], Vec, Global, Option, Some, None, Result, Ok, Err, IfOk, IfErr, inl, inr, refl, subst}
+use Rattle.std.specs.Io.KnownBytes.{append_known, Appends}
+use Rattle.std.proofs.lemmas.List.{append-nil}
+use Rattle.a429_word.specs.declared.tally.Tally.{Tally}
+use Rattle.a429_word.specs.Tally.{inner_of, Puts}
+use Rattle.a429_word.specs.Page.{paged}
+use Rattle.a429_profile.specs.Profile.{Contents}
+use Rattle.a429_record.specs.Recording.{Recording}
+use Rattle.a429_cert.specs.declared.fault.CertFault.{CertFault}
+use Rattle.a429_cert.specs.declared.fault.CertFault.TheVariants as cert
+use Rattle.a429_cert.specs.declared.stream_fault.StreamFault.TheVariants as stream
+use Rattle.a429_cert.specs.StreamExplained.{WhereTold}
+use Rattle.a429_cert.specs.Told.{IsHeard, told_run}
+use Rattle.a429_view.specs.declared.units.rows.UnitRows.{UnitRows}
+use Rattle.a429_view.specs.Units.{units_text}
+use Rattle.a429_view.specs.UnitSteps.{HearsRows, line_before}
+use Rattle.a429_view.proofs.UnitsFacts.{all_rows}
+use Rattle.a429_check.specs.Verdict.{Judges, HasHeard, no_text}
+use Rattle.a429_check.specs.Units.{IsFresh, PutsUnits, TellsUnits}
+
+-- an empty page holds nothing back
+from_empty : (a b : Option (List ℕ)) (text : List ℕ) → Appends (append_known a []) b text → Appends a b text
+from_empty None b text h = tt
+from_empty (Some xs) None text h = h
+from_empty (Some xs) (Some ys) text h = subst (λ (t : List ℕ). ys ≡ t ++ text) (append-nil xs) h
+
+module _ {W : Type 0} (contents : W → Option (List ℕ)) (p : Contents) (old mid : UnitRows W) (out : Tally W) where
+  one : IsFresh old → Appends (paged contents mid.out mid.page) (contents (inner_of out)) (line_before mid.row)
+      → (text : List ℕ) (r : Recording) → IsHeard (HearsRows contents) p old mid text r → PutsUnits contents p old.out out text r
+  one fresh last text r h =
+      let all = all_rows contents p old mid (told_run p r.entries h.first h.steps) (contents (inner_of out)) fresh.1 h.heard last in
+      record {
+        first = h.first;
+        steps = h.steps;
+        explains = h.explains;
+        puts = from_empty (contents (inner_of old.out)) (contents (inner_of out)) (units_text p.codes (told_run p r.entries h.first h.steps))
+            (subst (λ (page : List ℕ). Appends (paged contents old.out page) (contents (inner_of out)) (units_text p.codes (told_run p r.entries h.first h.steps))) fresh.0 all);
+      }
+
+  pub units_put : (known : Option (List ℕ)) (rec : Option Recording) → IsFresh old → WhereTold known rec (IsHeard (HearsRows contents) p old mid)
+      → Appends (paged contents mid.out mid.page) (contents (inner_of out)) (line_before mid.row) → WhereTold known rec (PutsUnits contents p old.out out)
+  units_put None rec fresh h last = tt
+  units_put (Some text) None fresh h last = tt
+  units_put (Some text) (Some r) fresh h last = one fresh last text r h
+
+-- a yes whose rows are finished
+pub tells_yes : {W : Type 0} (contents : W → Option (List ℕ)) (profile : List ℕ) (known : Option (List ℕ)) (rec : Option Recording) (old mid : UnitRows W) (out : Tally W)
+    (a : Result (Vec (ℕ × ℕ) Global) CertFault) (files : Vec (ℕ × ℕ) Global) → a ≡ Ok files → IsFresh old
+    → IfOk a (λ files. Judges profile known rec None None (Ok files.items)) → IfOk a (λ files. HasHeard (HearsRows contents) profile known rec old mid)
+    → Appends (paged contents mid.out mid.page) (contents (inner_of out)) (line_before mid.row) → TellsUnits contents profile known rec old.out out 0
+tells_yes contents profile known rec old mid out a files is fresh judged heard last =
+    let yes = rw is at judged in
+    let told = rw is at heard in
+    inl (refl, record {
+      files = files.items;
+      judged = yes;
+      bench = told.contents;
+      is_profile = told.is_profile;
+      rows = units_put contents told.contents old mid out known rec fresh told.heard last;
+    })
+
+-- a no whose line is put
+pub tells_no : {W : Type 0} (contents : W → Option (List ℕ)) (profile : List ℕ) (known : Option (List ℕ)) (rec : Option Recording) (old before out : Tally W)
+    (a : Result (Vec (ℕ × ℕ) Global) CertFault) (f : CertFault) → a ≡ Err f
+    → IfErr a (λ f. Judges profile known rec None None (Err (stream.Cert f)) × (f ≢ cert.OutOfMemory))
+    → Puts contents before out (no_text f) → TellsUnits contents profile known rec old out 2
+tells_no contents profile known rec old before out a f is judged puts =
+    let no = rw is at judged in
+    inr (refl, record { fault = f; judged = no.0; verdict = no.1; before = before; puts = puts })

@@ -1,0 +1,48 @@
+//! `a429 units PROFILE REC CERT`: the link data units that a certificate loads, a row for each.
+
+ghost use Rattle.std.specs.Prelude.{◌≡◌, ◌⊎◌, None, Err, true, false, IfOk, IfErr, OnOk};
+ghost use Rattle.a429_word.specs.Tally.{has_failed, unread};
+ghost use Rattle.a429_profile.specs.declared.fault.ProfileFault.{ProfileFault};
+ghost use Rattle.a429_check.specs.Verdict.{AllWork, HasFailed, IsVerifyFault};
+ghost use Rattle.a429_check.specs.Units.{IsFresh, TellsUnits};
+
+use crate::engines::verdict::{answer_of, put_no};
+use crate::fault::RunFault;
+use a429_cert::NoShelf;
+use a429_record::EntryReader;
+use a429_view::UnitRows;
+use a429_word::Tally;
+use std::alloc::Global;
+use std::io::{Read, Write};
+
+/// Writes the rows of the link data units that a certificate loads, in order, behind a line with the names of
+/// the columns, and answers its status: 0 where it explains the recording, and 2 where it is refused. `profile`
+/// is the bytes of its text. Recording and certificate are read as they come, and a row goes out once its unit
+/// has ended: where the certificate is refused, the verdict is written behind the rows of the units before.
+pub fn run_units<R: Read, C: Read, W: Write>(
+    alloc: Global,
+    profile: &[u8],
+    rec: &mut EntryReader<R>,
+    certificate: &mut Tally<C>,
+    rows: &mut UnitRows<W>,
+) -> Result<u8, RunFault>
+    requires { IsFresh rows.old }
+    ensures verdict { IfOk result (TellsUnits W.contents profile.now (unread C.remaining certificate.old) rec.old.to_come
+        rows.old.out rows.new.out) }
+    ensures device { OnOk result (AllWork rec.new.failed (has_failed certificate.new) false (has_failed rows.new.out)) }
+    ensures err { IfErr result (IsVerifyFault profile.now (unread C.remaining certificate.old) rec.old.to_come None None
+        (HasFailed rec.new.failed (has_failed certificate.new) false ⊎ (has_failed rows.new.out ≡ true))) }
+    ensures silent { (f : ProfileFault) → result ≡ Err (RunFault.Profile f) → rows.new ≡ rows.old }
+{
+    match answer_of(alloc, profile, rec, certificate, &mut NoShelf, rows)? {
+        Ok(_) => {
+            rows.finish()?;
+            Ok(0)
+        }
+        Err(fault) => {
+            rows.put_waiting()?;
+            put_no(&mut rows.out, fault)?;
+            Ok(2)
+        }
+    }
+}

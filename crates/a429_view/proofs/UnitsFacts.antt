@@ -1,0 +1,185 @@
+-- The rows that are put as steps are told are those of the units of a run.
+use Rattle.std.proofs.Common.{◌≡◌, ◌+◌, ◌∙◌, ◌++◌, ◌∷◌, ℕ, List, [], length, Bool, true, false, cond, ◌||◌, Option, Some, None, slice_get, refl, sym, ap, subst, append_assoc, arith}
+use Rattle.std.specs.List.{FoldsTo, fold, count_by, list_any, filter_map, cons_option, flat_map, last_or}
+use Rattle.std.specs.Option.{option_map}
+use Rattle.std.specs.Io.KnownBytes.{Appends}
+use Rattle.std.proofs.KnownBytes.{Appends-nil, Appends-trans}
+use Rattle.std.proofs.lemmas.List.{append-nil}
+use Rattle.a429_word.specs.Page.{paged, PutsOn}
+use Rattle.a429_profile.specs.declared.codes.Codes.{Codes}
+use Rattle.a429_profile.specs.Profile.{Contents}
+use Rattle.a429_ldu.specs.Ldu.{LduValue}
+use Rattle.a429_link.specs.declared.number.UnitNumber.{UnitNumber}
+use Rattle.a429_cert.specs.Told.{Told, Loads, Makes}
+use Rattle.a429_view.specs.declared.units.span.Mark.{Mark}
+use Rattle.a429_view.specs.declared.units.row.UnitRow.{UnitRow}
+use Rattle.a429_view.specs.declared.units.rows.UnitRows.{UnitRows}
+use Rattle.a429_view.specs.Units.{LoadedUnit, before_load, units_of, is_request, is_lost, is_unanswered, is_unheard, is_nak, is_time_out, is_ack, mark_of, row_of, row_text, header_text, units_text}
+use Rattle.a429_view.specs.UnitSteps.{more, either, with_step, begun, line_before, HearsRows}
+
+-- ---- steps, one after the other
+
+abbrev count_on : (Told → Bool) → List Told → ℕ → ℕ
+count_on p [] n = n
+count_on p (t ∷ steps) n = count_on p steps (more (p t) n)
+
+abbrev first_on : List Told → Option Mark → Option Mark
+first_on [] o = o
+first_on (t ∷ steps) o = first_on steps (either o (mark_of t))
+
+abbrev last_on : List Told → Option Mark → Option Mark
+last_on [] o = o
+last_on (t ∷ steps) o = last_on steps (either (mark_of t) o)
+
+abbrev any_on : (Told → Bool) → List Told → Bool → Bool
+any_on p [] b = b
+any_on p (t ∷ steps) b = any_on p steps (b || p t)
+
+abbrev with_steps : Codes → List Told → UnitRow → UnitRow
+with_steps c [] r = r
+with_steps c (t ∷ steps) r = with_steps c steps (with_step c t r)
+
+-- ---- each is what it stands for
+
+more-is : (b : Bool) (n : ℕ) → more b n ≡ n + cond b 1 0
+more-is true n = refl
+more-is false n = omega arith
+
+count_on-is : (p : Told → Bool) (steps : List Told) (n : ℕ) → count_on p steps n ≡ fold (λ a t. a + cond (p t) 1 0) n steps
+count_on-is p [] n = refl
+count_on-is p (t ∷ steps) n = count_on-is p steps (more (p t) n) ∙ ap (λ k. fold (λ a t. a + cond (p t) 1 0) k steps) (more-is (p t) n)
+
+first_some : (steps : List Told) (m : Mark) → first_on steps (Some m) ≡ Some m
+first_some [] m = refl
+first_some (t ∷ steps) m = first_some steps m
+
+first_none : (steps : List Told) → first_on steps None ≡ slice_get (filter_map mark_of steps) 0
+first_none [] = refl
+first_none (t ∷ steps) = by (mark_of t) (first_none steps)
+  where
+    by : (o : Option Mark) → first_on steps None ≡ slice_get (filter_map mark_of steps) 0
+        → first_on steps (either None o) ≡ slice_get (cons_option o (filter_map mark_of steps)) 0
+    by None h = h
+    by (Some m) h = first_some steps m
+
+last_on-is : (steps : List Told) (o : Option Mark) → last_on steps o ≡ last_or o (filter_map mark_of steps)
+last_on-is [] o = refl
+last_on-is (t ∷ steps) o = by (mark_of t) (λ m. last_on-is steps m)
+  where
+    by : (m : Option Mark) → ((n : Option Mark) → last_on steps n ≡ last_or n (filter_map mark_of steps))
+        → last_on steps (either m o) ≡ last_or o (cons_option m (filter_map mark_of steps))
+    by None h = h o
+    by (Some m) h = h (Some m)
+
+or-again : (a b d : Bool) → ((a || b) || d) ≡ (a || (b || d))
+or-again true b d = refl
+or-again false b d = refl
+
+or-false : (b : Bool) → b ≡ (b || false)
+or-false true = refl
+or-false false = refl
+
+any_on-is : (p : Told → Bool) (steps : List Told) (b : Bool) → any_on p steps b ≡ (b || list_any p steps)
+any_on-is p [] b = or-false b
+any_on-is p (t ∷ steps) b = any_on-is p steps (b || p t) ∙ or-again b (p t) (list_any p steps)
+
+-- ---- the row of a unit
+
+abbrev grown : Codes → List Told → UnitRow → UnitRow
+grown c steps r = record {
+  number = r.number;
+  size = r.size;
+  counts = record {
+    requests = count_on (is_request c) steps r.counts.requests;
+    lost = count_on is_lost steps r.counts.lost;
+    unanswered = count_on is_unanswered steps r.counts.unanswered;
+    unheard = count_on is_unheard steps r.counts.unheard;
+    naks = count_on (is_nak c) steps r.counts.naks;
+    timeouts = count_on is_time_out steps r.counts.timeouts;
+  };
+  span = record {
+    first = first_on steps r.span.first;
+    last = last_on steps r.span.last;
+    crossed = any_on (is_ack c) steps r.span.crossed;
+  };
+}
+
+with_steps-is : (c : Codes) (steps : List Told) (r : UnitRow) → with_steps c steps r ≡ grown c steps r
+with_steps-is c [] r = refl
+with_steps-is c (t ∷ steps) r = with_steps-is c steps (with_step c t r)
+
+row-is : (c : Codes) (number : UnitNumber) (unit : LduValue) (steps : List Told)
+    → with_steps c steps (begun c number unit) ≡ row_of c (record { number = number; unit = unit; steps = steps })
+row-is c number unit steps = with_steps-is c steps (begun c number unit) ∙ simp (count_on-is, first_none, last_on-is, any_on-is)
+
+-- ---- the text
+
+-- what has gone out, and the row of the unit that was loaded last
+abbrev gone : Codes → Option UnitRow → List Told → List ℕ
+gone c row [] = []
+gone c row (Loads number unit ∷ told) = line_before row ++ gone c (Some (begun c number unit)) told
+gone c row (Makes act entry ∷ told) = gone c (option_map (with_step c (Makes act entry)) row) told
+
+abbrev kept : Codes → Option UnitRow → List Told → Option UnitRow
+kept c row [] = row
+kept c row (Loads number unit ∷ told) = kept c (Some (begun c number unit)) told
+kept c row (Makes act entry ∷ told) = kept c (option_map (with_step c (Makes act entry)) row) told
+
+abbrev rows_text : Codes → List Told → List ℕ
+rows_text c told = flat_map (λ u. row_text (row_of c u)) (units_of told)
+
+-- the line of the unit that was loaded last, and those of the units behind it
+abbrev all_text : Codes → Option UnitRow → List Told → List ℕ
+all_text c None told = header_text ++ rows_text c told
+all_text c (Some r) told = row_text (with_steps c (before_load told) r) ++ rows_text c told
+
+begun_text : (c : Codes) (number : UnitNumber) (unit : LduValue) (told : List Told)
+    → all_text c (Some (begun c number unit)) told ≡ rows_text c (Loads number unit ∷ told)
+begun_text c number unit told = ap (λ r. row_text r ++ rows_text c told) (row-is c number unit (before_load told))
+
+loaded_text : (c : Codes) (row : Option UnitRow) (number : UnitNumber) (unit : LduValue) (told : List Told)
+    → line_before row ++ rows_text c (Loads number unit ∷ told) ≡ all_text c row (Loads number unit ∷ told)
+loaded_text c None number unit told = refl
+loaded_text c (Some r) number unit told = refl
+
+gone_all : (c : Codes) (row : Option UnitRow) (told : List Told) → gone c row told ++ line_before (kept c row told) ≡ all_text c row told
+gone_all c None [] = sym (append-nil header_text)
+gone_all c (Some r) [] = sym (append-nil (row_text r))
+gone_all c row (Loads number unit ∷ told) =
+    append_assoc (line_before row) (gone c (Some (begun c number unit)) told) (line_before (kept c (Some (begun c number unit)) told))
+    ∙ ap (λ (t : List ℕ). line_before row ++ t) (gone_all c (Some (begun c number unit)) told ∙ begun_text c number unit told)
+    ∙ loaded_text c row number unit told
+gone_all c None (Makes act entry ∷ told) = gone_all c None told
+gone_all c (Some r) (Makes act entry ∷ told) = gone_all c (Some (with_step c (Makes act entry) r)) told
+
+-- ---- what rows that are told of a run put
+
+module _ {W : Type 0} (contents : W → Option (List ℕ)) (p : Contents) where
+  -- a writer and its page have gained what has gone out, and the row is that of the unit that was loaded last
+  pub record HasPut (old new : UnitRows W) (told : List Told) : Type 0 where
+    pub puts : PutsOn contents old.out old.page new.out new.page (gone p.codes old.row told)
+    pub row : new.row ≡ kept p.codes old.row told
+
+  heard_rows : (old new : UnitRows W) (told : List Told) → FoldsTo (HearsRows contents p) old told new → HasPut old new told
+  heard_rows old new [] h = subst (λ (n : UnitRows W). HasPut old n []) h (record { puts = Appends-nil (paged contents old.out old.page); row = refl })
+  heard_rows old new (Loads number unit ∷ told) h =
+      let next = heard_rows h.0 new told h.2 in
+      let row = h.1.1 in
+      record {
+        puts = Appends-trans _ _ _ _ _ h.1.0 (subst (λ (r : Option UnitRow). PutsOn contents h.0.out h.0.page new.out new.page (gone p.codes r told)) row next.puts);
+        row = next.row ∙ ap (λ (r : Option UnitRow). kept p.codes r told) row;
+      }
+  heard_rows old new (Makes act entry ∷ told) h =
+      let after = record old { row = option_map (with_step p.codes (Makes act entry)) old.row } in
+      let next = heard_rows after new told (subst (λ (r : UnitRows W). FoldsTo (HearsRows contents p) r told new) h.1 h.2) in
+      record { puts = next.puts; row = next.row }
+
+-- rows of which none was begun, told of a run and finished: the names of the columns, and the rows of its units
+pub all_rows : {W : Type 0} (contents : W → Option (List ℕ)) (p : Contents) (old new : UnitRows W) (told : List Told) (end : Option (List ℕ))
+    → old.row ≡ None → FoldsTo (HearsRows contents p) old told new → Appends (paged contents new.out new.page) end (line_before new.row)
+    → Appends (paged contents old.out old.page) end (units_text p.codes told)
+all_rows contents p old new told end fresh heard last =
+    let h = heard_rows contents p old new told heard in
+    let text : gone p.codes old.row told ++ line_before new.row ≡ units_text p.codes told =
+      ap (λ (r : Option UnitRow). gone p.codes old.row told ++ line_before r) h.row ∙ gone_all p.codes old.row told ∙ ap (λ (r : Option UnitRow). all_text p.codes r told) fresh in
+    subst (Appends (paged contents old.out old.page) end) text (Appends-trans _ _ _ _ _ h.puts last)

@@ -1,0 +1,61 @@
+-- How the row of a link data unit grows by the steps that are told one after the other.
+use Rattle.std.specs.Prelude.{◌≡◌, ◌+◌, ℕ, List, [], Bool, true, false, ◌||◌, Option, Some, None, option_map}
+use Rattle.a429_word.specs.Page.{PutsOn}
+use Rattle.a429_profile.specs.declared.codes.Codes.{Codes}
+use Rattle.a429_profile.specs.Profile.{Contents}
+use Rattle.a429_ldu.specs.Ldu.{LduValue}
+use Rattle.a429_link.specs.declared.number.UnitNumber.{UnitNumber}
+use Rattle.a429_cert.specs.Told.{Told, Loads, Makes}
+use Rattle.a429_view.specs.declared.units.counts.UnitCounts.{UnitCounts}
+use Rattle.a429_view.specs.declared.units.span.Mark.{Mark}
+use Rattle.a429_view.specs.declared.units.span.UnitSpan.{UnitSpan}
+use Rattle.a429_view.specs.declared.units.row.UnitRow.{UnitRow}
+use Rattle.a429_view.specs.declared.units.rows.UnitRows.{UnitRows}
+use Rattle.a429_view.specs.Units.{is_request, is_lost, is_unanswered, is_unheard, is_nak, is_time_out, is_ack, mark_of, size_of, row_text, header_text}
+
+-- one more where it is so
+abbrev pub more : Bool → ℕ → ℕ
+more true n = n + 1
+more false n = n
+
+-- the first of two that is there
+abbrev pub either : Option Mark → Option Mark → Option Mark
+either None m = m
+either (Some a) m = Some a
+
+abbrev pub counted : Codes → Told → UnitCounts → UnitCounts
+counted c t n = record {
+  requests = more (is_request c t) n.requests;
+  lost = more (is_lost t) n.lost;
+  unanswered = more (is_unanswered t) n.unanswered;
+  unheard = more (is_unheard t) n.unheard;
+  naks = more (is_nak c t) n.naks;
+  timeouts = more (is_time_out t) n.timeouts;
+}
+
+abbrev pub spanned : Codes → Told → UnitSpan → UnitSpan
+spanned c t s = record { first = either s.first (mark_of t); last = either (mark_of t) s.last; crossed = s.crossed || is_ack c t }
+
+-- the row of a unit of which nothing is told yet
+abbrev pub no_counts : UnitCounts
+no_counts = record { requests = 0; lost = 0; unanswered = 0; unheard = 0; naks = 0; timeouts = 0 }
+
+abbrev pub no_span : UnitSpan
+no_span = record { first = None; last = None; crossed = false }
+
+abbrev pub begun : Codes → UnitNumber → LduValue → UnitRow
+begun c number u = record { number = number; size = size_of c u; counts = no_counts; span = no_span }
+
+-- a row after one more step
+abbrev pub with_step : Codes → Told → UnitRow → UnitRow
+with_step c t r = record { number = r.number; size = r.size; counts = counted c t r.counts; span = spanned c t r.span }
+
+-- what goes out before the next row is begun: the row of the last unit, and before the first the names of the columns
+abbrev pub line_before : Option UnitRow → List ℕ
+line_before None = header_text
+line_before (Some r) = row_text r
+
+-- rows that are told something: a load puts the row of the unit before, a step changes the row of the unit that was loaded last
+abbrev pub HearsRows : {W : Type 0} → (W → Option (List ℕ)) → Contents → UnitRows W → Told → UnitRows W → Type 0
+HearsRows contents p old (Loads number unit) new = PutsOn contents old.out old.page new.out new.page (line_before old.row) × (new.row ≡ Some (begun p.codes number unit))
+HearsRows contents p old (Makes act entry) new = new ≡ record old { row = option_map (with_step p.codes (Makes act entry)) old.row }

@@ -1,0 +1,168 @@
+-- The link data units that a certificate loads, a row for each (profile).
+use Rattle.std.specs.Prelude.{ℕ, List, [], ◌∷◌, ◌++◌, length, codes, Bool, true, false, Option, Some, None, option_map, slice_get}
+use Rattle.std.specs.List.{count_by, list_any, filter_map, flat_map, last_or}
+use Rattle.std.specs.Fmt.{decimal}
+use Rattle.a429_profile.specs.declared.codes.Codes.{Codes}
+use Rattle.a429_ldu.specs.declared.forms.Form.{Form}
+use Rattle.a429_ldu.specs.declared.forms.Form.TheVariants.{Rts, Ack, Nak}
+use Rattle.a429_ldu.specs.Form.{form_of}
+use Rattle.a429_ldu.specs.Ldu.{LduValue, count_of, bytes_of, is_final}
+use Rattle.a429_link.specs.declared.number.UnitNumber.{UnitNumber}
+use Rattle.a429_record.specs.declared.entry.Entry.{Entry}
+use Rattle.a429_cert.specs.declared.act.Act.TheVariants as act
+use Rattle.a429_cert.specs.Told.{Told, Loads, Makes}
+use Rattle.a429_view.specs.declared.units.size.UnitSize.{UnitSize}
+use Rattle.a429_view.specs.declared.units.counts.UnitCounts.{UnitCounts}
+use Rattle.a429_view.specs.declared.units.span.Mark.{Mark}
+use Rattle.a429_view.specs.declared.units.span.UnitSpan.{UnitSpan}
+use Rattle.a429_view.specs.declared.units.row.UnitRow.{UnitRow}
+
+-- ---- the units
+
+-- a link data unit that was loaded, its number, and what is told before the next one is loaded
+pub record LoadedUnit : Type 0 where
+  pub number : UnitNumber
+  pub unit : LduValue
+  pub steps : List Told
+
+-- what is told before the next load
+abbrev pub before_load : List Told → List Told
+before_load [] = []
+before_load (Loads number unit ∷ told) = []
+before_load (Makes act entry ∷ told) = Makes act entry ∷ before_load told
+
+-- what is told of a run, cut at each load: steps before the first belong to no unit
+abbrev pub units_of : List Told → List LoadedUnit
+units_of [] = []
+units_of (Loads number unit ∷ told) = record { number = number; unit = unit; steps = before_load told } ∷ units_of told
+units_of (Makes act entry ∷ told) = units_of told
+
+-- ---- what a step is
+
+-- the form of a recorded word
+abbrev pub form_at : Codes → Option (ℕ × Entry) → Option Form
+form_at c None = None
+form_at c (Some x) = form_of c x.1.bus x.1.word
+
+abbrev pub is_rts : Option Form → Bool
+is_rts (Some (Rts count)) = true
+is_rts _ = false
+
+abbrev pub is_nak_form : Option Form → Bool
+is_nak_form (Some (Nak bits)) = true
+is_nak_form _ = false
+
+abbrev pub is_ack_form : Option Form → Bool
+is_ack_form (Some (Ack file ldu)) = true
+is_ack_form _ = false
+
+-- a request is recorded
+abbrev pub is_request : Codes → Told → Bool
+is_request c (Makes act.Sent entry) = is_rts (form_at c entry)
+is_request c _ = false
+
+-- a word is lost before the recorder
+abbrev pub is_lost : Told → Bool
+is_lost (Makes act.SentLost entry) = true
+is_lost _ = false
+
+-- an answer is left out
+abbrev pub is_unanswered : Told → Bool
+is_unanswered (Makes act.Silent entry) = true
+is_unanswered _ = false
+
+-- an answer is lost behind the recorder
+abbrev pub is_unheard : Told → Bool
+is_unheard (Makes act.LoseAnswer entry) = true
+is_unheard _ = false
+
+-- the source waits no longer
+abbrev pub is_time_out : Told → Bool
+is_time_out (Makes act.TimeOut entry) = true
+is_time_out _ = false
+
+-- a negative answer is recorded
+abbrev pub is_nak : Codes → Told → Bool
+is_nak c (Makes act.Answered entry) = is_nak_form (form_at c entry)
+is_nak c _ = false
+
+-- an acknowledgement is recorded
+abbrev pub is_ack : Codes → Told → Bool
+is_ack c (Makes act.Answered entry) = is_ack_form (form_at c entry)
+is_ack c _ = false
+
+-- the entry of a recorded word, and its time
+abbrev pub marked : ℕ × Entry → Mark
+marked x = record { entry = x.0; time = x.1.time }
+
+-- that of a recorded word of the transfer: a free word is none
+abbrev pub mark_of : Told → Option Mark
+mark_of (Makes act.Sent entry) = option_map marked entry
+mark_of (Makes act.Answered entry) = option_map marked entry
+mark_of _ = None
+
+-- ---- the row of a unit
+
+-- how many words its block has, how many bytes they carry, and whether it ends its file
+abbrev pub size_of : Codes → LduValue → UnitSize
+size_of c u = record { words = count_of u; bytes = length (bytes_of c u); is_final = is_final c u.flags }
+
+-- how many of the steps are so
+abbrev pub counts_of : Codes → List Told → UnitCounts
+counts_of c steps = record {
+  requests = count_by (is_request c) steps;
+  lost = count_by is_lost steps;
+  unanswered = count_by is_unanswered steps;
+  unheard = count_by is_unheard steps;
+  naks = count_by (is_nak c) steps;
+  timeouts = count_by is_time_out steps;
+}
+
+-- the first and the last recorded word, and whether an acknowledgement is among them
+abbrev pub span_of : Codes → List Told → UnitSpan
+span_of c steps = record {
+  first = slice_get (filter_map mark_of steps) 0;
+  last = last_or None (filter_map mark_of steps);
+  crossed = list_any (is_ack c) steps;
+}
+
+abbrev pub row_of : Codes → LoadedUnit → UnitRow
+row_of c u = record { number = u.number; size = size_of c u.unit; counts = counts_of c u.steps; span = span_of c u.steps }
+
+-- ---- the text
+
+-- a number, and nothing where there is none, and the comma behind it
+abbrev pub cell : ℕ → List ℕ
+cell n = decimal n ++ codes ","
+
+abbrev pub cell_of : Option ℕ → List ℕ
+cell_of None = codes ","
+cell_of (Some n) = cell n
+
+abbrev pub yes_no : Bool → List ℕ
+yes_no true = codes "yes"
+yes_no false = codes "no"
+
+abbrev pub size_text : UnitSize → List ℕ
+size_text s = cell s.words ++ cell s.bytes ++ yes_no s.is_final ++ codes ","
+
+abbrev pub counts_text : UnitCounts → List ℕ
+counts_text n = cell n.requests ++ cell n.lost ++ cell n.unanswered ++ cell n.unheard ++ cell n.naks ++ cell n.timeouts
+
+-- the entries, then the times
+abbrev pub span_text : UnitSpan → List ℕ
+span_text s =
+    cell_of (option_map (λ (m : Mark). m.entry) s.first) ++ cell_of (option_map (λ (m : Mark). m.entry) s.last)
+    ++ cell_of (option_map (λ (m : Mark). m.time) s.first) ++ cell_of (option_map (λ (m : Mark). m.time) s.last)
+    ++ yes_no s.crossed
+
+abbrev pub row_text : UnitRow → List ℕ
+row_text r = cell r.number.file ++ cell r.number.ldu ++ size_text r.size ++ counts_text r.counts ++ span_text r.span ++ codes "\n"
+
+-- the names of the columns
+abbrev pub header_text : List ℕ
+header_text = codes "file,ldu,words,bytes,final,requests,lost,unanswered,unheard,naks,timeouts,first_entry,last_entry,first_time,last_time,crossed\n"
+
+-- the rows of the units of a run
+abbrev pub units_text : Codes → List Told → List ℕ
+units_text c told = header_text ++ flat_map (λ u. row_text (row_of c u)) (units_of told)

@@ -1,0 +1,107 @@
+//! The rows of a certificate's link data units, written as its steps are told.
+
+ghost use Rattle.std.specs.Prelude.{◌≡◌, ◌↔◌, [], None, true, false, IsErr, IsErrOf, IfOk, OnOk};
+ghost use Rattle.std.specs.Io.KnownBytes.{Appends};
+ghost use Rattle.a429_word.specs.Tally.{has_failed, inner_of};
+ghost use Rattle.a429_word.specs.Page.{paged};
+ghost use Rattle.a429_cert.specs.Told.{Makes};
+ghost use Rattle.a429_view.specs.UnitSteps.{line_before};
+
+use crate::units::row::UnitRow;
+use crate::units::text::put_line_before;
+use a429_cert::{Act, ListenFault, Listener};
+use a429_ldu::Ldu;
+use a429_link::UnitNumber;
+use a429_profile::Profile;
+use a429_record::Entry;
+use a429_word::{Device, Failing, Page, Tally};
+use std::alloc::{AllocError, Global};
+use std::io::Write;
+
+/// An output for the rows of link data units. It is told of the steps of a certificate, and puts the row of a
+/// unit once the next one is loaded; `finish` puts the last. The names of the columns come first.
+#[derive(Drop)]
+pub struct UnitRows<W> {
+    pub out: Tally<W>,
+    page: Page,
+    // that of the unit that was loaded last
+    row: Option<UnitRow>,
+}
+
+impl<W: Write + Drop> UnitRows<W> {
+    /// Rows of which none is begun, over this output.
+    pub fn new(alloc: Global, out: Tally<W>) -> Result<UnitRows<W>, AllocError>
+        ensures out { IfOk result (λ rows. rows.out ≡ out) }
+        ensures fresh { IfOk result (λ rows. (rows.page ≡ []) × (rows.row ≡ None)) }
+    {
+        Ok(UnitRows {
+            page: Page::new(alloc)?,
+            out,
+            row: None,
+        })
+    }
+}
+
+impl<W: Write> UnitRows<W> {
+    /// Puts the row of the last unit, or the names of the columns alone where none was loaded, and all that waits
+    /// to be put.
+    pub fn finish(&mut self) -> Result<(), Device>
+        ensures ok { OnOk result (Appends (paged W.contents self.old.out self.old.page)
+            (W.contents (inner_of self.new.out)) (line_before self.old.row)) }
+        ensures device { IsErr result ↔ (has_failed self.new.out ≡ true) }
+    {
+        put_line_before(&mut self.page, &mut self.out, &self.row)?;
+        self.page.finish(&mut self.out)
+    }
+
+    /// Puts the rows that wait to be put: those of units behind which another was loaded.
+    pub fn put_waiting(&mut self) -> Result<(), Device>
+        ensures { IsErr result ↔ (has_failed self.new.out ≡ true) }
+    {
+        self.page.finish(&mut self.out)
+    }
+}
+
+impl<W> Failing for UnitRows<W> {
+    ghost use Rattle.a429_word.specs.Tally.{has_failed};
+
+    ghost failed = { λ rows. has_failed rows.out };
+
+    fn failed(&self) -> bool {
+        self.out.failed()
+    }
+}
+
+impl<W: Write> Listener for UnitRows<W> {
+    ghost use Rattle.a429_view.specs.UnitSteps.{HearsRows};
+
+    ghost hears = { λ p old told new. HearsRows W.contents p old told new };
+
+    fn load(
+        &mut self,
+        profile: &Profile,
+        number: UnitNumber,
+        unit: &Ldu,
+    ) -> Result<(), ListenFault> {
+        if put_line_before(&mut self.page, &mut self.out, &self.row).is_err() {
+            return Err(ListenFault::Device);
+        }
+        self.row = Some(UnitRow::new(profile, number, unit));
+        Ok(())
+    }
+
+    fn make(
+        &mut self,
+        profile: &Profile,
+        act: Act,
+        entry: Option<(usize, Entry)>,
+    ) -> Result<(), ListenFault> {
+        let Some(row) = &mut self.row else {
+            return Ok(());
+        };
+        match row.add(profile, act, &entry) {
+            Ok(()) => Ok(()),
+            Err(_) => Err(ListenFault::OutOfMemory),
+        }
+    }
+}
