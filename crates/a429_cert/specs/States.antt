@@ -1,12 +1,12 @@
 -- The states that a line writes: their spelling, their ranges, and how they are read (profile).
-use Rattle.std.specs.Prelude.{ℕ, ◌≤◌, List, [], ◌∷◌, ◌++◌, ◌&&◌, ◌==◌, nat_le, if◌then◌else◌, codes, Option, Some, None, ⊤}
+use Rattle.std.specs.Prelude.{ℕ, ◌≡◌, ◌<◌, ◌≤◌, List, [], ◌∷◌, ◌++◌, ◌&&◌, ◌==◌, nat_le, if◌then◌else◌, codes, Option, Some, None, ⊤}
 use Rattle.std.specs.Fmt.{decimal}
 use Rattle.a429_link.specs.declared.state.SourceState.{SourceState}
 use Rattle.a429_link.specs.declared.state.SourceState.TheVariants.{Idle, Awaiting, Sending, Waiting}
 use Rattle.a429_link.specs.declared.state.SinkState.{SinkState}
 use Rattle.a429_link.specs.declared.state.SinkState.TheVariants.{Quiet, OwesClear, Granted, InBlock, OwesAck, OwesNak}
 use Rattle.a429_link.specs.declared.state.States.{States}
-use Rattle.a429_cert.specs.Field.{◌>>=◌, when, with_rest, decimal_in, last_decimal_in}
+use Rattle.a429_cert.specs.Field.{◌>>=◌, field, when, with_rest, decimal_in, last_decimal_in}
 
 -- ---- the source
 
@@ -80,3 +80,11 @@ states_in text = do
   to_sink ← with_rest decimal_in sink.1
   to_source ← last_decimal_in to_sink.1
   Some (record { source = source.0; sink = sink.0; to_sink = to_sink.0; to_source = to_source })
+
+-- the text begins with these states, which a line may write, and this stands behind them
+pub record BeginsWithStates (text : List ℕ) (s : States) (rest : List ℕ) : Type 0 where
+  pub source : IsSource s.source
+  pub sink : IsSink s.sink
+  pub to_sink : s.to_sink < 256
+  pub to_source : s.to_source < 256
+  pub begins : text ≡ field (source_text s.source) ++ (field (sink_text s.sink) ++ (field (decimal s.to_sink) ++ (field (decimal s.to_source) ++ rest)))

@@ -72,6 +72,9 @@ fn take_files(link: &mut Link<'_>, files: &mut Vec<FileBytes>) -> Result<(), Out
     ensures taken { OnOk result (files.new.items ≡ files.old.items ++ link.old.state.sink.shelf.files) }
     ensures rest { OnOk result (link.new ≡ record (link.old) { state = handed_out link.old.state }) }
 {
+    if link.delivered().is_empty() {
+        return Ok(());
+    }
     let mut delivered = link.take_delivered();
     files.append(&mut delivered)?;
     Ok(())

@@ -1,7 +1,8 @@
 //! The fields of a line, and the numbers in them.
 
-ghost use Rattle.std.specs.Prelude.{◌≡◌, ◌<◌, ◌≤◌, ◌^◌, length, IfSome, option_map};
-ghost use Rattle.a429_cert.specs.Field.{last_decimal_in, decimal_in, with_next_digit, decimal_digit_in, hex_in, hex_digits_in, hex_digit_in, with_rest, behind_space};
+ghost use Rattle.std.specs.Prelude.{◌≡◌, ◌<◌, ◌≤◌, ◌^◌, [], ◌∷◌, ◌++◌, length, IfSome, option_map};
+ghost use Rattle.std.specs.Fmt.{decimal};
+ghost use Rattle.a429_cert.specs.Field.{last_decimal_in, decimal_in, with_next_digit, decimal_digit_in, hex_in, hex_digits_in, hex_digit_in, with_rest, behind_space, field};
 
 /// What stands behind a space.
 #[inline(always)]
@@ -115,6 +116,90 @@ pub fn last_decimal_at(text: &[u8]) -> Option<u8>
 {
     let (number, rest) = decimal_at(text)?;
     if rest.is_empty() { Some(number) } else { None }
+}
+
+// What stands behind the digits of this number, where the text begins with them.
+#[inline(always)]
+fn behind_decimal(text: &[u8], number: u8) -> Option<&[u8]>
+    ensures { IfSome result (λ rest. text.now ≡ decimal number ++ rest.now) }
+{
+    if number < 10 {
+        behind_one(text, number)
+    } else if number < 100 {
+        behind_two(text, number)
+    } else {
+        behind_three(text, number)
+    }
+}
+
+#[inline(always)]
+fn behind_one(text: &[u8], number: u8) -> Option<&[u8]>
+    requires { number < 10 }
+    ensures { IfSome result (λ rest. text.now ≡ decimal number ++ rest.now) }
+{
+    match text {
+        [one, rest @ ..] if *one == b'0' + number => Some(rest),
+        _ => None,
+    }
+}
+
+#[inline(always)]
+fn behind_two(text: &[u8], number: u8) -> Option<&[u8]>
+    requires least { 10 ≤ number }
+    requires most { number < 100 }
+    ensures { IfSome result (λ rest. text.now ≡ decimal number ++ rest.now) }
+{
+    let (ten, unit) = (b'0' + number / 10, b'0' + number % 10);
+    match text {
+        [one, two, rest @ ..] if *one == ten && *two == unit => Some(rest),
+        _ => None,
+    }
+}
+
+#[inline(always)]
+fn behind_three(text: &[u8], number: u8) -> Option<&[u8]>
+    requires { 100 ≤ number }
+    ensures { IfSome result (λ rest. text.now ≡ decimal number ++ rest.now) }
+{
+    let (hundred, ten, unit) = (
+        b'0' + number / 100,
+        b'0' + number / 10 % 10,
+        b'0' + number % 10,
+    );
+    match text {
+        [one, two, three, rest @ ..] if *one == hundred && *two == ten && *three == unit => Some(
+            rest,
+        ),
+        _ => None,
+    }
+}
+
+/// What stands behind the field of this number, where the text begins with it.
+#[inline(always)]
+pub fn behind_number(text: &[u8], number: u8) -> Option<&[u8]>
+    ensures begins { IfSome result (λ rest. text.now ≡ field (decimal number) ++ rest.now) }
+    ensures byte { number < 256 }
+{
+    behind_decimal(behind_space(text)?, number)
+}
+
+/// What stands behind the field of this letter, where the text begins with it.
+#[inline(always)]
+pub fn behind_letter(text: &[u8], letter: u8) -> Option<&[u8]>
+    ensures { IfSome result (λ rest. text.now ≡ field (letter ∷ []) ++ rest.now) }
+{
+    match text {
+        [b' ', first, rest @ ..] if *first == letter => Some(rest),
+        _ => None,
+    }
+}
+
+/// What stands behind the field of this letter with this number behind it, where the text begins with it.
+#[inline(always)]
+pub fn behind_counted(text: &[u8], letter: u8, number: u8) -> Option<&[u8]>
+    ensures { IfSome result (λ rest. text.now ≡ field (letter ∷ decimal number) ++ rest.now) }
+{
+    behind_decimal(behind_letter(text, letter)?, number)
 }
 
 /// The hexadecimal number of so many digits in the next field, and what stands behind it.

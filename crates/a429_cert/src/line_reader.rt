@@ -56,6 +56,7 @@ impl LineReader {
 
     /// Hands out the next line of a certificate, and answers whether there was one. An unended line stays
     /// where it is. Of a line without a line feed no more than 2,288 bytes are read.
+    #[inline(always)]
     pub fn next_line<R: Read>(&mut self, cert: &mut Tally<R>) -> Result<bool, Device>
         ensures given { IfOk result (HandsOutLine R.remaining self.old cert.old self.new cert.new) }
         ensures shorter { OnOk result (IsSome (held_line self.new) → room_left self.new cert.new < room_left self.old cert.old) }
@@ -74,6 +75,7 @@ impl LineReader {
     }
 
     // Hands out the next line, where its line feed was read.
+    #[inline(always)]
     fn take_line(&mut self) -> bool
         ensures yes { result ≡ true → BeginsWith (bytes_ahead self.old) (held_line self.new) (bytes_ahead self.new) }
         ensures line { result ≡ true → IsSome (held_line self.new) × (cut (held_line self.new) ≡ held_line self.new) }

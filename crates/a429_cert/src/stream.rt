@@ -281,7 +281,8 @@ fn put_all<S: Shelf>(
     Ok(())
 }
 
-// Puts the files that the link has delivered since they were last taken.
+// Puts the files that the link has delivered since they were last taken. Most lines deliver none.
+#[inline(always)]
 pub fn put_delivered<S: Shelf>(walk: &mut Walk<'_>, shelf: &mut S) -> Result<(), StreamFault>
     ensures ok { OnOk result (PutsFiles S.files shelf.old shelf.new walk.old.files.items walk.old.link.state.sink.shelf.files) }
     ensures noted { OnOk result (walk.new.files.items ≡ walk.old.files.items ++ sizes walk.old.link.state.sink.shelf.files) }
@@ -290,6 +291,9 @@ pub fn put_delivered<S: Shelf>(walk: &mut Walk<'_>, shelf: &mut S) -> Result<(),
     ensures fault { IfErr result (λ f. (f ≡ StreamFault.Device) ⊎ (f ≡ StreamFault.OutOfMemory)) }
     ensures kept { HandsOut walk.old walk.new }
 {
+    if walk.link.delivered().is_empty() {
+        return Ok(());
+    }
     let files = walk.link.take_delivered();
     put_all(files.as_slice(), &mut walk.files, shelf)
 }

@@ -7,14 +7,14 @@ use Rattle.a429_cert.proofs.passing.list_moved.Goals as goal
 
 pub returns-then-may_record-clause-listed : goal.returns-then-may_record-clause-listed
 returns-then-may_record-clause-listed c =
-    (Moved c.in-Some.line, moved-only c.args.letter c.args.text.now c.in-Some.line (sym c.moved_of.ensures ∙ c.in-Some.is), refl, c.may_record.ensures.yes c.if-may_record.true)
+    (Moved c.in-Some.line, moved-only c.args.letter c.args.text.now c.in-Some.line (sym c.moved_from.ensures ∙ c.in-Some.is), refl, c.may_record.ensures.yes c.if-may_record.true)
 
 pub returns-else-may_record-clause-refused : goal.returns-else-may_record-clause-refused
 returns-else-may_record-clause-refused c = λ at here z.
     fault-read c.args.link.now.profile c.args.link.now.state at.next at.line at.entry (c.args.letter ∷ c.args.text.now) (Moved c.in-Some.line) (of.NotAllowed c.args.n)
-    (moved-only c.args.letter c.args.text.now c.in-Some.line (sym c.moved_of.ensures ∙ c.in-Some.is)) tt
+    (moved-only c.args.letter c.args.text.now c.in-Some.line (sym c.moved_from.ensures ∙ c.in-Some.is)) tt
     (tt, (sym here, c.may_record.ensures.no c.if-may_record.false))
 
 pub returns-in-None-clause-refused : goal.returns-in-None-clause-refused
 returns-in-None-clause-refused c = λ at here z.
-    (sym here, λ l is says. no_move c.args.letter c.args.text.now l c.requires (sym c.moved_of.ensures ∙ c.in-None.is) is says)
+    (sym here, λ l is says. no_move c.args.letter c.args.text.now l c.requires (sym c.moved_from.ensures ∙ c.in-None.is) is says)
