@@ -1,5 +1,6 @@
 pub mod WalkFacts
 pub mod HeardFacts
+pub mod ScreeningFacts
 pub mod AttemptsFacts
 pub mod MatchingFacts
 pub mod ScribeFacts

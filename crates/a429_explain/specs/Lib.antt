@@ -1,6 +1,7 @@
 pub mod Walk
 pub mod Attempts
 pub mod Heard
+pub mod Screening
 pub mod Stop
 pub mod Verdict
 pub mod Groups

@@ -12,6 +12,7 @@ mod heard;
 pub mod laws;
 mod matching;
 mod plan;
+mod screening;
 mod scribe;
 mod stop;
 mod verdict;

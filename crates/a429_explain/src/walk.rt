@@ -1,20 +1,24 @@
 //! What a recording says, word after word, up to the first that no run records.
 
-ghost use Rattle.std.specs.Prelude.{◌≡◌, IfOk, IfErr, length};
-ghost use Rattle.a429_ldu.specs.Sight.{sight_in};
+ghost use Rattle.std.specs.Prelude.{◌≡◌, ◌↔◌, IsOk, IfOk, IfErr, OnOk, length};
+ghost use Rattle.a429_word.specs.Screening.{screened};
+ghost use Rattle.a429_ldu.specs.Sight.{sight_in, sight_of};
+ghost use Rattle.a429_link.specs.Observer.{Allows, sees};
 ghost use Rattle.a429_cert.specs.Explained.{items_of};
 ghost use Rattle.a429_explain.specs.Verdict.{HasNoForm};
 ghost use Rattle.a429_explain.specs.WithoutLoss.{IsWithoutLoss};
 ghost use Rattle.a429_explain.specs.Walk.{AreAllowed, IsHalt, IsRefusable, FitsSight};
 
 use crate::heard::Heard;
+use crate::screening::Screening;
 use crate::verdict::Reason;
 use a429_cert::seen;
-use a429_ldu::Form;
-use a429_link::Observer;
+use a429_ldu::{Form, Sight};
 use a429_link::laws::refused_is_impossible;
+use a429_link::{Observer, Seen};
 use a429_profile::Profile;
 use a429_record::Entry;
+use a429_word::{Bus, THIS_LABEL};
 use std::alloc::Global;
 
 /// Why a recording is not heard to its end.
@@ -39,13 +43,14 @@ pub(crate) fn walk<'a>(
     ensures without_loss { IsWithoutLoss profile.now (items_of entries.now) → IfErr result (λ h. h ≡ Halt.OutOfMemory) }
 {
     refused_is_impossible();
-    let _codes = profile.codes();
+    let mut screening = Screening::new(entries, profile.codes().to_sink);
     let mut observer = Observer::new(alloc);
     let Ok(mut sights) = Vec::with_capacity(alloc, entries.len()) else {
         return Err(Halt::OutOfMemory);
     };
     for entry in 0..entries.len() {
-        match observer.see(profile, seen(entries[entry])) {
+        let answer = screening.answer(entry);
+        match see_screened(&mut observer, profile, seen(entries[entry]), answer) {
             Ok(sight) => match sights.push(sight) {
                 Ok(()) => {}
                 Err(_) => return Err(Halt::OutOfMemory),
@@ -57,6 +62,26 @@ pub(crate) fn walk<'a>(
         }
     }
     Ok(Heard::new(profile, entries, sights))
+}
+
+// Takes the next recorded word, as an observer does, where it is known what `screen` answers for it by the
+// label of bus A: most words of that bus that are free are told by this alone.
+fn see_screened(
+    observer: &mut Observer,
+    profile: &Profile,
+    seen: Seen,
+    answer: u8,
+) -> Result<Sight, Sight>
+    requires { answer ≡ screened profile.now.codes.to_sink seen.word }
+    ensures allowed { IsOk result ↔ Allows profile.now observer.old seen }
+    ensures taken { OnOk result (observer.new ≡ sees profile.now seen observer.old) }
+    ensures ok { IfOk result (λ sight. sight ≡ sight_of profile.now.codes seen.bus seen.word) }
+    ensures err { IfErr result (λ sight. sight ≡ sight_of profile.now.codes seen.bus seen.word) }
+{
+    if seen.bus == Bus::A && answer != THIS_LABEL {
+        return Ok(Sight::Free);
+    }
+    observer.see(profile, seen)
 }
 
 // Why a word is refused that is not free and has this form, or none.

@@ -1,6 +1,7 @@
 pub mod RowDigits
 pub mod LineRecords
 pub mod LinePlain
+pub mod MarkFacts
 pub mod PlainFacts
 pub mod LinesFacts
 pub mod BinaryFacts

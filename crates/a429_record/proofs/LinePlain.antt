@@ -133,12 +133,6 @@ skipped (b ∷ bs) h =
     let (here, more) = and_parts (b == 13) (all_returns bs) h in
     rw here (skipped bs more)
 
-first_return : (b : ℕ) → (b == 13) ≡ true → b ≤ 57
-first_return b h = grind (arith, nat_tests)
-
-pub blank_line : (xs : List ℕ) → all_returns xs ≡ true → records_of xs ≡ []
-unfolding strip_bom
-blank_line [] h = records-none [] (skipped [] refl)
-blank_line (b ∷ bs) h =
-    let (here, more) = and_parts (b == 13) (all_returns bs) h in
-    rw (no_mark b bs (first_return b here)) (records-none (b ∷ bs) (skipped (b ∷ bs) h))
+-- a line of nothing else, behind a byte order mark or none
+pub blank_line : (line : List ℕ) → all_returns (strip_bom line) ≡ true → records_of line ≡ []
+blank_line line h = records-none (strip_bom line) (skipped (strip_bom line) h)

@@ -2,6 +2,7 @@
 
 ghost use Rattle.std.specs.Prelude.{◌≡◌, ◌↔◌, ◌<◌, ◌∷◌, [], ◌==◌, IsTrue, IfOk, IfErr, IfSome, length, take, slice_index};
 ghost use Rattle.std.specs.List.{list_all};
+ghost use Rattle.csv.specs.Reading.{strip_bom};
 ghost use Rattle.a429_record.specs.Ends.{HasNoEnd};
 ghost use Rattle.a429_record.specs.Line.{line_entries, found_rows, found_entries};
 ghost use Rattle.a429_record.specs.Plain.{IsLineEnd};
@@ -14,6 +15,9 @@ use crate::plain::plain_row;
 use crate::row::entry_of;
 use csv::{ByteRecord, ReaderBuilder};
 use std::alloc::Global;
+
+// A byte order mark.
+const MARK: [u8; 3] = [0xef, 0xbb, 0xbf];
 
 /// The row of a line.
 #[derive(Drop)]
@@ -42,7 +46,7 @@ pub fn row_in_line(alloc: Global, line: &[u8]) -> Result<LineRow, ReadFault>
     ensures ok { IfOk result (λ r. found_rows r ≡ line_rows line.now) }
     ensures err { IfErr result (λ f. f ≡ fault.OutOfMemory) }
 {
-    if is_blank(line) {
+    if is_blank(without_mark(line)) {
         Ok(LineRow::Blank)
     } else {
         row_by_csv(alloc, line)
@@ -92,6 +96,17 @@ fn row_by_csv(alloc: Global, line: &[u8]) -> Result<LineRow, ReadFault>
         return Ok(LineRow::Several);
     }
     Ok(LineRow::One(row))
+}
+
+// A line without the byte order mark at its front, where it has one.
+fn without_mark(line: &[u8]) -> &[u8]
+    ensures { result.now ≡ strip_bom line.now }
+{
+    if line.starts_with(&MARK) {
+        &line[MARK.len()..]
+    } else {
+        line
+    }
 }
 
 // Whether the line has nothing but carriage returns. `csv` takes long to start, and such lines are

@@ -3,6 +3,7 @@ use Rattle.a429_ldu.specs.declared.sight.Sight.{Sight}
 use Rattle.a429_ldu.specs.Sight.{sight_in}
 use Rattle.a429_link.specs.Observer.{Allows}
 use Rattle.a429_cert.specs.Explained.{items_of}
+use Rattle.a429_explain.specs.Screening.{ScreenedEntries}
 use Rattle.a429_explain.specs.Walk.{FitsSight, IsRefusable}
 use Rattle.a429_explain.proofs.MatchingFacts.{length-items_of}
 use Rattle.a429_explain.proofs.WalkFacts.{IsAllowedAt, formed, form_told, is_refusal, item_at, refusable, walked, walks_on}
@@ -19,7 +20,7 @@ refused : (a : After-form) → Allows a.args.profile.now a.loop-entry.observer a
 refused a h = cc (a.in-Err.ensures.allowed.1 h)
 
 may_be : (a : After-form) → IsRefusable a.in-Err.sight
-may_be a = refusable a.args.profile.now a.codes-codes.ensures.sound a.loop-entry.observer a.seen.result a.in-Err.sight a.in-Err.ensures.err (refused a)
+may_be a = refusable a.args.profile.now a.codes.ensures.sound a.loop-entry.observer a.seen.result a.in-Err.sight a.in-Err.ensures.err (refused a)
 
 told : (a : After-form) → sight_in a.form.result ≡ a.in-Err.sight
 told a = ap sight_in a.form.ensures ∙ form_told a.in-Err.sight (may_be a)
@@ -36,24 +37,28 @@ returns-in-Err-clause-halt c =
     let items = items_of c.args.entries.now in
     let n = c.loop-entry.entry in
     let fits = subst (λ (s : Sight). FitsSight s c.reason_of-reason.result) (told a) c.reason_of-reason.ensures in
-    is_refusal p items n c.loop-entry.observer c.loop-entry.sights.items c.seen.result c.in-Err.sight c.reason_of-reason.result (c.refused_is_impossible.ensures p items n c.codes-codes.ensures.sound) (item (goal.at.returns-in-Err-clause-halt c).After-seen) c.in-Err.ensures.err fits (refused a) c.loop-entry.invariant
+    is_refusal p items n c.loop-entry.observer c.loop-entry.sights.items c.seen.result c.in-Err.sight c.reason_of-reason.result (c.refused_is_impossible.ensures p items n c.codes.ensures.sound) (item (goal.at.returns-in-Err-clause-halt c).After-seen) c.in-Err.ensures.err fits (refused a) c.loop-entry.invariant.walks
 
 pub returns-in-Err-clause-without_loss : goal.returns-in-Err-clause-without_loss
-returns-in-Err-clause-without_loss c = λ h. absurd ((returns-in-Err-clause-halt c).impossible (begins c.args.profile.now c.codes-codes.ensures.sound (items_of c.args.entries.now) (c.loop-entry.entry + 1) h))
+returns-in-Err-clause-without_loss c = λ h. absurd ((returns-in-Err-clause-halt c).impossible (begins c.args.profile.now c.codes.ensures.sound (items_of c.args.entries.now) (c.loop-entry.entry + 1) h))
 
 pub loop-entry-preserved : goal.loop-entry-preserved
 loop-entry-preserved c =
-    let may : IsAllowedAt c.args.profile.now (items_of c.args.entries.now) c.loop-entry.entry c.loop-entry.observer c.seen.result c.in-Ok-see.sight = record {
+    let may : IsAllowedAt c.args.profile.now (items_of c.args.entries.now) c.loop-entry.entry c.loop-entry.observer c.seen.result c.in-Ok-see_screened.sight = record {
       item = item (goal.at.loop-entry-preserved c).After-seen;
-      sight = c.in-Ok-see.ensures.ok;
-      allowed = c.in-Ok-see.ensures.allowed.0 refl;
+      sight = c.in-Ok-see_screened.ensures.ok;
+      allowed = c.in-Ok-see_screened.ensures.allowed.0 refl;
     } in
-    walks_on c.args.profile.now (items_of c.args.entries.now) c.loop-entry.entry c.loop-entry.observer c.see.new.self c.loop-entry.sights.items c.push.new.self.items c.seen.result c.in-Ok-see.sight c.loop-entry.invariant may c.in-Ok-see.ensures.taken c.in-Ok-push.ensures.items
+    record {
+      walks = walks_on c.args.profile.now (items_of c.args.entries.now) c.loop-entry.entry c.loop-entry.observer c.see_screened.new.observer c.loop-entry.sights.items c.push.new.self.items c.seen.result c.in-Ok-see_screened.sight c.loop-entry.invariant.walks may c.in-Ok-see_screened.ensures.taken c.in-Ok-push.ensures.items;
+      entries = ap (λ (v : ScreenedEntries). v.entries) c.answer-answer.ensures.same ∙ c.loop-entry.invariant.entries;
+      label = ap (λ (v : ScreenedEntries). v.label) c.answer-answer.ensures.same ∙ c.loop-entry.invariant.label;
+    }
 
 pub returns-clause-allowed : goal.returns-clause-allowed
 returns-clause-allowed c =
     let items = items_of c.args.entries.now in
-    (walked c.args.profile.now items c.loop-entry.entry c.loop-entry.observer c.loop-entry.sights.items (omega (arith, c.loop-entry-test.false, length-items_of c.args.entries.now)) c.loop-entry.invariant).0
+    (walked c.args.profile.now items c.loop-entry.entry c.loop-entry.observer c.loop-entry.sights.items (omega (arith, c.loop-entry-test.false, length-items_of c.args.entries.now)) c.loop-entry.invariant.walks).0
 
 pub returns-clause-formed : goal.returns-clause-formed
 returns-clause-formed c = formed c.args.profile.now (items_of c.args.entries.now) (returns-clause-allowed c)
