@@ -52,13 +52,16 @@ pub tells_yes : {W : Type 0} (contents : W → Option (List ℕ)) (profile : Lis
 tells_yes contents profile known rec old mid out a files is fresh judged heard last =
     let yes = rw is at judged in
     let told = rw is at heard in
-    inl (refl, record {
-      files = files.items;
-      judged = yes;
-      bench = told.contents;
-      is_profile = told.is_profile;
-      rows = units_put contents told.contents old mid out known rec fresh told.heard last;
-    })
+    inl (
+      refl,
+      record {
+        files = files.items;
+        judged = yes;
+        bench = told.contents;
+        is_profile = told.is_profile;
+        rows = units_put contents told.contents old mid out known rec fresh told.heard last;
+      },
+    )
 
 -- a no whose line is put
 pub tells_no : {W : Type 0} (contents : W → Option (List ℕ)) (profile : List ℕ) (known : Option (List ℕ)) (rec : Option Recording) (old before out : Tally W)

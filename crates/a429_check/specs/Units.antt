@@ -1,5 +1,5 @@
 -- What `a429 units` writes (profile).
-use Rattle.std.specs.Prelude.{◌≡◌, ◌≢◌, ◌⊎◌, ℕ, List, [], Option, Some, None, Ok, Err}
+use Rattle.std.specs.Prelude.{◌≡◌, ◌≢◌, ◌⊎◌, ℕ, List, [], Option, None, Ok, Err}
 use Rattle.a429_word.specs.declared.tally.Tally.{Tally}
 use Rattle.a429_word.specs.Tally.{Puts}
 use Rattle.a429_profile.specs.Profile.{Contents}

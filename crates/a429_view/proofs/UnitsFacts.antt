@@ -1,6 +1,6 @@
 -- The rows that are put as steps are told are those of the units of a run.
-use Rattle.std.proofs.Common.{◌≡◌, ◌+◌, ◌∙◌, ◌++◌, ◌∷◌, ℕ, List, [], length, Bool, true, false, cond, ◌||◌, Option, Some, None, slice_get, refl, sym, ap, subst, append_assoc, arith}
-use Rattle.std.specs.List.{FoldsTo, fold, count_by, list_any, filter_map, cons_option, flat_map, last_or}
+use Rattle.std.proofs.Common.{◌≡◌, ◌+◌, ◌∙◌, ◌++◌, ◌∷◌, ℕ, List, [], Bool, true, false, cond, ◌||◌, Option, Some, None, slice_get, refl, sym, ap, subst, append_assoc, arith}
+use Rattle.std.specs.List.{FoldsTo, fold, list_any, filter_map, cons_option, flat_map, last_or}
 use Rattle.std.specs.Option.{option_map}
 use Rattle.std.specs.Io.KnownBytes.{Appends}
 use Rattle.std.proofs.KnownBytes.{Appends-nil, Appends-trans}
@@ -14,7 +14,7 @@ use Rattle.a429_cert.specs.Told.{Told, Loads, Makes}
 use Rattle.a429_view.specs.declared.units.span.Mark.{Mark}
 use Rattle.a429_view.specs.declared.units.row.UnitRow.{UnitRow}
 use Rattle.a429_view.specs.declared.units.rows.UnitRows.{UnitRows}
-use Rattle.a429_view.specs.Units.{LoadedUnit, before_load, units_of, is_request, is_lost, is_unanswered, is_unheard, is_nak, is_time_out, is_ack, mark_of, row_of, row_text, header_text, units_text}
+use Rattle.a429_view.specs.Units.{before_load, units_of, is_request, is_lost, is_unanswered, is_unheard, is_nak, is_time_out, is_ack, mark_of, row_of, row_text, header_text, units_text}
 use Rattle.a429_view.specs.UnitSteps.{more, either, with_step, begun, line_before, HearsRows}
 
 -- ---- steps, one after the other
@@ -181,5 +181,5 @@ pub all_rows : {W : Type 0} (contents : W → Option (List ℕ)) (p : Contents) 
 all_rows contents p old new told end fresh heard last =
     let h = heard_rows contents p old new told heard in
     let text : gone p.codes old.row told ++ line_before new.row ≡ units_text p.codes told =
-      ap (λ (r : Option UnitRow). gone p.codes old.row told ++ line_before r) h.row ∙ gone_all p.codes old.row told ∙ ap (λ (r : Option UnitRow). all_text p.codes r told) fresh in
+    ap (λ (r : Option UnitRow). gone p.codes old.row told ++ line_before r) h.row ∙ gone_all p.codes old.row told ∙ ap (λ (r : Option UnitRow). all_text p.codes r told) fresh in
     subst (Appends (paged contents old.out old.page) end) text (Appends-trans _ _ _ _ _ h.puts last)

@@ -1,5 +1,5 @@
 -- How the row of a link data unit grows by the steps that are told one after the other.
-use Rattle.std.specs.Prelude.{◌≡◌, ◌+◌, ℕ, List, [], Bool, true, false, ◌||◌, Option, Some, None, option_map}
+use Rattle.std.specs.Prelude.{◌≡◌, ◌+◌, ℕ, List, Bool, true, false, ◌||◌, Option, Some, None, option_map}
 use Rattle.a429_word.specs.Page.{PutsOn}
 use Rattle.a429_profile.specs.declared.codes.Codes.{Codes}
 use Rattle.a429_profile.specs.Profile.{Contents}

@@ -71,7 +71,7 @@ pub(crate) fn answer_of<R: Read, C: Read, S: Shelf, T: Listener>(
     ensures works { OnOk result (AllWork rec.new.failed (has_failed certificate.new) (S.failed shelf.new) (T.failed listener.new)) }
     ensures err { IfErr result (IsVerifyFault profile.now (unread C.remaining certificate.old) rec.old.to_come (S.files shelf.old)
         (S.files shelf.new) (HasFailed rec.new.failed (has_failed certificate.new) (S.failed shelf.new)
-            ⊎ (T.failed listener.new ≡ true))) }
+        ⊎ (T.failed listener.new ≡ true))) }
     ensures unheard { (f : ProfileFault) → result ≡ Err (RunFault.Profile f) → listener.new ≡ listener.old }
 {
     let profile = profile_of(alloc, profile)?;

@@ -15,7 +15,8 @@ use a429_word::{Device, Page, Tally};
 use std::io::Write;
 
 // The names of the columns.
-const HEADER: &[u8] = b"file,ldu,words,bytes,final,requests,lost,unanswered,unheard,naks,timeouts,first_entry,last_entry,first_time,last_time,crossed\n";
+const HEADER: &[u8] =
+    b"file,ldu,words,bytes,final,requests,lost,unanswered,unheard,naks,timeouts,first_entry,last_entry,first_time,last_time,crossed\n";
 
 /// Puts the row of the last unit, or the names of the columns where there is none.
 pub(crate) fn put_line_before<W: Write>(

@@ -10,8 +10,8 @@ returns-clause-verdict g c =
     let rec = c.args.rec.now.to_come in
     let rows = c.args.rows.now in
     elim c.match-branch-2.branch [
-      in-Ok+in_ok-finish-in-Ok w ↦ rw (w.result-is, w.rows-is)
+      | in-Ok+in_ok-finish-in-Ok w ↦ rw (w.result-is, w.rows-is)
           (tells_yes g.W.Write.contents profile known rec rows c.answer_of.new.listener w.finish.new.self.out _ _ w.in-Ok.is c.requires c.in_ok-answer_of.ensures.yes c.in_ok-answer_of.ensures.heard w.in_ok-finish-in-Ok.ensures.ok)
-    | in-Err+in_ok-put_waiting-in-Err+in_ok-put_no-in-Err w ↦ rw (w.result-is, w.rows-is)
+      | in-Err+in_ok-put_waiting-in-Err+in_ok-put_no-in-Err w ↦ rw (w.result-is, w.rows-is)
           (tells_no g.W.Write.contents profile known rec rows.out w.put_waiting.new.self.out w.put_no.new.out _ _ w.in-Err.is c.in_ok-answer_of.ensures.no w.in_ok-put_no-in-Err.ensures.ok)
     ]
