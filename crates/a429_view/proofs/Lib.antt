@@ -1,0 +1,2 @@
+pub mod SketchFacts
+pub mod PictureFacts

@@ -1,0 +1,4 @@
+pub mod Forms
+pub mod Mark
+pub mod Sketch
+pub mod Picture
