@@ -9,3 +9,4 @@ pub mod MakeBytes
 pub mod ShowOneLine
 pub mod VerdictFacts
 pub mod UpgradeFacts
+pub mod PictureFacts

@@ -11,3 +11,4 @@ pub mod Verdict
 pub mod Check
 pub mod Pack
 pub mod Upgrade
+pub mod Picture

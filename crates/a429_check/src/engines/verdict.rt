@@ -18,8 +18,8 @@ use a429_word::{Device, Failing, Tally};
 use std::alloc::Global;
 use std::io::{Read, Write};
 
-// The numbers and lengths of the files that a certificate puts on a shelf, or why it is refused.
-type Answer = Result<Vec<(u8, u32)>, CertFault>;
+/// The numbers and lengths of the files that a certificate puts on a shelf, or why it is refused.
+pub(crate) type Answer = Result<Vec<(u8, u32)>, CertFault>;
 
 /// Puts the files that a certificate gives on a shelf, writes the verdict, and answers its status: 0 for a
 /// yes, 2 for a no.
@@ -82,8 +82,8 @@ fn answer_of<R: Read, C: Read, S: Shelf>(
     }
 }
 
-// Whether a reader or the shelf has failed.
-fn any_failed<R: Read, C: Read, S: Shelf>(
+/// Whether a reader or the shelf has failed.
+pub(crate) fn any_failed<R: Read, C: Read, S: Shelf>(
     rec: &EntryReader<R>,
     certificate: &Tally<C>,
     shelf: &S,
@@ -94,8 +94,8 @@ fn any_failed<R: Read, C: Read, S: Shelf>(
     rec.failed() || certificate.failed() || shelf.failed()
 }
 
-// The fault, where it is one of the certificate.
-fn of_certificate(fault: StreamFault) -> Result<CertFault, RunFault>
+/// The fault, where it is one of the certificate.
+pub(crate) fn of_certificate(fault: StreamFault) -> Result<CertFault, RunFault>
     ensures ok { IfOk result (λ f. (fault ≡ StreamFault.Cert f) × (f ≢ CertFault.OutOfMemory)) }
     ensures err { IfErr result (λ e. e ≡ of_stream fault) }
 {
@@ -188,8 +188,8 @@ fn put_file<W: Write>(out: &mut Tally<W>, number: u8, len: u64) -> Result<(), De
     out.put(b"\n")
 }
 
-// Writes why the certificate is refused.
-fn put_no<W: Write>(out: &mut Tally<W>, fault: CertFault) -> Result<(), Device>
+/// Writes why the certificate is refused.
+pub(crate) fn put_no<W: Write>(out: &mut Tally<W>, fault: CertFault) -> Result<(), Device>
     requires { fault ≢ CertFault.OutOfMemory }
     ensures ok { OnOk result (Puts W.contents out.old out.new (no_text fault)) }
     ensures device { IsErr result ↔ (has_failed out.new ≡ true) }

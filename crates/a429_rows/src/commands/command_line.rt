@@ -55,6 +55,7 @@ show bench.toml bench.csv -> Ok(Show { profile: "bench.toml", recording: "bench.
 check bench.toml bench.csv bench.cert -> Ok(Check(Claim { profile: "bench.toml", recording: "bench.csv", certificate: "bench.cert" }))
 verify bench.toml bench.csv bench.cert -> Ok(Verify(Claim { profile: "bench.toml", recording: "bench.csv", certificate: "bench.cert" }))
 extract bench.toml bench.csv bench.cert files -> Ok(Extract { claim: Claim { profile: "bench.toml", recording: "bench.csv", certificate: "bench.cert" }, folder: "files" })
+picture bench.toml bench.csv bench.cert 0 12 -> Ok(Picture { claim: Claim { profile: "bench.toml", recording: "bench.csv", certificate: "bench.cert" }, span: Span { from: 0, to: 12 } })
 upgrade bench.cert new.cert -> Ok(Upgrade { cert: "bench.cert", new_cert: "new.cert" })
 make bench.toml -> Ok(Make { profile: "bench.toml", files: [] })
 make bench.toml one.bin two.bin -> Ok(Make { profile: "bench.toml", files: ["one.bin", "two.bin"] })"#;
@@ -69,6 +70,10 @@ fn other_words_are_usage(rt: HostRuntime) -> Result<(), Fail> {
 check bench.toml bench.csv -> Err(Usage)
 extract bench.toml bench.csv bench.cert -> Err(Usage)
 verify bench.toml bench.csv -> Err(Usage)
+picture bench.toml bench.csv bench.cert 3 -> Err(Usage)
+picture bench.toml bench.csv bench.cert 3 2 -> Err(Usage)
+picture bench.toml bench.csv bench.cert 3 x -> Err(Usage)
+picture bench.toml bench.csv bench.cert  3 -> Err(Usage)
 upgrade -> Err(Usage)
 upgrade bench.cert -> Err(Usage)
 upgrade bench.cert new.cert other.cert -> Err(Usage)
