@@ -2,9 +2,9 @@
 #![tactic(auto)]
 
 use a429_check::{
-    Claim, Command, Folder, RunFault, command, read_whole, report, run_check, run_extract,
-    run_forms, run_labels, run_make, run_pack, run_show, run_units, run_upgrade, run_verify,
-    run_word,
+    Claim, Command, Folder, RunFault, Span, command, read_whole, report, run_check, run_extract,
+    run_forms, run_labels, run_make, run_pack, run_picture, run_show, run_units, run_upgrade,
+    run_verify, run_word,
 };
 use a429_record::EntryReader;
 use a429_view::UnitRows;
@@ -49,6 +49,7 @@ fn run(rt: &(impl Files + Env + Print + AllocGlobal)) -> Result<u8, RunFault> {
         Command::Verify(claim) => verify(rt, alloc, claim, &mut out)?,
         Command::Units(claim) => return units(rt, alloc, claim, out),
         Command::Extract { claim, folder } => extract(rt, alloc, claim, folder, &mut out)?,
+        Command::Picture { claim, span } => picture(rt, alloc, claim, span, &mut out)?,
         Command::Upgrade { cert, new_cert } => upgrade(rt, cert, new_cert, &mut out)?,
     };
     out.flush().map_err(|_| RunFault::Device)?;
@@ -150,6 +151,19 @@ fn extract<W: Write>(
         &mut folder,
         out,
     )
+}
+
+fn picture<W: Write>(
+    rt: &impl Files,
+    alloc: Global,
+    claim: Claim<'_>,
+    span: Span,
+    out: &mut Tally<W>,
+) -> Result<u8, RunFault> {
+    let profile = bytes_of(rt, alloc, claim.profile)?;
+    let mut rec = EntryReader::new(alloc, opened(rt, claim.recording, CAP)?);
+    let mut cert = opened(rt, claim.certificate, CERTIFICATE_CAP)?;
+    run_picture(alloc, profile.as_slice(), &mut rec, &mut cert, span, out)
 }
 
 fn upgrade<W: Write>(

@@ -10,3 +10,4 @@ pub mod ShowOneLine
 pub mod VerdictFacts
 pub mod UnitsFacts
 pub mod UpgradeFacts
+pub mod PictureFacts

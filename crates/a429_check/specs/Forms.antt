@@ -1,56 +1,12 @@
 -- What `a429 forms` writes (profile).
-use Rattle.std.specs.Prelude.{◌≡◌, ℕ, List, [], ◌++◌, map, codes, Bool, true, false, Option, Some, None}
+use Rattle.std.specs.Prelude.{◌≡◌, ℕ, List, ◌++◌, codes, Option}
 use Rattle.std.specs.List.{flat_map}
-use Rattle.std.specs.Fmt.{decimal, digit_glyph}
-use Rattle.a429_word.specs.Digits.{numeral}
-use Rattle.a429_word.specs.declared.bus.Bus.{Bus}
 use Rattle.a429_profile.specs.declared.codes.Codes.{Codes}
 use Rattle.a429_profile.specs.Profile.{Contents}
-use Rattle.a429_ldu.specs.declared.forms.Form.{Form}
-use Rattle.a429_ldu.specs.declared.forms.Form.TheVariants.{Rts, Cts, Ack, Nak, Sot, Part, Eot}
-use Rattle.a429_ldu.specs.declared.freedom.Freedom.{Freedom}
-use Rattle.a429_ldu.specs.declared.freedom.Freedom.TheVariants.{BadParity, OtherLabel, IgnoredType, IgnoredCode}
-use Rattle.a429_ldu.specs.Form.{form_of}
-use Rattle.a429_ldu.specs.Freedom.{freedom_of}
-use Rattle.a429_ldu.specs.Ldu.{is_final}
 use Rattle.a429_record.specs.declared.entry.Entry.{Entry}
+use Rattle.a429_view.specs.Forms.{what_text}
 use Rattle.a429_check.specs.Recording.{SayInput}
 use Rattle.a429_check.specs.Show.{recorded_text}
-
--- ---- what is told of a word
-
--- why the transfer passes over it
-abbrev pub freedom_text : Freedom → List ℕ
-freedom_text BadParity = codes "free parity"
-freedom_text OtherLabel = codes "free label"
-freedom_text IgnoredType = codes "free type"
-freedom_text IgnoredCode = codes "free code"
-
--- behind an end word that ends its file
-abbrev pub final_text : Bool → List ℕ
-final_text true = codes " final"
-final_text false = []
-
--- a form with its numbers; semi-octets in their order, a hexadecimal digit each
-abbrev pub form_text : Codes → Form → List ℕ
-form_text c (Rts count) = codes "rts " ++ decimal count
-form_text c (Cts count) = codes "cts " ++ decimal count
-form_text c (Ack file ldu) = codes "ack " ++ decimal file ++ codes " " ++ decimal ldu
-form_text c (Nak bits) = codes "nak " ++ numeral 16 4 bits
-form_text c (Sot gfi file ldu) = codes "sot " ++ decimal file ++ codes " " ++ decimal ldu ++ codes " gfi " ++ decimal gfi
-form_text c (Part semis) = codes "data " ++ map (digit_glyph true) semis
-form_text c (Eot flags check) = codes "eot flags " ++ decimal flags ++ codes " check " ++ numeral 16 4 check ++ final_text (is_final c flags)
-
--- a word by the reason why it is free, else by its form, where it has one
-abbrev pub told : Codes → Option Freedom → Option Form → List ℕ
-told c (Some why) form = freedom_text why
-told c None (Some x) = form_text c x
-told c None None = codes "no form"
-
-abbrev pub what_text : Codes → Bus → ℕ → List ℕ
-what_text c b w = told c (freedom_of c b w) (form_of c b w)
-
--- ---- the lines
 
 -- the line of an entry: time, bus, word, and what it is
 abbrev pub form_line : Codes → Entry → List ℕ

@@ -12,3 +12,4 @@ pub mod Check
 pub mod Pack
 pub mod Upgrade
 pub mod Units
+pub mod Picture

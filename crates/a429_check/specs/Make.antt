@@ -65,7 +65,7 @@ IsFilesFault files = ComesBy (record never { recording = λ f. (f ≡ read.TooMa
 
 -- why `make` may fail: the profile's own fault, then that of the files; a writer that failed, or want of memory, once the profile is known to be a text
 abbrev pub IsMakeFault : List ℕ → List (List ℕ) → Bool → RunFault → Type 0
-IsMakeFault profile files failed = ComesBy (record {
+IsMakeFault profile files failed = ComesBy (record never {
   profile = HasFault profile;
   recording = λ f. IsSomeProfile profile × (f ≡ read.TooMany) × AreTooMany files;
   file = λ k f. IsSomeProfile profile × IsUncut files k f;

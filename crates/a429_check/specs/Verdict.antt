@@ -19,7 +19,7 @@ use Rattle.a429_cert.specs.StreamExplained.{Extracts, Refuses, WhereTold}
 use Rattle.a429_cert.specs.Told.{Hearing, IsHeard}
 use Rattle.a429_check.specs.declared.fault.RunFault.{RunFault}
 use Rattle.a429_check.specs.declared.fault.RunFault.TheVariants as run
-use Rattle.a429_check.specs.Fault.{ComesBy, never}
+use Rattle.a429_check.specs.Fault.{Causes, ComesBy, never}
 use Rattle.a429_check.specs.Profile.{IsProfileOf, HasFault}
 
 -- ---- the text
@@ -108,13 +108,16 @@ abbrev pub HasAnswer : List ℕ → Option (List ℕ) → Option Recording → O
 HasAnswer profile certificate rec old new = (answer : Answer) × Judges profile certificate rec old new answer
 
 -- the profile's own fault, and the shelf is as it was; the recording's, where its entry is wanted first; a device that has failed; want of memory, once the profile is known to be a text
-abbrev pub IsVerifyFault : List ℕ → Option (List ℕ) → Option Recording → Option (List PutFile) → Option (List PutFile) → Type 0 → RunFault → Type 0
-IsVerifyFault profile certificate rec old new Failed = ComesBy (record never {
+abbrev pub verify_causes : List ℕ → Option (List ℕ) → Option Recording → Option (List PutFile) → Option (List PutFile) → Type 0 → Causes
+verify_causes profile certificate rec old new Failed = record never {
   profile = λ f. HasFault profile f × IsUnchanged old new;
   recording = λ f. Judges profile certificate rec old new (Err (stream.Read f));
   device = Failed × HasAnswer profile certificate rec old new;
   memory = IsUtf8 profile × (IsUnchanged old new ⊎ HasAnswer profile certificate rec old new);
-})
+}
+
+abbrev pub IsVerifyFault : List ℕ → Option (List ℕ) → Option Recording → Option (List PutFile) → Option (List PutFile) → Type 0 → RunFault → Type 0
+IsVerifyFault profile certificate rec old new Failed = ComesBy (verify_causes profile certificate rec old new Failed)
 
 -- the output is as it was after any fault but `Device`, where a reader or the shelf has failed, and where the output has not
 abbrev pub IsSilent : {W : Type 0} → Type 0 → Bool → Tally W → Tally W → RunFault → Type 0

@@ -1,8 +1,9 @@
 //! Reads the words after `a429`.
 
-ghost use Rattle.std.specs.Prelude.{◌≡◌, ◌⊎◌, IfErr};
+ghost use Rattle.std.specs.Prelude.{◌≡◌, ◌≤◌, ◌⊎◌, IfOk, IfErr};
 
 use crate::fault::RunFault;
+use a429_view::Span;
 use clap::error::ErrorKind;
 use clap::{Arg, ArgAction, ArgMatches, Command as Parser};
 use commands::{Claim, Command};
@@ -77,8 +78,31 @@ fn of_recording<'a>(name: &str, given: &ArgMatches<'a>) -> Result<Command<'a>, R
         ("verify", _) => Ok(Command::Verify(claim)),
         ("units", _) => Ok(Command::Units(claim)),
         ("extract", Some(folder)) => Ok(Command::Extract { claim, folder }),
+        ("picture", _) => Ok(Command::Picture {
+            claim,
+            span: span_of(given)?,
+        }),
         _ => Err(RunFault::Usage),
     }
+}
+
+// The span of the entries FROM to TO.
+fn span_of(given: &ArgMatches<'_>) -> Result<Span, RunFault>
+    ensures order { IfOk result (λ span. span.from ≤ span.to) }
+    ensures err { IfErr result (λ e. e ≡ RunFault.Usage) }
+{
+    match (
+        entry_number(given.get_str("FROM")),
+        entry_number(given.get_str("TO")),
+    ) {
+        (Some(from), Some(to)) if from <= to => Ok(Span { from, to }),
+        _ => Err(RunFault::Usage),
+    }
+}
+
+// The number of an entry, in decimal digits.
+fn entry_number(text: Option<&str>) -> Option<usize> {
+    text?.parse().ok()
 }
 
 // The commands and the words that each takes.
@@ -95,6 +119,7 @@ fn parser<'a>(alloc: Global) -> Result<Parser<'a>, AllocError> {
     let all = with(all, with_certificate(alloc, "verify"))?;
     let all = with(all, with_certificate(alloc, "units"))?;
     let all = with(all, with_folder(alloc, "extract"))?;
+    let all = with(all, with_span(alloc, "picture"))?;
     let all = with(all, with_output(alloc, "upgrade"))?;
     with(all, with_files(alloc, "make"))
 }
@@ -125,6 +150,12 @@ fn with_certificate<'a>(alloc: Global, name: &'a str) -> Result<Parser<'a>, Allo
 // A command that takes a profile, a recording, a certificate and a folder.
 fn with_folder<'a>(alloc: Global, name: &'a str) -> Result<Parser<'a>, AllocError> {
     with_certificate(alloc, name)?.arg(once(alloc, "DIR"))
+}
+
+// A command that takes a profile, a recording, a certificate and two entries.
+fn with_span<'a>(alloc: Global, name: &'a str) -> Result<Parser<'a>, AllocError> {
+    let parser = with_certificate(alloc, name)?.arg(once(alloc, "FROM"))?;
+    parser.arg(once(alloc, "TO"))
 }
 
 // A command that takes a certificate, and where to write another.

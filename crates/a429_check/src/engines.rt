@@ -8,6 +8,7 @@ pub mod labels;
 pub mod make;
 mod output;
 pub mod pack;
+pub mod picture;
 mod profile;
 mod recording;
 pub mod show;

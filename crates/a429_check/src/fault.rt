@@ -27,6 +27,9 @@ pub enum RunFault {
     /// The file at this place, from 0, can not be cut into link data units: it is `Empty` or `TooLong`.
     #[error("file {}: {}", .0.saturating_add(1), cut_text(.1))]
     Cut(usize, CutFault),
+    /// The span of a picture has more than 2,000 steps.
+    #[error("picture: too long")]
+    TooLong,
     /// A reader or a writer failed, or a file could not be opened.
     #[error("device")]
     Device,
@@ -70,7 +73,11 @@ impl RunFault {
         ensures { result ≡ status_of self }
     {
         match self {
-            RunFault::BadWord | RunFault::Profile(_) | RunFault::Read(_) | RunFault::Cut(..) => 3,
+            RunFault::BadWord
+            | RunFault::Profile(_)
+            | RunFault::Read(_)
+            | RunFault::Cut(..)
+            | RunFault::TooLong => 3,
             RunFault::Device | RunFault::Memory => 4,
             RunFault::Usage => 5,
         }

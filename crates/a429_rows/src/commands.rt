@@ -9,6 +9,7 @@ mod forms;
 pub(crate) mod labels;
 pub(crate) mod make;
 pub(crate) mod pack;
+mod picture;
 pub(crate) mod show;
 pub(crate) mod units;
 pub(crate) mod upgrade;

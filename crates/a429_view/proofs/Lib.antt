@@ -1,1 +1,3 @@
 pub mod UnitsFacts
+pub mod SketchFacts
+pub mod PictureFacts

@@ -1,2 +1,6 @@
 pub mod Units
 pub mod UnitSteps
+pub mod Forms
+pub mod Mark
+pub mod Sketch
+pub mod Picture

@@ -1,6 +1,14 @@
 //! What people look at who look for a fault: the units of a certificate as rows, and its messages as a picture.
 #![tactic(auto)]
 
+mod forms;
+mod mark;
+mod picture;
+mod sketch;
 mod units;
 
+pub use crate::forms::put_what;
+pub use crate::mark::{Mark, Recorded, Span};
+pub use crate::picture::put_picture;
+pub use crate::sketch::{MOST_STEPS, Place, Sketch};
 pub use crate::units::rows::UnitRows;

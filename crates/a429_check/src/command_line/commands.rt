@@ -1,5 +1,7 @@
 //! The commands.
 
+use a429_view::Span;
+
 /// The words of a command on a certificate: the paths of a profile, of a recording, and of the certificate that
 /// explains it.
 #[derive(Clone, Copy, Debug, PartialEq, Eq)]
@@ -37,6 +39,11 @@ pub enum Command<'a> {
     Verify(Claim<'a>),
     /// `units PROFILE REC CERT`: lists the link data units that a certificate loads, a row for each.
     Units(Claim<'a>),
+    /// `picture PROFILE REC CERT FROM TO`: draws the steps of the entries FROM to TO.
+    Picture {
+        claim: Claim<'a>,
+        span: Span,
+    },
     /// `upgrade CERT OUT`: writes a certificate as one of version 2 to OUT.
     Upgrade {
         cert: &'a str,

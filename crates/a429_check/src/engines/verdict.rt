@@ -88,8 +88,8 @@ pub(crate) fn answer_of<R: Read, C: Read, S: Shelf, T: Listener>(
     }
 }
 
-// Whether a reader, the shelf or the listener has failed.
-fn any_failed<R: Read, C: Read, S: Shelf, T: Listener>(
+/// Whether a reader, the shelf or the listener has failed.
+pub(crate) fn any_failed<R: Read, C: Read, S: Shelf, T: Listener>(
     rec: &EntryReader<R>,
     certificate: &Tally<C>,
     shelf: &S,
@@ -102,8 +102,8 @@ fn any_failed<R: Read, C: Read, S: Shelf, T: Listener>(
     rec.failed() || certificate.failed() || shelf.failed() || listener.failed()
 }
 
-// The fault, where it is one of the certificate.
-fn of_certificate(fault: StreamFault) -> Result<CertFault, RunFault>
+/// The fault, where it is one of the certificate.
+pub(crate) fn of_certificate(fault: StreamFault) -> Result<CertFault, RunFault>
     ensures ok { IfOk result (λ f. (fault ≡ StreamFault.Cert f) × (f ≢ CertFault.OutOfMemory)) }
     ensures err { IfErr result (λ e. e ≡ of_stream fault) }
 {

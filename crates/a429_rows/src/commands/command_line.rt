@@ -56,6 +56,7 @@ check bench.toml bench.csv bench.cert -> Ok(Check(Claim { profile: "bench.toml",
 verify bench.toml bench.csv bench.cert -> Ok(Verify(Claim { profile: "bench.toml", recording: "bench.csv", certificate: "bench.cert" }))
 units bench.toml bench.csv bench.cert -> Ok(Units(Claim { profile: "bench.toml", recording: "bench.csv", certificate: "bench.cert" }))
 extract bench.toml bench.csv bench.cert files -> Ok(Extract { claim: Claim { profile: "bench.toml", recording: "bench.csv", certificate: "bench.cert" }, folder: "files" })
+picture bench.toml bench.csv bench.cert 0 12 -> Ok(Picture { claim: Claim { profile: "bench.toml", recording: "bench.csv", certificate: "bench.cert" }, span: Span { from: 0, to: 12 } })
 upgrade bench.cert new.cert -> Ok(Upgrade { cert: "bench.cert", new_cert: "new.cert" })
 make bench.toml -> Ok(Make { profile: "bench.toml", files: [] })
 make bench.toml one.bin two.bin -> Ok(Make { profile: "bench.toml", files: ["one.bin", "two.bin"] })"#;
@@ -70,6 +71,10 @@ fn other_words_are_usage(rt: HostRuntime) -> Result<(), Fail> {
 check bench.toml bench.csv -> Err(Usage)
 extract bench.toml bench.csv bench.cert -> Err(Usage)
 verify bench.toml bench.csv -> Err(Usage)
+picture bench.toml bench.csv bench.cert 3 -> Err(Usage)
+picture bench.toml bench.csv bench.cert 3 2 -> Err(Usage)
+picture bench.toml bench.csv bench.cert 3 x -> Err(Usage)
+picture bench.toml bench.csv bench.cert  3 -> Err(Usage)
 upgrade -> Err(Usage)
 upgrade bench.cert -> Err(Usage)
 upgrade bench.cert new.cert other.cert -> Err(Usage)

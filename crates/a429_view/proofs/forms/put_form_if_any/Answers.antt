@@ -2,7 +2,7 @@ use Rattle.std.proofs.Common.{◌≡◌, ◌∙◌, sym, ap, Some, None}
 use Rattle.a429_ldu.specs.Form.{form_of}
 use Rattle.a429_ldu.specs.Sight.{form_in}
 use Rattle.a429_ldu.proofs.SightFacts.{form_of-sight}
-use Rattle.a429_check.proofs.engines.forms.put_form_if_any.Goals as goal
+use Rattle.a429_view.proofs.forms.put_form_if_any.Goals as goal
 
 pub returns-in-Some-clause-ok : goal.returns-in-Some-clause-ok
 returns-in-Some-clause-ok g c =

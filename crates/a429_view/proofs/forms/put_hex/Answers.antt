@@ -1,7 +1,7 @@
 use Rattle.std.proofs.Common.{◌≡◌, ◌∙◌, ◌-◌, take, drop, ap, arith}
 use Rattle.a429_word.specs.Digits.{numeral, hex_text}
 use Rattle.a429_cert.proofs.FieldDigits.{last-digits}
-use Rattle.a429_check.proofs.engines.forms.put_hex.Goals as goal
+use Rattle.a429_view.proofs.forms.put_hex.Goals as goal
 
 pub returns-clause-ok : goal.returns-clause-ok
 returns-clause-ok g c =

@@ -1,0 +1,147 @@
+-- What a sketch that listened to a certificate holds, and why there is no picture.
+use Rattle.std.proofs.Common.{◌≡◌, ◌≢◌, ◌≤◌, ◌<◌, ◌⊎◌, inl, inr, ℕ, List, Bool, true, false, Option, Some, None, Result, Ok, Err, IfOk, IfErr, refl, sym, ap, subst}
+use Rattle.std.specs.Result.{OnOk}
+use Rattle.a429_word.specs.declared.tally.Tally.{Tally}
+use Rattle.a429_word.specs.Tally.{Puts}
+use Rattle.a429_profile.specs.Profile.{Contents}
+use Rattle.a429_record.specs.Recording.{Recording}
+use Rattle.a429_cert.specs.declared.fault.CertFault.{CertFault}
+use Rattle.a429_cert.specs.declared.fault.CertFault.TheVariants as cert
+use Rattle.a429_cert.specs.declared.stream_fault.StreamFault.TheVariants as stream
+use Rattle.a429_cert.specs.Stream.{OneFailed}
+use Rattle.a429_cert.specs.StreamExplained.{Extracts, HearsRun, Refuses, WhereTold}
+use Rattle.a429_cert.specs.Told.{IsHeard, told_run}
+use Rattle.a429_view.specs.declared.mark.Span.{Span}
+use Rattle.a429_view.specs.declared.sketch.Sketch.{Sketch}
+use Rattle.a429_view.specs.Sketch.{most_steps, Hears, IsBlank, IsOf}
+use Rattle.a429_view.specs.Picture.{svg_text}
+use Rattle.a429_view.proofs.SketchFacts.{is_of}
+use Rattle.a429_check.specs.declared.fault.RunFault.{RunFault}
+use Rattle.a429_check.specs.declared.fault.RunFault.TheVariants as run
+use Rattle.a429_check.specs.Profile.{IsProfileOf}
+use Rattle.a429_check.specs.Verdict.{AllWork, HasFailed, IsSilent, IsVerdict, IsVerifyFault, PutsText, no_text}
+use Rattle.a429_check.specs.Picture.{ARun, DrawsRun, IsTooLongRun, IsAccepted, IsPicture, IsPictureFault}
+
+where_told : (known : Option (List ℕ)) (rec : Option Recording) (A B : List ℕ → Recording → Type 0) → ((text : List ℕ) (r : Recording) → A text r → B text r) → WhereTold known rec A → WhereTold known rec B
+where_told None rec A B f a = tt
+where_told (Some text) None A B f a = tt
+where_told (Some text) (Some r) A B f a = f text r a
+
+-- the run that was heard
+abbrev heard_run : {p : Contents} {old new : Sketch} {text : List ℕ} {r : Recording} → IsHeard Hears p old new text r → ARun p text r
+heard_run h = record { first = h.first; steps = h.steps; explains = h.explains }
+
+heard_of : (p : Contents) (span : Span) (old new : Sketch) (text : List ℕ) (r : Recording) → IsBlank span old → (h : IsHeard Hears p old new text r) → IsOf p.codes span (told_run p r.entries h.first h.steps) new
+heard_of p span old new text r b h = is_of p span (told_run p r.entries h.first h.steps) old new b h.heard
+
+draws : (p : Contents) (span : Span) (old new : Sketch) (text : List ℕ) (r : Recording) → IsBlank span old → new.steps ≤ most_steps → IsHeard Hears p old new text r → DrawsRun p span (svg_text p.codes new.rows.items) text r
+draws p span old new text r b e h =
+    let of = (heard_of p span old new text r b h).few e in
+    record { run = heard_run h; few = of.1; drawn = ap (svg_text p.codes) of.0 }
+
+-- a picture of what was heard
+pub accepted : (profile : List ℕ) (p : Contents) (known : Option (List ℕ)) (rec : Option Recording) (span : Span) (old new : Sketch) (files : List (ℕ × ℕ))
+    → IsProfileOf profile p → Extracts p known rec None None files → IsBlank span old → HearsRun Hears p known rec old new → new.steps ≤ most_steps
+    → IsPicture profile known rec span 0 (svg_text p.codes new.rows.items)
+accepted profile p known rec span old new files is here b h e =
+    inl (
+      refl,
+      record {
+        contents = p;
+        is_profile = is;
+        files = files;
+        yes = here;
+        so = where_told known rec (IsHeard Hears p old new) (DrawsRun p span (svg_text p.codes new.rows.items)) (λ text r. draws p span old new text r b e) h;
+      },
+    )
+
+-- a certificate that is refused
+pub refused : (profile : List ℕ) (p : Contents) (known : Option (List ℕ)) (rec : Option Recording) (span : Span) (f : CertFault)
+    → IsProfileOf profile p → Refuses p known rec None None (stream.Cert f) → f ≢ cert.OutOfMemory → IsPicture profile known rec span 2 (no_text f)
+refused profile p known rec span f is here other =
+    inr (refl, record { answer = Err (stream.Cert f); judged = record { contents = p; is_profile = is; is = here }; told = (refl, refl, other) })
+
+-- a fault of `verify`
+pub of_verify : (profile : List ℕ) (known : Option (List ℕ)) (rec : Option Recording) (span : Span) (Few More : Type 0) (e : RunFault)
+    → (Few → More) → IsVerifyFault profile known rec None None Few e → IsPictureFault profile known rec span More e
+of_verify profile known rec span Few More (run.Profile f) m h = h
+of_verify profile known rec span Few More (run.Read f) m h = h
+of_verify profile known rec span Few More (run.Cut k f) m h = absurd h
+of_verify profile known rec span Few More run.TooLong m h = absurd h
+of_verify profile known rec span Few More run.Device m h = (m h.0, h.1)
+of_verify profile known rec span Few More run.Memory m h = h
+of_verify profile known rec span Few More run.BadWord m h = absurd h
+of_verify profile known rec span Few More run.Usage m h = absurd h
+
+-- too many steps
+pub too_long : (profile : List ℕ) (p : Contents) (known : Option (List ℕ)) (rec : Option Recording) (span : Span) (Failed : Type 0) (old new : Sketch) (files : List (ℕ × ℕ))
+    → IsProfileOf profile p → Extracts p known rec None None files → IsBlank span old → HearsRun Hears p known rec old new → most_steps < new.steps
+    → IsPictureFault profile known rec span Failed run.TooLong
+too_long profile p known rec span Failed old new files is here b h e =
+    record {
+      contents = p;
+      is_profile = is;
+      files = files;
+      yes = here;
+      so = where_told known rec (IsHeard Hears p old new) (IsTooLongRun p span) (λ text r g. record { run = heard_run g; many = (heard_of p span old new text r b g).many e }) h;
+    }
+
+-- neither a sketch fails nor the shelf that drops all files
+pub certificate_failed : (rec certificate : Bool) → OneFailed certificate false false → HasFailed rec certificate false
+certificate_failed rec certificate (inl h) = inr (inl h)
+certificate_failed rec certificate (inr (inl h)) = absurd (cc h)
+certificate_failed rec certificate (inr (inr h)) = absurd (cc h)
+
+none_failed : (rec certificate : Bool) → AllWork rec certificate false false → HasFailed rec certificate false → ⊥
+none_failed rec certificate w (inl h) = let e = w.0 in absurd (cc (e, h))
+none_failed rec certificate w (inr (inl h)) = let e = w.1 in absurd (cc (e, h))
+none_failed rec certificate w (inr (inr h)) = absurd (cc h)
+
+-- ---- what a command answers once its text was put
+
+pub puts_picture : {W : Type 0} (contents : W → Option (List ℕ)) (old new : Tally W) (r : Result ℕ RunFault) (Is : ℕ → List ℕ → Type 0) (n : ℕ) (text : List ℕ) (Fact : Type 0)
+    → IfOk r (λ status. status ≡ n) → OnOk r (Puts contents old new text) → OnOk r Fact → (Fact → Is n text) → IfOk r (λ status. PutsText contents old new (Is status))
+puts_picture contents old new (Ok status) Is n text Fact e puts fact is = (text, subst (λ (k : ℕ). Is k text) (sym e) (is fact), puts)
+puts_picture contents old new (Err f) Is n text Fact e puts fact is = tt
+
+pub all_work : (r : Result ℕ RunFault) (rec certificate out : Bool) → AllWork rec certificate false false → OnOk r (out ≡ false) → OnOk r (AllWork rec certificate false out)
+all_work (Ok status) rec certificate out w h = (w.0, w.1, refl, h)
+all_work (Err f) rec certificate out w h = tt
+
+pub no_picture : (profile : List ℕ) (p : Contents) (known : Option (List ℕ)) (rec : Option Recording) (span : Span) (Failed : Type 0) (out : Bool) (old new : Sketch) (files : List (ℕ × ℕ)) (r : Result ℕ RunFault)
+    → IsProfileOf profile p → Extracts p known rec None None files → IsBlank span old → HearsRun Hears p known rec old new
+    → IfErr r (λ e. ((e ≡ run.TooLong) × (most_steps < new.steps)) ⊎ (e ≡ run.Memory) ⊎ ((e ≡ run.Device) × (out ≡ true)))
+    → IfErr r (IsPictureFault profile known rec span (Failed ⊎ (out ≡ true)))
+no_picture profile p known rec span Failed out old new files (Ok status) is here b h f = tt
+no_picture profile p known rec span Failed out old new files (Err e) is here b h f = by f
+  where
+    by : ((e ≡ run.TooLong) × (most_steps < new.steps)) ⊎ (e ≡ run.Memory) ⊎ ((e ≡ run.Device) × (out ≡ true)) → IsPictureFault profile known rec span (Failed ⊎ (out ≡ true)) e
+    by (inl g) = subst (IsPictureFault profile known rec span (Failed ⊎ (out ≡ true))) (sym g.0) (too_long profile p known rec span (Failed ⊎ (out ≡ true)) old new files is here b h g.1)
+    by (inr (inl g)) = subst (IsPictureFault profile known rec span (Failed ⊎ (out ≡ true))) (sym g) (is.0, inl tt)
+    by (inr (inr g)) = subst (IsPictureFault profile known rec span (Failed ⊎ (out ≡ true))) (sym g.0) (inr g.1, (Ok files, record { contents = p; is_profile = is; is = here }))
+
+-- the output alone failed
+pub no_refusal : (profile : List ℕ) (p : Contents) (known : Option (List ℕ)) (rec : Option Recording) (span : Span) (Failed : Type 0) (out : Bool) (f : CertFault) (r : Result ℕ RunFault)
+    → IsProfileOf profile p → Refuses p known rec None None (stream.Cert f) → IfErr r (λ e. (e ≡ run.Device) × (out ≡ true)) → IfErr r (IsPictureFault profile known rec span (Failed ⊎ (out ≡ true)))
+no_refusal profile p known rec span Failed out f (Ok status) is here g = tt
+no_refusal profile p known rec span Failed out f (Err e) is here g =
+    subst (IsPictureFault profile known rec span (Failed ⊎ (out ≡ true))) (sym g.0) (inr g.1, (Err (stream.Cert f), record { contents = p; is_profile = is; is = here }))
+
+-- the output is as it was after any fault but its own
+pub silent : {W : Type 0} (rec certificate out : Bool) (old new : Tally W) (r : Result ℕ RunFault) → AllWork rec certificate false false
+    → IfErr r (λ e. (e ≢ run.Device) ⊎ (out ≡ false) → new ≡ old) → IfErr r (IsSilent (HasFailed rec certificate false) out old new)
+silent rec certificate out old new (Ok status) w s = tt
+silent rec certificate out old new (Err e) w s = by
+  where
+    by : (e ≢ run.Device) ⊎ (HasFailed rec certificate false ⊎ (out ≡ false)) → new ≡ old
+    by (inl h) = s (inl h)
+    by (inr (inl h)) = absurd (none_failed rec certificate w h)
+    by (inr (inr h)) = s (inr h)
+
+pub its_own : {W : Type 0} (out : Bool) (old new : Tally W) (r : Result ℕ RunFault) → IfErr r (λ e. (e ≡ run.Device) × (out ≡ true)) → IfErr r (λ e. (e ≢ run.Device) ⊎ (out ≡ false) → new ≡ old)
+its_own out old new (Ok status) h = tt
+its_own out old new (Err e) h = by
+  where
+    by : (e ≢ run.Device) ⊎ (out ≡ false) → new ≡ old
+    by (inl g) = absurd (g h.0)
+    by (inr g) = let t = h.1 in absurd (cc (g, t))

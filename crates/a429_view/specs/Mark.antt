@@ -1,0 +1,89 @@
+-- What a picture shows of the steps that are told of a run (profile).
+use Rattle.std.specs.Prelude.{◌≡◌, ◌+◌, ◌≤◌, ◌<◌, ◌&&◌, ℕ, nat_le, List, [], ◌∷◌, ◌++◌, if◌then◌else◌, Bool, true, false, Option, Some, None}
+use Rattle.a429_profile.specs.declared.codes.Codes.{Codes}
+use Rattle.a429_profile.specs.Profile.{Contents}
+use Rattle.a429_ldu.specs.declared.forms.Form.{Form}
+use Rattle.a429_ldu.specs.declared.forms.Form.TheVariants as form
+use Rattle.a429_ldu.specs.Form.{form_of}
+use Rattle.a429_ldu.specs.Ldu.{LduValue, is_final}
+use Rattle.a429_link.specs.declared.number.UnitNumber.{UnitNumber}
+use Rattle.a429_record.specs.declared.entry.Entry.{Entry}
+use Rattle.a429_cert.specs.declared.act.Act.{Act}
+use Rattle.a429_cert.specs.declared.act.Act.TheVariants as act
+use Rattle.a429_cert.specs.Told.{Told, Loads, Makes}
+use Rattle.a429_view.specs.declared.mark.Span.{Span}
+use Rattle.a429_view.specs.declared.mark.Mark.{Mark}
+use Rattle.a429_view.specs.declared.mark.Mark.TheVariants as mark
+use Rattle.a429_view.specs.declared.sketch.Place.{Place}
+
+-- ---- where the steps stand that were told
+
+-- the file that ends with a link data unit, where one does
+abbrev pub file_ended : Codes → UnitNumber → LduValue → Option ℕ
+file_ended c number unit = if is_final c unit.flags then Some number.file else None
+
+-- an acknowledgement
+abbrev pub is_ack : Option Form → Bool
+is_ack (Some (form.Ack file ldu)) = true
+is_ack _ = false
+
+-- a step that records an acknowledgement: of the link data unit that was loaded last, since no other is given
+abbrev pub acknowledges : Codes → Act → Entry → Bool
+acknowledges c act.Answered e = is_ack (form_of c e.bus e.word)
+acknowledges c _ e = false
+
+-- the file that crosses: that which ends with the unit loaded last, where this is its first acknowledgement
+abbrev pub crossing : Bool → Option ℕ → Option ℕ
+crossing acknowledged due = if acknowledged then due else None
+
+abbrev pub still_due : Bool → Option ℕ → Option ℕ
+still_due acknowledged due = if acknowledged then None else due
+
+-- at the start entry 0 comes next, and no file is due to cross
+abbrev pub at_first : Place
+at_first = record { next = 0; due = None }
+
+abbrev pub past : Codes → Place → Told → Place
+past c at (Loads number unit) = record at { due = file_ended c number unit }
+past c at (Makes a None) = at
+past c at (Makes a (Some e)) = record { next = e.0 + 1; due = still_due (acknowledges c a e.1) at.due }
+
+-- ---- what is shown
+
+-- of a step that records nothing; nothing where a word or an answer is taken
+abbrev pub unseen : Act → Option Mark
+unseen act.SinkTakes = None
+unseen act.TakeAnswer = None
+unseen a = Some (mark.Unseen a)
+
+abbrev pub mark_of : Codes → Place → Told → Option Mark
+mark_of c at (Loads number unit) = Some (mark.Load number)
+mark_of c at (Makes a None) = unseen a
+mark_of c at (Makes a (Some e)) = Some (mark.Seen (record { act = a; number = e.0; entry = e.1; crosses = crossing (acknowledges c a e.1) at.due }))
+
+-- this entry is one of the span
+abbrev pub is_within : Span → ℕ → Bool
+is_within span next = nat_le span.from next && nat_le next span.to
+
+abbrev pub listed : Option Mark → List Mark
+listed None = []
+listed (Some m) = m ∷ []
+
+-- the rows of one step
+abbrev pub shown : Codes → Span → Place → Told → List Mark
+shown c span at t = if is_within span at.next then listed (mark_of c at t) else []
+
+-- the rows of steps, in their order
+abbrev pub marks : Codes → Span → Place → List Told → List Mark
+marks c span at [] = []
+marks c span at (t ∷ more) = shown c span at t ++ marks c span (past c at t) more
+
+-- ---- how many steps there are
+
+abbrev pub counted : Span → Place → ℕ
+counted span at = if is_within span at.next then 1 else 0
+
+-- how many steps of the span there are, shown or not
+abbrev pub steps_within : Codes → Span → Place → List Told → ℕ
+steps_within c span at [] = 0
+steps_within c span at (t ∷ more) = counted span at + steps_within c span (past c at t) more
