@@ -29,7 +29,7 @@ use Rattle.a429_cert.specs.Passing.{MakesStep}
 use Rattle.a429_cert.specs.Fault.{IsVersioned, IsFaultOfHead, SaysLine, IsFaultOfLine, IsFaultAt, IsLaterFault, IsFirstCertFault}
 use Rattle.a429_cert.specs.Stream.{behind, next_of, HasEnd, WantsEntry, RefusesOver, PassesOver, of_read}
 use Rattle.a429_cert.specs.StreamHead.{RefusesHead}
-use Rattle.a429_cert.specs.StreamExplained.{WhereTold, Delivers, EndsAt, WantsNext, IsFirstReadFault, AreOfLines, IsStreamFault}
+use Rattle.a429_cert.specs.StreamExplained.{WhereTold, Delivers, EndsAt, WantsNext, IsWantedReadFault, AreOfLines, IsStreamFault}
 use Rattle.a429_cert.proofs.CutFacts.{says-uncut}
 use Rattle.a429_cert.proofs.ExplainedFacts.{none_read}
 use Rattle.a429_cert.proofs.StreamStands.{Stands, AreBehind, says_back, line_cut, next_at}
@@ -133,7 +133,7 @@ wants_line p v k taken s held left more lines g h m =
 
 read_fault : (p : Contents) (d : Head) (k i : ℕ) (taken : List FileBytes) (s : State) (left : Option (List ℕ)) (rec : Option Recording) (f : ReadFault) (text : List ℕ) (r : Recording)
     → s.sink.shelf.files ≡ [] → WantsNext p (slice_get (step_lines d.version text) k) (with_earlier taken s) → Stops f (behind i r) → f ≢ read.OutOfMemory
-    → Stands p text r d k i taken s left rec → IsFirstReadFault p text r f taken
+    → Stands p text r d k i taken s left rec → IsWantedReadFault p text r f taken
 unfolding delivers
 read_fault p d k i taken s left rec f text r none wants stops told h =
     record {
@@ -254,7 +254,7 @@ told_unfinished p d k i taken s held known left more item start_rec rec new none
     (λ text r h. unfinished p d k i taken s held left more item new text r none g (subst (λ o. GivesNext o new (Ok (Some item))) h.rest e) (subst (λ o. Stands p text r d k i taken s left o) h.rest h))
 
 -- the recording has a fault behind the last line
-known_stop : (p : Contents) (files : List FileBytes) (text : List ℕ) (r : Recording) (f : ReadFault) → AreOfLines p text r files → (f ≢ read.OutOfMemory → IsFirstReadFault p text r f files) → IsStreamFault p (of_read f) files text r
+known_stop : (p : Contents) (files : List FileBytes) (text : List ℕ) (r : Recording) (f : ReadFault) → AreOfLines p text r files → (f ≢ read.OutOfMemory → IsWantedReadFault p text r f files) → IsStreamFault p (of_read f) files text r
 known_stop p files text r read.Header h g = g (λ z. cc)
 known_stop p files text r (read.Row i) h g = g (λ z. cc)
 known_stop p files text r (read.TimeBack i) h g = g (λ z. cc)

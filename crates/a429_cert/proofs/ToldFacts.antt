@@ -34,7 +34,7 @@ use Rattle.a429_cert.specs.declared.listener.ListenFault.{ListenFault}
 use Rattle.a429_cert.specs.declared.listener.ListenFault.TheVariants as listen
 use Rattle.a429_cert.specs.Stream.{behind, next_of, PassesOver, RefusesNext, of_listener}
 use Rattle.a429_cert.specs.StreamExplained.{WhereTold}
-use Rattle.a429_cert.specs.Told.{Told, Loads, Makes, numbered, told, told_steps, told_run, Hearing, IsHeard, told_listed, entry_used, IsNextEntry, HearsListed, HearsText}
+use Rattle.a429_cert.specs.Told.{Told, Loads, Makes, with_number, told, told_steps, told_run, Hearing, IsHeard, told_listed, entry_used, IsNextEntry, HearsListed, HearsText}
 use Rattle.a429_cert.proofs.Options.{some_is}
 use Rattle.a429_cert.proofs.ReadingFacts.{one-line}
 use Rattle.a429_cert.proofs.ExplainedFacts.{drop_get, none_past, none_read, passes_on, explains_all}
@@ -77,13 +77,13 @@ some_step : (o : Step) (a : Step) → Some o ≡ Some a → o ≡ a
 some_step o a e = some_is o a e
 
 told_act : (es : List Entry) (s : State) (i : ℕ) (x : Act) (next : Option Seen) (a : Step) → slice_get (items_of es) i ≡ next → step_with x next ≡ Some a
-    → Makes x (numbered i (entry_used (uses_of x) (drop i es))) ≡ told es s i a
+    → Makes x (with_number i (entry_used (uses_of x) (drop i es))) ≡ told es s i a
 told_act es s i act.Sent None a g e = absurd (cc e)
-told_act es s i act.Sent (Some item) a g e = ap (λ o. Makes act.Sent (numbered i o)) (drop_get es i) ∙ ap (told es s i) (some_step (step.Sent item) a e)
+told_act es s i act.Sent (Some item) a g e = ap (λ o. Makes act.Sent (with_number i o)) (drop_get es i) ∙ ap (told es s i) (some_step (step.Sent item) a e)
 told_act es s i act.Answered None a g e = absurd (cc e)
-told_act es s i act.Answered (Some item) a g e = ap (λ o. Makes act.Answered (numbered i o)) (drop_get es i) ∙ ap (told es s i) (some_step (step.Answered item) a e)
+told_act es s i act.Answered (Some item) a g e = ap (λ o. Makes act.Answered (with_number i o)) (drop_get es i) ∙ ap (told es s i) (some_step (step.Answered item) a e)
 told_act es s i act.FreeSeen None a g e = absurd (cc e)
-told_act es s i act.FreeSeen (Some item) a g e = ap (λ o. Makes act.FreeSeen (numbered i o)) (drop_get es i) ∙ ap (told es s i) (some_step (step.FreeSeen item) a e)
+told_act es s i act.FreeSeen (Some item) a g e = ap (λ o. Makes act.FreeSeen (with_number i o)) (drop_get es i) ∙ ap (told es s i) (some_step (step.FreeSeen item) a e)
 told_act es s i act.SentLost next a g e = ap (told es s i) (some_step step.SentLost a e)
 told_act es s i act.TimeOut next a g e = ap (told es s i) (some_step step.TimeOut a e)
 told_act es s i act.TakeAnswer next a g e = ap (told es s i) (some_step step.TakeAnswer a e)
@@ -93,7 +93,7 @@ told_act es s i act.Silent next a g e = ap (told es s i) (some_step step.Silent 
 told_act es s i act.GiveUp next a g e = ap (told es s i) (some_step step.GiveUp a e)
 
 told_line : (es : List Entry) (s : State) (i : ℕ) (x : Listed) (l : CertLine) (a : Step) → IsStepOfLine x l → step_of l (slice_get (items_of es) i) ≡ Some a
-    → told_listed s.source.number x (numbered i (entry_used (uses_listed x) (drop i es))) ≡ told es s i a
+    → told_listed s.source.number x (with_number i (entry_used (uses_listed x) (drop i es))) ≡ told es s i a
 told_line es s i (listed.Load u) (Load l) a is e = ap (λ v. Loads s.source.number v) is ∙ ap (told es s i) (some_step _ a e)
 told_line es s i (listed.Moved m) (Moved l) a is e =
     told_act es s i m.act (slice_get (items_of es) i) a refl (ap (λ (q : MovedLine). step_with q.act (slice_get (items_of es) i)) is ∙ e)
@@ -122,7 +122,7 @@ hears_line hears p first lines r k i used line s t old now new g inside h m q =
     let steps = h.reached.steps in
     let same : m.0 ≡ q.0 = says_one line m.0 q.0 m.1 q.2 in
     let is : step_of q.0 (slice_get (items_of r.entries) i) ≡ Some on.step = ap (λ (l : CertLine). step_of l (slice_get (items_of r.entries) i)) (sym same) ∙ on.is in
-    let what : told_listed s.source.number q.1 (numbered i (entry_used (uses_listed q.1) (drop i r.entries))) ≡ told r.entries s i on.step = told_line r.entries s i q.1 q.0 on.step q.3 is in
+    let what : told_listed s.source.number q.1 (with_number i (entry_used (uses_listed q.1) (drop i r.entries))) ≡ told r.entries s i on.step = told_line r.entries s i q.1 q.0 on.step q.3 is in
     let count : length (trace steps) ≡ i = ap (λ (l : List Seen). length l) h.reached.used ∙ length-take-le i (items_of r.entries) inside in
     let place : 0 + length (trace steps) ≡ i = omega (arith, count) in
     let last : told r.entries s i on.step ≡ told r.entries (end_of p steps (start p first)) (0 + length (trace steps)) on.step = rw (sym h.reached.ends, place) refl in
@@ -210,9 +210,9 @@ hears_all hears p d k i taken s held known left more start_rec rec new_rec old n
 
 -- what is told of what it lists, with the entry that was read
 pub hears_listed : {T : Type 0} (hears : Hearing T) (p : Contents) (x : Listed) (s : State) (rec : Option Recording) (next : Option Entry) (i : ℕ) (old new : T)
-    → IsNextEntry (uses_listed x) rec next → hears p old (told_listed s.source.number x (numbered i next)) new → HearsListed hears p x s rec i old new
+    → IsNextEntry (uses_listed x) rec next → hears p old (told_listed s.source.number x (with_number i next)) new → HearsListed hears p x s rec i old new
 hears_listed hears p x s None next i old new e h = tt
-hears_listed hears p x s (Some r) next i old new e h = subst (λ (o : Option Entry). hears p old (told_listed s.source.number x (numbered i o)) new) e h
+hears_listed hears p x s (Some r) next i old new e h = subst (λ (o : Option Entry). hears p old (told_listed s.source.number x (with_number i o)) new) e h
 
 -- what is told of what a line of the text lists
 pub hears_text : {T : Type 0} (hears : Hearing T) (p : Contents) (text : Option (List ℕ)) (x : Listed) (s : State) (rec : Option Recording) (i : ℕ) (old new : T)

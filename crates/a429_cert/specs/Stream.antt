@@ -23,7 +23,7 @@ use Rattle.a429_link.specs.declared.file.FileBytes.{FileBytes}
 use Rattle.a429_cert.specs.Explained.{items_of}
 use Rattle.a429_cert.specs.Version.{read_as}
 use Rattle.a429_cert.specs.Fault.{SaysLine, IsNamed, IsFaultOfLine}
-use Rattle.a429_cert.specs.Told.{Hearing, HearsListed, HearsText, told_listed, numbered}
+use Rattle.a429_cert.specs.Told.{Hearing, HearsListed, HearsText, told_listed, with_number}
 use Rattle.a429_cert.specs.Passing.{uses, uses_listed, PassesListed, RefusesListed, PassesText}
 
 -- ---- a recording that is read as it comes
@@ -118,7 +118,7 @@ EndsWalk walk text rec f = RefusesOver walk.profile.now (read_as walk.version te
 
 -- a listener is told of what the next line lists, with this entry, if it uses one
 abbrev pub TellsListed : {T : Type 0} → Hearing T → Walk → Listed → Option Entry → T → T → Type 0
-TellsListed hears walk x next old new = hears walk.profile.now old (told_listed walk.link.state.source.number x (numbered walk.used next)) new
+TellsListed hears walk x next old new = hears walk.profile.now old (told_listed walk.link.state.source.number x (with_number walk.used next)) new
 
 -- with the entry that comes next, if it uses one
 abbrev pub HearsNext : {T : Type 0} → Hearing T → Walk → Listed → Option Recording → T → T → Type 0
@@ -129,8 +129,8 @@ abbrev pub HearsLine : {T : Type 0} → Hearing T → Walk → Option (List ℕ)
 HearsLine hears walk text rec old new = HearsText hears walk.profile.now (read_as walk.version text) walk.link.state rec walk.used old new
 
 -- a walk hands out the files that its link has delivered: nothing else changes, but what was noted
-abbrev pub HandsOut : Walk → Walk → Type 0
-HandsOut old new = new ≡ record old { link = record (old.link) { state = handed_out old.link.state }; files = new.files }
+abbrev pub HandsFilesOut : Walk → Walk → Type 0
+HandsFilesOut old new = new ≡ record old { link = record (old.link) { state = handed_out old.link.state }; files = new.files }
 
 -- one of certificate, shelf and listener has failed
 abbrev pub OneFailed : Bool → Bool → Bool → Type 0

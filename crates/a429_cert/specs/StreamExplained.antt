@@ -39,8 +39,8 @@ pub record Extracts (p : Contents) (known : Option (List ℕ)) (rec : Option Rec
   pub answered : answer ≡ sizes files
 
 -- the answer is those of such files
-abbrev pub Answers : {Z : Type 0} → Contents → Option (List ℕ) → Option Recording → Option (List PutFile) → Option (List PutFile) → Vec (ℕ × ℕ) Z → Type 0
-Answers p known rec old new answer = Extracts p known rec old new answer.items
+abbrev pub AnswersSizes : {Z : Type 0} → Contents → Option (List ℕ) → Option Recording → Option (List PutFile) → Option (List PutFile) → Vec (ℕ × ℕ) Z → Type 0
+AnswersSizes p known rec old new answer = Extracts p known rec old new answer.items
 
 -- a listener has heard the run by which the certificate explains the recording, where both are told
 abbrev pub HearsRun : {T : Type 0} → Hearing T → Contents → Option (List ℕ) → Option Recording → T → T → Type 0
@@ -71,7 +71,7 @@ WantsNext p None s = ⊤
 WantsNext p (Some line) s = WantsEntry p line s
 
 -- the recording's fault comes where its entry is wanted first
-pub record IsFirstReadFault (p : Contents) (text : List ℕ) (r : Recording) (f : ReadFault) (files : List FileBytes) : Type 0 where
+pub record IsWantedReadFault (p : Contents) (text : List ℕ) (r : Recording) (f : ReadFault) (files : List FileBytes) : Type 0 where
   pub k : ℕ
   pub i : ℕ
   pub state : State
@@ -89,7 +89,7 @@ pub record AreOfLines (p : Contents) (text : List ℕ) (r : Recording) (files : 
 
 abbrev pub IsStreamFault : Contents → StreamFault → List FileBytes → List ℕ → Recording → Type 0
 IsStreamFault p (stream.Cert f) files text r = IsFirstCertFault p text (items_of r.entries) f × EndsAt r f × AreBeforeFault p text r f files
-IsStreamFault p (stream.Read f) files text r = IsFirstReadFault p text r f files
+IsStreamFault p (stream.Read f) files text r = IsWantedReadFault p text r f files
 IsStreamFault p stream.Device files text r = (files ≡ []) ⊎ AreOfLines p text r files
 IsStreamFault p stream.OutOfMemory files text r = (files ≡ []) ⊎ AreOfLines p text r files
 

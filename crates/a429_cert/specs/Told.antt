@@ -29,25 +29,25 @@ pub data Told : Type 0 where
   Makes : (act : Act) (entry : Option (ℕ × Entry)) → Told
 
 -- an entry with this number
-abbrev pub numbered : ℕ → Option Entry → Option (ℕ × Entry)
-numbered i entry = option_map (λ e. (i, e)) entry
+abbrev pub with_number : ℕ → Option Entry → Option (ℕ × Entry)
+with_number i entry = option_map (λ e. (i, e)) entry
 
 -- entry i, with its number
-abbrev pub entry_at : List Entry → ℕ → Option (ℕ × Entry)
-entry_at entries i = numbered i (slice_get entries i)
+abbrev pub entry_numbered : List Entry → ℕ → Option (ℕ × Entry)
+entry_numbered entries i = with_number i (slice_get entries i)
 
 -- of a step that is made in this state, where entry i comes next
 abbrev pub told : List Entry → State → ℕ → Step → Told
 told es s i (step.Load u) = Loads s.source.number u
-told es s i (step.Sent item) = Makes act.Sent (entry_at es i)
+told es s i (step.Sent item) = Makes act.Sent (entry_numbered es i)
 told es s i step.SentLost = Makes act.SentLost None
 told es s i step.TimeOut = Makes act.TimeOut None
 told es s i step.TakeAnswer = Makes act.TakeAnswer None
 told es s i step.LoseAnswer = Makes act.LoseAnswer None
 told es s i step.SinkTakes = Makes act.SinkTakes None
 told es s i step.Silent = Makes act.Silent None
-told es s i (step.Answered item) = Makes act.Answered (entry_at es i)
-told es s i (step.FreeSeen item) = Makes act.FreeSeen (entry_at es i)
+told es s i (step.Answered item) = Makes act.Answered (entry_numbered es i)
+told es s i (step.FreeSeen item) = Makes act.FreeSeen (entry_numbered es i)
 told es s i step.GiveUp = Makes act.GiveUp None
 
 -- of steps, one after the other, from this state on, where entry i comes next
@@ -92,7 +92,7 @@ IsNextEntry n (Some r) entry = entry ≡ entry_used n r.entries
 -- a listener is told of what a line lists, where entry i comes next
 abbrev pub HearsListed : {T : Type 0} → Hearing T → Contents → Listed → State → Option Recording → ℕ → T → T → Type 0
 HearsListed hears p x s None i old new = ⊤
-HearsListed hears p x s (Some r) i old new = hears p old (told_listed s.source.number x (numbered i (entry_used (uses_listed x) r.entries))) new
+HearsListed hears p x s (Some r) i old new = hears p old (told_listed s.source.number x (with_number i (entry_used (uses_listed x) r.entries))) new
 
 -- of what a line of the text lists
 abbrev pub HearsText : {T : Type 0} → Hearing T → Contents → Option (List ℕ) → State → Option Recording → ℕ → T → T → Type 0

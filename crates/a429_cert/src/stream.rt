@@ -8,10 +8,10 @@ ghost use Rattle.a429_cert.specs.Shelf.{IsUnchanged};
 ghost use Rattle.a429_cert.specs.Passing.{IsReady, uses_listed};
 ghost use Rattle.a429_word.specs.Tally.{has_failed, unread};
 ghost use Rattle.a429_cert.specs.Explained.{seen_of};
-ghost use Rattle.a429_cert.specs.StreamExplained.{Answers, HearsRun, Refuses};
-ghost use Rattle.a429_cert.specs.Told.{IsNextEntry, numbered};
+ghost use Rattle.a429_cert.specs.StreamExplained.{AnswersSizes, HearsRun, Refuses};
+ghost use Rattle.a429_cert.specs.Told.{IsNextEntry, with_number};
 ghost use Rattle.a429_cert.specs.Stream.{IsFaultNext, TakesNext, WalksNext, EndsNext, TellsListed, HearsNext, WalksOver, EndsWalk, HearsLine};
-ghost use Rattle.a429_cert.specs.Stream.{OneFailed, HandsOut, PutsFiles, PutsFirstFiles, sizes};
+ghost use Rattle.a429_cert.specs.Stream.{OneFailed, HandsFilesOut, PutsFiles, PutsFirstFiles, sizes};
 
 use crate::at::At;
 use crate::entry::seen_in;
@@ -43,7 +43,7 @@ pub fn verify_stream<R: Read, C: Read, S: Shelf>(
     cert: &mut Tally<C>,
     shelf: &mut S,
 ) -> Result<Vec<(u8, u32)>, StreamFault>
-    ensures ok { IfOk result (Answers profile.now (unread C.remaining cert.old) rec.old.to_come (S.files shelf.old) (S.files shelf.new)) }
+    ensures ok { IfOk result (AnswersSizes profile.now (unread C.remaining cert.old) rec.old.to_come (S.files shelf.old) (S.files shelf.new)) }
     ensures err { IfErr result (Refuses profile.now (unread C.remaining cert.old) rec.old.to_come (S.files shelf.old) (S.files shelf.new)) }
     ensures device { IsErrOf result StreamFault.Device → (has_failed cert.new ≡ true) ⊎ (S.failed shelf.new ≡ true) }
     ensures read { IsErrOf result (StreamFault.Read read.Device) → rec.new.failed ≡ true }
@@ -62,7 +62,7 @@ pub fn replay_stream<R: Read, C: Read, S: Shelf, T: Listener>(
     shelf: &mut S,
     listener: &mut T,
 ) -> Result<Vec<(u8, u32)>, StreamFault>
-    ensures ok { IfOk result (Answers profile.now (unread C.remaining cert.old) rec.old.to_come (S.files shelf.old) (S.files shelf.new)) }
+    ensures ok { IfOk result (AnswersSizes profile.now (unread C.remaining cert.old) rec.old.to_come (S.files shelf.old) (S.files shelf.new)) }
     ensures heard { OnOk result (HearsRun T.hears profile.now (unread C.remaining cert.old) rec.old.to_come listener.old listener.new) }
     ensures err { IfErr result (Refuses profile.now (unread C.remaining cert.old) rec.old.to_come (S.files shelf.old) (S.files shelf.new)) }
     ensures device { IsErrOf result StreamFault.Device → OneFailed (has_failed cert.new) (S.failed shelf.new) (T.failed listener.new) }
@@ -153,7 +153,7 @@ fn tell<T: Listener>(
 
 // An entry with its number.
 fn numbered(number: usize, entry: Option<Entry>) -> Option<(usize, Entry)>
-    ensures { result ≡ numbered number entry }
+    ensures { result ≡ with_number number entry }
 {
     Some((number, entry?))
 }
@@ -289,7 +289,7 @@ pub fn put_delivered<S: Shelf>(walk: &mut Walk<'_>, shelf: &mut S) -> Result<(),
     ensures err { OnErr result (PutsFirstFiles S.files shelf.old shelf.new walk.old.files.items walk.old.link.state.sink.shelf.files) }
     ensures device { IsErrOf result StreamFault.Device → S.failed shelf.new ≡ true }
     ensures fault { IfErr result (λ f. (f ≡ StreamFault.Device) ⊎ (f ≡ StreamFault.OutOfMemory)) }
-    ensures kept { HandsOut walk.old walk.new }
+    ensures kept { HandsFilesOut walk.old walk.new }
 {
     if walk.link.delivered().is_empty() {
         return Ok(());

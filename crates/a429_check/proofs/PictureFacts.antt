@@ -20,7 +20,7 @@ use Rattle.a429_check.specs.declared.fault.RunFault.{RunFault}
 use Rattle.a429_check.specs.declared.fault.RunFault.TheVariants as run
 use Rattle.a429_check.specs.Profile.{IsProfileOf}
 use Rattle.a429_check.specs.Verdict.{AllWork, HasFailed, IsSilent, IsVerdict, IsVerifyFault, PutsText, no_text}
-use Rattle.a429_check.specs.Picture.{ARun, DrawsRun, IsTooLongRun, IsAccepted, IsPicture, IsPictureFault}
+use Rattle.a429_check.specs.Picture.{ARun, DrawsRun, IsTooLongRun, IsAcceptedSo, IsPicture, IsPictureFault}
 
 where_told : (known : Option (List ℕ)) (rec : Option Recording) (A B : List ℕ → Recording → Type 0) → ((text : List ℕ) (r : Recording) → A text r → B text r) → WhereTold known rec A → WhereTold known rec B
 where_told None rec A B f a = tt

@@ -17,7 +17,7 @@ use Rattle.a429_view.specs.Units.{units_text}
 use Rattle.a429_view.specs.UnitSteps.{HearsRows, line_before}
 use Rattle.a429_view.proofs.UnitsFacts.{all_rows}
 use Rattle.a429_check.specs.Verdict.{Judges, HasHeard, no_text}
-use Rattle.a429_check.specs.Units.{IsFresh, PutsUnits, TellsUnits}
+use Rattle.a429_check.specs.Units.{AreFresh, PutsUnits, TellsUnits}
 
 -- an empty page holds nothing back
 from_empty : (a b : Option (List ℕ)) (text : List ℕ) → Appends (append_known a []) b text → Appends a b text
@@ -26,7 +26,7 @@ from_empty (Some xs) None text h = h
 from_empty (Some xs) (Some ys) text h = subst (λ (t : List ℕ). ys ≡ t ++ text) (append-nil xs) h
 
 module _ {W : Type 0} (contents : W → Option (List ℕ)) (p : Contents) (old mid : UnitRows W) (out : Tally W) where
-  one : IsFresh old → Appends (paged contents mid.out mid.page) (contents (inner_of out)) (line_before mid.row)
+  one : AreFresh old → Appends (paged contents mid.out mid.page) (contents (inner_of out)) (line_before mid.row)
       → (text : List ℕ) (r : Recording) → IsHeard (HearsRows contents) p old mid text r → PutsUnits contents p old.out out text r
   one fresh last text r h =
       let all = all_rows contents p old mid (told_run p r.entries h.first h.steps) (contents (inner_of out)) fresh.1 h.heard last in
@@ -38,7 +38,7 @@ module _ {W : Type 0} (contents : W → Option (List ℕ)) (p : Contents) (old m
             (subst (λ (page : List ℕ). Appends (paged contents old.out page) (contents (inner_of out)) (units_text p.codes (told_run p r.entries h.first h.steps))) fresh.0 all);
       }
 
-  pub units_put : (known : Option (List ℕ)) (rec : Option Recording) → IsFresh old → WhereTold known rec (IsHeard (HearsRows contents) p old mid)
+  pub units_put : (known : Option (List ℕ)) (rec : Option Recording) → AreFresh old → WhereTold known rec (IsHeard (HearsRows contents) p old mid)
       → Appends (paged contents mid.out mid.page) (contents (inner_of out)) (line_before mid.row) → WhereTold known rec (PutsUnits contents p old.out out)
   units_put None rec fresh h last = tt
   units_put (Some text) None fresh h last = tt
@@ -46,7 +46,7 @@ module _ {W : Type 0} (contents : W → Option (List ℕ)) (p : Contents) (old m
 
 -- a yes whose rows are finished
 pub tells_yes : {W : Type 0} (contents : W → Option (List ℕ)) (profile : List ℕ) (known : Option (List ℕ)) (rec : Option Recording) (old mid : UnitRows W) (out : Tally W)
-    (a : Result (Vec (ℕ × ℕ) Global) CertFault) (files : Vec (ℕ × ℕ) Global) → a ≡ Ok files → IsFresh old
+    (a : Result (Vec (ℕ × ℕ) Global) CertFault) (files : Vec (ℕ × ℕ) Global) → a ≡ Ok files → AreFresh old
     → IfOk a (λ files. Judges profile known rec None None (Ok files.items)) → IfOk a (λ files. HasHeard (HearsRows contents) profile known rec old mid)
     → Appends (paged contents mid.out mid.page) (contents (inner_of out)) (line_before mid.row) → TellsUnits contents profile known rec old.out out 0
 tells_yes contents profile known rec old mid out a files is fresh judged heard last =

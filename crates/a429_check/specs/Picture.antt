@@ -8,7 +8,7 @@ use Rattle.a429_cert.specs.Explained.{items_of, Explains}
 use Rattle.a429_cert.specs.StreamExplained.{Extracts, WhereTold}
 use Rattle.a429_cert.specs.Told.{told_run}
 use Rattle.a429_view.specs.declared.mark.Span.{Span}
-use Rattle.a429_view.specs.Mark.{at_first, steps_within}
+use Rattle.a429_view.specs.Mark.{before_all, steps_within}
 use Rattle.a429_view.specs.Picture.{picture_text}
 use Rattle.a429_view.specs.Sketch.{most_steps}
 use Rattle.a429_check.specs.declared.fault.RunFault.{RunFault}
@@ -24,7 +24,7 @@ pub record ARun (p : Contents) (certificate : List ℕ) (r : Recording) : Type 0
 
 -- how many of its steps lie in a span
 abbrev pub steps_of_run : {p : Contents} {certificate : List ℕ} {r : Recording} → Span → ARun p certificate r → ℕ
-steps_of_run {p} {certificate} {r} span run = steps_within p.codes span at_first (told_run p r.entries run.first run.steps)
+steps_of_run {p} {certificate} {r} span run = steps_within p.codes span before_all (told_run p r.entries run.first run.steps)
 
 -- the text is the picture of a span of such a run, which has at most 2,000 steps there
 pub record DrawsRun (p : Contents) (span : Span) (text : List ℕ) (certificate : List ℕ) (r : Recording) : Type 0 where
@@ -38,7 +38,7 @@ pub record IsTooLongRun (p : Contents) (span : Span) (certificate : List ℕ) (r
   pub many : most_steps < steps_of_run span run
 
 -- the certificate is accepted, under the profile whose text the bytes are, and its run is so
-pub record IsAccepted (profile : List ℕ) (certificate : Option (List ℕ)) (rec : Option Recording) (IsSo : Contents → List ℕ → Recording → Type 0) : Type 0 where
+pub record IsAcceptedSo (profile : List ℕ) (certificate : Option (List ℕ)) (rec : Option Recording) (IsSo : Contents → List ℕ → Recording → Type 0) : Type 0 where
   pub contents : Contents
   pub is_profile : IsProfileOf profile contents
   pub files : List (ℕ × ℕ)
@@ -48,11 +48,11 @@ pub record IsAccepted (profile : List ℕ) (certificate : Option (List ℕ)) (re
 -- what is answered: 0 and a picture, or 2 and a no as `a429 verify` tells it
 abbrev pub IsPicture : List ℕ → Option (List ℕ) → Option Recording → Span → ℕ → List ℕ → Type 0
 IsPicture profile certificate rec span status text =
-    ((status ≡ 0) × IsAccepted profile certificate rec (λ p. DrawsRun p span text))
+    ((status ≡ 0) × IsAcceptedSo profile certificate rec (λ p. DrawsRun p span text))
     ⊎ ((status ≡ 2) × IsVerdict profile certificate rec None None status text)
 
 -- a fault of `a429 verify`, or a span with more than 2,000 steps
 abbrev pub IsPictureFault : List ℕ → Option (List ℕ) → Option Recording → Span → Type 0 → RunFault → Type 0
 IsPictureFault profile certificate rec span Failed = ComesBy (record (verify_causes profile certificate rec None None Failed) {
-  too_long = IsAccepted profile certificate rec (λ p. IsTooLongRun p span);
+  too_long = IsAcceptedSo profile certificate rec (λ p. IsTooLongRun p span);
 })

@@ -17,8 +17,8 @@ use Rattle.a429_check.specs.Profile.{IsProfileOf}
 use Rattle.a429_check.specs.Verdict.{Judges, no_text}
 
 -- no row is begun, and none waits
-abbrev pub IsFresh : {W : Type 0} → UnitRows W → Type 0
-IsFresh rows = (rows.page ≡ []) × (rows.row ≡ None)
+abbrev pub AreFresh : {W : Type 0} → UnitRows W → Type 0
+AreFresh rows = (rows.page ≡ []) × (rows.row ≡ None)
 
 -- a writer has gained the rows of a run by which the certificate explains the recorded words
 pub record PutsUnits {W : Type 0} (contents : W → Option (List ℕ)) (p : Contents) (old new : Tally W) (text : List ℕ) (r : Recording) : Type 0 where

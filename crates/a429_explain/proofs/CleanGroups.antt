@@ -17,7 +17,7 @@ use Rattle.a429_explain.specs.declared.attempts.Role.TheVariants.{Request, Ackno
 use Rattle.a429_explain.specs.declared.groups.Grouping.TheVariants.{Between, Within}
 use Rattle.a429_explain.specs.Attempts.{attempt_start, next_start, are_numbers, role_of, roles}
 use Rattle.a429_explain.specs.Heard.{forms_of}
-use Rattle.a429_explain.specs.Groups.{words_in, group_length, first_started, settles}
+use Rattle.a429_explain.specs.Groups.{words_in, group_length, first_started, ends_its_group}
 use Rattle.a429_explain.specs.Matching.{IsOfBlock}
 use Rattle.a429_explain.specs.Guess.{first_file_of, file_of}
 use Rattle.a429_explain.proofs.WalkFacts.{free_none}
@@ -63,7 +63,7 @@ pub record Parts (c : Codes) (items group rest : List Seen) (n : ℕ) : Type 0 w
   pub group_is : without_free c (take n items) ≡ group
   pub rest_is : without_free c (drop n items) ≡ rest
   pub some : 1 ≤ n
-  pub settled : settles (slice_get (roles (forms_of c items)) (n - 1)) ≡ true
+  pub settled : ends_its_group (slice_get (roles (forms_of c items)) (n - 1)) ≡ true
 
 abbrev pub words_to_go : Codes → Option UnitNumber → List Seen → ℕ
 words_to_go c start items = words_in (Within start) (roles (forms_of c items))
@@ -84,7 +84,7 @@ parts_free c start i items group rest e h =
       group_is = ap (λ (t : Bool). cond t (without_free c (take k items)) (i ∷ without_free c (take k items))) e ∙ h.group_is;
       rest_is = h.rest_is;
       some = omega arith;
-      settled = ap settles (later (role_of (form_of c i.bus i.word) (forms_of c items)) (roles (forms_of c items)) k h.some) ∙ h.settled;
+      settled = ap ends_its_group (later (role_of (form_of c i.bus i.word) (forms_of c items)) (roles (forms_of c items)) k h.some) ∙ h.settled;
     })
 
 -- a word more, before those that end the group
@@ -93,7 +93,7 @@ parts_next c i items group rest k e h = record {
   group_is = ap (λ (t : Bool). cond t (without_free c (take k items)) (i ∷ without_free c (take k items))) e ∙ ap (λ (xs : List Seen). i ∷ xs) h.group_is;
   rest_is = h.rest_is;
   some = omega arith;
-  settled = ap settles (later (role_of (form_of c i.bus i.word) (forms_of c items)) (roles (forms_of c items)) k h.some) ∙ h.settled;
+  settled = ap ends_its_group (later (role_of (form_of c i.bus i.word) (forms_of c items)) (roles (forms_of c items)) k h.some) ∙ h.settled;
 }
 
 parts_inner : (c : Codes) (start : Option UnitNumber) (i : Seen) (items group rest : List Seen) → is_free c i.bus i.word ≡ false → IsInner (form_of c i.bus i.word) → Parts c items group rest (words_to_go c start items) → Parts c (i ∷ items) (i ∷ group) rest (words_to_go c start (i ∷ items))
@@ -109,7 +109,7 @@ parts_last c start i items file ldu e a n =
       group_is = ap (λ (t : Bool). cond t [] (i ∷ [])) e;
       rest_is = refl;
       some = omega arith;
-      settled = ap (λ (r : Role). settles (Some r)) role;
+      settled = ap (λ (r : Role). ends_its_group (Some r)) role;
     })
 
 no_word : (b : List Seen) (ack : Seen) (rest : List Seen) → [] ≡ b ++ ack ∷ rest → ⊥

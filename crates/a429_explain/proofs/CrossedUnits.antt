@@ -20,11 +20,11 @@ use Rattle.a429_explain.specs.declared.stop.Stop.{Stop}
 use Rattle.a429_explain.specs.declared.stop.Stop.TheVariants.{Unexplained, OutOfMemory}
 use Rattle.a429_explain.specs.Attempts.{roles}
 use Rattle.a429_explain.specs.Heard.{forms_of, sight_at}
-use Rattle.a429_explain.specs.Groups.{group_length, first_started, group_start, settles, is_settled}
+use Rattle.a429_explain.specs.Groups.{group_length, first_started, group_start, ends_its_group, is_settled}
 use Rattle.a429_explain.specs.declared.plan.Plan.{Plan}
 use Rattle.a429_explain.specs.Plan.{place_from, give_ups_from, place_behind, ArePlans, plain}
 use Rattle.a429_explain.specs.Block.{IsMatchedUnit, HasCrossed, IsStopIn}
-use Rattle.a429_explain.specs.Guess.{heard, place_of, place_past, ArePlansFrom, IsStopFrom, HaveCrossed}
+use Rattle.a429_explain.specs.Guess.{heard, place_at_group, place_past, ArePlansFrom, IsStopFrom, HaveCrossed}
 use Rattle.a429_explain.specs.Whole.{wanted}
 use Rattle.a429_explain.proofs.GroupsFacts.{asked, AreSearched, searched_none, searched_free, searched_group, searched_all, searched_doubt}
 use Rattle.a429_explain.proofs.CleanBlock.{formed_sight}
@@ -144,7 +144,7 @@ next_is p is items done us place at to count (u ∷ more) i xs t f all h list ke
         words = ap (λ (m : ℕ). without_free p.codes (take m (drop at items))) long ∙ ap (λ (ys : List Seen). without_free p.codes (take n ys)) list ∙ parts.group_is;
       };
       start = ap (λ (m : ℕ). first_started (take m (drop at (roles (forms_of p.codes items))))) long ∙ ap (λ (ys : List Role). first_started (take n ys)) said ∙ found.start;
-      settled = ap (λ (m : ℕ). settles (slice_get (roles (forms_of p.codes items)) m)) last ∙ ap settles (get_dropped (roles (forms_of p.codes items)) at (n - 1)) ∙ ap (λ (ys : List Role). settles (slice_get ys (n - 1))) said ∙ parts.settled;
+      settled = ap (λ (m : ℕ). ends_its_group (slice_get (roles (forms_of p.codes items)) m)) last ∙ ap ends_its_group (get_dropped (roles (forms_of p.codes items)) at (n - 1)) ∙ ap (λ (ys : List Role). ends_its_group (slice_get ys (n - 1))) said ∙ parts.settled;
       words = ap (λ (m : ℕ). without_free p.codes (drop m items)) t ∙ ap (without_free p.codes) (sym (drop-drop n at items)) ∙ ap (λ (ys : List Seen). without_free p.codes (drop n ys)) list ∙ parts.rest_is;
       fit = h.2;
     }
@@ -167,7 +167,7 @@ no_more place l = omega arith
 same_place : (c : Codes) (place : UnitNumber) → place_from c place (Some place) ≡ place
 same_place c place = ap (λ (b : Bool). cond b place (first_number c place.file)) (eq-eqb place.file place.file refl)
 
-pub next_place : (p : Contents) (items : List Seen) (rs : List Role) (done : List Plan) (us : List LduValue) (place : UnitNumber) (r : Request) → IsNext p items rs done us place r → place_of p.codes rs r.group place ≡ place
+pub next_place : (p : Contents) (items : List Seen) (rs : List Role) (done : List Plan) (us : List LduValue) (place : UnitNumber) (r : Request) → IsNext p items rs done us place r → place_at_group p.codes rs r.group place ≡ place
 next_place p items rs done us place r h = ap (place_from p.codes place) h.start ∙ same_place p.codes place
 
 next_plan : (p : Contents) (items : List Seen) (rs : List Role) (done : List Plan) (us : List LduValue) (place : UnitNumber) (r : Request) (plan : Plan) (h : IsNext p items rs done us place r) → plan.give_ups ≡ give_ups_from place (group_start rs r.group) → plan.unit ≡ h.unit → plan ≡ plain h.unit
@@ -178,7 +178,7 @@ next_plan p items rs done us place r plan h gives same = ap (λ (n : ℕ). plann
 
 next_number_is : (p : Contents) (items : List Seen) (rs : List Role) (done : List Plan) (us : List LduValue) (place : UnitNumber) (r : Request) (u : LduValue) (h : IsNext p items rs done us place r) → u ≡ h.unit → place_past p.codes rs r.group place u ≡ number_after p.codes place h.unit
 next_number_is p items rs done us place r u h same =
-    ap (place_behind p.codes (place_of p.codes rs r.group place) u) h.settled
+    ap (place_behind p.codes (place_at_group p.codes rs r.group place) u) h.settled
     ∙ ap (λ (n : UnitNumber). number_after p.codes n u) (next_place p items rs done us place r h)
     ∙ ap (number_after p.codes place) same
 
@@ -187,7 +187,7 @@ units_push p [] plan h k = (k, tt)
 units_push p (v ∷ plans) plan h k = (h.0, units_push p plans plan h.1 k)
 
 -- the plan that is found is the next one, and the walk goes on behind its group
-pub finds_next : (p : Contents) (items : List Seen) (rs : List Role) (first : ℕ) (done new : List Plan) (place next : UnitNumber) (at wants : ℕ) (g : Group) (plan : Plan) → g.from ≡ at → g.to ≡ at + group_length (drop at rs) → wanted (sight_at p.codes (slice_get items at)) ≡ Some wants → plan.give_ups ≡ give_ups_from place (group_start rs g) → IsMatchedUnit (heard p items) (asked g wants) (place_of p.codes rs g place) plan.unit → new ≡ done ++ plan ∷ [] → next ≡ place_past p.codes rs g place plan.unit → ((u : LduValue) → HasCrossed (heard p items) (asked g wants) (place_of p.codes rs g place) u → plan.unit ≡ u) → ((us : List LduValue) → HaveCrossed (heard p items) first us → IsNext p items rs done us place (asked g wants)) → Finds p items rs first done place at → Finds p items rs first new next g.to
+pub finds_next : (p : Contents) (items : List Seen) (rs : List Role) (first : ℕ) (done new : List Plan) (place next : UnitNumber) (at wants : ℕ) (g : Group) (plan : Plan) → g.from ≡ at → g.to ≡ at + group_length (drop at rs) → wanted (sight_at p.codes (slice_get items at)) ≡ Some wants → plan.give_ups ≡ give_ups_from place (group_start rs g) → IsMatchedUnit (heard p items) (asked g wants) (place_at_group p.codes rs g place) plan.unit → new ≡ done ++ plan ∷ [] → next ≡ place_past p.codes rs g place plan.unit → ((u : LduValue) → HasCrossed (heard p items) (asked g wants) (place_at_group p.codes rs g place) u → plan.unit ≡ u) → ((us : List LduValue) → HaveCrossed (heard p items) first us → IsNext p items rs done us place (asked g wants)) → Finds p items rs first done place at → Finds p items rs first new next g.to
 finds_next p items rs first done new place next at wants g plan from to asks gives unit_is pushed number found group h = record {
   units = subst (ArePlans p) (sym pushed) (units_push p done plan h.units unit_is.gives.unit);
   groups = searched_group p items rs _ place next done new at wants g plan from to asks gives unit_is pushed number h.groups;
@@ -220,6 +220,6 @@ pub finds_groups : (p : Contents) (items : List Seen) (rs : List Role) (first : 
 finds_groups p items rs first done place at l h = searched_all p items rs _ place done at l h.groups
 
 -- or a group is doubted
-pub finds_doubt : (p : Contents) (items : List Seen) (rs : List Role) (first : ℕ) (done : List Plan) (place : UnitNumber) (at wants : ℕ) (g : Group) (stop : Stop) → g.from ≡ at → g.to ≡ at + group_length (drop at rs) → wanted (sight_at p.codes (slice_get items at)) ≡ Some wants → IsStopIn (heard p items) (asked g wants) (place_of p.codes rs g place) stop → Finds p items rs first done place at → IsStopFrom (heard p items) rs first stop
+pub finds_doubt : (p : Contents) (items : List Seen) (rs : List Role) (first : ℕ) (done : List Plan) (place : UnitNumber) (at wants : ℕ) (g : Group) (stop : Stop) → g.from ≡ at → g.to ≡ at + group_length (drop at rs) → wanted (sight_at p.codes (slice_get items at)) ≡ Some wants → IsStopIn (heard p items) (asked g wants) (place_at_group p.codes rs g place) stop → Finds p items rs first done place at → IsStopFrom (heard p items) rs first stop
 finds_doubt p items rs first done place at wants g (Unexplained i doubt) from to asks is h = record { plans = done; are = searched_doubt p items rs _ place done at wants i doubt g from to asks is h.groups }
 finds_doubt p items rs first done place at wants g OutOfMemory from to asks is h = tt

@@ -40,8 +40,8 @@ use Rattle.a429_explain.specs.declared.attempts.Role.TheVariants.{Request}
 use Rattle.a429_explain.specs.declared.groups.Grouping.{Grouping}
 use Rattle.a429_explain.specs.declared.plan.Plan.{Plan}
 use Rattle.a429_explain.specs.declared.scribe.Scribe.{Scribe}
-use Rattle.a429_explain.specs.Groups.{goes_on}
-use Rattle.a429_explain.specs.Scribe.{IsLossless, lossless_steps, lines_text, in_version, HasWritten, with_next, WritesNext, link_after, CanMake, CanBegin, given_up, begin_steps, sent, IsAtRest, IsClosing, Closes, ClosesOn, HasAsked}
+use Rattle.a429_explain.specs.Groups.{stays_within}
+use Rattle.a429_explain.specs.Scribe.{IsLossless, lossless_steps, lines_text, in_version, HasWritten, with_next, WritesNext, link_after, CanMake, CanBegin, giving_up, begin_steps, sent, IsAtRest, IsClosing, Closes, ClosesOn, HasAsked}
 
 -- ---- the lines of a text
 
@@ -227,12 +227,12 @@ load_written (Ok z) s t m u v eu is can made same gives w h =
 
 -- ---- files given up
 
-idle_first : (p : Contents) (n : ℕ) (u : LduValue) (s : State) → IsRun p (given_up n ++ step.Load u ∷ []) s → IsIdle s.source.phase
+idle_first : (p : Contents) (n : ℕ) (u : LduValue) (s : State) → IsRun p (giving_up n ++ step.Load u ∷ []) s → IsIdle s.source.phase
 idle_first p zero u s h = h.0.0
 idle_first p (suc n) u s h = h.0.0
 
 -- the sink knows nothing of them
-sink_stays : (p : Contents) (n : ℕ) (u : LduValue) (s : State) → (end_of p (given_up n ++ step.Load u ∷ []) s).sink ≡ s.sink
+sink_stays : (p : Contents) (n : ℕ) (u : LduValue) (s : State) → (end_of p (giving_up n ++ step.Load u ∷ []) s).sink ≡ s.sink
 sink_stays p zero u s = refl
 sink_stays p (suc n) u s = sink_stays p n u (after p step.GiveUp s)
 
@@ -241,17 +241,17 @@ end_both p [] ys s = refl
 end_both p (x ∷ xs) ys s = end_both p xs ys (after p x s)
 
 -- the first plan can be carried out where its steps can be made
-pub plan_can : (goes : Bool) (plans left : List Plan) (plan : Plan) (l : LinkValue) → goes ≡ false → plans ≡ plan ∷ left → CanBegin goes plans l → CanMake (given_up plan.give_ups) l × Can l.profile (step.Load plan.unit) (link_after (given_up plan.give_ups) l).state
+pub plan_can : (goes : Bool) (plans left : List Plan) (plan : Plan) (l : LinkValue) → goes ≡ false → plans ≡ plan ∷ left → CanBegin goes plans l → CanMake (giving_up plan.give_ups) l × Can l.profile (step.Load plan.unit) (link_after (giving_up plan.give_ups) l).state
 plan_can true plans left plan l e first can = absurd (cc e)
 plan_can false plans left plan l e first can =
-    let parts = run_split l.profile (given_up plan.give_ups) (step.Load plan.unit ∷ []) l.state (subst (λ (ps : List Plan). CanBegin false ps l) first can) in
+    let parts = run_split l.profile (giving_up plan.give_ups) (step.Load plan.unit ∷ []) l.state (subst (λ (ps : List Plan). CanBegin false ps l) first can) in
     (parts.0, parts.1.0)
 
 -- they are its steps
-pub plan_made : (goes : Bool) (plans left : List Plan) (plan : Plan) (l : LinkValue) → goes ≡ false → plans ≡ plan ∷ left → link_after (step.Load plan.unit ∷ []) (link_after (given_up plan.give_ups) l) ≡ link_after (begin_steps goes plans) l
+pub plan_made : (goes : Bool) (plans left : List Plan) (plan : Plan) (l : LinkValue) → goes ≡ false → plans ≡ plan ∷ left → link_after (step.Load plan.unit ∷ []) (link_after (giving_up plan.give_ups) l) ≡ link_after (begin_steps goes plans) l
 plan_made true plans left plan l e first = absurd (cc e)
 plan_made false plans left plan l e first =
-    ap (λ (s : State). record l { state = s }) (sym (end_both l.profile (given_up plan.give_ups) (step.Load plan.unit ∷ []) l.state))
+    ap (λ (s : State). record l { state = s }) (sym (end_both l.profile (giving_up plan.give_ups) (step.Load plan.unit ∷ []) l.state))
     ∙ ap (λ (ps : List Plan). link_after (begin_steps false ps) l) (sym first)
 
 -- ---- a request that nothing is lost before
@@ -262,8 +262,8 @@ pub record Asks (r : Role) (i : Seen) (goes : Bool) (plans : List Plan) (l : Lin
   pub sends : CanMake (sent i) (link_after (begin_steps goes plans) l)
   pub leads : link_after (lossless_steps r i plans) l ≡ link_after (sent i) (link_after (begin_steps goes plans) l)
 
-pub asks_parts : (r : Role) (n : ℕ) (start : Option UnitNumber) (i : Seen) (g : Grouping) (goes : Bool) (plans : List Plan) (l : LinkValue) → r ≡ Request n start → goes ≡ goes_on g r → IsLossless r g plans → CanMake (lossless_steps r i plans) l → Asks r i goes plans l
-asks_parts r n start i g goes plans l e eg h run = subst (λ q. Asks q i goes plans l) (sym e) (subst (λ (t : Bool). Asks (Request n start) i t plans l) (sym (eg ∙ ap (goes_on g) e ∙ fresh.0)) (by plans fresh.1 (subst (λ q. CanMake (lossless_steps q i plans) l) e run)))
+pub asks_parts : (r : Role) (n : ℕ) (start : Option UnitNumber) (i : Seen) (g : Grouping) (goes : Bool) (plans : List Plan) (l : LinkValue) → r ≡ Request n start → goes ≡ stays_within g r → IsLossless r g plans → CanMake (lossless_steps r i plans) l → Asks r i goes plans l
+asks_parts r n start i g goes plans l e eg h run = subst (λ q. Asks q i goes plans l) (sym e) (subst (λ (t : Bool). Asks (Request n start) i t plans l) (sym (eg ∙ ap (stays_within g) e ∙ fresh.0)) (by plans fresh.1 (subst (λ q. CanMake (lossless_steps q i plans) l) e run)))
   where
     fresh : IsLossless (Request n start) g plans
     fresh = subst (λ q. IsLossless q g plans) e h
@@ -297,11 +297,11 @@ closes_on (Ok x) l m a made h = λ k c. record {
   leads = made ∙ ap (link_after (a ∷ [])) c.leads ∙ ap (λ (s : State). record k { state = s }) (sym (end_both k.profile c.steps (a ∷ []) k.state));
 }
 
-pub has_asked : {X E : Type 0} (r : Result X E) (role : Role) (n : ℕ) (start : Option UnitNumber) (i : Seen) (g : Grouping) (goes : Bool) (plans : List Plan) (l closed begun m : LinkValue) → role ≡ Request n start → goes ≡ goes_on g role → Closes l closed → begun ≡ link_after (begin_steps goes plans) closed → OnOk r (m ≡ link_after (sent i) begun) → OnOk r (HasAsked role i g plans l m)
+pub has_asked : {X E : Type 0} (r : Result X E) (role : Role) (n : ℕ) (start : Option UnitNumber) (i : Seen) (g : Grouping) (goes : Bool) (plans : List Plan) (l closed begun m : LinkValue) → role ≡ Request n start → goes ≡ stays_within g role → Closes l closed → begun ≡ link_after (begin_steps goes plans) closed → OnOk r (m ≡ link_after (sent i) begun) → OnOk r (HasAsked role i g plans l m)
 has_asked (Err e) role n start i g goes plans l closed begun m is eg closes b h = tt
 has_asked (Ok x) role n start i g goes plans l closed begun m is eg closes b h =
-    let begin = begin_steps (goes_on g (Request n start)) plans in
-    let same : goes ≡ goes_on g (Request n start) = eg ∙ ap (goes_on g) is in
+    let begin = begin_steps (stays_within g (Request n start)) plans in
+    let same : goes ≡ stays_within g (Request n start) = eg ∙ ap (stays_within g) is in
     subst (λ (q : Role). HasAsked q i g plans l m) (sym is) (
       closed,
       closes,

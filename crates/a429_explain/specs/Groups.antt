@@ -19,10 +19,10 @@ are_other (Some m) (Some n) = not (is_number m n)
 are_other _ _ = false
 
 -- a word belongs to the group that those before it have begun
-abbrev pub goes_on : Grouping → Role → Bool
-goes_on Between r = false
-goes_on (Within first) (Request n start) = not (are_other first start)
-goes_on (Within first) _ = true
+abbrev pub stays_within : Grouping → Role → Bool
+stays_within Between r = false
+stays_within (Within first) (Request n start) = not (are_other first start)
+stays_within (Within first) _ = true
 
 -- the numbers of the group's start words, where one was recorded
 abbrev pub start_in : Grouping → Option UnitNumber
@@ -38,7 +38,7 @@ with_role g _ = g
 -- how many of these words belong to a group that others have begun
 abbrev pub words_in : Grouping → List Role → ℕ
 words_in g [] = 0
-words_in g (r ∷ more) = if goes_on g r then suc (words_in (with_role g r) more) else 0
+words_in g (r ∷ more) = if stays_within g r then suc (words_in (with_role g r) more) else 0
 
 -- how many words a group has that begins with these
 abbrev pub group_length : List Role → ℕ
@@ -70,10 +70,10 @@ abbrev pub group_start : List Role → Group → Option UnitNumber
 group_start rs g = first_started (slice_range rs g.from g.to)
 
 -- the word is the acknowledgement that ends its group
-abbrev pub settles : Option Role → Bool
-settles (Some (Acknowledged ends)) = ends
-settles _ = false
+abbrev pub ends_its_group : Option Role → Bool
+ends_its_group (Some (Acknowledged ends)) = ends
+ends_its_group _ = false
 
 -- the group's last word is
 abbrev pub is_settled : List Role → Group → Bool
-is_settled rs g = settles (slice_get rs (g.to - 1))
+is_settled rs g = ends_its_group (slice_get rs (g.to - 1))

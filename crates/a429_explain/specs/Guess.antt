@@ -64,12 +64,12 @@ abbrev pub request_at : List Role → ℕ → ℕ → Request
 request_at rs from wants = record { group = group_from rs from; count = wants }
 
 -- the numbers of a group, where the source comes to it with those of `place`
-abbrev pub place_of : Codes → List Role → Group → UnitNumber → UnitNumber
-place_of c rs g place = place_from c place (group_start rs g)
+abbrev pub place_at_group : Codes → List Role → Group → UnitNumber → UnitNumber
+place_at_group c rs g place = place_from c place (group_start rs g)
 
 -- those with which it leaves the group, where this is its link data unit
 abbrev pub place_past : Codes → List Role → Group → UnitNumber → LduValue → UnitNumber
-place_past c rs g place u = place_behind c (place_of c rs g place) u (is_settled rs g)
+place_past c rs g place u = place_behind c (place_at_group c rs g place) u (is_settled rs g)
 
 -- the plan of the first group from place `at` on: the files that are given up before it, and its link data unit
 pub record IsNextPlan (p : Contents) (items : List Seen) (rs : List Role) (place : UnitNumber) (at : ℕ) (plan : Plan) : Type 0 where
@@ -77,7 +77,7 @@ pub record IsNextPlan (p : Contents) (items : List Seen) (rs : List Role) (place
   pub wants : ℕ
   pub first : IsFirstRequest p.codes items at from wants
   pub give_ups : plan.give_ups ≡ give_ups_from place (group_start rs (group_from rs from))
-  pub is : IsMatchedUnit (heard p items) (request_at rs from wants) (place_of p.codes rs (group_from rs from) place) plan.unit
+  pub is : IsMatchedUnit (heard p items) (request_at rs from wants) (place_at_group p.codes rs (group_from rs from) place) plan.unit
 
 -- the first groups from place `at` on, to the first of which the source comes with these numbers, have these plans; behind
 -- them this comes, at the numbers and the place that follow
@@ -102,7 +102,7 @@ pub record IsNextDoubt (p : Contents) (items : List Seen) (rs : List Role) (i : 
   pub from : ℕ
   pub wants : ℕ
   pub first : IsFirstRequest p.codes items at from wants
-  pub is : IsDoubtIn (heard p items) (request_at rs from wants) (place_of p.codes rs (group_from rs from) place) i doubt
+  pub is : IsDoubtIn (heard p items) (request_at rs from wants) (place_at_group p.codes rs (group_from rs from) place) i doubt
 
 -- the groups before it pass their tests, and this group does not
 pub record IsFirstDoubt (p : Contents) (items : List Seen) (rs : List Role) (place : UnitNumber) (i : ℕ) (doubt : Doubt) : Type 0 where

@@ -22,7 +22,7 @@ use Rattle.a429_explain.specs.declared.attempts.Role.TheVariants.{Free, Request,
 use Rattle.a429_explain.specs.declared.groups.Grouping.{Grouping}
 use Rattle.a429_explain.specs.declared.plan.Plan.{Plan}
 use Rattle.a429_explain.specs.declared.scribe.Scribe.{Scribe}
-use Rattle.a429_explain.specs.Groups.{goes_on}
+use Rattle.a429_explain.specs.Groups.{stays_within}
 
 -- ---- the text
 
@@ -86,13 +86,13 @@ IsAtRest l = IsIdle l.state.source.phase × Listens l.state.sink.phase
 
 -- ---- the first request of a group: the source gives up the files of the next plan, and is given its link data unit
 
-abbrev pub given_up : ℕ → List Step
-given_up files = replicate files step.GiveUp
+abbrev pub giving_up : ℕ → List Step
+giving_up files = replicate files step.GiveUp
 
 abbrev pub begin_steps : Bool → List Plan → List Step
 begin_steps true plans = []
 begin_steps false [] = []
-begin_steps false (plan ∷ plans) = given_up plan.give_ups ++ step.Load plan.unit ∷ []
+begin_steps false (plan ∷ plans) = giving_up plan.give_ups ++ step.Load plan.unit ∷ []
 
 -- they can be made, and there is a plan
 abbrev pub CanBegin : Bool → List Plan → LinkValue → Type 0
@@ -108,7 +108,7 @@ after_begin false plans = rest plans
 
 -- the plans that come next after it
 abbrev pub plans_left : Role → Grouping → List Plan → List Plan
-plans_left (Request n start) g plans = after_begin (goes_on g (Request n start)) plans
+plans_left (Request n start) g plans = after_begin (stays_within g (Request n start)) plans
 plans_left _ g plans = plans
 
 -- ---- the steps of a request, whatever is lost on the way
@@ -132,14 +132,14 @@ ClosesOn l m = (k : LinkValue) → Closes k l → Closes k m
 
 -- the attempt before a request is closed; where a group begins the next plan is carried out; and the request is sent
 abbrev pub HasAsked : Role → Seen → Grouping → List Plan → LinkValue → LinkValue → Type 0
-HasAsked (Request n start) i g plans l m = (closed : LinkValue) × Closes l closed × (m ≡ link_after (begin_steps (goes_on g (Request n start)) plans ++ sent i) closed)
+HasAsked (Request n start) i g plans l m = (closed : LinkValue) × Closes l closed × (m ≡ link_after (begin_steps (stays_within g (Request n start)) plans ++ sent i) closed)
 HasAsked _ i g plans l m = Unit {0}
 
 -- ---- where nothing is lost on the way
 
 -- the source takes each answer, and each request is the first one of its group
 abbrev pub IsLossless : Role → Grouping → List Plan → Type 0
-IsLossless (Request n start) g plans = (goes_on g (Request n start) ≡ false) × IsNonEmpty plans
+IsLossless (Request n start) g plans = (stays_within g (Request n start) ≡ false) × IsNonEmpty plans
 IsLossless (Clear used) g plans = used ≡ true
 IsLossless (Acknowledged ends) g plans = ends ≡ true
 IsLossless _ g plans = Unit {0}

@@ -1,7 +1,7 @@
 //! Where a group of attempts stands in a recording, and how many words its requests want.
 
 ghost use Rattle.std.specs.Prelude.{◌≡◌, ◌<◌, ◌≤◌, ◌+◌, Some, drop, length};
-ghost use Rattle.a429_explain.specs.Groups.{are_other, goes_on, start_in, with_role, group_length, start_of, group_start, settles, is_settled};
+ghost use Rattle.a429_explain.specs.Groups.{are_other, stays_within, start_in, with_role, group_length, start_of, group_start, ends_its_group, is_settled};
 ghost use Rattle.a429_explain.specs.Whole.{wanted};
 
 use crate::attempts::Role;
@@ -35,7 +35,7 @@ impl Grouping {
     /// A word belongs to the group that those before it have begun: it is no request of an attempt that
     /// records a start word of other numbers.
     pub(crate) fn goes_on(self, role: Role) -> bool
-        ensures { result ≡ goes_on self role }
+        ensures { result ≡ stays_within self role }
     {
         let Grouping::Within { start: first } = self else {
             return false;
@@ -134,7 +134,7 @@ pub(crate) fn is_settled(roles: &[Role], group: Group) -> bool
 
 // A word is the acknowledgement that ends its group.
 fn settles(role: Role) -> bool
-    ensures { result ≡ settles (Some role) }
+    ensures { result ≡ ends_its_group (Some role) }
 {
     matches!(role, Role::Acknowledged { ends_group: true })
 }

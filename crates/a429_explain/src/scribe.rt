@@ -8,7 +8,7 @@ ghost use Rattle.a429_link.specs.Source.{IsIdle};
 ghost use Rattle.a429_link.specs.Step.{Can, LoadsLdu, label};
 ghost use Rattle.a429_link.specs.State.{start};
 ghost use Rattle.a429_cert.specs.Line.{IsLine, IsHeld, spelling};
-ghost use Rattle.a429_explain.specs.Scribe.{in_version, Wrote, WritesNext, link_after, CanMake, OnlyLacksMemory, sent, answered, IsAtRest, given_up, begin_steps, CanBegin, after_begin, plans_left, IsClosing, ClosesOn, HasAsked, MakesLossless};
+ghost use Rattle.a429_explain.specs.Scribe.{in_version, Wrote, WritesNext, link_after, CanMake, OnlyLacksMemory, sent, answered, IsAtRest, giving_up, begin_steps, CanBegin, after_begin, plans_left, IsClosing, ClosesOn, HasAsked, MakesLossless};
 ghost use Rattle.a429_cert.specs.Act.{letter_of};
 ghost use Rattle.a429_cert.specs.Version.{is_give_up};
 ghost use Rattle.a429_explain.specs.Plan.{ArePlans};
@@ -282,8 +282,8 @@ impl<'a> Scribe<'a> {
         ensures profile { self.new.link.profile ≡ self.old.link.profile }
         ensures grouping { self.new.grouping ≡ self.old.grouping }
         ensures written { OnOk result (WritesNext None self.old self.new) }
-        ensures lossless { CanMake (given_up files) self.old.link → OnlyLacksMemory result }
-        ensures reached { OnOk result (self.new.link ≡ link_after (given_up files) self.old.link) }
+        ensures lossless { CanMake (giving_up files) self.old.link → OnlyLacksMemory result }
+        ensures reached { OnOk result (self.new.link ≡ link_after (giving_up files) self.old.link) }
     {
         let mut left = files;
         while left > 0 {

@@ -9,7 +9,7 @@ use Rattle.std.specs.Int.{byte_at, bytes_high_first}
 use Rattle.byteorder.specs.Endian.{big_from}
 use Rattle.byteorder.specs.Numbers.{big_from-cons, big_from-bytes}
 use Rattle.a429_record.specs.declared.entry.Entry.{Entry}
-use Rattle.a429_record.specs.Binary.{magic, is_binary, big_endian, big_endian_bytes, entry_bytes, pieces, pieces_of, piece_entry, piece_entries}
+use Rattle.a429_record.specs.Binary.{magic, is_binary, big_endian, big_endian_bytes, entry_bytes, pieces_within, pieces_of, piece_entry, piece_entries}
 
 -- ---- the eight bytes
 
@@ -43,7 +43,7 @@ still_binary xs ys h =
 -- ---- pieces
 
 -- room for more pieces changes nothing
-pieces-room : (n m : ℕ) (xs : List ℕ) → length xs ≤ n → length xs ≤ m → pieces n xs ≡ pieces m xs
+pieces-room : (n m : ℕ) (xs : List ℕ) → length xs ≤ n → length xs ≤ m → pieces_within n xs ≡ pieces_within m xs
 pieces-room zero zero [] p q = refl
 pieces-room zero (suc m) [] p q = refl
 pieces-room (suc n) zero [] p q = refl

@@ -8,7 +8,7 @@ use Rattle.a429_record.specs.declared.fault.ReadFault.TheVariants as fault
 use Rattle.a429_record.specs.Row.{Row, is_header, entry_in}
 use Rattle.a429_record.specs.Binary.{is_binary, piece_entries}
 use Rattle.a429_record.specs.Recording.{Recording, most_entries, row_stands_for, entries_stand_for, all_rows_stand_for, stands_for, rows_of, whole, stops, NeverFalls}
-use Rattle.a429_record.specs.FaultyRecordings.{stops_after, EndsAbove, IsRefused, IsRefusedAmong, IsRefusedBehind, HasNoHeader, IsFaultyText, IsFaultyBinary}
+use Rattle.a429_record.specs.FaultyRecordings.{stops_after, EndsAbove, IsRefusedRow, IsRefusedAmong, IsRefusedBehind, HasNoHeader, IsFaultyText, IsFaultyBinary}
 use Rattle.a429_record.proofs.BinaryFacts.{magic-split}
 use Rattle.a429_record.proofs.RecordingTimes.{last_time, last_time-push}
 use Rattle.a429_record.proofs.WholeRecordings.{text-stands, binary-stands}
@@ -49,7 +49,7 @@ entries-after n last rest (x ∷ es) f few up h =
     let after = entries-after (n + 1) x.time rest es f (omega arith) up.1 (subst (λ (k : ℕ). entries_stand_for k (last_time x.time es) rest ≡ stops f) count h) in
     rw (room, kept, after) refl
 
-refuses : (es : List Entry) (row : Option Entry) (f : ReadFault) → IsRefused es row f → Refuses (0 + length es) (last_time 0 es) row f
+refuses : (es : List Entry) (row : Option Entry) (f : ReadFault) → IsRefusedRow es row f → Refuses (0 + length es) (last_time 0 es) row f
 refuses es row fault.Header h = absurd h
 refuses es row fault.Device h = absurd h
 refuses es row fault.OutOfMemory h = absurd h
@@ -186,7 +186,7 @@ ends_above : (t : ℕ) (es : List Entry) → t < last_time 0 es → EndsAbove t 
 ends_above t [] h = absurd (omega arith)
 ends_above t (x ∷ es) h = let l = last_of x es in (l.earlier, l.last, l.all, rw l.time at h)
 
-refused : (es : List Entry) (row : Option Entry) (f : ReadFault) → Refuses (0 + length es) (last_time 0 es) row f → IsRefused es row f
+refused : (es : List Entry) (row : Option Entry) (f : ReadFault) → Refuses (0 + length es) (last_time 0 es) row f → IsRefusedRow es row f
 refused es row fault.Header h = absurd h
 refused es row fault.Device h = absurd h
 refused es row fault.OutOfMemory h = absurd h

@@ -16,8 +16,8 @@ use Rattle.a429_record.specs.Recording.{Recording, rows_of, entries_stand_for, a
 use Rattle.a429_record.specs.WholeRecordings.{AreBinary}
 use Rattle.a429_record.specs.Handed.{AreSound, Loses, HasNoFault, HasNoTextFault, HasNoRow, IsCut, IsCutAfter, IsCutBinary, AreLines, AreGiven, ArePieceOf}
 use Rattle.a429_record.specs.Lines.{Chooses, IsMagicFront}
-use Rattle.a429_record.specs.Rows.{GivesNext, IfEntry, form_of}
-use Rattle.a429_record.specs.Reading.{AreFirstHanded, AreNextHanded, AreHandedAt, PassesNext, PassesAt, IsChosen, IsFormAfter}
+use Rattle.a429_record.specs.Rows.{GivesNext, IfEntry, chosen_form}
+use Rattle.a429_record.specs.Reading.{AreFirstHanded, AreNextHanded, AreHandedAt, MakesNoFault, PassesAt, IsChosen, IsFormAfter}
 use Rattle.a429_record.proofs.BinaryFacts.{short_text, still_binary, piece_alone, piece_behind}
 use Rattle.a429_record.proofs.Handed.{nothing_lost, lost_both, lost_so, open_no_row, given_next, failed_next}
 
@@ -184,13 +184,13 @@ cut_binary es count t u rest h size given cut =
     let binary : is_binary (t ++ u) ≡ true = rw given.all refl in
     (λ _. sound, λ text. absurd (cc (sym binary ∙ text)))
 
-failed_in : (f : Form) (es : List Entry) (count : ℕ) (a b c : Option (List ℕ)) → IsRecordable es → length es ≡ count → IsChosen a f → Loses (AreGivenIn f es) a b → Loses (PassesNext f count) b c
+failed_in : (f : Form) (es : List Entry) (count : ℕ) (a b c : Option (List ℕ)) → IsRecordable es → length es ≡ count → IsChosen a f → Loses (AreGivenIn f es) a b → Loses (MakesNoFault f count) b c
     → Loses HasNoFault a c
 failed_in form.Text es count None b c h size chosen p q = tt
 failed_in form.Text es count (Some xs) b c h size chosen p q =
     failed_text (Some xs) (Some xs) c (refl, text_of xs chosen) (failed_next es (Some xs) b c h p q)
   where
-    text_of : (xs : List ℕ) → form.Text ≡ form_of xs → is_binary xs ≡ false
+    text_of : (xs : List ℕ) → form.Text ≡ chosen_form xs → is_binary xs ≡ false
     text_of xs chosen = elim (cases_Bool (is_binary xs)) [
       | inr text ↦ text
       | inl binary ↦ cc (rw binary at chosen)

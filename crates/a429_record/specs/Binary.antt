@@ -27,13 +27,13 @@ abbrev pub entry_bytes : ℕ
 entry_bytes = 13
 
 -- bytes cut into pieces of 13, of which the last may have fewer; there are at most so many pieces
-abbrev pub pieces : ℕ → List ℕ → List (List ℕ)
-pieces zero bytes = []
-pieces (suc most) [] = []
-pieces (suc most) (b ∷ bs) = take entry_bytes (b ∷ bs) ∷ pieces most (drop entry_bytes (b ∷ bs))
+abbrev pub pieces_within : ℕ → List ℕ → List (List ℕ)
+pieces_within zero bytes = []
+pieces_within (suc most) [] = []
+pieces_within (suc most) (b ∷ bs) = take entry_bytes (b ∷ bs) ∷ pieces_within most (drop entry_bytes (b ∷ bs))
 
 abbrev pub pieces_of : List ℕ → List (List ℕ)
-pieces_of bytes = pieces (length bytes) bytes
+pieces_of bytes = pieces_within (length bytes) bytes
 
 -- the entry of a piece: eight bytes of its time, one of its bus, which is its letter, and four of its word
 abbrev pub piece_entry : List ℕ → Option Entry

@@ -22,20 +22,20 @@ abbrev pub EndsAbove : ℕ → List Entry → Type 0
 EndsAbove t es = (earlier : List Entry) × (last : Entry) × (es ≡ earlier ++ (last ∷ [])) × (t < last.time)
 
 -- behind these entries a row makes a fault: one row too many, no entry, or an entry whose time is below the one before
-abbrev pub IsRefused : List Entry → Option Entry → ReadFault → Type 0
-IsRefused es entry fault.TooMany = length es ≡ most_entries
-IsRefused es entry (fault.Row i) = (i ≡ length es) × (i < most_entries) × (entry ≡ None)
-IsRefused es entry (fault.TimeBack i) = (i ≡ length es) × (i < most_entries) × ((e : Entry) × (entry ≡ Some e) × EndsAbove e.time es)
-IsRefused es entry fault.Header = ⊥
-IsRefused es entry fault.Device = ⊥
-IsRefused es entry fault.OutOfMemory = ⊥
-IsRefused es entry fault.Failed = ⊥
+abbrev pub IsRefusedRow : List Entry → Option Entry → ReadFault → Type 0
+IsRefusedRow es entry fault.TooMany = length es ≡ most_entries
+IsRefusedRow es entry (fault.Row i) = (i ≡ length es) × (i < most_entries) × (entry ≡ None)
+IsRefusedRow es entry (fault.TimeBack i) = (i ≡ length es) × (i < most_entries) × ((e : Entry) × (entry ≡ Some e) × EndsAbove e.time es)
+IsRefusedRow es entry fault.Header = ⊥
+IsRefusedRow es entry fault.Device = ⊥
+IsRefusedRow es entry fault.OutOfMemory = ⊥
+IsRefusedRow es entry fault.Failed = ⊥
 
 -- behind these entries a row makes this fault
 pub record IsRefusedAmong (rows : List (Option Entry)) (es : List Entry) (f : ReadFault) : Type 0 where
   pub entry : Option Entry
   pub comes : ComesAfter es entry rows
-  pub refused : IsRefused es entry f
+  pub refused : IsRefusedRow es entry f
 
 -- there is no first row, or it is not the header
 abbrev pub HasNoHeader : List Row → Type 0

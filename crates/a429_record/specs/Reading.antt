@@ -14,7 +14,7 @@ use Rattle.a429_record.specs.Recording.{Recording, whole, stops}
 use Rattle.a429_record.specs.WholeRecordings.{AreBinary}
 use Rattle.a429_record.specs.Handed.{HasNoFault, HasNoRow, IsCutAfter, AreLines, AreGiven, AreEntryOf, ArePieceOf}
 use Rattle.a429_record.specs.Lines.{pending_of, HandsOut, FailsAfter}
-use Rattle.a429_record.specs.Rows.{all_left, recording_left, form_of, GivesNext}
+use Rattle.a429_record.specs.Rows.{all_left, recording_left, chosen_form, GivesNext}
 
 -- what is still to come, where the bytes are known: entries, and the fault that comes after them, if one does
 abbrev pub still_to_come : {R : Type 0} → (R → Option (List ℕ)) → Stage → RowReader → Tally R → Option Recording
@@ -42,24 +42,24 @@ AreHandedAt stage.Failed f e taken rest = ⊥
 
 -- what is handed out makes no fault after so many entries, in this form: the lines of a text that have their line feed are no row, and of a
 -- binary recording it is a front of an entry at most
-abbrev pub PassesNext : Form → ℕ → List ℕ → List ℕ → Type 0
-PassesNext form.Text count taken rest = HasNoRow taken rest
-PassesNext form.Binary count taken rest = IsCutAfter count taken rest
+abbrev pub MakesNoFault : Form → ℕ → List ℕ → List ℕ → Type 0
+MakesNoFault form.Text count taken rest = HasNoRow taken rest
+MakesNoFault form.Binary count taken rest = IsCutAfter count taken rest
 
 -- a reader of rows fails before the next: what it has given until then is so
 abbrev pub FailsNext : {R : Type 0} → (R → Option (List ℕ)) → RowReader → Tally R → Tally R → Type 0
-FailsNext remaining old rec new_rec = FailsAfter (PassesNext old.form old.count) remaining old.lines rec new_rec
+FailsNext remaining old rec new_rec = FailsAfter (MakesNoFault old.form old.count) remaining old.lines rec new_rec
 
 -- by where a reading stands: before all entries in whatever form
 abbrev pub PassesAt : Stage → Form → ℕ → List ℕ → List ℕ → Type 0
 PassesAt stage.Begins f count taken rest = HasNoFault taken rest
-PassesAt stage.Rows f count taken rest = PassesNext f count taken rest
+PassesAt stage.Rows f count taken rest = MakesNoFault f count taken rest
 PassesAt stage.Ended f count taken rest = ⊥
 PassesAt stage.Failed f count taken rest = ⊥
 
 -- known bytes choose this form
 abbrev pub IsChosen : Option (List ℕ) → Form → Type 0
-IsChosen bytes f = IfSome bytes (λ known. f ≡ form_of known)
+IsChosen bytes f = IfSome bytes (λ known. f ≡ chosen_form known)
 
 -- the form is the one that the bytes choose, and then it stays
 abbrev pub IsFormAfter : Stage → Form → Option (List ℕ) → Form → Type 0

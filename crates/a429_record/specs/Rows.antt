@@ -49,8 +49,8 @@ abbrev pub all_left : {R : Type 0} → (R → Option (List ℕ)) → RowReader �
 all_left remaining s rec = option_map stands_for (pending_of remaining s.lines rec)
 
 -- the form that bytes choose
-abbrev pub form_of : List ℕ → Form
-form_of bytes = if is_binary bytes then form.Binary else form.Text
+abbrev pub chosen_form : List ℕ → Form
+chosen_form bytes = if is_binary bytes then form.Binary else form.Text
 
 -- a fault is all that is left, where it is no fault of the device or for want of memory
 abbrev pub Stops : ReadFault → Recording → Type 0

@@ -7,11 +7,11 @@ use Rattle.a429_record.specs.declared.stage.Stage.{Stage}
 use Rattle.a429_record.specs.declared.stage.Stage.TheVariants as stage
 
 -- neither the end nor a fault was answered
-abbrev pub goes_on : Stage → Bool
-goes_on stage.Begins = true
-goes_on stage.Rows = true
-goes_on stage.Ended = false
-goes_on stage.Failed = false
+abbrev pub may_go_on : Stage → Bool
+may_go_on stage.Begins = true
+may_go_on stage.Rows = true
+may_go_on stage.Ended = false
+may_go_on stage.Failed = false
 
 -- where a reading stands after an answer
 abbrev pub stage_after : Result (Option Entry) ReadFault → Stage

@@ -43,7 +43,7 @@ impl<R: Read> EntryReader<R> {
     ghost use Rattle.a429_record.specs.Recording.{stands_for};
     ghost use Rattle.a429_record.specs.Handed.{Loses};
     ghost use Rattle.a429_record.specs.Reading.{AreHandedAt, IsFormAfter};
-    ghost use Rattle.a429_record.specs.Stage.{goes_on, stage_after, AnswersAt};
+    ghost use Rattle.a429_record.specs.Stage.{may_go_on, stage_after, AnswersAt};
     ghost use Rattle.a429_record.specs.Rows.{GivesNext, IfEntry};
     ghost use Rattle.a429_record.specs.Entries.{ComesNext, PassesFrom};
     ghost use Rattle.a429_record.specs.declared.fault.ReadFault.TheVariants as fault;
@@ -77,8 +77,8 @@ impl<R: Read> EntryReader<R> {
         ensures lines { IfEntry result (λ e. Loses (AreHandedAt self.old.stage self.new.form e) self.old.bytes self.new.bytes) }
         ensures before { IsErrOf result fault.Device → Loses (PassesFrom self.old) self.old.bytes self.new.unread }
         ensures room { IfEntry result (λ _. self.new.room < self.old.room) }
-        ensures device { IsErrOf result fault.Device ↔ (goes_on self.old.stage ≡ true) × (self.new.failed ≡ true) }
-        ensures stays { goes_on self.old.stage ≡ false → self.new ≡ self.old }
+        ensures device { IsErrOf result fault.Device ↔ (may_go_on self.old.stage ≡ true) × (self.new.failed ≡ true) }
+        ensures stays { may_go_on self.old.stage ≡ false → self.new ≡ self.old }
     {
         self.reading.next(&mut self.rec)
     }

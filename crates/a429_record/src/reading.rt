@@ -24,7 +24,7 @@ pub struct Reading {
 impl Reading {
     ghost use Rattle.a429_record.specs.Lines.{room_of};
     ghost use Rattle.a429_record.specs.Rows.{IfEntry, Follows};
-    ghost use Rattle.a429_record.specs.Stage.{goes_on, stage_after, AnswersAt};
+    ghost use Rattle.a429_record.specs.Stage.{may_go_on, stage_after, AnswersAt};
     ghost use Rattle.a429_record.specs.Reading.{AnswersNext, HandsEntry, FailsBehind, KeepsForm};
     ghost use Rattle.a429_record.specs.declared.fault.ReadFault.TheVariants as fault;
 
@@ -52,8 +52,8 @@ impl Reading {
         ensures before { IsErrOf result fault.Device → FailsBehind R.remaining self.old rec.old rec.new }
         ensures follows { IfEntry result (λ e. Follows self.old.rows self.new.rows e) }
         ensures room { IfEntry result (λ _. room_of self.new.rows.lines rec.new < room_of self.old.rows.lines rec.old) }
-        ensures device { IsErrOf result fault.Device ↔ (goes_on self.old.stage ≡ true) × (has_failed rec.new ≡ true) }
-        ensures stays { goes_on self.old.stage ≡ false → (self.new ≡ self.old) × (rec.new ≡ rec.old) }
+        ensures device { IsErrOf result fault.Device ↔ (may_go_on self.old.stage ≡ true) × (has_failed rec.new ≡ true) }
+        ensures stays { may_go_on self.old.stage ≡ false → (self.new ≡ self.old) × (rec.new ≡ rec.old) }
     {
         match self.stage {
             Stage::Begins => {

@@ -8,7 +8,7 @@ use Rattle.a429_view.specs.declared.mark.Mark.{Mark}
 use Rattle.a429_view.specs.declared.mark.Span.{Span}
 use Rattle.a429_view.specs.declared.sketch.Place.{Place}
 use Rattle.a429_view.specs.declared.sketch.Sketch.{Sketch}
-use Rattle.a429_view.specs.Mark.{past, marks, shown, counted, steps_within, at_first}
+use Rattle.a429_view.specs.Mark.{past, marks, shown, step_within, steps_within, before_all}
 use Rattle.a429_view.specs.Sketch.{most_steps, Hears, IsBlank, IsOf}
 
 -- what it gains of steps that are told
@@ -67,9 +67,9 @@ all : (p : Contents) (ts : List Told) (old new : Sketch) → FoldsTo (Hears p) o
 all p [] old new h = subst (λ s. Gains p old [] s) h (none p old)
 all p (t ∷ ts) old new h = one_more p old t h.0 ts new h.1 (all p ts h.0 new h.2)
 
-of_its_span : (p : Contents) (ts : List Told) (old new : Sketch) → old.at ≡ at_first → old.steps ≡ 0 → old.rows.items ≡ [] → Gains p old ts new → IsOf p.codes old.span ts new
+of_its_span : (p : Contents) (ts : List Told) (old new : Sketch) → old.at ≡ before_all → old.steps ≡ 0 → old.rows.items ≡ [] → Gains p old ts new → IsOf p.codes old.span ts new
 of_its_span p ts old new at none_before blank g =
-    let at_start : steps_within p.codes old.span old.at ts ≡ steps_within p.codes old.span at_first ts = ap (λ a. steps_within p.codes old.span a ts) at in
+    let at_start : steps_within p.codes old.span old.at ts ≡ steps_within p.codes old.span before_all ts = ap (λ a. steps_within p.codes old.span a ts) at in
     record {
       few = λ e. (
         g.rows e ∙ ap (λ (m : List Mark). m ++ marks p.codes old.span old.at ts) blank ∙ ap (λ a. marks p.codes old.span a ts) at,

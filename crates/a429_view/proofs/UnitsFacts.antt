@@ -11,10 +11,10 @@ use Rattle.a429_profile.specs.Profile.{Contents}
 use Rattle.a429_ldu.specs.Ldu.{LduValue}
 use Rattle.a429_link.specs.declared.number.UnitNumber.{UnitNumber}
 use Rattle.a429_cert.specs.Told.{Told, Loads, Makes}
-use Rattle.a429_view.specs.declared.units.span.Mark.{Mark}
+use Rattle.a429_view.specs.declared.units.span.Moment.{Moment}
 use Rattle.a429_view.specs.declared.units.row.UnitRow.{UnitRow}
 use Rattle.a429_view.specs.declared.units.rows.UnitRows.{UnitRows}
-use Rattle.a429_view.specs.Units.{before_load, units_of, is_request, is_lost, is_unanswered, is_unheard, is_nak, is_time_out, is_ack, mark_of, row_of, row_text, header_text, units_text}
+use Rattle.a429_view.specs.Units.{before_load, loaded_units, is_request, is_lost, is_unanswered, is_unheard, is_nak, is_time_out, is_ack, moment_of, row_of, unit_line, columns_text, units_text}
 use Rattle.a429_view.specs.UnitSteps.{more, either, with_step, begun, line_before, HearsRows}
 
 -- ---- steps, one after the other
@@ -23,13 +23,13 @@ abbrev count_on : (Told → Bool) → List Told → ℕ → ℕ
 count_on p [] n = n
 count_on p (t ∷ steps) n = count_on p steps (more (p t) n)
 
-abbrev first_on : List Told → Option Mark → Option Mark
+abbrev first_on : List Told → Option Moment → Option Moment
 first_on [] o = o
-first_on (t ∷ steps) o = first_on steps (either o (mark_of t))
+first_on (t ∷ steps) o = first_on steps (either o (moment_of t))
 
-abbrev last_on : List Told → Option Mark → Option Mark
+abbrev last_on : List Told → Option Moment → Option Moment
 last_on [] o = o
-last_on (t ∷ steps) o = last_on steps (either (mark_of t) o)
+last_on (t ∷ steps) o = last_on steps (either (moment_of t) o)
 
 abbrev any_on : (Told → Bool) → List Told → Bool → Bool
 any_on p [] b = b
@@ -49,25 +49,25 @@ count_on-is : (p : Told → Bool) (steps : List Told) (n : ℕ) → count_on p s
 count_on-is p [] n = refl
 count_on-is p (t ∷ steps) n = count_on-is p steps (more (p t) n) ∙ ap (λ k. fold (λ a t. a + cond (p t) 1 0) k steps) (more-is (p t) n)
 
-first_some : (steps : List Told) (m : Mark) → first_on steps (Some m) ≡ Some m
+first_some : (steps : List Told) (m : Moment) → first_on steps (Some m) ≡ Some m
 first_some [] m = refl
 first_some (t ∷ steps) m = first_some steps m
 
-first_none : (steps : List Told) → first_on steps None ≡ slice_get (filter_map mark_of steps) 0
+first_none : (steps : List Told) → first_on steps None ≡ slice_get (filter_map moment_of steps) 0
 first_none [] = refl
-first_none (t ∷ steps) = by (mark_of t) (first_none steps)
+first_none (t ∷ steps) = by (moment_of t) (first_none steps)
   where
-    by : (o : Option Mark) → first_on steps None ≡ slice_get (filter_map mark_of steps) 0
-        → first_on steps (either None o) ≡ slice_get (cons_option o (filter_map mark_of steps)) 0
+    by : (o : Option Moment) → first_on steps None ≡ slice_get (filter_map moment_of steps) 0
+        → first_on steps (either None o) ≡ slice_get (cons_option o (filter_map moment_of steps)) 0
     by None h = h
     by (Some m) h = first_some steps m
 
-last_on-is : (steps : List Told) (o : Option Mark) → last_on steps o ≡ last_or o (filter_map mark_of steps)
+last_on-is : (steps : List Told) (o : Option Moment) → last_on steps o ≡ last_or o (filter_map moment_of steps)
 last_on-is [] o = refl
-last_on-is (t ∷ steps) o = by (mark_of t) (λ m. last_on-is steps m)
+last_on-is (t ∷ steps) o = by (moment_of t) (λ m. last_on-is steps m)
   where
-    by : (m : Option Mark) → ((n : Option Mark) → last_on steps n ≡ last_or n (filter_map mark_of steps))
-        → last_on steps (either m o) ≡ last_or o (cons_option m (filter_map mark_of steps))
+    by : (m : Option Moment) → ((n : Option Moment) → last_on steps n ≡ last_or n (filter_map moment_of steps))
+        → last_on steps (either m o) ≡ last_or o (cons_option m (filter_map moment_of steps))
     by None h = h o
     by (Some m) h = h (Some m)
 
@@ -126,16 +126,16 @@ kept c row (Loads number unit ∷ told) = kept c (Some (begun c number unit)) to
 kept c row (Makes act entry ∷ told) = kept c (option_map (with_step c (Makes act entry)) row) told
 
 abbrev rows_text : Codes → List Told → List ℕ
-rows_text c told = flat_map (λ u. row_text (row_of c u)) (units_of told)
+rows_text c told = flat_map (λ u. unit_line (row_of c u)) (loaded_units told)
 
 -- the line of the unit that was loaded last, and those of the units behind it
 abbrev all_text : Codes → Option UnitRow → List Told → List ℕ
-all_text c None told = header_text ++ rows_text c told
-all_text c (Some r) told = row_text (with_steps c (before_load told) r) ++ rows_text c told
+all_text c None told = columns_text ++ rows_text c told
+all_text c (Some r) told = unit_line (with_steps c (before_load told) r) ++ rows_text c told
 
 begun_text : (c : Codes) (number : UnitNumber) (unit : LduValue) (told : List Told)
     → all_text c (Some (begun c number unit)) told ≡ rows_text c (Loads number unit ∷ told)
-begun_text c number unit told = ap (λ r. row_text r ++ rows_text c told) (row-is c number unit (before_load told))
+begun_text c number unit told = ap (λ r. unit_line r ++ rows_text c told) (row-is c number unit (before_load told))
 
 loaded_text : (c : Codes) (row : Option UnitRow) (number : UnitNumber) (unit : LduValue) (told : List Told)
     → line_before row ++ rows_text c (Loads number unit ∷ told) ≡ all_text c row (Loads number unit ∷ told)
@@ -143,8 +143,8 @@ loaded_text c None number unit told = refl
 loaded_text c (Some r) number unit told = refl
 
 gone_all : (c : Codes) (row : Option UnitRow) (told : List Told) → gone c row told ++ line_before (kept c row told) ≡ all_text c row told
-gone_all c None [] = sym (append-nil header_text)
-gone_all c (Some r) [] = sym (append-nil (row_text r))
+gone_all c None [] = sym (append-nil columns_text)
+gone_all c (Some r) [] = sym (append-nil (unit_line r))
 gone_all c row (Loads number unit ∷ told) =
     append_assoc (line_before row) (gone c (Some (begun c number unit)) told) (line_before (kept c (Some (begun c number unit)) told))
     ∙ ap (λ (t : List ℕ). line_before row ++ t) (gone_all c (Some (begun c number unit)) told ∙ begun_text c number unit told)

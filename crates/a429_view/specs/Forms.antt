@@ -35,10 +35,10 @@ form_text c (Part semis) = codes "data " ++ map (digit_glyph true) semis
 form_text c (Eot flags check) = codes "eot flags " ++ decimal flags ++ codes " check " ++ numeral 16 4 check ++ final_text (is_final c flags)
 
 -- a word by the reason why it is free, else by its form, where it has one
-abbrev pub told : Codes → Option Freedom → Option Form → List ℕ
-told c (Some why) form = freedom_text why
-told c None (Some x) = form_text c x
-told c None None = codes "no form"
+abbrev pub reason_or_form_text : Codes → Option Freedom → Option Form → List ℕ
+reason_or_form_text c (Some why) form = freedom_text why
+reason_or_form_text c None (Some x) = form_text c x
+reason_or_form_text c None None = codes "no form"
 
 abbrev pub what_text : Codes → Bus → ℕ → List ℕ
-what_text c b w = told c (freedom_of c b w) (form_of c b w)
+what_text c b w = reason_or_form_text c (freedom_of c b w) (form_of c b w)

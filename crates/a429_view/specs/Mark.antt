@@ -2,8 +2,6 @@
 use Rattle.std.specs.Prelude.{◌≡◌, ◌+◌, ◌≤◌, ◌<◌, ◌&&◌, ℕ, nat_le, List, [], ◌∷◌, ◌++◌, if◌then◌else◌, Bool, true, false, Option, Some, None}
 use Rattle.a429_profile.specs.declared.codes.Codes.{Codes}
 use Rattle.a429_profile.specs.Profile.{Contents}
-use Rattle.a429_ldu.specs.declared.forms.Form.{Form}
-use Rattle.a429_ldu.specs.declared.forms.Form.TheVariants as form
 use Rattle.a429_ldu.specs.Form.{form_of}
 use Rattle.a429_ldu.specs.Ldu.{LduValue, is_final}
 use Rattle.a429_link.specs.declared.number.UnitNumber.{UnitNumber}
@@ -15,6 +13,7 @@ use Rattle.a429_view.specs.declared.mark.Span.{Span}
 use Rattle.a429_view.specs.declared.mark.Mark.{Mark}
 use Rattle.a429_view.specs.declared.mark.Mark.TheVariants as mark
 use Rattle.a429_view.specs.declared.sketch.Place.{Place}
+use Rattle.a429_view.specs.Units.{is_ack_form}
 
 -- ---- where the steps stand that were told
 
@@ -22,14 +21,9 @@ use Rattle.a429_view.specs.declared.sketch.Place.{Place}
 abbrev pub file_ended : Codes → UnitNumber → LduValue → Option ℕ
 file_ended c number unit = if is_final c unit.flags then Some number.file else None
 
--- an acknowledgement
-abbrev pub is_ack : Option Form → Bool
-is_ack (Some (form.Ack file ldu)) = true
-is_ack _ = false
-
 -- a step that records an acknowledgement: of the link data unit that was loaded last, since no other is given
 abbrev pub acknowledges : Codes → Act → Entry → Bool
-acknowledges c act.Answered e = is_ack (form_of c e.bus e.word)
+acknowledges c act.Answered e = is_ack_form (form_of c e.bus e.word)
 acknowledges c _ e = false
 
 -- the file that crosses: that which ends with the unit loaded last, where this is its first acknowledgement
@@ -40,8 +34,8 @@ abbrev pub still_due : Bool → Option ℕ → Option ℕ
 still_due acknowledged due = if acknowledged then None else due
 
 -- at the start entry 0 comes next, and no file is due to cross
-abbrev pub at_first : Place
-at_first = record { next = 0; due = None }
+abbrev pub before_all : Place
+before_all = record { next = 0; due = None }
 
 abbrev pub past : Codes → Place → Told → Place
 past c at (Loads number unit) = record at { due = file_ended c number unit }
@@ -80,10 +74,10 @@ marks c span at (t ∷ more) = shown c span at t ++ marks c span (past c at t) m
 
 -- ---- how many steps there are
 
-abbrev pub counted : Span → Place → ℕ
-counted span at = if is_within span at.next then 1 else 0
+abbrev pub step_within : Span → Place → ℕ
+step_within span at = if is_within span at.next then 1 else 0
 
 -- how many steps of the span there are, shown or not
 abbrev pub steps_within : Codes → Span → Place → List Told → ℕ
 steps_within c span at [] = 0
-steps_within c span at (t ∷ more) = counted span at + steps_within c span (past c at t) more
+steps_within c span at (t ∷ more) = step_within span at + steps_within c span (past c at t) more

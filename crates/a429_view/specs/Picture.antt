@@ -13,7 +13,7 @@ use Rattle.a429_view.specs.declared.mark.Recorded.{Recorded}
 use Rattle.a429_view.specs.declared.mark.Mark.{Mark}
 use Rattle.a429_view.specs.declared.mark.Mark.TheVariants as mark
 use Rattle.a429_view.specs.Forms.{what_text}
-use Rattle.a429_view.specs.Mark.{at_first, marks}
+use Rattle.a429_view.specs.Mark.{before_all, marks}
 
 -- ---- a row
 
@@ -25,11 +25,11 @@ stamp_text number time =
 
 -- what is drawn of a recorded word, up to its text: an arrow from the source to the sink; one from the sink to the
 -- source; of a word that is none of the transfer's a tick where its bus begins
-abbrev pub line_text : Act → Bus → List ℕ
-line_text act.Sent b = codes "<path marker-end='url(#head)' d='M300 0H619'/><text class='mid' x='460' y='-6'>"
-line_text act.Answered b = codes "<path marker-end='url(#head)' d='M620 0H301'/><text class='mid' x='460' y='-6'>"
-line_text a bus.A = codes "<path class='pale' d='M300 0h14'/><text class='pale' x='322' y='5'>"
-line_text a bus.B = codes "<path class='pale' d='M620 0h-14'/><text class='pale end' x='598' y='5'>"
+abbrev pub arrow_text : Act → Bus → List ℕ
+arrow_text act.Sent b = codes "<path marker-end='url(#head)' d='M300 0H619'/><text class='mid' x='460' y='-6'>"
+arrow_text act.Answered b = codes "<path marker-end='url(#head)' d='M620 0H301'/><text class='mid' x='460' y='-6'>"
+arrow_text a bus.A = codes "<path class='pale' d='M300 0h14'/><text class='pale' x='322' y='5'>"
+arrow_text a bus.B = codes "<path class='pale' d='M620 0h-14'/><text class='pale end' x='598' y='5'>"
 
 -- the file that crosses, beside the sink
 abbrev pub crosses_text : Option ℕ → List ℕ
@@ -38,10 +38,10 @@ crosses_text (Some file) = codes "<text x='632' y='5'>file " ++ decimal file ++ 
 
 -- an arrow or a tick, with what the word is to the transfer, as `a429 forms` tells it
 abbrev pub word_text : Codes → Recorded → List ℕ
-word_text c r = line_text r.act r.entry.bus ++ what_text c r.entry.bus r.entry.word ++ codes "</text>"
+word_text c r = arrow_text r.act r.entry.bus ++ what_text c r.entry.bus r.entry.word ++ codes "</text>"
 
-abbrev pub recorded_text : Codes → Recorded → List ℕ
-recorded_text c r = stamp_text r.number r.entry.time ++ word_text c r ++ crosses_text r.crosses
+abbrev pub seen_text : Codes → Recorded → List ℕ
+seen_text c r = stamp_text r.number r.entry.time ++ word_text c r ++ crosses_text r.crosses
 
 -- a step that records nothing: a broken line that ends in a cross where a word or an answer is lost, else a note
 -- at the line of the source or of the sink; no other step has a row
@@ -60,7 +60,7 @@ load_text n = codes "<path d='M294 0h12'/><text x='312' y='5'>loads file " ++ de
 abbrev pub mark_text : Codes → Mark → List ℕ
 mark_text c (mark.Load n) = load_text n
 mark_text c (mark.Unseen a) = unseen_text a
-mark_text c (mark.Seen r) = recorded_text c r
+mark_text c (mark.Seen r) = seen_text c r
 
 -- a row that stands at this height, counted from the top
 abbrev pub row_text : Codes → ℕ → Mark → List ℕ
@@ -110,4 +110,4 @@ svg_text c rows = head_text (30 * length rows + 90) ++ rows_text c 0 rows ++ cod
 
 -- of the steps of a span
 abbrev pub picture_text : Codes → Span → List Told → List ℕ
-picture_text c span told = svg_text c (marks c span at_first told)
+picture_text c span told = svg_text c (marks c span before_all told)

@@ -7,7 +7,7 @@ use Rattle.a429_view.specs.declared.mark.Span.{Span}
 use Rattle.a429_view.specs.declared.mark.Mark.{Mark}
 use Rattle.a429_view.specs.declared.sketch.Place.{Place}
 use Rattle.a429_view.specs.declared.sketch.Sketch.{Sketch}
-use Rattle.a429_view.specs.Mark.{at_first, past, mark_of, is_within, listed, marks, counted, steps_within}
+use Rattle.a429_view.specs.Mark.{before_all, past, mark_of, is_within, listed, marks, step_within, steps_within}
 
 -- the most steps that a picture shows
 abbrev pub most_steps : ℕ
@@ -17,7 +17,7 @@ most_steps = 2000
 pub record Notes (old : Sketch) (row : Option Mark) (next : Place) (new : Sketch) : Type 0 where
   pub span : new.span ≡ old.span
   pub at : new.at ≡ next
-  pub counts : old.steps ≤ most_steps → new.steps ≡ old.steps + counted old.span old.at
+  pub counts : old.steps ≤ most_steps → new.steps ≡ old.steps + step_within old.span old.at
   pub rows : old.steps ≤ most_steps → new.rows.items ≡ old.rows.items ++ (if is_within old.span old.at.next then listed row else [])
   pub full : most_steps < old.steps → most_steps < new.steps
 
@@ -28,11 +28,11 @@ Hears p old t new = Notes old (mark_of p.codes old.at t) (past p.codes old.at t)
 -- nothing was told yet
 pub record IsBlank (of : Span) (s : Sketch) : Type 0 where
   pub span : s.span ≡ of
-  pub at : s.at ≡ at_first
+  pub at : s.at ≡ before_all
   pub steps : s.steps ≡ 0
   pub rows : s.rows.items ≡ []
 
 -- the rows of a span of these steps, unless there are too many of them
 pub record IsOf (c : Codes) (span : Span) (told : List Told) (s : Sketch) : Type 0 where
-  pub few : s.steps ≤ most_steps → (s.rows.items ≡ marks c span at_first told) × (steps_within c span at_first told ≤ most_steps)
-  pub many : most_steps < s.steps → most_steps < steps_within c span at_first told
+  pub few : s.steps ≤ most_steps → (s.rows.items ≡ marks c span before_all told) × (steps_within c span before_all told ≤ most_steps)
+  pub many : most_steps < s.steps → most_steps < steps_within c span before_all told

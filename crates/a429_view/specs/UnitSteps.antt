@@ -7,11 +7,11 @@ use Rattle.a429_ldu.specs.Ldu.{LduValue}
 use Rattle.a429_link.specs.declared.number.UnitNumber.{UnitNumber}
 use Rattle.a429_cert.specs.Told.{Told, Loads, Makes}
 use Rattle.a429_view.specs.declared.units.counts.UnitCounts.{UnitCounts}
-use Rattle.a429_view.specs.declared.units.span.Mark.{Mark}
+use Rattle.a429_view.specs.declared.units.span.Moment.{Moment}
 use Rattle.a429_view.specs.declared.units.span.UnitSpan.{UnitSpan}
 use Rattle.a429_view.specs.declared.units.row.UnitRow.{UnitRow}
 use Rattle.a429_view.specs.declared.units.rows.UnitRows.{UnitRows}
-use Rattle.a429_view.specs.Units.{is_request, is_lost, is_unanswered, is_unheard, is_nak, is_time_out, is_ack, mark_of, size_of, row_text, header_text}
+use Rattle.a429_view.specs.Units.{is_request, is_lost, is_unanswered, is_unheard, is_nak, is_time_out, is_ack, moment_of, size_of, unit_line, columns_text}
 
 -- one more where it is so
 abbrev pub more : Bool → ℕ → ℕ
@@ -19,12 +19,12 @@ more true n = n + 1
 more false n = n
 
 -- the first of two that is there
-abbrev pub either : Option Mark → Option Mark → Option Mark
+abbrev pub either : Option Moment → Option Moment → Option Moment
 either None m = m
 either (Some a) m = Some a
 
-abbrev pub counted : Codes → Told → UnitCounts → UnitCounts
-counted c t n = record {
+abbrev pub recounted : Codes → Told → UnitCounts → UnitCounts
+recounted c t n = record {
   requests = more (is_request c t) n.requests;
   lost = more (is_lost t) n.lost;
   unanswered = more (is_unanswered t) n.unanswered;
@@ -34,7 +34,7 @@ counted c t n = record {
 }
 
 abbrev pub spanned : Codes → Told → UnitSpan → UnitSpan
-spanned c t s = record { first = either s.first (mark_of t); last = either (mark_of t) s.last; crossed = s.crossed || is_ack c t }
+spanned c t s = record { first = either s.first (moment_of t); last = either (moment_of t) s.last; crossed = s.crossed || is_ack c t }
 
 -- the row of a unit of which nothing is told yet
 abbrev pub no_counts : UnitCounts
@@ -48,12 +48,12 @@ begun c number u = record { number = number; size = size_of c u; counts = no_cou
 
 -- a row after one more step
 abbrev pub with_step : Codes → Told → UnitRow → UnitRow
-with_step c t r = record { number = r.number; size = r.size; counts = counted c t r.counts; span = spanned c t r.span }
+with_step c t r = record { number = r.number; size = r.size; counts = recounted c t r.counts; span = spanned c t r.span }
 
 -- what goes out before the next row is begun: the row of the last unit, and before the first the names of the columns
 abbrev pub line_before : Option UnitRow → List ℕ
-line_before None = header_text
-line_before (Some r) = row_text r
+line_before None = columns_text
+line_before (Some r) = unit_line r
 
 -- rows that are told something: a load puts the row of the unit before, a step changes the row of the unit that was loaded last
 abbrev pub HearsRows : {W : Type 0} → (W → Option (List ℕ)) → Contents → UnitRows W → Told → UnitRows W → Type 0

@@ -13,7 +13,7 @@ use Rattle.a429_cert.specs.declared.act.Act.TheVariants as act
 use Rattle.a429_cert.specs.Told.{Told, Loads, Makes}
 use Rattle.a429_view.specs.declared.units.size.UnitSize.{UnitSize}
 use Rattle.a429_view.specs.declared.units.counts.UnitCounts.{UnitCounts}
-use Rattle.a429_view.specs.declared.units.span.Mark.{Mark}
+use Rattle.a429_view.specs.declared.units.span.Moment.{Moment}
 use Rattle.a429_view.specs.declared.units.span.UnitSpan.{UnitSpan}
 use Rattle.a429_view.specs.declared.units.row.UnitRow.{UnitRow}
 
@@ -32,10 +32,10 @@ before_load (Loads number unit ∷ told) = []
 before_load (Makes act entry ∷ told) = Makes act entry ∷ before_load told
 
 -- what is told of a run, cut at each load: steps before the first belong to no unit
-abbrev pub units_of : List Told → List LoadedUnit
-units_of [] = []
-units_of (Loads number unit ∷ told) = record { number = number; unit = unit; steps = before_load told } ∷ units_of told
-units_of (Makes act entry ∷ told) = units_of told
+abbrev pub loaded_units : List Told → List LoadedUnit
+loaded_units [] = []
+loaded_units (Loads number unit ∷ told) = record { number = number; unit = unit; steps = before_load told } ∷ loaded_units told
+loaded_units (Makes act entry ∷ told) = loaded_units told
 
 -- ---- what a step is
 
@@ -92,14 +92,14 @@ is_ack c (Makes act.Answered entry) = is_ack_form (form_at c entry)
 is_ack c _ = false
 
 -- the entry of a recorded word, and its time
-abbrev pub marked : ℕ × Entry → Mark
-marked x = record { entry = x.0; time = x.1.time }
+abbrev pub moment_at : ℕ × Entry → Moment
+moment_at x = record { entry = x.0; time = x.1.time }
 
 -- that of a recorded word of the transfer: a free word is none
-abbrev pub mark_of : Told → Option Mark
-mark_of (Makes act.Sent entry) = option_map marked entry
-mark_of (Makes act.Answered entry) = option_map marked entry
-mark_of _ = None
+abbrev pub moment_of : Told → Option Moment
+moment_of (Makes act.Sent entry) = option_map moment_at entry
+moment_of (Makes act.Answered entry) = option_map moment_at entry
+moment_of _ = None
 
 -- ---- the row of a unit
 
@@ -121,8 +121,8 @@ counts_of c steps = record {
 -- the first and the last recorded word, and whether an acknowledgement is among them
 abbrev pub span_of : Codes → List Told → UnitSpan
 span_of c steps = record {
-  first = slice_get (filter_map mark_of steps) 0;
-  last = last_or None (filter_map mark_of steps);
+  first = slice_get (filter_map moment_of steps) 0;
+  last = last_or None (filter_map moment_of steps);
   crossed = list_any (is_ack c) steps;
 }
 
@@ -143,8 +143,8 @@ abbrev pub yes_no : Bool → List ℕ
 yes_no true = codes "yes"
 yes_no false = codes "no"
 
-abbrev pub size_text : UnitSize → List ℕ
-size_text s = cell s.words ++ cell s.bytes ++ yes_no s.is_final ++ codes ","
+abbrev pub unit_size_text : UnitSize → List ℕ
+unit_size_text s = cell s.words ++ cell s.bytes ++ yes_no s.is_final ++ codes ","
 
 abbrev pub counts_text : UnitCounts → List ℕ
 counts_text n = cell n.requests ++ cell n.lost ++ cell n.unanswered ++ cell n.unheard ++ cell n.naks ++ cell n.timeouts
@@ -152,17 +152,17 @@ counts_text n = cell n.requests ++ cell n.lost ++ cell n.unanswered ++ cell n.un
 -- the entries, then the times
 abbrev pub span_text : UnitSpan → List ℕ
 span_text s =
-    cell_of (option_map (λ (m : Mark). m.entry) s.first) ++ cell_of (option_map (λ (m : Mark). m.entry) s.last)
-    ++ cell_of (option_map (λ (m : Mark). m.time) s.first) ++ cell_of (option_map (λ (m : Mark). m.time) s.last)
+    cell_of (option_map (λ (m : Moment). m.entry) s.first) ++ cell_of (option_map (λ (m : Moment). m.entry) s.last)
+    ++ cell_of (option_map (λ (m : Moment). m.time) s.first) ++ cell_of (option_map (λ (m : Moment). m.time) s.last)
     ++ yes_no s.crossed
 
-abbrev pub row_text : UnitRow → List ℕ
-row_text r = cell r.number.file ++ cell r.number.ldu ++ size_text r.size ++ counts_text r.counts ++ span_text r.span ++ codes "\n"
+abbrev pub unit_line : UnitRow → List ℕ
+unit_line r = cell r.number.file ++ cell r.number.ldu ++ unit_size_text r.size ++ counts_text r.counts ++ span_text r.span ++ codes "\n"
 
 -- the names of the columns
-abbrev pub header_text : List ℕ
-header_text = codes "file,ldu,words,bytes,final,requests,lost,unanswered,unheard,naks,timeouts,first_entry,last_entry,first_time,last_time,crossed\n"
+abbrev pub columns_text : List ℕ
+columns_text = codes "file,ldu,words,bytes,final,requests,lost,unanswered,unheard,naks,timeouts,first_entry,last_entry,first_time,last_time,crossed\n"
 
 -- the rows of the units of a run
 abbrev pub units_text : Codes → List Told → List ℕ
-units_text c told = header_text ++ flat_map (λ u. row_text (row_of c u)) (units_of told)
+units_text c told = columns_text ++ flat_map (λ u. unit_line (row_of c u)) (loaded_units told)

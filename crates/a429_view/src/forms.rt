@@ -6,7 +6,7 @@ ghost use Rattle.a429_word.specs.Tally.{has_failed};
 ghost use Rattle.a429_word.specs.Page.{PutsOn};
 ghost use Rattle.a429_word.specs.Digits.{numeral};
 ghost use Rattle.a429_ldu.specs.Form.{form_of};
-ghost use Rattle.a429_view.specs.Forms.{freedom_text, final_text, form_text, told, what_text};
+ghost use Rattle.a429_view.specs.Forms.{freedom_text, final_text, form_text, reason_or_form_text, what_text};
 
 use a429_ldu::{Form, Freedom, Semis, form, why_free};
 use a429_link::is_final;
@@ -39,7 +39,7 @@ fn put_form_if_any<W: Write>(
     profile: &Profile,
     entry: &Entry,
 ) -> Result<(), Device>
-    ensures ok { OnOk result (PutsOn W.contents out.old page.old out.new page.new (told profile.now.codes None (form_of profile.now.codes entry.now.bus entry.now.word))) }
+    ensures ok { OnOk result (PutsOn W.contents out.old page.old out.new page.new (reason_or_form_text profile.now.codes None (form_of profile.now.codes entry.now.bus entry.now.word))) }
     ensures device { IsErr result → has_failed out.new ≡ true }
 {
     match form(profile, entry.bus, entry.word).form() {

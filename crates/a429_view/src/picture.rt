@@ -4,7 +4,7 @@ ghost use Rattle.std.specs.Prelude.{◌≡◌, ◌↔◌, ◌≤◌, ◌+◌, �
 ghost use Rattle.std.specs.Fmt.{decimal};
 ghost use Rattle.a429_word.specs.Tally.{has_failed, Puts};
 ghost use Rattle.a429_word.specs.Page.{PutsOn};
-ghost use Rattle.a429_view.specs.Picture.{stamp_text, line_text, crosses_text, word_text, recorded_text, unseen_text, load_text, mark_text, row_text, rows_text, style_text, frame_text, names_text, size_text, head_text, svg_text};
+ghost use Rattle.a429_view.specs.Picture.{stamp_text, arrow_text, crosses_text, word_text, seen_text, unseen_text, load_text, mark_text, row_text, rows_text, style_text, frame_text, names_text, size_text, head_text, svg_text};
 
 use crate::forms::{put_named, put_what};
 use crate::mark::{Mark, Recorded};
@@ -221,7 +221,7 @@ fn put_recorded<W: Write>(
     profile: &Profile,
     recorded: &Recorded,
 ) -> Result<(), Device>
-    ensures ok { OnOk result (PutsOn W.contents out.old page.old out.new page.new (recorded_text profile.now.codes recorded.now)) }
+    ensures ok { OnOk result (PutsOn W.contents out.old page.old out.new page.new (seen_text profile.now.codes recorded.now)) }
     ensures device { IsErr result → has_failed out.new ≡ true }
 {
     put_stamp(page, out, recorded.number, recorded.entry.time)?;
@@ -261,7 +261,7 @@ fn put_word<W: Write>(
 
 // What is drawn of a recorded word, up to its text.
 fn line_text(act: Act, bus: Bus) -> &'static [u8]
-    ensures { result.now ≡ line_text act bus }
+    ensures { result.now ≡ arrow_text act bus }
 {
     match (act, bus) {
         (Act::Sent, _) =>

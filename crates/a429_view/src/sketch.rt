@@ -1,12 +1,13 @@
 //! A listener that notes the rows of a picture.
 
 ghost use Rattle.std.specs.Prelude.{◌≡◌, ◌≤◌, ◌+◌, length};
-ghost use Rattle.a429_ldu.specs.Form.{form_of};
-ghost use Rattle.a429_view.specs.Mark.{file_ended, is_ack, acknowledges, crossing, still_due, unseen, is_within};
+ghost use Rattle.a429_view.specs.Mark.{file_ended, acknowledges, crossing, still_due, unseen, is_within};
 
 use crate::mark::{Mark, Recorded, Span};
+use crate::units::counts::form_of;
+use crate::units::span::is_ack_form;
 use a429_cert::{Act, ListenFault, Listener};
-use a429_ldu::{Form, Ldu, form};
+use a429_ldu::Ldu;
 use a429_link::{UnitNumber, is_final};
 use a429_profile::Profile;
 use a429_record::Entry;
@@ -174,23 +175,9 @@ fn acknowledges(profile: &Profile, act: Act, entry: &Entry) -> bool
     ensures { result ≡ acknowledges profile.now.codes act entry.now }
 {
     match act {
-        Act::Answered => is_ack_on(profile, entry),
+        Act::Answered => is_ack_form(form_of(profile, entry)),
         _ => false,
     }
-}
-
-fn is_ack_on(profile: &Profile, entry: &Entry) -> bool
-    ensures { result ≡ is_ack (form_of profile.now.codes entry.now.bus entry.now.word) }
-{
-    let sight = form(profile, entry.bus, entry.word);
-    let found = sight.form();
-    is_ack(found)
-}
-
-fn is_ack(form: Option<Form>) -> bool
-    ensures { result ≡ is_ack form }
-{
-    matches!(form, Some(Form::Ack { .. }))
 }
 
 // The file that crosses with a step, if it acknowledges.

@@ -4,7 +4,7 @@ ghost use Rattle.std.specs.Prelude.{◌≡◌, ◌⊎◌, None, Err, true, false
 ghost use Rattle.a429_word.specs.Tally.{has_failed, unread};
 ghost use Rattle.a429_profile.specs.declared.fault.ProfileFault.{ProfileFault};
 ghost use Rattle.a429_check.specs.Verdict.{AllWork, HasFailed, IsVerifyFault};
-ghost use Rattle.a429_check.specs.Units.{IsFresh, TellsUnits};
+ghost use Rattle.a429_check.specs.Units.{AreFresh, TellsUnits};
 
 use crate::engines::verdict::{answer_of, put_no};
 use crate::fault::RunFault;
@@ -26,7 +26,7 @@ pub fn run_units<R: Read, C: Read, W: Write>(
     certificate: &mut Tally<C>,
     rows: &mut UnitRows<W>,
 ) -> Result<u8, RunFault>
-    requires { IsFresh rows.old }
+    requires { AreFresh rows.old }
     ensures verdict { IfOk result (TellsUnits W.contents profile.now (unread C.remaining certificate.old) rec.old.to_come
         rows.old.out rows.new.out) }
     ensures device { OnOk result (AllWork rec.new.failed (has_failed certificate.new) false (has_failed rows.new.out)) }

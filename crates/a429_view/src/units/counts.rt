@@ -4,7 +4,7 @@ ghost use Rattle.std.specs.Prelude.{◌≡◌, OnOk};
 ghost use Rattle.a429_ldu.specs.Form.{form_of};
 ghost use Rattle.a429_cert.specs.Told.{Makes};
 ghost use Rattle.a429_view.specs.Units.{form_at, is_rts, is_nak_form};
-ghost use Rattle.a429_view.specs.UnitSteps.{more, counted, no_counts};
+ghost use Rattle.a429_view.specs.UnitSteps.{more, recounted, no_counts};
 
 use a429_cert::{Act, OutOfMemory};
 use a429_ldu::{Form, form};
@@ -47,7 +47,7 @@ impl UnitCounts {
         act: Act,
         entry: &Option<(usize, Entry)>,
     ) -> Result<(), OutOfMemory>
-        ensures { OnOk result (self.new ≡ counted profile.now.codes (Makes act entry.now) self.old) }
+        ensures { OnOk result (self.new ≡ recounted profile.now.codes (Makes act entry.now) self.old) }
     {
         match act {
             Act::Sent => count_if(&mut self.requests, is_rts(form_at(profile, entry))),
@@ -81,7 +81,8 @@ pub(crate) fn form_at(profile: &Profile, entry: &Option<(usize, Entry)>) -> Opti
     }
 }
 
-fn form_of(profile: &Profile, entry: &Entry) -> Option<Form>
+/// The form of the word of an entry, where it has one.
+pub(crate) fn form_of(profile: &Profile, entry: &Entry) -> Option<Form>
     ensures { result ≡ form_of profile.now.codes entry.now.bus entry.now.word }
 {
     form(profile, entry.bus, entry.word).form()

@@ -2,7 +2,7 @@
 
 ghost use Rattle.std.specs.Prelude.{◌≡◌, option_map};
 ghost use Rattle.a429_cert.specs.Told.{Makes};
-ghost use Rattle.a429_view.specs.Units.{is_ack, is_ack_form, mark_of, marked};
+ghost use Rattle.a429_view.specs.Units.{is_ack, is_ack_form, moment_of, moment_at};
 ghost use Rattle.a429_view.specs.UnitSteps.{spanned};
 
 use crate::units::counts::form_at;
@@ -13,7 +13,7 @@ use a429_record::Entry;
 
 /// A recorded word: its entry, counted from 0, and its time in microseconds.
 #[derive(Clone, Copy, Debug, PartialEq, Eq)]
-pub struct Mark {
+pub struct Moment {
     pub entry: usize,
     pub time: u64,
 }
@@ -22,8 +22,8 @@ pub struct Mark {
 /// acknowledgement was.
 #[derive(Clone, Copy, Debug, PartialEq, Eq)]
 pub struct UnitSpan {
-    pub first: Option<Mark>,
-    pub last: Option<Mark>,
+    pub first: Option<Moment>,
+    pub last: Option<Moment>,
     pub crossed: bool,
 }
 
@@ -39,31 +39,31 @@ impl UnitSpan {
     pub fn note(&mut self, profile: &Profile, act: Act, entry: &Option<(usize, Entry)>)
         ensures { self.new ≡ spanned profile.now.codes (Makes act entry.now) self.old }
     {
-        if let Some(mark) = mark_of(act, entry) {
+        if let Some(moment) = moment_of(act, entry) {
             if self.first.is_none() {
-                self.first = Some(mark);
+                self.first = Some(moment);
             }
-            self.last = Some(mark);
+            self.last = Some(moment);
         }
         self.crossed = self.crossed || is_ack(profile, act, entry);
     }
 }
 
 // The entry of a recorded word of the transfer.
-fn mark_of(act: Act, entry: &Option<(usize, Entry)>) -> Option<Mark>
-    ensures { result ≡ mark_of (Makes act entry.now) }
+fn moment_of(act: Act, entry: &Option<(usize, Entry)>) -> Option<Moment>
+    ensures { result ≡ moment_of (Makes act entry.now) }
 {
     match act {
-        Act::Sent | Act::Answered => marked(entry),
+        Act::Sent | Act::Answered => moment_at(entry),
         _ => None,
     }
 }
 
-fn marked(entry: &Option<(usize, Entry)>) -> Option<Mark>
-    ensures { result ≡ option_map marked entry.now }
+fn moment_at(entry: &Option<(usize, Entry)>) -> Option<Moment>
+    ensures { result ≡ option_map moment_at entry.now }
 {
     match entry {
-        Some((number, entry)) => Some(Mark {
+        Some((number, entry)) => Some(Moment {
             entry: *number,
             time: entry.time,
         }),
@@ -81,7 +81,8 @@ fn is_ack(profile: &Profile, act: Act, entry: &Option<(usize, Entry)>) -> bool
     }
 }
 
-fn is_ack_form(form: Option<Form>) -> bool
+/// An acknowledgement.
+pub(crate) fn is_ack_form(form: Option<Form>) -> bool
     ensures { result ≡ is_ack_form form }
 {
     matches!(form, Some(Form::Ack { .. }))

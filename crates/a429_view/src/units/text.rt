@@ -3,14 +3,14 @@
 ghost use Rattle.std.specs.Prelude.{◌≡◌, true, option_map, codes, IsErr, OnOk};
 ghost use Rattle.a429_word.specs.Tally.{has_failed};
 ghost use Rattle.a429_word.specs.Page.{PutsOn};
-ghost use Rattle.a429_view.specs.Units.{cell, cell_of, yes_no, size_text, counts_text, span_text, row_text};
+ghost use Rattle.a429_view.specs.Units.{cell, cell_of, yes_no, unit_size_text, counts_text, span_text, unit_line};
 ghost use Rattle.a429_view.specs.UnitSteps.{line_before};
-ghost use Rattle.a429_view.specs.declared.units.span.Mark.{Mark};
+ghost use Rattle.a429_view.specs.declared.units.span.Moment.{Moment};
 
 use crate::units::counts::UnitCounts;
 use crate::units::row::UnitRow;
 use crate::units::size::UnitSize;
-use crate::units::span::{Mark, UnitSpan};
+use crate::units::span::{Moment, UnitSpan};
 use a429_word::{Device, Page, Tally};
 use std::io::Write;
 
@@ -34,7 +34,7 @@ pub(crate) fn put_line_before<W: Write>(
 }
 
 fn put_row<W: Write>(page: &mut Page, out: &mut Tally<W>, row: &UnitRow) -> Result<(), Device>
-    ensures ok { OnOk result (PutsOn W.contents out.old page.old out.new page.new (row_text row.now)) }
+    ensures ok { OnOk result (PutsOn W.contents out.old page.old out.new page.new (unit_line row.now)) }
     ensures device { IsErr result → has_failed out.new ≡ true }
 {
     put_cell(page, out, u64::from(row.number.file))?;
@@ -46,7 +46,7 @@ fn put_row<W: Write>(page: &mut Page, out: &mut Tally<W>, row: &UnitRow) -> Resu
 }
 
 fn put_size<W: Write>(page: &mut Page, out: &mut Tally<W>, size: &UnitSize) -> Result<(), Device>
-    ensures ok { OnOk result (PutsOn W.contents out.old page.old out.new page.new (size_text size.now)) }
+    ensures ok { OnOk result (PutsOn W.contents out.old page.old out.new page.new (unit_size_text size.now)) }
     ensures device { IsErr result → has_failed out.new ≡ true }
 {
     put_cell(page, out, u64::from(size.words))?;
@@ -82,16 +82,16 @@ fn put_span<W: Write>(page: &mut Page, out: &mut Tally<W>, span: &UnitSpan) -> R
     put_yes_no(page, out, span.crossed)
 }
 
-fn entry_of(mark: Option<Mark>) -> Option<u64>
-    ensures { result ≡ option_map (λ (m : Mark). m.entry) mark }
+fn entry_of(moment: Option<Moment>) -> Option<u64>
+    ensures { result ≡ option_map (λ (m : Moment). m.entry) moment }
 {
-    Some(mark?.entry as u64)
+    Some(moment?.entry as u64)
 }
 
-fn time_of(mark: Option<Mark>) -> Option<u64>
-    ensures { result ≡ option_map (λ (m : Mark). m.time) mark }
+fn time_of(moment: Option<Moment>) -> Option<u64>
+    ensures { result ≡ option_map (λ (m : Moment). m.time) moment }
 {
-    Some(mark?.time)
+    Some(moment?.time)
 }
 
 // A number, and the comma behind it.

@@ -2,7 +2,7 @@ use Rattle.std.proofs.Common.{◌≡◌, ◌<◌, ◌≤◌, List, length, slice
 use Rattle.a429_profile.specs.Profile.{Contents}
 use Rattle.a429_ldu.specs.Ldu.{LduValue}
 use Rattle.a429_explain.specs.Block.{IsMatchedUnit, IsStopIn, HasCrossed}
-use Rattle.a429_explain.specs.Guess.{place_of, HaveCrossed}
+use Rattle.a429_explain.specs.Guess.{place_at_group, HaveCrossed}
 use Rattle.a429_explain.specs.Plan.{place_from, give_ups_from, place_behind}
 use Rattle.a429_explain.specs.Heard.{sight_at}
 use Rattle.a429_link.specs.declared.number.UnitNumber.{UnitNumber}
@@ -27,7 +27,7 @@ next : (c : After-group_at-group) → c.wanted.result ≡ wanted (sight_at c.arg
 next c asks here = finds_group c.args.heard.now.profile c.profile-profile.ensures.sound c.args.heard.now.items c.args.roles.now c.args.first_file c.loop-at.plans.items c.loop-at.place c.loop-at.at c.group_at-group.result.from c.group_at-group.result.to c.in-Some.count c.requires here c.group_at-group.ensures.from c.group_at-group.ensures.to (sym c.in-Some.is ∙ asks) c.loop-at.invariant
 
 -- the numbers of the group
-numbers_are : (c : After-place_from-numbers) → c.place_from-numbers.result ≡ place_of c.args.heard.now.profile.codes c.args.roles.now c.group_at-group.result c.loop-at.place
+numbers_are : (c : After-place_from-numbers) → c.place_from-numbers.result ≡ place_at_group c.args.heard.now.profile.codes c.args.roles.now c.group_at-group.result c.loop-at.place
 numbers_are c = c.place_from-numbers.ensures ∙ ap (λ (q : Contents). place_from q.codes c.loop-at.place c.group_start-start.result) c.profile-profile.ensures.is ∙ ap (place_from c.args.heard.now.profile.codes c.loop-at.place) c.group_start-start.ensures
 
 pub group_at-group-requires : goal.group_at-group-requires
@@ -79,7 +79,7 @@ loop-at-preserved-in-Some c =
     c.place_behind-place.ensures
     ∙ ap (λ (q : Contents). place_behind q.codes c.place_from-numbers.result unit c.is_settled.result) c.profile-profile.ensures.is
     ∙ ap (λ (n : UnitNumber). place_behind p.codes n unit c.is_settled.result) numbers
-    ∙ ap (place_behind p.codes (place_of p.codes rs g place) unit) c.is_settled.ensures in
+    ∙ ap (place_behind p.codes (place_at_group p.codes rs g place) unit) c.is_settled.ensures in
     let found = subst (λ (n : UnitNumber). (u : LduValue) → HasCrossed c.args.heard.now r n u → unit ≡ u) numbers c.in-Ok.ensures.crossed in
     finds_next p c.args.heard.now.items rs c.args.first_file c.loop-at.plans.items c.push_back.new.self.items place c.place_behind-place.result c.loop-at.at c.in-Some.count g (record { give_ups = c.give_ups_from-give_ups.result; unit = unit }) c.group_at-group.ensures.from c.group_at-group.ensures.to (sym (wants a.After-wanted) ∙ c.in-Some.is) gives matched c.in-Ok-push_back.ensures.items behind found (next a.After-group_at-group (wants a.After-wanted) (inside a.After-wanted)) c.loop-at.invariant
 

@@ -3,7 +3,7 @@ use Rattle.a429_word.specs.Tally.{has_failed, unread}
 use Rattle.a429_record.specs.declared.stage.Stage.TheVariants as stage
 use Rattle.a429_record.specs.Recording.{NeverFalls}
 use Rattle.a429_record.specs.Lines.{pending_of, room_of}
-use Rattle.a429_record.specs.Stage.{goes_on}
+use Rattle.a429_record.specs.Stage.{may_go_on}
 use Rattle.a429_record.specs.Reading.{still_to_come}
 use Rattle.a429_record.specs.Handed.{Loses}
 use Rattle.a429_record.proofs.RowsFacts.{Given}
@@ -19,7 +19,7 @@ invariant-entries g l = record {
   times : NeverFalls 0 l.entries.items;
   last : last_time 0 l.entries.items ≡ l.reading.rows.last;
   count : length l.entries.items ≡ l.reading.rows.count;
-  goes : goes_on l.reading.stage ≡ true;
+  goes : may_go_on l.reading.stage ≡ true;
   works : l.reading.stage ≡ stage.Rows → has_failed l.rec ≡ false;
 }
 
