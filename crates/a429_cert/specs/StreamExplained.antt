@@ -39,8 +39,8 @@ pub record Extracts (p : Contents) (known : Option (List ℕ)) (rec : Option Rec
   pub answered : answer ≡ sizes files
 
 -- the answer is those of such files
-abbrev pub AnswersSizes : {Z : Type 0} → Contents → Option (List ℕ) → Option Recording → Option (List PutFile) → Option (List PutFile) → Vec (ℕ × ℕ) Z → Type 0
-AnswersSizes p known rec old new answer = Extracts p known rec old new answer.items
+abbrev pub SaysYes : {Z : Type 0} → Contents → Option (List ℕ) → Option Recording → Option (List PutFile) → Option (List PutFile) → Vec (ℕ × ℕ) Z → Type 0
+SaysYes p known rec old new answer = Extracts p known rec old new answer.items
 
 -- a listener has heard the run by which the certificate explains the recording, where both are told
 abbrev pub HearsRun : {T : Type 0} → Hearing T → Contents → Option (List ℕ) → Option Recording → T → T → Type 0

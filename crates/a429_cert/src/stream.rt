@@ -8,7 +8,7 @@ ghost use Rattle.a429_cert.specs.Shelf.{IsUnchanged};
 ghost use Rattle.a429_cert.specs.Passing.{IsReady, uses_listed};
 ghost use Rattle.a429_word.specs.Tally.{has_failed, unread};
 ghost use Rattle.a429_cert.specs.Explained.{seen_of};
-ghost use Rattle.a429_cert.specs.StreamExplained.{AnswersSizes, HearsRun, Refuses};
+ghost use Rattle.a429_cert.specs.StreamExplained.{SaysYes, HearsRun, Refuses};
 ghost use Rattle.a429_cert.specs.Told.{IsNextEntry, with_number};
 ghost use Rattle.a429_cert.specs.Stream.{IsFaultNext, TakesNext, WalksNext, EndsNext, TellsListed, HearsNext, WalksOver, EndsWalk, HearsLine};
 ghost use Rattle.a429_cert.specs.Stream.{OneFailed, HandsFilesOut, PutsFiles, PutsFirstFiles, sizes};
@@ -43,7 +43,7 @@ pub fn verify_stream<R: Read, C: Read, S: Shelf>(
     cert: &mut Tally<C>,
     shelf: &mut S,
 ) -> Result<Vec<(u8, u32)>, StreamFault>
-    ensures ok { IfOk result (AnswersSizes profile.now (unread C.remaining cert.old) rec.old.to_come (S.files shelf.old) (S.files shelf.new)) }
+    ensures ok { IfOk result (SaysYes profile.now (unread C.remaining cert.old) rec.old.to_come (S.files shelf.old) (S.files shelf.new)) }
     ensures err { IfErr result (Refuses profile.now (unread C.remaining cert.old) rec.old.to_come (S.files shelf.old) (S.files shelf.new)) }
     ensures device { IsErrOf result StreamFault.Device → (has_failed cert.new ≡ true) ⊎ (S.failed shelf.new ≡ true) }
     ensures read { IsErrOf result (StreamFault.Read read.Device) → rec.new.failed ≡ true }
@@ -62,7 +62,7 @@ pub fn replay_stream<R: Read, C: Read, S: Shelf, T: Listener>(
     shelf: &mut S,
     listener: &mut T,
 ) -> Result<Vec<(u8, u32)>, StreamFault>
-    ensures ok { IfOk result (AnswersSizes profile.now (unread C.remaining cert.old) rec.old.to_come (S.files shelf.old) (S.files shelf.new)) }
+    ensures ok { IfOk result (SaysYes profile.now (unread C.remaining cert.old) rec.old.to_come (S.files shelf.old) (S.files shelf.new)) }
     ensures heard { OnOk result (HearsRun T.hears profile.now (unread C.remaining cert.old) rec.old.to_come listener.old listener.new) }
     ensures err { IfErr result (Refuses profile.now (unread C.remaining cert.old) rec.old.to_come (S.files shelf.old) (S.files shelf.new)) }
     ensures device { IsErrOf result StreamFault.Device → OneFailed (has_failed cert.new) (S.failed shelf.new) (T.failed listener.new) }

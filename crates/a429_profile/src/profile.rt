@@ -38,7 +38,8 @@ impl Model for Profile {
 
     ghost view = { λ p. record { codes = p.codes; check = p.check; labels = entries_of p.labels.entries } };
 
-    ghost invariant = { λ p. AreKeyed p.labels.entries × IsProfile (record { codes = p.codes; check = p.check; labels = entries_of p.labels.entries })
+    ghost invariant = { λ p. AreKeyed p.labels.entries
+        × IsProfile (record { codes = p.codes; check = p.check; labels = entries_of p.labels.entries })
         × ArePlaces (entries_of p.labels.entries) p.places.items };
 }
 

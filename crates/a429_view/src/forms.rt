@@ -23,7 +23,8 @@ pub fn put_what<W: Write>(
     profile: &Profile,
     entry: &Entry,
 ) -> Result<(), Device>
-    ensures ok { OnOk result (PutsOn W.contents out.old page.old out.new page.new (what_text profile.now.codes entry.now.bus entry.now.word)) }
+    ensures ok { OnOk result (PutsOn W.contents out.old page.old out.new page.new
+        (what_text profile.now.codes entry.now.bus entry.now.word)) }
     ensures device { IsErr result → has_failed out.new ≡ true }
 {
     match why_free(profile, entry.bus, entry.word) {
@@ -39,7 +40,8 @@ fn put_form_if_any<W: Write>(
     profile: &Profile,
     entry: &Entry,
 ) -> Result<(), Device>
-    ensures ok { OnOk result (PutsOn W.contents out.old page.old out.new page.new (reason_or_form_text profile.now.codes None (form_of profile.now.codes entry.now.bus entry.now.word))) }
+    ensures ok { OnOk result (PutsOn W.contents out.old page.old out.new page.new
+        (reason_or_form_text profile.now.codes None (form_of profile.now.codes entry.now.bus entry.now.word))) }
     ensures device { IsErr result → has_failed out.new ≡ true }
 {
     match form(profile, entry.bus, entry.word).form() {
