@@ -1,4 +1,3 @@
-use Rattle.std.proofs.Common.{arith}
 use Rattle.a429_cert.proofs.ShortFacts.{one_at}
 use Rattle.a429_cert.proofs.field.behind_one.Goals as goal
 

@@ -1,4 +1,3 @@
-use Rattle.std.proofs.Common.{arith}
 use Rattle.a429_cert.proofs.ShortFacts.{two_at}
 use Rattle.a429_cert.proofs.field.behind_two.Goals as goal
 
