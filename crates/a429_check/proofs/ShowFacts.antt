@@ -1,12 +1,9 @@
 -- The lines of a recording, entry by entry.
-use Rattle.std.proofs.Common.{◌≡◌, map, slice_set, arith, ℕ, ◌+◌, ◌<◌, List, [], ◌∷◌, ◌++◌, length, take, get_or, sym, ap, ◌∙◌, append-nil, append_assoc, refl, Bool, true, false, ◌≢◌, ◌⊎◌, inl, inr, codes, ◌-◌}
+use Rattle.std.proofs.Common.{◌≡◌, arith, ℕ, ◌+◌, ◌<◌, List, [], ◌∷◌, ◌++◌, length, take, get_or, sym, ap, ◌∙◌, append-nil, append_assoc, refl, Bool, true, false, ◌≢◌, ◌⊎◌, inl, inr, codes, ◌-◌}
 use Rattle.std.specs.Int.{bit_at}
 use Rattle.std.specs.Fmt.{decimal}
 use Rattle.std.proofs.lemmas.Fmt.{decimal_digit}
-use Rattle.std.proofs.lemmas.List.{take_more, take_more_set, take_all, map-append, length-map}
-use Rattle.std.proofs.lemmas.Simd.{map-map}
-use Rattle.std.proofs.Math.Seq.{take-append_seam}
-use Rattle.a429_word.specs.Screening.{screened}
+use Rattle.std.proofs.lemmas.List.{take_more}
 use Rattle.a429_profile.specs.declared.entry.Flag.{Flag}
 use Rattle.a429_profile.specs.Profile.{Contents}
 use Rattle.a429_record.specs.declared.entry.Entry.{Entry}
@@ -28,23 +25,6 @@ AreShowLines-join p (e ∷ es) more text rest lines next =
 -- the lines up to an entry, and those with it
 pub AreShowLines-next : (p : Contents) (es : List Entry) (i : ℕ) (e : Entry) (text line : List ℕ) → i < length es → e ≡ get_or es i e → AreShowLines p (take i es) text → IsShowLine p e line → AreShowLines p (take (i + 1) es) (text ++ line)
 AreShowLines-next p es i e text line h found lines is = rw (take_more es i e h ∙ ap (λ x. take i es ++ x ∷ []) (sym found)) (AreShowLines-join p (take i es) (e ∷ []) text line lines (line, [], is, refl, sym (append-nil line)))
-
--- ---- words screened together
-
--- one word more
-pub words-more : (es : List Entry) (words : List ℕ) (i w : ℕ) (e : Entry) → i < length es → i < length words → w ≡ (get_or es i e).word → take i words ≡ map (λ x. x.word) (take i es)
-    → take (i + 1) (slice_set words i w) ≡ map (λ x. x.word) (take (i + 1) es)
-words-more es words i w e inside room is so_far =
-    take_more_set words i w room ∙ rw (so_far, is, take_more es i e inside) (sym (map-append (λ x. x.word) (take i es) (get_or es i e ∷ [])))
-
--- all of them, screened
-pub answers-are : (es : List Entry) (words out rest : List ℕ) (i : ℕ) → i ≡ length es → take i words ≡ map (λ x. x.word) (take i es) → out ≡ map (screened 0) (take (length es) words)
-    → take (length es) (out ++ rest) ≡ map (λ x. screened 0 x.word) es
-answers-are es words out rest i end are is =
-    let whole : take (length es) words ≡ map (λ x. x.word) es = rw (← end) are ∙ ap (map (λ x. x.word)) (take_all i es (omega (arith, end))) in
-    let all : out ≡ map (λ x. screened 0 x.word) es = is ∙ ap (map (screened 0)) whole ∙ map-map (screened 0) (λ x. x.word) es in
-    let long : length out ≡ length es = ap length all ∙ length-map es (λ x. screened 0 x.word) in
-    rw (← long) (take-append_seam out rest) ∙ all
 
 -- where a reader has not failed, a fault of the device is the writer's
 pub not_the_reader : {E P : Type 0} (e : E) (failed : Bool) → failed ≡ false → (e ≢ e) ⊎ (failed ≡ true) → P

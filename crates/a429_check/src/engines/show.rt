@@ -1,10 +1,9 @@
 //! `a429 show PROFILE REC`: the words of a recording, a line for each.
 
-ghost use Rattle.std.specs.Prelude.{◌≡◌, ◌≢◌, ◌⊎◌, ◌↔◌, ◌≤◌, ◌++◌, [], ℕ, List, true, false, IsTrue, IsErr, IfOk, IfErr, OnOk, length, take, map};
+ghost use Rattle.std.specs.Prelude.{◌≡◌, ◌≢◌, ◌⊎◌, ◌↔◌, ◌≤◌, ◌++◌, [], ℕ, List, true, false, IsTrue, IsErr, IfOk, IfErr, OnOk, length};
 ghost use Rattle.a429_word.specs.Tally.{has_failed, unread, Puts};
 ghost use Rattle.a429_word.specs.Page.{PutsOn};
 ghost use Rattle.a429_word.specs.Word.{HasOddParity};
-ghost use Rattle.a429_word.specs.Screening.{screened};
 ghost use Rattle.std.specs.List.{flat_map, AllByRecursion};
 ghost use Rattle.a429_profile.specs.Shown.{IsShown, HasItsRanges};
 ghost use Rattle.a429_profile.specs.Entry.{IsFlagBit, IsKindInRange};
@@ -14,13 +13,13 @@ use crate::engines::profile::profile_of;
 use crate::engines::recording::entries_of;
 use crate::fault::RunFault;
 use a429_profile::{Flag, Kind, LabelEntry, Profile, Shown, Status};
-use a429_record::{Entry, put_parts};
-use a429_word::{BAD_PARITY, Device, Fixed, Page, Tally, Word, octal, screen};
+use a429_record::{Entry, SCREENED, put_parts, screen_entries};
+use a429_word::{BAD_PARITY, Device, Fixed, Page, Tally, Word, octal};
 use std::alloc::Global;
 use std::io::{Read, Write};
 
-// How many words are screened at once.
-const PIECE: usize = 256;
+// The label by which words are screened of which only the parity is asked for.
+const ANY_LABEL: u8 = 0;
 
 /// Writes what each word of a recording shows by a profile, a line for each, and answers status 0.
 /// `profile` is the bytes of its text. The recording is read to its end first: nothing is written where
@@ -57,7 +56,7 @@ fn put_entries<W: Write>(
     ensures device { IsErr result ↔ (has_failed out.new ≡ true) }
 {
     let mut page = page;
-    for piece in entries.chunks(PIECE) {
+    for piece in entries.chunks(SCREENED) {
         put_piece(&mut page, out, profile, piece)?;
     }
     page.finish(out)
@@ -70,29 +69,15 @@ fn put_piece<W: Write>(
     profile: &Profile,
     piece: &[Entry],
 ) -> Result<(), Device>
-    requires { length piece.now ≤ PIECE }
+    requires { length piece.now ≤ SCREENED }
     ensures ok { OnOk result (PutsSome W.contents out.old page.old out.new page.new (AreShowLines profile.now piece.now)) }
     ensures device { IsErr result → has_failed out.new ≡ true }
 {
-    let answers = answers_for(piece);
+    let answers = screen_entries(piece, ANY_LABEL);
     for i in 0..piece.len() {
         put_entry(page, out, profile, &piece[i], answers[i] != BAD_PARITY)?;
     }
     Ok(())
-}
-
-// What a screening answers for the words of some entries, by a label that is of no concern here.
-fn answers_for(piece: &[Entry]) -> [u8; PIECE]
-    requires { length piece.now ≤ PIECE }
-    ensures { take (length piece.now) result ≡ map (λ e. screened 0 e.word) piece.now }
-{
-    let mut words = [0; PIECE];
-    for i in 0..piece.len() {
-        words[i] = piece[i].word.to_u32();
-    }
-    let mut answers = [0; PIECE];
-    screen(&words[..piece.len()], 0, &mut answers[..piece.len()]);
-    answers
 }
 
 // The line of an entry whose parity is known.

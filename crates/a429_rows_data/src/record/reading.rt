@@ -40,7 +40,7 @@ fn are_read(alloc: Global, rows: &[u8], entries: &[Entry]) -> Result<bool, Fail>
     Ok(stands_for(alloc, &text, entries)?)
 }
 
-const ONE_ENTRY: [&[u8]; 11] = [
+const ONE_ENTRY: [&[u8]; 12] = [
     b"7,A,c1410223\n",
     b"7,A,C1410223",
     b"7,A,C1410223\r\n",
@@ -52,6 +52,7 @@ const ONE_ENTRY: [&[u8]; 11] = [
     b"7,A,\"C1410223\n",
     b"00000000000000000007,A,C1410223\n",
     b"\xEF\xBB\xBF7,A,C1410223\n",
+    b"\xEF\xBB\xBF\n\xEF\xBB\xBF\r\r\n7,A,C1410223\n\xEF\xBB\xBF",
 ];
 
 const TWO_ENTRIES: [&[u8]; 3] = [
@@ -78,7 +79,7 @@ fn rows_of_entries(rt: HostRuntime) -> Result<(), Fail> {
     Ok(())
 }
 
-const NO_ENTRIES: [&[u8]; 22] = [
+const NO_ENTRIES: [&[u8]; 24] = [
     b"0,C,41410323\n",
     b"0,A,4141032\n",
     b"0,A\n",
@@ -100,6 +101,8 @@ const NO_ENTRIES: [&[u8]; 22] = [
     b"0,A,4141032\xB2\n",
     b"\xFF,A,41410323\n",
     b"0,A,41410323\r0,A,41410323\n",
+    b"\xEF\xBB\n",
+    b"\xEF\xBB\xBF\xEF\xBB\xBF\n",
     b"time,bus,word\n",
 ];
 
