@@ -17,7 +17,7 @@ use Rattle.a429_link.specs.Clean.{clean_blocks, clean_block, clean_words, cut_fa
 use Rattle.a429_record.specs.Recording.{most_entries}
 use Rattle.std.specs.Vec.{vec_len}
 use Rattle.a429_check.specs.declared.fault.RunFault.{RunFault}
-use Rattle.a429_check.specs.declared.fault.RunFault.TheVariants.{BadWord, Profile, Read, Cut, Device, Memory, Usage}
+use Rattle.a429_check.specs.declared.fault.RunFault.TheVariants.{BadWord, Profile, Read, Cut, TooLong, Device, Memory, Usage}
 use Rattle.a429_check.specs.Profile.{IsSomeProfile}
 use Rattle.a429_check.specs.Make.{words_made, AreTooMany, IsFilesFault, IsMakeFault, IsPutFault}
 use Rattle.a429_link.specs.declared.number.UnitNumber.{UnitNumber}
@@ -171,6 +171,7 @@ refusal_fault profile files failed (Read f) sound h = (sound, h.0, h.1)
 refusal_fault profile files failed (Profile f) sound h = absurd h
 refusal_fault profile files failed Device sound h = absurd h
 refusal_fault profile files failed Memory sound h = absurd h
+refusal_fault profile files failed TooLong sound h = absurd h
 refusal_fault profile files failed BadWord sound h = absurd h
 refusal_fault profile files failed Usage sound h = absurd h
 
@@ -181,5 +182,6 @@ put_fault profile files failed Memory sound h = sound.1.0
 put_fault profile files failed (Profile f) sound h = absurd h
 put_fault profile files failed (Read f) sound h = absurd h
 put_fault profile files failed (Cut k f) sound h = absurd h
+put_fault profile files failed TooLong sound h = absurd h
 put_fault profile files failed BadWord sound h = absurd h
 put_fault profile files failed Usage sound h = absurd h
