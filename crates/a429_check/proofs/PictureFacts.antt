@@ -92,6 +92,10 @@ certificate_failed rec certificate (inl h) = inr (inl h)
 certificate_failed rec certificate (inr (inl h)) = absurd (cc h)
 certificate_failed rec certificate (inr (inr h)) = absurd (cc h)
 
+pub none_listens : (Failed : Type 0) → Failed ⊎ (false ≡ true) → Failed
+none_listens Failed (inl h) = h
+none_listens Failed (inr h) = absurd (cc h)
+
 none_failed : (rec certificate : Bool) → AllWork rec certificate false false → HasFailed rec certificate false → ⊥
 none_failed rec certificate w (inl h) = let e = w.0 in absurd (cc (e, h))
 none_failed rec certificate w (inr (inl h)) = let e = w.1 in absurd (cc (e, h))

@@ -60,6 +60,7 @@ pub weaker_fault : (profile : List ℕ) (certificate : Option (List ℕ)) (rec :
 weaker_fault profile certificate rec old new Failed More (run.Profile f) more h = h
 weaker_fault profile certificate rec old new Failed More (run.Read f) more h = h
 weaker_fault profile certificate rec old new Failed More (run.Cut k f) more h = h
+weaker_fault profile certificate rec old new Failed More run.TooLong more h = h
 weaker_fault profile certificate rec old new Failed More run.Device more h = (more h.0, h.1)
 weaker_fault profile certificate rec old new Failed More run.Memory more h = h
 weaker_fault profile certificate rec old new Failed More run.BadWord more h = h

@@ -3,12 +3,12 @@ use Rattle.a429_word.specs.Tally.{has_failed, unread}
 use Rattle.a429_check.specs.declared.fault.RunFault.{RunFault}
 use Rattle.a429_check.specs.Verdict.{HasFailed, IsVerifyFault}
 use Rattle.a429_check.proofs.VerdictFacts.{answered, told}
-use Rattle.a429_check.proofs.PictureFacts.{certificate_failed}
+use Rattle.a429_check.proofs.PictureFacts.{certificate_failed, none_listens}
 use Rattle.a429_check.proofs.engines.picture.sketched.Goals as goal
 
 pub returns-then-any_failed-clause-err : goal.returns-then-any_failed-clause-err
 returns-then-any_failed-clause-err g c = λ text is.
-    (c.any_failed.ensures.yes c.if-any_failed.true, answered text c.args.profile.now (unread g.C.Read.remaining c.args.certificate.now) c.args.rec.now.to_come None None c.replay_stream-answer.result is c.replay_stream-answer.ensures.ok c.replay_stream-answer.ensures.err)
+    (none_listens _ (c.any_failed.ensures.yes c.if-any_failed.true), answered text c.args.profile.now (unread g.C.Read.remaining c.args.certificate.now) c.args.rec.now.to_come None None c.replay_stream-answer.result is c.replay_stream-answer.ensures.ok c.replay_stream-answer.ensures.err)
 
 pub returns-in-Err-of_certificate-clause-err : goal.returns-in-Err-of_certificate-clause-err
 returns-in-Err-of_certificate-clause-err g c = λ text is.
