@@ -10,7 +10,7 @@ use a429_record::EntryReader;
 use a429_view::UnitRows;
 use a429_word::Tally;
 use std::alloc::Global;
-use std::io::{BufWriter, ErrorKind, Write};
+use std::io::{BufReader, BufWriter, ErrorKind, Write};
 use std::process::ExitCode;
 use std::rt::{Env, Files};
 use std::{env, fs, io};
@@ -20,6 +20,9 @@ const CAP: u64 = 67_108_864;
 
 // How many bytes of a certificate are read at most.
 const CERTIFICATE_CAP: u64 = 4_294_967_296;
+
+// How many bytes of a certificate are asked for at once.
+const CERTIFICATE_PIECE: usize = 65_536;
 
 fn main(rt: HostRuntime) -> ExitCode {
     let status = match run(&rt) {
@@ -112,7 +115,7 @@ fn verify<W: Write>(
 ) -> Result<u8, RunFault> {
     let profile = bytes_of(rt, alloc, claim.profile)?;
     let mut rec = EntryReader::new(alloc, opened(rt, claim.recording, CAP)?);
-    let mut cert = opened(rt, claim.certificate, CERTIFICATE_CAP)?;
+    let mut cert = opened_certificate(rt, alloc, claim.certificate)?;
     run_verify(alloc, profile.as_slice(), &mut rec, &mut cert, out)
 }
 
@@ -125,7 +128,7 @@ fn units<W: Write + Drop>(
 ) -> Result<u8, RunFault> {
     let profile = bytes_of(rt, alloc, claim.profile)?;
     let mut rec = EntryReader::new(alloc, opened(rt, claim.recording, CAP)?);
-    let mut cert = opened(rt, claim.certificate, CERTIFICATE_CAP)?;
+    let mut cert = opened_certificate(rt, alloc, claim.certificate)?;
     let mut rows = UnitRows::new(alloc, out)?;
     let status = run_units(alloc, profile.as_slice(), &mut rec, &mut cert, &mut rows)?;
     rows.out.flush().map_err(|_| RunFault::Device)?;
@@ -141,7 +144,7 @@ fn extract<W: Write>(
 ) -> Result<u8, RunFault> {
     let profile = bytes_of(rt, alloc, claim.profile)?;
     let mut rec = EntryReader::new(alloc, opened(rt, claim.recording, CAP)?);
-    let mut cert = opened(rt, claim.certificate, CERTIFICATE_CAP)?;
+    let mut cert = opened_certificate(rt, alloc, claim.certificate)?;
     let mut folder = Folder::new(rt, alloc, folder).map_err(|_| RunFault::Memory)?;
     run_extract(
         alloc,
@@ -162,7 +165,7 @@ fn picture<W: Write>(
 ) -> Result<u8, RunFault> {
     let profile = bytes_of(rt, alloc, claim.profile)?;
     let mut rec = EntryReader::new(alloc, opened(rt, claim.recording, CAP)?);
-    let mut cert = opened(rt, claim.certificate, CERTIFICATE_CAP)?;
+    let mut cert = opened_certificate(rt, alloc, claim.certificate)?;
     run_picture(alloc, profile.as_slice(), &mut rec, &mut cert, span, out)
 }
 
@@ -202,6 +205,17 @@ fn words_of(rt: &(impl Env + AllocGlobal), alloc: Global) -> Result<Vec<String>,
 fn opened<F: Files>(rt: &F, path: &str, cap: u64) -> Result<Tally<F::File>, RunFault> {
     let file = fs::open(rt, path).map_err(|_| RunFault::Device)?;
     Ok(Tally::new(file, cap))
+}
+
+// A certificate to read, in pieces that are larger than its longest line.
+fn opened_certificate<F: Files>(
+    rt: &F,
+    alloc: Global,
+    path: &str,
+) -> Result<Tally<BufReader<F::File>>, RunFault> {
+    let file = fs::open(rt, path).map_err(|_| RunFault::Device)?;
+    let reader = BufReader::with_capacity(alloc, CERTIFICATE_PIECE, file);
+    Ok(Tally::new(reader.map_err(|_| RunFault::Memory)?, CERTIFICATE_CAP))
 }
 
 // A file to write, which is emptied first.
