@@ -10,6 +10,7 @@ pub mod BcdPacked
 pub mod DigitsFacts
 pub mod FixedDecimals
 pub mod FixedZeros
+pub mod HexValues
 pub mod FixedHalves
 pub mod FixedText
 pub mod FixedOneSpelling

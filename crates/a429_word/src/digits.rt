@@ -1,6 +1,6 @@
 //! Words in hexadecimal digits, and labels in octal ones.
 
-ghost use Rattle.std.specs.Prelude.{◌≡◌, ◌<◌, ◌^◌, ◌*◌, ◌/◌, ◌%◌, ◌∷◌, [], ◌↔◌, IsTrue, true};
+ghost use Rattle.std.specs.Prelude.{◌≡◌, ◌<◌, ◌≤◌, ◌^◌, ◌*◌, ◌/◌, ◌%◌, ◌∷◌, [], ◌↔◌, true};
 ghost use Rattle.std.specs.Char.{digit_value};
 ghost use Rattle.std.specs.Fmt.{digit_glyph};
 ghost use Rattle.std.specs.Str.Parse.{digits_value, AllDigits};
@@ -10,19 +10,27 @@ use crate::word::Word;
 
 const HEX_DIGITS: [u8; 16] = *b"0123456789ABCDEF";
 
-// The value of each byte as a digit, letters of either case from 10 on, and 36 of a byte that is none.
-const DIGIT_VALUES: [u8; 256] = [
-    36, 36, 36, 36, 36, 36, 36, 36, 36, 36, 36, 36, 36, 36, 36, 36, 36, 36, 36, 36, 36, 36, 36, 36,
-    36, 36, 36, 36, 36, 36, 36, 36, 36, 36, 36, 36, 36, 36, 36, 36, 36, 36, 36, 36, 36, 36, 36, 36,
-    0, 1, 2, 3, 4, 5, 6, 7, 8, 9, 36, 36, 36, 36, 36, 36, 36, 10, 11, 12, 13, 14, 15, 16, 17, 18,
-    19, 20, 21, 22, 23, 24, 25, 26, 27, 28, 29, 30, 31, 32, 33, 34, 35, 36, 36, 36, 36, 36, 36, 10,
-    11, 12, 13, 14, 15, 16, 17, 18, 19, 20, 21, 22, 23, 24, 25, 26, 27, 28, 29, 30, 31, 32, 33, 34,
-    35, 36, 36, 36, 36, 36, 36, 36, 36, 36, 36, 36, 36, 36, 36, 36, 36, 36, 36, 36, 36, 36, 36, 36,
-    36, 36, 36, 36, 36, 36, 36, 36, 36, 36, 36, 36, 36, 36, 36, 36, 36, 36, 36, 36, 36, 36, 36, 36,
-    36, 36, 36, 36, 36, 36, 36, 36, 36, 36, 36, 36, 36, 36, 36, 36, 36, 36, 36, 36, 36, 36, 36, 36,
-    36, 36, 36, 36, 36, 36, 36, 36, 36, 36, 36, 36, 36, 36, 36, 36, 36, 36, 36, 36, 36, 36, 36, 36,
-    36, 36, 36, 36, 36, 36, 36, 36, 36, 36, 36, 36, 36, 36, 36, 36, 36, 36, 36, 36, 36, 36, 36, 36,
-    36, 36, 36, 36, 36, 36, 36, 36, 36, 36, 36, 36, 36, 36,
+// What stands for a byte that is no hexadecimal digit: more than four digits write.
+const NONE: u32 = 65536;
+
+// The value of each byte as a hexadecimal digit of either case, and `NONE` of a byte that is none.
+const HEX_VALUES: [u32; 256] = [
+    NONE, NONE, NONE, NONE, NONE, NONE, NONE, NONE, NONE, NONE, NONE, NONE, NONE, NONE, NONE, NONE,
+    NONE, NONE, NONE, NONE, NONE, NONE, NONE, NONE, NONE, NONE, NONE, NONE, NONE, NONE, NONE, NONE,
+    NONE, NONE, NONE, NONE, NONE, NONE, NONE, NONE, NONE, NONE, NONE, NONE, NONE, NONE, NONE, NONE,
+    0, 1, 2, 3, 4, 5, 6, 7, 8, 9, NONE, NONE, NONE, NONE, NONE, NONE, NONE, 10, 11, 12, 13, 14, 15,
+    NONE, NONE, NONE, NONE, NONE, NONE, NONE, NONE, NONE, NONE, NONE, NONE, NONE, NONE, NONE, NONE,
+    NONE, NONE, NONE, NONE, NONE, NONE, NONE, NONE, NONE, NONE, 10, 11, 12, 13, 14, 15, NONE, NONE,
+    NONE, NONE, NONE, NONE, NONE, NONE, NONE, NONE, NONE, NONE, NONE, NONE, NONE, NONE, NONE, NONE,
+    NONE, NONE, NONE, NONE, NONE, NONE, NONE, NONE, NONE, NONE, NONE, NONE, NONE, NONE, NONE, NONE,
+    NONE, NONE, NONE, NONE, NONE, NONE, NONE, NONE, NONE, NONE, NONE, NONE, NONE, NONE, NONE, NONE,
+    NONE, NONE, NONE, NONE, NONE, NONE, NONE, NONE, NONE, NONE, NONE, NONE, NONE, NONE, NONE, NONE,
+    NONE, NONE, NONE, NONE, NONE, NONE, NONE, NONE, NONE, NONE, NONE, NONE, NONE, NONE, NONE, NONE,
+    NONE, NONE, NONE, NONE, NONE, NONE, NONE, NONE, NONE, NONE, NONE, NONE, NONE, NONE, NONE, NONE,
+    NONE, NONE, NONE, NONE, NONE, NONE, NONE, NONE, NONE, NONE, NONE, NONE, NONE, NONE, NONE, NONE,
+    NONE, NONE, NONE, NONE, NONE, NONE, NONE, NONE, NONE, NONE, NONE, NONE, NONE, NONE, NONE, NONE,
+    NONE, NONE, NONE, NONE, NONE, NONE, NONE, NONE, NONE, NONE, NONE, NONE, NONE, NONE, NONE, NONE,
+    NONE, NONE, NONE, NONE, NONE, NONE, NONE,
 ];
 
 impl Word {
@@ -33,13 +41,11 @@ impl Word {
         if text.len() != 8 {
             return None;
         }
-        let high = are_hex(text[0], text[1], text[2], text[3]);
-        let low = are_hex(text[4], text[5], text[6], text[7]);
-        if !(high & low) {
-            return None;
-        }
         let upper = number_of_four(text[0], text[1], text[2], text[3]);
         let lower = number_of_four(text[4], text[5], text[6], text[7]);
+        if upper >= NONE || lower >= NONE {
+            return None;
+        }
         Some(Word::from_u32(upper * 65536 + lower))
     }
 
@@ -77,31 +83,26 @@ pub fn hex_digit(number: u8) -> u8
     HEX_DIGITS[usize::from(number)]
 }
 
-// Whether each of four bytes is a hexadecimal digit. There is no branch among the tests.
-#[inline(always)]
-fn are_hex(a: u8, b: u8, c: u8, d: u8) -> bool
-    ensures { IsTrue result ↔ AllDigits 16 (a ∷ b ∷ c ∷ d ∷ []) }
-{
-    (digit_of(a) < 16) & (digit_of(b) < 16) & (digit_of(c) < 16) & (digit_of(d) < 16)
-}
-
-// The number that four hexadecimal digits write.
+// The number that four hexadecimal digits write, and `NONE` or more where one of them is none. So the
+// digits are tested and counted at once.
 #[inline(always)]
 fn number_of_four(a: u8, b: u8, c: u8, d: u8) -> u32
-    requires { AllDigits 16 (a ∷ b ∷ c ∷ d ∷ []) }
-    ensures value { result ≡ digits_value 16 (a ∷ b ∷ c ∷ d ∷ []) }
-    ensures below { result < 65536 }
+    ensures digits { result < NONE ↔ AllDigits 16 (a ∷ b ∷ c ∷ d ∷ []) }
+    ensures value { result < NONE → result ≡ digits_value 16 (a ∷ b ∷ c ∷ d ∷ []) }
 {
-    let upper = u32::from(digit_of(a)) * 16 + u32::from(digit_of(b));
-    let lower = u32::from(digit_of(c)) * 16 + u32::from(digit_of(d));
+    let upper = hex_value(a) * 16 + hex_value(b);
+    let lower = hex_value(c) * 16 + hex_value(d);
     upper * 256 + lower
 }
 
-// The value of a byte as a digit.
-fn digit_of(byte: u8) -> u8
-    ensures { result ≡ digit_value byte }
+// The value of a byte as a hexadecimal digit, and `NONE` where it is none.
+#[inline(always)]
+fn hex_value(byte: u8) -> u32
+    ensures digit { result < NONE ↔ (digit_value byte < 16) }
+    ensures value { result < NONE → result ≡ digit_value byte }
+    ensures most { result ≤ NONE }
 {
-    DIGIT_VALUES[usize::from(byte)]
+    HEX_VALUES[usize::from(byte)]
 }
 
 /// A label as it is written (Part 1): three octal digits, 000 to 377.

@@ -162,6 +162,41 @@ impl<R: Read> Read for Tally<R> {
         ensures stays { has_failed self.old ≡ true → self.new ≡ self.old }
         ensures kind { IfErr result (λ e. error_kind e ≢ ErrorKind.Interrupted) }
     {
+        self.read_whole(buf)
+    }
+}
+
+impl<R: Read> Tally<R> {
+    ghost use Rattle.a429_word.specs.Tally.{inner_of, left_of, has_failed, unread, FallsShort};
+
+    // A read that has no room for a byte.
+    fn read_none(&mut self) -> io::Result<usize>
+        ensures none { IfOk result (λ n. n ≡ 0) }
+        ensures inner { inner_of self.new ≡ inner_of self.old }
+        ensures left { left_of self.new ≡ left_of self.old }
+        ensures device { IsErr result ↔ (has_failed self.new ≡ true) }
+        ensures capped { left_of self.old ≡ 0 → has_failed self.new ≡ true }
+        ensures stays { has_failed self.old ≡ true → self.new ≡ self.old }
+        ensures kind { IfErr result (λ e. error_kind e ≢ ErrorKind.Interrupted) }
+    {
+        self.is_failed |= self.left == 0;
+        if self.is_failed {
+            return Err(failure());
+        }
+        Ok(0)
+    }
+
+    // A read of as many bytes as there is room for.
+    fn read_whole(&mut self, buf: &mut [u8]) -> io::Result<()>
+        ensures bytes { OnOk result (Consumes (unread R.remaining self.old) (unread R.remaining self.new) buf.new) }
+        ensures err { OnErr result (FallsShort R.remaining self.old self.new (length buf.new)) }
+        ensures size { length buf.new ≡ length buf.old }
+        ensures left { OnOk result (left_of self.new + length buf.new ≡ left_of self.old) }
+        ensures falls { left_of self.new ≤ left_of self.old }
+        ensures device { has_failed self.new ≡ true → IsErr result }
+        ensures stays { has_failed self.old ≡ true → self.new ≡ self.old }
+        ensures kind { IfErr result (λ e. error_kind e ≢ ErrorKind.Interrupted) }
+    {
         if self.is_failed {
             return Err(failure());
         }
@@ -174,29 +209,6 @@ impl<R: Read> Read for Tally<R> {
             }
         }
         Ok(())
-    }
-}
-
-impl<R: Read> Tally<R> {
-    ghost use Rattle.a429_word.specs.Tally.{inner_of, left_of, has_failed};
-
-    // A read that has no room for a byte.
-    fn read_none(&mut self) -> io::Result<usize>
-        ensures none { IfOk result (λ n. n ≡ 0) }
-        ensures inner { inner_of self.new ≡ inner_of self.old }
-        ensures left { left_of self.new ≡ left_of self.old }
-        ensures device { IsErr result ↔ (has_failed self.new ≡ true) }
-        ensures capped { left_of self.old ≡ 0 → has_failed self.new ≡ true }
-        ensures stays { has_failed self.old ≡ true → self.new ≡ self.old }
-        ensures kind { IfErr result (λ e. error_kind e ≢ ErrorKind.Interrupted) }
-    {
-        if self.left == 0 {
-            self.is_failed = true;
-        }
-        if self.is_failed {
-            return Err(failure());
-        }
-        Ok(0)
     }
 }
 

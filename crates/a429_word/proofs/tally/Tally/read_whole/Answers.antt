@@ -2,7 +2,7 @@
 use Rattle.std.proofs.Common.{◌≤◌, length, rules, arith}
 use Rattle.std.proofs.KnownBytes.{Consumes-trans}
 use Rattle.a429_word.proofs.TallySlices.{take-put_mid_within, length-put_mid_within}
-use Rattle.a429_word.proofs.tally.TallyRead.read_exact.Goals as goal
+use Rattle.a429_word.proofs.tally.Tally.read_whole.Goals as goal
 
 pub loop-at-preserved : goal.loop-at-preserved
 loop-at-preserved g c =

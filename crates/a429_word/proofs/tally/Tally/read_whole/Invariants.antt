@@ -1,7 +1,7 @@
 use Rattle.std.proofs.Common.{length, take, ◌-◌, ◌+◌, ◌≡◌, ◌≤◌, false}
 use Rattle.std.specs.Io.KnownBytes.{Consumes}
 use Rattle.a429_word.specs.Tally.{inner_of, left_of, has_failed}
-use Rattle.a429_word.proofs.tally.TallyRead.read_exact.Given as goal
+use Rattle.a429_word.proofs.tally.Tally.read_whole.Given as goal
 
 abbrev pub invariant-loop-at : goal.invariant-loop-at
 invariant-loop-at g l = (l.at ≤ length l.buf)
