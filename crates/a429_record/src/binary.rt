@@ -1,7 +1,7 @@
 //! The bytes of an entry in a binary recording.
 
-ghost use Rattle.std.specs.Prelude.{◌≡◌, ◌≤◌, ◌↔◌, length, take, IsTrue};
-ghost use Rattle.a429_record.specs.Binary.{magic, piece_entry, entry_piece};
+ghost use Rattle.std.specs.Prelude.{◌≡◌, ◌≤◌, ◌↔◌, length, take, drop, IsTrue};
+ghost use Rattle.a429_record.specs.Binary.{magic, big_endian, entry_bytes, piece_entry, entry_piece};
 
 use crate::entry::Entry;
 use crate::row::bus_of;
@@ -37,10 +37,26 @@ pub fn entry_of_piece(piece: &[u8]) -> Option<Entry>
     }
     let bus = bus_of(&piece[BUS..WORD])?;
     Some(Entry {
-        time: BigEndian::read_u64(piece),
+        time: piece_time(piece),
         bus,
-        word: Word::from_u32(BigEndian::read_u32(&piece[WORD..])),
+        word: piece_word(piece),
     })
+}
+
+// The time of a piece.
+fn piece_time(piece: &[u8]) -> u64
+    requires { length piece.now ≡ entry_bytes }
+    ensures { result ≡ big_endian (take 8 piece.now) }
+{
+    BigEndian::read_u64(piece)
+}
+
+// Its word.
+fn piece_word(piece: &[u8]) -> Word
+    requires { length piece.now ≡ entry_bytes }
+    ensures { result ≡ big_endian (drop 9 piece.now) }
+{
+    Word::from_u32(BigEndian::read_u32(&piece[WORD..]))
 }
 
 /// The bytes of an entry.
