@@ -79,6 +79,13 @@ pub record Explains (p : Contents) (certificate : List ℕ) (items : List Seen) 
   pub lists : ListsSteps p (map (read_as version) lines) steps (start p first)
   pub used : trace steps ≡ items
 
+-- the recorded words that the certificate explains, and the run by which it does
+pub record Explanation (p : Contents) (certificate : List ℕ) : Type 0 where
+  pub items : List Seen
+  pub first : ℕ
+  pub steps : List Step
+  pub explains : Explains p certificate items first steps
+
 -- ---- what a yes says
 
 -- the certificate explains the recorded words by a run that delivers these files

@@ -1,7 +1,7 @@
 -- The versions of certificates (profile).
 use Rattle.a429_cert.specs.declared.version.Version.{Version}
 use Rattle.a429_cert.specs.declared.version.Version.TheVariants.{One, Two}
-use Rattle.std.specs.Prelude.{ℕ, List, [], ◌∷◌, Bool, true, false, ◌||◌, ◌==◌, if◌then◌else◌, codes, map, drop, Option, Some, None, option_and_then}
+use Rattle.std.specs.Prelude.{ℕ, List, [], ◌∷◌, ◌++◌, Bool, true, false, ◌||◌, ◌==◌, if◌then◌else◌, codes, map, drop, Option, Some, None, option_and_then}
 use Rattle.a429_link.specs.declared.step.Step.{Step}
 use Rattle.a429_link.specs.declared.step.Step.TheVariants.{GiveUp}
 use Rattle.a429_cert.specs.Lines.{certificate_lines}
@@ -10,6 +10,10 @@ use Rattle.a429_cert.specs.Lines.{certificate_lines}
 abbrev pub version_line : Version → List ℕ
 version_line One = codes "arinc429-cert 1"
 version_line Two = codes "arinc429-cert 2"
+
+-- a certificate of this version, with these lines behind its first
+abbrev pub headed : Version → List ℕ → List ℕ
+headed v rest = version_line v ++ 10 ∷ rest
 
 -- a text, unless it begins with `x`
 abbrev pub without_x : List ℕ → Option (List ℕ)

@@ -1,18 +1,16 @@
 //! Laws of the definitions that the contracts of this crate cite.
 
-ghost use Rattle.std.specs.Prelude.{◌≡◌, ◌≤◌, ℕ, List, ◌∷◌, ◌++◌, length, Option, Some, false};
+ghost use Rattle.std.specs.Prelude.{◌≡◌, ◌≤◌, ℕ, List, length, Option, Some, false};
 ghost use Rattle.std.specs.List.{AllByRecursion};
 ghost use Rattle.a429_profile.specs.Profile.{Contents};
-ghost use Rattle.a429_link.specs.declared.file.FileBytes.{FileBytes};
-ghost use Rattle.a429_link.specs.declared.seen.Seen.{Seen};
-ghost use Rattle.a429_link.specs.declared.step.Step.{Step};
+ghost use Rattle.a429_link.specs.Run.{delivered};
 ghost use Rattle.a429_cert.specs.declared.fault.CertFault.{CertFault};
 ghost use Rattle.a429_cert.specs.declared.line.CertLine.{CertLine};
 ghost use Rattle.a429_cert.specs.Line.{spelling, IsLine, IsHeld, SpellsLine, Reads};
 ghost use Rattle.a429_cert.specs.declared.version.Version.TheVariants.{One, Two};
-ghost use Rattle.a429_cert.specs.Version.{version_line, gives_up};
+ghost use Rattle.a429_cert.specs.Version.{headed, gives_up};
 ghost use Rattle.a429_cert.specs.CutLines.{cut};
-ghost use Rattle.a429_cert.specs.Explained.{Explains, IsExplained, AreInSomeRun};
+ghost use Rattle.a429_cert.specs.Explained.{Explains, Explanation, AreInSomeRun};
 ghost use Rattle.a429_cert.specs.Fault.{IsFirstCertFault, SaysLine};
 
 /// A line has one spelling, and no two lines have the same.
@@ -46,22 +44,18 @@ pub fn lines_are_not_cut()
 
 /// What explains a recording has no fault, so `verify` refuses it for want of memory alone.
 pub fn what_explains_has_no_fault()
-    ensures { (p : Contents) (certificate : List ℕ) (items : List Seen) (first : ℕ) (steps : List Step) (f : CertFault)
-        → Explains p certificate items first steps → IsFirstCertFault p certificate items f → ⊥ }
+    ensures { (p : Contents) (text : List ℕ) (e : Explanation p text) (f : CertFault) → ¬ IsFirstCertFault p text e.items f }
 {}
 
 /// What a certificate of version 1 explains, it explains by a run that gives no file up, and the same lines under the
 /// first line of version 2 explain it by that run.
 pub fn version_2_explains_what_version_1_does()
-    ensures same { (p : Contents) (rest : List ℕ) (items : List Seen) (first : ℕ) (steps : List Step)
-        → Explains p (version_line One ++ 10 ∷ rest) items first steps → Explains p (version_line Two ++ 10 ∷ rest) items first steps }
-    ensures kept { (p : Contents) (rest : List ℕ) (items : List Seen) (first : ℕ) (steps : List Step)
-        → Explains p (version_line One ++ 10 ∷ rest) items first steps → gives_up steps ≡ false }
+    ensures same { (p : Contents) (rest : List ℕ) (e : Explanation p (headed One rest)) → Explains p (headed Two rest) e.items e.first e.steps }
+    ensures kept { (p : Contents) (rest : List ℕ) (e : Explanation p (headed One rest)) → gives_up e.steps ≡ false }
 {}
 
-/// What a certificate explains, some run records: exactly these words, and it delivers these files. That every run
-/// which records them delivers the same is `every_run` of `verify`.
+/// What a certificate explains, some run records: exactly these words, and it delivers the files that the certificate's
+/// steps do. That every run which records them delivers the same is `every_run` of `verify`.
 pub fn what_explains_is_a_run()
-    ensures { (p : Contents) (certificate : List ℕ) (items : List Seen) (files : List FileBytes)
-        → IsExplained p certificate items files → AreInSomeRun p items files }
+    ensures { (p : Contents) (text : List ℕ) (e : Explanation p text) → AreInSomeRun p e.items (delivered p e.first e.steps) }
 {}

@@ -3,7 +3,7 @@
 use Rattle.std.specs.Prelude.{◌≡◌, ℕ, ◌+◌, ◌*◌, ◌%◌, ◌≤◌, ◌==◌, nat_lt, if◌then◌else◌, Option, Some, None, List, [], ◌∷◌, ◌++◌, map, length}
 use Rattle.a429_word.specs.declared.bus.Bus.TheVariants as bus
 use Rattle.a429_profile.specs.declared.codes.Codes.{Codes}
-use Rattle.a429_profile.specs.Profile.{Contents}
+use Rattle.a429_profile.specs.Profile.{Contents, IsProfile}
 use Rattle.a429_ldu.specs.declared.forms.Form.TheVariants.{Rts, Cts, Ack}
 use Rattle.a429_ldu.specs.Form.{word_number, is_free}
 use Rattle.a429_ldu.specs.declared.fault.CutFault.{CutFault}
@@ -98,6 +98,16 @@ pub record IsRunOf (p : Contents) (file : ℕ) (steps : List Step) (items : List
 -- the steps of this recording, free words among them, are a run from the start that delivers the files of these link data units
 abbrev pub CarriesUnits : Contents → ℕ → List LduValue → List Seen → Type 0
 CarriesUnits p first units items = IsRunOf p first (weave p.codes items (clean_steps p.codes (first_number p.codes first) units)) items (shelved p.codes (first_number p.codes first) units empty_shelf)
+
+-- a recording in which, free words left out, link data units cross without loss, the first of them under this file's number
+pub record CleanRecording (p : Contents) : Type 0 where
+  pub sound : IsProfile p
+  pub first : ℕ
+  pub byte : first ≤ 255
+  pub units : List LduValue
+  pub fit : AllFit p (first_number p.codes first) units
+  pub items : List Seen
+  pub words : without_free p.codes items ≡ clean_blocks p.codes (first_number p.codes first) units
 
 -- ---- files (profile: they are numbered upwards, 255 is followed by 0)
 

@@ -1,11 +1,11 @@
 -- A link as its callers see it.
-use Rattle.std.specs.Prelude.{List, [], ◌∷◌, ◌++◌}
+use Rattle.std.specs.Prelude.{ℕ, List, [], ◌∷◌, ◌++◌}
 use Rattle.a429_profile.specs.Profile.{Contents, IsProfile}
 use Rattle.a429_link.specs.declared.file.FileBytes.{FileBytes}
 use Rattle.a429_link.specs.declared.step.Step.{Step}
 use Rattle.a429_link.specs.Step.{Can, after}
 use Rattle.a429_link.specs.Sink.{without_files}
-use Rattle.a429_link.specs.State.{State}
+use Rattle.a429_link.specs.State.{start, State}
 use Rattle.a429_link.specs.Run.{IsReached}
 
 -- the profile, and the state, whose delivered files are those that are not handed out yet
@@ -53,6 +53,14 @@ abbrev pub taken : Contents → List Call → State → List FileBytes
 taken p [] s = []
 taken p (Applied a ∷ calls) s = taken p calls (after p a s)
 taken p (Taken ∷ calls) s = s.sink.shelf.files ++ taken p calls (handed_out s)
+
+-- the files that calls take, in order, from the start on, where the first file has this number; and then those that wait
+abbrev pub taken_and_waiting : Contents → ℕ → List Call → List FileBytes
+taken_and_waiting p first calls = taken p calls (start p first) ++ (left_by p calls (start p first)).sink.shelf.files
+
+-- the state that they lead to from there, with the files that they take put back before those that wait
+abbrev pub left_with_taken : Contents → ℕ → List Call → State
+left_with_taken p first calls = with_earlier (taken p calls (start p first)) (left_by p calls (start p first))
 
 -- their steps, in order
 abbrev pub applied : List Call → List Step

@@ -97,6 +97,28 @@ pub record IsRunFrom (p : Contents) (first : ℕ) (steps : List Step) : Type 0 w
   pub byte : first ≤ 255
   pub run : IsRun p steps (start p first)
 
+-- a run of a profile: the number of its first file, and its steps
+pub record RunOf (p : Contents) : Type 0 where
+  pub first : ℕ
+  pub steps : List Step
+  pub is_run : IsRunFrom p first steps
+
+-- the files that it delivers
+abbrev pub delivered_by : {p : Contents} → RunOf p → List FileBytes
+delivered_by {p} r = delivered p r.first r.steps
+
+-- those that its source offers
+abbrev pub offered_by : {p : Contents} → RunOf p → List FileBytes
+offered_by {p} r = offered p r.first r.steps
+
+-- those of them that its source takes as acknowledged
+abbrev pub settled_by : {p : Contents} → RunOf p → List FileBytes
+settled_by {p} r = settled p r.first r.steps
+
+-- the state that it leads to
+abbrev pub reached_by : {p : Contents} → RunOf p → State
+reached_by {p} r = end_of p r.steps (start p r.first)
+
 -- the first are some of the second, in their order
 abbrev pub IsSubsequenceOf : {X : Type 0} → List X → List X → Type 0
 IsSubsequenceOf xs [] = xs ≡ []

@@ -3,6 +3,6 @@ use Rattle.a429_cert.proofs.laws.version_2_explains_what_version_1_does.Goals as
 
 pub returns : goal.returns
 returns c = record {
-  same = λ p rest items first steps h. (upgraded p rest items first steps h).0;
-  kept = λ p rest items first steps h. (upgraded p rest items first steps h).1;
+  same = λ p rest e. (upgraded p rest e.items e.first e.steps e.explains).0;
+  kept = λ p rest e. (upgraded p rest e.items e.first e.steps e.explains).1;
 }

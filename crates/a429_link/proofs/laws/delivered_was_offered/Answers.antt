@@ -3,4 +3,4 @@ use Rattle.a429_link.proofs.RunCrossing.{delivered_subsequence}
 use Rattle.a429_link.proofs.laws.delivered_was_offered.Goals as goal
 
 pub returns : goal.returns
-returns c = λ p f xs h. delivered_subsequence p f xs (is_read p h.sound) h.byte h.run
+returns c = λ p r. delivered_subsequence p r.first r.steps (is_read p r.is_run.sound) r.is_run.byte r.is_run.run

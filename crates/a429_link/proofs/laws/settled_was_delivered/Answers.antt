@@ -3,4 +3,4 @@ use Rattle.a429_link.proofs.RunCrossing.{settled_subsequence}
 use Rattle.a429_link.proofs.laws.settled_was_delivered.Goals as goal
 
 pub returns : goal.returns
-returns c = λ p f xs h. settled_subsequence p f xs (is_read p h.sound) h.byte h.run
+returns c = λ p r. settled_subsequence p r.first r.steps (is_read p r.is_run.sound) r.is_run.byte r.is_run.run
