@@ -232,17 +232,12 @@ stands-faulty bytes es f e = from_rows (rows_of bytes) refl e where
     | inr other ↦ no_header bytes (r ∷ rows) es f is other (rw other at e)
   ]
 
--- the fault alone, after whatever entries
-with_fault : (t : Recording) (f : ReadFault) → t.fault ≡ Some f → t ≡ stops_after t.entries f
-with_fault t f e = ap (λ (o : Option ReadFault). record { entries = t.entries; fault = o }) e
+pub fault-faulty_text : (bytes : List ℕ) (es : List Entry) (f : ReadFault) → is_binary bytes ≡ false → stands_for bytes ≡ stops_after es f → IsFaultyText bytes es f
+fault-faulty_text bytes es f text e = stands-faulty bytes es f (sym (text-stands bytes text) ∙ e)
 
-pub fault-faulty_text : (bytes : List ℕ) (f : ReadFault) → is_binary bytes ≡ false → (stands_for bytes).fault ≡ Some f → IsFaultyText bytes (stands_for bytes).entries f
-fault-faulty_text bytes f text e = stands-faulty bytes (stands_for bytes).entries f (sym (text-stands bytes text) ∙ with_fault (stands_for bytes) f e)
-
-pub fault-faulty_binary : (bytes : List ℕ) (f : ReadFault) → is_binary bytes ≡ true → (stands_for bytes).fault ≡ Some f → IsFaultyBinary bytes (stands_for bytes).entries f
-fault-faulty_binary bytes f binary e = record {
+pub fault-faulty_binary : (bytes : List ℕ) (es : List Entry) (f : ReadFault) → is_binary bytes ≡ true → stands_for bytes ≡ stops_after es f → IsFaultyBinary bytes es f
+fault-faulty_binary bytes es f binary e = record {
   behind = drop 8 bytes;
   all = magic-split bytes binary;
-  among = refused_among (piece_entries (drop 8 bytes)) (stands_for bytes).entries f
-      (rows-stop 0 0 (piece_entries (drop 8 bytes)) (stands_for bytes).entries f (omega arith) (sym (binary-stands bytes binary) ∙ with_fault (stands_for bytes) f e));
+  among = refused_among (piece_entries (drop 8 bytes)) es f (rows-stop 0 0 (piece_entries (drop 8 bytes)) es f (omega arith) (sym (binary-stands bytes binary) ∙ e));
 }

@@ -1,5 +1,5 @@
 -- The binary form of a recording (profile).
-use Rattle.std.specs.Prelude.{ℕ, zero, suc, ◌+◌, ◌*◌, ◌/◌, ◌%◌, ◌^◌, List, [], ◌∷◌, ◌++◌, length, take, drop, map, flat_map, Bool, ◌==◌, if◌then◌else◌, Option, Some, None, codes, bytes_eq}
+use Rattle.std.specs.Prelude.{◌≡◌, ℕ, zero, suc, ◌+◌, ◌*◌, ◌/◌, ◌%◌, ◌^◌, List, [], ◌∷◌, ◌++◌, length, take, drop, map, flat_map, Bool, true, false, ◌==◌, if◌then◌else◌, Option, Some, None, codes, bytes_eq}
 use Rattle.a429_word.specs.Bus.{bus_text}
 use Rattle.a429_record.specs.declared.entry.Entry.{Entry}
 use Rattle.a429_record.specs.Row.{bus_in, entry_with}
@@ -11,6 +11,14 @@ magic = codes "A429REC1"
 -- bytes begin with these: the recording is binary, and else text
 abbrev pub is_binary : List ℕ → Bool
 is_binary bytes = bytes_eq (take 8 bytes) magic
+
+-- bytes are those of a binary recording
+abbrev pub IsBinary : List ℕ → Type 0
+IsBinary bytes = is_binary bytes ≡ true
+
+-- bytes are those of a text
+abbrev pub IsText : List ℕ → Type 0
+IsText bytes = is_binary bytes ≡ false
 
 -- the number that bytes write, the highest of them first
 abbrev pub big_endian : List ℕ → ℕ

@@ -5,11 +5,15 @@ use Rattle.a429_record.specs.declared.fault.ReadFault.{ReadFault}
 use Rattle.a429_record.specs.declared.fault.ReadFault.TheVariants as fault
 use Rattle.a429_record.specs.Row.{Row, is_header, entry_in}
 use Rattle.a429_record.specs.Binary.{magic, piece_entries}
-use Rattle.a429_record.specs.Recording.{Recording, rows_of, most_entries, IsRecordable}
+use Rattle.a429_record.specs.Recording.{Recording, rows_of, most_entries, IsRecordable, stands_for}
 
 -- these entries, and then a fault
 abbrev pub stops_after : List Entry → ReadFault → Recording
 stops_after es f = record { entries = es; fault = Some f }
+
+-- bytes stand for these entries, and then this fault
+abbrev pub StopAfter : List ℕ → List Entry → ReadFault → Type 0
+StopAfter bytes es f = stands_for bytes ≡ stops_after es f
 
 -- rows begin with these entries, which a recording may hold, and then comes one with this entry, or with none
 pub record ComesAfter (es : List Entry) (entry : Option Entry) (rows : List (Option Entry)) : Type 0 where

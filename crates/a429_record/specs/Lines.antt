@@ -22,6 +22,10 @@ pending_of remaining s rec = prepend_known (ahead_of s) (unread remaining rec)
 abbrev pub room_of : {R : Type 0} → Lines → Tally R → ℕ
 room_of s rec = left_of rec + length (ahead_of s)
 
+-- these bytes are given
+abbrev pub HandsBytes : {R : Type 0} → (R → Option (List ℕ)) → List ℕ → Lines → Tally R → Lines → Tally R → Type 0
+HandsBytes remaining bytes old rec new new_rec = Consumes (pending_of remaining old rec) (pending_of remaining new new_rec) bytes
+
 -- lines are given: what they take of the bytes, and what is then left, are so
 abbrev pub HandsOut : {R : Type 0} → (List ℕ → List ℕ → Type 0) → (R → Option (List ℕ)) → Lines → Tally R → Lines → Tally R → Type 0
 HandsOut P remaining old rec new new_rec = Loses P (pending_of remaining old rec) (pending_of remaining new new_rec)

@@ -1,13 +1,13 @@
 //! Laws of the definitions that the contracts of this crate cite.
 
-ghost use Rattle.std.specs.Prelude.{◌≡◌, ◌<◌, ◌^◌, ℕ, List, Some, true, false};
+ghost use Rattle.std.specs.Prelude.{◌≡◌, ◌<◌, ◌^◌, ℕ, List};
 ghost use Rattle.csv.specs.Writing.{row_text, default_writer};
 ghost use Rattle.a429_record.specs.declared.entry.Entry.{Entry};
-ghost use Rattle.a429_record.specs.Binary.{is_binary, binary_form};
+ghost use Rattle.a429_record.specs.Binary.{IsBinary, IsText, binary_form};
 ghost use Rattle.a429_record.specs.Recording.{stands_for, whole, most_entries, IsRecordable};
 ghost use Rattle.a429_record.specs.declared.fault.ReadFault.{ReadFault};
 ghost use Rattle.a429_record.specs.WholeRecordings.{IsWholeText, IsWholeBinary, AreEntries};
-ghost use Rattle.a429_record.specs.FaultyRecordings.{stops_after, IsFaultyText, IsFaultyBinary};
+ghost use Rattle.a429_record.specs.FaultyRecordings.{StopAfter, IsFaultyText, IsFaultyBinary};
 ghost use Rattle.a429_record.specs.Writing.{header_fields, entry_fields, header_text, line_text, written_form};
 
 use crate::entry::MOST_ENTRIES;
@@ -20,32 +20,29 @@ pub fn the_most_entries()
 /// The bytes of a text recording stand for entries with no fault where they are the header and the
 /// entries' rows, at most 1,000,000 whose times never fall, and nowhere else.
 pub fn whole_texts()
-    ensures there { (bytes : List ℕ) (es : List Entry) → is_binary bytes ≡ false → IsWholeText bytes es → stands_for bytes ≡ whole es }
-    ensures only { (bytes : List ℕ) (es : List Entry) → is_binary bytes ≡ false → stands_for bytes ≡ whole es → IsWholeText bytes es }
+    ensures there { (bytes : List ℕ) (es : List Entry) → IsText bytes → IsWholeText bytes es → stands_for bytes ≡ whole es }
+    ensures only { (bytes : List ℕ) (es : List Entry) → IsText bytes → stands_for bytes ≡ whole es → IsWholeText bytes es }
 {}
 
 /// Those of a binary recording do where the entries' pieces come behind their first eight.
 pub fn whole_binaries()
     ensures there { (bytes : List ℕ) (es : List Entry) → IsWholeBinary bytes es → stands_for bytes ≡ whole es }
-    ensures only { (bytes : List ℕ) (es : List Entry) → is_binary bytes ≡ true → stands_for bytes ≡ whole es → IsWholeBinary bytes es }
+    ensures only { (bytes : List ℕ) (es : List Entry) → IsBinary bytes → stands_for bytes ≡ whole es → IsWholeBinary bytes es }
 {}
 
 /// The bytes of a text recording stand for entries and a fault after them where the header is missing,
 /// or else where behind it and these entries' rows comes a row too many, one that is no entry or one
 /// whose time is below the one before, and nowhere else.
 pub fn texts_with_a_fault()
-    ensures there { (bytes : List ℕ) (es : List Entry) (f : ReadFault) → is_binary bytes ≡ false
-        → IsFaultyText bytes es f → stands_for bytes ≡ stops_after es f }
-    ensures only { (bytes : List ℕ) (f : ReadFault) → is_binary bytes ≡ false
-        → (stands_for bytes).fault ≡ Some f → IsFaultyText bytes (stands_for bytes).entries f }
+    ensures there { (bytes : List ℕ) (es : List Entry) (f : ReadFault) → IsText bytes → IsFaultyText bytes es f → StopAfter bytes es f }
+    ensures only { (bytes : List ℕ) (es : List Entry) (f : ReadFault) → IsText bytes → StopAfter bytes es f → IsFaultyText bytes es f }
 {}
 
 /// Those of a binary recording do where behind its entries' pieces comes such a piece, which is no entry
 /// where it is cut too.
 pub fn binaries_with_a_fault()
-    ensures there { (bytes : List ℕ) (es : List Entry) (f : ReadFault) → IsFaultyBinary bytes es f → stands_for bytes ≡ stops_after es f }
-    ensures only { (bytes : List ℕ) (f : ReadFault) → is_binary bytes ≡ true
-        → (stands_for bytes).fault ≡ Some f → IsFaultyBinary bytes (stands_for bytes).entries f }
+    ensures there { (bytes : List ℕ) (es : List Entry) (f : ReadFault) → IsFaultyBinary bytes es f → StopAfter bytes es f }
+    ensures only { (bytes : List ℕ) (es : List Entry) (f : ReadFault) → IsBinary bytes → StopAfter bytes es f → IsFaultyBinary bytes es f }
 {}
 
 /// What is written of entries as a text stands for these entries.

@@ -25,7 +25,7 @@ pub struct Lines {
 }
 
 impl Lines {
-    ghost use Rattle.a429_record.specs.Lines.{ahead_of, pending_of, room_of, HandsLine, FailsAfter, Chooses, IsMagicFront, IsShort, IsNothing};
+    ghost use Rattle.a429_record.specs.Lines.{ahead_of, pending_of, room_of, HandsBytes, HandsLine, FailsAfter, Chooses, IsMagicFront, IsShort, IsNothing};
     ghost use Rattle.a429_record.specs.declared.fault.ReadFault.TheVariants as fault;
 
     /// Nothing was read.
@@ -115,8 +115,7 @@ impl Lines {
         requires { has_failed rec.old ≡ false }
         ensures size { length bytes.new ≡ length bytes.old }
         ensures most { IfOk result (λ n. n ≤ length bytes.new) }
-        ensures takes { IfOk result (λ n. Consumes (pending_of R.remaining self.old rec.old)
-            (pending_of R.remaining self.new rec.new) (take n bytes.new)) }
+        ensures takes { IfOk result (λ n. HandsBytes R.remaining (take n bytes.new) self.old rec.old self.new rec.new) }
         ensures end { IfOk result (λ n. n < length bytes.new → IsAtEnd (pending_of R.remaining self.new rec.new)) }
         ensures room { IfOk result (λ n. room_of self.new rec.new + n ≡ room_of self.old rec.old) }
         ensures err { IfErr result (λ f. f ≡ fault.Device) }

@@ -2,9 +2,9 @@
 use Rattle.std.proofs.Common.{◌≡◌, ℕ, zero, suc, ◌+◌, ◌-◌, ◌*◌, ◌/◌, ◌^◌, ◌<◌, ◌≤◌, refl, sym, ap, ◌∙◌, arith, inl, inr, bit_and, cond, eqb, false, mul_assoc, pow-suc}
 use Rattle.std.proofs.lemmas.Bool.{cases_lt}
 use Rattle.a429_word.specs.Word.{sum_below, number_at}
-use Rattle.std.specs.Prelude.{Result, Ok, Err, IfOk, IfErr}
+use Rattle.std.specs.Prelude.{Result, Ok, Err}
 use Rattle.a429_word.specs.declared.bcd.BadDigit.{BadDigit}
-use Rattle.a429_word.specs.Bcd.{digit_of, decimal_of, AreDecimal, IsFirstBad}
+use Rattle.a429_word.specs.Bcd.{digit_of, decimal_of, AreDecimal, ReadsBcd}
 use Rattle.a429_word.proofs.WordBits.{masked_from, sum_below-same}
 
 -- a digit, as a mask reads it
@@ -73,7 +73,6 @@ read-more w k n d is e small =
 -- ---- written and read
 
 -- where each digit is one, none is the first that is not
-pub bcd-read : (w k n : ℕ) (read : Result ℕ BadDigit) → AreDecimal w k → decimal_of w k ≡ n
-    → IfOk read (λ m. AreDecimal w k × (m ≡ decimal_of w k)) → IfErr read (λ e. IsFirstBad w k e.0) → read ≡ Ok n
-bcd-read w k n (Ok m) all is ok err = ap Ok (ok.1 ∙ is)
-bcd-read w k n (Err e) all is ok err = absurd (omega (arith, all e.0 err.least err.most, err.above))
+pub bcd-read : (w k n : ℕ) (read : Result ℕ BadDigit) → AreDecimal w k → decimal_of w k ≡ n → ReadsBcd w k read → read ≡ Ok n
+bcd-read w k n (Ok m) all is h = ap Ok (h.1 ∙ is)
+bcd-read w k n (Err e) all is h = absurd (omega (arith, all e.0 h.least h.most, h.above))

@@ -184,4 +184,4 @@ same_from_halves v w hv hw low top = omega arith
 
 -- words that are alike in each part are one
 pub same_from_parts : (v w : ℕ) → v < 2 ^ 32 → w < 2 ^ 32 → SameParts v w → v ≡ w
-same_from_parts v w hv hw same = same_from_halves v w hv hw (same_below_parity v w same.label same.sdi same.field same.ssm) same.parity_bit
+same_from_parts v w hv hw same = same_from_halves v w hv hw (same_below_parity v w same.fields.label same.fields.sdi same.fields.field same.fields.ssm) same.parity_bit

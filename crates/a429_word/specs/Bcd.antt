@@ -1,5 +1,6 @@
 -- The BCD value (ARINC 429 Part 1, binary coded decimal). How many digits k a value has, and the place of a bad one, are the project's own (profile).
-use Rattle.std.specs.Prelude.{ℕ, ◌-◌, ◌*◌, ◌^◌, ◌≤◌, ◌<◌, ◌==◌, if◌then◌else◌}
+use Rattle.std.specs.Prelude.{◌≡◌, ℕ, ◌-◌, ◌*◌, ◌^◌, ◌≤◌, ◌<◌, ◌==◌, if◌then◌else◌, Result, Ok, Err}
+use Rattle.a429_word.specs.declared.bcd.BadDigit.{BadDigit}
 use Rattle.a429_word.specs.Word.{sum_below, number_at}
 
 -- digit i, from 1 to 5, of which 1 is the most significant: it is the number of bits 27 to 29, the second of 23 to 26, the third of 19 to 22, the fourth of 15 to 18, the fifth of 11 to 14
@@ -20,3 +21,8 @@ pub record IsFirstBad (w k place : ℕ) : Type 0 where
   pub most : place ≤ k
   pub above : 9 < digit_of w place
   pub before : AreDecimal w (place - 1)
+
+-- what the first k digits are read as: the number that they write, or else the place of the first that is above 9
+abbrev pub ReadsBcd : ℕ → ℕ → Result ℕ BadDigit → Type 0
+ReadsBcd w k (Ok n) = AreDecimal w k × (n ≡ decimal_of w k)
+ReadsBcd w k (Err e) = IsFirstBad w k e.0

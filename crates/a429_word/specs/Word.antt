@@ -47,10 +47,14 @@ count_of_ones w = sum_below 32 (λ j. bit w (j + 1))
 abbrev pub HasOddParity : ℕ → Type 0
 HasOddParity w = count_of_ones w % 2 ≡ 1
 
--- two words are alike in each part
-pub record SameParts (v w : ℕ) : Type 0 where
+-- two words are alike in label, SDI, data field and SSM
+pub record SameFields (v w : ℕ) : Type 0 where
   pub label : label_of v ≡ label_of w
   pub sdi : sdi_of v ≡ sdi_of w
   pub field : field_of v ≡ field_of w
   pub ssm : ssm_of v ≡ ssm_of w
+
+-- and in the parity bit: in each part
+pub record SameParts (v w : ℕ) : Type 0 where
+  pub fields : SameFields v w
   pub parity_bit : bit v 32 ≡ bit w 32

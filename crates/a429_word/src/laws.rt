@@ -1,10 +1,10 @@
 //! Laws of the definitions that the contracts of this crate cite.
 
-ghost use Rattle.std.specs.Prelude.{◌≡◌, ℕ, ◌≤◌, ◌<◌, ◌-◌, ◌^◌, Option, Some, Result, Ok, IfOk, IfErr, List, ℤ, pos, neg_ℤ, ◌≤ℤ◌, ◌<ℤ◌};
-ghost use Rattle.a429_word.specs.Word.{number_of_bits, bit, AreBits, label_of, sdi_of, field_of, ssm_of, number_at, HasOddParity, SameParts};
+ghost use Rattle.std.specs.Prelude.{◌≡◌, ℕ, ◌≤◌, ◌<◌, ◌^◌, Option, Some, Result, Ok, List, ℤ, pos, neg_ℤ, ◌≤ℤ◌, ◌<ℤ◌};
+ghost use Rattle.a429_word.specs.Word.{number_of_bits, bit, AreBits, HasOddParity, SameFields, SameParts};
 ghost use Rattle.a429_word.specs.declared.bcd.BadDigit.{BadDigit};
-ghost use Rattle.a429_word.specs.Bnr.{raw_of};
-ghost use Rattle.a429_word.specs.Bcd.{decimal_of, AreDecimal, IsFirstBad};
+ghost use Rattle.a429_word.specs.Bnr.{raw_of, SameBnrFields};
+ghost use Rattle.a429_word.specs.Bcd.{decimal_of, AreDecimal, ReadsBcd};
 ghost use Rattle.a429_word.specs.Digits.{hex_text, ReadsHex};
 ghost use Rattle.a429_word.specs.Fixed.{SpellsFraction};
 
@@ -26,8 +26,7 @@ pub fn parts_make_the_word()
 
 /// No two words of odd parity have the same label, SDI, data field and SSM.
 pub fn fields_make_the_good_word()
-    ensures { (v w : ℕ) → v < 2 ^ 32 → w < 2 ^ 32 → HasOddParity v → HasOddParity w
-        → label_of v ≡ label_of w → sdi_of v ≡ sdi_of w → field_of v ≡ field_of w → ssm_of v ≡ ssm_of w → v ≡ w }
+    ensures { (v w : ℕ) → v < 2 ^ 32 → w < 2 ^ 32 → HasOddParity v → HasOddParity w → SameFields v w → v ≡ w }
 {}
 
 /// What `Word::hex` writes of a word, `Word::parse_hex` reads as that word.
@@ -42,21 +41,16 @@ pub fn hex_is_read_back()
 pub fn bnr_is_read_back()
     ensures read { (w s : ℕ) (raw read : ℤ) → raw_of w s ≡ raw → read ≡ raw_of w s → read ≡ raw }
     ensures within { (w s : ℕ) → 1 ≤ s → s ≤ 18 → (neg_ℤ (pos (2 ^ s)) ≤ℤ raw_of w s) × (raw_of w s <ℤ pos (2 ^ s)) }
-    ensures one { (v w s : ℕ) → v < 2 ^ 32 → w < 2 ^ 32 → 1 ≤ s → s ≤ 18 → HasOddParity v → HasOddParity w
-        → label_of v ≡ label_of w → sdi_of v ≡ sdi_of w → ssm_of v ≡ ssm_of w → raw_of v s ≡ raw_of w s
-        → number_at v 11 (18 - s) ≡ number_at w 11 (18 - s) → v ≡ w }
+    ensures one { (v w s : ℕ) → v < 2 ^ 32 → w < 2 ^ 32 → 1 ≤ s → s ≤ 18 → HasOddParity v → HasOddParity w → SameBnrFields v w s → v ≡ w }
 {}
 
 /// A word that has a number in its first k digits, as `Word::bcd_word` promises, is one of which
 /// `Word::bcd_digits` answers that number.
 pub fn bcd_is_read_back()
-    ensures { (w k n : ℕ) (read : Result ℕ BadDigit) → AreDecimal w k → decimal_of w k ≡ n
-        → IfOk read (λ m. AreDecimal w k × (m ≡ decimal_of w k))
-        → IfErr read (λ e. IsFirstBad w k e.0) → read ≡ Ok n }
+    ensures { (w k n : ℕ) (read : Result ℕ BadDigit) → AreDecimal w k → decimal_of w k ≡ n → ReadsBcd w k read → read ≡ Ok n }
 {}
 
 /// A fraction has one spelling.
 pub fn a_fraction_has_one_spelling()
-    ensures { (v w : List ℕ) (number : ℤ) (decimals : ℕ)
-        → SpellsFraction v number decimals → SpellsFraction w number decimals → v ≡ w }
+    ensures { (v w : List ℕ) (number : ℤ) (decimals : ℕ) → SpellsFraction v number decimals → SpellsFraction w number decimals → v ≡ w }
 {}

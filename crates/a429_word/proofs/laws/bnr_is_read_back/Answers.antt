@@ -7,5 +7,5 @@ pub returns : goal.returns
 returns c = record {
   read = λ w s raw read is answered. answered ∙ is;
   within = raw_of-within;
-  one = λ v w s hv hw least most odd_v odd_w label sdi ssm raw rest. same_from_fields v w hv hw odd_v odd_w label sdi (field_from_raw v w s least most raw rest) ssm;
+  one = λ v w s hv hw least most odd_v odd_w h. same_from_fields v w hv hw odd_v odd_w h.label h.sdi (field_from_raw v w s least most h.raw h.below) h.ssm;
 }
