@@ -19,7 +19,7 @@ use Rattle.a429_explain.specs.Matching.{IsOfBlock}
 use Rattle.a429_explain.proofs.CleanBlock.{HasForms, AreOfBlock, block_has_forms}
 use Rattle.a429_explain.proofs.CleanGroups.{unit_has_forms}
 use Rattle.a429_check.specs.Recording.{SayInput}
-use Rattle.a429_check.specs.Make.{timed, words_made, MakesRecording, AreByteLists, AreDelivered}
+use Rattle.a429_check.specs.Make.{timed, words_made, MakesRecording, SaysRunOf, AreByteLists, AreDelivered}
 use Rattle.a429_check.proofs.MakeCrossed.{is_profile, each_cut, made_cross}
 use Rattle.a429_link.specs.declared.number.UnitNumber.{UnitNumber}
 use Rattle.a429_link.specs.Number.{first_number, number_after}
@@ -81,10 +81,11 @@ made_back p is files small none room =
     written-back (timed 0 words) (are_entries 0 words (omega arith) are) (omega (arith, length-timed 0 words), never_falls 0 0 words (omega arith))
 
 -- and what it says is what a run records that delivers the files
-pub made_says : (profile : List ℕ) (files : List (List ℕ)) (text : List ℕ) → AreByteLists files → MakesRecording profile files text → (says : SayInput profile (Some text)) × AreDelivered says.contents (items_of says.entries) files
+pub made_says : (profile : List ℕ) (files : List (List ℕ)) (text : List ℕ) → AreByteLists files → MakesRecording profile files text → SaysRunOf profile files text
 made_says profile files text small made =
     let p = made.contents in
-    let run = made_cross profile p files made.is_profile small made.cut in
-    let back = made_back p (is_profile profile p made.is_profile) files small made.cut made.room in
+    let is = is_profile profile p made.is_profile in
+    let run = made_cross p files is small made.cut in
+    let back = made_back p is files small made.cut made.room in
     let says : SayInput profile (Some text) = record { contents = p; entries = timed 0 (words_made p files); is_profile = made.is_profile; stand = ap stands_for made.is ∙ back } in
     (says, (run.0, subst (λ items. IsRunOf p 1 run.0 items (record { files = numbered 1 files; open_bytes = [] })) (sym (items_timed 0 (words_made p files))) run.1))

@@ -40,7 +40,5 @@ each_cut p is k (bytes ∷ files) small none =
     let r = has_room bytes parts.0 in
     (units p is 255 bytes (omega arith) (omega arith) small.0 r.some r.most, each_cut p is (k + 1) files small.1 parts.1)
 
-pub made_cross : (profile : List ℕ) (p : Contents) (files : List (List ℕ)) → IsProfileOf profile p → AreByteLists files → first_refused 255 0 files ≡ None → AreDelivered p (words_made p files) files
-made_cross profile p files of small none =
-    let is = is_profile profile p of in
-    (clean_run_steps p 255 1 files, files_cross p 255 1 files is (omega arith) (each_cut p is 0 files small none))
+pub made_cross : (p : Contents) (files : List (List ℕ)) → IsProfile p → AreByteLists files → first_refused 255 0 files ≡ None → AreDelivered p (words_made p files) files
+made_cross p files is small none = (clean_run_steps p 255 1 files, files_cross p 255 1 files is (omega arith) (each_cut p is 0 files small none))

@@ -2,7 +2,7 @@
 use Rattle.std.proofs.Common.{◌≡◌, ◌≢◌, ◌≤◌, ◌<◌, ◌⊎◌, inl, inr, ℕ, List, Bool, true, false, Option, Some, None, Result, Ok, Err, IfOk, IfErr, refl, sym, ap, subst}
 use Rattle.std.specs.Result.{OnOk}
 use Rattle.a429_word.specs.declared.tally.Tally.{Tally}
-use Rattle.a429_word.specs.Tally.{Puts}
+use Rattle.a429_word.specs.Tally.{has_failed, Puts}
 use Rattle.a429_profile.specs.Profile.{Contents}
 use Rattle.a429_record.specs.Recording.{Recording}
 use Rattle.a429_cert.specs.declared.fault.CertFault.{CertFault}
@@ -19,8 +19,9 @@ use Rattle.a429_view.proofs.SketchFacts.{is_of}
 use Rattle.a429_check.specs.declared.fault.RunFault.{RunFault}
 use Rattle.a429_check.specs.declared.fault.RunFault.TheVariants as run
 use Rattle.a429_check.specs.Profile.{IsProfileOf}
-use Rattle.a429_check.specs.Verdict.{AllWork, HasFailed, IsSilent, IsVerdict, IsVerifyFault, PutsText, no_text}
-use Rattle.a429_check.specs.Picture.{ARun, DrawsRun, IsTooLongRun, IsAcceptedSo, IsPicture, IsPictureFault}
+use Rattle.a429_check.specs.Output.{PutsText}
+use Rattle.a429_check.specs.Verdict.{AllWork, HasFailed, IsSilent, no_text}
+use Rattle.a429_check.specs.Picture.{ARun, DrawsRun, IsTooLongRun, IsPicture, IsNoPicture, IsSketchFault}
 
 where_told : (known : Option (List ℕ)) (rec : Option Recording) (A B : List ℕ → Recording → Type 0) → ((text : List ℕ) (r : Recording) → A text r → B text r) → WhereTold known rec A → WhereTold known rec B
 where_told None rec A B f a = tt
@@ -61,23 +62,11 @@ pub refused : (profile : List ℕ) (p : Contents) (known : Option (List ℕ)) (r
 refused profile p known rec span f is here other =
     inr (refl, record { answer = Err (stream.Cert f); judged = record { contents = p; is_profile = is; is = here }; told = (refl, refl, other) })
 
--- a fault of `verify`
-pub of_verify : (profile : List ℕ) (known : Option (List ℕ)) (rec : Option Recording) (span : Span) (Few More : Type 0) (e : RunFault)
-    → (Few → More) → IsVerifyFault profile known rec None None Few e → IsPictureFault profile known rec span More e
-of_verify profile known rec span Few More (run.Profile f) m h = h
-of_verify profile known rec span Few More (run.Read f) m h = h
-of_verify profile known rec span Few More (run.Cut k f) m h = absurd h
-of_verify profile known rec span Few More run.TooLong m h = absurd h
-of_verify profile known rec span Few More run.Device m h = (m h.0, h.1)
-of_verify profile known rec span Few More run.Memory m h = h
-of_verify profile known rec span Few More run.BadWord m h = absurd h
-of_verify profile known rec span Few More run.Usage m h = absurd h
-
 -- too many steps
-pub too_long : (profile : List ℕ) (p : Contents) (known : Option (List ℕ)) (rec : Option Recording) (span : Span) (Failed : Type 0) (old new : Sketch) (files : List (ℕ × ℕ))
+too_long : (profile : List ℕ) (p : Contents) (known : Option (List ℕ)) (rec : Option Recording) (span : Span) (old new : Sketch) (files : List (ℕ × ℕ))
     → IsProfileOf profile p → Extracts p known rec None None files → IsBlank span old → HearsRun Hears p known rec old new → most_steps < new.steps
-    → IsPictureFault profile known rec span Failed run.TooLong
-too_long profile p known rec span Failed old new files is here b h e =
+    → IsNoPicture profile known rec span run.TooLong
+too_long profile p known rec span old new files is here b h e =
     record {
       contents = p;
       is_profile = is;
@@ -112,32 +101,36 @@ pub all_work : (r : Result ℕ RunFault) (rec certificate out : Bool) → AllWor
 all_work (Ok status) rec certificate out w h = (w.0, w.1, refl, h)
 all_work (Err f) rec certificate out w h = tt
 
-pub no_picture : (profile : List ℕ) (p : Contents) (known : Option (List ℕ)) (rec : Option Recording) (span : Span) (Failed : Type 0) (out : Bool) (old new : Sketch) (files : List (ℕ × ℕ)) (r : Result ℕ RunFault)
+pub no_picture : (profile : List ℕ) (p : Contents) (known : Option (List ℕ)) (rec : Option Recording) (span : Span) (out : Bool) (old new : Sketch) (files : List (ℕ × ℕ)) (r : Result ℕ RunFault)
     → IsProfileOf profile p → Extracts p known rec None None files → IsBlank span old → HearsRun Hears p known rec old new
-    → IfErr r (λ e. ((e ≡ run.TooLong) × (most_steps < new.steps)) ⊎ (e ≡ run.Memory) ⊎ ((e ≡ run.Device) × (out ≡ true)))
-    → IfErr r (IsPictureFault profile known rec span (Failed ⊎ (out ≡ true)))
-no_picture profile p known rec span Failed out old new files (Ok status) is here b h f = tt
-no_picture profile p known rec span Failed out old new files (Err e) is here b h f = by f
+    → IfErr r (IsSketchFault new.steps out) → IfErr r (IsNoPicture profile known rec span)
+no_picture profile p known rec span out old new files (Ok status) is here b h f = tt
+no_picture profile p known rec span out old new files (Err e) is here b h f = by e f
   where
-    by : ((e ≡ run.TooLong) × (most_steps < new.steps)) ⊎ (e ≡ run.Memory) ⊎ ((e ≡ run.Device) × (out ≡ true)) → IsPictureFault profile known rec span (Failed ⊎ (out ≡ true)) e
-    by (inl g) = subst (IsPictureFault profile known rec span (Failed ⊎ (out ≡ true))) (sym g.0) (too_long profile p known rec span (Failed ⊎ (out ≡ true)) old new files is here b h g.1)
-    by (inr (inl g)) = subst (IsPictureFault profile known rec span (Failed ⊎ (out ≡ true))) (sym g) (is.0, inl tt)
-    by (inr (inr g)) = subst (IsPictureFault profile known rec span (Failed ⊎ (out ≡ true))) (sym g.0) (inr g.1, (Ok files, record { contents = p; is_profile = is; is = here }))
+    by : (e : RunFault) → IsSketchFault new.steps out e → IsNoPicture profile known rec span e
+    by run.TooLong many = too_long profile p known rec span old new files is here b h many
+    by run.Memory _ = (is.0, inl tt)
+    by run.Device _ = (tt, (Ok files, record { contents = p; is_profile = is; is = here }))
+    by (run.Profile f) f' = absurd f'
+    by (run.Read f) f' = absurd f'
+    by (run.Cut k f) f' = absurd f'
+    by run.BadWord f' = absurd f'
+    by run.Usage f' = absurd f'
 
 -- the output alone failed
-pub no_refusal : (profile : List ℕ) (p : Contents) (known : Option (List ℕ)) (rec : Option Recording) (span : Span) (Failed : Type 0) (out : Bool) (f : CertFault) (r : Result ℕ RunFault)
-    → IsProfileOf profile p → Refuses p known rec None None (stream.Cert f) → IfErr r (λ e. (e ≡ run.Device) × (out ≡ true)) → IfErr r (IsPictureFault profile known rec span (Failed ⊎ (out ≡ true)))
-no_refusal profile p known rec span Failed out f (Ok status) is here g = tt
-no_refusal profile p known rec span Failed out f (Err e) is here g =
-    subst (IsPictureFault profile known rec span (Failed ⊎ (out ≡ true))) (sym g.0) (inr g.1, (Err (stream.Cert f), record { contents = p; is_profile = is; is = here }))
+pub no_refusal : (profile : List ℕ) (p : Contents) (known : Option (List ℕ)) (rec : Option Recording) (span : Span) (out : Bool) (f : CertFault) (r : Result ℕ RunFault)
+    → IsProfileOf profile p → Refuses p known rec None None (stream.Cert f) → IfErr r (λ e. (e ≡ run.Device) × (out ≡ true)) → IfErr r (IsNoPicture profile known rec span)
+no_refusal profile p known rec span out f (Ok status) is here g = tt
+no_refusal profile p known rec span out f (Err e) is here g =
+    subst (IsNoPicture profile known rec span) (sym g.0) (tt, (Err (stream.Cert f), record { contents = p; is_profile = is; is = here }))
 
 -- the output is as it was after any fault but its own
-pub silent : {W : Type 0} (rec certificate out : Bool) (old new : Tally W) (r : Result ℕ RunFault) → AllWork rec certificate false false
-    → IfErr r (λ e. (e ≢ run.Device) ⊎ (out ≡ false) → new ≡ old) → IfErr r (IsSilent (HasFailed rec certificate false) out old new)
-silent rec certificate out old new (Ok status) w s = tt
-silent rec certificate out old new (Err e) w s = by
+pub silent : {W : Type 0} (rec certificate : Bool) (old new : Tally W) (r : Result ℕ RunFault) → AllWork rec certificate false false
+    → IfErr r (λ e. (e ≢ run.Device) ⊎ (has_failed new ≡ false) → new ≡ old) → IfErr r (IsSilent (HasFailed rec certificate false) old new)
+silent rec certificate old new (Ok status) w s = tt
+silent rec certificate old new (Err e) w s = by
   where
-    by : (e ≢ run.Device) ⊎ (HasFailed rec certificate false ⊎ (out ≡ false)) → new ≡ old
+    by : (e ≢ run.Device) ⊎ (HasFailed rec certificate false ⊎ (has_failed new ≡ false)) → new ≡ old
     by (inl h) = s (inl h)
     by (inr (inl h)) = absurd (none_failed rec certificate w h)
     by (inr (inr h)) = s (inr h)

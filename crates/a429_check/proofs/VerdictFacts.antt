@@ -66,6 +66,19 @@ weaker_fault profile certificate rec old new Failed More run.Memory more h = h
 weaker_fault profile certificate rec old new Failed More run.BadWord more h = h
 weaker_fault profile certificate rec old new Failed More run.Usage more h = h
 
+-- `Device` is told only of a device
+pub told_device : (Failed : Type 0) (f : StreamFault) → of_stream f ≡ run.Device → (f ≡ stream.Device → Failed) → (f ≡ stream.Read read.Device → Failed) → Failed
+told_device Failed (stream.Cert f) e a b = cc e
+told_device Failed (stream.Read read.Header) e a b = cc e
+told_device Failed (stream.Read (read.Row i)) e a b = cc e
+told_device Failed (stream.Read (read.TimeBack i)) e a b = cc e
+told_device Failed (stream.Read read.TooMany) e a b = cc e
+told_device Failed (stream.Read read.Failed) e a b = cc e
+told_device Failed (stream.Read read.Device) e a b = b refl
+told_device Failed (stream.Read read.OutOfMemory) e a b = cc e
+told_device Failed stream.Device e a b = a refl
+told_device Failed stream.OutOfMemory e a b = cc e
+
 -- no fault of a stream is one of a profile
 pub no_profile : (f : StreamFault) (fault : ProfileFault) → of_stream f ≡ run.Profile fault → ⊥
 no_profile (stream.Cert f) fault e = cc e

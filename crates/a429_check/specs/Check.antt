@@ -13,7 +13,7 @@ use Rattle.a429_explain.specs.Verdict.{IsSoundVerdict, IsImpossible, IsDoubted, 
 use Rattle.a429_explain.specs.WithoutLoss.{IsWithoutLoss}
 use Rattle.std.specs.Str.{IsUtf8}
 use Rattle.a429_cert.specs.Stream.{sizes}
-use Rattle.a429_word.specs.Tally.{has_failed, PutsFront}
+use Rattle.a429_word.specs.Tally.{has_failed, unread, Puts, PutsFront}
 use Rattle.a429_check.specs.declared.fault.RunFault.{RunFault}
 use Rattle.a429_check.specs.Fault.{ComesBy, never}
 use Rattle.a429_check.specs.Profile.{IsSomeProfile, HasFault}
@@ -59,6 +59,12 @@ pub record IsVerdictOn (profile : List ℕ) (recording : Option (List ℕ)) (v :
   pub first : IsFirst (says.contents) (items_of (says.entries)) v
   pub no_form : HasNoForm (says.contents.codes) (items_of (says.entries)) → IsImpossibility v
   pub without_loss : IsWithoutLoss (says.contents) (items_of (says.entries)) → IsExplanation v
+
+-- such a verdict was told: its certificate to a writer, its text on the output, and its status; the recording is as its reader has it to give
+abbrev pub PutsVerdictOn : {C W R : Type 0} → (C → Option (List ℕ)) → Tally C → Tally C → (W → Option (List ℕ)) → Tally W → Tally W → List ℕ → (R → Option (List ℕ)) → Tally R → ℕ → Type 0
+PutsVerdictOn certificate_in cert new_cert contents out new_out profile remaining rec status =
+    (v : Verdict) × IsVerdictOn profile (unread remaining rec) v × (status ≡ verdict_status v)
+    × Puts certificate_in cert new_cert (certificate_text v) × Puts contents out new_out (verdict_text v)
 
 -- a writer is as it was, or has gained some front of the certificate of a verdict on the recording
 abbrev pub PutsFrontAtMost : {C : Type 0} → (C → Option (List ℕ)) → Tally C → Tally C → List ℕ → Option (List ℕ) → Type 0

@@ -7,9 +7,10 @@ use Rattle.a429_word.specs.Digits.{octal_text}
 use Rattle.a429_profile.specs.declared.entry.Kind.{Kind}
 use Rattle.a429_profile.specs.declared.entry.Kind.TheVariants.{Bnr, Bcd, Discrete}
 use Rattle.a429_profile.specs.declared.entry.LabelEntry.{LabelEntry}
+use Rattle.a429_profile.specs.Profile.{Contents}
 use Rattle.a429_check.specs.declared.fault.RunFault.{RunFault}
 use Rattle.a429_check.specs.Fault.{ComesBy, never}
-use Rattle.a429_check.specs.Profile.{IsSomeProfile, HasFault}
+use Rattle.a429_check.specs.Profile.{IsProfileOf, IsSomeProfile, HasFault}
 
 -- an SDI, or a star for any
 abbrev pub sdi_text : Option ℕ → List ℕ
@@ -31,6 +32,12 @@ label_line e = address_text e ++ codes " " ++ kind_text e.kind ++ codes " " ++ e
 
 abbrev pub label_lines : List LabelEntry → List ℕ
 label_lines es = flat_map label_line es
+
+-- the text is that of the table of a profile's text
+pub record TellsLabels (profile text : List ℕ) : Type 0 where
+  pub contents : Contents
+  pub is_profile : IsProfileOf profile contents
+  pub lines : text ≡ label_lines (contents.labels)
 
 -- why `labels` may fail: the profile's own fault, a writer that failed after the profile was read, or, of a text, want of memory
 abbrev pub IsLabelsFault : List ℕ → Bool → RunFault → Type 0

@@ -1,6 +1,7 @@
 pub mod Fault
 pub mod Profile
 pub mod Recording
+pub mod Output
 pub mod Whole
 pub mod Word
 pub mod Labels

@@ -13,9 +13,11 @@ use Rattle.a429_record.specs.declared.entry.Entry.{Entry}
 use Rattle.a429_record.specs.declared.fault.ReadFault.TheVariants as read
 use Rattle.a429_record.specs.Recording.{most_entries}
 use Rattle.a429_record.specs.Writing.{written_form}
+use Rattle.a429_cert.specs.Explained.{items_of}
 use Rattle.a429_check.specs.declared.fault.RunFault.{RunFault}
 use Rattle.a429_check.specs.Fault.{ComesBy, never}
 use Rattle.a429_check.specs.Profile.{IsProfileOf, IsSomeProfile, HasFault}
+use Rattle.a429_check.specs.Recording.{SayInput}
 
 -- words as entries of a recording, a thousandth of a second apart, the first at i of these
 abbrev pub timed : ℕ → List Seen → List Entry
@@ -49,6 +51,18 @@ AreByteLists files = AllByRecursion (All (λ b. b < 256)) files
 -- some run records these words that delivers all the files, the first under number 1
 abbrev pub AreDelivered : Contents → List Seen → List (List ℕ) → Type 0
 AreDelivered p words files = (steps : List Step) × IsRunOf p 1 steps words (record { files = numbered 1 files; open_bytes = [] })
+
+-- such a recording of files that are lists of bytes
+abbrev pub IsMadeOf : List ℕ → List (List ℕ) → List ℕ → Type 0
+IsMadeOf profile files text = AreByteLists files × MakesRecording profile files text
+
+-- the text is a recording, and what it says is what some run records that delivers these files
+abbrev pub SaysRunOf : List ℕ → List (List ℕ) → List ℕ → Type 0
+SaysRunOf profile files text = (says : SayInput profile (Some text)) × AreDelivered says.contents (items_of says.entries) files
+
+-- each of these can be sent: it is a list of bytes, and none is refused
+abbrev pub CanBeSent : List (List ℕ) → Type 0
+CanBeSent files = AreByteLists files × (first_refused 255 0 files ≡ None)
 
 -- there are more words than a recording may have
 pub record AreTooMany (files : List (List ℕ)) : Type 0 where

@@ -3,7 +3,7 @@ use Rattle.std.specs.Prelude.{◌≡◌, ◌⊎◌, ◌++◌, ◌||◌, ℕ, Lis
 use Rattle.std.specs.Str.{bytes_eq}
 use Rattle.std.specs.Io.KnownBytes.{Consumes}
 use Rattle.a429_word.specs.declared.tally.Tally.{Tally}
-use Rattle.a429_word.specs.Tally.{unread}
+use Rattle.a429_word.specs.Tally.{unread, Puts, PutsFront}
 use Rattle.a429_cert.specs.declared.version.Version.TheVariants.{One, Two}
 use Rattle.a429_cert.specs.Version.{version_line}
 use Rattle.a429_check.specs.declared.fault.RunFault.{RunFault}
@@ -54,6 +54,19 @@ OfUnread remaining rec Holds = OfKnown (unread remaining rec) Holds
 abbrev pub TakesVersion : Option (List ℕ) → Option (List ℕ) → Bool → Type 0
 TakesVersion old new true = (line : List ℕ) × (is_version_line line ≡ true) × (length line ≡ 16) × Consumes old new line
 TakesVersion old new false = IfSome old (λ bytes. upgraded bytes ≡ None)
+
+-- ---- what is put of it
+
+-- to another writer it is written as one of version 2, and the output is told so, with the status
+abbrev pub PutsUpgrade : {C W R : Type 0} → (C → Option (List ℕ)) → Tally C → Tally C → (W → Option (List ℕ)) → Tally W → Tally W → (R → Option (List ℕ)) → Tally R → ℕ → Type 0
+PutsUpgrade certificate_in new_cert newer_cert contents out new_out remaining cert status = OfUnread remaining cert (λ bytes.
+    (status ≡ upgrade_status (upgraded bytes))
+    × Puts certificate_in new_cert newer_cert (upgrade_bytes (upgraded bytes))
+    × Puts contents out new_out (upgrade_text (upgraded bytes)))
+
+-- some front of it is
+abbrev pub PutsUpgradeFront : {C : Type 0} → (C → Option (List ℕ)) → Tally C → Tally C → List ℕ → Type 0
+PutsUpgradeFront contents old new bytes = PutsFront contents old new (upgrade_bytes (upgraded bytes))
 
 -- ---- why there is no answer
 

@@ -1,14 +1,15 @@
 -- The verdict of a certificate, and how it is written (profile).
-use Rattle.std.specs.Prelude.{◌≡◌, ◌≢◌, ◌⊎◌, ◌++◌, ℕ, List, [], length, codes, Bool, true, false, Option, Result, Ok, Err}
+use Rattle.std.specs.Prelude.{◌≡◌, ◌≢◌, ◌⊎◌, ◌++◌, ℕ, List, [], length, codes, Bool, true, false, Option, None, Result, Ok, Err}
 use Rattle.std.specs.List.{flat_map}
 use Rattle.std.specs.Fmt.{decimal}
 use Rattle.std.specs.Str.{IsUtf8}
 use Rattle.a429_word.specs.declared.tally.Tally.{Tally}
-use Rattle.a429_word.specs.Tally.{Puts}
+use Rattle.a429_word.specs.Tally.{has_failed, unread}
 use Rattle.a429_profile.specs.Profile.{Contents}
 use Rattle.a429_link.specs.declared.file.FileBytes.{FileBytes}
 use Rattle.a429_record.specs.declared.fault.ReadFault.TheVariants as read
 use Rattle.a429_record.specs.Recording.{Recording}
+use Rattle.a429_record.specs.Entries.{EntriesLeft}
 use Rattle.a429_cert.specs.declared.fault.CertFault.{CertFault}
 use Rattle.a429_cert.specs.declared.fault.CertFault.TheVariants as cert
 use Rattle.a429_cert.specs.declared.shelf.PutFile.{PutFile}
@@ -20,6 +21,7 @@ use Rattle.a429_cert.specs.Told.{Hearing, IsHeard}
 use Rattle.a429_check.specs.declared.fault.RunFault.{RunFault}
 use Rattle.a429_check.specs.declared.fault.RunFault.TheVariants as run
 use Rattle.a429_check.specs.Fault.{Causes, ComesBy, never}
+use Rattle.a429_check.specs.Output.{PutsText}
 use Rattle.a429_check.specs.Profile.{IsProfileOf, HasFault}
 
 -- ---- the text
@@ -81,9 +83,15 @@ pub record IsVerdict (profile : List ℕ) (certificate : Option (List ℕ)) (rec
   pub judged : Judges profile certificate rec old new answer
   pub told : IsTold answer status text
 
--- the text of a verdict was written
-abbrev pub PutsText : {W : Type 0} → (W → Option (List ℕ)) → Tally W → Tally W → (List ℕ → Type 0) → Type 0
-PutsText contents old new IsText = (text : List ℕ) × IsText text × Puts contents old new text
+-- a verdict was written on the output, by a profile, and by a certificate and a recording as their readers have them to give
+abbrev pub PutsVerdict : {W C : Type 0} → (W → Option (List ℕ)) → Tally W → Tally W → List ℕ → (C → Option (List ℕ)) → Tally C → EntriesLeft → ℕ → Type 0
+PutsVerdict contents out new_out profile remaining cert rec status =
+    PutsText contents out new_out (IsVerdict profile (unread remaining cert) rec.to_come None None status)
+
+-- and the files of the answer, which is a yes or a no, were put on a shelf
+abbrev pub PutsAnswer : {W S C : Type 0} → (W → Option (List ℕ)) → Tally W → Tally W → (S → Option (List PutFile)) → S → S → List ℕ → (C → Option (List ℕ)) → Tally C → EntriesLeft → ℕ → Type 0
+PutsAnswer contents out new_out files shelf new_shelf profile remaining cert rec status =
+    PutsText contents out new_out (IsVerdict profile (unread remaining cert) rec.to_come (files shelf) (files new_shelf) status)
 
 -- neither a reader nor the shelf nor the output has failed
 abbrev pub AllWork : Bool → Bool → Bool → Bool → Type 0
@@ -103,6 +111,10 @@ of_stream _ = run.Memory
 abbrev pub HasFailed : Bool → Bool → Bool → Type 0
 HasFailed rec certificate shelf = (rec ≡ true) ⊎ ((certificate ≡ true) ⊎ (shelf ≡ true))
 
+-- one of these has failed, or the output has
+abbrev pub AnyFailed : Bool → Bool → Bool → Bool → Type 0
+AnyFailed rec certificate shelf out = HasFailed rec certificate shelf ⊎ (out ≡ true)
+
 -- some answer was found, by the profile whose text the bytes are
 abbrev pub HasAnswer : List ℕ → Option (List ℕ) → Option Recording → Option (List PutFile) → Option (List PutFile) → Type 0
 HasAnswer profile certificate rec old new = (answer : Answer) × Judges profile certificate rec old new answer
@@ -119,6 +131,10 @@ verify_causes profile certificate rec old new Failed = record never {
 abbrev pub IsVerifyFault : List ℕ → Option (List ℕ) → Option Recording → Option (List PutFile) → Option (List PutFile) → Type 0 → RunFault → Type 0
 IsVerifyFault profile certificate rec old new Failed = ComesBy (verify_causes profile certificate rec old new Failed)
 
+-- such a fault, whichever device it is that has failed
+abbrev pub IsNoVerdict : List ℕ → Option (List ℕ) → Option Recording → Option (List PutFile) → Option (List PutFile) → RunFault → Type 0
+IsNoVerdict profile certificate rec old new = IsVerifyFault profile certificate rec old new (Unit {0})
+
 -- the output is as it was after any fault but `Device`, where a reader or the shelf has failed, and where the output has not
-abbrev pub IsSilent : {W : Type 0} → Type 0 → Bool → Tally W → Tally W → RunFault → Type 0
-IsSilent Failed out_failed old new e = (e ≢ run.Device) ⊎ (Failed ⊎ (out_failed ≡ false)) → new ≡ old
+abbrev pub IsSilent : {W : Type 0} → Type 0 → Tally W → Tally W → RunFault → Type 0
+IsSilent Failed out new_out e = (e ≢ run.Device) ⊎ (Failed ⊎ (has_failed new_out ≡ false)) → new_out ≡ out

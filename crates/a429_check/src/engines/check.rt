@@ -3,9 +3,9 @@
 ghost use Rattle.std.specs.Prelude.{◌≡◌, ◌≢◌, ◌⊎◌, ◌↔◌, true, false, IsErr, IfOk, IfErr, OnOk, OnErr};
 ghost use Rattle.std.specs.Fmt.{decimal};
 ghost use Rattle.a429_word.specs.Tally.{has_failed, unread, PutsFront, Puts};
-ghost use Rattle.a429_explain.specs.declared.verdict.Verdict.{Verdict};
 ghost use Rattle.a429_check.specs.Recording.{SayInput};
-ghost use Rattle.a429_check.specs.Check.{reason_text, doubt_text, verdict_text, certificate_text, verdict_status, IsVerdictOn, IsCheckFault, LeavesFault, PutsFrontAtMost};
+ghost use Rattle.a429_check.specs.Output.{UsedWork};
+ghost use Rattle.a429_check.specs.Check.{reason_text, doubt_text, verdict_text, certificate_text, verdict_status, IsVerdictOn, IsCheckFault, LeavesFault, PutsFrontAtMost, PutsVerdictOn};
 
 use crate::engines::output::put_decimal;
 use crate::engines::profile::profile_of;
@@ -18,30 +18,25 @@ use std::alloc::Global;
 use std::io::{Read, Write};
 
 /// Writes the verdict on a recording to `out`, and where it is explained the certificate to
-/// `certificate` before, and answers the verdict's status: 0 explained, 1 impossible, 2 unexplained.
+/// `cert` before, and answers the verdict's status: 0 explained, 1 impossible, 2 unexplained.
 /// `profile` is the bytes of its text. Where a writer fails, a front of the certificate may be written.
 pub fn run_check<R: Read, C: Write, W: Write>(
     alloc: Global,
     profile: &[u8],
     rec: &mut Tally<R>,
-    certificate: &mut Tally<C>,
+    cert: &mut Tally<C>,
     out: &mut Tally<W>,
 ) -> Result<u8, RunFault>
-    ensures verdict { IfOk result (λ status. (v : Verdict) × IsVerdictOn profile.now (unread R.remaining rec.old) v
-        × (status ≡ verdict_status v)
-        × Puts C.contents certificate.old certificate.new (certificate_text v)
-        × Puts W.contents out.old out.new (verdict_text v)) }
-    ensures none { IfOk result (λ status. status ≢ 0 → certificate.new ≡ certificate.old) }
-    ensures device { IfOk result (λ status. (has_failed rec.new ≡ false) × (status ≡ 0 → has_failed certificate.new ≡ false)
-        × (has_failed out.new ≡ false)) }
-    ensures err { IfErr result (LeavesFault profile.now (unread R.remaining rec.old) rec.new certificate.new out.new) }
-    ensures silent { IfErr result (λ e. (e ≢ RunFault.Device) ⊎ (has_failed rec.new ≡ true)
-        → (certificate.new ≡ certificate.old) × (out.new ≡ out.old)) }
+    ensures verdict { IfOk result (PutsVerdictOn C.contents cert.old cert.new W.contents out.old out.new profile.now R.remaining rec.old) }
+    ensures none { IfOk result (λ status. status ≢ 0 → cert.new ≡ cert.old) }
+    ensures device { IfOk result (UsedWork (has_failed rec.new) (has_failed cert.new) (has_failed out.new)) }
+    ensures err { IfErr result (LeavesFault profile.now (unread R.remaining rec.old) rec.new cert.new out.new) }
+    ensures silent { IfErr result (λ e. (e ≢ RunFault.Device) ⊎ (has_failed rec.new ≡ true) → (cert.new ≡ cert.old) × (out.new ≡ out.old)) }
     ensures last { OnErr result (has_failed out.new ≡ false → out.new ≡ out.old) }
-    ensures front { OnErr result (PutsFrontAtMost C.contents certificate.old certificate.new profile.now (unread R.remaining rec.old)) }
+    ensures front { OnErr result (PutsFrontAtMost C.contents cert.old cert.new profile.now (unread R.remaining rec.old)) }
 {
     let verdict = verdict_on(alloc, profile, rec)?;
-    put_certificate(certificate, &verdict)?;
+    put_certificate(cert, &verdict)?;
     put_verdict(out, &verdict)?;
     Ok(status_of(&verdict))
 }

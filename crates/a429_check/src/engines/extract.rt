@@ -1,8 +1,8 @@
 //! `a429 extract PROFILE REC CERT DIR`: the files that crossed.
 
-ghost use Rattle.std.specs.Prelude.{◌≡◌, ◌⊎◌, true, IfOk, IfErr, OnOk};
+ghost use Rattle.std.specs.Prelude.{IfOk, IfErr, IsErrOf, OnOk};
 ghost use Rattle.a429_word.specs.Tally.{has_failed, unread};
-ghost use Rattle.a429_check.specs.Verdict.{AllWork, HasFailed, IsSilent, IsVerdict, IsVerifyFault, PutsText};
+ghost use Rattle.a429_check.specs.Verdict.{AllWork, AnyFailed, HasFailed, IsNoVerdict, IsSilent, PutsAnswer};
 
 use crate::engines::verdict::judge;
 use crate::fault::RunFault;
@@ -19,17 +19,15 @@ pub fn run_extract<R: Read, C: Read, S: Shelf, W: Write>(
     alloc: Global,
     profile: &[u8],
     rec: &mut EntryReader<R>,
-    certificate: &mut Tally<C>,
+    cert: &mut Tally<C>,
     shelf: &mut S,
     out: &mut Tally<W>,
 ) -> Result<u8, RunFault>
-    ensures verdict { IfOk result (λ status. PutsText W.contents out.old out.new (IsVerdict profile.now
-        (unread C.remaining certificate.old) rec.old.to_come (S.files shelf.old) (S.files shelf.new) status)) }
-    ensures device { OnOk result (AllWork rec.new.failed (has_failed certificate.new) (S.failed shelf.new) (has_failed out.new)) }
-    ensures err { IfErr result (IsVerifyFault profile.now (unread C.remaining certificate.old) rec.old.to_come (S.files shelf.old)
-        (S.files shelf.new) (HasFailed rec.new.failed (has_failed certificate.new) (S.failed shelf.new) ⊎ (has_failed out.new ≡ true))) }
-    ensures silent { IfErr result (IsSilent (HasFailed rec.new.failed (has_failed certificate.new) (S.failed shelf.new))
-        (has_failed out.new) out.old out.new) }
+    ensures verdict { IfOk result (PutsAnswer W.contents out.old out.new S.files shelf.old shelf.new profile.now C.remaining cert.old rec.old) }
+    ensures device { OnOk result (AllWork rec.new.failed (has_failed cert.new) (S.failed shelf.new) (has_failed out.new)) }
+    ensures err { IfErr result (IsNoVerdict profile.now (unread C.remaining cert.old) rec.old.to_come (S.files shelf.old) (S.files shelf.new)) }
+    ensures failed { IsErrOf result RunFault.Device → AnyFailed rec.new.failed (has_failed cert.new) (S.failed shelf.new) (has_failed out.new) }
+    ensures silent { IfErr result (IsSilent (HasFailed rec.new.failed (has_failed cert.new) (S.failed shelf.new)) out.old out.new) }
 {
-    judge(alloc, profile, rec, certificate, shelf, out)
+    judge(alloc, profile, rec, cert, shelf, out)
 }

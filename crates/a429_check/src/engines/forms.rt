@@ -1,8 +1,9 @@
 //! `a429 forms PROFILE REC`: what each word of a recording is to the file transfer, a line for each.
 
-ghost use Rattle.std.specs.Prelude.{◌≡◌, ◌≢◌, ◌⊎◌, ◌↔◌, ℕ, List, [], true, false, IsErr, IfOk, IfErr, OnOk};
+ghost use Rattle.std.specs.Prelude.{◌≡◌, ◌≢◌, ◌⊎◌, ◌↔◌, [], true, false, IsErr, IfOk, IfErr, OnOk};
 ghost use Rattle.a429_word.specs.Tally.{has_failed, unread, Puts};
 ghost use Rattle.a429_word.specs.Page.{PutsOn};
+ghost use Rattle.a429_check.specs.Output.{PutsText};
 ghost use Rattle.a429_check.specs.Show.{IsShowFault};
 ghost use Rattle.a429_check.specs.Forms.{form_line, form_lines, TellsForms};
 
@@ -27,8 +28,7 @@ pub fn run_forms<R: Read, W: Write>(
     out: &mut Tally<W>,
 ) -> Result<u8, RunFault>
     ensures ok { IfOk result (λ status. status ≡ 0) }
-    ensures lines { OnOk result ((text : List ℕ) × TellsForms profile.now (unread R.remaining rec.old) text
-        × Puts W.contents out.old out.new text) }
+    ensures lines { OnOk result (PutsText W.contents out.old out.new (TellsForms profile.now (unread R.remaining rec.old))) }
     ensures err { IfErr result (IsShowFault profile.now (unread R.remaining rec.old) (has_failed rec.new) (has_failed out.new)) }
     ensures silent { IfErr result (λ e. (e ≢ RunFault.Device) ⊎ (has_failed rec.new ≡ true) → out.new ≡ out.old) }
     ensures device { OnOk result ((has_failed rec.new ≡ false) × (has_failed out.new ≡ false)) }

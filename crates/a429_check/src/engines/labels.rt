@@ -2,9 +2,8 @@
 
 ghost use Rattle.std.specs.Prelude.{◌≡◌, ◌≢◌, ◌↔◌, true, false, IsErr, IfOk, IfErr, OnOk};
 ghost use Rattle.a429_word.specs.Tally.{has_failed, Puts};
-ghost use Rattle.a429_profile.specs.Profile.{Contents};
-ghost use Rattle.a429_check.specs.Profile.{IsProfileOf};
-ghost use Rattle.a429_check.specs.Labels.{IsLabelsFault, sdi_text, kind_text, address_text, label_line, label_lines};
+ghost use Rattle.a429_check.specs.Output.{PutsText};
+ghost use Rattle.a429_check.specs.Labels.{IsLabelsFault, TellsLabels, sdi_text, kind_text, address_text, label_line, label_lines};
 
 use crate::engines::output::put_decimal;
 use crate::engines::profile::profile_of;
@@ -22,8 +21,7 @@ pub fn run_labels<W: Write>(
     out: &mut Tally<W>,
 ) -> Result<u8, RunFault>
     ensures ok { IfOk result (λ status. status ≡ 0) }
-    ensures lines { OnOk result ((contents : Contents) × IsProfileOf profile.now contents
-        × Puts W.contents out.old out.new (label_lines contents.labels)) }
+    ensures lines { OnOk result (PutsText W.contents out.old out.new (TellsLabels profile.now)) }
     ensures err { IfErr result (IsLabelsFault profile.now (has_failed out.new)) }
     ensures device { OnOk result (has_failed out.new ≡ false) }
     ensures silent { IfErr result (λ e. e ≢ RunFault.Device → out.new ≡ out.old) }

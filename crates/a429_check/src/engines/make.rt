@@ -7,6 +7,7 @@ ghost use Rattle.a429_profile.specs.Profile.{Contents};
 ghost use Rattle.a429_link.specs.Clean.{cut_fault, first_refused};
 ghost use Rattle.a429_record.specs.Recording.{most_entries};
 ghost use Rattle.a429_record.specs.Writing.{line_text};
+ghost use Rattle.a429_check.specs.Output.{PutsText};
 ghost use Rattle.a429_check.specs.Make.{timed, words_made, recording_made, MakesWords, MakesRecording, IsMakeFault, IsFilesFault, IsPutFault};
 
 use crate::engines::profile::profile_of;
@@ -36,8 +37,7 @@ pub fn run_make<W: Write>(
     out: &mut Tally<W>,
 ) -> Result<u8, RunFault>
     ensures ok { IfOk result (λ status. status ≡ 0) }
-    ensures written { OnOk result ((text : List ℕ) × MakesRecording profile.now (map (λ f. f.items) files.now) text
-        × Puts W.contents out.old out.new text) }
+    ensures written { OnOk result (PutsText W.contents out.old out.new (MakesRecording profile.now (map (λ f. f.items) files.now))) }
     ensures err { IfErr result (IsMakeFault profile.now (map (λ f. f.items) files.now) (has_failed out.new)) }
     ensures device { OnOk result (has_failed out.new ≡ false) }
     ensures silent { IfErr result (λ e. e ≢ RunFault.Device → e ≢ RunFault.Memory → out.new ≡ out.old) }

@@ -1,7 +1,8 @@
 //! `a429 pack REC`: a recording, written in binary.
 
-ghost use Rattle.std.specs.Prelude.{◌≡◌, ◌≢◌, ◌⊎◌, List, ℕ, true, false, IfOk, IfErr, OnOk};
-ghost use Rattle.a429_word.specs.Tally.{has_failed, unread, Puts};
+ghost use Rattle.std.specs.Prelude.{◌≡◌, ◌≢◌, ◌⊎◌, true, false, IfOk, IfErr, OnOk};
+ghost use Rattle.a429_word.specs.Tally.{has_failed, unread};
+ghost use Rattle.a429_check.specs.Output.{PutsText};
 ghost use Rattle.a429_check.specs.Pack.{Packs, IsPackFault};
 
 use crate::engines::recording::entries_of;
@@ -19,7 +20,7 @@ pub fn run_pack<R: Read, W: Write>(
     out: &mut Tally<W>,
 ) -> Result<u8, RunFault>
     ensures ok { IfOk result (λ status. status ≡ 0) }
-    ensures packed { OnOk result ((bytes : List ℕ) × Packs (unread R.remaining rec.old) bytes × Puts W.contents out.old out.new bytes) }
+    ensures packed { OnOk result (PutsText W.contents out.old out.new (Packs (unread R.remaining rec.old))) }
     ensures err { IfErr result (IsPackFault (unread R.remaining rec.old) (has_failed rec.new) (has_failed out.new)) }
     ensures silent { IfErr result (λ e. (e ≢ RunFault.Device) ⊎ (has_failed rec.new ≡ true) → out.new ≡ out.old) }
     ensures device { OnOk result ((has_failed rec.new ≡ false) × (has_failed out.new ≡ false)) }

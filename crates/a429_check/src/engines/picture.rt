@@ -1,13 +1,12 @@
 //! `a429 picture PROFILE REC CERT FROM TO`: the messages of a span of a transfer, as a picture.
 
-ghost use Rattle.std.specs.Prelude.{◌≡◌, ◌≢◌, ◌⊎◌, ◌≤◌, ◌<◌, ℕ, List, None, true, false, IfOk, IfErr, OnOk};
+ghost use Rattle.std.specs.Prelude.{◌≡◌, ◌≢◌, ◌⊎◌, ◌≤◌, None, true, false, IfOk, IfErr, IsErrOf, OnOk};
 ghost use Rattle.a429_word.specs.Tally.{has_failed, unread, Puts};
-ghost use Rattle.a429_cert.specs.StreamExplained.{Extracts, HearsRun, Refuses};
+ghost use Rattle.a429_cert.specs.StreamExplained.{HearsRun, SaysYes};
 ghost use Rattle.a429_view.specs.Picture.{svg_text};
 ghost use Rattle.a429_view.specs.Sketch.{most_steps, Hears};
-ghost use Rattle.a429_check.specs.Profile.{IsProfileOf};
-ghost use Rattle.a429_check.specs.Verdict.{no_text, AllWork, HasFailed, IsSilent, IsVerifyFault, PutsText};
-ghost use Rattle.a429_check.specs.Picture.{IsPicture, IsPictureFault};
+ghost use Rattle.a429_check.specs.Verdict.{no_text, AllWork, AnyFailed, HasFailed, IsSilent};
+ghost use Rattle.a429_check.specs.Picture.{IsNoPicture, IsNoVerdictBy, IsRefusal, IsSketchFault, PutsPicture};
 
 use crate::engines::profile::profile_of;
 use crate::engines::verdict::{Answer, any_failed, of_certificate, put_no};
@@ -29,21 +28,19 @@ pub fn run_picture<R: Read, C: Read, W: Write>(
     alloc: Global,
     profile: &[u8],
     rec: &mut EntryReader<R>,
-    certificate: &mut Tally<C>,
+    cert: &mut Tally<C>,
     span: Span,
     out: &mut Tally<W>,
 ) -> Result<u8, RunFault>
-    ensures answer { IfOk result (λ status. PutsText W.contents out.old out.new (IsPicture profile.now
-        (unread C.remaining certificate.old) rec.old.to_come span status)) }
-    ensures device { OnOk result (AllWork rec.new.failed (has_failed certificate.new) false (has_failed out.new)) }
-    ensures err { IfErr result (IsPictureFault profile.now (unread C.remaining certificate.old) rec.old.to_come span
-        (HasFailed rec.new.failed (has_failed certificate.new) false ⊎ (has_failed out.new ≡ true))) }
-    ensures silent { IfErr result (IsSilent (HasFailed rec.new.failed (has_failed certificate.new) false)
-        (has_failed out.new) out.old out.new) }
+    ensures answer { IfOk result (PutsPicture W.contents out.old out.new profile.now C.remaining cert.old rec.old span) }
+    ensures device { OnOk result (AllWork rec.new.failed (has_failed cert.new) false (has_failed out.new)) }
+    ensures err { IfErr result (IsNoPicture profile.now (unread C.remaining cert.old) rec.old.to_come span) }
+    ensures failed { IsErrOf result RunFault.Device → AnyFailed rec.new.failed (has_failed cert.new) false (has_failed out.new) }
+    ensures silent { IfErr result (IsSilent (HasFailed rec.new.failed (has_failed cert.new) false) out.old out.new) }
 {
     let profile = profile_of(alloc, profile)?;
     let mut sketch = Sketch::new(alloc, span);
-    match sketched(alloc, &profile, rec, certificate, &mut sketch)? {
+    match sketched(alloc, &profile, rec, cert, &mut sketch)? {
         Ok(_) => put_sketch(alloc, out, &profile, &sketch),
         Err(fault) => put_refused(out, fault),
     }
@@ -54,21 +51,18 @@ fn sketched<R: Read, C: Read>(
     alloc: Global,
     profile: &Profile,
     rec: &mut EntryReader<R>,
-    certificate: &mut Tally<C>,
+    cert: &mut Tally<C>,
     sketch: &mut Sketch,
 ) -> Result<Answer, RunFault>
-    ensures yes { IfOk result (λ a. IfOk a (λ files. Extracts profile.now (unread C.remaining certificate.old) rec.old.to_come
-        None None files.items)) }
-    ensures heard { IfOk result (λ a. OnOk a (HearsRun Hears profile.now (unread C.remaining certificate.old)
-        rec.old.to_come sketch.old sketch.new)) }
-    ensures no { IfOk result (λ a. IfErr a (λ f. Refuses profile.now (unread C.remaining certificate.old) rec.old.to_come
-        None None (StreamFault.Cert f) × (f ≢ CertFault.OutOfMemory))) }
-    ensures works { OnOk result (AllWork rec.new.failed (has_failed certificate.new) false false) }
-    ensures err { IfErr result (λ e. (text : List ℕ) → IsProfileOf text profile.now → IsVerifyFault text
-        (unread C.remaining certificate.old) rec.old.to_come None None (HasFailed rec.new.failed (has_failed certificate.new) false) e) }
+    ensures yes { IfOk result (λ a. IfOk a (SaysYes profile.now (unread C.remaining cert.old) rec.old.to_come None None)) }
+    ensures heard { IfOk result (λ a. OnOk a (HearsRun Hears profile.now (unread C.remaining cert.old) rec.old.to_come sketch.old sketch.new)) }
+    ensures no { IfOk result (λ a. IfErr a (IsRefusal profile.now (unread C.remaining cert.old) rec.old.to_come)) }
+    ensures works { OnOk result (AllWork rec.new.failed (has_failed cert.new) false false) }
+    ensures err { IfErr result (IsNoVerdictBy profile.now (unread C.remaining cert.old) rec.old.to_come) }
+    ensures failed { IsErrOf result RunFault.Device → HasFailed rec.new.failed (has_failed cert.new) false }
 {
-    let answer = replay_stream(alloc, profile, rec, certificate, &mut NoShelf, sketch);
-    if any_failed(rec, certificate, &NoShelf, sketch) {
+    let answer = replay_stream(alloc, profile, rec, cert, &mut NoShelf, sketch);
+    if any_failed(rec, cert, &NoShelf, sketch) {
         return Err(RunFault::Device);
     }
     match answer {
@@ -91,8 +85,7 @@ fn put_sketch<W: Write>(
     ensures text { OnOk result (Puts W.contents out.old out.new (svg_text profile.now.codes sketch.now.rows.items)) }
     ensures few { OnOk result (sketch.now.steps ≤ most_steps) }
     ensures works { OnOk result (has_failed out.new ≡ false) }
-    ensures err { IfErr result (λ e. ((e ≡ RunFault.TooLong) × (most_steps < sketch.now.steps))
-        ⊎ (e ≡ RunFault.Memory) ⊎ ((e ≡ RunFault.Device) × (has_failed out.new ≡ true))) }
+    ensures err { IfErr result (IsSketchFault sketch.now.steps (has_failed out.new)) }
     ensures silent { IfErr result (λ e. (e ≢ RunFault.Device) ⊎ (has_failed out.new ≡ false) → out.new ≡ out.old) }
 {
     if sketch.is_too_long() {

@@ -7,6 +7,7 @@ ghost use Rattle.a429_word.specs.Word.{HasOddParity};
 ghost use Rattle.std.specs.List.{flat_map, AllByRecursion};
 ghost use Rattle.a429_profile.specs.Shown.{IsShown, HasItsRanges};
 ghost use Rattle.a429_profile.specs.Entry.{IsFlagBit, IsKindInRange};
+ghost use Rattle.a429_check.specs.Output.{PutsText};
 ghost use Rattle.a429_check.specs.Show.{IsShowFault, status_text, bad_digit_text, unit_text, test_text, flag_text, IsValueText, field_text, IsShownText, recorded_text, fields_text, PutsSome, IsShowLine, AreShowLines, ShowsEntries};
 
 use crate::engines::profile::profile_of;
@@ -31,8 +32,7 @@ pub fn run_show<R: Read, W: Write>(
     out: &mut Tally<W>,
 ) -> Result<u8, RunFault>
     ensures ok { IfOk result (λ status. status ≡ 0) }
-    ensures lines { OnOk result ((text : List ℕ) × ShowsEntries profile.now (unread R.remaining rec.old) text
-        × Puts W.contents out.old out.new text) }
+    ensures lines { OnOk result (PutsText W.contents out.old out.new (ShowsEntries profile.now (unread R.remaining rec.old))) }
     ensures err { IfErr result (IsShowFault profile.now (unread R.remaining rec.old) (has_failed rec.new) (has_failed out.new)) }
     ensures silent { IfErr result (λ e. (e ≢ RunFault.Device) ⊎ (has_failed rec.new ≡ true) → out.new ≡ out.old) }
     ensures device { OnOk result ((has_failed rec.new ≡ false) × (has_failed out.new ≡ false)) }
@@ -52,7 +52,7 @@ fn put_entries<W: Write>(
     entries: &[Entry],
 ) -> Result<(), Device>
     requires { page ≡ [] }
-    ensures ok { OnOk result ((text : List ℕ) × AreShowLines profile.now entries.now text × Puts W.contents out.old out.new text) }
+    ensures ok { OnOk result (PutsText W.contents out.old out.new (AreShowLines profile.now entries.now)) }
     ensures device { IsErr result ↔ (has_failed out.new ≡ true) }
 {
     let mut page = page;

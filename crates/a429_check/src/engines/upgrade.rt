@@ -2,7 +2,8 @@
 
 ghost use Rattle.std.specs.Prelude.{◌≡◌, ◌≢◌, ◌⊎◌, ◌<◌, ◌↔◌, ◌++◌, ℕ, List, length, true, false, IsErr, IfOk, IfErr, OnOk, OnErr};
 ghost use Rattle.a429_word.specs.Tally.{has_failed, unread, Puts, PutsFront};
-ghost use Rattle.a429_check.specs.Upgrade.{upgraded, upgrade_bytes, upgrade_text, upgrade_status, OfUnread, TakesVersion, IsUpgradeFault, is_version_line, version_two_line};
+ghost use Rattle.a429_check.specs.Output.{UsedWork};
+ghost use Rattle.a429_check.specs.Upgrade.{OfUnread, PutsUpgrade, PutsUpgradeFront, TakesVersion, IsUpgradeFault, is_version_line, version_two_line};
 
 use crate::fault::RunFault;
 use a429_word::{Device, Failing, Tally};
@@ -21,17 +22,12 @@ pub fn run_upgrade<R: Read, C: Write, W: Write>(
     new_cert: &mut Tally<C>,
     out: &mut Tally<W>,
 ) -> Result<u8, RunFault>
-    ensures upgraded { IfOk result (λ status. OfUnread R.remaining cert.old (λ bytes.
-        (status ≡ upgrade_status (upgraded bytes))
-        × Puts C.contents new_cert.old new_cert.new (upgrade_bytes (upgraded bytes))
-        × Puts W.contents out.old out.new (upgrade_text (upgraded bytes)))) }
+    ensures upgraded { IfOk result (PutsUpgrade C.contents new_cert.old new_cert.new W.contents out.old out.new R.remaining cert.old) }
     ensures none { IfOk result (λ status. status ≢ 0 → new_cert.new ≡ new_cert.old) }
-    ensures device { IfOk result (λ status. (has_failed cert.new ≡ false) × (status ≡ 0 → has_failed new_cert.new ≡ false)
-        × (has_failed out.new ≡ false)) }
+    ensures device { IfOk result (UsedWork (has_failed cert.new) (has_failed new_cert.new) (has_failed out.new)) }
     ensures err { IfErr result (IsUpgradeFault (has_failed cert.new) (has_failed new_cert.new) (has_failed out.new)) }
     ensures last { OnErr result ((has_failed cert.new ≡ true) ⊎ (has_failed out.new ≡ false) → out.new ≡ out.old) }
-    ensures front { OnErr result (OfUnread R.remaining cert.old
-        (λ bytes. PutsFront C.contents new_cert.old new_cert.new (upgrade_bytes (upgraded bytes)))) }
+    ensures front { OnErr result (OfUnread R.remaining cert.old (PutsUpgradeFront C.contents new_cert.old new_cert.new)) }
 {
     let found = take_version(cert)?;
     if found {
@@ -69,10 +65,8 @@ fn put_version_two<R: Read, C: Write>(
     cert: &mut Tally<R>,
     new_cert: &mut Tally<C>,
 ) -> Result<(), Device>
-    ensures ok { OnOk result (OfUnread R.remaining cert.old
-        (λ rest. Puts C.contents new_cert.old new_cert.new (version_two_line ++ rest))) }
-    ensures err { OnErr result (OfUnread R.remaining cert.old
-        (λ rest. PutsFront C.contents new_cert.old new_cert.new (version_two_line ++ rest))) }
+    ensures ok { OnOk result (OfUnread R.remaining cert.old (λ xs. Puts C.contents new_cert.old new_cert.new (version_two_line ++ xs))) }
+    ensures err { OnErr result (OfUnread R.remaining cert.old (λ xs. PutsFront C.contents new_cert.old new_cert.new (version_two_line ++ xs))) }
     ensures works { OnOk result ((has_failed cert.new ≡ false) × (has_failed new_cert.new ≡ false)) }
     ensures device { IsErr result → (has_failed cert.new ≡ true) ⊎ (has_failed new_cert.new ≡ true) }
 {

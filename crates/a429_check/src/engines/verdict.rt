@@ -1,12 +1,12 @@
 //! Holds a certificate against a recording, both read as they come, and tells the verdict, as each command
 //! that takes one does.
 
-ghost use Rattle.std.specs.Prelude.{◌≡◌, ◌↔◌, ◌≢◌, ◌⊎◌, true, false, Ok, Err, codes, ◌++◌, IsErr, IfOk, IfErr, OnOk};
+ghost use Rattle.std.specs.Prelude.{◌≡◌, ◌↔◌, ◌≢◌, ◌⊎◌, true, false, Ok, Err, codes, ◌++◌, IsErr, IfOk, IfErr, IsErrOf, OnOk};
 ghost use Rattle.std.specs.List.{flat_map};
 ghost use Rattle.std.specs.Fmt.{decimal};
 ghost use Rattle.a429_word.specs.Tally.{has_failed, unread, Puts};
 ghost use Rattle.a429_cert.specs.Stream.{sizes};
-ghost use Rattle.a429_check.specs.Verdict.{count_line, file_line, line_of_file, yes_text, no_text, of_stream, AllWork, HasFailed, HasHeard, IsSilent, IsVerdict, IsVerifyFault, Judges, PutsText};
+ghost use Rattle.a429_check.specs.Verdict.{count_line, file_line, line_of_file, yes_text, no_text, of_stream, AllWork, AnyFailed, HasFailed, HasHeard, IsNoVerdict, IsSilent, IsVerifyFault, Judges, PutsAnswer};
 
 use crate::engines::output::put_decimal;
 use crate::engines::profile::profile_of;
@@ -28,19 +28,17 @@ pub(crate) fn judge<R: Read, C: Read, S: Shelf, W: Write>(
     alloc: Global,
     profile: &[u8],
     rec: &mut EntryReader<R>,
-    certificate: &mut Tally<C>,
+    cert: &mut Tally<C>,
     shelf: &mut S,
     out: &mut Tally<W>,
 ) -> Result<u8, RunFault>
-    ensures verdict { IfOk result (λ status. PutsText W.contents out.old out.new (IsVerdict profile.now
-        (unread C.remaining certificate.old) rec.old.to_come (S.files shelf.old) (S.files shelf.new) status)) }
-    ensures device { OnOk result (AllWork rec.new.failed (has_failed certificate.new) (S.failed shelf.new) (has_failed out.new)) }
-    ensures err { IfErr result (IsVerifyFault profile.now (unread C.remaining certificate.old) rec.old.to_come (S.files shelf.old)
-        (S.files shelf.new) (HasFailed rec.new.failed (has_failed certificate.new) (S.failed shelf.new) ⊎ (has_failed out.new ≡ true))) }
-    ensures silent { IfErr result (IsSilent (HasFailed rec.new.failed (has_failed certificate.new) (S.failed shelf.new))
-        (has_failed out.new) out.old out.new) }
+    ensures verdict { IfOk result (PutsAnswer W.contents out.old out.new S.files shelf.old shelf.new profile.now C.remaining cert.old rec.old) }
+    ensures device { OnOk result (AllWork rec.new.failed (has_failed cert.new) (S.failed shelf.new) (has_failed out.new)) }
+    ensures err { IfErr result (IsNoVerdict profile.now (unread C.remaining cert.old) rec.old.to_come (S.files shelf.old) (S.files shelf.new)) }
+    ensures failed { IsErrOf result RunFault.Device → AnyFailed rec.new.failed (has_failed cert.new) (S.failed shelf.new) (has_failed out.new) }
+    ensures silent { IfErr result (IsSilent (HasFailed rec.new.failed (has_failed cert.new) (S.failed shelf.new)) out.old out.new) }
 {
-    match answer_of(alloc, profile, rec, certificate, shelf, &mut NoListener)? {
+    match answer_of(alloc, profile, rec, cert, shelf, &mut NoListener)? {
         Ok(files) => {
             put_yes(out, files.as_slice())?;
             Ok(0)

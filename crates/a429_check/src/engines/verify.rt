@@ -1,8 +1,8 @@
 //! `a429 verify PROFILE REC CERT`: whether a certificate explains a recording.
 
-ghost use Rattle.std.specs.Prelude.{◌≡◌, ◌⊎◌, None, true, false, IfOk, IfErr, OnOk};
+ghost use Rattle.std.specs.Prelude.{None, false, IfOk, IfErr, IsErrOf, OnOk};
 ghost use Rattle.a429_word.specs.Tally.{has_failed, unread};
-ghost use Rattle.a429_check.specs.Verdict.{AllWork, HasFailed, IsSilent, IsVerdict, IsVerifyFault, PutsText};
+ghost use Rattle.a429_check.specs.Verdict.{AllWork, AnyFailed, HasFailed, IsNoVerdict, IsSilent, PutsVerdict};
 
 use crate::engines::verdict::judge;
 use crate::fault::RunFault;
@@ -20,16 +20,14 @@ pub fn run_verify<R: Read, C: Read, W: Write>(
     alloc: Global,
     profile: &[u8],
     rec: &mut EntryReader<R>,
-    certificate: &mut Tally<C>,
+    cert: &mut Tally<C>,
     out: &mut Tally<W>,
 ) -> Result<u8, RunFault>
-    ensures verdict { IfOk result (λ status. PutsText W.contents out.old out.new (IsVerdict profile.now
-        (unread C.remaining certificate.old) rec.old.to_come None None status)) }
-    ensures device { OnOk result (AllWork rec.new.failed (has_failed certificate.new) false (has_failed out.new)) }
-    ensures err { IfErr result (IsVerifyFault profile.now (unread C.remaining certificate.old) rec.old.to_come None None
-        (HasFailed rec.new.failed (has_failed certificate.new) false ⊎ (has_failed out.new ≡ true))) }
-    ensures silent { IfErr result (IsSilent (HasFailed rec.new.failed (has_failed certificate.new) false)
-        (has_failed out.new) out.old out.new) }
+    ensures verdict { IfOk result (PutsVerdict W.contents out.old out.new profile.now C.remaining cert.old rec.old) }
+    ensures device { OnOk result (AllWork rec.new.failed (has_failed cert.new) false (has_failed out.new)) }
+    ensures err { IfErr result (IsNoVerdict profile.now (unread C.remaining cert.old) rec.old.to_come None None) }
+    ensures failed { IsErrOf result RunFault.Device → AnyFailed rec.new.failed (has_failed cert.new) false (has_failed out.new) }
+    ensures silent { IfErr result (IsSilent (HasFailed rec.new.failed (has_failed cert.new) false) out.old out.new) }
 {
-    judge(alloc, profile, rec, certificate, &mut NoShelf, out)
+    judge(alloc, profile, rec, cert, &mut NoShelf, out)
 }

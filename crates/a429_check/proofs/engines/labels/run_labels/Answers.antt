@@ -8,4 +8,4 @@ returns-in_err-write_labels-clause-err g c =
     rw (p.1, p.2) ((_, c.in_ok-profile.ensures.ok), c.in_err-write_labels.ensures.device.0 refl)
 
 pub returns-clause-lines : goal.returns-clause-lines
-returns-clause-lines g c = (_, c.in_ok-profile.ensures.ok, c.in_ok-write_labels.ensures.ok)
+returns-clause-lines g c = (_, record { contents = c.in_ok-profile.profile; is_profile = c.in_ok-profile.ensures.ok; lines = refl }, c.in_ok-write_labels.ensures.ok)
