@@ -18,8 +18,7 @@ pub fn command<'a>(alloc: Global, words: &'a [String]) -> Result<Command<'a>, Ru
 {
     let matches = match parser(alloc)?.try_get_matches_from(words) {
         Ok(matches) => matches,
-        Err(error) if error.kind() == ErrorKind::OutOfMemory => return Err(RunFault::Memory),
-        Err(_) => return Err(RunFault::Usage),
+        Err(error) => return Err(fault_of(error.kind())),
     };
     match matches.subcommand() {
         Some(("word", given)) => match given.get_str("HEX") {
@@ -47,6 +46,16 @@ pub fn command<'a>(alloc: Global, words: &'a [String]) -> Result<Command<'a>, Ru
         },
         Some((name, given)) => of_recording(name, given),
         None => Err(RunFault::Usage),
+    }
+}
+
+// Why words are refused.
+fn fault_of(kind: ErrorKind) -> RunFault
+    ensures { (result ≡ RunFault.Memory) ⊎ (result ≡ RunFault.Usage) }
+{
+    match kind {
+        ErrorKind::OutOfMemory => RunFault::Memory,
+        _ => RunFault::Usage,
     }
 }
 
