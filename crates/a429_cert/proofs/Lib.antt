@@ -24,4 +24,5 @@ pub mod StreamStands
 pub mod StreamWalk
 pub mod StreamRefused
 pub mod ToldFacts
+pub mod ToldRefused
 pub mod EarlierFiles

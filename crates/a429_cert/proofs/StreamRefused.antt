@@ -108,28 +108,39 @@ ends_at p s r n i line (of.WordDiffers m j) h e = λ none. e (next_at r.entries 
 ends_at p s r n i line (of.Unfinished j) h e = tt
 ends_at p s r n i line of.OutOfMemory h e = tt
 
--- the fault of the line that comes
+-- the fault of the line that comes, where it stands
+pub fault_here : (p : Contents) (d : Head) (k i : ℕ) (taken : List FileBytes) (s : State) (held left more : Option (List ℕ)) (rec : Option Recording) (f : CertFault) (text : List ℕ) (r : Recording)
+    → GivesLine left more held true → IsFaultOfLine p s (next_of (behind i r)) (k + 3) i (read_as d.version held) f → Stands p text r d k i taken s left rec
+    → IsFaultAt p (with_earlier taken s) (slice_get (items_of r.entries) i) (k + 3) i (slice_get (step_lines d.version text) k) f
+fault_here p d k i taken s held left more rec f text r g m h =
+    let raw = line_cut d.version (drop 2 (certificate_lines text)) k left more held h.lines g in
+    let uncut = fault_earlier p taken s (next_of (behind i r)) (k + 3) i raw.0 f (line_fault p s (next_of (behind i r)) (k + 3) i raw.0 f (subst (λ o. IsFaultOfLine p s (next_of (behind i r)) (k + 3) i o f) (sym raw.2) m)) in
+    let here = subst (λ o. IsFaultOfLine p (with_earlier taken s) o (k + 3) i raw.0 f) (next_at r.entries i) uncut in
+    subst (λ o. IsFaultAt p (with_earlier taken s) (slice_get (items_of r.entries) i) (k + 3) i o f) (sym raw.1) here
+
 line_refused : (p : Contents) (d : Head) (k i : ℕ) (taken : List FileBytes) (s : State) (held left more : Option (List ℕ)) (rec : Option Recording) (f : CertFault) (text : List ℕ) (r : Recording)
     → s.sink.shelf.files ≡ [] → GivesLine left more held true → IsFaultOfLine p s (next_of (behind i r)) (k + 3) i (read_as d.version held) f → HasEnd (behind i r) f → Stands p text r d k i taken s left rec
     → IsStreamFault p (stream.Cert f) taken text r
 line_refused p d k i taken s held left more rec f text r none g m e h =
     let read = read_as d.version held in
-    let raw = line_cut d.version (drop 2 (certificate_lines text)) k left more held h.lines g in
-    let uncut = fault_earlier p taken s (next_of (behind i r)) (k + 3) i raw.0 f (line_fault p s (next_of (behind i r)) (k + 3) i raw.0 f (subst (λ o. IsFaultOfLine p s (next_of (behind i r)) (k + 3) i o f) (sym raw.2) m)) in
-    let here = subst (λ o. IsFaultOfLine p (with_earlier taken s) o (k + 3) i raw.0 f) (next_at r.entries i) uncut in
     cert_fault p d k i taken s left rec text r f (no_version p s (next_of (behind i r)) (k + 3) i read f m) (no_memory p s (next_of (behind i r)) (k + 3) i read f m) none (ends_at p s r (k + 3) i read f m e) h
-    (subst (λ o. IsFaultAt p (with_earlier taken s) (slice_get (items_of r.entries) i) (k + 3) i o f) (sym raw.1) here)
+    (fault_here p d k i taken s held left more rec f text r g m h)
 
 -- ---- a fault of the recording where a walk stands
 
 wants_uncut : (p : Contents) (files : List FileBytes) (s : State) (line : Option (List ℕ)) → WantsEntry p (cut line) s → WantsEntry p line (with_earlier files s)
 wants_uncut p files s line h = (h.0, says_back line h.0 h.1, h.2, named_earlier p h.0 files s h.3)
 
-wants_line : (p : Contents) (v : Version) (k : ℕ) (taken : List FileBytes) (s : State) (held left more : Option (List ℕ)) (lines : List (Option (List ℕ)))
+pub wants_line : (p : Contents) (v : Version) (k : ℕ) (taken : List FileBytes) (s : State) (held left more : Option (List ℕ)) (lines : List (Option (List ℕ)))
     → GivesLine left more held true → AreBehind lines k left → WantsEntry p (read_as v held) s → WantsNext p (slice_get (map (read_as v) lines) k) (with_earlier taken s)
 wants_line p v k taken s held left more lines g h m =
     let raw = line_cut v lines k left more held h g in
     subst (λ o. WantsNext p o (with_earlier taken s)) (sym raw.1) (wants_uncut p taken s raw.0 (subst (λ o. WantsEntry p o s) (sym raw.2) m))
+
+-- behind the last line an entry is asked for
+pub wants_end : (p : Contents) (v : Version) (k : ℕ) (taken : List FileBytes) (s : State) (held left more : Option (List ℕ)) (lines : List (Option (List ℕ)))
+    → GivesLine left more held false → AreBehind lines k left → WantsNext p (slice_get (map (read_as v) lines) k) (with_earlier taken s)
+wants_end p v k taken s held left more lines g h = subst (λ o. WantsNext p o (with_earlier taken s)) (sym (none_read v lines k (none_next lines k left more held h g))) tt
 
 read_fault : (p : Contents) (d : Head) (k i : ℕ) (taken : List FileBytes) (s : State) (left : Option (List ℕ)) (rec : Option Recording) (f : ReadFault) (text : List ℕ) (r : Recording)
     → s.sink.shelf.files ≡ [] → WantsNext p (slice_get (step_lines d.version text) k) (with_earlier taken s) → Stops f (behind i r) → f ≢ read.OutOfMemory
@@ -238,13 +249,18 @@ told_not_put p d k i used taken front rest next s t line known left start_rec re
     no_more p (taken ++ front) text r f e (subst (AreOfLines p text r) (sym same) (of_lines p d k i taken s left rec text r none h)))
 
 -- an entry is left
+pub left_here : (p : Contents) (d : Head) (k i : ℕ) (taken : List FileBytes) (s : State) (held left more : Option (List ℕ)) (rec : Option Recording) (item : Entry) (new : Option Recording) (text : List ℕ) (r : Recording)
+    → GivesLine left more held false → GivesNext (Some (behind i r)) new (Ok (Some item)) → Stands p text r d k i taken s left rec
+    → IsFaultAt p (with_earlier taken s) (slice_get (items_of r.entries) i) (k + 3) i (slice_get (step_lines d.version text) k) (of.Unfinished i)
+left_here p d k i taken s held left more rec item new text r g e h =
+    let next : slice_get (items_of r.entries) i ≡ Some (seen_of item) = sym (next_at r.entries i) ∙ ap next_of e.2 in
+    rw (next, none_read d.version (drop 2 (certificate_lines text)) k (none_next (drop 2 (certificate_lines text)) k left more held h.lines g)) refl
+
 unfinished : (p : Contents) (d : Head) (k i : ℕ) (taken : List FileBytes) (s : State) (held left more : Option (List ℕ)) (item : Entry) (new : Option Recording) (text : List ℕ) (r : Recording)
     → s.sink.shelf.files ≡ [] → GivesLine left more held false → GivesNext (Some (behind i r)) new (Ok (Some item)) → Stands p text r d k i taken s left (Some (behind i r))
     → IsStreamFault p (stream.Cert (of.Unfinished i)) taken text r
 unfinished p d k i taken s held left more item new text r none g e h =
-    let next : slice_get (items_of r.entries) i ≡ Some (seen_of item) = sym (next_at r.entries i) ∙ ap next_of e.2 in
-    cert_fault p d k i taken s left (Some (behind i r)) text r (of.Unfinished i) (λ z. cc) (λ z. cc) none tt h
-    (rw (next, none_read d.version (drop 2 (certificate_lines text)) k (none_next (drop 2 (certificate_lines text)) k left more held h.lines g)) refl)
+    cert_fault p d k i taken s left (Some (behind i r)) text r (of.Unfinished i) (λ z. cc) (λ z. cc) none tt h (left_here p d k i taken s held left more (Some (behind i r)) item new text r g e h)
 
 pub told_unfinished : (p : Contents) (d : Head) (k i : ℕ) (taken : List FileBytes) (s : State) (held known left more : Option (List ℕ)) (item : Entry) (start_rec rec new : Option Recording)
     → s.sink.shelf.files ≡ [] → GivesLine left more held false → GivesNext rec new (Ok (Some item))
@@ -270,7 +286,7 @@ told_stopped p d k i taken s held known left more start_rec rec new f none g e =
     told_map known start_rec (λ text r. Stands p text r d k i taken s left rec) (IsStreamFault p (of_read f) taken)
     (λ text r h. known_stop p taken text r f (of_lines p d k i taken s left rec text r none h)
     (λ told. read_fault p d k i taken s left rec f text r none
-    (subst (λ o. WantsNext p o (with_earlier taken s)) (sym (none_read d.version (drop 2 (certificate_lines text)) k (none_next (drop 2 (certificate_lines text)) k left more held h.lines g))) tt)
+    (wants_end p d.version k taken s held left more (drop 2 (certificate_lines text)) g h.lines)
     (subst (λ o. GivesNext o new (Err f)) h.rest e) told h))
 
 -- a device has failed before the next line

@@ -17,14 +17,12 @@ use Rattle.a429_link.specs.Link.{with_earlier, handed_out}
 use Rattle.a429_record.specs.Recording.{Recording}
 use Rattle.a429_record.specs.declared.fault.ReadFault.{ReadFault}
 use Rattle.a429_record.specs.declared.fault.ReadFault.TheVariants as read
-use Rattle.a429_cert.specs.declared.listener.ListenFault.{ListenFault}
-use Rattle.a429_cert.specs.declared.listener.ListenFault.TheVariants as listen
 use Rattle.a429_cert.specs.declared.stream_fault.StreamFault.TheVariants as stream
 use Rattle.a429_cert.specs.declared.explained.Head.{Head}
 use Rattle.a429_cert.specs.Lines.{certificate_lines}
 use Rattle.a429_cert.specs.Version.{read_as}
 use Rattle.a429_cert.specs.CutLines.{GivesLine}
-use Rattle.a429_cert.specs.Stream.{behind, PassesOver, of_read, of_listener}
+use Rattle.a429_cert.specs.Stream.{behind, PassesOver, of_read}
 use Rattle.a429_cert.specs.StreamHead.{TakesHead}
 use Rattle.a429_cert.specs.StreamExplained.{WhereTold}
 use Rattle.a429_cert.proofs.ExplainedFacts.{begins}
@@ -74,12 +72,6 @@ read_device read.TooMany e = absurd (cc e)
 read_device read.Device e = refl
 read_device read.OutOfMemory e = absurd (cc e)
 read_device read.Failed e = absurd (cc e)
-
--- ---- a fault of a listener
-
-pub listener_device : (f : ListenFault) → of_listener f ≡ stream.Device → f ≡ listen.Device
-listener_device listen.Device e = refl
-listener_device listen.OutOfMemory e = absurd (cc e)
 
 -- ---- the start
 

@@ -1,18 +1,20 @@
 -- What a listener has heard where a walk along a certificate's lines stands.
-use Rattle.std.proofs.Common.{◌≡◌, ◌≤◌, ◌+◌, ◌∙◌, ◌++◌, ◌∷◌, ℕ, suc, List, [], length, take, drop, true, false, Option, Some, None, slice_get, Ok, refl, sym, ap, subst, arith}
+use Rattle.std.proofs.Common.{◌≡◌, ◌≢◌, ◌≤◌, ◌+◌, ◌∙◌, ◌++◌, ◌∷◌, ℕ, suc, List, [], length, take, drop, true, false, Option, Some, None, slice_get, Result, Ok, Err, IfErr, IsErrOf, refl, sym, ap, subst, arith}
 use Rattle.std.specs.List.{FoldsTo}
 use Rattle.std.proofs.lemmas.List.{length-take-le}
 use Rattle.a429_profile.specs.Profile.{Contents}
 use Rattle.a429_link.specs.declared.file.FileBytes.{FileBytes}
+use Rattle.a429_ldu.specs.Ldu.{LduValue}
 use Rattle.a429_link.specs.declared.seen.Seen.{Seen}
 use Rattle.a429_link.specs.declared.step.Step.{Step}
 use Rattle.a429_link.specs.declared.step.Step.TheVariants as step
-use Rattle.a429_link.specs.Step.{after}
+use Rattle.a429_link.specs.Step.{Can, after}
 use Rattle.a429_link.specs.State.{State, start}
 use Rattle.a429_link.specs.Run.{end_of, trace}
 use Rattle.a429_link.specs.Link.{with_earlier, handed_out}
 use Rattle.a429_link.proofs.LinkCalls.{handed_earlier}
 use Rattle.a429_record.specs.declared.entry.Entry.{Entry}
+use Rattle.a429_record.specs.declared.fault.ReadFault.{ReadFault}
 use Rattle.a429_record.specs.Recording.{Recording, whole}
 use Rattle.a429_record.specs.Rows.{GivesNext}
 use Rattle.a429_cert.specs.declared.act.Act.{Act}
@@ -27,16 +29,20 @@ use Rattle.a429_cert.specs.Lines.{certificate_lines}
 use Rattle.a429_cert.specs.Version.{read_as, step_lines}
 use Rattle.a429_cert.specs.CutLines.{GivesLine}
 use Rattle.a429_cert.specs.Act.{step_with, uses_of}
-use Rattle.a429_cert.specs.Explained.{items_of, step_of, Reaches}
-use Rattle.a429_cert.specs.Fault.{SaysLine}
+use Rattle.a429_cert.specs.Explained.{items_of, listed_ldu, step_of, Reaches}
+use Rattle.a429_cert.specs.Fault.{SaysLine, IsOfAStep, IsFaultOfStep}
 use Rattle.a429_cert.specs.Passing.{uses_listed, IsStepOfLine, PassesText, Lists}
-use Rattle.a429_cert.specs.declared.listener.ListenFault.{ListenFault}
-use Rattle.a429_cert.specs.declared.listener.ListenFault.TheVariants as listen
-use Rattle.a429_cert.specs.Stream.{behind, next_of, PassesOver, RefusesNext, of_listener}
+use Rattle.a429_cert.specs.declared.fault.CertFault.{CertFault}
+use Rattle.a429_cert.specs.declared.fault.CertFault.TheVariants as of
+use Rattle.a429_cert.specs.declared.stream_fault.StreamFault.{StreamFault}
+use Rattle.a429_cert.specs.declared.stream_fault.StreamFault.TheVariants as stream
+use Rattle.a429_cert.specs.declared.stream.Walk.{Walk}
+use Rattle.a429_cert.specs.Stream.{behind, next_of, PassesOver, TakesNext, RefusesNext, EndsNext, IsNotTaken, of_cert}
 use Rattle.a429_cert.specs.StreamExplained.{WhereTold}
 use Rattle.a429_cert.specs.Told.{Told, Loads, Makes, with_number, told, told_steps, told_run, Hearing, IsHeard, told_listed, entry_used, IsNextEntry, HearsListed, HearsText}
 use Rattle.a429_cert.proofs.Options.{some_is}
 use Rattle.a429_cert.proofs.ReadingFacts.{one-line}
+use Rattle.a429_cert.proofs.StreamFacts.{refused_next}
 use Rattle.a429_cert.proofs.ExplainedFacts.{drop_get, none_past, none_read, passes_on, explains_all}
 use Rattle.a429_cert.proofs.StreamStands.{Stands, says_back, next_at, line_cut, text_back}
 use Rattle.a429_cert.proofs.EarlierFiles.{text_earlier}
@@ -136,7 +142,7 @@ hears_line hears p first lines r k i used line s t old now new g inside h m q =
 
 -- ---- along a walk, where both are told
 
-told_both : (known : Option (List ℕ)) (rec : Option Recording) (A B C : List ℕ → Recording → Type 0) → ((text : List ℕ) (r : Recording) → A text r → B text r → C text r) → WhereTold known rec A → WhereTold known rec B → WhereTold known rec C
+pub told_both : (known : Option (List ℕ)) (rec : Option Recording) (A B C : List ℕ → Recording → Type 0) → ((text : List ℕ) (r : Recording) → A text r → B text r → C text r) → WhereTold known rec A → WhereTold known rec B → WhereTold known rec C
 told_both None rec A B C f a b = tt
 told_both (Some text) None A B C f a b = tt
 told_both (Some text) (Some r) A B C f a b = f text r a b
@@ -219,8 +225,39 @@ pub hears_text : {T : Type 0} (hears : Hearing T) (p : Contents) (text : Option 
     → Lists p text x s → HearsListed hears p x s rec i old new → HearsText hears p text s rec i old new
 hears_text hears p text x s rec i old new h g = (h.0, x, h.1, h.2, g)
 
--- want of memory is told at any place
-pub not_heard : (p : Contents) (x : Listed) (s : State) (rec : Option Recording) (n i : ℕ) (f : ListenFault) → RefusesNext p x s rec n i (of_listener f)
-not_heard p x s None n i f = tt
-not_heard p x s (Some r) n i listen.Device = tt
-not_heard p x s (Some r) n i listen.OutOfMemory = tt
+-- ---- a line that is not taken
+
+-- where no link data unit may be loaded
+pub not_loaded : (walk : Walk) (u : LduValue) (next : Option Seen) → (Can walk.link.profile (step.Load u) walk.link.state → ⊥) → IsNotTaken walk (listed.Load u) next (stream.Cert (of.NotAllowed walk.lines))
+not_loaded walk u next cannot = (λ l is z. by l is, λ e. cc)
+  where
+    by : (l : CertLine) → IsStepOfLine (listed.Load u) l → IsOfAStep l × IsFaultOfStep walk.link.profile walk.link.state next walk.lines walk.used l (of.NotAllowed walk.lines)
+    by (First file) is = absurd is
+    by (Load l) is =
+        (tt, (refl, λ n. cannot (subst (λ (v : LduValue). Can walk.link.profile (step.Load v) walk.link.state) (sym is) (subst (λ (a : Step). Can walk.link.profile a walk.link.state) (sym (some_step (step.Load (listed_ldu l)) n.1.0 n.1.1)) n.1.2))))
+    by (Moved l) is = absurd is
+
+-- in the order of recording and certificate
+pub ends_next : (walk : Walk) (x : Listed) (old new : Option Recording) (next : Option Seen) (f : StreamFault) → TakesNext (uses_listed x) old new next → IsNotTaken walk x next f → EndsNext walk x old f
+ends_next walk x old new next (stream.Cert f) g h =
+    subst (RefusesNext walk.link.profile x walk.link.state old walk.lines walk.used) (same f h.1) (refused_next walk.link.profile x walk.link.state old new next walk.lines walk.used f g h.0)
+  where
+    same : (f : CertFault) → f ≢ of.OutOfMemory → of_cert f ≡ stream.Cert f
+    same of.OutOfMemory n = absurd (n refl)
+    same of.Version n = refl
+    same (of.Line m) n = refl
+    same (of.NotAllowed m) n = refl
+    same (of.StateDiffers m) n = refl
+    same (of.WordDiffers m j) n = refl
+    same (of.Unfinished j) n = refl
+ends_next walk x None new next (stream.Read f) g h = tt
+ends_next walk x (Some r) new next (stream.Read f) g h = absurd h
+ends_next walk x None new next stream.Device g h = tt
+ends_next walk x (Some r) new next stream.Device g h = tt
+ends_next walk x None new next stream.OutOfMemory g h = tt
+ends_next walk x (Some r) new next stream.OutOfMemory g h = tt
+
+-- no fault of the recording is among them
+pub not_read : (walk : Walk) (x : Listed) (r : Result ℕ StreamFault) (f : ReadFault) → IfErr r (λ e. (next : Option Seen) → IsNotTaken walk x next e) → IsErrOf r (stream.Read f) → ⊥
+not_read walk x (Ok used) f h e = absurd (cc e)
+not_read walk x (Err fault) f h e = let same : fault ≡ stream.Read f = cc e in subst (IsNotTaken walk x None) same (h None)

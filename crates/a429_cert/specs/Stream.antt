@@ -81,6 +81,13 @@ RefusesNext p x s (Some r) n i (stream.Read f) = (uses_listed x ≡ 1) × Stops 
 RefusesNext p x s (Some r) n i stream.Device = ⊤
 RefusesNext p x s (Some r) n i stream.OutOfMemory = ⊤
 
+-- a listener is told nothing where the fault is one of the certificate or of the recording
+abbrev pub IsUntold : {T : Type 0} → T → T → StreamFault → Type 0
+IsUntold old new (stream.Cert f) = new ≡ old
+IsUntold old new (stream.Read f) = new ≡ old
+IsUntold old new stream.Device = ⊤
+IsUntold old new stream.OutOfMemory = ⊤
+
 -- a line of the text passes over the recording, and uses so many entries
 abbrev pub PassesOver : Contents → Option (List ℕ) → State → State → Option Recording → Option Recording → ℕ → Type 0
 PassesOver p text s t None new used = ⊤
@@ -107,6 +114,13 @@ WalksNext old new x rec rest used = PassesNext old.link.profile x old.link.state
 -- why a walk ends at what the last line lists
 abbrev pub EndsNext : Walk → Listed → Option Recording → StreamFault → Type 0
 EndsNext walk x rec f = RefusesNext walk.link.profile x walk.link.state rec walk.lines walk.used f
+
+-- why what the last line lists is not taken with this next entry: it is refused, or the listener has a fault
+abbrev pub IsNotTaken : Walk → Listed → Option Seen → StreamFault → Type 0
+IsNotTaken walk x next (stream.Cert f) = RefusesListed walk.link.profile x (record { line = walk.lines; entry = walk.used; next = next }) walk.link.state f × (f ≢ of.OutOfMemory)
+IsNotTaken walk x next (stream.Read f) = ⊥
+IsNotTaken walk x next stream.Device = ⊤
+IsNotTaken walk x next stream.OutOfMemory = ⊤
 
 -- a walk passes over the next line, as its version reads it, and that uses so many entries of the recording
 abbrev pub WalksOver : Walk → Walk → Option (List ℕ) → Option Recording → Option Recording → ℕ → Type 0

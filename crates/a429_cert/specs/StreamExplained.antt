@@ -1,5 +1,6 @@
 -- What a certificate explains, and its first fault, where it and the recording are read as they come (profile).
 use Rattle.std.specs.Prelude.{◌≡◌, ◌≢◌, ◌⊎◌, ◌≤◌, ℕ, List, [], length, take, Option, Some, None, slice_get, ⊤, Vec}
+use Rattle.std.specs.List.{FoldsTo}
 use Rattle.a429_profile.specs.Profile.{Contents}
 use Rattle.a429_link.specs.declared.file.FileBytes.{FileBytes}
 use Rattle.a429_link.specs.State.{State}
@@ -16,7 +17,7 @@ use Rattle.a429_cert.specs.declared.explained.Head.{Head}
 use Rattle.a429_cert.specs.Version.{step_lines}
 use Rattle.a429_cert.specs.Explained.{items_of, Reaches, IsExplained, AreInEveryRun}
 use Rattle.a429_cert.specs.Fault.{HasHead, IsFaultOfHead, IsLaterFault, IsFirstCertFault}
-use Rattle.a429_cert.specs.Told.{Hearing, IsHeard}
+use Rattle.a429_cert.specs.Told.{Told, told_run, Hearing, IsHeard}
 use Rattle.a429_cert.specs.Stream.{behind, WantsEntry, GainsAll, sizes}
 
 -- what holds of the certificate and the recording, where both are told
@@ -98,3 +99,25 @@ pub record Refuses (p : Contents) (known : Option (List ℕ)) (rec : Option Reco
   pub files : List FileBytes
   pub fault : WhereTold known rec (IsStreamFault p f files)
   pub put : GainsAll old new 1 files
+
+-- ---- what is told before a fault
+
+-- what is told of the lines before the fault, which comes first: of a run's first steps, in order, and of no other
+abbrev pub IsToldBefore : Contents → StreamFault → List Told → List ℕ → Recording → Type 0
+IsToldBefore p (stream.Cert f) told text r = (IsFaultOfHead text f × (told ≡ [])) ⊎ ((h : IsLaterFault p text (items_of r.entries) f) × (told ≡ told_run p r.entries h.head.first h.before.steps))
+IsToldBefore p (stream.Read f) told text r = (files : List FileBytes) × (h : IsWantedReadFault p text r f files) × (told ≡ told_run p r.entries h.before.head.first h.before.before.steps)
+IsToldBefore p stream.Device told text r = ⊤
+IsToldBefore p stream.OutOfMemory told text r = ⊤
+
+-- a listener has heard the steps of the lines before the fault, each once and in order, and nothing else
+pub record IsHeardBefore {T : Type 0} (hears : Hearing T) (p : Contents) (old new : T) (f : StreamFault) (text : List ℕ) (r : Recording) : Type 0 where
+  pub told : List Told
+  pub before : IsToldBefore p f told text r
+  pub heard : FoldsTo (hears p) old told new
+
+-- it has, where both are told and the fault is one of the certificate or of the recording: another may be the listener's own
+abbrev pub HearsBefore : {T : Type 0} → Hearing T → Contents → Option (List ℕ) → Option Recording → T → T → StreamFault → Type 0
+HearsBefore hears p known rec old new (stream.Cert f) = WhereTold known rec (IsHeardBefore hears p old new (stream.Cert f))
+HearsBefore hears p known rec old new (stream.Read f) = WhereTold known rec (IsHeardBefore hears p old new (stream.Read f))
+HearsBefore hears p known rec old new stream.Device = ⊤
+HearsBefore hears p known rec old new stream.OutOfMemory = ⊤

@@ -18,8 +18,8 @@ pub enum ListenFault {
     OutOfMemory,
 }
 
-/// What is told of each step that a certificate lists, before it is known whether the step may be made: what
-/// it has heard is a run only where the whole certificate is accepted.
+/// What is told of each step that a certificate lists, once its line is accepted: what it has heard are the
+/// first steps of a run, and a whole run only where the whole certificate is accepted.
 pub trait Listener: Failing {
     ghost use Rattle.std.specs.Prelude.{◌≡◌, IsErrOf, OnOk, true};
     ghost use Rattle.a429_profile.specs.Profile.{Contents};

@@ -1,31 +1,35 @@
 //! A certificate, held against a recording, both read as they come.
 
-ghost use Rattle.std.specs.Prelude.{◌≡◌, ◌≤◌, ◌⊎◌, [], ◌∷◌, ◌++◌, true, option_map, IfOk, IfErr, IfSome, IsSome, IsErrOf, OnOk, OnErr};
+ghost use Rattle.std.specs.Prelude.{◌≡◌, ◌≤◌, ◌⊎◌, [], ◌∷◌, ◌++◌, true, Option, None, option_map, IfOk, IfErr, IfSome, IsSome, IsErrOf, OnOk, OnErr};
 ghost use Rattle.a429_profile.specs.Profile.{IsProfile};
+ghost use Rattle.a429_ldu.specs.Ldu.{IsLdu};
+ghost use Rattle.a429_link.specs.declared.seen.Seen.{Seen};
 ghost use Rattle.a429_record.specs.declared.fault.ReadFault.TheVariants as read;
 ghost use Rattle.a429_cert.specs.Lines.{line_bytes};
 ghost use Rattle.a429_cert.specs.Shelf.{IsUnchanged};
-ghost use Rattle.a429_cert.specs.Passing.{IsReady, uses_listed};
+ghost use Rattle.a429_cert.specs.Passing.{IsReady, PassesListed, uses_listed};
 ghost use Rattle.a429_word.specs.Tally.{has_failed, unread};
 ghost use Rattle.a429_cert.specs.Explained.{seen_of};
-ghost use Rattle.a429_cert.specs.StreamExplained.{SaysYes, HearsRun, Refuses};
+ghost use Rattle.a429_cert.specs.StreamExplained.{SaysYes, HearsRun, HearsBefore, Refuses};
 ghost use Rattle.a429_cert.specs.Told.{IsNextEntry, with_number};
-ghost use Rattle.a429_cert.specs.Stream.{IsFaultNext, TakesNext, WalksNext, EndsNext, TellsListed, HearsNext, WalksOver, EndsWalk, HearsLine};
+ghost use Rattle.a429_cert.specs.Stream.{IsFaultNext, TakesNext, WalksNext, EndsNext, TellsListed, HearsNext, IsNotTaken, IsUntold, WalksOver, EndsWalk, HearsLine};
 ghost use Rattle.a429_cert.specs.Stream.{OneFailed, HandsFilesOut, PutsFiles, PutsFirstFiles, sizes};
 
 use crate::at::At;
 use crate::entry::seen_in;
 use crate::fault::CertFault;
+use crate::line::MovedLine;
 use crate::line_reader::LineReader;
 use crate::lines::TextLine;
 use crate::listed::Listed;
-use crate::listener::{ListenFault, Listener, NoListener};
+use crate::listener::{Listener, NoListener};
 use crate::passing::{list_step, take_step};
 use crate::shelf::{Shelf, ShelfFault};
 use crate::stream_fault::{StreamFault, of_cert, of_listener, of_read};
 use crate::stream_head::begin;
 use crate::version::Version;
-use a429_link::{FileBytes, Link};
+use a429_ldu::Ldu;
+use a429_link::{FileBytes, Link, Step};
 use a429_profile::Profile;
 use a429_record::{Entry, EntryReader, ReadFault};
 use a429_word::Tally;
@@ -51,9 +55,10 @@ pub fn verify_stream<R: Read, C: Read, S: Shelf>(
     replay_stream(alloc, profile, rec, cert, shelf, &mut NoListener)
 }
 
-/// The same, and a listener is told of each step as it comes. Where the answer is a yes, it has heard the
-/// steps of the run by which the certificate explains the recording, each once and in order. Where it has
-/// not taken a step, that is the fault, and the files of the lines before are put.
+/// The same, and a listener is told of each step once its line is accepted. Where the answer is a yes, it has
+/// heard the steps of the run by which the certificate explains the recording, each once and in order; where it
+/// is a fault of the certificate or of the recording, those of the lines before the fault. Where it has not
+/// taken a step, that is the fault, and the files of the lines before are put.
 pub fn replay_stream<R: Read, C: Read, S: Shelf, T: Listener>(
     alloc: Global,
     profile: &Profile,
@@ -65,6 +70,7 @@ pub fn replay_stream<R: Read, C: Read, S: Shelf, T: Listener>(
     ensures ok { IfOk result (SaysYes profile.now (unread C.remaining cert.old) rec.old.to_come (S.files shelf.old) (S.files shelf.new)) }
     ensures heard { OnOk result (HearsRun T.hears profile.now (unread C.remaining cert.old) rec.old.to_come listener.old listener.new) }
     ensures err { IfErr result (Refuses profile.now (unread C.remaining cert.old) rec.old.to_come (S.files shelf.old) (S.files shelf.new)) }
+    ensures told { IfErr result (HearsBefore T.hears profile.now (unread C.remaining cert.old) rec.old.to_come listener.old listener.new) }
     ensures device { IsErrOf result StreamFault.Device → OneFailed (has_failed cert.new) (S.failed shelf.new) (T.failed listener.new) }
     ensures read { IsErrOf result (StreamFault.Read read.Device) → rec.new.failed ≡ true }
 {
@@ -135,22 +141,6 @@ pub struct Walk<'a> {
     files: Vec<(u8, u32)>,
 }
 
-// Tells a listener of the step that a line lists, with the entry that it uses.
-fn tell<T: Listener>(
-    walk: &Walk<'_>,
-    listed: &Listed,
-    next: Option<Entry>,
-    listener: &mut T,
-) -> Result<(), ListenFault>
-    ensures heard { OnOk result (TellsListed T.hears walk.now listed.now next listener.old listener.new) }
-    ensures device { IsErrOf result ListenFault.Device → T.failed listener.new ≡ true }
-{
-    match listed {
-        Listed::Load(unit) => listener.load(walk.profile, walk.link.number(), unit),
-        Listed::Moved(line) => listener.make(walk.profile, line.act, numbered(walk.used, next)),
-    }
-}
-
 // An entry with its number.
 fn numbered(number: usize, entry: Option<Entry>) -> Option<(usize, Entry)>
     ensures { result ≡ with_number number entry }
@@ -158,8 +148,8 @@ fn numbered(number: usize, entry: Option<Entry>) -> Option<(usize, Entry)>
     Some((number, entry?))
 }
 
-// Takes the step that the last line lists, with the next entry, if it uses one. Answers how many entries
-// it uses, 0 or 1.
+// Takes the step that the last line lists, with the next entry, if it uses one, and tells a listener. Answers
+// how many entries it uses, 0 or 1.
 fn take_next<R: Read, T: Listener>(
     walk: &mut Walk<'_>,
     listed: Listed,
@@ -171,6 +161,7 @@ fn take_next<R: Read, T: Listener>(
     ensures heard { OnOk result (HearsNext T.hears walk.old listed rec.old.to_come listener.old listener.new) }
     ensures few { IfOk result (λ used. used ≤ 1) }
     ensures refused { IfErr result (EndsNext walk.old listed rec.old.to_come) }
+    ensures untold { IfErr result (IsUntold listener.old listener.new) }
     ensures device { IsErrOf result StreamFault.Device → T.failed listener.new ≡ true }
     ensures read { IsErrOf result (StreamFault.Read read.Device) → rec.new.failed ≡ true }
     ensures kept { walk.new ≡ record (walk.old) { link = walk.new.link } }
@@ -180,23 +171,75 @@ fn take_next<R: Read, T: Listener>(
         Ok(next) => next,
         Err(fault) => return Err(of_read(fault)),
     };
+    match listed {
+        Listed::Load(unit) => take_load(walk, unit, listener),
+        Listed::Moved(line) => take_other(walk, line, next, listener),
+    }
+}
+
+// Loads the link data unit that the last line lists, where that may be, and tells a listener.
+fn take_load<T: Listener>(
+    walk: &mut Walk<'_>,
+    unit: Ldu,
+    listener: &mut T,
+) -> Result<usize, StreamFault>
+    requires { IsLdu walk.old.link.profile unit }
+    ensures passed { IfOk result (λ used. (next : Option Seen) → PassesListed walk.old.link.profile (Listed.Load unit) next
+        walk.old.link.state walk.new.link.state used) }
+    ensures heard { OnOk result (TellsListed T.hears walk.old (Listed.Load unit) None listener.old listener.new) }
+    ensures refused { IfErr result (λ f. (next : Option Seen) → IsNotTaken walk.old (Listed.Load unit) next f) }
+    ensures untold { IfErr result (IsUntold listener.old listener.new) }
+    ensures device { IsErrOf result StreamFault.Device → T.failed listener.new ≡ true }
+    ensures kept { walk.new ≡ record (walk.old) { link = walk.new.link } }
+    ensures profile { walk.new.link.profile ≡ walk.old.link.profile }
+{
+    if !walk.link.may_load() {
+        return Err(StreamFault::Cert(CertFault::NotAllowed(walk.lines)));
+    }
+    match listener.load(walk.profile, walk.link.number(), &unit) {
+        Ok(()) => {}
+        Err(fault) => return Err(of_listener(fault)),
+    }
+    match walk.link.apply(Step::Load(unit)) {
+        Ok(()) => Ok(0),
+        Err(_) => unreachable!(),
+    }
+}
+
+// Takes another step, which the last line lists, with the entry that was read for it, and tells a listener.
+fn take_other<T: Listener>(
+    walk: &mut Walk<'_>,
+    line: MovedLine,
+    next: Option<Entry>,
+    listener: &mut T,
+) -> Result<usize, StreamFault>
+    requires { IsReady walk.old.link.profile (Listed.Moved line) walk.old.link.state }
+    ensures passed { IfOk result (PassesListed walk.old.link.profile (Listed.Moved line) (option_map seen_of next) walk.old.link.state
+        walk.new.link.state) }
+    ensures heard { OnOk result (TellsListed T.hears walk.old (Listed.Moved line) next listener.old listener.new) }
+    ensures refused { IfErr result (IsNotTaken walk.old (Listed.Moved line) (option_map seen_of next)) }
+    ensures untold { IfErr result (IsUntold listener.old listener.new) }
+    ensures device { IsErrOf result StreamFault.Device → T.failed listener.new ≡ true }
+    ensures kept { walk.new ≡ record (walk.old) { link = walk.new.link } }
+    ensures profile { walk.new.link.profile ≡ walk.old.link.profile }
+{
     let at = At {
         line: walk.lines,
         entry: walk.used,
         next: seen_in(&next),
     };
-    match tell(walk, &listed, next, listener) {
-        Ok(()) => {}
-        Err(fault) => return Err(of_listener(fault)),
-    }
-    match take_step(&mut walk.link, listed, at) {
-        Ok(used) => Ok(used),
-        Err(fault) => Err(of_cert(fault)),
+    let used = match take_step(&mut walk.link, Listed::Moved(line), at) {
+        Ok(used) => used,
+        Err(fault) => return Err(of_cert(fault)),
+    };
+    match listener.make(walk.profile, line.act, numbered(walk.used, next)) {
+        Ok(()) => Ok(used),
+        Err(fault) => Err(of_listener(fault)),
     }
 }
 
-// Takes the last line that was handed out, over the next entry, if its step uses one, and tells a listener.
-// Answers how many entries it uses, 0 or 1.
+// Takes the last line that was handed out, over the next entry, if its step uses one, and tells a listener
+// where it is accepted. Answers how many entries it uses, 0 or 1.
 pub fn pass_over<R: Read, T: Listener>(
     walk: &mut Walk<'_>,
     line: TextLine<'_>,
@@ -210,6 +253,7 @@ pub fn pass_over<R: Read, T: Listener>(
     ensures ended { OnOk result (IsSome (line_bytes line.entry)) }
     ensures few { IfOk result (λ used. used ≤ 1) }
     ensures refused { IfErr result (EndsWalk walk.old (line_bytes line.entry) rec.old.to_come) }
+    ensures untold { IfErr result (IsUntold listener.old listener.new) }
     ensures device { IsErrOf result StreamFault.Device → T.failed listener.new ≡ true }
     ensures read { IsErrOf result (StreamFault.Read read.Device) → rec.new.failed ≡ true }
     ensures kept { walk.new ≡ record (walk.old) { link = walk.new.link } }

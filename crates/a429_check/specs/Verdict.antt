@@ -16,7 +16,7 @@ use Rattle.a429_cert.specs.declared.shelf.PutFile.{PutFile}
 use Rattle.a429_cert.specs.declared.stream_fault.StreamFault.{StreamFault}
 use Rattle.a429_cert.specs.declared.stream_fault.StreamFault.TheVariants as stream
 use Rattle.a429_cert.specs.Shelf.{IsUnchanged}
-use Rattle.a429_cert.specs.StreamExplained.{Extracts, Refuses, WhereTold}
+use Rattle.a429_cert.specs.StreamExplained.{Extracts, IsHeardBefore, Refuses, WhereTold}
 use Rattle.a429_cert.specs.Told.{Hearing, IsHeard}
 use Rattle.a429_check.specs.declared.fault.RunFault.{RunFault}
 use Rattle.a429_check.specs.declared.fault.RunFault.TheVariants as run
@@ -138,3 +138,11 @@ IsNoVerdict profile certificate rec old new = IsVerifyFault profile certificate 
 -- the output is as it was after any fault but `Device`, where a reader or the shelf has failed, and where the output has not
 abbrev pub IsSilent : {W : Type 0} → Type 0 → Tally W → Tally W → RunFault → Type 0
 IsSilent Failed out new_out e = (e ≢ run.Device) ⊎ (Failed ⊎ (has_failed new_out ≡ false)) → new_out ≡ out
+
+-- ---- what is told before a no
+
+-- a listener has heard the steps of the lines before the certificate's fault, by such a profile, and nothing else
+pub record HasHeardBefore {T : Type 0} (hears : Hearing T) (profile : List ℕ) (certificate : Option (List ℕ)) (rec : Option Recording) (old new : T) (f : CertFault) : Type 0 where
+  pub contents : Contents
+  pub is_profile : IsProfileOf profile contents
+  pub heard : WhereTold certificate rec (IsHeardBefore hears contents old new (stream.Cert f))

@@ -1,6 +1,7 @@
 //! A link: one run of a source and a sink, step by step.
 
 ghost use Rattle.std.specs.Prelude.{◌≡◌, ◌↔◌, [], IsTrue, IfErr, OnOk, OnErr};
+ghost use Rattle.a429_ldu.specs.Ldu.{IsLdu, LduValue};
 ghost use Rattle.a429_link.specs.declared.seen.Seen.{Seen};
 ghost use Rattle.a429_link.specs.Step.{Can, after, LoadsLdu, IsFault, IsNamedStep};
 ghost use Rattle.a429_link.specs.State.{start, states_of};
@@ -79,6 +80,13 @@ impl<'a> Link<'a> {
         ensures { (i : Seen) → IsTrue result ↔ IsNamedStep self.now.profile (Step.Answered i) self.now.state }
     {
         self.transfer.may_answer()
+    }
+
+    /// The source may load a link data unit now, whichever it is.
+    pub fn may_load(&self) -> bool
+        ensures { (u : LduValue) → IsLdu self.now.profile u → (IsTrue result ↔ Can self.now.profile (Step.Load u) self.now.state) }
+    {
+        self.transfer.may_load(self.profile)
     }
 
     /// What the source and the sink are doing, and how many words are on their way to the sink, 0 to 255,

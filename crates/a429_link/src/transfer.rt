@@ -2,7 +2,7 @@
 
 ghost use Rattle.std.specs.Prelude.{◌≡◌, ◌≤◌, ◌↔◌, IsTrue, length};
 ghost use Rattle.a429_profile.specs.Profile.{Contents, IsProfile};
-ghost use Rattle.a429_ldu.specs.Ldu.{IsLdu};
+ghost use Rattle.a429_ldu.specs.Ldu.{IsLdu, LduValue};
 ghost use Rattle.a429_link.specs.declared.step.Step.TheVariants as step;
 ghost use Rattle.a429_link.specs.Sink.{held_count};
 ghost use Rattle.a429_link.specs.Step.{LoadsLdu};
@@ -78,6 +78,13 @@ impl Transfer {
         ensures { (p : Contents) (i : Seen) → IsTrue result ↔ IsReadyStep p (step.Answered i) self.now }
     {
         self.sink.owes()
+    }
+
+    /// A link data unit may be loaded now.
+    pub(crate) fn may_load(&self, profile: &Profile) -> bool
+        ensures { (u : LduValue) → IsLdu profile.now u → (IsTrue result ↔ IsReadyStep profile.now (step.Load u) self.now) }
+    {
+        self.source.may_load(profile.codes().first_ldu)
     }
 
     /// Makes a step, or refuses it and changes nothing.

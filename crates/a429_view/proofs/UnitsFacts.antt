@@ -14,7 +14,7 @@ use Rattle.a429_cert.specs.Told.{Told, Loads, Makes}
 use Rattle.a429_view.specs.declared.units.span.Moment.{Moment}
 use Rattle.a429_view.specs.declared.units.row.UnitRow.{UnitRow}
 use Rattle.a429_view.specs.declared.units.rows.UnitRows.{UnitRows}
-use Rattle.a429_view.specs.Units.{before_load, loaded_units, is_request, is_lost, is_unanswered, is_unheard, is_nak, is_time_out, is_ack, moment_of, row_of, unit_line, columns_text, units_text}
+use Rattle.a429_view.specs.Units.{LoadedUnit, before_load, loaded_units, ended_units, is_request, is_lost, is_unanswered, is_unheard, is_nak, is_time_out, is_ack, moment_of, row_of, unit_line, columns_text, units_text, ended_text}
 use Rattle.a429_view.specs.UnitSteps.{more, either, with_step, begun, line_before, HearsRows}
 
 -- ---- steps, one after the other
@@ -152,6 +152,37 @@ gone_all c row (Loads number unit ∷ told) =
 gone_all c None (Makes act entry ∷ told) = gone_all c None told
 gone_all c (Some r) (Makes act entry ∷ told) = gone_all c (Some (with_step c (Makes act entry) r)) told
 
+-- ---- what has gone out are the rows of the units that have ended
+
+-- the line of a unit, where another is behind it, and of those behind it the lines of all but the last
+abbrev ended_behind : Codes → UnitRow → List LoadedUnit → List ℕ
+ended_behind c r [] = []
+ended_behind c r (u ∷ units) = unit_line r ++ flat_map (λ v. unit_line (row_of c v)) (ended_units (u ∷ units))
+
+ended_behind-is : (c : Codes) (u : LoadedUnit) (units : List LoadedUnit) → ended_behind c (row_of c u) units ≡ flat_map (λ v. unit_line (row_of c v)) (ended_units (u ∷ units))
+ended_behind-is c u [] = refl
+ended_behind-is c u (v ∷ units) = refl
+
+-- the unit that was loaded last, with what is told of it
+begun_behind : (c : Codes) (number : UnitNumber) (unit : LduValue) (told : List Told) (text : List ℕ)
+    → text ≡ ended_behind c (with_steps c (before_load told) (begun c number unit)) (loaded_units told)
+    → text ≡ flat_map (λ v. unit_line (row_of c v)) (ended_units (loaded_units (Loads number unit ∷ told)))
+begun_behind c number unit told text h =
+    h ∙ ap (λ (r : UnitRow). ended_behind c r (loaded_units told)) (row-is c number unit (before_load told))
+    ∙ ended_behind-is c (record { number = number; unit = unit; steps = before_load told }) (loaded_units told)
+
+gone_behind : (c : Codes) (r : UnitRow) (told : List Told) → gone c (Some r) told ≡ ended_behind c (with_steps c (before_load told) r) (loaded_units told)
+gone_behind c r [] = refl
+gone_behind c r (Loads number unit ∷ told) =
+    ap (λ (t : List ℕ). unit_line r ++ t) (begun_behind c number unit told (gone c (Some (begun c number unit)) told) (gone_behind c (begun c number unit) told))
+gone_behind c r (Makes act entry ∷ told) = gone_behind c (with_step c (Makes act entry) r) told
+
+gone_ended : (c : Codes) (told : List Told) → gone c None told ≡ ended_text c told
+gone_ended c [] = refl
+gone_ended c (Loads number unit ∷ told) =
+    ap (λ (t : List ℕ). columns_text ++ t) (begun_behind c number unit told (gone c (Some (begun c number unit)) told) (gone_behind c (begun c number unit) told))
+gone_ended c (Makes act entry ∷ told) = gone_ended c told
+
 -- ---- what rows that are told of a run put
 
 module _ {W : Type 0} (contents : W → Option (List ℕ)) (p : Contents) where
@@ -182,4 +213,14 @@ all_rows contents p old new told end fresh heard last =
     let h = heard_rows contents p old new told heard in
     let text : gone p.codes old.row told ++ line_before new.row ≡ units_text p.codes told =
     ap (λ (r : Option UnitRow). gone p.codes old.row told ++ line_before r) h.row ∙ gone_all p.codes old.row told ∙ ap (λ (r : Option UnitRow). all_text p.codes r told) fresh in
+    subst (Appends (paged contents old.out old.page) end) text (Appends-trans _ _ _ _ _ h.puts last)
+
+-- rows of which none was begun, told of steps, where all that waits is put: what is written of the units that have ended
+pub ended_put : {W : Type 0} (contents : W → Option (List ℕ)) (p : Contents) (old new : UnitRows W) (told : List Told) (end : Option (List ℕ))
+    → old.row ≡ None → FoldsTo (HearsRows contents p) old told new → Appends (paged contents new.out new.page) end []
+    → Appends (paged contents old.out old.page) end (ended_text p.codes told)
+ended_put contents p old new told end fresh heard last =
+    let h = heard_rows contents p old new told heard in
+    let text : gone p.codes old.row told ++ [] ≡ ended_text p.codes told =
+    append-nil (gone p.codes old.row told) ∙ ap (λ (r : Option UnitRow). gone p.codes r told) fresh ∙ gone_ended p.codes told in
     subst (Appends (paged contents old.out old.page) end) text (Appends-trans _ _ _ _ _ h.puts last)

@@ -1,6 +1,8 @@
 -- How the row of a link data unit grows by the steps that are told one after the other.
 use Rattle.std.specs.Prelude.{◌≡◌, ◌+◌, ℕ, List, Bool, true, false, ◌||◌, Option, Some, None, option_map}
-use Rattle.a429_word.specs.Page.{PutsOn}
+use Rattle.std.specs.Io.KnownBytes.{Appends}
+use Rattle.a429_word.specs.Tally.{inner_of}
+use Rattle.a429_word.specs.Page.{paged, PutsOn}
 use Rattle.a429_profile.specs.declared.codes.Codes.{Codes}
 use Rattle.a429_profile.specs.Profile.{Contents}
 use Rattle.a429_ldu.specs.Ldu.{LduValue}
@@ -59,3 +61,7 @@ line_before (Some r) = unit_line r
 abbrev pub HearsRows : {W : Type 0} → (W → Option (List ℕ)) → Contents → UnitRows W → Told → UnitRows W → Type 0
 HearsRows contents p old (Loads number unit) new = PutsOn contents old.out old.page new.out new.page (line_before old.row) × (new.row ≡ Some (begun p.codes number unit))
 HearsRows contents p old (Makes act entry) new = new ≡ record old { row = option_map (with_step p.codes (Makes act entry)) old.row }
+
+-- all that waited to be put has gone out, and this text behind it
+abbrev pub PutsAll : {W : Type 0} → (W → Option (List ℕ)) → UnitRows W → UnitRows W → List ℕ → Type 0
+PutsAll contents old new text = Appends (paged contents old.out old.page) (contents (inner_of new.out)) text

@@ -37,6 +37,12 @@ loaded_units [] = []
 loaded_units (Loads number unit ∷ told) = record { number = number; unit = unit; steps = before_load told } ∷ loaded_units told
 loaded_units (Makes act entry ∷ told) = loaded_units told
 
+-- of units in their order those that have ended: all but the last
+abbrev pub ended_units : List LoadedUnit → List LoadedUnit
+ended_units [] = []
+ended_units (u ∷ []) = []
+ended_units (u ∷ v ∷ units) = u ∷ ended_units (v ∷ units)
+
 -- ---- what a step is
 
 -- the form of a recorded word
@@ -166,3 +172,12 @@ columns_text = codes "file,ldu,words,bytes,final,requests,lost,unanswered,unhear
 -- the rows of the units of a run
 abbrev pub units_text : Codes → List Told → List ℕ
 units_text c told = columns_text ++ flat_map (λ u. unit_line (row_of c u)) (loaded_units told)
+
+-- before the first load nothing; then the names of the columns, and the rows of the units that have ended
+abbrev pub ended_rows : Codes → List LoadedUnit → List ℕ
+ended_rows c [] = []
+ended_rows c (u ∷ units) = columns_text ++ flat_map (λ v. unit_line (row_of c v)) (ended_units (u ∷ units))
+
+-- what is written of steps behind which the unit that was loaded last may go on
+abbrev pub ended_text : Codes → List Told → List ℕ
+ended_text c told = ended_rows c (loaded_units told)

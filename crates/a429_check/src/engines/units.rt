@@ -1,10 +1,10 @@
 //! `a429 units PROFILE REC CERT`: the link data units that a certificate loads, a row for each.
 
-ghost use Rattle.std.specs.Prelude.{◌≡◌, ◌⊎◌, None, Err, true, false, IfOk, IfErr, OnOk};
+ghost use Rattle.std.specs.Prelude.{◌≡◌, Err, false, IfOk, IfErr, OnOk};
 ghost use Rattle.a429_word.specs.Tally.{has_failed, unread};
 ghost use Rattle.a429_profile.specs.declared.fault.ProfileFault.{ProfileFault};
-ghost use Rattle.a429_check.specs.Verdict.{AllWork, HasFailed, IsVerifyFault};
-ghost use Rattle.a429_check.specs.Units.{AreFresh, TellsUnits};
+ghost use Rattle.a429_check.specs.Verdict.{AllWork};
+ghost use Rattle.a429_check.specs.Units.{AreFresh, IsUnitsFault, TellsUnits};
 
 use crate::engines::verdict::{answer_of, put_no};
 use crate::fault::RunFault;
@@ -18,7 +18,8 @@ use std::io::{Read, Write};
 /// Writes the rows of the link data units that a certificate loads, in order, behind a line with the names of
 /// the columns, and answers its status: 0 where it explains the recording, and 2 where it is refused. `profile`
 /// is the bytes of its text. Recording and certificate are read as they come, and a row goes out once its unit
-/// has ended: where the certificate is refused, the verdict is written behind the rows of the units before.
+/// has ended: where the certificate is refused, the names of the columns, once a unit was loaded, and the rows of
+/// the units that ended in the lines before the fault are written, and the verdict behind them.
 pub fn run_units<R: Read, C: Read, W: Write>(
     alloc: Global,
     profile: &[u8],
@@ -27,11 +28,9 @@ pub fn run_units<R: Read, C: Read, W: Write>(
     rows: &mut UnitRows<W>,
 ) -> Result<u8, RunFault>
     requires { AreFresh rows.old }
-    ensures verdict { IfOk result (TellsUnits W.contents profile.now (unread C.remaining certificate.old) rec.old.to_come
-        rows.old.out rows.new.out) }
+    ensures verdict { IfOk result (TellsUnits W.contents profile.now (unread C.remaining certificate.old) rec.old rows.old rows.new) }
     ensures device { OnOk result (AllWork rec.new.failed (has_failed certificate.new) false (has_failed rows.new.out)) }
-    ensures err { IfErr result (IsVerifyFault profile.now (unread C.remaining certificate.old) rec.old.to_come None None
-        (HasFailed rec.new.failed (has_failed certificate.new) false ⊎ (has_failed rows.new.out ≡ true))) }
+    ensures err { IfErr result (IsUnitsFault C.remaining profile.now rec.old rec.new certificate.old certificate.new rows.new) }
     ensures silent { (f : ProfileFault) → result ≡ Err (RunFault.Profile f) → rows.new ≡ rows.old }
 {
     match answer_of(alloc, profile, rec, certificate, &mut NoShelf, rows)? {

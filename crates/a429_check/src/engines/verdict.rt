@@ -6,7 +6,7 @@ ghost use Rattle.std.specs.List.{flat_map};
 ghost use Rattle.std.specs.Fmt.{decimal};
 ghost use Rattle.a429_word.specs.Tally.{has_failed, unread, Puts};
 ghost use Rattle.a429_cert.specs.Stream.{sizes};
-ghost use Rattle.a429_check.specs.Verdict.{count_line, file_line, line_of_file, yes_text, no_text, of_stream, AllWork, AnyFailed, HasFailed, HasHeard, IsNoVerdict, IsSilent, IsVerifyFault, Judges, PutsAnswer};
+ghost use Rattle.a429_check.specs.Verdict.{count_line, file_line, line_of_file, yes_text, no_text, of_stream, AllWork, AnyFailed, HasFailed, HasHeard, HasHeardBefore, IsNoVerdict, IsSilent, IsVerifyFault, Judges, PutsAnswer};
 
 use crate::engines::output::put_decimal;
 use crate::engines::profile::profile_of;
@@ -51,7 +51,7 @@ pub(crate) fn judge<R: Read, C: Read, S: Shelf, W: Write>(
 }
 
 /// What is answered to a certificate, under the profile whose text the bytes are, where no reader, no shelf and
-/// no listener has failed. The listener is told of the certificate's steps.
+/// no listener has failed. The listener is told of the certificate's steps, those before its fault where it has one.
 pub(crate) fn answer_of<R: Read, C: Read, S: Shelf, T: Listener>(
     alloc: Global,
     profile: &[u8],
@@ -65,6 +65,8 @@ pub(crate) fn answer_of<R: Read, C: Read, S: Shelf, T: Listener>(
     ensures no { IfOk result (λ a. IfErr a (λ f. Judges profile.now (unread C.remaining certificate.old) rec.old.to_come
         (S.files shelf.old) (S.files shelf.new) (Err (StreamFault.Cert f)) × (f ≢ CertFault.OutOfMemory))) }
     ensures heard { IfOk result (λ a. OnOk a (HasHeard T.hears profile.now (unread C.remaining certificate.old) rec.old.to_come
+        listener.old listener.new)) }
+    ensures told { IfOk result (λ a. IfErr a (HasHeardBefore T.hears profile.now (unread C.remaining certificate.old) rec.old.to_come
         listener.old listener.new)) }
     ensures works { OnOk result (AllWork rec.new.failed (has_failed certificate.new) (S.failed shelf.new) (T.failed listener.new)) }
     ensures err { IfErr result (IsVerifyFault profile.now (unread C.remaining certificate.old) rec.old.to_come (S.files shelf.old)

@@ -1,11 +1,9 @@
 //! The rows of a certificate's link data units, written as its steps are told.
 
 ghost use Rattle.std.specs.Prelude.{◌≡◌, ◌↔◌, [], None, true, false, IsErr, IsErrOf, IfOk, OnOk};
-ghost use Rattle.std.specs.Io.KnownBytes.{Appends};
-ghost use Rattle.a429_word.specs.Tally.{has_failed, inner_of};
-ghost use Rattle.a429_word.specs.Page.{paged};
+ghost use Rattle.a429_word.specs.Tally.{has_failed};
 ghost use Rattle.a429_cert.specs.Told.{Makes};
-ghost use Rattle.a429_view.specs.UnitSteps.{line_before};
+ghost use Rattle.a429_view.specs.UnitSteps.{line_before, PutsAll};
 
 use crate::units::row::UnitRow;
 use crate::units::text::put_line_before;
@@ -46,17 +44,17 @@ impl<W: Write> UnitRows<W> {
     /// Puts the row of the last unit, or the names of the columns alone where none was loaded, and all that waits
     /// to be put.
     pub fn finish(&mut self) -> Result<(), Device>
-        ensures ok { OnOk result (Appends (paged W.contents self.old.out self.old.page)
-            (W.contents (inner_of self.new.out)) (line_before self.old.row)) }
+        ensures ok { OnOk result (PutsAll W.contents self.old self.new (line_before self.old.row)) }
         ensures device { IsErr result ↔ (has_failed self.new.out ≡ true) }
     {
         put_line_before(&mut self.page, &mut self.out, &self.row)?;
-        self.page.finish(&mut self.out)
+        self.put_waiting()
     }
 
-    /// Puts the rows that wait to be put: those of units behind which another was loaded.
+    /// Puts the rows that wait to be put, those of units behind which another was loaded, and nothing else.
     pub fn put_waiting(&mut self) -> Result<(), Device>
-        ensures { IsErr result ↔ (has_failed self.new.out ≡ true) }
+        ensures ok { OnOk result (PutsAll W.contents self.old self.new []) }
+        ensures device { IsErr result ↔ (has_failed self.new.out ≡ true) }
     {
         self.page.finish(&mut self.out)
     }

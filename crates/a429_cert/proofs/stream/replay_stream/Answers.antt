@@ -7,7 +7,7 @@ use Rattle.a429_cert.specs.Lines.{line_bytes}
 use Rattle.a429_cert.specs.Version.{read_as}
 use Rattle.a429_cert.specs.declared.stream_fault.StreamFault.{StreamFault}
 use Rattle.a429_cert.specs.Stream.{PassesOver, RefusesOver, sizes}
-use Rattle.a429_cert.specs.StreamExplained.{WhereTold, IsStreamFault}
+use Rattle.a429_cert.specs.StreamExplained.{WhereTold, IsStreamFault, HearsBefore}
 use Rattle.a429_cert.proofs.StreamRefused.{told_head, told_refused, told_not_put, told_unfinished, told_stopped, told_device}
 use Rattle.a429_link.specs.State.{State, start}
 use Rattle.a429_link.specs.Link.{LinkValue, handed_out}
@@ -18,6 +18,7 @@ use Rattle.a429_word.specs.Tally.{unread}
 use Rattle.a429_cert.proofs.StreamWalk.{told_init, told_on, told_yes, fresh, read_no_device, read_device}
 use Rattle.a429_cert.specs.Told.{HearsText}
 use Rattle.a429_cert.proofs.ToldFacts.{hears_init, hears_on, hears_all}
+use Rattle.a429_cert.proofs.ToldRefused.{heard_head, heard_refused, heard_unfinished, heard_stopped, heard_nothing}
 use Rattle.a429_cert.proofs.stream.replay_stream.Goals as goal
 
 pub lines-init : goal.lines-init
@@ -53,6 +54,12 @@ returns-in-Err-clause-err g c =
       fault = told_head c.args.profile.now known old c.args.rec.now.to_come c.in-Err.fault (fresh (bytes_ahead c.new-lines.result) known c.new-lines.ensures) c.in-Err.ensures.err;
       put = gains_none (g.S.Shelf.files c.args.shelf.now) 1;
     }
+
+pub returns-in-Err-clause-told : goal.returns-in-Err-clause-told
+returns-in-Err-clause-told g c =
+    let known = unread g.C.Read.remaining c.args.cert.now in
+    let old = to_come g.C.Read.remaining c.new-lines.result c.args.cert.now in
+    heard_head g.T.Listener.hears c.args.profile.now known old c.args.rec.now.to_come c.in-Err.fault c.args.listener.now (fresh (bytes_ahead c.new-lines.result) known c.new-lines.ensures) c.in-Err.ensures.err
 
 pub returns-in_default-clause-err : goal.returns-in_default-clause-err
 returns-in_default-clause-err g c =
@@ -95,6 +102,22 @@ returns-in-Err-pass_over-clause-err g c =
       fault = told_refused p v.head v.k c.lines.walk.used (c.lines.walk.lines + 1) v.taken s held known left more c.args.rec.now.to_come c.lines.rec.to_come c.in-Err-pass_over.fault n v.none_left given here v.told;
       put = v.put;
     }
+
+pub returns-in-Err-pass_over-clause-told : goal.returns-in-Err-pass_over-clause-told
+returns-in-Err-pass_over-clause-told g c =
+    let v = c.lines.invariant in
+    let p = c.args.profile.now in
+    let known = unread g.C.Read.remaining c.args.cert.now in
+    let left = to_come g.C.Read.remaining c.lines.lines c.lines.cert in
+    let more = to_come g.C.Read.remaining c.next_line.new.self c.next_line.new.cert in
+    let held = held_line c.next_line.new.self in
+    let found : c.in-Ok-next_line.found ≡ true = search rules in
+    let s = c.lines.walk.link.state in
+    let n : c.lines.walk.lines + 1 ≡ v.k + 3 = let number = v.number in omega (arith, number) in
+    let given = subst (GivesLine left more held) found c.in-Ok-next_line.ensures.given in
+    let refused = subst (λ w. RefusesOver p (read_as w (line_bytes c.line.result)) s c.lines.rec.to_come (c.lines.walk.lines + 1) c.lines.walk.used c.in-Err-pass_over.fault) v.version (subst (λ q. RefusesOver q (read_as c.lines.walk.version (line_bytes c.line.result)) s c.lines.rec.to_come (c.lines.walk.lines + 1) c.lines.walk.used c.in-Err-pass_over.fault) v.bench c.in-Err-pass_over.ensures.refused) in
+    let here = subst (λ (o : Option (List ℕ)). RefusesOver p (read_as v.head.version o) s c.lines.rec.to_come (c.lines.walk.lines + 1) c.lines.walk.used c.in-Err-pass_over.fault) c.line.ensures refused in
+    heard_refused g.T.Listener.hears p v.head v.k c.lines.walk.used v.taken s left c.lines.rec.to_come c.args.listener.now c.lines.listener known c.args.rec.now.to_come held more (c.lines.walk.lines + 1) c.in-Err-pass_over.fault c.pass_over.new.listener n v.none_left given here c.in-Err-pass_over.ensures.untold v.told v.heard
 
 pub lines-preserved : goal.lines-preserved
 lines-preserved g c =
@@ -158,6 +181,10 @@ returns-in-Err-put_delivered-clause-err g c =
       put = put_on (g.S.Shelf.files c.args.shelf.now) (g.S.Shelf.files c.lines.shelf) (g.S.Shelf.files c.put_delivered.new.shelf) [] c.pass_over.new.walk.files.items v.taken front.front v.put notes front.gained;
     }
 
+pub returns-in-Err-put_delivered-clause-told : goal.returns-in-Err-put_delivered-clause-told
+returns-in-Err-put_delivered-clause-told g c =
+    heard_nothing g.T.Listener.hears c.args.profile.now (unread g.C.Read.remaining c.args.cert.now) c.args.rec.now.to_come c.args.listener.now c.pass_over.new.listener c.in-Err-put_delivered.fault c.in-Err-put_delivered.ensures.fault
+
 pub returns-in-Ok-None-clause-ok : goal.returns-in-Ok-None-clause-ok
 returns-in-Ok-None-clause-ok g c =
     let v = c.lines.invariant in
@@ -203,6 +230,18 @@ returns-in-Ok-Some-clause-err g c =
       put = v.put;
     }
 
+pub returns-in-Ok-Some-clause-told : goal.returns-in-Ok-Some-clause-told
+returns-in-Ok-Some-clause-told g c =
+    let v = c.lines.invariant in
+    let known = unread g.C.Read.remaining c.args.cert.now in
+    let left = to_come g.C.Read.remaining c.lines.lines c.lines.cert in
+    let more = to_come g.C.Read.remaining c.next_line.new.self c.next_line.new.cert in
+    let held = held_line c.next_line.new.self in
+    let found : c.in-Ok-next_line.found ≡ false = search rules in
+    let given = subst (GivesLine left more held) found c.in-Ok-next_line.ensures.given in
+    let item : GivesNext c.lines.rec.to_come c.next.new.self.to_come (Ok (Some c.in-Ok-Some.field-0-0)) = subst (GivesNext c.lines.rec.to_come c.next.new.self.to_come) (c.in-Ok-Some.is ∙ ap (λ (o : Option Entry). Ok o) c.in-Ok-Some.field-0-is) c.next.ensures.gives in
+    heard_unfinished g.T.Listener.hears c.args.profile.now v.head v.k c.lines.walk.used v.taken c.lines.walk.link.state left c.lines.rec.to_come c.args.listener.now c.lines.listener known c.args.rec.now.to_come held more c.in-Ok-Some.field-0-0 c.next.new.self.to_come given item v.told v.heard
+
 pub returns-in-Err-next-clause-err : goal.returns-in-Err-next-clause-err
 returns-in-Err-next-clause-err g c =
     let v = c.lines.invariant in
@@ -220,6 +259,20 @@ returns-in-Err-next-clause-err g c =
       fault = subst (λ (f : StreamFault). WhereTold known c.args.rec.now.to_come (IsStreamFault p f v.taken)) (sym c.of_read.ensures) fault;
       put = v.put;
     }
+
+pub returns-in-Err-next-clause-told : goal.returns-in-Err-next-clause-told
+returns-in-Err-next-clause-told g c =
+    let v = c.lines.invariant in
+    let p = c.args.profile.now in
+    let known = unread g.C.Read.remaining c.args.cert.now in
+    let left = to_come g.C.Read.remaining c.lines.lines c.lines.cert in
+    let more = to_come g.C.Read.remaining c.next_line.new.self c.next_line.new.cert in
+    let held = held_line c.next_line.new.self in
+    let found : c.in-Ok-next_line.found ≡ false = search rules in
+    let given = subst (GivesLine left more held) found c.in-Ok-next_line.ensures.given in
+    let stops : GivesNext c.lines.rec.to_come c.next.new.self.to_come (Err c.in-Err-next.fault) = subst (GivesNext c.lines.rec.to_come c.next.new.self.to_come) c.in-Err-next.is c.next.ensures.gives in
+    subst (HearsBefore g.T.Listener.hears p known c.args.rec.now.to_come c.args.listener.now c.lines.listener) (sym c.of_read.ensures)
+    (heard_stopped g.T.Listener.hears p v.head v.k c.lines.walk.used v.taken c.lines.walk.link.state left c.lines.rec.to_come c.args.listener.now c.lines.listener known c.args.rec.now.to_come held more c.in-Err-next.fault c.next.new.self.to_come v.none_left given stops v.told v.heard)
 
 pub returns-in-Err-next-clause-device : goal.returns-in-Err-next-clause-device
 returns-in-Err-next-clause-device g c = λ e. absurd (read_no_device c.in-Err-next.fault (cc (c.of_read.ensures, e)))

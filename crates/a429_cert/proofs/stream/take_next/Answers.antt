@@ -1,38 +1,77 @@
-use Rattle.std.proofs.Common.{◌≡◌, Option, subst, sym}
-use Rattle.a429_cert.specs.declared.listener.ListenFault.TheVariants as listen
+use Rattle.std.proofs.Common.{◌≤◌, Option, option_map, subst, sym}
+use Rattle.std.proofs.lemmas.Result.{IfOk-weaker, IfErr-weaker}
 use Rattle.a429_link.specs.declared.seen.Seen.{Seen}
-use Rattle.a429_cert.specs.Passing.{uses_listed}
-use Rattle.a429_cert.specs.Stream.{RefusesNext, TakesNext}
-use Rattle.a429_cert.proofs.StreamFacts.{passes_next, few_used, refused_next}
-use Rattle.a429_cert.proofs.ToldFacts.{hears_listed, not_heard}
-use Rattle.a429_cert.proofs.StreamWalk.{listener_device}
+use Rattle.a429_record.specs.declared.fault.ReadFault.TheVariants as read
+use Rattle.a429_cert.specs.declared.listed.Listed.{Listed}
+use Rattle.a429_cert.specs.declared.listed.Listed.TheVariants as listed
+use Rattle.a429_cert.specs.Explained.{seen_of}
+use Rattle.a429_cert.specs.Passing.{PassesListed}
+use Rattle.a429_cert.specs.Stream.{WalksNext, EndsNext, IsNotTaken}
+use Rattle.a429_cert.proofs.StreamFacts.{passes_next, few_used}
+use Rattle.a429_cert.proofs.ToldFacts.{ends_next, not_read}
 use Rattle.a429_cert.proofs.stream.take_next.Goals as goal
 
-pub returns-in-Err-tell-clause-refused : goal.returns-in-Err-tell-clause-refused
-returns-in-Err-tell-clause-refused g c =
-    subst (RefusesNext c.args.walk.now.link.profile c.args.listed c.args.walk.now.link.state c.args.rec.now.to_come c.args.walk.now.lines c.args.walk.now.used) (sym c.of_listener.ensures)
-    (not_heard c.args.walk.now.link.profile c.args.listed c.args.walk.now.link.state c.args.rec.now.to_come c.args.walk.now.lines c.args.walk.now.used c.in-Err-tell.fault)
+pub returns-in-Load-clause-passed : goal.returns-in-Load-clause-passed
+returns-in-Load-clause-passed g c =
+    let walk = c.args.walk.now in
+    let p = walk.link.profile in
+    let t = c.take_load.new.walk.link.state in
+    let next = option_map seen_of c.in-Ok.next in
+    IfOk-weaker c.take_load.result (λ used. (o : Option Seen) → PassesListed p (listed.Load c.in-Load.unit) o walk.link.state t used)
+    (WalksNext walk c.take_load.new.walk c.args.listed c.args.rec.now.to_come c.entry_for.new.rec.to_come)
+    (λ used h. passes_next p c.args.listed walk.link.state t c.args.rec.now.to_come c.entry_for.new.rec.to_come next used c.in-Ok.ensures.taken
+    (subst (λ (x : Listed). PassesListed p x next walk.link.state t used) (sym c.in-Load.is) (h next)))
+    c.take_load.ensures.passed
 
-pub returns-in-Err-tell-clause-device : goal.returns-in-Err-tell-clause-device
-returns-in-Err-tell-clause-device g c = λ e.
-    let same : c.in-Err-tell.fault ≡ listen.Device = listener_device c.in-Err-tell.fault (cc (c.of_listener.ensures, e)) in
-    c.in-Err-tell.ensures.device (cc same)
+pub returns-in-Load-clause-few : goal.returns-in-Load-clause-few
+returns-in-Load-clause-few g c =
+    let walk = c.args.walk.now in
+    let p = walk.link.profile in
+    let t = c.take_load.new.walk.link.state in
+    let next = option_map seen_of c.in-Ok.next in
+    IfOk-weaker c.take_load.result (λ used. (o : Option Seen) → PassesListed p (listed.Load c.in-Load.unit) o walk.link.state t used) (λ used. used ≤ 1)
+    (λ used h. few_used p (listed.Load c.in-Load.unit) next walk.link.state t used (h next))
+    c.take_load.ensures.passed
 
-pub returns-in-Ok-take_step-clause-passed : goal.returns-in-Ok-take_step-clause-passed
-returns-in-Ok-take_step-clause-passed g c =
-    let taken = subst (λ (o : Option Seen). TakesNext (uses_listed c.args.listed) c.args.rec.now.to_come c.entry_for.new.rec.to_come o) (sym c.seen_in.ensures) c.in-Ok.ensures.taken in
-    passes_next c.args.walk.now.link.profile c.args.listed c.args.walk.now.link.state c.take_step.new.link.state c.args.rec.now.to_come c.entry_for.new.rec.to_come c.seen_in.result c.in-Ok-take_step.used taken c.in-Ok-take_step.ensures.passed
+pub returns-in-Load-clause-refused : goal.returns-in-Load-clause-refused
+returns-in-Load-clause-refused g c =
+    let walk = c.args.walk.now in
+    let next = option_map seen_of c.in-Ok.next in
+    IfErr-weaker c.take_load.result (λ f. (o : Option Seen) → IsNotTaken walk (listed.Load c.in-Load.unit) o f) (EndsNext walk c.args.listed c.args.rec.now.to_come)
+    (λ f h. ends_next walk c.args.listed c.args.rec.now.to_come c.entry_for.new.rec.to_come next f c.in-Ok.ensures.taken
+    (subst (λ (x : Listed). IsNotTaken walk x next f) (sym c.in-Load.is) (h next)))
+    c.take_load.ensures.refused
 
-pub returns-in-Ok-take_step-clause-heard : goal.returns-in-Ok-take_step-clause-heard
-returns-in-Ok-take_step-clause-heard g c =
-    hears_listed g.T.Listener.hears c.args.walk.now.profile.now c.args.listed c.args.walk.now.link.state c.args.rec.now.to_come c.in-Ok.next c.args.walk.now.used c.args.listener.now c.tell.new.listener c.in-Ok.ensures.entry c.in-Ok-tell.ensures.heard
+pub returns-in-Load-clause-read : goal.returns-in-Load-clause-read
+returns-in-Load-clause-read g c = λ e. absurd (not_read c.args.walk.now (listed.Load c.in-Load.unit) c.take_load.result read.Device c.take_load.ensures.refused e)
 
-pub returns-in-Ok-take_step-clause-few : goal.returns-in-Ok-take_step-clause-few
-returns-in-Ok-take_step-clause-few g c =
-    few_used c.args.walk.now.link.profile c.args.listed c.seen_in.result c.args.walk.now.link.state c.take_step.new.link.state c.in-Ok-take_step.used c.in-Ok-take_step.ensures.passed
+pub returns-in-Moved-clause-passed : goal.returns-in-Moved-clause-passed
+returns-in-Moved-clause-passed g c =
+    let walk = c.args.walk.now in
+    let p = walk.link.profile in
+    let t = c.take_other.new.walk.link.state in
+    let next = option_map seen_of c.in-Ok.next in
+    IfOk-weaker c.take_other.result (PassesListed p (listed.Moved c.in-Moved.line) next walk.link.state t)
+    (WalksNext walk c.take_other.new.walk c.args.listed c.args.rec.now.to_come c.entry_for.new.rec.to_come)
+    (λ used h. passes_next p c.args.listed walk.link.state t c.args.rec.now.to_come c.entry_for.new.rec.to_come next used c.in-Ok.ensures.taken
+    (subst (λ (x : Listed). PassesListed p x next walk.link.state t used) (sym c.in-Moved.is) h))
+    c.take_other.ensures.passed
 
-pub returns-in-Err-take_step-clause-refused : goal.returns-in-Err-take_step-clause-refused
-returns-in-Err-take_step-clause-refused g c =
-    let taken = subst (λ (o : Option Seen). TakesNext (uses_listed c.args.listed) c.args.rec.now.to_come c.entry_for.new.rec.to_come o) (sym c.seen_in.ensures) c.in-Ok.ensures.taken in
-    subst (RefusesNext c.args.walk.now.link.profile c.args.listed c.args.walk.now.link.state c.args.rec.now.to_come c.args.walk.now.lines c.args.walk.now.used) (sym c.of_cert.ensures)
-    (refused_next c.args.walk.now.link.profile c.args.listed c.args.walk.now.link.state c.args.rec.now.to_come c.entry_for.new.rec.to_come c.seen_in.result c.args.walk.now.lines c.args.walk.now.used c.in-Err-take_step.fault taken c.in-Err-take_step.ensures.refused)
+pub returns-in-Moved-clause-few : goal.returns-in-Moved-clause-few
+returns-in-Moved-clause-few g c =
+    let walk = c.args.walk.now in
+    let p = walk.link.profile in
+    let t = c.take_other.new.walk.link.state in
+    let next = option_map seen_of c.in-Ok.next in
+    IfOk-weaker c.take_other.result (PassesListed p (listed.Moved c.in-Moved.line) next walk.link.state t) (λ used. used ≤ 1)
+    (few_used p (listed.Moved c.in-Moved.line) next walk.link.state t)
+    c.take_other.ensures.passed
+
+pub returns-in-Moved-clause-refused : goal.returns-in-Moved-clause-refused
+returns-in-Moved-clause-refused g c =
+    let walk = c.args.walk.now in
+    let next = option_map seen_of c.in-Ok.next in
+    IfErr-weaker c.take_other.result (IsNotTaken walk (listed.Moved c.in-Moved.line) next) (EndsNext walk c.args.listed c.args.rec.now.to_come)
+    (λ f h. ends_next walk c.args.listed c.args.rec.now.to_come c.entry_for.new.rec.to_come next f c.in-Ok.ensures.taken
+    (subst (λ (x : Listed). IsNotTaken walk x next f) (sym c.in-Moved.is) h))
+    c.take_other.ensures.refused

@@ -1,0 +1,6 @@
+use Rattle.a429_cert.proofs.ToldFacts.{not_loaded}
+use Rattle.a429_cert.proofs.stream.take_load.Goals as goal
+
+pub returns-then-not-may_load-clause-refused : goal.returns-then-not-may_load-clause-refused
+returns-then-not-may_load-clause-refused g c = λ next.
+    not_loaded c.args.walk.now c.args.unit next (λ can. cc (c.if-not-may_load.true, (c.may_load.ensures c.args.unit c.requires).1 can))
