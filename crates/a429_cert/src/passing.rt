@@ -167,6 +167,7 @@ fn take_moved(link: &mut Link<'_>, line: MovedLine, at: At) -> Result<usize, Cer
 }
 
 // Whether source and sink stand so.
+#[inline(always)]
 fn stands(link: &Link<'_>, states: States) -> bool
     ensures yes { result ≡ true → states_of link.now.state ≡ states }
     ensures no { result ≡ false → states_of link.now.state ≢ states }

@@ -83,7 +83,7 @@ fn sink_at(text: &[u8]) -> Option<(SinkState, &[u8])>
 }
 
 /// The states in the next fields, where nothing stands behind them.
-#[inline(always)]
+#[inline(never)]
 #[tactic(auto, unfolding(crate::specs::States::states_in))]
 pub fn states_at(text: &[u8]) -> Option<States>
     ensures { result ≡ states_in text.now }

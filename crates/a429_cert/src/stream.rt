@@ -115,6 +115,7 @@ pub fn replay_stream<R: Read, C: Read, S: Shelf, T: Listener>(
 }
 
 // Reads the next entry, where the step that a line lists uses one.
+#[inline(always)]
 fn entry_for<R: Read>(rec: &mut EntryReader<R>, listed: &Listed) -> Result<Option<Entry>, ReadFault>
     ensures taken { IfOk result (λ next. TakesNext (uses_listed listed.now) rec.old.to_come rec.new.to_come (option_map seen_of next)) }
     ensures entry { IfOk result (IsNextEntry (uses_listed listed.now) rec.old.to_come) }
@@ -150,6 +151,7 @@ fn numbered(number: usize, entry: Option<Entry>) -> Option<(usize, Entry)>
 
 // Takes the step that the last line lists, with the next entry, if it uses one, and tells a listener. Answers
 // how many entries it uses, 0 or 1.
+#[inline(always)]
 fn take_next<R: Read, T: Listener>(
     walk: &mut Walk<'_>,
     listed: Listed,
@@ -178,6 +180,7 @@ fn take_next<R: Read, T: Listener>(
 }
 
 // Loads the link data unit that the last line lists, where that may be, and tells a listener.
+#[inline(never)]
 fn take_load<T: Listener>(
     walk: &mut Walk<'_>,
     unit: Ldu,
@@ -207,6 +210,7 @@ fn take_load<T: Listener>(
 }
 
 // Takes another step, which the last line lists, with the entry that was read for it, and tells a listener.
+#[inline(always)]
 fn take_other<T: Listener>(
     walk: &mut Walk<'_>,
     line: MovedLine,
@@ -240,6 +244,7 @@ fn take_other<T: Listener>(
 
 // Takes the last line that was handed out, over the next entry, if its step uses one, and tells a listener
 // where it is accepted. Answers how many entries it uses, 0 or 1.
+#[inline(always)]
 pub fn pass_over<R: Read, T: Listener>(
     walk: &mut Walk<'_>,
     line: TextLine<'_>,
