@@ -1,5 +1,5 @@
 -- Digits, and the numbers that they write.
-use Rattle.std.proofs.Common.{◌≡◌, ◌∙◌, ◌+◌, ◌-◌, ◌*◌, ◌/◌, ◌%◌, ◌^◌, ◌<◌, ◌≤◌, ℕ, zero, suc, List, [], ◌∷◌, length, take, drop, zero-add, get_or, Some, None, true, false, refl, sym, ap, arith, pow-suc}
+use Rattle.std.proofs.Common.{◌≡◌, ◌&&◌, Bool, Option, nat_lt, ◌∙◌, ◌+◌, ◌-◌, ◌*◌, ◌/◌, ◌%◌, ◌^◌, ◌<◌, ◌≤◌, ℕ, zero, suc, List, [], ◌∷◌, length, take, drop, zero-add, get_or, Some, None, true, false, refl, sym, ap, arith, pow-suc}
 use Rattle.std.specs.Char.{digit_value}
 use Rattle.std.specs.Fmt.{digit_glyph}
 use Rattle.std.specs.List.{list_all}
@@ -11,8 +11,8 @@ use Rattle.std.proofs.lemmas.Nat.{div-add-mod', mod-mul-add, div-mul-add, mul-ad
 use Rattle.std.proofs.lemmas.List.{length-take-le, take_all}
 use Rattle.std.proofs.lemmas.List.Folds.{list_all_at, list_all_more}
 use Rattle.std.proofs.Math.Nat.{mod-eq_of_lt, pow-le-pow_right}
-use Rattle.a429_word.specs.Digits.{numeral, hex_text}
-use Rattle.a429_cert.specs.Field.{hex_digits_in, hex_digit_in, is_digit}
+use Rattle.a429_word.specs.Digits.{numeral, hex_text, IsHexWord, ReadsHex}
+use Rattle.a429_cert.specs.Field.{hex_digits_in, hex_digit_in, is_digit, is_not_lower, when}
 use Rattle.a429_cert.proofs.Options.{when_some, when_none}
 
 -- ---- one digit
@@ -29,6 +29,9 @@ value-glyph d h = grind (arith, nat_tests)
 
 is_digit-glyph : (d : ℕ) → d < 16 → is_digit 16 (digit_glyph true d) ≡ true
 is_digit-glyph d h = grind (arith, nat_tests)
+
+digit-upper : (b : ℕ) → is_not_lower b ≡ true → digit_value b < 16 → is_digit 16 b ≡ true
+digit-upper b up h = grind (arith, nat_tests)
 
 decimal_digit : (b : ℕ) → digit_value b < 10 → is_digit 10 b ≡ true
 decimal_digit b h = grind (arith, nat_tests)
@@ -179,6 +182,39 @@ pub read-small : (i n : ℕ) (text : List ℕ) → length text ≤ i → IsRead 
 read-small i n text h read =
     let whole = take_all i text h in
     rw (rw whole at read.value) (digits_value-lt 16 text (AllDigits-from 16 text (rw whole at read.digits)))
+
+-- ---- the eight digits of a word
+
+digits-upper : (text : List ℕ) → list_all is_not_lower text ≡ true → AllDigits 16 text → list_all (is_digit 16) text ≡ true
+digits-upper [] up all = refl
+digits-upper (b ∷ bs) up all =
+    let (here, more) = and_parts (is_not_lower b) (list_all is_not_lower bs) up in
+    rw (digit-upper b here all.0) (digits-upper bs more all.1)
+
+no-word : (text : List ℕ) (all : Bool) → list_all (is_digit 16) text ≡ all → length text ≡ 8 → ¬ IsHexWord text → None ≡ when all (digits_value 16 text)
+no-word text true e len none = absurd (none (len, AllDigits-from 16 text e))
+no-word text false e len none = refl
+
+-- a word of eight digits, none of them a letter in lower case
+pub word-upper : (text : List ℕ) (read : Option ℕ) → length text ≡ 8 → list_all is_not_lower text ≡ true → ReadsHex text read → read ≡ hex_digits_in text
+unfolding hex_digits_in
+word-upper text (Some w) len up reads = rw (digits-upper text up reads.0.1, reads.1) refl
+word-upper text None len up reads = no-word text (list_all (is_digit 16) text) refl len reads
+
+no-digit : (upper digit : Bool) (more all : Bool) → (upper && more) ≡ false → (more ≡ false → all ≡ false) → (upper && digit && all) ≡ false
+no-digit false digit more all e h = refl
+no-digit true true more all e h = h e
+no-digit true false more all e h = refl
+
+-- a letter in lower case is no digit
+pub lower-none : (text : List ℕ) → list_all is_not_lower text ≡ false → list_all (is_digit 16) text ≡ false
+lower-none [] e = absurd cc
+lower-none (b ∷ bs) e =
+    no-digit (is_not_lower b) (nat_lt (digit_value b) 16) (list_all is_not_lower bs) (list_all (is_digit 16) bs) e (lower-none bs)
+
+pub word-lower : (text : List ℕ) → list_all is_not_lower text ≡ false → None ≡ hex_digits_in text
+unfolding hex_digits_in
+word-lower text e = rw (lower-none text e) refl
 
 -- ---- the last digits of a word
 

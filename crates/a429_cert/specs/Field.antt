@@ -29,9 +29,13 @@ with_rest read text = do
 
 -- ---- hexadecimal numbers
 
+-- no letter in lower case
+abbrev pub is_not_lower : ℕ → Bool
+is_not_lower b = not (is_ascii_lowercase b)
+
 -- a digit of a base, none of them a lower case letter
 abbrev pub is_digit : ℕ → ℕ → Bool
-is_digit base b = not (is_ascii_lowercase b) && nat_lt (digit_value b) base
+is_digit base b = is_not_lower b && nat_lt (digit_value b) base
 
 -- the value of a hexadecimal digit
 abbrev pub hex_digit_in : ℕ → Option ℕ

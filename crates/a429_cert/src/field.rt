@@ -2,7 +2,10 @@
 
 ghost use Rattle.std.specs.Prelude.{◌≡◌, ◌<◌, ◌≤◌, ◌^◌, [], ◌∷◌, ◌++◌, length, IfSome, option_map};
 ghost use Rattle.std.specs.Fmt.{decimal};
-ghost use Rattle.a429_cert.specs.Field.{last_decimal_in, decimal_in, with_next_digit, decimal_digit_in, hex_in, hex_digits_in, hex_digit_in, with_rest, behind_space, field};
+ghost use Rattle.std.specs.List.{list_all};
+ghost use Rattle.a429_cert.specs.Field.{last_decimal_in, decimal_in, with_next_digit, decimal_digit_in, hex_in, hex_digits_in, hex_digit_in, is_not_lower, with_rest, behind_space, field};
+
+use a429_word::Word;
 
 /// What stands behind a space.
 #[inline(always)]
@@ -40,6 +43,41 @@ fn hex_digits_of(text: &[u8]) -> Option<u32>
         number = number * 16 + digit;
     }
     Some(number)
+}
+
+// Whether no letter is in lower case.
+#[inline(always)]
+fn has_no_lower(text: &[u8]) -> bool
+    ensures { result ≡ list_all is_not_lower text.now }
+{
+    text.iter().all(|byte| !byte.is_ascii_lowercase())
+}
+
+// The word that eight hexadecimal digits write.
+#[inline(always)]
+fn hex_word_of(digits: &[u8]) -> Option<Word>
+    requires { length digits.now ≡ 8 }
+    ensures { result ≡ hex_digits_in digits.now }
+{
+    if has_no_lower(digits) {
+        Word::parse_hex(digits)
+    } else {
+        None
+    }
+}
+
+// The word that eight hexadecimal digits write, and what stands behind them.
+#[inline(always)]
+#[tactic(auto, unfolding(crate::specs::Field::hex_in))]
+fn word_of(text: &[u8]) -> Option<(Word, &[u8])>
+    ensures { option_map (λ x. (x.0, x.1.now)) result ≡ hex_in 8 text.now }
+{
+    if text.len() < 8 {
+        return None;
+    }
+    let (digits, rest) = text.split_at(8);
+    let word = hex_word_of(digits)?;
+    Some((word, rest))
 }
 
 // A hexadecimal number of so many digits, at most eight, and what stands behind it.
@@ -209,4 +247,12 @@ pub fn hex_at(text: &[u8], count: usize) -> Option<(u32, &[u8])>
     ensures small { IfSome result (λ x. x.0 < 16 ^ count) }
 {
     hex_of(behind_space(text)?, count)
+}
+
+/// The word whose eight hexadecimal digits are the next field, and what stands behind it.
+#[inline(always)]
+pub fn word_at(text: &[u8]) -> Option<(Word, &[u8])>
+    ensures { option_map (λ x. (x.0, x.1.now)) result ≡ with_rest (hex_in 8) text.now }
+{
+    word_of(behind_space(text)?)
 }

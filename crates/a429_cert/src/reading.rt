@@ -6,13 +6,12 @@ ghost use Rattle.a429_cert.specs.Reading.{words_at, unit_words_in, first_in, loa
 
 use crate::act::{Act, act_of};
 use crate::fault::OutOfMemory;
-use crate::field::{hex_at, last_decimal_at};
+use crate::field::{hex_at, last_decimal_at, word_at};
 use crate::line::{CertLine, LoadLine, MovedLine};
 use crate::states::{states_at, states_near};
 use crate::words::Words;
 use a429_ldu::MOST_DATA_WORDS;
 use a429_link::{SinkState, SourceState, States};
-use a429_word::Word;
 use std::alloc::Global;
 
 // How many bytes a word takes in a line: a space and eight digits.
@@ -94,10 +93,10 @@ fn words_at(alloc: Global, count: usize, text: &[u8]) -> Result<Option<Words>, O
     let mut words = Vec::with_capacity(alloc, count)?;
     let mut rest = text;
     'words: for _ in 0..count {
-        let Some((number, after)) = hex_at(rest, 8) else {
+        let Some((word, after)) = word_at(rest) else {
             return Ok(None);
         };
-        words.push(Word::from_u32(number))?;
+        words.push(word)?;
         rest = after;
     }
     if rest.is_empty() {

@@ -11,11 +11,11 @@ use Rattle.a429_ldu.specs.Ldu.{is_final}
 use Rattle.a429_link.specs.declared.file.FileBytes.{FileBytes}
 use Rattle.a429_link.specs.declared.step.Step.{Step}
 use Rattle.a429_link.specs.declared.step.Step.TheVariants.{Answered, FreeSeen, GiveUp, Load, LoseAnswer, Sent, SentLost, Silent, SinkTakes, TakeAnswer, TimeOut}
-use Rattle.a429_link.specs.Sink.{Block, Granted, InBlock, Number, OwesAck, OwesClear, OwesNak, Quiet, Shelf, Sink, SinkPhase, accepts, accepts_owed, answers_form, is_same, number_of, put, shelf_for, takes_first, takes_form}
+use Rattle.a429_link.specs.Sink.{Block, Granted, InBlock, OwesAck, OwesClear, OwesNak, Quiet, Shelf, Sink, SinkPhase, accepts, accepts_owed, answers_form, is_same, number_of, put, shelf_for, takes_first, takes_form}
 use Rattle.a429_link.specs.State.{State}
 use Rattle.a429_link.specs.Step.{after}
 use Rattle.a429_link.proofs.ObserverBlock.{files_stay}
-use Rattle.a429_link.proofs.RunCrossing.{shelf_for_files}
+use Rattle.a429_link.proofs.SinkShelves.{shelf_for_files}
 
 -- as many files as there were, or one more
 abbrev OneMore : List FileBytes → List FileBytes → Type 0

@@ -5,6 +5,7 @@ pub mod MessageSubsequence
 pub mod StateConfigs
 pub mod StateHolds
 pub mod SinkFromTrace
+pub mod SinkShelves
 pub mod RunCrossing
 pub mod RunTraces
 pub mod ObserverRefuses

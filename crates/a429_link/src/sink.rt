@@ -1,20 +1,22 @@
 //! The sink of a file transfer.
 
-ghost use Rattle.std.specs.Prelude.{◌≡◌, ◌≤◌, ◌↔◌, [], ◌∷◌, ◌++◌, length, slice_index, Some, None, option_map, IfSome, IsNone, IsTrue, OnOk, OnErr};
+ghost use Rattle.std.specs.Prelude.{◌≡◌, ◌≤◌, ◌↔◌, [], ◌∷◌, ◌++◌, length, slice_index, None, option_map, IfSome, IsNone, IsTrue};
 ghost use Rattle.a429_link.specs.Sink as model;
-ghost use Rattle.a429_link.specs.Sink.{takes, takes_request, takes_start, takes_part, takes_end, in_phase, is_good_for, is_same, is_same_file, may_come, put, shelf_for, block_with, phase_of, kept_words, accepts_block, with_shelf, unfiled, without_files, answers, IsAck, MayAnswer, Listens, Owes, held_count, latest_number, HasRoom, empty_shelf};
+ghost use Rattle.a429_link.specs.Sink.{takes, takes_request, takes_start, takes_part, takes_end, in_phase, is_good_for, is_same, is_same_file, may_come, block_with, phase_of, kept_words, without_files, Listens, Owes, held_count, latest_number, HasRoom, empty_shelf};
 ghost use Rattle.a429_link.specs.State.{sink_state_of, IsNonEmpty, rest, past_first};
 ghost use Rattle.a429_link.specs.Observer.{HasGrant};
 
+mod answers;
+
 use crate::file::FileBytes;
 use crate::lane::Lane;
-use crate::number::{UnitNumber, is_final};
+use crate::number::UnitNumber;
 use crate::shelf::Shelf;
 use crate::state::SinkState;
 use a429_ldu::{Form, agrees, block_bytes};
 use a429_profile::Profile;
 use a429_word::Word;
-use std::alloc::{AllocError, Global};
+use std::alloc::Global;
 use std::marker::Model;
 
 /// The number of the link data unit accepted last, and whether it was its file's last.
@@ -284,115 +286,6 @@ impl Sink {
         self.phase = phase;
     }
 
-    /// It may give an answer of this form now.
-    pub(crate) fn may_answer(&self, answer: &Form) -> bool
-        ensures { IsTrue result ↔ MayAnswer self.now.sink.count self.now.sink.phase answer.now }
-    {
-        match (self.phase, *answer) {
-            (Phase::OwesClear, Form::Cts { count }) => count == self.count,
-            (Phase::OwesAck { start, .. }, Form::Ack { file, ldu }) => {
-                file == start.file && ldu == start.ldu
-            }
-            (Phase::OwesAck { .. } | Phase::OwesNak, Form::Nak { .. }) => true,
-            _ => false,
-        }
-    }
-
-    /// Gives an answer of this form.
-    pub(crate) fn answer(
-        &mut self,
-        alloc: Global,
-        profile: &Profile,
-        answer: &Form,
-    ) -> Result<(), AllocError>
-        requires { held_count self.old.sink.phase ≤ 255 }
-        ensures done { OnOk result (self.new ≡ record (self.old) { sink = answers profile.now.codes answer.now self.old.sink }) }
-        ensures unchanged { OnErr result (self.new ≡ self.old) }
-        ensures memory { OnErr result (IsAck (Some answer.now)) }
-    {
-        match *answer {
-            Form::Cts { .. } => self.enter(Phase::Granted),
-            Form::Ack { .. } => {
-                self.accept(alloc, profile)?;
-                self.enter(Phase::Quiet);
-            }
-            Form::Nak { .. } => self.enter(Phase::Quiet),
-            Form::Rts { .. } | Form::Sot { .. } | Form::Part(_) | Form::Eot { .. } => {}
-        }
-        Ok(())
-    }
-
-    // Accepts the block that an acknowledgement is owed for. One that comes again is not put again.
-    fn accept(&mut self, alloc: Global, profile: &Profile) -> Result<(), AllocError>
-        requires { held_count self.old.sink.phase ≤ 255 }
-        ensures done { OnOk result (self.new ≡ record (self.old) { sink = accepts_block profile.now.codes self.old.sink }) }
-        ensures unchanged { OnErr result (self.new ≡ self.old) }
-    {
-        let Phase::OwesAck { start, flags } = self.phase else {
-            return Ok(());
-        };
-        let number = start.number();
-        if is_last(&self.last, number) {
-            return Ok(());
-        }
-        let is_final = is_final(profile, flags);
-        match block_bytes(profile, self.lane.taken()) {
-            Some(bytes) => self.put(alloc, number.file, bytes.as_slice(), is_final)?,
-            None => self.put(alloc, number.file, &[], is_final)?,
-        }
-        self.last = Some(Latest { number, is_final });
-        Ok(())
-    }
-
-    // Puts the bytes of a link data unit of this file on the shelf, and drops those of another file that is not whole.
-    fn put(
-        &mut self,
-        alloc: Global,
-        file: u8,
-        bytes: &[u8],
-        is_final: bool,
-    ) -> Result<(), AllocError>
-        ensures done { OnOk result (self.new ≡ record (self.old) {
-          sink = with_shelf (put file bytes.now is_final (shelf_for self.old.sink.last file self.old.sink.shelf)) self.old.sink;
-        }) }
-        ensures unchanged { OnErr result (self.new ≡ self.old) }
-    {
-        if is_last_file(&self.last, file) {
-            self.shelf.put(alloc, file, bytes, is_final)
-        } else {
-            self.shelf.put_first(alloc, file, bytes, is_final)
-        }
-    }
-
-    /// Gives an answer of this form, and leaves the files as they are.
-    pub(crate) fn answer_unfiled(&mut self, profile: &Profile, answer: &Form)
-        ensures { self.new ≡ record (self.old) { sink = unfiled self.old.sink (answers profile.now.codes answer.now self.old.sink) } }
-    {
-        match *answer {
-            Form::Cts { .. } => self.enter(Phase::Granted),
-            Form::Ack { .. } => {
-                self.accept_unfiled(profile);
-                self.enter(Phase::Quiet);
-            }
-            Form::Nak { .. } => self.enter(Phase::Quiet),
-            Form::Rts { .. } | Form::Sot { .. } | Form::Part(_) | Form::Eot { .. } => {}
-        }
-    }
-
-    // Accepts the block that an acknowledgement is owed for, without its bytes.
-    fn accept_unfiled(&mut self, profile: &Profile)
-        ensures { self.new ≡ record (self.old) { sink = unfiled self.old.sink (accepts_block profile.now.codes self.old.sink) } }
-    {
-        let Phase::OwesAck { start, flags } = self.phase else {
-            return;
-        };
-        let number = start.number();
-        if !is_last(&self.last, number) {
-            let is_final = is_final(profile, flags);
-            self.last = Some(Latest { number, is_final });
-        }
-    }
-
     /// It takes the words of a block.
     pub(crate) fn has_grant(&self) -> bool
         ensures { IsTrue result ↔ HasGrant self.now.sink.phase }
@@ -405,13 +298,6 @@ impl Sink {
         ensures { result ≡ self.now.sink.count }
     {
         self.count
-    }
-
-    /// Leaves its answer out.
-    pub(crate) fn silence(&mut self)
-        ensures { self.new ≡ record (self.old) { sink = in_phase model.Quiet self.old.sink } }
-    {
-        self.enter(Phase::Quiet);
     }
 
     /// The files delivered since they were last taken.

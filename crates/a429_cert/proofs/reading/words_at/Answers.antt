@@ -1,4 +1,4 @@
-use Rattle.std.proofs.Common.{◌≡◌, ◌∙◌, ◌++◌, ◌∷◌, [], sym, ap, rules, Some, None}
+use Rattle.std.proofs.Common.{◌≡◌, ◌∙◌, sym, rules, None}
 use Rattle.a429_cert.specs.Reading.{words_at}
 use Rattle.a429_cert.specs.Field.{hex_in, with_rest}
 use Rattle.a429_cert.proofs.ReadingWords.{one_more_word, stops, is_done, ends_well, goes_past}
@@ -11,9 +11,7 @@ returns-in_default c =
 
 pub words-preserved : goal.words-preserved
 words-preserved c =
-    let read : with_rest (hex_in 8) c.words.rest.now ≡ Some (c.in-Some.number, c.in-Some.after.now) = search rules in
-    let pushed : c.push.new.self.items ≡ c.words.words.items ++ c.in-Some.number ∷ [] = c.in_ok-push.ensures.items ∙ ap (λ w. c.words.words.items ++ w ∷ []) c.from_u32.ensures in
-    rw pushed (one_more_word c.words.words.items c.args.count c.words.counter c.words.rest.now c.in-Some.number c.in-Some.after.now (words_at c.args.count c.args.text.now) (search rules) read c.words.invariant)
+    rw c.in_ok-push.ensures.items (one_more_word c.words.words.items c.args.count c.words.counter c.words.rest.now _ _ (words_at c.args.count c.args.text.now) (search rules) (search rules) c.words.invariant)
 
 pub returns-then-is_empty : goal.returns-then-is_empty
 returns-then-is_empty c =
