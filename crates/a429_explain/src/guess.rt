@@ -27,6 +27,9 @@ use a429_record::Entry;
 use std::alloc::Global;
 use std::collections::VecDeque;
 
+// About how many bytes the lines of an entry take where no word is lost: a certificate begins with room for so many.
+const BYTES_OF_AN_ENTRY: usize = 40;
+
 /// A certificate that explains a recording, and the files that its run delivers.
 #[derive(Drop)]
 pub(crate) struct Explanation {
@@ -62,7 +65,8 @@ pub(crate) fn certificate_of(
     };
     // The lines are written by the roles: what the words say is not needed beside the text.
     drop(heard);
-    let Ok(mut scribe) = Scribe::new(alloc, profile, first) else {
+    let room = entries.len().saturating_mul(BYTES_OF_AN_ENTRY);
+    let Ok(mut scribe) = Scribe::new(alloc, profile, first, room) else {
         return Err(Stop::OutOfMemory);
     };
     for at in 0..entries.len() {

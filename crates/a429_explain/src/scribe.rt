@@ -40,17 +40,20 @@ pub(crate) struct Scribe<'a> {
 }
 
 impl<'a> Scribe<'a> {
-    /// The first two lines, where the first file has this number.
+    /// The first two lines, where the first file has this number, and room for so many bytes at first.
     pub(crate) fn new(
         alloc: Global,
         profile: &'a Profile,
         first_file: u8,
+        room: usize,
     ) -> Result<Scribe<'a>, StepFault>
         ensures start { IfOk result (λ s. s.link ≡ record { profile = profile.now; state = start profile.now first_file }) }
         ensures written { IfOk result (λ s. Wrote first_file [] s) }
         ensures grouping { IfOk result (λ s. s.grouping ≡ grouping.Between) }
     {
-        let mut text = Vec::new(alloc);
+        let Ok(mut text) = Vec::with_capacity(alloc, room) else {
+            return Err(StepFault::OutOfMemory);
+        };
         match text.extend_from_slice(b"arinc429-cert 1\n") {
             Ok(()) => {}
             Err(_) => return Err(StepFault::OutOfMemory),
