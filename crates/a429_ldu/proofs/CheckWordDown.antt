@@ -90,10 +90,6 @@ low_bits-8 n =
     let e7 : bit_at (n / 2 / 2 / 2 / 2 / 2 / 2 / 2) 0 ≡ bit_at n 7 = omega arith in
     rw (e1, e2, e3, e4, e5, e6, e7) refl
 
--- eight steps, bit by bit
-pub by_bits : (p r v e : ℕ) → v < 256 → e ≡ fold (fed_down p) (bit_xor r v) (replicate 8 0) → e ≡ fold (fed_down p) r (fed_bits true v)
-by_bits p r v e h is = is ∙ sym (fed_into 8 p r v h) ∙ ap (fold (fed_down p) r) (low_bits-8 v)
-
 -- the table's place
 pub place_below : (r v i : ℕ) → v < 256 → i ≡ bit_xor (bit_and r 255) v → i < 256
 place_below r v i h e = let small = and_le_r r 255 in rw e (xor_lt 8 (bit_and r 255) v (omega arith) h)

@@ -12,7 +12,7 @@ pub fn check_word(check: &Check, bytes: &[u8]) -> u16
     ensures { result ≡ check_of check.now bytes.now }
 {
     // The register's bits stand in the order in which low bits come first.
-    let table = Table::new(check.poly.reverse_bits(), bytes.len());
+    let table = Table::new(check.poly.reverse_bits());
     let mut register = check.init.reverse_bits();
     for byte in bytes {
         register = table.after_byte(register, ordered(check.low_first, *byte));
@@ -27,30 +27,18 @@ pub fn agrees(rule: &Check, bytes: &[u8], check: u16) -> bool
     !rule.compare || check == check_word(rule, bytes)
 }
 
-// Of so many bytes or more a table is made: fewer are fed bit by bit in less time.
-const LEAST_FOR_A_TABLE: usize = 12;
-
-// What eight bits 0 make of the register, for each number that its lowest eight bits can be, where it is filled.
+// What eight bits 0 make of the register, for each number that its lowest eight bits can be.
 #[derive(Drop)]
 struct Table {
     poly: u16,
-    is_filled: bool,
     entries: [u16; 256],
-    ghost is_table: { is_filled ≡ true → IsTable 256 poly entries },
+    ghost is_table: { IsTable 256 poly entries },
 }
 
 impl Table {
-    // A table for so many bytes.
-    fn new(poly: u16, count: usize) -> Table
+    fn new(poly: u16) -> Table
         ensures { result.poly ≡ poly }
     {
-        if count < LEAST_FOR_A_TABLE {
-            return Table {
-                poly,
-                is_filled: false,
-                entries: [0; 256],
-            };
-        }
         let low = low_entries(poly);
         let mut entries = [0; 256];
         for high in 0..16 {
@@ -61,23 +49,15 @@ impl Table {
                 after_four(poly, high),
             );
         }
-        Table {
-            poly,
-            is_filled: true,
-            entries,
-        }
+        Table { poly, entries }
     }
 
     // The register after the eight bits of a byte, the lowest first.
     fn after_byte(&self, register: u16, byte: u8) -> u16
         ensures { result ≡ fold (fed_down self.now.poly) register (fed_bits true byte) }
     {
-        if self.is_filled {
-            let lowest = (register & 255) as u8 ^ byte;
-            self.entries[usize::from(lowest)] ^ (register >> 8)
-        } else {
-            after_eight(self.poly, register ^ u16::from(byte))
-        }
+        let lowest = (register & 255) as u8 ^ byte;
+        self.entries[usize::from(lowest)] ^ (register >> 8)
     }
 }
 
@@ -87,17 +67,10 @@ fn low_entries(poly: u16) -> [u16; 16]
 {
     let mut entries = [0; 16];
     for i in 0..16 {
-        entries[i as usize] = after_eight(poly, i);
+        let halfway = after_four(poly, i);
+        entries[i as usize] = after_four(poly, halfway);
     }
     entries
-}
-
-// The register after eight bits 0.
-fn after_eight(poly: u16, register: u16) -> u16
-    ensures { result ≡ fold (fed_down poly) register (replicate 8 0) }
-{
-    let halfway = after_four(poly, register);
-    after_four(poly, halfway)
 }
 
 // Fills sixteen entries, from a place on, with the low ones, each exclusive-ored with a number.
