@@ -2,7 +2,7 @@
 #![tactic(auto)]
 
 use a429_check::{
-    Claim, Command, Folder, RunFault, Span, command, read_whole, report, run_check, run_extract,
+    Canvas, Claim, Command, Folder, RunFault, Span, command, read_whole, report, run_check, run_extract,
     run_forms, run_labels, run_make, run_pack, run_picture, run_show, run_units, run_upgrade,
     run_verify, run_word,
 };
@@ -51,8 +51,8 @@ fn run(rt: &(impl Files + Env + Print + AllocGlobal)) -> Result<u8, RunFault> {
         Command::Check(claim) => check(rt, alloc, claim, &mut out)?,
         Command::Verify(claim) => verify(rt, alloc, claim, &mut out)?,
         Command::Units(claim) => return units(rt, alloc, claim, out),
+        Command::Picture { claim, span } => return picture(rt, alloc, claim, span, out),
         Command::Extract { claim, folder } => extract(rt, alloc, claim, folder, &mut out)?,
-        Command::Picture { claim, span } => picture(rt, alloc, claim, span, &mut out)?,
         Command::Upgrade { cert, new_cert } => upgrade(rt, cert, new_cert, &mut out)?,
     };
     out.flush().map_err(|_| RunFault::Device)?;
@@ -119,7 +119,7 @@ fn verify<W: Write>(
     run_verify(alloc, profile.as_slice(), &mut rec, &mut cert, out)
 }
 
-// Rows have the output to themselves: what waits to be written is flushed here.
+// Rows and canvas have the output to themselves: what waits to be written is flushed here.
 fn units<W: Write + Drop>(
     rt: &impl Files,
     alloc: Global,
@@ -156,17 +156,20 @@ fn extract<W: Write>(
     )
 }
 
-fn picture<W: Write>(
+fn picture<W: Write + Drop>(
     rt: &impl Files,
     alloc: Global,
     claim: Claim<'_>,
     span: Span,
-    out: &mut Tally<W>,
+    out: Tally<W>,
 ) -> Result<u8, RunFault> {
     let profile = bytes_of(rt, alloc, claim.profile)?;
     let mut rec = EntryReader::new(alloc, opened(rt, claim.recording, CAP)?);
     let mut cert = opened_certificate(rt, alloc, claim.certificate)?;
-    run_picture(alloc, profile.as_slice(), &mut rec, &mut cert, span, out)
+    let mut canvas = Canvas { span, out };
+    let status = run_picture(alloc, profile.as_slice(), &mut rec, &mut cert, &mut canvas)?;
+    canvas.out.flush().map_err(|_| RunFault::Device)?;
+    Ok(status)
 }
 
 fn upgrade<W: Write>(

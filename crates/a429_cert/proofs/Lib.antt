@@ -25,4 +25,5 @@ pub mod StreamWalk
 pub mod StreamRefused
 pub mod ToldFacts
 pub mod ToldRefused
+pub mod StreamEndFacts
 pub mod EarlierFiles

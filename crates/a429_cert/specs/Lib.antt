@@ -14,5 +14,6 @@ pub mod LineReader
 pub mod Shelf
 pub mod Stream
 pub mod StreamHead
+pub mod StreamEnd
 pub mod StreamExplained
 pub mod Told

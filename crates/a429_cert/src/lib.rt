@@ -3,6 +3,7 @@
 
 mod act;
 mod at;
+mod bench;
 mod entry;
 mod explained;
 mod fault;
@@ -19,6 +20,7 @@ mod shelf;
 mod short;
 mod states;
 mod stream;
+mod stream_end;
 mod stream_fault;
 mod stream_head;
 mod verified;
@@ -27,6 +29,7 @@ mod words;
 mod writing;
 
 pub use crate::act::{Act, letter_of};
+pub use crate::bench::Bench;
 pub use crate::entry::seen;
 pub use crate::explained::verify;
 pub use crate::fault::{CertFault, OutOfMemory};

@@ -4,6 +4,7 @@ ghost use Rattle.std.specs.Prelude.{◌≡◌, ◌≤◌, ◌⊎◌, [], ◌∷�
 ghost use Rattle.a429_profile.specs.Profile.{IsProfile};
 ghost use Rattle.a429_ldu.specs.Ldu.{IsLdu};
 ghost use Rattle.a429_link.specs.declared.seen.Seen.{Seen};
+ghost use Rattle.a429_link.specs.State.{start};
 ghost use Rattle.a429_record.specs.declared.fault.ReadFault.TheVariants as read;
 ghost use Rattle.a429_cert.specs.Lines.{line_bytes};
 ghost use Rattle.a429_cert.specs.Shelf.{IsUnchanged};
@@ -16,7 +17,9 @@ ghost use Rattle.a429_cert.specs.Stream.{IsFaultNext, TakesNext, WalksNext, Ends
 ghost use Rattle.a429_cert.specs.Stream.{OneFailed, HandsFilesOut, PutsFiles, PutsFirstFiles, sizes};
 
 use crate::at::At;
+use crate::bench::Bench;
 use crate::entry::seen_in;
+use crate::explained::Head;
 use crate::fault::CertFault;
 use crate::line::MovedLine;
 use crate::line_reader::LineReader;
@@ -25,6 +28,7 @@ use crate::listed::Listed;
 use crate::listener::{Listener, NoListener};
 use crate::passing::{list_step, take_step};
 use crate::shelf::{Shelf, ShelfFault};
+use crate::stream_end::none_left;
 use crate::stream_fault::{StreamFault, of_cert, of_listener, of_read};
 use crate::stream_head::begin;
 use crate::version::Version;
@@ -52,7 +56,13 @@ pub fn verify_stream<R: Read, C: Read, S: Shelf>(
     ensures device { IsErrOf result StreamFault.Device → (has_failed cert.new ≡ true) ⊎ (S.failed shelf.new ≡ true) }
     ensures read { IsErrOf result (StreamFault.Read read.Device) → rec.new.failed ≡ true }
 {
-    replay_stream(alloc, profile, rec, cert, shelf, &mut NoListener)
+    replay_stream(
+        &Bench::new(alloc, profile),
+        rec,
+        cert,
+        shelf,
+        &mut NoListener,
+    )
 }
 
 /// The same, and a listener is told of each step once its line is accepted. Where the answer is a yes, it has
@@ -60,36 +70,27 @@ pub fn verify_stream<R: Read, C: Read, S: Shelf>(
 /// is a fault of the certificate or of the recording, those of the lines before the fault. Where it has not
 /// taken a step, that is the fault, and the files of the lines before are put.
 pub fn replay_stream<R: Read, C: Read, S: Shelf, T: Listener>(
-    alloc: Global,
-    profile: &Profile,
+    bench: &Bench<'_>,
     rec: &mut EntryReader<R>,
     cert: &mut Tally<C>,
     shelf: &mut S,
     listener: &mut T,
 ) -> Result<Vec<(u8, u32)>, StreamFault>
-    ensures ok { IfOk result (SaysYes profile.now (unread C.remaining cert.old) rec.old.to_come (S.files shelf.old) (S.files shelf.new)) }
-    ensures heard { OnOk result (HearsRun T.hears profile.now (unread C.remaining cert.old) rec.old.to_come listener.old listener.new) }
-    ensures err { IfErr result (Refuses profile.now (unread C.remaining cert.old) rec.old.to_come (S.files shelf.old) (S.files shelf.new)) }
-    ensures told { IfErr result (HearsBefore T.hears profile.now (unread C.remaining cert.old) rec.old.to_come listener.old listener.new) }
+    ensures ok { IfOk result (SaysYes bench.now (unread C.remaining cert.old) rec.old.to_come (S.files shelf.old) (S.files shelf.new)) }
+    ensures heard { OnOk result (HearsRun T.hears bench.now (unread C.remaining cert.old) rec.old.to_come listener.old listener.new) }
+    ensures err { IfErr result (Refuses bench.now (unread C.remaining cert.old) rec.old.to_come (S.files shelf.old) (S.files shelf.new)) }
+    ensures told { IfErr result (HearsBefore T.hears bench.now (unread C.remaining cert.old) rec.old.to_come listener.old listener.new) }
     ensures device { IsErrOf result StreamFault.Device → OneFailed (has_failed cert.new) (S.failed shelf.new) (T.failed listener.new) }
     ensures read { IsErrOf result (StreamFault.Read read.Device) → rec.new.failed ≡ true }
 {
     // No line is empty of bytes, so that lines and entries are no more than the bytes that may come.
     let _most: u64 = cert.left();
     let mut lines = LineReader::new();
-    let head = match begin(alloc, &mut lines, cert) {
+    let head = match begin(bench.alloc, &mut lines, cert) {
         Ok(head) => head,
         Err(fault) => return Err(fault),
     };
-    let mut walk = Walk {
-        alloc,
-        profile,
-        version: head.version,
-        link: Link::start(alloc, profile, head.first),
-        lines: 2,
-        used: 0,
-        files: Vec::new(alloc),
-    };
+    let mut walk = Walk::start(bench, head);
     'lines: loop {
         let Ok(found) = lines.next_line(cert) else {
             return Err(StreamFault::Device);
@@ -107,10 +108,9 @@ pub fn replay_stream<R: Read, C: Read, S: Shelf, T: Listener>(
             Err(fault) => return Err(fault),
         }
     }
-    match rec.next() {
-        Ok(None) => Ok(walk.files),
-        Ok(Some(_)) => Err(StreamFault::Cert(CertFault::Unfinished(walk.used))),
-        Err(fault) => Err(of_read(fault)),
+    match none_left(rec, walk.used) {
+        Ok(()) => Ok(walk.files),
+        Err(fault) => Err(fault),
     }
 }
 
@@ -140,6 +140,29 @@ pub struct Walk<'a> {
     used: usize,
     // the number and the length of each file that was put
     files: Vec<(u8, u32)>,
+}
+
+impl<'a> Walk<'a> {
+    // A walk that has just passed the first two lines, and no entry.
+    fn start(bench: &Bench<'a>, head: Head) -> Walk<'a>
+        ensures sound { IsProfile bench.now }
+        ensures profile { result.profile.now ≡ bench.now }
+        ensures version { result.version ≡ head.version }
+        ensures link { result.link ≡ record { profile = bench.now; state = start bench.now head.first } }
+        ensures lines { result.lines ≡ 2 }
+        ensures used { result.used ≡ 0 }
+        ensures files { result.files.items ≡ [] }
+    {
+        Walk {
+            alloc: bench.alloc,
+            profile: bench.profile,
+            version: head.version,
+            link: Link::start(bench.alloc, bench.profile, head.first),
+            lines: 2,
+            used: 0,
+            files: Vec::new(bench.alloc),
+        }
+    }
 }
 
 // An entry with its number.

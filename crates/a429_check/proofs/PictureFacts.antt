@@ -8,7 +8,6 @@ use Rattle.a429_record.specs.Recording.{Recording}
 use Rattle.a429_cert.specs.declared.fault.CertFault.{CertFault}
 use Rattle.a429_cert.specs.declared.fault.CertFault.TheVariants as cert
 use Rattle.a429_cert.specs.declared.stream_fault.StreamFault.TheVariants as stream
-use Rattle.a429_cert.specs.Stream.{OneFailed}
 use Rattle.a429_cert.specs.StreamExplained.{Extracts, HearsRun, Refuses, WhereTold}
 use Rattle.a429_cert.specs.Told.{IsHeard, told_run}
 use Rattle.a429_view.specs.declared.mark.Span.{Span}
@@ -20,7 +19,7 @@ use Rattle.a429_check.specs.declared.fault.RunFault.{RunFault}
 use Rattle.a429_check.specs.declared.fault.RunFault.TheVariants as run
 use Rattle.a429_check.specs.Profile.{IsProfileOf}
 use Rattle.a429_check.specs.Output.{PutsText}
-use Rattle.a429_check.specs.Verdict.{AllWork, HasFailed, IsSilent, no_text}
+use Rattle.a429_check.specs.Verdict.{AllWork, HasFailed, IsNoVerdictBy, IsSilent, IsVerifyFault, no_text}
 use Rattle.a429_check.specs.Picture.{ARun, DrawsRun, IsTooLongRun, IsPicture, IsNoPicture, IsSketchFault}
 
 where_told : (known : Option (List ℕ)) (rec : Option Recording) (A B : List ℕ → Recording → Type 0) → ((text : List ℕ) (r : Recording) → A text r → B text r) → WhereTold known rec A → WhereTold known rec B
@@ -75,15 +74,20 @@ too_long profile p known rec span old new files is here b h e =
       so = where_told known rec (IsHeard Hears p old new) (IsTooLongRun p span) (λ text r g. record { run = heard_run g; many = (heard_of p span old new text r b g).many e }) h;
     }
 
--- neither a sketch fails nor the shelf that drops all files
-pub certificate_failed : (rec certificate : Bool) → OneFailed certificate false false → HasFailed rec certificate false
-certificate_failed rec certificate (inl h) = inr (inl h)
-certificate_failed rec certificate (inr (inl h)) = absurd (cc h)
-certificate_failed rec certificate (inr (inr h)) = absurd (cc h)
-
-pub none_listens : (Failed : Type 0) → Failed ⊎ (false ≡ true) → Failed
-none_listens Failed (inl h) = h
-none_listens Failed (inr h) = absurd (cc h)
+-- a fault that is told of a certificate, of whichever text its profile was read
+pub not_told : (profile : List ℕ) (p : Contents) (known : Option (List ℕ)) (rec : Option Recording) (span : Span) (Failed : Type 0) (e : RunFault)
+    → IsProfileOf profile p → IsNoVerdictBy p known rec None None Failed e → IsNoPicture profile known rec span e
+not_told profile p known rec span Failed e is here = by e (here profile is)
+  where
+    by : (e : RunFault) → IsVerifyFault profile known rec None None Failed e → IsNoPicture profile known rec span e
+    by (run.Profile f) h = h
+    by (run.Read f) h = h
+    by (run.Cut k f) h = h
+    by run.TooLong h = absurd h
+    by run.Device h = (tt, h.1)
+    by run.Memory h = h
+    by run.BadWord h = h
+    by run.Usage h = h
 
 none_failed : (rec certificate : Bool) → AllWork rec certificate false false → HasFailed rec certificate false → ⊥
 none_failed rec certificate w (inl h) = let e = w.0 in absurd (cc (e, h))

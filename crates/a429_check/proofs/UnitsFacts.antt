@@ -1,5 +1,5 @@
 -- What has been written where the rows of a certificate's units are finished.
-use Rattle.std.proofs.Common.{◌≡◌, ◌≢◌, ◌++◌, ℕ, List, [], Vec, Global, Option, Some, None, Result, Ok, Err, IfOk, IfErr, inl, inr, refl, subst}
+use Rattle.std.proofs.Common.{◌≡◌, ◌++◌, ℕ, List, [], Vec, Global, Option, Some, None, Result, Ok, Err, IfOk, IfErr, inl, inr, refl, subst}
 use Rattle.std.specs.Io.KnownBytes.{append_known, Appends}
 use Rattle.std.proofs.KnownBytes.{Appends-trans}
 use Rattle.std.proofs.lemmas.List.{append-nil}
@@ -10,15 +10,15 @@ use Rattle.a429_profile.specs.Profile.{Contents}
 use Rattle.a429_record.specs.Recording.{Recording}
 use Rattle.a429_record.specs.Entries.{EntriesLeft}
 use Rattle.a429_cert.specs.declared.fault.CertFault.{CertFault}
-use Rattle.a429_cert.specs.declared.fault.CertFault.TheVariants as cert
 use Rattle.a429_cert.specs.declared.stream_fault.StreamFault.TheVariants as stream
-use Rattle.a429_cert.specs.StreamExplained.{WhereTold, IsHeardBefore}
+use Rattle.a429_cert.specs.StreamExplained.{WhereTold, IsHeardBefore, SaysYes, HearsRun, HearsBefore}
 use Rattle.a429_cert.specs.Told.{IsHeard, told_run}
 use Rattle.a429_view.specs.declared.units.rows.UnitRows.{UnitRows}
 use Rattle.a429_view.specs.Units.{units_text, ended_text}
 use Rattle.a429_view.specs.UnitSteps.{HearsRows, line_before, PutsAll}
 use Rattle.a429_view.proofs.UnitsFacts.{all_rows, ended_put}
-use Rattle.a429_check.specs.Verdict.{Judges, HasHeard, HasHeardBefore, no_text}
+use Rattle.a429_check.specs.Verdict.{SaysNo, no_text}
+use Rattle.a429_check.specs.Profile.{IsProfileOf}
 use Rattle.a429_check.specs.Units.{AreFresh, PutsUnits, PutsEnded, TellsUnits}
 
 -- an empty page holds nothing back
@@ -47,21 +47,21 @@ module _ {W : Type 0} (contents : W → Option (List ℕ)) (p : Contents) (old m
   units_put (Some text) (Some r) fresh h last = one fresh last text r h
 
 -- a yes whose rows are finished
-pub tells_yes : {W : Type 0} (contents : W → Option (List ℕ)) (profile : List ℕ) (known : Option (List ℕ)) (left : EntriesLeft) (old mid new : UnitRows W)
-    (a : Result (Vec (ℕ × ℕ) Global) CertFault) (files : Vec (ℕ × ℕ) Global) → a ≡ Ok files → AreFresh old
-    → IfOk a (λ files. Judges profile known left.to_come None None (Ok files.items)) → IfOk a (λ files. HasHeard (HearsRows contents) profile known left.to_come old mid)
+pub tells_yes : {W : Type 0} (contents : W → Option (List ℕ)) (profile : List ℕ) (p : Contents) (known : Option (List ℕ)) (left : EntriesLeft) (old mid new : UnitRows W)
+    (a : Result (Vec (ℕ × ℕ) Global) CertFault) (files : Vec (ℕ × ℕ) Global) → a ≡ Ok files → IsProfileOf profile p → AreFresh old
+    → IfOk a (SaysYes p known left.to_come None None) → IfOk a (λ _. HearsRun (HearsRows contents) p known left.to_come old mid)
     → PutsAll contents mid new (line_before mid.row) → TellsUnits contents profile known left old new 0
-tells_yes contents profile known left old mid new a files is fresh judged heard last =
-    let yes = rw is at judged in
+tells_yes contents profile p known left old mid new a files is by fresh says heard last =
+    let yes = rw is at says in
     let told = rw is at heard in
     inl (
       refl,
       record {
         files = files.items;
-        judged = yes;
-        bench = told.contents;
-        is_profile = told.is_profile;
-        rows = units_put contents told.contents old mid new.out known left.to_come fresh told.heard last;
+        judged = record { contents = p; is_profile = by; is = yes };
+        bench = p;
+        is_profile = by;
+        rows = units_put contents p old mid new.out known left.to_come fresh told last;
       },
     )
 
@@ -83,23 +83,23 @@ module _ {W : Type 0} (contents : W → Option (List ℕ)) (p : Contents) (old m
   ended_before (Some text) (Some r) fresh h rest last = before_one fresh rest last text r h
 
 -- a no whose line is put behind all that waited
-pub tells_no : {W : Type 0} (contents : W → Option (List ℕ)) (profile : List ℕ) (known : Option (List ℕ)) (left : EntriesLeft) (old mid waited new : UnitRows W)
-    (a : Result (Vec (ℕ × ℕ) Global) CertFault) (f : CertFault) → a ≡ Err f → AreFresh old
-    → IfErr a (λ f. Judges profile known left.to_come None None (Err (stream.Cert f)) × (f ≢ cert.OutOfMemory)) → IfErr a (HasHeardBefore (HearsRows contents) profile known left.to_come old mid)
+pub tells_no : {W : Type 0} (contents : W → Option (List ℕ)) (profile : List ℕ) (p : Contents) (known : Option (List ℕ)) (left : EntriesLeft) (old mid waited new : UnitRows W)
+    (a : Result (Vec (ℕ × ℕ) Global) CertFault) (f : CertFault) → a ≡ Err f → IsProfileOf profile p → AreFresh old
+    → IfErr a (SaysNo p known left.to_come None None) → IfErr a (λ f. HearsBefore (HearsRows contents) p known left.to_come old mid (stream.Cert f))
     → PutsAll contents mid waited [] → Puts contents waited.out new.out (no_text f) → TellsUnits contents profile known left old new 2
-tells_no contents profile known left old mid waited new a f is fresh judged heard rest puts =
-    let no = rw is at judged in
+tells_no contents profile p known left old mid waited new a f is by fresh refused heard rest puts =
+    let no = rw is at refused in
     let told = rw is at heard in
     inr (
       refl,
       record {
         fault = f;
-        judged = no.0;
+        judged = record { contents = p; is_profile = by; is = no.0 };
         verdict = no.1;
         before = waited.out;
         puts = puts;
-        bench = told.contents;
-        is_profile = told.is_profile;
-        rows = ended_before contents told.contents old mid waited.out new.out f known left.to_come fresh told.heard rest puts;
+        bench = p;
+        is_profile = by;
+        rows = ended_before contents p old mid waited.out new.out f known left.to_come fresh told rest puts;
       },
     )

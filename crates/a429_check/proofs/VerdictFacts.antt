@@ -1,8 +1,10 @@
 -- What is answered of a certificate, and what a command tells where there is no verdict.
-use Rattle.std.proofs.Common.{◌≡◌, ◌⊎◌, ◌∙◌, ◌++◌, inl, inr, ℕ, Bool, true, List, length, Vec, Global, Option, Some, None, Result, Ok, Err, IfOk, IfErr, refl, ap}
+use Rattle.std.proofs.Common.{◌≡◌, ◌⊎◌, ◌∙◌, ◌++◌, inl, inr, ℕ, Bool, true, List, length, Vec, Global, Option, Some, None, Result, Ok, Err, IfOk, IfErr, refl, ap, subst}
 use Rattle.std.specs.List.{flat_map}
 use Rattle.std.proofs.lemmas.List.{length-map}
 use Rattle.std.proofs.lemmas.List.Folds.{flat_map-map}
+use Rattle.a429_word.specs.declared.tally.Tally.{Tally}
+use Rattle.a429_word.specs.Tally.{Puts}
 use Rattle.a429_link.specs.declared.file.FileBytes.{FileBytes}
 use Rattle.a429_cert.specs.Stream.{OneFailed, sizes}
 use Rattle.a429_profile.specs.Profile.{Contents}
@@ -12,12 +14,14 @@ use Rattle.a429_cert.specs.declared.shelf.PutFile.{PutFile}
 use Rattle.a429_cert.specs.declared.stream_fault.StreamFault.{StreamFault}
 use Rattle.a429_cert.specs.declared.stream_fault.StreamFault.TheVariants as stream
 use Rattle.a429_cert.specs.Shelf.{IsUnchanged}
-use Rattle.a429_cert.specs.StreamExplained.{Extracts, Refuses}
+use Rattle.a429_cert.specs.StreamExplained.{Extracts, Refuses, SaysYes}
+use Rattle.a429_cert.specs.declared.fault.CertFault.{CertFault}
 use Rattle.a429_profile.specs.declared.fault.ProfileFault.{ProfileFault}
 use Rattle.a429_check.specs.declared.fault.RunFault.{RunFault}
 use Rattle.a429_check.specs.declared.fault.RunFault.TheVariants as run
 use Rattle.a429_check.specs.Profile.{IsProfileOf}
-use Rattle.a429_check.specs.Verdict.{HasAnswer, HasFailed, IsVerifyFault, of_stream, count_line, file_line, line_of_file, yes_text}
+use Rattle.a429_check.specs.Output.{PutsText}
+use Rattle.a429_check.specs.Verdict.{ByProfile, HasAnswer, HasFailed, IsVerdict, IsVerifyFault, SaysNo, of_stream, count_line, file_line, line_of_file, no_text, yes_text}
 
 -- what is told of files, by their lines
 pub yes_of_files : (files : List FileBytes) → yes_text (sizes files) ≡ count_line (length files) ++ flat_map line_of_file files
@@ -33,6 +37,27 @@ pub answered : (profile : List ℕ) (p : Contents) (certificate : Option (List �
     → IsProfileOf profile p → IfOk r (λ files. Extracts p certificate rec old new files.items) → IfErr r (Refuses p certificate rec old new) → HasAnswer profile certificate rec old new
 answered profile p certificate rec old new (Ok files) is here _ = (Ok files.items, record { contents = p; is_profile = is; is = here })
 answered profile p certificate rec old new (Err f) is _ here = (Err f, record { contents = p; is_profile = is; is = here })
+
+-- some answer was found where one is told
+pub answer_told : (profile : List ℕ) (p : Contents) (certificate : Option (List ℕ)) (rec : Option Recording) (old new : Option (List PutFile)) (a : Result (Vec (ℕ × ℕ) Global) CertFault)
+    → IsProfileOf profile p → IfOk a (SaysYes p certificate rec old new) → IfErr a (SaysNo p certificate rec old new) → HasAnswer profile certificate rec old new
+answer_told profile p certificate rec old new (Ok files) is here _ = (Ok files.items, record { contents = p; is_profile = is; is = here })
+answer_told profile p certificate rec old new (Err f) is _ here = (Err (stream.Cert f), record { contents = p; is_profile = is; is = here.0 })
+
+-- the text of an answer was written
+pub puts_yes : {W : Type 0} (contents : W → Option (List ℕ)) (out new_out : Tally W) (p : Contents) (certificate : Option (List ℕ)) (rec : Option Recording) (old new : Option (List PutFile))
+    (a : Result (Vec (ℕ × ℕ) Global) CertFault) (files : Vec (ℕ × ℕ) Global) (told : List (ℕ × ℕ)) → a ≡ Ok files → IfOk a (SaysYes p certificate rec old new) → told ≡ files.items
+    → Puts contents out new_out (yes_text told) → ByProfile p (λ profile. PutsText contents out new_out (IsVerdict profile certificate rec old new 0))
+puts_yes contents out new_out p certificate rec old new a files told is here same puts = λ profile by.
+    let yes = rw is at here in
+    (yes_text files.items, record { answer = Ok files.items; judged = record { contents = p; is_profile = by; is = yes }; told = (refl, refl) }, subst (λ (l : List (ℕ × ℕ)). Puts contents out new_out (yes_text l)) same puts)
+
+pub puts_no : {W : Type 0} (contents : W → Option (List ℕ)) (out new_out : Tally W) (p : Contents) (certificate : Option (List ℕ)) (rec : Option Recording) (old new : Option (List PutFile))
+    (a : Result (Vec (ℕ × ℕ) Global) CertFault) (f : CertFault) → a ≡ Err f → IfErr a (SaysNo p certificate rec old new)
+    → Puts contents out new_out (no_text f) → ByProfile p (λ profile. PutsText contents out new_out (IsVerdict profile certificate rec old new 2))
+puts_no contents out new_out p certificate rec old new a f is here puts = λ profile by.
+    let no = rw is at here in
+    (no_text f, record { answer = Err (stream.Cert f); judged = record { contents = p; is_profile = by; is = no.0 }; told = (refl, refl, no.1) }, puts)
 
 -- a fault of a stream, as a command tells it
 pub told : (profile : List ℕ) (p : Contents) (certificate : Option (List ℕ)) (rec : Option Recording) (old new : Option (List PutFile)) (Failed : Type 0) (f : StreamFault)

@@ -1,6 +1,5 @@
 -- What `a429 picture` writes (profile).
-use Rattle.std.specs.Prelude.{◌≡◌, ◌≢◌, ◌⊎◌, ◌≤◌, ◌<◌, ℕ, List, Bool, true, Option, None, Err}
-use Rattle.std.specs.Str.{IsUtf8}
+use Rattle.std.specs.Prelude.{◌≡◌, ◌⊎◌, ◌≤◌, ◌<◌, ℕ, List, Bool, true, Option, None}
 use Rattle.a429_profile.specs.Profile.{Contents}
 use Rattle.a429_link.specs.declared.step.Step.{Step}
 use Rattle.a429_word.specs.declared.tally.Tally.{Tally}
@@ -8,15 +7,13 @@ use Rattle.a429_word.specs.Tally.{unread}
 use Rattle.a429_record.specs.Recording.{Recording}
 use Rattle.a429_record.specs.Entries.{EntriesLeft}
 use Rattle.a429_cert.specs.Explained.{items_of, Explains}
-use Rattle.a429_cert.specs.declared.fault.CertFault.{CertFault}
-use Rattle.a429_cert.specs.declared.fault.CertFault.TheVariants as cert
-use Rattle.a429_cert.specs.declared.stream_fault.StreamFault.TheVariants as stream
-use Rattle.a429_cert.specs.StreamExplained.{Extracts, Refuses, WhereTold}
+use Rattle.a429_cert.specs.StreamExplained.{Extracts, WhereTold}
 use Rattle.a429_cert.specs.Told.{told_run}
 use Rattle.a429_view.specs.declared.mark.Span.{Span}
 use Rattle.a429_view.specs.Mark.{before_all, steps_within}
 use Rattle.a429_view.specs.Picture.{picture_text}
 use Rattle.a429_view.specs.Sketch.{most_steps}
+use Rattle.a429_check.specs.declared.engines.picture.Canvas.{Canvas}
 use Rattle.a429_check.specs.declared.fault.RunFault.{RunFault}
 use Rattle.a429_check.specs.Fault.{ComesBy, never}
 use Rattle.a429_check.specs.Output.{PutsText}
@@ -59,9 +56,9 @@ IsPicture profile certificate rec span status text =
     ⊎ ((status ≡ 2) × IsVerdict profile certificate rec None None status text)
 
 -- such an answer was written, by a profile, and by a certificate and a recording as their readers have them to give
-abbrev pub PutsPicture : {W C : Type 0} → (W → Option (List ℕ)) → Tally W → Tally W → List ℕ → (C → Option (List ℕ)) → Tally C → EntriesLeft → Span → ℕ → Type 0
-PutsPicture contents out new_out profile remaining cert rec span status =
-    PutsText contents out new_out (IsPicture profile (unread remaining cert) rec.to_come span status)
+abbrev pub PutsPicture : {W C : Type 0} → (W → Option (List ℕ)) → Canvas W → Canvas W → List ℕ → (C → Option (List ℕ)) → Tally C → EntriesLeft → ℕ → Type 0
+PutsPicture contents canvas new_canvas profile remaining cert rec status =
+    PutsText contents canvas.out new_canvas.out (IsPicture profile (unread remaining cert) rec.to_come canvas.span status)
 
 -- a fault of `a429 verify`, or a span with more than 2,000 steps
 abbrev pub IsPictureFault : List ℕ → Option (List ℕ) → Option Recording → Span → Type 0 → RunFault → Type 0
@@ -73,15 +70,7 @@ IsPictureFault profile certificate rec span Failed = ComesBy (record (verify_cau
 abbrev pub IsNoPicture : List ℕ → Option (List ℕ) → Option Recording → Span → RunFault → Type 0
 IsNoPicture profile certificate rec span = IsPictureFault profile certificate rec span (Unit {0})
 
--- ---- of a profile that was read
-
--- why a certificate is refused, which is a verdict
-abbrev pub IsRefusal : Contents → Option (List ℕ) → Option Recording → CertFault → Type 0
-IsRefusal p certificate rec f = Refuses p certificate rec None None (stream.Cert f) × (f ≢ cert.OutOfMemory)
-
--- why there is no verdict, whichever text the profile was read of
-abbrev pub IsNoVerdictBy : Contents → Option (List ℕ) → Option Recording → RunFault → Type 0
-IsNoVerdictBy p certificate rec e = (profile : List ℕ) → IsProfileOf profile p → IsNoVerdict profile certificate rec None None e
+-- ---- of a sketch
 
 -- why so many steps are not drawn: there are more than 2,000, the output failed, or want of memory
 abbrev pub IsSketchFault : ℕ → Bool → RunFault → Type 0

@@ -16,8 +16,7 @@ use Rattle.a429_cert.specs.declared.shelf.PutFile.{PutFile}
 use Rattle.a429_cert.specs.declared.stream_fault.StreamFault.{StreamFault}
 use Rattle.a429_cert.specs.declared.stream_fault.StreamFault.TheVariants as stream
 use Rattle.a429_cert.specs.Shelf.{IsUnchanged}
-use Rattle.a429_cert.specs.StreamExplained.{Extracts, IsHeardBefore, Refuses, WhereTold}
-use Rattle.a429_cert.specs.Told.{Hearing, IsHeard}
+use Rattle.a429_cert.specs.StreamExplained.{Extracts, Refuses}
 use Rattle.a429_check.specs.declared.fault.RunFault.{RunFault}
 use Rattle.a429_check.specs.declared.fault.RunFault.TheVariants as run
 use Rattle.a429_check.specs.Fault.{Causes, ComesBy, never}
@@ -64,12 +63,6 @@ pub record Judges (profile : List ℕ) (certificate : Option (List ℕ)) (rec : 
   pub contents : Contents
   pub is_profile : IsProfileOf profile contents
   pub is : IsAnswer contents certificate rec old new answer
-
--- a listener has heard the steps of the run by which the certificate explains the recording, by such a profile
-pub record HasHeard {T : Type 0} (hears : Hearing T) (profile : List ℕ) (certificate : Option (List ℕ)) (rec : Option Recording) (old new : T) : Type 0 where
-  pub contents : Contents
-  pub is_profile : IsProfileOf profile contents
-  pub heard : WhereTold certificate rec (IsHeard hears contents old new)
 
 -- an answer, told: 0 and a yes with its files, or 2 and a no; other faults are no verdict
 abbrev pub IsTold : Answer → ℕ → List ℕ → Type 0
@@ -139,10 +132,16 @@ IsNoVerdict profile certificate rec old new = IsVerifyFault profile certificate 
 abbrev pub IsSilent : {W : Type 0} → Type 0 → Tally W → Tally W → RunFault → Type 0
 IsSilent Failed out new_out e = (e ≢ run.Device) ⊎ (Failed ⊎ (has_failed new_out ≡ false)) → new_out ≡ out
 
--- ---- what is told before a no
+-- ---- by a profile that was read
 
--- a listener has heard the steps of the lines before the certificate's fault, by such a profile, and nothing else
-pub record HasHeardBefore {T : Type 0} (hears : Hearing T) (profile : List ℕ) (certificate : Option (List ℕ)) (rec : Option Recording) (old new : T) (f : CertFault) : Type 0 where
-  pub contents : Contents
-  pub is_profile : IsProfileOf profile contents
-  pub heard : WhereTold certificate rec (IsHeardBefore hears contents old new (stream.Cert f))
+-- of whichever text the profile was read
+abbrev pub ByProfile : Contents → (List ℕ → Type 0) → Type 0
+ByProfile p Holds = (text : List ℕ) → IsProfileOf text p → Holds text
+
+-- why a certificate is refused, which is a verdict
+abbrev pub SaysNo : Contents → Option (List ℕ) → Option Recording → Option (List PutFile) → Option (List PutFile) → CertFault → Type 0
+SaysNo p certificate rec old new f = Refuses p certificate rec old new (stream.Cert f) × (f ≢ cert.OutOfMemory)
+
+-- why there is no verdict
+abbrev pub IsNoVerdictBy : Contents → Option (List ℕ) → Option Recording → Option (List PutFile) → Option (List PutFile) → Type 0 → RunFault → Type 0
+IsNoVerdictBy p certificate rec old new Failed e = ByProfile p (λ text. IsVerifyFault text certificate rec old new Failed e)

@@ -16,7 +16,7 @@ pub use crate::engines::forms::run_forms;
 pub use crate::engines::labels::run_labels;
 pub use crate::engines::make::run_make;
 pub use crate::engines::pack::run_pack;
-pub use crate::engines::picture::run_picture;
+pub use crate::engines::picture::{Canvas, run_picture};
 pub use crate::engines::show::run_show;
 pub use crate::engines::units::run_units;
 pub use crate::engines::upgrade::run_upgrade;

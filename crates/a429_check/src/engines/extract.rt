@@ -4,9 +4,10 @@ ghost use Rattle.std.specs.Prelude.{IfOk, IfErr, IsErrOf, OnOk};
 ghost use Rattle.a429_word.specs.Tally.{has_failed, unread};
 ghost use Rattle.a429_check.specs.Verdict.{AllWork, AnyFailed, HasFailed, IsNoVerdict, IsSilent, PutsAnswer};
 
+use crate::engines::profile::profile_of;
 use crate::engines::verdict::judge;
 use crate::fault::RunFault;
-use a429_cert::Shelf;
+use a429_cert::{Bench, Shelf};
 use a429_record::EntryReader;
 use a429_word::Tally;
 use std::alloc::Global;
@@ -29,5 +30,6 @@ pub fn run_extract<R: Read, C: Read, S: Shelf, W: Write>(
     ensures failed { IsErrOf result RunFault.Device → AnyFailed rec.new.failed (has_failed cert.new) (S.failed shelf.new) (has_failed out.new) }
     ensures silent { IfErr result (IsSilent (HasFailed rec.new.failed (has_failed cert.new) (S.failed shelf.new)) out.old out.new) }
 {
-    judge(alloc, profile, rec, cert, shelf, out)
+    let profile = profile_of(alloc, profile)?;
+    judge(&Bench::new(alloc, &profile), rec, cert, shelf, out)
 }

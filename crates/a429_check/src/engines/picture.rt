@@ -1,23 +1,30 @@
 //! `a429 picture PROFILE REC CERT FROM TO`: the messages of a span of a transfer, as a picture.
 
-ghost use Rattle.std.specs.Prelude.{◌≡◌, ◌≢◌, ◌⊎◌, ◌≤◌, None, true, false, IfOk, IfErr, IsErrOf, OnOk};
+ghost use Rattle.std.specs.Prelude.{◌≡◌, ◌≢◌, ◌⊎◌, ◌≤◌, true, false, IfOk, IfErr, IsErrOf, OnOk};
 ghost use Rattle.a429_word.specs.Tally.{has_failed, unread, Puts};
-ghost use Rattle.a429_cert.specs.StreamExplained.{HearsRun, SaysYes};
 ghost use Rattle.a429_view.specs.Picture.{svg_text};
-ghost use Rattle.a429_view.specs.Sketch.{most_steps, Hears};
+ghost use Rattle.a429_view.specs.Sketch.{most_steps};
 ghost use Rattle.a429_check.specs.Verdict.{no_text, AllWork, AnyFailed, HasFailed, IsSilent};
-ghost use Rattle.a429_check.specs.Picture.{IsNoPicture, IsNoVerdictBy, IsRefusal, IsSketchFault, PutsPicture};
+ghost use Rattle.a429_check.specs.Picture.{IsNoPicture, IsSketchFault, PutsPicture};
 
 use crate::engines::profile::profile_of;
-use crate::engines::verdict::{Answer, any_failed, of_certificate, put_no};
+use crate::engines::verdict::{answer_of, put_no};
 use crate::fault::RunFault;
-use a429_cert::{CertFault, NoShelf, StreamFault, replay_stream};
+use a429_cert::{Bench, CertFault, NoShelf};
 use a429_profile::Profile;
 use a429_record::EntryReader;
 use a429_view::{Sketch, Span, put_picture};
 use a429_word::{Page, Tally};
 use std::alloc::Global;
 use std::io::{Read, Write};
+
+/// What a picture shows, and where it is written to.
+#[derive(Drop)]
+pub struct Canvas<W> {
+    /// The entries that it shows.
+    pub span: Span,
+    pub out: Tally<W>,
+}
 
 /// Writes a picture of the run by which a certificate explains a recording, as SVG, and answers status 0: a row for
 /// each step at which one of the entries of the span comes next, save those that only take a word or an answer. A
@@ -29,48 +36,21 @@ pub fn run_picture<R: Read, C: Read, W: Write>(
     profile: &[u8],
     rec: &mut EntryReader<R>,
     cert: &mut Tally<C>,
-    span: Span,
-    out: &mut Tally<W>,
+    canvas: &mut Canvas<W>,
 ) -> Result<u8, RunFault>
-    ensures answer { IfOk result (PutsPicture W.contents out.old out.new profile.now C.remaining cert.old rec.old span) }
-    ensures device { OnOk result (AllWork rec.new.failed (has_failed cert.new) false (has_failed out.new)) }
-    ensures err { IfErr result (IsNoPicture profile.now (unread C.remaining cert.old) rec.old.to_come span) }
-    ensures failed { IsErrOf result RunFault.Device → AnyFailed rec.new.failed (has_failed cert.new) false (has_failed out.new) }
-    ensures silent { IfErr result (IsSilent (HasFailed rec.new.failed (has_failed cert.new) false) out.old out.new) }
+    ensures answer { IfOk result (PutsPicture W.contents canvas.old canvas.new profile.now C.remaining cert.old rec.old) }
+    ensures device { OnOk result (AllWork rec.new.failed (has_failed cert.new) false (has_failed canvas.new.out)) }
+    ensures err { IfErr result (IsNoPicture profile.now (unread C.remaining cert.old) rec.old.to_come canvas.old.span) }
+    ensures failed { IsErrOf result RunFault.Device → AnyFailed rec.new.failed (has_failed cert.new) false (has_failed canvas.new.out) }
+    ensures silent { IfErr result (IsSilent (HasFailed rec.new.failed (has_failed cert.new) false) canvas.old.out canvas.new.out) }
+    ensures span { canvas.new.span ≡ canvas.old.span }
 {
     let profile = profile_of(alloc, profile)?;
-    let mut sketch = Sketch::new(alloc, span);
-    match sketched(alloc, &profile, rec, cert, &mut sketch)? {
-        Ok(_) => put_sketch(alloc, out, &profile, &sketch),
-        Err(fault) => put_refused(out, fault),
-    }
-}
-
-// What `replay_stream` answers to a certificate that a sketch listens to, where no reader has failed.
-fn sketched<R: Read, C: Read>(
-    alloc: Global,
-    profile: &Profile,
-    rec: &mut EntryReader<R>,
-    cert: &mut Tally<C>,
-    sketch: &mut Sketch,
-) -> Result<Answer, RunFault>
-    ensures yes { IfOk result (λ a. IfOk a (SaysYes profile.now (unread C.remaining cert.old) rec.old.to_come None None)) }
-    ensures heard { IfOk result (λ a. OnOk a (HearsRun Hears profile.now (unread C.remaining cert.old) rec.old.to_come sketch.old sketch.new)) }
-    ensures no { IfOk result (λ a. IfErr a (IsRefusal profile.now (unread C.remaining cert.old) rec.old.to_come)) }
-    ensures works { OnOk result (AllWork rec.new.failed (has_failed cert.new) false false) }
-    ensures err { IfErr result (IsNoVerdictBy profile.now (unread C.remaining cert.old) rec.old.to_come) }
-    ensures failed { IsErrOf result RunFault.Device → HasFailed rec.new.failed (has_failed cert.new) false }
-{
-    let answer = replay_stream(alloc, profile, rec, cert, &mut NoShelf, sketch);
-    if any_failed(rec, cert, &NoShelf, sketch) {
-        return Err(RunFault::Device);
-    }
-    match answer {
-        Ok(files) => Ok(Ok(files)),
-        Err(fault) => match of_certificate(fault) {
-            Ok(fault) => Ok(Err(fault)),
-            Err(fault) => Err(fault),
-        },
+    let bench = Bench::new(alloc, &profile);
+    let mut sketch = Sketch::new(alloc, canvas.span);
+    match answer_of(&bench, rec, cert, &mut NoShelf, &mut sketch)? {
+        Ok(_) => put_sketch(alloc, &mut canvas.out, &profile, &sketch),
+        Err(fault) => put_refused(&mut canvas.out, fault),
     }
 }
 

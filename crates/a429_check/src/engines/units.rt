@@ -6,9 +6,10 @@ ghost use Rattle.a429_profile.specs.declared.fault.ProfileFault.{ProfileFault};
 ghost use Rattle.a429_check.specs.Verdict.{AllWork};
 ghost use Rattle.a429_check.specs.Units.{AreFresh, IsUnitsFault, TellsUnits};
 
+use crate::engines::profile::profile_of;
 use crate::engines::verdict::{answer_of, put_no};
 use crate::fault::RunFault;
-use a429_cert::NoShelf;
+use a429_cert::{Bench, NoShelf};
 use a429_record::EntryReader;
 use a429_view::UnitRows;
 use a429_word::Tally;
@@ -33,7 +34,9 @@ pub fn run_units<R: Read, C: Read, W: Write>(
     ensures err { IfErr result (IsUnitsFault C.remaining profile.now rec.old rec.new certificate.old certificate.new rows.new) }
     ensures silent { (f : ProfileFault) → result ≡ Err (RunFault.Profile f) → rows.new ≡ rows.old }
 {
-    match answer_of(alloc, profile, rec, certificate, &mut NoShelf, rows)? {
+    let profile = profile_of(alloc, profile)?;
+    let bench = Bench::new(alloc, &profile);
+    match answer_of(&bench, rec, certificate, &mut NoShelf, rows)? {
         Ok(_) => {
             rows.finish()?;
             Ok(0)

@@ -1,22 +1,21 @@
 //! Holds a certificate against a recording, both read as they come, and tells the verdict, as each command
 //! that takes one does.
 
-ghost use Rattle.std.specs.Prelude.{◌≡◌, ◌↔◌, ◌≢◌, ◌⊎◌, true, false, Ok, Err, codes, ◌++◌, IsErr, IfOk, IfErr, IsErrOf, OnOk};
+ghost use Rattle.std.specs.Prelude.{◌≡◌, ◌↔◌, ◌≢◌, true, false, Err, codes, ◌++◌, IsErr, IfOk, IfErr, IsErrOf, OnOk};
 ghost use Rattle.std.specs.List.{flat_map};
 ghost use Rattle.std.specs.Fmt.{decimal};
 ghost use Rattle.a429_word.specs.Tally.{has_failed, unread, Puts};
 ghost use Rattle.a429_cert.specs.Stream.{sizes};
-ghost use Rattle.a429_check.specs.Verdict.{count_line, file_line, line_of_file, yes_text, no_text, of_stream, AllWork, AnyFailed, HasFailed, HasHeard, HasHeardBefore, IsNoVerdict, IsSilent, IsVerifyFault, Judges, PutsAnswer};
+ghost use Rattle.a429_cert.specs.StreamExplained.{HearsBefore, HearsRun, SaysYes};
+ghost use Rattle.a429_check.specs.Verdict.{count_line, file_line, line_of_file, yes_text, no_text, of_stream, AllWork, AnyFailed, ByProfile, HasFailed, IsNoVerdict, IsNoVerdictBy, SaysNo, IsSilent, PutsAnswer};
 
 use crate::engines::output::put_decimal;
-use crate::engines::profile::profile_of;
 use crate::fault::RunFault;
-use a429_cert::{CertFault, Listener, NoListener, Shelf, StreamFault, replay_stream};
+use a429_cert::{Bench, CertFault, Listener, NoListener, Shelf, StreamFault, replay_stream};
 use a429_link::FileBytes;
 use a429_profile::ProfileFault;
 use a429_record::{EntryReader, ReadFault};
 use a429_word::{Device, Failing, Tally};
-use std::alloc::Global;
 use std::io::{Read, Write};
 
 /// The numbers and lengths of the files that a certificate puts on a shelf, or why it is refused.
@@ -25,20 +24,21 @@ pub(crate) type Answer = Result<Vec<(u8, u32)>, CertFault>;
 /// Puts the files that a certificate gives on a shelf, writes the verdict, and answers its status: 0 for a
 /// yes, 2 for a no.
 pub(crate) fn judge<R: Read, C: Read, S: Shelf, W: Write>(
-    alloc: Global,
-    profile: &[u8],
+    bench: &Bench<'_>,
     rec: &mut EntryReader<R>,
     cert: &mut Tally<C>,
     shelf: &mut S,
     out: &mut Tally<W>,
 ) -> Result<u8, RunFault>
-    ensures verdict { IfOk result (PutsAnswer W.contents out.old out.new S.files shelf.old shelf.new profile.now C.remaining cert.old rec.old) }
+    ensures verdict { IfOk result (λ status. ByProfile bench.now (λ text.
+        PutsAnswer W.contents out.old out.new S.files shelf.old shelf.new text C.remaining cert.old rec.old status)) }
     ensures device { OnOk result (AllWork rec.new.failed (has_failed cert.new) (S.failed shelf.new) (has_failed out.new)) }
-    ensures err { IfErr result (IsNoVerdict profile.now (unread C.remaining cert.old) rec.old.to_come (S.files shelf.old) (S.files shelf.new)) }
+    ensures err { IfErr result (λ e. ByProfile bench.now (λ text.
+        IsNoVerdict text (unread C.remaining cert.old) rec.old.to_come (S.files shelf.old) (S.files shelf.new) e)) }
     ensures failed { IsErrOf result RunFault.Device → AnyFailed rec.new.failed (has_failed cert.new) (S.failed shelf.new) (has_failed out.new) }
     ensures silent { IfErr result (IsSilent (HasFailed rec.new.failed (has_failed cert.new) (S.failed shelf.new)) out.old out.new) }
 {
-    match answer_of(alloc, profile, rec, cert, shelf, &mut NoListener)? {
+    match answer_of(bench, rec, cert, shelf, &mut NoListener)? {
         Ok(files) => {
             put_yes(out, files.as_slice())?;
             Ok(0)
@@ -50,33 +50,32 @@ pub(crate) fn judge<R: Read, C: Read, S: Shelf, W: Write>(
     }
 }
 
-/// What is answered to a certificate, under the profile whose text the bytes are, where no reader, no shelf and
-/// no listener has failed. The listener is told of the certificate's steps, those before its fault where it has one.
+/// What is answered to a certificate, where no reader, no shelf and no listener has failed. The listener is told
+/// of the certificate's steps, those before its fault where it has one.
 pub(crate) fn answer_of<R: Read, C: Read, S: Shelf, T: Listener>(
-    alloc: Global,
-    profile: &[u8],
+    bench: &Bench<'_>,
     rec: &mut EntryReader<R>,
-    certificate: &mut Tally<C>,
+    cert: &mut Tally<C>,
     shelf: &mut S,
     listener: &mut T,
 ) -> Result<Answer, RunFault>
-    ensures yes { IfOk result (λ a. IfOk a (λ files. Judges profile.now (unread C.remaining certificate.old) rec.old.to_come
-        (S.files shelf.old) (S.files shelf.new) (Ok files.items))) }
-    ensures no { IfOk result (λ a. IfErr a (λ f. Judges profile.now (unread C.remaining certificate.old) rec.old.to_come
-        (S.files shelf.old) (S.files shelf.new) (Err (StreamFault.Cert f)) × (f ≢ CertFault.OutOfMemory))) }
-    ensures heard { IfOk result (λ a. OnOk a (HasHeard T.hears profile.now (unread C.remaining certificate.old) rec.old.to_come
+    ensures yes { IfOk result (λ a. IfOk a (SaysYes bench.now (unread C.remaining cert.old) rec.old.to_come
+        (S.files shelf.old) (S.files shelf.new))) }
+    ensures no { IfOk result (λ a. IfErr a (SaysNo bench.now (unread C.remaining cert.old) rec.old.to_come
+        (S.files shelf.old) (S.files shelf.new))) }
+    ensures heard { IfOk result (λ a. OnOk a (HearsRun T.hears bench.now (unread C.remaining cert.old) rec.old.to_come
         listener.old listener.new)) }
-    ensures told { IfOk result (λ a. IfErr a (HasHeardBefore T.hears profile.now (unread C.remaining certificate.old) rec.old.to_come
-        listener.old listener.new)) }
-    ensures works { OnOk result (AllWork rec.new.failed (has_failed certificate.new) (S.failed shelf.new) (T.failed listener.new)) }
-    ensures err { IfErr result (IsVerifyFault profile.now (unread C.remaining certificate.old) rec.old.to_come (S.files shelf.old)
-        (S.files shelf.new) (HasFailed rec.new.failed (has_failed certificate.new) (S.failed shelf.new)
-        ⊎ (T.failed listener.new ≡ true))) }
-    ensures unheard { (f : ProfileFault) → result ≡ Err (RunFault.Profile f) → listener.new ≡ listener.old }
+    ensures told { IfOk result (λ a. IfErr a (λ f. HearsBefore T.hears bench.now (unread C.remaining cert.old) rec.old.to_come
+        listener.old listener.new (StreamFault.Cert f))) }
+    ensures works { OnOk result (AllWork rec.new.failed (has_failed cert.new) (S.failed shelf.new) (T.failed listener.new)) }
+    ensures err { IfErr result (IsNoVerdictBy bench.now (unread C.remaining cert.old) rec.old.to_come (S.files shelf.old) (S.files shelf.new)
+        (AnyFailed rec.new.failed (has_failed cert.new) (S.failed shelf.new) (T.failed listener.new))) }
+    ensures failed { IsErrOf result RunFault.Device →
+        AnyFailed rec.new.failed (has_failed cert.new) (S.failed shelf.new) (T.failed listener.new) }
+    ensures other { (f : ProfileFault) → result ≢ Err (RunFault.Profile f) }
 {
-    let profile = profile_of(alloc, profile)?;
-    let answer = replay_stream(alloc, &profile, rec, certificate, shelf, listener);
-    if any_failed(rec, certificate, shelf, listener) {
+    let answer = replay_stream(bench, rec, cert, shelf, listener);
+    if any_failed(rec, cert, shelf, listener) {
         return Err(RunFault::Device);
     }
     match answer {
@@ -91,15 +90,14 @@ pub(crate) fn answer_of<R: Read, C: Read, S: Shelf, T: Listener>(
 /// Whether a reader, the shelf or the listener has failed.
 pub(crate) fn any_failed<R: Read, C: Read, S: Shelf, T: Listener>(
     rec: &EntryReader<R>,
-    certificate: &Tally<C>,
+    cert: &Tally<C>,
     shelf: &S,
     listener: &T,
 ) -> bool
-    ensures yes { result ≡ true → HasFailed rec.now.failed (has_failed certificate.now) (S.failed shelf.now)
-        ⊎ (T.failed listener.now ≡ true) }
-    ensures no { result ≡ false → AllWork rec.now.failed (has_failed certificate.now) (S.failed shelf.now) (T.failed listener.now) }
+    ensures yes { result ≡ true → AnyFailed rec.now.failed (has_failed cert.now) (S.failed shelf.now) (T.failed listener.now) }
+    ensures no { result ≡ false → AllWork rec.now.failed (has_failed cert.now) (S.failed shelf.now) (T.failed listener.now) }
 {
-    rec.failed() || certificate.failed() || shelf.failed() || listener.failed()
+    rec.failed() || cert.failed() || shelf.failed() || listener.failed()
 }
 
 /// The fault, where it is one of the certificate.

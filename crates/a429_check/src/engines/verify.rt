@@ -4,9 +4,10 @@ ghost use Rattle.std.specs.Prelude.{None, false, IfOk, IfErr, IsErrOf, OnOk};
 ghost use Rattle.a429_word.specs.Tally.{has_failed, unread};
 ghost use Rattle.a429_check.specs.Verdict.{AllWork, AnyFailed, HasFailed, IsNoVerdict, IsSilent, PutsVerdict};
 
+use crate::engines::profile::profile_of;
 use crate::engines::verdict::judge;
 use crate::fault::RunFault;
-use a429_cert::NoShelf;
+use a429_cert::{Bench, NoShelf};
 use a429_record::EntryReader;
 use a429_word::Tally;
 use std::alloc::Global;
@@ -29,5 +30,6 @@ pub fn run_verify<R: Read, C: Read, W: Write>(
     ensures failed { IsErrOf result RunFault.Device → AnyFailed rec.new.failed (has_failed cert.new) false (has_failed out.new) }
     ensures silent { IfErr result (IsSilent (HasFailed rec.new.failed (has_failed cert.new) false) out.old out.new) }
 {
-    judge(alloc, profile, rec, cert, &mut NoShelf, out)
+    let profile = profile_of(alloc, profile)?;
+    judge(&Bench::new(alloc, &profile), rec, cert, &mut NoShelf, out)
 }

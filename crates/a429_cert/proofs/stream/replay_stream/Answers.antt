@@ -1,48 +1,47 @@
-use Rattle.std.proofs.Common.{◌≡◌, ◌+◌, ◌++◌, ◌∙◌, ℕ, suc, List, [], true, false, Option, Some, None, Ok, Err, IsSome, length, refl, sym, ap, subst, arith, rules}
+use Rattle.std.proofs.Common.{◌≡◌, ◌+◌, ◌++◌, ◌∙◌, ℕ, suc, List, [], true, false, Option, IsSome, length, ap, subst, arith, rules}
 use Rattle.a429_cert.specs.declared.stream.Walk.{Walk}
 use Rattle.a429_cert.specs.CutLines.{GivesLine}
-use Rattle.a429_record.specs.Rows.{GivesNext}
-use Rattle.a429_record.specs.declared.entry.Entry.{Entry}
 use Rattle.a429_cert.specs.Lines.{line_bytes}
 use Rattle.a429_cert.specs.Version.{read_as}
-use Rattle.a429_cert.specs.declared.stream_fault.StreamFault.{StreamFault}
 use Rattle.a429_cert.specs.Stream.{PassesOver, RefusesOver, sizes}
-use Rattle.a429_cert.specs.StreamExplained.{WhereTold, IsStreamFault, HearsBefore}
-use Rattle.a429_cert.proofs.StreamRefused.{told_head, told_refused, told_not_put, told_unfinished, told_stopped, told_device}
+use Rattle.a429_cert.proofs.StreamRefused.{told_head, told_refused, told_not_put, told_device}
 use Rattle.a429_link.specs.State.{State, start}
 use Rattle.a429_link.specs.Link.{LinkValue, handed_out}
-use Rattle.a429_record.specs.declared.fault.ReadFault.TheVariants as read
 use Rattle.a429_cert.specs.LineReader.{bytes_ahead, held_line, to_come}
 use Rattle.a429_cert.proofs.StreamFacts.{gains_none, put_on, noted_on}
 use Rattle.a429_word.specs.Tally.{unread}
-use Rattle.a429_cert.proofs.StreamWalk.{told_init, told_on, told_yes, fresh, read_no_device, read_device}
+use Rattle.a429_cert.proofs.StreamWalk.{told_init, told_on, told_yes, fresh}
 use Rattle.a429_cert.specs.Told.{HearsText}
 use Rattle.a429_cert.proofs.ToldFacts.{hears_init, hears_on, hears_all}
-use Rattle.a429_cert.proofs.ToldRefused.{heard_head, heard_refused, heard_unfinished, heard_stopped, heard_nothing}
+use Rattle.a429_cert.proofs.ToldRefused.{heard_head, heard_refused, heard_nothing}
+use Rattle.a429_cert.proofs.StreamEndFacts.{told_late, heard_late}
 use Rattle.a429_cert.proofs.stream.replay_stream.Goals as goal
 
 pub lines-init : goal.lines-init
 lines-init g c =
     let known = unread g.C.Read.remaining c.args.cert.now in
     let old = to_come g.C.Read.remaining c.new-lines.result c.args.cert.now in
-    let left = to_come g.C.Read.remaining c.begin.new.lines c.begin.new.cert in
-    let state : c.start.result.state ≡ start c.args.profile.now c.in-Ok.head.first = ap (λ (l : LinkValue). l.state) c.start.ensures.begins in
+    let state : c.start-walk.result.link.state ≡ start c.args.bench.now c.in-Ok.head.first = ap (λ (l : LinkValue). l.state) c.start-walk.ensures.link in
     let none : length (bytes_ahead c.new-lines.result) ≡ 0 = ap (λ (l : List ℕ). length l) c.new-lines.ensures in
+    let lines = c.start-walk.ensures.lines in
+    let used = c.start-walk.ensures.used in
     record {
       head = c.in-Ok.head;
       k = 0;
       taken = [];
-      number = refl;
-      told = told_init c.args.profile.now c.in-Ok.head c.start.result.state known old left c.args.rec.now.to_come (fresh (bytes_ahead c.new-lines.result) known c.new-lines.ensures) c.in-Ok.ensures.ok state;
-      heard = hears_init g.T.Listener.hears c.args.profile.now c.in-Ok.head c.start.result.state c.args.listener.now known c.args.rec.now.to_come state;
+      number = lines;
+      told = rw used
+          (told_init c.args.bench.now c.in-Ok.head c.start-walk.result.link.state known old (to_come g.C.Read.remaining c.begin.new.lines c.begin.new.cert) c.args.rec.now.to_come
+          (fresh (bytes_ahead c.new-lines.result) known c.new-lines.ensures) c.in-Ok.ensures.ok state);
+      heard = rw used (hears_init g.T.Listener.hears c.args.bench.now c.in-Ok.head c.start-walk.result.link.state c.args.listener.now known c.args.rec.now.to_come state);
       none_left = ap (λ (t : State). t.sink.shelf.files) state;
       put = gains_none (g.S.Shelf.files c.args.shelf.now) 1;
-      noted = c.new.ensures.items;
-      few = omega arith;
-      room = omega (arith, c.in-Ok.ensures.room, none);
-      link = ap (λ (l : LinkValue). l.profile) c.start.ensures.begins;
-      bench = refl;
-      version = refl;
+      noted = c.start-walk.ensures.files;
+      few = omega (arith, lines, used);
+      room = omega (arith, c.in-Ok.ensures.room, none, lines);
+      link = ap (λ (l : LinkValue). l.profile) c.start-walk.ensures.link;
+      bench = c.start-walk.ensures.profile;
+      version = c.start-walk.ensures.version;
     }
 
 pub returns-in-Err-clause-err : goal.returns-in-Err-clause-err
@@ -51,7 +50,7 @@ returns-in-Err-clause-err g c =
     let old = to_come g.C.Read.remaining c.new-lines.result c.args.cert.now in
     record {
       files = [];
-      fault = told_head c.args.profile.now known old c.args.rec.now.to_come c.in-Err.fault (fresh (bytes_ahead c.new-lines.result) known c.new-lines.ensures) c.in-Err.ensures.err;
+      fault = told_head c.args.bench.now known old c.args.rec.now.to_come c.in-Err.fault (fresh (bytes_ahead c.new-lines.result) known c.new-lines.ensures) c.in-Err.ensures.err;
       put = gains_none (g.S.Shelf.files c.args.shelf.now) 1;
     }
 
@@ -59,7 +58,7 @@ pub returns-in-Err-clause-told : goal.returns-in-Err-clause-told
 returns-in-Err-clause-told g c =
     let known = unread g.C.Read.remaining c.args.cert.now in
     let old = to_come g.C.Read.remaining c.new-lines.result c.args.cert.now in
-    heard_head g.T.Listener.hears c.args.profile.now known old c.args.rec.now.to_come c.in-Err.fault c.args.listener.now (fresh (bytes_ahead c.new-lines.result) known c.new-lines.ensures) c.in-Err.ensures.err
+    heard_head g.T.Listener.hears c.args.bench.now known old c.args.rec.now.to_come c.in-Err.fault c.args.listener.now (fresh (bytes_ahead c.new-lines.result) known c.new-lines.ensures) c.in-Err.ensures.err
 
 pub returns-in_default-clause-err : goal.returns-in_default-clause-err
 returns-in_default-clause-err g c =
@@ -68,7 +67,7 @@ returns-in_default-clause-err g c =
     let left = to_come g.C.Read.remaining c.lines.lines c.lines.cert in
     record {
       files = v.taken;
-      fault = told_device c.args.profile.now v.head v.k c.lines.walk.used v.taken c.lines.walk.link.state known left c.args.rec.now.to_come c.lines.rec.to_come v.none_left v.told;
+      fault = told_device c.args.bench.now v.head v.k c.lines.walk.used v.taken c.lines.walk.link.state known left c.args.rec.now.to_come c.lines.rec.to_come v.none_left v.told;
       put = v.put;
     }
 
@@ -86,7 +85,7 @@ overflow_add-walk-in-Ok-pass_over g c =
 pub returns-in-Err-pass_over-clause-err : goal.returns-in-Err-pass_over-clause-err
 returns-in-Err-pass_over-clause-err g c =
     let v = c.lines.invariant in
-    let p = c.args.profile.now in
+    let p = c.args.bench.now in
     let known = unread g.C.Read.remaining c.args.cert.now in
     let left = to_come g.C.Read.remaining c.lines.lines c.lines.cert in
     let more = to_come g.C.Read.remaining c.next_line.new.self c.next_line.new.cert in
@@ -106,7 +105,7 @@ returns-in-Err-pass_over-clause-err g c =
 pub returns-in-Err-pass_over-clause-told : goal.returns-in-Err-pass_over-clause-told
 returns-in-Err-pass_over-clause-told g c =
     let v = c.lines.invariant in
-    let p = c.args.profile.now in
+    let p = c.args.bench.now in
     let known = unread g.C.Read.remaining c.args.cert.now in
     let left = to_come g.C.Read.remaining c.lines.lines c.lines.cert in
     let more = to_come g.C.Read.remaining c.next_line.new.self c.next_line.new.cert in
@@ -121,7 +120,7 @@ returns-in-Err-pass_over-clause-told g c =
 
 pub lines-preserved : goal.lines-preserved
 lines-preserved g c =
-    let p = c.args.profile.now in
+    let p = c.args.bench.now in
     let v = c.lines.invariant in
     let known = unread g.C.Read.remaining c.args.cert.now in
     let left = to_come g.C.Read.remaining c.lines.lines c.lines.cert in
@@ -163,7 +162,7 @@ lines-preserved g c =
 
 pub returns-in-Err-put_delivered-clause-err : goal.returns-in-Err-put_delivered-clause-err
 returns-in-Err-put_delivered-clause-err g c =
-    let p = c.args.profile.now in
+    let p = c.args.bench.now in
     let v = c.lines.invariant in
     let known = unread g.C.Read.remaining c.args.cert.now in
     let left = to_come g.C.Read.remaining c.lines.lines c.lines.cert in
@@ -183,10 +182,10 @@ returns-in-Err-put_delivered-clause-err g c =
 
 pub returns-in-Err-put_delivered-clause-told : goal.returns-in-Err-put_delivered-clause-told
 returns-in-Err-put_delivered-clause-told g c =
-    heard_nothing g.T.Listener.hears c.args.profile.now (unread g.C.Read.remaining c.args.cert.now) c.args.rec.now.to_come c.args.listener.now c.pass_over.new.listener c.in-Err-put_delivered.fault c.in-Err-put_delivered.ensures.fault
+    heard_nothing g.T.Listener.hears c.args.bench.now (unread g.C.Read.remaining c.args.cert.now) c.args.rec.now.to_come c.args.listener.now c.pass_over.new.listener c.in-Err-put_delivered.fault c.in-Err-put_delivered.ensures.fault
 
-pub returns-in-Ok-None-clause-ok : goal.returns-in-Ok-None-clause-ok
-returns-in-Ok-None-clause-ok g c =
+pub returns-in-Ok-none_left-clause-ok : goal.returns-in-Ok-none_left-clause-ok
+returns-in-Ok-none_left-clause-ok g c =
     let v = c.lines.invariant in
     let known = unread g.C.Read.remaining c.args.cert.now in
     let left = to_come g.C.Read.remaining c.lines.lines c.lines.cert in
@@ -194,16 +193,15 @@ returns-in-Ok-None-clause-ok g c =
     let held = held_line c.next_line.new.self in
     let found : c.in-Ok-next_line.found ≡ false = search rules in
     let given = subst (GivesLine left more held) found c.in-Ok-next_line.ensures.given in
-    let end : GivesNext c.lines.rec.to_come c.next.new.self.to_come (Ok None) = subst (GivesNext c.lines.rec.to_come c.next.new.self.to_come) (c.in-Ok-None.is ∙ ap (λ (o : Option Entry). Ok o) c.in-Ok-None.field-0-is) c.next.ensures.gives in
     record {
       files = v.taken;
-      yes = told_yes c.args.profile.now v.head v.k c.lines.walk.used v.taken c.lines.walk.link.state held left more known c.args.rec.now.to_come c.lines.rec.to_come c.next.new.self.to_come (search rules) v.none_left given end v.told;
+      yes = told_yes c.args.bench.now v.head v.k c.lines.walk.used v.taken c.lines.walk.link.state held left more known c.args.rec.now.to_come c.lines.rec.to_come c.none_left.new.rec.to_come (search rules) v.none_left given c.in-Ok-none_left.ensures.ok v.told;
       put = v.put;
       answered = v.noted;
     }
 
-pub returns-in-Ok-None-clause-heard : goal.returns-in-Ok-None-clause-heard
-returns-in-Ok-None-clause-heard g c =
+pub returns-in-Ok-none_left-clause-heard : goal.returns-in-Ok-none_left-clause-heard
+returns-in-Ok-none_left-clause-heard g c =
     let v = c.lines.invariant in
     let known = unread g.C.Read.remaining c.args.cert.now in
     let left = to_come g.C.Read.remaining c.lines.lines c.lines.cert in
@@ -211,11 +209,10 @@ returns-in-Ok-None-clause-heard g c =
     let held = held_line c.next_line.new.self in
     let found : c.in-Ok-next_line.found ≡ false = search rules in
     let given = subst (GivesLine left more held) found c.in-Ok-next_line.ensures.given in
-    let end : GivesNext c.lines.rec.to_come c.next.new.self.to_come (Ok None) = subst (GivesNext c.lines.rec.to_come c.next.new.self.to_come) (c.in-Ok-None.is ∙ ap (λ (o : Option Entry). Ok o) c.in-Ok-None.field-0-is) c.next.ensures.gives in
-    hears_all g.T.Listener.hears c.args.profile.now v.head v.k c.lines.walk.used v.taken c.lines.walk.link.state held known left more c.args.rec.now.to_come c.lines.rec.to_come c.next.new.self.to_come c.args.listener.now c.lines.listener given end v.told v.heard
+    hears_all g.T.Listener.hears c.args.bench.now v.head v.k c.lines.walk.used v.taken c.lines.walk.link.state held known left more c.args.rec.now.to_come c.lines.rec.to_come c.none_left.new.rec.to_come c.args.listener.now c.lines.listener given c.in-Ok-none_left.ensures.ok v.told v.heard
 
-pub returns-in-Ok-Some-clause-err : goal.returns-in-Ok-Some-clause-err
-returns-in-Ok-Some-clause-err g c =
+pub returns-in-Err-none_left-clause-err : goal.returns-in-Err-none_left-clause-err
+returns-in-Err-none_left-clause-err g c =
     let v = c.lines.invariant in
     let known = unread g.C.Read.remaining c.args.cert.now in
     let left = to_come g.C.Read.remaining c.lines.lines c.lines.cert in
@@ -223,15 +220,14 @@ returns-in-Ok-Some-clause-err g c =
     let held = held_line c.next_line.new.self in
     let found : c.in-Ok-next_line.found ≡ false = search rules in
     let given = subst (GivesLine left more held) found c.in-Ok-next_line.ensures.given in
-    let item : GivesNext c.lines.rec.to_come c.next.new.self.to_come (Ok (Some c.in-Ok-Some.field-0-0)) = subst (GivesNext c.lines.rec.to_come c.next.new.self.to_come) (c.in-Ok-Some.is ∙ ap (λ (o : Option Entry). Ok o) c.in-Ok-Some.field-0-is) c.next.ensures.gives in
     record {
       files = v.taken;
-      fault = told_unfinished c.args.profile.now v.head v.k c.lines.walk.used v.taken c.lines.walk.link.state held known left more c.in-Ok-Some.field-0-0 c.args.rec.now.to_come c.lines.rec.to_come c.next.new.self.to_come v.none_left given item v.told;
+      fault = told_late c.args.bench.now v.head v.k c.lines.walk.used v.taken c.lines.walk.link.state held known left more c.args.rec.now.to_come c.lines.rec.to_come c.none_left.new.rec.to_come c.in-Err-none_left.fault v.none_left given c.in-Err-none_left.ensures.err v.told;
       put = v.put;
     }
 
-pub returns-in-Ok-Some-clause-told : goal.returns-in-Ok-Some-clause-told
-returns-in-Ok-Some-clause-told g c =
+pub returns-in-Err-none_left-clause-told : goal.returns-in-Err-none_left-clause-told
+returns-in-Err-none_left-clause-told g c =
     let v = c.lines.invariant in
     let known = unread g.C.Read.remaining c.args.cert.now in
     let left = to_come g.C.Read.remaining c.lines.lines c.lines.cert in
@@ -239,45 +235,4 @@ returns-in-Ok-Some-clause-told g c =
     let held = held_line c.next_line.new.self in
     let found : c.in-Ok-next_line.found ≡ false = search rules in
     let given = subst (GivesLine left more held) found c.in-Ok-next_line.ensures.given in
-    let item : GivesNext c.lines.rec.to_come c.next.new.self.to_come (Ok (Some c.in-Ok-Some.field-0-0)) = subst (GivesNext c.lines.rec.to_come c.next.new.self.to_come) (c.in-Ok-Some.is ∙ ap (λ (o : Option Entry). Ok o) c.in-Ok-Some.field-0-is) c.next.ensures.gives in
-    heard_unfinished g.T.Listener.hears c.args.profile.now v.head v.k c.lines.walk.used v.taken c.lines.walk.link.state left c.lines.rec.to_come c.args.listener.now c.lines.listener known c.args.rec.now.to_come held more c.in-Ok-Some.field-0-0 c.next.new.self.to_come given item v.told v.heard
-
-pub returns-in-Err-next-clause-err : goal.returns-in-Err-next-clause-err
-returns-in-Err-next-clause-err g c =
-    let v = c.lines.invariant in
-    let p = c.args.profile.now in
-    let known = unread g.C.Read.remaining c.args.cert.now in
-    let left = to_come g.C.Read.remaining c.lines.lines c.lines.cert in
-    let more = to_come g.C.Read.remaining c.next_line.new.self c.next_line.new.cert in
-    let held = held_line c.next_line.new.self in
-    let found : c.in-Ok-next_line.found ≡ false = search rules in
-    let given = subst (GivesLine left more held) found c.in-Ok-next_line.ensures.given in
-    let stops : GivesNext c.lines.rec.to_come c.next.new.self.to_come (Err c.in-Err-next.fault) = subst (GivesNext c.lines.rec.to_come c.next.new.self.to_come) c.in-Err-next.is c.next.ensures.gives in
-    let fault = told_stopped p v.head v.k c.lines.walk.used v.taken c.lines.walk.link.state held known left more c.args.rec.now.to_come c.lines.rec.to_come c.next.new.self.to_come c.in-Err-next.fault v.none_left given stops v.told in
-    record {
-      files = v.taken;
-      fault = subst (λ (f : StreamFault). WhereTold known c.args.rec.now.to_come (IsStreamFault p f v.taken)) (sym c.of_read.ensures) fault;
-      put = v.put;
-    }
-
-pub returns-in-Err-next-clause-told : goal.returns-in-Err-next-clause-told
-returns-in-Err-next-clause-told g c =
-    let v = c.lines.invariant in
-    let p = c.args.profile.now in
-    let known = unread g.C.Read.remaining c.args.cert.now in
-    let left = to_come g.C.Read.remaining c.lines.lines c.lines.cert in
-    let more = to_come g.C.Read.remaining c.next_line.new.self c.next_line.new.cert in
-    let held = held_line c.next_line.new.self in
-    let found : c.in-Ok-next_line.found ≡ false = search rules in
-    let given = subst (GivesLine left more held) found c.in-Ok-next_line.ensures.given in
-    let stops : GivesNext c.lines.rec.to_come c.next.new.self.to_come (Err c.in-Err-next.fault) = subst (GivesNext c.lines.rec.to_come c.next.new.self.to_come) c.in-Err-next.is c.next.ensures.gives in
-    subst (HearsBefore g.T.Listener.hears p known c.args.rec.now.to_come c.args.listener.now c.lines.listener) (sym c.of_read.ensures)
-    (heard_stopped g.T.Listener.hears p v.head v.k c.lines.walk.used v.taken c.lines.walk.link.state left c.lines.rec.to_come c.args.listener.now c.lines.listener known c.args.rec.now.to_come held more c.in-Err-next.fault c.next.new.self.to_come v.none_left given stops v.told v.heard)
-
-pub returns-in-Err-next-clause-device : goal.returns-in-Err-next-clause-device
-returns-in-Err-next-clause-device g c = λ e. absurd (read_no_device c.in-Err-next.fault (cc (c.of_read.ensures, e)))
-
-pub returns-in-Err-next-clause-read : goal.returns-in-Err-next-clause-read
-returns-in-Err-next-clause-read g c = λ e.
-    let same : c.in-Err-next.fault ≡ read.Device = read_device c.in-Err-next.fault (cc (c.of_read.ensures, e)) in
-    (c.in-Err-next.ensures.device.0 (cc same)).1
+    heard_late c.args.bench.now v.head v.k c.lines.walk.used v.taken c.lines.walk.link.state held known left more c.args.rec.now.to_come c.lines.rec.to_come c.none_left.new.rec.to_come c.in-Err-none_left.fault g.T.Listener.hears c.args.listener.now c.lines.listener v.none_left given c.in-Err-none_left.ensures.err v.told v.heard

@@ -17,15 +17,15 @@ invariant-lines g l = record {
   k : ℕ;
   taken : List FileBytes;
   number : l.walk.lines ≡ k + 2;
-  told : WhereTold (unread g.C.Read.remaining l.fn.cert) l.fn.rec.to_come (λ text r. Stands l.profile text r head k l.walk.used taken l.walk.link.state (to_come g.C.Read.remaining l.lines l.cert) l.rec.to_come);
-  heard : WhereTold (unread g.C.Read.remaining l.fn.cert) l.fn.rec.to_come (λ text r. Hears g.T.Listener.hears l.profile head.first (step_lines head.version text) r k l.walk.used (with_earlier taken l.walk.link.state) l.fn.listener l.listener);
+  told : WhereTold (unread g.C.Read.remaining l.fn.cert) l.fn.rec.to_come (λ text r. Stands l.bench text r head k l.walk.used taken l.walk.link.state (to_come g.C.Read.remaining l.lines l.cert) l.rec.to_come);
+  heard : WhereTold (unread g.C.Read.remaining l.fn.cert) l.fn.rec.to_come (λ text r. Hears g.T.Listener.hears l.bench head.first (step_lines head.version text) r k l.walk.used (with_earlier taken l.walk.link.state) l.fn.listener l.listener);
   none_left : l.walk.link.state.sink.shelf.files ≡ [];
   put : GainsAll (g.S.Shelf.files l.fn.shelf) (g.S.Shelf.files l.shelf) 1 taken;
   noted : l.walk.files.items ≡ sizes taken;
   few : l.walk.used ≤ l.walk.lines;
   room : l.walk.lines + room_left l.lines l.cert ≤ left_of l.fn.cert;
-  link : l.walk.link.profile ≡ l.profile;
-  bench : l.walk.profile.now ≡ l.profile;
+  link : l.walk.link.profile ≡ l.bench;
+  bench : l.walk.profile.now ≡ l.bench;
   version : l.walk.version ≡ head.version;
 }
 

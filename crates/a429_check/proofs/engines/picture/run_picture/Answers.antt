@@ -10,46 +10,46 @@ use Rattle.a429_check.proofs.engines.picture.run_picture.Goals as goal
 pub returns-in-Ok-clause-answer : goal.returns-in-Ok-clause-answer
 returns-in-Ok-clause-answer g c =
     let known = unread g.C.Read.remaining c.args.cert.now in
-    let here = rw c.in-Ok.is at c.in_ok-sketched.ensures.yes in
-    let heard = rw c.in-Ok.is at c.in_ok-sketched.ensures.heard in
-    puts_picture g.W.Write.contents c.args.out.now c.put_sketch.new.out c.put_sketch.result (IsPicture c.args.profile.now known c.args.rec.now.to_come c.args.span) 0
-    (svg_text c.in_ok-profile.profile.codes c.sketched.new.sketch.rows.items) (c.sketched.new.sketch.steps ≤ most_steps) c.put_sketch.ensures.ok c.put_sketch.ensures.text c.put_sketch.ensures.few
-    (λ few. accepted c.args.profile.now c.in_ok-profile.profile known c.args.rec.now.to_come c.args.span c.new-sketch.result c.sketched.new.sketch _ c.in_ok-profile.ensures.ok here c.new-sketch.ensures heard few)
+    let here = rw c.new-bench.ensures at (rw c.in-Ok.is at c.in_ok-answer_of.ensures.yes) in
+    let heard = rw c.new-bench.ensures at (rw c.in-Ok.is at c.in_ok-answer_of.ensures.heard) in
+    puts_picture g.W.Write.contents c.args.canvas.now.out c.put_sketch.new.out c.put_sketch.result (IsPicture c.args.profile.now known c.args.rec.now.to_come c.args.canvas.now.span) 0
+    (svg_text c.in_ok-profile.profile.codes c.answer_of.new.listener.rows.items) (c.answer_of.new.listener.steps ≤ most_steps) c.put_sketch.ensures.ok c.put_sketch.ensures.text c.put_sketch.ensures.few
+    (λ few. accepted c.args.profile.now c.in_ok-profile.profile known c.args.rec.now.to_come c.args.canvas.now.span c.new-sketch.result c.answer_of.new.listener _ c.in_ok-profile.ensures.ok here c.new-sketch.ensures heard few)
 
 pub returns-in-Ok-clause-device : goal.returns-in-Ok-clause-device
 returns-in-Ok-clause-device g c =
-    all_work c.put_sketch.result c.sketched.new.rec.failed (has_failed c.sketched.new.cert) (has_failed c.put_sketch.new.out) c.in_ok-sketched.ensures.works c.put_sketch.ensures.works
+    all_work c.put_sketch.result c.answer_of.new.rec.failed (has_failed c.answer_of.new.cert) (has_failed c.put_sketch.new.out) c.in_ok-answer_of.ensures.works c.put_sketch.ensures.works
 
 pub returns-in-Ok-clause-err : goal.returns-in-Ok-clause-err
 returns-in-Ok-clause-err g c =
-    let here = rw c.in-Ok.is at c.in_ok-sketched.ensures.yes in
-    let heard = rw c.in-Ok.is at c.in_ok-sketched.ensures.heard in
-    no_picture c.args.profile.now c.in_ok-profile.profile (unread g.C.Read.remaining c.args.cert.now) c.args.rec.now.to_come c.args.span (has_failed c.put_sketch.new.out)
-    c.new-sketch.result c.sketched.new.sketch _ c.put_sketch.result c.in_ok-profile.ensures.ok here c.new-sketch.ensures heard c.put_sketch.ensures.err
+    let here = rw c.new-bench.ensures at (rw c.in-Ok.is at c.in_ok-answer_of.ensures.yes) in
+    let heard = rw c.new-bench.ensures at (rw c.in-Ok.is at c.in_ok-answer_of.ensures.heard) in
+    no_picture c.args.profile.now c.in_ok-profile.profile (unread g.C.Read.remaining c.args.cert.now) c.args.rec.now.to_come c.args.canvas.now.span (has_failed c.put_sketch.new.out)
+    c.new-sketch.result c.answer_of.new.listener _ c.put_sketch.result c.in_ok-profile.ensures.ok here c.new-sketch.ensures heard c.put_sketch.ensures.err
 
 pub returns-in-Ok-clause-silent : goal.returns-in-Ok-clause-silent
 returns-in-Ok-clause-silent g c =
-    silent c.sketched.new.rec.failed (has_failed c.sketched.new.cert) c.args.out.now c.put_sketch.new.out c.put_sketch.result c.in_ok-sketched.ensures.works c.put_sketch.ensures.silent
+    silent c.answer_of.new.rec.failed (has_failed c.answer_of.new.cert) c.args.canvas.now.out c.put_sketch.new.out c.put_sketch.result c.in_ok-answer_of.ensures.works c.put_sketch.ensures.silent
 
 pub returns-clause-answer : goal.returns-clause-answer
 returns-clause-answer g c =
     let known = unread g.C.Read.remaining c.args.cert.now in
-    let here = rw c.in-Err.is at c.in_ok-sketched.ensures.no in
-    puts_picture g.W.Write.contents c.args.out.now c.put_refused.new.out c.put_refused.result (IsPicture c.args.profile.now known c.args.rec.now.to_come c.args.span) 2
+    let here = rw c.new-bench.ensures at (rw c.in-Err.is at c.in_ok-answer_of.ensures.no) in
+    puts_picture g.W.Write.contents c.args.canvas.now.out c.put_refused.new.out c.put_refused.result (IsPicture c.args.profile.now known c.args.rec.now.to_come c.args.canvas.now.span) 2
     (no_text c.in-Err.fault) (has_failed c.put_refused.new.out ≡ false) c.put_refused.ensures.ok c.put_refused.ensures.text c.put_refused.ensures.works
-    (λ _. refused c.args.profile.now c.in_ok-profile.profile known c.args.rec.now.to_come c.args.span c.in-Err.fault c.in_ok-profile.ensures.ok here.0 here.1)
+    (λ _. refused c.args.profile.now c.in_ok-profile.profile known c.args.rec.now.to_come c.args.canvas.now.span c.in-Err.fault c.in_ok-profile.ensures.ok here.0 here.1)
 
 pub returns-clause-device : goal.returns-clause-device
 returns-clause-device g c =
-    all_work c.put_refused.result c.sketched.new.rec.failed (has_failed c.sketched.new.cert) (has_failed c.put_refused.new.out) c.in_ok-sketched.ensures.works c.put_refused.ensures.works
+    all_work c.put_refused.result c.answer_of.new.rec.failed (has_failed c.answer_of.new.cert) (has_failed c.put_refused.new.out) c.in_ok-answer_of.ensures.works c.put_refused.ensures.works
 
 pub returns-clause-err : goal.returns-clause-err
 returns-clause-err g c =
-    let here = rw c.in-Err.is at c.in_ok-sketched.ensures.no in
-    no_refusal c.args.profile.now c.in_ok-profile.profile (unread g.C.Read.remaining c.args.cert.now) c.args.rec.now.to_come c.args.span (has_failed c.put_refused.new.out)
+    let here = rw c.new-bench.ensures at (rw c.in-Err.is at c.in_ok-answer_of.ensures.no) in
+    no_refusal c.args.profile.now c.in_ok-profile.profile (unread g.C.Read.remaining c.args.cert.now) c.args.rec.now.to_come c.args.canvas.now.span (has_failed c.put_refused.new.out)
     c.in-Err.fault c.put_refused.result c.in_ok-profile.ensures.ok here.0 c.put_refused.ensures.err
 
 pub returns-clause-silent : goal.returns-clause-silent
 returns-clause-silent g c =
-    silent c.sketched.new.rec.failed (has_failed c.sketched.new.cert) c.args.out.now c.put_refused.new.out c.put_refused.result c.in_ok-sketched.ensures.works
-    (its_own (has_failed c.put_refused.new.out) c.args.out.now c.put_refused.new.out c.put_refused.result c.put_refused.ensures.err)
+    silent c.answer_of.new.rec.failed (has_failed c.answer_of.new.cert) c.args.canvas.now.out c.put_refused.new.out c.put_refused.result c.in_ok-answer_of.ensures.works
+    (its_own (has_failed c.put_refused.new.out) c.args.canvas.now.out c.put_refused.new.out c.put_refused.result c.put_refused.ensures.err)
