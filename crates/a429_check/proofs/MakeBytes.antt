@@ -19,7 +19,7 @@ use Rattle.a429_explain.specs.Matching.{IsOfBlock}
 use Rattle.a429_explain.proofs.CleanBlock.{HasForms, AreOfBlock, block_has_forms}
 use Rattle.a429_explain.proofs.CleanGroups.{unit_has_forms}
 use Rattle.a429_check.specs.Recording.{SayInput}
-use Rattle.a429_check.specs.Make.{timed, words_made, MakesRecording, SaysRunOf, AreByteLists, AreDelivered}
+use Rattle.a429_check.specs.Make.{timed, words_made, MakesRecording, SaysRunOf, AreByteLists}
 use Rattle.a429_check.proofs.MakeCrossed.{is_profile, each_cut, made_cross}
 use Rattle.a429_link.specs.declared.number.UnitNumber.{UnitNumber}
 use Rattle.a429_link.specs.Number.{first_number, number_after}

@@ -2,7 +2,6 @@
 use Rattle.std.specs.Prelude.{◌≡◌, ℕ, List, ◌++◌, codes, Option}
 use Rattle.std.specs.List.{flat_map}
 use Rattle.a429_profile.specs.declared.codes.Codes.{Codes}
-use Rattle.a429_profile.specs.Profile.{Contents}
 use Rattle.a429_record.specs.declared.entry.Entry.{Entry}
 use Rattle.a429_view.specs.Forms.{what_text}
 use Rattle.a429_check.specs.Recording.{SayInput}

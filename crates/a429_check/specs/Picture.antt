@@ -18,7 +18,7 @@ use Rattle.a429_check.specs.declared.fault.RunFault.{RunFault}
 use Rattle.a429_check.specs.Fault.{ComesBy, never}
 use Rattle.a429_check.specs.Output.{PutsText}
 use Rattle.a429_check.specs.Profile.{IsProfileOf}
-use Rattle.a429_check.specs.Verdict.{IsVerdict, IsNoVerdict, verify_causes}
+use Rattle.a429_check.specs.Verdict.{IsVerdict, verify_causes}
 
 -- a run by which the certificate explains the recording
 pub record ARun (p : Contents) (certificate : List ℕ) (r : Recording) : Type 0 where

@@ -79,7 +79,7 @@ overflow_add-walk g c =
 pub overflow_add-walk-in-Ok-pass_over : goal.overflow_add-walk-in-Ok-pass_over
 overflow_add-walk-in-Ok-pass_over g c =
     let used : c.pass_over.new.walk.used ≡ c.lines.walk.used = ap (λ (w : Walk). w.used) c.in-Ok-pass_over.ensures.kept in
-    let found : c.in-Ok-next_line.found ≡ true = search rules in
+    let found : c.in-Ok-next_line.found ≡ true = c.if-not-found.false in
     omega (arith, used, c.in-Ok-pass_over.ensures.few, c.lines.invariant.few, c.lines.invariant.room, c.in-Ok-next_line.ensures.room found, c.left-most.ensures, c.left-most.type_inv)
 
 pub returns-in-Err-pass_over-clause-err : goal.returns-in-Err-pass_over-clause-err
@@ -90,7 +90,7 @@ returns-in-Err-pass_over-clause-err g c =
     let left = to_come g.C.Read.remaining c.lines.lines c.lines.cert in
     let more = to_come g.C.Read.remaining c.next_line.new.self c.next_line.new.cert in
     let held = held_line c.next_line.new.self in
-    let found : c.in-Ok-next_line.found ≡ true = search rules in
+    let found : c.in-Ok-next_line.found ≡ true = c.if-not-found.false in
     let s = c.lines.walk.link.state in
     let n : c.lines.walk.lines + 1 ≡ v.k + 3 = let number = v.number in omega (arith, number) in
     let given = subst (GivesLine left more held) found c.in-Ok-next_line.ensures.given in
@@ -110,7 +110,7 @@ returns-in-Err-pass_over-clause-told g c =
     let left = to_come g.C.Read.remaining c.lines.lines c.lines.cert in
     let more = to_come g.C.Read.remaining c.next_line.new.self c.next_line.new.cert in
     let held = held_line c.next_line.new.self in
-    let found : c.in-Ok-next_line.found ≡ true = search rules in
+    let found : c.in-Ok-next_line.found ≡ true = c.if-not-found.false in
     let s = c.lines.walk.link.state in
     let n : c.lines.walk.lines + 1 ≡ v.k + 3 = let number = v.number in omega (arith, number) in
     let given = subst (GivesLine left more held) found c.in-Ok-next_line.ensures.given in
@@ -126,7 +126,7 @@ lines-preserved g c =
     let left = to_come g.C.Read.remaining c.lines.lines c.lines.cert in
     let more = to_come g.C.Read.remaining c.next_line.new.self c.next_line.new.cert in
     let held = held_line c.next_line.new.self in
-    let found : c.in-Ok-next_line.found ≡ true = search rules in
+    let found : c.in-Ok-next_line.found ≡ true = c.if-not-found.false in
     let s = c.lines.walk.link.state in
     let t = c.pass_over.new.walk.link.state in
     let one = c.in-Ok-pass_over.ensures.kept in
@@ -191,11 +191,11 @@ returns-in-Ok-none_left-clause-ok g c =
     let left = to_come g.C.Read.remaining c.lines.lines c.lines.cert in
     let more = to_come g.C.Read.remaining c.next_line.new.self c.next_line.new.cert in
     let held = held_line c.next_line.new.self in
-    let found : c.in-Ok-next_line.found ≡ false = search rules in
+    let found : c.in-Ok-next_line.found ≡ false = c.if-not-found.true in
     let given = subst (GivesLine left more held) found c.in-Ok-next_line.ensures.given in
     record {
       files = v.taken;
-      yes = told_yes c.args.bench.now v.head v.k c.lines.walk.used v.taken c.lines.walk.link.state held left more known c.args.rec.now.to_come c.lines.rec.to_come c.none_left.new.rec.to_come (search rules) v.none_left given c.in-Ok-none_left.ensures.ok v.told;
+      yes = told_yes c.args.bench.now v.head v.k c.lines.walk.used v.taken c.lines.walk.link.state held left more known c.args.rec.now.to_come c.lines.rec.to_come c.none_left.new.rec.to_come c.start-walk.ensures.sound v.none_left given c.in-Ok-none_left.ensures.ok v.told;
       put = v.put;
       answered = v.noted;
     }
@@ -207,7 +207,7 @@ returns-in-Ok-none_left-clause-heard g c =
     let left = to_come g.C.Read.remaining c.lines.lines c.lines.cert in
     let more = to_come g.C.Read.remaining c.next_line.new.self c.next_line.new.cert in
     let held = held_line c.next_line.new.self in
-    let found : c.in-Ok-next_line.found ≡ false = search rules in
+    let found : c.in-Ok-next_line.found ≡ false = c.if-not-found.true in
     let given = subst (GivesLine left more held) found c.in-Ok-next_line.ensures.given in
     hears_all g.T.Listener.hears c.args.bench.now v.head v.k c.lines.walk.used v.taken c.lines.walk.link.state held known left more c.args.rec.now.to_come c.lines.rec.to_come c.none_left.new.rec.to_come c.args.listener.now c.lines.listener given c.in-Ok-none_left.ensures.ok v.told v.heard
 
@@ -218,7 +218,7 @@ returns-in-Err-none_left-clause-err g c =
     let left = to_come g.C.Read.remaining c.lines.lines c.lines.cert in
     let more = to_come g.C.Read.remaining c.next_line.new.self c.next_line.new.cert in
     let held = held_line c.next_line.new.self in
-    let found : c.in-Ok-next_line.found ≡ false = search rules in
+    let found : c.in-Ok-next_line.found ≡ false = c.if-not-found.true in
     let given = subst (GivesLine left more held) found c.in-Ok-next_line.ensures.given in
     record {
       files = v.taken;
@@ -233,6 +233,6 @@ returns-in-Err-none_left-clause-told g c =
     let left = to_come g.C.Read.remaining c.lines.lines c.lines.cert in
     let more = to_come g.C.Read.remaining c.next_line.new.self c.next_line.new.cert in
     let held = held_line c.next_line.new.self in
-    let found : c.in-Ok-next_line.found ≡ false = search rules in
+    let found : c.in-Ok-next_line.found ≡ false = c.if-not-found.true in
     let given = subst (GivesLine left more held) found c.in-Ok-next_line.ensures.given in
     heard_late c.args.bench.now v.head v.k c.lines.walk.used v.taken c.lines.walk.link.state held known left more c.args.rec.now.to_come c.lines.rec.to_come c.none_left.new.rec.to_come c.in-Err-none_left.fault g.T.Listener.hears c.args.listener.now c.lines.listener v.none_left given c.in-Err-none_left.ensures.err v.told v.heard
