@@ -1,9 +1,9 @@
 //! `a429 units PROFILE REC CERT`: the link data units that a certificate loads, a row for each.
 
-ghost use Rattle.std.specs.Prelude.{◌≡◌, Err, false, IfOk, IfErr, OnOk};
+ghost use Rattle.std.specs.Prelude.{◌≡◌, ◌≢◌, Err, false, IfOk, IfErr, OnOk};
 ghost use Rattle.a429_word.specs.Tally.{has_failed, unread};
 ghost use Rattle.a429_profile.specs.declared.fault.ProfileFault.{ProfileFault};
-ghost use Rattle.a429_check.specs.Verdict.{AllWork};
+ghost use Rattle.a429_check.specs.Verdict.{AllWork, ByProfile};
 ghost use Rattle.a429_check.specs.Units.{AreFresh, IsUnitsFault, TellsUnits};
 
 use crate::engines::profile::profile_of;
@@ -35,8 +35,25 @@ pub fn run_units<R: Read, C: Read, W: Write>(
     ensures silent { (f : ProfileFault) → result ≡ Err (RunFault.Profile f) → rows.new ≡ rows.old }
 {
     let profile = profile_of(alloc, profile)?;
-    let bench = Bench::new(alloc, &profile);
-    match answer_of(&bench, rec, certificate, &mut NoShelf, rows)? {
+    put_units(&Bench::new(alloc, &profile), rec, certificate, rows)
+}
+
+// The same, under a profile that was read.
+fn put_units<R: Read, C: Read, W: Write>(
+    bench: &Bench<'_>,
+    rec: &mut EntryReader<R>,
+    certificate: &mut Tally<C>,
+    rows: &mut UnitRows<W>,
+) -> Result<u8, RunFault>
+    requires { AreFresh rows.old }
+    ensures verdict { IfOk result (λ status. ByProfile bench.now (λ text.
+        TellsUnits W.contents text (unread C.remaining certificate.old) rec.old rows.old rows.new status)) }
+    ensures device { OnOk result (AllWork rec.new.failed (has_failed certificate.new) false (has_failed rows.new.out)) }
+    ensures err { IfErr result (λ e. ByProfile bench.now (λ text.
+        IsUnitsFault C.remaining text rec.old rec.new certificate.old certificate.new rows.new e)) }
+    ensures other { (f : ProfileFault) → result ≢ Err (RunFault.Profile f) }
+{
+    match answer_of(bench, rec, certificate, &mut NoShelf, rows)? {
         Ok(_) => {
             rows.finish()?;
             Ok(0)
