@@ -1,4 +1,4 @@
-use Rattle.std.proofs.Common.{◌≡◌, Option, ◌+◌, IsSome, slice_range, Some, None, refl, sym, inr, subst}
+use Rattle.std.proofs.Common.{◌≡◌, Option, ◌+◌, IsSome, slice_range, Some, None, refl, sym, inr, subst, rules}
 use Rattle.a429_ldu.specs.Ldu.{LduValue}
 use Rattle.a429_explain.specs.declared.groups.Request.{Request}
 use Rattle.a429_explain.specs.declared.stop.Stop.{Stop}
@@ -46,3 +46,6 @@ returns-in-Some-clause-crossed_err c = λ u h.
 
 pub returns-in-None-clause-crossed : goal.returns-in-None-clause-crossed
 returns-in-None-clause-crossed c = λ u h. let g = gives (goal.at.returns-in-None-clause-crossed c).After-unit_of u h in found c.in-Ok.unit u _ c.in-Ok.ensures.ok.is g.is
+
+pub returns-in-None-clause-unit : goal.returns-in-None-clause-unit
+returns-in-None-clause-unit c = search rules

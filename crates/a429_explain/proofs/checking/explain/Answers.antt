@@ -16,3 +16,9 @@ returns-in-Ok-clause-accepted c = λ f h.
 
 pub returns-in-Ok-clause-version : goal.returns-in-Ok-clause-version
 returns-in-Ok-clause-version c = rw c.new.ensures c.in-Ok.ensures.version
+
+pub returns-in-Ok-clause-doubted : goal.returns-in-Ok-clause-doubted
+returns-in-Ok-clause-doubted c = tt
+
+pub returns-in-Ok-clause-without_loss : goal.returns-in-Ok-clause-without_loss
+returns-in-Ok-clause-without_loss c = λ _. tt

@@ -1,4 +1,4 @@
-use Rattle.std.proofs.Common.{◌≡◌, ◌+◌, Some, slice_get, refl, sym, ap, ◌∙◌, subst, arith}
+use Rattle.std.proofs.Common.{◌≡◌, ◌+◌, Some, slice_get, refl, sym, ap, ◌∙◌, subst, arith, rules}
 use Rattle.a429_ldu.specs.declared.sight.Sight.{Sight}
 use Rattle.a429_ldu.specs.Sight.{sight_in}
 use Rattle.a429_link.specs.Observer.{Allows}
@@ -62,3 +62,12 @@ returns-clause-allowed c =
 
 pub returns-clause-formed : goal.returns-clause-formed
 returns-clause-formed c = formed c.args.profile.now (items_of c.args.entries.now) (returns-clause-allowed c)
+
+pub returns-clause-halt : goal.returns-clause-halt
+returns-clause-halt c = tt
+
+pub returns-clause-without_loss : goal.returns-clause-without_loss
+returns-clause-without_loss c = λ h. tt
+
+pub loop-entry-init : goal.loop-entry-init
+loop-entry-init c = search rules

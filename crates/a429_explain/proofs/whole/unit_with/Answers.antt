@@ -10,3 +10,6 @@ pub returns-in-Err-2-clause-made : goal.returns-in-Err-2-clause-made
 returns-in-Err-2-clause-made c =
     let other : c.in-Err.fault ≢ OutOfMemory = λ e. absurd (search (rules, e)) in
     unit_not_made c.args.profile.now c.codes-codes.ensures.sound c.args.count c.args.ends.start c.in-Some.gfi c.args.ends.flags c.args.ends.check c.args.words.now c.in-Err.fault (omega (arith, c.ranges.count.fits)) c.in-Some.is (c.if-words-from.false ∙ c.from.ensures) (c.in-Err.ensures.err other)
+
+pub returns-in-Ok-clause-count : goal.returns-in-Ok-clause-count
+returns-in-Ok-clause-count c = search rules

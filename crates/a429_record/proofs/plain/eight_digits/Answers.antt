@@ -10,3 +10,6 @@ returns-clause-digits c =
     let (first, second) = and_parts c.are_digits-high.result c.are_digits-low.result c.if-not-high-low.false in
     let high = c.are_digits-high.ensures.0 first in
     rw (eight xs long) (high.0, (high.1.0, (high.1.1.0, (high.1.1.1.0, c.are_digits-low.ensures.0 second))))
+
+pub returns-clause-number : goal.returns-clause-number
+returns-clause-number c = rw (eight c.args.bytes.now (omega arith)) (omega (arith, c.number_of_four-thousands.ensures.value, c.number_of_four.ensures.value))

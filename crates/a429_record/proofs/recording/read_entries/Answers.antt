@@ -40,3 +40,6 @@ returns-in_err-entry-clause-before g c failed =
     let es = c.entries.entries.items in
     let few : length es ≤ most_entries = omega (arith, c.entries.invariant.count, c.entries.reading.rows.in_range) in
     failed_at c.entries.reading.stage c.entries.reading.rows.form es c.entries.reading.rows.count _ _ _ (few, c.entries.invariant.times) c.entries.invariant.count c.entries.invariant.form c.entries.invariant.lines (c.in_err-entry.ensures.before (search rules))
+
+pub returns-then-is_err-clause-before : goal.returns-then-is_err-clause-before
+returns-then-is_err-clause-before g c = search rules

@@ -1,4 +1,4 @@
-use Rattle.std.proofs.Common.{sym, ap, subst, ◌∙◌}
+use Rattle.std.proofs.Common.{sym, ap, subst, ◌∙◌, rules}
 use Rattle.a429_explain.specs.Scribe.{CanBegin, CanMake, begin_steps, sent, link_after}
 use Rattle.a429_explain.proofs.ScribeFacts.{asks_parts, closes_none, has_asked, on_ok}
 use Rattle.a429_explain.proofs.scribe.Scribe.write_entry.Goals as goal
@@ -29,3 +29,15 @@ pub returns-in-Ok-clause-asked : goal.returns-in-Ok-clause-asked
 returns-in-Ok-clause-asked c =
     let l = c.args.self.now.link in
     has_asked c.send.result c.args.role c.in-Request.count c.in-Request.start c.args.seen c.args.self.now.grouping c.goes_on-goes_on.result c.args.plans.now.items l c.close.new.self.link c.begin.new.self.link c.send.new.self.link c.in-Request.is c.goes_on-goes_on.ensures (c.in_ok-close-in-Request.ensures.closed l (closes_none l)) c.in-Ok.ensures.reached c.send.ensures.reached
+
+pub returns-in-Acknowledged-clause-grouping : goal.returns-in-Acknowledged-clause-grouping
+returns-in-Acknowledged-clause-grouping c = search rules
+
+pub returns-in-Free-clause-written : goal.returns-in-Free-clause-written
+returns-in-Free-clause-written c = search rules
+
+pub returns-in-OfBlock-clause-lossless : goal.returns-in-OfBlock-clause-lossless
+returns-in-OfBlock-clause-lossless c = search rules
+
+pub returns-in-Ok-clause-grouping : goal.returns-in-Ok-clause-grouping
+returns-in-Ok-clause-grouping c = search rules

@@ -1,4 +1,4 @@
-use Rattle.std.proofs.Common.{subst, arith}
+use Rattle.std.proofs.Common.{subst, arith, rules}
 use Rattle.a429_link.specs.Link.{LinkValue}
 use Rattle.a429_link.specs.Run.{IsBounded}
 use Rattle.a429_link.proofs.LinkKept.{kept_bounded}
@@ -15,3 +15,6 @@ overflow_cast-result-2 c = omega (arith, (kept_bounded c.self.inside.profile.now
 
 pub returns-clause-bounds : goal.returns-clause-bounds
 returns-clause-bounds c = subst (λ (l : LinkValue). IsBounded l.state) c.self.view_is (kept_bounded c.self.inside.profile.now c.self.inside.transfer c.self.invariant)
+
+pub returns-clause-states : goal.returns-clause-states
+returns-clause-states c = search rules

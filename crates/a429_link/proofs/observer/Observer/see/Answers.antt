@@ -19,3 +19,6 @@ returns-else-not-allows-clause-allowed c =
 
 pub returns-else-not-allows-clause-taken : goal.returns-else-not-allows-clause-taken
 returns-else-not-allows-clause-taken c = c.take.ensures ∙ sym (sees_sight c.args.profile.now c.args.self.now c.args.seen _ (sym c.in-Form.is ∙ c.form-sight.ensures.computed))
+
+pub returns-in-NoForm-clause-taken : goal.returns-in-NoForm-clause-taken
+returns-in-NoForm-clause-taken c = tt

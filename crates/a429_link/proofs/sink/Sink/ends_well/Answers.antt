@@ -1,4 +1,4 @@
-use Rattle.std.proofs.Common.{◌≡◌, ℕ, false, true, ◌&&◌, List, option_map, subst, sym, ap, ◌∙◌}
+use Rattle.std.proofs.Common.{◌≡◌, ℕ, false, true, ◌&&◌, List, option_map, subst, sym, ap, ◌∙◌, rules}
 use Rattle.a429_ldu.specs.CheckWord.{agrees}
 use Rattle.a429_profile.specs.declared.codes.Check.{Check}
 use Rattle.a429_link.specs.Sink.{SinkSide, may_come, is_good_for, kept_words, phase_of, latest_number, number_of, block_with}
@@ -26,3 +26,6 @@ returns c =
     let fine : agrees p.check c.in-Some.bytes.items c.args.check ≡ true = ap (λ (k : Check). agrees k c.in-Some.bytes.items c.args.check) (sym c.check.ensures) ∙ ap (λ (bs : List ℕ). agrees c.check.result.now bs c.args.check) (sym c.as_slice.ensures.value) ∙ sym c.agrees.ensures ∙ c.if-not-agrees.false in
     subst (λ (k : SinkSide). c.may_come.result ≡ is_good_for k.sink p (block_with c.args.start (kept_words k.sink.phase)) c.args.check) c.self.view_is
     (sym (good ∙ ap (λ t. t && may_come p.codes last (number_of block)) fine ∙ sym (c.may_come.ensures ∙ ap (may_come p.codes last) c.number.ensures)))
+
+pub returns-then-words-from : goal.returns-then-words-from
+returns-then-words-from c = search rules

@@ -55,3 +55,15 @@ returns-in_default-refill-clause-before g c failed =
     let one = HasNoEnd-append _ _ c.parts.invariant.line part.1 in
     front_lost IsOpen before (g.R.Read.remaining (inner_of c.parts.rec)) (g.R.Read.remaining (inner_of c.refill.new.rec)) (ahead_of c.parts.self) part.0 c.parts.line.items
     c.parts.invariant.gone (rw none at cut) (λ rest. one) c.in_default-refill.ensures.none
+
+pub returns-in_default-clause-before : goal.returns-in_default-clause-before
+returns-in_default-clause-before g c = search rules
+
+pub returns-in_default-clause-device : goal.returns-in_default-clause-device
+returns-in_default-clause-device g c = search rules
+
+pub returns-in_default-refill-clause-end : goal.returns-in_default-refill-clause-end
+returns-in_default-refill-clause-end g c = tt
+
+pub returns-in_default-refill-clause-device : goal.returns-in_default-refill-clause-device
+returns-in_default-refill-clause-device g c = search rules

@@ -64,3 +64,15 @@ returns-in-Ok-Several-clause-takes g c =
     let r : Row = None in
     let one : r ∷ [] ≡ line_rows c.next_line.new.line.items = rw (c.in-Ok-Several.field-0-is, c.as_slice.ensures.value) at c.in-Ok-Several.ensures.ok in
     other_row (rows_left g.R.Read.remaining c.args.self.now c.args.rec.now) (pending_of g.R.Read.remaining c.next_line.new.self c.next_line.new.rec) c.next_line.new.line.items r h one refl
+
+pub returns-in-Ok-false-clause-lines : goal.returns-in-Ok-false-clause-lines
+returns-in-Ok-false-clause-lines g c = tt
+
+pub returns-in-Ok-false-clause-room : goal.returns-in-Ok-false-clause-room
+returns-in-Ok-false-clause-room g c = tt
+
+pub returns-in-Ok-false-clause-takes : goal.returns-in-Ok-false-clause-takes
+returns-in-Ok-false-clause-takes g c = search rules
+
+pub returns-in-Err-row_in_line-clause-before : goal.returns-in-Err-row_in_line-clause-before
+returns-in-Err-row_in_line-clause-before g c = search rules

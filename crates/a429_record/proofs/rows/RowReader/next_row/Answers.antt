@@ -88,3 +88,6 @@ returns-in-Ok-One-clause-lines g c =
 
 pub returns-in-Ok-Bad-clause-lines : goal.returns-in-Ok-Bad-clause-lines
 returns-in-Ok-Bad-clause-lines g c = taken_none c.take_row-in-Ok-Bad.result _ c.take_row-in-Ok-Bad.ensures.entry
+
+pub returns-in-Err-entry_in_line-clause-before : goal.returns-in-Err-entry_in_line-clause-before
+returns-in-Err-entry_in_line-clause-before g c = search rules

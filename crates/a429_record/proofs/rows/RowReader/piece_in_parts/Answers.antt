@@ -24,3 +24,15 @@ returns-in-Ok-clause-gives g c =
     (c.in-Ok-true.ensures.some c.in-Ok-true.field-0-test) c.in-Ok.ensures.takes (omega (arith, size, all, c.in-Ok.ensures.most)) (λ few. c.in-Ok.ensures.end (omega (arith, size, all, few)))
     c.entry_of_piece.ensures c.take_row.ensures.gives in
     rw c.take_row.ensures.lines given
+
+pub returns-in-Err-fill-clause-gives : goal.returns-in-Err-fill-clause-gives
+returns-in-Err-fill-clause-gives g c = search rules
+
+pub returns-in-Err-fill-clause-device : goal.returns-in-Err-fill-clause-device
+returns-in-Err-fill-clause-device g c = search rules
+
+pub returns-in-Ok-clause-piece : goal.returns-in-Ok-clause-piece
+returns-in-Ok-clause-piece g c = search rules
+
+pub returns-in-Ok-clause-room : goal.returns-in-Ok-clause-room
+returns-in-Ok-clause-room g c = search rules

@@ -13,3 +13,12 @@ loop-at-preserved g c =
       omega (arith, c.in-Ok.ensures.left, c.loop-at.invariant.2),
       rw (take-put_mid_within c.loop-at.at _ c.in-Ok.n c.loop-at.buf c.pull.new.buf inside few) (Consumes-trans _ _ _ _ _ c.loop-at.invariant.3 c.in-Ok.ensures.bytes.0),
     )
+
+pub returns-in-Ok-eq0-clause-bytes : goal.returns-in-Ok-eq0-clause-bytes
+returns-in-Ok-eq0-clause-bytes g c = tt
+
+pub returns-in-Ok-eq0-clause-left : goal.returns-in-Ok-eq0-clause-left
+returns-in-Ok-eq0-clause-left g c = tt
+
+pub returns-in-Ok-eq0-clause-falls : goal.returns-in-Ok-eq0-clause-falls
+returns-in-Ok-eq0-clause-falls g c = omega (arith, c.in-Ok-eq0.ensures.left, c.loop-at.invariant.2)
