@@ -1,13 +1,15 @@
 //! The callers that the pages of the crates show.
 
+ghost use Rattle.std.specs.Prelude.{IfSome};
 ghost use Rattle.a429_ldu.specs.Ldu.{IsLdu};
 
 use crate::calls::sample;
+use crate::recordings::seen;
 use a429_cert::{CertFault, CertLine, OutOfMemory, read_line, verify, write_line};
 use a429_ldu::Ldu;
 use a429_link::{Link, Seen, Step, StepFault};
 use a429_profile::Profile;
-use a429_record::{Entry, read_entries};
+use a429_record::{Entry, ReadFault, read_entries};
 use a429_sample::{CERTIFICATE, PART, RECORDING, RTS};
 use a429_word::{Bus, Tally, Word};
 use std::alloc::Global;
@@ -22,21 +24,26 @@ fn asks(alloc: Global, profile: &Profile, unit: Ldu, request: Seen) -> Result<()
     link.apply(Step::SinkTakes)
 }
 
-// Whether it asks so for the byte 41, the last of its file.
-fn asks_for_a_byte(alloc: Global, request: u32) -> Option<bool> {
-    let profile = sample(alloc)?;
-    let unit = Ldu::new(alloc, &profile, 0, 1, 0xA3F5, &[Word::from_u32(PART)]).ok()?;
-    let request = Seen {
-        bus: Bus::A,
-        word: Word::from_u32(request),
-    };
-    Some(asks(alloc, &profile, unit, request).is_ok())
+// The link data unit of the byte 41, the last of its file.
+fn unit_of_a_byte(alloc: Global, profile: &Profile) -> Option<Ldu>
+    ensures { IfSome result (λ u. IsLdu profile.now u) }
+{
+    Ldu::new(alloc, profile, 0, 1, 0xA3F5, &[Word::from_u32(PART)]).ok()
+}
+
+// Whether it asks so for this byte.
+fn asks_for_a_byte(alloc: Global, profile: &Profile, request: u32) -> bool {
+    match unit_of_a_byte(alloc, profile) {
+        Some(unit) => asks(alloc, profile, unit, seen(Bus::A, request)) == Ok(()),
+        None => false,
+    }
 }
 
 #[test]
 fn a_request(rt: HostRuntime) {
-    assert!(rt; asks_for_a_byte(rt.alloc(), RTS) == Some(true));
-    assert!(rt; asks_for_a_byte(rt.alloc(), PART) == Some(false));
+    let profile = sample(&rt);
+    assert!(rt; asks_for_a_byte(rt.alloc(), &profile, RTS));
+    assert!(rt; !asks_for_a_byte(rt.alloc(), &profile, PART));
 }
 
 /// Appends the line of another first file, where the line gives the first file.
@@ -53,8 +60,9 @@ fn renumber(alloc: Global, line: &[u8], file: u8, out: &mut Vec<u8>) -> Result<b
 #[test]
 fn another_first_file(rt: HostRuntime) {
     let mut out = Vec::new(rt.alloc());
-    assert!(rt; renumber(rt.alloc(), b"first 1", 2, &mut out) == Ok(true));
-    assert!(rt; renumber(rt.alloc(), b"l I Q 0 0", 2, &mut out) == Ok(false));
+    let first = renumber(rt.alloc(), b"first 1", 2, &mut out);
+    let other = renumber(rt.alloc(), b"l I Q 0 0", 2, &mut out);
+    assert!(rt; (first, other) == (Ok(true), Ok(false)));
     assert!(rt; out.as_slice() == b"first 2".as_slice());
 }
 
@@ -69,14 +77,21 @@ fn crossed(
     Ok(verified.files().len())
 }
 
-// How many files crossed in the sample recording by its certificate.
-fn crossed_in_sample(alloc: Global) -> Option<usize> {
-    let profile = sample(alloc)?;
-    let entries = read_entries(alloc, &mut Tally::new(RECORDING.as_bytes(), 1_000)).ok()?;
-    crossed(alloc, &profile, &entries, CERTIFICATE.as_bytes()).ok()
+// The entries of the sample recording.
+fn entries_of_sample(alloc: Global) -> Result<Vec<Entry>, ReadFault> {
+    read_entries(alloc, &mut Tally::new(RECORDING.as_bytes(), 1_000))
+}
+
+// How many files crossed in it by its certificate.
+fn crossed_in_sample(alloc: Global, profile: &Profile) -> Option<usize> {
+    match entries_of_sample(alloc) {
+        Ok(entries) => crossed(alloc, profile, &entries, CERTIFICATE.as_bytes()).ok(),
+        Err(_) => None,
+    }
 }
 
 #[test]
 fn one_file_has_crossed(rt: HostRuntime) {
-    assert!(rt; crossed_in_sample(rt.alloc()) == Some(1));
+    let profile = sample(&rt);
+    assert!(rt; crossed_in_sample(rt.alloc(), &profile) == Some(1));
 }

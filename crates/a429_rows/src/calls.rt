@@ -9,6 +9,7 @@ use a429_sample::PROFILE;
 use a429_word::Tally;
 use std::alloc::{AllocError, Global};
 use std::fmt::{Debug, Display};
+use std::process::Abort;
 use std::test::Fail;
 use std::{io, str};
 
@@ -27,14 +28,14 @@ pub fn filled(alloc: Global, byte: u8, length: usize) -> Result<Vec<u8>, AllocEr
     Ok(bytes)
 }
 
-/// What is read of a text, where it is a profile.
-pub fn read(alloc: Global, text: &str) -> Option<Profile> {
-    read_profile(alloc, text).ok()
+/// What is read of a text, which has to be a profile.
+pub fn read(rt: &(impl Abort + AllocGlobal), text: &str) -> Profile {
+    read_profile(rt.alloc(), text).expect(rt, "a profile")
 }
 
 /// The sample profile.
-pub fn sample(alloc: Global) -> Option<Profile> {
-    read(alloc, PROFILE)
+pub fn sample(rt: &(impl Abort + AllocGlobal)) -> Profile {
+    read(rt, PROFILE)
 }
 
 /// A value as a test tells it.
@@ -47,14 +48,26 @@ fn above<T: Display>(alloc: Global, value: &T, text: &str) -> Result<String, All
     format!(in alloc; "{value}\n{text}")
 }
 
+// The exit status, or the line of the fault, and below it what was written, where that is a text.
+fn text_of(alloc: Global, status: Result<u8, RunFault>, written: &[u8]) -> Option<String> {
+    let text = str::from_utf8(written).ok()?;
+    match status {
+        Ok(status) => above(alloc, &status, text).ok(),
+        Err(fault) => above(alloc, &fault, text).ok(),
+    }
+}
+
 /// The exit status, or the line of the fault, and below it what was written.
 pub fn told(alloc: Global, status: Result<u8, RunFault>, written: &[u8]) -> Result<String, Fail> {
-    let text = str::from_utf8(written)?;
-    let told = match status {
-        Ok(status) => above(alloc, &status, text),
-        Err(fault) => above(alloc, &fault, text),
-    };
-    Ok(told?)
+    Ok(text_of(alloc, status, written).ok_or("no text")?)
+}
+
+/// Whether this is told.
+pub fn is_told(alloc: Global, status: Result<u8, RunFault>, written: &[u8], text: &str) -> bool {
+    match text_of(alloc, status, written) {
+        Some(found) => found.as_str() == text,
+        None => false,
+    }
 }
 
 /// What `check` answers.
@@ -110,18 +123,11 @@ pub fn checked(alloc: Global, recording: &str) -> (Answered, Vec<u8>) {
     (Answered { status, verdict }, certificate)
 }
 
-// The status or fault of an answer, and below it what was written.
-fn answer_told(alloc: Global, answer: Answered) -> Result<String, Fail> {
-    told(alloc, answer.status, answer.verdict.as_slice())
-}
-
-/// What is told of the recording by `check`, and its certificate.
-pub fn check_told(alloc: Global, recording: &str) -> Result<(String, Vec<u8>), Fail> {
+/// Whether `check` tells this of the recording; and its certificate.
+pub fn check_tells(alloc: Global, recording: &str, verdict: &str) -> (bool, Vec<u8>) {
     let (found, certificate) = checked(alloc, recording);
-    match answer_told(alloc, found) {
-        Ok(text) => Ok((text, certificate)),
-        Err(fail) => Err(fail),
-    }
+    let is_same = is_told(alloc, found.status, found.verdict.as_slice(), verdict);
+    (is_same, certificate)
 }
 
 /// What `verify` answers to a certificate.
@@ -134,9 +140,10 @@ pub fn verified(alloc: Global, recording: &str, certificate: &[u8]) -> Answered 
     Answered { status, verdict }
 }
 
-/// What is told of the recording and a certificate by `verify`.
-pub fn verify_told(alloc: Global, recording: &str, certificate: &[u8]) -> Result<String, Fail> {
-    answer_told(alloc, verified(alloc, recording, certificate))
+/// Whether `verify` tells this of the recording and a certificate.
+pub fn verify_tells(alloc: Global, recording: &str, certificate: &[u8], verdict: &str) -> bool {
+    let found = verified(alloc, recording, certificate);
+    is_told(alloc, found.status, found.verdict.as_slice(), verdict)
 }
 
 // The files of a shelf, in order.
@@ -153,6 +160,21 @@ fn files_of(alloc: Global, shelf: &MemoryShelf) -> Result<Vec<FileBytes>, AllocE
     Ok(files)
 }
 
+/// What `extract` answers to a certificate, whose files go to this shelf.
+pub fn extracted_onto<S: Shelf>(
+    alloc: Global,
+    recording: &str,
+    certificate: &[u8],
+    shelf: &mut S,
+) -> Answered {
+    let mut verdict = Vec::new(alloc);
+    let rec = Tally::new(recording.as_bytes(), MOST);
+    let mut cert = Tally::new(certificate, MOST);
+    let mut out = Tally::new(&mut verdict, 0);
+    let status = extract(alloc, rec, &mut cert, shelf, &mut out);
+    Answered { status, verdict }
+}
+
 /// What `extract` answers to a certificate, and the files that it put.
 pub fn extracted(
     alloc: Global,
@@ -160,11 +182,9 @@ pub fn extracted(
     certificate: &[u8],
 ) -> Result<(Answered, Vec<FileBytes>), AllocError> {
     let mut shelf = MemoryShelf::new(alloc);
-    let mut verdict = Vec::new(alloc);
-    let rec = Tally::new(recording.as_bytes(), MOST);
-    let mut cert = Tally::new(certificate, MOST);
-    let mut out = Tally::new(&mut verdict, 0);
-    let status = extract(alloc, rec, &mut cert, &mut shelf, &mut out);
-    let files = files_of(alloc, &shelf)?;
-    Ok((Answered { status, verdict }, files))
+    let answer = extracted_onto(alloc, recording, certificate, &mut shelf);
+    match files_of(alloc, &shelf) {
+        Ok(files) => Ok((answer, files)),
+        Err(fault) => Err(fault),
+    }
 }

@@ -1,6 +1,6 @@
 //! The callers that the pages of the crates show.
 
-use crate::profile::read;
+use crate::profile::sample_profile;
 use a429_ldu::{CutFault, Ldu, cut};
 use a429_profile::{Profile, ProfileFault, read_profile};
 use a429_record::{Entry, ReadFault, read_entries};
@@ -72,9 +72,8 @@ fn first_word(
 }
 
 // The start word of file 1 with the byte 41 alone, under the sample profile.
-fn first_of_sample(alloc: Global) -> Option<u32> {
-    let profile = read(alloc, PROFILE)?;
-    match first_word(alloc, &profile, 1, b"A") {
+fn first_of_sample(alloc: Global, profile: &Profile) -> Option<u32> {
+    match first_word(alloc, profile, 1, b"A") {
         Ok(Some(word)) => Some(word.to_u32()),
         _ => None,
     }
@@ -83,5 +82,6 @@ fn first_of_sample(alloc: Global) -> Option<u32> {
 #[test]
 fn a_unit_and_a_start_word(rt: HostRuntime) {
     assert!(rt; is_unit(rt.alloc(), "ft"));
-    assert!(rt; first_of_sample(rt.alloc()) == Some(SOT));
+    let profile = sample_profile(&rt);
+    assert!(rt; first_of_sample(rt.alloc(), &profile) == Some(SOT));
 }

@@ -6,6 +6,7 @@
 use a429_profile::{Profile, read_profile};
 use a429_sample::{PROFILE, joined, with};
 use std::alloc::{AllocError, Global};
+use std::process::Abort;
 use std::test::Fail;
 
 mod clashes;
@@ -22,9 +23,14 @@ const NO_INTEGERS: &str = "'1' | 1.0 | true | [1] | {a = 1}";
 // Values that are no texts.
 const NO_TEXTS: &str = "203 | 2.5 | true | ['203'] | {a = '203'}";
 
-// What is read of a text, where it is a profile.
-pub(crate) fn read(alloc: Global, text: &str) -> Option<Profile> {
-    read_profile(alloc, text).ok()
+// What is read of a text, which has to be a profile.
+fn read(rt: &(impl Abort + AllocGlobal), text: &str) -> Profile {
+    read_profile(rt.alloc(), text).expect(rt, "a profile")
+}
+
+// The sample profile.
+pub(crate) fn sample_profile(rt: &(impl Abort + AllocGlobal)) -> Profile {
+    read(rt, PROFILE)
 }
 
 // What is wrong with a text.
@@ -51,6 +57,15 @@ fn tells(alloc: Global, text: &str, changes: &str, words: (&str, &str)) -> Resul
     is_told(alloc, text.as_str(), words, changes)
 }
 
+// The change of a line to one with this value.
+fn change_to(alloc: Global, line: &str, value: &str) -> Result<String, AllocError> {
+    let name = match line.split_once(" = ") {
+        Some((name, _)) => name,
+        None => line,
+    };
+    joined(alloc, &[line, " -> ", name, " = ", value])
+}
+
 // Each of some values, with ` | ` between them, in a line of the text.
 fn values_tell(
     alloc: Global,
@@ -59,9 +74,8 @@ fn values_tell(
     values: &str,
     words: (&str, &str),
 ) -> Result<(), Fail> {
-    let (name, _) = line.split_once(" = ").ok_or("no value")?;
     for value in values.split(" | ") {
-        let change = joined(alloc, &[line, " -> ", name, " = ", value])?;
+        let change = change_to(alloc, line, value)?;
         tells(alloc, text, change.as_str(), words)?;
     }
     Ok(())

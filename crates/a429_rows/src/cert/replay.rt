@@ -1,7 +1,8 @@
 //! Changed certificates of the transfer of one byte, held against its recording.
 
 use crate::calls::{debug, sample};
-use a429_cert::{CertFault, Verified, verify};
+use a429_cert::{Verified, verify};
+use a429_profile::Profile;
 use a429_record::Entry;
 use a429_sample::{ACK, CERTIFICATE, CTS, EOT, PART, RTS, SOT};
 use a429_word::{Bus, Word};
@@ -50,90 +51,130 @@ fn changed(alloc: Global, start: usize, end: usize, text: &str) -> Result<String
     Ok(certificate)
 }
 
-// What is said of a certificate, held against these entries under the sample profile.
-fn judged(
-    alloc: Global,
-    entries: &[Entry],
-    certificate: &[u8],
-) -> Option<Result<Verified, CertFault>> {
-    let profile = sample(alloc)?;
-    Some(verify(alloc, &profile, entries, certificate))
-}
-
 // How many files are lent, and which are given away.
 fn files_of(alloc: Global, verified: Verified) -> Result<String, AllocError> {
     let count = verified.files().len();
     debug(alloc, &(count, verified.into_files()))
 }
 
-// The fault of a certificate, held against the first entries of the recording with this request, or its files.
-fn verdict_on(alloc: Global, request: u32, count: usize, certificate: &str) -> Option<String> {
-    let entries = recording(request);
-    match judged(alloc, entries.get(..count)?, certificate.as_bytes())? {
-        Ok(verified) => files_of(alloc, verified).ok(),
-        Err(fault) => debug(alloc, &fault).ok(),
+// What is said of a certificate, held against these entries: its files, or its fault.
+fn judged(
+    alloc: Global,
+    profile: &Profile,
+    entries: &[Entry],
+    certificate: &[u8],
+) -> Result<String, AllocError> {
+    match verify(alloc, profile, entries, certificate) {
+        Ok(verified) => files_of(alloc, verified),
+        Err(fault) => debug(alloc, &fault),
     }
 }
 
-// Whether this is the verdict on the certificate with a text in the place of lines, held against the first
-// entries of the recording with this request.
-fn is_verdict(
-    alloc: Global,
-    (request, count): (u32, usize),
-    (start, end, text): (usize, usize, &str),
-    wanted: &str,
-) -> bool {
-    let Ok(certificate) = changed(alloc, start, end, text) else {
+// A certificate with a text in the place of its lines from one on and before another, held against the first
+// entries of the recording with a request.
+#[derive(Clone, Copy)]
+struct Case<'a> {
+    request: u32,
+    count: usize,
+    start: usize,
+    end: usize,
+    text: &'a str,
+}
+
+// Whether this is said of a case.
+fn is_said(alloc: Global, profile: &Profile, case: Case<'_>, wanted: &str) -> bool {
+    let entries = recording(case.request);
+    let Ok(certificate) = changed(alloc, case.start, case.end, case.text) else {
         return false;
     };
-    match verdict_on(alloc, request, count, certificate.as_str()) {
-        Some(verdict) => verdict.as_str() == wanted,
-        None => false,
+    let first = &entries[..case.count.min(6)];
+    match judged(alloc, profile, first, certificate.as_bytes()) {
+        Ok(found) => found.as_str() == wanted,
+        Err(_) => false,
     }
+}
+
+// The request, how many entries, the lines, the text in their place, and what is wanted.
+const CHANGED: [(u32, usize, usize, usize, &str, &str); 18] = [
+    // They explain the recording.
+    (RTS, 6, 15, 15, "", ONE_FILE),
+    (RTS, 6, 14, 15, "", ONE_FILE),
+    (RTS, 6, 3, 3, "l C Q 0 0\nt I Q 0 0\n", ONE_FILE),
+    // The first two lines.
+    (RTS, 6, 0, 15, "", "Version"),
+    (
+        RTS,
+        6,
+        0,
+        15,
+        "arinc429-cert 3\nfirst 1\nL 0 1 A3F5 12004123\n",
+        "Version",
+    ),
+    (RTS, 6, 1, 15, "", "Line(2)"),
+    (RTS, 6, 2, 15, "first 1\n", "Line(3)"),
+    // Lines that are no step.
+    (RTS, 6, 3, 4, "a  C Q 1 0\n", "Line(4)"),
+    (RTS, 6, 14, 15, "g I Q 0 0", "Line(15)"),
+    (
+        RTS,
+        6,
+        2,
+        15,
+        "L 0 1 A3F4 12004123\na C Q 1 0\n",
+        "NotAllowed(3)",
+    ),
+    (RTS, 6, 3, 15, "b C G 0 1\n", "NotAllowed(4)"),
+    (RTS, 6, 4, 15, "t I Q 0 0\n", "NotAllowed(5)"),
+    // Lines that differ.
+    (RTS, 6, 3, 15, "a S0 Q 1 0\n", "StateDiffers(4)"),
+    (
+        RTS,
+        6,
+        3,
+        15,
+        "n I Q 0 0\n",
+        "WordDiffers { line: 4, entry: 0 }",
+    ),
+    (RTS, 6, 13, 15, "", "Unfinished(5)"),
+    (
+        RTS,
+        6,
+        15,
+        15,
+        "n I Q 0 0\n",
+        "WordDiffers { line: 16, entry: 6 }",
+    ),
+    // Nothing is recorded, and another request.
+    (RTS, 0, 0, 15, "arinc429-cert 1\nfirst 0\n", "(0, [])"),
+    (
+        0x4141_FF23,
+        6,
+        15,
+        15,
+        "",
+        "WordDiffers { line: 4, entry: 0 }",
+    ),
+];
+
+// What is wanted of the first of them of which something else is said.
+fn first_that_differs(alloc: Global, profile: &Profile) -> Option<&'static str> {
+    for (request, count, start, end, text, wanted) in CHANGED {
+        let case = Case {
+            request,
+            count,
+            start,
+            end,
+            text,
+        };
+        if !is_said(alloc, profile, case, wanted) {
+            return Some(wanted);
+        }
+    }
+    None
 }
 
 #[test]
 fn changed_certificates(rt: HostRuntime) {
-    let cases = [
-        // They explain the recording.
-        (15, 15, "", ONE_FILE),
-        (14, 15, "", ONE_FILE),
-        (3, 3, "l C Q 0 0\nt I Q 0 0\n", ONE_FILE),
-        // The first two lines.
-        (0, 15, "", "Version"),
-        (
-            0,
-            15,
-            "arinc429-cert 3\nfirst 1\nL 0 1 A3F5 12004123\n",
-            "Version",
-        ),
-        (1, 15, "", "Line(2)"),
-        (2, 15, "first 1\n", "Line(3)"),
-        // Lines that are no step.
-        (3, 4, "a  C Q 1 0\n", "Line(4)"),
-        (14, 15, "g I Q 0 0", "Line(15)"),
-        (2, 15, "L 0 1 A3F4 12004123\na C Q 1 0\n", "NotAllowed(3)"),
-        (3, 15, "b C G 0 1\n", "NotAllowed(4)"),
-        (4, 15, "t I Q 0 0\n", "NotAllowed(5)"),
-        // Lines that differ.
-        (3, 15, "a S0 Q 1 0\n", "StateDiffers(4)"),
-        (3, 15, "n I Q 0 0\n", "WordDiffers { line: 4, entry: 0 }"),
-        (13, 15, "", "Unfinished(5)"),
-        (15, 15, "n I Q 0 0\n", "WordDiffers { line: 16, entry: 6 }"),
-    ];
-    for (start, end, text, wanted) in cases {
-        assert!(rt; is_verdict(rt.alloc(), (RTS, 6), (start, end, text), wanted));
-    }
-}
-
-#[test]
-fn nothing_recorded(rt: HostRuntime) {
-    let whole = (0, 15, "arinc429-cert 1\nfirst 0\n");
-    assert!(rt; is_verdict(rt.alloc(), (RTS, 0), whole, "(0, [])"));
-}
-
-#[test]
-fn other_request(rt: HostRuntime) {
-    let fault = "WordDiffers { line: 4, entry: 0 }";
-    assert!(rt; is_verdict(rt.alloc(), (0x4141_FF23, 6), (15, 15, ""), fault));
+    let profile = sample(&rt);
+    assert!(rt; first_that_differs(rt.alloc(), &profile).is_none());
 }

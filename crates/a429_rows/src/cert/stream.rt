@@ -10,6 +10,7 @@ use a429_sample::{Shaky, with};
 use a429_word::Tally;
 use std::alloc::Global;
 use std::io::Read;
+use std::process::Abort;
 use std::test::Fail;
 
 // Files 255 and 0, each of the byte 41.
@@ -45,12 +46,11 @@ struct Given {
     certificate: Vec<u8>,
 }
 
-fn two_files(alloc: Global) -> Result<Given, Fail> {
-    let profile = sample(alloc).ok_or("no profile")?;
-    let recording = recorded(alloc, WORDS)?;
-    let (_, certificate) = checked(alloc, recording.as_str());
+fn two_files(rt: &(impl Abort + AllocGlobal)) -> Result<Given, Fail> {
+    let recording = recorded(rt.alloc(), WORDS)?;
+    let (_, certificate) = checked(rt.alloc(), recording.as_str());
     Ok(Given {
-        profile,
+        profile: sample(rt),
         recording,
         certificate,
     })
@@ -99,7 +99,7 @@ fn is_yes(answer: &Answer) -> bool {
 
 #[test]
 fn two_files_are_put_in_order(rt: HostRuntime) -> Result<(), Fail> {
-    let given = two_files(rt.alloc())?;
+    let given = two_files(&rt)?;
     let whole = given.recording.as_str();
     let (answer, failed, shelf) = stream_over(rt.alloc(), &given, whole, (0, 0, 0));
     assert!(rt; is_yes(&answer) && !failed && has_both(&shelf));
@@ -109,7 +109,7 @@ fn two_files_are_put_in_order(rt: HostRuntime) -> Result<(), Fail> {
 // The last word is cut off: the file before it was put.
 #[test]
 fn a_file_before_a_fault_stays(rt: HostRuntime) -> Result<(), Fail> {
-    let given = two_files(rt.alloc())?;
+    let given = two_files(&rt)?;
     let cut = with(rt.alloc(), given.recording.as_str(), "C50001A3 -> C5000")?;
     let (answer, failed, shelf) = stream_over(rt.alloc(), &given, cut.as_str(), (0, 0, 0));
     assert!(rt; matches!(answer, Err(StreamFault::Read(ReadFault::Row(11)))));
@@ -119,7 +119,7 @@ fn a_file_before_a_fault_stays(rt: HostRuntime) -> Result<(), Fail> {
 
 #[test]
 fn a_shelf_that_fails_at_a_put(rt: HostRuntime) -> Result<(), Fail> {
-    let given = two_files(rt.alloc())?;
+    let given = two_files(&rt)?;
     let whole = given.recording.as_str();
     let (answer, _, shelf) = stream_over(rt.alloc(), &given, whole, (0, 0, 1));
     assert!(rt; matches!(answer, Err(StreamFault::Device)) && shelf.files().is_empty());
@@ -152,7 +152,7 @@ fn failing_runs(alloc: Global, given: &Given, is_recording: bool) -> u32 {
 // A reader is called once for each byte and for the end.
 #[test]
 fn readers_that_fail_at_each_call(rt: HostRuntime) -> Result<(), Fail> {
-    let given = two_files(rt.alloc())?;
+    let given = two_files(&rt)?;
     let recording = given.recording.as_str().len() + 1;
     let certificate = given.certificate.len() + 1;
     assert!(rt; failing_runs(rt.alloc(), &given, true) as usize == recording);

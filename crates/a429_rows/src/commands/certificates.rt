@@ -1,8 +1,9 @@
 //! The certificates of recordings of the byte 41, whole and with words missing.
 
-use crate::calls::{check_told, verify_told};
+use crate::calls::{checked, verify_tells};
 use crate::recordings::recorded;
-use std::alloc::Global;
+use std::alloc::{AllocError, Global};
+use std::str;
 use std::test::Fail;
 
 // The lines of a certificate by the name of their part.
@@ -30,12 +31,38 @@ fn lines_of(part: &str) -> &'static str {
 }
 
 // The text of these parts.
-fn text_of(alloc: Global, parts: &str) -> Result<String, Fail> {
+fn text_of(alloc: Global, parts: &str) -> Result<String, AllocError> {
     let mut text = String::new(alloc);
     for part in parts.split(' ') {
         text.push_str(lines_of(part))?;
     }
     Ok(text)
+}
+
+// Whether a text is of these parts.
+fn is_of(alloc: Global, text: &[u8], parts: &str) -> bool {
+    match text_of(alloc, parts) {
+        Ok(wanted) => text == wanted.as_bytes(),
+        Err(_) => false,
+    }
+}
+
+// Whether a verdict says that so many files cross.
+fn has_files(verdict: &[u8], files: &str) -> bool {
+    let Ok(text) = str::from_utf8(verdict) else {
+        return false;
+    };
+    match text.strip_prefix("YES files ") {
+        Some(rest) => rest.lines().next() == Some(files),
+        None => false,
+    }
+}
+
+// Whether so many files cross in a recording, by a certificate of these parts.
+fn is_explained(alloc: Global, recording: &str, files: &str, parts: &str) -> bool {
+    let (found, certificate) = checked(alloc, recording);
+    let is_yes = found.status == Ok(0) && has_files(found.verdict.as_slice(), files);
+    is_yes && is_of(alloc, certificate.as_slice(), parts)
 }
 
 // The case is `FILES: PARTS: WORDS`: so many files cross where these words are recorded, and these are the parts of
@@ -44,10 +71,7 @@ fn is_told(alloc: Global, case: &str) -> Result<bool, Fail> {
     let (files, rest) = case.split_once(": ").ok_or("no files")?;
     let (parts, words) = rest.split_once(": ").ok_or("no parts")?;
     let recording = recorded(alloc, words)?;
-    let (text, certificate) = check_told(alloc, recording.as_str())?;
-    let begin = format!(in alloc; "0\nYES files {files}\n")?;
-    let wanted = text_of(alloc, parts)?;
-    Ok(text.as_str().starts_with(begin.as_str()) && certificate.as_slice() == wanted.as_bytes())
+    Ok(is_explained(alloc, recording.as_str(), files, parts))
 }
 
 // The first case that is another, counted from 0.
@@ -100,24 +124,29 @@ fn files_given_up(rt: HostRuntime) -> Result<(), Fail> {
 }
 
 // The certificate of the files 255 and 127.
-fn most_given_up(alloc: Global) -> Result<String, Fail> {
+fn most_given_up(alloc: Global) -> Result<String, AllocError> {
     let mut text = text_of(alloc, "SECOND255 LOAD ASK START REST DONE")?;
     for _ in 0..127 {
         text.push_str(lines_of("GIVENUP"))?;
     }
-    let last = text_of(alloc, "LOAD ASK START REST DONE")?;
-    text.push_str(last.as_str())?;
+    for part in "LOAD ASK START REST DONE".split(' ') {
+        text.push_str(lines_of(part))?;
+    }
     Ok(text)
+}
+
+// Whether this is the certificate of a recording.
+fn is_certificate(alloc: Global, recording: &str, wanted: &str) -> bool {
+    let (_, certificate) = checked(alloc, recording);
+    certificate.as_slice() == wanted.as_bytes()
 }
 
 #[test]
 fn most_files_given_up(rt: HostRuntime) -> Result<(), Fail> {
-    let alloc = rt.alloc();
     let words = "RTS CTS E0FF0123 PART EOT C5FF01A3 RTS CTS 607F0123 PART EOT 457F01A3";
-    let recording = recorded(alloc, words)?;
-    let (_, certificate) = check_told(alloc, recording.as_str())?;
-    let wanted = most_given_up(alloc)?;
-    assert!(rt; certificate.as_slice() == wanted.as_bytes());
+    let recording = recorded(rt.alloc(), words)?;
+    let wanted = most_given_up(rt.alloc())?;
+    assert!(rt; is_certificate(rt.alloc(), recording.as_str(), wanted.as_str()));
     Ok(())
 }
 
@@ -125,8 +154,7 @@ fn most_files_given_up(rt: HostRuntime) -> Result<(), Fail> {
 fn verdict_is(alloc: Global, parts: &str, words: &str, verdict: &str) -> Result<bool, Fail> {
     let recording = recorded(alloc, words)?;
     let certificate = text_of(alloc, parts)?;
-    let text = verify_told(alloc, recording.as_str(), certificate.as_bytes())?;
-    Ok(text.as_str() == verdict)
+    Ok(verify_tells(alloc, recording.as_str(), certificate.as_bytes(), verdict))
 }
 
 // No file is given up in a certificate of version 1.

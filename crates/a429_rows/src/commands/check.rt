@@ -1,6 +1,6 @@
 //! The verdicts on small recordings, and their certificates.
 
-use crate::calls::{YES, check, check_told, told, verify_told};
+use crate::calls::{YES, check, check_tells, is_told, verify_tells};
 use crate::recordings::recorded;
 use a429_sample::{CERTIFICATE, PROFILE, RECORDING};
 use a429_word::{Failing, Tally};
@@ -8,57 +8,50 @@ use std::alloc::Global;
 use std::test::Fail;
 
 // This is the verdict on a recording, and this the certificate that is written.
-fn verdict_is(
-    alloc: Global,
-    recording: &str,
-    verdict: &str,
-    certificate: &str,
-) -> Result<bool, Fail> {
-    let (text, written) = check_told(alloc, recording)?;
-    Ok(text.as_str() == verdict && written.as_slice() == certificate.as_bytes())
+fn verdict_is(alloc: Global, recording: &str, verdict: &str, certificate: &str) -> bool {
+    let (is_same, written) = check_tells(alloc, recording, verdict);
+    is_same && written.as_slice() == certificate.as_bytes()
 }
 
-#[test]
-fn explained(rt: HostRuntime) -> Result<(), Fail> {
-    let alloc = rt.alloc();
-    let nothing = "arinc429-cert 1\nfirst 0\n";
-    assert!(rt; verdict_is(alloc, "time,bus,word\n", "0\nYES files 0\n", nothing)?);
-    assert!(rt; verdict_is(alloc, RECORDING, YES, CERTIFICATE)?);
-    Ok(())
-}
+// The recordings of nothing and of one byte, and texts that are no recording.
+const SMALL: [(&str, &str, &str); 5] = [
+    (
+        "time,bus,word\n",
+        "0\nYES files 0\n",
+        "arinc429-cert 1\nfirst 0\n",
+    ),
+    (RECORDING, YES, CERTIFICATE),
+    ("", "recording: header\n", ""),
+    ("0,A,41410323", "recording: header\n", ""),
+    ("time,bus,word\n0,C,41410323\n", "recording: row 0\n", ""),
+];
 
 #[test]
-fn no_recording(rt: HostRuntime) -> Result<(), Fail> {
-    let cases = [
-        ("", "recording: header\n"),
-        ("0,A,41410323", "recording: header\n"),
-        ("time,bus,word\n0,C,41410323\n", "recording: row 0\n"),
-    ];
-    for (recording, fault) in cases {
-        assert!(rt; verdict_is(rt.alloc(), recording, fault, "")?);
+fn small_recordings(rt: HostRuntime) {
+    for (recording, verdict, certificate) in SMALL {
+        assert!(rt; verdict_is(rt.alloc(), recording, verdict, certificate));
     }
-    Ok(())
 }
 
 // A yes has a certificate that is accepted with the same files, and else there is none.
-fn is_borne_out(
-    alloc: Global,
-    recording: &str,
-    certificate: &[u8],
-    verdict: &str,
-) -> Result<bool, Fail> {
-    if !verdict.starts_with('0') {
-        return Ok(certificate.is_empty());
+fn is_borne_out(alloc: Global, recording: &str, certificate: &[u8], verdict: &str) -> bool {
+    if verdict.starts_with('0') {
+        verify_tells(alloc, recording, certificate, verdict)
+    } else {
+        certificate.is_empty()
     }
-    Ok(verify_told(alloc, recording, certificate)?.as_str() == verdict)
 }
 
-// This is the verdict on the recording of these words, and it is borne out.
+// This is the verdict on a recording, and it is borne out.
+fn is_verdict(alloc: Global, recording: &str, verdict: &str) -> bool {
+    let (is_same, certificate) = check_tells(alloc, recording, verdict);
+    is_same && is_borne_out(alloc, recording, certificate.as_slice(), verdict)
+}
+
+// The same of the recording of these words.
 fn says(alloc: Global, words: &str, verdict: &str) -> Result<bool, Fail> {
     let recording = recorded(alloc, words)?;
-    let (text, certificate) = check_told(alloc, recording.as_str())?;
-    let is_same = text.as_str() == verdict;
-    Ok(is_same && is_borne_out(alloc, recording.as_str(), certificate.as_slice(), verdict)?)
+    Ok(is_verdict(alloc, recording.as_str(), verdict))
 }
 
 // The case is `STATUS VERDICT: WORDS`.
@@ -112,46 +105,36 @@ fn recordings_in_doubt(rt: HostRuntime) -> Result<(), Fail> {
     Ok(())
 }
 
-// A block that is cut off, one with a damaged word, and the files 255 and 0.
-#[test]
-fn none_and_two_files(rt: HostRuntime) -> Result<(), Fail> {
-    let cases = [
-        ("RTS CTS SOT", "0\nYES files 0\n"),
-        ("RTS CTS 92004123", "0\nYES files 0\n"),
-        (
-            "RTS CTS E0FF0123 PART EOT C5FF01A3 RTS CTS E0000123 PART EOT C50001A3",
-            "0\nYES files 2\nfile 255 1\nfile 0 1\n",
-        ),
-    ];
-    for (words, verdict) in cases {
-        assert!(rt; says(rt.alloc(), words, verdict)?);
-    }
-    Ok(())
-}
+// A block that is cut off, one with a damaged word, and the files 255 and 0. Then files that are given up: those between
+// 255 and 1, and between 255 and 127; one behind an acknowledged link data unit that does not end it, and one inside a block.
+const FILES: [(&str, &str); 7] = [
+    ("RTS CTS SOT", "0\nYES files 0\n"),
+    ("RTS CTS 92004123", "0\nYES files 0\n"),
+    (
+        "RTS CTS E0FF0123 PART EOT C5FF01A3 RTS CTS E0000123 PART EOT C50001A3",
+        "0\nYES files 2\nfile 255 1\nfile 0 1\n",
+    ),
+    (
+        "RTS CTS E0FF0123 PART EOT C5FF01A3 RTS CTS SOT PART EOT ACK",
+        "0\nYES files 2\nfile 255 1\nfile 1 1\n",
+    ),
+    (
+        "RTS CTS E0FF0123 PART EOT C5FF01A3 RTS CTS 607F0123 PART EOT 457F01A3",
+        "0\nYES files 2\nfile 255 1\nfile 127 1\n",
+    ),
+    (
+        "RTS CTS SOT PART F0A3F523 ACK RTS CTS 60020123 PART EOT 450201A3",
+        "0\nYES files 1\nfile 2 1\n",
+    ),
+    (
+        "RTS CTS SOT PART RTS CTS 60020123 PART EOT 450201A3",
+        "0\nYES files 1\nfile 2 1\n",
+    ),
+];
 
-// Files that are given up: those between 255 and 1, and between 255 and 127; one behind an acknowledged link data unit
-// that does not end it, and one inside a block.
 #[test]
-fn files_given_up(rt: HostRuntime) -> Result<(), Fail> {
-    let cases = [
-        (
-            "RTS CTS E0FF0123 PART EOT C5FF01A3 RTS CTS SOT PART EOT ACK",
-            "0\nYES files 2\nfile 255 1\nfile 1 1\n",
-        ),
-        (
-            "RTS CTS E0FF0123 PART EOT C5FF01A3 RTS CTS 607F0123 PART EOT 457F01A3",
-            "0\nYES files 2\nfile 255 1\nfile 127 1\n",
-        ),
-        (
-            "RTS CTS SOT PART F0A3F523 ACK RTS CTS 60020123 PART EOT 450201A3",
-            "0\nYES files 1\nfile 2 1\n",
-        ),
-        (
-            "RTS CTS SOT PART RTS CTS 60020123 PART EOT 450201A3",
-            "0\nYES files 1\nfile 2 1\n",
-        ),
-    ];
-    for (words, verdict) in cases {
+fn files_that_cross(rt: HostRuntime) -> Result<(), Fail> {
+    for (words, verdict) in FILES {
         assert!(rt; says(rt.alloc(), words, verdict)?);
     }
     Ok(())
@@ -181,7 +164,7 @@ fn fails(
     recording: (&str, u64),
     fault: &str,
     is_writer_short: bool,
-) -> Result<bool, Fail> {
+) -> bool {
     let (recording, most) = recording;
     let mut room = [0; 20];
     let mut written = Vec::new(alloc);
@@ -190,14 +173,14 @@ fn fails(
     let mut out = Tally::new(&mut written, 0);
     let found = check(alloc, profile, &mut rec, &mut cert, &mut out);
     let has_failed = cert.failed();
-    let text = told(alloc, found, written.as_slice())?;
     let is_filled = room != [0; 20];
-    Ok(text.as_str() == fault && has_failed == is_writer_short && is_filled == is_writer_short)
+    let is_right = has_failed == is_writer_short && is_filled == is_writer_short;
+    is_right && is_told(alloc, found, written.as_slice(), fault)
 }
 
 // The second recording has as many bytes as may be read: its end is not seen.
 #[test]
-fn no_verdict(rt: HostRuntime) -> Result<(), Fail> {
+fn no_verdict(rt: HostRuntime) {
     let alloc = rt.alloc();
     assert!(rt;
         fails(
@@ -206,15 +189,13 @@ fn no_verdict(rt: HostRuntime) -> Result<(), Fail> {
             ("", 1),
             "profile: missing transfer.to_sink\n",
             false
-        )?
+        )
     );
     let cut_off = (RECORDING, RECORDING.len() as u64);
-    assert!(rt; fails(alloc, PROFILE, cut_off, "device\n", false)?);
-    Ok(())
+    assert!(rt; fails(alloc, PROFILE, cut_off, "device\n", false));
 }
 
 #[test]
-fn a_certificate_without_room(rt: HostRuntime) -> Result<(), Fail> {
-    assert!(rt; fails(rt.alloc(), PROFILE, (RECORDING, 1000), "device\n", true)?);
-    Ok(())
+fn a_certificate_without_room(rt: HostRuntime) {
+    assert!(rt; fails(rt.alloc(), PROFILE, (RECORDING, 1000), "device\n", true));
 }

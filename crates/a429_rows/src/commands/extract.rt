@@ -1,9 +1,8 @@
 //! The files of a certificate.
 
-use crate::calls::{YES, extract, extracted, told};
+use crate::calls::{YES, extracted, extracted_onto, told};
 use a429_check::Folder;
 use a429_sample::{CERTIFICATE, RECORDING};
-use a429_word::Tally;
 use std::alloc::Global;
 use std::fmt::Write;
 use std::rt::Files;
@@ -49,12 +48,8 @@ fn into_folder(
 ) -> Result<String, Fail> {
     let alloc = rt.alloc();
     let mut folder = Folder::new(rt, alloc, dir).ok().ok_or("memory")?;
-    let mut verdict = Vec::new(alloc);
-    let rec = Tally::new(recording.as_bytes(), 1000);
-    let mut cert = Tally::new(certificate.as_bytes(), 1000);
-    let mut out = Tally::new(&mut verdict, 0);
-    let status = extract(alloc, rec, &mut cert, &mut folder, &mut out);
-    told(alloc, status, verdict.as_slice())
+    let answer = extracted_onto(alloc, recording, certificate.as_bytes(), &mut folder);
+    told(alloc, answer.status, answer.verdict.as_slice())
 }
 
 // One that is not there, and one that takes no file: neither is asked where there is no file.

@@ -20,86 +20,85 @@ fn tells(alloc: Global, fault: RunFault, line: &str, status: u8) -> bool {
     found == status && bytes.as_slice() == line.as_bytes()
 }
 
+const SECTION: Key = Key::Section(SectionKey::ToSink);
+
+const LABEL: Key = Key::Label(12, LabelKey::Octal);
+
+const OTHERS: [(RunFault, &str, u8); 6] = [
+    (RunFault::BadWord, "bad word\n", 3),
+    (RunFault::Device, "device\n", 4),
+    (RunFault::Memory, "memory\n", 4),
+    (RunFault::Usage, "usage\n", 5),
+    (RunFault::Cut(0, CutFault::Empty), "file 1: empty\n", 3),
+    (
+        RunFault::Cut(11, CutFault::TooLong),
+        "file 12: too long\n",
+        3,
+    ),
+];
+
 #[test]
 fn faults_of_words_devices_and_files(rt: HostRuntime) {
-    let cases = [
-        (RunFault::BadWord, "bad word\n", 3),
-        (RunFault::Device, "device\n", 4),
-        (RunFault::Memory, "memory\n", 4),
-        (RunFault::Usage, "usage\n", 5),
-        (RunFault::Cut(0, CutFault::Empty), "file 1: empty\n", 3),
-        (
-            RunFault::Cut(11, CutFault::TooLong),
-            "file 12: too long\n",
-            3,
-        ),
-    ];
-    for (fault, line, status) in cases {
+    for (fault, line, status) in OTHERS {
         assert!(rt; tells(rt.alloc(), fault, line, status));
     }
 }
 
+const RECORDINGS: [(ReadFault, &str); 4] = [
+    (ReadFault::Header, "recording: header\n"),
+    (ReadFault::Row(12), "recording: row 12\n"),
+    (ReadFault::TimeBack(1), "recording: time back 1\n"),
+    (ReadFault::TooMany, "recording: too many\n"),
+];
+
 #[test]
 fn faults_of_recordings(rt: HostRuntime) {
-    let cases = [
-        (ReadFault::Header, "recording: header\n"),
-        (ReadFault::Row(12), "recording: row 12\n"),
-        (ReadFault::TimeBack(1), "recording: time back 1\n"),
-        (ReadFault::TooMany, "recording: too many\n"),
-    ];
-    for (fault, line) in cases {
+    for (fault, line) in RECORDINGS {
         assert!(rt; tells(rt.alloc(), RunFault::Read(fault), line, 3));
     }
 }
 
-#[test]
-fn faults_of_keys(rt: HostRuntime) {
-    let section = Key::Section(SectionKey::ToSink);
-    let label = Key::Label(12, LabelKey::Octal);
-    let cases = [
-        (
-            ProfileFault::Missing(section),
-            "profile: missing transfer.to_sink\n",
-        ),
-        (
-            ProfileFault::WrongKind(Key::Labels),
-            "profile: wrong kind label\n",
-        ),
-        (
-            ProfileFault::WrongKind(label),
-            "profile: wrong kind label 12 octal\n",
-        ),
-        (
-            ProfileFault::OutOfRange(section),
-            "profile: out of range transfer.to_sink\n",
-        ),
-        (
-            ProfileFault::OutOfRange(label),
-            "profile: out of range label 12 octal\n",
-        ),
-    ];
-    for (fault, line) in cases {
-        assert!(rt; tells(rt.alloc(), RunFault::Profile(fault), line, 3));
-    }
-}
+// Keys, documents and clashes.
+const PROFILES: [(ProfileFault, &str); 10] = [
+    (
+        ProfileFault::Missing(SECTION),
+        "profile: missing transfer.to_sink\n",
+    ),
+    (
+        ProfileFault::WrongKind(Key::Labels),
+        "profile: wrong kind label\n",
+    ),
+    (
+        ProfileFault::WrongKind(LABEL),
+        "profile: wrong kind label 12 octal\n",
+    ),
+    (
+        ProfileFault::OutOfRange(SECTION),
+        "profile: out of range transfer.to_sink\n",
+    ),
+    (
+        ProfileFault::OutOfRange(LABEL),
+        "profile: out of range label 12 octal\n",
+    ),
+    (ProfileFault::NotToml, "profile: not toml\n"),
+    (ProfileFault::LabelClash(7), "profile: label clash 007\n"),
+    (
+        ProfileFault::LabelClash(0o304),
+        "profile: label clash 304\n",
+    ),
+    (
+        ProfileFault::CodeClash(SectionKey::Ack, SectionKey::IgnoredCodes),
+        "profile: code clash codes.ack codes.ignored\n",
+    ),
+    (
+        ProfileFault::BitClash(0o10, 11),
+        "profile: bit clash 010 11\n",
+    ),
+];
 
 #[test]
-fn faults_of_documents_and_clashes(rt: HostRuntime) {
-    let codes = ProfileFault::CodeClash(SectionKey::Ack, SectionKey::IgnoredCodes);
-    let cases = [
-        (ProfileFault::NotToml, "profile: not toml\n"),
-        (ProfileFault::LabelClash(7), "profile: label clash 007\n"),
-        (
-            ProfileFault::LabelClash(0o304),
-            "profile: label clash 304\n",
-        ),
-        (codes, "profile: code clash codes.ack codes.ignored\n"),
-        (
-            ProfileFault::BitClash(0o10, 11),
-            "profile: bit clash 010 11\n",
-        ),
-    ];
-    for (fault, line) in cases {
+fn faults_of_profiles(rt: HostRuntime) {
+    for (fault, line) in PROFILES {
         assert!(rt; tells(rt.alloc(), RunFault::Profile(fault), line, 3));
     }
 }

@@ -1,12 +1,11 @@
 //! What the words of small recordings are to the transfer of the sample profile.
 
-use crate::calls::told;
+use crate::calls::is_told;
 use a429_check::{RunFault, run_forms};
 use a429_sample::PROFILE;
 use a429_word::Tally;
 use std::alloc::Global;
 use std::io::Write;
-use std::test::Fail;
 
 // What `forms` answers.
 fn forms<W: Write>(
@@ -18,12 +17,12 @@ fn forms<W: Write>(
 }
 
 // This is told of a recording, or why it is not.
-fn tells(alloc: Global, recording: &str, text: &str) -> Result<bool, Fail> {
+fn tells(alloc: Global, recording: &str, text: &str) -> bool {
     let mut written = Vec::new(alloc);
     let mut rec = Tally::new(recording.as_bytes(), 1000);
     let mut out = Tally::new(&mut written, 0);
     let answer = forms(alloc, &mut rec, &mut out);
-    Ok(told(alloc, answer, written.as_slice())?.as_str() == text)
+    is_told(alloc, answer, written.as_slice(), text)
 }
 
 const TRANSFER: (&str, &str) = (
@@ -74,20 +73,20 @@ const OTHERS: (&str, &str) = (
 ",
 );
 
+const CASES: [(&str, &str); 5] = [
+    TRANSFER,
+    OTHERS,
+    ("time,bus,word\n", "0\n"),
+    ("", "recording: header\n"),
+    (
+        "time,bus,word\n0,A,41410323\n0,C,41410323\n",
+        "recording: row 1\n",
+    ),
+];
+
 #[test]
-fn words_of_each_form(rt: HostRuntime) -> Result<(), Fail> {
-    let cases = [
-        TRANSFER,
-        OTHERS,
-        ("time,bus,word\n", "0\n"),
-        ("", "recording: header\n"),
-        (
-            "time,bus,word\n0,A,41410323\n0,C,41410323\n",
-            "recording: row 1\n",
-        ),
-    ];
-    for (recording, text) in cases {
-        assert!(rt; tells(rt.alloc(), recording, text)?);
+fn words_of_each_form(rt: HostRuntime) {
+    for (recording, text) in CASES {
+        assert!(rt; tells(rt.alloc(), recording, text));
     }
-    Ok(())
 }

@@ -1,6 +1,6 @@
 //! The label table of the sample profile and of changes of it, and bytes that are no profile.
 
-use crate::calls::told;
+use crate::calls::is_told;
 use a429_check::{RunFault, run_labels};
 use a429_sample::{PROFILE, sections, with};
 use a429_word::{Failing, Tally};
@@ -18,26 +18,25 @@ pub(crate) fn list<W: Write>(
 }
 
 // This is told of a profile.
-fn lists(alloc: Global, profile: &[u8], text: &str) -> Result<bool, Fail> {
+fn lists(alloc: Global, profile: &[u8], text: &str) -> bool {
     let mut bytes = Vec::new(alloc);
     let answer = list(alloc, profile, &mut Tally::new(&mut bytes, 0));
-    Ok(told(alloc, answer, bytes.as_slice())?.as_str() == text)
+    is_told(alloc, answer, bytes.as_slice(), text)
 }
 
 // This is told of the sample profile with these changes.
 fn tells(alloc: Global, changes: &str, told: &str) -> Result<bool, Fail> {
     let profile = with(alloc, PROFILE, changes)?;
-    lists(alloc, profile.as_bytes(), told)
+    Ok(lists(alloc, profile.as_bytes(), told))
 }
 
 // The sample as it is, and without labels.
 #[test]
-fn a_line_for_each_entry(rt: HostRuntime) -> Result<(), Fail> {
+fn a_line_for_each_entry(rt: HostRuntime) {
     let text =
         "0\n203 * bnr 17 131072 0 Altitude\n314 * bnr 18 180 0 Heading\n201 * bcd 5 2 Distance\n270 1 discrete 2 Status\n";
-    assert!(rt; lists(rt.alloc(), PROFILE.as_bytes(), text)?);
-    assert!(rt; lists(rt.alloc(), sections().as_bytes(), "0\n")?);
-    Ok(())
+    assert!(rt; lists(rt.alloc(), PROFILE.as_bytes(), text));
+    assert!(rt; lists(rt.alloc(), sections().as_bytes(), "0\n"));
 }
 
 // Changes of the sample, and what is told: the table with an entry more and with other entries; or the fault. The last
@@ -96,14 +95,18 @@ fn changes_of_the_sample(rt: HostRuntime) -> Result<(), Fail> {
     Ok(())
 }
 
+const NO_PROFILES: [(&[u8], &str); 4] = [
+    (b"", "profile: missing transfer.to_sink\n"),
+    (b"[transfer", "profile: not toml\n"),
+    (b"\xff", "profile: not toml\n"),
+    (b"# \xc3\n", "profile: not toml\n"),
+];
+
 #[test]
-fn bytes_that_are_no_profile(rt: HostRuntime) -> Result<(), Fail> {
-    let alloc = rt.alloc();
-    assert!(rt; lists(alloc, b"", "profile: missing transfer.to_sink\n")?);
-    for profile in [b"[transfer".as_slice(), b"\xff", b"# \xc3\n"] {
-        assert!(rt; lists(alloc, profile, "profile: not toml\n")?);
+fn bytes_that_are_no_profile(rt: HostRuntime) {
+    for (profile, fault) in NO_PROFILES {
+        assert!(rt; lists(rt.alloc(), profile, fault));
     }
-    Ok(())
 }
 
 #[test]

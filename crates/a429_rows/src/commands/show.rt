@@ -1,10 +1,10 @@
 //! Small recordings by the sample profile, and bytes that are no recording.
 
-use crate::calls::told;
+use crate::calls::is_told;
 use a429_check::{RunFault, run_show};
 use a429_sample::PROFILE;
 use a429_word::Tally;
-use std::alloc::Global;
+use std::alloc::{AllocError, Global};
 use std::io::{Read, Write};
 use std::test::Fail;
 
@@ -19,18 +19,12 @@ pub(crate) fn show<R: Read, W: Write>(
 }
 
 // This is shown of a recording, of which at most so many bytes are read, or why it is not.
-fn shows(
-    alloc: Global,
-    profile: &str,
-    recording: &str,
-    most: u64,
-    text: &str,
-) -> Result<bool, Fail> {
+fn shows(alloc: Global, profile: &str, recording: &str, most: u64, text: &str) -> bool {
     let mut written = Vec::new(alloc);
     let mut rec = Tally::new(recording.as_bytes(), most);
     let mut out = Tally::new(&mut written, 0);
     let answer = show(alloc, profile, &mut rec, &mut out);
-    Ok(told(alloc, answer, written.as_slice())?.as_str() == text)
+    is_told(alloc, answer, written.as_slice(), text)
 }
 
 const BNR_WORDS: (&str, &str) = (
@@ -100,45 +94,46 @@ const DISCRETE_WORDS: (&str, &str) = (
 ",
 );
 
-#[test]
-fn words_of_each_kind(rt: HostRuntime) -> Result<(), Fail> {
-    for (recording, text) in [BNR_WORDS, BNR_STATUSES, BCD_WORDS, DISCRETE_WORDS] {
-        assert!(rt; shows(rt.alloc(), PROFILE, recording, 1000, text)?);
-    }
-    Ok(())
-}
+const WORDS: [(&str, &str); 4] = [BNR_WORDS, BNR_STATUSES, BCD_WORDS, DISCRETE_WORDS];
 
 #[test]
-fn recordings_with_a_fault(rt: HostRuntime) -> Result<(), Fail> {
-    let cases = [
-        ("", "recording: header\n"),
-        ("0,A,41410323", "recording: header\n"),
-        ("time,bus,word", "0\n"),
-        (
-            "time,bus,word\n7,A,c1410223\n",
-            "0\n7 A C1410223 304 2 2 no entry\n",
-        ),
-        ("time,bus,word\n0,C,41410323\n", "recording: row 0\n"),
-        ("time,bus,word\n0,A,4141032\n", "recording: row 0\n"),
-        ("time,bus,word\n0,A\n", "recording: row 0\n"),
-        ("time,bus,word\nx,A,41410323\n", "recording: row 0\n"),
-        (
-            "time,bus,word\n0,A,E13880C1\n0,C,E13880C1\n",
-            "recording: row 1\n",
-        ),
-        (
-            "time,bus,word\n5,A,E13880C1\n4,A,E13880C1\n",
-            "recording: time back 1\n",
-        ),
-    ];
-    for (recording, fault) in cases {
-        assert!(rt; shows(rt.alloc(), PROFILE, recording, 1000, fault)?);
+fn words_of_each_kind(rt: HostRuntime) {
+    for (recording, text) in WORDS {
+        assert!(rt; shows(rt.alloc(), PROFILE, recording, 1000, text));
     }
-    Ok(())
+}
+
+const WITH_A_FAULT: [(&str, &str); 10] = [
+    ("", "recording: header\n"),
+    ("0,A,41410323", "recording: header\n"),
+    ("time,bus,word", "0\n"),
+    (
+        "time,bus,word\n7,A,c1410223\n",
+        "0\n7 A C1410223 304 2 2 no entry\n",
+    ),
+    ("time,bus,word\n0,C,41410323\n", "recording: row 0\n"),
+    ("time,bus,word\n0,A,4141032\n", "recording: row 0\n"),
+    ("time,bus,word\n0,A\n", "recording: row 0\n"),
+    ("time,bus,word\nx,A,41410323\n", "recording: row 0\n"),
+    (
+        "time,bus,word\n0,A,E13880C1\n0,C,E13880C1\n",
+        "recording: row 1\n",
+    ),
+    (
+        "time,bus,word\n5,A,E13880C1\n4,A,E13880C1\n",
+        "recording: time back 1\n",
+    ),
+];
+
+#[test]
+fn recordings_with_a_fault(rt: HostRuntime) {
+    for (recording, fault) in WITH_A_FAULT {
+        assert!(rt; shows(rt.alloc(), PROFILE, recording, 1000, fault));
+    }
 }
 
 // A recording of so many entries.
-fn many_entries(alloc: Global, count: u32) -> Result<String, Fail> {
+fn many_entries(alloc: Global, count: u32) -> Result<String, AllocError> {
     let mut text = String::from_str(alloc, "time,bus,word\n")?;
     for _ in 0..count {
         text.push_str("0,A,41410323\n")?;
@@ -149,40 +144,24 @@ fn many_entries(alloc: Global, count: u32) -> Result<String, Fail> {
 #[test]
 fn a_million_and_one_entries(rt: HostRuntime) -> Result<(), Fail> {
     let text = many_entries(rt.alloc(), 1_000_001)?;
-    assert!(rt;
-        shows(
-            rt.alloc(),
-            PROFILE,
-            text.as_str(),
-            20_000_000,
-            "recording: too many\n"
-        )?
-    );
+    let fault = "recording: too many\n";
+    assert!(rt; shows(rt.alloc(), PROFILE, text.as_str(), 20_000_000, fault));
     Ok(())
 }
 
 // The profile's fault comes before the recording's.
 #[test]
-fn profiles_with_a_fault(rt: HostRuntime) -> Result<(), Fail> {
-    assert!(rt;
-        shows(
-            rt.alloc(),
-            "",
-            "",
-            1000,
-            "profile: missing transfer.to_sink\n"
-        )?
-    );
-    Ok(())
+fn profiles_with_a_fault(rt: HostRuntime) {
+    let fault = "profile: missing transfer.to_sink\n";
+    assert!(rt; shows(rt.alloc(), "", "", 1000, fault));
 }
 
 const SHORT: &str = "time,bus,word\n0,A,E13880C1\n";
 
 // The recording has as many bytes as may be read: its end is not seen.
 #[test]
-fn a_recording_without_an_end(rt: HostRuntime) -> Result<(), Fail> {
-    assert!(rt; shows(rt.alloc(), PROFILE, SHORT, 27, "device\n")?);
-    Ok(())
+fn a_recording_without_an_end(rt: HostRuntime) {
+    assert!(rt; shows(rt.alloc(), PROFILE, SHORT, 27, "device\n"));
 }
 
 #[test]

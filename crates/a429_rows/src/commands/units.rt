@@ -1,6 +1,6 @@
 //! The rows of a certificate's link data units.
 
-use crate::calls::told;
+use crate::calls::is_told;
 use a429_check::{RunFault, run_units};
 use a429_record::EntryReader;
 use a429_sample::{CERTIFICATE, PROFILE, RECORDING, with};
@@ -23,12 +23,12 @@ pub(crate) fn units<R: Read + Drop, C: Read, W: Write + Drop>(
 }
 
 // This is told of a recording and a certificate.
-fn tells(alloc: Global, recording: &str, certificate: &str, text: &str) -> Result<bool, Fail> {
+fn tells(alloc: Global, recording: &str, certificate: &str, text: &str) -> bool {
     let mut written = Vec::new(alloc);
     let rec = Tally::new(recording.as_bytes(), 1000);
     let mut cert = Tally::new(certificate.as_bytes(), 1000);
     let answer = units(alloc, rec, &mut cert, Tally::new(&mut written, 0));
-    Ok(told(alloc, answer, written.as_slice())?.as_str() == text)
+    is_told(alloc, answer, written.as_slice(), text)
 }
 
 const ROWS: &str = "0
@@ -41,18 +41,18 @@ file,ldu,words,bytes,final,requests,lost,unanswered,unheard,naks,timeouts,first_
 NO state differs 4
 ";
 
+const CASES: [(&str, &str, &str); 3] = [
+    (RECORDING, CERTIFICATE, ROWS),
+    (RECORDING, "", "2\nNO version\n"),
+    ("", CERTIFICATE, "recording: header\n"),
+];
+
 #[test]
 fn rows_and_refusals(rt: HostRuntime) -> Result<(), Fail> {
-    let alloc = rt.alloc();
-    let other = with(alloc, CERTIFICATE, "a C Q 1 0 -> a S0 Q 1 0")?;
-    let cases = [
-        (RECORDING, CERTIFICATE, ROWS),
-        (RECORDING, other.as_str(), REFUSED),
-        (RECORDING, "", "2\nNO version\n"),
-        ("", CERTIFICATE, "recording: header\n"),
-    ];
-    for (recording, certificate, text) in cases {
-        assert!(rt; tells(alloc, recording, certificate, text)?);
+    for (recording, certificate, text) in CASES {
+        assert!(rt; tells(rt.alloc(), recording, certificate, text));
     }
+    let other = with(rt.alloc(), CERTIFICATE, "a C Q 1 0 -> a S0 Q 1 0")?;
+    assert!(rt; tells(rt.alloc(), RECORDING, other.as_str(), REFUSED));
     Ok(())
 }

@@ -1,11 +1,10 @@
 //! The lines of words worked out by hand.
 
-use crate::calls::told;
+use crate::calls::is_told;
 use a429_check::{RunFault, run_word};
 use a429_word::{Failing, Tally};
 use std::alloc::Global;
 use std::io::Write;
-use std::test::Fail;
 
 /// What `word` answers.
 pub(crate) fn word<W: Write>(text: &str, out: &mut Tally<W>) -> Result<u8, RunFault> {
@@ -13,10 +12,10 @@ pub(crate) fn word<W: Write>(text: &str, out: &mut Tally<W>) -> Result<u8, RunFa
 }
 
 // This is told of a word.
-fn says(alloc: Global, hex: &str, text: &str) -> Result<bool, Fail> {
+fn says(alloc: Global, hex: &str, text: &str) -> bool {
     let mut bytes = Vec::new(alloc);
     let answer = word(hex, &mut Tally::new(&mut bytes, 0));
-    Ok(told(alloc, answer, bytes.as_slice())?.as_str() == text)
+    is_told(alloc, answer, bytes.as_slice(), text)
 }
 
 const ALTITUDE: &str =
@@ -29,28 +28,27 @@ const NO_BIT: &str =
 const NEGATIVE: &str =
     "0\nword 70000233\nbits 01110000000000000000001000110011\nlabel 314\nsdi 2\nssm 3\nparity bad\nbnr -262144\n";
 
+const BY_HAND: [(&str, &str); 5] = [
+    ("E13880C1", ALTITUDE),
+    ("e13880c1", ALTITUDE),
+    ("e13880C1", ALTITUDE),
+    ("00000000", NO_BIT),
+    ("70000233", NEGATIVE),
+];
+
 #[test]
-fn words_worked_out_by_hand(rt: HostRuntime) -> Result<(), Fail> {
-    let cases = [
-        ("E13880C1", ALTITUDE),
-        ("e13880c1", ALTITUDE),
-        ("e13880C1", ALTITUDE),
-        ("00000000", NO_BIT),
-        ("70000233", NEGATIVE),
-    ];
-    for (hex, text) in cases {
-        assert!(rt; says(rt.alloc(), hex, text)?);
+fn words_worked_out_by_hand(rt: HostRuntime) {
+    for (hex, text) in BY_HAND {
+        assert!(rt; says(rt.alloc(), hex, text));
     }
-    Ok(())
 }
 
 #[test]
-fn what_is_no_word(rt: HostRuntime) -> Result<(), Fail> {
+fn what_is_no_word(rt: HostRuntime) {
     let words = "E13880|E13880C10||E13880G1|0xE13880| E13880C|-5|help|\u{ff25}3880C";
     for text in words.split('|') {
-        assert!(rt; says(rt.alloc(), text, "bad word\n")?);
+        assert!(rt; says(rt.alloc(), text, "bad word\n"));
     }
-    Ok(())
 }
 
 // The altitude's 94 bytes do not fit into fewer: the writer fails, and the bytes that fit are written.

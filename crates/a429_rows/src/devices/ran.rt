@@ -139,44 +139,105 @@ pub(super) struct Ran {
     pub files: usize,
 }
 
+// The devices of a run.
+#[derive(Drop)]
+struct Devices<'a> {
+    recording: Shaky<'a>,
+    certificate: Shaky<'a>,
+    lines: Narrow,
+    output: Narrow,
+    shelf: Frail,
+}
+
+impl Devices<'_> {
+    fn new(alloc: Global, given: &Given, plan: Plan) -> Devices<'_> {
+        Devices {
+            recording: plan.reader(given.recording.as_bytes(), plan.recording),
+            certificate: plan.reader(given.certificate.as_slice(), plan.certificate),
+            lines: writer(alloc, plan.lines),
+            output: writer(alloc, plan.output),
+            shelf: Frail::new(alloc, plan.shelf),
+        }
+    }
+
+    // Whether one of them has failed.
+    fn has_failed(&self) -> bool {
+        self.recording.has_failed()
+            || self.certificate.has_failed()
+            || self.lines.has_failed
+            || self.output.has_failed
+            || self.shelf.failed()
+    }
+}
+
+// What a command answers over these devices.
+fn answer(
+    alloc: Global,
+    files: &[Vec<u8>],
+    command: Command,
+    on: &mut Devices<'_>,
+) -> Result<u8, RunFault> {
+    match command {
+        Command::Word | Command::Labels | Command::Make => written(alloc, files, command, on),
+        Command::Show | Command::Pack | Command::Check => read(alloc, command, on),
+        Command::Verify | Command::Units | Command::Extract => held(alloc, command, on),
+        Command::Upgrade => {
+            let mut cert = Tally::new(&mut on.certificate, MOST);
+            let mut new_cert = Tally::new(&mut on.lines, 0);
+            upgrade(&mut cert, &mut new_cert, &mut Tally::new(&mut on.output, 0))
+        }
+    }
+}
+
+// What a command answers that reads no device.
+fn written(
+    alloc: Global,
+    files: &[Vec<u8>],
+    command: Command,
+    on: &mut Devices<'_>,
+) -> Result<u8, RunFault> {
+    let mut out = Tally::new(&mut on.output, 0);
+    match command {
+        Command::Labels => list(alloc, PROFILE.as_bytes(), &mut out),
+        Command::Make => make(alloc, PROFILE, files, &mut out),
+        _ => word("E13880C1", &mut out),
+    }
+}
+
+// What a command answers that reads a recording.
+fn read(alloc: Global, command: Command, on: &mut Devices<'_>) -> Result<u8, RunFault> {
+    let mut rec = Tally::new(&mut on.recording, MOST);
+    let mut cert = Tally::new(&mut on.lines, 0);
+    let mut out = Tally::new(&mut on.output, 0);
+    match command {
+        Command::Show => show(alloc, PROFILE, &mut rec, &mut out),
+        Command::Pack => pack(alloc, &mut rec, &mut out),
+        _ => check(alloc, PROFILE, &mut rec, &mut cert, &mut out),
+    }
+}
+
+// What a command answers that holds a recording against its certificate.
+fn held(alloc: Global, command: Command, on: &mut Devices<'_>) -> Result<u8, RunFault> {
+    let rec = Tally::new(&mut on.recording, MOST);
+    let mut cert = Tally::new(&mut on.certificate, MOST);
+    let mut out = Tally::new(&mut on.output, 0);
+    match command {
+        Command::Units => units(alloc, rec, &mut cert, out),
+        Command::Extract => extract(alloc, rec, &mut cert, &mut on.shelf, &mut out),
+        _ => verify(alloc, PROFILE, rec, &mut cert, &mut out),
+    }
+}
+
 /// A run of the command over such devices.
 pub(super) fn run(alloc: Global, given: &Given, command: Command, plan: Plan) -> Ran {
-    let mut reader = plan.reader(given.recording.as_bytes(), plan.recording);
-    let mut listed = plan.reader(given.certificate.as_slice(), plan.certificate);
-    let mut lines = writer(alloc, plan.lines);
-    let mut output = writer(alloc, plan.output);
-    let mut shelf = Frail::new(alloc, plan.shelf);
-    let mut rec = Tally::new(&mut reader, MOST);
-    let mut cert = Tally::new(&mut listed, MOST);
-    let mut out = Tally::new(&mut output, 0);
-    let status = match command {
-        Command::Word => word("E13880C1", &mut out),
-        Command::Labels => list(alloc, PROFILE.as_bytes(), &mut out),
-        Command::Show => show(alloc, PROFILE, &mut rec, &mut out),
-        Command::Make => make(alloc, PROFILE, given.files.as_slice(), &mut out),
-        Command::Pack => pack(alloc, &mut rec, &mut out),
-        Command::Check => check(
-            alloc,
-            PROFILE,
-            &mut rec,
-            &mut Tally::new(&mut lines, 0),
-            &mut out,
-        ),
-        Command::Verify => verify(alloc, PROFILE, rec, &mut cert, &mut out),
-        Command::Units => units(alloc, rec, &mut cert, out),
-        Command::Extract => extract(alloc, rec, &mut cert, &mut shelf, &mut out),
-        Command::Upgrade => upgrade(&mut cert, &mut Tally::new(&mut lines, 0), &mut out),
-    };
-    let has_failed = reader.has_failed()
-        || listed.has_failed()
-        || lines.has_failed
-        || output.has_failed
-        || shelf.failed();
+    let mut on = Devices::new(alloc, given, plan);
+    let status = answer(alloc, given.files.as_slice(), command, &mut on);
+    let has_failed = on.has_failed();
     Ran {
         status,
         has_failed,
-        output: output.taken,
-        lines: lines.taken,
-        files: shelf.files().len(),
+        output: on.output.taken,
+        lines: on.lines.taken,
+        files: on.shelf.files().len(),
     }
 }

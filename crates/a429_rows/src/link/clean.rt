@@ -3,6 +3,7 @@
 use crate::calls::sample;
 use a429_ldu::CutFault;
 use a429_link::{CleanFault, Seen, clean_run};
+use a429_profile::Profile;
 use a429_word::Bus;
 use std::alloc::{AllocError, Global};
 
@@ -16,39 +17,40 @@ fn files(alloc: Global, texts: &[&[u8]]) -> Result<Vec<Vec<u8>>, AllocError> {
 }
 
 // The run without loss of these files in the smallest units.
-fn run(alloc: Global, texts: &[&[u8]]) -> Option<Result<Vec<Seen>, CleanFault>> {
+fn run(alloc: Global, profile: &Profile, texts: &[&[u8]]) -> Option<Result<Vec<Seen>, CleanFault>> {
     let files = files(alloc, texts).ok()?;
-    let profile = sample(alloc)?;
-    Some(clean_run(alloc, &profile, 1, 3, files.as_slice()))
+    Some(clean_run(alloc, profile, 1, 3, files.as_slice()))
 }
 
 // Why there is no run of these files.
-fn fault(alloc: Global, texts: &[&[u8]]) -> Option<CleanFault> {
-    run(alloc, texts)?.err()
+fn fault(alloc: Global, profile: &Profile, texts: &[&[u8]]) -> Option<CleanFault> {
+    run(alloc, profile, texts)?.err()
+}
+
+// A recorded word and its bus.
+fn word_at(run: &[Seen], place: usize) -> Option<(Bus, u32)> {
+    let seen = run.get(place)?;
+    Some((seen.bus, seen.word.to_u32()))
 }
 
 // How many words the run of a file has, and those at places 3 and 5, each with its bus.
-fn words_of(alloc: Global, text: &[u8]) -> Option<(usize, (Bus, u32), (Bus, u32))> {
-    let run = run(alloc, &[text])?.ok()?;
-    let data = *run.get(3)?;
-    let answer = *run.get(5)?;
-    Some((
-        run.len(),
-        (data.bus, data.word.to_u32()),
-        (answer.bus, answer.word.to_u32()),
-    ))
+fn words_of(alloc: Global, profile: &Profile, text: &[u8]) -> Option<(usize, [(Bus, u32); 2])> {
+    let run = run(alloc, profile, &[text])?.ok()?;
+    Some((run.len(), [word_at(&run, 3)?, word_at(&run, 5)?]))
 }
 
 #[test]
 fn three_bytes_in_the_smallest_units(rt: HostRuntime) {
-    let words = words_of(rt.alloc(), &[0x41, 0x42, 0x43]);
-    assert!(rt; words == Some((12, (Bus::A, 0x1442_4123), (Bus::B, 0x4501_01A3))));
+    let profile = sample(&rt);
+    let words = words_of(rt.alloc(), &profile, &[0x41, 0x42, 0x43]);
+    assert!(rt; words == Some((12, [(Bus::A, 0x1442_4123), (Bus::B, 0x4501_01A3)])));
 }
 
 #[test]
 fn files_that_are_refused(rt: HostRuntime) {
-    let second_empty = fault(rt.alloc(), &[&[0x41], &[]]);
+    let profile = sample(&rt);
+    let second_empty = fault(rt.alloc(), &profile, &[&[0x41], &[]]);
     assert!(rt; second_empty == Some(CleanFault::Cut(1, CutFault::Empty)));
-    let too_long = fault(rt.alloc(), &[&[0; 511]]);
+    let too_long = fault(rt.alloc(), &profile, &[&[0; 511]]);
     assert!(rt; too_long == Some(CleanFault::Cut(0, CutFault::TooLong)));
 }

@@ -33,6 +33,6 @@ fn allows_as_said(alloc: Global, profile: &Profile) -> bool {
 
 #[test]
 fn words_that_are_not_granted(rt: HostRuntime) {
-    let profile = sample(rt.alloc()).expect(&rt, "a profile");
+    let profile = sample(&rt);
     assert!(rt; allows_as_said(rt.alloc(), &profile));
 }

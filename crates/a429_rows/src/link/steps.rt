@@ -1,9 +1,11 @@
 //! Steps on a link: what is delivered, and which are refused.
 
-use crate::calls::read;
+use crate::calls::{read, sample};
 use crate::link::script::Stage;
+use a429_profile::Profile;
 use a429_sample::{PROFILE, with};
 use std::alloc::Global;
+use std::process::Abort;
 use std::test::Fail;
 
 // The file of the byte 41, which is 65 in decimal. Its number is 1.
@@ -135,35 +137,48 @@ GiveUp: Err(NotAllowed)";
 // An acknowledgement that the source takes lets it give up as many again.
 const MORE_GIVEN_UP: [&str; 3] = ["GiveUp", FILE_255, MOST_GIVEN_UP];
 
-// The first line of a script in parts that goes otherwise than it says on a link under a profile.
-fn played<'s>(alloc: Global, profile: &str, parts: &[&'s str]) -> Option<&'s str> {
-    from_file(alloc, profile, 1, parts)
+// The first line of a script in parts that goes otherwise than it says on a link whose first file has this number.
+fn played<'s>(alloc: Global, profile: &Profile, first: u8, parts: &[&'s str]) -> Option<&'s str> {
+    Stage::new(alloc, profile, first).first_in_parts(parts)
 }
 
-// The same where the first file has this number.
-fn from_file<'s>(alloc: Global, profile: &str, first: u8, parts: &[&'s str]) -> Option<&'s str> {
-    match read(alloc, profile) {
-        Some(profile) => Stage::new(alloc, &profile, first).first_in_parts(parts),
-        None => Some("no profile"),
+// Each script with the number of the first file.
+const SCRIPTS: [(u8, &[&str]); 8] = [
+    (1, &[ONE_BYTE]),
+    (1, &[NOT_THERE]),
+    (1, &[FULL_FILE]),
+    (1, &[MOST_GIVEN_UP]),
+    (1, &[WAITING]),
+    (1, &AGAIN),
+    (255, &GIVEN_UP),
+    (254, &MORE_GIVEN_UP),
+];
+
+// The first line of them that goes otherwise than it says.
+fn first_that_differs(rt: &(impl Abort + AllocGlobal)) -> Option<&'static str> {
+    let profile = sample(rt);
+    first_under(rt.alloc(), &profile)
+}
+
+fn first_under(alloc: Global, profile: &Profile) -> Option<&'static str> {
+    for (first, parts) in SCRIPTS {
+        let line = played(alloc, profile, first, parts);
+        if line.is_some() {
+            return line;
+        }
     }
+    None
 }
 
 #[test]
 fn steps_go_as_the_scripts_say(rt: HostRuntime) {
-    for script in [ONE_BYTE, NOT_THERE, FULL_FILE, MOST_GIVEN_UP, WAITING] {
-        assert_eq!(rt; played(rt.alloc(), PROFILE, &[script]), None);
-    }
-    assert_eq!(rt; played(rt.alloc(), PROFILE, &AGAIN), None);
-    assert_eq!(rt; from_file(rt.alloc(), PROFILE, 255, &GIVEN_UP), None);
-    assert_eq!(rt; from_file(rt.alloc(), PROFILE, 254, &MORE_GIVEN_UP), None);
+    assert_eq!(rt; first_that_differs(&rt), None);
 }
 
 #[test]
 fn a_block_without_a_word_is_not_good(rt: HostRuntime) -> Result<(), Fail> {
-    let profile = with(rt.alloc(), PROFILE, "compare = true -> compare = false")?;
-    assert_eq!(rt;
-        played(rt.alloc(), profile.as_str(), &[WITHOUT_A_WORD]),
-        None
-    );
+    let text = with(rt.alloc(), PROFILE, "compare = true -> compare = false")?;
+    let profile = read(&rt, text.as_str());
+    assert!(rt; played(rt.alloc(), &profile, 1, &[WITHOUT_A_WORD]).is_none());
     Ok(())
 }

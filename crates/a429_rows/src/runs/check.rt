@@ -37,7 +37,7 @@ fn is_right(
 
 // Of how many of 1000 transfers the checker is right.
 fn count_right(rt: &(impl Abort + AllocGlobal), seed: u64, way: Way) -> Result<u32, Fail> {
-    let profile = sample(rt.alloc()).expect(rt, "a profile");
+    let profile = sample(rt);
     let mut chance = Chance::new(seed);
     let mut right = 0u32;
     for _ in 0..1000 {

@@ -139,7 +139,7 @@ fn short_runs(
     compare: bool,
     seed: u64,
 ) -> Result<Count, Fail> {
-    let profile = read(rt.alloc(), profile).expect(rt, "a profile");
+    let profile = read(rt, profile);
     let mut chance = Chance::new(seed);
     let mut count = NONE;
     for _ in 0..5000 {
@@ -183,7 +183,7 @@ fn long_run(
     is_open: bool,
     draws: u32,
 ) -> Result<(Count, bool), Fail> {
-    let profile = sample(rt.alloc()).expect(rt, "a profile");
+    let profile = sample(rt);
     let plan = Plan {
         first_ldu: 1,
         compare: true,

@@ -2,67 +2,67 @@
 
 ghost use Rattle.a429_ldu.specs.Form.{IsInRange};
 
-use crate::ldu::sample;
+use crate::profile::sample_profile;
 use a429_ldu::{Form, Semis, Sight, form, word_of};
+use a429_profile::Profile;
 use a429_sample::{ACK, CTS, EOT, NAK, PART, RTS, SOT};
 use a429_word::{Bus, Word};
-use std::alloc::Global;
 
-// What a word says on a bus.
-fn sight_of(alloc: Global, bus: Bus, number: u32) -> Option<Sight> {
-    let profile = sample(alloc)?;
-    Some(form(&profile, bus, Word::from_u32(number)))
-}
-
-// Whether this is what it says.
-fn says(alloc: Global, bus: Bus, number: u32, sight: Sight) -> bool {
-    match sight_of(alloc, bus, number) {
-        Some(found) => found == sight,
-        None => false,
-    }
+// Whether this is what a word says on a bus.
+fn says(profile: &Profile, bus: Bus, number: u32, sight: Sight) -> bool {
+    form(profile, bus, Word::from_u32(number)) == sight
 }
 
 // The word of a form.
-fn number_of(alloc: Global, said: Form) -> Option<u32>
+fn number_of(profile: &Profile, said: Form) -> u32
     requires { IsInRange said }
 {
-    let profile = sample(alloc)?;
-    Some(word_of(&profile, &said).to_u32())
+    word_of(profile, &said).to_u32()
 }
 
 // Whether the form is said by this word, and by no other.
-fn is_said_by(alloc: Global, said: Form, number: u32) -> bool
+fn is_said_by(profile: &Profile, said: Form, number: u32) -> bool
     requires { IsInRange said }
 {
-    number_of(alloc, said) == Some(number) && says(alloc, said.bus(), number, Sight::Form(said))
+    number_of(profile, said) == number && says(profile, said.bus(), number, Sight::Form(said))
+}
+
+const TOLD: [(Bus, u32, Sight); 10] = [
+    (Bus::A, RTS, Sight::Form(Form::Rts { count: 3 })),
+    (Bus::B, RTS, Sight::Free),
+    (Bus::A, 0xC141_0423, Sight::Form(Form::Rts { count: 4 })),
+    // A count of 2, another destination, and a code that no form has.
+    (Bus::A, 0xC141_0223, Sight::NoForm),
+    (Bus::A, 0x4142_0323, Sight::NoForm),
+    (Bus::A, 0x4441_0323, Sight::NoForm),
+    // Wrong parity, an ignored type, and an ignored code.
+    (Bus::A, 0x9200_4123, Sight::Free),
+    (Bus::A, 0x5000_0023, Sight::Free),
+    (Bus::A, 0xC300_0023, Sight::Free),
+    // A partial word of one semi-octet with another one that is not 0.
+    (Bus::A, 0x1100_4123, Sight::NoForm),
+];
+
+// The first of them that says something else.
+fn first_that_differs(profile: &Profile) -> Option<u32> {
+    for (bus, number, sight) in TOLD {
+        if !says(profile, bus, number, sight) {
+            return Some(number);
+        }
+    }
+    None
 }
 
 #[test]
 fn words_are_told_by_their_fields(rt: HostRuntime) {
-    let cases = [
-        (Bus::A, RTS, Sight::Form(Form::Rts { count: 3 })),
-        (Bus::B, RTS, Sight::Free),
-        (Bus::A, 0xC141_0423, Sight::Form(Form::Rts { count: 4 })),
-        // A count of 2, another destination, and a code that no form has.
-        (Bus::A, 0xC141_0223, Sight::NoForm),
-        (Bus::A, 0x4142_0323, Sight::NoForm),
-        (Bus::A, 0x4441_0323, Sight::NoForm),
-        // Wrong parity, an ignored type, and an ignored code.
-        (Bus::A, 0x9200_4123, Sight::Free),
-        (Bus::A, 0x5000_0023, Sight::Free),
-        (Bus::A, 0xC300_0023, Sight::Free),
-        // A partial word of one semi-octet with another one that is not 0.
-        (Bus::A, 0x1100_4123, Sight::NoForm),
-    ];
-    for (bus, number, sight) in cases {
-        assert!(rt; says(rt.alloc(), bus, number, sight));
-    }
+    let profile = sample_profile(&rt);
+    assert_eq!(rt; first_that_differs(&profile), None);
 }
 
 // Whether the partial word of some semi-octets is said by this word, and by no other.
-fn is_part(alloc: Global, digits: &[u8], number: u32) -> bool {
+fn is_part(profile: &Profile, digits: &[u8], number: u32) -> bool {
     match Semis::new(digits) {
-        Some(semis) => is_said_by(alloc, Form::Part(semis), number),
+        Some(semis) => is_said_by(profile, Form::Part(semis), number),
         None => false,
     }
 }
@@ -78,14 +78,15 @@ fn forms_have_their_words(rt: HostRuntime) {
         flags: 1,
         check: 0xA3F5,
     };
+    let profile = sample_profile(&rt);
     let are_said = [
-        is_said_by(rt.alloc(), Form::Rts { count: 3 }, RTS),
-        is_said_by(rt.alloc(), Form::Cts { count: 3 }, CTS),
-        is_said_by(rt.alloc(), start, SOT),
-        is_part(rt.alloc(), &[1, 4], PART),
-        is_said_by(rt.alloc(), end, EOT),
-        is_said_by(rt.alloc(), Form::Ack { file: 1, ldu: 1 }, ACK),
-        is_said_by(rt.alloc(), Form::Nak { bits: 0 }, NAK),
+        is_said_by(&profile, Form::Rts { count: 3 }, RTS),
+        is_said_by(&profile, Form::Cts { count: 3 }, CTS),
+        is_said_by(&profile, start, SOT),
+        is_part(&profile, &[1, 4], PART),
+        is_said_by(&profile, end, EOT),
+        is_said_by(&profile, Form::Ack { file: 1, ldu: 1 }, ACK),
+        is_said_by(&profile, Form::Nak { bits: 0 }, NAK),
     ];
     assert!(rt; are_said == [true; 7]);
 }

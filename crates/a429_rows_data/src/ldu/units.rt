@@ -2,7 +2,7 @@
 
 ghost use Rattle.std.specs.Prelude.{◌≤◌, length};
 
-use crate::ldu::sample;
+use crate::profile::sample_profile;
 use a429_ldu::{CutFault, Ldu, LduFault, block_bytes, bytes_of, check_word, cut};
 use a429_profile::{Check, Profile};
 use a429_sample::{EOT, PART, RTS, SOT};
@@ -54,33 +54,28 @@ fn carry_in_block(profile: &Profile, words: &[Word], bytes: Option<&[u8]>) -> bo
 }
 
 // The same, in both ways.
-fn carry_both(alloc: Global, words: &[Word], bytes: Option<&[u8]>) -> bool
+fn carry_both(alloc: Global, profile: &Profile, words: &[Word], bytes: Option<&[u8]>) -> bool
     requires { length words.now ≤ 253 }
 {
-    match sample(alloc) {
-        Some(profile) => {
-            carry(alloc, &profile, words, bytes) && carry_in_block(&profile, words, bytes)
-        }
-        None => false,
-    }
+    carry(alloc, profile, words, bytes) && carry_in_block(profile, words, bytes)
 }
 
 #[test]
 fn bytes_of_data_words(rt: HostRuntime) {
+    let profile = sample_profile(&rt);
     let both = [Word::from_u32(0x0342_4123), Word::from_u32(0x9100_0423)];
-    assert!(rt; carry_both(rt.alloc(), &both, Some(b"ABC".as_slice())));
+    assert!(rt; carry_both(rt.alloc(), &profile, &both, Some(b"ABC".as_slice())));
     let odd = [Word::from_u32(0x9100_0123)];
-    assert!(rt; carry_both(rt.alloc(), &odd, None));
-    assert!(rt; carry_both(rt.alloc(), &[], None));
+    assert!(rt; carry_both(rt.alloc(), &profile, &odd, None));
+    assert!(rt; carry_both(rt.alloc(), &profile, &[], None));
     // A request among data words.
     let mixed = [Word::from_u32(PART), Word::from_u32(RTS)];
-    assert!(rt; carry_both(rt.alloc(), &mixed, None));
+    assert!(rt; carry_both(rt.alloc(), &profile, &mixed, None));
 }
 
 // The link data unit of these words with a GFI of 0 and flags of 1.
-fn unit_of(alloc: Global, check: u16, words: &[Word]) -> Option<Result<Ldu, LduFault>> {
-    let profile = sample(alloc)?;
-    Some(Ldu::new(alloc, &profile, 0, 1, check, words))
+fn unit_of(alloc: Global, profile: &Profile, check: u16, words: &[Word]) -> Result<Ldu, LduFault> {
+    Ldu::new(alloc, profile, 0, 1, check, words)
 }
 
 // Whether a unit has a GFI of 0, flags of 1, and a block of so many words.
@@ -94,69 +89,77 @@ fn has_word(profile: &Profile, unit: &Ldu, place: u8, number: u32) -> bool {
 }
 
 // Whether the block of a unit has these words, as unit 1 of file 1.
-fn is_block(alloc: Global, unit: &Ldu, numbers: [u32; 3]) -> bool {
-    let Some(profile) = sample(alloc) else {
-        return false;
-    };
-    has_word(&profile, unit, 0, numbers[0])
-        && has_word(&profile, unit, 1, numbers[1])
-        && has_word(&profile, unit, 2, numbers[2])
+fn is_block(profile: &Profile, unit: &Ldu, numbers: [u32; 3]) -> bool {
+    has_word(profile, unit, 0, numbers[0])
+        && has_word(profile, unit, 1, numbers[1])
+        && has_word(profile, unit, 2, numbers[2])
 }
 
 // Whether the unit of one word is that word, with this check word and this block.
-fn is_unit(alloc: Global, number: u32, check: u16, numbers: [u32; 3]) -> bool {
+fn is_unit(alloc: Global, profile: &Profile, number: u32, check: u16, numbers: [u32; 3]) -> bool {
     let words = [Word::from_u32(number)];
-    match unit_of(alloc, check, &words) {
-        Some(Ok(unit)) => {
+    match unit_of(alloc, profile, check, &words) {
+        Ok(unit) => {
             is_last(&unit, 3)
                 && unit.check() == check
                 && unit.words() == words.as_slice()
-                && is_block(alloc, &unit, numbers)
+                && is_block(profile, &unit, numbers)
         }
-        _ => false,
+        Err(_) => false,
     }
 }
 
 #[test]
 fn a_link_data_unit_and_its_block(rt: HostRuntime) {
-    assert!(rt; is_unit(rt.alloc(), PART, 0xA3F5, [SOT, PART, EOT]));
+    let profile = sample_profile(&rt);
+    assert!(rt; is_unit(rt.alloc(), &profile, PART, 0xA3F5, [SOT, PART, EOT]));
 }
 
 // Why there is no link data unit of these words.
-fn refused(alloc: Global, check: u16, words: &[Word]) -> Option<LduFault> {
-    unit_of(alloc, check, words)?.err()
+fn refused(alloc: Global, profile: &Profile, check: u16, words: &[Word]) -> Option<LduFault> {
+    unit_of(alloc, profile, check, words).err()
 }
 
 // Why there is none of one word.
-fn one_refused(alloc: Global, check: u16, number: u32) -> Option<LduFault> {
-    refused(alloc, check, &[Word::from_u32(number)])
+fn one_refused(alloc: Global, profile: &Profile, check: u16, number: u32) -> Option<LduFault> {
+    refused(alloc, profile, check, &[Word::from_u32(number)])
 }
 
 #[test]
 fn words_that_make_no_link_data_unit(rt: HostRuntime) {
-    assert!(rt; one_refused(rt.alloc(), 0xA3F4, PART) == Some(LduFault::CheckWrong));
-    assert!(rt; one_refused(rt.alloc(), 0xA3F5, 0x9100_0123) == Some(LduFault::NotBytes));
-    assert!(rt; refused(rt.alloc(), 0xA3F5, &[]) == Some(LduFault::Count));
+    let profile = sample_profile(&rt);
+    assert!(rt; one_refused(rt.alloc(), &profile, 0xA3F4, PART) == Some(LduFault::CheckWrong));
+    assert!(rt; one_refused(rt.alloc(), &profile, 0xA3F5, 0x9100_0123) == Some(LduFault::NotBytes));
+    assert!(rt; refused(rt.alloc(), &profile, 0xA3F5, &[]) == Some(LduFault::Count));
 }
 
 // The link data units of a file, each of at most so many words.
-fn units_of(alloc: Global, bytes: &[u8], max_words: u8) -> Option<Result<Vec<Ldu>, CutFault>>
+fn units_of(
+    alloc: Global,
+    profile: &Profile,
+    bytes: &[u8],
+    max_words: u8,
+) -> Result<Vec<Ldu>, CutFault>
     requires { 3 ≤ max_words }
 {
-    let profile = sample(alloc)?;
-    Some(cut(alloc, &profile, bytes, max_words))
+    cut(alloc, profile, bytes, max_words)
 }
 
-// The same, of so many bytes 0, at most 632 of them.
-fn units_of_zeros(alloc: Global, count: usize, max_words: u8) -> Option<Result<Vec<Ldu>, CutFault>>
+// The same, of so many bytes 0, of which there are at most 632.
+fn units_of_zeros(
+    alloc: Global,
+    profile: &Profile,
+    count: usize,
+    max_words: u8,
+) -> Result<Vec<Ldu>, CutFault>
     requires { 3 ≤ max_words }
 {
-    units_of(alloc, [0; 632].get(..count)?, max_words)
+    units_of(alloc, profile, &[0; 632][..count.min(632)], max_words)
 }
 
 // The link data unit of a file, where it is one.
-fn only(units: Option<Result<Vec<Ldu>, CutFault>>) -> Option<Ldu> {
-    let mut units = units?.ok()?;
+fn only(units: Result<Vec<Ldu>, CutFault>) -> Option<Ldu> {
+    let mut units = units.ok()?;
     if units.len() == 1 { units.pop() } else { None }
 }
 
@@ -171,7 +174,8 @@ fn are_its_words(unit: Option<Ldu>, first: u32, second: u32) -> bool {
 
 #[test]
 fn a_short_file_is_one_link_data_unit(rt: HostRuntime) {
-    let unit = only(units_of(rt.alloc(), b"ABC", 255));
+    let profile = sample_profile(&rt);
+    let unit = only(units_of(rt.alloc(), &profile, b"ABC", 255));
     assert!(rt; are_its_words(unit, 0x0342_4123, 0x9100_0423));
 }
 
@@ -201,7 +205,8 @@ fn is_longest(unit: Option<Ldu>) -> bool {
 
 #[test]
 fn the_longest_link_data_unit(rt: HostRuntime) {
-    assert!(rt; is_longest(only(units_of_zeros(rt.alloc(), 632, 255))));
+    let profile = sample_profile(&rt);
+    assert!(rt; is_longest(only(units_of_zeros(rt.alloc(), &profile, 632, 255))));
 }
 
 // Whether one of the units has these flags.
@@ -221,27 +226,29 @@ fn is_ended_by_last(units: &[Ldu], count: usize) -> bool {
 }
 
 // Whether a file of so many zeros is of so many units at three words.
-fn is_of(alloc: Global, zeros: usize, count: usize) -> bool {
-    match units_of_zeros(alloc, zeros, 3) {
-        Some(Ok(units)) => is_ended_by_last(&units, count),
-        _ => false,
+fn is_of(alloc: Global, profile: &Profile, zeros: usize, count: usize) -> bool {
+    match units_of_zeros(alloc, profile, zeros, 3) {
+        Ok(units) => is_ended_by_last(&units, count),
+        Err(_) => false,
     }
 }
 
 #[test]
 fn the_longest_file_at_three_words(rt: HostRuntime) {
-    assert!(rt; is_of(rt.alloc(), 510, 255));
+    let profile = sample_profile(&rt);
+    assert!(rt; is_of(rt.alloc(), &profile, 510, 255));
 }
 
 // Why a file of zeros is not cut.
-fn not_cut(alloc: Global, count: usize, max_words: u8) -> Option<CutFault>
+fn not_cut(alloc: Global, profile: &Profile, count: usize, max_words: u8) -> Option<CutFault>
     requires { 3 ≤ max_words }
 {
-    units_of_zeros(alloc, count, max_words)?.err()
+    units_of_zeros(alloc, profile, count, max_words).err()
 }
 
 #[test]
 fn files_that_are_not_cut(rt: HostRuntime) {
-    assert!(rt; not_cut(rt.alloc(), 0, 255) == Some(CutFault::Empty));
-    assert!(rt; not_cut(rt.alloc(), 511, 3) == Some(CutFault::TooLong));
+    let profile = sample_profile(&rt);
+    assert!(rt; not_cut(rt.alloc(), &profile, 0, 255) == Some(CutFault::Empty));
+    assert!(rt; not_cut(rt.alloc(), &profile, 511, 3) == Some(CutFault::TooLong));
 }

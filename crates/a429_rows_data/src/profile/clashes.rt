@@ -54,15 +54,17 @@ bit clash 270 12: [{bit = 11, name = "gear"}, {bit = 12, name = "door"}] -> [{bi
 bit clash 201 20: [{bit = 11, name = "gear"}, {bit = 12, name = "door"}] -> [{bit = 11, name = 'a'}, {bit = 11, name = 'b'}] | kind = "bcd" -> kind = 'discrete'; flags = [{bit = 20, name = 'a'}, {bit = 20, name = 'b'}]
 "#;
 
+const CLASHES: [&str; 5] = [
+    LABEL_CLASHES,
+    NO_CLASHES,
+    CODE_CLASHES,
+    ARRAY_CLASHES,
+    BIT_CLASHES,
+];
+
 #[test]
 fn clashes(rt: HostRuntime) -> Result<(), Fail> {
-    for rows in [
-        LABEL_CLASHES,
-        NO_CLASHES,
-        CODE_CLASHES,
-        ARRAY_CLASHES,
-        BIT_CLASHES,
-    ] {
+    for rows in CLASHES {
         answers(rt.alloc(), PROFILE, rows)?;
     }
     Ok(())
@@ -108,10 +110,12 @@ code clash codes.ack codes.nak: nak = 6 -> nak = 5 | codes = [1, 2, 3, 4] -> cod
 code clash partial.codes partial.codes: codes = [1, 2, 3, 4] -> codes = [1, 1, 3, 4] | [{bit = 11, name = "gear"}, {bit = 12, name = "door"}] -> [{bit = 11, name = 'a'}, {bit = 11, name = 'b'}]
 "#;
 
+const ORDERS: [&str; 3] = [ORDER_OF_SECTIONS, ORDER_OF_LABEL_KEYS, ORDER_OF_CLASHES];
+
 // Clashes come last.
 #[test]
 fn which_fault_comes_first(rt: HostRuntime) -> Result<(), Fail> {
-    for rows in [ORDER_OF_SECTIONS, ORDER_OF_LABEL_KEYS, ORDER_OF_CLASHES] {
+    for rows in ORDERS {
         answers(rt.alloc(), PROFILE, rows)?;
     }
     Ok(())

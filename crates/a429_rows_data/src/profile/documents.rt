@@ -84,9 +84,11 @@ wrong kind check.poly: [transfer] -> check = []; [transfer] | [check] -> [other]
 wrong kind check.poly: [transfer] -> check = [{a = 1}]; [transfer] | [check] -> [other]
 ";
 
+const ROWS: [&str; 4] = [OTHER_KEYS, BAD_LINES, NO_SECTIONS, NO_TABLES];
+
 #[test]
 fn keys_and_sections(rt: HostRuntime) -> Result<(), Fail> {
-    for rows in [OTHER_KEYS, BAD_LINES, NO_SECTIONS, NO_TABLES] {
+    for rows in ROWS {
         answers(rt.alloc(), PROFILE, rows)?;
     }
     Ok(())

@@ -1,19 +1,18 @@
 //! What holds a text, numbers or flags gives them back.
 
 use a429_profile::{Flag, Flags, Numbers, Text};
-use std::alloc::Global;
-use std::test::Fail;
+use std::alloc::{AllocError, Global};
 
-fn text(alloc: Global, letters: &str) -> Result<Text, Fail> {
+fn text(alloc: Global, letters: &str) -> Result<Text, AllocError> {
     Ok(Text::new(String::from_str(alloc, letters)?))
 }
 
-fn is_given_back(alloc: Global, letters: &str) -> Result<bool, Fail> {
+fn is_given_back(alloc: Global, letters: &str) -> Result<bool, AllocError> {
     let given = text(alloc, letters)?.into_string();
     Ok(given.as_str() == letters)
 }
 
-fn are_given_back(alloc: Global) -> Result<bool, Fail> {
+fn are_given_back(alloc: Global) -> Result<bool, AllocError> {
     let mut numbers = Vec::new(alloc);
     numbers.push(5)?;
     numbers.push(3)?;
@@ -22,7 +21,7 @@ fn are_given_back(alloc: Global) -> Result<bool, Fail> {
 }
 
 // The bits of the flags that are given back.
-fn bits(alloc: Global) -> Result<[u8; 2], Fail> {
+fn bits(alloc: Global) -> Result<[u8; 2], AllocError> {
     let mut flags = Vec::new(alloc);
     flags.push(Flag {
         bit: 11,
@@ -39,10 +38,8 @@ fn bits(alloc: Global) -> Result<[u8; 2], Fail> {
 }
 
 #[test]
-fn what_was_put_in(rt: HostRuntime) -> Result<(), Fail> {
-    let alloc = rt.alloc();
-    assert!(rt; is_given_back(alloc, "gear")?);
-    assert!(rt; are_given_back(alloc)?);
-    assert_eq!(rt; bits(alloc)?, [11, 12]);
-    Ok(())
+fn what_was_put_in(rt: HostRuntime) {
+    assert!(rt; is_given_back(rt.alloc(), "gear") == Ok(true));
+    assert!(rt; are_given_back(rt.alloc()) == Ok(true));
+    assert!(rt; bits(rt.alloc()) == Ok([11, 12]));
 }

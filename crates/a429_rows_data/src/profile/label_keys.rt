@@ -79,23 +79,27 @@ good: decimals = 2: 0 | 6
 good: flags = [{bit = 11, name = "gear"}, {bit = 12, name = "door"}]: [{bit = 11, name = 'a'}, {bit = 29, name = 'a'}] | [{bit = 20, name = '12345678901234567890123456789012'}]
 "#;
 
+const KEYS: [(&str, &str); 5] = [
+    (OCTALS, NO_TEXTS),
+    (TEXTS, NO_TEXTS),
+    (KINDS, NO_TEXTS),
+    (NUMBERS, NO_INTEGERS),
+    (FLAGS, NO_FLAGS),
+];
+
 #[test]
 fn keys_of_labels(rt: HostRuntime) -> Result<(), Fail> {
-    for (rows, other_kinds) in [
-        (OCTALS, NO_TEXTS),
-        (TEXTS, NO_TEXTS),
-        (KINDS, NO_TEXTS),
-        (NUMBERS, NO_INTEGERS),
-        (FLAGS, NO_FLAGS),
-    ] {
+    for (rows, other_kinds) in KEYS {
         keys(rt.alloc(), rows, other_kinds)?;
     }
     Ok(())
 }
 
+const VALUES: [&str; 3] = [SDIS, FURTHER_LABELS, ENDS_OF_RANGES];
+
 #[test]
 fn values_of_labels(rt: HostRuntime) -> Result<(), Fail> {
-    for rows in [SDIS, FURTHER_LABELS, ENDS_OF_RANGES] {
+    for rows in VALUES {
         answers(rt.alloc(), PROFILE, rows)?;
     }
     Ok(())

@@ -1,10 +1,11 @@
 //! What is read of the sample, and of a document of other forms.
 
-use super::tells;
-use a429_profile::{Kind, Profile, read_profile};
+use super::{read, tells};
+use a429_profile::{Kind, Profile};
 use a429_sample::{PROFILE, joined, labels, sections, with};
 use std::alloc::{AllocError, Global};
 use std::fmt::{Debug, Write};
+use std::process::Abort;
 use std::test::Fail;
 
 // The numbers of the sample. The labels 304 and 305 are 196 and 197.
@@ -35,12 +36,10 @@ LabelEntry { label: 184, sdi: Some(1), name: Text { text: "Status" }, unit: Text
 314 3 Heading
 "#;
 
-// What is read of a text: its numbers, how many entries it has, the entries, a line each, and those that are found.
-fn contents(alloc: Global, text: &str) -> Result<String, Fail> {
-    let profile = read_profile(alloc, text)?;
+// A profile's numbers, how many entries it has, the entries, a line each, and those that are found.
+fn contents(alloc: Global, profile: &Profile) -> Result<String, AllocError> {
     let mut found = String::new(alloc);
-    push_contents(&mut found, &profile)?;
-    push_names(&mut found, &profile)?;
+    push_contents(&mut found, profile)?;
     Ok(found)
 }
 
@@ -59,7 +58,7 @@ fn push_contents(found: &mut String, profile: &Profile) -> Result<(), AllocError
             push_line(found, entry)?;
         }
     }
-    Ok(())
+    push_names(found, profile)
 }
 
 // The labels and SDIs that have an entry, each with the entry's name.
@@ -74,9 +73,20 @@ fn push_names(found: &mut String, profile: &Profile) -> Result<(), AllocError> {
     Ok(())
 }
 
+// What is read of a text.
+fn contents_of(rt: &(impl Abort + AllocGlobal), text: &str) -> Result<String, AllocError> {
+    let profile = read(rt, text);
+    contents(rt.alloc(), &profile)
+}
+
 // What is read of a text is these numbers and entries.
-fn says(alloc: Global, text: &str, numbers: &str, entries: &str) -> Result<(), Fail> {
-    let found = contents(alloc, text)?;
+fn says(
+    rt: &(impl Abort + AllocGlobal),
+    text: &str,
+    numbers: &str,
+    entries: &str,
+) -> Result<(), Fail> {
+    let found = contents_of(rt, text)?;
     if found.as_str().strip_prefix(numbers) == Some(entries) {
         Ok(())
     } else {
@@ -85,11 +95,16 @@ fn says(alloc: Global, text: &str, numbers: &str, entries: &str) -> Result<(), F
 }
 
 // With changes of the sample its numbers and its entries change in this way.
-fn changes_to(alloc: Global, changes: &str, numbers: &str, entries: &str) -> Result<(), Fail> {
-    let text = with(alloc, PROFILE, changes)?;
-    let numbers = with(alloc, NUMBERS, numbers)?;
-    let entries = with(alloc, ENTRIES, entries)?;
-    says(alloc, text.as_str(), numbers.as_str(), entries.as_str())
+fn changes_to(
+    rt: &(impl Abort + AllocGlobal),
+    changes: &str,
+    numbers: &str,
+    entries: &str,
+) -> Result<(), Fail> {
+    let text = with(rt.alloc(), PROFILE, changes)?;
+    let numbers = with(rt.alloc(), NUMBERS, numbers)?;
+    let entries = with(rt.alloc(), ENTRIES, entries)?;
+    says(rt, text.as_str(), numbers.as_str(), entries.as_str())
 }
 
 // Each of these keys has a number or truth value that no other of its kind has.
@@ -99,7 +114,7 @@ fn numbers_that_all_differ(rt: HostRuntime) -> Result<(), Fail> {
         "first_ldu = 1 -> first_ldu = 0 | final_bit = 25 -> final_bit = 28 | ignored = [5] -> ignored = [5, 2, 3] | ignored = [3] -> ignored = [15, 0] | codes = [1, 2, 3, 4] -> codes = [15, 0, 9, 8] | poly = 0x1021 -> poly = 1 | init = 0xFFFF -> init = 0x0102 | low_first = true -> low_first = false";
     let numbers =
         "first_ldu: 1 -> first_ldu: 0 | final_bit: 25 -> final_bit: 28 | [5] -> [5, 2, 3] | [3] -> [15, 0] | [1, 2, 3, 4] -> [15, 0, 9, 8] | poly: 4129 -> poly: 1 | init: 65535 -> init: 258 | low_first: true -> low_first: false";
-    changes_to(rt.alloc(), changes, numbers, "")
+    changes_to(&rt, changes, numbers, "")
 }
 
 // An entry more, of the last one's label.
@@ -109,27 +124,27 @@ fn one_label_with_several_sdis(rt: HostRuntime) -> Result<(), Fail> {
         r#"{bit = 12, name = "door"}] -> {bit = 12, name = "door"}]; [[label]]; octal = '270'; sdi = 2; name = 'Second'; unit = 'V'; kind = 'bcd'; digits = 1; decimals = 6"#;
     let entries =
         r#"4 -> 5 | 201 0 -> LabelEntry { label: 184, sdi: Some(2), name: Text { text: "Second" }, unit: Text { text: "V" }, kind: Bcd { digits: 1, decimals: 6 } }; 201 0 | 270 1 Status -> 270 1 Status; 270 2 Second"#;
-    changes_to(rt.alloc(), changes, "", entries)
+    changes_to(&rt, changes, "", entries)
 }
 
 #[test]
 fn an_entry_without_an_sdi(rt: HostRuntime) -> Result<(), Fail> {
     let entries =
         "sdi: Some(1) -> sdi: None | 270 1 Status -> 270 0 Status; 270 1 Status; 270 2 Status; 270 3 Status";
-    changes_to(rt.alloc(), "sdi = 1", "", entries)
+    changes_to(&rt, "sdi = 1", "", entries)
 }
 
 // The sections of the sample, below a line, without its labels.
 #[test]
 fn no_labels(rt: HostRuntime) -> Result<(), Fail> {
     let empty = with(rt.alloc(), sections(), "[transfer] -> ; [transfer]")?;
-    says(rt.alloc(), empty.as_str(), NUMBERS, "0\n")?;
+    says(&rt, empty.as_str(), NUMBERS, "0\n")?;
     let array = with(
         rt.alloc(),
         sections(),
         "[transfer] -> label = []; [transfer]",
     )?;
-    says(rt.alloc(), array.as_str(), NUMBERS, "0\n")
+    says(&rt, array.as_str(), NUMBERS, "0\n")
 }
 
 const INLINE_SECTIONS: &str = r#"
@@ -167,7 +182,7 @@ fn other_forms_of_a_table(rt: HostRuntime) -> Result<(), Fail> {
     ];
     for (sections, labels, entries) in forms {
         let text = joined(rt.alloc(), &[sections, labels])?;
-        says(rt.alloc(), text.as_str(), NUMBERS, entries)?;
+        says(&rt, text.as_str(), NUMBERS, entries)?;
     }
     Ok(())
 }
@@ -187,16 +202,15 @@ fn flag_count(profile: &Profile) -> usize {
     }
 }
 
-fn flag_count_of(alloc: Global, text: &str) -> Result<usize, Fail> {
-    let profile = read_profile(alloc, text)?;
-    Ok(flag_count(&profile))
+fn flag_count_of(rt: &(impl Abort + AllocGlobal), text: &str) -> usize {
+    let profile = read(rt, text);
+    flag_count(&profile)
 }
 
 #[test]
 fn nineteen_flags(rt: HostRuntime) -> Result<(), Fail> {
     let text = with(rt.alloc(), PROFILE, NINETEEN_FLAGS)?;
-    let count = flag_count_of(rt.alloc(), text.as_str())?;
-    assert!(rt; count == 19);
+    assert!(rt; flag_count_of(&rt, text.as_str()) == 19);
     Ok(())
 }
 

@@ -67,21 +67,25 @@ good: low_first = true: false
 good: compare = true: false
 "#;
 
+const KEYS: [(&str, &str); 3] = [
+    (ADDRESSES, NO_TEXTS),
+    (NUMBERS, NO_INTEGERS),
+    (ARRAYS, NO_ARRAYS),
+];
+
 #[test]
 fn keys_of_sections(rt: HostRuntime) -> Result<(), Fail> {
-    for (rows, other_kinds) in [
-        (ADDRESSES, NO_TEXTS),
-        (NUMBERS, NO_INTEGERS),
-        (ARRAYS, NO_ARRAYS),
-    ] {
+    for (rows, other_kinds) in KEYS {
         keys(rt.alloc(), rows, other_kinds)?;
     }
     Ok(())
 }
 
+const VALUES: [&str; 3] = [TWO_FAULTS, TRUTH_VALUES, ENDS_OF_RANGES];
+
 #[test]
 fn values_of_sections(rt: HostRuntime) -> Result<(), Fail> {
-    for rows in [TWO_FAULTS, TRUTH_VALUES, ENDS_OF_RANGES] {
+    for rows in VALUES {
         answers(rt.alloc(), PROFILE, rows)?;
     }
     Ok(())

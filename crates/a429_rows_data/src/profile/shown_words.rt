@@ -1,8 +1,7 @@
 //! What is shown of words by the sample profile.
 
-use super::read;
+use super::sample_profile;
 use a429_profile::Profile;
-use a429_sample::PROFILE;
 use a429_word::Word;
 use std::alloc::{AllocError, Global};
 
@@ -13,12 +12,9 @@ fn shown(alloc: Global, profile: &Profile, number: u32) -> Result<String, AllocE
     format!(in alloc; "{shown:?}")
 }
 
-// Whether the sample profile shows this of it.
-fn shows(alloc: Global, number: u32, wanted: &str) -> bool {
-    let Some(profile) = read(alloc, PROFILE) else {
-        return false;
-    };
-    match shown(alloc, &profile, number) {
+// Whether a profile shows this of it.
+fn shows(alloc: Global, profile: &Profile, number: u32, wanted: &str) -> bool {
+    match shown(alloc, profile, number) {
         Ok(found) => found.as_str() == wanted,
         Err(_) => false,
     }
@@ -26,29 +22,39 @@ fn shows(alloc: Global, number: u32, wanted: &str) -> bool {
 
 // The altitude is 10000 times 131072 times 5^17 over 10^17, which is 10000. In these texts the label 203 is
 // 131, 201 is 129, and 270 is 184.
+const SHOWN: [(u32, &str); 6] = [
+    (0xFFE0_C0C1, "BadParity"),
+    (0x8000_0A1D, "NoEntry"),
+    (
+        0xE138_80C1,
+        r#"Value { entry: LabelEntry { label: 131, sdi: None, name: Text { text: "Altitude" }, unit: Text { text: "ft" }, kind: Bnr { bits: 17, range: 131072, decimals: 0 } }, value: Fixed { number: 1000000000000000000000, decimals: 17 }, is_test: false }"#,
+    ),
+    (
+        0xA48D_1481,
+        r#"Status { entry: LabelEntry { label: 129, sdi: None, name: Text { text: "Distance" }, unit: Text { text: "NM" }, kind: Bcd { digits: 5, decimals: 2 } }, status: NoData }"#,
+    ),
+    (
+        0x04A9_1481,
+        r#"BadDigit { entry: LabelEntry { label: 129, sdi: None, name: Text { text: "Distance" }, unit: Text { text: "NM" }, kind: Bcd { digits: 5, decimals: 2 } }, place: 3 }"#,
+    ),
+    (
+        0x4000_091D,
+        r#"Bits { entry: LabelEntry { label: 184, sdi: Some(1), name: Text { text: "Status" }, unit: Text { text: "" }, kind: Discrete { flags: Flags { flags: [Flag { bit: 11, name: Text { text: "gear" } }, Flag { bit: 12, name: Text { text: "door" } }] } } }, field: 2, is_test: true }"#,
+    ),
+];
+
+// The first of them that is shown in another way.
+fn first_that_differs(alloc: Global, profile: &Profile) -> Option<u32> {
+    for (number, wanted) in SHOWN {
+        if !shows(alloc, profile, number, wanted) {
+            return Some(number);
+        }
+    }
+    None
+}
+
 #[test]
 fn words_of_each_kind(rt: HostRuntime) {
-    let cases = [
-        (0xFFE0_C0C1, "BadParity"),
-        (0x8000_0A1D, "NoEntry"),
-        (
-            0xE138_80C1,
-            r#"Value { entry: LabelEntry { label: 131, sdi: None, name: Text { text: "Altitude" }, unit: Text { text: "ft" }, kind: Bnr { bits: 17, range: 131072, decimals: 0 } }, value: Fixed { number: 1000000000000000000000, decimals: 17 }, is_test: false }"#,
-        ),
-        (
-            0xA48D_1481,
-            r#"Status { entry: LabelEntry { label: 129, sdi: None, name: Text { text: "Distance" }, unit: Text { text: "NM" }, kind: Bcd { digits: 5, decimals: 2 } }, status: NoData }"#,
-        ),
-        (
-            0x04A9_1481,
-            r#"BadDigit { entry: LabelEntry { label: 129, sdi: None, name: Text { text: "Distance" }, unit: Text { text: "NM" }, kind: Bcd { digits: 5, decimals: 2 } }, place: 3 }"#,
-        ),
-        (
-            0x4000_091D,
-            r#"Bits { entry: LabelEntry { label: 184, sdi: Some(1), name: Text { text: "Status" }, unit: Text { text: "" }, kind: Discrete { flags: Flags { flags: [Flag { bit: 11, name: Text { text: "gear" } }, Flag { bit: 12, name: Text { text: "door" } }] } } }, field: 2, is_test: true }"#,
-        ),
-    ];
-    for (number, wanted) in cases {
-        assert!(rt; shows(rt.alloc(), number, wanted));
-    }
+    let profile = sample_profile(&rt);
+    assert_eq!(rt; first_that_differs(rt.alloc(), &profile), None);
 }

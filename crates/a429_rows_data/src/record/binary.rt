@@ -2,13 +2,12 @@
 
 ghost use Rattle.a429_record.specs.Recording.{IsRecordable};
 
-use crate::record::{entry, stands_for};
-use a429_record::{Entry, EntryReader, ReadFault, read_entries, write_binary};
+use crate::record::{Answer, count, count_in, entry, failed, five_answers, stands_for};
+use a429_record::{Entry, ReadFault, write_binary};
 use a429_sample::{ACK, CTS, EOT, Endless, Narrow, PART, RTS, SOT, Shaky};
 use a429_word::{Bus, Device, Tally};
 use std::alloc::{AllocError, Global};
-use std::io::{ErrorKind, Read, Write};
-use std::test::Fail;
+use std::io::{ErrorKind, Write};
 
 // The transfer of a file of one byte: eight bytes, and thirteen for each of its six entries.
 const PACKED: &[u8] = b"A429REC1\
@@ -18,16 +17,6 @@ const PACKED: &[u8] = b"A429REC1\
 \x00\x00\x00\x00\x00\x00\x0B\xB8\x41\x12\x00\x41\x23\
 \x00\x00\x00\x00\x00\x00\x0F\xA0\x41\x71\xA3\xF5\x23\
 \x00\x00\x00\x00\x00\x00\x13\x88\x42\x45\x01\x01\xA3";
-
-// How many entries a tally gives, or its fault.
-fn count<R: Read>(alloc: Global, rec: &mut Tally<R>) -> Result<usize, ReadFault> {
-    let entries = read_entries(alloc, rec)?;
-    Ok(entries.len())
-}
-
-fn count_in(alloc: Global, bytes: &[u8]) -> Result<usize, ReadFault> {
-    count(alloc, &mut Tally::new(bytes, 1000))
-}
 
 // The packed recording with other bytes from a place on.
 fn with_bytes(alloc: Global, place: usize, bytes: &[u8]) -> Result<Vec<u8>, AllocError> {
@@ -63,7 +52,7 @@ fn is_packed(alloc: Global, entries: &[Entry], wanted: &[u8]) -> bool
 }
 
 #[test]
-fn a_file_of_one_byte(rt: HostRuntime) -> Result<(), Fail> {
+fn a_file_of_one_byte(rt: HostRuntime) {
     let entries = [
         entry(0, Bus::A, RTS),
         entry(1000, Bus::B, CTS),
@@ -74,38 +63,43 @@ fn a_file_of_one_byte(rt: HostRuntime) -> Result<(), Fail> {
     ];
     assert!(rt; PACKED.len() == 86);
     assert!(rt; is_packed(rt.alloc(), &entries, PACKED));
-    assert!(rt; stands_for(rt.alloc(), PACKED, &entries)?);
+    assert!(rt; stands_for(rt.alloc(), PACKED, &entries));
     assert!(rt; is_packed(rt.alloc(), &[], b"A429REC1"));
-    Ok(())
+}
+
+// What is answered to so many bytes of the packed recording: the first eight are its header, and each entry has thirteen.
+fn answer_to(len: usize) -> Result<usize, ReadFault> {
+    if len < 8 {
+        return Err(ReadFault::Header);
+    }
+    let whole = (len - 8) / 13;
+    if (len - 8) % 13 == 0 {
+        Ok(whole)
+    } else {
+        Err(ReadFault::Row(whole))
+    }
 }
 
 #[test]
 fn cut_at_each_byte(rt: HostRuntime) {
-    for len in 0..8 {
-        assert!(rt; count_in(rt.alloc(), &PACKED[..len]) == Err(ReadFault::Header));
+    for len in 0..=PACKED.len() {
+        assert!(rt; count_in(rt.alloc(), &PACKED[..len]) == answer_to(len));
     }
-    for whole in 0..6 {
-        let start = 8 + 13 * whole;
-        assert!(rt; count_in(rt.alloc(), &PACKED[..start]) == Ok(whole));
-        for len in start + 1..start + 13 {
-            assert!(rt; count_in(rt.alloc(), &PACKED[..len]) == Err(ReadFault::Row(whole)));
-        }
-    }
-    assert!(rt; count_in(rt.alloc(), PACKED) == Ok(6));
 }
+
+const CHANGED: [(usize, &[u8], ReadFault); 7] = [
+    (16, b"\x43", ReadFault::Row(0)),
+    (16, b"\x61", ReadFault::Row(0)),
+    (81, b"\x00", ReadFault::Row(5)),
+    (14, b"\x07\xD0", ReadFault::TimeBack(1)),
+    (8, b"\x01", ReadFault::TimeBack(1)),
+    (7, b"2", ReadFault::Header),
+    (0, b"a", ReadFault::Header),
+];
 
 #[test]
 fn changed_bytes(rt: HostRuntime) {
-    let cases: [(usize, &[u8], ReadFault); 7] = [
-        (16, b"\x43", ReadFault::Row(0)),
-        (16, b"\x61", ReadFault::Row(0)),
-        (81, b"\x00", ReadFault::Row(5)),
-        (14, b"\x07\xD0", ReadFault::TimeBack(1)),
-        (8, b"\x01", ReadFault::TimeBack(1)),
-        (7, b"2", ReadFault::Header),
-        (0, b"a", ReadFault::Header),
-    ];
-    for (place, bytes, fault) in cases {
+    for (place, bytes, fault) in CHANGED {
         assert!(rt; count_with(rt.alloc(), place, bytes) == Err(fault));
     }
 }
@@ -125,16 +119,17 @@ fn fails_behind(alloc: Global, bytes: &[u8]) -> Result<usize, ReadFault> {
     count(alloc, &mut Tally::new(bytes, bytes.len() as u64))
 }
 
+const BEFORE_FAILURE: [(&[u8], ReadFault); 5] = [
+    (b"A429REC1\0\0\0\0\0\0\0\0CABCD", ReadFault::Row(0)),
+    (b"A429REC1\0\0\0\0\0\0\0\0CABC", ReadFault::Device),
+    (b"A429REC1", ReadFault::Device),
+    (b"A429", ReadFault::Device),
+    (b"A4\n", ReadFault::Header),
+];
+
 #[test]
 fn a_fault_before_the_reader_fails(rt: HostRuntime) {
-    let cases: [(&[u8], ReadFault); 5] = [
-        (b"A429REC1\0\0\0\0\0\0\0\0CABCD", ReadFault::Row(0)),
-        (b"A429REC1\0\0\0\0\0\0\0\0CABC", ReadFault::Device),
-        (b"A429REC1", ReadFault::Device),
-        (b"A429", ReadFault::Device),
-        (b"A4\n", ReadFault::Header),
-    ];
-    for (bytes, fault) in cases {
+    for (bytes, fault) in BEFORE_FAILURE {
         assert!(rt; fails_behind(rt.alloc(), bytes) == Err(fault));
     }
 }
@@ -149,13 +144,21 @@ fn a_million_and_one_pieces(rt: HostRuntime) {
     assert!(rt; count(rt.alloc(), &mut rec) == Err(ReadFault::TooMany));
 }
 
+// The first two entries, and then the fault of a piece that is cut off.
+fn two_and_a_fault() -> [Answer; 5] {
+    [
+        (Ok(Some(entry(0, Bus::A, RTS))), false),
+        (Ok(Some(entry(1000, Bus::B, CTS))), false),
+        (Err(ReadFault::Row(2)), false),
+        failed(false),
+        failed(false),
+    ]
+}
+
 #[test]
 fn entry_by_entry(rt: HostRuntime) {
-    let mut reader = EntryReader::new(rt.alloc(), Tally::new(&PACKED[..40], 1000));
-    assert!(rt; reader.next() == Ok(Some(entry(0, Bus::A, RTS))));
-    assert!(rt; reader.next() == Ok(Some(entry(1000, Bus::B, CTS))));
-    assert!(rt; reader.next() == Err(ReadFault::Row(2)));
-    assert!(rt; reader.next() == Err(ReadFault::Failed));
+    let answers = five_answers(rt.alloc(), Tally::new(&PACKED[..40], 1000));
+    assert!(rt; answers == two_and_a_fault());
 }
 
 // What a writer of so many bytes answers to a binary recording of one entry.

@@ -1,8 +1,8 @@
 //! Recordings read entry by entry: after the end there is none, after a fault comes `Failed`.
 
-use crate::record::entry;
-use a429_record::{EntryReader, ReadFault};
-use a429_word::{Bus, Failing, Tally};
+use crate::record::{Answer, entry, failed, five_answers};
+use a429_record::ReadFault;
+use a429_word::{Bus, Tally};
 use std::io;
 use std::io::Read;
 
@@ -22,6 +22,26 @@ impl Read for Pieces<'_> {
     }
 }
 
+// The two entries.
+fn both() -> [Answer; 2] {
+    [
+        (Ok(Some(entry(0, Bus::A, 0x4141_0323))), false),
+        (Ok(Some(entry(1000, Bus::B, 0xC241_03A3))), false),
+    ]
+}
+
+// The two entries, and then no more.
+fn all() -> [Answer; 5] {
+    let [first, second] = both();
+    [
+        first,
+        second,
+        (Ok(None), false),
+        (Ok(None), false),
+        (Ok(None), false),
+    ]
+}
+
 #[test]
 fn pieces_of_every_size(rt: HostRuntime) {
     for most in 1..44 {
@@ -29,43 +49,48 @@ fn pieces_of_every_size(rt: HostRuntime) {
             bytes: TWO_ENTRIES,
             most,
         };
-        let mut reader = EntryReader::new(rt.alloc(), Tally::new(pieces, 1000));
-        assert!(rt; reader.next() == Ok(Some(entry(0, Bus::A, 0x4141_0323))));
-        assert!(rt; reader.next() == Ok(Some(entry(1000, Bus::B, 0xC241_03A3))));
-        assert!(rt; reader.next() == Ok(None));
-        assert!(rt; reader.next() == Ok(None));
-        assert!(rt; reader.next() == Ok(None));
+        assert!(rt; five_answers(rt.alloc(), Tally::new(pieces, 1000)) == all());
     }
+}
+
+const WITH_A_FAULT: [(&[u8], ReadFault); 3] = [
+    (b"0,A,41410323\n", ReadFault::Header),
+    (
+        b"time,bus,word\n0,A,4141032\n1000,B,C24103A3\n",
+        ReadFault::Row(0),
+    ),
+    (
+        b"time,bus,word\n0,C,41410323\n1000,B,C24103A3\n",
+        ReadFault::Row(0),
+    ),
+];
+
+// A fault of the text, and then `Failed`.
+fn faulty(fault: ReadFault) -> [Answer; 5] {
+    [
+        (Err(fault), false),
+        failed(false),
+        failed(false),
+        failed(false),
+        failed(false),
+    ]
 }
 
 #[test]
 fn failed_after_a_fault(rt: HostRuntime) {
-    let cases: [(&[u8], ReadFault); 3] = [
-        (b"0,A,41410323\n", ReadFault::Header),
-        (
-            b"time,bus,word\n0,A,4141032\n1000,B,C24103A3\n",
-            ReadFault::Row(0),
-        ),
-        (
-            b"time,bus,word\n0,C,41410323\n1000,B,C24103A3\n",
-            ReadFault::Row(0),
-        ),
-    ];
-    for (text, fault) in cases {
-        let mut reader = EntryReader::new(rt.alloc(), Tally::new(text, 1000));
-        assert!(rt; reader.next() == Err(fault));
-        assert!(rt; reader.next() == Err(ReadFault::Failed));
-        assert!(rt; reader.next() == Err(ReadFault::Failed));
+    for (text, fault) in WITH_A_FAULT {
+        assert!(rt; five_answers(rt.alloc(), Tally::new(text, 1000)) == faulty(fault));
     }
+}
+
+// The two entries, a device that fails, and then `Failed`.
+fn cut_off() -> [Answer; 5] {
+    let [first, second] = both();
+    let device = (Err(ReadFault::Device), true);
+    [first, second, device, failed(true), failed(true)]
 }
 
 #[test]
 fn failed_after_a_device(rt: HostRuntime) {
-    let mut reader = EntryReader::new(rt.alloc(), Tally::new(TWO_ENTRIES, 43));
-    assert!(rt; reader.next() == Ok(Some(entry(0, Bus::A, 0x4141_0323))));
-    assert!(rt; reader.next() == Ok(Some(entry(1000, Bus::B, 0xC241_03A3))));
-    assert!(rt; !reader.failed());
-    assert!(rt; reader.next() == Err(ReadFault::Device));
-    assert!(rt; reader.failed());
-    assert!(rt; reader.next() == Err(ReadFault::Failed));
+    assert!(rt; five_answers(rt.alloc(), Tally::new(TWO_ENTRIES, 43)) == cut_off());
 }

@@ -1,29 +1,16 @@
 //! Values from outside for what a text stands for, and readers that fail or give it in pieces.
 
-use crate::record::{entry, stands_for};
-use a429_record::{Entry, ReadFault, read_entries};
+use crate::record::{count, count_in, entry, stands_for};
+use a429_record::{Entry, ReadFault};
 use a429_sample::{Endless, Shaky};
 use a429_word::{Bus, Failing, Tally};
 use std::alloc::{AllocError, Global};
-use std::io::Read;
-use std::test::Fail;
-
-// How many entries a tally gives, or its fault.
-fn count<R: Read>(alloc: Global, rec: &mut Tally<R>) -> Result<usize, ReadFault> {
-    let entries = read_entries(alloc, rec)?;
-    Ok(entries.len())
-}
 
 // The header, and then these bytes.
 fn after_header(alloc: Global, rows: &[u8]) -> Result<Vec<u8>, AllocError> {
     let mut text = b"time,bus,word\n".to_vec(alloc)?;
     text.extend_from_slice(rows)?;
     Ok(text)
-}
-
-// How many entries a text has, or its fault.
-fn count_in(alloc: Global, text: &[u8]) -> Result<usize, ReadFault> {
-    count(alloc, &mut Tally::new(text, 1_000_000))
 }
 
 // How many entries stand in these rows behind the header, or their fault.
@@ -35,9 +22,11 @@ fn count_in_rows(alloc: Global, rows: &[u8]) -> Result<usize, ReadFault> {
 }
 
 // Whether the rows behind the header are read as these entries.
-fn are_read(alloc: Global, rows: &[u8], entries: &[Entry]) -> Result<bool, Fail> {
-    let text = after_header(alloc, rows)?;
-    Ok(stands_for(alloc, &text, entries)?)
+fn are_read(alloc: Global, rows: &[u8], entries: &[Entry]) -> bool {
+    match after_header(alloc, rows) {
+        Ok(text) => stands_for(alloc, &text, entries),
+        Err(_) => false,
+    }
 }
 
 const ONE_ENTRY: [&[u8]; 12] = [
@@ -62,24 +51,23 @@ const TWO_ENTRIES: [&[u8]; 3] = [
 ];
 
 // Whether all of these rows are read as these entries.
-fn are_all_read(alloc: Global, rows: &[&[u8]], entries: &[Entry]) -> Result<bool, Fail> {
+fn are_all_read(alloc: Global, rows: &[&[u8]], entries: &[Entry]) -> bool {
     for row in rows {
-        if !are_read(alloc, row, entries)? {
-            return Ok(false);
+        if !are_read(alloc, row, entries) {
+            return false;
         }
     }
-    Ok(true)
+    true
 }
 
 #[test]
-fn rows_of_entries(rt: HostRuntime) -> Result<(), Fail> {
+fn rows_of_entries(rt: HostRuntime) {
     let entries = [entry(7, Bus::A, 0xC141_0223), entry(u64::MAX, Bus::B, 0)];
-    assert!(rt; are_all_read(rt.alloc(), &ONE_ENTRY, &entries[..1])?);
-    assert!(rt; are_all_read(rt.alloc(), &TWO_ENTRIES, &entries)?);
-    Ok(())
+    assert!(rt; are_all_read(rt.alloc(), &ONE_ENTRY, &entries[..1]));
+    assert!(rt; are_all_read(rt.alloc(), &TWO_ENTRIES, &entries));
 }
 
-const NO_ENTRIES: [&[u8]; 24] = [
+const NO_ENTRIES: &[&[u8]] = &[
     b"0,C,41410323\n",
     b"0,A,4141032\n",
     b"0,A\n",
@@ -111,16 +99,23 @@ fn rows_that_are_no_entries(rt: HostRuntime) {
     for row in NO_ENTRIES {
         assert!(rt; count_in_rows(rt.alloc(), row) == Err(ReadFault::Row(0)));
     }
-    let second = b"5,A,41410323\n\n4,A,4141032\n";
-    assert!(rt; count_in_rows(rt.alloc(), second) == Err(ReadFault::Row(1)));
 }
 
+// The second row has a fault, or a time falls.
+const LATER_FAULTS: [(&[u8], ReadFault); 3] = [
+    (b"5,A,41410323\n\n4,A,4141032\n", ReadFault::Row(1)),
+    (b"5,A,41410323\n4,A,41410323\n", ReadFault::TimeBack(1)),
+    (
+        b"5,A,41410323\n5,B,41410323\n4,A,41410323\nx\n",
+        ReadFault::TimeBack(2),
+    ),
+];
+
 #[test]
-fn times_that_fall(rt: HostRuntime) {
-    let second = b"5,A,41410323\n4,A,41410323\n";
-    assert!(rt; count_in_rows(rt.alloc(), second) == Err(ReadFault::TimeBack(1)));
-    let third = b"5,A,41410323\n5,B,41410323\n4,A,41410323\nx\n";
-    assert!(rt; count_in_rows(rt.alloc(), third) == Err(ReadFault::TimeBack(2)));
+fn faults_of_later_rows(rt: HostRuntime) {
+    for (rows, fault) in LATER_FAULTS {
+        assert!(rt; count_in_rows(rt.alloc(), rows) == Err(fault));
+    }
 }
 
 const HEADERS: [&[u8]; 5] = [
@@ -240,12 +235,17 @@ fn long_rows(alloc: Global, digits: u32) -> Result<Vec<u8>, AllocError> {
     Ok(rows)
 }
 
+// Whether so many digits behind an entry's row are told as the fault of row 1, or the entry stands alone where
+// there are none.
+fn is_long_read(alloc: Global, digits: u32) -> bool {
+    match long_rows(alloc, digits) {
+        Ok(rows) if digits == 0 => are_read(alloc, &rows, &[entry(7, Bus::A, 0xC141_0223)]),
+        Ok(rows) => count_in_rows(alloc, &rows) == Err(ReadFault::Row(1)),
+        Err(_) => false,
+    }
+}
+
 #[test]
-fn lines_longer_than_the_buffer(rt: HostRuntime) -> Result<(), Fail> {
-    let entries = [entry(7, Bus::A, 0xC141_0223)];
-    let returns = long_rows(rt.alloc(), 0)?;
-    assert!(rt; are_read(rt.alloc(), &returns, &entries)?);
-    let digits = long_rows(rt.alloc(), 5000)?;
-    assert!(rt; count_in_rows(rt.alloc(), &digits) == Err(ReadFault::Row(1)));
-    Ok(())
+fn lines_longer_than_the_buffer(rt: HostRuntime) {
+    assert!(rt; is_long_read(rt.alloc(), 0) && is_long_read(rt.alloc(), 5000));
 }

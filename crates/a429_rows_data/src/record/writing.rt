@@ -3,12 +3,11 @@
 ghost use Rattle.a429_record.specs.Recording.{IsRecordable};
 
 use crate::record::{entry, stands_for};
-use a429_record::{Entry, ReadFault, WriteFault, read_entries, write_entries};
+use a429_record::{Entry, WriteFault, read_entries, write_entries};
 use a429_sample::{CTS, EOT, Narrow, PART, RTS, SOT};
 use a429_word::{Bus, Failing, Tally};
 use std::alloc::Global;
 use std::io::{ErrorKind, Write};
-use std::test::Fail;
 
 // What a writer answers to a recording of these entries.
 fn write<W: Write>(alloc: Global, out: &mut Tally<W>, entries: &[Entry]) -> Result<(), WriteFault>
@@ -27,13 +26,15 @@ fn is_written(alloc: Global, entries: &[Entry], wanted: &[u8]) -> bool
 }
 
 // Whether a text is written of the entries that are read in it.
-fn is_written_again(alloc: Global, text: &[u8]) -> Result<bool, ReadFault> {
-    let entries = read_entries(alloc, &mut Tally::new(text, 1000))?;
-    Ok(is_written(alloc, &entries, text))
+fn is_written_again(alloc: Global, text: &[u8]) -> bool {
+    match read_entries(alloc, &mut Tally::new(text, 1000)) {
+        Ok(entries) => is_written(alloc, &entries, text),
+        Err(_) => false,
+    }
 }
 
 #[test]
-fn a_file_of_one_byte(rt: HostRuntime) -> Result<(), Fail> {
+fn a_file_of_one_byte(rt: HostRuntime) {
     let entries = [
         entry(0, Bus::A, RTS),
         entry(1000, Bus::B, CTS),
@@ -45,9 +46,8 @@ fn a_file_of_one_byte(rt: HostRuntime) -> Result<(), Fail> {
     let wanted: &[u8] =
         b"time,bus,word\n0,A,41410323\n1000,B,C24103A3\n2000,A,60010123\n3000,A,12004123\n4000,A,71A3F523\n18446744073709551615,B,000000AF\n";
     assert!(rt; is_written(rt.alloc(), &entries, wanted));
-    assert!(rt; stands_for(rt.alloc(), wanted, &entries)?);
-    assert!(rt; is_written_again(rt.alloc(), wanted)?);
-    Ok(())
+    assert!(rt; stands_for(rt.alloc(), wanted, &entries));
+    assert!(rt; is_written_again(rt.alloc(), wanted));
 }
 
 #[test]

@@ -13,22 +13,23 @@ fn digits(number: u32, count: u8) -> Option<Result<u32, u8>> {
     }
 }
 
+const READ: [(u32, u8, Result<u32, u8>); 10] = [
+    // Label 201: the digits 1, 2, 3, 4, 5; the third group 10; minus zero.
+    (0x048d_1481, 5, Ok(12345)),
+    (0x04a9_1481, 5, Err(3)),
+    (0xe000_0081, 5, Ok(0)),
+    (0xffff_ffff, 5, Err(2)),
+    (0x0000_2800, 5, Err(5)),
+    (0x048d_1481, 2, Ok(12)),
+    (0x04a9_1481, 2, Ok(12)),
+    (0x1e7f_fc00, 2, Ok(79)),
+    (0x04a9_1481, 3, Err(3)),
+    (0xffff_ffff, 1, Ok(7)),
+];
+
 #[test]
 fn digits_of_known_words(rt: HostRuntime) {
-    let cases = [
-        // Label 201: the digits 1, 2, 3, 4, 5; the third group 10; minus zero.
-        (0x048d_1481, 5, Ok(12345)),
-        (0x04a9_1481, 5, Err(3)),
-        (0xe000_0081, 5, Ok(0)),
-        (0xffff_ffff, 5, Err(2)),
-        (0x0000_2800, 5, Err(5)),
-        (0x048d_1481, 2, Ok(12)),
-        (0x04a9_1481, 2, Ok(12)),
-        (0x1e7f_fc00, 2, Ok(79)),
-        (0x04a9_1481, 3, Err(3)),
-        (0xffff_ffff, 1, Ok(7)),
-    ];
-    for (number, count, wanted) in cases {
+    for (number, count, wanted) in READ {
         assert!(rt; digits(number, count) == Some(wanted));
     }
 }

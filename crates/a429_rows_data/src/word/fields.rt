@@ -16,19 +16,20 @@ fn fields(number: u32) -> (u32, u8, u8, u32, u8, bool) {
     )
 }
 
+const FIELDS: [(u32, u8, u8, u32, u8, bool); 5] = [
+    // An altitude in normal operation, and the same with bit 32 turned.
+    (0xe138_80c1, 0o203, 0, 0x4e20, 3, true),
+    (0x6138_80c1, 0o203, 0, 0x4e20, 3, false),
+    // A discrete word, whose SDI is 2.
+    (0x8000_0a1d, 0o270, 2, 2, 0, true),
+    // A distance: bits 31 and 30 are 0 and 1.
+    (0xa48d_1481, 0o201, 0, 0x1_2345, 1, true),
+    (0, 0, 0, 0, 0, false),
+];
+
 #[test]
 fn fields_of_known_words(rt: HostRuntime) {
-    let words = [
-        // An altitude in normal operation, and the same with bit 32 turned.
-        (0xe138_80c1, 0o203, 0, 0x4e20, 3, true),
-        (0x6138_80c1, 0o203, 0, 0x4e20, 3, false),
-        // A discrete word, whose SDI is 2.
-        (0x8000_0a1d, 0o270, 2, 2, 0, true),
-        // A distance: bits 31 and 30 are 0 and 1.
-        (0xa48d_1481, 0o201, 0, 0x1_2345, 1, true),
-        (0, 0, 0, 0, 0, false),
-    ];
-    for word in words {
+    for word in FIELDS {
         assert!(rt; fields(word.0) == word);
     }
 }
@@ -49,21 +50,22 @@ fn raw(number: u32, bits: u8) -> Option<i32> {
     }
 }
 
+const RAW_READ: [(u32, u8, i32); 10] = [
+    (0xe138_80c1, 18, 20000),
+    (0x6000_0433, 18, 1),
+    (0x7000_0033, 18, -262_144),
+    (0x6fff_fc33, 18, 262_143),
+    (0, 18, 0),
+    (0xe138_80c1, 17, 10000),
+    (0x7fe0_c0c1, 17, -1000),
+    (0xf000_00c1, 17, -131_072),
+    (0x1000_0000, 1, -2),
+    (0x0800_0000, 1, 1),
+];
+
 #[test]
 fn raw_numbers(rt: HostRuntime) {
-    let cases = [
-        (0xe138_80c1, 18, 20000),
-        (0x6000_0433, 18, 1),
-        (0x7000_0033, 18, -262_144),
-        (0x6fff_fc33, 18, 262_143),
-        (0, 18, 0),
-        (0xe138_80c1, 17, 10000),
-        (0x7fe0_c0c1, 17, -1000),
-        (0xf000_00c1, 17, -131_072),
-        (0x1000_0000, 1, -2),
-        (0x0800_0000, 1, 1),
-    ];
-    for (number, bits, wanted) in cases {
+    for (number, bits, wanted) in RAW_READ {
         assert!(rt; raw(number, bits) == Some(wanted));
     }
 }
@@ -107,17 +109,18 @@ fn read_hex(text: &[u8]) -> Option<u32> {
     Some(word.to_u32())
 }
 
+const TEXTS: [([u8; 8], u32); 3] = [
+    (*b"E13880C1", 0xe138_80c1),
+    (*b"e13880c1", 0xe138_80c1),
+    (*b"00000000", 0),
+];
+
 #[test]
 fn hexadecimal(rt: HostRuntime) {
     for (number, text) in [(0xe138_80c1, *b"E13880C1"), (0x0000_9aaf, *b"00009AAF")] {
         assert!(rt; Word::from_u32(number).hex() == text);
     }
-    let texts = [
-        (*b"E13880C1", 0xe138_80c1),
-        (*b"e13880c1", 0xe138_80c1),
-        (*b"00000000", 0),
-    ];
-    for (text, number) in texts {
+    for (text, number) in TEXTS {
         assert!(rt; read_hex(&text) == Some(number));
     }
 }

@@ -21,17 +21,26 @@ fn fault(tally: &mut Tally<&mut Shaky<'_>>, all: &mut Vec<u8>) -> Option<ErrorKi
     }
 }
 
+// What a tally over a reader that is interrupted answers: whether a fault of another kind, and then whether it still reads.
+fn answers_to_interruption(shaky: &mut Shaky<'_>, all: &mut Vec<u8>) -> (bool, bool, [bool; 3]) {
+    let mut tally = Tally::new(shaky, 100);
+    let kind = fault(&mut tally, all);
+    let (failed, reads) = still_reads(&mut tally);
+    (
+        kind.is_some() && kind != Some(ErrorKind::Interrupted),
+        failed,
+        reads,
+    )
+}
+
 #[test]
 fn interrupted_in_mid_stream_is_a_failure(rt: HostRuntime) {
     let mut shaky = Shaky::new(b"abcd", 3);
-    let mut tally = Tally::new(&mut shaky, 100);
     let mut all = Vec::new(rt.alloc());
-    let kind = fault(&mut tally, &mut all);
-    assert!(rt; kind.is_some() && kind != Some(ErrorKind::Interrupted));
-    assert!(rt; still_reads(&mut tally) == (true, [false; 3]));
-    assert!(rt; all.as_slice() == b"ab".as_slice());
+    let answers = answers_to_interruption(&mut shaky, &mut all);
     // A failed tally leaves its reader alone.
-    assert!(rt; shaky.calls == 3);
+    assert!(rt; answers == (true, true, [false; 3]) && shaky.calls == 3);
+    assert!(rt; all.as_slice() == b"ab".as_slice());
 }
 
 // What three reads of up to four bytes answer, `None` for a failure, and after each whether the
@@ -82,15 +91,21 @@ fn puts_and_writes(tally: &mut Tally<&mut Narrow>, bytes: &[u8]) -> (bool, bool,
     (puts, writes, tally.failed())
 }
 
+// What a tally answers over a writer that takes nothing: to no bytes, to one and to none again; and to a write of none.
+fn answers_over_nothing(inner: &mut Narrow) -> ([(bool, bool, bool); 3], bool) {
+    let mut tally = Tally::new(inner, 0);
+    let first = puts_and_writes(&mut tally, b"");
+    let one = puts_and_writes(&mut tally, b"a");
+    let last = puts_and_writes(&mut tally, b"");
+    ([first, one, last], tally.write_all(b"").is_ok())
+}
+
+// Nothing is asked of the writer for no bytes, and a write of none may take none.
 #[test]
 fn a_writer_that_takes_nothing_is_a_failure(rt: HostRuntime) {
     let mut inner = Narrow::new(rt.alloc(), 0, None);
-    let mut tally = Tally::new(&mut inner, 0);
-    // Nothing is asked of the writer, and a write of no bytes may take none.
-    assert!(rt; puts_and_writes(&mut tally, b"") == (true, true, false));
-    assert!(rt; puts_and_writes(&mut tally, b"a") == (false, false, true));
-    assert!(rt; puts_and_writes(&mut tally, b"") == (false, false, true));
-    assert!(rt; tally.write_all(b"").is_err());
+    let fails = (false, false, true);
+    assert!(rt; answers_over_nothing(&mut inner) == ([(true, true, false), fails, fails], false));
 }
 
 // The kind of error that a write of one byte meets.
@@ -101,14 +116,21 @@ fn write_fault(tally: &mut Tally<&mut Narrow>) -> Option<ErrorKind> {
     }
 }
 
+// What a tally over a writer that fails answers: whether a put of five bytes works, whether it has failed then, what a
+// write meets, and whether a flush works. Once failed, each call fails.
+fn answers_to_failure(inner: &mut Narrow) -> (bool, bool, Option<ErrorKind>, bool) {
+    let mut tally = Tally::new(inner, 0);
+    let puts = tally.put(b"abcde").is_ok();
+    let failed = tally.failed();
+    let fault = write_fault(&mut tally);
+    (puts, failed, fault, tally.flush().is_ok())
+}
+
 #[test]
 fn a_writer_that_fails_leaves_a_prefix(rt: HostRuntime) {
     let mut inner = Narrow::new(rt.alloc(), 3, Some(ErrorKind::Interrupted));
-    let mut tally = Tally::new(&mut inner, 0);
-    assert!(rt; tally.put(b"abcde").is_err() && tally.failed());
-    assert!(rt; write_fault(&mut tally) == Some(ErrorKind::Other));
-    // Once failed, each call fails.
-    assert!(rt; tally.flush().is_err());
+    let answers = answers_to_failure(&mut inner);
+    assert!(rt; answers == (false, true, Some(ErrorKind::Other), false));
     assert!(rt; inner.taken.as_slice() == b"abc".as_slice());
 }
 

@@ -249,7 +249,7 @@ fn trial(
 
 #[test]
 fn runs_by_chance(rt: HostRuntime) -> Result<(), Fail> {
-    let profile = sample(rt.alloc()).expect(&rt, "a profile");
+    let profile = sample(&rt);
     let mut chance = Chance::new(3);
     let mut wrong = 0u32;
     let mut has_crossed = false;
@@ -268,7 +268,7 @@ fn runs_by_chance(rt: HostRuntime) -> Result<(), Fail> {
 // The link data units of a file that does not end come to number 255, behind which there is none.
 #[test]
 fn a_file_of_all_its_units(rt: HostRuntime) -> Result<(), Fail> {
-    let profile = sample(rt.alloc()).expect(&rt, "a profile");
+    let profile = sample(&rt);
     let mut chance = Chance::new(4);
     let (outcome, ldu) = trial(&rt, &profile, &mut chance, 200_000, true)?;
     assert!(rt; !matches!(outcome, Outcome::Wrong) && ldu == 256);
