@@ -53,7 +53,10 @@ fn has_files(verdict: &[u8], files: &str) -> bool {
         return false;
     };
     match text.strip_prefix("YES files ") {
-        Some(rest) => rest.lines().next() == Some(files),
+        Some(rest) => match rest.split_once('\n') {
+            Some((count, _)) => count == files,
+            None => false,
+        },
         None => false,
     }
 }
