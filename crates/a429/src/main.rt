@@ -2,9 +2,9 @@
 #![tactic(auto)]
 
 use a429_check::{
-    Canvas, Claim, Command, Folder, RunFault, Span, command, read_whole, report, run_check, run_extract,
-    run_forms, run_labels, run_make, run_pack, run_picture, run_show, run_units, run_upgrade,
-    run_verify, run_word,
+    Canvas, Claim, Command, Folder, RunFault, Span, command, read_whole, report, run_check,
+    run_extract, run_forms, run_labels, run_make, run_pack, run_picture, run_show, run_units,
+    run_upgrade, run_verify, run_word,
 };
 use a429_record::EntryReader;
 use a429_view::UnitRows;

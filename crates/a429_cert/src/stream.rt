@@ -144,6 +144,7 @@ pub struct Walk<'a> {
 
 impl<'a> Walk<'a> {
     // A walk that has just passed the first two lines, and no entry.
+    #[inline(always)]
     fn start(bench: &Bench<'a>, head: Head) -> Walk<'a>
         ensures sound { IsProfile bench.now }
         ensures profile { result.profile.now ≡ bench.now }
