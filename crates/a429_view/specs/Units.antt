@@ -174,10 +174,10 @@ abbrev pub units_text : Codes → List Told → List ℕ
 units_text c told = columns_text ++ flat_map (λ u. unit_line (row_of c u)) (loaded_units told)
 
 -- before the first load nothing; then the names of the columns, and the rows of the units that have ended
-abbrev pub ended_rows : Codes → List LoadedUnit → List ℕ
-ended_rows c [] = []
-ended_rows c (u ∷ units) = columns_text ++ flat_map (λ v. unit_line (row_of c v)) (ended_units (u ∷ units))
+abbrev pub ended_unit_lines : Codes → List LoadedUnit → List ℕ
+ended_unit_lines c [] = []
+ended_unit_lines c (u ∷ units) = columns_text ++ flat_map (λ v. unit_line (row_of c v)) (ended_units (u ∷ units))
 
 -- what is written of steps behind which the unit that was loaded last may go on
 abbrev pub ended_text : Codes → List Told → List ℕ
-ended_text c told = ended_rows c (loaded_units told)
+ended_text c told = ended_unit_lines c (loaded_units told)
