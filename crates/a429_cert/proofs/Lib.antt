@@ -25,5 +25,6 @@ pub mod StreamWalk
 pub mod StreamRefused
 pub mod ToldFacts
 pub mod ToldRefused
+pub mod StreamLine
 pub mod StreamEndFacts
 pub mod EarlierFiles

@@ -182,3 +182,26 @@ PutsFirstFiles shelved old new notes files = GainsFront (shelved old) (shelved n
 -- the number and the length of each file
 abbrev pub sizes : List FileBytes → List (ℕ × ℕ)
 sizes files = map (λ f. (f.number, length f.bytes)) files
+
+-- ---- a line, and the files that its step delivers
+
+-- a walk passes over the next line, which uses so many entries, and all that its step delivers is put and noted
+pub record GoesOn {S : Type 0} (shelved : S → Option (List PutFile)) (old new : Walk) (text : Option (List ℕ)) (rec rest : Option Recording) (before after : S) (used : ℕ) : Type 0 where
+  pub state : State
+  pub passed : PassesOver old.profile.now (read_as old.version text) old.link.state state rec rest used
+  pub put : PutsFiles shelved before after old.files.items state.sink.shelf.files
+  pub noted : new.files.items ≡ old.files.items ++ sizes state.sink.shelf.files
+  pub given : new.link.state ≡ handed_out state
+
+-- it passes over the line, and not all that its step delivers is put: the shelf has failed, or memory was refused
+pub record PutsTooFew {S : Type 0} (shelved : S → Option (List PutFile)) (old : Walk) (text : Option (List ℕ)) (rec : Option Recording) (before after : S) (f : StreamFault) : Type 0 where
+  pub state : State
+  pub used : ℕ
+  pub rest : Option Recording
+  pub passed : PassesOver old.profile.now (read_as old.version text) old.link.state state rec rest used
+  pub put : PutsFirstFiles shelved before after old.files.items state.sink.shelf.files
+  pub fault : (f ≡ stream.Device) ⊎ (f ≡ stream.OutOfMemory)
+
+-- why a walk does not go on over the next line: the line is refused, and nothing is put, or too little is
+abbrev pub StopsAt : {S : Type 0} → (S → Option (List PutFile)) → Walk → Option (List ℕ) → Option Recording → S → S → StreamFault → Type 0
+StopsAt shelved old text rec before after f = (EndsWalk old text rec f × (after ≡ before)) ⊎ PutsTooFew shelved old text rec before after f

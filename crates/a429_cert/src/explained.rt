@@ -1,6 +1,6 @@
 //! Certificates, held against recordings.
 
-ghost use Rattle.std.specs.Prelude.{◌≡◌, ◌++◌, ◌≤◌, ℕ, Some, IfOk, IfErr, OnOk, option_and_then, option_map};
+ghost use Rattle.std.specs.Prelude.{◌≡◌, ◌++◌, ◌+◌, ◌≤◌, length, ℕ, Some, IfOk, IfErr, OnOk, option_and_then, option_map};
 ghost use Rattle.a429_link.specs.Link.{handed_out};
 ghost use Rattle.a429_cert.specs.declared.line.CertLine.TheVariants.{First};
 ghost use Rattle.a429_cert.specs.Line.{spelling};
@@ -61,10 +61,21 @@ pub fn verify(
         }
         n += 1;
     }
+    match all_used(used, entries) {
+        Ok(()) => Ok(Verified::new(files)),
+        Err(fault) => Err(fault),
+    }
+}
+
+// Refuses a certificate whose lines use so many of the entries, where that is not all of them.
+fn all_used(used: usize, entries: &[Entry]) -> Result<(), CertFault>
+    ensures ok { OnOk result (length entries.now ≤ used) }
+    ensures err { IfErr result (λ f. (f ≡ CertFault.Unfinished used) × (used + 1 ≤ length entries.now)) }
+{
     if used < entries.len() {
         return Err(CertFault::Unfinished(used));
     }
-    Ok(Verified::new(files))
+    Ok(())
 }
 
 // Takes the files out of a link that it has delivered, and puts them behind those that were taken.

@@ -8,13 +8,14 @@ ghost use Rattle.a429_link.specs.State.{start};
 ghost use Rattle.a429_record.specs.declared.fault.ReadFault.TheVariants as read;
 ghost use Rattle.a429_cert.specs.Lines.{line_bytes};
 ghost use Rattle.a429_cert.specs.Shelf.{IsUnchanged};
+ghost use Rattle.a429_cert.specs.Version.{read_as};
 ghost use Rattle.a429_cert.specs.Passing.{IsReady, PassesListed, uses_listed};
 ghost use Rattle.a429_word.specs.Tally.{has_failed, unread};
 ghost use Rattle.a429_cert.specs.Explained.{seen_of};
 ghost use Rattle.a429_cert.specs.StreamExplained.{SaysYes, HearsRun, HearsBefore, Refuses};
 ghost use Rattle.a429_cert.specs.Told.{IsNextEntry, with_number};
 ghost use Rattle.a429_cert.specs.Stream.{IsFaultNext, TakesNext, WalksNext, EndsNext, TellsListed, HearsNext, IsNotTaken, IsUntold, WalksOver, EndsWalk, HearsLine};
-ghost use Rattle.a429_cert.specs.Stream.{OneFailed, HandsFilesOut, PutsFiles, PutsFirstFiles, sizes};
+ghost use Rattle.a429_cert.specs.Stream.{OneFailed, HandsFilesOut, GoesOn, PutsFiles, PutsFirstFiles, StopsAt, sizes};
 
 use crate::at::At;
 use crate::bench::Bench;
@@ -99,17 +100,46 @@ pub fn replay_stream<R: Read, C: Read, S: Shelf, T: Listener>(
             break;
         }
         walk.lines += 1;
-        match pass_over(&mut walk, lines.line(), rec, listener) {
+        match walk_on(&mut walk, lines.line(), rec, shelf, listener) {
             Ok(used) => walk.used += used,
-            Err(fault) => return Err(fault),
-        }
-        match put_delivered(&mut walk, shelf) {
-            Ok(()) => {}
             Err(fault) => return Err(fault),
         }
     }
     match none_left(rec, walk.used) {
         Ok(()) => Ok(walk.files),
+        Err(fault) => Err(fault),
+    }
+}
+
+// Takes the last line that was handed out, over the next entry, if its step uses one, tells a listener where it is
+// accepted, and puts the files that the step delivers. Answers how many entries it uses, 0 or 1.
+#[inline(always)]
+fn walk_on<R: Read, S: Shelf, T: Listener>(
+    walk: &mut Walk<'_>,
+    line: TextLine<'_>,
+    rec: &mut EntryReader<R>,
+    shelf: &mut S,
+    listener: &mut T,
+) -> Result<usize, StreamFault>
+    requires sound { IsProfile walk.old.profile.now }
+    requires profile { walk.old.link.profile ≡ walk.old.profile.now }
+    ensures goes_on { IfOk result (GoesOn S.files walk.old walk.new (line_bytes line.entry) rec.old.to_come rec.new.to_come shelf.old shelf.new) }
+    ensures heard { OnOk result (HearsLine T.hears walk.old (line_bytes line.entry) rec.old.to_come listener.old listener.new) }
+    ensures ended { OnOk result (IsSome (line_bytes line.entry)) }
+    ensures few { IfOk result (λ used. used ≤ 1) }
+    ensures stopped { IfErr result (StopsAt S.files walk.old (line_bytes line.entry) rec.old.to_come shelf.old shelf.new) }
+    ensures untold { IfErr result (IsUntold listener.old listener.new) }
+    ensures device { IsErrOf result StreamFault.Device → (S.failed shelf.new ≡ true) ⊎ (T.failed listener.new ≡ true) }
+    ensures read { IsErrOf result (StreamFault.Read read.Device) → rec.new.failed ≡ true }
+    ensures kept { walk.new ≡ record (walk.old) { link = walk.new.link; files = walk.new.files } }
+    ensures profile { walk.new.link.profile ≡ walk.old.profile.now }
+{
+    let used = match pass_over(walk, line, rec, listener) {
+        Ok(used) => used,
+        Err(refused) => return Err(refused),
+    };
+    match put_delivered(walk, shelf) {
+        Ok(()) => Ok(used),
         Err(fault) => Err(fault),
     }
 }
@@ -163,6 +193,14 @@ impl<'a> Walk<'a> {
             used: 0,
             files: Vec::new(bench.alloc),
         }
+    }
+
+    // What a line says, as the version of the certificate reads it.
+    #[inline(always)]
+    fn read<'l>(&self, line: TextLine<'l>) -> Option<&'l [u8]>
+        ensures { option_map (λ text. text.now) result ≡ read_as self.now.version (line_bytes line.entry) }
+    {
+        self.version.read(line)
     }
 }
 
@@ -288,7 +326,7 @@ pub fn pass_over<R: Read, T: Listener>(
     ensures kept { walk.new ≡ record (walk.old) { link = walk.new.link } }
     ensures profile { walk.new.link.profile ≡ walk.old.profile.now }
 {
-    let text = walk.version.read(line);
+    let text = walk.read(line);
     match list_step(walk.alloc, walk.profile, &walk.link, text, walk.lines) {
         Ok(listed) => take_next(walk, listed, rec, listener),
         Err(fault) => Err(of_cert(fault)),

@@ -7,6 +7,7 @@ use Rattle.a429_link.proofs.LinkCalls.{handed_earlier}
 use Rattle.a429_cert.specs.Lines.{certificate_lines, line_bytes}
 use Rattle.a429_cert.specs.Version.{step_lines}
 use Rattle.a429_cert.specs.Explained.{items_of, seen_of, Reaches, IsExplained}
+use Rattle.a429_cert.specs.Fault.{IsFirstCertFault}
 use Rattle.a429_cert.proofs.EarlierFiles.{text_earlier, fault_earlier, given_out}
 use Rattle.a429_cert.proofs.ExplainedFacts.{begins, line_here, line_read, none_here, none_read, left_on, none_of, passed_on, explained, in_every_run}
 use Rattle.a429_cert.proofs.FaultFacts.{begun, faulty_now, left_over}
@@ -68,23 +69,25 @@ loop-line-preserved c =
       reached = subst (λ (q : State). Reaches p c.in-Ok.head.first (take (suc v.k) (step_lines c.in-Ok.head.version c.args.certificate.now)) (take (c.loop-line.used + c.in-Ok-pass.count) (items_of c.args.entries.now)) q) (sym same) on.reached;
     }
 
-pub returns-then-used-entries-clause-err : goal.returns-then-used-entries-clause-err
-returns-then-used-entries-clause-err c = λ h.
+pub returns-clause-err : goal.returns-clause-err
+returns-clause-err c = λ h.
     let v = c.loop-line.invariant in
     let head = begun c.new-lines.result c.args.certificate.now c.in-Ok.head c.begin.new.lines c.new-lines.ensures c.in-Ok.ensures.ok in
     let end = none_read c.in-Ok.head.version (drop 2 (certificate_lines c.args.certificate.now)) v.k (none_here line_bytes (drop 2 (certificate_lines c.args.certificate.now)) c.loop-line.lines v.k c.next_line.result v.rest c.next_line.ensures.given (none_of c.next_line.result c.in_default.not-Some)) in
-    left_over c.args.profile.now c.args.certificate.now (items_of c.args.entries.now) c.in-Ok.head v.k c.loop-line.used (with_earlier c.loop-line.files.items c.loop-line.link.state) head.says end (omega (arith, c.if-used-entries.true, length-map c.args.entries.now seen_of)) v.reached
+    let left = c.in-Err-all_used.ensures.err in
+    subst (IsFirstCertFault c.args.profile.now c.args.certificate.now (items_of c.args.entries.now)) (sym left.0)
+    (left_over c.args.profile.now c.args.certificate.now (items_of c.args.entries.now) c.in-Ok.head v.k c.loop-line.used (with_earlier c.loop-line.files.items c.loop-line.link.state) head.says end (omega (arith, left.1, length-map c.args.entries.now seen_of)) v.reached)
 
-pub returns-clause-ok : goal.returns-clause-ok
-returns-clause-ok c =
+pub returns-in-Ok-all_used-clause-ok : goal.returns-in-Ok-all_used-clause-ok
+returns-in-Ok-all_used-clause-ok c =
     let v = c.loop-line.invariant in
     let s = c.loop-line.link.state in
     let files = c.loop-line.files.items in
     let head = begun c.new-lines.result c.args.certificate.now c.in-Ok.head c.begin.new.lines c.new-lines.ensures c.in-Ok.ensures.ok in
     let end = none_read c.in-Ok.head.version (drop 2 (certificate_lines c.args.certificate.now)) v.k (none_here line_bytes (drop 2 (certificate_lines c.args.certificate.now)) c.loop-line.lines v.k c.next_line.result v.rest c.next_line.ensures.given (none_of c.next_line.result c.in_default.not-Some)) in
     subst (IsExplained c.args.profile.now c.args.certificate.now (items_of c.args.entries.now)) (sym (c.new.ensures ∙ given_out files s v.none_left))
-    (explained c.args.profile.now c.args.certificate.now (items_of c.args.entries.now) c.in-Ok.head v.k c.loop-line.used (with_earlier files s) head.says end (omega (arith, c.if-used-entries.false, length-map c.args.entries.now seen_of)) v.reached)
+    (explained c.args.profile.now c.args.certificate.now (items_of c.args.entries.now) c.in-Ok.head v.k c.loop-line.used (with_earlier files s) head.says end (omega (arith, c.in-Ok-all_used.ensures.ok, length-map c.args.entries.now seen_of)) v.reached)
 
-pub returns-clause-every_run : goal.returns-clause-every_run
-returns-clause-every_run c =
-    in_every_run c.args.profile.now (search rules) c.args.certificate.now (items_of c.args.entries.now) c.new.result (returns-clause-ok c)
+pub returns-in-Ok-all_used-clause-every_run : goal.returns-in-Ok-all_used-clause-every_run
+returns-in-Ok-all_used-clause-every_run c =
+    in_every_run c.args.profile.now (search rules) c.args.certificate.now (items_of c.args.entries.now) c.new.result (returns-in-Ok-all_used-clause-ok c)

@@ -1,4 +1,4 @@
-use Rattle.std.proofs.Common.{◌∙◌, ◌∷◌, refl, sym}
+use Rattle.std.proofs.Common.{rules, ◌∙◌, ◌∷◌, refl, sym}
 use Rattle.a429_cert.specs.declared.line.CertLine.TheVariants.{Moved}
 use Rattle.a429_cert.specs.declared.fault.CertFault.TheVariants as of
 use Rattle.a429_cert.proofs.ReadingFacts.{moved-only}
@@ -18,3 +18,6 @@ returns-else-may_record-clause-refused c = λ at here z.
 pub returns-in-None-clause-refused : goal.returns-in-None-clause-refused
 returns-in-None-clause-refused c = λ at here z.
     (sym here, λ l is says. no_move c.args.letter c.args.text.now l c.requires (sym c.moved_from.ensures ∙ c.in-None.is) is says)
+
+pub returns-else-may_record-clause-listed : goal.returns-else-may_record-clause-listed
+returns-else-may_record-clause-listed c = search rules

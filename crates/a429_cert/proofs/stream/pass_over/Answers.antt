@@ -1,4 +1,4 @@
-use Rattle.std.proofs.Common.{subst, sym}
+use Rattle.std.proofs.Common.{rules, subst, sym}
 use Rattle.std.proofs.lemmas.Result.{IfErr-weaker, on_ok_weaker}
 use Rattle.a429_cert.specs.Lines.{line_bytes}
 use Rattle.a429_cert.specs.Version.{read_as}
@@ -28,3 +28,6 @@ returns-in-Err-clause-refused g c =
     let s = c.args.walk.now.link.state in
     subst (RefusesOver p (read_as c.args.walk.now.version (line_bytes c.args.line)) s c.args.rec.now.to_come c.args.walk.now.lines c.args.walk.now.used) (sym c.of_cert.ensures)
     (refused_first p (read_as c.args.walk.now.version (line_bytes c.args.line)) s c.args.rec.now.to_come c.args.walk.now.lines c.args.walk.now.used c.in-Err.fault (rw c.read-text.ensures at c.in-Err.ensures.refused))
+
+pub returns-in-Ok-clause-passed : goal.returns-in-Ok-clause-passed
+returns-in-Ok-clause-passed g c = search rules

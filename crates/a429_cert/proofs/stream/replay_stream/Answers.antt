@@ -3,17 +3,18 @@ use Rattle.a429_cert.specs.declared.stream.Walk.{Walk}
 use Rattle.a429_cert.specs.CutLines.{GivesLine}
 use Rattle.a429_cert.specs.Lines.{line_bytes}
 use Rattle.a429_cert.specs.Version.{read_as}
-use Rattle.a429_cert.specs.Stream.{PassesOver, RefusesOver, sizes}
-use Rattle.a429_cert.proofs.StreamRefused.{told_head, told_refused, told_not_put, told_device}
+use Rattle.a429_cert.specs.Stream.{PassesOver}
+use Rattle.a429_cert.proofs.StreamLine.{line_stops, line_untold}
+use Rattle.a429_cert.proofs.StreamRefused.{told_head, told_device}
 use Rattle.a429_link.specs.State.{State, start}
-use Rattle.a429_link.specs.Link.{LinkValue, handed_out}
+use Rattle.a429_link.specs.Link.{LinkValue}
 use Rattle.a429_cert.specs.LineReader.{bytes_ahead, held_line, to_come}
 use Rattle.a429_cert.proofs.StreamFacts.{gains_none, put_on, noted_on}
 use Rattle.a429_word.specs.Tally.{unread}
 use Rattle.a429_cert.proofs.StreamWalk.{told_init, told_on, told_yes, fresh}
 use Rattle.a429_cert.specs.Told.{HearsText}
 use Rattle.a429_cert.proofs.ToldFacts.{hears_init, hears_on, hears_all}
-use Rattle.a429_cert.proofs.ToldRefused.{heard_head, heard_refused, heard_nothing}
+use Rattle.a429_cert.proofs.ToldRefused.{heard_head}
 use Rattle.a429_cert.proofs.StreamEndFacts.{told_late, heard_late}
 use Rattle.a429_cert.proofs.stream.replay_stream.Goals as goal
 
@@ -76,47 +77,37 @@ overflow_add-walk g c =
     let found : c.in-Ok-next_line.found ≡ true = c.if-not-found.false in
     omega (arith, c.lines.invariant.room, c.in-Ok-next_line.ensures.room found, c.left-most.ensures, c.left-most.type_inv)
 
-pub overflow_add-walk-in-Ok-pass_over : goal.overflow_add-walk-in-Ok-pass_over
-overflow_add-walk-in-Ok-pass_over g c =
-    let used : c.pass_over.new.walk.used ≡ c.lines.walk.used = ap (λ (w : Walk). w.used) c.in-Ok-pass_over.ensures.kept in
+pub overflow_add-walk-in-Ok-walk_on : goal.overflow_add-walk-in-Ok-walk_on
+overflow_add-walk-in-Ok-walk_on g c =
+    let used : c.walk_on.new.walk.used ≡ c.lines.walk.used = ap (λ (w : Walk). w.used) c.in-Ok-walk_on.ensures.kept in
     let found : c.in-Ok-next_line.found ≡ true = c.if-not-found.false in
-    omega (arith, used, c.in-Ok-pass_over.ensures.few, c.lines.invariant.few, c.lines.invariant.room, c.in-Ok-next_line.ensures.room found, c.left-most.ensures, c.left-most.type_inv)
+    omega (arith, used, c.in-Ok-walk_on.ensures.few, c.lines.invariant.few, c.lines.invariant.room, c.in-Ok-next_line.ensures.room found, c.left-most.ensures, c.left-most.type_inv)
 
-pub returns-in-Err-pass_over-clause-err : goal.returns-in-Err-pass_over-clause-err
-returns-in-Err-pass_over-clause-err g c =
+pub returns-in-Err-walk_on-clause-err : goal.returns-in-Err-walk_on-clause-err
+returns-in-Err-walk_on-clause-err g c =
     let v = c.lines.invariant in
-    let p = c.args.bench.now in
     let known = unread g.C.Read.remaining c.args.cert.now in
     let left = to_come g.C.Read.remaining c.lines.lines c.lines.cert in
     let more = to_come g.C.Read.remaining c.next_line.new.self c.next_line.new.cert in
     let held = held_line c.next_line.new.self in
     let found : c.in-Ok-next_line.found ≡ true = c.if-not-found.false in
-    let s = c.lines.walk.link.state in
     let n : c.lines.walk.lines + 1 ≡ v.k + 3 = let number = v.number in omega (arith, number) in
     let given = subst (GivesLine left more held) found c.in-Ok-next_line.ensures.given in
-    let refused = subst (λ w. RefusesOver p (read_as w (line_bytes c.line.result)) s c.lines.rec.to_come (c.lines.walk.lines + 1) c.lines.walk.used c.in-Err-pass_over.fault) v.version (subst (λ q. RefusesOver q (read_as c.lines.walk.version (line_bytes c.line.result)) s c.lines.rec.to_come (c.lines.walk.lines + 1) c.lines.walk.used c.in-Err-pass_over.fault) v.bench c.in-Err-pass_over.ensures.refused) in
-    let here = subst (λ (o : Option (List ℕ)). RefusesOver p (read_as v.head.version o) s c.lines.rec.to_come (c.lines.walk.lines + 1) c.lines.walk.used c.in-Err-pass_over.fault) c.line.ensures refused in
-    record {
-      files = v.taken;
-      fault = told_refused p v.head v.k c.lines.walk.used (c.lines.walk.lines + 1) v.taken s held known left more c.args.rec.now.to_come c.lines.rec.to_come c.in-Err-pass_over.fault n v.none_left given here v.told;
-      put = v.put;
-    }
+    line_stops g.S.Shelf.files c.args.bench.now (record (c.lines.walk) { lines = c.lines.walk.lines + 1 }) v.head v.k v.taken held known left more c.args.rec.now.to_come c.lines.rec.to_come (line_bytes c.line.result)
+    c.args.shelf.now c.lines.shelf c.walk_on.new.shelf c.in-Err-walk_on.fault v.bench v.version v.noted n v.none_left c.line.ensures given v.put v.told c.in-Err-walk_on.ensures.stopped
 
-pub returns-in-Err-pass_over-clause-told : goal.returns-in-Err-pass_over-clause-told
-returns-in-Err-pass_over-clause-told g c =
+pub returns-in-Err-walk_on-clause-told : goal.returns-in-Err-walk_on-clause-told
+returns-in-Err-walk_on-clause-told g c =
     let v = c.lines.invariant in
-    let p = c.args.bench.now in
     let known = unread g.C.Read.remaining c.args.cert.now in
     let left = to_come g.C.Read.remaining c.lines.lines c.lines.cert in
     let more = to_come g.C.Read.remaining c.next_line.new.self c.next_line.new.cert in
     let held = held_line c.next_line.new.self in
     let found : c.in-Ok-next_line.found ≡ true = c.if-not-found.false in
-    let s = c.lines.walk.link.state in
     let n : c.lines.walk.lines + 1 ≡ v.k + 3 = let number = v.number in omega (arith, number) in
     let given = subst (GivesLine left more held) found c.in-Ok-next_line.ensures.given in
-    let refused = subst (λ w. RefusesOver p (read_as w (line_bytes c.line.result)) s c.lines.rec.to_come (c.lines.walk.lines + 1) c.lines.walk.used c.in-Err-pass_over.fault) v.version (subst (λ q. RefusesOver q (read_as c.lines.walk.version (line_bytes c.line.result)) s c.lines.rec.to_come (c.lines.walk.lines + 1) c.lines.walk.used c.in-Err-pass_over.fault) v.bench c.in-Err-pass_over.ensures.refused) in
-    let here = subst (λ (o : Option (List ℕ)). RefusesOver p (read_as v.head.version o) s c.lines.rec.to_come (c.lines.walk.lines + 1) c.lines.walk.used c.in-Err-pass_over.fault) c.line.ensures refused in
-    heard_refused g.T.Listener.hears p v.head v.k c.lines.walk.used v.taken s left c.lines.rec.to_come c.args.listener.now c.lines.listener known c.args.rec.now.to_come held more (c.lines.walk.lines + 1) c.in-Err-pass_over.fault c.pass_over.new.listener n v.none_left given here c.in-Err-pass_over.ensures.untold v.told v.heard
+    line_untold g.T.Listener.hears g.S.Shelf.files c.args.bench.now (record (c.lines.walk) { lines = c.lines.walk.lines + 1 }) v.head v.k v.taken held known left more c.args.rec.now.to_come c.lines.rec.to_come (line_bytes c.line.result)
+    c.lines.shelf c.walk_on.new.shelf c.in-Err-walk_on.fault c.args.listener.now c.lines.listener c.walk_on.new.listener v.bench v.version n v.none_left c.line.ensures given v.told v.heard c.in-Err-walk_on.ensures.untold c.in-Err-walk_on.ensures.stopped
 
 pub lines-preserved : goal.lines-preserved
 lines-preserved g c =
@@ -128,61 +119,35 @@ lines-preserved g c =
     let held = held_line c.next_line.new.self in
     let found : c.in-Ok-next_line.found ≡ true = c.if-not-found.false in
     let s = c.lines.walk.link.state in
-    let t = c.pass_over.new.walk.link.state in
-    let one = c.in-Ok-pass_over.ensures.kept in
-    let two = c.in-Ok-put_delivered.ensures.kept in
-    let lines : c.put_delivered.new.walk.lines ≡ c.lines.walk.lines + 1 = ap (λ (w : Walk). w.lines) two ∙ ap (λ (w : Walk). w.lines) one in
-    let used : c.put_delivered.new.walk.used ≡ c.lines.walk.used + c.in-Ok-pass_over.used = ap (λ (w : Walk). w.used) two ∙ ap (λ (w : Walk). w.used + c.in-Ok-pass_over.used) one in
-    let state : c.put_delivered.new.walk.link.state ≡ handed_out t = ap (λ (w : Walk). w.link.state) two in
-    let notes : c.pass_over.new.walk.files.items ≡ sizes v.taken = ap (λ (w : Walk). w.files.items) one ∙ v.noted in
-    let shorter = c.in-Ok-next_line.ensures.shorter (subst (λ (o : Option (List ℕ)). IsSome o) c.line.ensures c.in-Ok-pass_over.ensures.ended) in
+    let on = c.in-Ok-walk_on.ensures.goes_on in
+    let t = on.state in
+    let kept = c.in-Ok-walk_on.ensures.kept in
+    let lines : c.walk_on.new.walk.lines ≡ c.lines.walk.lines + 1 = ap (λ (w : Walk). w.lines) kept in
+    let used : c.walk_on.new.walk.used + c.in-Ok-walk_on.used ≡ c.lines.walk.used + c.in-Ok-walk_on.used = ap (λ (w : Walk). w.used + c.in-Ok-walk_on.used) kept in
+    let shorter = c.in-Ok-next_line.ensures.shorter (subst (λ (o : Option (List ℕ)). IsSome o) c.line.ensures c.in-Ok-walk_on.ensures.ended) in
     let given = subst (GivesLine left more held) found c.in-Ok-next_line.ensures.given in
-    let passed = subst (λ w. PassesOver p (read_as w (line_bytes c.line.result)) s t c.lines.rec.to_come c.pass_over.new.rec.to_come c.in-Ok-pass_over.used) v.version (subst (λ q. PassesOver q (read_as c.lines.walk.version (line_bytes c.line.result)) s t c.lines.rec.to_come c.pass_over.new.rec.to_come c.in-Ok-pass_over.used) v.bench c.in-Ok-pass_over.ensures.passed) in
-    let held_passed = subst (λ (o : Option (List ℕ)). PassesOver p (read_as v.head.version o) s t c.lines.rec.to_come c.pass_over.new.rec.to_come c.in-Ok-pass_over.used) c.line.ensures passed in
-    let q = subst (λ w. HearsText g.T.Listener.hears p (read_as w (line_bytes c.line.result)) s c.lines.rec.to_come c.lines.walk.used c.lines.listener c.pass_over.new.listener) v.version (subst (λ q. HearsText g.T.Listener.hears q (read_as c.lines.walk.version (line_bytes c.line.result)) s c.lines.rec.to_come c.lines.walk.used c.lines.listener c.pass_over.new.listener) v.bench c.in-Ok-pass_over.ensures.heard) in
-    let held_heard = subst (λ (o : Option (List ℕ)). HearsText g.T.Listener.hears p (read_as v.head.version o) s c.lines.rec.to_come c.lines.walk.used c.lines.listener c.pass_over.new.listener) c.line.ensures q in
-    let heard = hears_on g.T.Listener.hears p v.head v.k c.lines.walk.used c.in-Ok-pass_over.used v.taken s t held known left more c.args.rec.now.to_come c.lines.rec.to_come c.pass_over.new.rec.to_come c.args.listener.now c.lines.listener c.pass_over.new.listener given held_passed held_heard v.told v.heard in
-    let told = told_on p v.head v.k c.lines.walk.used c.in-Ok-pass_over.used v.taken s t held known left more c.args.rec.now.to_come c.lines.rec.to_come c.pass_over.new.rec.to_come given held_passed v.told in
+    let passed = subst (λ w. PassesOver p (read_as w (line_bytes c.line.result)) s t c.lines.rec.to_come c.walk_on.new.rec.to_come c.in-Ok-walk_on.used) v.version (subst (λ q. PassesOver q (read_as c.lines.walk.version (line_bytes c.line.result)) s t c.lines.rec.to_come c.walk_on.new.rec.to_come c.in-Ok-walk_on.used) v.bench on.passed) in
+    let held_passed = subst (λ (o : Option (List ℕ)). PassesOver p (read_as v.head.version o) s t c.lines.rec.to_come c.walk_on.new.rec.to_come c.in-Ok-walk_on.used) c.line.ensures passed in
+    let q = subst (λ w. HearsText g.T.Listener.hears p (read_as w (line_bytes c.line.result)) s c.lines.rec.to_come c.lines.walk.used c.lines.listener c.walk_on.new.listener) v.version (subst (λ q. HearsText g.T.Listener.hears q (read_as c.lines.walk.version (line_bytes c.line.result)) s c.lines.rec.to_come c.lines.walk.used c.lines.listener c.walk_on.new.listener) v.bench c.in-Ok-walk_on.ensures.heard) in
+    let held_heard = subst (λ (o : Option (List ℕ)). HearsText g.T.Listener.hears p (read_as v.head.version o) s c.lines.rec.to_come c.lines.walk.used c.lines.listener c.walk_on.new.listener) c.line.ensures q in
+    let heard = hears_on g.T.Listener.hears p v.head v.k c.lines.walk.used c.in-Ok-walk_on.used v.taken s t held known left more c.args.rec.now.to_come c.lines.rec.to_come c.walk_on.new.rec.to_come c.args.listener.now c.lines.listener c.walk_on.new.listener given held_passed held_heard v.told v.heard in
+    let told = told_on p v.head v.k c.lines.walk.used c.in-Ok-walk_on.used v.taken s t held known left more c.args.rec.now.to_come c.lines.rec.to_come c.walk_on.new.rec.to_come given held_passed v.told in
     record {
       head = v.head;
       k = suc v.k;
       taken = v.taken ++ t.sink.shelf.files;
       number = lines ∙ omega (arith, v.number);
-      told = rw (used, state) told;
-      heard = rw (used, state) heard;
-      none_left = ap (λ (q : State). q.sink.shelf.files) state;
-      put = put_on (g.S.Shelf.files c.args.shelf.now) (g.S.Shelf.files c.lines.shelf) (g.S.Shelf.files c.put_delivered.new.shelf) [] c.pass_over.new.walk.files.items v.taken t.sink.shelf.files v.put notes c.in-Ok-put_delivered.ensures.ok;
-      noted = noted_on [] c.pass_over.new.walk.files.items c.put_delivered.new.walk.files.items v.taken t.sink.shelf.files notes c.in-Ok-put_delivered.ensures.noted;
-      few = omega (arith, lines, used, v.few, c.in-Ok-pass_over.ensures.few);
+      told = rw (used, on.given) told;
+      heard = rw (used, on.given) heard;
+      none_left = ap (λ (q : State). q.sink.shelf.files) on.given;
+      put = put_on (g.S.Shelf.files c.args.shelf.now) (g.S.Shelf.files c.lines.shelf) (g.S.Shelf.files c.walk_on.new.shelf) [] c.lines.walk.files.items v.taken t.sink.shelf.files v.put v.noted on.put;
+      noted = noted_on [] c.lines.walk.files.items c.walk_on.new.walk.files.items v.taken t.sink.shelf.files v.noted on.noted;
+      few = omega (arith, lines, used, v.few, c.in-Ok-walk_on.ensures.few);
       room = omega (arith, lines, v.room, shorter);
-      link = ap (λ (w : Walk). w.link.profile) two ∙ c.in-Ok-pass_over.ensures.profile ∙ v.bench;
-      bench = ap (λ (w : Walk). w.profile.now) two ∙ ap (λ (w : Walk). w.profile.now) one ∙ v.bench;
-      version = ap (λ (w : Walk). w.version) two ∙ ap (λ (w : Walk). w.version) one ∙ v.version;
+      link = c.in-Ok-walk_on.ensures.profile ∙ v.bench;
+      bench = ap (λ (w : Walk). w.profile.now) kept ∙ v.bench;
+      version = ap (λ (w : Walk). w.version) kept ∙ v.version;
     }
-
-pub returns-in-Err-put_delivered-clause-err : goal.returns-in-Err-put_delivered-clause-err
-returns-in-Err-put_delivered-clause-err g c =
-    let p = c.args.bench.now in
-    let v = c.lines.invariant in
-    let known = unread g.C.Read.remaining c.args.cert.now in
-    let left = to_come g.C.Read.remaining c.lines.lines c.lines.cert in
-    let held = held_line c.next_line.new.self in
-    let s = c.lines.walk.link.state in
-    let t = c.pass_over.new.walk.link.state in
-    let one = c.in-Ok-pass_over.ensures.kept in
-    let notes : c.pass_over.new.walk.files.items ≡ sizes v.taken = ap (λ (w : Walk). w.files.items) one ∙ v.noted in
-    let passed = subst (λ w. PassesOver p (read_as w (line_bytes c.line.result)) s t c.lines.rec.to_come c.pass_over.new.rec.to_come c.in-Ok-pass_over.used) v.version (subst (λ q. PassesOver q (read_as c.lines.walk.version (line_bytes c.line.result)) s t c.lines.rec.to_come c.pass_over.new.rec.to_come c.in-Ok-pass_over.used) v.bench c.in-Ok-pass_over.ensures.passed) in
-    let here = subst (λ (o : Option (List ℕ)). PassesOver p (read_as v.head.version o) s t c.lines.rec.to_come c.pass_over.new.rec.to_come c.in-Ok-pass_over.used) c.line.ensures passed in
-    let front = c.in-Err-put_delivered.ensures.err in
-    record {
-      files = v.taken ++ front.front;
-      fault = told_not_put p v.head v.k c.lines.walk.used c.in-Ok-pass_over.used v.taken front.front front.more front.next s t (read_as v.head.version held) known left c.args.rec.now.to_come c.lines.rec.to_come c.pass_over.new.rec.to_come c.in-Err-put_delivered.fault c.in-Err-put_delivered.ensures.fault v.none_left front.first here v.told;
-      put = put_on (g.S.Shelf.files c.args.shelf.now) (g.S.Shelf.files c.lines.shelf) (g.S.Shelf.files c.put_delivered.new.shelf) [] c.pass_over.new.walk.files.items v.taken front.front v.put notes front.gained;
-    }
-
-pub returns-in-Err-put_delivered-clause-told : goal.returns-in-Err-put_delivered-clause-told
-returns-in-Err-put_delivered-clause-told g c =
-    heard_nothing g.T.Listener.hears c.args.bench.now (unread g.C.Read.remaining c.args.cert.now) c.args.rec.now.to_come c.args.listener.now c.pass_over.new.listener c.in-Err-put_delivered.fault c.in-Err-put_delivered.ensures.fault
 
 pub returns-in-Ok-none_left-clause-ok : goal.returns-in-Ok-none_left-clause-ok
 returns-in-Ok-none_left-clause-ok g c =

@@ -1,4 +1,4 @@
-use Rattle.std.proofs.Common.{◌∙◌, refl}
+use Rattle.std.proofs.Common.{rules, ◌∙◌, refl}
 use Rattle.a429_word.specs.Tally.{unread}
 use Rattle.a429_cert.specs.LineReader.{bytes_ahead, held_line, to_come}
 use Rattle.a429_cert.proofs.LineReaderFacts.{ended_given, open_given}
@@ -18,3 +18,6 @@ returns-then-not-branch-clause-given g c =
     let taken = rw (c.if-take_line.ensures.same refl) at c.in_ok-read_on.ensures.keeps in
     rw c.is_empty.ensures (open_given (to_come g.R.Read.remaining c.args.self.now c.args.cert.now) (to_come g.R.Read.remaining c.reads.self c.reads.cert) k (bytes_ahead c.reads.self) ahead (held_line c.read_on.new.self)
     c.reads.invariant.same taken same (c.if-take_line.ensures.no refl) c.in_ok-read_on.ensures.line (c.in_ok-read_on.ensures.end c.if-not-branch.true))
+
+pub returns-then-not-branch-clause-room : goal.returns-then-not-branch-clause-room
+returns-then-not-branch-clause-room g c = search rules
