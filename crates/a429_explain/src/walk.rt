@@ -2,6 +2,7 @@
 
 ghost use Rattle.std.specs.Prelude.{◌≡◌, ◌↔◌, IsOk, IfOk, IfErr, OnOk, length};
 ghost use Rattle.a429_word.specs.Screening.{screened};
+ghost use Rattle.a429_profile.specs.Profile.{IsProfile};
 ghost use Rattle.a429_ldu.specs.Sight.{sight_in, sight_of};
 ghost use Rattle.a429_link.specs.Observer.{Allows, sees};
 ghost use Rattle.a429_cert.specs.Explained.{items_of};
@@ -43,7 +44,7 @@ pub(crate) fn walk<'a>(
     ensures without_loss { IsWithoutLoss profile.now (items_of entries.now) → IfErr result (λ h. h ≡ Halt.OutOfMemory) }
 {
     refused_is_impossible();
-    let mut screening = Screening::new(entries, profile.codes().to_sink);
+    let mut screening = screening_of(profile, entries);
     let mut observer = Observer::new(alloc);
     let Ok(mut sights) = Vec::with_capacity(alloc, entries.len()) else {
         return Err(Halt::OutOfMemory);
@@ -62,6 +63,14 @@ pub(crate) fn walk<'a>(
         }
     }
     Ok(Heard::new(profile, entries, sights))
+}
+
+// The entries of a recording, whose words are screened by the label of bus A.
+fn screening_of<'a>(profile: &Profile, entries: &'a [Entry]) -> Screening<'a>
+    ensures sound { IsProfile profile.now }
+    ensures screening { result ≡ record { entries = entries.now; label = profile.now.codes.to_sink } }
+{
+    Screening::new(entries, profile.codes().to_sink)
 }
 
 // Takes the next recorded word, as an observer does, where it is known what `screen` answers for it by the

@@ -20,7 +20,7 @@ refused : (a : After-form) → Allows a.args.profile.now a.loop-entry.observer a
 refused a h = cc (a.in-Err.ensures.allowed.1 h)
 
 may_be : (a : After-form) → IsRefusable a.in-Err.sight
-may_be a = refusable a.args.profile.now a.codes.ensures.sound a.loop-entry.observer a.seen.result a.in-Err.sight a.in-Err.ensures.err (refused a)
+may_be a = refusable a.args.profile.now a.screening_of-screening.ensures.sound a.loop-entry.observer a.seen.result a.in-Err.sight a.in-Err.ensures.err (refused a)
 
 told : (a : After-form) → sight_in a.form.result ≡ a.in-Err.sight
 told a = ap sight_in a.form.ensures ∙ form_told a.in-Err.sight (may_be a)
@@ -37,10 +37,10 @@ returns-in-Err-clause-halt c =
     let items = items_of c.args.entries.now in
     let n = c.loop-entry.entry in
     let fits = subst (λ (s : Sight). FitsSight s c.reason_of-reason.result) (told a) c.reason_of-reason.ensures in
-    is_refusal p items n c.loop-entry.observer c.loop-entry.sights.items c.seen.result c.in-Err.sight c.reason_of-reason.result (c.refused_is_impossible.ensures p items n c.codes.ensures.sound) (item (goal.at.returns-in-Err-clause-halt c).After-seen) c.in-Err.ensures.err fits (refused a) c.loop-entry.invariant.walks
+    is_refusal p items n c.loop-entry.observer c.loop-entry.sights.items c.seen.result c.in-Err.sight c.reason_of-reason.result (c.refused_is_impossible.ensures p items n c.screening_of-screening.ensures.sound) (item (goal.at.returns-in-Err-clause-halt c).After-seen) c.in-Err.ensures.err fits (refused a) c.loop-entry.invariant.walks
 
 pub returns-in-Err-clause-without_loss : goal.returns-in-Err-clause-without_loss
-returns-in-Err-clause-without_loss c = λ h. absurd ((returns-in-Err-clause-halt c).impossible (begins c.args.profile.now c.codes.ensures.sound (items_of c.args.entries.now) (c.loop-entry.entry + 1) h))
+returns-in-Err-clause-without_loss c = λ h. absurd ((returns-in-Err-clause-halt c).impossible (begins c.args.profile.now c.screening_of-screening.ensures.sound (items_of c.args.entries.now) (c.loop-entry.entry + 1) h))
 
 pub loop-entry-preserved : goal.loop-entry-preserved
 loop-entry-preserved c =
