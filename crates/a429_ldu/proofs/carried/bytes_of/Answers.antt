@@ -42,3 +42,6 @@ returns-else-are_whole-clause-computed c =
 
 pub returns-else-are_whole-clause-none : goal.returns-else-are_whole-clause-none
 returns-else-are_whole-clause-none c _ = pieces_none c.args.profile.now c.args.words.now _ (nil_from_length _ c.in-None.ensures.steps.1.0) c.loop-piece.invariant.5 (returns-else-are_whole-clause-computed c)
+
+pub returns-in_default-clause-some : goal.returns-in_default-clause-some
+returns-in_default-clause-some c = search rules

@@ -1,4 +1,4 @@
-use Rattle.std.proofs.Common.{◌-◌, ◌*◌, ◌/◌, List, sym, ap, ◌∙◌, arith, subst}
+use Rattle.std.proofs.Common.{rules, ◌-◌, ◌*◌, ◌/◌, List, sym, ap, ◌∙◌, arith, subst}
 use Rattle.std.proofs.lemmas.Bool.{eqb-false}
 use Rattle.a429_ldu.specs.Ldu.{LduValue}
 use Rattle.a429_ldu.specs.Cut.{pieces, units_in}
@@ -24,3 +24,9 @@ returns-in-Ok-clause-joined c = (cut_units c).joined
 
 pub returns-in-Ok-clause-last : goal.returns-in-Ok-clause-last
 returns-in-Ok-clause-last c = (cut_units c).last
+
+pub returns-then-bytes-room-clause-long : goal.returns-then-bytes-room-clause-long
+returns-then-bytes-room-clause-long c = search rules
+
+pub returns-in-Ok-clause-units : goal.returns-in-Ok-clause-units
+returns-in-Ok-clause-units c = search rules

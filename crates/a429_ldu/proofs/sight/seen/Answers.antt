@@ -1,4 +1,4 @@
-use Rattle.std.proofs.Common.{Some, None, sym, ap, ◌∙◌}
+use Rattle.std.proofs.Common.{rules, Some, None, sym, ap, ◌∙◌}
 use Rattle.a429_ldu.specs.declared.sight.Sight.TheVariants as sight
 use Rattle.a429_ldu.specs.Sight.{sight_of}
 use Rattle.a429_ldu.proofs.SightFacts.{seen_full_a, seen_full_b, seen_free, seen_told, ignored_free}
@@ -39,3 +39,6 @@ returns-in-None-clause-sight c =
     let codes = c.codes-codes.result.now in
     seen_told codes c.args.bus c.args.word _ c.is_ignored.result None parts.word parts.fields (ignored_free codes c.args.bus c.args.word _ c.is_ignored.result at parts.fields c.is_ignored.ensures) c.if-is_ignored.false (sym c.in-None.is ∙ c.form_on.ensures)
     ∙ ap (λ d. sight_of d c.args.bus c.args.word) c.codes-codes.ensures.codes
+
+pub returns-then-not-is_addressed-clause-sight : goal.returns-then-not-is_addressed-clause-sight
+returns-then-not-is_addressed-clause-sight c = search rules

@@ -1,5 +1,5 @@
 -- the fault of a section is the first one, after sections without any
-use Rattle.std.proofs.Common.{◌∙◌, ◌++◌}
+use Rattle.std.proofs.Common.{rules, ◌∙◌, ◌++◌}
 use Rattle.std.proofs.lemmas.Result.{err_from_is_err_and}
 use Rattle.toml.specs.View.{table_view}
 use Rattle.a429_profile.specs.Key.{transfer_keys, type_keys, code_keys, partial_keys}
@@ -33,3 +33,6 @@ returns-in_err-partial_codes c =
     let p = err_from_is_err_and c.from_residual-in_err-partial_codes.result c.from_residual-in_err-partial_codes.ensures.1 in
     let none = after_none doc (transfer_keys ++ type_keys) code_keys (after_none doc transfer_keys type_keys c.in_ok-transfer.ensures.0 ∙ c.in_ok-types.ensures.0) ∙ c.in_ok-codes.ensures.0 in
     rw (p.1, p.2) (λ _. after_none doc (transfer_keys ++ type_keys ++ code_keys) partial_keys none ∙ c.in_err-partial_codes.ensures)
+
+pub returns : goal.returns
+returns c = search rules

@@ -19,3 +19,6 @@ groups-preserved g c =
     let form : binary_form (front ++ group) ≡ binary_form front ++ flat_map entry_piece group =
     ap (λ (l : List ℕ). magic ++ l) (flat_map-append entry_piece front group) ∙ sym (append_assoc magic (flat_map entry_piece front) (flat_map entry_piece group)) in
     (front ++ group, all, rw form (Appends-trans _ _ _ _ _ inv.2 c.in_ok-put_group.ensures.ok), search rules)
+
+pub groups-init : goal.groups-init
+groups-init g c = search rules

@@ -1,4 +1,4 @@
-use Rattle.std.proofs.Common.{◌≡◌, ℕ, List, Bool, true, false, refl, sym, ap, ◌∙◌, arith}
+use Rattle.std.proofs.Common.{rules, ◌≡◌, ℕ, List, Bool, true, false, refl, sym, ap, ◌∙◌, arith}
 use Rattle.std.proofs.lemmas.Bool.{eqb-false}
 use Rattle.a429_profile.specs.declared.codes.Check.{Check}
 use Rattle.a429_ldu.specs.CheckWord.{agrees}
@@ -36,3 +36,9 @@ returns-in-Err-clause-memory c _ =
     let right = on_profile c.check.result.now c.args.profile.now.check bytes c.deref.result.now c.args.check true c.check.ensures c.deref.ensures.0 (sym c.agrees.ensures ∙ c.if-not-agrees.false) in
     made c.args.profile.now c.args.gfi c.args.flags c.args.check c.args.words.now c.args.words.now bytes c.requires.gfi c.requires.flags (omega arith)
     (omega (arith, some), omega arith) refl c.in-Some.ensures.some right
+
+pub returns-then-is_empty-clause-memory : goal.returns-then-is_empty-clause-memory
+returns-then-is_empty-clause-memory c = search rules
+
+pub block_bytes-requires : goal.block_bytes-requires
+block_bytes-requires c = search rules

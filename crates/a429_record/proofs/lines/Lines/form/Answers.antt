@@ -1,5 +1,5 @@
 -- the bytes that were read choose the form
-use Rattle.std.proofs.Common.{◌<◌, ◌≤◌, length, take, arith}
+use Rattle.std.proofs.Common.{rules, ◌<◌, ◌≤◌, length, take, arith}
 use Rattle.std.proofs.KnownBytes.{Consumes-trans}
 use Rattle.a429_word.specs.Tally.{unread}
 use Rattle.a429_record.proofs.LinesFacts.{take_most}
@@ -25,3 +25,6 @@ returns-then-not-begins_magic-clause-chosen g c =
     let few : length (take s.filled s.buffer) ≤ 8 = omega (arith, size, c.in-Ok-true.ensures.filled.0) in
     other_bytes (unread g.R.Read.remaining c.args.rec.now) (unread g.R.Read.remaining c.read_on.new.rec) s.at _ (take s.filled s.buffer) c.requires.none c.in-Ok-true.ensures.start gone
     few (λ e. cc (c.if-not-begins_magic.ensures.1 e))
+
+pub returns-clause-chosen : goal.returns-clause-chosen
+returns-clause-chosen g c = search rules

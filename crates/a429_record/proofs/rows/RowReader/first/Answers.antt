@@ -29,3 +29,6 @@ returns-in-Binary-clause-before g c failed =
     let b = pending_of g.R.Read.remaining c.form.new.self c.form.new.rec in
     let chosen : Chooses form.Binary a b = rw c.in-Binary.is at c.in-Ok.ensures.chosen in
     failed_binary a b (unread g.R.Read.remaining c.next_piece.new.rec) c.args.self.now.count c.requires.0.0 chosen (c.next_piece.ensures.before failed)
+
+pub form-requires-clause-works : goal.form-requires-clause-works
+form-requires-clause-works g c = search rules
