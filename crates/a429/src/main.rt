@@ -10,7 +10,7 @@ use a429_record::EntryReader;
 use a429_view::UnitRows;
 use a429_word::Tally;
 use std::alloc::Global;
-use std::io::{BufReader, BufWriter, ErrorKind, Write};
+use std::io::{BufReader, BufWriter, ErrorKind, Read, Write};
 use std::process::ExitCode;
 use std::rt::{Env, Files};
 use std::{env, fs, io};
@@ -23,6 +23,14 @@ const CERTIFICATE_CAP: u64 = 4_294_967_296;
 
 // How many bytes of a certificate are asked for at once.
 const CERTIFICATE_PIECE: usize = 65_536;
+
+// What a claim names: a profile, which was read, and a recording and a certificate to read.
+#[derive(Drop)]
+struct Case<R: Read> {
+    profile: Vec<u8>,
+    rec: EntryReader<R>,
+    cert: Tally<BufReader<R>>,
+}
 
 fn main(rt: HostRuntime) -> ExitCode {
     let status = match run(&rt) {
@@ -37,26 +45,60 @@ fn run(rt: &(impl Files + Env + Print + AllocGlobal)) -> Result<u8, RunFault> {
     let alloc = rt.alloc();
     let words = words_of(rt, alloc)?;
     let writer = BufWriter::new(alloc, io::writer(rt)).map_err(|_| RunFault::Memory)?;
-    let mut out = Tally::new(writer, 0);
-    let status = match command(alloc, words.as_slice())? {
-        Command::Word(hex) => run_word(hex, &mut out)?,
-        Command::Labels(profile) => {
-            let profile = bytes_of(rt, alloc, profile)?;
-            run_labels(alloc, profile.as_slice(), &mut out)?
-        }
-        Command::Show { profile, recording } => show(rt, alloc, profile, recording, &mut out)?,
-        Command::Forms { profile, recording } => forms(rt, alloc, profile, recording, &mut out)?,
-        Command::Make { profile, files } => make(rt, alloc, profile, files.as_slice(), &mut out)?,
-        Command::Pack(recording) => run_pack(alloc, &mut opened(rt, recording, CAP)?, &mut out)?,
-        Command::Check(claim) => check(rt, alloc, claim, &mut out)?,
-        Command::Verify(claim) => verify(rt, alloc, claim, &mut out)?,
+    let out = Tally::new(writer, 0);
+    answer(rt, alloc, command(alloc, words.as_slice())?, out)
+}
+
+// Answers a command. What waits to be written is flushed at its end.
+fn answer<W: Write + Drop>(
+    rt: &impl Files,
+    alloc: Global,
+    command: Command<'_>,
+    out: Tally<W>,
+) -> Result<u8, RunFault> {
+    let mut out = out;
+    let status = match command {
+        Command::Word(hex) => run_word(hex, &mut out),
+        Command::Labels(profile) => labels(rt, alloc, profile, &mut out),
+        Command::Show { profile, recording } => show(rt, alloc, profile, recording, &mut out),
+        Command::Forms { profile, recording } => forms(rt, alloc, profile, recording, &mut out),
+        Command::Make { profile, files } => make(rt, alloc, profile, files.as_slice(), &mut out),
+        Command::Pack(recording) => pack(rt, alloc, recording, &mut out),
+        Command::Check(claim) => check(rt, alloc, claim, &mut out),
+        Command::Verify(claim) => verify(rt, alloc, claim, &mut out),
         Command::Units(claim) => return units(rt, alloc, claim, out),
         Command::Picture { claim, span } => return picture(rt, alloc, claim, span, out),
-        Command::Extract { claim, folder } => extract(rt, alloc, claim, folder, &mut out)?,
-        Command::Upgrade { cert, new_cert } => upgrade(rt, cert, new_cert, &mut out)?,
+        Command::Extract { claim, folder } => extract(rt, alloc, claim, folder, &mut out),
+        Command::Upgrade { cert, new_cert } => upgrade(rt, cert, new_cert, &mut out),
     };
+    flushed(status, &mut out)
+}
+
+// The status of a command that has ended, once what waits to be written is flushed.
+fn flushed<W: Write>(status: Result<u8, RunFault>, out: &mut Tally<W>) -> Result<u8, RunFault> {
+    let status = status?;
     out.flush().map_err(|_| RunFault::Device)?;
     Ok(status)
+}
+
+fn labels<W: Write>(
+    rt: &impl Files,
+    alloc: Global,
+    profile: &str,
+    out: &mut Tally<W>,
+) -> Result<u8, RunFault> {
+    let profile = bytes_of(rt, alloc, profile)?;
+    run_labels(alloc, profile.as_slice(), out)
+}
+
+fn pack<W: Write>(
+    rt: &impl Files,
+    alloc: Global,
+    recording: &str,
+    out: &mut Tally<W>,
+) -> Result<u8, RunFault> {
+    let mut rec = opened(rt, recording, CAP)?;
+    run_pack(alloc, &mut rec, out)
 }
 
 fn show<W: Write>(
@@ -113,10 +155,14 @@ fn verify<W: Write>(
     claim: Claim<'_>,
     out: &mut Tally<W>,
 ) -> Result<u8, RunFault> {
-    let profile = bytes_of(rt, alloc, claim.profile)?;
-    let mut rec = EntryReader::new(alloc, opened(rt, claim.recording, CAP)?);
-    let mut cert = opened_certificate(rt, alloc, claim.certificate)?;
-    run_verify(alloc, profile.as_slice(), &mut rec, &mut cert, out)
+    let mut case = opened_claim(rt, alloc, claim)?;
+    run_verify(
+        alloc,
+        case.profile.as_slice(),
+        &mut case.rec,
+        &mut case.cert,
+        out,
+    )
 }
 
 // Rows and canvas have the output to themselves: what waits to be written is flushed here.
@@ -126,13 +172,16 @@ fn units<W: Write + Drop>(
     claim: Claim<'_>,
     out: Tally<W>,
 ) -> Result<u8, RunFault> {
-    let profile = bytes_of(rt, alloc, claim.profile)?;
-    let mut rec = EntryReader::new(alloc, opened(rt, claim.recording, CAP)?);
-    let mut cert = opened_certificate(rt, alloc, claim.certificate)?;
+    let mut case = opened_claim(rt, alloc, claim)?;
     let mut rows = UnitRows::new(alloc, out)?;
-    let status = run_units(alloc, profile.as_slice(), &mut rec, &mut cert, &mut rows)?;
-    rows.out.flush().map_err(|_| RunFault::Device)?;
-    Ok(status)
+    let status = run_units(
+        alloc,
+        case.profile.as_slice(),
+        &mut case.rec,
+        &mut case.cert,
+        &mut rows,
+    );
+    flushed(status, &mut rows.out)
 }
 
 fn extract<W: Write>(
@@ -142,15 +191,13 @@ fn extract<W: Write>(
     folder: &str,
     out: &mut Tally<W>,
 ) -> Result<u8, RunFault> {
-    let profile = bytes_of(rt, alloc, claim.profile)?;
-    let mut rec = EntryReader::new(alloc, opened(rt, claim.recording, CAP)?);
-    let mut cert = opened_certificate(rt, alloc, claim.certificate)?;
+    let mut case = opened_claim(rt, alloc, claim)?;
     let mut folder = Folder::new(rt, alloc, folder).map_err(|_| RunFault::Memory)?;
     run_extract(
         alloc,
-        profile.as_slice(),
-        &mut rec,
-        &mut cert,
+        case.profile.as_slice(),
+        &mut case.rec,
+        &mut case.cert,
         &mut folder,
         out,
     )
@@ -163,13 +210,16 @@ fn picture<W: Write + Drop>(
     span: Span,
     out: Tally<W>,
 ) -> Result<u8, RunFault> {
-    let profile = bytes_of(rt, alloc, claim.profile)?;
-    let mut rec = EntryReader::new(alloc, opened(rt, claim.recording, CAP)?);
-    let mut cert = opened_certificate(rt, alloc, claim.certificate)?;
+    let mut case = opened_claim(rt, alloc, claim)?;
     let mut canvas = Canvas { span, out };
-    let status = run_picture(alloc, profile.as_slice(), &mut rec, &mut cert, &mut canvas)?;
-    canvas.out.flush().map_err(|_| RunFault::Device)?;
-    Ok(status)
+    let status = run_picture(
+        alloc,
+        case.profile.as_slice(),
+        &mut case.rec,
+        &mut case.cert,
+        &mut canvas,
+    );
+    flushed(status, &mut canvas.out)
 }
 
 fn upgrade<W: Write>(
@@ -202,6 +252,19 @@ fn words_of(rt: &(impl Env + AllocGlobal), alloc: Global) -> Result<Vec<String>,
         _ => RunFault::Memory,
     })?;
     Ok(args.skip(1).collect(alloc)?)
+}
+
+// The files that a claim names, opened in this order.
+fn opened_claim<F: Files>(
+    rt: &F,
+    alloc: Global,
+    claim: Claim<'_>,
+) -> Result<Case<F::File>, RunFault> {
+    Ok(Case {
+        profile: bytes_of(rt, alloc, claim.profile)?,
+        rec: EntryReader::new(alloc, opened(rt, claim.recording, CAP)?),
+        cert: opened_certificate(rt, alloc, claim.certificate)?,
+    })
 }
 
 // A file to read. One that cannot be opened is told as one that fails.

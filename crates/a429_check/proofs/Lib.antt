@@ -11,3 +11,4 @@ pub mod VerdictFacts
 pub mod UnitsFacts
 pub mod UpgradeFacts
 pub mod PictureFacts
+pub mod CheckFacts

@@ -1,8 +1,8 @@
 -- What a sketch that listened to a certificate holds, and why there is no picture.
-use Rattle.std.proofs.Common.{◌≡◌, ◌≢◌, ◌≤◌, ◌<◌, ◌⊎◌, inl, inr, ℕ, List, Bool, true, false, Option, Some, None, Result, Ok, Err, IfOk, IfErr, refl, sym, ap, subst}
+use Rattle.std.proofs.Common.{◌≡◌, ◌≢◌, ◌≤◌, ◌<◌, inl, inr, ℕ, List, Bool, true, Option, Some, None, Result, Ok, Err, IfOk, IfErr, refl, sym, ap, subst}
 use Rattle.std.specs.Result.{OnOk}
 use Rattle.a429_word.specs.declared.tally.Tally.{Tally}
-use Rattle.a429_word.specs.Tally.{has_failed, Puts}
+use Rattle.a429_word.specs.Tally.{Puts}
 use Rattle.a429_profile.specs.Profile.{Contents}
 use Rattle.a429_record.specs.Recording.{Recording}
 use Rattle.a429_cert.specs.declared.fault.CertFault.{CertFault}
@@ -19,7 +19,7 @@ use Rattle.a429_check.specs.declared.fault.RunFault.{RunFault}
 use Rattle.a429_check.specs.declared.fault.RunFault.TheVariants as run
 use Rattle.a429_check.specs.Profile.{IsProfileOf}
 use Rattle.a429_check.specs.Output.{PutsText}
-use Rattle.a429_check.specs.Verdict.{AllWork, HasFailed, IsNoVerdictBy, IsSilent, IsVerifyFault, no_text}
+use Rattle.a429_check.specs.Verdict.{ByProfile, no_text}
 use Rattle.a429_check.specs.Picture.{ARun, DrawsRun, IsTooLongRun, IsPicture, IsNoPicture, IsSketchFault}
 
 where_told : (known : Option (List ℕ)) (rec : Option Recording) (A B : List ℕ → Recording → Type 0) → ((text : List ℕ) (r : Recording) → A text r → B text r) → WhereTold known rec A → WhereTold known rec B
@@ -74,75 +74,33 @@ too_long profile p known rec span old new files is here b h e =
       so = where_told known rec (IsHeard Hears p old new) (IsTooLongRun p span) (λ text r g. record { run = heard_run g; many = (heard_of p span old new text r b g).many e }) h;
     }
 
--- a fault that is told of a certificate, of whichever text its profile was read
-pub not_told : (profile : List ℕ) (p : Contents) (known : Option (List ℕ)) (rec : Option Recording) (span : Span) (Failed : Type 0) (e : RunFault)
-    → IsProfileOf profile p → IsNoVerdictBy p known rec None None Failed e → IsNoPicture profile known rec span e
-not_told profile p known rec span Failed e is here = by e (here profile is)
-  where
-    by : (e : RunFault) → IsVerifyFault profile known rec None None Failed e → IsNoPicture profile known rec span e
-    by (run.Profile f) h = h
-    by (run.Read f) h = h
-    by (run.Cut k f) h = h
-    by run.TooLong h = absurd h
-    by run.Device h = (tt, h.1)
-    by run.Memory h = h
-    by run.BadWord h = h
-    by run.Usage h = h
-
-none_failed : (rec certificate : Bool) → AllWork rec certificate false false → HasFailed rec certificate false → ⊥
-none_failed rec certificate w (inl h) = let e = w.0 in absurd (cc (e, h))
-none_failed rec certificate w (inr (inl h)) = let e = w.1 in absurd (cc (e, h))
-none_failed rec certificate w (inr (inr h)) = absurd (cc h)
-
 -- ---- what a command answers once its text was put
 
-pub puts_picture : {W : Type 0} (contents : W → Option (List ℕ)) (old new : Tally W) (r : Result ℕ RunFault) (Is : ℕ → List ℕ → Type 0) (n : ℕ) (text : List ℕ) (Fact : Type 0)
-    → IfOk r (λ status. status ≡ n) → OnOk r (Puts contents old new text) → OnOk r Fact → (Fact → Is n text) → IfOk r (λ status. PutsText contents old new (Is status))
-puts_picture contents old new (Ok status) Is n text Fact e puts fact is = (text, subst (λ (k : ℕ). Is k text) (sym e) (is fact), puts)
-puts_picture contents old new (Err f) Is n text Fact e puts fact is = tt
+pub puts_picture : {W : Type 0} (contents : W → Option (List ℕ)) (old new : Tally W) (r : Result ℕ RunFault) (p : Contents) (Is : List ℕ → ℕ → List ℕ → Type 0) (n : ℕ) (text : List ℕ) (Fact : Type 0)
+    → IfOk r (λ status. status ≡ n) → OnOk r (Puts contents old new text) → OnOk r Fact → (Fact → ByProfile p (λ profile. Is profile n text))
+    → IfOk r (λ status. ByProfile p (λ profile. PutsText contents old new (Is profile status)))
+puts_picture contents old new (Ok status) p Is n text Fact e puts fact is = λ profile by. (text, subst (λ (k : ℕ). Is profile k text) (sym e) (is fact profile by), puts)
+puts_picture contents old new (Err f) p Is n text Fact e puts fact is = tt
 
-pub all_work : (r : Result ℕ RunFault) (rec certificate out : Bool) → AllWork rec certificate false false → OnOk r (out ≡ false) → OnOk r (AllWork rec certificate false out)
-all_work (Ok status) rec certificate out w h = (w.0, w.1, refl, h)
-all_work (Err f) rec certificate out w h = tt
-
-pub no_picture : (profile : List ℕ) (p : Contents) (known : Option (List ℕ)) (rec : Option Recording) (span : Span) (out : Bool) (old new : Sketch) (files : List (ℕ × ℕ)) (r : Result ℕ RunFault)
-    → IsProfileOf profile p → Extracts p known rec None None files → IsBlank span old → HearsRun Hears p known rec old new
-    → IfErr r (IsSketchFault new.steps out) → IfErr r (IsNoPicture profile known rec span)
-no_picture profile p known rec span out old new files (Ok status) is here b h f = tt
-no_picture profile p known rec span out old new files (Err e) is here b h f = by e f
+pub no_picture : (p : Contents) (known : Option (List ℕ)) (rec : Option Recording) (span : Span) (out : Bool) (old new : Sketch) (files : List (ℕ × ℕ)) (r : Result ℕ RunFault)
+    → Extracts p known rec None None files → IsBlank span old → HearsRun Hears p known rec old new
+    → IfErr r (IsSketchFault new.steps out) → IfErr r (λ e. ByProfile p (λ profile. IsNoPicture profile known rec span e))
+no_picture p known rec span out old new files (Ok status) here b h f = tt
+no_picture p known rec span out old new files (Err e) here b h f = λ profile is. by profile is e f
   where
-    by : (e : RunFault) → IsSketchFault new.steps out e → IsNoPicture profile known rec span e
-    by run.TooLong many = too_long profile p known rec span old new files is here b h many
-    by run.Memory _ = (is.0, inl tt)
-    by run.Device _ = (tt, (Ok files, record { contents = p; is_profile = is; is = here }))
-    by (run.Profile f) f' = absurd f'
-    by (run.Read f) f' = absurd f'
-    by (run.Cut k f) f' = absurd f'
-    by run.BadWord f' = absurd f'
-    by run.Usage f' = absurd f'
+    by : (profile : List ℕ) → IsProfileOf profile p → (e : RunFault) → IsSketchFault new.steps out e → IsNoPicture profile known rec span e
+    by profile is run.TooLong many = too_long profile p known rec span old new files is here b h many
+    by profile is run.Memory _ = (is.0, inl tt)
+    by profile is run.Device _ = (tt, (Ok files, record { contents = p; is_profile = is; is = here }))
+    by profile is (run.Profile f) f' = absurd f'
+    by profile is (run.Read f) f' = absurd f'
+    by profile is (run.Cut k f) f' = absurd f'
+    by profile is run.BadWord f' = absurd f'
+    by profile is run.Usage f' = absurd f'
 
 -- the output alone failed
-pub no_refusal : (profile : List ℕ) (p : Contents) (known : Option (List ℕ)) (rec : Option Recording) (span : Span) (out : Bool) (f : CertFault) (r : Result ℕ RunFault)
-    → IsProfileOf profile p → Refuses p known rec None None (stream.Cert f) → IfErr r (λ e. (e ≡ run.Device) × (out ≡ true)) → IfErr r (IsNoPicture profile known rec span)
-no_refusal profile p known rec span out f (Ok status) is here g = tt
-no_refusal profile p known rec span out f (Err e) is here g =
+pub no_refusal : (p : Contents) (known : Option (List ℕ)) (rec : Option Recording) (span : Span) (out : Bool) (f : CertFault) (r : Result ℕ RunFault)
+    → Refuses p known rec None None (stream.Cert f) → IfErr r (λ e. (e ≡ run.Device) × (out ≡ true)) → IfErr r (λ e. ByProfile p (λ profile. IsNoPicture profile known rec span e))
+no_refusal p known rec span out f (Ok status) here g = tt
+no_refusal p known rec span out f (Err e) here g = λ profile is.
     subst (IsNoPicture profile known rec span) (sym g.0) (tt, (Err (stream.Cert f), record { contents = p; is_profile = is; is = here }))
-
--- the output is as it was after any fault but its own
-pub silent : {W : Type 0} (rec certificate : Bool) (old new : Tally W) (r : Result ℕ RunFault) → AllWork rec certificate false false
-    → IfErr r (λ e. (e ≢ run.Device) ⊎ (has_failed new ≡ false) → new ≡ old) → IfErr r (IsSilent (HasFailed rec certificate false) old new)
-silent rec certificate old new (Ok status) w s = tt
-silent rec certificate old new (Err e) w s = by
-  where
-    by : (e ≢ run.Device) ⊎ (HasFailed rec certificate false ⊎ (has_failed new ≡ false)) → new ≡ old
-    by (inl h) = s (inl h)
-    by (inr (inl h)) = absurd (none_failed rec certificate w h)
-    by (inr (inr h)) = s (inr h)
-
-pub its_own : {W : Type 0} (out : Bool) (old new : Tally W) (r : Result ℕ RunFault) → IfErr r (λ e. (e ≡ run.Device) × (out ≡ true)) → IfErr r (λ e. (e ≢ run.Device) ⊎ (out ≡ false) → new ≡ old)
-its_own out old new (Ok status) h = tt
-its_own out old new (Err e) h = by
-  where
-    by : (e ≢ run.Device) ⊎ (out ≡ false) → new ≡ old
-    by (inl g) = absurd (g h.0)
-    by (inr g) = let t = h.1 in absurd (cc (g, t))

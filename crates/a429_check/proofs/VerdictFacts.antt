@@ -1,10 +1,11 @@
 -- What is answered of a certificate, and what a command tells where there is no verdict.
-use Rattle.std.proofs.Common.{◌≡◌, ◌⊎◌, ◌∙◌, ◌++◌, inl, inr, ℕ, Bool, true, List, length, Vec, Global, Option, Some, None, Result, Ok, Err, IfOk, IfErr, refl, ap, subst}
+use Rattle.std.proofs.Common.{◌≡◌, ◌⊎◌, ◌∙◌, ◌++◌, inl, inr, ℕ, Bool, true, false, ◌≢◌, List, length, Vec, Global, Option, Some, None, Result, Ok, Err, IfOk, IfErr, refl, sym, ap, subst}
 use Rattle.std.specs.List.{flat_map}
+use Rattle.std.specs.Result.{OnOk}
 use Rattle.std.proofs.lemmas.List.{length-map}
 use Rattle.std.proofs.lemmas.List.Folds.{flat_map-map}
 use Rattle.a429_word.specs.declared.tally.Tally.{Tally}
-use Rattle.a429_word.specs.Tally.{Puts}
+use Rattle.a429_word.specs.Tally.{has_failed, Puts}
 use Rattle.a429_link.specs.declared.file.FileBytes.{FileBytes}
 use Rattle.a429_cert.specs.Stream.{OneFailed, sizes}
 use Rattle.a429_profile.specs.Profile.{Contents}
@@ -21,7 +22,7 @@ use Rattle.a429_check.specs.declared.fault.RunFault.{RunFault}
 use Rattle.a429_check.specs.declared.fault.RunFault.TheVariants as run
 use Rattle.a429_check.specs.Profile.{IsProfileOf}
 use Rattle.a429_check.specs.Output.{PutsText}
-use Rattle.a429_check.specs.Verdict.{ByProfile, HasAnswer, HasFailed, IsVerdict, IsVerifyFault, SaysNo, of_stream, count_line, file_line, line_of_file, no_text, yes_text}
+use Rattle.a429_check.specs.Verdict.{AllWork, ByProfile, HasAnswer, HasFailed, IsNoVerdict, IsSilent, IsVerdict, answer_status, answer_text, IsVerifyFault, SaysNo, of_stream, count_line, file_line, line_of_file, no_text, yes_text}
 
 -- what is told of files, by their lines
 pub yes_of_files : (files : List FileBytes) → yes_text (sizes files) ≡ count_line (length files) ++ flat_map line_of_file files
@@ -45,19 +46,65 @@ answer_told profile p certificate rec old new (Ok files) is here _ = (Ok files.i
 answer_told profile p certificate rec old new (Err f) is _ here = (Err (stream.Cert f), record { contents = p; is_profile = is; is = here.0 })
 
 -- the text of an answer was written
-pub puts_yes : {W : Type 0} (contents : W → Option (List ℕ)) (out new_out : Tally W) (p : Contents) (certificate : Option (List ℕ)) (rec : Option Recording) (old new : Option (List PutFile))
-    (a : Result (Vec (ℕ × ℕ) Global) CertFault) (files : Vec (ℕ × ℕ) Global) (told : List (ℕ × ℕ)) → a ≡ Ok files → IfOk a (SaysYes p certificate rec old new) → told ≡ files.items
-    → Puts contents out new_out (yes_text told) → ByProfile p (λ profile. PutsText contents out new_out (IsVerdict profile certificate rec old new 0))
-puts_yes contents out new_out p certificate rec old new a files told is here same puts = λ profile by.
-    let yes = rw is at here in
-    (yes_text files.items, record { answer = Ok files.items; judged = record { contents = p; is_profile = by; is = yes }; told = (refl, refl) }, subst (λ (l : List (ℕ × ℕ)). Puts contents out new_out (yes_text l)) same puts)
+pub puts_answer : {W : Type 0} (contents : W → Option (List ℕ)) (out new_out : Tally W) (p : Contents) (certificate : Option (List ℕ)) (rec : Option Recording) (old new : Option (List PutFile))
+    (a : Result (Vec (ℕ × ℕ) Global) CertFault) (r : Result ℕ RunFault) → IfOk a (SaysYes p certificate rec old new) → IfErr a (SaysNo p certificate rec old new)
+    → IfOk r (λ status. status ≡ answer_status a) → OnOk r (Puts contents out new_out (answer_text a))
+    → IfOk r (λ status. ByProfile p (λ profile. PutsText contents out new_out (IsVerdict profile certificate rec old new status)))
+puts_answer contents out new_out p certificate rec old new (Ok files) (Ok status) here there is puts = λ profile by.
+    (yes_text files.items, record { answer = Ok files.items; judged = record { contents = p; is_profile = by; is = here }; told = (is, refl) }, puts)
+puts_answer contents out new_out p certificate rec old new (Err f) (Ok status) here there is puts = λ profile by.
+    (no_text f, record { answer = Err (stream.Cert f); judged = record { contents = p; is_profile = by; is = there.0 }; told = (is, refl, there.1) }, puts)
+puts_answer contents out new_out p certificate rec old new a (Err e) here there is puts = tt
 
-pub puts_no : {W : Type 0} (contents : W → Option (List ℕ)) (out new_out : Tally W) (p : Contents) (certificate : Option (List ℕ)) (rec : Option Recording) (old new : Option (List PutFile))
-    (a : Result (Vec (ℕ × ℕ) Global) CertFault) (f : CertFault) → a ≡ Err f → IfErr a (SaysNo p certificate rec old new)
-    → Puts contents out new_out (no_text f) → ByProfile p (λ profile. PutsText contents out new_out (IsVerdict profile certificate rec old new 2))
-puts_no contents out new_out p certificate rec old new a f is here puts = λ profile by.
-    let no = rw is at here in
-    (no_text f, record { answer = Err (stream.Cert f); judged = record { contents = p; is_profile = by; is = no.0 }; told = (refl, refl, no.1) }, puts)
+-- the output alone failed
+pub answer_not_put : (p : Contents) (certificate : Option (List ℕ)) (rec : Option Recording) (old new : Option (List PutFile)) (a : Result (Vec (ℕ × ℕ) Global) CertFault) (r : Result ℕ RunFault) (out : Bool)
+    → IfOk a (SaysYes p certificate rec old new) → IfErr a (SaysNo p certificate rec old new) → IfErr r (λ e. (e ≡ run.Device) × (out ≡ true))
+    → IfErr r (λ e. ByProfile p (λ profile. IsNoVerdict profile certificate rec old new e))
+answer_not_put p certificate rec old new a (Ok status) out here there g = tt
+answer_not_put p certificate rec old new a (Err e) out here there g = λ profile is.
+    subst (λ (f : RunFault). IsNoVerdict profile certificate rec old new f) (sym g.0) (tt, answer_told profile p certificate rec old new a is here there)
+
+-- ---- by the text of which a profile was read
+
+pub ok_by_text : (r : Result ℕ RunFault) (p bench : Contents) (text : List ℕ) (Holds : ℕ → List ℕ → Type 0) → IsProfileOf text p → bench ≡ p
+    → IfOk r (λ status. ByProfile bench (Holds status)) → IfOk r (λ status. Holds status text)
+ok_by_text (Ok status) p bench text Holds is e h = h text (subst (IsProfileOf text) (sym e) is)
+ok_by_text (Err f) p bench text Holds is e h = tt
+
+pub err_by_text : (r : Result ℕ RunFault) (p bench : Contents) (text : List ℕ) (Holds : RunFault → List ℕ → Type 0) → IsProfileOf text p → bench ≡ p
+    → IfErr r (λ e. ByProfile bench (Holds e)) → IfErr r (λ e. Holds e text)
+err_by_text (Ok status) p bench text Holds is e h = tt
+err_by_text (Err f) p bench text Holds is e h = h text (subst (IsProfileOf text) (sym e) is)
+
+-- ---- what has failed where an answer is put
+
+pub all_work : (r : Result ℕ RunFault) (rec certificate shelf listener out : Bool) → AllWork rec certificate shelf listener → OnOk r (out ≡ false) → OnOk r (AllWork rec certificate shelf out)
+all_work (Ok status) rec certificate shelf listener out (a, b, c, d) h = (a, b, c, h)
+all_work (Err f) rec certificate shelf listener out w h = tt
+
+none_failed : (rec certificate shelf listener : Bool) → AllWork rec certificate shelf listener → HasFailed rec certificate shelf → ⊥
+none_failed rec certificate shelf listener (a, b, c, d) (inl h) = cc (a, h)
+none_failed rec certificate shelf listener (a, b, c, d) (inr (inl h)) = cc (b, h)
+none_failed rec certificate shelf listener (a, b, c, d) (inr (inr h)) = cc (c, h)
+
+-- the output is as it was after any fault but its own
+pub silent : {W : Type 0} (rec certificate shelf listener : Bool) (old new : Tally W) (r : Result ℕ RunFault) → AllWork rec certificate shelf listener
+    → IfErr r (λ e. (e ≢ run.Device) ⊎ (has_failed new ≡ false) → new ≡ old) → IfErr r (IsSilent (HasFailed rec certificate shelf) old new)
+silent rec certificate shelf listener old new (Ok status) w s = tt
+silent rec certificate shelf listener old new (Err e) w s = by
+  where
+    by : (e ≢ run.Device) ⊎ (HasFailed rec certificate shelf ⊎ (has_failed new ≡ false)) → new ≡ old
+    by (inl h) = s (inl h)
+    by (inr (inl h)) = absurd (none_failed rec certificate shelf listener w h)
+    by (inr (inr h)) = s (inr h)
+
+pub its_own : {W : Type 0} (out : Bool) (old new : Tally W) (r : Result ℕ RunFault) → IfErr r (λ e. (e ≡ run.Device) × (out ≡ true)) → IfErr r (λ e. (e ≢ run.Device) ⊎ (out ≡ false) → new ≡ old)
+its_own out old new (Ok status) h = tt
+its_own out old new (Err e) h = by
+  where
+    by : (e ≢ run.Device) ⊎ (out ≡ false) → new ≡ old
+    by (inl g) = absurd (g h.0)
+    by (inr g) = let t = h.1 in absurd (cc (g, t))
 
 -- a fault of a stream, as a command tells it
 pub told : (profile : List ℕ) (p : Contents) (certificate : Option (List ℕ)) (rec : Option Recording) (old new : Option (List PutFile)) (Failed : Type 0) (f : StreamFault)

@@ -1,5 +1,5 @@
 -- The verdict of a certificate, and how it is written (profile).
-use Rattle.std.specs.Prelude.{◌≡◌, ◌≢◌, ◌⊎◌, ◌++◌, ℕ, List, [], length, codes, Bool, true, false, Option, None, Result, Ok, Err}
+use Rattle.std.specs.Prelude.{◌≡◌, ◌≢◌, ◌⊎◌, ◌++◌, ℕ, List, [], length, codes, Bool, true, false, Option, None, Result, Ok, Err, Vec}
 use Rattle.std.specs.List.{flat_map}
 use Rattle.std.specs.Fmt.{decimal}
 use Rattle.std.specs.Str.{IsUtf8}
@@ -47,6 +47,15 @@ no_text (cert.StateDiffers n) = codes "NO state differs " ++ decimal n ++ codes 
 no_text (cert.WordDiffers n i) = codes "NO word differs " ++ decimal n ++ codes " " ++ decimal i ++ codes "\n"
 no_text (cert.Unfinished i) = codes "NO unfinished " ++ decimal i ++ codes "\n"
 no_text cert.OutOfMemory = []
+
+-- what is told of an answer, and its status
+abbrev pub answer_text : {Z : Type 0} → Result (Vec (ℕ × ℕ) Z) CertFault → List ℕ
+answer_text (Ok files) = yes_text files.items
+answer_text (Err f) = no_text f
+
+abbrev pub answer_status : {Z : Type 0} → Result (Vec (ℕ × ℕ) Z) CertFault → ℕ
+answer_status (Ok files) = 0
+answer_status (Err f) = 2
 
 -- ---- what it stands for
 

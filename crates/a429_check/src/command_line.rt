@@ -16,10 +16,16 @@ pub mod commands;
 pub fn command<'a>(alloc: Global, words: &'a [String]) -> Result<Command<'a>, RunFault>
     ensures { IfErr result (λ e. (e ≡ RunFault.Memory) ⊎ (e ≡ RunFault.Usage)) }
 {
-    let matches = match parser(alloc)?.try_get_matches_from(words) {
-        Ok(matches) => matches,
-        Err(error) => return Err(fault_of(error.kind())),
-    };
+    match parser(alloc)?.try_get_matches_from(words) {
+        Ok(matches) => command_of(alloc, &matches),
+        Err(error) => Err(fault_of(error.kind())),
+    }
+}
+
+// The command that the words name.
+fn command_of<'a>(alloc: Global, matches: &ArgMatches<'a>) -> Result<Command<'a>, RunFault>
+    ensures { IfErr result (λ e. (e ≡ RunFault.Memory) ⊎ (e ≡ RunFault.Usage)) }
+{
     match matches.subcommand() {
         Some(("word", given)) => match given.get_str("HEX") {
             Some(hex) => Ok(Command::Word(hex)),

@@ -36,9 +36,27 @@ pub fn run_check<R: Read, C: Write, W: Write>(
     ensures front { OnErr result (PutsFrontAtMost C.contents cert.old cert.new profile.now (unread R.remaining rec.old)) }
 {
     let verdict = verdict_on(alloc, profile, rec)?;
-    put_certificate(cert, &verdict)?;
-    put_verdict(out, &verdict)?;
-    Ok(status_of(&verdict))
+    put_both(cert, out, &verdict)
+}
+
+// Writes the certificate of a verdict and then the verdict, and answers its status.
+fn put_both<C: Write, W: Write>(
+    cert: &mut Tally<C>,
+    out: &mut Tally<W>,
+    verdict: &Verdict,
+) -> Result<u8, RunFault>
+    ensures status { IfOk result (λ status. status ≡ verdict_status verdict.now) }
+    ensures certificate { OnOk result (Puts C.contents cert.old cert.new (certificate_text verdict.now)) }
+    ensures text { OnOk result (Puts W.contents out.old out.new (verdict_text verdict.now)) }
+    ensures none { IfOk result (λ status. status ≢ 0 → cert.new ≡ cert.old) }
+    ensures device { IfOk result (UsedWork false (has_failed cert.new) (has_failed out.new)) }
+    ensures err { IfErr result (λ e. (e ≡ RunFault.Device) × ((has_failed cert.new ≡ true) ⊎ (has_failed out.new ≡ true))) }
+    ensures last { OnErr result (has_failed out.new ≡ false → out.new ≡ out.old) }
+    ensures front { OnErr result (PutsFront C.contents cert.old cert.new (certificate_text verdict.now)) }
+{
+    put_certificate(cert, verdict)?;
+    put_verdict(out, verdict)?;
+    Ok(status_of(verdict))
 }
 
 // The verdict on a recording.

@@ -4,7 +4,7 @@ ghost use Rattle.std.specs.Prelude.{◌≡◌, ◌≢◌, ◌⊎◌, ◌≤◌, 
 ghost use Rattle.a429_word.specs.Tally.{has_failed, unread, Puts};
 ghost use Rattle.a429_view.specs.Picture.{svg_text};
 ghost use Rattle.a429_view.specs.Sketch.{most_steps};
-ghost use Rattle.a429_check.specs.Verdict.{no_text, AllWork, AnyFailed, HasFailed, IsSilent};
+ghost use Rattle.a429_check.specs.Verdict.{no_text, AllWork, AnyFailed, ByProfile, HasFailed, IsSilent};
 ghost use Rattle.a429_check.specs.Picture.{IsNoPicture, IsSketchFault, PutsPicture};
 
 use crate::engines::profile::profile_of;
@@ -46,10 +46,30 @@ pub fn run_picture<R: Read, C: Read, W: Write>(
     ensures span { canvas.new.span ≡ canvas.old.span }
 {
     let profile = profile_of(alloc, profile)?;
-    let bench = Bench::new(alloc, &profile);
+    draw(alloc, &profile, rec, cert, canvas)
+}
+
+// The same, under a profile that was read.
+fn draw<R: Read, C: Read, W: Write>(
+    alloc: Global,
+    profile: &Profile,
+    rec: &mut EntryReader<R>,
+    cert: &mut Tally<C>,
+    canvas: &mut Canvas<W>,
+) -> Result<u8, RunFault>
+    ensures answer { IfOk result (λ status. ByProfile profile.now (λ text.
+        PutsPicture W.contents canvas.old canvas.new text C.remaining cert.old rec.old status)) }
+    ensures device { OnOk result (AllWork rec.new.failed (has_failed cert.new) false (has_failed canvas.new.out)) }
+    ensures err { IfErr result (λ e. ByProfile profile.now (λ text.
+        IsNoPicture text (unread C.remaining cert.old) rec.old.to_come canvas.old.span e)) }
+    ensures failed { IsErrOf result RunFault.Device → AnyFailed rec.new.failed (has_failed cert.new) false (has_failed canvas.new.out) }
+    ensures silent { IfErr result (IsSilent (HasFailed rec.new.failed (has_failed cert.new) false) canvas.old.out canvas.new.out) }
+    ensures span { canvas.new.span ≡ canvas.old.span }
+{
+    let bench = Bench::new(alloc, profile);
     let mut sketch = Sketch::new(alloc, canvas.span);
     match answer_of(&bench, rec, cert, &mut NoShelf, &mut sketch)? {
-        Ok(_) => put_sketch(alloc, &mut canvas.out, &profile, &sketch),
+        Ok(_) => put_sketch(alloc, &mut canvas.out, profile, &sketch),
         Err(fault) => put_refused(&mut canvas.out, fault),
     }
 }

@@ -7,7 +7,7 @@ ghost use Rattle.std.specs.Fmt.{decimal};
 ghost use Rattle.a429_word.specs.Tally.{has_failed, unread, Puts};
 ghost use Rattle.a429_cert.specs.Stream.{sizes};
 ghost use Rattle.a429_cert.specs.StreamExplained.{HearsBefore, HearsRun, SaysYes};
-ghost use Rattle.a429_check.specs.Verdict.{count_line, file_line, line_of_file, yes_text, no_text, of_stream, AllWork, AnyFailed, ByProfile, HasFailed, IsNoVerdict, IsNoVerdictBy, SaysNo, IsSilent, PutsAnswer};
+ghost use Rattle.a429_check.specs.Verdict.{answer_status, answer_text, count_line, file_line, line_of_file, yes_text, no_text, of_stream, AllWork, AnyFailed, ByProfile, HasFailed, IsNoVerdict, IsNoVerdictBy, SaysNo, IsSilent, PutsAnswer};
 
 use crate::engines::output::put_decimal;
 use crate::fault::RunFault;
@@ -38,13 +38,25 @@ pub(crate) fn judge<R: Read, C: Read, S: Shelf, W: Write>(
     ensures failed { IsErrOf result RunFault.Device → AnyFailed rec.new.failed (has_failed cert.new) (S.failed shelf.new) (has_failed out.new) }
     ensures silent { IfErr result (IsSilent (HasFailed rec.new.failed (has_failed cert.new) (S.failed shelf.new)) out.old out.new) }
 {
-    match answer_of(bench, rec, cert, shelf, &mut NoListener)? {
+    let answer = answer_of(bench, rec, cert, shelf, &mut NoListener)?;
+    put_answer(out, &answer)
+}
+
+// Writes what is answered to a certificate, and tells its status.
+fn put_answer<W: Write>(out: &mut Tally<W>, answer: &Answer) -> Result<u8, RunFault>
+    requires { answer.now ≢ Err CertFault.OutOfMemory }
+    ensures status { IfOk result (λ status. status ≡ answer_status answer.now) }
+    ensures text { OnOk result (Puts W.contents out.old out.new (answer_text answer.now)) }
+    ensures works { OnOk result (has_failed out.new ≡ false) }
+    ensures err { IfErr result (λ e. (e ≡ RunFault.Device) × (has_failed out.new ≡ true)) }
+{
+    match answer {
         Ok(files) => {
             put_yes(out, files.as_slice())?;
             Ok(0)
         }
         Err(fault) => {
-            put_no(out, fault)?;
+            put_no(out, *fault)?;
             Ok(2)
         }
     }

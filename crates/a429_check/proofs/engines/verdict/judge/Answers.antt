@@ -1,24 +1,26 @@
-use Rattle.std.proofs.lemmas.Result.{err_from_is_err_and}
-use Rattle.a429_word.specs.Tally.{unread}
-use Rattle.a429_check.proofs.VerdictFacts.{answer_told, puts_yes, puts_no}
+use Rattle.std.proofs.Common.{false, rules}
+use Rattle.a429_word.specs.Tally.{has_failed, unread}
+use Rattle.a429_check.proofs.VerdictFacts.{puts_answer, answer_not_put, all_work, silent, its_own}
 use Rattle.a429_check.proofs.engines.verdict.judge.Goals as goal
 
-pub returns-in_err-put_yes-in-Ok-clause-err : goal.returns-in_err-put_yes-in-Ok-clause-err
-returns-in_err-put_yes-in-Ok-clause-err g c =
-    let p = err_from_is_err_and c.from_residual-in_err-put_yes-in-Ok.result c.from_residual-in_err-put_yes-in-Ok.ensures.1 in
-    rw (p.1, p.2) (λ text is. (tt, answer_told text c.args.bench.now (unread g.C.Read.remaining c.args.cert.now) c.args.rec.now.to_come (g.S.Shelf.files c.args.shelf.now) (g.S.Shelf.files c.answer_of.new.shelf) _ is c.in_ok-files.ensures.yes c.in_ok-files.ensures.no))
+pub returns-in_err-answer-clause-silent : goal.returns-in_err-answer-clause-silent
+returns-in_err-answer-clause-silent g c = search rules
 
-pub returns-in_err-put_no-in-Err-clause-err : goal.returns-in_err-put_no-in-Err-clause-err
-returns-in_err-put_no-in-Err-clause-err g c =
-    let p = err_from_is_err_and c.from_residual-in_err-put_no-in-Err.result c.from_residual-in_err-put_no-in-Err.ensures.1 in
-    rw (p.1, p.2) (λ text is. (tt, answer_told text c.args.bench.now (unread g.C.Read.remaining c.args.cert.now) c.args.rec.now.to_come (g.S.Shelf.files c.args.shelf.now) (g.S.Shelf.files c.answer_of.new.shelf) _ is c.in_ok-files.ensures.yes c.in_ok-files.ensures.no))
+pub returns-clause-verdict : goal.returns-clause-verdict
+returns-clause-verdict g c =
+    puts_answer g.W.Write.contents c.args.out.now c.put_answer.new.out c.args.bench.now (unread g.C.Read.remaining c.args.cert.now) c.args.rec.now.to_come (g.S.Shelf.files c.args.shelf.now) (g.S.Shelf.files c.answer_of.new.shelf) c.in_ok-answer.answer c.put_answer.result
+    c.in_ok-answer.ensures.yes c.in_ok-answer.ensures.no c.put_answer.ensures.status c.put_answer.ensures.text
 
-pub returns-in_ok-put_yes-in-Ok-clause-verdict : goal.returns-in_ok-put_yes-in-Ok-clause-verdict
-returns-in_ok-put_yes-in-Ok-clause-verdict g c =
-    puts_yes g.W.Write.contents c.args.out.now c.put_yes.new.out c.args.bench.now (unread g.C.Read.remaining c.args.cert.now) c.args.rec.now.to_come (g.S.Shelf.files c.args.shelf.now) (g.S.Shelf.files c.answer_of.new.shelf) _ c.in-Ok.files c.as_slice.result.now
-    c.in-Ok.is c.in_ok-files.ensures.yes c.as_slice.ensures.value c.in_ok-put_yes-in-Ok.ensures.ok
+pub returns-clause-device : goal.returns-clause-device
+returns-clause-device g c =
+    all_work c.put_answer.result c.answer_of.new.rec.failed (has_failed c.answer_of.new.cert) (g.S.Failing.failed c.answer_of.new.shelf) false (has_failed c.put_answer.new.out) c.in_ok-answer.ensures.works c.put_answer.ensures.works
 
-pub returns-in_ok-put_no-in-Err-clause-verdict : goal.returns-in_ok-put_no-in-Err-clause-verdict
-returns-in_ok-put_no-in-Err-clause-verdict g c =
-    puts_no g.W.Write.contents c.args.out.now c.put_no.new.out c.args.bench.now (unread g.C.Read.remaining c.args.cert.now) c.args.rec.now.to_come (g.S.Shelf.files c.args.shelf.now) (g.S.Shelf.files c.answer_of.new.shelf) _ c.in-Err.fault
-    c.in-Err.is c.in_ok-files.ensures.no c.in_ok-put_no-in-Err.ensures.ok
+pub returns-clause-err : goal.returns-clause-err
+returns-clause-err g c =
+    answer_not_put c.args.bench.now (unread g.C.Read.remaining c.args.cert.now) c.args.rec.now.to_come (g.S.Shelf.files c.args.shelf.now) (g.S.Shelf.files c.answer_of.new.shelf) c.in_ok-answer.answer c.put_answer.result (has_failed c.put_answer.new.out)
+    c.in_ok-answer.ensures.yes c.in_ok-answer.ensures.no c.put_answer.ensures.err
+
+pub returns-clause-silent : goal.returns-clause-silent
+returns-clause-silent g c =
+    silent c.answer_of.new.rec.failed (has_failed c.answer_of.new.cert) (g.S.Failing.failed c.answer_of.new.shelf) false c.args.out.now c.put_answer.new.out c.put_answer.result c.in_ok-answer.ensures.works
+    (its_own (has_failed c.put_answer.new.out) c.args.out.now c.put_answer.new.out c.put_answer.result c.put_answer.ensures.err)
