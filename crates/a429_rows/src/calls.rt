@@ -10,7 +10,6 @@ use a429_word::Tally;
 use std::alloc::{AllocError, Global};
 use std::fmt::{Debug, Display};
 use std::process::Abort;
-use std::test::Fail;
 use std::{io, str};
 
 // How many bytes of a text are read at most.
@@ -48,8 +47,8 @@ fn above<T: Display>(alloc: Global, value: &T, text: &str) -> Result<String, All
     format!(in alloc; "{value}\n{text}")
 }
 
-// The exit status, or the line of the fault, and below it what was written, where that is a text.
-fn text_of(alloc: Global, status: Result<u8, RunFault>, written: &[u8]) -> Option<String> {
+/// The exit status, or the line of the fault, and below it what was written, where that is a text.
+pub fn told(alloc: Global, status: Result<u8, RunFault>, written: &[u8]) -> Option<String> {
     let text = str::from_utf8(written).ok()?;
     match status {
         Ok(status) => above(alloc, &status, text).ok(),
@@ -57,14 +56,9 @@ fn text_of(alloc: Global, status: Result<u8, RunFault>, written: &[u8]) -> Optio
     }
 }
 
-/// The exit status, or the line of the fault, and below it what was written.
-pub fn told(alloc: Global, status: Result<u8, RunFault>, written: &[u8]) -> Result<String, Fail> {
-    Ok(text_of(alloc, status, written).ok_or("no text")?)
-}
-
 /// Whether this is told.
 pub fn is_told(alloc: Global, status: Result<u8, RunFault>, written: &[u8], text: &str) -> bool {
-    match text_of(alloc, status, written) {
+    match told(alloc, status, written) {
         Some(found) => found.as_str() == text,
         None => false,
     }
@@ -146,16 +140,21 @@ pub fn verify_tells(alloc: Global, recording: &str, certificate: &[u8], verdict:
     is_told(alloc, found.status, found.verdict.as_slice(), verdict)
 }
 
+// A copy of a file.
+fn copied(alloc: Global, file: &FileBytes) -> Result<FileBytes, AllocError> {
+    let bytes = Vec::from_slice(alloc, file.bytes.as_slice())?;
+    Ok(FileBytes {
+        number: file.number,
+        bytes: Bytes::new(bytes),
+    })
+}
+
 // The files of a shelf, in order.
 fn files_of(alloc: Global, shelf: &MemoryShelf) -> Result<Vec<FileBytes>, AllocError> {
     let mut files = Vec::new(alloc);
     for put in shelf.files() {
-        let mut bytes = Vec::new(alloc);
-        bytes.extend_from_slice(put.file.bytes.as_slice())?;
-        files.push(FileBytes {
-            number: put.file.number,
-            bytes: Bytes::new(bytes),
-        })?;
+        let file = copied(alloc, &put.file)?;
+        files.push(file)?;
     }
     Ok(files)
 }

@@ -31,21 +31,23 @@ fn lines_one_after_the_other(rt: HostRuntime) {
     assert!(rt; is_line_behind(2, text, None));
 }
 
+// What two calls answer, one after the other, and whether the reader of a text of at most so many bytes has failed then.
+fn two_answers(text: &[u8], cap: u64) -> ([Result<bool, Device>; 2], bool) {
+    let mut cert = Tally::new(text, cap);
+    let mut lines = LineReader::new();
+    let first = lines.next_line(&mut cert);
+    let second = lines.next_line(&mut cert);
+    ([first, second], cert.failed())
+}
+
 #[test]
 fn text_that_ends(rt: HostRuntime) {
-    let mut cert = Tally::new(b"a\n".as_slice(), 10);
-    let mut lines = LineReader::new();
-    assert!(rt; lines.next_line(&mut cert) == Ok(true));
-    assert!(rt; lines.next_line(&mut cert) == Ok(false));
+    assert!(rt; two_answers(b"a\n", 10).0 == [Ok(true), Ok(false)]);
 }
 
 #[test]
 fn reader_that_fails(rt: HostRuntime) {
-    let mut cert = Tally::new(b"a\nb\n".as_slice(), 3);
-    let mut lines = LineReader::new();
-    assert!(rt; lines.next_line(&mut cert) == Ok(true));
-    assert!(rt; lines.next_line(&mut cert) == Err(Device));
-    assert!(rt; cert.failed());
+    assert!(rt; two_answers(b"a\nb\n", 3) == ([Ok(true), Err(Device)], true));
 }
 
 // The length of a line of so many bytes, where it is handed out whole.

@@ -72,20 +72,27 @@ fn is_no_line(alloc: Global, text: &str) -> bool {
     matches!(is_written_again(alloc, text), Ok(None))
 }
 
+// How many lines a text has, where each of them is read as a line, and written again.
+fn count_lines(alloc: Global, text: &str) -> Option<usize> {
+    let mut count = 0usize;
+    for line in text.lines() {
+        if !is_line(alloc, line) {
+            return None;
+        }
+        count = count.saturating_add(1);
+    }
+    Some(count)
+}
+
 #[test]
 fn certificate_of_one_byte(rt: HostRuntime) {
-    assert!(rt; CERTIFICATE.lines().count() == 15);
-    for line in CERTIFICATE.lines().skip(1) {
-        assert!(rt; is_line(rt.alloc(), line));
-    }
+    let lines = CERTIFICATE.strip_prefix("arinc429-cert 1\n");
+    assert!(rt; matches!(lines, Some(lines) if count_lines(rt.alloc(), lines) == Some(14)));
 }
 
 #[test]
 fn ends_of_the_ranges(rt: HostRuntime) {
-    assert!(rt; ENDS.lines().count() == 6);
-    for line in ENDS.lines() {
-        assert!(rt; is_line(rt.alloc(), line));
-    }
+    assert!(rt; count_lines(rt.alloc(), ENDS) == Some(6));
 }
 
 #[test]
@@ -95,19 +102,26 @@ fn loads_of_many_words(rt: HostRuntime) {
     }
 }
 
+// How many texts these are, with this between them, where none of them is read as a line.
+fn count_no_lines(alloc: Global, texts: &str, between: &str) -> Option<usize> {
+    let mut count = 0usize;
+    for text in texts.split(between) {
+        if !is_no_line(alloc, text) {
+            return None;
+        }
+        count = count.saturating_add(1);
+    }
+    Some(count)
+}
+
 #[test]
 fn texts_that_are_no_line(rt: HostRuntime) {
-    assert!(rt; NO_LINES.lines().count() == 21);
-    for text in NO_LINES.lines() {
-        assert!(rt; is_no_line(rt.alloc(), text));
-    }
+    assert!(rt; count_no_lines(rt.alloc(), NO_LINES, "\n") == Some(21));
 }
 
 #[test]
 fn bytes_that_end_no_line(rt: HostRuntime) {
-    for text in BAD_ENDS.split('|') {
-        assert!(rt; is_no_line(rt.alloc(), text));
-    }
+    assert!(rt; count_no_lines(rt.alloc(), BAD_ENDS, "|") == Some(6));
 }
 
 // The line of a text.

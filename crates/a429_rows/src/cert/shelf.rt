@@ -64,16 +64,24 @@ pub(super) fn told(file: &PutFile, bytes: &[u8]) -> Option<(u32, u8)> {
     Some((file.index, file.file.number))
 }
 
+// Whether file 255 of the byte 41 and an empty file 0 are put on a shelf.
+fn takes_two(shelf: &mut MemoryShelf) -> bool {
+    shelf.put(1, 255, b"A") == Ok(()) && shelf.put(2, 0, b"") == Ok(()) && !shelf.failed()
+}
+
+// Whether these are they.
+fn are_the_two(files: &[PutFile]) -> bool {
+    match files {
+        [first, second] => told(first, b"A") == Some((1, 255)) && told(second, b"") == Some((2, 0)),
+        _ => false,
+    }
+}
+
 #[test]
 fn files_are_kept_in_order(rt: HostRuntime) {
     let mut shelf = MemoryShelf::new(rt.alloc());
-    assert!(rt; shelf.put(1, 255, b"A") == Ok(()));
-    assert!(rt; shelf.put(2, 0, b"") == Ok(()));
-    assert!(rt; !shelf.failed());
-    let files = shelf.files();
-    assert!(rt; files.len() == 2);
-    assert!(rt; told(&files[0], b"A") == Some((1, 255)));
-    assert!(rt; told(&files[1], b"") == Some((2, 0)));
+    assert!(rt; takes_two(&mut shelf));
+    assert!(rt; are_the_two(shelf.files()));
 }
 
 #[test]

@@ -97,12 +97,16 @@ fn is_yes(answer: &Answer) -> bool {
     matches!(answer, Ok(sizes) if sizes.as_slice() == [(255, 1), (0, 1)].as_slice())
 }
 
+// Whether a stream over all puts both files and tells them.
+fn puts_both(alloc: Global, given: &Given) -> bool {
+    let (answer, failed, shelf) = stream_over(alloc, given, given.recording.as_str(), (0, 0, 0));
+    is_yes(&answer) && !failed && has_both(&shelf)
+}
+
 #[test]
 fn two_files_are_put_in_order(rt: HostRuntime) -> Result<(), Fail> {
     let given = two_files(&rt)?;
-    let whole = given.recording.as_str();
-    let (answer, failed, shelf) = stream_over(rt.alloc(), &given, whole, (0, 0, 0));
-    assert!(rt; is_yes(&answer) && !failed && has_both(&shelf));
+    assert!(rt; puts_both(rt.alloc(), &given));
     Ok(())
 }
 
@@ -117,14 +121,22 @@ fn a_file_before_a_fault_stays(rt: HostRuntime) -> Result<(), Fail> {
     Ok(())
 }
 
+// Whether a shelf that fails at this put is told as a device that fails, and has file 255 alone then, or none.
+fn fails_at_put(alloc: Global, given: &Given, put: u32, has_first: bool) -> bool {
+    let (answer, _, shelf) = stream_over(alloc, given, given.recording.as_str(), (0, 0, put));
+    let is_left = if has_first {
+        has_first_alone(&shelf)
+    } else {
+        shelf.files().is_empty()
+    };
+    is_left && matches!(answer, Err(StreamFault::Device))
+}
+
 #[test]
 fn a_shelf_that_fails_at_a_put(rt: HostRuntime) -> Result<(), Fail> {
     let given = two_files(&rt)?;
-    let whole = given.recording.as_str();
-    let (answer, _, shelf) = stream_over(rt.alloc(), &given, whole, (0, 0, 1));
-    assert!(rt; matches!(answer, Err(StreamFault::Device)) && shelf.files().is_empty());
-    let (answer, _, shelf) = stream_over(rt.alloc(), &given, whole, (0, 0, 2));
-    assert!(rt; matches!(answer, Err(StreamFault::Device)) && has_first_alone(&shelf));
+    assert!(rt; fails_at_put(rt.alloc(), &given, 1, false));
+    assert!(rt; fails_at_put(rt.alloc(), &given, 2, true));
     Ok(())
 }
 
@@ -149,13 +161,17 @@ fn failing_runs(alloc: Global, given: &Given, is_recording: bool) -> u32 {
     0
 }
 
-// A reader is called once for each byte and for the end.
+// Whether runs fail so often as a text has bytes, and once more: a reader is called once for each byte and for the end.
+fn is_each_call(runs: u32, text: &[u8]) -> bool {
+    runs as usize == text.len() + 1
+}
+
 #[test]
 fn readers_that_fail_at_each_call(rt: HostRuntime) -> Result<(), Fail> {
     let given = two_files(&rt)?;
-    let recording = given.recording.as_str().len() + 1;
-    let certificate = given.certificate.len() + 1;
-    assert!(rt; failing_runs(rt.alloc(), &given, true) as usize == recording);
-    assert!(rt; failing_runs(rt.alloc(), &given, false) as usize == certificate);
+    let recording = failing_runs(rt.alloc(), &given, true);
+    assert!(rt; is_each_call(recording, given.recording.as_bytes()));
+    let certificate = failing_runs(rt.alloc(), &given, false);
+    assert!(rt; is_each_call(certificate, given.certificate.as_slice()));
     Ok(())
 }

@@ -35,7 +35,7 @@ fn small_recordings(rt: HostRuntime) {
 
 // A yes has a certificate that is accepted with the same files, and else there is none.
 fn is_borne_out(alloc: Global, recording: &str, certificate: &[u8], verdict: &str) -> bool {
-    if verdict.starts_with('0') {
+    if verdict.as_bytes().starts_with(b"0") {
         verify_tells(alloc, recording, certificate, verdict)
     } else {
         certificate.is_empty()
@@ -62,14 +62,14 @@ fn holds(alloc: Global, case: &str) -> Result<bool, Fail> {
     says(alloc, words, verdict.as_str())
 }
 
-// The first case that is another, counted from 0.
-fn first_that_differs(alloc: Global, cases: &str) -> Result<Option<usize>, Fail> {
-    for (n, case) in cases.split('\n').enumerate() {
+// Each case, a line each, holds. The first that is another is the failure.
+fn all_hold(alloc: Global, cases: &str) -> Result<(), Fail> {
+    for case in cases.split('\n') {
         if !holds(alloc, case)? {
-            return Ok(Some(n));
+            return Err(Fail::new(case));
         }
     }
-    Ok(None)
+    Ok(())
 }
 
 #[test]
@@ -81,8 +81,7 @@ fn answers_that_are_not_owed(rt: HostRuntime) -> Result<(), Fail> {
 1 IMPOSSIBLE 4 WrongAnswer: RTS CTS SOT EOT ACK
 1 IMPOSSIBLE 6 WrongAnswer: RTS CTS SOT PART EOT NAK ACK
 1 IMPOSSIBLE 11 WrongAnswer: RTS CTS E0FF0123 PART EOT C5FF01A3 RTS CTS 60800123 PART EOT 458001A3";
-    assert_eq!(rt; first_that_differs(rt.alloc(), cases)?, None);
-    Ok(())
+    all_hold(rt.alloc(), cases)
 }
 
 #[test]
@@ -90,8 +89,7 @@ fn words_that_are_not_granted(rt: HostRuntime) -> Result<(), Fail> {
     let cases = "1 IMPOSSIBLE 1 NotGranted: RTS SOT
 1 IMPOSSIBLE 4 NotGranted: RTS CTS SOT PART PART
 1 IMPOSSIBLE 0 NoForm: C1410223";
-    assert_eq!(rt; first_that_differs(rt.alloc(), cases)?, None);
-    Ok(())
+    all_hold(rt.alloc(), cases)
 }
 
 #[test]
@@ -101,8 +99,7 @@ fn recordings_in_doubt(rt: HostRuntime) -> Result<(), Fail> {
 2 UNEXPLAINED 2 NotOneBlock: RTS CTS 60010223
 2 UNEXPLAINED 6 NotOneBlock: RTS CTS SOT PART RTS CTS 60010223 PART
 2 UNEXPLAINED 6 NotReplayed: RTS CTS SOT PART EOT ACK RTS CTS E0000123";
-    assert_eq!(rt; first_that_differs(rt.alloc(), cases)?, None);
-    Ok(())
+    all_hold(rt.alloc(), cases)
 }
 
 // A block that is cut off, one with a damaged word, and the files 255 and 0. Then files that are given up: those between
@@ -132,28 +129,35 @@ const FILES: [(&str, &str); 7] = [
     ),
 ];
 
-#[test]
-fn files_that_cross(rt: HostRuntime) -> Result<(), Fail> {
-    for (words, verdict) in FILES {
-        assert!(rt; says(rt.alloc(), words, verdict)?);
+// Each of these words has this verdict. The first that has another is the failure.
+fn all_say(alloc: Global, cases: &[(&str, &str)]) -> Result<(), Fail> {
+    for (words, verdict) in cases {
+        if !says(alloc, words, verdict)? {
+            return Err(Fail::new(*words));
+        }
     }
     Ok(())
 }
 
+#[test]
+fn files_that_cross(rt: HostRuntime) -> Result<(), Fail> {
+    all_say(rt.alloc(), &FILES)
+}
+
 // A refused block, and a transfer that begins anew behind its first words.
+const ANEW: [(&str, &str); 7] = [
+    ("RTS CTS SOT 92004123 EOT NAK RTS CTS SOT PART EOT ACK", YES),
+    ("RTS RTS CTS SOT PART EOT ACK", YES),
+    ("RTS CTS RTS CTS SOT PART EOT ACK", YES),
+    ("RTS CTS SOT RTS CTS SOT PART EOT ACK", YES),
+    ("RTS CTS SOT PART RTS CTS SOT PART EOT ACK", YES),
+    ("RTS CTS SOT PART EOT RTS CTS SOT PART EOT ACK", YES),
+    ("RTS CTS SOT PART EOT ACK RTS CTS SOT PART EOT ACK", YES),
+];
+
 #[test]
 fn transfers_that_go_on(rt: HostRuntime) -> Result<(), Fail> {
-    let cases = "RTS CTS SOT 92004123 EOT NAK RTS CTS SOT PART EOT ACK
-RTS RTS CTS SOT PART EOT ACK
-RTS CTS RTS CTS SOT PART EOT ACK
-RTS CTS SOT RTS CTS SOT PART EOT ACK
-RTS CTS SOT PART RTS CTS SOT PART EOT ACK
-RTS CTS SOT PART EOT RTS CTS SOT PART EOT ACK
-RTS CTS SOT PART EOT ACK RTS CTS SOT PART EOT ACK";
-    for words in cases.split('\n') {
-        assert!(rt; says(rt.alloc(), words, YES)?);
-    }
-    Ok(())
+    all_say(rt.alloc(), &ANEW)
 }
 
 // No verdict is given for this fault. The certificate's writer has room for 20 bytes, and none is written unless it

@@ -14,7 +14,8 @@ fn meant(alloc: Global, words: &[String]) -> Result<Command<'_>, RunFault> {
 fn words_of(alloc: Global, line: &str) -> Result<Vec<String>, AllocError> {
     let mut words = Vec::new(alloc);
     for word in line.split(' ') {
-        words.push(String::from_str(alloc, word)?)?;
+        let word = String::from_str(alloc, word)?;
+        words.push(word)?;
     }
     Ok(words)
 }
@@ -31,14 +32,14 @@ fn is_meant(alloc: Global, case: &str) -> Result<bool, Fail> {
     Ok(meaning(alloc, words)?.as_str() == wanted)
 }
 
-// The first case that is another, counted from 0.
-fn first_that_differs(alloc: Global, cases: &str) -> Result<Option<usize>, Fail> {
-    for (n, case) in cases.split('\n').enumerate() {
+// Each case, a line each, is meant. The first that is another is the failure.
+fn are_meant(alloc: Global, cases: &str) -> Result<(), Fail> {
+    for case in cases.split('\n') {
         if !is_meant(alloc, case)? {
-            return Ok(Some(n));
+            return Err(Fail::new(case));
         }
     }
-    Ok(None)
+    Ok(())
 }
 
 #[test]
@@ -60,8 +61,7 @@ picture bench.toml bench.csv bench.cert 0 12 -> Ok(Picture { claim: Claim { prof
 upgrade bench.cert new.cert -> Ok(Upgrade { cert: "bench.cert", new_cert: "new.cert" })
 make bench.toml -> Ok(Make { profile: "bench.toml", files: [] })
 make bench.toml one.bin two.bin -> Ok(Make { profile: "bench.toml", files: ["one.bin", "two.bin"] })"#;
-    assert_eq!(rt; first_that_differs(rt.alloc(), cases)?, None);
-    Ok(())
+    are_meant(rt.alloc(), cases)
 }
 
 // The line without words has one empty word.
@@ -95,8 +95,7 @@ help word -> Err(Usage)
 --version -> Err(Usage)
 word --help -> Err(Usage)
 word -5 -> Err(Usage)";
-    assert_eq!(rt; first_that_differs(rt.alloc(), cases)?, None);
-    Ok(())
+    are_meant(rt.alloc(), cases)
 }
 
 #[test]

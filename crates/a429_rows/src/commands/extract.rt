@@ -1,65 +1,84 @@
 //! The files of a certificate.
 
-use crate::calls::{YES, extracted, extracted_onto, told};
+use crate::calls::{YES, extracted, extracted_onto, is_told};
+use a429_cert::Shelf;
 use a429_check::Folder;
+use a429_link::FileBytes;
 use a429_sample::{CERTIFICATE, RECORDING};
 use std::alloc::Global;
-use std::fmt::Write;
 use std::rt::Files;
-use std::test::Fail;
 
-// The verdict on a certificate, and below it a line for each file: its number and its bytes.
-fn taken(alloc: Global, recording: &str, certificate: &str) -> Result<String, Fail> {
-    let (answer, files) = extracted(alloc, recording, certificate.as_bytes())?;
-    let mut text = told(alloc, answer.status, answer.verdict.as_slice())?;
-    for file in &files {
-        writeln!(text, "{} {:?}", file.number, file.bytes.as_slice())?;
+// Whether these are so many files, each of number 1 and with the byte 41 alone.
+fn are_files(files: &[FileBytes], count: usize) -> bool {
+    for file in files {
+        if file.number != 1 || file.bytes.as_slice() != b"A".as_slice() {
+            return false;
+        }
     }
-    Ok(text)
+    files.len() == count
+}
+
+// This is told of a certificate, and so many such files are taken out.
+fn takes(alloc: Global, recording: &str, certificate: &str, text: &str, count: usize) -> bool {
+    match extracted(alloc, recording, certificate.as_bytes()) {
+        Ok((answer, files)) => {
+            are_files(&files, count)
+                && is_told(alloc, answer.status, answer.verdict.as_slice(), text)
+        }
+        Err(_) => false,
+    }
 }
 
 #[test]
-fn the_file_of_an_accepted_certificate(rt: HostRuntime) -> Result<(), Fail> {
-    let text = taken(rt.alloc(), RECORDING, CERTIFICATE)?;
-    assert!(rt; text.as_str().strip_prefix(YES) == Some("1 [65]\n"));
-    Ok(())
+fn the_file_of_an_accepted_certificate(rt: HostRuntime) {
+    assert!(rt; takes(rt.alloc(), RECORDING, CERTIFICATE, YES, 1));
 }
 
 #[test]
-fn none_of_a_refused_one(rt: HostRuntime) -> Result<(), Fail> {
-    let text = taken(rt.alloc(), RECORDING, "")?;
-    assert!(rt; text.as_str() == "2\nNO version\n");
-    Ok(())
+fn none_of_a_refused_one(rt: HostRuntime) {
+    assert!(rt; takes(rt.alloc(), RECORDING, "", "2\nNO version\n", 0));
 }
 
 #[test]
-fn none_without_a_verdict(rt: HostRuntime) -> Result<(), Fail> {
-    let text = taken(rt.alloc(), "", CERTIFICATE)?;
-    assert!(rt; text.as_str() == "recording: header\n");
-    Ok(())
+fn none_without_a_verdict(rt: HostRuntime) {
+    assert!(rt; takes(rt.alloc(), "", CERTIFICATE, "recording: header\n", 0));
 }
 
-// What is told of a certificate whose files go to a folder of this name.
-fn into_folder(
+// This is told of a certificate whose files go to this shelf.
+fn tells_onto<S: Shelf>(
+    alloc: Global,
+    recording: &str,
+    certificate: &str,
+    shelf: &mut S,
+    text: &str,
+) -> bool {
+    let answer = extracted_onto(alloc, recording, certificate.as_bytes(), shelf);
+    is_told(alloc, answer.status, answer.verdict.as_slice(), text)
+}
+
+// This is told of a certificate whose files go to a folder of this name.
+fn tells_into(
     rt: &(impl Files + AllocGlobal),
     dir: &str,
     recording: &str,
     certificate: &str,
-) -> Result<String, Fail> {
-    let alloc = rt.alloc();
-    let mut folder = Folder::new(rt, alloc, dir).ok().ok_or("memory")?;
-    let answer = extracted_onto(alloc, recording, certificate.as_bytes(), &mut folder);
-    told(alloc, answer.status, answer.verdict.as_slice())
+    text: &str,
+) -> bool {
+    match Folder::new(rt, rt.alloc(), dir) {
+        Ok(folder) => {
+            let mut folder = folder;
+            tells_onto(rt.alloc(), recording, certificate, &mut folder, text)
+        }
+        Err(_) => false,
+    }
 }
 
 // One that is not there, and one that takes no file: neither is asked where there is no file.
 #[test]
-fn folders_that_fail(rt: HostRuntime) -> Result<(), Fail> {
+fn folders_that_fail(rt: HostRuntime) {
     let none = "arinc429-cert 1\nfirst 0\n";
     for dir in ["no-such-folder", "/dev/null"] {
-        let one = into_folder(&rt, dir, RECORDING, CERTIFICATE)?;
-        let nothing = into_folder(&rt, dir, "time,bus,word\n", none)?;
-        assert!(rt; one.as_str() == "device\n" && nothing.as_str() == "0\nYES files 0\n");
+        assert!(rt; tells_into(&rt, dir, RECORDING, CERTIFICATE, "device\n"));
+        assert!(rt; tells_into(&rt, dir, "time,bus,word\n", none, "0\nYES files 0\n"));
     }
-    Ok(())
 }

@@ -27,47 +27,52 @@ pub(crate) fn files_of(
 ) -> Result<Vec<Vec<u8>>, AllocError> {
     let mut files = Vec::new(alloc);
     for length in lengths {
-        files.push(filled(alloc, byte, *length)?)?;
+        let file = filled(alloc, byte, *length)?;
+        files.push(file)?;
     }
     Ok(files)
 }
 
 // What is told of such files.
-fn made(alloc: Global, profile: &str, byte: u8, lengths: &[usize]) -> Result<String, Fail> {
-    let files = files_of(alloc, byte, lengths)?;
+fn made(alloc: Global, profile: &str, byte: u8, lengths: &[usize]) -> Option<String> {
+    let files = files_of(alloc, byte, lengths).ok()?;
     let mut written = Vec::new(alloc);
     let answer = make(alloc, profile, &files, &mut Tally::new(&mut written, 0));
     told(alloc, answer, written.as_slice())
 }
 
 // This first line is told of files of so many bytes, and this is written.
-fn makes(
-    alloc: Global,
-    profile: &str,
-    byte: u8,
-    lengths: &[usize],
-    told: (&str, &str),
-) -> Result<bool, Fail> {
+fn makes(alloc: Global, profile: &str, byte: u8, lengths: &[usize], told: (&str, &str)) -> bool {
     let (first, written) = told;
-    let found = made(alloc, profile, byte, lengths)?;
-    Ok(found.as_str().strip_prefix(first) == Some(written))
+    match made(alloc, profile, byte, lengths) {
+        Some(found) => found.as_str().strip_prefix(first) == Some(written),
+        None => false,
+    }
 }
 
 #[test]
-fn a_file_of_one_byte(rt: HostRuntime) -> Result<(), Fail> {
-    assert!(rt; makes(rt.alloc(), PROFILE, 0x41, &[1], ("0\n", RECORDING))?);
-    Ok(())
+fn a_file_of_one_byte(rt: HostRuntime) {
+    assert!(rt; makes(rt.alloc(), PROFILE, 0x41, &[1], ("0\n", RECORDING)));
 }
 
-// The entries at these places, counted from 0.
-fn entries_at(alloc: Global, text: &str, places: &[usize]) -> Result<String, Fail> {
-    let mut found = String::new(alloc);
-    for place in places {
-        let line = text.lines().skip(1).nth(*place).ok_or("no such line")?;
-        found.push_str(line)?;
-        found.push('\n')?;
+// Entries of the recording of 633 bytes with their places, counted from 0.
+const ENTRIES: [(usize, &str); 6] = [
+    (0, "0,A,4141FF23"),
+    (258, "258000,A,41410323"),
+    (260, "260000,A,60010223"),
+    (261, "261000,A,12000023"),
+    (262, "262000,A,71F07823"),
+    (263, "263000,B,450102A3"),
+];
+
+// Whether they stand there.
+fn has_entries(text: &str) -> bool {
+    for (place, entry) in ENTRIES {
+        if text.lines().skip(1).nth(place) != Some(entry) {
+            return false;
+        }
     }
-    Ok(found)
+    true
 }
 
 // How many entries a recording has.
@@ -78,53 +83,39 @@ fn count_entries(alloc: Global, text: &str) -> Option<usize> {
 
 #[test]
 fn a_file_of_633_bytes_takes_two_units(rt: HostRuntime) -> Result<(), Fail> {
-    let found = made(rt.alloc(), PROFILE, 0, &[633])?;
+    let found = made(rt.alloc(), PROFILE, 0, &[633]).ok_or("no text")?;
     let text = found.as_str().strip_prefix("0\n").ok_or("no recording")?;
-    let lines = "0,A,4141FF23
-258000,A,41410323
-260000,A,60010223
-261000,A,12000023
-262000,A,71F07823
-263000,B,450102A3
-";
-    let places = [0, 258, 260, 261, 262, 263];
-    assert!(rt; entries_at(rt.alloc(), text, &places)?.as_str() == lines);
-    assert!(rt; count_entries(rt.alloc(), text) == Some(264));
+    assert!(rt; has_entries(text) && count_entries(rt.alloc(), text) == Some(264));
     assert!(rt; check_tells(rt.alloc(), text, "0\nYES files 1\nfile 1 633\n").0);
     Ok(())
 }
 
 #[test]
-fn no_files(rt: HostRuntime) -> Result<(), Fail> {
-    assert!(rt; makes(rt.alloc(), PROFILE, 0, &[], ("0\n", "time,bus,word\n"))?);
-    Ok(())
+fn no_files(rt: HostRuntime) {
+    assert!(rt; makes(rt.alloc(), PROFILE, 0, &[], ("0\n", "time,bus,word\n")));
 }
 
-// The profile's fault comes before that of a file.
+// A profile, the lengths of files, and what is told of them. The profile's fault comes before that of a file.
+const REFUSED: [(&str, &[usize], &str); 4] = [
+    (PROFILE, &[0], "file 1: empty\n"),
+    (PROFILE, &[1, 0], "file 2: empty\n"),
+    (PROFILE, &[161_161], "file 1: too long\n"),
+    ("", &[0], "profile: missing transfer.to_sink\n"),
+];
+
 #[test]
-fn refused_files(rt: HostRuntime) -> Result<(), Fail> {
-    let alloc = rt.alloc();
-    let is_empty = makes(alloc, PROFILE, 0, &[0], ("file 1: empty\n", ""))?;
-    let has_empty = makes(alloc, PROFILE, 0, &[1, 0], ("file 2: empty\n", ""))?;
-    let is_long = makes(alloc, PROFILE, 0, &[161_161], ("file 1: too long\n", ""))?;
-    let is_none = makes(
-        alloc,
-        "",
-        0,
-        &[0],
-        ("profile: missing transfer.to_sink\n", ""),
-    )?;
-    assert!(rt; is_empty && has_empty && is_long && is_none);
-    Ok(())
+fn refused_files(rt: HostRuntime) {
+    for (profile, lengths, line) in REFUSED {
+        assert!(rt; makes(rt.alloc(), profile, 0, lengths, (line, "")));
+    }
 }
 
 // One of these files has 255 units, and so 65,790 words with their requests and answers.
 #[test]
-fn files_of_too_many_words(rt: HostRuntime) -> Result<(), Fail> {
+fn files_of_too_many_words(rt: HostRuntime) {
     let lengths = [161_160; 16];
     let told = ("recording: too many\n", "");
-    assert!(rt; makes(rt.alloc(), PROFILE, 0, &lengths, told)?);
-    Ok(())
+    assert!(rt; makes(rt.alloc(), PROFILE, 0, &lengths, told));
 }
 
 #[test]

@@ -96,11 +96,19 @@ const DISCRETE_WORDS: (&str, &str) = (
 
 const WORDS: [(&str, &str); 4] = [BNR_WORDS, BNR_STATUSES, BCD_WORDS, DISCRETE_WORDS];
 
+// Whether each of these texts is shown of its recording, under the sample profile.
+fn are_shown(alloc: Global, cases: &[(&str, &str)]) -> bool {
+    for (recording, text) in cases {
+        if !shows(alloc, PROFILE, recording, 1000, text) {
+            return false;
+        }
+    }
+    true
+}
+
 #[test]
 fn words_of_each_kind(rt: HostRuntime) {
-    for (recording, text) in WORDS {
-        assert!(rt; shows(rt.alloc(), PROFILE, recording, 1000, text));
-    }
+    assert!(rt; are_shown(rt.alloc(), &WORDS));
 }
 
 const WITH_A_FAULT: [(&str, &str); 10] = [
@@ -127,9 +135,7 @@ const WITH_A_FAULT: [(&str, &str); 10] = [
 
 #[test]
 fn recordings_with_a_fault(rt: HostRuntime) {
-    for (recording, fault) in WITH_A_FAULT {
-        assert!(rt; shows(rt.alloc(), PROFILE, recording, 1000, fault));
-    }
+    assert!(rt; are_shown(rt.alloc(), &WITH_A_FAULT));
 }
 
 // A recording of so many entries.

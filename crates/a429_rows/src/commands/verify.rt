@@ -41,37 +41,47 @@ fn changes_to(alloc: Global, changes: &str, verdict: &str) -> Result<bool, Fail>
     Ok(verdict_is(alloc, RECORDING, certificate.as_str(), verdict))
 }
 
-// A certificate of version 2, and one in which a first request was lost, before the one that is recorded.
-#[test]
-fn accepted_with_changes(rt: HostRuntime) -> Result<(), Fail> {
-    let lost = "L 0 1 A3F5 12004123 -> L 0 1 A3F5 12004123; l C Q 0 0; t I Q 0 0";
-    for changes in ["arinc429-cert 1 -> arinc429-cert 2", lost] {
-        assert!(rt; changes_to(rt.alloc(), changes, YES)?);
+// Each of these changes has this verdict. The first that has another is the failure.
+fn all_change_to(alloc: Global, cases: &[(&str, &str)]) -> Result<(), Fail> {
+    for (changes, verdict) in cases {
+        if !changes_to(alloc, changes, verdict)? {
+            return Err(Fail::new(*changes));
+        }
     }
     Ok(())
 }
 
-// The case is `CHANGE: VERDICT`: this is the verdict of the certificate with the change.
-fn refuses(alloc: Global, case: &str) -> Result<bool, Fail> {
-    let (change, verdict) = case.split_once(": ").ok_or("no verdict")?;
-    let verdict = format!(in alloc; "2\n{verdict}\n")?;
-    changes_to(alloc, change, verdict.as_str())
+// A certificate of version 2, and one in which a first request was lost, before the one that is recorded.
+const ACCEPTED: [(&str, &str); 2] = [
+    ("arinc429-cert 1 -> arinc429-cert 2", YES),
+    (
+        "L 0 1 A3F5 12004123 -> L 0 1 A3F5 12004123; l C Q 0 0; t I Q 0 0",
+        YES,
+    ),
+];
+
+#[test]
+fn accepted_with_changes(rt: HostRuntime) -> Result<(), Fail> {
+    all_change_to(rt.alloc(), &ACCEPTED)
 }
+
+const REFUSED: [(&str, &str); 8] = [
+    ("arinc429-cert 1 -> arinc429-cert 3", "2\nNO version\n"),
+    (
+        "L 0 1 A3F5 12004123 -> L 0 1 A3F4 12004123",
+        "2\nNO not allowed 3\n",
+    ),
+    ("a C Q 1 0 -> a  C Q 1 0", "2\nNO line 4\n"),
+    ("a C Q 1 0 -> a S0 Q 1 0", "2\nNO state differs 4\n"),
+    ("a C Q 1 0 -> n I Q 0 0", "2\nNO word differs 4 0\n"),
+    ("a C Q 1 0 -> b C G 0 1", "2\nNO not allowed 4\n"),
+    ("k C c 0 0 -> t I Q 0 0", "2\nNO not allowed 5\n"),
+    ("g I Q 0 0 -> g I Q 0 0; x I Q 0 0", "2\nNO line 16\n"),
+];
 
 #[test]
 fn refused(rt: HostRuntime) -> Result<(), Fail> {
-    let cases = "arinc429-cert 1 -> arinc429-cert 3: NO version
-L 0 1 A3F5 12004123 -> L 0 1 A3F4 12004123: NO not allowed 3
-a C Q 1 0 -> a  C Q 1 0: NO line 4
-a C Q 1 0 -> a S0 Q 1 0: NO state differs 4
-a C Q 1 0 -> n I Q 0 0: NO word differs 4 0
-a C Q 1 0 -> b C G 0 1: NO not allowed 4
-k C c 0 0 -> t I Q 0 0: NO not allowed 5
-g I Q 0 0 -> g I Q 0 0; x I Q 0 0: NO line 16";
-    for case in cases.split('\n') {
-        assert!(rt; refuses(rt.alloc(), case)?);
-    }
-    Ok(())
+    all_change_to(rt.alloc(), &REFUSED)
 }
 
 // This is the verdict of the certificate without its end.
@@ -97,15 +107,25 @@ fn cut_off(rt: HostRuntime) {
     }
 }
 
+// This is the verdict of a certificate on the recording with changes.
+fn changed_tells(
+    alloc: Global,
+    changes: &str,
+    certificate: &str,
+    verdict: &str,
+) -> Result<bool, Fail> {
+    let recording = with(alloc, RECORDING, changes)?;
+    Ok(verdict_is(alloc, recording.as_str(), certificate, verdict))
+}
+
 // Recording and certificate are read as they come: the fault that is met first is told.
 #[test]
 fn the_fault_that_is_met_first(rt: HostRuntime) -> Result<(), Fail> {
-    let alloc = rt.alloc();
-    let cut = with(alloc, RECORDING, "450101A3 -> 45010")?;
-    assert!(rt; verdict_is(alloc, cut.as_str(), CERTIFICATE, "recording: row 5\n"));
-    let other = with(alloc, CERTIFICATE, "a C Q 1 0 -> a S0 Q 1 0")?;
+    let cut = "450101A3 -> 45010";
+    assert!(rt; changed_tells(rt.alloc(), cut, CERTIFICATE, "recording: row 5\n")?);
+    let other = with(rt.alloc(), CERTIFICATE, "a C Q 1 0 -> a S0 Q 1 0")?;
     let fault = "2\nNO state differs 4\n";
-    assert!(rt; verdict_is(alloc, cut.as_str(), other.as_str(), fault));
+    assert!(rt; changed_tells(rt.alloc(), cut, other.as_str(), fault)?);
     Ok(())
 }
 

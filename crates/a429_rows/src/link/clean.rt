@@ -11,7 +11,8 @@ use std::alloc::{AllocError, Global};
 fn files(alloc: Global, texts: &[&[u8]]) -> Result<Vec<Vec<u8>>, AllocError> {
     let mut files = Vec::new(alloc);
     for text in texts {
-        files.push(Vec::from_slice(alloc, text)?)?;
+        let file = Vec::from_slice(alloc, text)?;
+        files.push(file)?;
     }
     Ok(files)
 }
@@ -46,11 +47,20 @@ fn three_bytes_in_the_smallest_units(rt: HostRuntime) {
     assert!(rt; words == Some((12, [(Bus::A, 0x1442_4123), (Bus::B, 0x4501_01A3)])));
 }
 
+// Whether there is no run of these files for this fault of one of them.
+fn is_refused(
+    alloc: Global,
+    profile: &Profile,
+    texts: &[&[u8]],
+    file: usize,
+    wanted: CutFault,
+) -> bool {
+    fault(alloc, profile, texts) == Some(CleanFault::Cut(file, wanted))
+}
+
 #[test]
 fn files_that_are_refused(rt: HostRuntime) {
     let profile = sample(&rt);
-    let second_empty = fault(rt.alloc(), &profile, &[&[0x41], &[]]);
-    assert!(rt; second_empty == Some(CleanFault::Cut(1, CutFault::Empty)));
-    let too_long = fault(rt.alloc(), &profile, &[&[0; 511]]);
-    assert!(rt; too_long == Some(CleanFault::Cut(0, CutFault::TooLong)));
+    assert!(rt; is_refused(rt.alloc(), &profile, &[&[0x41], &[]], 1, CutFault::Empty));
+    assert!(rt; is_refused(rt.alloc(), &profile, &[&[0; 511]], 0, CutFault::TooLong));
 }

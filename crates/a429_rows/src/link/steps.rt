@@ -5,7 +5,6 @@ use crate::link::script::Stage;
 use a429_profile::Profile;
 use a429_sample::{PROFILE, with};
 use std::alloc::Global;
-use std::process::Abort;
 use std::test::Fail;
 
 // The file of the byte 41, which is 65 in decimal. Its number is 1.
@@ -155,12 +154,7 @@ const SCRIPTS: [(u8, &[&str]); 8] = [
 ];
 
 // The first line of them that goes otherwise than it says.
-fn first_that_differs(rt: &(impl Abort + AllocGlobal)) -> Option<&'static str> {
-    let profile = sample(rt);
-    first_under(rt.alloc(), &profile)
-}
-
-fn first_under(alloc: Global, profile: &Profile) -> Option<&'static str> {
+fn first_that_differs(alloc: Global, profile: &Profile) -> Option<&'static str> {
     for (first, parts) in SCRIPTS {
         let line = played(alloc, profile, first, parts);
         if line.is_some() {
@@ -171,8 +165,12 @@ fn first_under(alloc: Global, profile: &Profile) -> Option<&'static str> {
 }
 
 #[test]
-fn steps_go_as_the_scripts_say(rt: HostRuntime) {
-    assert_eq!(rt; first_that_differs(&rt), None);
+fn steps_go_as_the_scripts_say(rt: HostRuntime) -> Result<(), Fail> {
+    let profile = sample(&rt);
+    match first_that_differs(rt.alloc(), &profile) {
+        Some(line) => Err(Fail::new(line)),
+        None => Ok(()),
+    }
 }
 
 #[test]

@@ -2,6 +2,7 @@
 
 mod changed;
 mod files;
+mod outcome;
 mod repeated;
 mod steps;
 

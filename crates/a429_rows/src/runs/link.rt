@@ -12,9 +12,10 @@ use crate::runs::link::model::Model;
 use crate::runs::link::moves::{Plan, drawn};
 use crate::runs::same_files;
 use crate::runs::tried::Move;
-use a429_link::{Link, Observer};
+use a429_link::{FileBytes, Link, Observer, StepFault};
 use a429_profile::Profile;
 use a429_sample::{PROFILE, with};
+use std::alloc::Global;
 use std::process::Abort;
 use std::test::Fail;
 
@@ -50,6 +51,29 @@ const NONE: Count = Count {
     wrong: 0,
 };
 
+impl Count {
+    fn add_files(&mut self, files: &[FileBytes]) {
+        for file in files {
+            self.files = self.files.saturating_add(1);
+            if file.number == 0 {
+                self.zeros = self.zeros.saturating_add(1);
+            }
+        }
+    }
+
+    // A step was made or refused, as the model says or not.
+    fn add_step(&mut self, is_made: bool, agrees: bool) {
+        if !agrees {
+            self.wrong = self.wrong.saturating_add(1);
+        }
+        if is_made {
+            self.made = self.made.saturating_add(1);
+        } else {
+            self.refused = self.refused.saturating_add(1);
+        }
+    }
+}
+
 impl<'a> Pair<'a> {
     fn start(rt: &impl AllocGlobal, profile: &'a Profile, plan: Plan, file: u8) -> Pair<'a> {
         Pair {
@@ -64,16 +88,27 @@ impl<'a> Pair<'a> {
     // files, and the observer allows what a step records that is made.
     fn agrees(&mut self, rt: &impl AllocGlobal, tried: Move) -> Result<bool, Fail> {
         let answer = self.model.answer_to(tried);
-        let step = tried.step(rt.alloc(), self.profile).ok_or("a unit")?;
-        let mut agrees = self.link.apply(step) == answer;
+        let found = self.answer(rt.alloc(), tried).ok_or("a unit")?;
+        let mut agrees = found == answer;
         if answer.is_ok() {
             agrees &= self.allows(tried);
             self.model.make(tried)?;
         }
+        Ok(agrees && self.is_as_modelled())
+    }
+
+    // What the link answers to a step; none where this is no step.
+    fn answer(&mut self, alloc: Global, tried: Move) -> Option<Result<(), StepFault>> {
+        let step = tried.step(alloc, self.profile)?;
+        Some(self.link.apply(step))
+    }
+
+    // The link has the states and the files of the model.
+    fn is_as_modelled(&self) -> bool {
         let at = self.link.states();
         let words = (usize::from(at.to_sink), usize::from(at.to_source));
-        agrees &= (at.source, at.sink, words.0, words.1) == self.model.states();
-        Ok(agrees && same_files(self.link.delivered(), self.model.sink.files.as_slice()))
+        (at.source, at.sink, words.0, words.1) == self.model.states()
+            && same_files(self.link.delivered(), self.model.sink.files.as_slice())
     }
 
     // The observer allows what the step records.
@@ -91,12 +126,7 @@ impl<'a> Pair<'a> {
             count.wrong = count.wrong.saturating_add(1);
         }
         self.model.sink.files.clear();
-        for file in &found {
-            count.files = count.files.saturating_add(1);
-            if file.number == 0 {
-                count.zeros = count.zeros.saturating_add(1);
-            }
-        }
+        count.add_files(found.as_slice());
     }
 }
 
@@ -115,14 +145,8 @@ fn run(
         let step = drawn(chance, plan, &pair.model);
         let is_made = pair.model.answer_to(step).is_ok();
         if is_made || chance.one_in(8) {
-            if !pair.agrees(rt, step)? {
-                count.wrong = count.wrong.saturating_add(1);
-            }
-            if is_made {
-                count.made = count.made.saturating_add(1);
-            } else {
-                count.refused = count.refused.saturating_add(1);
-            }
+            let agrees = pair.agrees(rt, step)?;
+            count.add_step(is_made, agrees);
         }
         if chance.one_in(16) {
             pair.take_files(count);
@@ -140,6 +164,15 @@ fn short_runs(
     seed: u64,
 ) -> Result<Count, Fail> {
     let profile = read(rt, profile);
+    runs_under(rt, &profile, compare, seed)
+}
+
+fn runs_under(
+    rt: &impl AllocGlobal,
+    profile: &Profile,
+    compare: bool,
+    seed: u64,
+) -> Result<Count, Fail> {
     let mut chance = Chance::new(seed);
     let mut count = NONE;
     for _ in 0..5000 {
@@ -150,7 +183,7 @@ fn short_runs(
             is_open: false,
             draws: 900,
         };
-        let _full = run(rt, &profile, &mut chance, plan, &mut count)?;
+        let _full = run(rt, profile, &mut chance, plan, &mut count)?;
     }
     Ok(count)
 }

@@ -3,7 +3,7 @@
 
 ghost use Rattle.std.specs.Prelude.{◌<◌};
 
-use crate::calls::{checked, extracted, verified};
+use crate::calls::{Answered, checked, extracted, verified};
 use crate::runs::chance::Chance;
 use crate::runs::check::files::{Transfer, damaged, recording, yes_text};
 use a429_link::Seen;
@@ -45,10 +45,15 @@ fn change(
     Ok(())
 }
 
+// It is a yes with this verdict.
+fn is_yes(answer: &Answered, verdict: &[u8]) -> bool {
+    answer.status == Ok(0) && answer.verdict.as_slice() == verdict
+}
+
 // The certificate is accepted with this verdict.
 fn is_verified(alloc: Global, recording: &str, certificate: &[u8], verdict: &[u8]) -> bool {
     let answer = verified(alloc, recording, certificate);
-    answer.status == Ok(0) && answer.verdict.as_slice() == verdict
+    is_yes(&answer, verdict)
 }
 
 // Its files are taken out with this verdict, which tells them.
@@ -60,19 +65,29 @@ fn is_extracted(
 ) -> Result<bool, AllocError> {
     let (answer, files) = extracted(alloc, recording, certificate)?;
     let text = yes_text(alloc, files.as_slice())?;
-    let is_told = answer.status == Ok(0) && answer.verdict.as_slice() == verdict;
-    Ok(is_told && text.as_bytes() == verdict)
+    Ok(is_yes(&answer, verdict) && text.as_bytes() == verdict)
+}
+
+// The certificate is accepted with this verdict and the files that it tells.
+fn is_accepted(
+    alloc: Global,
+    recording: &str,
+    certificate: &[u8],
+    verdict: &[u8],
+) -> Result<bool, AllocError> {
+    if is_verified(alloc, recording, certificate, verdict) {
+        is_extracted(alloc, recording, certificate, verdict)
+    } else {
+        Ok(false)
+    }
 }
 
 // Where the recording is explained, the certificate is accepted with the same files; else there is none.
 fn is_borne_out(alloc: Global, recording: &str) -> Result<bool, AllocError> {
     let (found, certificate) = checked(alloc, recording);
-    let (lines, verdict) = (certificate.as_slice(), found.verdict.as_slice());
+    let lines = certificate.as_slice();
     match found.status {
-        Ok(0) => Ok(
-            is_verified(alloc, recording, lines, verdict)
-                && is_extracted(alloc, recording, lines, verdict)?,
-        ),
+        Ok(0) => is_accepted(alloc, recording, lines, found.verdict.as_slice()),
         Ok(1 | 2) => Ok(lines.is_empty()),
         _ => Ok(false),
     }

@@ -13,7 +13,8 @@ use std::process::Abort;
 fn small_files(alloc: Global, chance: &mut Chance) -> Result<Vec<Vec<u8>>, AllocError> {
     let mut files = Vec::new(alloc);
     for _ in 0..1 + chance.below(3) {
-        files.push(small_file(alloc, chance)?)?;
+        let file = small_file(alloc, chance)?;
+        files.push(file)?;
     }
     Ok(files)
 }
@@ -66,14 +67,23 @@ pub(super) fn damaged(word: Seen, chance: &mut Chance) -> Seen {
     seen(word.bus, word.word.to_u32() ^ bit)
 }
 
+// The line of a file.
+fn push_file(text: &mut String, number: u8, length: usize) -> Result<(), AllocError> {
+    writeln!(text, "file {number} {length}")
+}
+
+fn push_files(text: &mut String, files: &[FileBytes]) -> Result<(), AllocError> {
+    for file in files {
+        push_file(text, file.number, file.bytes.as_slice().len())?;
+    }
+    Ok(())
+}
+
 /// What is told of these files.
 pub(super) fn yes_text(alloc: Global, files: &[FileBytes]) -> Result<String, AllocError> {
     let count = files.len();
     let mut text = format!(in alloc; "YES files {count}\n")?;
-    for file in files {
-        let (number, length) = (file.number, file.bytes.as_slice().len());
-        writeln!(text, "file {number} {length}")?;
-    }
+    push_files(&mut text, files)?;
     Ok(text)
 }
 

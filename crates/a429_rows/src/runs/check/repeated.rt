@@ -1,10 +1,10 @@
 //! Recordings of runs that lose words and answers, and repeat: the checker explains them, with the files
 //! that were sent.
 
-use crate::calls::{checked, extracted};
 use crate::recordings::seen;
 use crate::runs::chance::Chance;
-use crate::runs::check::files::{Transfer, begins, damaged, recording};
+use crate::runs::check::files::{Transfer, begins, damaged};
+use crate::runs::check::outcome::{Outcome, outcome_of};
 use a429_link::Seen;
 use a429_sample::NAK;
 use a429_word::Bus;
@@ -164,41 +164,24 @@ fn with_loss(alloc: Global, chance: &mut Chance, run: &[Seen]) -> Result<Vec<See
     Ok(words)
 }
 
-// What the checker says of a recording.
-#[derive(Clone, Copy)]
-enum Outcome {
-    // It is explained, and so many files have crossed, the first of those that were sent.
-    Crossed(usize),
-    Unexplained,
-    Wrong,
-}
-
-fn told_of(alloc: Global, words: &[Seen], sent: &Transfer) -> Result<Outcome, Fail> {
-    let text = recording(alloc, words)?;
-    let (found, certificate) = checked(alloc, text.as_str());
-    if found.status == Ok(2) {
-        return Ok(Outcome::Unexplained);
-    }
-    let (answer, files) = extracted(alloc, text.as_str(), certificate.as_slice())?;
-    let is_read = found.status == Ok(0) && answer.status == Ok(0);
-    if is_read && begins(files.as_slice(), sent) {
-        Ok(Outcome::Crossed(files.len()))
-    } else {
-        Ok(Outcome::Wrong)
-    }
-}
-
 // The recording is explained, and all that was sent has crossed.
-fn has_crossed(alloc: Global, words: &[Seen], sent: &Transfer) -> Result<bool, Fail> {
-    let outcome = told_of(alloc, words, sent)?;
-    Ok(matches!(outcome, Outcome::Crossed(files) if files == sent.files.len()))
+fn has_crossed(alloc: Global, words: &[Seen], sent: &Transfer) -> Result<bool, AllocError> {
+    match outcome_of(alloc, words)? {
+        Outcome::Crossed(files) => {
+            Ok(files.len() == sent.files.len() && begins(files.as_slice(), sent))
+        }
+        _ => Ok(false),
+    }
 }
 
 // The recording breaks off: some run records it, and if it is explained, what has crossed is the first of
 // what was sent.
-fn has_begun(alloc: Global, words: &[Seen], sent: &Transfer) -> Result<bool, Fail> {
-    let outcome = told_of(alloc, words, sent)?;
-    Ok(!matches!(outcome, Outcome::Wrong))
+fn has_begun(alloc: Global, words: &[Seen], sent: &Transfer) -> Result<bool, AllocError> {
+    match outcome_of(alloc, words)? {
+        Outcome::Crossed(files) => Ok(begins(files.as_slice(), sent)),
+        Outcome::Unexplained => Ok(true),
+        Outcome::Wrong => Ok(false),
+    }
 }
 
 /// Records a transfer with loss, and breaks the recording off. Whether the checker is right of both.

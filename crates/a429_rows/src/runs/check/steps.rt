@@ -3,9 +3,9 @@
 
 ghost use Rattle.std.specs.Prelude.{◌≡◌};
 
-use crate::calls::{checked, extracted, sample};
+use crate::calls::sample;
 use crate::runs::chance::Chance;
-use crate::runs::check::files::recording;
+use crate::runs::check::outcome::{Outcome, outcome_of};
 use crate::runs::draft::Draft;
 use crate::runs::same_files;
 use crate::runs::source::Source;
@@ -13,7 +13,7 @@ use crate::runs::tried::Move;
 use crate::runs::words::{
     TO_SINK, TO_SOURCE, acknowledgement, any_word, clear, is_free, is_refusal, refusal,
 };
-use a429_ldu::cut;
+use a429_ldu::{Ldu, cut};
 use a429_link::{FileBytes, Link, Seen, SinkState, StepFault};
 use a429_profile::Profile;
 use a429_word::Bus;
@@ -41,6 +41,36 @@ struct Run<'a> {
     ghost same: { link.profile ≡ profile.now },
 }
 
+// One to eight bytes.
+fn some_bytes(alloc: Global, chance: &mut Chance) -> Result<Vec<u8>, AllocError> {
+    let mut bytes = Vec::new(alloc);
+    for _ in 0..1 + chance.below(8) {
+        bytes.push(chance.below(3) as u8)?;
+    }
+    Ok(bytes)
+}
+
+// The first words of a unit with these flags, of which there are at most five.
+fn drafted(unit: &Ldu, flags: u8) -> Draft {
+    let mut words = [0; 5];
+    for (place, word) in words.iter_mut().zip(unit.words().iter()) {
+        *place = word.to_u32();
+    }
+    Draft {
+        gfi: 0,
+        flags,
+        check: unit.check(),
+        count: unit.count(),
+        words,
+    }
+}
+
+// The first unit of these bytes, with these flags.
+fn first_draft(alloc: Global, profile: &Profile, bytes: &[u8], flags: u8) -> Option<Draft> {
+    let units = cut(alloc, profile, bytes, 255).ok()?;
+    Some(drafted(units.first()?, flags))
+}
+
 // A link data unit of some bytes. Often its flags end the file, unless it is to stay open.
 fn some_draft(
     alloc: Global,
@@ -48,25 +78,9 @@ fn some_draft(
     chance: &mut Chance,
     is_open: bool,
 ) -> Result<Draft, Fail> {
-    let mut bytes = Vec::new(alloc);
-    for _ in 0..1 + chance.below(8) {
-        bytes.push(chance.below(3) as u8)?;
-    }
-    let units = cut(alloc, profile, bytes.as_slice(), 255)
-        .ok()
-        .ok_or("a unit")?;
-    let unit = units.first().ok_or("a unit")?;
-    let mut words = [0; 5];
-    for (place, word) in words.iter_mut().zip(unit.words().iter()) {
-        *place = word.to_u32();
-    }
-    Ok(Draft {
-        gfi: 0,
-        flags: if is_open { 0 } else { chance.below(16) as u8 },
-        check: unit.check(),
-        count: unit.count(),
-        words,
-    })
+    let bytes = some_bytes(alloc, chance)?;
+    let flags = if is_open { 0 } else { chance.below(16) as u8 };
+    Ok(first_draft(alloc, profile, bytes.as_slice(), flags).ok_or("a unit")?)
 }
 
 // A step to try, and whether its word is one that a step of its name may have.
@@ -164,8 +178,24 @@ impl<'a> Run<'a> {
         let Some((chosen, fits)) = self.chosen(alloc, chance)? else {
             return Ok(());
         };
-        let step = chosen.step(alloc, self.profile).ok_or("a unit")?;
-        match self.link.apply(step) {
+        let answer = self.answer(alloc, chosen).ok_or("a unit")?;
+        Ok(self.note(chosen, fits, answer)?)
+    }
+
+    // What the link answers to a step; none where this is no step.
+    fn answer(&mut self, alloc: Global, chosen: Move) -> Option<Result<(), StepFault>> {
+        let step = chosen.step(alloc, self.profile)?;
+        Some(self.link.apply(step))
+    }
+
+    // Notes a step that was made, and whether the answer is right.
+    fn note(
+        &mut self,
+        chosen: Move,
+        fits: bool,
+        answer: Result<(), StepFault>,
+    ) -> Result<(), AllocError> {
+        match answer {
             Ok(()) if fits => self.told.note(chosen)?,
             Err(StepFault::WordDiffers) if !fits => {}
             Err(StepFault::NotAllowed) => {}
@@ -173,11 +203,24 @@ impl<'a> Run<'a> {
         }
         Ok(())
     }
+
+    // What the checker says of the run after so many tries.
+    fn played(&mut self, alloc: Global, chance: &mut Chance, tries: u32) -> Result<Verdict, Fail> {
+        for _ in 0..tries {
+            self.go(alloc, chance)?;
+        }
+        let verdict = judged(alloc, self.told.recorded.as_slice(), self.link.delivered())?;
+        Ok(if self.is_right {
+            verdict
+        } else {
+            Verdict::Wrong
+        })
+    }
 }
 
 // What the checker says of a run.
 #[derive(Clone, Copy)]
-enum Outcome {
+enum Verdict {
     // It explains the run with the files that the link has delivered, of which there are so many.
     Explained(usize),
     Unexplained,
@@ -185,29 +228,18 @@ enum Outcome {
     Wrong,
 }
 
-// The files that a certificate extracts are those that were delivered.
-fn extracts(
+fn judged(
     alloc: Global,
-    recording: &str,
-    certificate: &[u8],
+    recorded: &[Seen],
     delivered: &[FileBytes],
-) -> Result<bool, AllocError> {
-    let (answer, files) = extracted(alloc, recording, certificate)?;
-    Ok(answer.status == Ok(0) && same_files(files.as_slice(), delivered))
-}
-
-fn judged(alloc: Global, recorded: &[Seen], delivered: &[FileBytes]) -> Result<Outcome, Fail> {
-    let text = recording(alloc, recorded)?;
-    let (found, certificate) = checked(alloc, text.as_str());
-    if found.status == Ok(2) {
-        return Ok(Outcome::Unexplained);
-    }
-    let is_read = extracts(alloc, text.as_str(), certificate.as_slice(), delivered)?;
-    if found.status == Ok(0) && is_read {
-        Ok(Outcome::Explained(delivered.len()))
-    } else {
-        Ok(Outcome::Wrong)
-    }
+) -> Result<Verdict, AllocError> {
+    Ok(match outcome_of(alloc, recorded)? {
+        Outcome::Crossed(files) if same_files(files.as_slice(), delivered) => {
+            Verdict::Explained(delivered.len())
+        }
+        Outcome::Unexplained => Verdict::Unexplained,
+        _ => Verdict::Wrong,
+    })
 }
 
 // A run of so many tries, and the number of the link data unit that its source comes to.
@@ -217,7 +249,7 @@ fn trial(
     chance: &mut Chance,
     tries: u32,
     is_open: bool,
-) -> Result<(Outcome, u16), Fail> {
+) -> Result<(Verdict, u16), Fail> {
     let file = chance.below(256) as u8;
     let told = Told {
         source: Source::new(file, 1),
@@ -231,36 +263,30 @@ fn trial(
         is_open,
         is_right: true,
     };
-    for _ in 0..tries {
-        run.go(rt.alloc(), chance)?;
-    }
-    let outcome = judged(
-        rt.alloc(),
-        run.told.recorded.as_slice(),
-        run.link.delivered(),
-    )?;
-    let ldu = run.told.source.ldu;
-    Ok(if run.is_right {
-        (outcome, ldu)
-    } else {
-        (Outcome::Wrong, ldu)
-    })
+    let verdict = run.played(rt.alloc(), chance, tries)?;
+    Ok((verdict, run.told.source.ldu))
 }
 
-#[test]
-fn runs_by_chance(rt: HostRuntime) -> Result<(), Fail> {
-    let profile = sample(&rt);
+// Of how many of 10,000 runs the checker is wrong, and whether files have crossed in one.
+fn count_wrong(rt: &impl AllocGlobal, profile: &Profile) -> Result<(u32, bool), Fail> {
     let mut chance = Chance::new(3);
     let mut wrong = 0u32;
     let mut has_crossed = false;
     for _ in 0..10_000 {
         let tries = chance.below(201);
-        match trial(&rt, &profile, &mut chance, tries, false)?.0 {
-            Outcome::Explained(files) => has_crossed |= files > 0,
-            Outcome::Unexplained => {}
-            Outcome::Wrong => wrong = wrong.saturating_add(1),
+        match trial(rt, profile, &mut chance, tries, false)?.0 {
+            Verdict::Explained(files) => has_crossed |= files > 0,
+            Verdict::Unexplained => {}
+            Verdict::Wrong => wrong = wrong.saturating_add(1),
         }
     }
+    Ok((wrong, has_crossed))
+}
+
+#[test]
+fn runs_by_chance(rt: HostRuntime) -> Result<(), Fail> {
+    let profile = sample(&rt);
+    let (wrong, has_crossed) = count_wrong(&rt, &profile)?;
     assert!(rt; wrong == 0 && has_crossed);
     Ok(())
 }
@@ -270,7 +296,7 @@ fn runs_by_chance(rt: HostRuntime) -> Result<(), Fail> {
 fn a_file_of_all_its_units(rt: HostRuntime) -> Result<(), Fail> {
     let profile = sample(&rt);
     let mut chance = Chance::new(4);
-    let (outcome, ldu) = trial(&rt, &profile, &mut chance, 200_000, true)?;
-    assert!(rt; !matches!(outcome, Outcome::Wrong) && ldu == 256);
+    let (verdict, ldu) = trial(&rt, &profile, &mut chance, 200_000, true)?;
+    assert!(rt; !matches!(verdict, Verdict::Wrong) && ldu == 256);
     Ok(())
 }
