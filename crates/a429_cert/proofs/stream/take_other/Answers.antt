@@ -1,8 +1,5 @@
 use Rattle.std.proofs.Common.{rules}
 use Rattle.a429_cert.proofs.stream.take_other.Goals as goal
 
-pub returns-in-Ok-make-clause-heard : goal.returns-in-Ok-make-clause-heard
-returns-in-Ok-make-clause-heard g c = search rules
-
 pub returns-in-Ok-make-clause-untold : goal.returns-in-Ok-make-clause-untold
 returns-in-Ok-make-clause-untold g c = search rules
