@@ -22,7 +22,7 @@ use Rattle.a429_check.specs.declared.fault.RunFault.{RunFault}
 use Rattle.a429_check.specs.declared.fault.RunFault.TheVariants as run
 use Rattle.a429_check.specs.Profile.{IsProfileOf}
 use Rattle.a429_check.specs.Output.{PutsText}
-use Rattle.a429_check.specs.Verdict.{AllWork, ByProfile, HasAnswer, HasFailed, IsNoVerdict, IsSilent, IsVerdict, answer_status, answer_text, IsVerifyFault, SaysNo, of_stream, count_line, file_line, line_of_file, no_text, yes_text}
+use Rattle.a429_check.specs.Verdict.{AllWork, ByProfile, HasAnswer, HasFailed, IsNoVerdict, IsSilent, IsTold, IsVerdict, Judges, as_answer, IsVerifyFault, SaysNo, of_stream, count_line, file_line, line_of_file, no_text, yes_text}
 
 -- what is told of files, by their lines
 pub yes_of_files : (files : List FileBytes) → yes_text (sizes files) ≡ count_line (length files) ++ flat_map line_of_file files
@@ -39,22 +39,25 @@ pub answered : (profile : List ℕ) (p : Contents) (certificate : Option (List �
 answered profile p certificate rec old new (Ok files) is here _ = (Ok files.items, record { contents = p; is_profile = is; is = here })
 answered profile p certificate rec old new (Err f) is _ here = (Err f, record { contents = p; is_profile = is; is = here })
 
--- some answer was found where one is told
+-- what is answered to a certificate is found by its profile
+pub judges : (profile : List ℕ) (p : Contents) (certificate : Option (List ℕ)) (rec : Option Recording) (old new : Option (List PutFile)) (a : Result (Vec (ℕ × ℕ) Global) CertFault)
+    → IsProfileOf profile p → IfOk a (SaysYes p certificate rec old new) → IfErr a (SaysNo p certificate rec old new) → Judges profile certificate rec old new (as_answer a)
+judges profile p certificate rec old new (Ok files) is here _ = record { contents = p; is_profile = is; is = here }
+judges profile p certificate rec old new (Err f) is _ here = record { contents = p; is_profile = is; is = here.0 }
+
+-- so some answer was found
 pub answer_told : (profile : List ℕ) (p : Contents) (certificate : Option (List ℕ)) (rec : Option Recording) (old new : Option (List PutFile)) (a : Result (Vec (ℕ × ℕ) Global) CertFault)
     → IsProfileOf profile p → IfOk a (SaysYes p certificate rec old new) → IfErr a (SaysNo p certificate rec old new) → HasAnswer profile certificate rec old new
-answer_told profile p certificate rec old new (Ok files) is here _ = (Ok files.items, record { contents = p; is_profile = is; is = here })
-answer_told profile p certificate rec old new (Err f) is _ here = (Err (stream.Cert f), record { contents = p; is_profile = is; is = here.0 })
+answer_told profile p certificate rec old new a is here there = (as_answer a, judges profile p certificate rec old new a is here there)
 
 -- the text of an answer was written
 pub puts_answer : {W : Type 0} (contents : W → Option (List ℕ)) (out new_out : Tally W) (p : Contents) (certificate : Option (List ℕ)) (rec : Option Recording) (old new : Option (List PutFile))
     (a : Result (Vec (ℕ × ℕ) Global) CertFault) (r : Result ℕ RunFault) → IfOk a (SaysYes p certificate rec old new) → IfErr a (SaysNo p certificate rec old new)
-    → IfOk r (λ status. status ≡ answer_status a) → OnOk r (Puts contents out new_out (answer_text a))
+    → IfOk r (λ status. PutsText contents out new_out (IsTold (as_answer a) status))
     → IfOk r (λ status. ByProfile p (λ profile. PutsText contents out new_out (IsVerdict profile certificate rec old new status)))
-puts_answer contents out new_out p certificate rec old new (Ok files) (Ok status) here there is puts = λ profile by.
-    (yes_text files.items, record { answer = Ok files.items; judged = record { contents = p; is_profile = by; is = here }; told = (is, refl) }, puts)
-puts_answer contents out new_out p certificate rec old new (Err f) (Ok status) here there is puts = λ profile by.
-    (no_text f, record { answer = Err (stream.Cert f); judged = record { contents = p; is_profile = by; is = there.0 }; told = (is, refl, there.1) }, puts)
-puts_answer contents out new_out p certificate rec old new a (Err e) here there is puts = tt
+puts_answer contents out new_out p certificate rec old new a (Ok status) here there (text, told, puts) = λ profile by.
+    (text, record { answer = as_answer a; judged = judges profile p certificate rec old new a by here there; told = told }, puts)
+puts_answer contents out new_out p certificate rec old new a (Err e) here there _ = tt
 
 -- the output alone failed
 pub answer_not_put : (p : Contents) (certificate : Option (List ℕ)) (rec : Option Recording) (old new : Option (List PutFile)) (a : Result (Vec (ℕ × ℕ) Global) CertFault) (r : Result ℕ RunFault) (out : Bool)

@@ -48,15 +48,6 @@ no_text (cert.WordDiffers n i) = codes "NO word differs " ++ decimal n ++ codes 
 no_text (cert.Unfinished i) = codes "NO unfinished " ++ decimal i ++ codes "\n"
 no_text cert.OutOfMemory = []
 
--- what is told of an answer, and its status
-abbrev pub answer_text : {Z : Type 0} → Result (Vec (ℕ × ℕ) Z) CertFault → List ℕ
-answer_text (Ok files) = yes_text files.items
-answer_text (Err f) = no_text f
-
-abbrev pub answer_status : {Z : Type 0} → Result (Vec (ℕ × ℕ) Z) CertFault → ℕ
-answer_status (Ok files) = 0
-answer_status (Err f) = 2
-
 -- ---- what it stands for
 
 -- the answer to a certificate that is held against a recording, and what it puts on a shelf
@@ -66,6 +57,11 @@ Answer = Result (List (ℕ × ℕ)) StreamFault
 abbrev pub IsAnswer : Contents → Option (List ℕ) → Option Recording → Option (List PutFile) → Option (List PutFile) → Answer → Type 0
 IsAnswer p certificate rec old new (Ok files) = Extracts p certificate rec old new files
 IsAnswer p certificate rec old new (Err f) = Refuses p certificate rec old new f
+
+-- what is answered to a certificate, where no reader and no shelf has failed
+abbrev pub as_answer : {Z : Type 0} → Result (Vec (ℕ × ℕ) Z) CertFault → Answer
+as_answer (Ok files) = Ok files.items
+as_answer (Err f) = Err (stream.Cert f)
 
 -- such an answer, by the profile whose text the bytes are
 pub record Judges (profile : List ℕ) (certificate : Option (List ℕ)) (rec : Option Recording) (old new : Option (List PutFile)) (answer : Answer) : Type 0 where

@@ -7,7 +7,8 @@ ghost use Rattle.std.specs.Fmt.{decimal};
 ghost use Rattle.a429_word.specs.Tally.{has_failed, unread, Puts};
 ghost use Rattle.a429_cert.specs.Stream.{sizes};
 ghost use Rattle.a429_cert.specs.StreamExplained.{HearsBefore, HearsRun, SaysYes};
-ghost use Rattle.a429_check.specs.Verdict.{answer_status, answer_text, count_line, file_line, line_of_file, yes_text, no_text, of_stream, AllWork, AnyFailed, ByProfile, HasFailed, IsNoVerdict, IsNoVerdictBy, SaysNo, IsSilent, PutsAnswer};
+ghost use Rattle.a429_check.specs.Verdict.{as_answer, count_line, file_line, line_of_file, yes_text, no_text, of_stream, AllWork, AnyFailed, ByProfile, HasFailed, IsNoVerdict, IsNoVerdictBy, IsTold, SaysNo, IsSilent, PutsAnswer};
+ghost use Rattle.a429_check.specs.Output.{PutsText};
 
 use crate::engines::output::put_decimal;
 use crate::fault::RunFault;
@@ -45,8 +46,7 @@ pub(crate) fn judge<R: Read, C: Read, S: Shelf, W: Write>(
 // Writes what is answered to a certificate, and tells its status.
 fn put_answer<W: Write>(out: &mut Tally<W>, answer: &Answer) -> Result<u8, RunFault>
     requires { answer.now ≢ Err CertFault.OutOfMemory }
-    ensures status { IfOk result (λ status. status ≡ answer_status answer.now) }
-    ensures text { OnOk result (Puts W.contents out.old out.new (answer_text answer.now)) }
+    ensures told { IfOk result (λ status. PutsText W.contents out.old out.new (IsTold (as_answer answer.now) status)) }
     ensures works { OnOk result (has_failed out.new ≡ false) }
     ensures err { IfErr result (λ e. (e ≡ RunFault.Device) × (has_failed out.new ≡ true)) }
 {

@@ -9,7 +9,7 @@ returns-in_err-answer-clause-silent g c = search rules
 pub returns-clause-verdict : goal.returns-clause-verdict
 returns-clause-verdict g c =
     puts_answer g.W.Write.contents c.args.out.now c.put_answer.new.out c.args.bench.now (unread g.C.Read.remaining c.args.cert.now) c.args.rec.now.to_come (g.S.Shelf.files c.args.shelf.now) (g.S.Shelf.files c.answer_of.new.shelf) c.in_ok-answer.answer c.put_answer.result
-    c.in_ok-answer.ensures.yes c.in_ok-answer.ensures.no c.put_answer.ensures.status c.put_answer.ensures.text
+    c.in_ok-answer.ensures.yes c.in_ok-answer.ensures.no c.put_answer.ensures.told
 
 pub returns-clause-device : goal.returns-clause-device
 returns-clause-device g c =
