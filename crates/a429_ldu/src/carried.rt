@@ -168,8 +168,9 @@ fn push_semis(bytes: &mut BlockBytes, low: Option<u8>, semis: &Semis) -> Option<
     ensures low { IfSome result (λ digit. digit < 16) }
     ensures most { semis_count (array_vec_len bytes.new) result ≤ semis_count (array_vec_len bytes.old) low + 5 }
 {
+    let digits = semis.as_slice();
     let mut waiting = low;
-    for digit in semis.as_slice() {
+    for digit in digits {
         waiting = push_digit(bytes, waiting, *digit);
     }
     waiting

@@ -1,6 +1,7 @@
 -- Digits of a BCD word, as a mask and a loop read them.
-use Rattle.std.proofs.Common.{◌≡◌, ℕ, zero, suc, ◌+◌, ◌-◌, ◌*◌, ◌/◌, ◌^◌, ◌<◌, ◌≤◌, refl, sym, ap, ◌∙◌, arith, inl, inr, bit_and, cond, eqb, false, mul_assoc, pow-suc}
+use Rattle.std.proofs.Common.{◌≡◌, ℕ, zero, suc, ◌+◌, ◌-◌, ◌*◌, ◌/◌, ◌%◌, ◌^◌, ◌<◌, ◌≤◌, refl, sym, ap, ◌∙◌, arith, inl, inr, bit_and, cond, eqb, false, mul_assoc, mul_comm, pow-suc}
 use Rattle.std.proofs.lemmas.Bool.{cases_lt}
+use Rattle.std.proofs.Math.Nat.{div-div-eq-div-mul}
 use Rattle.a429_word.specs.Word.{sum_below, number_at}
 use Rattle.std.specs.Prelude.{Result, Ok, Err}
 use Rattle.a429_word.specs.declared.bcd.BadDigit.{BadDigit}
@@ -69,6 +70,42 @@ read-more w k n d is e small =
       digits = AreDecimal-more w k is.digits (rw (← same) small);
       within = rw pow-suc (omega (arith, is.within));
     })
+
+-- ---- the number's digits
+
+-- a number below ten put behind another
+last-digit : (n d : ℕ) → d ≤ 9 → (n * 10 + d) % 10 ≡ d
+last-digit n d small = omega arith
+
+fewer-digits : (n d k : ℕ) → d ≤ 9 → (n * 10 + d) / 10 ^ suc k ≡ n / 10 ^ k
+fewer-digits n d k small =
+    let tens : (n * 10 + d) / 10 ≡ n = omega arith in
+    ap (λ p. (n * 10 + d) / p) (pow-suc 10 k ∙ mul_comm (10 ^ k) 10) ∙ sym (div-div-eq-div-mul (n * 10 + d) 10 (10 ^ k)) ∙ ap (λ m. m / 10 ^ k) tens
+
+AreDecimal-fewer : (w k : ℕ) → AreDecimal w (suc k) → AreDecimal w k
+AreDecimal-fewer w k all i first last = all i first (omega arith)
+
+pub decimal_of-digits : (w k i : ℕ) → AreDecimal w k → 1 ≤ i → i ≤ k → decimal_of w k / 10 ^ (k - i) % 10 ≡ digit_of w i
+decimal_of-digits w zero i all h1 h2 = absurd (omega arith)
+decimal_of-digits w (suc k) i all h1 h2 =
+    let d : digit_of w (suc k) ≤ 9 = all (suc k) (omega arith) (omega arith) in
+    elim (cases_lt i (suc k)) [
+      | inl lt ↦
+          let place : suc k - i ≡ suc (k - i) = omega arith in
+          let low = decimal_of-digits w k i (AreDecimal-fewer w k all) h1 (omega arith) in
+          rw (place, decimal_of-more w k, fewer-digits (decimal_of w k) (digit_of w (suc k)) (k - i) d) low
+      | inr ge ↦
+          let here : i ≡ suc k = omega arith in
+          let place : suc k - i ≡ 0 = omega arith in
+          let one : (decimal_of w k * 10 + digit_of w (suc k)) / 10 ^ 0 ≡ decimal_of w k * 10 + digit_of w (suc k) = omega arith in
+          rw (place, decimal_of-more w k, one) (last-digit (decimal_of w k) (digit_of w (suc k)) d ∙ ap (digit_of w) (sym here))
+    ]
+
+pub decimal_of-within : (w k : ℕ) → AreDecimal w k → decimal_of w k < 10 ^ k
+decimal_of-within w zero all = rw (decimal_of-none w) (omega arith)
+decimal_of-within w (suc k) all =
+    let low = decimal_of-within w k (AreDecimal-fewer w k all) in
+    rw (decimal_of-more w k, pow-suc) (omega (arith, low, all (suc k) (omega arith) (omega arith)))
 
 -- ---- written and read
 

@@ -1,5 +1,5 @@
 -- The raw number of a BNR word, as a mask and a subtraction give it.
-use Rattle.std.proofs.Common.{◌≡◌, ℕ, suc, ◌+◌, ◌-◌, ◌*◌, ◌/◌, ◌%◌, ◌^◌, ◌<◌, ◌≤◌, sym, ap, ◌∙◌, inl, inr, arith, bit_and, ℤ, pos, neg_ℤ, ◌-ℤ◌, ◌≤ℤ◌, ◌<ℤ◌, w32, mul-one, mul-zero}
+use Rattle.std.proofs.Common.{◌≡◌, ℕ, suc, ◌+◌, ◌-◌, ◌*◌, ◌/◌, ◌%◌, ◌^◌, ◌<◌, ◌≤◌, sym, ap, ◌∙◌, inl, inr, arith, bit_and, ℤ, pos, neg_ℤ, ◌-ℤ◌, ◌≤ℤ◌, ◌<ℤ◌, w32, mul-one, mul-zero, mul_comm, mul_assoc, pow-suc}
 use Rattle.std.proofs.lemmas.Int.{ints}
 use Rattle.std.proofs.Math.Nat.{pow-le-pow_right}
 use mir.Val.{to_z, of_z}
@@ -7,7 +7,7 @@ use Rattle.std.specs.Int.RustNames.{FitsSigned}
 use Rattle.std.proofs.lemmas.Nat.{one_shl, shr-shr, mod-pow-add}
 use Rattle.std.proofs.lemmas.Bool.{cases_lt}
 use Rattle.std.proofs.lemmas.Nat.Bits.{bit_at-lt}
-use Rattle.a429_word.specs.Word.{bit, number_at, field_of}
+use Rattle.a429_word.specs.Word.{sum_below, bit, number_at, field_of}
 use Rattle.a429_word.specs.Bnr.{raw_of}
 use Rattle.a429_word.proofs.WordBits.{masked_from, number_at-is, number_at-lt}
 
@@ -85,3 +85,19 @@ field_from_raw v w s h1 h2 raw rest =
     ∙ ap (λ n. bit w 29 * 2 ^ 18 + (n * 2 ^ (18 - s) + number_at v 11 (18 - s))) same.0
     ∙ ap (λ n. bit w 29 * 2 ^ 18 + (number_at w (29 - s) s * 2 ^ (18 - s) + n)) rest
     ∙ sym (field_split w s (18 - s) h1 total)
+
+-- ---- in s + 1 bits
+
+-- the sign's bit counts p, and its double is taken away
+signed : (p a b : ℕ) → pos a -ℤ pos (p * b) ≡ pos (a + b * p) -ℤ pos (2 * p * b)
+signed p a b = omega (arith, ints, mul_comm b p, mul_assoc 2 p b)
+
+pub raw_of-bits : (w s : ℕ) → 1 ≤ s → s ≤ 18 → raw_of w s ≡ pos (number_at w (29 - s) (s + 1)) -ℤ pos (2 ^ (s + 1) * bit w 29)
+unfolding sum_below
+raw_of-bits w s h1 h2 =
+    let up : s + 1 ≡ suc s = omega arith in
+    let last : 29 - s + s ≡ 29 = omega arith in
+    let bits : number_at w (29 - s) (s + 1) ≡ number_at w (29 - s) s + bit w 29 * 2 ^ s =
+    ap (number_at w (29 - s)) up ∙ ap (λ i. number_at w (29 - s) s + bit w i * 2 ^ s) last in
+    let double : 2 ^ (s + 1) ≡ 2 * 2 ^ s = ap (λ n. 2 ^ n) up ∙ pow-suc 2 s ∙ mul_comm (2 ^ s) 2 in
+    rw (bits, double) (signed (2 ^ s) (number_at w (29 - s) s) (bit w 29))

@@ -1,10 +1,10 @@
 //! Laws of the definitions that the contracts of this crate cite.
 
-ghost use Rattle.std.specs.Prelude.{◌≡◌, ℕ, ◌≤◌, ◌<◌, ◌^◌, Option, Some, Result, Ok, List, ℤ, pos, neg_ℤ, ◌≤ℤ◌, ◌<ℤ◌};
-ghost use Rattle.a429_word.specs.Word.{number_of_bits, bit, AreBits, HasOddParity, SameFields, SameParts};
+ghost use Rattle.std.specs.Prelude.{◌≡◌, ℕ, ◌≤◌, ◌<◌, ◌+◌, ◌-◌, ◌*◌, ◌/◌, ◌%◌, ◌^◌, Option, Some, Result, Ok, List, ℤ, pos, neg_ℤ, ◌-ℤ◌, ◌≤ℤ◌, ◌<ℤ◌};
+ghost use Rattle.a429_word.specs.Word.{number_of_bits, bit, number_at, AreBits, HasOddParity, SameFields, SameParts};
 ghost use Rattle.a429_word.specs.declared.bcd.BadDigit.{BadDigit};
 ghost use Rattle.a429_word.specs.Bnr.{raw_of, SameBnrFields};
-ghost use Rattle.a429_word.specs.Bcd.{decimal_of, AreDecimal, ReadsBcd};
+ghost use Rattle.a429_word.specs.Bcd.{digit_of, decimal_of, AreDecimal, ReadsBcd};
 ghost use Rattle.a429_word.specs.Digits.{hex_text, ReadsHex};
 ghost use Rattle.a429_word.specs.Fixed.{SpellsFraction};
 
@@ -34,20 +34,24 @@ pub fn hex_is_read_back()
     ensures { (w : ℕ) (read : Option ℕ) → w < 2 ^ 32 → ReadsHex (hex_text w) read → read ≡ Some w }
 {}
 
-/// A word that has a raw number, as `Word::bnr_word` promises, is one of which `Word::bnr_raw` answers
-/// that number. The raw number of any word is one that `Word::bnr_word` takes, from `-2^s` to
+/// The raw number of a word is two's complement in s + 1 bits: the number of the bits from bit `29-s` up
+/// to bit 29, less `2^(s+1)` where bit 29 is 1. It is one that `Word::bnr_word` takes, from `-2^s` to
 /// `2^s - 1`, and no two words of odd parity have the same label, SDI, SSM, raw number and other bits of
-/// the data field.
+/// the data field: so of what `Word::bnr_raw` answers, `Word::bnr_word` makes that word again. The other
+/// way needs no law: clause `raw` of `Word::bnr_word` and the contract of `Word::bnr_raw` both say `raw_of`.
 pub fn bnr_is_read_back()
-    ensures read { (w s : ℕ) (raw read : ℤ) → raw_of w s ≡ raw → read ≡ raw_of w s → read ≡ raw }
+    ensures bits { (w s : ℕ) → 1 ≤ s → s ≤ 18 → raw_of w s ≡ pos (number_at w (29 - s) (s + 1)) -ℤ pos (2 ^ (s + 1) * bit w 29) }
     ensures within { (w s : ℕ) → 1 ≤ s → s ≤ 18 → (neg_ℤ (pos (2 ^ s)) ≤ℤ raw_of w s) × (raw_of w s <ℤ pos (2 ^ s)) }
     ensures one { (v w s : ℕ) → v < 2 ^ 32 → w < 2 ^ 32 → 1 ≤ s → s ≤ 18 → HasOddParity v → HasOddParity w → SameBnrFields v w s → v ≡ w }
 {}
 
-/// A word that has a number in its first k digits, as `Word::bcd_word` promises, is one of which
-/// `Word::bcd_digits` answers that number.
+/// The decimal digits of the number that the first k digits of a word write are these digits. A word that
+/// has a number there, as `Word::bcd_word` promises, is one of which `Word::bcd_digits` answers that number
+/// and no bad digit.
 pub fn bcd_is_read_back()
-    ensures { (w k n : ℕ) (read : Result ℕ BadDigit) → AreDecimal w k → decimal_of w k ≡ n → ReadsBcd w k read → read ≡ Ok n }
+    ensures digits { (w k i : ℕ) → AreDecimal w k → 1 ≤ i → i ≤ k → decimal_of w k / 10 ^ (k - i) % 10 ≡ digit_of w i }
+    ensures within { (w k : ℕ) → AreDecimal w k → decimal_of w k < 10 ^ k }
+    ensures read { (w k n : ℕ) (read : Result ℕ BadDigit) → AreDecimal w k → decimal_of w k ≡ n → ReadsBcd w k read → read ≡ Ok n }
 {}
 
 /// A fraction has one spelling.
