@@ -38,7 +38,9 @@ use Rattle.a429_record.specs.declared.entry.Entry.{Entry}
 use Rattle.a429_cert.specs.declared.act.Act.{Act}
 use Rattle.a429_cert.specs.declared.act.Act.TheVariants as act
 use Rattle.a429_cert.specs.Explained.{items_of, seen_of}
+use Rattle.a429_cert.specs.Version.{read_as}
 use Rattle.a429_cert.specs.Told.{Told, Loads, Makes, told, told_run, told_steps, with_number}
+use Rattle.a429_cert.proofs.ExplainedFacts.{in_every_run, lists_run}
 use Rattle.a429_view.specs.declared.mark.Mark.{Mark}
 use Rattle.a429_view.specs.declared.mark.Mark.TheVariants as mark
 use Rattle.a429_view.specs.declared.mark.Recorded.{Recorded}
@@ -46,7 +48,7 @@ use Rattle.a429_view.specs.declared.mark.Span.{Span}
 use Rattle.a429_view.specs.declared.sketch.Place.{Place}
 use Rattle.a429_view.specs.Units.{is_ack_form}
 use Rattle.a429_view.specs.Mark.{before_all, crossing, file_ended, is_within, listed, marks, past, shown, still_due, unseen}
-use Rattle.a429_view.specs.Crossings.{HasAll, RunOver, crossings, delivered_over, file_crossing, numbers, rows_over}
+use Rattle.a429_view.specs.Crossings.{ExplainedRun, HasAll, RunOver, crossings, delivered_over, file_crossing, numbers, rows_explained, rows_over}
 
 -- ---- rows
 
@@ -296,3 +298,16 @@ pub crossings_delivered : (p : Contents) (entries : List Entry) (span : Span) (r
 crossings_delivered p entries span r all =
     let run = r.run.is_run in
     sym (run_goes p (is_read p run.sound) entries span all r.run.steps (start p r.run.first) empty_shelf [] [] r.later before_all 0 refl run.run (start_books p r.run.first run.byte) r.records refl tt)
+
+-- the run by which a certificate explains delivers the files of a yes
+pub crossings_explained : (p : Contents) (entries : List Entry) (span : Span) (e : ExplainedRun p entries) → HasAll span entries → crossings (rows_explained span e) ≡ numbers e.files
+crossings_explained p entries span e all =
+    let x = e.explains in
+    let run = lists_run p (map (read_as x.version) x.lines) e.steps (start p e.first) x.lists in
+    let over : RunOver p entries = record {
+      run = record { first = e.first; steps = e.steps; is_run = record { sound = e.sound; byte = x.byte; run = run } };
+      later = [];
+      records = sym x.used ∙ sym (append-nil (trace e.steps));
+    } in
+    let same = in_every_run p e.sound e.certificate (items_of entries) e.files e.yes e.first e.steps x.byte run x.used in
+    crossings_delivered p entries span over all ∙ ap numbers (sym same.0)
