@@ -1,6 +1,5 @@
 -- The rows that say a file crosses are those of the steps by which the sink delivers one.
-use Rattle.std.proofs.Common.{◌≡◌, ℕ, suc, ◌+◌, ◌≤◌, Bool, true, false, cond, ◌&&◌, List, [], ◌∷◌, ◌++◌, map, length, Option, Some, None, slice_get, refl, sym, ap, ◌∙◌, subst, arith, append_assoc, append-nil, length-append}
-use Rattle.std.specs.Prelude.{nat_le}
+use Rattle.std.proofs.Common.{◌≡◌, ℕ, suc, ◌+◌, ◌≤◌, Bool, true, false, cond, List, [], ◌∷◌, ◌++◌, map, length, Option, Some, None, slice_get, refl, sym, ap, ◌∙◌, subst, arith, append_assoc, append-nil, length-append}
 use Rattle.std.specs.List.{cons_option}
 use Rattle.std.proofs.lemmas.List.{map-append}
 use Rattle.std.proofs.lemmas.List.Elements.{filter_map-append}
@@ -12,17 +11,17 @@ use Rattle.a429_ldu.specs.declared.forms.Form.{Form}
 use Rattle.a429_ldu.specs.declared.forms.Form.TheVariants as form
 use Rattle.a429_ldu.specs.Carried.{bytes_in}
 use Rattle.a429_ldu.specs.Form.{form_of}
-use Rattle.a429_ldu.specs.Ldu.{LduValue, count_of, is_final}
+use Rattle.a429_ldu.specs.Ldu.{LduValue, is_final}
 use Rattle.a429_link.specs.declared.file.FileBytes.{FileBytes}
 use Rattle.a429_link.specs.declared.number.UnitNumber.{UnitNumber}
 use Rattle.a429_link.specs.declared.seen.Seen.{Seen}
 use Rattle.a429_link.specs.declared.state.SourceState.{SourceState}
-use Rattle.a429_link.specs.declared.state.SourceState.TheVariants.{Awaiting, Idle, Sending, Waiting}
+use Rattle.a429_link.specs.declared.state.SourceState.TheVariants.{Awaiting, Waiting}
 use Rattle.a429_link.specs.declared.step.Step.{Step}
 use Rattle.a429_link.specs.declared.step.Step.TheVariants.{Answered, FreeSeen, GiveUp, Load, LoseAnswer, Sent, SentLost, Silent, SinkTakes, TakeAnswer, TimeOut}
 use Rattle.a429_link.specs.Number.{is_number}
-use Rattle.a429_link.specs.Source.{Source, acknowledged, hears, hears_first, hears_form, is_own_ack}
-use Rattle.a429_link.specs.Sink.{Block, MayAnswerForm, Number, OwesAck, Shelf, Sink, SinkPhase, accepts, accepts_owed, answers_form, empty_shelf, is_same, number_of, put, shelf_for, takes_first, takes_form}
+use Rattle.a429_link.specs.Source.{Source, acknowledged, hears, hears_first, hears_form}
+use Rattle.a429_link.specs.Sink.{Block, MayAnswerForm, Number, Shelf, Sink, SinkPhase, accepts, accepts_owed, answers_form, empty_shelf, is_same, number_of, put, shelf_for, takes_first, takes_form}
 use Rattle.a429_link.specs.State.{State, start}
 use Rattle.a429_link.specs.Step.{Can, after, label}
 use Rattle.a429_link.specs.Run.{IsRun, end_of, offers, settles, trace, with_label}
@@ -33,13 +32,13 @@ use Rattle.a429_link.proofs.StateConfigs.{Config, Whole, idle, asked, unasked, s
 use Rattle.a429_link.proofs.StateHolds.{step_holds}
 use Rattle.a429_link.proofs.SinkFromTrace.{takes_shelf}
 use Rattle.a429_link.proofs.SinkShelves.{past_new, shelf_for_files}
-use Rattle.a429_link.proofs.RunCrossing.{Books, Crosses, Stand, start_books, step_crosses}
+use Rattle.a429_link.proofs.RunCrossing.{Books, Stand, start_books, step_crosses}
 use Rattle.a429_record.specs.declared.entry.Entry.{Entry}
 use Rattle.a429_cert.specs.declared.act.Act.{Act}
 use Rattle.a429_cert.specs.declared.act.Act.TheVariants as act
 use Rattle.a429_cert.specs.Explained.{items_of, seen_of}
 use Rattle.a429_cert.specs.Version.{read_as}
-use Rattle.a429_cert.specs.Told.{Told, Loads, Makes, told, told_run, told_steps, with_number}
+use Rattle.a429_cert.specs.Told.{Told, Loads, Makes, entry_numbered, told, told_steps, with_number}
 use Rattle.a429_cert.proofs.ExplainedFacts.{in_every_run, lists_run}
 use Rattle.a429_view.specs.declared.mark.Mark.{Mark}
 use Rattle.a429_view.specs.declared.mark.Mark.TheVariants as mark
@@ -47,7 +46,7 @@ use Rattle.a429_view.specs.declared.mark.Recorded.{Recorded}
 use Rattle.a429_view.specs.declared.mark.Span.{Span}
 use Rattle.a429_view.specs.declared.sketch.Place.{Place}
 use Rattle.a429_view.specs.Units.{is_ack_form}
-use Rattle.a429_view.specs.Mark.{before_all, crossing, file_ended, is_within, listed, marks, past, shown, still_due, unseen}
+use Rattle.a429_view.specs.Mark.{acknowledges, before_all, crossing, file_ended, is_within, listed, marks, past, shown, still_due, unseen}
 use Rattle.a429_view.specs.Crossings.{ExplainedRun, HasAll, RunOver, crossings, delivered_over, file_crossing, numbers, rows_explained, rows_over}
 
 -- ---- rows
@@ -85,7 +84,8 @@ abbrev DueBy : Contents → Source → Option Number → Option ℕ → Type 0
 DueBy p source last due = DueAt p source.number source.current last due
 
 -- a unit that is loaded is new to the sink
-load_due : (p : Contents) (s : State) (u : LduValue) (o : Shelf) (fs : List FileBytes) → s.source.current ≡ None → Books p s o fs → DueAt p s.source.number (Some u) s.sink.last (file_ended p.codes s.source.number u)
+load_due : (p : Contents) (s : State) (u : LduValue) (o : Shelf) (fs : List FileBytes)
+    → s.source.current ≡ None → Books p s o fs → DueAt p s.source.number (Some u) s.sink.last (file_ended p.codes s.source.number u)
 load_due p s u o fs n b =
     let behind = subst (λ x. Stand p s.source.number s.source.give_ups x s.sink.last s.sink.shelf o fs) n b.crosses.stand in
     let new = past_new s.sink.last s.source.number s.source.give_ups b.crosses.few behind.past in
@@ -96,7 +96,8 @@ either : (p : Contents) (s t : Source) (b : Bool) (last : Option Number) (due : 
 either p s t true last due h k = h
 either p s t false last due h k = k
 
-hears_due : (p : Contents) (cur : Option LduValue) (sp : SourceState) (x : Form) (s : Source) (last : Option Number) (due : Option ℕ) → DueBy p s last due → DueBy p (hears p.codes cur sp x s) last due
+hears_due : (p : Contents) (cur : Option LduValue) (sp : SourceState) (x : Form) (s : Source) (last : Option Number) (due : Option ℕ)
+    → DueBy p s last due → DueBy p (hears p.codes cur sp x s) last due
 hears_due p (Some u) Awaiting (form.Cts n) s last due h = either p _ s _ last due h h
 hears_due p (Some u) Waiting (form.Ack f l) s last due h = either p (acknowledged p.codes u s) s _ last due tt h
 hears_due p (Some u) Waiting (form.Nak bits) s last due h = h
@@ -132,7 +133,8 @@ put_numbers file bytes true s = map-append (λ (f : FileBytes). f.number) s.file
 put_numbers file bytes false s = sym (append-nil (numbers s.files))
 
 -- the block of the source's unit is accepted
-accepted : (p : Contents) (number : UnitNumber) (u : LduValue) (b : Block) (fl : ℕ) (k : Sink) (due : Option ℕ) → Whole u number b fl → DueAt p number (Some u) k.last due → Answers p number (Some u) k (accepts p.codes b fl k) due true
+accepted : (p : Contents) (number : UnitNumber) (u : LduValue) (b : Block) (fl : ℕ) (k : Sink) (due : Option ℕ)
+    → Whole u number b fl → DueAt p number (Some u) k.last due → Answers p number (Some u) k (accepts p.codes b fl k) due true
 accepted p number u b fl k due w d = by (is_same k.last (number_of b)) refl
   where
     kept : Shelf
@@ -162,7 +164,8 @@ accepted p number u b fl k due w d = by (is_same k.last (number_of b)) refl
     }
 
 -- the sink acknowledges only the unit of the source
-acknowledges_own : (p : Contents) (number : UnitNumber) (cur : Option LduValue) (sp : SourceState) (count : ℕ) (kp : SinkPhase) (xs ys : List Message) (k : Sink) (due : Option ℕ) (f l : ℕ) → MaySay count kp (Ack f l) → Config number cur sp count kp xs ys → DueAt p number cur k.last due → Answers p number cur k (accepts_owed p.codes kp k) due true
+acknowledges_own : (p : Contents) (number : UnitNumber) (cur : Option LduValue) (sp : SourceState) (count : ℕ) (kp : SinkPhase) (xs ys : List Message) (k : Sink) (due : Option ℕ) (f l : ℕ)
+    → MaySay count kp (Ack f l) → Config number cur sp count kp xs ys → DueAt p number cur k.last due → Answers p number cur k (accepts_owed p.codes kp k) due true
 acknowledges_own p number cur sp count kp xs ys k due f l m (whole {u} {b} {flags} r h) d = accepted p number u b flags k due h d
 acknowledges_own p number cur sp count kp xs ys k due f l m (idle r s) d = absurd (owes_stale kp (may_owes count kp (Ack f l) m) s)
 acknowledges_own p number cur sp count kp xs ys k due f l m (asked r s q) d = absurd (owes_stale kp (may_owes count kp (Ack f l) m) s)
@@ -171,7 +174,9 @@ acknowledges_own p number cur sp count kp xs ys k due f l m (sending r i q le h)
 acknowledges_own p number cur sp count kp xs ys k due f l m (waiting r i q h) d = absurd (owes_grant kp (may_owes count kp (Ack f l) m) i)
 acknowledges_own p number cur sp count kp xs ys k due f l m _ d = absurd m
 
-answers_so : (p : Contents) (source : Source) (xs ys : List Message) (k : Sink) (due : Option ℕ) (x : Option Form) → MayAnswerForm k.count k.phase x → Config source.number source.current source.phase k.count k.phase xs ys → DueBy p source k.last due → Answers p source.number source.current k (answers_form p.codes x k) due (is_ack_form x)
+answers_so : (p : Contents) (source : Source) (xs ys : List Message) (k : Sink) (due : Option ℕ) (x : Option Form)
+    → MayAnswerForm k.count k.phase x → Config source.number source.current source.phase k.count k.phase xs ys → DueBy p source k.last due
+    → Answers p source.number source.current k (answers_form p.codes x k) due (is_ack_form x)
 answers_so p source xs ys k due (Some (form.Ack f l)) m c d =
     let a = acknowledges_own p source.number source.current source.phase k.count k.phase xs ys k due f l m c d in
     record { next = a.next; gives = a.gives }
@@ -219,25 +224,33 @@ record Goes (p : Contents) (span : Span) (a : Step) (s : State) (i : ℕ) (at : 
   gives : numbers (after p a s).sink.shelf.files ≡ numbers s.sink.shelf.files ++ crossings (shown p.codes span at t)
 
 -- a step that records nothing, and leaves the files
-unseen_goes : (p : Contents) (span : Span) (a : Step) (s : State) (i : ℕ) (at : Place) (x : Act) → at.next ≡ i → length (trace (a ∷ [])) ≡ 0 → DueBy p (after p a s).source (after p a s).sink.last at.due → (after p a s).sink.shelf.files ≡ s.sink.shelf.files → Goes p span a s i at (Makes x None)
+unseen_goes : (p : Contents) (span : Span) (a : Step) (s : State) (i : ℕ) (at : Place) (x : Act)
+    → at.next ≡ i → length (trace (a ∷ [])) ≡ 0 → DueBy p (after p a s).source (after p a s).sink.last at.due → (after p a s).sink.shelf.files ≡ s.sink.shelf.files
+    → Goes p span a s i at (Makes x None)
 unseen_goes p span a s i at x n z d f = record {
   next = omega (arith, n, z);
   due = d;
   gives = ap numbers f ∙ no_number s.sink.shelf.files (cond (is_within span at.next) (listed (unseen x)) []) (unseen_says (is_within span at.next) x);
 }
 
--- a step that records a word which is no answer
-sent_goes : (p : Contents) (es : List Entry) (span : Span) (s : State) (item : Seen) (i : ℕ) (at : Place) → at.next ≡ i → NextEntry es i item → DueBy p s.source s.sink.last at.due → Goes p span (Sent item) s i at (told es s i (Sent item))
-sent_goes p es span s item i at n h d =
-    subst (λ (o : Option Entry). Goes p span (Sent item) s i at (Makes act.Sent (with_number i o))) (sym h.found)
-    (record { next = refl; due = d; gives = no_number s.sink.shelf.files (shown p.codes span at (Makes act.Sent (Some (i, h.entry)))) (seen_says (is_within span at.next) _ refl) })
+-- a step that records a word which is no acknowledgement, and leaves the files
+seen_goes : (p : Contents) (es : List Entry) (span : Span) (a : Step) (s : State) (item : Seen) (i : ℕ) (at : Place) (x : Act)
+    → at.next ≡ i → length (trace (a ∷ [])) ≡ 1 → NextEntry es i item → ((e : Entry) → acknowledges p.codes x e ≡ false)
+    → DueBy p (after p a s).source (after p a s).sink.last at.due → (after p a s).sink.shelf.files ≡ s.sink.shelf.files
+    → Goes p span a s i at (Makes x (entry_numbered es i))
+seen_goes p es span a s item i at x n z h none d f =
+    let t = Makes x (Some (i, h.entry)) in
+    let no = none h.entry in
+    subst (λ (o : Option Entry). Goes p span a s i at (Makes x (with_number i o))) (sym h.found)
+    (record {
+      next = omega (arith, z);
+      due = subst (λ (b : Bool). DueBy p (after p a s).source (after p a s).sink.last (still_due b at.due)) (sym no) d;
+      gives = ap numbers f ∙ no_number s.sink.shelf.files (shown p.codes span at t) (seen_says (is_within span at.next) _ (ap (λ (b : Bool). crossing b at.due) no));
+    })
 
-free_goes : (p : Contents) (es : List Entry) (span : Span) (s : State) (item : Seen) (i : ℕ) (at : Place) → at.next ≡ i → NextEntry es i item → DueBy p s.source s.sink.last at.due → Goes p span (FreeSeen item) s i at (told es s i (FreeSeen item))
-free_goes p es span s item i at n h d =
-    subst (λ (o : Option Entry). Goes p span (FreeSeen item) s i at (Makes act.FreeSeen (with_number i o))) (sym h.found)
-    (record { next = refl; due = d; gives = no_number s.sink.shelf.files (shown p.codes span at (Makes act.FreeSeen (Some (i, h.entry)))) (seen_says (is_within span at.next) _ refl) })
-
-answered_goes : (p : Contents) (es : List Entry) (span : Span) (s : State) (item : Seen) (i : ℕ) (at : Place) (o : Shelf) (fs : List FileBytes) → HasAll span es → Can p (Answered item) s → Books p s o fs → at.next ≡ i → NextEntry es i item → DueBy p s.source s.sink.last at.due → Goes p span (Answered item) s i at (told es s i (Answered item))
+answered_goes : (p : Contents) (es : List Entry) (span : Span) (s : State) (item : Seen) (i : ℕ) (at : Place) (o : Shelf) (fs : List FileBytes)
+    → HasAll span es → Can p (Answered item) s → Books p s o fs → at.next ≡ i → NextEntry es i item → DueBy p s.source s.sink.last at.due
+    → Goes p span (Answered item) s i at (told es s i (Answered item))
 answered_goes p es span s item i at o fs all can b n h d =
     let x = form_of p.codes bus.B item.word in
     let a = answers_so p s.source b.holds.xs b.holds.ys s.sink at.due x can.1 b.holds.fits d in
@@ -255,10 +268,11 @@ answered_goes p es span s item i at o fs all can b n h d =
           ∙ ap (λ (l : List ℕ). numbers s.sink.shelf.files ++ l) (sym (within_says (is_within span at.next) _ (inside_span span es at.next i all n h.inside)));
     })
 
-step_goes : (p : Contents) (es : List Entry) (span : Span) (a : Step) (s : State) (i : ℕ) (at : Place) (o : Shelf) (fs : List FileBytes) → HasAll span es → Can p a s → Books p s o fs → at.next ≡ i → IsNext es i (label a) → DueBy p s.source s.sink.last at.due → Goes p span a s i at (told es s i a)
+step_goes : (p : Contents) (es : List Entry) (span : Span) (a : Step) (s : State) (i : ℕ) (at : Place) (o : Shelf) (fs : List FileBytes)
+    → HasAll span es → Can p a s → Books p s o fs → at.next ≡ i → IsNext es i (label a) → DueBy p s.source s.sink.last at.due → Goes p span a s i at (told es s i a)
 step_goes p es span (Load u) s i at o fs all can b n h d =
     record { next = omega (arith, n); due = load_due p s u o fs can.1 b; gives = no_number s.sink.shelf.files (shown p.codes span at (Loads s.source.number u)) (load_says (is_within span at.next) s.source.number) }
-step_goes p es span (Sent item) s i at o fs all can b n h d = sent_goes p es span s item i at n h d
+step_goes p es span (Sent item) s i at o fs all can b n h d = seen_goes p es span (Sent item) s item i at act.Sent n refl h (λ e. refl) d refl
 step_goes p es span SentLost s i at o fs all can b n h d = unseen_goes p span SentLost s i at act.SentLost n refl d refl
 step_goes p es span TimeOut s i at o fs all can b n h d = unseen_goes p span TimeOut s i at act.TimeOut n refl d refl
 step_goes p es span TakeAnswer s i at o fs all can b n h d = unseen_goes p span TakeAnswer s i at act.TakeAnswer n refl (first_due p s.to_source s.source s.sink.last at.due d) refl
@@ -268,7 +282,7 @@ step_goes p es span SinkTakes s i at o fs all can b n h d =
     unseen_goes p span SinkTakes s i at act.SinkTakes n refl (subst (λ (l : Option Number). DueBy p s.source l at.due) (sym keeps.0) d) (ap (λ (q : Shelf). q.files) keeps.1)
 step_goes p es span Silent s i at o fs all can b n h d = unseen_goes p span Silent s i at act.Silent n refl d refl
 step_goes p es span (Answered item) s i at o fs all can b n h d = answered_goes p es span s item i at o fs all can b n h d
-step_goes p es span (FreeSeen item) s i at o fs all can b n h d = free_goes p es span s item i at n h d
+step_goes p es span (FreeSeen item) s i at o fs all can b n h d = seen_goes p es span (FreeSeen item) s item i at act.FreeSeen n refl h (λ e. refl) d refl
 step_goes p es span GiveUp s i at o fs all can b n h d = unseen_goes p span GiveUp s i at act.GiveUp n refl tt refl
 
 -- ---- steps, one after the other
@@ -277,7 +291,10 @@ label_push : (l : Option Seen) (items : List Seen) → with_label l items ≡ wi
 label_push None items = refl
 label_push (Some i) items = refl
 
-run_goes : (p : Contents) → IsRead p → (es : List Entry) (span : Span) → HasAll span es → (steps : List Step) (s : State) (o : Shelf) (fs : List FileBytes) (before later : List Seen) (at : Place) (i : ℕ) → i ≡ length before → IsRun p steps s → Books p s o fs → items_of es ≡ before ++ (trace steps ++ later) → at.next ≡ i → DueBy p s.source s.sink.last at.due → numbers (end_of p steps s).sink.shelf.files ≡ numbers s.sink.shelf.files ++ crossings (marks p.codes span at (told_steps p es steps s i))
+run_goes : (p : Contents) → IsRead p → (es : List Entry) (span : Span) → HasAll span es
+    → (steps : List Step) (s : State) (o : Shelf) (fs : List FileBytes) (before later : List Seen) (at : Place) (i : ℕ)
+    → i ≡ length before → IsRun p steps s → Books p s o fs → items_of es ≡ before ++ (trace steps ++ later) → at.next ≡ i → DueBy p s.source s.sink.last at.due
+    → numbers (end_of p steps s).sink.shelf.files ≡ numbers s.sink.shelf.files ++ crossings (marks p.codes span at (told_steps p es steps s i))
 run_goes p good es span all [] s o fs before later at i z h b e n d = sym (append-nil (numbers s.sink.shelf.files))
 run_goes p good es span all (a ∷ steps) s o fs before later at i z h b e n d =
     let one = trace (a ∷ []) in
