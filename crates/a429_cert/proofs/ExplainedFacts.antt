@@ -65,7 +65,7 @@ lists_push p (Some l ∷ lines) [] s text a h t = absurd h
 lists_push p (Some l ∷ lines) (b ∷ steps) s text a h t = (h.0, lists_push p lines steps (after p b s) text a h.1 t)
 
 -- lines that are steps are a run
-lists_run : (p : Contents) (lines : List (Option (List ℕ))) (steps : List Step) (s : State) → ListsSteps p lines steps s → IsRun p steps s
+pub lists_run : (p : Contents) (lines : List (Option (List ℕ))) (steps : List Step) (s : State) → ListsSteps p lines steps s → IsRun p steps s
 lists_run p [] [] s h = tt
 lists_run p [] (b ∷ steps) s h = absurd h
 lists_run p (None ∷ lines) steps s h = absurd h

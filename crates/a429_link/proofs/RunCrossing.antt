@@ -313,7 +313,7 @@ answered_crosses p s i o fs m h c =
     let alone = alone_on_the_way p s (may_owes s.sink.count s.sink.phase r.said r.owed) h in
     subst (λ (q : Sink). Crosses p s.source q.last q.shelf (s.to_source ++ i.word ∷ []) o fs) (sym (answers_as p i.word r.said s.sink r.is)) (answer_crosses p s i.word r.said o fs r.is alone.2 r.owed h c)
 
-step_crosses : (p : Contents) → IsRead p → (a : Step) (s : State) (o : Shelf) (fs : List FileBytes) → Can p a s → HoldsAt p s → CrossesAt p s o fs → CrossesAt p (after p a s) (offers p a s o) (settles p a s o fs)
+pub step_crosses : (p : Contents) → IsRead p → (a : Step) (s : State) (o : Shelf) (fs : List FileBytes) → Can p a s → HoldsAt p s → CrossesAt p s o fs → CrossesAt p (after p a s) (offers p a s o) (settles p a s o fs)
 step_crosses p good (Load u) s o fs i h c = load_crosses p good s u o fs i h s.source.current refl i.1 c
 step_crosses p good (Sent w) s o fs i h c = in_phase p s.source _ _ _ _ o fs c
 step_crosses p good SentLost s o fs i h c = in_phase p s.source _ _ _ _ o fs c
@@ -336,7 +336,7 @@ run_books p good [] s o fs h b = b
 run_books p good (a ∷ acts) s o fs h b =
     run_books p good acts (after p a s) (offers p a s o) (settles p a s o fs) h.1 (record { holds = step_holds p good a s h.0 b.holds; crosses = step_crosses p good a s o fs h.0 b.holds b.crosses })
 
-start_books : (p : Contents) (first : ℕ) → first ≤ 255 → Books p (start p first) empty_shelf []
+pub start_books : (p : Contents) (first : ℕ) → first ≤ 255 → Books p (start p first) empty_shelf []
 start_books p first f =
     record {
       holds = start_holds p first f;

@@ -1,3 +1,4 @@
 pub mod UnitsFacts
 pub mod SketchFacts
 pub mod PictureFacts
+pub mod CrossingsFacts

@@ -3,4 +3,5 @@ pub mod UnitSteps
 pub mod Forms
 pub mod Mark
 pub mod Sketch
+pub mod Crossings
 pub mod Picture

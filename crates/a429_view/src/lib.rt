@@ -2,6 +2,7 @@
 #![tactic(auto)]
 
 mod forms;
+pub mod laws;
 mod mark;
 mod picture;
 mod sketch;
