@@ -33,6 +33,7 @@ pub(crate) fn matched_unit(
     ensures crossed { (u : LduValue) → HasCrossed heard.now request place u → IfOk result (λ v. v ≡ u) }
     ensures crossed_err { (u : LduValue) → HasCrossed heard.now request place u → IfErr result (λ s. s ≡ Stop.OutOfMemory) }
 {
+    // (for the proof: the profile is sound)
     let _profile = heard.profile();
     let unit = match unit_of(alloc, heard, request) {
         Ok(unit) => unit,

@@ -54,6 +54,7 @@ fn explain(
     ensures first { IfOk result (λ v. IsFirst profile.now (items_of entries.now) v) }
     ensures without_loss { IsWithoutLoss profile.now (items_of entries.now) → IfOk result IsExplanation }
 {
+    // (for the proof: the profile is sound)
     let _codes = profile.codes();
     match certificate_of(alloc, profile, entries, heard) {
         Ok(found) => Ok(Verdict::Explained {

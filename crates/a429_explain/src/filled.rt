@@ -93,6 +93,7 @@ fn last_data(alloc: Global, heard: &Heard, group: Group) -> Result<Vec<Word>, Al
     ensures exact { IfOk result (λ words. words.items ≡ last_data heard.now.profile.codes (words_of_group heard.now.items group) none_yet) }
     ensures sound { IfOk result (λ words. IsSome (semis_of_words heard.now.profile.codes words.items)) }
 {
+    // (for the proof: the profile is sound)
     let _profile = heard.profile();
     let mut last = LastRecorded::new(alloc);
     for at in group.from..group.to {
@@ -160,6 +161,7 @@ fn are_odd(alloc: Global, profile: &Profile, words: &[Word]) -> Result<bool, All
     requires { IsSome (semis_of_words profile.now.codes words.now) }
     ensures { IfOk result (λ odd. odd ≡ are_odd profile.now.codes words.now) }
 {
+    // (for the proof: the profile is sound)
     let _codes = profile.codes();
     if words.is_empty() {
         return Ok(false);

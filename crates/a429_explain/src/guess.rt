@@ -54,6 +54,7 @@ pub(crate) fn certificate_of(
     ensures first { IfErr result (λ s. IsFirstStop profile.now (items_of entries.now) s) }
     ensures clean { IsWithoutLoss profile.now (items_of entries.now) → IfErr result (λ s. s ≡ Stop.OutOfMemory) }
 {
+    // (for the proof: the profile is sound)
     let _codes = profile.codes();
     let Ok(roles) = roles(alloc, &heard) else {
         return Err(Stop::OutOfMemory);

@@ -57,6 +57,7 @@ impl<'a> Heard<'a> {
         ensures is { result.now ≡ self.now.profile }
         ensures sound { IsProfile self.now.profile }
     {
+        // (for the proof: the profile is sound)
         let _codes = self.profile.codes();
         self.profile
     }
@@ -82,6 +83,7 @@ impl<'a> Heard<'a> {
         ensures is { IsHeardAt self.now.profile.codes self.now.items at result }
         ensures range { IfSome result.form IsInRange }
     {
+        // (for the proof: the profile is sound)
         let _codes = self.profile.codes();
         HeardWord {
             word: self.entries[at].word,

@@ -137,6 +137,7 @@ pub(crate) fn unit_with(
     ensures unit { IfOk result (λ found. IfSome found (λ u. IsLdu profile.now u)) }
     ensures count { IfOk result (λ found. IfSome found (λ u. count_of u ≡ count)) }
 {
+    // (for the proof: the profile is sound)
     let _codes = profile.codes();
     let Some(gfi) = ends.start else {
         return Ok(None);

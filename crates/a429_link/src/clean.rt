@@ -75,6 +75,7 @@ pub fn clean_run(
     ensures fault { IfErr result (λ e. e ≢ CleanFault.OutOfMemory
         → first_refused max_words 0 (map (λ f. f.items) files.now) ≡ Some e) }
 {
+    // (for the proof: the profile is sound)
     let _codes = profile.codes();
     let mut run = Vec::new(alloc);
     let mut number = first_file;

@@ -56,6 +56,7 @@ impl Transfer {
         ensures state { result ≡ start profile.now first_file }
         ensures sound { IsProfile profile.now }
     {
+        // (for the proof: the profile is sound)
         let _codes = profile.codes();
         Transfer {
             source: Source::new(UnitNumber::first(profile, first_file)),

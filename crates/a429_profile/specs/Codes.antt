@@ -74,24 +74,29 @@ check_rule doc = record {
   compare = truth_at_key doc key.Compare;
 }
 
--- the numbers of the transfer
-abbrev pub codes_of : Members → Codes
-codes_of doc = record {
-  to_sink = octal_at_key doc key.ToSink;
-  to_source = octal_at_key doc key.ToSource;
-  destination = number_at_key doc key.Destination;
-  first_ldu = number_at_key doc key.FirstLdu;
-  final_bit = number_at_key doc key.FinalBit;
-  full = number_at_key doc key.Full;
-  partial = number_at_key doc key.Partial;
-  protocol = number_at_key doc key.Protocol;
-  sot = number_at_key doc key.Sot;
-  eot = number_at_key doc key.Eot;
-  rts = number_at_key doc key.Rts;
-  cts = number_at_key doc key.Cts;
-  ack = number_at_key doc key.Ack;
-  nak = number_at_key doc key.Nak;
-  ignored_types = numbers_at_key doc key.IgnoredTypes;
-  ignored_codes = numbers_at_key doc key.IgnoredCodes;
-  partial_codes = partial_codes_of doc;
+-- ---- all of them
+
+-- the numbers of the transfer, from four sections
+abbrev pub joined : Transfer → Types → ProtocolCodes → List ℕ → Codes
+joined transfer types codes partial_codes = record {
+  to_sink = transfer.to_sink;
+  to_source = transfer.to_source;
+  destination = transfer.destination;
+  first_ldu = transfer.first_ldu;
+  final_bit = transfer.final_bit;
+  full = types.full;
+  partial = types.partial;
+  protocol = types.protocol;
+  sot = types.sot;
+  eot = types.eot;
+  rts = codes.rts;
+  cts = codes.cts;
+  ack = codes.ack;
+  nak = codes.nak;
+  ignored_types = types.ignored;
+  ignored_codes = codes.ignored;
+  partial_codes = partial_codes;
 }
+
+abbrev pub codes_of : Members → Codes
+codes_of doc = joined (transfer_of doc) (types_of doc) (protocol_codes_of doc) (partial_codes_of doc)

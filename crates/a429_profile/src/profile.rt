@@ -158,6 +158,7 @@ impl Profile {
         ensures entry { option_map (λ e. e.now) result ≡ find (is_for label sdi) self.now.labels }
         ensures range { IfSome result (λ e. IsKindInRange e.now.kind) }
     {
+        // (for the proof: the profile is sound)
         let _codes = self.codes();
         let place = self.place(label, sdi)?;
         self.entries(place)

@@ -106,6 +106,7 @@ fn put_recording<W: Write>(
     ensures err { IfErr result (IsPutFault (has_failed out.new)) }
     ensures device { OnOk result (has_failed out.new ≡ false) }
 {
+    // (for the proof: the profile is sound)
     let _codes = profile.codes();
     let mut page = Page::new(alloc)?;
     put_header(&mut page, out)?;
