@@ -1,14 +1,37 @@
 -- What a command that finds a certificate has told, once a verdict was put.
 use Rattle.std.proofs.Common.{◌≡◌, ◌≢◌, ◌⊎◌, inl, inr, ℕ, List, Bool, true, false, Option, Result, Ok, Err, IfOk, IfErr, sym, subst}
 use Rattle.std.specs.Result.{OnOk, OnErr}
+use Rattle.std.specs.Str.{IsUtf8}
 use Rattle.a429_word.specs.declared.tally.Tally.{Tally}
 use Rattle.a429_word.specs.Tally.{unread, Puts, PutsFront}
+use Rattle.a429_cert.specs.Explained.{items_of}
 use Rattle.a429_explain.specs.declared.verdict.Verdict.{Verdict}
+use Rattle.a429_explain.specs.Verdict.{IsSoundVerdict, IsOfLeastVersion, IsImpossible, IsDoubted, IsFirst, HasNoForm, IsImpossibility, IsExplanation}
+use Rattle.a429_explain.specs.WithoutLoss.{IsWithoutLoss}
 use Rattle.a429_check.specs.declared.fault.RunFault.{RunFault}
 use Rattle.a429_check.specs.declared.fault.RunFault.TheVariants as run
 use Rattle.a429_check.specs.Output.{UsedWork}
 use Rattle.a429_check.specs.Recording.{SayInput}
 use Rattle.a429_check.specs.Check.{certificate_text, verdict_status, verdict_text, IsCheckFault, IsVerdictOn, PutsFrontAtMost, PutsVerdictOn}
+
+-- a verdict on the entries is one on the recording that stands for them
+pub found : (profile : List ℕ) (known : Option (List ℕ)) (says : SayInput profile known) (r : Result Verdict RunFault)
+    → IfOk r (IsSoundVerdict says.contents (items_of says.entries)) → IfOk r (IsOfLeastVersion says.contents (items_of says.entries)) → IfOk r (IsImpossible says.contents (items_of says.entries))
+    → IfOk r (IsDoubted says.contents (items_of says.entries)) → IfOk r (IsFirst says.contents (items_of says.entries)) → (HasNoForm (says.contents.codes) (items_of says.entries) → IfOk r IsImpossibility)
+    → (IsWithoutLoss says.contents (items_of says.entries) → IfOk r IsExplanation) → IfOk r (IsVerdictOn profile known)
+found profile known says (Ok v) sound version impossible doubted first no_form without_loss =
+    record { says = says; sound = sound; version = version; impossible = impossible; doubted = doubted; first = first; no_form = no_form; without_loss = without_loss }
+found profile known says (Err f) sound version impossible doubted first no_form without_loss = tt
+
+-- no verdict on the entries, for the one reason that there may be
+pub not_found : (profile : List ℕ) (known : Option (List ℕ)) (failed : Bool) (r : Result Verdict RunFault)
+    → IsUtf8 profile → IfErr r (λ e. e ≡ run.Memory) → IfErr r (IsCheckFault profile known failed false false)
+not_found profile known failed (Ok v) text f = tt
+not_found profile known failed (Err e) text f = subst (λ (e : RunFault). IsCheckFault profile known failed false false e) (sym f) text
+
+pub says_input : (profile : List ℕ) (known : Option (List ℕ)) (r : Result Verdict RunFault) → SayInput profile known → OnOk r (SayInput profile known)
+says_input profile known (Ok v) says = says
+says_input profile known (Err f) says = tt
 
 pub told : {C W R : Type 0} (certificate_in : C → Option (List ℕ)) (cert new_cert : Tally C) (contents : W → Option (List ℕ)) (out new_out : Tally W)
     (profile : List ℕ) (remaining : R → Option (List ℕ)) (rec : Tally R) (v : Verdict) (r : Result ℕ RunFault)

@@ -119,11 +119,11 @@ told profile p certificate rec old new Failed f is here a b = by f here a b
 
     by : (f : StreamFault) → Refuses p certificate rec old new f → (f ≡ stream.Device → Failed) → (f ≡ stream.Read read.Device → Failed) → IsVerifyFault profile certificate rec old new Failed (of_stream f)
     by (stream.Cert f) here a b = (is.0, inr (answer (stream.Cert f) here))
-    by (stream.Read read.Header) here a b = record { contents = p; is_profile = is; is = here }
-    by (stream.Read (read.Row i)) here a b = record { contents = p; is_profile = is; is = here }
-    by (stream.Read (read.TimeBack i)) here a b = record { contents = p; is_profile = is; is = here }
-    by (stream.Read read.TooMany) here a b = record { contents = p; is_profile = is; is = here }
-    by (stream.Read read.Failed) here a b = record { contents = p; is_profile = is; is = here }
+    by (stream.Read read.Header) here a b = (refl, record { contents = p; is_profile = is; is = here })
+    by (stream.Read (read.Row i)) here a b = (refl, record { contents = p; is_profile = is; is = here })
+    by (stream.Read (read.TimeBack i)) here a b = (refl, record { contents = p; is_profile = is; is = here })
+    by (stream.Read read.TooMany) here a b = (refl, record { contents = p; is_profile = is; is = here })
+    by (stream.Read read.Failed) here a b = (refl, record { contents = p; is_profile = is; is = here })
     by (stream.Read read.Device) here a b = (b refl, answer (stream.Read read.Device) here)
     by (stream.Read read.OutOfMemory) here a b = (is.0, inr (answer (stream.Read read.OutOfMemory) here))
     by stream.Device here a b = (a refl, answer stream.Device here)

@@ -9,7 +9,7 @@ use Rattle.a429_explain.specs.declared.verdict.Reason.{Reason}
 use Rattle.a429_explain.specs.declared.verdict.Reason.TheVariants.{NoForm, NotGranted, WrongAnswer}
 use Rattle.a429_explain.specs.declared.verdict.Doubt.{Doubt}
 use Rattle.a429_explain.specs.declared.verdict.Doubt.TheVariants.{NeverWhole, NotOneBlock, NotReplayed}
-use Rattle.a429_explain.specs.Verdict.{IsSoundVerdict, IsImpossible, IsDoubted, IsFirst, HasNoForm, IsImpossibility, IsExplanation}
+use Rattle.a429_explain.specs.Verdict.{IsSoundVerdict, IsOfLeastVersion, IsImpossible, IsDoubted, IsFirst, HasNoForm, IsImpossibility, IsExplanation}
 use Rattle.a429_explain.specs.WithoutLoss.{IsWithoutLoss}
 use Rattle.std.specs.Str.{IsUtf8}
 use Rattle.a429_cert.specs.Stream.{sizes}
@@ -54,6 +54,7 @@ verdict_status (Unexplained i doubt) = 2
 pub record IsVerdictOn (profile : List ℕ) (recording : Option (List ℕ)) (v : Verdict) : Type 0 where
   pub says : SayInput profile recording
   pub sound : IsSoundVerdict (says.contents) (items_of (says.entries)) v
+  pub version : IsOfLeastVersion (says.contents) (items_of (says.entries)) v
   pub impossible : IsImpossible (says.contents) (items_of (says.entries)) v
   pub doubted : IsDoubted (says.contents) (items_of (says.entries)) v
   pub first : IsFirst (says.contents) (items_of (says.entries)) v

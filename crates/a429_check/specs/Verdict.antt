@@ -7,6 +7,7 @@ use Rattle.a429_word.specs.declared.tally.Tally.{Tally}
 use Rattle.a429_word.specs.Tally.{has_failed, unread}
 use Rattle.a429_profile.specs.Profile.{Contents}
 use Rattle.a429_link.specs.declared.file.FileBytes.{FileBytes}
+use Rattle.a429_record.specs.declared.fault.ReadFault.{ReadFault}
 use Rattle.a429_record.specs.declared.fault.ReadFault.TheVariants as read
 use Rattle.a429_record.specs.Recording.{Recording}
 use Rattle.a429_record.specs.Entries.{EntriesLeft}
@@ -105,6 +106,10 @@ of_stream (stream.Read f) = run.Read f
 of_stream stream.Device = run.Device
 of_stream _ = run.Memory
 
+-- the fault is reported as one of the recording: it is neither a failed device nor out of memory
+abbrev pub IsReportedAsRead : ReadFault → Type 0
+IsReportedAsRead f = of_stream (stream.Read f) ≡ run.Read f
+
 -- a reader or the shelf has failed
 abbrev pub HasFailed : Bool → Bool → Bool → Type 0
 HasFailed rec certificate shelf = (rec ≡ true) ⊎ ((certificate ≡ true) ⊎ (shelf ≡ true))
@@ -121,7 +126,7 @@ HasAnswer profile certificate rec old new = (answer : Answer) × Judges profile 
 abbrev pub verify_causes : List ℕ → Option (List ℕ) → Option Recording → Option (List PutFile) → Option (List PutFile) → Type 0 → Causes
 verify_causes profile certificate rec old new Failed = record never {
   profile = λ f. HasFault profile f × IsUnchanged old new;
-  recording = λ f. Judges profile certificate rec old new (Err (stream.Read f));
+  recording = λ f. IsReportedAsRead f × Judges profile certificate rec old new (Err (stream.Read f));
   device = Failed × HasAnswer profile certificate rec old new;
   memory = IsUtf8 profile × (IsUnchanged old new ⊎ HasAnswer profile certificate rec old new);
 }

@@ -3,6 +3,9 @@
 ghost use Rattle.std.specs.Prelude.{◌≡◌, ◌≢◌, ◌⊎◌, ◌↔◌, true, false, IsErr, IfOk, IfErr, OnOk, OnErr};
 ghost use Rattle.std.specs.Fmt.{decimal};
 ghost use Rattle.a429_word.specs.Tally.{has_failed, unread, PutsFront, Puts};
+ghost use Rattle.a429_cert.specs.Explained.{items_of};
+ghost use Rattle.a429_explain.specs.Verdict.{IsSoundVerdict, IsOfLeastVersion, IsImpossible, IsDoubted, IsFirst, HasNoForm, IsImpossibility, IsExplanation};
+ghost use Rattle.a429_explain.specs.WithoutLoss.{IsWithoutLoss};
 ghost use Rattle.a429_check.specs.Recording.{SayInput};
 ghost use Rattle.a429_check.specs.Output.{UsedWork};
 ghost use Rattle.a429_check.specs.Check.{reason_text, doubt_text, verdict_text, certificate_text, verdict_status, IsVerdictOn, IsCheckFault, LeavesFault, PutsFrontAtMost, PutsVerdictOn};
@@ -13,6 +16,8 @@ use crate::engines::recording::entries_of;
 use crate::engines::verdict::put_explained;
 use crate::fault::RunFault;
 use a429_explain::{Doubt, Reason, Verdict, check};
+use a429_profile::Profile;
+use a429_record::Entry;
 use a429_word::{Device, Tally};
 use std::alloc::Global;
 use std::io::{Read, Write};
@@ -72,7 +77,21 @@ fn verdict_on<R: Read>(
 {
     let profile = profile_of(alloc, profile)?;
     let entries = entries_of(alloc, rec)?;
-    match check(alloc, &profile, entries.as_slice()) {
+    verdict_by(alloc, &profile, entries.as_slice())
+}
+
+// The same of its entries, under a profile that was read.
+fn verdict_by(alloc: Global, profile: &Profile, entries: &[Entry]) -> Result<Verdict, RunFault>
+    ensures sound { IfOk result (IsSoundVerdict profile.now (items_of entries.now)) }
+    ensures version { IfOk result (IsOfLeastVersion profile.now (items_of entries.now)) }
+    ensures impossible { IfOk result (IsImpossible profile.now (items_of entries.now)) }
+    ensures doubted { IfOk result (IsDoubted profile.now (items_of entries.now)) }
+    ensures first { IfOk result (IsFirst profile.now (items_of entries.now)) }
+    ensures no_form { HasNoForm profile.now.codes (items_of entries.now) → IfOk result IsImpossibility }
+    ensures without_loss { IsWithoutLoss profile.now (items_of entries.now) → IfOk result IsExplanation }
+    ensures err { IfErr result (λ e. e ≡ RunFault.Memory) }
+{
+    match check(alloc, profile, entries) {
         Ok(verdict) => Ok(verdict),
         Err(_) => Err(RunFault::Memory),
     }
