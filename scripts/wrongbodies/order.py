@@ -38,7 +38,7 @@ def refused_without(crate, edits):
 
 
 def accepted(crate, edits, is_proved):
-    """Those of the edits that are not refused, or whose refusal says nothing, as it comes without them too."""
+    """Those of the edits that are not refused, or whose refusal says nothing, since the function is refused without them too."""
     of_functions = [it for it in edits if it.function]
     found = [it for it in edits if not it.function and crate.is_refused_by_any(it)]
     if of_functions:
