@@ -95,11 +95,19 @@ fn ends_of_the_ranges(rt: HostRuntime) {
     assert!(rt; count_lines(rt.alloc(), ENDS) == Some(6));
 }
 
+// The first count of words of which a load line is read otherwise: 1 to 253 make a line.
+fn first_count_read_otherwise(alloc: Global) -> Option<usize> {
+    for (count, wanted) in [(0, None), (253, Some(true)), (254, None)] {
+        if is_load_written_again(alloc, count) != Ok(wanted) {
+            return Some(count);
+        }
+    }
+    None
+}
+
 #[test]
 fn loads_of_many_words(rt: HostRuntime) {
-    for (count, wanted) in [(0, None), (253, Some(true)), (254, None)] {
-        assert!(rt; is_load_written_again(rt.alloc(), count) == Ok(wanted));
-    }
+    assert_eq!(rt; first_count_read_otherwise(rt.alloc()), None);
 }
 
 // How many texts these are, with this between them, where none of them is read as a line.

@@ -176,5 +176,5 @@ fn first_that_differs(alloc: Global, profile: &Profile) -> Option<&'static str> 
 #[test]
 fn changed_certificates(rt: HostRuntime) {
     let profile = sample(&rt);
-    assert!(rt; first_that_differs(rt.alloc(), &profile).is_none());
+    assert_eq!(rt; first_that_differs(rt.alloc(), &profile), None);
 }

@@ -183,7 +183,9 @@ fn has_no_file(alloc: Global, parts: &str, words: &str) -> Result<bool, Fail> {
 #[test]
 fn two_runs_of_one_recording(rt: HostRuntime) -> Result<(), Fail> {
     for parts in ["HEAD FILLED ASK START", "HEAD LOAD ASK START"] {
-        assert!(rt; has_no_file(rt.alloc(), parts, "RTS CTS SOT")?);
+        if !has_no_file(rt.alloc(), parts, "RTS CTS SOT")? {
+            return Err(Fail::new(parts));
+        }
     }
     Ok(())
 }

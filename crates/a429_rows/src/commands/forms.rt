@@ -84,9 +84,17 @@ const CASES: [(&str, &str); 5] = [
     ),
 ];
 
+// The first recording of which something else is said.
+fn first_that_differs(alloc: Global) -> Option<&'static str> {
+    for (recording, text) in CASES {
+        if !tells(alloc, recording, text) {
+            return Some(recording);
+        }
+    }
+    None
+}
+
 #[test]
 fn words_of_each_form(rt: HostRuntime) {
-    for (recording, text) in CASES {
-        assert!(rt; tells(rt.alloc(), recording, text));
-    }
+    assert_eq!(rt; first_that_differs(rt.alloc()), None);
 }

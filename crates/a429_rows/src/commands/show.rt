@@ -96,19 +96,20 @@ const DISCRETE_WORDS: (&str, &str) = (
 
 const WORDS: [(&str, &str); 4] = [BNR_WORDS, BNR_STATUSES, BCD_WORDS, DISCRETE_WORDS];
 
-// Whether each of these texts is shown of its recording, under the sample profile.
-fn are_shown(alloc: Global, cases: &[(&str, &str)]) -> bool {
-    for (recording, text) in cases {
+// The place of the first recording of which, under the sample profile, another text is shown.
+fn first_shown_otherwise(alloc: Global, cases: &[(&str, &str)]) -> Option<usize> {
+    for place in 0..cases.len() {
+        let (recording, text) = cases[place];
         if !shows(alloc, PROFILE, recording, 1000, text) {
-            return false;
+            return Some(place);
         }
     }
-    true
+    None
 }
 
 #[test]
 fn words_of_each_kind(rt: HostRuntime) {
-    assert!(rt; are_shown(rt.alloc(), &WORDS));
+    assert_eq!(rt; first_shown_otherwise(rt.alloc(), &WORDS), None);
 }
 
 const WITH_A_FAULT: [(&str, &str); 10] = [
@@ -135,7 +136,7 @@ const WITH_A_FAULT: [(&str, &str); 10] = [
 
 #[test]
 fn recordings_with_a_fault(rt: HostRuntime) {
-    assert!(rt; are_shown(rt.alloc(), &WITH_A_FAULT));
+    assert_eq!(rt; first_shown_otherwise(rt.alloc(), &WITH_A_FAULT), None);
 }
 
 // A recording of so many entries.

@@ -70,12 +70,20 @@ const SHORT: [(&str, &str); 3] = [
     ),
 ];
 
+// The first of them that is not upgraded so.
+fn first_not_upgraded(alloc: Global) -> Option<&'static str> {
+    for (one, two) in SHORT {
+        if !gives(alloc, one.as_bytes(), UPGRADED, two.as_bytes()) {
+            return Some(one);
+        }
+    }
+    None
+}
+
 // Nothing else is judged, and no other line is changed.
 #[test]
 fn the_rest_is_as_it_was(rt: HostRuntime) {
-    for (one, two) in SHORT {
-        assert!(rt; gives(rt.alloc(), one.as_bytes(), UPGRADED, two.as_bytes()));
-    }
+    assert_eq!(rt; first_not_upgraded(rt.alloc()), None);
 }
 
 // The first line of a version, and so many bytes that are no text.
@@ -94,11 +102,19 @@ fn is_long_upgraded(alloc: Global, length: usize) -> Result<bool, AllocError> {
     Ok(gives(alloc, one.as_slice(), UPGRADED, two.as_slice()))
 }
 
+// The first of these lengths of which that is not so.
+fn first_length_not_upgraded(alloc: Global) -> Option<usize> {
+    for length in [4095, 4096, 4097, 10_000] {
+        if is_long_upgraded(alloc, length) != Ok(true) {
+            return Some(length);
+        }
+    }
+    None
+}
+
 #[test]
 fn a_long_one(rt: HostRuntime) {
-    for length in [4095, 4096, 4097, 10_000] {
-        assert!(rt; is_long_upgraded(rt.alloc(), length) == Ok(true));
-    }
+    assert_eq!(rt; first_length_not_upgraded(rt.alloc()), None);
 }
 
 const NO_VERSIONS: [&str; 9] = [
@@ -113,11 +129,19 @@ const NO_VERSIONS: [&str; 9] = [
     "ARINC429-CERT 1\nfirst 1\n",
 ];
 
+// The first of them that is taken for a version.
+fn first_taken_for_a_version(alloc: Global) -> Option<&'static str> {
+    for bytes in NO_VERSIONS {
+        if !gives(alloc, bytes.as_bytes(), NO_VERSION, b"") {
+            return Some(bytes);
+        }
+    }
+    None
+}
+
 #[test]
 fn no_version(rt: HostRuntime) {
-    for bytes in NO_VERSIONS {
-        assert!(rt; gives(rt.alloc(), bytes.as_bytes(), NO_VERSION, b""));
-    }
+    assert_eq!(rt; first_taken_for_a_version(rt.alloc()), None);
 }
 
 // Whether this is told of the certificate, of which so many bytes may be read.

@@ -28,11 +28,19 @@ const CASES: [(&str, &str, &str); 5] = [
     ("", "", "2\nNO version\n"),
 ];
 
+// The verdict wanted of the first of them that has another.
+fn first_that_differs(alloc: Global) -> Option<&'static str> {
+    for (recording, certificate, verdict) in CASES {
+        if !verdict_is(alloc, recording, certificate, verdict) {
+            return Some(verdict);
+        }
+    }
+    None
+}
+
 #[test]
 fn accepted_and_refused(rt: HostRuntime) {
-    for (recording, certificate, verdict) in CASES {
-        assert!(rt; verdict_is(rt.alloc(), recording, certificate, verdict));
-    }
+    assert_eq!(rt; first_that_differs(rt.alloc()), None);
 }
 
 // This is the verdict of the certificate with changes.
@@ -99,12 +107,20 @@ const CUT_OFF: [(&str, &str); 4] = [
     ("b W Q 0 1\ng I Q 0 0\n", "2\nNO unfinished 5\n"),
 ];
 
+// The verdict wanted of the first of them that has another.
+fn first_cut_off_that_differs(alloc: Global) -> Option<&'static str> {
+    for (end, verdict) in CUT_OFF {
+        if !without(alloc, end, verdict) {
+            return Some(verdict);
+        }
+    }
+    None
+}
+
 // The answer is recorded in the last line but one, and taken in the last.
 #[test]
 fn cut_off(rt: HostRuntime) {
-    for (end, verdict) in CUT_OFF {
-        assert!(rt; without(rt.alloc(), end, verdict));
-    }
+    assert_eq!(rt; first_cut_off_that_differs(rt.alloc()), None);
 }
 
 // This is the verdict of a certificate on the recording with changes.

@@ -20,19 +20,19 @@ const RECORDED: [(Bus, u32, bool); 8] = [
     (Bus::A, SOT, false),
 ];
 
-// Whether an observer of these words allows those alone of which it is said.
-fn allows_as_said(alloc: Global, profile: &Profile) -> bool {
+// The first of these words, and whether it may follow, of which an observer says something else.
+fn first_that_differs(alloc: Global, profile: &Profile) -> Option<(u32, bool)> {
     let mut observer = Observer::new(alloc);
     for (bus, number, allowed) in RECORDED {
         if observer.see(profile, seen(bus, number)).is_ok() != allowed {
-            return false;
+            return Some((number, allowed));
         }
     }
-    true
+    None
 }
 
 #[test]
 fn words_that_are_not_granted(rt: HostRuntime) {
     let profile = sample(&rt);
-    assert!(rt; allows_as_said(rt.alloc(), &profile));
+    assert_eq!(rt; first_that_differs(rt.alloc(), &profile), None);
 }

@@ -80,11 +80,19 @@ fn answer_to(len: usize) -> Result<usize, ReadFault> {
     }
 }
 
+// The first length that is answered in another way.
+fn first_length_that_differs(alloc: Global) -> Option<usize> {
+    for len in 0..=PACKED.len() {
+        if count_in(alloc, &PACKED[..len]) != answer_to(len) {
+            return Some(len);
+        }
+    }
+    None
+}
+
 #[test]
 fn cut_at_each_byte(rt: HostRuntime) {
-    for len in 0..=PACKED.len() {
-        assert!(rt; count_in(rt.alloc(), &PACKED[..len]) == answer_to(len));
-    }
+    assert_eq!(rt; first_length_that_differs(rt.alloc()), None);
 }
 
 const CHANGED: [(usize, &[u8], ReadFault); 7] = [
@@ -97,21 +105,41 @@ const CHANGED: [(usize, &[u8], ReadFault); 7] = [
     (0, b"a", ReadFault::Header),
 ];
 
+// The place of the first change with another fault, and the fault that it should have.
+fn first_other_fault(alloc: Global) -> Option<(usize, ReadFault)> {
+    for (place, bytes, fault) in CHANGED {
+        if count_with(alloc, place, bytes) != Err(fault) {
+            return Some((place, fault));
+        }
+    }
+    None
+}
+
 #[test]
 fn changed_bytes(rt: HostRuntime) {
-    for (place, bytes, fault) in CHANGED {
-        assert!(rt; count_with(rt.alloc(), place, bytes) == Err(fault));
+    assert_eq!(rt; first_other_fault(rt.alloc()), None);
+}
+
+// What is answered where the reader fails at a call.
+fn count_shaken(alloc: Global, fails_at: u32) -> Result<usize, ReadFault> {
+    let mut rec = Tally::new(Shaky::new(PACKED, fails_at), 1000);
+    count(alloc, &mut rec)
+}
+
+// The first call at which the reader fails unseen: the recording takes 87 calls.
+fn first_call_unseen(alloc: Global) -> Option<u32> {
+    for call in 1..100 {
+        if count_shaken(alloc, call) != Err(ReadFault::Device) {
+            return Some(call);
+        }
     }
+    None
 }
 
 #[test]
 fn readers_that_fail_at_each_call(rt: HostRuntime) {
-    for call in 1..88 {
-        let mut rec = Tally::new(Shaky::new(PACKED, call), 1000);
-        assert!(rt; count(rt.alloc(), &mut rec) == Err(ReadFault::Device));
-    }
-    let mut rec = Tally::new(Shaky::new(PACKED, 88), 1000);
-    assert!(rt; count(rt.alloc(), &mut rec) == Ok(6));
+    assert_eq!(rt; first_call_unseen(rt.alloc()), Some(88));
+    assert!(rt; count_shaken(rt.alloc(), 88) == Ok(6));
 }
 
 // What a reader answers that fails behind these bytes.
@@ -127,11 +155,19 @@ const BEFORE_FAILURE: [(&[u8], ReadFault); 5] = [
     (b"A4\n", ReadFault::Header),
 ];
 
+// The length of the first of them with another fault.
+fn first_other_fault_before_failure(alloc: Global) -> Option<usize> {
+    for (bytes, fault) in BEFORE_FAILURE {
+        if fails_behind(alloc, bytes) != Err(fault) {
+            return Some(bytes.len());
+        }
+    }
+    None
+}
+
 #[test]
 fn a_fault_before_the_reader_fails(rt: HostRuntime) {
-    for (bytes, fault) in BEFORE_FAILURE {
-        assert!(rt; fails_behind(rt.alloc(), bytes) == Err(fault));
-    }
+    assert_eq!(rt; first_other_fault_before_failure(rt.alloc()), None);
 }
 
 #[test]
@@ -169,10 +205,18 @@ fn pack_within(alloc: Global, room: usize) -> Result<(), Device> {
     )
 }
 
+// The first room in which that recording, of 21 bytes, is written without a failure.
+fn first_room_that_is_enough(alloc: Global) -> Option<usize> {
+    for room in 0..30 {
+        if pack_within(alloc, room) != Err(Device) {
+            return Some(room);
+        }
+    }
+    None
+}
+
 #[test]
 fn writers_that_fail(rt: HostRuntime) {
-    for room in 0..21 {
-        assert!(rt; pack_within(rt.alloc(), room) == Err(Device));
-    }
+    assert_eq!(rt; first_room_that_is_enough(rt.alloc()), Some(21));
     assert!(rt; pack_within(rt.alloc(), 21) == Ok(()));
 }

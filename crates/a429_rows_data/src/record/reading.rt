@@ -50,21 +50,21 @@ const TWO_ENTRIES: [&[u8]; 3] = [
     b"7,A,C1410223\n\"18446744073709551615\",B,00000000\r",
 ];
 
-// Whether all of these rows are read as these entries.
-fn are_all_read(alloc: Global, rows: &[&[u8]], entries: &[Entry]) -> bool {
-    for row in rows {
-        if !are_read(alloc, row, entries) {
-            return false;
+// The place of the first of these rows that are not read as these entries.
+fn first_not_read(alloc: Global, rows: &[&[u8]], entries: &[Entry]) -> Option<usize> {
+    for place in 0..rows.len() {
+        if !are_read(alloc, rows[place], entries) {
+            return Some(place);
         }
     }
-    true
+    None
 }
 
 #[test]
 fn rows_of_entries(rt: HostRuntime) {
     let entries = [entry(7, Bus::A, 0xC141_0223), entry(u64::MAX, Bus::B, 0)];
-    assert!(rt; are_all_read(rt.alloc(), &ONE_ENTRY, &entries[..1]));
-    assert!(rt; are_all_read(rt.alloc(), &TWO_ENTRIES, &entries));
+    assert_eq!(rt; first_not_read(rt.alloc(), &ONE_ENTRY, &entries[..1]), None);
+    assert_eq!(rt; first_not_read(rt.alloc(), &TWO_ENTRIES, &entries), None);
 }
 
 const NO_ENTRIES: &[&[u8]] = &[
@@ -94,11 +94,19 @@ const NO_ENTRIES: &[&[u8]] = &[
     b"time,bus,word\n",
 ];
 
+// The place of the first of them that is not the fault of row 0.
+fn first_without_a_fault(alloc: Global) -> Option<usize> {
+    for place in 0..NO_ENTRIES.len() {
+        if count_in_rows(alloc, NO_ENTRIES[place]) != Err(ReadFault::Row(0)) {
+            return Some(place);
+        }
+    }
+    None
+}
+
 #[test]
 fn rows_that_are_no_entries(rt: HostRuntime) {
-    for row in NO_ENTRIES {
-        assert!(rt; count_in_rows(rt.alloc(), row) == Err(ReadFault::Row(0)));
-    }
+    assert_eq!(rt; first_without_a_fault(rt.alloc()), None);
 }
 
 // The second row has a fault, or a time falls.
@@ -111,11 +119,19 @@ const LATER_FAULTS: [(&[u8], ReadFault); 3] = [
     ),
 ];
 
+// The fault of the first of them that is read in another way.
+fn first_other_fault(alloc: Global) -> Option<ReadFault> {
+    for (rows, fault) in LATER_FAULTS {
+        if count_in_rows(alloc, rows) != Err(fault) {
+            return Some(fault);
+        }
+    }
+    None
+}
+
 #[test]
 fn faults_of_later_rows(rt: HostRuntime) {
-    for (rows, fault) in LATER_FAULTS {
-        assert!(rt; count_in_rows(rt.alloc(), rows) == Err(fault));
-    }
+    assert_eq!(rt; first_other_fault(rt.alloc()), None);
 }
 
 const HEADERS: [&[u8]; 5] = [
@@ -126,11 +142,23 @@ const HEADERS: [&[u8]; 5] = [
     b"\xEF\xBB\xBFtime,bus,word\n",
 ];
 
+// The place of the first of these texts that is read in another way.
+fn first_not_read_as(
+    alloc: Global,
+    texts: &[&[u8]],
+    wanted: Result<usize, ReadFault>,
+) -> Option<usize> {
+    for place in 0..texts.len() {
+        if count_in(alloc, texts[place]) != wanted {
+            return Some(place);
+        }
+    }
+    None
+}
+
 #[test]
 fn headers(rt: HostRuntime) {
-    for text in HEADERS {
-        assert!(rt; count_in(rt.alloc(), text) == Ok(0));
-    }
+    assert_eq!(rt; first_not_read_as(rt.alloc(), &HEADERS, Ok(0)), None);
 }
 
 const NO_HEADERS: [&[u8]; 10] = [
@@ -148,9 +176,8 @@ const NO_HEADERS: [&[u8]; 10] = [
 
 #[test]
 fn texts_with_no_header(rt: HostRuntime) {
-    for text in NO_HEADERS {
-        assert!(rt; count_in(rt.alloc(), text) == Err(ReadFault::Header));
-    }
+    let fault = Err(ReadFault::Header);
+    assert_eq!(rt; first_not_read_as(rt.alloc(), &NO_HEADERS, fault), None);
 }
 
 #[test]
@@ -164,17 +191,30 @@ fn a_million_and_one_entries(rt: HostRuntime) {
     assert!(rt; !rec.failed());
 }
 
+// Whether a text that begins so and then has digits without end is read up to the limit on its bytes.
+fn is_endless(alloc: Global, begins: &[u8]) -> bool {
+    let digits = Endless {
+        next: begins,
+        again: b"99999999",
+    };
+    let mut rec = Tally::new(digits, 100_000);
+    count(alloc, &mut rec) == Err(ReadFault::Device) && rec.failed()
+}
+
+// The first beginning of which that is not so.
+fn first_that_ends(alloc: Global) -> Option<&'static str> {
+    for begins in ["", "time,bus,word\n", "time,bus,word\n\""] {
+        if !is_endless(alloc, begins.as_bytes()) {
+            return Some(begins);
+        }
+    }
+    None
+}
+
 // A row, and a field, that do not end: the limit on the bytes is met first.
 #[test]
 fn endless_lines(rt: HostRuntime) {
-    for begins in [b"".as_slice(), b"time,bus,word\n", b"time,bus,word\n\""] {
-        let digits = Endless {
-            next: begins,
-            again: b"99999999",
-        };
-        let mut rec = Tally::new(digits, 100_000);
-        assert!(rt; count(rt.alloc(), &mut rec) == Err(ReadFault::Device) && rec.failed());
-    }
+    assert_eq!(rt; first_that_ends(rt.alloc()), None);
 }
 
 // What a reading of a text answers under a cap, and whether the reader has failed then.
@@ -204,18 +244,30 @@ fn shaken(
     (first, failed, count(alloc, &mut rec))
 }
 
-#[test]
-fn pieces_and_failures(rt: HostRuntime) {
+// Whether a failure at a call is met where it comes first: the bad row has its line feed as byte 40.
+fn is_met(alloc: Global, fails_at: u32) -> bool {
     let device = Err(ReadFault::Device);
-    // The bad row has its line feed as byte 40; before that the failure is met first.
+    let (first, failed, second) = shaken(alloc, fails_at);
+    if 0 < fails_at && fails_at <= 40 {
+        failed && first == device && second == device
+    } else {
+        !failed && first == Err(ReadFault::Row(1))
+    }
+}
+
+// The first call for which that is not so.
+fn first_not_met(alloc: Global) -> Option<u32> {
     for fails_at in 0..44 {
-        let (first, failed, second) = shaken(rt.alloc(), fails_at);
-        if 0 < fails_at && fails_at <= 40 {
-            assert!(rt; failed && first == device && second == device);
-        } else {
-            assert!(rt; !failed && first == Err(ReadFault::Row(1)));
+        if !is_met(alloc, fails_at) {
+            return Some(fails_at);
         }
     }
+    None
+}
+
+#[test]
+fn pieces_and_failures(rt: HostRuntime) {
+    assert_eq!(rt; first_not_met(rt.alloc()), None);
 }
 
 // Puts so many of a byte behind some bytes.

@@ -27,15 +27,23 @@ const READ: [(u32, u8, Result<u32, u8>); 10] = [
     (0xffff_ffff, 1, Ok(7)),
 ];
 
-#[test]
-fn digits_of_known_words(rt: HostRuntime) {
+// The first of them with other digits, and how many are read.
+fn first_with_other_digits() -> Option<(u32, u8)> {
     for (number, count, wanted) in READ {
-        assert!(rt; digits(number, count) == Some(wanted));
+        if digits(number, count) != Some(wanted) {
+            return Some((number, count));
+        }
     }
+    None
 }
 
 #[test]
-fn words_of_known_digits(rt: HostRuntime) {
+fn digits_of_known_words(rt: HostRuntime) {
+    assert_eq!(rt; first_with_other_digits(), None);
+}
+
+// The first word that its digits do not make.
+fn first_not_made_of_its_digits() -> Option<u32> {
     let cases = [
         (0, 5, 12345, 0x048d_1481),
         (1, 5, 12345, 0xa48d_1481),
@@ -46,6 +54,14 @@ fn words_of_known_digits(rt: HostRuntime) {
     ];
     for (ssm, count, value, number) in cases {
         let word = Word::bcd_word(0o201, 0, ssm, count, value);
-        assert!(rt; word.to_u32() == number);
+        if word.to_u32() != number {
+            return Some(number);
+        }
     }
+    None
+}
+
+#[test]
+fn words_of_known_digits(rt: HostRuntime) {
+    assert_eq!(rt; first_not_made_of_its_digits(), None);
 }

@@ -27,19 +27,34 @@ const FIELDS: [(u32, u8, u8, u32, u8, bool); 5] = [
     (0, 0, 0, 0, 0, false),
 ];
 
+// The first of them with other fields.
+fn first_with_other_fields() -> Option<u32> {
+    for word in FIELDS {
+        if fields(word.0) != word {
+            return Some(word.0);
+        }
+    }
+    None
+}
+
 #[test]
 fn fields_of_known_words(rt: HostRuntime) {
-    for word in FIELDS {
-        assert!(rt; fields(word.0) == word);
+    assert_eq!(rt; first_with_other_fields(), None);
+}
+
+// The first bit of a word that is not 1 at the ends and 0 between them.
+fn first_other_bit(word: Word) -> Option<u8> {
+    for n in 1..33 {
+        if word.bit(n) != (n == 1 || n == 32) {
+            return Some(n);
+        }
     }
+    None
 }
 
 #[test]
 fn bits_are_numbered_from_1(rt: HostRuntime) {
-    let word = Word::from_u32(0x8000_0001);
-    for n in 1..33 {
-        assert!(rt; word.bit(n) == (n == 1 || n == 32));
-    }
+    assert_eq!(rt; first_other_bit(Word::from_u32(0x8000_0001)), None);
 }
 
 // The raw number of a word with 1 to 18 significant bits.
@@ -63,15 +78,23 @@ const RAW_READ: [(u32, u8, i32); 10] = [
     (0x0800_0000, 1, 1),
 ];
 
-#[test]
-fn raw_numbers(rt: HostRuntime) {
+// The first of them with another raw number.
+fn first_with_another_raw() -> Option<u32> {
     for (number, bits, wanted) in RAW_READ {
-        assert!(rt; raw(number, bits) == Some(wanted));
+        if raw(number, bits) != Some(wanted) {
+            return Some(number);
+        }
     }
+    None
 }
 
 #[test]
-fn words_of_known_raw_numbers(rt: HostRuntime) {
+fn raw_numbers(rt: HostRuntime) {
+    assert_eq!(rt; first_with_another_raw(), None);
+}
+
+// The first word that its raw number does not make.
+fn first_not_made_of_its_raw() -> Option<u32> {
     let cases = [
         (0o203, 3, 18, 20000, 0xe138_80c1),
         (0o203, 3, 17, 10000, 0xe138_80c1),
@@ -84,12 +107,20 @@ fn words_of_known_raw_numbers(rt: HostRuntime) {
     ];
     for (label, ssm, bits, raw, number) in cases {
         let word = Word::bnr_word(label, 0, ssm, bits, raw);
-        assert!(rt; word.to_u32() == number);
+        if word.to_u32() != number {
+            return Some(number);
+        }
     }
+    None
 }
 
 #[test]
-fn words_of_their_parts(rt: HostRuntime) {
+fn words_of_known_raw_numbers(rt: HostRuntime) {
+    assert_eq!(rt; first_not_made_of_its_raw(), None);
+}
+
+// The first word that its parts do not make.
+fn first_not_made_of_its_parts() -> Option<u32> {
     let cases = [
         (0o203, 0, 20000, 3, 0xe138_80c1),
         (0o304, 3, 0x5040, 2, 0x4141_0323),
@@ -99,8 +130,16 @@ fn words_of_their_parts(rt: HostRuntime) {
     ];
     for (label, sdi, field, ssm, number) in cases {
         let word = Word::with_parity(label, sdi, field, ssm);
-        assert!(rt; word.to_u32() == number);
+        if word.to_u32() != number {
+            return Some(number);
+        }
     }
+    None
+}
+
+#[test]
+fn words_of_their_parts(rt: HostRuntime) {
+    assert_eq!(rt; first_not_made_of_its_parts(), None);
 }
 
 // The number of the word that a text writes.
@@ -109,51 +148,83 @@ fn read_hex(text: &[u8]) -> Option<u32> {
     Some(word.to_u32())
 }
 
-const TEXTS: [([u8; 8], u32); 3] = [
-    (*b"E13880C1", 0xe138_80c1),
-    (*b"e13880c1", 0xe138_80c1),
-    (*b"00000000", 0),
+// The first number that is written in another way.
+fn first_written_otherwise() -> Option<u32> {
+    for (number, text) in [(0xe138_80c1, *b"E13880C1"), (0x0000_9aaf, *b"00009AAF")] {
+        if Word::from_u32(number).hex() != text {
+            return Some(number);
+        }
+    }
+    None
+}
+
+const TEXTS: [(&str, u32); 3] = [
+    ("E13880C1", 0xe138_80c1),
+    ("e13880c1", 0xe138_80c1),
+    ("00000000", 0),
 ];
+
+// The first text that is read as another word.
+fn first_read_otherwise() -> Option<&'static str> {
+    for (text, number) in TEXTS {
+        if read_hex(text.as_bytes()) != Some(number) {
+            return Some(text);
+        }
+    }
+    None
+}
 
 #[test]
 fn hexadecimal(rt: HostRuntime) {
-    for (number, text) in [(0xe138_80c1, *b"E13880C1"), (0x0000_9aaf, *b"00009AAF")] {
-        assert!(rt; Word::from_u32(number).hex() == text);
-    }
-    for (text, number) in TEXTS {
-        assert!(rt; read_hex(&text) == Some(number));
-    }
+    assert_eq!(rt; first_written_otherwise(), None);
+    assert_eq!(rt; first_read_otherwise(), None);
 }
 
-const NO_WORDS: [&[u8]; 9] = [
-    b"",
-    b"E13880C",
-    b"E13880C10",
-    b"E13880G1",
-    b"+13880C1",
-    b" 13880C1",
-    b"0xE13880",
-    b"E13880C\n",
-    b"\xef\xbc\xa1880C1",
+const NO_WORDS: [&str; 9] = [
+    "",
+    "E13880C",
+    "E13880C10",
+    "E13880G1",
+    "+13880C1",
+    " 13880C1",
+    "0xE13880",
+    "E13880C\n",
+    "\u{ff21}880C1",
 ];
+
+// The first of them that is read as a word.
+fn first_that_is_read() -> Option<&'static str> {
+    for text in NO_WORDS {
+        if read_hex(text.as_bytes()).is_some() {
+            return Some(text);
+        }
+    }
+    None
+}
 
 #[test]
 fn texts_that_are_no_words(rt: HostRuntime) {
-    for text in NO_WORDS {
-        assert!(rt; read_hex(text).is_none());
-    }
+    assert_eq!(rt; first_that_is_read(), None);
 }
 
-#[test]
-fn labels_in_octal(rt: HostRuntime) {
+// The first label that is written in another way.
+fn first_label_written_otherwise() -> Option<u8> {
     for (label, text) in [
         (0, *b"000"),
         (0o203, *b"203"),
         (0o377, *b"377"),
         (8, *b"010"),
     ] {
-        assert!(rt; octal(label) == text);
+        if octal(label) != text {
+            return Some(label);
+        }
     }
+    None
+}
+
+#[test]
+fn labels_in_octal(rt: HostRuntime) {
+    assert_eq!(rt; first_label_written_otherwise(), None);
 }
 
 #[test]
