@@ -85,9 +85,9 @@ module _ (profile : List ℕ) (p : Contents) (parts : Readers) (shelf : Shelved)
   -- the verdict was not written
   verdict_left : (a : Result (Vec (ℕ × ℕ) Global) CertFault) → IfOk a (SaysYes p parts.certificate parts.recording shelf.before shelf.after) → IfErr a (SaysNo p parts.certificate parts.recording shelf.before shelf.after)
       → Leaves profile parts shelf listener Failed run.Device
-  verdict_left (Ok files) here there = (Ok files.items, record { contents = p; is_profile = is; is = here; place = tt }, inr (0, yes_text files.items, refl, refl))
+  verdict_left (Ok files) here there = (Ok files.items, record { contents = p; is_profile = is; is = here; place = tt }, inr (0, yes_text files.items, (refl, refl)))
   verdict_left (Err f) here there =
-      (Err (stream.Cert f), record { contents = p; is_profile = is; is = there.0; place = cert_place p parts shelf listener f there.0 }, inr (2, no_text f, refl, refl, there.1))
+      (Err (stream.Cert f), record { contents = p; is_profile = is; is = there.0; place = cert_place p parts shelf listener f there.0 }, inr (2, no_text f, (refl, refl, there.1)))
 
 pub left_by_output : (p : Contents) (parts : Readers) (shelf : Shelved) (listener : Bool) (Failed : Type 0) (a : Result (Vec (ℕ × ℕ) Global) CertFault) (r : Result ℕ RunFault) (out : Bool)
     → IfOk a (SaysYes p parts.certificate parts.recording shelf.before shelf.after) → IfErr a (SaysNo p parts.certificate parts.recording shelf.before shelf.after) → IfErr r (λ e. (e ≡ run.Device) × (out ≡ true))

@@ -1,4 +1,5 @@
 use Rattle.std.proofs.Common.{false, refl, arith}
+use Rattle.std.proofs.lemmas.Result.{err_from_is_err_and}
 use Rattle.a429_word.specs.Tally.{has_failed, unread}
 use Rattle.a429_cert.specs.BreakOff.{readers, shelved}
 use Rattle.a429_check.specs.Extract.{Leaves}
@@ -35,6 +36,7 @@ returns-clause-files g c =
 pub returns-in_err-profile-clause-files : goal.returns-in_err-profile-clause-files
 returns-in_err-profile-clause-files g c =
     let shelf = c.args.shelf.now in
-    let n = c.args.rec.now.count in
-    left_by_profile c.args.profile.now (readers g.C.Read.remaining c.args.cert.now c.args.cert.now c.args.rec.now c.args.rec.now) (shelved g.S.Shelf.files g.S.Failing.failed shelf shelf) false
-    (HasFailed c.args.rec.now.failed (has_failed c.args.cert.now) (g.S.Failing.failed shelf)) c.in_err-profile.error c.in_err-profile.ensures.err (refl, omega (arith), unchanged (g.S.Shelf.files shelf))
+    let p = err_from_is_err_and c.from_residual.result c.from_residual.ensures.1 in
+    rw (p.1, p.2)
+    (left_by_profile c.args.profile.now (readers g.C.Read.remaining c.args.cert.now c.args.cert.now c.args.rec.now c.args.rec.now) (shelved g.S.Shelf.files g.S.Failing.failed shelf shelf) false
+    (HasFailed c.args.rec.now.failed (has_failed c.args.cert.now) (g.S.Failing.failed shelf)) _ c.in_err-profile.ensures.err (refl, omega (arith), unchanged (g.S.Shelf.files shelf)))
