@@ -27,4 +27,5 @@ pub mod ToldFacts
 pub mod ToldRefused
 pub mod StreamLine
 pub mod StreamEndFacts
+pub mod BreakOffFacts
 pub mod EarlierFiles

@@ -58,6 +58,19 @@ grown None b before ahead new got e f h = tt
 grown (Some x) None before ahead new got e f h = absurd h
 grown (Some x) (Some y) before ahead new got e f h = rw (f, h, e) (append_assoc before got y)
 
+-- where none are read, that stays
+pub none_behind : (buffer got : List ℕ) (k next filled : ℕ) → next ≡ 0 → length (take (filled - next) (drop next buffer)) ≡ filled
+    → take (filled - next) (drop next (put_mid filled k buffer got)) ≡ take (filled - next) (drop next buffer)
+none_behind buffer got k next filled none whole =
+    let same : filled - next ≡ filled + 0 - next = omega arith in
+    ap (λ n. take n (drop next (put_mid filled k buffer got))) same ∙ read_behind buffer got k next filled 0 none whole (omega arith) ∙ append-nil (take (filled - next) (drop next buffer))
+
+-- a read that fails takes nothing
+pub none_lost : (a b : Option (List ℕ)) (before new : List ℕ) → new ≡ before → Keeps a b → Keeps (prepend_known before a) (prepend_known new b)
+none_lost None b before new e h = tt
+none_lost (Some x) None before new e h = absurd h
+none_lost (Some x) (Some y) before new e h = rw (e, h) refl
+
 -- nothing was read
 pub none_grown : (got new ahead before : List ℕ) (n : ℕ) → nat_lt 0 n ≡ false → new ≡ ahead ++ take n got → ahead ≡ before → new ≡ before
 none_grown got new ahead before n none e f =

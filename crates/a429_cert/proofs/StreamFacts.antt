@@ -1,5 +1,5 @@
 -- A line that is held against a recording that is read as it comes.
-use Rattle.std.proofs.Common.{◌≡◌, ◌<◌, ◌≤◌, ◌+◌, ◌∙◌, ℕ, zero, suc, List, [], ◌∷◌, Option, Some, None, refl, sym, ap, subst, arith, append-nil, append_assoc, length-append, length, take, ◌++◌}
+use Rattle.std.proofs.Common.{◌≡◌, ◌⊎◌, inl, inr, ◌<◌, ◌≤◌, ◌+◌, ◌∙◌, ℕ, zero, suc, List, [], ◌∷◌, Option, Some, None, option_map, refl, sym, ap, subst, arith, append-nil, append_assoc, length-append, length, take, ◌++◌}
 use Rattle.std.proofs.lemmas.List.{length-map, map-append}
 use Rattle.a429_profile.specs.Profile.{Contents}
 use Rattle.a429_link.specs.declared.seen.Seen.{Seen}
@@ -15,7 +15,11 @@ use Rattle.a429_cert.specs.declared.listed.Listed.TheVariants as listed
 use Rattle.a429_cert.specs.declared.fault.CertFault.{CertFault}
 use Rattle.a429_cert.specs.declared.fault.CertFault.TheVariants as of
 use Rattle.a429_cert.specs.Act.{step_with, uses_of}
-use Rattle.a429_cert.specs.Explained.{step_of}
+use Rattle.a429_cert.specs.Explained.{seen_of, step_of}
+use Rattle.a429_record.specs.declared.entry.Entry.{Entry}
+use Rattle.a429_record.specs.declared.fault.ReadFault.{ReadFault}
+use Rattle.a429_record.specs.declared.fault.ReadFault.TheVariants as read
+use Rattle.a429_cert.specs.declared.stream.Walk.{Walk}
 use Rattle.a429_cert.specs.Fault.{CanBe, IsNamed}
 use Rattle.a429_cert.specs.Passing.{uses, uses_listed, IsStepOfLine, MakesStep, PassesListed, IsFaultOfRead, RefusesListed, RefusesFirst, Lists, IsReady, IsReadyOf, IsNamedOf}
 use Rattle.a429_cert.specs.declared.stream_fault.StreamFault.{StreamFault}
@@ -24,7 +28,7 @@ use Rattle.a429_cert.specs.declared.line.MovedLine.{MovedLine}
 use Rattle.a429_cert.specs.declared.shelf.PutFile.{PutFile}
 use Rattle.a429_link.specs.declared.file.FileBytes.{FileBytes}
 use Rattle.a429_cert.specs.Shelf.{Gains, IsUnchanged}
-use Rattle.a429_cert.specs.Stream.{next_of, TakesNext, PassesNext, RefusesNext, HasEnd, of_cert, RefusesOver, placed, GainsAll, GainsFront, sizes}
+use Rattle.a429_cert.specs.Stream.{next_of, TakesNext, PassesNext, RefusesNext, HasEnd, of_cert, of_read, RefusesOver, WantsEntry, GivesFor, GivesAtFault, IsNotTaken, placed, GainsAll, GainsFront, sizes}
 use Rattle.a429_cert.proofs.PassingText.{fault-listed}
 
 -- ---- the line of a step, and the entries that it uses
@@ -233,6 +237,68 @@ first_refused p text s r n i (of.WordDiffers m j) h =
 pub refused_first : (p : Contents) (text : Option (List ℕ)) (s : State) (old : Option Recording) (n i : ℕ) (f : CertFault) → RefusesFirst p text n s f → RefusesOver p text s old n i (of_cert f)
 refused_first p text s None n i f h = tt
 refused_first p text s (Some r) n i f h = first_refused p text s r n i f h
+
+-- ---- how many entries a reader has given
+
+-- a line that passes uses those that were given for it
+pub used_given : (p : Contents) (x : Listed) (next : Option Entry) (s t : State) (used old new : ℕ) → GivesFor (uses_listed x) next old new → PassesListed p x (option_map seen_of next) s t used → new ≡ old + used
+used_given p x (Some e) s t used old new g h =
+    let u = used_is p x (Some (seen_of e)) s t used h in omega (arith, g.0, g.1, u)
+used_given p x None s t used old new g h = by (uses_listed x) refl
+  where
+    by : (n : ℕ) → uses_listed x ≡ n → new ≡ old + used
+    by zero e = let u = used_is p x None s t used h in omega (arith, g, u, e)
+    by (suc n) e =
+        let l = line_of x in
+        let one : uses l.0 ≡ 1 = let u = same_uses x l.0 l.1 in let few = listed_few x in omega (arith, u, few, e) in
+        absurd (no_step p (step_of l.0 None) s t (wants l.0 one) (h l.0 l.1).0)
+
+-- one at most, to a step that uses one
+pub most_given : (uses : ℕ) (next : Option Entry) (old new : ℕ) → GivesFor uses next old new → (new ≡ old) ⊎ ((uses ≡ 1) × (new ≡ old + 1))
+most_given uses None old new g = inl g
+most_given uses (Some e) old new g = inr g
+
+-- none at a fault of the recording
+pub none_given : (Wants : Type 0) (f : ReadFault) (old new : ℕ) → new ≡ old → GivesAtFault Wants (of_read f) old new
+none_given Wants read.Header old new e = e
+none_given Wants (read.Row i) old new e = e
+none_given Wants (read.TimeBack i) old new e = e
+none_given Wants read.TooMany old new e = e
+none_given Wants read.Device old new e = e
+none_given Wants read.OutOfMemory old new e = inl e
+none_given Wants read.Failed old new e = e
+
+pub cert_given : (Wants : Type 0) (f : CertFault) (old new : ℕ) → (new ≡ old) ⊎ (Wants × (new ≡ old + 1)) → GivesAtFault Wants (of_cert f) old new
+cert_given Wants of.Version old new h = h
+cert_given Wants (of.Line m) old new h = h
+cert_given Wants (of.NotAllowed m) old new h = h
+cert_given Wants (of.StateDiffers m) old new h = h
+cert_given Wants (of.WordDiffers m j) old new h = h
+cert_given Wants (of.Unfinished j) old new h = h
+cert_given Wants of.OutOfMemory old new h = h
+
+pub not_taken_given : (walk : Walk) (x : Listed) (next : Option Seen) (Wants : Type 0) (f : StreamFault) (old new : ℕ) → IsNotTaken walk x next f → (new ≡ old) ⊎ (Wants × (new ≡ old + 1)) → GivesAtFault Wants f old new
+not_taken_given walk x next Wants (stream.Cert f) old new m h = h
+not_taken_given walk x next Wants (stream.Read f) old new m h = absurd m
+not_taken_given walk x next Wants stream.Device old new m h = h
+not_taken_given walk x next Wants stream.OutOfMemory old new m h = h
+
+most_more : (A B : Type 0) (old new : ℕ) → (A → B) → (new ≡ old) ⊎ (A × (new ≡ old + 1)) → (new ≡ old) ⊎ (B × (new ≡ old + 1))
+most_more A B old new f (inl e) = inl e
+most_more A B old new f (inr h) = inr (f h.0, h.1)
+
+-- the line wants the entry that its step uses
+pub line_given : (p : Contents) (text : Option (List ℕ)) (x : Listed) (s : State) (f : StreamFault) (old new : ℕ) → Lists p text x s → GivesAtFault (uses_listed x ≡ 1) f old new → GivesAtFault (WantsEntry p text s) f old new
+line_given p text x s f old new h g = by f g
+  where
+    wanted : uses_listed x ≡ 1 → WantsEntry p text s
+    wanted e = (h.0, h.1, same_uses x h.0 h.2 ∙ e, named p x h.0 s h.2 e h.3)
+
+    by : (f : StreamFault) → GivesAtFault (uses_listed x ≡ 1) f old new → GivesAtFault (WantsEntry p text s) f old new
+    by (stream.Cert f) g = most_more (uses_listed x ≡ 1) (WantsEntry p text s) old new wanted g
+    by (stream.Read f) g = g
+    by stream.Device g = most_more (uses_listed x ≡ 1) (WantsEntry p text s) old new wanted g
+    by stream.OutOfMemory g = most_more (uses_listed x ≡ 1) (WantsEntry p text s) old new wanted g
 
 -- ---- files that are put
 

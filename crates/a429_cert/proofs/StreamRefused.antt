@@ -51,7 +51,7 @@ line_fault p s next n i line of.OutOfMemory h = (h.0, says_back line h.0 h.1, h.
 
 -- ---- a fault where a walk stands
 
-delivers : (p : Contents) (d : Head) (k i : ℕ) (taken : List FileBytes) (s : State) (left : Option (List ℕ)) (rec : Option Recording) (text : List ℕ) (r : Recording)
+pub delivers : (p : Contents) (d : Head) (k i : ℕ) (taken : List FileBytes) (s : State) (left : Option (List ℕ)) (rec : Option Recording) (text : List ℕ) (r : Recording)
     → s.sink.shelf.files ≡ [] → Stands p text r d k i taken s left rec → Delivers p text r k i (with_earlier taken s) taken
 delivers p d k i taken s left rec text r none h = record { head = d; says = h.says; inside = h.inside; before = h.reached; gives = given_out taken s none }
 
@@ -165,7 +165,7 @@ of_lines p d k i taken s left rec text r none h =
     record { k = k; i = i; state = with_earlier taken s; before = delivers p d k i taken s left rec text r none h }
 
 -- a line delivers at most one file: where one is not put, none is
-one_of : (p : Contents) (o : Option Step) (s t : State) → s.sink.shelf.files ≡ [] → MakesStep p o s t → length t.sink.shelf.files ≤ 1
+pub one_of : (p : Contents) (o : Option Step) (s t : State) → s.sink.shelf.files ≡ [] → MakesStep p o s t → length t.sink.shelf.files ≤ 1
 one_of p None s t none m = absurd m
 one_of p (Some a) s t none m =
     let old : length s.sink.shelf.files ≡ 0 = ap (λ (l : List FileBytes). length l) none in

@@ -45,7 +45,7 @@ line_next lines k (Some xs) (Some ys) line h g =
     let same : certificate_lines xs ≡ drop k lines = ap certificate_lines (some_is xs h.0 h.1) ∙ h.2 in
     ap (option_map cut) (sym (drop_get lines k) ∙ ap (λ (l : List (Option (List ℕ))). slice_get l 0) (sym same)) ∙ g.0
 
-lines_behind : (lines : List (Option (List ℕ))) (k : ℕ) (old new : Option (List ℕ)) (text : List ℕ) → AreBehind lines k old → GivesLine old new (Some text) true → AreBehind lines (suc k) new
+pub lines_behind : (lines : List (Option (List ℕ))) (k : ℕ) (old new : Option (List ℕ)) (text : List ℕ) → AreBehind lines k old → GivesLine old new (Some text) true → AreBehind lines (suc k) new
 lines_behind lines k None new text h g = absurd (cc h.1)
 lines_behind lines k (Some xs) None text h g = absurd g
 lines_behind lines k (Some xs) (Some ys) text h g =

@@ -1,5 +1,5 @@
 -- The lines of a certificate that is read as it comes (profile).
-use Rattle.std.specs.Prelude.{◌≡◌, ℕ, List, [], ◌∷◌, ◌++◌, length, drop, Bool, true, false, nat_le, if◌then◌else◌, Option, Some, None, option_and_then, option_map, slice_get, ⊤}
+use Rattle.std.specs.Prelude.{◌≡◌, ◌≤◌, ℕ, List, [], ◌∷◌, ◌++◌, length, drop, Bool, true, false, nat_le, if◌then◌else◌, Option, Some, None, option_and_then, option_map, slice_get, ⊤}
 use Rattle.memchr.specs.Find.{Nowhere, Passes, is_byte}
 use Rattle.a429_cert.specs.Lines.{certificate_lines}
 
@@ -34,3 +34,19 @@ abbrev pub GivesLine : Option (List ℕ) → Option (List ℕ) → Option (List 
 GivesLine None new line found = ⊤
 GivesLine (Some xs) None line found = ⊥
 GivesLine (Some xs) (Some ys) line found = IsFirstLine found xs ys line
+
+-- ---- how far a text was read
+
+-- the first n lines of the text were read, each with its line feed, and these bytes after them: the reader has the rest still to give
+abbrev pub HasRead : List ℕ → Option (List ℕ) → ℕ → List ℕ → Type 0
+HasRead text None n ahead = ⊥
+HasRead text (Some left) n ahead = certificate_lines (ahead ++ left) ≡ drop n (certificate_lines text)
+
+-- of its lines at least and at most so many were read, and after them no more bytes than a reader of lines holds
+pub record HasReadTo (text : List ℕ) (left : Option (List ℕ)) (least most : ℕ) : Type 0 where
+  pub lines : ℕ
+  pub ahead : List ℕ
+  pub from : least ≤ lines
+  pub to : lines ≤ most
+  pub few : length ahead ≤ 2288
+  pub read : HasRead text left lines ahead

@@ -16,4 +16,5 @@ pub mod Stream
 pub mod StreamHead
 pub mod StreamEnd
 pub mod StreamExplained
+pub mod BreakOff
 pub mod Told

@@ -9,6 +9,7 @@ use Rattle.a429_record.specs.declared.fault.ReadFault.TheVariants as read
 use Rattle.a429_record.specs.declared.entry.Entry.{Entry}
 use Rattle.a429_record.specs.Recording.{Recording, whole}
 use Rattle.a429_record.specs.Rows.{Stops}
+use Rattle.a429_record.specs.Entries.{EntriesLeft}
 use Rattle.a429_cert.specs.declared.fault.CertFault.{CertFault}
 use Rattle.a429_cert.specs.declared.fault.CertFault.TheVariants as of
 use Rattle.a429_cert.specs.declared.stream_fault.StreamFault.{StreamFault}
@@ -47,6 +48,18 @@ TakesNext (suc n) (Some r) new None = r ≡ whole []
 abbrev pub IsFaultNext : ℕ → Option Recording → ReadFault → Type 0
 IsFaultNext n None f = ⊤
 IsFaultNext n (Some r) f = (n ≡ 1) × Stops f r
+
+-- ---- how many entries a reader has given
+
+-- where this is the next entry, or none is: it is given only to a step that uses one
+abbrev pub GivesFor : ℕ → Option Entry → ℕ → ℕ → Type 0
+GivesFor uses None old new = new ≡ old
+GivesFor uses (Some e) old new = (uses ≡ 1) × (new ≡ old + 1)
+
+-- at a fault: none where it is the recording's, else at most one, where one is wanted
+abbrev pub GivesAtFault : Type 0 → StreamFault → ℕ → ℕ → Type 0
+GivesAtFault Wants (stream.Read f) old new = new ≡ old
+GivesAtFault Wants f old new = (new ≡ old) ⊎ (Wants × (new ≡ old + 1))
 
 -- the faults of a stream by those of a certificate, of a recording and of a listener: each want of memory is one fault
 abbrev pub of_cert : CertFault → StreamFault
@@ -194,14 +207,23 @@ pub record GoesOn {S : Type 0} (shelved : S → Option (List PutFile)) (old new 
   pub given : new.link.state ≡ handed_out state
 
 -- it passes over the line, and not all that its step delivers is put: the shelf has failed, or memory was refused
-pub record PutsTooFew {S : Type 0} (shelved : S → Option (List PutFile)) (old : Walk) (text : Option (List ℕ)) (rec : Option Recording) (before after : S) (f : StreamFault) : Type 0 where
+pub record PutsTooFew {S : Type 0} (shelved : S → Option (List PutFile)) (failed : S → Bool) (old : Walk) (text : Option (List ℕ)) (rec new_rec : EntriesLeft) (before after : S) (f : StreamFault) : Type 0 where
   pub state : State
   pub used : ℕ
-  pub rest : Option Recording
-  pub passed : PassesOver old.profile.now (read_as old.version text) old.link.state state rec rest used
+  pub passed : PassesOver old.profile.now (read_as old.version text) old.link.state state rec.to_come new_rec.to_come used
+  pub given : new_rec.count ≡ rec.count + used
   pub put : PutsFirstFiles shelved before after old.files.items state.sink.shelf.files
   pub fault : (f ≡ stream.Device) ⊎ (f ≡ stream.OutOfMemory)
+  pub device : f ≡ stream.Device → failed after ≡ true
 
--- why a walk does not go on over the next line: the line is refused, and nothing is put, or too little is
-abbrev pub StopsAt : {S : Type 0} → (S → Option (List PutFile)) → Walk → Option (List ℕ) → Option Recording → S → S → StreamFault → Type 0
-StopsAt shelved old text rec before after f = (EndsWalk old text rec f × (after ≡ before)) ⊎ PutsTooFew shelved old text rec before after f
+-- the line is refused, or memory is, or the listener has failed: nothing is put
+pub record EndsAtLine {S : Type 0} (listener : Bool) (old : Walk) (text : Option (List ℕ)) (rec new_rec : EntriesLeft) (before after : S) (f : StreamFault) : Type 0 where
+  pub ends : EndsWalk old text rec.to_come f
+  pub given : GivesAtFault (WantsEntry old.profile.now (read_as old.version text) old.link.state) f rec.count new_rec.count
+  pub put : after ≡ before
+  pub device : f ≡ stream.Device → listener ≡ true
+
+-- why a walk does not go on over the next line
+abbrev pub StopsAt : {S : Type 0} → (S → Option (List PutFile)) → (S → Bool) → Bool → Walk → Option (List ℕ) → EntriesLeft → EntriesLeft → S → S → StreamFault → Type 0
+StopsAt shelved failed listener old text rec new_rec before after f =
+    EndsAtLine listener old text rec new_rec before after f ⊎ PutsTooFew shelved failed old text rec new_rec before after f

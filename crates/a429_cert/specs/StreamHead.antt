@@ -10,6 +10,7 @@ use Rattle.a429_cert.specs.declared.explained.Head.{Head}
 use Rattle.a429_cert.specs.declared.line_reader.LineReader.{LineReader}
 use Rattle.a429_cert.specs.Fault.{HasHead, IsVersioned, IsNoFirst}
 use Rattle.a429_cert.specs.LineReader.{to_come}
+use Rattle.a429_cert.specs.CutLines.{HasReadTo}
 
 -- this text was the next line of what was to come, and what is behind it is still to come
 abbrev pub TakesLine : Option (List ℕ) → Option (List ℕ) → List ℕ → Type 0
@@ -41,3 +42,9 @@ IsNoVersion xs f = (f ≡ of.Version) × (¬ IsVersioned xs)
 
 abbrev pub GivesNoFirst : List ℕ → CertFault → Type 0
 GivesNoFirst xs f = IsNoFirst (slice_get (certificate_lines xs) 0) f
+
+-- unless the fault is the certificate's, at most n lines of what was to come were read
+abbrev pub ReadsAtMost : ℕ → Option (List ℕ) → Option (List ℕ) → StreamFault → Type 0
+ReadsAtMost n None left f = ⊤
+ReadsAtMost n (Some text) left (stream.Cert f) = ⊤
+ReadsAtMost n (Some text) left f = HasReadTo text left 0 n

@@ -1,6 +1,6 @@
 //! The lines of a certificate that is read as it comes, by a buffer of a fixed size.
 
-ghost use Rattle.std.specs.Prelude.{◌≡◌, ◌⊎◌, ◌<◌, ◌≤◌, [], None, true, false, length, IsErr, IsSome, IfOk, OnOk};
+ghost use Rattle.std.specs.Prelude.{◌≡◌, ◌⊎◌, ◌<◌, ◌≤◌, [], None, true, false, length, IsErr, IsSome, IfOk, OnOk, OnErr, Ok, ◌≢◌};
 ghost use Rattle.std.specs.Io.KnownBytes.{Keeps, IsAtEnd};
 ghost use Rattle.a429_word.specs.Tally.{left_of, has_failed, unread};
 ghost use Rattle.a429_cert.specs.Lines.{line_bytes};
@@ -61,6 +61,9 @@ impl LineReader {
         ensures given { IfOk result (HandsOutLine R.remaining self.old cert.old self.new cert.new) }
         ensures shorter { OnOk result (IsSome (held_line self.new) → room_left self.new cert.new < room_left self.old cert.old) }
         ensures room { IfOk result (λ found. found ≡ true → 0 < room_left self.old cert.old) }
+        ensures kept { result ≢ Ok true → Keeps (to_come R.remaining self.old cert.old) (to_come R.remaining self.new cert.new) }
+        ensures part { IsErr result → HasNoLineFeed (bytes_ahead self.new) }
+        ensures few { length (bytes_ahead self.new) ≤ 2288 }
         ensures device { IsErr result → has_failed cert.new ≡ true }
         ensures stays { has_failed cert.old ≡ true → has_failed cert.new ≡ true }
     {
@@ -97,7 +100,8 @@ impl LineReader {
     // where there is no room, nothing does.
     fn read_on<R: Read>(&mut self, cert: &mut Tally<R>) -> Result<bool, Device>
         ensures line { held_line self.new ≡ None }
-        ensures keeps { OnOk result (Keeps (to_come R.remaining self.old cert.old) (to_come R.remaining self.new cert.new)) }
+        ensures keeps { Keeps (to_come R.remaining self.old cert.old) (to_come R.remaining self.new cert.new) }
+        ensures failed { OnErr result (bytes_ahead self.new ≡ bytes_ahead self.old) }
         ensures same { IfOk result (λ more. more ≡ false → bytes_ahead self.new ≡ bytes_ahead self.old) }
         ensures end { IfOk result (λ more. more ≡ false → (2288 ≤ length (bytes_ahead self.new)) ⊎ IsAtEnd (unread R.remaining cert.new)) }
         ensures left { IfOk result (λ more. more ≡ true → left_of cert.new < left_of cert.old) }

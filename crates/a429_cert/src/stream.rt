@@ -1,6 +1,6 @@
 //! A certificate, held against a recording, both read as they come.
 
-ghost use Rattle.std.specs.Prelude.{◌≡◌, ◌≤◌, ◌⊎◌, [], ◌∷◌, ◌++◌, true, Option, None, option_map, IfOk, IfErr, IfSome, IsSome, IsErrOf, OnOk, OnErr};
+ghost use Rattle.std.specs.Prelude.{◌≡◌, ◌≤◌, ◌⊎◌, ◌+◌, [], ◌∷◌, ◌++◌, true, false, Option, None, option_map, IfOk, IfErr, IfSome, IsSome, IsErrOf, OnOk, OnErr};
 ghost use Rattle.a429_profile.specs.Profile.{IsProfile};
 ghost use Rattle.a429_ldu.specs.Ldu.{IsLdu};
 ghost use Rattle.a429_link.specs.declared.seen.Seen.{Seen};
@@ -13,8 +13,9 @@ ghost use Rattle.a429_cert.specs.Passing.{IsReady, PassesListed, uses_listed};
 ghost use Rattle.a429_word.specs.Tally.{has_failed, unread};
 ghost use Rattle.a429_cert.specs.Explained.{seen_of};
 ghost use Rattle.a429_cert.specs.StreamExplained.{SaysYes, HearsRun, HearsBefore, Refuses};
+ghost use Rattle.a429_cert.specs.BreakOff.{BreaksOff, readers, shelved};
 ghost use Rattle.a429_cert.specs.Told.{IsNextEntry, with_number};
-ghost use Rattle.a429_cert.specs.Stream.{IsFaultNext, TakesNext, WalksNext, EndsNext, TellsListed, HearsNext, IsNotTaken, IsUntold, WalksOver, EndsWalk, HearsLine};
+ghost use Rattle.a429_cert.specs.Stream.{IsFaultNext, TakesNext, WalksNext, EndsNext, TellsListed, HearsNext, IsNotTaken, IsUntold, WalksOver, EndsWalk, HearsLine, WantsEntry, GivesFor, GivesAtFault};
 ghost use Rattle.a429_cert.specs.Stream.{OneFailed, HandsFilesOut, GoesOn, PutsFiles, PutsFirstFiles, StopsAt, sizes};
 
 use crate::at::At;
@@ -44,7 +45,8 @@ use std::io::Read;
 /// Holds a certificate against a recording, under the profile of the bench, both read as they come. Where
 /// it explains the recording, the files that cross are put on the shelf, in order, and the answer is their
 /// numbers and lengths. Else the fault is the first one in the order of the lines, where a recording's comes
-/// where its entry is wanted, and the files that the lines before it deliver are put.
+/// where its entry is wanted, and the files that the lines before it deliver are put. Where a device fails or
+/// memory is refused, `place` says which line that is: the files of the lines before it are put, and no other.
 pub fn verify_stream<R: Read, C: Read, S: Shelf>(
     alloc: Global,
     profile: &Profile,
@@ -54,6 +56,8 @@ pub fn verify_stream<R: Read, C: Read, S: Shelf>(
 ) -> Result<Vec<(u8, u32)>, StreamFault>
     ensures ok { IfOk result (SaysYes profile.now (unread C.remaining cert.old) rec.old.to_come (S.files shelf.old) (S.files shelf.new)) }
     ensures err { IfErr result (Refuses profile.now (unread C.remaining cert.old) rec.old.to_come (S.files shelf.old) (S.files shelf.new)) }
+    ensures place { IfErr result (BreaksOff profile.now (readers C.remaining cert.old cert.new rec.old rec.new)
+        (shelved S.files S.failed shelf.old shelf.new) false) }
     ensures device { IsErrOf result StreamFault.Device → (has_failed cert.new ≡ true) ⊎ (S.failed shelf.new ≡ true) }
     ensures read { IsErrOf result (StreamFault.Read read.Device) → rec.new.failed ≡ true }
 {
@@ -80,6 +84,8 @@ pub fn replay_stream<R: Read, C: Read, S: Shelf, T: Listener>(
     ensures ok { IfOk result (SaysYes bench.now (unread C.remaining cert.old) rec.old.to_come (S.files shelf.old) (S.files shelf.new)) }
     ensures heard { OnOk result (HearsRun T.hears bench.now (unread C.remaining cert.old) rec.old.to_come listener.old listener.new) }
     ensures err { IfErr result (Refuses bench.now (unread C.remaining cert.old) rec.old.to_come (S.files shelf.old) (S.files shelf.new)) }
+    ensures place { IfErr result (BreaksOff bench.now (readers C.remaining cert.old cert.new rec.old rec.new)
+        (shelved S.files S.failed shelf.old shelf.new) (T.failed listener.new)) }
     ensures told { IfErr result (HearsBefore T.hears bench.now (unread C.remaining cert.old) rec.old.to_come listener.old listener.new) }
     ensures device { IsErrOf result StreamFault.Device → OneFailed (has_failed cert.new) (S.failed shelf.new) (T.failed listener.new) }
     ensures read { IsErrOf result (StreamFault.Read read.Device) → rec.new.failed ≡ true }
@@ -127,7 +133,9 @@ fn walk_on<R: Read, S: Shelf, T: Listener>(
     ensures heard { OnOk result (HearsLine T.hears walk.old (line_bytes line.entry) rec.old.to_come listener.old listener.new) }
     ensures ended { OnOk result (IsSome (line_bytes line.entry)) }
     ensures few { IfOk result (λ used. used ≤ 1) }
-    ensures stopped { IfErr result (StopsAt S.files walk.old (line_bytes line.entry) rec.old.to_come shelf.old shelf.new) }
+    ensures counts { IfOk result (λ used. rec.new.count ≡ rec.old.count + used) }
+    ensures stopped { IfErr result (StopsAt S.files S.failed (T.failed listener.new) walk.old (line_bytes line.entry) rec.old rec.new
+        shelf.old shelf.new) }
     ensures untold { IfErr result (IsUntold listener.old listener.new) }
     ensures device { IsErrOf result StreamFault.Device → (S.failed shelf.new ≡ true) ⊎ (T.failed listener.new ≡ true) }
     ensures read { IsErrOf result (StreamFault.Read read.Device) → rec.new.failed ≡ true }
@@ -149,7 +157,9 @@ fn walk_on<R: Read, S: Shelf, T: Listener>(
 fn entry_for<R: Read>(rec: &mut EntryReader<R>, listed: &Listed) -> Result<Option<Entry>, ReadFault>
     ensures taken { IfOk result (λ next. TakesNext (uses_listed listed.now) rec.old.to_come rec.new.to_come (option_map seen_of next)) }
     ensures entry { IfOk result (IsNextEntry (uses_listed listed.now) rec.old.to_come) }
+    ensures given { IfOk result (λ next. GivesFor (uses_listed listed.now) next rec.old.count rec.new.count) }
     ensures fault { IfErr result (λ f. IsFaultNext (uses_listed listed.now) rec.old.to_come f) }
+    ensures none { OnErr result (rec.new.count ≡ rec.old.count) }
     ensures device { IsErrOf result read.Device → rec.new.failed ≡ true }
 {
     if listed.used() == 0 {
@@ -224,7 +234,9 @@ fn take_next<R: Read, T: Listener>(
     ensures passed { IfOk result (WalksNext walk.old walk.new listed rec.old.to_come rec.new.to_come) }
     ensures heard { OnOk result (HearsNext T.hears walk.old listed rec.old.to_come listener.old listener.new) }
     ensures few { IfOk result (λ used. used ≤ 1) }
+    ensures counts { IfOk result (λ used. rec.new.count ≡ rec.old.count + used) }
     ensures refused { IfErr result (EndsNext walk.old listed rec.old.to_come) }
+    ensures given { IfErr result (λ f. GivesAtFault (uses_listed listed ≡ 1) f rec.old.count rec.new.count) }
     ensures untold { IfErr result (IsUntold listener.old listener.new) }
     ensures device { IsErrOf result StreamFault.Device → T.failed listener.new ≡ true }
     ensures read { IsErrOf result (StreamFault.Read read.Device) → rec.new.failed ≡ true }
@@ -319,7 +331,11 @@ pub fn pass_over<R: Read, T: Listener>(
     ensures heard { OnOk result (HearsLine T.hears walk.old (line_bytes line.entry) rec.old.to_come listener.old listener.new) }
     ensures ended { OnOk result (IsSome (line_bytes line.entry)) }
     ensures few { IfOk result (λ used. used ≤ 1) }
+    ensures counts { IfOk result (λ used. rec.new.count ≡ rec.old.count + used) }
     ensures refused { IfErr result (EndsWalk walk.old (line_bytes line.entry) rec.old.to_come) }
+    ensures given { IfErr result (λ f. GivesAtFault
+        (WantsEntry walk.old.profile.now (read_as walk.old.version (line_bytes line.entry)) walk.old.link.state) f
+        rec.old.count rec.new.count) }
     ensures untold { IfErr result (IsUntold listener.old listener.new) }
     ensures device { IsErrOf result StreamFault.Device → T.failed listener.new ≡ true }
     ensures read { IsErrOf result (StreamFault.Read read.Device) → rec.new.failed ≡ true }

@@ -3,7 +3,7 @@
 ghost use Rattle.std.specs.Prelude.{◌≡◌, ◌≢◌, true, Option, None, Ok, Err, IfErr, IsErrOf, OnOk};
 ghost use Rattle.a429_record.specs.declared.fault.ReadFault.TheVariants as read;
 ghost use Rattle.a429_record.specs.Rows.{GivesNext};
-ghost use Rattle.a429_cert.specs.StreamEnd.{EndsLate};
+ghost use Rattle.a429_cert.specs.StreamEnd.{EndsLate, GivesNone};
 
 use crate::fault::CertFault;
 use crate::stream_fault::{StreamFault, of_read};
@@ -14,6 +14,7 @@ use std::io::Read;
 pub fn none_left<R: Read>(rec: &mut EntryReader<R>, used: usize) -> Result<(), StreamFault>
     ensures ok { OnOk result (GivesNext rec.old.to_come rec.new.to_come (Ok None)) }
     ensures err { IfErr result (EndsLate used rec.old.to_come rec.new.to_come) }
+    ensures given { IfErr result (λ f. GivesNone f rec.old.count rec.new.count) }
     ensures device { result ≢ Err StreamFault.Device }
     ensures read { IsErrOf result (StreamFault.Read read.Device) → rec.new.failed ≡ true }
 {

@@ -1,13 +1,13 @@
 //! The first two lines of a certificate that is read as it comes.
 
 ghost use Rattle.std.specs.Prelude.{◌≡◌, ◌+◌, ◌≤◌, true, IfOk, IfErr, IsErrOf, OnOk};
-ghost use Rattle.a429_word.specs.Tally.{has_failed};
+ghost use Rattle.a429_word.specs.Tally.{has_failed, unread};
 ghost use Rattle.a429_cert.specs.declared.line.CertLine.TheVariants.{First};
 ghost use Rattle.a429_cert.specs.Line.{spelling};
 ghost use Rattle.a429_cert.specs.Version.{version_line};
 ghost use Rattle.a429_cert.specs.LineReader.{to_come, room_left};
 ghost use Rattle.a429_cert.specs.Fault.{IsFaultOfHead};
-ghost use Rattle.a429_cert.specs.StreamHead.{ReadsLine, TakesHead, RefusesHead, IsNoVersion, GivesNoFirst};
+ghost use Rattle.a429_cert.specs.StreamHead.{ReadsLine, ReadsAtMost, TakesHead, RefusesHead, IsNoVersion, GivesNoFirst};
 
 use crate::explained::{Head, first_of};
 use crate::fault::CertFault;
@@ -27,6 +27,7 @@ pub fn begin<R: Read>(
     ensures ok { IfOk result (TakesHead (to_come R.remaining lines.old cert.old) (to_come R.remaining lines.new cert.new)) }
     ensures room { OnOk result (room_left lines.new cert.new + 2 ≤ room_left lines.old cert.old) }
     ensures err { IfErr result (RefusesHead IsFaultOfHead (to_come R.remaining lines.old cert.old)) }
+    ensures read { IfErr result (ReadsAtMost 2 (to_come R.remaining lines.old cert.old) (unread R.remaining cert.new)) }
     ensures device { IsErrOf result StreamFault.Device → has_failed cert.new ≡ true }
 {
     let version = match take_version(lines, cert) {
@@ -47,6 +48,7 @@ fn take_version<R: Read>(
     ensures ok { IfOk result (λ v. ReadsLine R.remaining lines.old cert.old lines.new cert.new (version_line v)) }
     ensures room { OnOk result (room_left lines.new cert.new + 1 ≤ room_left lines.old cert.old) }
     ensures err { IfErr result (RefusesHead IsNoVersion (to_come R.remaining lines.old cert.old)) }
+    ensures read { IfErr result (ReadsAtMost 1 (to_come R.remaining lines.old cert.old) (unread R.remaining cert.new)) }
     ensures device { IsErrOf result StreamFault.Device → has_failed cert.new ≡ true }
 {
     let Ok(found) = lines.next_line(cert) else {
@@ -69,6 +71,7 @@ fn take_first<R: Read>(
     ensures ok { IfOk result (λ first. ReadsLine R.remaining lines.old cert.old lines.new cert.new (spelling (First first))) }
     ensures room { OnOk result (room_left lines.new cert.new + 1 ≤ room_left lines.old cert.old) }
     ensures err { IfErr result (RefusesHead GivesNoFirst (to_come R.remaining lines.old cert.old)) }
+    ensures read { IfErr result (ReadsAtMost 1 (to_come R.remaining lines.old cert.old) (unread R.remaining cert.new)) }
     ensures device { IsErrOf result StreamFault.Device → has_failed cert.new ≡ true }
 {
     let Ok(found) = lines.next_line(cert) else {

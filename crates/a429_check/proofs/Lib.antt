@@ -11,4 +11,5 @@ pub mod VerdictFacts
 pub mod UnitsFacts
 pub mod UpgradeFacts
 pub mod PictureFacts
+pub mod ExtractFacts
 pub mod CheckFacts

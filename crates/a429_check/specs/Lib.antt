@@ -9,6 +9,7 @@ pub mod Show
 pub mod Forms
 pub mod Make
 pub mod Verdict
+pub mod Extract
 pub mod Check
 pub mod Pack
 pub mod Upgrade

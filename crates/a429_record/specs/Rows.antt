@@ -87,6 +87,12 @@ GivesRow old entry new r = (more : List (Option Entry)) → GivesNext (Some (sta
 abbrev pub IfEntry : Result (Option Entry) ReadFault → (Entry → Type 0) → Type 0
 IfEntry answer P = IfOk answer (λ o. IfSome o P)
 
+-- how many entries an answer gives
+abbrev pub entries_in : Result (Option Entry) ReadFault → ℕ
+entries_in (Ok (Some e)) = 1
+entries_in (Ok None) = 0
+entries_in (Err f) = 0
+
 -- an entry is given after the last one, and is then the last one
 abbrev pub Follows : RowReader → RowReader → Entry → Type 0
 Follows old new e = (old.last ≤ e.time) × (new.last ≡ e.time) × (new.count ≡ old.count + 1)

@@ -1,6 +1,6 @@
 //! A recording, read entry by entry.
 
-ghost use Rattle.std.specs.Prelude.{◌≡◌, ◌↔◌, ◌<◌, Bool, true, false, Option, option_map, IsErrOf};
+ghost use Rattle.std.specs.Prelude.{◌≡◌, ◌↔◌, ◌+◌, ◌<◌, Bool, true, false, Option, option_map, IsErrOf};
 ghost use Rattle.a429_word.specs.Tally.{has_failed, left_of, unread};
 
 use crate::entry::Entry;
@@ -44,7 +44,7 @@ impl<R: Read> EntryReader<R> {
     ghost use Rattle.a429_record.specs.Handed.{Loses};
     ghost use Rattle.a429_record.specs.Reading.{AreHandedAt, IsFormAfter};
     ghost use Rattle.a429_record.specs.Stage.{may_go_on, stage_after, AnswersAt};
-    ghost use Rattle.a429_record.specs.Rows.{GivesNext, IfEntry};
+    ghost use Rattle.a429_record.specs.Rows.{GivesNext, IfEntry, entries_in};
     ghost use Rattle.a429_record.specs.Entries.{ComesNext, PassesFrom};
     ghost use Rattle.a429_record.specs.declared.fault.ReadFault.TheVariants as fault;
     ghost use Rattle.a429_record.specs.declared.stage.Stage.TheVariants as at;
@@ -73,6 +73,7 @@ impl<R: Read> EntryReader<R> {
         ensures answers { AnswersAt self.old.stage result }
         ensures stage { self.new.stage ≡ stage_after result }
         ensures follows { IfEntry result (λ e. ComesNext self.old self.new e) }
+        ensures counts { self.new.count ≡ self.old.count + entries_in result }
         ensures form { IfEntry result (λ _. IsFormAfter self.old.stage self.old.form self.old.bytes self.new.form) }
         ensures lines { IfEntry result (λ e. Loses (AreHandedAt self.old.stage self.new.form e) self.old.bytes self.new.bytes) }
         ensures before { IsErrOf result fault.Device → Loses (PassesFrom self.old) self.old.bytes self.new.unread }

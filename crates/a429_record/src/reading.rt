@@ -1,6 +1,6 @@
 //! One reading of a recording, answer by answer.
 
-ghost use Rattle.std.specs.Prelude.{◌≡◌, ◌↔◌, ◌<◌, true, false, IsErrOf};
+ghost use Rattle.std.specs.Prelude.{◌≡◌, ◌↔◌, ◌+◌, ◌<◌, true, false, IsErrOf};
 ghost use Rattle.a429_word.specs.Tally.{has_failed};
 ghost use Rattle.a429_record.specs.Rows.{IsFresh};
 ghost use Rattle.a429_record.specs.declared.stage.Stage.TheVariants as at;
@@ -23,7 +23,7 @@ pub struct Reading {
 
 impl Reading {
     ghost use Rattle.a429_record.specs.Lines.{room_of};
-    ghost use Rattle.a429_record.specs.Rows.{IfEntry, Follows};
+    ghost use Rattle.a429_record.specs.Rows.{IfEntry, Follows, entries_in};
     ghost use Rattle.a429_record.specs.Stage.{may_go_on, stage_after, AnswersAt};
     ghost use Rattle.a429_record.specs.Reading.{AnswersNext, HandsEntry, FailsBehind, KeepsForm};
     ghost use Rattle.a429_record.specs.declared.fault.ReadFault.TheVariants as fault;
@@ -51,6 +51,7 @@ impl Reading {
         ensures lines { IfEntry result (λ e. HandsEntry R.remaining self.old rec.old self.new rec.new e) }
         ensures before { IsErrOf result fault.Device → FailsBehind R.remaining self.old rec.old rec.new }
         ensures follows { IfEntry result (λ e. Follows self.old.rows self.new.rows e) }
+        ensures counts { self.new.rows.count ≡ self.old.rows.count + entries_in result }
         ensures room { IfEntry result (λ _. room_of self.new.rows.lines rec.new < room_of self.old.rows.lines rec.old) }
         ensures device { IsErrOf result fault.Device ↔ (may_go_on self.old.stage ≡ true) × (has_failed rec.new ≡ true) }
         ensures stays { may_go_on self.old.stage ≡ false → (self.new ≡ self.old) × (rec.new ≡ rec.old) }

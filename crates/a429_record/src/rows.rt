@@ -1,6 +1,6 @@
 //! The rows of a recording, read one by one: the lines of a text, or the pieces of a binary recording.
 
-ghost use Rattle.std.specs.Prelude.{◌≡◌, ◌≢◌, ◌↔◌, ◌∷◌, ◌<◌, ◌≤◌, [], false, true, IsErrOf, IsTrue, IfOk, IfErr, IfSome, IfNone, OnOk, Err};
+ghost use Rattle.std.specs.Prelude.{◌≡◌, ◌≢◌, ◌↔◌, ◌∷◌, ◌+◌, ◌<◌, ◌≤◌, [], false, true, IsErrOf, IsTrue, IfOk, IfErr, IfSome, IfNone, OnOk, Err};
 ghost use Rattle.a429_word.specs.Tally.{has_failed};
 ghost use Rattle.a429_record.specs.Recording.{most_entries};
 
@@ -32,7 +32,7 @@ impl RowReader {
     ghost use Rattle.a429_record.specs.Lines.{ahead_of, pending_of, room_of, HandsRows, HandsOut, FailsAfter, Chooses, IsMagicFront};
     ghost use Rattle.a429_record.specs.Line.{GivesEntry};
     ghost use Rattle.a429_record.specs.Handed.{HasNoRow, HasNoFault, HasNoTextFault, IsCutAfter, AreHeader, AreEntryOf, AreGiven, ArePieceOf};
-    ghost use Rattle.a429_record.specs.Rows.{IsFresh, IsUncounted, rows_left, text_left, binary_left, recording_left, all_left, TakesHeader, GivesNext, GivesFirst, GivesRow, IfEntry, Follows};
+    ghost use Rattle.a429_record.specs.Rows.{IsFresh, IsUncounted, rows_left, text_left, binary_left, recording_left, all_left, TakesHeader, GivesNext, GivesFirst, GivesRow, IfEntry, Follows, entries_in};
     ghost use Rattle.a429_record.specs.Reading.{AreFirstHanded, AreNextHanded, FailsNext, IsChosen};
     ghost use Rattle.a429_record.specs.declared.fault.ReadFault.TheVariants as fault;
 
@@ -59,6 +59,7 @@ impl RowReader {
             self.new.lines rec.new) }
         ensures before { IsErrOf result fault.Device → FailsAfter HasNoFault R.remaining self.old.lines rec.old rec.new }
         ensures follows { IfEntry result (λ e. Follows self.old self.new e) }
+        ensures counts { self.new.count ≡ self.old.count + entries_in result }
         ensures room { IfEntry result (λ _. room_of self.new.lines rec.new < room_of self.old.lines rec.old) }
         ensures device { IsErrOf result fault.Device ↔ (has_failed rec.new ≡ true) }
         ensures no_failed { result ≢ Err fault.Failed }
@@ -86,6 +87,7 @@ impl RowReader {
             self.new.lines rec.new) }
         ensures before { IsErrOf result fault.Device → FailsNext R.remaining self.old rec.old rec.new }
         ensures follows { IfEntry result (λ e. Follows self.old self.new e) }
+        ensures counts { self.new.count ≡ self.old.count + entries_in result }
         ensures room { IfEntry result (λ _. room_of self.new.lines rec.new < room_of self.old.lines rec.old) }
         ensures device { IsErrOf result fault.Device ↔ (has_failed rec.new ≡ true) }
         ensures no_failed { result ≢ Err fault.Failed }
@@ -138,6 +140,7 @@ impl RowReader {
         ensures lines { IfEntry result (λ e. HandsRows (AreGiven (e ∷ [])) R.remaining self.old.lines rec.old self.new.lines rec.new) }
         ensures before { IsErrOf result fault.Device → FailsAfter HasNoTextFault R.remaining self.old.lines rec.old rec.new }
         ensures follows { IfEntry result (λ e. Follows self.old self.new e) }
+        ensures counts { self.new.count ≡ self.old.count + entries_in result }
         ensures room { IfEntry result (λ _. room_of self.new.lines rec.new < room_of self.old.lines rec.old) }
         ensures device { IsErrOf result fault.Device ↔ (has_failed rec.new ≡ true) }
         ensures no_failed { result ≢ Err fault.Failed }
@@ -158,6 +161,7 @@ impl RowReader {
         ensures lines { IfEntry result (λ e. HandsRows (AreEntryOf e) R.remaining self.old.lines rec.old self.new.lines rec.new) }
         ensures before { IsErrOf result fault.Device → FailsAfter HasNoRow R.remaining self.old.lines rec.old rec.new }
         ensures follows { IfEntry result (λ e. Follows self.old self.new e) }
+        ensures counts { self.new.count ≡ self.old.count + entries_in result }
         ensures room { IfEntry result (λ _. room_of self.new.lines rec.new < room_of self.old.lines rec.old) }
         ensures device { IsErrOf result fault.Device ↔ (has_failed rec.new ≡ true) }
         ensures no_failed { result ≢ Err fault.Failed }
@@ -203,6 +207,7 @@ impl RowReader {
         ensures piece { IfEntry result (λ e. HandsOut (ArePieceOf e) R.remaining self.old.lines rec.old self.new.lines rec.new) }
         ensures before { IsErrOf result fault.Device → FailsAfter (IsCutAfter self.old.count) R.remaining self.old.lines rec.old rec.new }
         ensures follows { IfEntry result (λ e. Follows self.old self.new e) }
+        ensures counts { self.new.count ≡ self.old.count + entries_in result }
         ensures room { IfEntry result (λ _. room_of self.new.lines rec.new < room_of self.old.lines rec.old) }
         ensures device { IsErrOf result fault.Device ↔ (has_failed rec.new ≡ true) }
         ensures no_failed { result ≢ Err fault.Failed }
@@ -224,6 +229,7 @@ impl RowReader {
         ensures piece { IfEntry result (λ e. HandsOut (ArePieceOf e) R.remaining self.old.lines rec.old self.new.lines rec.new) }
         ensures before { IsErrOf result fault.Device → FailsAfter (IsCutAfter self.old.count) R.remaining self.old.lines rec.old rec.new }
         ensures follows { IfEntry result (λ e. Follows self.old self.new e) }
+        ensures counts { self.new.count ≡ self.old.count + entries_in result }
         ensures room { IfEntry result (λ _. room_of self.new.lines rec.new < room_of self.old.lines rec.old) }
         ensures device { IsErrOf result fault.Device ↔ (has_failed rec.new ≡ true) }
         ensures no_failed { result ≢ Err fault.Failed }
@@ -253,6 +259,7 @@ impl RowReader {
         ensures gives { GivesRow self.old row self.new result }
         ensures entry { IfOk result (λ o. o ≡ row) }
         ensures follows { IfEntry result (λ e. Follows self.old self.new e) }
+        ensures counts { self.new.count ≡ self.old.count + entries_in result }
         ensures lines { self.new.lines ≡ self.old.lines }
         ensures form { self.new.form ≡ self.old.form }
         ensures err { IfErr result (λ f. (f ≢ fault.Device) × (f ≢ fault.Failed)) }

@@ -1,7 +1,9 @@
 //! `a429 extract PROFILE REC CERT DIR`: the files that crossed.
 
-ghost use Rattle.std.specs.Prelude.{IfOk, IfErr, IsErrOf, OnOk};
+ghost use Rattle.std.specs.Prelude.{false, IfOk, IfErr, IsErrOf, OnOk};
 ghost use Rattle.a429_word.specs.Tally.{has_failed, unread};
+ghost use Rattle.a429_cert.specs.BreakOff.{readers, shelved};
+ghost use Rattle.a429_check.specs.Extract.{Leaves};
 ghost use Rattle.a429_check.specs.Verdict.{AllWork, AnyFailed, HasFailed, IsNoVerdict, IsSilent, PutsAnswer};
 
 use crate::engines::profile::profile_of;
@@ -27,6 +29,9 @@ pub fn run_extract<R: Read, C: Read, S: Shelf, W: Write>(
     ensures verdict { IfOk result (PutsAnswer W.contents out.old out.new S.files shelf.old shelf.new profile.now C.remaining cert.old rec.old) }
     ensures device { OnOk result (AllWork rec.new.failed (has_failed cert.new) (S.failed shelf.new) (has_failed out.new)) }
     ensures err { IfErr result (IsNoVerdict profile.now (unread C.remaining cert.old) rec.old.to_come (S.files shelf.old) (S.files shelf.new)) }
+    ensures files { IfErr result (Leaves profile.now (readers C.remaining cert.old cert.new rec.old rec.new)
+        (shelved S.files S.failed shelf.old shelf.new) false
+        (HasFailed rec.new.failed (has_failed cert.new) (S.failed shelf.new))) }
     ensures failed { IsErrOf result RunFault.Device → AnyFailed rec.new.failed (has_failed cert.new) (S.failed shelf.new) (has_failed out.new) }
     ensures silent { IfErr result (IsSilent (HasFailed rec.new.failed (has_failed cert.new) (S.failed shelf.new)) out.old out.new) }
 {

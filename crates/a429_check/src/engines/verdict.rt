@@ -7,6 +7,8 @@ ghost use Rattle.std.specs.Fmt.{decimal};
 ghost use Rattle.a429_word.specs.Tally.{has_failed, unread, Puts};
 ghost use Rattle.a429_cert.specs.Stream.{sizes};
 ghost use Rattle.a429_cert.specs.StreamExplained.{HearsBefore, HearsRun, SaysYes};
+ghost use Rattle.a429_cert.specs.BreakOff.{readers, shelved};
+ghost use Rattle.a429_check.specs.Extract.{Leaves};
 ghost use Rattle.a429_check.specs.Verdict.{as_answer, count_line, file_line, line_of_file, yes_text, no_text, of_stream, AllWork, AnyFailed, ByProfile, HasFailed, IsNoVerdict, IsNoVerdictBy, IsTold, SaysNo, IsSilent, PutsAnswer};
 ghost use Rattle.a429_check.specs.Output.{PutsText};
 
@@ -36,6 +38,9 @@ pub(crate) fn judge<R: Read, C: Read, S: Shelf, W: Write>(
     ensures device { OnOk result (AllWork rec.new.failed (has_failed cert.new) (S.failed shelf.new) (has_failed out.new)) }
     ensures err { IfErr result (λ e. ByProfile bench.now (λ text.
         IsNoVerdict text (unread C.remaining cert.old) rec.old.to_come (S.files shelf.old) (S.files shelf.new) e)) }
+    ensures files { IfErr result (λ e. ByProfile bench.now (λ text. Leaves text (readers C.remaining cert.old cert.new rec.old rec.new)
+        (shelved S.files S.failed shelf.old shelf.new) false
+        (HasFailed rec.new.failed (has_failed cert.new) (S.failed shelf.new)) e)) }
     ensures failed { IsErrOf result RunFault.Device → AnyFailed rec.new.failed (has_failed cert.new) (S.failed shelf.new) (has_failed out.new) }
     ensures silent { IfErr result (IsSilent (HasFailed rec.new.failed (has_failed cert.new) (S.failed shelf.new)) out.old out.new) }
 {
@@ -82,6 +87,9 @@ pub(crate) fn answer_of<R: Read, C: Read, S: Shelf, T: Listener>(
     ensures works { OnOk result (AllWork rec.new.failed (has_failed cert.new) (S.failed shelf.new) (T.failed listener.new)) }
     ensures err { IfErr result (IsNoVerdictBy bench.now (unread C.remaining cert.old) rec.old.to_come (S.files shelf.old) (S.files shelf.new)
         (AnyFailed rec.new.failed (has_failed cert.new) (S.failed shelf.new) (T.failed listener.new))) }
+    ensures files { IfErr result (λ e. ByProfile bench.now (λ text. Leaves text (readers C.remaining cert.old cert.new rec.old rec.new)
+        (shelved S.files S.failed shelf.old shelf.new) (T.failed listener.new)
+        (AnyFailed rec.new.failed (has_failed cert.new) (S.failed shelf.new) (T.failed listener.new)) e)) }
     ensures failed { IsErrOf result RunFault.Device →
         AnyFailed rec.new.failed (has_failed cert.new) (S.failed shelf.new) (T.failed listener.new) }
     ensures other { (f : ProfileFault) → result ≢ Err (RunFault.Profile f) }

@@ -1,9 +1,10 @@
-use Rattle.std.proofs.Common.{rules, subst, sym}
+use Rattle.std.proofs.Common.{◌≡◌, inl, refl, rules, subst, sym}
 use Rattle.std.proofs.lemmas.Result.{IfErr-weaker, on_ok_weaker}
 use Rattle.a429_cert.specs.Lines.{line_bytes}
 use Rattle.a429_cert.specs.Version.{read_as}
-use Rattle.a429_cert.specs.Stream.{RefusesNext, RefusesOver}
-use Rattle.a429_cert.proofs.StreamFacts.{refused_text, refused_first}
+use Rattle.a429_cert.specs.Passing.{uses_listed}
+use Rattle.a429_cert.specs.Stream.{RefusesNext, RefusesOver, GivesAtFault, WantsEntry}
+use Rattle.a429_cert.proofs.StreamFacts.{refused_text, refused_first, cert_given, line_given}
 use Rattle.a429_cert.proofs.ToldFacts.{hears_text}
 use Rattle.a429_cert.proofs.stream.pass_over.Goals as goal
 
@@ -31,3 +32,20 @@ returns-in-Err-clause-refused g c =
 
 pub returns-in-Ok-clause-passed : goal.returns-in-Ok-clause-passed
 returns-in-Ok-clause-passed g c = search rules
+
+pub returns-in-Ok-clause-given : goal.returns-in-Ok-clause-given
+returns-in-Ok-clause-given g c =
+    let p = c.args.walk.now.profile.now in
+    let s = c.args.walk.now.link.state in
+    let text = read_as c.args.walk.now.version (line_bytes c.args.line) in
+    let old = c.args.rec.now.count in
+    let new = c.take_next.new.rec.count in
+    IfErr-weaker c.take_next.result (λ f. GivesAtFault (uses_listed c.in-Ok.listed ≡ 1) f old new) (λ f. GivesAtFault (WantsEntry p text s) f old new)
+    (λ f h. line_given p text c.in-Ok.listed s f old new (rw c.read-text.ensures at c.in-Ok.ensures.listed) h)
+    c.take_next.ensures.given
+
+pub returns-in-Err-clause-given : goal.returns-in-Err-clause-given
+returns-in-Err-clause-given g c =
+    let n = c.args.rec.now.count in
+    let Wants = WantsEntry c.args.walk.now.profile.now (read_as c.args.walk.now.version (line_bytes c.args.line)) c.args.walk.now.link.state in
+    subst (λ f. GivesAtFault Wants f n n) (sym c.of_cert.ensures) (cert_given Wants c.in-Err.fault n n (inl refl))

@@ -1,4 +1,4 @@
-use Rattle.std.proofs.Common.{◌≡◌, ◌+◌, ◌++◌, ◌∙◌, ℕ, suc, List, [], true, false, Option, IsSome, length, ap, subst, arith, rules}
+use Rattle.std.proofs.Common.{◌≡◌, ◌+◌, ◌++◌, ◌∙◌, ℕ, suc, List, [], true, false, Option, IsSome, length, ap, refl, subst, arith, rules}
 use Rattle.a429_cert.specs.declared.stream.Walk.{Walk}
 use Rattle.a429_cert.specs.CutLines.{GivesLine}
 use Rattle.a429_cert.specs.Lines.{line_bytes}
@@ -10,7 +10,8 @@ use Rattle.a429_link.specs.State.{State, start}
 use Rattle.a429_link.specs.Link.{LinkValue}
 use Rattle.a429_cert.specs.LineReader.{bytes_ahead, held_line, to_come}
 use Rattle.a429_cert.proofs.StreamFacts.{gains_none, put_on, noted_on}
-use Rattle.a429_word.specs.Tally.{unread}
+use Rattle.a429_word.specs.Tally.{has_failed, unread}
+use Rattle.a429_cert.proofs.BreakOffFacts.{head_breaks, between_breaks, late_breaks, stop_breaks}
 use Rattle.a429_cert.proofs.StreamWalk.{told_init, told_on, told_yes, fresh}
 use Rattle.a429_cert.specs.Told.{HearsText}
 use Rattle.a429_cert.proofs.ToldFacts.{hears_init, hears_on, hears_all}
@@ -39,6 +40,7 @@ lines-init g c =
       put = gains_none (g.S.Shelf.files c.args.shelf.now) 1;
       noted = c.start-walk.ensures.files;
       few = omega (arith, lines, used);
+      counted = omega (arith, used);
       room = omega (arith, c.in-Ok.ensures.room, none, lines);
       link = ap (λ (l : LinkValue). l.profile) c.start-walk.ensures.link;
       bench = c.start-walk.ensures.profile;
@@ -93,7 +95,7 @@ returns-in-Err-walk_on-clause-err g c =
     let found : c.in-Ok-next_line.found ≡ true = c.if-not-found.false in
     let n : c.lines.walk.lines + 1 ≡ v.k + 3 = let number = v.number in omega (arith, number) in
     let given = subst (GivesLine left more held) found c.in-Ok-next_line.ensures.given in
-    line_stops g.S.Shelf.files c.args.bench.now (record (c.lines.walk) { lines = c.lines.walk.lines + 1 }) v.head v.k v.taken held known left more c.args.rec.now.to_come c.lines.rec.to_come (line_bytes c.line.result)
+    line_stops g.S.Shelf.files g.S.Failing.failed (g.T.Failing.failed c.walk_on.new.listener) c.args.bench.now (record (c.lines.walk) { lines = c.lines.walk.lines + 1 }) v.head v.k v.taken held known left more c.args.rec.now.to_come c.lines.rec c.walk_on.new.rec (line_bytes c.line.result)
     c.args.shelf.now c.lines.shelf c.walk_on.new.shelf c.in-Err-walk_on.fault v.bench v.version v.noted n v.none_left c.line.ensures given v.put v.told c.in-Err-walk_on.ensures.stopped
 
 pub returns-in-Err-walk_on-clause-told : goal.returns-in-Err-walk_on-clause-told
@@ -106,7 +108,7 @@ returns-in-Err-walk_on-clause-told g c =
     let found : c.in-Ok-next_line.found ≡ true = c.if-not-found.false in
     let n : c.lines.walk.lines + 1 ≡ v.k + 3 = let number = v.number in omega (arith, number) in
     let given = subst (GivesLine left more held) found c.in-Ok-next_line.ensures.given in
-    line_untold g.T.Listener.hears g.S.Shelf.files c.args.bench.now (record (c.lines.walk) { lines = c.lines.walk.lines + 1 }) v.head v.k v.taken held known left more c.args.rec.now.to_come c.lines.rec.to_come (line_bytes c.line.result)
+    line_untold g.T.Listener.hears g.S.Shelf.files g.S.Failing.failed (g.T.Failing.failed c.walk_on.new.listener) c.args.bench.now (record (c.lines.walk) { lines = c.lines.walk.lines + 1 }) v.head v.k v.taken held known left more c.args.rec.now.to_come c.lines.rec c.walk_on.new.rec (line_bytes c.line.result)
     c.lines.shelf c.walk_on.new.shelf c.in-Err-walk_on.fault c.args.listener.now c.lines.listener c.walk_on.new.listener v.bench v.version n v.none_left c.line.ensures given v.told v.heard c.in-Err-walk_on.ensures.untold c.in-Err-walk_on.ensures.stopped
 
 pub lines-preserved : goal.lines-preserved
@@ -143,6 +145,7 @@ lines-preserved g c =
       put = put_on (g.S.Shelf.files c.args.shelf.now) (g.S.Shelf.files c.lines.shelf) (g.S.Shelf.files c.walk_on.new.shelf) [] c.lines.walk.files.items v.taken t.sink.shelf.files v.put v.noted on.put;
       noted = noted_on [] c.lines.walk.files.items c.walk_on.new.walk.files.items v.taken t.sink.shelf.files v.noted on.noted;
       few = omega (arith, lines, used, v.few, c.in-Ok-walk_on.ensures.few);
+      counted = omega (arith, used, v.counted, c.in-Ok-walk_on.ensures.counts);
       room = omega (arith, lines, v.room, shorter);
       link = c.in-Ok-walk_on.ensures.profile ∙ v.bench;
       bench = ap (λ (w : Walk). w.profile.now) kept ∙ v.bench;
@@ -201,3 +204,59 @@ returns-in-Err-none_left-clause-told g c =
     let found : c.in-Ok-next_line.found ≡ false = c.if-not-found.true in
     let given = subst (GivesLine left more held) found c.in-Ok-next_line.ensures.given in
     heard_late c.args.bench.now v.head v.k c.lines.walk.used v.taken c.lines.walk.link.state held known left more c.args.rec.now.to_come c.lines.rec.to_come c.none_left.new.rec.to_come c.in-Err-none_left.fault g.T.Listener.hears c.args.listener.now c.lines.listener v.none_left given c.in-Err-none_left.ensures.err v.told v.heard
+
+pub returns-in-Err-clause-place : goal.returns-in-Err-clause-place
+returns-in-Err-clause-place g c =
+    let known = unread g.C.Read.remaining c.args.cert.now in
+    let old = to_come g.C.Read.remaining c.new-lines.result c.args.cert.now in
+    let left = unread g.C.Read.remaining c.begin.new.cert in
+    record {
+      files = [];
+      place = head_breaks c.args.bench.now known old left (has_failed c.begin.new.cert) (g.S.Failing.failed c.args.shelf.now) (g.T.Failing.failed c.args.listener.now) c.args.rec.now c.args.rec.now c.in-Err.fault
+          (fresh (bytes_ahead c.new-lines.result) known c.new-lines.ensures) c.in-Err.ensures.read c.in-Err.ensures.err refl (λ e. c.in-Err.ensures.device (cc e));
+      put = gains_none (g.S.Shelf.files c.args.shelf.now) 1;
+    }
+
+pub returns-in_default-clause-place : goal.returns-in_default-clause-place
+returns-in_default-clause-place g c =
+    let v = c.lines.invariant in
+    let known = unread g.C.Read.remaining c.args.cert.now in
+    let old = to_come g.C.Read.remaining c.lines.lines c.lines.cert in
+    let left = unread g.C.Read.remaining c.next_line.new.cert in
+    record {
+      files = v.taken;
+      place = between_breaks c.args.bench.now v.head v.k c.lines.walk.used v.taken c.lines.walk.link.state known old left (has_failed c.next_line.new.cert) (g.S.Failing.failed c.lines.shelf) (g.T.Failing.failed c.lines.listener)
+          (bytes_ahead c.next_line.new.self) c.args.rec.now c.lines.rec c.lines.rec v.none_left (c.next_line.ensures.part (search rules)) (c.next_line.ensures.kept (search rules)) v.counted refl (c.next_line.ensures.device (search rules)) v.told;
+      put = v.put;
+    }
+
+pub returns-in-Err-walk_on-clause-place : goal.returns-in-Err-walk_on-clause-place
+returns-in-Err-walk_on-clause-place g c =
+    let v = c.lines.invariant in
+    let known = unread g.C.Read.remaining c.args.cert.now in
+    let old = to_come g.C.Read.remaining c.lines.lines c.lines.cert in
+    let left = unread g.C.Read.remaining c.next_line.new.cert in
+    let more = to_come g.C.Read.remaining c.next_line.new.self c.next_line.new.cert in
+    let held = held_line c.next_line.new.self in
+    let found : c.in-Ok-next_line.found ≡ true = c.if-not-found.false in
+    let given = subst (GivesLine old more held) found c.in-Ok-next_line.ensures.given in
+    stop_breaks g.S.Shelf.files g.S.Failing.failed (g.T.Failing.failed c.walk_on.new.listener) (has_failed c.next_line.new.cert) c.args.bench.now (record (c.lines.walk) { lines = c.lines.walk.lines + 1 }) v.head v.k v.taken held known old left (line_bytes c.line.result)
+    (bytes_ahead c.next_line.new.self) c.args.rec.now c.lines.rec c.walk_on.new.rec c.args.shelf.now c.lines.shelf c.walk_on.new.shelf c.in-Err-walk_on.fault v.bench v.version v.noted v.none_left c.line.ensures c.next_line.ensures.few given v.counted v.put v.told
+    c.in-Err-walk_on.ensures.stopped
+
+pub returns-in-Err-none_left-clause-place : goal.returns-in-Err-none_left-clause-place
+returns-in-Err-none_left-clause-place g c =
+    let v = c.lines.invariant in
+    let known = unread g.C.Read.remaining c.args.cert.now in
+    let old = to_come g.C.Read.remaining c.lines.lines c.lines.cert in
+    let left = unread g.C.Read.remaining c.next_line.new.cert in
+    let more = to_come g.C.Read.remaining c.next_line.new.self c.next_line.new.cert in
+    let held = held_line c.next_line.new.self in
+    let found : c.in-Ok-next_line.found ≡ false = c.if-not-found.true in
+    let given = subst (GivesLine old more held) found c.in-Ok-next_line.ensures.given in
+    record {
+      files = v.taken;
+      place = late_breaks c.args.bench.now v.head v.k c.lines.walk.used v.taken c.lines.walk.link.state known old left (has_failed c.next_line.new.cert) (g.S.Failing.failed c.lines.shelf) (g.T.Failing.failed c.lines.listener)
+          (bytes_ahead c.next_line.new.self) c.args.rec.now c.lines.rec c.none_left.new.rec held c.none_left.new.rec.to_come c.in-Err-none_left.fault v.none_left c.next_line.ensures.few given (c.next_line.ensures.kept (λ e. cc (c.in-Ok-next_line.is, found, e))) v.counted c.in-Err-none_left.ensures.err c.in-Err-none_left.ensures.given v.told;
+      put = v.put;
+    }

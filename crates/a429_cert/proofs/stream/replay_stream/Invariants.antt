@@ -23,6 +23,7 @@ invariant-lines g l = record {
   put : GainsAll (g.S.Shelf.files l.fn.shelf) (g.S.Shelf.files l.shelf) 1 taken;
   noted : l.walk.files.items ≡ sizes taken;
   few : l.walk.used ≤ l.walk.lines;
+  counted : l.rec.count ≡ l.fn.rec.count + l.walk.used;
   room : l.walk.lines + room_left l.lines l.cert ≤ left_of l.fn.cert;
   link : l.walk.link.profile ≡ l.bench;
   bench : l.walk.profile.now ≡ l.bench;

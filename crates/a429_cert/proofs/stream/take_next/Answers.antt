@@ -1,13 +1,13 @@
-use Rattle.std.proofs.Common.{◌≤◌, Option, option_map, subst, sym}
+use Rattle.std.proofs.Common.{◌≡◌, ◌≤◌, ◌+◌, Option, option_map, subst, sym}
 use Rattle.std.proofs.lemmas.Result.{IfOk-weaker, IfErr-weaker}
 use Rattle.a429_link.specs.declared.seen.Seen.{Seen}
 use Rattle.a429_record.specs.declared.fault.ReadFault.TheVariants as read
 use Rattle.a429_cert.specs.declared.listed.Listed.{Listed}
 use Rattle.a429_cert.specs.declared.listed.Listed.TheVariants as listed
 use Rattle.a429_cert.specs.Explained.{seen_of}
-use Rattle.a429_cert.specs.Passing.{PassesListed}
-use Rattle.a429_cert.specs.Stream.{WalksNext, EndsNext, IsNotTaken}
-use Rattle.a429_cert.proofs.StreamFacts.{passes_next, few_used}
+use Rattle.a429_cert.specs.Passing.{PassesListed, uses_listed}
+use Rattle.a429_cert.specs.Stream.{WalksNext, EndsNext, IsNotTaken, GivesAtFault}
+use Rattle.a429_cert.proofs.StreamFacts.{passes_next, few_used, used_given, most_given, none_given, not_taken_given}
 use Rattle.a429_cert.proofs.ToldFacts.{ends_next, not_read}
 use Rattle.a429_cert.proofs.stream.take_next.Goals as goal
 
@@ -74,4 +74,52 @@ returns-in-Moved-clause-refused g c =
     IfErr-weaker c.take_other.result (IsNotTaken walk (listed.Moved c.in-Moved.line) next) (EndsNext walk c.args.listed c.args.rec.now.to_come)
     (λ f h. ends_next walk c.args.listed c.args.rec.now.to_come c.entry_for.new.rec.to_come next f c.in-Ok.ensures.taken
     (subst (λ (x : Listed). IsNotTaken walk x next f) (sym c.in-Moved.is) h))
+    c.take_other.ensures.refused
+
+pub returns-in-Err-clause-given : goal.returns-in-Err-clause-given
+returns-in-Err-clause-given g c =
+    let old = c.args.rec.now.count in
+    let new = c.entry_for.new.rec.count in
+    subst (λ f. GivesAtFault (uses_listed c.args.listed ≡ 1) f old new) (sym c.of_read.ensures) (none_given (uses_listed c.args.listed ≡ 1) c.in-Err.fault old new c.in-Err.ensures.none)
+
+pub returns-in-Load-clause-counts : goal.returns-in-Load-clause-counts
+returns-in-Load-clause-counts g c =
+    let walk = c.args.walk.now in
+    let p = walk.link.profile in
+    let t = c.take_load.new.walk.link.state in
+    let next = option_map seen_of c.in-Ok.next in
+    IfOk-weaker c.take_load.result (λ used. (o : Option Seen) → PassesListed p (listed.Load c.in-Load.unit) o walk.link.state t used) (λ used. c.entry_for.new.rec.count ≡ c.args.rec.now.count + used)
+    (λ used h. used_given p c.args.listed c.in-Ok.next walk.link.state t used c.args.rec.now.count c.entry_for.new.rec.count c.in-Ok.ensures.given
+    (subst (λ (x : Listed). PassesListed p x next walk.link.state t used) (sym c.in-Load.is) (h next)))
+    c.take_load.ensures.passed
+
+pub returns-in-Load-clause-given : goal.returns-in-Load-clause-given
+returns-in-Load-clause-given g c =
+    let walk = c.args.walk.now in
+    let old = c.args.rec.now.count in
+    let new = c.entry_for.new.rec.count in
+    let next = option_map seen_of c.in-Ok.next in
+    IfErr-weaker c.take_load.result (λ f. (o : Option Seen) → IsNotTaken walk (listed.Load c.in-Load.unit) o f) (λ f. GivesAtFault (uses_listed c.args.listed ≡ 1) f old new)
+    (λ f h. not_taken_given walk (listed.Load c.in-Load.unit) next (uses_listed c.args.listed ≡ 1) f old new (h next) (most_given (uses_listed c.args.listed) c.in-Ok.next old new c.in-Ok.ensures.given))
+    c.take_load.ensures.refused
+
+pub returns-in-Moved-clause-counts : goal.returns-in-Moved-clause-counts
+returns-in-Moved-clause-counts g c =
+    let walk = c.args.walk.now in
+    let p = walk.link.profile in
+    let t = c.take_other.new.walk.link.state in
+    let next = option_map seen_of c.in-Ok.next in
+    IfOk-weaker c.take_other.result (PassesListed p (listed.Moved c.in-Moved.line) next walk.link.state t) (λ used. c.entry_for.new.rec.count ≡ c.args.rec.now.count + used)
+    (λ used h. used_given p c.args.listed c.in-Ok.next walk.link.state t used c.args.rec.now.count c.entry_for.new.rec.count c.in-Ok.ensures.given
+    (subst (λ (x : Listed). PassesListed p x next walk.link.state t used) (sym c.in-Moved.is) h))
+    c.take_other.ensures.passed
+
+pub returns-in-Moved-clause-given : goal.returns-in-Moved-clause-given
+returns-in-Moved-clause-given g c =
+    let walk = c.args.walk.now in
+    let old = c.args.rec.now.count in
+    let new = c.entry_for.new.rec.count in
+    let next = option_map seen_of c.in-Ok.next in
+    IfErr-weaker c.take_other.result (IsNotTaken walk (listed.Moved c.in-Moved.line) next) (λ f. GivesAtFault (uses_listed c.args.listed ≡ 1) f old new)
+    (λ f h. not_taken_given walk (listed.Moved c.in-Moved.line) next (uses_listed c.args.listed ≡ 1) f old new h (most_given (uses_listed c.args.listed) c.in-Ok.next old new c.in-Ok.ensures.given))
     c.take_other.ensures.refused
