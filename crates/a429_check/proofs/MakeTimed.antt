@@ -1,11 +1,11 @@
 -- Words as entries of a recording, one after the other.
-use Rattle.std.proofs.Common.{◌≡◌, ℕ, suc, ◌+◌, ◌*◌, ◌<◌, List, [], ◌∷◌, ◌++◌, length, take, get_or, sym, ap, ◌∙◌, arith, append-nil}
+use Rattle.std.proofs.Common.{◌≡◌, ℕ, suc, ◌+◌, ◌*◌, ◌<◌, List, [], ◌∷◌, ◌++◌, length, take, drop, take-append-drop, get_or, refl, sym, ap, ◌∙◌, arith, append-nil, append_assoc}
 use Rattle.std.specs.List.{flat_map}
 use Rattle.std.proofs.lemmas.Grind.{flat_map-append}
 use Rattle.std.proofs.lemmas.List.{take_more, length-take-le}
 use Rattle.a429_link.specs.declared.seen.Seen.{Seen}
 use Rattle.a429_record.specs.declared.entry.Entry.{Entry}
-use Rattle.a429_record.specs.Writing.{line_text}
+use Rattle.a429_record.specs.Writing.{header_text, line_text, written_form}
 use Rattle.a429_check.specs.Make.{timed}
 
 abbrev pub entry_at : ℕ → Seen → Entry
@@ -43,3 +43,11 @@ pub lines-append : (xs ys : List Seen) (n : ℕ) → n ≡ length xs → flat_ma
 lines-append xs ys n e =
     ap (flat_map line_text) (timed-append 0 xs ys) ∙ flat_map-append line_text (timed 0 xs) (timed (0 + length xs) ys)
     ∙ ap (λ k. flat_map line_text (timed 0 xs) ++ flat_map line_text (timed k ys)) (omega (arith, e))
+
+-- a recording of some words, and the lines of the rest
+pub recording-rest : (words : List Seen) (n : ℕ) → written_form (timed 0 (take n words)) ++ flat_map line_text (timed (length (take n words)) (drop n words)) ≡ written_form (timed 0 words)
+recording-rest words n =
+    let some = take n words in
+    let others = drop n words in
+    append_assoc header_text (flat_map line_text (timed 0 some)) (flat_map line_text (timed (length some) others))
+    ∙ ap (λ t. header_text ++ t) (sym (lines-append some others (length some) refl) ∙ ap (λ ws. flat_map line_text (timed 0 ws)) (take-append-drop n words))

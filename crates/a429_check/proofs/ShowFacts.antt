@@ -1,5 +1,5 @@
 -- The lines of a recording, entry by entry.
-use Rattle.std.proofs.Common.{◌≡◌, ℕ, ◌+◌, ◌<◌, List, [], ◌∷◌, ◌++◌, length, take, get_or, sym, ap, ◌∙◌, append-nil, append_assoc, refl, Bool, true, false, ◌≢◌, ◌⊎◌, inl, inr, codes, ◌-◌}
+use Rattle.std.proofs.Common.{◌≡◌, ℕ, ◌+◌, ◌<◌, List, [], ◌∷◌, ◌++◌, length, take, get_or, sym, ap, ◌∙◌, append-nil, append_assoc, refl, Bool, true, false, ◌≢◌, ◌⊎◌, inl, inr, codes, ◌-◌, Option, Result, Ok, Err}
 use Rattle.std.specs.Int.{bit_at}
 use Rattle.std.specs.Fmt.{decimal}
 use Rattle.std.proofs.lemmas.Fmt.{decimal_digit}
@@ -7,7 +7,14 @@ use Rattle.std.proofs.lemmas.List.{take_more}
 use Rattle.a429_profile.specs.declared.entry.Flag.{Flag}
 use Rattle.a429_profile.specs.Profile.{Contents}
 use Rattle.a429_record.specs.declared.entry.Entry.{Entry}
-use Rattle.a429_check.specs.Show.{flag_text, IsShowLine, AreShowLines}
+use Rattle.std.specs.Prelude.{◌==◌, ◌↔◌, IsErr, OnOk}
+use Rattle.std.proofs.Math.Seq.{take-append_seam}
+use Rattle.std.proofs.lemmas.Bool.{false_from_ne_true}
+use Rattle.a429_word.specs.declared.sheet.Sheet.{Sheet}
+use Rattle.a429_word.specs.Sheet.{IsWritten, sheet_failed, Says}
+use Rattle.a429_word.proofs.SheetFacts.{says_works, has_all_at_ok}
+use Rattle.a429_check.specs.Output.{PutsText}
+use Rattle.a429_check.specs.Show.{unit_text, flag_text, SaysSome, IsShowLine, AreShowLines, AreFirstShowLines}
 
 -- a flag's text, of which the last two bytes are written at once
 pub flag_text-is : (field digit : ℕ) (f : Flag) → bit_at field (f.bit - 11) ≡ digit → digit < 10 → codes " " ++ f.name ++ (61 ∷ (48 + digit) ∷ []) ≡ flag_text field f
@@ -30,3 +37,23 @@ AreShowLines-next p es i e text line h found lines is = rw (take_more es i e h �
 pub not_the_reader : {E P : Type 0} (e : E) (failed : Bool) → failed ≡ false → (e ≢ e) ⊎ (failed ≡ true) → P
 not_the_reader e failed h (inl other) = absurd (other refl)
 not_the_reader e failed h (inr is) = absurd (cc)
+
+-- a unit that is there, after a space
+pub unit_text-is : (unit : List ℕ) → (length unit == 0) ≡ false → codes " " ++ unit ≡ unit_text unit
+unit_text-is [] none = absurd (cc (none))
+unit_text-is (c ∷ cs) some = refl
+
+-- the lines of some entries are those of the first ones of these and more
+pub AreShowLines-first : (p : Contents) (es more all : List Entry) (text : List ℕ) → es ++ more ≡ all → AreShowLines p es text → AreFirstShowLines p all text
+AreShowLines-first p es more all text e lines = (length es, rw (ap (take (length es)) (sym e) ∙ take-append_seam es more) lines)
+
+-- some text that is such, put where the output works, is what it has at Ok
+pub some_at_ok : {W T E : Type 0} {contents : W → Option (List ℕ)} {start last done : Sheet W} {IsSuch : List ℕ → Type 0} (r : Result T E)
+    → start.page.now ≡ [] → (sheet_failed last ≡ false → SaysSome contents start last IsSuch) → Says contents last done []
+    → OnOk r (IsWritten contents done) → (IsErr r ↔ (sheet_failed done ≡ true)) → OnOk r (PutsText contents start.out.now done.out.now IsSuch)
+some_at_ok {E} {done} (Ok x) empty some rest whole device =
+    let works : sheet_failed done ≡ false = false_from_ne_true _ (λ failed. absurd (cc (device.1 failed))) in
+    let text = some (says_works rest works) in
+    let puts = has_all_at_ok {E = E} (Ok x) empty text.2 rest whole device in
+    (text.0, text.1, puts)
+some_at_ok (Err e) empty some rest whole device = tt

@@ -1,5 +1,5 @@
 -- What `a429 show` writes, and why it may fail (profile).
-use Rattle.std.specs.Prelude.{◌≡◌, ◌⊎◌, ℕ, ◌-◌, List, [], ◌∷◌, ◌++◌, codes, Bool, true, false, Option}
+use Rattle.std.specs.Prelude.{◌≡◌, ◌⊎◌, ℕ, ◌-◌, List, [], ◌∷◌, ◌++◌, take, codes, Bool, true, false, Option}
 use Rattle.std.specs.List.{flat_map}
 use Rattle.std.specs.Int.{bit_at}
 use Rattle.std.specs.Fmt.{decimal}
@@ -8,9 +8,9 @@ use Rattle.a429_word.specs.Word.{label_of, sdi_of, ssm_of}
 use Rattle.a429_word.specs.Digits.{hex_text, octal_text}
 use Rattle.a429_word.specs.Bus.{bus_text}
 use Rattle.a429_word.specs.declared.fixed.Fixed.{Fixed}
-use Rattle.a429_word.specs.declared.tally.Tally.{Tally}
+use Rattle.a429_word.specs.declared.sheet.Sheet.{Sheet}
 use Rattle.a429_word.specs.Fixed.{SpellsFraction}
-use Rattle.a429_word.specs.Page.{PutsOn}
+use Rattle.a429_word.specs.Sheet.{Says}
 use Rattle.a429_profile.specs.declared.entry.Flag.{Flag}
 use Rattle.a429_profile.specs.declared.entry.Kind.{Kind}
 use Rattle.a429_profile.specs.declared.entry.Kind.TheVariants.{Bnr, Bcd, Discrete}
@@ -90,14 +90,18 @@ pub record IsShowLine (p : Contents) (e : Entry) (line : List ℕ) : Type 0 wher
   pub is_text : IsShownText what text
   pub layout : line ≡ recorded_text e ++ fields_text e.word ++ text ++ codes "\n"
 
--- a writer, and the page behind it, have gained some text that is such
-abbrev pub PutsSome : {W : Type 0} → (W → Option (List ℕ)) → Tally W → List ℕ → Tally W → List ℕ → (List ℕ → Type 0) → Type 0
-PutsSome contents out page new_out new_page Is = (text : List ℕ) × Is text × PutsOn contents out page new_out new_page text
+-- a sheet says some text that is such
+abbrev pub SaysSome : {W : Type 0} → (W → Option (List ℕ)) → Sheet W → Sheet W → (List ℕ → Type 0) → Type 0
+SaysSome contents old new IsSuch = (text : List ℕ) × IsSuch text × Says contents old new text
 
 -- the lines of entries, in their order
 abbrev pub AreShowLines : Contents → List Entry → List ℕ → Type 0
 AreShowLines p [] text = text ≡ []
 AreShowLines p (e ∷ es) text = (line : List ℕ) × (rest : List ℕ) × IsShowLine p e line × AreShowLines p es rest × (text ≡ line ++ rest)
+
+-- the lines of the first so many entries
+abbrev pub AreFirstShowLines : Contents → List Entry → List ℕ → Type 0
+AreFirstShowLines p es text = (count : ℕ) × AreShowLines p (take count es) text
 
 -- the text is that of what a profile's text and a recording say
 pub record ShowsEntries (profile : List ℕ) (recording : Option (List ℕ)) (text : List ℕ) : Type 0 where

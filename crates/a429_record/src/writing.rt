@@ -2,8 +2,9 @@
 
 ghost use Rattle.std.specs.Prelude.{◌≡◌, ◌↔◌, ◌++◌, ◌∷◌, [], ℕ, List, true, codes, IsErr, IsErrOf, OnOk};
 ghost use Rattle.std.specs.Fmt.{decimal};
-ghost use Rattle.a429_word.specs.Tally.{has_failed, Puts};
-ghost use Rattle.a429_word.specs.Page.{PutsOn};
+ghost use Rattle.std.specs.List.{flat_map};
+ghost use Rattle.a429_word.specs.Tally.{has_failed, Puts, PutsFront};
+ghost use Rattle.a429_word.specs.Sheet.{Says};
 ghost use Rattle.a429_word.specs.Digits.{hex_text};
 ghost use Rattle.a429_word.specs.Bus.{bus_text};
 ghost use Rattle.a429_record.specs.Writing.{header_text, line_text, entry_text, written_form};
@@ -12,7 +13,7 @@ ghost use Rattle.a429_record.specs.declared.fault.WriteFault.TheVariants as faul
 
 use crate::entry::Entry;
 use crate::fault::WriteFault;
-use a429_word::{Bus, Device, Failing, Page, Tally, Word};
+use a429_word::{Bus, Device, Failing, Page, Sheet, Tally, Word};
 use itoa::write_digits;
 use std::alloc::Global;
 use std::io::Write;
@@ -21,7 +22,7 @@ use std::io::Write;
 const LONGEST_TIME: usize = 20;
 
 /// Writes entries, at most 1,000,000 whose times never fall, as a text recording: the header, and a
-/// line for each. Nothing is written for want of memory.
+/// line for each. If memory runs out, nothing is written; after `Device` a prefix has been.
 pub fn write_entries<W: Write>(
     alloc: Global,
     out: &mut Tally<W>,
@@ -30,6 +31,7 @@ pub fn write_entries<W: Write>(
     requires { IsRecordable entries.now }
     ensures ok { OnOk result (Puts W.contents out.old out.new (written_form entries.now)) }
     ensures device { IsErrOf result fault.Device ↔ (has_failed out.new ≡ true) }
+    ensures prefix { PutsFront W.contents out.old out.new (written_form entries.now) }
     ensures memory { IsErrOf result fault.OutOfMemory → out.new ≡ out.old }
 {
     if out.failed() {
@@ -48,49 +50,51 @@ pub fn write_entries<W: Write>(
 fn put_entries<W: Write>(page: Page, out: &mut Tally<W>, entries: &[Entry]) -> Result<(), Device>
     requires { page ≡ [] }
     ensures ok { OnOk result (Puts W.contents out.old out.new (written_form entries.now)) }
+    ensures prefix { PutsFront W.contents out.old out.new (written_form entries.now) }
     ensures device { IsErr result ↔ (has_failed out.new ≡ true) }
 {
     let mut page = page;
-    put_header(&mut page, out)?;
+    let mut sheet = Sheet::new(out, &mut page);
+    put_header(&mut sheet);
+    put_lines(&mut sheet, entries);
+    sheet.finish()
+}
+
+// A line for each entry.
+fn put_lines<W: Write>(sheet: &mut Sheet<'_, W>, entries: &[Entry])
+    ensures { Says W.contents sheet.old sheet.new (flat_map line_text entries.now) }
+{
     for entry in entries {
-        put_line(&mut page, out, *entry)?;
+        if sheet.failed() {
+            return;
+        }
+        put_line(sheet, *entry);
     }
-    page.finish(out)
 }
 
-/// Puts the header of a recording on a page.
-pub fn put_header<W: Write>(page: &mut Page, out: &mut Tally<W>) -> Result<(), Device>
-    ensures ok { OnOk result (PutsOn W.contents out.old page.old out.new page.new header_text) }
-    ensures device { IsErr result → has_failed out.new ≡ true }
+/// Puts the header of a recording.
+pub fn put_header<W: Write>(sheet: &mut Sheet<'_, W>)
+    ensures { Says W.contents sheet.old sheet.new header_text }
 {
-    page.put(out, b"time,bus,word\n")
+    sheet.put(b"time,bus,word\n");
 }
 
-/// Puts the line of an entry on a page.
-pub fn put_line<W: Write>(page: &mut Page, out: &mut Tally<W>, entry: Entry) -> Result<(), Device>
-    ensures ok { OnOk result (PutsOn W.contents out.old page.old out.new page.new (line_text entry)) }
-    ensures device { IsErr result → has_failed out.new ≡ true }
+/// Puts the line of an entry.
+pub fn put_line<W: Write>(sheet: &mut Sheet<'_, W>, entry: Entry)
+    ensures { Says W.contents sheet.old sheet.new (line_text entry) }
 {
-    put_parts(page, out, entry, b',', b'\n')
+    put_parts(sheet, entry, b',', b'\n');
 }
 
-/// Puts the time, the bus and the word of an entry on a page, with one byte between them and one behind
-/// them.
+/// Puts the time, the bus and the word of an entry, with one byte between them and one after them.
 #[inline(always)]
-pub fn put_parts<W: Write>(
-    page: &mut Page,
-    out: &mut Tally<W>,
-    entry: Entry,
-    between: u8,
-    behind: u8,
-) -> Result<(), Device>
-    ensures ok { OnOk result (PutsOn W.contents out.old page.old out.new page.new (entry_text between behind entry)) }
-    ensures device { IsErr result → has_failed out.new ≡ true }
+pub fn put_parts<W: Write>(sheet: &mut Sheet<'_, W>, entry: Entry, between: u8, after: u8)
+    ensures { Says W.contents sheet.old sheet.new (entry_text between after entry) }
 {
     let mut text = [0; LONGEST_TIME + 12];
-    text[LONGEST_TIME..].copy_from_slice(&bus_and_word(entry.bus, entry.word, between, behind));
+    text[LONGEST_TIME..].copy_from_slice(&bus_and_word(entry.bus, entry.word, between, after));
     let start = write_digits(entry.time, &mut text, LONGEST_TIME);
-    page.put(out, &text[start..])
+    sheet.put(&text[start..]);
 }
 
 // A bus and a word, one byte before each and one behind them.

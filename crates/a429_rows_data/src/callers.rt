@@ -5,8 +5,8 @@ use a429_ldu::{CutFault, Ldu, cut};
 use a429_profile::{Profile, ProfileFault, read_profile};
 use a429_record::{Entry, ReadFault, read_entries};
 use a429_sample::{PROFILE, RECORDING, SOT};
-use a429_word::{Bus, Device, Tally, Word, octal};
-use std::alloc::Global;
+use a429_word::{Bus, Device, Page, Sheet, Tally, Word, octal};
+use std::alloc::{AllocError, Global};
 use std::io::{Read, Write};
 
 /// Writes a word and its label.
@@ -23,6 +23,29 @@ fn a_word_and_its_label(rt: HostRuntime) {
     let written = write_label(Word::from_u32(0xE138_80C1), &mut Tally::new(&mut text, 0));
     assert!(rt; written.is_ok());
     assert!(rt; text.as_slice() == b"E13880C1 203\n".as_slice());
+}
+
+/// Writes words, a line for each, by an empty page.
+fn write_words<W: Write>(mut page: Page, words: &[Word], out: &mut Tally<W>) -> Result<(), Device> {
+    let mut sheet = Sheet::new(out, &mut page);
+    for word in words {
+        sheet.put(&word.hex());
+        sheet.put(b"\n");
+    }
+    sheet.finish()
+}
+
+// Whether two words are written so.
+fn are_written(alloc: Global) -> Result<bool, AllocError> {
+    let mut text = Vec::new(alloc);
+    let words = [Word::from_u32(0xE138_80C1), Word::from_u32(1)];
+    let written = write_words(Page::new(alloc)?, &words, &mut Tally::new(&mut text, 0));
+    Ok(written.is_ok() && text.as_slice() == b"E13880C1\n00000001\n".as_slice())
+}
+
+#[test]
+fn words_on_a_sheet(rt: HostRuntime) {
+    assert!(rt; are_written(rt.alloc()) == Ok(true));
 }
 
 /// How many of a recording's words were on bus A.

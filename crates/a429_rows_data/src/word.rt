@@ -3,6 +3,6 @@
 mod bcd;
 mod fields;
 mod fixed;
-mod page;
 mod screening;
+mod sheet;
 mod tally;

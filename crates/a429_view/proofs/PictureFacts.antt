@@ -1,11 +1,6 @@
 -- The rows of a picture, one after the other.
-use Rattle.std.proofs.KnownBytes.{Appends-kept}
-use Rattle.std.specs.Io.KnownBytes.{append_known, Appends, Keeps}
-use Rattle.std.proofs.Common.{◌≡◌, ◌+◌, ◌*◌, ◌<◌, ◌++◌, ◌∷◌, ◌∙◌, ℕ, List, [], length, take, get_or, refl, sym, ap, subst, Option, Some, None, arith, append-nil, append_assoc}
+use Rattle.std.proofs.Common.{◌≡◌, ◌+◌, ◌*◌, ◌<◌, ◌++◌, ◌∷◌, ◌∙◌, ℕ, List, [], length, take, get_or, sym, ap, arith, append-nil, append_assoc}
 use Rattle.std.proofs.lemmas.List.{take_more, length-take-le}
-use Rattle.a429_word.specs.declared.tally.Tally.{Tally}
-use Rattle.a429_word.specs.Tally.{inner_of, Puts}
-use Rattle.a429_word.specs.Page.{paged, PutsOn}
 use Rattle.a429_profile.specs.declared.codes.Codes.{Codes}
 use Rattle.a429_view.specs.declared.mark.Mark.{Mark}
 use Rattle.a429_view.specs.Picture.{row_text, rows_text}
@@ -29,16 +24,3 @@ rows-more c rows i m h found =
     ap (rows_text c 0) (take_more rows i m h ∙ ap (λ (y : Mark). take i rows ++ y ∷ []) (sym found))
     ∙ rows-push c 0 (take i rows) m
     ∙ ap (λ (k : ℕ). rows_text c 0 (take i rows) ++ row_text c (30 * k + 70) m) n
-
--- ---- an empty page that is put at the end
-
-of_empty : (known new : Option (List ℕ)) (text : List ℕ) → Appends (append_known known []) new text → Appends known new text
-of_empty None new text h = tt
-of_empty (Some bytes) None text h = h
-of_empty (Some bytes) (Some more) text h = h ∙ ap (λ (t : List ℕ). t ++ text) (append-nil bytes)
-
-pub finished : {W : Type 0} (contents : W → Option (List ℕ)) (old out new : Tally W) (page rest text : List ℕ) → page ≡ []
-    → PutsOn contents old page out rest text → Keeps (paged contents out rest) (contents (inner_of new)) → Puts contents old new text
-finished contents old out new page rest text blank h k =
-    let puts = subst (λ (p : List ℕ). PutsOn contents old p out rest text) blank h in
-    of_empty (contents (inner_of old)) (contents (inner_of new)) text (Appends-kept (paged contents old []) (paged contents out rest) (contents (inner_of new)) text puts k)

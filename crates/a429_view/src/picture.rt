@@ -2,8 +2,8 @@
 
 ghost use Rattle.std.specs.Prelude.{◌≡◌, ◌↔◌, ◌≤◌, ◌+◌, ◌*◌, ◌++◌, [], codes, length, true, IsErr, OnOk};
 ghost use Rattle.std.specs.Fmt.{decimal};
-ghost use Rattle.a429_word.specs.Tally.{has_failed, Puts};
-ghost use Rattle.a429_word.specs.Page.{PutsOn};
+ghost use Rattle.a429_word.specs.Tally.{has_failed, Puts, PutsFront};
+ghost use Rattle.a429_word.specs.Sheet.{Says};
 ghost use Rattle.a429_view.specs.Picture.{stamp_text, arrow_text, crosses_text, word_text, seen_text, unseen_text, load_text, mark_text, row_text, rows_text, style_text, frame_text, names_text, size_text, head_text, svg_text};
 
 use crate::forms::{put_named, put_what};
@@ -11,10 +11,10 @@ use crate::mark::{Mark, Recorded};
 use a429_cert::Act;
 use a429_link::UnitNumber;
 use a429_profile::Profile;
-use a429_word::{Bus, Device, Page, Tally};
+use a429_word::{Bus, Device, Page, Sheet, Tally};
 use std::io::Write;
 
-/// Writes the picture of these rows as SVG, by an empty page. After `Device` a front of it has been written.
+/// Writes the picture of these rows as SVG, by an empty page. After `Device` a prefix of it has been written.
 pub fn put_picture<W: Write>(
     page: Page,
     out: &mut Tally<W>,
@@ -24,175 +24,129 @@ pub fn put_picture<W: Write>(
     requires empty { page ≡ [] }
     requires few { length rows.now ≤ 2000 }
     ensures ok { OnOk result (Puts W.contents out.old out.new (svg_text profile.now.codes rows.now)) }
+    ensures prefix { PutsFront W.contents out.old out.new (svg_text profile.now.codes rows.now) }
     ensures device { IsErr result ↔ (has_failed out.new ≡ true) }
 {
     let mut page = page;
-    put_svg(&mut page, out, profile, rows)?;
-    page.finish(out)
+    let mut sheet = Sheet::new(out, &mut page);
+    put_svg(&mut sheet, profile, rows);
+    sheet.finish()
 }
 
-fn put_svg<W: Write>(
-    page: &mut Page,
-    out: &mut Tally<W>,
-    profile: &Profile,
-    rows: &[Mark],
-) -> Result<(), Device>
+fn put_svg<W: Write>(sheet: &mut Sheet<'_, W>, profile: &Profile, rows: &[Mark])
     requires { length rows.now ≤ 2000 }
-    ensures ok { OnOk result (PutsOn W.contents out.old page.old out.new page.new (svg_text profile.now.codes rows.now)) }
-    ensures device { IsErr result → has_failed out.new ≡ true }
+    ensures { Says W.contents sheet.old sheet.new (svg_text profile.now.codes rows.now) }
 {
-    put_head(page, out, 30 * rows.len() as u64 + 90)?;
-    put_rows(page, out, profile, rows)?;
-    page.put(out, b"</svg>\n")
+    put_head(sheet, 30 * rows.len() as u64 + 90);
+    put_rows(sheet, profile, rows);
+    sheet.put(b"</svg>\n");
 }
 
 // What stands around the rows of a picture that is so high.
-fn put_head<W: Write>(page: &mut Page, out: &mut Tally<W>, height: u64) -> Result<(), Device>
-    ensures ok { OnOk result (PutsOn W.contents out.old page.old out.new page.new (head_text height)) }
-    ensures device { IsErr result → has_failed out.new ≡ true }
+fn put_head<W: Write>(sheet: &mut Sheet<'_, W>, height: u64)
+    ensures { Says W.contents sheet.old sheet.new (head_text height) }
 {
-    put_size(page, out, height)?;
-    put_style(page, out)?;
-    put_frame(page, out, height)?;
-    put_names(page, out)
+    put_size(sheet, height);
+    put_style(sheet);
+    put_frame(sheet, height);
+    put_names(sheet);
 }
 
-fn put_size<W: Write>(page: &mut Page, out: &mut Tally<W>, height: u64) -> Result<(), Device>
-    ensures ok { OnOk result (PutsOn W.contents out.old page.old out.new page.new (size_text height)) }
-    ensures device { IsErr result → has_failed out.new ≡ true }
+fn put_size<W: Write>(sheet: &mut Sheet<'_, W>, height: u64)
+    ensures { Says W.contents sheet.old sheet.new (size_text height) }
 {
-    page.put(
-        out,
-        b"<svg xmlns='http://www.w3.org/2000/svg' width='880' height='",
-    )?;
-    page.put_number(out, height)?;
-    page.put(out, b"' viewBox='0 0 880 ")?;
-    page.put_number(out, height)?;
-    page.put(
-        out,
-        b"'>\n<title>Messages between source and sink</title>\n",
-    )
+    sheet.put(b"<svg xmlns='http://www.w3.org/2000/svg' width='880' height='");
+    sheet.put_number(height);
+    sheet.put(b"' viewBox='0 0 880 ");
+    sheet.put_number(height);
+    sheet.put(b"'>\n<title>Messages between source and sink</title>\n");
 }
 
-fn put_style<W: Write>(page: &mut Page, out: &mut Tally<W>) -> Result<(), Device>
-    ensures ok { OnOk result (PutsOn W.contents out.old page.old out.new page.new style_text) }
-    ensures device { IsErr result → has_failed out.new ≡ true }
+fn put_style<W: Write>(sheet: &mut Sheet<'_, W>)
+    ensures { Says W.contents sheet.old sheet.new style_text }
 {
-    page.put(
-        out,
+    sheet.put(
         b"<style>\ntext{font:13px monospace;fill:#1a1a1a}path{fill:none;stroke:#1a1a1a;stroke-width:1.5}.head{fill:#1a1a1a;stroke:none}.page{fill:#fff}\n",
-    )?;
-    page.put(
-        out,
-        b".end{text-anchor:end}.mid{text-anchor:middle}.dash{stroke-dasharray:7 5}\n",
-    )?;
-    page.put(
-        out,
+    );
+    sheet.put(b".end{text-anchor:end}.mid{text-anchor:middle}.dash{stroke-dasharray:7 5}\n");
+    sheet.put(
         b"text.pale{fill:#717171}path.pale{stroke:#717171}.note{fill:#b3261e}.lost{stroke:#b3261e}\n",
-    )?;
-    page.put(
-        out,
+    );
+    sheet.put(
         b"@media(prefers-color-scheme:dark){text{fill:#ececec}path{stroke:#ececec}.head{fill:#ececec}.page{fill:#161616}\n",
-    )?;
-    page.put(
-        out,
+    );
+    sheet.put(
         b"text.pale{fill:#9a9a9a}path.pale{stroke:#9a9a9a}.note{fill:#ff8a80}.lost{stroke:#ff8a80}}\n</style>\n",
-    )
+    );
 }
 
 // The page, and the lines of source and sink.
-fn put_frame<W: Write>(page: &mut Page, out: &mut Tally<W>, height: u64) -> Result<(), Device>
-    ensures ok { OnOk result (PutsOn W.contents out.old page.old out.new page.new (frame_text height)) }
-    ensures device { IsErr result → has_failed out.new ≡ true }
+fn put_frame<W: Write>(sheet: &mut Sheet<'_, W>, height: u64)
+    ensures { Says W.contents sheet.old sheet.new (frame_text height) }
 {
-    page.put(out, b"<rect class='page' width='880' height='")?;
-    page.put_number(out, height)?;
-    page.put(out, b"'/>\n<path class='pale' d='M300 40V")?;
-    page.put_number(out, height)?;
-    page.put(out, b"M620 40V")?;
-    page.put_number(out, height)?;
-    page.put(out, b"'/>\n")
+    sheet.put(b"<rect class='page' width='880' height='");
+    sheet.put_number(height);
+    sheet.put(b"'/>\n<path class='pale' d='M300 40V");
+    sheet.put_number(height);
+    sheet.put(b"M620 40V");
+    sheet.put_number(height);
+    sheet.put(b"'/>\n");
 }
 
-fn put_names<W: Write>(page: &mut Page, out: &mut Tally<W>) -> Result<(), Device>
-    ensures ok { OnOk result (PutsOn W.contents out.old page.old out.new page.new names_text) }
-    ensures device { IsErr result → has_failed out.new ≡ true }
+fn put_names<W: Write>(sheet: &mut Sheet<'_, W>)
+    ensures { Says W.contents sheet.old sheet.new names_text }
 {
-    page.put(
-        out,
+    sheet.put(
         b"<marker id='head' viewBox='0 0 8 8' refX='8' refY='4' markerWidth='8' markerHeight='8' orient='auto'><path class='head' d='M0 0 8 4 0 8z'/></marker>\n",
-    )?;
-    page.put(
-        out,
+    );
+    sheet.put(
         b"<text class='pale end' x='66' y='28'>entry</text><text class='pale end' x='240' y='28'>time in &#181;s</text>\n",
-    )?;
-    page.put(
-        out,
+    );
+    sheet.put(
         b"<text class='mid' x='300' y='28'>source</text><text class='mid' x='620' y='28'>sink</text>\n",
-    )
+    );
 }
 
 // The rows, one below the other.
-fn put_rows<W: Write>(
-    page: &mut Page,
-    out: &mut Tally<W>,
-    profile: &Profile,
-    rows: &[Mark],
-) -> Result<(), Device>
+fn put_rows<W: Write>(sheet: &mut Sheet<'_, W>, profile: &Profile, rows: &[Mark])
     requires { length rows.now ≤ 2000 }
-    ensures ok { OnOk result (PutsOn W.contents out.old page.old out.new page.new (rows_text profile.now.codes 0 rows.now)) }
-    ensures device { IsErr result → has_failed out.new ≡ true }
+    ensures { Says W.contents sheet.old sheet.new (rows_text profile.now.codes 0 rows.now) }
 {
     for (i, mark) in rows.iter().enumerate() {
-        put_row(page, out, profile, 30 * i as u64 + 70, *mark)?;
+        put_row(sheet, profile, 30 * i as u64 + 70, *mark);
     }
-    Ok(())
 }
 
 // A row that stands at this height.
-fn put_row<W: Write>(
-    page: &mut Page,
-    out: &mut Tally<W>,
-    profile: &Profile,
-    y: u64,
-    mark: Mark,
-) -> Result<(), Device>
-    ensures ok { OnOk result (PutsOn W.contents out.old page.old out.new page.new (row_text profile.now.codes y mark)) }
-    ensures device { IsErr result → has_failed out.new ≡ true }
+fn put_row<W: Write>(sheet: &mut Sheet<'_, W>, profile: &Profile, y: u64, mark: Mark)
+    ensures { Says W.contents sheet.old sheet.new (row_text profile.now.codes y mark) }
 {
-    page.put(out, b"<g transform='translate(0,")?;
-    page.put_number(out, y)?;
-    page.put(out, b")'>")?;
-    put_mark(page, out, profile, mark)?;
-    page.put(out, b"</g>\n")
+    sheet.put(b"<g transform='translate(0,");
+    sheet.put_number(y);
+    sheet.put(b")'>");
+    put_mark(sheet, profile, mark);
+    sheet.put(b"</g>\n");
 }
 
-fn put_mark<W: Write>(
-    page: &mut Page,
-    out: &mut Tally<W>,
-    profile: &Profile,
-    mark: Mark,
-) -> Result<(), Device>
-    ensures ok { OnOk result (PutsOn W.contents out.old page.old out.new page.new (mark_text profile.now.codes mark)) }
-    ensures device { IsErr result → has_failed out.new ≡ true }
+fn put_mark<W: Write>(sheet: &mut Sheet<'_, W>, profile: &Profile, mark: Mark)
+    ensures { Says W.contents sheet.old sheet.new (mark_text profile.now.codes mark) }
 {
     match mark {
-        Mark::Load(number) => put_load(page, out, number),
-        Mark::Unseen(act) => page.put(out, unseen_text(act)),
-        Mark::Seen(recorded) => put_recorded(page, out, profile, &recorded),
+        Mark::Load(number) => put_load(sheet, number),
+        Mark::Unseen(act) => sheet.put(unseen_text(act)),
+        Mark::Seen(recorded) => put_recorded(sheet, profile, &recorded),
     }
 }
 
 // The source is given the link data unit of this number.
-fn put_load<W: Write>(page: &mut Page, out: &mut Tally<W>, number: UnitNumber) -> Result<(), Device>
-    ensures ok { OnOk result (PutsOn W.contents out.old page.old out.new page.new (load_text number)) }
-    ensures device { IsErr result → has_failed out.new ≡ true }
+fn put_load<W: Write>(sheet: &mut Sheet<'_, W>, number: UnitNumber)
+    ensures { Says W.contents sheet.old sheet.new (load_text number) }
 {
     let name = b"<path d='M294 0h12'/><text x='312' y='5'>loads file ";
-    put_named(page, out, name, number.file)?;
-    page.put(out, b" unit ")?;
-    page.put_number(out, number.ldu as u64)?;
-    page.put(out, b"</text>")
+    put_named(sheet, name, number.file);
+    sheet.put(b" unit ");
+    sheet.put_number(number.ldu as u64);
+    sheet.put(b"</text>");
 }
 
 // A step that records nothing.
@@ -215,48 +169,30 @@ fn unseen_text(act: Act) -> &'static [u8]
 }
 
 // A recorded word: its entry, its arrow or tick with its text, and the file that crosses with it.
-fn put_recorded<W: Write>(
-    page: &mut Page,
-    out: &mut Tally<W>,
-    profile: &Profile,
-    recorded: &Recorded,
-) -> Result<(), Device>
-    ensures ok { OnOk result (PutsOn W.contents out.old page.old out.new page.new (seen_text profile.now.codes recorded.now)) }
-    ensures device { IsErr result → has_failed out.new ≡ true }
+fn put_recorded<W: Write>(sheet: &mut Sheet<'_, W>, profile: &Profile, recorded: &Recorded)
+    ensures { Says W.contents sheet.old sheet.new (seen_text profile.now.codes recorded.now) }
 {
-    put_stamp(page, out, recorded.number, recorded.entry.time)?;
-    put_word(page, out, profile, recorded)?;
-    put_crossing(page, out, recorded.crosses)
+    put_stamp(sheet, recorded.number, recorded.entry.time);
+    put_word(sheet, profile, recorded);
+    put_crossing(sheet, recorded.crosses);
 }
 
-fn put_stamp<W: Write>(
-    page: &mut Page,
-    out: &mut Tally<W>,
-    number: usize,
-    time: u64,
-) -> Result<(), Device>
-    ensures ok { OnOk result (PutsOn W.contents out.old page.old out.new page.new (stamp_text number time)) }
-    ensures device { IsErr result → has_failed out.new ≡ true }
+fn put_stamp<W: Write>(sheet: &mut Sheet<'_, W>, number: usize, time: u64)
+    ensures { Says W.contents sheet.old sheet.new (stamp_text number time) }
 {
-    page.put(out, b"<text class='end' x='66' y='5'>")?;
-    page.put_number(out, number as u64)?;
-    page.put(out, b"</text><text class='end' x='240' y='5'>")?;
-    page.put_number(out, time)?;
-    page.put(out, b"</text>")
+    sheet.put(b"<text class='end' x='66' y='5'>");
+    sheet.put_number(number as u64);
+    sheet.put(b"</text><text class='end' x='240' y='5'>");
+    sheet.put_number(time);
+    sheet.put(b"</text>");
 }
 
-fn put_word<W: Write>(
-    page: &mut Page,
-    out: &mut Tally<W>,
-    profile: &Profile,
-    recorded: &Recorded,
-) -> Result<(), Device>
-    ensures ok { OnOk result (PutsOn W.contents out.old page.old out.new page.new (word_text profile.now.codes recorded.now)) }
-    ensures device { IsErr result → has_failed out.new ≡ true }
+fn put_word<W: Write>(sheet: &mut Sheet<'_, W>, profile: &Profile, recorded: &Recorded)
+    ensures { Says W.contents sheet.old sheet.new (word_text profile.now.codes recorded.now) }
 {
-    page.put(out, line_text(recorded.act, recorded.entry.bus))?;
-    put_what(page, out, profile, &recorded.entry)?;
-    page.put(out, b"</text>")
+    sheet.put(line_text(recorded.act, recorded.entry.bus));
+    put_what(sheet, profile, &recorded.entry);
+    sheet.put(b"</text>");
 }
 
 // What is drawn of a recorded word, up to its text.
@@ -274,24 +210,18 @@ fn line_text(act: Act, bus: Bus) -> &'static [u8]
 }
 
 // The file that crosses, beside the sink.
-fn put_crossing<W: Write>(
-    page: &mut Page,
-    out: &mut Tally<W>,
-    file: Option<u8>,
-) -> Result<(), Device>
-    ensures ok { OnOk result (PutsOn W.contents out.old page.old out.new page.new (crosses_text file)) }
-    ensures device { IsErr result → has_failed out.new ≡ true }
+fn put_crossing<W: Write>(sheet: &mut Sheet<'_, W>, file: Option<u8>)
+    ensures { Says W.contents sheet.old sheet.new (crosses_text file) }
 {
     match file {
-        None => Ok(()),
-        Some(file) => put_crossed(page, out, file),
+        None => {}
+        Some(file) => put_crossed(sheet, file),
     }
 }
 
-fn put_crossed<W: Write>(page: &mut Page, out: &mut Tally<W>, file: u8) -> Result<(), Device>
-    ensures ok { OnOk result (PutsOn W.contents out.old page.old out.new page.new (crosses_text (Some file))) }
-    ensures device { IsErr result → has_failed out.new ≡ true }
+fn put_crossed<W: Write>(sheet: &mut Sheet<'_, W>, file: u8)
+    ensures { Says W.contents sheet.old sheet.new (crosses_text (Some file)) }
 {
-    put_named(page, out, b"<text x='632' y='5'>file ", file)?;
-    page.put(out, b" crosses</text>")
+    put_named(sheet, b"<text x='632' y='5'>file ", file);
+    sheet.put(b" crosses</text>");
 }

@@ -16,3 +16,4 @@ pub mod FixedText
 pub mod FixedOneSpelling
 pub mod TallySlices
 pub mod PageFacts
+pub mod SheetFacts

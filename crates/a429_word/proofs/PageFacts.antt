@@ -1,7 +1,8 @@
 -- Bytes on a page, and what was put of them.
-use Rattle.std.proofs.Common.{◌≡◌, ℕ, ◌+◌, ◌≤◌, sym, ap, ◌∙◌, arith, List, [], ◌++◌, length, take, length-append, append_assoc, Option, Some, None}
+use Rattle.std.proofs.Common.{◌≡◌, ℕ, ◌+◌, ◌≤◌, sym, ap, ◌∙◌, arith, List, [], ◌++◌, length, take, length-append, append_assoc, append-nil, Option, Some, None, Result, Ok, Err}
+use Rattle.std.specs.Prelude.{OnOk, OnErr}
 use Rattle.std.proofs.lemmas.List.{length-take-le, take-take, take-append-le}
-use Rattle.std.proofs.Math.Seq.{take-append-add, take-append_seam}
+use Rattle.std.proofs.Math.Seq.{take-append-add, take-append_seam, take-length}
 use Rattle.std.specs.Io.KnownBytes.{Appends, Keeps, append_known}
 use Rattle.a429_word.specs.Tally.{AppendsPrefix}
 
@@ -31,3 +32,25 @@ AppendsPrefix-behind a b c page bytes put front = (length page + front.0, omega 
 pub Appends-empty : (a : Option (List ℕ)) (page : List ℕ) → page ≡ [] → Appends a (append_known a page) []
 Appends-empty None page empty = tt
 Appends-empty (Some xs) page empty = ap (λ t. xs ++ t) empty
+
+-- nothing is a prefix of anything
+pub AppendsPrefix-none : (a b : Option (List ℕ)) (text : List ℕ) → Keeps a b → AppendsPrefix a b text
+AppendsPrefix-none a b text h = (0, omega arith, nothing a b h)
+  where
+    nothing : (a b : Option (List ℕ)) → Keeps a b → Appends a b []
+    nothing None b h = tt
+    nothing (Some x) None h = absurd h
+    nothing (Some x) (Some y) h = h ∙ sym (append-nil x)
+
+-- all of a text is a prefix of it
+pub AppendsPrefix-whole : (a b : Option (List ℕ)) (text : List ℕ) → Appends a b text → AppendsPrefix a b text
+AppendsPrefix-whole a b text h = (length text, omega arith, rw (take-length text) h)
+
+-- a prefix of a text is one of a longer text
+pub AppendsPrefix-longer : (a b : Option (List ℕ)) (text more : List ℕ) → AppendsPrefix a b text → AppendsPrefix a b (text ++ more)
+AppendsPrefix-longer a b text more h = (h.0, omega (arith, h.1, length-append text more), rw (take-append-le h.0 text more h.1) h.2)
+
+-- whether all was written or not, a prefix was
+pub AppendsPrefix-either : {T E : Type 0} (a b : Option (List ℕ)) (r : Result T E) (text : List ℕ) → OnOk r (Appends a b text) → OnErr r (AppendsPrefix a b text) → AppendsPrefix a b text
+AppendsPrefix-either a b (Ok x) text ok err = AppendsPrefix-whole a b text ok
+AppendsPrefix-either a b (Err e) text ok err = err

@@ -7,3 +7,4 @@ pub mod Bus
 pub mod Tally
 pub mod Page
 pub mod Fixed
+pub mod Sheet

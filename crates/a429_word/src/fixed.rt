@@ -3,14 +3,14 @@
 ghost use Rattle.std.specs.Prelude.{◌≡◌, ◌≢◌, ◌↔◌, ◌⊎◌, ◌+◌, ◌*◌, ◌-◌, ◌/◌, ◌%◌, ◌^◌, ◌≤◌, ◌++◌, [], true, IsErr, OnOk, OnErr, pos, ◌*ℤ◌};
 ghost use Rattle.a429_word.specs.Tally.{left_of, has_failed, Puts, PutsFront};
 ghost use Rattle.a429_word.specs.Fixed.{SpellsFraction, SpelledSo};
-ghost use Rattle.a429_word.specs.Page.{PutsOn};
+ghost use Rattle.a429_word.specs.Sheet.{Says};
 
 mod division;
 mod text;
 
 use crate::fixed::division::{power_of_five, without_fives};
 use crate::fixed::text::Text;
-use crate::page::Page;
+use crate::sheet::Sheet;
 use crate::tally::{Device, Tally};
 use std::io::Write;
 
@@ -53,18 +53,14 @@ impl Fixed {
         out.put(text.as_slice())
     }
 
-    /// Puts the same text on a page of output. After `Device` a front of what was on the page and of this
-    /// text has been written.
-    pub fn put_on<W: Write>(&self, page: &mut Page, out: &mut Tally<W>) -> Result<(), Device>
+    /// Puts the same text on a sheet of output.
+    pub fn put_on<W: Write>(&self, sheet: &mut Sheet<'_, W>)
         requires { self.now.decimals ≤ 24 }
-        ensures ok { OnOk result (SpelledSo self.now (λ text. PutsOn W.contents out.old page.old out.new page.new text)) }
-        ensures err { OnErr result (SpelledSo self.now (λ text. PutsFront W.contents out.old out.new (page.old ++ text))) }
-        ensures device { IsErr result → has_failed out.new ≡ true }
-        ensures works { OnOk result (has_failed out.new ≡ has_failed out.old) }
+        ensures { SpelledSo self.now (λ text. Says W.contents sheet.old sheet.new text) }
     {
         let mut text = Text::new();
         self.put_into(&mut text);
-        page.put(out, text.as_slice())
+        sheet.put(text.as_slice());
     }
 
     // Puts the text together from its end.

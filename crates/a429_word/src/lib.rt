@@ -9,6 +9,7 @@ mod fixed;
 pub mod laws;
 mod page;
 mod screening;
+mod sheet;
 mod tally;
 mod word;
 
@@ -18,5 +19,6 @@ pub use crate::digits::{hex_digit, octal};
 pub use crate::fixed::Fixed;
 pub use crate::page::Page;
 pub use crate::screening::{BAD_PARITY, OTHER_LABEL, THIS_LABEL, screen};
+pub use crate::sheet::Sheet;
 pub use crate::tally::{Device, Failing, Tally};
 pub use crate::word::Word;

@@ -47,13 +47,14 @@ impl Page {
     }
 
     /// Puts bytes on the page. Where they have no room the page is put, and then they are. After
-    /// `Device` a front of all this has been written.
+    /// `Device` a prefix of all this has been written.
     #[inline(always)]
     pub fn put<W: Write>(&mut self, out: &mut Tally<W>, bytes: &[u8]) -> Result<(), Device>
         ensures ok { OnOk result (PutsOn W.contents out.old self.old out.new self.new bytes.now) }
-        ensures err { OnErr result (PutsFront W.contents out.old out.new (self.old ++ bytes.now)) }
+        ensures prefix { PutsFront W.contents out.old out.new (self.old ++ bytes.now) }
         ensures device { IsErr result → has_failed out.new ≡ true }
         ensures works { OnOk result (has_failed out.new ≡ has_failed out.old) }
+        ensures stays { has_failed out.old ≡ true → out.new ≡ out.old }
     {
         if bytes.len() > ROOM - self.filled {
             return self.put_past(out, bytes);
@@ -69,7 +70,7 @@ impl Page {
     #[inline(never)]
     fn put_past<W: Write>(&mut self, out: &mut Tally<W>, bytes: &[u8]) -> Result<(), Device>
         ensures ok { OnOk result (PutsOn W.contents out.old self.old out.new self.new bytes.now) }
-        ensures err { OnErr result (PutsFront W.contents out.old out.new (self.old ++ bytes.now)) }
+        ensures prefix { PutsFront W.contents out.old out.new (self.old ++ bytes.now) }
         ensures device { IsErr result ↔ (has_failed out.new ≡ true) }
         ensures stays { has_failed out.old ≡ true → out.new ≡ out.old }
     {
@@ -81,9 +82,10 @@ impl Page {
     #[inline(always)]
     pub fn put_number<W: Write>(&mut self, out: &mut Tally<W>, number: u64) -> Result<(), Device>
         ensures ok { OnOk result (PutsOn W.contents out.old self.old out.new self.new (decimal number)) }
-        ensures err { OnErr result (PutsFront W.contents out.old out.new (self.old ++ decimal number)) }
+        ensures prefix { PutsFront W.contents out.old out.new (self.old ++ decimal number) }
         ensures device { IsErr result → has_failed out.new ≡ true }
         ensures works { OnOk result (has_failed out.new ≡ has_failed out.old) }
+        ensures stays { has_failed out.old ≡ true → out.new ≡ out.old }
     {
         let mut digits = [0; LONGEST];
         let start = write_digits(number, &mut digits, LONGEST);

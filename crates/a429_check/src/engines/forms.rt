@@ -1,8 +1,8 @@
 //! `a429 forms PROFILE REC`: what each word of a recording is to the file transfer, a line for each.
 
 ghost use Rattle.std.specs.Prelude.{◌≡◌, ◌≢◌, ◌⊎◌, ◌↔◌, [], true, false, IsErr, IfOk, IfErr, OnOk};
-ghost use Rattle.a429_word.specs.Tally.{has_failed, unread, Puts};
-ghost use Rattle.a429_word.specs.Page.{PutsOn};
+ghost use Rattle.a429_word.specs.Tally.{has_failed, unread, Puts, PutsFront};
+ghost use Rattle.a429_word.specs.Sheet.{Says};
 ghost use Rattle.a429_check.specs.Output.{PutsText};
 ghost use Rattle.a429_check.specs.Show.{IsShowFault};
 ghost use Rattle.a429_check.specs.Forms.{form_line, form_lines, TellsForms};
@@ -13,7 +13,7 @@ use crate::fault::RunFault;
 use a429_profile::Profile;
 use a429_record::{Entry, put_parts};
 use a429_view::put_what;
-use a429_word::{Device, Page, Tally};
+use a429_word::{Device, Page, Sheet, Tally};
 use std::alloc::Global;
 use std::io::{Read, Write};
 
@@ -49,25 +49,31 @@ fn put_entries<W: Write>(
 ) -> Result<(), Device>
     requires { page ≡ [] }
     ensures ok { OnOk result (Puts W.contents out.old out.new (form_lines profile.now.codes entries.now)) }
+    ensures prefix { PutsFront W.contents out.old out.new (form_lines profile.now.codes entries.now) }
     ensures device { IsErr result ↔ (has_failed out.new ≡ true) }
 {
     let mut page = page;
-    for entry in entries {
-        put_entry(&mut page, out, profile, entry)?;
-    }
-    page.finish(out)
+    let mut sheet = Sheet::new(out, &mut page);
+    put_lines(&mut sheet, profile, entries);
+    sheet.finish()
 }
 
-fn put_entry<W: Write>(
-    page: &mut Page,
-    out: &mut Tally<W>,
-    profile: &Profile,
-    entry: &Entry,
-) -> Result<(), Device>
-    ensures ok { OnOk result (PutsOn W.contents out.old page.old out.new page.new (form_line profile.now.codes entry.now)) }
-    ensures device { IsErr result → has_failed out.new ≡ true }
+// A line for each entry.
+fn put_lines<W: Write>(sheet: &mut Sheet<'_, W>, profile: &Profile, entries: &[Entry])
+    ensures { Says W.contents sheet.old sheet.new (form_lines profile.now.codes entries.now) }
 {
-    put_parts(page, out, *entry, b' ', b' ')?;
-    put_what(page, out, profile, entry)?;
-    page.put(out, b"\n")
+    for entry in entries {
+        if sheet.failed() {
+            return;
+        }
+        put_entry(sheet, profile, entry);
+    }
+}
+
+fn put_entry<W: Write>(sheet: &mut Sheet<'_, W>, profile: &Profile, entry: &Entry)
+    ensures { Says W.contents sheet.old sheet.new (form_line profile.now.codes entry.now) }
+{
+    put_parts(sheet, *entry, b' ', b' ');
+    put_what(sheet, profile, entry);
+    sheet.put(b"\n");
 }

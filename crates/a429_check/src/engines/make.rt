@@ -1,7 +1,7 @@
 //! `a429 make PROFILE FILE..`: the recording of a transfer of files without loss.
 
-ghost use Rattle.std.specs.Prelude.{◌≡◌, ◌≢◌, ◌+◌, ◌*◌, ◌/◌, ℕ, List, map, flat_map, true, false, None, Some, IsErr, IfOk, IfErr, OnOk, ◌≤◌, length};
-ghost use Rattle.a429_word.specs.Page.{PutsOn};
+ghost use Rattle.std.specs.Prelude.{◌≡◌, ◌≢◌, ◌+◌, ◌*◌, ◌/◌, ℕ, List, map, flat_map, true, false, None, Some, IfOk, IfErr, OnOk, ◌≤◌, length};
+ghost use Rattle.a429_word.specs.Sheet.{Says};
 ghost use Rattle.a429_word.specs.Tally.{Puts, has_failed};
 ghost use Rattle.a429_profile.specs.Profile.{Contents};
 ghost use Rattle.a429_link.specs.Clean.{cut_fault, first_refused};
@@ -16,7 +16,7 @@ use a429_ldu::{CutFault, MOST_UNIT_BYTES, MOST_UNITS};
 use a429_link::{CleanFault, Seen, clean_run};
 use a429_profile::Profile;
 use a429_record::{Entry, MOST_ENTRIES, ReadFault, put_header, put_line};
-use a429_word::{Device, Page, Tally};
+use a429_word::{Page, Sheet, Tally};
 use std::alloc::Global;
 use std::io::Write;
 use std::slice::from_ref;
@@ -106,36 +106,50 @@ fn put_recording<W: Write>(
     ensures err { IfErr result (IsPutFault (has_failed out.new)) }
     ensures device { OnOk result (has_failed out.new ≡ false) }
 {
+    let mut page = Page::new(alloc)?;
+    let mut sheet = Sheet::new(out, &mut page);
+    put_files(alloc, profile, files, &mut sheet)?;
+    sheet.finish()?;
+    Ok(())
+}
+
+// The header, and the lines of all files.
+fn put_files<W: Write>(
+    alloc: Global,
+    profile: &Profile,
+    files: &[Vec<u8>],
+    sheet: &mut Sheet<'_, W>,
+) -> Result<(), RunFault>
+    requires cut { first_refused 255 0 (map (λ f. f.items) files.now) ≡ None }
+    requires most { length (words_made profile.now (map (λ f. f.items) files.now)) ≤ most_entries }
+    ensures ok { OnOk result (Says W.contents sheet.old sheet.new (recording_made profile.now (map (λ f. f.items) files.now))) }
+    ensures err { IfErr result (λ e. e ≡ RunFault.Memory) }
+{
     // (for the proof: the profile is sound)
     let _codes = profile.codes();
-    let mut page = Page::new(alloc)?;
-    put_header(&mut page, out)?;
+    put_header(sheet);
     let mut number = FIRST_FILE;
     let mut count = 0;
     for file in files {
+        if sheet.failed() {
+            return Ok(());
+        }
         let words = match clean_run(alloc, profile, number, MAX_WORDS, from_ref(file)) {
             Ok(words) => words,
             Err(CleanFault::OutOfMemory) => return Err(RunFault::Memory),
             Err(CleanFault::Cut(..)) => unreachable!(),
         };
-        put_words(&mut page, out, count, words.as_slice())?;
+        put_words(sheet, count, words.as_slice());
         count += words.len();
         number = number.wrapping_add(1);
     }
-    page.finish(out)?;
     Ok(())
 }
 
-// The lines of words on a page, a thousandth of a second apart, the first word at so many of these.
-fn put_words<W: Write>(
-    page: &mut Page,
-    out: &mut Tally<W>,
-    first: usize,
-    words: &[Seen],
-) -> Result<(), Device>
+// The lines of words, a thousandth of a second apart, the first word at so many of these.
+fn put_words<W: Write>(sheet: &mut Sheet<'_, W>, first: usize, words: &[Seen])
     requires most { first + length words.now ≤ most_entries }
-    ensures ok { OnOk result (PutsOn W.contents out.old page.old out.new page.new (flat_map line_text (timed first words.now))) }
-    ensures device { IsErr result → has_failed out.new ≡ true }
+    ensures { Says W.contents sheet.old sheet.new (flat_map line_text (timed first words.now)) }
 {
     for (i, seen) in words.iter().enumerate() {
         let entry = Entry {
@@ -143,7 +157,6 @@ fn put_words<W: Write>(
             bus: seen.bus,
             word: seen.word,
         };
-        put_line(page, out, entry)?;
+        put_line(sheet, entry);
     }
-    Ok(())
 }

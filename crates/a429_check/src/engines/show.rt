@@ -2,20 +2,20 @@
 
 ghost use Rattle.std.specs.Prelude.{◌≡◌, ◌≢◌, ◌⊎◌, ◌↔◌, ◌≤◌, ◌++◌, [], ℕ, List, true, false, IsTrue, IsErr, IfOk, IfErr, OnOk, length};
 ghost use Rattle.a429_word.specs.Tally.{has_failed, unread, Puts};
-ghost use Rattle.a429_word.specs.Page.{PutsOn};
+ghost use Rattle.a429_word.specs.Sheet.{Says, sheet_failed};
 ghost use Rattle.a429_word.specs.Word.{HasOddParity};
 ghost use Rattle.std.specs.List.{flat_map, AllByRecursion};
 ghost use Rattle.a429_profile.specs.Shown.{IsShown, HasItsRanges};
 ghost use Rattle.a429_profile.specs.Entry.{IsFlagBit, IsKindInRange};
-ghost use Rattle.a429_check.specs.Output.{PutsText};
-ghost use Rattle.a429_check.specs.Show.{IsShowFault, status_text, bad_digit_text, unit_text, test_text, flag_text, IsValueText, field_text, IsShownText, recorded_text, fields_text, PutsSome, IsShowLine, AreShowLines, ShowsEntries};
+ghost use Rattle.a429_check.specs.Output.{PutsText, PutsPrefixOf};
+ghost use Rattle.a429_check.specs.Show.{IsShowFault, status_text, bad_digit_text, unit_text, test_text, flag_text, IsValueText, field_text, IsShownText, recorded_text, fields_text, SaysSome, IsShowLine, AreShowLines, AreFirstShowLines, ShowsEntries};
 
 use crate::engines::profile::profile_of;
 use crate::engines::recording::entries_of;
 use crate::fault::RunFault;
 use a429_profile::{Flag, Kind, LabelEntry, Profile, Shown, Status};
 use a429_record::{Entry, SCREENED, put_parts, screen_entries};
-use a429_word::{BAD_PARITY, Device, Fixed, Page, Tally, Word, octal};
+use a429_word::{BAD_PARITY, Device, Fixed, Page, Sheet, Tally, Word, octal};
 use std::alloc::Global;
 use std::io::{Read, Write};
 
@@ -53,48 +53,47 @@ fn put_entries<W: Write>(
 ) -> Result<(), Device>
     requires { page ≡ [] }
     ensures ok { OnOk result (PutsText W.contents out.old out.new (AreShowLines profile.now entries.now)) }
+    ensures prefix { PutsPrefixOf W.contents out.old out.new (AreFirstShowLines profile.now entries.now) }
     ensures device { IsErr result ↔ (has_failed out.new ≡ true) }
 {
     let mut page = page;
+    let mut sheet = Sheet::new(out, &mut page);
+    put_lines(&mut sheet, profile, entries);
+    sheet.finish()
+}
+
+// A line for each entry, up to some entry where the output fails.
+fn put_lines<W: Write>(sheet: &mut Sheet<'_, W>, profile: &Profile, entries: &[Entry])
+    ensures first { SaysSome W.contents sheet.old sheet.new (AreFirstShowLines profile.now entries.now) }
+    ensures all { sheet_failed sheet.new ≡ false → SaysSome W.contents sheet.old sheet.new (AreShowLines profile.now entries.now) }
+{
     for piece in entries.chunks(SCREENED) {
-        put_piece(&mut page, out, profile, piece)?;
+        if sheet.failed() {
+            return;
+        }
+        put_piece(sheet, profile, piece);
     }
-    page.finish(out)
 }
 
 // A line for each of some entries, whose words are screened together.
-fn put_piece<W: Write>(
-    page: &mut Page,
-    out: &mut Tally<W>,
-    profile: &Profile,
-    piece: &[Entry],
-) -> Result<(), Device>
+fn put_piece<W: Write>(sheet: &mut Sheet<'_, W>, profile: &Profile, piece: &[Entry])
     requires { length piece.now ≤ SCREENED }
-    ensures ok { OnOk result (PutsSome W.contents out.old page.old out.new page.new (AreShowLines profile.now piece.now)) }
-    ensures device { IsErr result → has_failed out.new ≡ true }
+    ensures { SaysSome W.contents sheet.old sheet.new (AreShowLines profile.now piece.now) }
 {
     let answers = screen_entries(piece, ANY_LABEL);
     for i in 0..piece.len() {
-        put_entry(page, out, profile, &piece[i], answers[i] != BAD_PARITY)?;
+        put_entry(sheet, profile, &piece[i], answers[i] != BAD_PARITY);
     }
-    Ok(())
 }
 
 // The line of an entry whose parity is known.
-fn put_entry<W: Write>(
-    page: &mut Page,
-    out: &mut Tally<W>,
-    profile: &Profile,
-    entry: &Entry,
-    is_good: bool,
-) -> Result<(), Device>
+fn put_entry<W: Write>(sheet: &mut Sheet<'_, W>, profile: &Profile, entry: &Entry, is_good: bool)
     requires { IsTrue is_good ↔ HasOddParity entry.now.word }
-    ensures ok { OnOk result (PutsSome W.contents out.old page.old out.new page.new (IsShowLine profile.now entry.now)) }
-    ensures device { IsErr result → has_failed out.new ≡ true }
+    ensures { SaysSome W.contents sheet.old sheet.new (IsShowLine profile.now entry.now) }
 {
-    put_recorded(page, out, entry)?;
-    put_shown(page, out, &shown_by_parity(profile, &entry.word, is_good))?;
-    page.put(out, b"\n")
+    put_recorded(sheet, entry);
+    put_shown(sheet, &shown_by_parity(profile, &entry.word, is_good));
+    sheet.put(b"\n");
 }
 
 // What is shown of a word whose parity is known.
@@ -111,12 +110,12 @@ fn shown_by_parity<'a>(profile: &'a Profile, word: &Word, is_good: bool) -> Show
 }
 
 // When, on which bus and which word, and the word's label, SDI and SSM.
-fn put_recorded<W: Write>(page: &mut Page, out: &mut Tally<W>, entry: &Entry) -> Result<(), Device>
-    ensures ok { OnOk result (PutsOn W.contents out.old page.old out.new page.new (recorded_text entry.now ++ fields_text entry.now.word)) }
-    ensures device { IsErr result → has_failed out.new ≡ true }
+#[tactic(auto, using(a429_word::proofs::SheetFacts::says_both))]
+fn put_recorded<W: Write>(sheet: &mut Sheet<'_, W>, entry: &Entry)
+    ensures { Says W.contents sheet.old sheet.new (recorded_text entry.now ++ fields_text entry.now.word) }
 {
-    put_parts(page, out, *entry, b' ', b' ')?;
-    page.put(out, &fields(entry.word))
+    put_parts(sheet, *entry, b' ', b' ');
+    sheet.put(&fields(entry.word));
 }
 
 // The fields of a word, a space behind each.
@@ -136,150 +135,104 @@ fn fields(word: Word) -> [u8; 8]
     ]
 }
 
-fn put_shown<W: Write>(page: &mut Page, out: &mut Tally<W>, shown: &Shown<'_>) -> Result<(), Device>
+fn put_shown<W: Write>(sheet: &mut Sheet<'_, W>, shown: &Shown<'_>)
     requires { HasItsRanges shown.now }
-    ensures ok { OnOk result (PutsSome W.contents out.old page.old out.new page.new (IsShownText shown.now)) }
-    ensures device { IsErr result → has_failed out.new ≡ true }
+    ensures { SaysSome W.contents sheet.old sheet.new (IsShownText shown.now) }
 {
     match shown {
-        Shown::BadParity => page.put(out, b"parity"),
-        Shown::NoEntry => page.put(out, b"no entry"),
-        Shown::Status { entry, status } => put_status(page, out, entry, *status),
-        Shown::BadDigit { entry, place } => put_bad_digit(page, out, entry, *place),
+        Shown::BadParity => sheet.put(b"parity"),
+        Shown::NoEntry => sheet.put(b"no entry"),
+        Shown::Status { entry, status } => put_status(sheet, entry, *status),
+        Shown::BadDigit { entry, place } => put_bad_digit(sheet, entry, *place),
         Shown::Value {
             entry,
             value,
             is_test,
-        } => put_value(page, out, entry, value, *is_test),
+        } => put_value(sheet, entry, value, *is_test),
         Shown::Bits {
             entry,
             field,
             is_test,
-        } => put_bits(page, out, entry, *field, *is_test),
+        } => put_bits(sheet, entry, *field, *is_test),
     }
 }
 
-fn put_status<W: Write>(
-    page: &mut Page,
-    out: &mut Tally<W>,
-    entry: &LabelEntry,
-    status: Status,
-) -> Result<(), Device>
-    ensures ok { OnOk result (PutsOn W.contents out.old page.old out.new page.new (entry.now.name ++ status_text status)) }
-    ensures device { IsErr result → has_failed out.new ≡ true }
+#[tactic(auto, using(a429_word::proofs::SheetFacts::says_both))]
+fn put_status<W: Write>(sheet: &mut Sheet<'_, W>, entry: &LabelEntry, status: Status)
+    ensures { Says W.contents sheet.old sheet.new (entry.now.name ++ status_text status) }
 {
-    page.put(out, entry.name.as_str().as_bytes())?;
-    page.put(
-        out,
-        match status {
-            Status::NoData => b" no data".as_slice(),
-            Status::Failure => b" failure".as_slice(),
-        },
-    )
+    sheet.put(entry.name.as_str().as_bytes());
+    sheet.put(match status {
+        Status::NoData => b" no data".as_slice(),
+        Status::Failure => b" failure".as_slice(),
+    });
 }
 
-fn put_bad_digit<W: Write>(
-    page: &mut Page,
-    out: &mut Tally<W>,
-    entry: &LabelEntry,
-    place: u8,
-) -> Result<(), Device>
-    ensures ok { OnOk result (PutsOn W.contents out.old page.old out.new page.new (bad_digit_text entry.now place)) }
-    ensures device { IsErr result → has_failed out.new ≡ true }
+fn put_bad_digit<W: Write>(sheet: &mut Sheet<'_, W>, entry: &LabelEntry, place: u8)
+    ensures { Says W.contents sheet.old sheet.new (bad_digit_text entry.now place) }
 {
-    page.put(out, entry.name.as_str().as_bytes())?;
-    page.put(out, b" bad digit ")?;
-    page.put_number(out, u64::from(place))
+    sheet.put(entry.name.as_str().as_bytes());
+    sheet.put(b" bad digit ");
+    sheet.put_number(u64::from(place));
 }
 
-fn put_value<W: Write>(
-    page: &mut Page,
-    out: &mut Tally<W>,
-    entry: &LabelEntry,
-    value: &Fixed,
-    is_test: bool,
-) -> Result<(), Device>
+fn put_value<W: Write>(sheet: &mut Sheet<'_, W>, entry: &LabelEntry, value: &Fixed, is_test: bool)
     requires { value.now.decimals ≤ 24 }
-    ensures ok { OnOk result (PutsSome W.contents out.old page.old out.new page.new (IsValueText entry.now value.now is_test)) }
-    ensures device { IsErr result → has_failed out.new ≡ true }
+    ensures { SaysSome W.contents sheet.old sheet.new (IsValueText entry.now value.now is_test) }
 {
-    page.put(out, entry.name.as_str().as_bytes())?;
-    page.put(out, b" ")?;
-    value.put_on(page, out)?;
-    put_unit(page, out, entry.unit.as_str())?;
-    put_test(page, out, is_test)
+    sheet.put(entry.name.as_str().as_bytes());
+    sheet.put(b" ");
+    value.put_on(sheet);
+    put_unit(sheet, entry.unit.as_str());
+    put_test(sheet, is_test);
 }
 
 // A unit with a space before it; nothing where there is none.
-fn put_unit<W: Write>(page: &mut Page, out: &mut Tally<W>, unit: &str) -> Result<(), Device>
-    ensures ok { OnOk result (PutsOn W.contents out.old page.old out.new page.new (unit_text unit.now)) }
-    ensures device { IsErr result → has_failed out.new ≡ true }
+fn put_unit<W: Write>(sheet: &mut Sheet<'_, W>, unit: &str)
+    ensures { Says W.contents sheet.old sheet.new (unit_text unit.now) }
 {
     if unit.is_empty() {
-        return Ok(());
+        return;
     }
-    page.put(out, b" ")?;
-    page.put(out, unit.as_bytes())
+    sheet.put(b" ");
+    sheet.put(unit.as_bytes());
 }
 
-fn put_test<W: Write>(page: &mut Page, out: &mut Tally<W>, is_test: bool) -> Result<(), Device>
-    ensures ok { OnOk result (PutsOn W.contents out.old page.old out.new page.new (test_text is_test)) }
-    ensures device { IsErr result → has_failed out.new ≡ true }
+fn put_test<W: Write>(sheet: &mut Sheet<'_, W>, is_test: bool)
+    ensures { Says W.contents sheet.old sheet.new (test_text is_test) }
 {
     if is_test {
-        page.put(out, b" test")
-    } else {
-        Ok(())
+        sheet.put(b" test");
     }
 }
 
-fn put_bits<W: Write>(
-    page: &mut Page,
-    out: &mut Tally<W>,
-    entry: &LabelEntry,
-    field: u32,
-    is_test: bool,
-) -> Result<(), Device>
+fn put_bits<W: Write>(sheet: &mut Sheet<'_, W>, entry: &LabelEntry, field: u32, is_test: bool)
     requires { IsKindInRange entry.now.kind }
-    ensures ok { OnOk result (PutsOn W.contents out.old page.old out.new page.new (field_text entry.now field is_test)) }
-    ensures device { IsErr result → has_failed out.new ≡ true }
+    ensures { Says W.contents sheet.old sheet.new (field_text entry.now field is_test) }
 {
-    page.put(out, entry.name.as_str().as_bytes())?;
+    sheet.put(entry.name.as_str().as_bytes());
     if let Kind::Discrete { flags } = &entry.kind {
-        put_flags(page, out, field, flags.as_slice())?;
+        put_flags(sheet, field, flags.as_slice());
     }
-    put_test(page, out, is_test)
+    put_test(sheet, is_test);
 }
 
-fn put_flags<W: Write>(
-    page: &mut Page,
-    out: &mut Tally<W>,
-    field: u32,
-    flags: &[Flag],
-) -> Result<(), Device>
+fn put_flags<W: Write>(sheet: &mut Sheet<'_, W>, field: u32, flags: &[Flag])
     requires { AllByRecursion IsFlagBit flags.now }
-    ensures ok { OnOk result (PutsOn W.contents out.old page.old out.new page.new (flat_map (flag_text field) flags.now)) }
-    ensures device { IsErr result → has_failed out.new ≡ true }
+    ensures { Says W.contents sheet.old sheet.new (flat_map (flag_text field) flags.now) }
 {
     for flag in flags {
-        put_flag(page, out, field, flag)?;
+        put_flag(sheet, field, flag);
     }
-    Ok(())
 }
 
 // A flag and its bit of the data field, of which bit 11 is the lowest.
-fn put_flag<W: Write>(
-    page: &mut Page,
-    out: &mut Tally<W>,
-    field: u32,
-    flag: &Flag,
-) -> Result<(), Device>
+fn put_flag<W: Write>(sheet: &mut Sheet<'_, W>, field: u32, flag: &Flag)
     requires { IsFlagBit flag.now }
-    ensures ok { OnOk result (PutsOn W.contents out.old page.old out.new page.new (flag_text field flag.now)) }
-    ensures device { IsErr result → has_failed out.new ≡ true }
+    ensures { Says W.contents sheet.old sheet.new (flag_text field flag.now) }
 {
-    page.put(out, b" ")?;
-    page.put(out, flag.name.as_str().as_bytes())?;
+    sheet.put(b" ");
+    sheet.put(flag.name.as_str().as_bytes());
     let is_set = field >> (flag.bit - 11) & 1 == 1;
-    page.put(out, if is_set { b"=1" } else { b"=0" })
+    sheet.put(if is_set { b"=1" } else { b"=0" });
 }

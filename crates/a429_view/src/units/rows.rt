@@ -2,6 +2,7 @@
 
 ghost use Rattle.std.specs.Prelude.{◌≡◌, ◌↔◌, [], None, true, false, IsErr, IsErrOf, IfOk, OnOk};
 ghost use Rattle.a429_word.specs.Tally.{has_failed};
+ghost use Rattle.a429_word.specs.Page.{PutsOn};
 ghost use Rattle.a429_cert.specs.Told.{Makes};
 ghost use Rattle.a429_view.specs.UnitSteps.{line_before, PutsAll};
 
@@ -12,7 +13,7 @@ use a429_ldu::Ldu;
 use a429_link::UnitNumber;
 use a429_profile::Profile;
 use a429_record::Entry;
-use a429_word::{Device, Failing, Page, Tally};
+use a429_word::{Device, Failing, Page, Sheet, Tally};
 use std::alloc::{AllocError, Global};
 use std::io::Write;
 
@@ -47,7 +48,7 @@ impl<W: Write> UnitRows<W> {
         ensures ok { OnOk result (PutsAll W.contents self.old self.new (line_before self.old.row)) }
         ensures device { IsErr result ↔ (has_failed self.new.out ≡ true) }
     {
-        put_line_before(&mut self.page, &mut self.out, &self.row)?;
+        self.put_last()?;
         self.put_waiting()
     }
 
@@ -56,7 +57,19 @@ impl<W: Write> UnitRows<W> {
         ensures ok { OnOk result (PutsAll W.contents self.old self.new []) }
         ensures device { IsErr result ↔ (has_failed self.new.out ≡ true) }
     {
-        self.page.finish(&mut self.out)
+        let mut sheet = Sheet::new(&mut self.out, &mut self.page);
+        sheet.finish()
+    }
+
+    // Puts the row of the last unit, or the names of the columns where there is none.
+    fn put_last(&mut self) -> Result<(), Device>
+        ensures ok { OnOk result (PutsOn W.contents self.old.out self.old.page self.new.out self.new.page (line_before self.old.row)) }
+        ensures row { self.new.row ≡ self.old.row }
+        ensures device { IsErr result ↔ (has_failed self.new.out ≡ true) }
+    {
+        let mut sheet = Sheet::new(&mut self.out, &mut self.page);
+        put_line_before(&mut sheet, &self.row);
+        if sheet.failed() { Err(Device) } else { Ok(()) }
     }
 }
 
@@ -81,7 +94,7 @@ impl<W: Write> Listener for UnitRows<W> {
         number: UnitNumber,
         unit: &Ldu,
     ) -> Result<(), ListenFault> {
-        if put_line_before(&mut self.page, &mut self.out, &self.row).is_err() {
+        if self.put_last().is_err() {
             return Err(ListenFault::Device);
         }
         self.row = Some(UnitRow::new(profile, number, unit));

@@ -3,8 +3,8 @@ use Rattle.a429_word.specs.Digits.{numeral, hex_text}
 use Rattle.a429_cert.proofs.FieldDigits.{last-digits}
 use Rattle.a429_view.proofs.forms.put_hex.Goals as goal
 
-pub returns-clause-ok : goal.returns-clause-ok
-returns-clause-ok g c =
+pub returns : goal.returns
+returns g c =
     let digits : take (8 - 4) (drop 4 c.hex-hex.result) ≡ numeral 16 4 c.args.bits =
     ap (λ t. take (8 - 4) (drop 4 t)) (c.hex-hex.ensures ∙ ap hex_text (c.from_u32.ensures ∙ c.from.ensures)) ∙ last-digits 4 c.args.bits (omega arith) in
-    rw digits at c.put.ensures.ok
+    rw digits at c.put.ensures

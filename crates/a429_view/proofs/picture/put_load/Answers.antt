@@ -1,9 +1,5 @@
-use Rattle.std.proofs.KnownBytes.{Appends-trans}
-use Rattle.std.proofs.lemmas.Result.{on_ok_weaker}
+use Rattle.a429_word.proofs.SheetFacts.{◌▹◌}
 use Rattle.a429_view.proofs.picture.put_load.Goals as goal
 
-pub returns-clause-ok : goal.returns-clause-ok
-returns-clause-ok g c =
-    on_ok_weaker c.put-2.result
-    (λ last. Appends-trans _ _ _ _ _ (Appends-trans _ _ _ _ _ (Appends-trans _ _ _ _ _ c.in_ok-put_named.ensures.ok c.in_ok-put.ensures.ok) c.in_ok-put_number.ensures.ok) last)
-    c.put-2.ensures.ok
+pub returns : goal.returns
+returns g c = c.put_named.ensures ▹ c.put.ensures ▹ c.put_number.ensures ▹ c.put-2.ensures

@@ -1,9 +1,14 @@
+use Rattle.std.proofs.Common.{◌∙◌, rules}
 use Rattle.std.proofs.lemmas.Result.{on_ok_weaker}
-use Rattle.a429_view.proofs.PictureFacts.{finished}
+use Rattle.a429_word.proofs.SheetFacts.{has_all_at_ok, has_prefix}
 use Rattle.a429_view.proofs.picture.put_picture.Goals as goal
 
 pub returns-clause-ok : goal.returns-clause-ok
 returns-clause-ok g c =
-    on_ok_weaker c.finish.result
-    (λ last. finished g.W.Write.contents c.args.out.now c.put_svg.new.out c.finish.new.out c.args.page c.put_svg.new.page _ c.requires.empty c.in_ok-put_svg.ensures.ok last)
-    c.finish.ensures.ok
+    let all = has_all_at_ok c.finish.result (c.new-sheet.ensures.page ∙ c.requires.empty) c.put_svg.ensures c.finish.ensures.nothing_more c.finish.ensures.written c.finish.ensures.device in
+    on_ok_weaker c.finish.result (λ puts. search rules) all
+
+pub returns-clause-prefix : goal.returns-clause-prefix
+returns-clause-prefix g c =
+    let prefix = has_prefix (c.new-sheet.ensures.page ∙ c.requires.empty) c.put_svg.ensures c.finish.ensures.nothing_more in
+    (prefix.0, prefix.1, search rules)

@@ -1,9 +1,5 @@
-use Rattle.std.proofs.KnownBytes.{Appends-trans}
-use Rattle.std.proofs.lemmas.Result.{on_ok_weaker}
+use Rattle.a429_word.proofs.SheetFacts.{◌▹◌}
 use Rattle.a429_view.proofs.picture.put_svg.Goals as goal
 
-pub returns-clause-ok : goal.returns-clause-ok
-returns-clause-ok g c =
-    on_ok_weaker c.put.result
-    (λ last. Appends-trans _ _ _ _ _ (Appends-trans _ _ _ _ _ c.in_ok-put_head.ensures.ok c.in_ok-put_rows.ensures.ok) last)
-    c.put.ensures.ok
+pub returns : goal.returns
+returns g c = c.put_head.ensures ▹ c.put_rows.ensures ▹ c.put.ensures

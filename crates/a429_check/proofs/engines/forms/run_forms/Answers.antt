@@ -1,7 +1,14 @@
 use Rattle.std.proofs.Common.{refl}
-use Rattle.a429_word.specs.Tally.{inner_of}
+use Rattle.std.proofs.lemmas.Result.{err_from_is_err_and}
+use Rattle.a429_word.specs.Tally.{inner_of, has_failed}
 use Rattle.a429_check.specs.Recording.{SayInput}
+use Rattle.a429_check.proofs.ShowFacts.{not_the_reader}
 use Rattle.a429_check.proofs.engines.forms.run_forms.Goals as goal
+
+pub returns-in_err-put_entries-clause-silent : goal.returns-in_err-put_entries-clause-silent
+returns-in_err-put_entries-clause-silent g c =
+    let p = err_from_is_err_and c.from_residual-in_err-put_entries.result c.from_residual-in_err-put_entries.ensures.1 in
+    rw (p.1, p.2) (not_the_reader _ (has_failed c.entries_of.new.rec) c.in_ok-entries.ensures.device)
 
 pub returns-clause-lines : goal.returns-clause-lines
 returns-clause-lines g c =

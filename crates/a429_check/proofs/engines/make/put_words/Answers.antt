@@ -1,12 +1,12 @@
-use Rattle.std.proofs.KnownBytes.{Appends-trans}
 use Rattle.std.proofs.lemmas.List.{take_all}
+use Rattle.a429_word.proofs.SheetFacts.{◌▹◌}
 use Rattle.a429_check.proofs.MakeTimed.{lines-more}
 use Rattle.a429_check.proofs.engines.make.put_words.Goals as goal
 
 pub loop-i-preserved : goal.loop-i-preserved
 loop-i-preserved g c =
     rw (lines-more c.args.first c.args.words.now c.loop-i.i c.index-words-i.result c.loop-i-test.true c.index-words-i.is)
-    (Appends-trans _ _ _ _ _ c.loop-i.invariant c.in_ok-put_line.ensures.ok)
+    (c.loop-i.invariant ▹ c.put_line.ensures)
 
-pub returns-clause-ok : goal.returns-clause-ok
-returns-clause-ok g c = rw (take_all c.loop-i.i c.args.words.now c.loop-i-test.false) at c.loop-i.invariant
+pub returns : goal.returns
+returns g c = rw (take_all c.loop-i.i c.args.words.now c.loop-i-test.false) at c.loop-i.invariant

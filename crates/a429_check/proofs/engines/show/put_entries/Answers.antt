@@ -1,21 +1,16 @@
-use Rattle.std.proofs.Common.{sym, ap, ◌∙◌, ◌++◌, append_assoc, rules}
-use Rattle.std.proofs.KnownBytes.{Appends-trans}
-use Rattle.std.specs.Slice.Iter.{chunks_rest}
-use Rattle.a429_check.proofs.ShowFacts.{AreShowLines-join}
+use Rattle.std.proofs.Common.{◌∙◌, rules}
+use Rattle.std.proofs.lemmas.Result.{on_ok_weaker}
+use Rattle.a429_word.proofs.SheetFacts.{has_prefix}
+use Rattle.a429_check.proofs.ShowFacts.{some_at_ok}
 use Rattle.a429_check.proofs.engines.show.put_entries.Goals as goal
 
-pub loop-piece-preserved : goal.loop-piece-preserved
-loop-piece-preserved g c =
-    let before = c.loop-piece.invariant in
-    let steps = c.in-Some.ensures.steps in
-    let lines = c.in_ok-put_piece.ensures.ok in
-    let piece = c.in-Some.piece.now in (
-      search rules,
-      tt,
-      steps.0 ∙ before.2,
-      before.3 ++ piece,
-      before.4 ++ lines.0,
-      append_assoc before.3 piece (chunks_rest c.next.new.self) ∙ ap (λ l. before.3 ++ l) (sym steps.1.0) ∙ before.5,
-      AreShowLines-join c.args.profile.now before.3 piece before.4 lines.0 before.6 lines.1,
-      Appends-trans _ _ _ _ _ before.7 lines.2,
-    )
+pub returns-clause-ok : goal.returns-clause-ok
+returns-clause-ok g c =
+    let all = some_at_ok c.finish.result (c.new-sheet.ensures.page ∙ c.requires) c.put_lines.ensures.all c.finish.ensures.nothing_more c.finish.ensures.written c.finish.ensures.device in
+    on_ok_weaker c.finish.result (λ puts. (puts.0, puts.1, search rules)) all
+
+pub returns-clause-prefix : goal.returns-clause-prefix
+returns-clause-prefix g c =
+    let lines = c.put_lines.ensures.first in
+    let prefix = has_prefix (c.new-sheet.ensures.page ∙ c.requires) lines.2 c.finish.ensures.nothing_more in
+    (lines.0, lines.1, search rules)

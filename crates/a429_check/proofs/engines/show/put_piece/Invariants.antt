@@ -1,6 +1,6 @@
 use Rattle.std.proofs.Common.{take}
-use Rattle.a429_check.specs.Show.{PutsSome, AreShowLines}
+use Rattle.a429_check.specs.Show.{SaysSome, AreShowLines}
 use Rattle.a429_check.proofs.engines.show.put_piece.Given as goal
 
 abbrev pub invariant-loop-i : goal.invariant-loop-i
-invariant-loop-i g l = PutsSome g.W.Write.contents l.initial.out l.initial.page l.out l.page (AreShowLines l.profile (take l.i l.piece))
+invariant-loop-i g l = SaysSome g.W.Write.contents l.initial.sheet l.sheet (AreShowLines l.profile (take l.i l.piece))
