@@ -12,7 +12,7 @@ use std::alloc::{AllocError, Global};
 
 /// What a recorded word is to the steps that are guessed.
 #[derive(Clone, Copy, Debug, PartialEq, Eq)]
-pub(crate) enum Role {
+pub enum Role {
     /// The transfer passes over it.
     Free,
     /// A request: an attempt begins, whose block has so many words; and the numbers of its start word,
@@ -47,7 +47,7 @@ pub(crate) struct Ahead {
 }
 
 /// The role of each recorded word.
-pub(crate) fn roles(alloc: Global, heard: &Heard) -> Result<Vec<Role>, AllocError>
+pub fn roles(alloc: Global, heard: &Heard) -> Result<Vec<Role>, AllocError>
     ensures { IfOk result (λ found. found.items ≡ roles (forms_of heard.now.profile.codes heard.now.items)) }
 {
     let mut found = Vec::with_capacity(alloc, heard.len())?;
