@@ -16,7 +16,7 @@ use Rattle.a429_link.specs.Run.{IsRun, BeginsARun, end_of, IsBounded, SentFew, T
 use Rattle.a429_link.specs.Source.{IsIdle}
 use Rattle.a429_link.specs.Sink.{Sink, Listens, SinkPhase, Quiet, OwesClear, Granted, InBlock, OwesAck, OwesNak}
 use Rattle.a429_link.specs.Step.{Can, after, label}
-use Rattle.a429_link.specs.State.{start, State, IsNonEmpty, sink_state_of, states_of}
+use Rattle.a429_link.specs.State.{start, State, sink_state_of, states_of}
 use Rattle.a429_link.specs.declared.number.UnitNumber.{UnitNumber}
 use Rattle.a429_link.proofs.LinkKept.{end_push}
 use Rattle.a429_link.proofs.CleanRuns.{run_split}

@@ -1,5 +1,5 @@
 -- A recording without loss is that of a run, and its files' link data units fit.
-use Rattle.std.proofs.Common.{map, ◌++◌, ap, ◌≡◌, ◌≢◌, ◌≤◌, ◌<◌, ◌*◌, ◌+◌, ℕ, Bool, true, false, cond, List, [], ◌∷◌, length, take, drop, ◌==◌, nat_lt, Option, Some, None, All, refl, sym, ◌∙◌, arith}
+use Rattle.std.proofs.Common.{map, ◌++◌, ap, ◌≡◌, ◌≤◌, ◌<◌, ◌*◌, ◌+◌, ℕ, Bool, true, false, cond, List, [], ◌∷◌, length, take, drop, ◌==◌, nat_lt, Option, Some, None, All, refl, sym, ◌∙◌, arith}
 use Rattle.std.specs.List.{AllByRecursion}
 use Rattle.std.proofs.lemmas.Bool.{eqb-false, ltb-false}
 use Rattle.std.proofs.lemmas.List.{take-append-drop}

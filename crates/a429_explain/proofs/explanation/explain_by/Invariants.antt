@@ -1,4 +1,4 @@
-use Rattle.std.proofs.Common.{◌≡◌, length, take, drop}
+use Rattle.std.proofs.Common.{◌≡◌, take, drop}
 use Rattle.a429_cert.specs.Explained.{items_of}
 use Rattle.a429_explain.specs.Guess.{heard, IsOfCrossing}
 use Rattle.a429_explain.specs.Scribe.{Wrote}
