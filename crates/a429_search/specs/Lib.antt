@@ -1,0 +1,5 @@
+pub mod Choice
+pub mod Fill
+pub mod FreeBits
+pub mod Order
+pub mod Pair
