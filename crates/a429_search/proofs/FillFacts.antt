@@ -1,5 +1,5 @@
 -- A free word before others.
-use Rattle.std.proofs.Common.{◌≡◌, ℕ, zero, suc, ◌+◌, ◌-◌, ◌*◌, ◌/◌, ◌%◌, ◌^◌, ◌<◌, ◌≤◌, List, [], ◌∷◌, ◌++◌, length, replicate, Option, Some, None, IfSome, option_map, option_and_then, bit_xor, refl, sym, ap, ◌∙◌, subst, arith, inl, append_assoc, length-append}
+use Rattle.std.proofs.Common.{◌≡◌, ℕ, zero, suc, ◌+◌, ◌-◌, ◌*◌, ◌/◌, ◌%◌, ◌^◌, ◌<◌, ◌≤◌, List, [], ◌∷◌, ◌++◌, length, replicate, take, Option, Some, None, IfSome, ◌↔◌, option_map, option_and_then, bit_xor, refl, sym, ap, ◌∙◌, subst, arith, inl, append_assoc, length-append}
 use Rattle.std.specs.List.{AllByRecursion}
 use Rattle.std.specs.Int.Bits.{xor_shifted, xor_zero_l}
 use Rattle.std.proofs.lemmas.Nat.{pow-add}
@@ -63,7 +63,7 @@ some-bits m (Some (b ∷ bs)) = refl
 
 -- ---- semi-octets of numbers
 
-number_of_semis : List ℕ → ℕ
+abbrev number_of_semis : List ℕ → ℕ
 number_of_semis [] = 0
 number_of_semis (s ∷ ss) = s + 16 * number_of_semis ss
 
@@ -151,3 +151,36 @@ filled p wanted count w recorded h fits =
       kept = inl (sub_before recorded recorded fillers (sub_all recorded));
       fits = fits;
     }
+
+-- bytes of data words, and their check word
+pub fits_checked : (p : Contents) (words bytes : List ℕ) (k : ℕ) → bytes_carried p.codes words ≡ Some bytes → (k ≡ check_of p.check bytes) ↔ Fits p (Some k) words
+fits_checked p words bytes k e = (
+  (λ h. record { bytes = bytes; carried = e; check = sym h }),
+  (λ f. let same : f.bytes ≡ bytes = cc (sym f.carried ∙ e) in sym (ap (check_of p.check) (sym same) ∙ f.check)),
+)
+
+-- the first of five semi-octets
+pub first_semis : (size a b c d e : ℕ) → 1 ≤ size → size ≤ 5 → a < 16 → b < 16 → c < 16 → d < 16 → e < 16 → AreSemis (take size (a ∷ b ∷ c ∷ d ∷ e ∷ []))
+first_semis zero a b c d e h k ha hb hc hd he = absurd (omega arith)
+first_semis (suc zero) a b c d e h k ha hb hc hd he = (omega arith, omega arith, (ha, tt))
+first_semis (suc (suc zero)) a b c d e h k ha hb hc hd he = (omega arith, omega arith, (ha, (hb, tt)))
+first_semis (suc (suc (suc zero))) a b c d e h k ha hb hc hd he = (omega arith, omega arith, (ha, (hb, (hc, tt))))
+first_semis (suc (suc (suc (suc zero)))) a b c d e h k ha hb hc hd he = (omega arith, omega arith, (ha, (hb, (hc, (hd, tt)))))
+first_semis (suc (suc (suc (suc (suc zero))))) a b c d e h k ha hb hc hd he = (omega arith, omega arith, (ha, (hb, (hc, (hd, (he, tt))))))
+first_semis (suc (suc (suc (suc (suc (suc n)))))) a b c d e h k ha hb hc hd he = absurd (omega arith)
+
+-- a word, and then the others
+pub word_before : (xs ys zs all rest : List ℕ) (w : ℕ) → xs ≡ [] → ys ≡ xs ++ w ∷ [] → zs ≡ ys ++ rest → all ≡ zs → all ≡ w ∷ rest
+word_before xs ys zs all rest w e f g h = h ∙ g ∙ ap (λ (l : List ℕ). l ++ rest) (f ∙ ap (λ (l : List ℕ). l ++ w ∷ []) e)
+
+-- one filler more
+pub filler_more : (n w : ℕ) (rest new : List ℕ) → length rest < n → new ≡ rest ++ w ∷ [] → new ++ replicate (n - length new) w ≡ rest ++ replicate (n - length rest) w
+filler_more n w rest new h e =
+    let long : length new ≡ length rest + 1 = ap length e ∙ length-append rest (w ∷ []) in
+    let more : n - length rest ≡ suc (n - length new) = omega arith in
+    ap (λ (l : List ℕ). l ++ replicate (n - length new) w) e
+    ∙ append_assoc rest (w ∷ []) (replicate (n - length new) w)
+    ∙ ap (λ (k : ℕ). rest ++ replicate k w) (sym more)
+
+pub whole : (p : Contents) (wanted : Option ℕ) (count : ℕ) (recorded words : List ℕ) → words ≡ recorded → length recorded ≡ count → Fits p wanted recorded → IsFilled p count wanted recorded words
+whole p wanted count recorded words e h f = rw e (record { long = h; kept = sub_all recorded; fits = f })

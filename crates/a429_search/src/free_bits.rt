@@ -23,7 +23,7 @@ pub(crate) fn bits_for_check_word(
     ensures within { IfOk result (λ bits. IfSome bits (λ m. m < 2 ^ count)) }
     ensures none { IfOk result (λ bits. IfNone bits ((m : ℕ) → m < 2 ^ count → check_of rule.now (with_bits m bytes.now) ≢ wanted)) }
 {
-    let _rule = *rule;
+    let _bits = (rule.poly, rule.init);
     let start = check_word(rule, bytes);
     let mut columns = Vec::new(alloc);
     for k in 0..count {

@@ -50,7 +50,7 @@ returns-clause-found c =
     let bytes = c.args.bytes.now in
     let start = c.check_word-start.result in
     some_both (λ m. m < 2 ^ c.args.count) (λ m. xor_of c.deref-2.result.now m ≡ bit_xor start c.args.wanted) (λ m. check_of check (with_bits m bytes) ≡ c.args.wanted) c.choose_columns.result
-    (λ m h e. gives check bytes c.args.count start c.args.wanted c.check_word-start.ensures m h (subst (λ xs. xor_of xs m ≡ bit_xor start c.args.wanted) (columns a) e))
+    (λ m h e. gives check bytes (omega arith) (omega arith) c.args.count start c.args.wanted c.check_word-start.ensures m h (subst (λ xs. xor_of xs m ≡ bit_xor start c.args.wanted) (columns a) e))
     (within a) c.choose_columns.ensures.chosen
 
 pub returns-clause-none : goal.returns-clause-none
@@ -60,5 +60,5 @@ returns-clause-none c =
     let bytes = c.args.bytes.now in
     let start = c.check_word-start.result in
     none_from ((m : ℕ) → xor_of c.deref-2.result.now m ≢ bit_xor start c.args.wanted) ((m : ℕ) → m < 2 ^ c.args.count → check_of check (with_bits m bytes) ≢ c.args.wanted) c.choose_columns.result
-    (λ none m h e. none m (subst (λ xs. xor_of xs m ≡ bit_xor start c.args.wanted) (sym (columns a)) (gives_back check bytes c.args.count start c.args.wanted c.check_word-start.ensures m h e)))
+    (λ none m h e. none m (subst (λ xs. xor_of xs m ≡ bit_xor start c.args.wanted) (sym (columns a)) (gives_back check bytes (omega arith) (omega arith) c.args.count start c.args.wanted c.check_word-start.ensures m h e)))
     c.choose_columns.ensures.none
