@@ -7,3 +7,6 @@ pub mod SubsequenceFacts
 pub mod OrderFacts
 pub mod PairFacts
 pub mod FillFacts
+pub mod BoundedFacts
+pub mod DifferingFacts
+pub mod BlockFacts

@@ -33,7 +33,7 @@ module _ (xs : List ℕ) (k w : ℕ) where
         rw (next_at x e, is) (sub_push w (take k xs) merged kept)
     kept_if x e false other = sub_lost w (take k xs) merged kept
 
-    kept_over : (o : Option ℕ) → slice_get xs k ≡ o → IsSubsequenceOf (take (step_over o k w) xs) (merged ++ w ∷ [])
+    pub kept_over : (o : Option ℕ) → slice_get xs k ≡ o → IsSubsequenceOf (take (step_over o k w) xs) (merged ++ w ∷ [])
     kept_over None e = sub_lost w (take k xs) merged kept
     kept_over (Some x) e = kept_if x e (x == w) refl
 
@@ -102,9 +102,10 @@ merging_more lists ps qs merged w m e p next free = record {
   apart = λ i l v c. rw (p i l) (apart_over (words_at lists i) (slice_index ps i) w merged (m.apart i l) (free i l) v (slice_get (words_at lists i) (slice_index ps i)) refl (Contains-push_cases merged w v c));
 }
 
-pub merging_all : (lists : List (List ℕ)) (ps merged : List ℕ) → Merging lists ps merged → IsAllPassed lists ps → HasEach merged lists
-merging_all lists ps merged m all k d l =
-    rw (get_or_default lists k d [] l) (subst (λ xs. IsSubsequenceOf xs merged) (take_all (slice_index ps k) (words_at lists k) (all k l)) (m.kept k l))
+-- where the passed words of each list are kept and all are passed, all are kept
+pub all_kept : (lists : List (List ℕ)) (ps merged : List ℕ) → ((i : ℕ) → i < length lists → IsSubsequenceOf (take (slice_index ps i) (words_at lists i)) merged) → IsAllPassed lists ps → HasEach merged lists
+all_kept lists ps merged kept all k d l =
+    rw (get_or_default lists k d [] l) (subst (λ xs. IsSubsequenceOf xs merged) (take_all (slice_index ps k) (words_at lists k) (all k l)) (kept k l))
 
 -- ---- none is free
 

@@ -1,3 +1,5 @@
+pub mod Block
+pub mod Bounded
 pub mod Choice
 pub mod Fill
 pub mod FreeBits

@@ -59,8 +59,8 @@ fn is_free(lists: &[Vec<Word>], passed: &[usize], word: Word) -> bool
     true
 }
 
-// Passes the word in each list where it is next.
-fn pass(lists: &[Vec<Word>], passed: &mut [usize], word: Word)
+/// Passes the word in each list where it is next.
+pub(crate) fn pass(lists: &[Vec<Word>], passed: &mut [usize], word: Word)
     requires { length passed.old ≡ length lists.now }
     ensures { EachIndex passed.new (λ i. slice_index passed.new i ≡ passed_with (words_at (lists_of lists.now) i) (slice_index passed.old i) word) }
 {
@@ -71,8 +71,8 @@ fn pass(lists: &[Vec<Word>], passed: &mut [usize], word: Word)
     }
 }
 
-// No word is left of any list.
-fn are_passed(lists: &[Vec<Word>], passed: &[usize]) -> bool
+/// No word is left of any list.
+pub(crate) fn are_passed(lists: &[Vec<Word>], passed: &[usize]) -> bool
     requires { length passed.now ≡ length lists.now }
     ensures { IsTrue result ↔ IsAllPassed (lists_of lists.now) passed.now }
 {
@@ -84,15 +84,16 @@ fn are_passed(lists: &[Vec<Word>], passed: &[usize]) -> bool
     true
 }
 
-fn words_at(lists: &[Vec<Word>], i: usize) -> &[Word]
+/// The words of a list.
+pub(crate) fn words_at(lists: &[Vec<Word>], i: usize) -> &[Word]
     requires { i < length lists.now }
     ensures { result.now ≡ words_at (lists_of lists.now) i }
 {
     lists[i].as_slice()
 }
 
-// The next word: the first that is not passed.
-fn next_word(words: &[Word], passed: usize) -> Option<Word>
+/// The next word: the first that is not passed.
+pub(crate) fn next_word(words: &[Word], passed: usize) -> Option<Word>
     ensures { result ≡ slice_get words.now passed }
 {
     words.get(passed).copied()

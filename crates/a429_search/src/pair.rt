@@ -41,8 +41,8 @@ pub(crate) fn merge_shortest(alloc: Global, left: &[Word], right: &[Word]) -> Re
     Ok(merged)
 }
 
-// The length of a shortest list that has the words from place i on of the left, and from place j on of the right.
-fn length_from(rows: &[Vec<u16>], left: &[Word], right: &[Word], i: usize, j: usize) -> u16
+/// The length of a shortest list that has the words from place i on of the left, and from place j on of the right.
+pub(crate) fn length_from(rows: &[Vec<u16>], left: &[Word], right: &[Word], i: usize, j: usize) -> u16
     requires table { IsTable left.now right.now (lists_of rows.now) }
     requires in_left { i ≤ length left.now }
     requires in_right { j ≤ length right.now }

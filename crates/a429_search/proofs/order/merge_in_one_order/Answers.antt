@@ -1,7 +1,7 @@
 use Rattle.std.proofs.Common.{◌≡◌, ◌<◌, length, sym, subst, ◌∙◌, ap, arith, slice_index}
 use Rattle.std.proofs.lemmas.List.{with_items_is}
 use Rattle.a429_search.specs.Order.{lists_of, words_at, IsFree, IsAllPassed, passed_with}
-use Rattle.a429_search.proofs.OrderFacts.{Merging, merging_more, merging_all, no_order, passes_fewer, inside_lists, inside_given, Passes, ComesNext, left_count}
+use Rattle.a429_search.proofs.OrderFacts.{Merging, merging_more, all_kept, no_order, passes_fewer, inside_lists, inside_given, Passes, ComesNext, left_count}
 use Rattle.a429_search.proofs.order.merge_in_one_order.Goals as goal
 use Rattle.a429_search.proofs.order.merge_in_one_order.Goals.{After-pass}
 
@@ -43,7 +43,7 @@ pub returns-then-are_passed-clause-kept : goal.returns-then-are_passed-clause-ke
 returns-then-are_passed-clause-kept c =
     let L = lists_of c.args.lists.now in
     let all : IsAllPassed L c.loop-word.passed.items = subst (λ ps. IsAllPassed L ps) c.deref-2.ensures.value (c.are_passed.ensures.0 c.if-are_passed.true) in
-    merging_all L c.loop-word.passed.items c.loop-word.merged.items c.loop-word.invariant all
+    all_kept L c.loop-word.passed.items c.loop-word.merged.items c.loop-word.invariant.kept all
 
 pub returns-clause-none : goal.returns-clause-none
 returns-clause-none c =
