@@ -9,4 +9,4 @@ pub mod PairFacts
 pub mod FillFacts
 pub mod BoundedFacts
 pub mod DifferingFacts
-pub mod BlockFacts
+pub mod MergedFacts

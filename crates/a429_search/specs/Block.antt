@@ -1,17 +1,10 @@
 -- The link data unit of a group, by what its attempts recorded (profile).
-use Rattle.std.specs.Prelude.{◌≡◌, ℕ, List, length, Option, Some, None, IfSome, if◌then◌else◌}
+use Rattle.std.specs.Prelude.{◌≡◌, ℕ, Option, Some, None, IfSome, if◌then◌else◌}
 use Rattle.a429_profile.specs.Profile.{Contents}
 use Rattle.a429_ldu.specs.Ldu.{LduValue, IsLdu, count_of}
 use Rattle.a429_search.specs.declared.pieces.EndWord.{EndWord}
 use Rattle.a429_search.specs.declared.pieces.GroupPieces.{GroupPieces}
 use Rattle.a429_search.specs.Order.{lists_of, HasEach}
-use Rattle.a429_search.specs.Fill.{Fits}
-
--- so many data words that fit, and have those of each attempt in their order
-pub record AreDataOf (p : Contents) (count : ℕ) (wanted : Option ℕ) (attempts : List (List ℕ)) (words : List ℕ) : Type 0 where
-  pub long : length words ≡ count
-  pub each : HasEach words attempts
-  pub fits : Fits p wanted words
 
 -- the check word that the data words must have: that of the end word, where one was recorded and check words are compared
 abbrev pub check_wanted : Contents → Option EndWord → Option ℕ

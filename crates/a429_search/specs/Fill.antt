@@ -8,6 +8,7 @@ use Rattle.a429_ldu.specs.Form.{word_number}
 use Rattle.a429_ldu.specs.Carried.{bytes_carried}
 use Rattle.a429_ldu.specs.CheckWord.{check_of}
 use Rattle.a429_link.specs.Run.{IsSubsequenceOf}
+use Rattle.a429_search.specs.Order.{HasEach}
 
 -- data words carry bytes, with this check word where one is wanted
 pub record Fits (p : Contents) (wanted : Option ℕ) (words : List ℕ) : Type 0 where
@@ -19,6 +20,12 @@ pub record Fits (p : Contents) (wanted : Option ℕ) (words : List ℕ) : Type 0
 pub record IsFilled (p : Contents) (count : ℕ) (wanted : Option ℕ) (recorded words : List ℕ) : Type 0 where
   pub long : length words ≡ count
   pub kept : IsSubsequenceOf recorded words
+  pub fits : Fits p wanted words
+
+-- so many data words that fit, and have those of each attempt in their order
+pub record AreDataOf (p : Contents) (count : ℕ) (wanted : Option ℕ) (attempts : List (List ℕ)) (words : List ℕ) : Type 0 where
+  pub long : length words ≡ count
+  pub each : HasEach words attempts
   pub fits : Fits p wanted words
 
 -- so many semi-octets of a number, four bits each, the lowest first

@@ -2,15 +2,17 @@
 
 ghost use Rattle.std.specs.Prelude.{◌≡◌, ◌≤◌, ◌+◌, IfOk, IfSome, length};
 ghost use Rattle.a429_search.specs.Order.{lists_of, HasEach};
-ghost use Rattle.a429_search.specs.Block.{AreDataOf, check_wanted, IsUnitOf};
+ghost use Rattle.a429_search.specs.Fill.{AreDataOf};
+ghost use Rattle.a429_search.specs.Block.{check_wanted, IsUnitOf};
 
-use crate::bounded::merge_within;
+use crate::bounded::search_words;
 use crate::differing::differing;
-use crate::fill::{Wanted, completed};
+use crate::fill::Wanted;
+use crate::merged::completed_merge;
 use crate::one_by_one::merge_one_by_one;
 use crate::order::merge_in_one_order;
 use crate::pieces::{EndWord, GroupPieces};
-use a429_ldu::{Ldu, LduFault, check_word, bytes_of};
+use a429_ldu::{Ldu, LduFault, bytes_of, check_word};
 use a429_profile::Profile;
 use a429_word::Word;
 use std::alloc::{AllocError, Global};
@@ -72,44 +74,19 @@ fn words_of(
 ) -> Result<Option<Vec<Word>>, AllocError>
     ensures { IfOk result (λ found. IfSome found (λ v. AreDataOf profile.now wanted.count wanted.check (lists_of lists.now) v.items)) }
 {
-    if let [list] = lists {
-        return completed(alloc, profile, list, wanted);
+    if let Some(merged) = merge_in_one_order(alloc, lists)? {
+        let found = completed_merge(alloc, profile, lists, &merged, wanted)?;
+        if found.is_some() {
+            return Ok(found);
+        }
     }
-    let in_one_order = merge_in_one_order(alloc, lists)?;
-    let found = completed_merge(alloc, profile, lists, in_one_order, wanted)?;
-    if found.is_some() {
-        return Ok(found);
+    if let Some(merged) = merge_one_by_one(alloc, lists)? {
+        let found = completed_merge(alloc, profile, lists, &merged, wanted)?;
+        if found.is_some() {
+            return Ok(found);
+        }
     }
-    let one_by_one = merge_one_by_one(alloc, lists)?;
-    let found = completed_merge(alloc, profile, lists, one_by_one, wanted)?;
-    if found.is_some() {
-        return Ok(found);
-    }
-    let shorter = merge_within(alloc, lists, wanted.count.saturating_sub(1))?;
-    let found = completed_merge(alloc, profile, lists, shorter, wanted)?;
-    if found.is_some() {
-        return Ok(found);
-    }
-    let longest = merge_within(alloc, lists, wanted.count)?;
-    completed_merge(alloc, profile, lists, longest, wanted)
-}
-
-// The wanted data words, which have those of a merge of the lists.
-fn completed_merge(
-    alloc: Global,
-    profile: &Profile,
-    lists: &[Vec<Word>],
-    merged: Option<Vec<Word>>,
-    wanted: Wanted,
-) -> Result<Option<Vec<Word>>, AllocError>
-    requires { IfSome merged (λ v. HasEach v.items (lists_of lists.now)) }
-    ensures { IfOk result (λ found. IfSome found (λ v. AreDataOf profile.now wanted.count wanted.check (lists_of lists.now) v.items)) }
-{
-    let _lists = lists;
-    match merged {
-        Some(merged) => completed(alloc, profile, &merged, wanted),
-        None => Ok(None),
-    }
+    search_words(alloc, profile, lists, wanted)
 }
 
 // The link data unit of these data words. Where no start word was recorded its general format identifier is 0; where no

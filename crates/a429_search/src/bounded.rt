@@ -1,43 +1,49 @@
-//! A list of at most so many words that has several, by a search with a budget.
+//! The data words of several attempts, by a search with a budget.
 
-ghost use Rattle.std.specs.Prelude.{◌≡◌, ◌≤◌, ◌<◌, ℕ, List, All, true, false, Ok, IfOk, IfSome, length};
-ghost use Rattle.a429_search.specs.Order.{lists_of, HasEach};
+ghost use Rattle.std.specs.Prelude.{◌≡◌, ◌≤◌, ◌<◌, ℕ, List, All, None, Ok, IfOk, IfSome, length};
+ghost use Rattle.a429_search.specs.Order.{lists_of};
+ghost use Rattle.a429_search.specs.Fill.{AreDataOf};
 ghost use Rattle.a429_search.specs.Bounded.{IsPair, ArePassed, HasPassed, HasRests, IsStep};
 
+use crate::fill::Wanted;
+use crate::merged::completed_merge;
 use crate::order::{are_passed, next_word, pass, words_at};
 use crate::pair::{length_from, merged_lengths};
 use a429_ldu::MOST_DATA_WORDS;
+use a429_profile::Profile;
 use a429_word::Word;
 use std::alloc::{AllocError, Global};
 
-/// The most places at which one search chooses a next word.
+/// The most places at which one search chooses a next word, or looks at a list.
 pub const MOST_NODES: usize = 20_000;
 
-/// A list of at most so many words that has each of these in its order. The search goes depth first: it takes a word that
-/// is next in some list, passes it in each list where it is next, and goes back where a shortest list for what is left of
-/// two lists is too long. `None` where it finds no list, or has chosen at `MOST_NODES` places.
-pub(crate) fn merge_within(
+/// The wanted data words that have each of these lists in its order. The search goes depth first: it takes a word that is
+/// next in some list and passes it in each list where it is next. Where all words are passed it completes the list of those
+/// taken; where that fails, or a shortest list for what is left of two lists is too long, it goes back. `None` where it
+/// finds none at `MOST_NODES` places.
+pub(crate) fn search_words(
     alloc: Global,
+    profile: &Profile,
     lists: &[Vec<Word>],
-    most: usize,
+    wanted: Wanted,
 ) -> Result<Option<Vec<Word>>, AllocError>
-    ensures kept { IfOk result (λ found. IfSome found (λ v. HasEach v.items (lists_of lists.now))) }
-    ensures short { IfOk result (λ found. IfSome found (λ v. length v.items ≤ most)) }
+    ensures { IfOk result (λ found. IfSome found (λ v. AreDataOf profile.now wanted.count wanted.check (lists_of lists.now) v.items)) }
 {
     let Some(pairs) = pairs_of(alloc, lists)? else {
         return Ok(None);
     };
-    let search = Search { lists, pairs, most };
+    let search = Search {
+        profile,
+        lists,
+        pairs,
+        wanted,
+    };
     let passed = vec![in alloc; 0usize; lists.len()]?;
     let mut path = Path {
         merged: Vec::new(alloc),
         nodes: MOST_NODES,
     };
-    if extend(alloc, &search, &passed, &mut path)? {
-        Ok(Some(path.merged))
-    } else {
-        Ok(None)
-    }
+    extend(alloc, &search, &passed, &mut path)
 }
 
 /// Two of the lists, and the length of a shortest list that has what is left of them, by `merged_lengths`.
@@ -48,12 +54,13 @@ pub(crate) struct Pair {
     pub rows: Vec<Vec<u16>>,
 }
 
-// Lists, each pair of them, and the most words of a list that has them all.
+// Lists, each pair of them, and the data words that are wanted.
 #[derive(Drop)]
 struct Search<'a> {
+    profile: &'a Profile,
     lists: &'a [Vec<Word>],
     pairs: Vec<Pair>,
-    most: usize,
+    wanted: Wanted,
     ghost are_pairs: { All (IsPair (lists_of lists.now)) pairs.items },
 }
 
@@ -149,28 +156,28 @@ fn step_at(
     }))
 }
 
-// Merges what is left of each list onto the path; where that fails, the path is as before. The words that leave the
-// bound as low as it can be come first.
+// The wanted data words that begin with the path, and have what is left of each list; where there are none, the path is as
+// before. The words that leave the bound as low as it can be come first.
 fn extend(
     alloc: Global,
     search: &Search,
     passed: &[usize],
     path: &mut Path,
-) -> Result<bool, AllocError>
+) -> Result<Option<Vec<Word>>, AllocError>
     requires passed { ArePassed (lists_of search.now.lists.now) passed.now }
     requires merged { HasPassed (lists_of search.now.lists.now) passed.now path.old.merged.items }
-    requires short { length path.old.merged.items ≤ search.now.most }
-    ensures kept { result ≡ Ok true → HasEach path.new.merged.items (lists_of search.now.lists.now) }
-    ensures short { result ≡ Ok true → length path.new.merged.items ≤ search.now.most }
-    ensures back { result ≡ Ok false → path.new.merged.items ≡ path.old.merged.items }
+    requires short { length path.old.merged.items ≤ search.now.wanted.count }
+    ensures some { IfOk result (λ found. IfSome found (λ v. AreDataOf search.now.profile.now search.now.wanted.count search.now.wanted.check (lists_of search.now.lists.now) v.items)) }
+    ensures back { result ≡ Ok None → path.new.merged.items ≡ path.old.merged.items }
 {
-    if are_passed(search.lists, passed) {
-        return Ok(true);
-    }
     if path.nodes == 0 {
-        return Ok(false);
+        return Ok(None);
     }
     path.nodes -= 1;
+    if are_passed(search.lists, passed) {
+        let merged = path.merged.as_slice();
+        return completed_merge(alloc, search.profile, search.lists, merged, search.wanted);
+    }
     let least = least_left(search, passed);
     for is_best in [true, false] {
         for i in 0..search.lists.len() {
@@ -178,15 +185,16 @@ fn extend(
                 continue;
             };
             let left = least_left(search, &next.passed);
-            if (left < least) != is_best || left >= search.most - path.merged.len() {
+            if (left < least) != is_best || left >= search.wanted.count - path.merged.len() {
                 continue;
             }
             path.merged.push(next.word)?;
-            if extend(alloc, search, &next.passed, path)? {
-                return Ok(true);
+            let found = extend(alloc, search, &next.passed, path)?;
+            if found.is_some() {
+                return Ok(found);
             }
             path.merged.pop();
         }
     }
-    Ok(false)
+    Ok(None)
 }

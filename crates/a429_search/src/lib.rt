@@ -7,6 +7,7 @@ mod choice;
 mod differing;
 mod fill;
 mod free_bits;
+mod merged;
 mod one_by_one;
 mod order;
 mod pair;

@@ -10,7 +10,11 @@ use a429_word::Word;
 use std::alloc::{AllocError, Global};
 
 /// A shortest list that has both of these, each in its order.
-pub(crate) fn merge_shortest(alloc: Global, left: &[Word], right: &[Word]) -> Result<Vec<Word>, AllocError>
+pub(crate) fn merge_shortest(
+    alloc: Global,
+    left: &[Word],
+    right: &[Word],
+) -> Result<Vec<Word>, AllocError>
     requires few_left { length left.now ≤ most_data_words }
     requires few_right { length right.now ≤ most_data_words }
     ensures left { IfOk result (λ v. IsSubsequenceOf left.now v.items) }
@@ -42,7 +46,13 @@ pub(crate) fn merge_shortest(alloc: Global, left: &[Word], right: &[Word]) -> Re
 }
 
 /// The length of a shortest list that has the words from place i on of the left, and from place j on of the right.
-pub(crate) fn length_from(rows: &[Vec<u16>], left: &[Word], right: &[Word], i: usize, j: usize) -> u16
+pub(crate) fn length_from(
+    rows: &[Vec<u16>],
+    left: &[Word],
+    right: &[Word],
+    i: usize,
+    j: usize,
+) -> u16
     requires table { IsTable left.now right.now (lists_of rows.now) }
     requires in_left { i ≤ length left.now }
     requires in_right { j ≤ length right.now }
@@ -53,7 +63,11 @@ pub(crate) fn length_from(rows: &[Vec<u16>], left: &[Word], right: &[Word], i: u
 
 /// The length of a shortest list that has the last m words of the left and the last n of the right, in row m at
 /// place n.
-pub(crate) fn merged_lengths(alloc: Global, left: &[Word], right: &[Word]) -> Result<Vec<Vec<u16>>, AllocError>
+pub(crate) fn merged_lengths(
+    alloc: Global,
+    left: &[Word],
+    right: &[Word],
+) -> Result<Vec<Vec<u16>>, AllocError>
     requires few_left { length left.now ≤ most_data_words }
     requires few_right { length right.now ≤ most_data_words }
     ensures { IfOk result (λ rows. IsTable left.now right.now (lists_of rows.items)) }

@@ -18,5 +18,5 @@ extend-requires t c =
     let s : IsStep L ps i w qs = subst (λ o. IfSome o (λ s. IsStep L ps i s.word s.passed.items)) c.in-Some.is c.in_ok-next.ensures in
     let smaller : left_count L c.deref-in-loop-i.result.now < left_count L ps = subst (λ qs. left_count L qs < left_count L ps) (sym given) (step_fewer L ps qs i w (inside_lists c.args.search.now.lists.now i c.loop-i-test.true) c.requires.passed s) in
     let after : HasPassed L qs c.push.new.self.items = subst (HasPassed L qs) (sym pushed) (step_merged L ps qs merged i w c.requires.merged s) in
-    let short : length c.push.new.self.items ≤ c.args.search.now.most = omega (arith, ap length pushed, length-append merged (w ∷ []), ap length c.loop-i.invariant, c.len.ensures, c.if-left-search.false) in
+    let short : length c.push.new.self.items ≤ c.args.search.now.wanted.count = omega (arith, ap length pushed, length-append merged (w ∷ []), ap length c.loop-i.invariant, c.len.ensures, c.if-left-search.false) in
     (subst (λ (n : ℕ). left_count L c.deref-in-loop-i.result.now < n) c.decreases smaller, (subst (ArePassed L) (sym given) s.are, (subst (λ qs. HasPassed L qs c.push.new.self.items) (sym given) after, short)))

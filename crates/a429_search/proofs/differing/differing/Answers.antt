@@ -30,8 +30,8 @@ loop-list-preserved c =
     let read : c.in_ok-from_slice.field-0.items ≡ words_at (lists_of lists) i = c.in_ok-from_slice.ensures.items ∙ c.deref-in-loop-list-2.ensures.value ∙ sym (row_read lists i c.list-item.result c.loop-list-test.true c.list-item.is) in
     record {
       all = λ zs each.
-        let both = c.in_ok-keep.ensures zs each in
-        below_more _ _ (c.loop-list.invariant.all zs both.0) (subst (λ xs. IsSubsequenceOf xs zs) read both.1);
+          let both = c.in_ok-keep.ensures zs each in
+          below_more _ _ (c.loop-list.invariant.all zs both.0) (subst (λ xs. IsSubsequenceOf xs zs) read both.1);
       few = omega (arith, c.len.ensures, c.if-len-gt-MOST_ATTEMPTS.false);
     }
 

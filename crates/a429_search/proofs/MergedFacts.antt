@@ -1,9 +1,8 @@
--- The data words of a group.
+-- The data words of several attempts.
 use Rattle.std.proofs.Common.{◌≡◌, ◌<◌, ℕ, ◌∷◌, [], List, length, get_or, Option, Some, None, Result, Ok, Err, IfOk, IfSome, refl}
 use Rattle.a429_profile.specs.Profile.{Contents}
 use Rattle.a429_search.specs.Order.{HasEach}
-use Rattle.a429_search.specs.Fill.{IsFilled}
-use Rattle.a429_search.specs.Block.{AreDataOf}
+use Rattle.a429_search.specs.Fill.{IsFilled, AreDataOf}
 use Rattle.a429_search.proofs.SubsequenceFacts.{sub_trans}
 
 -- a clause on a result, and what follows from it
@@ -19,7 +18,3 @@ merge_filled p count wanted lists merged words each f = record {
   each = λ k d l. sub_trans (get_or lists k d) merged words (each k d l) f.kept;
   fits = f.fits;
 }
-
--- lists that have all others
-pub all_from : (p : Contents) (count : ℕ) (wanted : Option ℕ) (lists all : List (List ℕ)) (words : List ℕ) → (HasEach words lists → HasEach words all) → AreDataOf p count wanted lists words → AreDataOf p count wanted all words
-all_from p count wanted lists all words from d = record { long = d.long; each = from d.each; fits = d.fits }
