@@ -5,3 +5,4 @@ pub mod Fill
 pub mod FreeBits
 pub mod Order
 pub mod Pair
+pub mod Deciding
