@@ -3,12 +3,36 @@
 ghost use Rattle.std.specs.Prelude.{◌≤◌};
 
 use crate::profile::sample_profile;
-use a429_ldu::{Form, Semis, word_of};
+use a429_ldu::{Form, Ldu, Semis, word_of};
 use a429_profile::Profile;
 use a429_search::{EndWord, GroupPieces, unit_of_pieces};
 use a429_word::Word;
 use std::alloc::{AllocError, Global};
 use std::test::Fail;
+
+/// A link data unit of which each attempt recorded these data words, and an end word had this check word, where there
+/// is one.
+fn unit_with(
+    alloc: Global,
+    profile: &Profile,
+    count: u8,
+    check: Option<u16>,
+    attempts: Vec<Vec<Word>>,
+) -> Result<Option<Ldu>, AllocError>
+    requires { 3 ≤ count }
+{
+    let end = match check {
+        Some(check) => Some(EndWord { flags: 1, check }),
+        None => None,
+    };
+    let pieces = GroupPieces {
+        count,
+        gfi: None,
+        end,
+        attempts,
+    };
+    unit_of_pieces(alloc, profile, &pieces)
+}
 
 // The data words that carry these bytes, one byte each.
 fn words_of(alloc: Global, profile: &Profile, bytes: &[u8]) -> Result<Vec<Word>, AllocError> {
@@ -36,17 +60,7 @@ fn is_found(
     for bytes in attempts {
         recorded.push(words_of(alloc, profile, bytes.as_bytes())?)?;
     }
-    let end = match check {
-        Some(check) => Some(EndWord { flags: 1, check }),
-        None => None,
-    };
-    let pieces = GroupPieces {
-        count,
-        gfi: None,
-        end,
-        attempts: recorded,
-    };
-    Ok(unit_of_pieces(alloc, profile, &pieces)?.is_some())
+    Ok(unit_with(alloc, profile, count, check, recorded)?.is_some())
 }
 
 #[test]
