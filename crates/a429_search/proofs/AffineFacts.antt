@@ -1,6 +1,6 @@
 -- Functions that keep exclusive ors, except for their value at 0.
 use Rattle.std.proofs.Common.{◌≡◌, ℕ, zero, suc, ◌+◌, ◌*◌, ◌/◌, ◌%◌, ◌^◌, ◌<◌, cond, eqb, List, [], ◌∷◌, bit_xor, sym, ap, ◌∙◌, arith, pow-suc}
-use Rattle.std.specs.Int.Bits.{xor_assoc, xor_self, xor_zero_r, xor_shifted}
+use Rattle.std.specs.Int.Bits.{xor_self, xor_shifted}
 use Rattle.std.proofs.lemmas.Nat.{xor_comm, pow_pos}
 use Rattle.a429_search.specs.Choice.{xor_of}
 use Rattle.a429_search.proofs.XorFacts.{cancel, twice}

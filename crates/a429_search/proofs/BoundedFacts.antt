@@ -1,5 +1,5 @@
 -- A search for a list of at most so many words that has several.
-use Rattle.std.proofs.Common.{◌≡◌, ℕ, ◌<◌, ◌≤◌, List, ◌∷◌, [], ◌++◌, length, slice_index, slice_get, replicate, refl, arith}
+use Rattle.std.proofs.Common.{ℕ, ◌<◌, List, ◌∷◌, [], ◌++◌, length, slice_index, slice_get, replicate, refl, arith}
 use Rattle.std.proofs.lemmas.List.{length-replicate, get_or-replicate}
 use Rattle.a429_search.specs.Order.{words_at}
 use Rattle.a429_search.specs.Bounded.{ArePassed, HasPassed, IsStep}

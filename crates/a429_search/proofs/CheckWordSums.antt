@@ -3,8 +3,7 @@ use Rattle.std.proofs.Common.{◌≡◌, ℕ, zero, suc, ◌+◌, ◌*◌, ◌/�
 use Rattle.std.specs.Int.{bit_at}
 use Rattle.std.specs.Int.{reverse_bits_onto}
 use Rattle.std.specs.List.{flat_map}
-use Rattle.std.specs.Int.Bits.{xor_assoc}
-use Rattle.std.proofs.lemmas.Nat.{xor_comm, xor_mod, xor_shr, xor_block}
+use Rattle.std.proofs.lemmas.Nat.{xor_mod, xor_shr, xor_block}
 use Rattle.std.proofs.lemmas.Nat.Bits.{bit_at_xor}
 use Rattle.a429_profile.specs.declared.codes.Check.{Check}
 use Rattle.a429_ldu.specs.CheckWord.{fed_bits, fed, register_after, check_of, check_by_register}

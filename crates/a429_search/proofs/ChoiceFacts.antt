@@ -1,8 +1,8 @@
 -- Columns whose exclusive or is a wanted number.
 use Rattle.std.proofs.Common.{◌≡◌, ◌≢◌, ℕ, zero, suc, ◌+◌, ◌*◌, ◌/◌, ◌%◌, ◌^◌, ◌<◌, Bool, true, false, cond, eqb, List, [], ◌∷◌, ◌++◌, length, take, get_or, fold, bit_xor, refl, sym, ap, ◌∙◌, subst, arith, pow-suc, All}
 use Rattle.std.specs.Int.{bit_at, trailing_zeros, w16}
-use Rattle.std.specs.Int.Bits.{xor_assoc, xor_self, xor_zero_r}
-use Rattle.std.proofs.lemmas.Nat.{xor_comm, xor_lt, xor_shr, pow_below, pow_pos}
+use Rattle.std.specs.Int.Bits.{xor_self, xor_zero_r}
+use Rattle.std.proofs.lemmas.Nat.{xor_lt, xor_shr, pow_below, pow_pos}
 use Rattle.std.proofs.lemmas.Nat.Bits.{bit_at_xor, bit_at-zero, bit_at-lt, bit_at-trailing_zeros}
 use Rattle.std.proofs.lemmas.List.Elements.{All-nil, All-head, All-tail, All-push, All-more, All-weaker}
 use Rattle.std.proofs.lemmas.Grind.{fold-append}

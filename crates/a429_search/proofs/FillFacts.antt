@@ -1,10 +1,9 @@
 -- A free word before others.
-use Rattle.std.proofs.Common.{◌≡◌, ℕ, zero, suc, ◌+◌, ◌-◌, ◌*◌, ◌/◌, ◌%◌, ◌^◌, ◌<◌, ◌≤◌, List, [], ◌∷◌, ◌++◌, length, replicate, take, Option, Some, None, IfSome, ◌↔◌, option_map, option_and_then, bit_xor, refl, sym, ap, ◌∙◌, subst, arith, inl, append_assoc, length-append}
+use Rattle.std.proofs.Common.{◌≡◌, ℕ, zero, suc, ◌+◌, ◌-◌, ◌*◌, ◌/◌, ◌%◌, ◌^◌, ◌<◌, ◌≤◌, List, [], ◌∷◌, ◌++◌, length, replicate, take, Option, Some, None, ◌↔◌, option_map, option_and_then, bit_xor, refl, sym, ap, ◌∙◌, subst, arith, inl, append_assoc, length-append}
 use Rattle.std.specs.List.{AllByRecursion}
 use Rattle.std.specs.Int.Bits.{xor_shifted, xor_zero_l}
 use Rattle.std.proofs.lemmas.Nat.{pow-add}
 use Rattle.std.proofs.lemmas.List.{length-replicate}
-use Rattle.a429_profile.specs.declared.codes.Codes.{Codes}
 use Rattle.a429_profile.specs.Profile.{Contents, IsProfile}
 use Rattle.a429_ldu.specs.declared.forms.Form.{Form}
 use Rattle.a429_ldu.specs.declared.forms.Form.TheVariants.{Part}
@@ -12,7 +11,6 @@ use Rattle.a429_ldu.specs.Semis.{AreSemis}
 use Rattle.a429_ldu.specs.Carried.{semis_in, joined_to, semis_of_words, paired, if_some, bytes_carried}
 use Rattle.a429_ldu.specs.CheckWord.{check_of}
 use Rattle.a429_ldu.proofs.FormFacts.{form_of-word_number}
-use Rattle.a429_link.specs.Run.{IsSubsequenceOf}
 use Rattle.a429_search.specs.FreeBits.{with_bits}
 use Rattle.a429_search.specs.Fill.{Fits, IsFilled, semis_of_number, data_word, rest_filled}
 use Rattle.a429_search.proofs.FreeBitsFacts.{bits-zero}

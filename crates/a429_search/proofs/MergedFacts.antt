@@ -1,5 +1,5 @@
 -- The data words of several attempts.
-use Rattle.std.proofs.Common.{◌≡◌, ◌<◌, ℕ, ◌∷◌, [], List, length, get_or, Option, Some, None, Result, Ok, Err, IfOk, IfSome, refl}
+use Rattle.std.proofs.Common.{ℕ, List, get_or, Option, Some, None, Result, Ok, Err, IfOk, IfSome}
 use Rattle.a429_profile.specs.Profile.{Contents}
 use Rattle.a429_search.specs.Order.{HasEach}
 use Rattle.a429_search.specs.Fill.{IsFilled, AreDataOf}

@@ -17,9 +17,9 @@ use a429_profile::Profile;
 use a429_word::Word;
 use std::alloc::{AllocError, Global};
 
-/// A link data unit that has all that was recorded of a group. Where more than one would do, its data words are those of
-/// the first step that gives some: the attempts merged in one order, pair by pair, or by a search with a budget; what is
-/// missing is filled. `None` where no step gives any, and then there may be a unit all the same.
+/// A link data unit that has all that was recorded of a group: the attempts are merged in one order, or one after the
+/// other, or by a search with a budget, and missing data words are filled in. The first of these steps that gives a unit
+/// is taken; other units may do as well. `None` where no step gives one, and then there may be a unit all the same.
 pub fn unit_of_pieces(
     alloc: Global,
     profile: &Profile,

@@ -13,8 +13,8 @@ use std::alloc::{AllocError, Global};
 /// compared with the words of at most so many attempts.
 pub const MOST_ATTEMPTS: usize = 16;
 
-/// Some of these lists, such that a list which has each of them has all. `None` where they would be more than
-/// `MOST_ATTEMPTS`.
+/// At most `MOST_ATTEMPTS` lists: one that has each of them in its order has each of these, too. `None` where there would
+/// be more.
 pub(crate) fn differing(
     alloc: Global,
     lists: &[Vec<Word>],

@@ -1,4 +1,4 @@
-use Rattle.std.proofs.Common.{◌≡◌, ◌<◌, ◌≤◌, ◌++◌, ◌∷◌, [], ℕ, List, IfSome, length, length-append, sym, ap, ◌∙◌, subst, arith}
+use Rattle.std.proofs.Common.{◌<◌, ◌≤◌, ◌++◌, ◌∷◌, [], ℕ, List, IfSome, length, length-append, sym, ap, ◌∙◌, subst, arith}
 use Rattle.a429_search.specs.Order.{lists_of}
 use Rattle.a429_search.specs.Bounded.{ArePassed, HasPassed, IsStep}
 use Rattle.a429_search.proofs.OrderFacts.{left_count, inside_lists}

@@ -1,7 +1,6 @@
-use Rattle.std.proofs.Common.{◌≡◌, ◌≤◌, ℕ, List, All, ◌∙◌, sym, ap, subst, arith, length, drop, slice_index}
+use Rattle.std.proofs.Common.{◌≤◌, ℕ, All, sym, subst, arith, length, drop, slice_index}
 use Rattle.a429_search.specs.Order.{lists_of, words_at}
 use Rattle.a429_search.specs.Bounded.{IsPair}
-use Rattle.a429_search.specs.Pair.{merged_length}
 use Rattle.a429_search.proofs.PairFacts.{least}
 use Rattle.a429_search.proofs.bounded.least_left.Goals as goal
 

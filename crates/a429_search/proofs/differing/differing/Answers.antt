@@ -1,7 +1,7 @@
-use Rattle.std.proofs.Common.{◌≡◌, ◌<◌, ℕ, List, [], length, sym, ap, ◌∙◌, subst, arith, below_more}
+use Rattle.std.proofs.Common.{◌≡◌, ◌<◌, [], length, sym, ap, ◌∙◌, subst, arith, below_more}
 use Rattle.std.proofs.lemmas.List.{get_or_default}
 use Rattle.a429_link.specs.Run.{IsSubsequenceOf}
-use Rattle.a429_search.specs.Order.{lists_of, words_at, HasEach}
+use Rattle.a429_search.specs.Order.{lists_of, words_at}
 use Rattle.a429_search.proofs.SubsequenceFacts.{sub_trans}
 use Rattle.a429_search.proofs.OrderFacts.{inside_lists, inside_given}
 use Rattle.a429_search.proofs.PairFacts.{row_read}

@@ -1,4 +1,4 @@
-use Rattle.std.proofs.Common.{ap, ◌∙◌, subst, Vec, Global, ℕ, List, IfSome, length, arith}
+use Rattle.std.proofs.Common.{ap, ◌∙◌, subst, Vec, Global, ℕ, length, arith}
 use Rattle.std.proofs.lemmas.List.{map-set, map_push}
 use Rattle.a429_link.specs.Run.{IsSubsequenceOf}
 use Rattle.a429_search.specs.Order.{lists_of, words_at, HasEach}

@@ -1,4 +1,4 @@
-use Rattle.std.proofs.Common.{◌≡◌, ℕ, List, Option, Some, Vec, Global, option_map, sym, ap, ◌∙◌, subst}
+use Rattle.std.proofs.Common.{◌≡◌, ℕ, Option, Some, Vec, Global, option_map, sym, ap, ◌∙◌, subst}
 use Rattle.std.proofs.lemmas.Bool.{eqb-true, eq-eqb}
 use Rattle.a429_profile.specs.declared.codes.Check.{Check}
 use Rattle.a429_ldu.specs.Carried.{bytes_carried}

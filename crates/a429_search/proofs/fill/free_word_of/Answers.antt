@@ -1,4 +1,4 @@
-use Rattle.std.proofs.Common.{◌≡◌, ◌≢◌, ◌∷◌, ◌*◌, ◌^◌, ◌<◌, ℕ, List, Option, Some, None, IfSome, IfNone, Vec, Global, option_map, sym, ap, ◌∙◌, subst}
+use Rattle.std.proofs.Common.{◌≡◌, ◌≢◌, ◌∷◌, ◌*◌, ◌^◌, ◌<◌, ℕ, List, Option, Some, IfSome, IfNone, Vec, Global, option_map, sym, ap, ◌∙◌, subst}
 use Rattle.a429_profile.specs.declared.codes.Check.{Check}
 use Rattle.a429_ldu.specs.Carried.{bytes_carried}
 use Rattle.a429_ldu.specs.CheckWord.{check_of}

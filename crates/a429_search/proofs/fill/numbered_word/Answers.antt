@@ -1,4 +1,4 @@
-use Rattle.std.proofs.Common.{◌≡◌, ◌≤◌, ◌<◌, ◌/◌, ℕ, bit_and, arith}
+use Rattle.std.proofs.Common.{◌<◌, ◌/◌, ℕ, bit_and, arith}
 use Rattle.std.proofs.lemmas.Nat.{and_le_r}
 use Rattle.a429_search.proofs.FillFacts.{first_semis}
 use Rattle.a429_search.proofs.fill.numbered_word.Goals as goal
