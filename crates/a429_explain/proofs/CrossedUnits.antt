@@ -1,5 +1,5 @@
 -- The groups of a recording without loss, one after the other.
-use Rattle.std.proofs.Common.{◌≡◌, ℕ, zero, suc, ◌+◌, ◌-◌, ◌≤◌, ◌<◌, Bool, true, false, cond, List, [], ◌∷◌, ◌++◌, map, length, take, drop, slice_get, Option, Some, None, refl, sym, ap, ◌∙◌, subst, arith, append_assoc, append-nil, eq-eqb}
+use Rattle.std.proofs.Common.{◌≡◌, ℕ, zero, suc, ◌+◌, ◌-◌, ◌≤◌, ◌<◌, Bool, true, false, cond, List, [], ◌∷◌, ◌++◌, length, take, drop, slice_get, Option, Some, None, refl, sym, ap, ◌∙◌, subst, arith, append_assoc, append-nil, eq-eqb}
 use Rattle.std.proofs.lemmas.List.{drop-drop, drop_all}
 use Rattle.a429_word.specs.declared.bus.Bus.TheVariants as bus
 use Rattle.a429_profile.specs.declared.codes.Codes.{Codes}
@@ -24,11 +24,12 @@ use Rattle.a429_explain.specs.Groups.{group_length, first_started, group_start, 
 use Rattle.a429_explain.specs.declared.plan.Plan.{Plan}
 use Rattle.a429_explain.specs.Plan.{place_from, give_ups_from, place_behind, ArePlans, plain}
 use Rattle.a429_explain.specs.Block.{IsMatchedUnit, HasCrossed, IsStopIn}
-use Rattle.a429_explain.specs.Guess.{heard, place_at_group, place_past, ArePlansFrom, IsStopFrom, HaveCrossed}
+use Rattle.a429_explain.specs.Guess.{heard, place_at_group, place_past, plain_plans, ArePlansFrom, IsStopFrom, HaveCrossed}
 use Rattle.a429_explain.specs.Whole.{wanted}
 use Rattle.a429_explain.proofs.GroupsFacts.{asked, AreSearched, searched_none, searched_free, searched_group, searched_all, searched_doubt}
 use Rattle.a429_explain.proofs.CleanBlock.{formed_sight}
 use Rattle.a429_explain.proofs.CleanGroups.{unit_has_forms, unit_parts}
+use Rattle.a429_explain.proofs.PlainPlans.{plain_past, plain_end, plain_group}
 use Rattle.a429_explain.proofs.WholeFacts.{has_item, drop_next}
 use Rattle.a429_explain.proofs.CrossedUnit.{request_kept}
 use Rattle.a429_link.proofs.NumberFacts.{next_byte}
@@ -38,7 +39,7 @@ use Rattle.a429_link.proofs.NumberFacts.{next_byte}
 -- the link data units that are still to be found behind these
 pub record IsLeft (p : Contents) (items : List Seen) (done : List Plan) (us : List LduValue) (place : UnitNumber) (at : ℕ) : Type 0 where
   pub rest : List LduValue
-  pub all : map plain us ≡ done ++ map plain rest
+  pub all : plain_plans p.codes 0 us items ≡ done ++ plain_plans p.codes at rest (drop at items)
   pub file : place.file ≤ 255
   pub words : without_free p.codes (drop at items) ≡ clean_blocks p.codes place rest
   pub fit : AllFit p place rest
@@ -54,7 +55,7 @@ finds_none p items rs first done place f none same = record {
   groups = searched_none p items rs _ _ done none same;
   left = λ us h. record {
     rest = us;
-    all = ap (λ (xs : List Plan). xs ++ map plain us) (sym none);
+    all = ap (λ (xs : List Plan). xs ++ plain_plans p.codes 0 us items) (sym none);
     file = subst (λ (n : UnitNumber). n.file ≤ 255) (sym same) f;
     words = h.words ∙ ap (λ (n : UnitNumber). clean_blocks p.codes n us) (sym same);
     fit = subst (λ (n : UnitNumber). AllFit p n us) (sym same) h.fit;
@@ -89,7 +90,7 @@ finds_free p is items rs first done place at l w h =
       groups = searched_free p items rs _ place done at (sym w) h.groups;
       left = λ us crossed. let old = h.left us crossed in record {
         rest = old.rest;
-        all = old.all;
+        all = old.all ∙ ap (λ (xs : List Plan). done ++ xs) (ap (plain_plans p.codes at old.rest) (drop_next items at here.item here.is) ∙ plain_past p.codes at old.rest here.item (drop (at + 1) items) none);
         file = old.file;
         words = passed_free p is place old.file old.rest old.fit here.item (drop (at + 1) items) none (ap (without_free p.codes) (sym (drop_next items at here.item here.is)) ∙ old.words);
         fit = old.fit;
@@ -112,7 +113,7 @@ get_dropped (r ∷ rs) (suc n) k = let one : suc n + k ≡ suc (n + k) = omega a
 pub record IsNext (p : Contents) (items : List Seen) (rs : List Role) (done : List Plan) (us : List LduValue) (place : UnitNumber) (r : Request) : Type 0 where
   pub unit : LduValue
   pub more : List LduValue
-  pub all : map plain us ≡ done ++ plain unit ∷ map plain more
+  pub all : plain_plans p.codes 0 us items ≡ done ++ plain r.group.from unit ∷ plain_plans p.codes r.group.to more (drop r.group.to items)
   pub file : place.file ≤ 255
   pub crossed : HasCrossed (heard p items) r place unit
   pub start : group_start rs r.group ≡ Some place
@@ -120,9 +121,9 @@ pub record IsNext (p : Contents) (items : List Seen) (rs : List Role) (done : Li
   pub words : without_free p.codes (drop r.group.to items) ≡ clean_blocks p.codes (number_after p.codes place unit) more
   pub fit : AllFit p (number_after p.codes place unit) more
 
-next_is : (p : Contents) → IsProfile p → (items : List Seen) (done : List Plan) (us : List LduValue) (place : UnitNumber) (at to count : ℕ) (rest : List LduValue) (i : Seen) (xs : List Seen) → to ≡ at + group_length (roles (forms_of p.codes (i ∷ xs))) → place.file ≤ 255 → map plain us ≡ done ++ map plain rest → AllFit p place rest → drop at items ≡ i ∷ xs → is_free p.codes i.bus i.word ≡ false → without_free p.codes (i ∷ xs) ≡ clean_blocks p.codes place rest → IsNext p items (roles (forms_of p.codes items)) done us place (asked (record { from = at; to = to }) count)
-next_is p is items done us place at to count [] i xs t f all h list kept e = absurd (let none : i ∷ without_free p.codes xs ≡ [] = sym (ap (λ (b : Bool). cond b (without_free p.codes xs) (i ∷ without_free p.codes xs)) kept) ∙ e in cc none)
-next_is p is items done us place at to count (u ∷ more) i xs t f all h list kept e =
+next_is : (p : Contents) → IsProfile p → (items : List Seen) (done : List Plan) (us : List LduValue) (place : UnitNumber) (at to count : ℕ) (rest : List LduValue) (i : Seen) (xs : List Seen) → to ≡ at + group_length (roles (forms_of p.codes (i ∷ xs))) → place.file ≤ 255 → plain_plans p.codes 0 us items ≡ done ++ plain_plans p.codes at rest (drop at items) → AllFit p place rest → drop at items ≡ i ∷ xs → is_free p.codes i.bus i.word ≡ false → wanted (sight_of p.codes i.bus i.word) ≡ Some count → without_free p.codes (i ∷ xs) ≡ clean_blocks p.codes place rest → IsNext p items (roles (forms_of p.codes items)) done us place (asked (record { from = at; to = to }) count)
+next_is p is items done us place at to count [] i xs t f all h list kept w e = absurd (let none : i ∷ without_free p.codes xs ≡ [] = sym (ap (λ (b : Bool). cond b (without_free p.codes xs) (i ∷ without_free p.codes xs)) kept) ∙ e in cc none)
+next_is p is items done us place at to count (u ∷ more) i xs t f all h list kept w e =
     let n = group_length (roles (forms_of p.codes (i ∷ xs))) in
     let found = unit_parts p is place u more i xs f h kept e in
     let parts = found.parts in
@@ -131,11 +132,15 @@ next_is p is items done us place at to count (u ∷ more) i xs t f all h list ke
     let some = parts.some in
     let long : to - at ≡ n = omega arith in
     let last : to - 1 ≡ at + (n - 1) = omega arith in
+    let one : suc (n - 1) ≡ n = omega arith in
+    let behind : drop (n - 1) xs ≡ drop to items = ap (λ (m : ℕ). drop m (i ∷ xs)) one ∙ ap (drop n) (sym list) ∙ drop-drop n at items ∙ ap (λ (m : ℕ). drop m items) (sym t) in
+    let plans = plain_group p place u more at (n - 1) count i xs (unit_has_forms p is place u f h.1 h.0) kept w (ap (λ (m : ℕ). without_free p.codes (take m (i ∷ xs))) one ∙ parts.group_is) in
+    let ends : at + suc (n - 1) ≡ to = ap (λ (m : ℕ). at + m) one ∙ sym t in
     let said : drop at (roles (forms_of p.codes items)) ≡ roles (forms_of p.codes (i ∷ xs)) = roles-drop p.codes items at ∙ ap (λ (ys : List Seen). roles (forms_of p.codes ys)) list in
     record {
       unit = u;
       more = more;
-      all = all;
+      all = all ∙ ap (λ (ps : List Plan). done ++ ps) (ap (plain_plans p.codes at (u ∷ more)) list ∙ plans ∙ ap (λ (m : ℕ). plain at u ∷ plain_plans p.codes m more (drop (n - 1) xs)) ends ∙ ap (λ (ys : List Seen). plain at u ∷ plain_plans p.codes to more ys) behind);
       file = f;
       crossed = record {
         unit = h.0;
@@ -157,7 +162,7 @@ finds_group p is items rs first done place at from to count r l same t w h us cr
     let kept = request_kept p.codes here.item count asks in
     let list : drop at items ≡ here.item ∷ drop (at + 1) items = drop_next items at here.item here.is in
     let goes : group_length (drop at rs) ≡ group_length (roles (forms_of p.codes (here.item ∷ drop (at + 1) items))) = ap (λ (xs : List Role). group_length (drop at xs)) r ∙ ap group_length (roles-drop p.codes items at) ∙ ap (λ (ys : List Seen). group_length (roles (forms_of p.codes ys))) list in
-    let next = next_is p is items done us place at to count old.rest here.item (drop (at + 1) items) (t ∙ ap (λ (n : ℕ). at + n) goes) old.file old.all old.fit list kept (ap (without_free p.codes) (sym list) ∙ old.words) in
+    let next = next_is p is items done us place at to count old.rest here.item (drop (at + 1) items) (t ∙ ap (λ (n : ℕ). at + n) goes) old.file old.all old.fit list kept asks (ap (without_free p.codes) (sym list) ∙ old.words) in
     subst (λ (n : ℕ). IsNext p items rs done us place (asked (record { from = n; to = to }) count)) (sym same) (subst (λ (xs : List Role). IsNext p items xs done us place (asked (record { from = at; to = to }) count)) (sym r) next)
 
 -- a group without loss begins and ends under the numbers that the source comes to it with, and no file is given up
@@ -170,11 +175,11 @@ same_place c place = ap (λ (b : Bool). cond b place (first_number c place.file)
 pub next_place : (p : Contents) (items : List Seen) (rs : List Role) (done : List Plan) (us : List LduValue) (place : UnitNumber) (r : Request) → IsNext p items rs done us place r → place_at_group p.codes rs r.group place ≡ place
 next_place p items rs done us place r h = ap (place_from p.codes place) h.start ∙ same_place p.codes place
 
-next_plan : (p : Contents) (items : List Seen) (rs : List Role) (done : List Plan) (us : List LduValue) (place : UnitNumber) (r : Request) (plan : Plan) (h : IsNext p items rs done us place r) → plan.give_ups ≡ give_ups_from place (group_start rs r.group) → plan.unit ≡ h.unit → plan ≡ plain h.unit
-next_plan p items rs done us place r plan h gives same = ap (λ (n : ℕ). planned n plan.unit) (gives ∙ ap (give_ups_from place) h.start ∙ no_more place h.file) ∙ ap (planned 0) same
+next_plan : (p : Contents) (items : List Seen) (rs : List Role) (done : List Plan) (us : List LduValue) (place : UnitNumber) (r : Request) (plan : Plan) (h : IsNext p items rs done us place r) → plan.at ≡ r.group.from → plan.give_ups ≡ give_ups_from place (group_start rs r.group) → plan.unit ≡ h.unit → plan ≡ plain r.group.from h.unit
+next_plan p items rs done us place r plan h here gives same = ap (λ (n : ℕ). planned n plan.give_ups plan.unit) here ∙ ap (λ (n : ℕ). planned r.group.from n plan.unit) (gives ∙ ap (give_ups_from place) h.start ∙ no_more place h.file) ∙ ap (planned r.group.from 0) same
   where
-    planned : ℕ → LduValue → Plan
-    planned n u = record { give_ups = n; unit = u }
+    planned : ℕ → ℕ → LduValue → Plan
+    planned at n u = record { at = at; give_ups = n; unit = u }
 
 next_number_is : (p : Contents) (items : List Seen) (rs : List Role) (done : List Plan) (us : List LduValue) (place : UnitNumber) (r : Request) (u : LduValue) (h : IsNext p items rs done us place r) → u ≡ h.unit → place_past p.codes rs r.group place u ≡ number_after p.codes place h.unit
 next_number_is p items rs done us place r u h same =
@@ -187,17 +192,18 @@ units_push p [] plan h k = (k, tt)
 units_push p (v ∷ plans) plan h k = (h.0, units_push p plans plan h.1 k)
 
 -- the plan that is found is the next one, and the walk goes on behind its group
-pub finds_next : (p : Contents) (items : List Seen) (rs : List Role) (first : ℕ) (done new : List Plan) (place next : UnitNumber) (at wants : ℕ) (g : Group) (plan : Plan) → g.from ≡ at → g.to ≡ at + group_length (drop at rs) → wanted (sight_at p.codes (slice_get items at)) ≡ Some wants → plan.give_ups ≡ give_ups_from place (group_start rs g) → IsMatchedUnit (heard p items) (asked g wants) (place_at_group p.codes rs g place) plan.unit → new ≡ done ++ plan ∷ [] → next ≡ place_past p.codes rs g place plan.unit → ((u : LduValue) → HasCrossed (heard p items) (asked g wants) (place_at_group p.codes rs g place) u → plan.unit ≡ u) → ((us : List LduValue) → HaveCrossed (heard p items) first us → IsNext p items rs done us place (asked g wants)) → Finds p items rs first done place at → Finds p items rs first new next g.to
-finds_next p items rs first done new place next at wants g plan from to asks gives unit_is pushed number found group h = record {
+pub finds_next : (p : Contents) (items : List Seen) (rs : List Role) (first : ℕ) (done new : List Plan) (place next : UnitNumber) (at wants : ℕ) (g : Group) (plan : Plan) → g.from ≡ at → g.to ≡ at + group_length (drop at rs) → wanted (sight_at p.codes (slice_get items at)) ≡ Some wants → plan.at ≡ at → plan.give_ups ≡ give_ups_from place (group_start rs g) → IsMatchedUnit (heard p items) (asked g wants) (place_at_group p.codes rs g place) plan.unit → new ≡ done ++ plan ∷ [] → next ≡ place_past p.codes rs g place plan.unit → ((u : LduValue) → HasCrossed (heard p items) (asked g wants) (place_at_group p.codes rs g place) u → plan.unit ≡ u) → ((us : List LduValue) → HaveCrossed (heard p items) first us → IsNext p items rs done us place (asked g wants)) → Finds p items rs first done place at → Finds p items rs first new next g.to
+finds_next p items rs first done new place next at wants g plan from to asks here gives unit_is pushed number found group h = record {
   units = subst (ArePlans p) (sym pushed) (units_push p done plan h.units unit_is.gives.unit);
-  groups = searched_group p items rs _ place next done new at wants g plan from to asks gives unit_is pushed number h.groups;
+  groups = searched_group p items rs _ place next done new at wants g plan from to asks here gives unit_is pushed number h.groups;
   left = λ us crossed.
       let k = group us crossed in
       let same : plan.unit ≡ k.unit = found k.unit (subst (λ (n : UnitNumber). HasCrossed (heard p items) (asked g wants) n k.unit) (sym (next_place p items rs done us place (asked g wants) k)) k.crossed) in
+      let more = plain_plans p.codes g.to k.more (drop g.to items) in
       let after : next ≡ number_after p.codes place k.unit = number ∙ next_number_is p items rs done us place (asked g wants) plan.unit k same in
       record {
         rest = k.more;
-        all = k.all ∙ sym (append_assoc done (plain k.unit ∷ []) (map plain k.more)) ∙ ap (λ (xs : List Plan). xs ++ map plain k.more) (sym (pushed ∙ ap (λ (x : Plan). done ++ x ∷ []) (next_plan p items rs done us place (asked g wants) plan k gives same)));
+        all = k.all ∙ sym (append_assoc done (plain g.from k.unit ∷ []) more) ∙ ap (λ (xs : List Plan). xs ++ more) (sym (pushed ∙ ap (λ (x : Plan). done ++ x ∷ []) (next_plan p items rs done us place (asked g wants) plan k (here ∙ sym from) gives same)));
         file = subst (λ (n : UnitNumber). n.file ≤ 255) (sym after) (next_byte p.codes place _ k.file);
         words = k.words ∙ ap (λ (n : UnitNumber). clean_blocks p.codes n k.more) (sym after);
         fit = subst (λ (n : UnitNumber). AllFit p n k.more) (sym after) k.fit;
@@ -206,14 +212,10 @@ finds_next p items rs first done new place next at wants g plan from to asks giv
 
 -- ---- the end
 
-nothing_left : (p : Contents) (done : List Plan) (us : List LduValue) (place : UnitNumber) (rest : List LduValue) → map plain us ≡ done ++ map plain rest → [] ≡ clean_blocks p.codes place rest → done ≡ map plain us
-nothing_left p done us place [] all e = sym (all ∙ append-nil done)
-nothing_left p done us place (u ∷ rest) all e = absurd (cc e)
-
-pub finds_all : (p : Contents) (items : List Seen) (rs : List Role) (first : ℕ) (done : List Plan) (place : UnitNumber) (at : ℕ) → length items ≤ at → Finds p items rs first done place at → (us : List LduValue) → HaveCrossed (heard p items) first us → done ≡ map plain us
+pub finds_all : (p : Contents) (items : List Seen) (rs : List Role) (first : ℕ) (done : List Plan) (place : UnitNumber) (at : ℕ) → length items ≤ at → Finds p items rs first done place at → (us : List LduValue) → HaveCrossed (heard p items) first us → done ≡ plain_plans p.codes 0 us items
 finds_all p items rs first done place at l h us crossed =
     let old = h.left us crossed in
-    nothing_left p done us place old.rest old.all (sym (ap (without_free p.codes) (drop_all at items l)) ∙ old.words)
+    sym (old.all ∙ ap (λ (xs : List Plan). done ++ xs) (ap (plain_plans p.codes at old.rest) (drop_all at items l) ∙ plain_end p.codes at old.rest) ∙ append-nil done)
 
 -- those that are found are those of the groups
 pub finds_groups : (p : Contents) (items : List Seen) (rs : List Role) (first : ℕ) (done : List Plan) (place : UnitNumber) (at : ℕ) → length items ≤ at → Finds p items rs first done place at → ArePlansFrom (heard p items) rs first done

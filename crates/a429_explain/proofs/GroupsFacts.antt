@@ -1,12 +1,10 @@
 -- How far the groups of a recording are searched.
-use Rattle.std.proofs.Common.{◌≡◌, ◌≢◌, ℕ, suc, ◌+◌, ◌-◌, ◌≤◌, ◌<◌, List, [], ◌∷◌, ◌++◌, length, take, drop, get_or, drop-cons, slice_get, slice_range, Option, Some, None, inl, inr, refl, sym, ap, ◌∙◌, subst, arith, append-nil}
+use Rattle.std.proofs.Common.{◌≡◌, ℕ, suc, ◌+◌, ◌-◌, ◌≤◌, ◌<◌, List, [], ◌∷◌, ◌++◌, length, take, drop, get_or, drop-cons, slice_get, slice_range, Option, Some, None, inl, inr, sym, ap, ◌∙◌, subst, arith, append-nil}
 use Rattle.std.proofs.lemmas.Bool.{cases_order}
 use Rattle.std.proofs.lemmas.Option.{slice_get_past}
 use Rattle.std.specs.Option.{option_or}
 use Rattle.a429_profile.specs.declared.codes.Codes.{Codes}
 use Rattle.a429_profile.specs.Profile.{Contents}
-use Rattle.a429_link.specs.declared.fault.StepFault.{StepFault}
-use Rattle.a429_link.specs.declared.fault.StepFault.TheVariants as step
 use Rattle.a429_link.specs.declared.seen.Seen.{Seen}
 use Rattle.a429_explain.specs.declared.attempts.Role.{Role}
 use Rattle.a429_explain.specs.declared.groups.Group.{Group}
@@ -91,8 +89,8 @@ group_is rs at g from to = ap (λ (n : ℕ). begun n g.to) from ∙ ap (begun at
     begun from to = record { from = from; to = to }
 
 -- past a group
-pub searched_group : (p : Contents) (items : List Seen) (rs : List Role) (start place next : UnitNumber) (done new : List Plan) (at wants : ℕ) (g : Group) (plan : Plan) → g.from ≡ at → g.to ≡ at + group_length (drop at rs) → wanted (sight_at p.codes (slice_get items at)) ≡ Some wants → plan.give_ups ≡ give_ups_from place (group_start rs g) → IsMatchedUnit (heard p items) (asked g wants) (place_at_group p.codes rs g place) plan.unit → new ≡ done ++ plan ∷ [] → next ≡ place_past p.codes rs g place plan.unit → AreSearched p items rs start done place at → AreSearched p items rs start new next g.to
-searched_group p items rs start place next done new at wants g plan from to w gives is pushed after h = subst (λ (us : List Plan). AreSearched p items rs start us next g.to) (sym pushed) (followed _ (HasCome p.codes items next g.to) p items rs start 0 done (plan ∷ []) on h)
+pub searched_group : (p : Contents) (items : List Seen) (rs : List Role) (start place next : UnitNumber) (done new : List Plan) (at wants : ℕ) (g : Group) (plan : Plan) → g.from ≡ at → g.to ≡ at + group_length (drop at rs) → wanted (sight_at p.codes (slice_get items at)) ≡ Some wants → plan.at ≡ at → plan.give_ups ≡ give_ups_from place (group_start rs g) → IsMatchedUnit (heard p items) (asked g wants) (place_at_group p.codes rs g place) plan.unit → new ≡ done ++ plan ∷ [] → next ≡ place_past p.codes rs g place plan.unit → AreSearched p items rs start done place at → AreSearched p items rs start new next g.to
+searched_group p items rs start place next done new at wants g plan from to w here gives is pushed after h = subst (λ (us : List Plan). AreSearched p items rs start us next g.to) (sym pushed) (followed _ (HasCome p.codes items next g.to) p items rs start 0 done (plan ∷ []) on h)
   where
     same : g ≡ group_from rs at
     same = group_is rs at g from to
@@ -102,6 +100,7 @@ searched_group p items rs start place next done new at wants g plan from to w gi
       record {
         from = at;
         wants = wants;
+        at_is = here;
         first = next_request p.codes items place q at n wants w c;
         give_ups = subst (λ (r : UnitNumber). plan.give_ups ≡ give_ups_from r (group_start rs (group_from rs at))) (sym c.same) (subst (λ (x : Group). plan.give_ups ≡ give_ups_from place (group_start rs x)) same gives);
         is = subst (λ (r : UnitNumber). IsMatchedUnit (heard p items) (asked (group_from rs at) wants) (place_at_group p.codes rs (group_from rs at) r) plan.unit) (sym c.same) (subst (λ (x : Group). IsMatchedUnit (heard p items) (asked x wants) (place_at_group p.codes rs x place) plan.unit) same is);
@@ -158,9 +157,3 @@ first_stop p items rs first stop are from h = by stop (subst (λ (n : ℕ). IsSt
     by (Unexplained i NotReplayed) h = absurd (not_replayed p items (roles (forms_of p.codes items)) (first_place p items) 0 i h.plans h.are)
     by (Unexplained i NeverWhole) h = h
     by (Unexplained i NotOneBlock) h = h
-
--- a step that is refused comes behind the doubts of all groups
-pub step_stop : (p : Contents) (items : List Seen) (n : ℕ) (f : StepFault) (r : Stop) → (f ≡ step.OutOfMemory → r ≡ OutOfMemory) → (f ≢ step.OutOfMemory → r ≡ Unexplained n NotReplayed) → HasNoDoubt p items → IsFirstStop p items r
-step_stop p items n step.OutOfMemory r memory other h = rw (memory refl) tt
-step_stop p items n step.NotAllowed r memory other h = rw (other (λ e. cc e)) h
-step_stop p items n step.WordDiffers r memory other h = rw (other (λ e. cc e)) h

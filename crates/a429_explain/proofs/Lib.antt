@@ -9,6 +9,8 @@ pub mod WithoutLoss
 pub mod Thinned
 pub mod CleanBlock
 pub mod CleanGroups
+pub mod PlainPlans
+pub mod PlanFacts
 pub mod WholeFacts
 pub mod GroupsFacts
 pub mod FilledFacts

@@ -1,5 +1,5 @@
 -- What the scribe has written: its text is one of lines, and each line lists a step of a run.
-use Rattle.std.proofs.Common.{◌≡◌, ℕ, zero, suc, ◌≤◌, ◌<◌, ◌==◌, length, if◌then◌else◌, Bool, true, false, ◌||◌, List, [], ◌∷◌, ◌++◌, map, Option, Some, None, Result, Ok, Err, OnOk, refl, sym, ap, ◌∙◌, subst, arith, append_assoc, append-nil}
+use Rattle.std.proofs.Common.{◌≡◌, ◌≢◌, ℕ, zero, suc, ◌≤◌, ◌<◌, ◌==◌, length, if◌then◌else◌, Bool, true, false, ◌||◌, List, [], ◌∷◌, ◌++◌, map, take, Option, Some, None, Result, Ok, Err, OnOk, refl, sym, ap, ◌∙◌, subst, arith, append_assoc, append-nil}
 use Rattle.std.specs.List.{AllByRecursion}
 use Rattle.std.proofs.lemmas.Bool.{ne_eqb}
 use Rattle.a429_profile.specs.Profile.{Contents}
@@ -10,11 +10,13 @@ use Rattle.a429_link.specs.declared.step.Step.TheVariants as step
 use Rattle.a429_link.specs.declared.state.SourceState.{SourceState}
 use Rattle.a429_link.specs.declared.state.SourceState.TheVariants as source
 use Rattle.a429_link.specs.Link.{LinkValue}
-use Rattle.a429_link.specs.Run.{IsRun, end_of, IsBounded, SentFew, TookFew, trace, with_label}
+use Rattle.a429_link.specs.declared.fault.StepFault.{StepFault}
+use Rattle.a429_link.specs.declared.fault.StepFault.TheVariants as fault
+use Rattle.a429_link.specs.Run.{IsRun, BeginsARun, end_of, IsBounded, SentFew, TookFew, trace, with_label}
 use Rattle.a429_link.specs.Source.{IsIdle}
 use Rattle.a429_link.specs.Sink.{Sink, Listens, SinkPhase, Quiet, OwesClear, Granted, InBlock, OwesAck, OwesNak}
 use Rattle.a429_link.specs.Step.{Can, after, label}
-use Rattle.a429_link.specs.State.{start, State, IsNonEmpty, sink_state_of, states_of}
+use Rattle.a429_link.specs.State.{start, State, sink_state_of, states_of}
 use Rattle.a429_link.specs.declared.number.UnitNumber.{UnitNumber}
 use Rattle.a429_link.proofs.LinkKept.{end_push}
 use Rattle.a429_link.proofs.CleanRuns.{run_split}
@@ -30,18 +32,18 @@ use Rattle.a429_cert.specs.declared.version.Version.TheVariants.{One, Two}
 use Rattle.a429_cert.specs.Version.{version_line, is_give_up, gives_up, least_version}
 use Rattle.a429_cert.specs.Lines.{certificate_lines, begun_with}
 use Rattle.a429_cert.proofs.VersionFacts.{least_lists}
-use Rattle.a429_explain.specs.Verdict.{HasLeastVersion}
+use Rattle.a429_explain.specs.Explanation.{HasLeastVersion, IsWhyNotWritten}
+use Rattle.a429_explain.specs.declared.explanation.Refusal.{Refusal}
+use Rattle.a429_explain.specs.declared.explanation.Refusal.TheVariants.{NotReplayed, OutOfMemory}
 use Rattle.a429_cert.specs.Explained.{step_of, ShowsStates, ListsSteps, IsExplained, Explains}
 use Rattle.a429_cert.specs.Act.{step_with, letter_of}
 use Rattle.a429_cert.proofs.LineShape.{IsVisible, line-visible}
-use Rattle.a429_cert.proofs.ExplainedFacts.{trace_push, lists_push}
+use Rattle.a429_cert.proofs.ExplainedFacts.{trace_push, lists_push, in_some_run}
 use Rattle.a429_explain.specs.declared.attempts.Role.{Role}
 use Rattle.a429_explain.specs.declared.attempts.Role.TheVariants.{Request}
-use Rattle.a429_explain.specs.declared.groups.Grouping.{Grouping}
 use Rattle.a429_explain.specs.declared.plan.Plan.{Plan}
 use Rattle.a429_explain.specs.declared.scribe.Scribe.{Scribe}
-use Rattle.a429_explain.specs.Groups.{stays_within}
-use Rattle.a429_explain.specs.Scribe.{IsLossless, lossless_steps, lines_text, in_version, HasWritten, with_next, WritesNext, link_after, CanMake, CanBegin, giving_up, begin_steps, sent, IsAtRest, IsClosing, Closes, ClosesOn, HasAsked}
+use Rattle.a429_explain.specs.Scribe.{IsLossless, lossless_steps, lines_text, in_version, HasWritten, with_next, WritesNext, link_after, CanMake, giving_up, begin_steps, sent, IsAtRest, IsClosing, Closes, ClosesOn, HasAsked}
 
 -- ---- the lines of a text
 
@@ -168,6 +170,18 @@ pub version_written : (items : List Seen) (first : ℕ) (text : List ℕ) (gave 
 unfolding explains
 version_written items first text gave l h = record { first = first; steps = h.steps; explains = explains items first text gave l h; least = refl }
 
+-- the words written begin a run
+pub run_begun : (items : List Seen) (first : ℕ) (text : List ℕ) (gave : Bool) (l : LinkValue) → HasWritten first items text gave l → BeginsARun l.profile items
+run_begun items first text gave l h =
+    let r = in_some_run l.profile (in_version gave text) items l.state.sink.shelf.files (certificate_written items first text gave l h) in
+    record { first = r.first; byte = r.byte; steps = r.steps; run = r.run; more = []; records = r.recorded ∙ sym (append-nil items) }
+
+-- so the words before an entry whose steps are refused do
+pub why_refused : (p : Contents) (items : List Seen) (n : ℕ) (f : StepFault) (r : Refusal) → (f ≡ fault.OutOfMemory → r ≡ OutOfMemory) → (f ≢ fault.OutOfMemory → r ≡ NotReplayed n) → n < length items → BeginsARun p (take n items) → IsWhyNotWritten p items r
+why_refused p items n fault.OutOfMemory r memory other l h = rw (memory refl) tt
+why_refused p items n fault.NotAllowed r memory other l h = rw (other (λ e. cc e)) (l, h)
+why_refused p items n fault.WordDiffers r memory other l h = rw (other (λ e. cc e)) (l, h)
+
 -- ---- the line of a step
 
 -- the letter of a step stands for it
@@ -240,41 +254,32 @@ end_both : (p : Contents) (xs ys : List Step) (s : State) → end_of p (xs ++ ys
 end_both p [] ys s = refl
 end_both p (x ∷ xs) ys s = end_both p xs ys (after p x s)
 
--- the first plan can be carried out where its steps can be made
-pub plan_can : (goes : Bool) (plans left : List Plan) (plan : Plan) (l : LinkValue) → goes ≡ false → plans ≡ plan ∷ left → CanBegin goes plans l → CanMake (giving_up plan.give_ups) l × Can l.profile (step.Load plan.unit) (link_after (giving_up plan.give_ups) l).state
-plan_can true plans left plan l e first can = absurd (cc e)
-plan_can false plans left plan l e first can =
-    let parts = run_split l.profile (giving_up plan.give_ups) (step.Load plan.unit ∷ []) l.state (subst (λ (ps : List Plan). CanBegin false ps l) first can) in
-    (parts.0, parts.1.0)
+-- a plan can be carried out where its steps can be made
+pub plan_can : (plan : Plan) (l : LinkValue) → CanMake (begin_steps (Some plan)) l → CanMake (giving_up plan.give_ups) l × Can l.profile (step.Load plan.unit) (link_after (giving_up plan.give_ups) l).state
+plan_can plan l can = let parts = run_split l.profile (giving_up plan.give_ups) (step.Load plan.unit ∷ []) l.state can in (parts.0, parts.1.0)
 
 -- they are its steps
-pub plan_made : (goes : Bool) (plans left : List Plan) (plan : Plan) (l : LinkValue) → goes ≡ false → plans ≡ plan ∷ left → link_after (step.Load plan.unit ∷ []) (link_after (giving_up plan.give_ups) l) ≡ link_after (begin_steps goes plans) l
-plan_made true plans left plan l e first = absurd (cc e)
-plan_made false plans left plan l e first =
-    ap (λ (s : State). record l { state = s }) (sym (end_both l.profile (giving_up plan.give_ups) (step.Load plan.unit ∷ []) l.state))
-    ∙ ap (λ (ps : List Plan). link_after (begin_steps false ps) l) (sym first)
+pub plan_made : (plan : Plan) (l : LinkValue) → link_after (step.Load plan.unit ∷ []) (link_after (giving_up plan.give_ups) l) ≡ link_after (begin_steps (Some plan)) l
+plan_made plan l = ap (λ (s : State). record l { state = s }) (sym (end_both l.profile (giving_up plan.give_ups) (step.Load plan.unit ∷ []) l.state))
 
 -- ---- a request that nothing is lost before
 
-pub record Asks (r : Role) (i : Seen) (goes : Bool) (plans : List Plan) (l : LinkValue) : Type 0 where
+pub record Asks (r : Role) (i : Seen) (plan : Option Plan) (l : LinkValue) : Type 0 where
   pub rests : IsAtRest l
-  pub can : CanBegin goes plans l
-  pub sends : CanMake (sent i) (link_after (begin_steps goes plans) l)
-  pub leads : link_after (lossless_steps r i plans) l ≡ link_after (sent i) (link_after (begin_steps goes plans) l)
+  pub can : CanMake (begin_steps plan) l
+  pub sends : CanMake (sent i) (link_after (begin_steps plan) l)
+  pub leads : link_after (lossless_steps r i plan) l ≡ link_after (sent i) (link_after (begin_steps plan) l)
 
-pub asks_parts : (r : Role) (n : ℕ) (start : Option UnitNumber) (i : Seen) (g : Grouping) (goes : Bool) (plans : List Plan) (l : LinkValue) → r ≡ Request n start → goes ≡ stays_within g r → IsLossless r g plans → CanMake (lossless_steps r i plans) l → Asks r i goes plans l
-asks_parts r n start i g goes plans l e eg h run = subst (λ q. Asks q i goes plans l) (sym e) (subst (λ (t : Bool). Asks (Request n start) i t plans l) (sym (eg ∙ ap (stays_within g) e ∙ fresh.0)) (by plans fresh.1 (subst (λ q. CanMake (lossless_steps q i plans) l) e run)))
+pub asks_parts : (r : Role) (n : ℕ) (start : Option UnitNumber) (i : Seen) (plan : Option Plan) (l : LinkValue) → r ≡ Request n start → IsLossless r plan → CanMake (lossless_steps r i plan) l → Asks r i plan l
+asks_parts r n start i plan l e h run = subst (λ q. Asks q i plan l) (sym e) (by plan (subst (λ q. IsLossless q plan) e h) (subst (λ q. CanMake (lossless_steps q i plan) l) e run))
   where
-    fresh : IsLossless (Request n start) g plans
-    fresh = subst (λ q. IsLossless q g plans) e h
-
-    by : (ps : List Plan) → IsNonEmpty ps → CanMake (lossless_steps (Request n start) i ps) l → Asks (Request n start) i false ps l
-    by [] f q = absurd f
-    by (plan ∷ ps) f q =
-        let begin = begin_steps false (plan ∷ ps) in
+    by : (o : Option Plan) → IsLossless (Request n start) o → CanMake (lossless_steps (Request n start) i o) l → Asks (Request n start) i o l
+    by None f q = absurd (cc f)
+    by (Some x) f q =
+        let begin = begin_steps (Some x) in
         let parts = run_split l.profile begin (sent i) l.state q in
         record {
-          rests = (idle_first l.profile plan.give_ups plan.unit l.state parts.0, subst (λ (k : Sink). Listens k.phase) (sink_stays l.profile plan.give_ups plan.unit l.state) parts.1.1.0.1);
+          rests = (idle_first l.profile x.give_ups x.unit l.state parts.0, subst (λ (k : Sink). Listens k.phase) (sink_stays l.profile x.give_ups x.unit l.state) parts.1.1.0.1);
           can = parts.0;
           sends = parts.1;
           leads = ap (λ (s : State). record l { state = s }) (end_both l.profile begin (sent i) l.state);
@@ -297,16 +302,14 @@ closes_on (Ok x) l m a made h = λ k c. record {
   leads = made ∙ ap (link_after (a ∷ [])) c.leads ∙ ap (λ (s : State). record k { state = s }) (sym (end_both k.profile c.steps (a ∷ []) k.state));
 }
 
-pub has_asked : {X E : Type 0} (r : Result X E) (role : Role) (n : ℕ) (start : Option UnitNumber) (i : Seen) (g : Grouping) (goes : Bool) (plans : List Plan) (l closed begun m : LinkValue) → role ≡ Request n start → goes ≡ stays_within g role → Closes l closed → begun ≡ link_after (begin_steps goes plans) closed → OnOk r (m ≡ link_after (sent i) begun) → OnOk r (HasAsked role i g plans l m)
-has_asked (Err e) role n start i g goes plans l closed begun m is eg closes b h = tt
-has_asked (Ok x) role n start i g goes plans l closed begun m is eg closes b h =
-    let begin = begin_steps (stays_within g (Request n start)) plans in
-    let same : goes ≡ stays_within g (Request n start) = eg ∙ ap (stays_within g) is in
-    subst (λ (q : Role). HasAsked q i g plans l m) (sym is) (
+pub has_asked : {X E : Type 0} (r : Result X E) (role : Role) (n : ℕ) (start : Option UnitNumber) (i : Seen) (plan : Option Plan) (l closed begun m : LinkValue) → role ≡ Request n start → Closes l closed → begun ≡ link_after (begin_steps plan) closed → OnOk r (m ≡ link_after (sent i) begun) → OnOk r (HasAsked role i plan l m)
+has_asked (Err e) role n start i plan l closed begun m is closes b h = tt
+has_asked (Ok x) role n start i plan l closed begun m is closes b h =
+    let begin = begin_steps plan in
+    subst (λ (q : Role). HasAsked q i plan l m) (sym is) (
       closed,
       closes,
-      h ∙ ap (link_after (sent i)) (b ∙ ap (λ (t : Bool). link_after (begin_steps t plans) closed) same)
-          ∙ ap (λ (s : State). record closed { state = s }) (sym (end_both closed.profile begin (sent i) closed.state)),
+      h ∙ ap (link_after (sent i)) b ∙ ap (λ (s : State). record closed { state = s }) (sym (end_both closed.profile begin (sent i) closed.state)),
     )
 
 pub on_ok : {X E : Type 0} {A B : Type 0} (r : Result X E) → OnOk r A → (A → B) → OnOk r B

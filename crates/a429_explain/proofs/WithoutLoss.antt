@@ -1,5 +1,5 @@
 -- A recording without loss is that of a run, and its files' link data units fit.
-use Rattle.std.proofs.Common.{map, ◌++◌, ap, ◌≡◌, ◌≢◌, ◌≤◌, ◌<◌, ◌*◌, ◌+◌, ℕ, Bool, true, false, cond, List, [], ◌∷◌, length, take, drop, ◌==◌, nat_lt, Option, Some, None, All, refl, sym, ◌∙◌, arith}
+use Rattle.std.proofs.Common.{map, ◌++◌, ap, ◌≡◌, ◌≤◌, ◌<◌, ◌*◌, ◌+◌, ℕ, Bool, true, false, cond, List, [], ◌∷◌, length, take, drop, ◌==◌, nat_lt, Option, Some, None, All, refl, sym, ◌∙◌, arith}
 use Rattle.std.specs.List.{AllByRecursion}
 use Rattle.std.proofs.lemmas.Bool.{eqb-false, ltb-false}
 use Rattle.std.proofs.lemmas.List.{take-append-drop}
@@ -19,25 +19,12 @@ use Rattle.a429_link.specs.Clean.{AllFit, on_a, clean_block, clean_words, withou
 use Rattle.a429_link.specs.Run.{BeginsARun}
 use Rattle.a429_link.proofs.CleanFiles.{EachCut, all_fit}
 use Rattle.a429_link.proofs.CleanRuns.{clean_is_run}
-use Rattle.a429_link.specs.Link.{LinkValue}
-use Rattle.a429_link.specs.State.{start}
-use Rattle.a429_link.specs.declared.fault.StepFault.{StepFault}
-use Rattle.a429_link.specs.declared.fault.StepFault.TheVariants as step
-use Rattle.a429_explain.specs.declared.groups.Grouping.{Grouping}
-use Rattle.a429_explain.specs.declared.groups.Grouping.TheVariants.{Between}
-use Rattle.a429_explain.specs.declared.plan.Plan.{Plan}
-use Rattle.a429_explain.specs.Plan.{plain}
-use Rattle.a429_explain.specs.declared.stop.Stop.{Stop}
-use Rattle.a429_explain.specs.declared.stop.Stop.TheVariants.{Unexplained, OutOfMemory}
-use Rattle.a429_explain.specs.declared.verdict.Doubt.TheVariants.{NotReplayed}
 use Rattle.a429_explain.specs.Heard.{forms_of}
-use Rattle.a429_explain.specs.Stop.{IsStop}
 use Rattle.a429_explain.specs.Guess.{first_file_of, heard, HaveCrossed}
 use Rattle.a429_explain.specs.WithoutLoss.{Crossing, CanCross, IsWithoutLoss}
 use Rattle.a429_explain.specs.Matching.{IsOfBlock}
 use Rattle.a429_explain.proofs.CleanBlock.{HasForms, AreOfBlock, block_has_forms, formed_free}
 use Rattle.a429_explain.proofs.CleanGroups.{clean_from_first, unit_has_forms}
-use Rattle.a429_explain.proofs.ScribeWithoutLoss.{OnPlan, plan_starts}
 use Rattle.a429_link.specs.declared.number.UnitNumber.{UnitNumber}
 use Rattle.a429_link.specs.Number.{first_number, number_after}
 use Rattle.a429_link.proofs.NumberFacts.{next_byte}
@@ -77,10 +64,6 @@ units_fit p is items h first = all_fit p h.crossing.max_words h.crossing.files (
 pub units_found : (p : Contents) → IsProfile p → (items : List Seen) (h : IsWithoutLoss p items) (first : ℕ) → first ≡ first_file_of (forms_of p.codes items) → HaveCrossed (heard p items) first (its_units p items h)
 units_found p is items h first e = rw e (record { fit = units_fit p is items h (first_file_of (forms_of p.codes items)); words = clean_from_first p is h.crossing.first (its_units p items h) items h.can.byte (units_fit p is items h h.crossing.first) h.words })
 
--- a recording without loss is on plan at its start
-pub plan_begun : (p : Contents) → IsProfile p → (items : List Seen) (h : IsWithoutLoss p items) (first : ℕ) (plans : List Plan) (stands : Grouping) (l : LinkValue) → first ≤ 255 → first ≡ first_file_of (forms_of p.codes items) → plans ≡ map plain (its_units p items h) → stands ≡ Between → l ≡ record { profile = p; state = start p first } → OnPlan p items plans stands l
-plan_begun p is items h first plans stands l byte e eu el same = rw eu (rw el (plan_starts p is (its_units p items h) items first l byte (units_fit p is items h first) (units_found p is items h first e).words same))
-
 -- a run's trace begins with any number of its words
 pub begins : (p : Contents) → IsProfile p → (items : List Seen) (n : ℕ) → IsWithoutLoss p items → BeginsARun p (take n items)
 begins p is items n h =
@@ -93,14 +76,6 @@ begins p is items n h =
       more = drop n items;
       records = run.records ∙ sym (take-append-drop n items);
     }
-
--- ---- refusals
-
--- a step that is refused stops at its entry
-pub stop_fits : (c : Codes) (items : List Seen) (n : ℕ) (f : StepFault) (r : Stop) → n < length items → (f ≡ step.OutOfMemory → r ≡ OutOfMemory) → (f ≢ step.OutOfMemory → r ≡ Unexplained n NotReplayed) → IsStop c items r
-stop_fits c items n step.OutOfMemory r l memory other = rw (memory refl) tt
-stop_fits c items n step.NotAllowed r l memory other = rw (other (λ e. cc e)) l
-stop_fits c items n step.WordDiffers r l memory other = rw (other (λ e. cc e)) l
 
 -- ---- what a run without loss records is a recording without loss
 

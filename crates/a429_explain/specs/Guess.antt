@@ -1,15 +1,17 @@
 -- What the source does before each group of a recording, and the first doubt (profile).
-use Rattle.std.specs.Prelude.{◌≡◌, ℕ, ◌≤◌, ◌<◌, Option, Some, None, List, [], ◌∷◌, slice_get}
+use Rattle.std.specs.Prelude.{◌≡◌, ℕ, ◌+◌, ◌≤◌, ◌<◌, if◌then◌else◌, Option, Some, None, is_some, List, [], ◌∷◌, length, slice_get}
 use Rattle.a429_profile.specs.declared.codes.Codes.{Codes}
 use Rattle.a429_profile.specs.Profile.{Contents}
 use Rattle.a429_ldu.specs.declared.forms.Form.{Form}
 use Rattle.a429_ldu.specs.declared.forms.Form.TheVariants.{Sot}
 use Rattle.a429_ldu.specs.Ldu.{LduValue}
+use Rattle.a429_ldu.specs.Sight.{sight_of}
 use Rattle.a429_link.specs.Clean.{AllFit, without_free, clean_blocks}
 use Rattle.a429_link.specs.declared.seen.Seen.{Seen}
 use Rattle.a429_explain.specs.declared.attempts.Role.{Role}
 use Rattle.a429_explain.specs.declared.groups.Group.{Group}
 use Rattle.a429_explain.specs.declared.groups.Request.{Request}
+use Rattle.a429_explain.specs.declared.guess.Guess.{Guess}
 use Rattle.a429_link.specs.declared.number.UnitNumber.{UnitNumber}
 use Rattle.a429_explain.specs.declared.stop.Stop.{Stop}
 use Rattle.a429_explain.specs.declared.stop.Stop.TheVariants.{Unexplained, OutOfMemory}
@@ -21,7 +23,7 @@ use Rattle.a429_explain.specs.Groups.{group_from, group_start, is_settled}
 use Rattle.a429_explain.specs.Heard.{HeardValue, sight_at, forms_of}
 use Rattle.a429_link.specs.Number.{first_number}
 use Rattle.a429_explain.specs.declared.plan.Plan.{Plan}
-use Rattle.a429_explain.specs.Plan.{place_from, give_ups_from, place_behind}
+use Rattle.a429_explain.specs.Plan.{place_from, give_ups_from, place_behind, ArePlans, plain}
 use Rattle.a429_explain.specs.Whole.{wanted}
 
 -- ---- the first numbers
@@ -71,10 +73,12 @@ place_at_group c rs g place = place_from c place (group_start rs g)
 abbrev pub place_past : Codes → List Role → Group → UnitNumber → LduValue → UnitNumber
 place_past c rs g place u = place_behind c (place_at_group c rs g place) u (is_settled rs g)
 
--- the plan of the first group from place `at` on: the files that are given up before it, and its link data unit
+-- the plan of the first group from place `at` on: its first request, the files that are given up before it, and its link data
+-- unit
 pub record IsNextPlan (p : Contents) (items : List Seen) (rs : List Role) (place : UnitNumber) (at : ℕ) (plan : Plan) : Type 0 where
   pub from : ℕ
   pub wants : ℕ
+  pub at_is : plan.at ≡ from
   pub first : IsFirstRequest p.codes items at from wants
   pub give_ups : plan.give_ups ≡ give_ups_from place (group_start rs (group_from rs from))
   pub is : IsMatchedUnit (heard p items) (request_at rs from wants) (place_at_group p.codes rs (group_from rs from) place) plan.unit
@@ -133,10 +137,31 @@ IsFirstStop p items (Unexplained i NotReplayed) = HasNoDoubt p items
 IsFirstStop p items (Unexplained i doubt) = HasFirstDoubt p items i doubt
 IsFirstStop p items OutOfMemory = Unit {0}
 
+-- ---- a guess
+
+-- each entry has a role, and each link data unit is one of the profile
+pub record IsGuess (p : Contents) (items : List Seen) (g : Guess) : Type 0 where
+  pub many : length g.roles.items ≡ length items
+  pub plans : ArePlans p g.plans.items
+
 -- ---- without loss
+
+-- no file is given up before any request of these words, the places counted from k, and one of these units is loaded before
+-- each, in their order
+abbrev pub plain_plans : Codes → ℕ → List LduValue → List Seen → List Plan
+plain_plans c k [] items = []
+plain_plans c k (u ∷ us) [] = []
+plain_plans c k (u ∷ us) (i ∷ items) = if is_some (wanted (sight_of c i.bus i.word)) then plain k u ∷ plain_plans c (k + 1) us items else plain_plans c (k + 1) (u ∷ us) items
 
 -- the recorded words are, free ones left out, those of these link data units that cross without loss, the first of them
 -- the first of this file
 pub record HaveCrossed (h : HeardValue) (first : ℕ) (us : List LduValue) : Type 0 where
   pub fit : AllFit h.profile (first_number h.profile.codes first) us
   pub words : without_free h.profile.codes h.items ≡ clean_blocks h.profile.codes (first_number h.profile.codes first) us
+
+-- the guess is the run in which link data units cross without loss whose words were recorded, with free words anywhere
+pub record IsOfCrossing (h : HeardValue) (g : Guess) : Type 0 where
+  pub units : List LduValue
+  pub crossed : HaveCrossed h g.first_file units
+  pub roles_are : g.roles.items ≡ roles (forms_of h.profile.codes h.items)
+  pub plans_are : g.plans.items ≡ plain_plans h.profile.codes 0 units h.items

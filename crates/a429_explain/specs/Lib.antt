@@ -3,6 +3,7 @@ pub mod Attempts
 pub mod Heard
 pub mod Screening
 pub mod Stop
+pub mod Explanation
 pub mod Verdict
 pub mod Groups
 pub mod Matching

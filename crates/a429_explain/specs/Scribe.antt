@@ -1,6 +1,6 @@
 -- What the scribe writes: the text of a certificate, line by line, and the steps of each entry where nothing is lost on
 -- the way (profile).
-use Rattle.std.specs.Prelude.{◌≡◌, ◌≤◌, ℕ, Bool, true, false, List, [], ◌∷◌, ◌++◌, if◌then◌else◌, map, replicate, slice_set, Option, Some, None, Result, IfErr, OnOk}
+use Rattle.std.specs.Prelude.{◌≡◌, ◌≤◌, ℕ, Bool, true, List, [], ◌∷◌, ◌++◌, if◌then◌else◌, map, replicate, slice_set, Option, Some, None, Result, IfErr, IsSome, OnOk}
 use Rattle.std.specs.List.{AllByRecursion}
 use Rattle.a429_link.specs.declared.seen.Seen.{Seen}
 use Rattle.a429_link.specs.declared.step.Step.{Step}
@@ -9,7 +9,7 @@ use Rattle.a429_link.specs.declared.fault.StepFault.{StepFault}
 use Rattle.a429_link.specs.declared.fault.StepFault.TheVariants.{OutOfMemory}
 use Rattle.a429_link.specs.Sink.{Listens}
 use Rattle.a429_link.specs.Source.{IsIdle}
-use Rattle.a429_link.specs.State.{rest, IsNonEmpty, start}
+use Rattle.a429_link.specs.State.{start}
 use Rattle.a429_link.specs.Run.{IsRun, end_of, trace}
 use Rattle.a429_link.specs.Link.{LinkValue}
 use Rattle.a429_cert.specs.declared.line.CertLine.TheVariants.{First}
@@ -19,10 +19,8 @@ use Rattle.a429_cert.specs.Version.{version_line, gives_up}
 use Rattle.a429_cert.specs.Explained.{ListsSteps}
 use Rattle.a429_explain.specs.declared.attempts.Role.{Role}
 use Rattle.a429_explain.specs.declared.attempts.Role.TheVariants.{Free, Request, Clear, OfBlock, Acknowledged}
-use Rattle.a429_explain.specs.declared.groups.Grouping.{Grouping}
 use Rattle.a429_explain.specs.declared.plan.Plan.{Plan}
 use Rattle.a429_explain.specs.declared.scribe.Scribe.{Scribe}
-use Rattle.a429_explain.specs.Groups.{stays_within}
 
 -- ---- the text
 
@@ -84,32 +82,15 @@ answered i = step.Answered i ∷ (step.TakeAnswer ∷ [])
 abbrev pub IsAtRest : LinkValue → Type 0
 IsAtRest l = IsIdle l.state.source.phase × Listens l.state.sink.phase
 
--- ---- the first request of a group: the source gives up the files of the next plan, and is given its link data unit
+-- ---- the first request of a group: the source gives up the files of its plan, and is given its link data unit
 
 abbrev pub giving_up : ℕ → List Step
 giving_up files = replicate files step.GiveUp
 
-abbrev pub begin_steps : Bool → List Plan → List Step
-begin_steps true plans = []
-begin_steps false [] = []
-begin_steps false (plan ∷ plans) = giving_up plan.give_ups ++ step.Load plan.unit ∷ []
-
--- they can be made, and there is a plan
-abbrev pub CanBegin : Bool → List Plan → LinkValue → Type 0
-CanBegin true plans l = Unit {0}
-CanBegin false [] l = ⊥
-CanBegin false (plan ∷ plans) l = CanMake (begin_steps false (plan ∷ plans)) l
-
-abbrev pub after_begin : Bool → List Plan → List Plan
-after_begin true plans = plans
-after_begin false plans = rest plans
-
--- ---- an entry
-
--- the plans that come next after it
-abbrev pub plans_left : Role → Grouping → List Plan → List Plan
-plans_left (Request n start) g plans = after_begin (stays_within g (Request n start)) plans
-plans_left _ g plans = plans
+-- at a request without a plan it goes on with the one that it has
+abbrev pub begin_steps : Option Plan → List Step
+begin_steps None = []
+begin_steps (Some plan) = giving_up plan.give_ups ++ step.Load plan.unit ∷ []
 
 -- ---- the steps of a request, whatever is lost on the way
 
@@ -130,30 +111,30 @@ pub record Closes (l m : LinkValue) : Type 0 where
 abbrev pub ClosesOn : LinkValue → LinkValue → Type 0
 ClosesOn l m = (k : LinkValue) → Closes k l → Closes k m
 
--- the attempt before a request is closed; where a group begins the next plan is carried out; and the request is sent
-abbrev pub HasAsked : Role → Seen → Grouping → List Plan → LinkValue → LinkValue → Type 0
-HasAsked (Request n start) i g plans l m = (closed : LinkValue) × Closes l closed × (m ≡ link_after (begin_steps (stays_within g (Request n start)) plans ++ sent i) closed)
-HasAsked _ i g plans l m = Unit {0}
+-- the attempt before a request is closed; the plan is carried out, where a group begins; and the request is sent
+abbrev pub HasAsked : Role → Seen → Option Plan → LinkValue → LinkValue → Type 0
+HasAsked (Request n start) i plan l m = (closed : LinkValue) × Closes l closed × (m ≡ link_after (begin_steps plan ++ sent i) closed)
+HasAsked _ i plan l m = Unit {0}
 
 -- ---- where nothing is lost on the way
 
 -- the source takes each answer, and each request is the first one of its group
-abbrev pub IsLossless : Role → Grouping → List Plan → Type 0
-IsLossless (Request n start) g plans = (stays_within g (Request n start) ≡ false) × IsNonEmpty plans
-IsLossless (Clear used) g plans = used ≡ true
-IsLossless (Acknowledged ends) g plans = ends ≡ true
-IsLossless _ g plans = Unit {0}
+abbrev pub IsLossless : Role → Option Plan → Type 0
+IsLossless (Request n start) plan = IsSome plan
+IsLossless (Clear used) plan = used ≡ true
+IsLossless (Acknowledged ends) plan = ends ≡ true
+IsLossless _ plan = Unit {0}
 
--- the steps of an entry, where these plans come next
-abbrev pub lossless_steps : Role → Seen → List Plan → List Step
-lossless_steps Free i plans = step.FreeSeen i ∷ []
-lossless_steps (Request n start) i plans = begin_steps false plans ++ sent i
-lossless_steps OfBlock i plans = sent i
-lossless_steps _ i plans = answered i
+-- the steps of an entry before which this plan is carried out
+abbrev pub lossless_steps : Role → Seen → Option Plan → List Step
+lossless_steps Free i plan = step.FreeSeen i ∷ []
+lossless_steps (Request n start) i plan = begin_steps plan ++ sent i
+lossless_steps OfBlock i plan = sent i
+lossless_steps _ i plan = answered i
 
 -- where nothing is lost on the way, and these steps can be made, they are, unless memory is refused
-abbrev pub MakesLossless : {X : Type 0} → Role → Seen → Grouping → List Plan → LinkValue → LinkValue → Result X StepFault → Type 0
-MakesLossless role i g plans l m r =
-    IsLossless role g plans
-    → CanMake (lossless_steps role i plans) l
-    → OnlyLacksMemory r × OnOk r (m ≡ link_after (lossless_steps role i plans) l)
+abbrev pub MakesLossless : {X : Type 0} → Role → Seen → Option Plan → LinkValue → LinkValue → Result X StepFault → Type 0
+MakesLossless role i plan l m r =
+    IsLossless role plan
+    → CanMake (lossless_steps role i plan) l
+    → OnlyLacksMemory r × OnOk r (m ≡ link_after (lossless_steps role i plan) l)

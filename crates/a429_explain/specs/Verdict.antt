@@ -1,16 +1,13 @@
 -- What the verdict on a recording says (profile).
-use Rattle.std.specs.Prelude.{◌≡◌, ◌+◌, ◌<◌, ◌⊎◌, ℕ, List, [], ◌∷◌, take, slice_get, length}
+use Rattle.std.specs.Prelude.{◌≡◌, ◌+◌, ◌<◌, ◌⊎◌, List, [], ◌∷◌, take, slice_get, length}
 use Rattle.a429_profile.specs.declared.codes.Codes.{Codes}
 use Rattle.a429_profile.specs.Profile.{Contents}
 use Rattle.a429_ldu.specs.declared.sight.Sight.TheVariants as sight
 use Rattle.a429_ldu.specs.Sight.{sight_of}
 use Rattle.a429_link.specs.declared.seen.Seen.{Seen}
 use Rattle.a429_link.specs.Run.{BeginsARun}
-use Rattle.a429_link.specs.declared.step.Step.{Step}
-use Rattle.a429_cert.specs.Version.{least_version}
-use Rattle.a429_cert.specs.Explained.{Explains, IsExplained, AreInEveryRun}
-use Rattle.a429_cert.specs.declared.fault.CertFault.{CertFault}
-use Rattle.a429_cert.specs.Fault.{IsFirstCertFault}
+use Rattle.a429_cert.specs.Explained.{IsExplained, AreInEveryRun}
+use Rattle.a429_explain.specs.Explanation.{HasNoFault, HasLeastVersion}
 use Rattle.a429_explain.specs.declared.verdict.Verdict.{Verdict}
 use Rattle.a429_explain.specs.declared.verdict.Verdict.TheVariants.{Explained, Impossible, Unexplained}
 use Rattle.a429_explain.specs.declared.stop.Stop.TheVariants as stop
@@ -26,15 +23,8 @@ IsSoundVerdict p items _ = Unit {0}
 
 -- in the certificate there is no fault, so `verify` accepts it, want of memory aside
 abbrev pub IsAccepted : Contents → List Seen → Verdict → Type 0
-IsAccepted p items (Explained certificate files) = (f : CertFault) → ¬ IsFirstCertFault p certificate items f
+IsAccepted p items (Explained certificate files) = HasNoFault p certificate items
 IsAccepted p items _ = Unit {0}
-
--- the certificate is of the least version that can say the steps of its run: of version 2 exactly where one gives a file up
-pub record HasLeastVersion (p : Contents) (certificate : List ℕ) (items : List Seen) : Type 0 where
-  pub first : ℕ
-  pub steps : List Step
-  pub explains : Explains p certificate items first steps
-  pub least : explains.version ≡ least_version steps
 
 abbrev pub IsOfLeastVersion : Contents → List Seen → Verdict → Type 0
 IsOfLeastVersion p items (Explained certificate files) = HasLeastVersion p certificate items

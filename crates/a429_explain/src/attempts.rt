@@ -10,26 +10,28 @@ use a429_ldu::Form;
 use a429_link::UnitNumber;
 use std::alloc::{AllocError, Global};
 
-/// What a recorded word is to the steps that are guessed.
+/// What a recorded word is to the steps of a guess.
 #[derive(Clone, Copy, Debug, PartialEq, Eq)]
-pub(crate) enum Role {
+pub enum Role {
     /// The transfer passes over it.
     Free,
     /// A request: an attempt begins, whose block has so many words; and the numbers of its start word,
-    /// where one was recorded.
+    /// where one was recorded. `explain_by` looks at neither: its plans say at which requests a group begins.
     Request {
         count: u8,
         start: Option<UnitNumber>,
     },
-    /// The clear answer, and whether a word of the block was recorded in its attempt.
+    /// The clear answer, and whether the source takes it; else it is lost after the recorder. By the rule of
+    /// `check` the source takes it where a word of the block was recorded in its attempt.
     Clear {
         is_used: bool,
     },
-    /// A start, data or end word.
+    /// A start, data or end word. The words of the block before it that were not recorded are lost.
     OfBlock,
-    /// The negative answer.
+    /// The negative answer. The source takes it.
     Refused,
-    /// The acknowledgement, and whether it ends its group.
+    /// The acknowledgement, and whether it ends its group: then the source takes it, else it is lost after the
+    /// recorder. By the rule of `check` it ends its group unless the next start word has the same numbers.
     Acknowledged {
         ends_group: bool,
     },
@@ -46,8 +48,8 @@ pub(crate) struct Ahead {
     pub start: Option<UnitNumber>,
 }
 
-/// The role of each recorded word.
-pub(crate) fn roles(alloc: Global, heard: &Heard) -> Result<Vec<Role>, AllocError>
+/// The role of each recorded word, by the rule of `check`.
+pub fn roles(alloc: Global, heard: &Heard) -> Result<Vec<Role>, AllocError>
     ensures { IfOk result (λ found. found.items ≡ roles (forms_of heard.now.profile.codes heard.now.items)) }
 {
     let mut found = Vec::with_capacity(alloc, heard.len())?;

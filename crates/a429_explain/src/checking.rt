@@ -6,13 +6,13 @@ ghost use Rattle.a429_explain.specs.Verdict.{IsSoundVerdict, IsAccepted, IsOfLea
 ghost use Rattle.a429_explain.specs.Walk.{AreAllowed};
 ghost use Rattle.a429_explain.specs.WithoutLoss.{IsWithoutLoss};
 
-use crate::certificate::Certificate;
-use crate::guess::certificate_of;
+use crate::explanation::{Explanation, Refusal, explain_by};
+use crate::guess::guess_of;
 use crate::heard::Heard;
 use crate::stop::Stop;
-use crate::verdict::Verdict;
+use crate::verdict::{Doubt, Verdict};
 use crate::walk::{Halt, walk};
-use a429_cert::{OutOfMemory, Verified};
+use a429_cert::OutOfMemory;
 use a429_profile::Profile;
 use a429_record::Entry;
 use std::alloc::Global;
@@ -54,14 +54,19 @@ fn explain(
     ensures first { IfOk result (λ v. IsFirst profile.now (items_of entries.now) v) }
     ensures without_loss { IsWithoutLoss profile.now (items_of entries.now) → IfOk result IsExplanation }
 {
-    // (for the proof: the profile is sound)
-    let _codes = profile.codes();
-    match certificate_of(alloc, profile, entries, heard) {
-        Ok(found) => Ok(Verdict::Explained {
-            certificate: Certificate::new(found.text),
-            files: Verified::new(found.files),
+    let guess = match guess_of(alloc, &heard) {
+        Ok(guess) => guess,
+        Err(Stop::Unexplained { entry, doubt }) => return Ok(Verdict::Unexplained { entry, doubt }),
+        Err(Stop::OutOfMemory) => return Err(OutOfMemory),
+    };
+    // The lines are written by the roles: what the words say is not needed beside the text.
+    drop(heard);
+    match explain_by(alloc, profile, entries, guess) {
+        Ok(Explanation { certificate, files }) => Ok(Verdict::Explained { certificate, files }),
+        Err(Refusal::NotReplayed { entry }) => Ok(Verdict::Unexplained {
+            entry,
+            doubt: Doubt::NotReplayed,
         }),
-        Err(Stop::Unexplained { entry, doubt }) => Ok(Verdict::Unexplained { entry, doubt }),
-        Err(Stop::OutOfMemory) => Err(OutOfMemory),
+        Err(Refusal::OutOfMemory) => Err(OutOfMemory),
     }
 }

@@ -1,14 +1,12 @@
-//! The certificate that is guessed for a recording.
+//! What is guessed of the run that recorded a recording's words.
 
-ghost use Rattle.std.specs.Prelude.{◌≡◌, ◌≢◌, List, map, IfOk, IfErr};
+ghost use Rattle.std.specs.Prelude.{◌≡◌, List, IfOk, IfErr};
 ghost use Rattle.a429_ldu.specs.Ldu.{LduValue};
-ghost use Rattle.a429_cert.specs.Explained.{items_of, IsExplained};
 ghost use Rattle.a429_explain.specs.Attempts.{roles as roles_of};
 ghost use Rattle.a429_explain.specs.Heard.{forms_of};
 ghost use Rattle.a429_explain.specs.Stop.{IsStop};
-ghost use Rattle.a429_explain.specs.Guess.{started, first_file_of, ArePlansFrom, IsStopFrom, IsFirstStop, HasNoDoubt, HaveCrossed};
-ghost use Rattle.a429_explain.specs.Plan.{ArePlans, plain};
-ghost use Rattle.a429_explain.specs.Verdict.{HasLeastVersion};
+ghost use Rattle.a429_explain.specs.Guess.{started, first_file_of, plain_plans, IsGuess, ArePlansFrom, IsStopFrom, IsFirstStop, HasNoDoubt, HaveCrossed, IsOfCrossing};
+ghost use Rattle.a429_explain.specs.Plan.{ArePlans};
 ghost use Rattle.a429_explain.specs.WithoutLoss.{IsWithoutLoss};
 
 use crate::attempts::{Role, roles};
@@ -16,81 +14,47 @@ use crate::block::matched_unit;
 use crate::groups::{Request, group_at, group_start, is_settled, wanted};
 use crate::heard::Heard;
 use crate::plan::{Plan, give_ups_from, place_behind, place_from};
-use crate::scribe::Scribe;
 use crate::stop::Stop;
-use crate::verdict::Doubt;
-use a429_cert::seen;
 use a429_ldu::Form;
-use a429_link::{FileBytes, StepFault, UnitNumber};
-use a429_profile::Profile;
-use a429_record::Entry;
+use a429_link::UnitNumber;
 use std::alloc::Global;
 use std::collections::VecDeque;
 
-// About how many bytes the lines of an entry take where no word is lost: a certificate begins with room for so many.
-const BYTES_OF_AN_ENTRY: usize = 40;
-
-/// A certificate that explains a recording, and the files that its run delivers.
+/// What is guessed of the run that recorded some entries: the steps follow from it, one entry after the other.
 #[derive(Drop)]
-pub(crate) struct Explanation {
-    pub text: Vec<u8>,
-    pub files: Vec<FileBytes>,
+pub struct Guess {
+    /// The number of the file that the source begins with.
+    pub first_file: u8,
+    /// What each entry is to the steps, entry 0 first.
+    pub roles: Vec<Role>,
+    /// What the source does before each group, in the order of their first requests. A request without a plan goes on
+    /// with the link data unit that the source has.
+    pub plans: VecDeque<Plan>,
 }
 
-/// The certificate of the steps that are guessed for a recording that no word is refused of, or why there
-/// is none: the doubts of all groups come before those of the steps. Of a recording without loss there is
-/// always one.
-pub(crate) fn certificate_of(
-    alloc: Global,
-    profile: &Profile,
-    entries: &[Entry],
-    heard: Heard<'_>,
-) -> Result<Explanation, Stop>
-    requires { heard ≡ record { profile = profile.now; items = items_of entries.now } }
-    ensures explained { IfOk result (λ e. IsExplained profile.now e.text.items (items_of entries.now) e.files.items) }
-    ensures version { IfOk result (λ e. HasLeastVersion profile.now e.text.items (items_of entries.now)) }
-    ensures fits { IfErr result (λ s. IsStop profile.now.codes (items_of entries.now) s) }
-    ensures groups { IfOk result (λ e. HasNoDoubt profile.now (items_of entries.now)) }
-    ensures first { IfErr result (λ s. IsFirstStop profile.now (items_of entries.now) s) }
-    ensures clean { IsWithoutLoss profile.now (items_of entries.now) → IfErr result (λ s. s ≡ Stop.OutOfMemory) }
+/// The guess by the rule of `check`, for a recording that no word is refused of; or the first doubt of its groups. Of
+/// a recording without loss it is the run that crosses without loss.
+pub(crate) fn guess_of(alloc: Global, heard: &Heard) -> Result<Guess, Stop>
+    ensures sound { IfOk result (λ g. IsGuess heard.now.profile heard.now.items g) }
+    ensures groups { IfOk result (λ g. HasNoDoubt heard.now.profile heard.now.items) }
+    ensures fits { IfErr result (λ s. IsStop heard.now.profile.codes heard.now.items s) }
+    ensures first { IfErr result (λ s. IsFirstStop heard.now.profile heard.now.items s) }
+    ensures clean { IsWithoutLoss heard.now.profile heard.now.items → IfOk result (λ g. IsOfCrossing heard.now g) }
+    ensures clean_err { IsWithoutLoss heard.now.profile heard.now.items → IfErr result (λ s. s ≡ Stop.OutOfMemory) }
 {
     // (for the proof: the profile is sound)
-    let _codes = profile.codes();
-    let Ok(roles) = roles(alloc, &heard) else {
+    let _profile = heard.profile();
+    let Ok(roles) = roles(alloc, heard) else {
         return Err(Stop::OutOfMemory);
     };
-    let first = first_file(&heard);
-    let mut plans = match plans_of(alloc, &heard, roles.as_slice(), first) {
-        Ok(plans) => plans,
-        Err(stop) => return Err(stop),
-    };
-    // The lines are written by the roles: what the words say is not needed beside the text.
-    drop(heard);
-    let room = entries.len().saturating_mul(BYTES_OF_AN_ENTRY);
-    let Ok(mut scribe) = Scribe::new(alloc, profile, first, room) else {
-        return Err(Stop::OutOfMemory);
-    };
-    for at in 0..entries.len() {
-        match scribe.write_entry(seen(entries[at]), roles[at], &mut plans) {
-            Ok(()) => {}
-            Err(fault) => return Err(stopped_at(at, fault)),
-        }
-    }
-    let (text, files) = scribe.into_parts();
-    Ok(Explanation { text, files })
-}
-
-// Why the steps of an entry are not made.
-fn stopped_at(entry: usize, fault: StepFault) -> Stop
-    ensures memory { fault ≡ StepFault.OutOfMemory → result ≡ Stop.OutOfMemory }
-    ensures step { fault ≢ StepFault.OutOfMemory → result ≡ Stop.Unexplained entry Doubt.NotReplayed }
-{
-    match fault {
-        StepFault::OutOfMemory => Stop::OutOfMemory,
-        StepFault::NotAllowed | StepFault::WordDiffers => Stop::Unexplained {
-            entry,
-            doubt: Doubt::NotReplayed,
-        },
+    let first_file = first_file(heard);
+    match plans_of(alloc, heard, roles.as_slice(), first_file) {
+        Ok(plans) => Ok(Guess {
+            first_file,
+            roles,
+            plans,
+        }),
+        Err(stop) => Err(stop),
     }
 }
 
@@ -129,7 +93,7 @@ fn plans_of(
     ensures groups { IfOk result (λ plans. ArePlansFrom heard.now roles.now first_file plans.items) }
     ensures fits { IfErr result (λ s. IsStop heard.now.profile.codes heard.now.items s) }
     ensures first { IfErr result (λ s. IsStopFrom heard.now roles.now first_file s) }
-    ensures clean { (us : List LduValue) → HaveCrossed heard.now first_file us → IfOk result (λ plans. plans.items ≡ map plain us) }
+    ensures clean { (us : List LduValue) → HaveCrossed heard.now first_file us → IfOk result (λ plans. plans.items ≡ plain_plans heard.now.profile.codes 0 us heard.now.items) }
     ensures clean_err { (us : List LduValue) → HaveCrossed heard.now first_file us → IfErr result (λ s. s ≡ Stop.OutOfMemory) }
 {
     let profile = heard.profile();
@@ -148,7 +112,7 @@ fn plans_of(
                 Err(stop) => return Err(stop),
             };
             place = place_behind(profile, numbers, &unit, is_settled(roles, group));
-            match plans.push_back(Plan { give_ups, unit }) {
+            match plans.push_back(Plan { at, give_ups, unit }) {
                 Ok(()) => {}
                 Err(_) => return Err(Stop::OutOfMemory),
             }

@@ -14,14 +14,14 @@ use std::marker::Model;
 
 /// A recorded word, and its form where it has one.
 #[derive(Clone, Copy, Debug)]
-pub(crate) struct HeardWord {
+pub struct HeardWord {
     pub word: Word,
     pub form: Option<Form>,
 }
 
 /// A recording, with what each of its words is under the profile of its bench.
 #[derive(Drop)]
-pub(crate) struct Heard<'a> {
+pub struct Heard<'a> {
     profile: &'a Profile,
     entries: &'a [Entry],
     sights: Vec<Sight>,
@@ -53,7 +53,7 @@ impl<'a> Heard<'a> {
     }
 
     /// The profile of the bench.
-    pub(crate) fn profile(&self) -> &'a Profile
+    pub fn profile(&self) -> &'a Profile
         ensures is { result.now ≡ self.now.profile }
         ensures sound { IsProfile self.now.profile }
     {
@@ -63,14 +63,14 @@ impl<'a> Heard<'a> {
     }
 
     /// How many words were recorded.
-    pub(crate) fn len(&self) -> usize
+    pub fn len(&self) -> usize
         ensures { result ≡ length self.now.items }
     {
         self.entries.len()
     }
 
     /// What the word at this place is.
-    pub(crate) fn sight(&self, at: usize) -> Sight
+    pub fn sight(&self, at: usize) -> Sight
         requires { at < length self.now.items }
         ensures { result ≡ sight_at self.now.profile.codes (slice_get self.now.items at) }
     {
@@ -78,7 +78,7 @@ impl<'a> Heard<'a> {
     }
 
     /// The word at this place, and its form.
-    pub(crate) fn word(&self, at: usize) -> HeardWord
+    pub fn word(&self, at: usize) -> HeardWord
         requires { at < length self.now.items }
         ensures is { IsHeardAt self.now.profile.codes self.now.items at result }
         ensures range { IfSome result.form IsInRange }

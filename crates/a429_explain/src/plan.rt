@@ -1,17 +1,44 @@
 //! What the source does before a group of attempts.
 
 ghost use Rattle.std.specs.Prelude.{◌≡◌};
-ghost use Rattle.a429_explain.specs.Plan.{place_from, give_ups_from, place_behind};
+ghost use Rattle.a429_explain.specs.Plan.{place_from, give_ups_from, place_behind, begins_at, plan_for, plans_left};
 
+use crate::attempts::Role;
 use a429_ldu::Ldu;
 use a429_link::UnitNumber;
 use a429_profile::Profile;
+use std::collections::VecDeque;
 
-/// What the source does before a group: it gives so many files up, and is given this link data unit.
+/// What the source does before it sends the first request of a group: it gives up so many files, one after the
+/// other, and is given this link data unit.
 #[derive(Debug, Drop)]
-pub(crate) struct Plan {
+pub struct Plan {
+    /// The entry of that request, counted from 0.
+    pub at: usize,
     pub give_ups: u8,
     pub unit: Ldu,
+}
+
+/// The plan that is carried out before this entry, taken from those that come next: at a request, the first of
+/// them where it is one for this entry.
+pub(crate) fn take_plan(plans: &mut VecDeque<Plan>, role: Role, at: usize) -> Option<Plan>
+    ensures taken { result ≡ plan_for role at plans.old.items }
+    ensures left { plans.new.items ≡ plans_left role at plans.old.items }
+{
+    match role {
+        Role::Request { .. } if begins_at(plans, at) => plans.pop_front(),
+        _ => None,
+    }
+}
+
+// The first plan is one for this entry.
+fn begins_at(plans: &VecDeque<Plan>, at: usize) -> bool
+    ensures { result ≡ begins_at at plans.now.items }
+{
+    match plans.front() {
+        Some(plan) => plan.at == at,
+        None => false,
+    }
 }
 
 /// The numbers of a group whose first start word has these, where the source comes to it with those of

@@ -1,6 +1,6 @@
 //! The lines of a certificate, each written as a link makes its step.
 
-ghost use Rattle.std.specs.Prelude.{◌≡◌, ◌≢◌, ◌<◌, List, length, ◌++◌, ◌∷◌, [], Ok, None, Some, true, false, IfOk, IfErr, IsSome, OnOk};
+ghost use Rattle.std.specs.Prelude.{◌≡◌, ◌≢◌, ◌<◌, List, length, ◌++◌, ◌∷◌, [], Ok, None, Some, true, IfOk, IfErr, IfSome, IsSome, OnOk};
 ghost use Rattle.a429_ldu.specs.Ldu.{IsLdu};
 ghost use Rattle.a429_link.specs.declared.step.Step.TheVariants as step;
 ghost use Rattle.a429_link.specs.Sink.{Listens};
@@ -8,22 +8,17 @@ ghost use Rattle.a429_link.specs.Source.{IsIdle};
 ghost use Rattle.a429_link.specs.Step.{Can, LoadsLdu, label};
 ghost use Rattle.a429_link.specs.State.{start};
 ghost use Rattle.a429_cert.specs.Line.{IsLine, IsHeld, spelling};
-ghost use Rattle.a429_explain.specs.Scribe.{in_version, Wrote, WritesNext, link_after, CanMake, OnlyLacksMemory, sent, answered, IsAtRest, giving_up, begin_steps, CanBegin, after_begin, plans_left, IsClosing, ClosesOn, HasAsked, MakesLossless};
+ghost use Rattle.a429_explain.specs.Scribe.{in_version, Wrote, WritesNext, link_after, CanMake, OnlyLacksMemory, sent, answered, IsAtRest, giving_up, begin_steps, IsClosing, ClosesOn, HasAsked, MakesLossless};
 ghost use Rattle.a429_cert.specs.Act.{letter_of};
 ghost use Rattle.a429_cert.specs.Version.{is_give_up};
-ghost use Rattle.a429_explain.specs.Plan.{ArePlans};
-ghost use Rattle.a429_explain.specs.Groups.{with_role};
-ghost use Rattle.a429_explain.specs.declared.groups.Grouping.TheVariants as grouping;
 
 use crate::attempts::Role;
-use crate::groups::Grouping;
 use crate::plan::Plan;
 use a429_cert::{CertLine, LoadLine, MovedLine, Words, letter_of, write_line};
 use a429_ldu::Ldu;
 use a429_link::{FileBytes, Link, Seen, SinkState, SourceState, Step, StepFault};
 use a429_profile::Profile;
 use std::alloc::{AllocError, Global};
-use std::collections::VecDeque;
 
 // Where the first line has the digit of its version.
 const VERSION_AT: usize = 14;
@@ -34,7 +29,6 @@ pub(crate) struct Scribe<'a> {
     alloc: Global,
     link: Link<'a>,
     text: Vec<u8>,
-    grouping: Grouping,
     // The source has given a file up.
     gave_up: bool,
 }
@@ -49,7 +43,6 @@ impl<'a> Scribe<'a> {
     ) -> Result<Scribe<'a>, StepFault>
         ensures start { IfOk result (λ s. s.link ≡ record { profile = profile.now; state = start profile.now first_file }) }
         ensures written { IfOk result (λ s. Wrote first_file [] s) }
-        ensures grouping { IfOk result (λ s. s.grouping ≡ grouping.Between) }
     {
         let Ok(mut text) = Vec::with_capacity(alloc, room) else {
             return Err(StepFault::OutOfMemory);
@@ -62,7 +55,6 @@ impl<'a> Scribe<'a> {
             alloc,
             link: Link::start(alloc, profile, first_file),
             text,
-            grouping: Grouping::Between,
             gave_up: false,
         };
         scribe.write(&CertLine::First(first_file))?;
@@ -89,30 +81,25 @@ impl<'a> Scribe<'a> {
         (text, files)
     }
 
-    /// Writes the lines of the next entry, and takes the plan of its group where it begins one.
-    /// A step that can't be made is refused.
+    /// Writes the lines of the next entry. Before a request that begins a group the source does what its plan says;
+    /// at one without a plan it asks again for the link data unit that it has. A step that can't be made is refused.
     pub(crate) fn write_entry(
         &mut self,
         seen: Seen,
         role: Role,
-        plans: &mut VecDeque<Plan>,
+        plan: Option<Plan>,
     ) -> Result<(), StepFault>
-        requires { ArePlans self.old.link.profile plans.old.items }
+        requires { IfSome plan (λ q. IsLdu self.old.link.profile q.unit) }
         ensures profile { self.new.link.profile ≡ self.old.link.profile }
-        ensures plans { ArePlans self.old.link.profile plans.new.items }
         ensures written { OnOk result (WritesNext (Some seen) self.old self.new) }
-        ensures lossless { MakesLossless role seen self.old.grouping plans.old.items self.old.link self.new.link result }
-        ensures asked { OnOk result (HasAsked role seen self.old.grouping plans.old.items self.old.link self.new.link) }
-        ensures left { OnOk result (plans.new.items ≡ plans_left role self.old.grouping plans.old.items) }
-        ensures grouping { OnOk result (self.new.grouping ≡ with_role self.old.grouping role) }
+        ensures lossless { MakesLossless role seen plan self.old.link self.new.link result }
+        ensures asked { OnOk result (HasAsked role seen plan self.old.link self.new.link) }
     {
-        let goes_on = self.grouping.goes_on(role);
-        self.grouping = self.grouping.with_role(role);
         match role {
             Role::Free => self.make(Step::FreeSeen(seen)),
             Role::Request { .. } => {
                 self.close()?;
-                match self.begin(goes_on, plans) {
+                match self.begin(plan) {
                     Ok(()) => self.send(seen),
                     Err(fault) => Err(fault),
                 }
@@ -127,7 +114,6 @@ impl<'a> Scribe<'a> {
     // Ends the attempt before a request: what is left of the block is lost, and the answer is left out.
     fn close(&mut self) -> Result<(), StepFault>
         ensures profile { self.new.link.profile ≡ self.old.link.profile }
-        ensures grouping { self.new.grouping ≡ self.old.grouping }
         ensures written { OnOk result (WritesNext None self.old self.new) }
         ensures closed { OnOk result (ClosesOn self.old.link self.new.link) }
         ensures idle { IsAtRest self.old.link → (result ≡ Ok tt) × (self.new.link ≡ self.old.link) }
@@ -174,7 +160,6 @@ impl<'a> Scribe<'a> {
     // Loses the words of a block that the source has still to send.
     fn lose_rest(&mut self) -> Result<(), StepFault>
         ensures profile { self.new.link.profile ≡ self.old.link.profile }
-        ensures grouping { self.new.grouping ≡ self.old.grouping }
         ensures written { OnOk result (WritesNext None self.old self.new) }
         ensures closed { OnOk result (ClosesOn self.old.link self.new.link) }
     {
@@ -190,7 +175,6 @@ impl<'a> Scribe<'a> {
     // A word of the source is recorded, and the sink takes it.
     fn send(&mut self, seen: Seen) -> Result<(), StepFault>
         ensures profile { self.new.link.profile ≡ self.old.link.profile }
-        ensures grouping { self.new.grouping ≡ self.old.grouping }
         ensures written { OnOk result (WritesNext (Some seen) self.old self.new) }
         ensures lossless { CanMake (sent seen) self.old.link → OnlyLacksMemory result }
         ensures reached { OnOk result (self.new.link ≡ link_after (sent seen) self.old.link) }
@@ -204,7 +188,6 @@ impl<'a> Scribe<'a> {
     // A word of a block is recorded, and the sink takes it. The words of the block before it are lost.
     fn send_of_block(&mut self, seen: Seen) -> Result<(), StepFault>
         ensures profile { self.new.link.profile ≡ self.old.link.profile }
-        ensures grouping { self.new.grouping ≡ self.old.grouping }
         ensures written { OnOk result (WritesNext (Some seen) self.old self.new) }
         ensures lossless { CanMake (sent seen) self.old.link → OnlyLacksMemory result }
         ensures reached { CanMake (sent seen) self.old.link → OnOk result (self.new.link ≡ link_after (sent seen) self.old.link) }
@@ -221,7 +204,6 @@ impl<'a> Scribe<'a> {
     // Loses words of a block until this one comes.
     fn send_later(&mut self, seen: Seen) -> Result<(), StepFault>
         ensures profile { self.new.link.profile ≡ self.old.link.profile }
-        ensures grouping { self.new.grouping ≡ self.old.grouping }
         ensures written { OnOk result (WritesNext (Some seen) self.old self.new) }
     {
         let bus = seen.bus;
@@ -240,7 +222,6 @@ impl<'a> Scribe<'a> {
     // An answer of the sink is recorded, and the source takes it, or it is lost behind the recorder.
     fn answer(&mut self, seen: Seen, is_taken: bool) -> Result<(), StepFault>
         ensures profile { self.new.link.profile ≡ self.old.link.profile }
-        ensures grouping { self.new.grouping ≡ self.old.grouping }
         ensures written { OnOk result (WritesNext (Some seen) self.old self.new) }
         ensures lossless { is_taken ≡ true → CanMake (answered seen) self.old.link → OnlyLacksMemory result }
         ensures reached { is_taken ≡ true → OnOk result (self.new.link ≡ link_after (answered seen) self.old.link) }
@@ -256,34 +237,26 @@ impl<'a> Scribe<'a> {
         }
     }
 
-    // Where a request begins a group, the source gives up the files of the next plan, and is given its link
-    // data unit.
-    fn begin(&mut self, goes_on: bool, plans: &mut VecDeque<Plan>) -> Result<(), StepFault>
-        requires { ArePlans self.old.link.profile plans.old.items }
+    // Where a group begins, the source gives up the files of its plan, and is given its link data unit.
+    fn begin(&mut self, plan: Option<Plan>) -> Result<(), StepFault>
+        requires { IfSome plan (λ q. IsLdu self.old.link.profile q.unit) }
         ensures profile { self.new.link.profile ≡ self.old.link.profile }
-        ensures grouping { self.new.grouping ≡ self.old.grouping }
-        ensures plans { ArePlans self.old.link.profile plans.new.items }
         ensures written { OnOk result (WritesNext None self.old self.new) }
-        ensures lossless { CanBegin goes_on plans.old.items self.old.link → OnlyLacksMemory result }
-        ensures reached { OnOk result (self.new.link ≡ link_after (begin_steps goes_on plans.old.items) self.old.link) }
-        ensures left { OnOk result (plans.new.items ≡ after_begin goes_on plans.old.items) }
+        ensures lossless { CanMake (begin_steps plan) self.old.link → OnlyLacksMemory result }
+        ensures reached { OnOk result (self.new.link ≡ link_after (begin_steps plan) self.old.link) }
     {
-        if goes_on {
-            return Ok(());
-        }
-        match plans.pop_front() {
-            Some(Plan { give_ups, unit }) => match self.give_up(give_ups) {
+        match plan {
+            Some(Plan { give_ups, unit, .. }) => match self.give_up(give_ups) {
                 Ok(()) => self.load(unit),
                 Err(fault) => Err(fault),
             },
-            None => Err(StepFault::NotAllowed),
+            None => Ok(()),
         }
     }
 
     // The source gives so many files up.
     fn give_up(&mut self, files: u8) -> Result<(), StepFault>
         ensures profile { self.new.link.profile ≡ self.old.link.profile }
-        ensures grouping { self.new.grouping ≡ self.old.grouping }
         ensures written { OnOk result (WritesNext None self.old self.new) }
         ensures lossless { CanMake (giving_up files) self.old.link → OnlyLacksMemory result }
         ensures reached { OnOk result (self.new.link ≡ link_after (giving_up files) self.old.link) }
@@ -306,7 +279,6 @@ impl<'a> Scribe<'a> {
         ensures written { OnOk result (WritesNext None self.old self.new) }
         ensures lossless { Can self.old.link.profile (step.Load unit) self.old.link.state → OnlyLacksMemory result }
         ensures reached { OnOk result (self.new.link ≡ link_after (step.Load unit ∷ []) self.old.link) }
-        ensures grouping { self.new.grouping ≡ self.old.grouping }
     {
         let Ok(words) = Vec::from_slice(self.alloc, unit.words()) else {
             return Err(StepFault::OutOfMemory);
@@ -329,7 +301,6 @@ impl<'a> Scribe<'a> {
         requires loads { LoadsLdu self.old.link.profile step }
         requires letter { IsSome (letter_of step) }
         ensures profile { self.new.link.profile ≡ self.old.link.profile }
-        ensures grouping { self.new.grouping ≡ self.old.grouping }
         ensures written { OnOk result (WritesNext (label step) self.old self.new) }
         ensures reached { OnOk result (self.new.link ≡ link_after (step ∷ []) self.old.link) }
         ensures closed { IsClosing step → OnOk result (ClosesOn self.old.link self.new.link) }
@@ -354,7 +325,6 @@ impl<'a> Scribe<'a> {
         requires { IsLine line.now }
         ensures link { self.new.link ≡ self.old.link }
         ensures gave_up { self.new.gave_up ≡ self.old.gave_up }
-        ensures grouping { self.new.grouping ≡ self.old.grouping }
         ensures ok { OnOk result (self.new.text.items ≡ self.old.text.items ++ (spelling line.now ++ 10 ∷ [])) }
         ensures held { OnOk result (IsHeld line.now) }
         ensures err { IfErr result (λ e. e ≡ StepFault.OutOfMemory) }

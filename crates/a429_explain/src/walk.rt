@@ -24,7 +24,7 @@ use std::alloc::Global;
 
 /// Why a recording is not heard to its end.
 #[derive(Clone, Copy, Debug)]
-pub(crate) enum Halt {
+pub enum Halt {
     /// The words before this entry, counted from 0, do not allow it.
     Refused { entry: usize, reason: Reason },
     OutOfMemory,
@@ -32,7 +32,7 @@ pub(crate) enum Halt {
 
 /// What a recording says, where its words allow each other. Else the first entry that no run records
 /// after those before it, and why. Each word is looked at once.
-pub(crate) fn walk<'a>(
+pub fn walk<'a>(
     alloc: Global,
     profile: &'a Profile,
     entries: &'a [Entry],

@@ -1,4 +1,5 @@
-//! Rows of known answers: words, profiles, recordings and link data units, worked out by hand.
+//! Rows of known answers: words, profiles, recordings, link data units and what is found of those recorded with losses,
+//! worked out by hand.
 #![tactic(auto)]
 
 #[cfg(test)]
@@ -9,5 +10,7 @@ mod ldu;
 mod profile;
 #[cfg(test)]
 mod record;
+#[cfg(test)]
+mod search;
 #[cfg(test)]
 mod word;

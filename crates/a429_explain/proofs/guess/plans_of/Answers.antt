@@ -1,4 +1,4 @@
-use Rattle.std.proofs.Common.{◌≡◌, ◌<◌, ◌≤◌, List, length, slice_get, sym, ap, subst, ◌∙◌, arith}
+use Rattle.std.proofs.Common.{◌≡◌, ◌<◌, ◌≤◌, List, length, slice_get, refl, sym, ap, subst, ◌∙◌, arith}
 use Rattle.a429_profile.specs.Profile.{Contents}
 use Rattle.a429_ldu.specs.Ldu.{LduValue}
 use Rattle.a429_explain.specs.Block.{IsMatchedUnit, IsStopIn, HasCrossed}
@@ -81,7 +81,7 @@ loop-at-preserved-in-Some c =
     ∙ ap (λ (n : UnitNumber). place_behind p.codes n unit c.is_settled.result) numbers
     ∙ ap (place_behind p.codes (place_at_group p.codes rs g place) unit) c.is_settled.ensures in
     let found = subst (λ (n : UnitNumber). (u : LduValue) → HasCrossed c.args.heard.now r n u → unit ≡ u) numbers c.in-Ok.ensures.crossed in
-    finds_next p c.args.heard.now.items rs c.args.first_file c.loop-at.plans.items c.push_back.new.self.items place c.place_behind-place.result c.loop-at.at c.in-Some.count g (record { give_ups = c.give_ups_from-give_ups.result; unit = unit }) c.group_at-group.ensures.from c.group_at-group.ensures.to (sym (wants a.After-wanted) ∙ c.in-Some.is) gives matched c.in-Ok-push_back.ensures.items behind found (next a.After-group_at-group (wants a.After-wanted) (inside a.After-wanted)) c.loop-at.invariant
+    finds_next p c.args.heard.now.items rs c.args.first_file c.loop-at.plans.items c.push_back.new.self.items place c.place_behind-place.result c.loop-at.at c.in-Some.count g (record { at = c.loop-at.at; give_ups = c.give_ups_from-give_ups.result; unit = unit }) c.group_at-group.ensures.from c.group_at-group.ensures.to (sym (wants a.After-wanted) ∙ c.in-Some.is) refl gives matched c.in-Ok-push_back.ensures.items behind found (next a.After-group_at-group (wants a.After-wanted) (inside a.After-wanted)) c.loop-at.invariant
 
 pub loop-at-preserved : goal.loop-at-preserved
 loop-at-preserved c =

@@ -5,7 +5,6 @@ use Rattle.a429_explain.proofs.scribe.Scribe.give_up.Given as goal
 abbrev pub invariant-loop-left : goal.invariant-loop-left
 invariant-loop-left l = record {
   profile : l.self.link.profile ≡ l.fn.self.link.profile;
-  grouping : l.self.grouping ≡ l.fn.self.grouping;
   written : WritesNext None l.fn.self l.self;
   can : CanMake (giving_up l.files) l.fn.self.link → CanMake (giving_up l.left) l.self.link;
   to_go : link_after (giving_up l.left) l.self.link ≡ link_after (giving_up l.files) l.fn.self.link;

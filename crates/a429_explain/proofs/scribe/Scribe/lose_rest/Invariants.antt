@@ -5,7 +5,6 @@ use Rattle.a429_explain.proofs.scribe.Scribe.lose_rest.Given as goal
 abbrev pub invariant-loop : goal.invariant-loop
 invariant-loop l = record {
   profile : l.self.link.profile ≡ l.fn.self.link.profile;
-  grouping : l.self.grouping ≡ l.fn.self.grouping;
   written : WritesNext None l.fn.self l.self;
   closed : ClosesOn l.fn.self.link l.self.link;
 }

@@ -1,0 +1,111 @@
+use Rattle.std.proofs.Common.{◌≡◌, ◌<◌, ℕ, List, [], ◌∷◌, ◌++◌, ◌+◌, Option, sym, take, drop, length, take_all, ap, subst, ◌∙◌, arith}
+use Rattle.std.specs.Option.{IfSome}
+use Rattle.a429_ldu.specs.Ldu.{IsLdu}
+use Rattle.a429_link.specs.declared.seen.Seen.{Seen}
+use Rattle.a429_link.specs.Link.{LinkValue}
+use Rattle.a429_link.specs.Run.{BeginsARun}
+use Rattle.a429_cert.specs.Explained.{items_of, IsExplained, AreInEveryRun}
+use Rattle.a429_cert.specs.Fault.{IsFirstCertFault}
+use Rattle.a429_cert.proofs.NoFault.{no_fault}
+use Rattle.a429_cert.proofs.ExplainedFacts.{in_every_run}
+use Rattle.a429_explain.specs.declared.plan.Plan.{Plan}
+use Rattle.a429_explain.specs.Explanation.{HasLeastVersion}
+use Rattle.a429_explain.specs.Guess.{heard, IsOfCrossing}
+use Rattle.a429_explain.specs.Plan.{ArePlans}
+use Rattle.a429_explain.specs.Scribe.{in_version, Wrote}
+use Rattle.a429_explain.proofs.MatchingFacts.{length-items_of}
+use Rattle.a429_explain.proofs.PlanFacts.{plan_fits, left_fit}
+use Rattle.a429_explain.proofs.ScribeFacts.{certificate_written, version_written, written_long, run_begun, why_refused}
+use Rattle.a429_explain.proofs.ScribeWithoutLoss.{Goes, entries_next, entry_next, goes_run, goes_lossless, plan_kept, plan_starts}
+use Rattle.a429_explain.proofs.explanation.explain_by.Goals as goal
+use Rattle.a429_explain.proofs.explanation.explain_by.Goals.{After-seen, After-into_parts-text}
+
+-- of a recording without loss the next entry is on plan
+goes : (a : After-seen) → IsOfCrossing (heard a.args.profile.now (items_of a.args.entries.now)) a.args.guess → Goes a.args.profile.now a.seen.result (drop (a.loop-at.at + 1) (items_of a.args.entries.now)) a.loop-at.at a.index-role.result.now a.loop-at.plans.items a.loop-at.scribe.link
+goes a h = entry_next a.args.profile.now a.args.entries.now a.loop-at.at a.index-entries-at.result a.seen.result a.index-role.result.now a.args.guess.roles.items a.loop-at.plans.items a.loop-at.scribe.link a.loop-at-test.true a.index-entries-at.is a.seen.ensures h.roles_are a.index-role.ensures (a.loop-at.invariant.plan h)
+
+pub loop-at-init : goal.loop-at-init
+loop-at-init c = record {
+  profile = ap {A = LinkValue} (λ l. l.profile) c.in-Ok.ensures.start;
+  plans = c.requires.plans;
+  written = c.in-Ok.ensures.written;
+  plan = λ h. plan_starts c.args.profile.now c.codes-codes.ensures.sound (items_of c.args.entries.now) c.args.guess c.in-Ok.scribe.link c.in-Ok.ensures.written.byte h c.in-Ok.ensures.start;
+}
+
+pub write_entry-requires : goal.write_entry-requires
+write_entry-requires c =
+    let p = c.loop-at.scribe.link.profile in
+    let plans = subst (λ q. ArePlans q c.loop-at.plans.items) (sym c.loop-at.invariant.profile) c.loop-at.invariant.plans in
+    subst (λ (o : Option Plan). IfSome o (λ q. IsLdu p q.unit)) (sym c.take_plan-plan.ensures.taken) (plan_fits p c.index-role.result.now c.loop-at.at c.loop-at.plans.items plans)
+
+pub returns-in-Err-clause-refused : goal.returns-in-Err-clause-refused
+returns-in-Err-clause-refused c =
+    let items = items_of c.args.entries.now in
+    let s = c.loop-at.scribe in
+    let inside : c.loop-at.at < length items = omega (arith, c.loop-at-test.true, length-items_of c.args.entries.now) in
+    let begun = subst (λ q. BeginsARun q (take c.loop-at.at items)) c.loop-at.invariant.profile (run_begun (take c.loop-at.at items) c.args.guess.first_file s.text.items s.gave_up s.link c.loop-at.invariant.written) in
+    why_refused c.args.profile.now items c.loop-at.at c.in-Err.fault c.refused_at.result c.refused_at.ensures.memory c.refused_at.ensures.step inside begun
+
+pub returns-in-Err-clause-without_loss : goal.returns-in-Err-clause-without_loss
+returns-in-Err-clause-without_loss c = λ h.
+    let k = goes (goal.at.returns-in-Err-clause-without_loss c).After-seen h in
+    let more = drop (c.loop-at.at + 1) (items_of c.args.entries.now) in
+    let plain = goes_lossless c.args.profile.now c.seen.result more c.loop-at.at c.index-role.result.now c.take_plan-plan.result c.loop-at.plans.items c.loop-at.scribe.link c.take_plan-plan.ensures.taken k in
+    let run = goes_run c.args.profile.now c.seen.result more c.loop-at.at c.index-role.result.now c.take_plan-plan.result c.loop-at.plans.items c.loop-at.scribe.link c.loop-at.invariant.profile c.take_plan-plan.ensures.taken k in
+    c.refused_at.ensures.memory (c.in-Err.ensures.lossless plain run).0
+
+pub loop-at-preserved : goal.loop-at-preserved
+loop-at-preserved c =
+    let es = c.args.entries.now in
+    let p = c.args.profile.now in
+    record {
+      profile = c.in-Ok-write_entry.ensures.profile ∙ c.loop-at.invariant.profile;
+      plans = subst (ArePlans p) (sym c.take_plan-plan.ensures.left) (left_fit p c.index-role.result.now c.loop-at.at c.loop-at.plans.items c.loop-at.invariant.plans);
+      written = subst (λ (items : List Seen). Wrote c.args.guess.first_file items c.write_entry.new.self) (ap (λ (i : Seen). take c.loop-at.at (items_of es) ++ i ∷ []) c.seen.ensures ∙ entries_next es c.loop-at.at c.index-entries-at.result c.loop-at-test.true c.index-entries-at.is) (c.in-Ok-write_entry.ensures.written c.args.guess.first_file (take c.loop-at.at (items_of es)) c.loop-at.invariant.written);
+      plan = λ h.
+          let k = goes (goal.at.loop-at-preserved c).After-seen h in
+          let more = drop (c.loop-at.at + 1) (items_of es) in
+          let plain = goes_lossless p c.seen.result more c.loop-at.at c.index-role.result.now c.take_plan-plan.result c.loop-at.plans.items c.loop-at.scribe.link c.take_plan-plan.ensures.taken k in
+          let run = goes_run p c.seen.result more c.loop-at.at c.index-role.result.now c.take_plan-plan.result c.loop-at.plans.items c.loop-at.scribe.link c.loop-at.invariant.profile c.take_plan-plan.ensures.taken k in
+          plan_kept p c.seen.result more c.loop-at.at c.index-role.result.now c.take_plan-plan.result c.loop-at.plans.items c.take_plan-plan.new.plans.items c.loop-at.scribe.link c.write_entry.new.self.link k c.take_plan-plan.ensures.taken c.take_plan-plan.ensures.left (c.in-Ok-write_entry.ensures.lossless plain run).1;
+    }
+
+-- all entries are written
+all_written : (a : After-into_parts-text) → Wrote a.args.guess.first_file (items_of a.args.entries.now) a.loop-at.scribe
+all_written a =
+    let items = items_of a.args.entries.now in
+    let all : take a.loop-at.at items ≡ items = take_all a.loop-at.at items (omega (arith, a.loop-at-test.false, length-items_of a.args.entries.now)) in
+    subst (λ (xs : List Seen). Wrote a.args.guess.first_file xs a.loop-at.scribe) all a.loop-at.invariant.written
+
+explained : (a : After-into_parts-text) → IsExplained a.args.profile.now a.into_parts-text.result.0.items (items_of a.args.entries.now) a.into_parts-text.result.1.items
+explained a =
+    let items = items_of a.args.entries.now in
+    let s = a.loop-at.scribe in
+    let here = subst (λ q. IsExplained q (in_version s.gave_up s.text.items) items s.link.state.sink.shelf.files) a.loop-at.invariant.profile (certificate_written items a.args.guess.first_file s.text.items s.gave_up s.link (all_written a)) in
+    rw (a.into_parts-text.ensures.text, a.into_parts-text.ensures.files) here
+
+pub into_parts-text-requires : goal.into_parts-text-requires
+into_parts-text-requires c = written_long (take c.loop-at.at (items_of c.args.entries.now)) c.args.guess.first_file c.loop-at.scribe.text.items c.loop-at.scribe.gave_up c.loop-at.scribe.link c.loop-at.invariant.written
+
+pub returns-clause-explained : goal.returns-clause-explained
+returns-clause-explained c = rw (c.new-2.ensures, c.new-3.ensures) (explained (goal.at.returns-clause-explained c).After-into_parts-text)
+
+pub returns-clause-every : goal.returns-clause-every
+returns-clause-every c =
+    let items = items_of c.args.entries.now in
+    let r = c.into_parts-text.result in
+    subst (AreInEveryRun c.args.profile.now items) (sym c.new-3.ensures) (in_every_run c.args.profile.now c.codes-codes.ensures.sound r.0.items items r.1.items (explained (goal.at.returns-clause-every c).After-into_parts-text))
+
+pub returns-clause-accepted : goal.returns-clause-accepted
+returns-clause-accepted c = λ f h.
+    let items = items_of c.args.entries.now in
+    let here = explained (goal.at.returns-clause-accepted c).After-into_parts-text in
+    no_fault c.args.profile.now c.into_parts-text.result.0.items items here.first here.steps f here.explains (subst (λ (text : List ℕ). IsFirstCertFault c.args.profile.now text items f) c.new-2.ensures h)
+
+pub returns-clause-version : goal.returns-clause-version
+returns-clause-version c =
+    let items = items_of c.args.entries.now in
+    let s = c.loop-at.scribe in
+    let all = all_written (goal.at.returns-clause-version c).After-into_parts-text in
+    let here = subst (λ q. HasLeastVersion q (in_version s.gave_up s.text.items) items) c.loop-at.invariant.profile (version_written items c.args.guess.first_file s.text.items s.gave_up s.link all) in
+    rw (c.new-2.ensures ∙ c.into_parts-text.ensures.text) here

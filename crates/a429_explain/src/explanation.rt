@@ -1,0 +1,87 @@
+//! The certificate of a run that is guessed.
+
+ghost use Rattle.std.specs.Prelude.{◌≡◌, ◌≢◌, IfOk, IfErr};
+ghost use Rattle.a429_cert.specs.Explained.{items_of, IsExplained, AreInEveryRun};
+ghost use Rattle.a429_explain.specs.Explanation.{HasNoFault, HasLeastVersion, IsWhyNotWritten};
+ghost use Rattle.a429_explain.specs.Guess.{heard, IsGuess, IsOfCrossing};
+
+use crate::certificate::Certificate;
+use crate::guess::Guess;
+use crate::plan::take_plan;
+use crate::scribe::Scribe;
+use a429_cert::{Verified, seen};
+use a429_link::StepFault;
+use a429_profile::Profile;
+use a429_record::Entry;
+use std::alloc::Global;
+
+// About how many bytes the lines of an entry take where no word is lost: a certificate begins with room for so many.
+const BYTES_OF_AN_ENTRY: usize = 40;
+
+/// A certificate that explains a recording, and the files that are delivered in every run that records its words.
+#[derive(Debug, Drop)]
+pub struct Explanation {
+    pub certificate: Certificate,
+    pub files: Verified,
+}
+
+/// Why no certificate is written for a guess.
+#[derive(Clone, Copy, Debug, PartialEq, Eq)]
+pub enum Refusal {
+    /// The guessed steps record the entries before this one, counted from 0, and its own steps cannot be made.
+    NotReplayed { entry: usize },
+    OutOfMemory,
+}
+
+/// Writes the certificate of a guess: makes its steps on a link, one entry after the other, and a line for each. What is
+/// guessed is not trusted: a step that the link refuses ends it.
+pub fn explain_by(
+    alloc: Global,
+    profile: &Profile,
+    entries: &[Entry],
+    guess: Guess,
+) -> Result<Explanation, Refusal>
+    requires { IsGuess profile.now (items_of entries.now) guess }
+    ensures explained { IfOk result (λ e. IsExplained profile.now e.certificate (items_of entries.now) e.files) }
+    ensures every { IfOk result (λ e. AreInEveryRun profile.now (items_of entries.now) e.files) }
+    ensures accepted { IfOk result (λ e. HasNoFault profile.now e.certificate (items_of entries.now)) }
+    ensures version { IfOk result (λ e. HasLeastVersion profile.now e.certificate (items_of entries.now)) }
+    ensures refused { IfErr result (λ r. IsWhyNotWritten profile.now (items_of entries.now) r) }
+    ensures without_loss { IsOfCrossing (heard profile.now (items_of entries.now)) guess → IfErr result (λ r. r ≡ Refusal.OutOfMemory) }
+{
+    // (for the proof: the profile is sound)
+    let _codes = profile.codes();
+    let Guess {
+        first_file,
+        roles,
+        mut plans,
+    } = guess;
+    let room = entries.len().saturating_mul(BYTES_OF_AN_ENTRY);
+    let Ok(mut scribe) = Scribe::new(alloc, profile, first_file, room) else {
+        return Err(Refusal::OutOfMemory);
+    };
+    for at in 0..entries.len() {
+        let role = roles[at];
+        let plan = take_plan(&mut plans, role, at);
+        match scribe.write_entry(seen(entries[at]), role, plan) {
+            Ok(()) => {}
+            Err(fault) => return Err(refused_at(at, fault)),
+        }
+    }
+    let (text, files) = scribe.into_parts();
+    Ok(Explanation {
+        certificate: Certificate::new(text),
+        files: Verified::new(files),
+    })
+}
+
+// Why the steps of an entry are not made.
+fn refused_at(entry: usize, fault: StepFault) -> Refusal
+    ensures memory { fault ≡ StepFault.OutOfMemory → result ≡ Refusal.OutOfMemory }
+    ensures step { fault ≢ StepFault.OutOfMemory → result ≡ Refusal.NotReplayed entry }
+{
+    match fault {
+        StepFault::OutOfMemory => Refusal::OutOfMemory,
+        StepFault::NotAllowed | StepFault::WordDiffers => Refusal::NotReplayed { entry },
+    }
+}

@@ -1,0 +1,10 @@
+use Rattle.std.proofs.Common.{ℕ, ◌<◌, ◌≤◌, List, length}
+use Rattle.a429_link.specs.Run.{IsSubsequenceOf}
+use Rattle.a429_search.specs.Order.{lists_of, words_at, HasEach}
+use Rattle.a429_search.proofs.differing.differing.Given as goal
+
+abbrev pub invariant-loop-list : goal.invariant-loop-list
+invariant-loop-list l = record {
+  all : (zs : List ℕ) → HasEach zs (lists_of l.kept.items) → (k : ℕ) → k < l.list-index → IsSubsequenceOf (words_at (lists_of l.lists) k) zs;
+  few : length l.kept.items ≤ 16;
+}

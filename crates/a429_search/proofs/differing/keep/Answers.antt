@@ -1,0 +1,23 @@
+use Rattle.std.proofs.Common.{ap, ◌∙◌, subst, Vec, Global, ℕ, length, arith}
+use Rattle.std.proofs.lemmas.List.{map-set, map_push}
+use Rattle.a429_link.specs.Run.{IsSubsequenceOf}
+use Rattle.a429_search.specs.Order.{lists_of, words_at, HasEach}
+use Rattle.a429_search.proofs.OrderFacts.{inside_lists}
+use Rattle.a429_search.proofs.DifferingFacts.{each_replaced, each_pushed}
+use Rattle.a429_search.proofs.differing.keep.Goals as goal
+
+pub returns-in-Some : goal.returns-in-Some
+returns-in-Some c zs each =
+    let kept = c.args.kept.now.items in
+    let list = c.args.list in
+    let at = c.in-Some.at in
+    let found = c.in-Some.ensures.some in
+    let inside = inside_lists kept at (omega (arith, found.0, ap length c.deref.ensures.value)) in
+    each_replaced (lists_of kept) at list.items zs inside (subst (λ xs. IsSubsequenceOf (words_at (lists_of kept) at) xs) c.deref-2.ensures.value (subst (λ vs. IsSubsequenceOf (words_at (lists_of vs) at) c.deref-2.result.now) c.deref.ensures.value found.1))
+    (subst (HasEach zs) (map-set (λ (v : Vec ℕ Global). v.items) kept at list) each)
+
+pub returns : goal.returns
+returns c zs each =
+    let kept = c.args.kept.now.items in
+    let list = c.args.list in
+    each_pushed (lists_of kept) list.items zs (subst (HasEach zs) (ap lists_of c.in_ok-push.ensures.items ∙ map_push (λ (v : Vec ℕ Global). v.items) kept list) each)

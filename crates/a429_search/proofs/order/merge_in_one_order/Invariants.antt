@@ -1,0 +1,9 @@
+use Rattle.a429_search.specs.Order.{lists_of}
+use Rattle.a429_search.proofs.OrderFacts.{Merging, left_count}
+use Rattle.a429_search.proofs.order.merge_in_one_order.Given as goal
+
+abbrev pub invariant-loop-word : goal.invariant-loop-word
+invariant-loop-word l = Merging (lists_of l.lists) l.passed.items l.merged.items
+
+abbrev pub decreases-loop-word : goal.decreases-loop-word
+decreases-loop-word l = left_count (lists_of l.lists) l.passed.items

@@ -1,0 +1,200 @@
+//! The data words of several attempts, by a search with a budget.
+
+ghost use Rattle.std.specs.Prelude.{◌≡◌, ◌≤◌, ◌<◌, ℕ, List, All, None, Ok, IfOk, IfSome, length};
+ghost use Rattle.a429_search.specs.Order.{lists_of};
+ghost use Rattle.a429_search.specs.Fill.{AreDataOf};
+ghost use Rattle.a429_search.specs.Bounded.{IsPair, ArePassed, HasPassed, HasRests, IsStep};
+
+use crate::fill::Wanted;
+use crate::merged::completed_merge;
+use crate::order::{are_passed, next_word, pass, words_at};
+use crate::pair::{length_from, merged_lengths};
+use a429_ldu::MOST_DATA_WORDS;
+use a429_profile::Profile;
+use a429_word::Word;
+use std::alloc::{AllocError, Global};
+
+/// The most places at which one search chooses a next word, or looks at a list.
+pub const MOST_NODES: usize = 20_000;
+
+/// The wanted data words that have each of these lists in its order. The search goes depth first: it takes a word that is
+/// next in some list and passes it in each list where it is next. Where all words are passed it completes the list of those
+/// taken; where that fails, or a shortest list for what is left of two lists is too long, it goes back. `None` where it
+/// finds none at `MOST_NODES` places.
+pub(crate) fn search_words(
+    alloc: Global,
+    profile: &Profile,
+    lists: &[Vec<Word>],
+    wanted: Wanted,
+) -> Result<Option<Vec<Word>>, AllocError>
+    ensures { IfOk result (λ found. IfSome found (λ v. AreDataOf profile.now wanted.count wanted.check (lists_of lists.now) v.items)) }
+{
+    let Some(pairs) = pairs_of(alloc, lists)? else {
+        return Ok(None);
+    };
+    let search = Search {
+        profile,
+        lists,
+        pairs,
+        wanted,
+    };
+    let passed = vec![in alloc; 0usize; lists.len()]?;
+    let mut path = Path {
+        merged: Vec::new(alloc),
+        nodes: MOST_NODES,
+    };
+    extend(alloc, &search, &passed, &mut path)
+}
+
+/// Two of the lists, and the length of a shortest list that has what is left of them, by `merged_lengths`.
+#[derive(Drop)]
+pub(crate) struct Pair {
+    pub left: usize,
+    pub right: usize,
+    pub rows: Vec<Vec<u16>>,
+}
+
+// Lists, each pair of them, and the data words that are wanted.
+#[derive(Drop)]
+struct Search<'a> {
+    profile: &'a Profile,
+    lists: &'a [Vec<Word>],
+    pairs: Vec<Pair>,
+    wanted: Wanted,
+    ghost are_pairs: { All (IsPair (lists_of lists.now)) pairs.items },
+}
+
+// The words that are merged so far, and at how many places more a word may be chosen.
+#[derive(Drop)]
+struct Path {
+    merged: Vec<Word>,
+    nodes: usize,
+}
+
+// Each pair of lists. `None` where one has more words than a link data unit can have.
+fn pairs_of(alloc: Global, lists: &[Vec<Word>]) -> Result<Option<Vec<Pair>>, AllocError>
+    ensures { IfOk result (λ found. IfSome found (λ pairs. All (IsPair (lists_of lists.now)) pairs.items)) }
+{
+    let mut pairs = Vec::new(alloc);
+    for right in 0..lists.len() {
+        for left in 0..right {
+            match pair_of(alloc, lists, left, right)? {
+                Some(pair) => pairs.push(pair)?,
+                None => return Ok(None),
+            }
+        }
+    }
+    Ok(Some(pairs))
+}
+
+fn pair_of(
+    alloc: Global,
+    lists: &[Vec<Word>],
+    left: usize,
+    right: usize,
+) -> Result<Option<Pair>, AllocError>
+    requires in_left { left < length lists.now }
+    requires in_right { right < length lists.now }
+    ensures { IfOk result (λ found. IfSome found (IsPair (lists_of lists.now))) }
+{
+    let lefts = words_at(lists, left);
+    let rights = words_at(lists, right);
+    if lefts.len() > MOST_DATA_WORDS || rights.len() > MOST_DATA_WORDS {
+        return Ok(None);
+    }
+    let rows = merged_lengths(alloc, lefts, rights)?;
+    Ok(Some(Pair { left, right, rows }))
+}
+
+// A bound: no list that has what is left of each list has fewer words.
+fn least_left(search: &Search, passed: &[usize]) -> usize
+    requires { ArePassed (lists_of search.now.lists.now) passed.now }
+    ensures { (zs : List ℕ) → HasRests (lists_of search.now.lists.now) passed.now zs → result ≤ length zs }
+{
+    let mut least = 0;
+    for pair in &search.pairs {
+        let left = words_at(search.lists, pair.left);
+        let right = words_at(search.lists, pair.right);
+        let both = length_from(
+            &pair.rows,
+            left,
+            right,
+            passed[pair.left],
+            passed[pair.right],
+        );
+        least = usize::from(both).max(least);
+    }
+    least
+}
+
+// A word that is next in some list, and how many words of each list are passed with it.
+#[derive(Drop)]
+struct Step {
+    word: Word,
+    passed: Vec<usize>,
+}
+
+// The next word of a list; `None` where no word of it is left.
+fn step_at(
+    alloc: Global,
+    lists: &[Vec<Word>],
+    passed: &[usize],
+    i: usize,
+) -> Result<Option<Step>, AllocError>
+    requires inside { i < length lists.now }
+    requires passed { ArePassed (lists_of lists.now) passed.now }
+    ensures { IfOk result (λ found. IfSome found (λ s. IsStep (lists_of lists.now) passed.now i s.word s.passed.items)) }
+{
+    let Some(word) = next_word(words_at(lists, i), passed[i]) else {
+        return Ok(None);
+    };
+    let mut after = Vec::from_slice(alloc, passed)?;
+    pass(lists, &mut after, word);
+    Ok(Some(Step {
+        word,
+        passed: after,
+    }))
+}
+
+// The wanted data words that begin with the path, and have what is left of each list; where there are none, the path is as
+// before. The words that leave the bound as low as it can be come first.
+fn extend(
+    alloc: Global,
+    search: &Search,
+    passed: &[usize],
+    path: &mut Path,
+) -> Result<Option<Vec<Word>>, AllocError>
+    requires passed { ArePassed (lists_of search.now.lists.now) passed.now }
+    requires merged { HasPassed (lists_of search.now.lists.now) passed.now path.old.merged.items }
+    requires short { length path.old.merged.items ≤ search.now.wanted.count }
+    ensures some { IfOk result (λ found. IfSome found (λ v. AreDataOf search.now.profile.now search.now.wanted.count search.now.wanted.check (lists_of search.now.lists.now) v.items)) }
+    ensures back { result ≡ Ok None → path.new.merged.items ≡ path.old.merged.items }
+{
+    if path.nodes == 0 {
+        return Ok(None);
+    }
+    path.nodes -= 1;
+    if are_passed(search.lists, passed) {
+        let merged = path.merged.as_slice();
+        return completed_merge(alloc, search.profile, search.lists, merged, search.wanted);
+    }
+    let least = least_left(search, passed);
+    for is_best in [true, false] {
+        for i in 0..search.lists.len() {
+            let Some(next) = step_at(alloc, search.lists, passed, i)? else {
+                continue;
+            };
+            let left = least_left(search, &next.passed);
+            if (left < least) != is_best || left >= search.wanted.count - path.merged.len() {
+                continue;
+            }
+            path.merged.push(next.word)?;
+            let found = extend(alloc, search, &next.passed, path)?;
+            if found.is_some() {
+                return Ok(found);
+            }
+            path.merged.pop();
+        }
+    }
+    Ok(None)
+}

@@ -1,0 +1,73 @@
+//! The attempts of a group that differ.
+
+ghost use Rattle.std.specs.Prelude.{◌≤◌, ◌<◌, ◌↔◌, ℕ, List, IfOk, IfSome, IfNone, OnOk, IsTrue, EachIndex, SomeIndex, length};
+ghost use Rattle.a429_link.specs.Run.{IsSubsequenceOf};
+ghost use Rattle.a429_search.specs.Order.{lists_of, words_at, HasEach};
+
+use crate::order::words_at;
+use crate::subsequence::is_subsequence;
+use a429_word::Word;
+use std::alloc::{AllocError, Global};
+
+/// The most attempts of a group that are merged: those whose data words no other of them has. Each recorded word is
+/// compared with the words of at most so many attempts.
+pub const MOST_ATTEMPTS: usize = 16;
+
+/// At most `MOST_ATTEMPTS` lists: one that has each of them in its order has each of these, too. `None` where there would
+/// be more.
+pub(crate) fn differing(
+    alloc: Global,
+    lists: &[Vec<Word>],
+) -> Result<Option<Vec<Vec<Word>>>, AllocError>
+    ensures all { IfOk result (λ found. IfSome found (λ kept. (zs : List ℕ) → HasEach zs (lists_of kept.items) → HasEach zs (lists_of lists.now))) }
+    ensures few { IfOk result (λ found. IfSome found (λ kept. length kept.items ≤ 16)) }
+{
+    let mut kept = Vec::new(alloc);
+    for list in lists {
+        if is_in_some(list, &kept) {
+            continue;
+        }
+        keep(&mut kept, Vec::from_slice(alloc, list)?)?;
+        if kept.len() > MOST_ATTEMPTS {
+            return Ok(None);
+        }
+    }
+    Ok(Some(kept))
+}
+
+// Keeps one list more, in place of the first that it has.
+fn keep(kept: &mut Vec<Vec<Word>>, list: Vec<Word>) -> Result<(), AllocError>
+    ensures { OnOk result ((zs : List ℕ) → HasEach zs (lists_of kept.new.items) → HasEach zs (lists_of kept.old.items) × IsSubsequenceOf list.items zs) }
+{
+    if let Some(at) = first_within(kept, &list) {
+        kept[at] = list;
+        return Ok(());
+    }
+    kept.push(list)?;
+    Ok(())
+}
+
+// Whether some list has these words in their order.
+fn is_in_some(words: &[Word], lists: &[Vec<Word>]) -> bool
+    ensures { IsTrue result ↔ SomeIndex lists.now (λ i. IsSubsequenceOf words.now (words_at (lists_of lists.now) i)) }
+{
+    for list in lists {
+        if is_subsequence(words, list) {
+            return true;
+        }
+    }
+    false
+}
+
+// The first list that these words have in its order.
+fn first_within(lists: &[Vec<Word>], words: &[Word]) -> Option<usize>
+    ensures some { IfSome result (λ i. (i < length lists.now) × IsSubsequenceOf (words_at (lists_of lists.now) i) words.now) }
+    ensures none { IfNone result (EachIndex lists.now (λ i. ¬ IsSubsequenceOf (words_at (lists_of lists.now) i) words.now)) }
+{
+    for i in 0..lists.len() {
+        if is_subsequence(words_at(lists, i), words) {
+            return Some(i);
+        }
+    }
+    None
+}

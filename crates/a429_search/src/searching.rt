@@ -1,0 +1,296 @@
+//! The search for a run that recorded the words of a recording with losses.
+
+ghost use Rattle.std.specs.Prelude.{IfOk, IfSome};
+ghost use Rattle.a429_explain.specs.Guess.{IsGuess};
+
+use crate::attempts::Attempt;
+use crate::budget::Budget;
+use crate::groups::Group;
+use crate::hypotheses::Hypothesis;
+use crate::trail::{Course, Trail, with_heard};
+use a429_explain::{Guess, Heard, HeardWord, roles};
+use a429_ldu::Form;
+use a429_link::{UnitNumber, is_final};
+use a429_profile::Profile;
+use std::alloc::{AllocError, Global};
+use std::mem;
+
+/// How many hypotheses are carried on from one attempt to the next, at most.
+pub const MOST_HYPOTHESES: usize = 32;
+
+// A search, as far as it has come.
+#[derive(Drop)]
+struct Search<'a> {
+    alloc: Global,
+    profile: &'a Profile,
+    hypotheses: Vec<Hypothesis>,
+    // The groups that are present in some hypothesis.
+    groups: Vec<Group>,
+    trail: Trail<'a>,
+    budget: Budget,
+}
+
+// What was found out of an attempt: which of the groups it fits, and the place of the group that it begins, where it
+// makes one. None of what was not asked.
+#[derive(Drop)]
+struct Tried {
+    groups: Vec<Option<bool>>,
+    alone: Option<Option<usize>>,
+}
+
+/// What is guessed of the run that recorded these words; `None` where the search finds no run.
+pub(crate) fn guess_of(alloc: Global, heard: &Heard) -> Result<Option<Guess>, AllocError>
+    ensures { IfOk result (λ found. IfSome found (λ g. IsGuess heard.now.profile heard.now.items g)) }
+{
+    let mut search = Search::new(alloc, heard)?;
+    let mut attempt = None;
+    for at in 0..heard.len() {
+        let HeardWord { word, form } = heard.word(at);
+        match form {
+            Some(Form::Rts { count }) => {
+                search.carry_all_on(attempt)?;
+                attempt = Some(Attempt::new(alloc, at, count));
+            }
+            Some(form) => {
+                if let Some(attempt) = &mut attempt {
+                    attempt.take(at, word, form)?;
+                }
+            }
+            None => {}
+        }
+    }
+    search.carry_all_on(attempt)?;
+    search.guess(heard)
+}
+
+impl<'a> Search<'a> {
+    fn new(alloc: Global, heard: &Heard<'a>) -> Result<Search<'a>, AllocError> {
+        let mut hypotheses = Vec::new(alloc);
+        hypotheses.push(Hypothesis::START)?;
+        Ok(Search {
+            alloc,
+            profile: heard.profile(),
+            hypotheses,
+            groups: Vec::new(alloc),
+            trail: Trail::new(alloc, heard.profile()),
+            budget: Budget::of_entries(heard.len()),
+        })
+    }
+
+    // Carries all hypotheses on to an attempt.
+    fn carry_all_on(&mut self, attempt: Option<Attempt>) -> Result<(), AllocError> {
+        let Some(attempt) = attempt else {
+            return Ok(());
+        };
+        let mut tried = self.untried()?;
+        let hypotheses = mem::replace(&mut self.hypotheses, Vec::new(self.alloc));
+        for hypothesis in &hypotheses {
+            self.carry_on(hypothesis, &attempt, &mut tried)?;
+        }
+        self.hear(&attempt)?;
+        self.leave_groups_out()
+    }
+
+    // Nothing was found out of an attempt yet.
+    fn untried(&self) -> Result<Tried, AllocError> {
+        Ok(Tried {
+            groups: vec![in self.alloc; None; self.groups.len()]?,
+            alone: None,
+        })
+    }
+
+    // Carries a hypothesis on to an attempt, in each way in which the source may have come to it.
+    fn carry_on(
+        &mut self,
+        hypothesis: &Hypothesis,
+        attempt: &Attempt,
+        tried: &mut Tried,
+    ) -> Result<(), AllocError> {
+        let ways = hypothesis.ways(self.profile.codes().first_ldu, attempt.number());
+        if let Some(next) = ways.join {
+            let group = self.joined(hypothesis.group, attempt, tried)?;
+            if group.is_some() {
+                self.add(Hypothesis { group, ..next })?;
+                if ways.begin_last {
+                    return Ok(());
+                }
+            }
+        }
+        let Some((before, next)) = ways.begin else {
+            return Ok(());
+        };
+        let group = self.alone(attempt, tried)?;
+        if group.is_none() {
+            return Ok(());
+        }
+        let closed = self.trail.close(hypothesis, &self.groups, None)?;
+        self.add(Hypothesis {
+            group,
+            before,
+            closed,
+            ..next
+        })
+    }
+
+    // The present group with the attempt, where the attempt fits it; where there is none, the group that it begins.
+    fn joined(
+        &mut self,
+        group: Option<usize>,
+        attempt: &Attempt,
+        tried: &mut Tried,
+    ) -> Result<Option<usize>, AllocError> {
+        let Some(place) = group else {
+            return self.alone(attempt, tried);
+        };
+        let fits = match tried.groups.get(place) {
+            Some(Some(fits)) => *fits,
+            _ => self.join(place, attempt)?,
+        };
+        if let Some(answer) = tried.groups.get_mut(place) {
+            *answer = Some(fits);
+        }
+        Ok(if fits { group } else { None })
+    }
+
+    // Takes the attempt into the group at this place, where it fits.
+    fn join(&mut self, place: usize, attempt: &Attempt) -> Result<bool, AllocError> {
+        match self.groups.get_mut(place) {
+            Some(group) => group.join(self.alloc, self.profile, attempt, &mut self.budget),
+            None => Ok(false),
+        }
+    }
+
+    // The place of the group that the attempt begins, where it makes one.
+    fn alone(&mut self, attempt: &Attempt, tried: &mut Tried) -> Result<Option<usize>, AllocError> {
+        if let Some(found) = tried.alone {
+            return Ok(found);
+        }
+        let found = self.begin(attempt)?;
+        tried.alone = Some(found);
+        Ok(found)
+    }
+
+    // Begins a group with the attempt.
+    fn begin(&mut self, attempt: &Attempt) -> Result<Option<usize>, AllocError> {
+        let begun = Group::begin(self.alloc, self.profile, attempt, &mut self.budget)?;
+        let Some(group) = begun else {
+            return Ok(None);
+        };
+        let place = self.groups.len();
+        self.groups.push(group)?;
+        Ok(Some(place))
+    }
+
+    // Adds a hypothesis. Of those on which later attempts depend in the same way, the one with the fewest files given
+    // up stays.
+    fn add(&mut self, hypothesis: Hypothesis) -> Result<(), AllocError> {
+        for other in self.hypotheses.iter_mut() {
+            if other.is_like(&hypothesis) {
+                if hypothesis.give_ups < other.give_ups {
+                    *other = hypothesis;
+                }
+                return Ok(());
+            }
+        }
+        if self.hypotheses.len() < MOST_HYPOTHESES {
+            self.hypotheses.push(hypothesis)?;
+        }
+        Ok(())
+    }
+
+    // Where the attempt was acknowledged: beside each hypothesis that of a source that has heard it.
+    fn hear(&mut self, attempt: &Attempt) -> Result<(), AllocError> {
+        let known = self.number_after(attempt);
+        if known.is_none() {
+            return Ok(());
+        }
+        for place in 0..self.hypotheses.len() {
+            let Some(hypothesis) = self.hypotheses.get(place).copied() else {
+                break;
+            };
+            let closed = self
+                .trail
+                .close(&hypothesis, &self.groups, attempt.acknowledged)?;
+            self.add(Hypothesis {
+                first_file: hypothesis.first_file,
+                known,
+                closed,
+                ..Hypothesis::START
+            })?;
+        }
+        Ok(())
+    }
+
+    // The number after that of an attempt that was acknowledged.
+    fn number_after(&self, attempt: &Attempt) -> Option<UnitNumber> {
+        match (attempt.start, attempt.end, attempt.acknowledged) {
+            (Some(start), Some(end), Some(_)) => {
+                let is_final = is_final(self.profile, end.flags);
+                Some(start.number.next(self.profile, is_final))
+            }
+            _ => None,
+        }
+    }
+
+    // Leaves out the groups that are present in no hypothesis.
+    fn leave_groups_out(&mut self) -> Result<(), AllocError> {
+        let groups = mem::replace(&mut self.groups, Vec::new(self.alloc));
+        for (from, group) in groups.into_iter().enumerate() {
+            let to = self.groups.len();
+            if self.move_group(from, to) {
+                self.groups.push(group)?;
+            }
+        }
+        Ok(())
+    }
+
+    // Gives a group another place in all hypotheses, and answers whether it is present in one.
+    fn move_group(&mut self, from: usize, to: usize) -> bool {
+        let mut is_present = false;
+        for hypothesis in self.hypotheses.iter_mut() {
+            if hypothesis.group == Some(from) {
+                hypothesis.group = Some(to);
+                is_present = true;
+            }
+        }
+        is_present
+    }
+
+    // What is guessed by the hypothesis with the fewest files given up.
+    fn guess(self, heard: &Heard) -> Result<Option<Guess>, AllocError>
+        ensures { IfOk result (λ found. IfSome found (λ g. IsGuess heard.now.profile heard.now.items g)) }
+    {
+        let Some(best) = self.best() else {
+            return Ok(None);
+        };
+        let Search {
+            alloc,
+            groups,
+            mut trail,
+            ..
+        } = self;
+        let last = trail.close(&best, &groups, None)?;
+        let Course {
+            plans,
+            heard: entries,
+        } = trail.course(heard.profile(), last)?;
+        let roles = roles(alloc, heard)?;
+        let roles = with_heard(alloc, &roles, entries)?;
+        Ok(Some(Guess {
+            first_file: best.first_file,
+            roles,
+            plans,
+        }))
+    }
+
+    fn best(&self) -> Option<Hypothesis> {
+        let mut best: Option<Hypothesis> = None;
+        for hypothesis in &self.hypotheses {
+            match best {
+                Some(found) if found.all_give_ups() <= hypothesis.all_give_ups() => {}
+                _ => best = Some(*hypothesis),
+            }
+        }
+        best
+    }
+}
