@@ -3,8 +3,8 @@
 
 use a429_check::{
     Canvas, Claim, Command, Folder, RunFault, Span, command, read_whole, report, run_check,
-    run_extract, run_forms, run_labels, run_make, run_pack, run_picture, run_show, run_units,
-    run_upgrade, run_verify, run_word,
+    run_decide, run_extract, run_forms, run_labels, run_make, run_pack, run_picture, run_show,
+    run_units, run_upgrade, run_verify, run_word,
 };
 use a429_record::EntryReader;
 use a429_view::UnitRows;
@@ -30,6 +30,15 @@ struct Case<R: Read> {
     profile: Vec<u8>,
     rec: EntryReader<R>,
     cert: Tally<BufReader<R>>,
+}
+
+// What a command that writes a certificate is given: a profile, which was read, a recording to read, and a file for
+// the certificate.
+#[derive(Drop)]
+struct Quest<R> {
+    profile: Vec<u8>,
+    rec: Tally<R>,
+    cert: Tally<R>,
 }
 
 fn main(rt: HostRuntime) -> ExitCode {
@@ -65,6 +74,7 @@ fn answer<W: Write + Drop>(
         Command::Make { profile, files } => make(rt, alloc, profile, files.as_slice(), &mut out),
         Command::Pack(recording) => pack(rt, alloc, recording, &mut out),
         Command::Check(claim) => check(rt, alloc, claim, &mut out),
+        Command::Decide(claim) => decide(rt, alloc, claim, &mut out),
         Command::Verify(claim) => verify(rt, alloc, claim, &mut out),
         Command::Units(claim) => return units(rt, alloc, claim, out),
         Command::Picture { claim, span } => return picture(rt, alloc, claim, span, out),
@@ -143,10 +153,30 @@ fn check<W: Write>(
     claim: Claim<'_>,
     out: &mut Tally<W>,
 ) -> Result<u8, RunFault> {
-    let profile = bytes_of(rt, alloc, claim.profile)?;
-    let mut rec = opened(rt, claim.recording, CAP)?;
-    let mut cert = created(rt, claim.certificate)?;
-    run_check(alloc, profile.as_slice(), &mut rec, &mut cert, out)
+    let mut quest = opened_quest(rt, alloc, claim)?;
+    run_check(
+        alloc,
+        quest.profile.as_slice(),
+        &mut quest.rec,
+        &mut quest.cert,
+        out,
+    )
+}
+
+fn decide<W: Write>(
+    rt: &impl Files,
+    alloc: Global,
+    claim: Claim<'_>,
+    out: &mut Tally<W>,
+) -> Result<u8, RunFault> {
+    let mut quest = opened_quest(rt, alloc, claim)?;
+    run_decide(
+        alloc,
+        quest.profile.as_slice(),
+        &mut quest.rec,
+        &mut quest.cert,
+        out,
+    )
 }
 
 fn verify<W: Write>(
@@ -252,6 +282,19 @@ fn words_of(rt: &(impl Env + AllocGlobal), alloc: Global) -> Result<Vec<String>,
         _ => RunFault::Memory,
     })?;
     Ok(args.skip(1).collect(alloc)?)
+}
+
+// The files of a command that writes a certificate, opened in this order.
+fn opened_quest<F: Files>(
+    rt: &F,
+    alloc: Global,
+    claim: Claim<'_>,
+) -> Result<Quest<F::File>, RunFault> {
+    Ok(Quest {
+        profile: bytes_of(rt, alloc, claim.profile)?,
+        rec: opened(rt, claim.recording, CAP)?,
+        cert: created(rt, claim.certificate)?,
+    })
 }
 
 // The files that a claim names, opened in this order.

@@ -6,22 +6,23 @@ use Rattle.a429_word.specs.declared.tally.Tally.{Tally}
 use Rattle.a429_word.specs.Tally.{unread, Puts, PutsFront}
 use Rattle.a429_cert.specs.Explained.{items_of}
 use Rattle.a429_explain.specs.declared.verdict.Verdict.{Verdict}
-use Rattle.a429_explain.specs.Verdict.{IsSoundVerdict, IsOfLeastVersion, IsImpossible, IsDoubted, IsFirst, HasNoForm, IsImpossibility, IsExplanation}
+use Rattle.a429_explain.specs.Verdict.{IsSoundVerdict, IsOfLeastVersion, IsImpossible, IsDoubted, HasNoForm, IsImpossibility, IsExplanation}
 use Rattle.a429_explain.specs.WithoutLoss.{IsWithoutLoss}
 use Rattle.a429_check.specs.declared.fault.RunFault.{RunFault}
 use Rattle.a429_check.specs.declared.fault.RunFault.TheVariants as run
 use Rattle.a429_check.specs.Output.{UsedWork}
 use Rattle.a429_check.specs.Recording.{SayInput}
-use Rattle.a429_check.specs.Check.{certificate_text, verdict_status, verdict_text, IsCheckFault, IsVerdictOn, PutsFrontAtMost, PutsVerdictOn}
+use Rattle.a429_check.specs.declared.engines.rule.Rule.{Rule}
+use Rattle.a429_check.specs.Check.{certificate_text, verdict_status, verdict_text, IsByRule, IsCheckFault, IsVerdictOn, PutsFrontAtMost, PutsVerdictOn}
 
 -- a verdict on the entries is one on the recording that stands for them
-pub found : (profile : List ℕ) (known : Option (List ℕ)) (says : SayInput profile known) (r : Result Verdict RunFault)
+pub found : (by_rule : Rule) (profile : List ℕ) (known : Option (List ℕ)) (says : SayInput profile known) (r : Result Verdict RunFault)
     → IfOk r (IsSoundVerdict says.contents (items_of says.entries)) → IfOk r (IsOfLeastVersion says.contents (items_of says.entries)) → IfOk r (IsImpossible says.contents (items_of says.entries))
-    → IfOk r (IsDoubted says.contents (items_of says.entries)) → IfOk r (IsFirst says.contents (items_of says.entries)) → (HasNoForm (says.contents.codes) (items_of says.entries) → IfOk r IsImpossibility)
-    → (IsWithoutLoss says.contents (items_of says.entries) → IfOk r IsExplanation) → IfOk r (IsVerdictOn profile known)
-found profile known says (Ok v) sound version impossible doubted first no_form without_loss =
+    → IfOk r (IsDoubted says.contents (items_of says.entries)) → IfOk r (IsByRule by_rule says.contents (items_of says.entries)) → (HasNoForm (says.contents.codes) (items_of says.entries) → IfOk r IsImpossibility)
+    → (IsWithoutLoss says.contents (items_of says.entries) → IfOk r IsExplanation) → IfOk r (IsVerdictOn by_rule profile known)
+found by_rule profile known says (Ok v) sound version impossible doubted first no_form without_loss =
     record { says = says; sound = sound; version = version; impossible = impossible; doubted = doubted; first = first; no_form = no_form; without_loss = without_loss }
-found profile known says (Err f) sound version impossible doubted first no_form without_loss = tt
+found by_rule profile known says (Err f) sound version impossible doubted first no_form without_loss = tt
 
 -- no verdict on the entries, for the one reason that there may be
 pub not_found : (profile : List ℕ) (known : Option (List ℕ)) (failed : Bool) (r : Result Verdict RunFault)
@@ -33,12 +34,12 @@ pub says_input : (profile : List ℕ) (known : Option (List ℕ)) (r : Result Ve
 says_input profile known (Ok v) says = says
 says_input profile known (Err f) says = tt
 
-pub told : {C W R : Type 0} (certificate_in : C → Option (List ℕ)) (cert new_cert : Tally C) (contents : W → Option (List ℕ)) (out new_out : Tally W)
+pub told : {C W R : Type 0} (by_rule : Rule) (certificate_in : C → Option (List ℕ)) (cert new_cert : Tally C) (contents : W → Option (List ℕ)) (out new_out : Tally W)
     (profile : List ℕ) (remaining : R → Option (List ℕ)) (rec : Tally R) (v : Verdict) (r : Result ℕ RunFault)
-    → IsVerdictOn profile (unread remaining rec) v → IfOk r (λ status. status ≡ verdict_status v) → OnOk r (Puts certificate_in cert new_cert (certificate_text v)) → OnOk r (Puts contents out new_out (verdict_text v))
-    → IfOk r (PutsVerdictOn certificate_in cert new_cert contents out new_out profile remaining rec)
-told certificate_in cert new_cert contents out new_out profile remaining rec v (Ok status) is e put text = (v, is, e, put, text)
-told certificate_in cert new_cert contents out new_out profile remaining rec v (Err f) is e put text = tt
+    → IsVerdictOn by_rule profile (unread remaining rec) v → IfOk r (λ status. status ≡ verdict_status v) → OnOk r (Puts certificate_in cert new_cert (certificate_text v)) → OnOk r (Puts contents out new_out (verdict_text v))
+    → IfOk r (PutsVerdictOn by_rule certificate_in cert new_cert contents out new_out profile remaining rec)
+told by_rule certificate_in cert new_cert contents out new_out profile remaining rec v (Ok status) is e put text = (v, is, e, put, text)
+told by_rule certificate_in cert new_cert contents out new_out profile remaining rec v (Err f) is e put text = tt
 
 -- the recording's reader has not failed either
 pub used : (r : Result ℕ RunFault) (rec cert out : Bool) → rec ≡ false → IfOk r (UsedWork false cert out) → IfOk r (UsedWork rec cert out)
@@ -59,7 +60,7 @@ silent Failed Same (Err e) rec w f = by
     by (inl h) = absurd (h f.0)
     by (inr h) = cc (w, h)
 
-pub front : {C : Type 0} (contents : C → Option (List ℕ)) (old new : Tally C) (profile : List ℕ) (known : Option (List ℕ)) (v : Verdict) (r : Result ℕ RunFault)
-    → IsVerdictOn profile known v → OnErr r (PutsFront contents old new (certificate_text v)) → OnErr r (PutsFrontAtMost contents old new profile known)
-front contents old new profile known v (Ok status) is h = tt
-front contents old new profile known v (Err e) is h = inr (v, is, h)
+pub front : {C : Type 0} (by_rule : Rule) (contents : C → Option (List ℕ)) (old new : Tally C) (profile : List ℕ) (known : Option (List ℕ)) (v : Verdict) (r : Result ℕ RunFault)
+    → IsVerdictOn by_rule profile known v → OnErr r (PutsFront contents old new (certificate_text v)) → OnErr r (PutsFrontAtMost by_rule contents old new profile known)
+front by_rule contents old new profile known v (Ok status) is h = tt
+front by_rule contents old new profile known v (Err e) is h = inr (v, is, h)

@@ -1,5 +1,7 @@
 -- The verdict on a recording, and how it is written (profile).
 use Rattle.std.specs.Prelude.{◌≡◌, ◌⊎◌, ◌++◌, ℕ, List, [], codes, Bool, true, Option}
+use Rattle.a429_profile.specs.Profile.{Contents}
+use Rattle.a429_link.specs.declared.seen.Seen.{Seen}
 use Rattle.std.specs.Fmt.{decimal}
 use Rattle.a429_word.specs.declared.tally.Tally.{Tally}
 use Rattle.a429_cert.specs.Explained.{items_of}
@@ -9,12 +11,15 @@ use Rattle.a429_explain.specs.declared.verdict.Reason.{Reason}
 use Rattle.a429_explain.specs.declared.verdict.Reason.TheVariants.{NoForm, NotGranted, WrongAnswer}
 use Rattle.a429_explain.specs.declared.verdict.Doubt.{Doubt}
 use Rattle.a429_explain.specs.declared.verdict.Doubt.TheVariants.{NeverWhole, NotOneBlock, NotReplayed}
+use Rattle.a429_search.specs.Deciding.{IsOfCheck}
 use Rattle.a429_explain.specs.Verdict.{IsSoundVerdict, IsOfLeastVersion, IsImpossible, IsDoubted, IsFirst, HasNoForm, IsImpossibility, IsExplanation}
 use Rattle.a429_explain.specs.WithoutLoss.{IsWithoutLoss}
 use Rattle.std.specs.Str.{IsUtf8}
 use Rattle.a429_cert.specs.Stream.{sizes}
 use Rattle.a429_word.specs.Tally.{has_failed, unread, Puts, PutsFront}
 use Rattle.a429_check.specs.declared.fault.RunFault.{RunFault}
+use Rattle.a429_check.specs.declared.engines.rule.Rule.{Rule}
+use Rattle.a429_check.specs.declared.engines.rule.Rule.TheVariants as rule
 use Rattle.a429_check.specs.Fault.{ComesBy, never}
 use Rattle.a429_check.specs.Profile.{IsSomeProfile, HasFault}
 use Rattle.a429_check.specs.Recording.{SayInput, IsRecordingFault}
@@ -50,27 +55,33 @@ verdict_status (Unexplained i doubt) = 2
 
 -- ---- what it stands for
 
--- the verdict is one on the recording by the profile whose text the bytes are; the recording's bytes are known where its reader tells them
-pub record IsVerdictOn (profile : List ℕ) (recording : Option (List ℕ)) (v : Verdict) : Type 0 where
+-- the verdict that the rule of a command gives: of `check` at the first test that fails; of `decide` the same, or an explanation
+-- of words of which `check` has a doubt
+abbrev pub IsByRule : Rule → Contents → List Seen → Verdict → Type 0
+IsByRule rule.Check p items v = IsFirst p items v
+IsByRule rule.Decide p items v = IsOfCheck p items v
+
+-- the verdict is one on the recording, by this rule and by the profile whose text the bytes are; the recording's bytes are known where its reader tells them
+pub record IsVerdictOn (by_rule : Rule) (profile : List ℕ) (recording : Option (List ℕ)) (v : Verdict) : Type 0 where
   pub says : SayInput profile recording
   pub sound : IsSoundVerdict (says.contents) (items_of (says.entries)) v
   pub version : IsOfLeastVersion (says.contents) (items_of (says.entries)) v
   pub impossible : IsImpossible (says.contents) (items_of (says.entries)) v
   pub doubted : IsDoubted (says.contents) (items_of (says.entries)) v
-  pub first : IsFirst (says.contents) (items_of (says.entries)) v
+  pub first : IsByRule by_rule (says.contents) (items_of (says.entries)) v
   pub no_form : HasNoForm (says.contents.codes) (items_of (says.entries)) → IsImpossibility v
   pub without_loss : IsWithoutLoss (says.contents) (items_of (says.entries)) → IsExplanation v
 
 -- such a verdict was told: its certificate to a writer, its text on the output, and its status; the recording is as its reader has it to give
-abbrev pub PutsVerdictOn : {C W R : Type 0} → (C → Option (List ℕ)) → Tally C → Tally C → (W → Option (List ℕ)) → Tally W → Tally W → List ℕ → (R → Option (List ℕ)) → Tally R → ℕ → Type 0
-PutsVerdictOn certificate_in cert new_cert contents out new_out profile remaining rec status =
-    (v : Verdict) × IsVerdictOn profile (unread remaining rec) v × (status ≡ verdict_status v)
+abbrev pub PutsVerdictOn : {C W R : Type 0} → Rule → (C → Option (List ℕ)) → Tally C → Tally C → (W → Option (List ℕ)) → Tally W → Tally W → List ℕ → (R → Option (List ℕ)) → Tally R → ℕ → Type 0
+PutsVerdictOn by_rule certificate_in cert new_cert contents out new_out profile remaining rec status =
+    (v : Verdict) × IsVerdictOn by_rule profile (unread remaining rec) v × (status ≡ verdict_status v)
     × Puts certificate_in cert new_cert (certificate_text v) × Puts contents out new_out (verdict_text v)
 
 -- a writer is as it was, or has gained some front of the certificate of a verdict on the recording
-abbrev pub PutsFrontAtMost : {C : Type 0} → (C → Option (List ℕ)) → Tally C → Tally C → List ℕ → Option (List ℕ) → Type 0
-PutsFrontAtMost contents old new profile recording =
-    (new ≡ old) ⊎ ((v : Verdict) × IsVerdictOn profile recording v × PutsFront contents old new (certificate_text v))
+abbrev pub PutsFrontAtMost : {C : Type 0} → Rule → (C → Option (List ℕ)) → Tally C → Tally C → List ℕ → Option (List ℕ) → Type 0
+PutsFrontAtMost by_rule contents old new profile recording =
+    (new ≡ old) ⊎ ((v : Verdict) × IsVerdictOn by_rule profile recording v × PutsFront contents old new (certificate_text v))
 
 -- ---- why there is none
 

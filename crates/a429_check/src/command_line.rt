@@ -90,6 +90,7 @@ fn of_recording<'a>(name: &str, given: &ArgMatches<'a>) -> Result<Command<'a>, R
     };
     match (name, given.get_str("DIR")) {
         ("check", _) => Ok(Command::Check(claim)),
+        ("decide", _) => Ok(Command::Decide(claim)),
         ("verify", _) => Ok(Command::Verify(claim)),
         ("units", _) => Ok(Command::Units(claim)),
         ("extract", Some(folder)) => Ok(Command::Extract { claim, folder }),
@@ -131,6 +132,7 @@ fn parser<'a>(alloc: Global) -> Result<Parser<'a>, AllocError> {
     let all = with(all, with_recording(alloc, "show"))?;
     let all = with(all, with_recording(alloc, "forms"))?;
     let all = with(all, with_certificate(alloc, "check"))?;
+    let all = with(all, with_certificate(alloc, "decide"))?;
     let all = with(all, with_certificate(alloc, "verify"))?;
     let all = with(all, with_certificate(alloc, "units"))?;
     let all = with(all, with_folder(alloc, "extract"))?;

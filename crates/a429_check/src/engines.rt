@@ -1,6 +1,7 @@
 //! What each command writes and answers, a file for each.
 
 pub mod check;
+pub mod decide;
 pub mod extract;
 pub mod folder;
 pub mod forms;
@@ -11,6 +12,7 @@ pub mod pack;
 pub mod picture;
 mod profile;
 mod recording;
+mod rule;
 pub mod show;
 pub mod units;
 pub mod upgrade;

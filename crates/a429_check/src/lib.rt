@@ -10,6 +10,7 @@ pub mod laws;
 pub use crate::command_line::command;
 pub use crate::command_line::commands::{Claim, Command};
 pub use crate::engines::check::run_check;
+pub use crate::engines::decide::run_decide;
 pub use crate::engines::extract::run_extract;
 pub use crate::engines::folder::Folder;
 pub use crate::engines::forms::run_forms;

@@ -30,6 +30,8 @@ pub enum Command<'a> {
     },
     /// `check PROFILE REC CERT`: finds a certificate for a recording, and writes it to CERT.
     Check(Claim<'a>),
+    /// `decide PROFILE REC CERT`: as `check`, and where that has a doubt a search for a run.
+    Decide(Claim<'a>),
     /// `extract PROFILE REC CERT DIR`: takes out the files that crossed, into the folder DIR.
     Extract {
         claim: Claim<'a>,

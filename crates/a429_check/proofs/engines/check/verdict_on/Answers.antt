@@ -5,7 +5,7 @@ use Rattle.a429_check.proofs.engines.check.verdict_on.Goals as goal
 pub returns-clause-verdict : goal.returns-clause-verdict
 returns-clause-verdict g c =
     let slice = c.as_slice.ensures.value in
-    found c.args.profile.now (unread g.R.Read.remaining c.args.rec.now) (record { contents = c.in_ok-profile.profile; entries = c.in_ok-entries.entries.items; is_profile = c.in_ok-profile.ensures.ok; stand = c.in_ok-entries.ensures.ok }) c.verdict_by.result
+    found c.args.rule c.args.profile.now (unread g.R.Read.remaining c.args.rec.now) (record { contents = c.in_ok-profile.profile; entries = c.in_ok-entries.entries.items; is_profile = c.in_ok-profile.ensures.ok; stand = c.in_ok-entries.ensures.ok }) c.verdict_by.result
     (rw slice at c.verdict_by.ensures.sound) (rw slice at c.verdict_by.ensures.version) (rw slice at c.verdict_by.ensures.impossible) (rw slice at c.verdict_by.ensures.doubted)
     (rw slice at c.verdict_by.ensures.first) (rw slice at c.verdict_by.ensures.no_form) (rw slice at c.verdict_by.ensures.without_loss)
 

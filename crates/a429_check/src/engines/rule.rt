@@ -1,0 +1,10 @@
+//! The rule by which a command finds the verdict on a recording.
+
+/// Which command asks for a verdict.
+#[derive(Clone, Copy, Debug, PartialEq, Eq)]
+pub(crate) enum Rule {
+    /// `check`: the fixed rule alone.
+    Check,
+    /// `decide`: that of `check`, and where it has a doubt a search.
+    Decide,
+}
