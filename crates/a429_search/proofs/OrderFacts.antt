@@ -5,7 +5,7 @@ use Rattle.std.proofs.lemmas.List.{drop_more, drop_all, take_more, take_all, len
 use Rattle.std.proofs.lemmas.List.Elements.{Contains-push_cases}
 use Rattle.std.proofs.lemmas.Option.{slice_get_within, get_or_from_slice_get}
 use Rattle.a429_link.specs.Run.{IsSubsequenceOf}
-use Rattle.a429_search.specs.Order.{lists_of, words_at, HasEach, HasNoneTwice, IsNext, IsLater, IsFree, IsAllPassed, step_over, passed_with}
+use Rattle.a429_search.specs.Order.{lists_of, words_at, HasEach, HasNoneTwice, AreTheirs, IsNext, IsLater, IsFree, IsAllPassed, step_over, passed_with}
 use Rattle.a429_link.proofs.Subsequence.{sub_push, sub_lost}
 use Rattle.a429_search.proofs.SubsequenceFacts.{sub_drop, sub_tails, sub_contains, in_cons, in_more}
 
@@ -76,6 +76,7 @@ pub record Merging (lists : List (List ℕ)) (passed merged : List ℕ) : Type 0
   pub counted : length passed ≡ length lists
   pub kept : (i : ℕ) → i < length lists → IsSubsequenceOf (take (slice_index passed i) (words_at lists i)) merged
   pub once : HasNoneTwice merged
+  pub own : AreTheirs merged lists
   pub apart : (i : ℕ) → i < length lists → (v : ℕ) → Contains merged v → ¬ Contains (drop (slice_index passed i) (words_at lists i)) v
 
 -- these are passed with one word more
@@ -86,11 +87,16 @@ Passes lists ps qs w = (i : ℕ) → i < length lists → slice_index qs i ≡ p
 abbrev pub ComesNext : List (List ℕ) → List ℕ → ℕ → Type 0
 ComesNext lists ps w = (i : ℕ) × (i < length lists) × IsNext lists ps i w
 
+-- the next word of a list is one of it
+next_is_theirs : (xs : List ℕ) (k w : ℕ) → slice_get xs k ≡ Some w → Contains xs w
+next_is_theirs xs k w e = (k, slice_get_within xs k w e, get_or_from_slice_get xs k w w e)
+
 pub merging_none : (lists : List (List ℕ)) → Merging lists (replicate (length lists) 0) []
 merging_none lists = record {
   counted = length-replicate (length lists) 0;
   kept = λ i l. rw (get_or-replicate {A = ℕ} (length lists) i 0 0 l) refl;
   once = tt;
+  own = λ w (k, l, e). absurd (omega arith);
   apart = λ i l v (k, m, e). absurd (omega arith);
 }
 
@@ -98,6 +104,10 @@ pub merging_more : (lists : List (List ℕ)) (ps qs merged : List ℕ) (w : ℕ)
 merging_more lists ps qs merged w m e p next free = record {
   counted = e ∙ m.counted;
   kept = λ i l. rw (p i l) (kept_over (words_at lists i) (slice_index ps i) w merged (m.kept i l) (slice_get (words_at lists i) (slice_index ps i)) refl);
+  own = λ v c. elim (Contains-push_cases merged w v c) [
+    | inl old ↦ m.own v old
+    | inr same ↦ (next.0, next.1, subst (λ u. Contains (words_at lists next.0) u) same (next_is_theirs (words_at lists next.0) (slice_index ps next.0) w next.2))
+  ];
   once = once_push merged w m.once (λ c. m.apart next.0 next.1 w c (rw (rest_at (words_at lists next.0) (slice_index ps next.0) w w next.2) (zero, omega arith, refl)));
   apart = λ i l v c. rw (p i l) (apart_over (words_at lists i) (slice_index ps i) w merged (m.apart i l) (free i l) v (slice_get (words_at lists i) (slice_index ps i)) refl (Contains-push_cases merged w v c));
 }

@@ -1,7 +1,7 @@
 //! The data words of several attempts, by a search with a budget.
 
-ghost use Rattle.std.specs.Prelude.{◌≡◌, ◌≤◌, ◌<◌, ℕ, List, All, None, Ok, IfOk, IfSome, length};
-ghost use Rattle.a429_search.specs.Order.{lists_of};
+ghost use Rattle.std.specs.Prelude.{◌≡◌, ◌≤◌, ◌<◌, ◌↔◌, ℕ, List, All, None, Ok, IfOk, IfSome, IsTrue, length};
+ghost use Rattle.a429_search.specs.Order.{lists_of, IsNext};
 ghost use Rattle.a429_search.specs.Fill.{AreDataOf};
 ghost use Rattle.a429_search.specs.Bounded.{IsPair, ArePassed, HasPassed, HasRests, IsStep};
 
@@ -134,7 +134,7 @@ struct Step {
     passed: Vec<usize>,
 }
 
-// The next word of a list; `None` where no word of it is left.
+// The next word of a list; `None` where no word of it is left, or it is next in an earlier list, too.
 fn step_at(
     alloc: Global,
     lists: &[Vec<Word>],
@@ -148,6 +148,9 @@ fn step_at(
     let Some(word) = next_word(words_at(lists, i), passed[i]) else {
         return Ok(None);
     };
+    if !is_first(lists, passed, i, word) {
+        return Ok(None);
+    }
     let mut after = Vec::from_slice(alloc, passed)?;
     pass(lists, &mut after, word);
     Ok(Some(Step {
@@ -156,7 +159,21 @@ fn step_at(
     }))
 }
 
-// The wanted data words that begin with the path, and have what is left of each list; where there are none, the path is as
+// The word is next in no list before this one.
+fn is_first(lists: &[Vec<Word>], passed: &[usize], i: usize, word: Word) -> bool
+    requires inside { i < length lists.now }
+    requires counted { length passed.now ≡ length lists.now }
+    ensures { IsTrue result ↔ ((j : ℕ) → j < i → ¬ IsNext (lists_of lists.now) passed.now j word) }
+{
+    for j in 0..i {
+        if next_word(words_at(lists, j), passed[j]) == Some(word) {
+            return false;
+        }
+    }
+    true
+}
+
+// The wanted data words that have the path, and then what is left of each list; where none are found, the path is as
 // before. The words that leave the bound as low as it can be come first.
 fn extend(
     alloc: Global,

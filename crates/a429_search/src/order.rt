@@ -1,18 +1,20 @@
 //! One list that has several, where one order keeps them all.
 
 ghost use Rattle.std.specs.Prelude.{◌≡◌, ◌≢◌, ◌↔◌, ℕ, ◌+◌, ◌<◌, ◌≤◌, List, length, slice_index, slice_index_or, slice_get, IsTrue, IfOk, IfSome, IfNone, None, EachIndex, SomeIndex};
-ghost use Rattle.a429_search.specs.Order.{lists_of, words_at, HasEach, HasNoneTwice, IsNext, IsLater, IsFree, passed_with, IsAllPassed};
+ghost use Rattle.a429_search.specs.Order.{lists_of, words_at, HasEach, HasNoneTwice, AreTheirs, IsNext, IsLater, IsFree, passed_with, IsAllPassed};
 
 use a429_word::Word;
 use std::alloc::{AllocError, Global};
 
-/// A list that has each of these in its order, and no word twice; `None` where there is no such list.
+/// A list that has each of these in its order, no word twice, and none but theirs; `None` where there is no list that has
+/// each and no word twice.
 pub(crate) fn merge_in_one_order(
     alloc: Global,
     lists: &[Vec<Word>],
 ) -> Result<Option<Vec<Word>>, AllocError>
     ensures kept { IfOk result (λ merged. IfSome merged (λ v. HasEach v.items (lists_of lists.now))) }
     ensures once { IfOk result (λ merged. IfSome merged (λ v. HasNoneTwice v.items)) }
+    ensures own { IfOk result (λ merged. IfSome merged (λ v. AreTheirs v.items (lists_of lists.now))) }
     ensures none { IfOk result (λ merged. IfNone merged ((zs : List ℕ) → HasNoneTwice zs → ¬ HasEach zs (lists_of lists.now))) }
 {
     let mut passed = vec![in alloc; 0usize; lists.len()]?;
