@@ -11,7 +11,9 @@ LABELS = {"A": 0x23, "B": 0xA3}
 FREE = ("Free",)
 PACKED = b"A429REC1"
 
-STEP = re.compile(rb"([altgdksbn]) (I|C|W|S(\d+)) (Q|c|G|A|N|B(\d+)) (\d+) (\d+)")
+STEP = rb"([%s]) (I|C|W|S(\d+)) (Q|c|G|A|N|B(\d+)) (\d+) (\d+)"
+# The lines of steps, by the first line.
+STEPS = {b"arinc429-cert 1": re.compile(STEP % b"altgdksbn"), b"arinc429-cert 2": re.compile(STEP % b"altgdksbnx")}
 LOAD = re.compile(rb"L ([0-9A-F]) ([0-9A-F]) ([0-9A-F]{4})((?: [0-9A-F]{8}){1,253})")
 FIRST = re.compile(rb"first (\d+)")
 
@@ -116,8 +118,9 @@ def check_word(data):
 class Bench:
     """A source, a sink, and the words between them."""
 
-    def __init__(self, file):
-        self.source, self.file, self.ldu, self.unit = "I", file, 1, None
+    def __init__(self, step, file):
+        self.step = step
+        self.source, self.file, self.ldu, self.unit, self.given_up = "I", file, 1, None, 0
         self.sink, self.count, self.block = "Q", 0, []
         self.to_sink, self.to_source = [], []
         self.last, self.unfinished, self.files = None, b"", []
@@ -143,7 +146,7 @@ class Bench:
         return {
             "L": is_fresh, "a": is_sending, "l": is_sending, "t": waits,
             "g": bool(self.to_source), "d": bool(self.to_source), "k": bool(self.to_sink) and not self.owes(),
-            "s": self.owes(), "b": self.owes(), "n": True,
+            "s": self.owes(), "b": self.owes(), "n": True, "x": self.source == "I" and self.given_up <= 126,
         }[step]
 
     def send(self, seen):
@@ -164,7 +167,7 @@ class Bench:
             self.source = "I"
         elif self.source == "W" and answer == ("Ack", self.file, self.ldu):
             is_last = self.unit[1] & 1 == 1
-            self.source, self.unit = "I", None
+            self.source, self.unit, self.given_up = "I", None, 0
             self.file, self.ldu = ((self.file + 1) % 256, 1) if is_last else (self.file, self.ldu + 1)
 
     def take(self):
@@ -188,12 +191,13 @@ class Bench:
         return is_whole and check_word(carried) == check and self.comes(*numbers)
 
     def comes(self, file, ldu):
-        """These numbers are the last accepted ones, or come next."""
+        """These numbers are the last accepted ones, or come next, after files that were given up, too."""
         if self.last is None:
             return ldu == 1
         last_file, last_ldu, is_final = self.last
-        after = ((last_file + 1) % 256, 1) if is_final else (last_file, last_ldu + 1)
-        return (file, ldu) in ((last_file, last_ldu), after)
+        if file != last_file:
+            return ldu == 1 and (file - last_file) % 256 <= 128
+        return ldu == last_ldu or not is_final and ldu == last_ldu + 1
 
     def answer(self, seen):
         bus, word = seen
@@ -213,6 +217,8 @@ class Bench:
     def accept(self, file, ldu, is_final):
         if self.last is not None and self.last[:2] == (file, ldu):
             return
+        if self.last is not None and self.last[0] != file:
+            self.unfinished = b""
         self.last = (file, ldu, is_final)
         self.unfinished += bytes_of(self.block[1:-1])
         if is_final:
@@ -239,6 +245,8 @@ class Bench:
             self.source = "I"
         elif step == "s":
             self.sink = "Q"
+        elif step == "x":
+            self.file, self.ldu, self.unit, self.given_up = (self.file + 1) % 256, 1, None, self.given_up + 1
         return True
 
 
@@ -261,12 +269,12 @@ def unit_of(found):
 def files_of(recording, certificate):
     """The files that cross where the certificate explains the recording."""
     *lines, cut_off = certificate.split(b"\n")
-    if not lines or lines[0] != b"arinc429-cert 1":
+    if not lines or lines[0] not in STEPS:
         raise Refused("NO version")
     first = FIRST.fullmatch(lines[1]) if len(lines) > 1 else None
     if first is None or not number_in(first[1], 255):
         raise Refused("NO line 2")
-    bench, entries, used = Bench(int(first[1])), entries_of(recording), 0
+    bench, entries, used = Bench(STEPS[lines[0]], int(first[1])), entries_of(recording), 0
     for n, line in enumerate(lines[2:], 3):
         used += pass_over(bench, line, n, entries, used)
     if cut_off:
@@ -278,7 +286,7 @@ def files_of(recording, certificate):
 
 def pass_over(bench, line, n, entries, used):
     """Goes over line n, and answers how many entries it uses."""
-    load, found = LOAD.fullmatch(line), STEP.fullmatch(line)
+    load, found = LOAD.fullmatch(line), bench.step.fullmatch(line)
     if load:
         unit = unit_of(load)
         if unit is None or not bench.may("L"):
