@@ -1,7 +1,7 @@
 //! Calls of the commands with texts for files, under the sample profile.
 
 use a429_cert::{MemoryShelf, Shelf};
-use a429_check::{RunFault, run_check, run_extract, run_verify};
+use a429_check::{RunFault, run_check, run_decide, run_extract, run_verify};
 use a429_link::{Bytes, FileBytes};
 use a429_profile::{Profile, read_profile};
 use a429_record::EntryReader;
@@ -13,7 +13,7 @@ use std::process::Abort;
 use std::{io, str};
 
 // How many bytes of a text are read at most.
-const MOST: u64 = 1_000_000;
+pub const MOST: u64 = 1_000_000;
 
 /// What is told of the sample recording and its certificate.
 pub const YES: &str = "0\nYES files 1\nfile 1 1\n";
@@ -73,6 +73,16 @@ pub fn check<R: io::Read, C: io::Write, W: io::Write>(
     out: &mut Tally<W>,
 ) -> Result<u8, RunFault> {
     run_check(alloc, profile.as_bytes(), rec, cert, out)
+}
+
+/// What `decide` answers.
+pub fn decide<R: io::Read, C: io::Write, W: io::Write>(
+    alloc: Global,
+    rec: &mut Tally<R>,
+    cert: &mut Tally<C>,
+    out: &mut Tally<W>,
+) -> Result<u8, RunFault> {
+    run_decide(alloc, PROFILE.as_bytes(), rec, cert, out)
 }
 
 /// What `verify` answers.

@@ -3,6 +3,7 @@
 mod certificates;
 mod check;
 mod command_line;
+mod decide;
 mod extract;
 mod faults;
 mod forms;
