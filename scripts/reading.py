@@ -1,6 +1,7 @@
-"""A second reading of recordings and certificates, under the sample profile: what scripts/test-hostile holds the
-program's answers against. It is written from docs/RECORDINGS.md, TRANSFER.md and CERTIFICATES.md, and not from the
-program: a state is kept as the text that a line of a certificate spells, and a file as bytes that grow.
+"""A second reading of recordings and certificates, under the sample profile: what scripts/test-hostile and
+scripts/test-decide hold the program's answers against. It is written from docs/RECORDINGS.md, TRANSFER.md and
+CERTIFICATES.md, and not from the program: a state is kept as the text that a line of a certificate spells, and a file
+as bytes that grow.
 """
 
 import csv

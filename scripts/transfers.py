@@ -1,7 +1,7 @@
-"""Transfers by chance, with losses: what scripts/test-decide has the program decide. It is written from docs/TRANSFER.md,
-PROFILE.md and CERTIFICATES.md, and not from the program: a source and a sink make their steps one after the other, and each
-step appends its line to a certificate and its word, if it records one, to a recording. Words on their way are messages here,
-a name and numbers, so none is ever decoded.
+"""Transfers by chance, with losses, for scripts/test-decide. It is written from docs/TRANSFER.md, PROFILE.md and
+CERTIFICATES.md, and not from the program: a source and a sink make their steps one after the other, and each step appends its
+line to a certificate and its word, if it records one, to a recording. A word on its way is a message here, a name and numbers,
+so no word is decoded.
 """
 
 import functools
@@ -37,7 +37,6 @@ class Profile:
 
     def text(self):
         """The profile as a TOML document."""
-        truth = {True: "true", False: "false"}
         kinds = zip(("full", "partial", "protocol", "sot", "eot"), self.types)
         codes = zip(("rts", "cts", "ack", "nak"), self.codes)
         lines = [
@@ -47,7 +46,7 @@ class Profile:
             "[codes]", *(f"{name} = {number}" for name, number in codes), f"ignored = {list(self.codes[4:])}",
             "[partial]", f"codes = {list(self.partial)}",
             "[check]", f"poly = {self.poly}", f"init = {self.init}", f"xor = {self.xor}",
-            f"low_first = {truth[self.low_first]}", f"compare = {truth[self.compare]}",
+            f"low_first = {str(self.low_first).lower()}", f"compare = {str(self.compare).lower()}",
         ]  # fmt: skip
         return "".join(f"{line}\n" for line in lines)
 
@@ -71,8 +70,8 @@ class Profile:
             kind, (upper, bits) = eot, numbers
         else:
             kind, upper = protocol, self.codes[("rts", "cts", "ack", "nak").index(name)]
-            high = {"rts": [self.destination], "cts": [self.destination]}.get(name, [])
-            bits = functools.reduce(lambda sum, byte: sum << 8 | byte, [*high, *numbers])
+            before = [self.destination] if name in ("rts", "cts") else []
+            bits = functools.reduce(lambda high, low: high << 8 | low, [*before, *numbers])
         return bus, with_odd_parity(self.label(bus) | bits << 8 | upper << 24 | kind << 28)
 
     def check_word(self, data):
@@ -288,8 +287,10 @@ class Transfer:
         self.made("s")
 
     def owed(self):
-        """The answer that the sink owes; of a bad block, one with any bits."""
-        return {"c": ("cts", self.count), "A": ("ack", *self.taken[0][2:]) if self.taken else None, "N": ("nak", 0)}[self.sink]
+        """The answer that the sink owes; for a bad block, the one with bits 0."""
+        if self.sink == "c":
+            return "cts", self.count
+        return ("ack", *self.taken[0][2:]) if self.sink == "A" else ("nak", 0)
 
     def answer(self, message):
         if message[0] == "ack":
