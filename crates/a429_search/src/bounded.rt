@@ -15,7 +15,7 @@ use a429_word::Word;
 use std::alloc::{AllocError, Global};
 
 /// The most places at which one search chooses a next word, or looks at a list.
-pub const MOST_NODES: usize = 20_000;
+pub const MOST_NODES: usize = 2_000;
 
 /// The wanted data words that have each of these lists in its order. The search goes depth first: it takes a word that is
 /// next in some list and passes it in each list where it is next. Where all words are passed it completes the list of those

@@ -151,10 +151,11 @@ fn unit_found(
     unit_of_pieces(alloc, profile, pieces)
 }
 
-// About how many steps it takes to merge the attempts pair by pair.
+// About how many steps it takes to merge the attempts: each pair of them, in a table of their words.
 fn steps_to_merge(pieces: &GroupPieces) -> usize {
     let count = usize::from(pieces.count);
-    pieces.attempts.len().saturating_mul(count * count)
+    let many = pieces.attempts.len();
+    many.saturating_mul(many).saturating_mul(count * count) / 4
 }
 
 // Always, of what was recorded.
