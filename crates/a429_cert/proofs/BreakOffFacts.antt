@@ -1,4 +1,4 @@
--- The place at which a walk along a certificate's lines breaks off, where both are told.
+-- The place at which a replay along a certificate's lines breaks off, where both are told.
 use Rattle.std.proofs.Common.{◌≡◌, ◌≢◌, ◌⊎◌, inl, inr, ◌≤◌, ◌+◌, ◌-◌, ◌∙◌, ◌++◌, ◌∷◌, arith, ℕ, suc, List, [], length, length-append, take, drop, Bool, true, false, Option, Some, None, slice_get, Ok, Err, refl, sym, ap, subst, append-nil}
 use Rattle.std.proofs.lemmas.List.{drop-drop}
 use Rattle.std.specs.Io.KnownBytes.{Keeps, prepend_known}
@@ -13,7 +13,7 @@ use Rattle.a429_record.specs.Recording.{Recording}
 use Rattle.a429_record.specs.Rows.{Stops, GivesNext}
 use Rattle.a429_cert.specs.declared.explained.Head.{Head}
 use Rattle.a429_cert.specs.declared.shelf.PutFile.{PutFile}
-use Rattle.a429_cert.specs.declared.stream.Walk.{Walk}
+use Rattle.a429_cert.specs.declared.stream.Replay.{Replay}
 use Rattle.a429_cert.specs.declared.stream_fault.StreamFault.{StreamFault}
 use Rattle.a429_cert.specs.declared.stream_fault.StreamFault.TheVariants as stream
 use Rattle.a429_cert.specs.Lines.{certificate_lines}
@@ -31,7 +31,7 @@ use Rattle.a429_cert.proofs.EarlierFiles.{given_out}
 use Rattle.a429_cert.proofs.StreamFacts.{put_on, gains_none}
 use Rattle.a429_cert.proofs.StreamStands.{AreBehind, Stands, lines_behind, goes_on}
 use Rattle.a429_cert.proofs.StreamRefused.{delivers, wants_line, wants_end, one_of}
-use Rattle.a429_cert.proofs.StreamWalk.{told_map}
+use Rattle.a429_cert.proofs.StreamReplay.{told_map}
 use Rattle.a429_cert.proofs.StreamLine.{refused_here}
 
 -- ---- how far the text was read
@@ -84,10 +84,10 @@ reads_none text k ahead old left few keeps h = record {
   read = has_read text k ahead left (keeps_behind (drop 2 (certificate_lines text)) k old (prepend_known ahead left) keeps h);
 }
 
--- ---- where a walk stands
+-- ---- where a replay is
 
 module _ (p : Contents) (d : Head) (k i : ℕ) (taken : List FileBytes) (s : State) (old : Option (List ℕ)) (rec : Option Recording) (read : Readers) (text : List ℕ) (r : Recording) where
-  between : (ahead : List ℕ) → s.sink.shelf.files ≡ [] → HasNoLineFeed ahead → Keeps old (prepend_known ahead read.left) → read.given ≡ i → Stands p text r d k i taken s old rec → IsBetweenLines p text r read taken
+  between : (ahead : List ℕ) → s.sink.received.files ≡ [] → HasNoLineFeed ahead → Keeps old (prepend_known ahead read.left) → read.given ≡ i → Stands p text r d k i taken s old rec → IsBetweenLines p text r read taken
   between ahead none cut keeps given h = record {
     k = k;
     state = with_earlier taken s;
@@ -97,7 +97,7 @@ module _ (p : Contents) (d : Head) (k i : ℕ) (taken : List FileBytes) (s : Sta
     lines = has_read text k ahead read.left (keeps_behind (drop 2 (certificate_lines text)) k old (prepend_known ahead read.left) keeps h.lines);
   }
 
-  at_line : s.sink.shelf.files ≡ [] → HasReadTo text read.left (k + 2) (k + 3)
+  at_line : s.sink.received.files ≡ [] → HasReadTo text read.left (k + 2) (k + 3)
       → (read.given ≡ i) ⊎ ((read.given ≡ i + 1) × WantsNext p (slice_get (step_lines d.version text) k) (with_earlier taken s))
       → Stands p text r d k i taken s old rec → IsAtLine p text r read taken
   at_line none lines given h = record {
@@ -109,7 +109,7 @@ module _ (p : Contents) (d : Head) (k i : ℕ) (taken : List FileBytes) (s : Sta
     given = given;
   }
 
-  at_entry : (f : ReadFault) → s.sink.shelf.files ≡ [] → HasReadTo text read.left (k + 2) (k + 3) → read.given ≡ i → WantsNext p (slice_get (step_lines d.version text) k) (with_earlier taken s)
+  at_entry : (f : ReadFault) → s.sink.received.files ≡ [] → HasReadTo text read.left (k + 2) (k + 3) → read.given ≡ i → WantsNext p (slice_get (step_lines d.version text) k) (with_earlier taken s)
       → Stops f (behind i r) → f ≢ fault.OutOfMemory → Stands p text r d k i taken s old rec → IsAtEntry p text r read f taken
   at_entry f none lines given wants stops told h = record {
     wanted = record {
@@ -143,7 +143,7 @@ used_more first now new i used e g = omega (arith, e, g)
 -- ---- a line delivers one file at most
 
 few_files : (p : Contents) (text : Option (List ℕ)) (s t : State) (rec : Option Recording) (r : Recording) (new : Option Recording) (used : ℕ)
-    → rec ≡ Some r → s.sink.shelf.files ≡ [] → PassesOver p text s t rec new used → length t.sink.shelf.files ≤ 1
+    → rec ≡ Some r → s.sink.received.files ≡ [] → PassesOver p text s t rec new used → length t.sink.received.files ≤ 1
 few_files p text s t rec r new used e none m =
     let passes = subst (λ o. PassesOver p text s t o new used) e m in
     one_of p (step_of passes.0.0 (next_of r)) s t none passes.0.2.0
@@ -158,7 +158,7 @@ only_file (x ∷ front) more files f few e =
     let behind = length-append front (f ∷ more) in
     absurd (omega (arith, all, behind, few))
 
--- ---- a walk breaks off in the first two lines
+-- ---- a replay breaks off in the first two lines
 
 pub head_breaks : (p : Contents) (known old left : Option (List ℕ)) (failed shelf listener : Bool) (first new : EntriesLeft) (f : StreamFault)
     → old ≡ known → ReadsAtMost 2 old left f → RefusesHead IsFaultOfHead old f → new.count ≡ first.count → (f ≡ stream.Device → failed ≡ true)
@@ -178,7 +178,7 @@ head_breaks p known old left failed shelf listener first new f e h other given d
     by (Some text) (Some r) stream.Device h other device = inl (device refl, inl (record { lines = h; given = none; none = refl }))
     by (Some text) (Some r) stream.OutOfMemory h other device = inl (record { lines = h; given = none; none = refl })
 
--- ---- a walk breaks off later
+-- ---- a replay breaks off later
 
 module _ (p : Contents) (d : Head) (k i : ℕ) (taken : List FileBytes) (s : State) (known old left : Option (List ℕ)) (failed shelf listener : Bool) (ahead : List ℕ) (first rec new : EntriesLeft) where
   abbrev IsThere : List ℕ → Recording → Type 0
@@ -188,14 +188,14 @@ module _ (p : Contents) (d : Head) (k i : ℕ) (taken : List FileBytes) (s : Sta
   IsPlaceOf files f = IsPlace p (reads known left failed first new) shelf listener files f
 
   -- the certificate's reader has failed between lines
-  pub between_breaks : s.sink.shelf.files ≡ [] → HasNoLineFeed ahead → Keeps old (prepend_known ahead left) → rec.count ≡ first.count + i → new.count ≡ rec.count → failed ≡ true
+  pub between_breaks : s.sink.received.files ≡ [] → HasNoLineFeed ahead → Keeps old (prepend_known ahead left) → rec.count ≡ first.count + i → new.count ≡ rec.count → failed ≡ true
       → WhereTold known first.to_come IsThere → WhereTold known first.to_come (IsPlaceOf taken stream.Device)
   between_breaks none cut keeps counted same device =
       told_map known first.to_come IsThere (IsPlaceOf taken stream.Device)
       (λ text r h. inl (device, inr (between p d k i taken s old rec.to_come (reads known left failed first new) text r ahead none cut keeps (since first.count rec.count new.count i counted same) h)))
 
   -- behind the last line
-  pub late_breaks : (held : Option (List ℕ)) (rest : Option Recording) (f : StreamFault) → s.sink.shelf.files ≡ [] → length ahead ≤ 2288 → GivesLine old (prepend_known ahead left) held false → Keeps old (prepend_known ahead left)
+  pub late_breaks : (held : Option (List ℕ)) (rest : Option Recording) (f : StreamFault) → s.sink.received.files ≡ [] → length ahead ≤ 2288 → GivesLine old (prepend_known ahead left) held false → Keeps old (prepend_known ahead left)
       → rec.count ≡ first.count + i → EndsLate i rec.to_come rest f → GivesNone f rec.count new.count → WhereTold known first.to_come IsThere → WhereTold known first.to_come (IsPlaceOf taken f)
   late_breaks held rest f none few g keeps counted (inl e) same =
       told_map known first.to_come IsThere (IsPlaceOf taken f) (λ text r h. subst (λ (o : StreamFault). IsPlaceOf taken o text r) (sym e.2) tt)
@@ -222,7 +222,7 @@ module _ (p : Contents) (d : Head) (k i : ℕ) (taken : List FileBytes) (s : Sta
           cases fault.OutOfMemory stops same =
               inr (inr (at_line p d k i taken s old rec.to_come (reads known left failed first new) text r none (reads_none text k ahead old left few keeps h.lines) (inl (since first.count rec.count new.count i counted same)) h))
 
-  module _ (held : Option (List ℕ)) (none : s.sink.shelf.files ≡ []) (few : length ahead ≤ 2288) (g : GivesLine old (prepend_known ahead left) held true) (counted : rec.count ≡ first.count + i) where
+  module _ (held : Option (List ℕ)) (none : s.sink.received.files ≡ []) (few : length ahead ≤ 2288) (g : GivesLine old (prepend_known ahead left) held true) (counted : rec.count ≡ first.count + i) where
     given_here : (text : List ℕ) (r : Recording) → IsThere text r → (new.count ≡ rec.count) ⊎ (WantsEntry p (read_as d.version held) s × (new.count ≡ rec.count + 1))
         → (new.count - first.count ≡ i) ⊎ ((new.count - first.count ≡ i + 1) × WantsNext p (slice_get (step_lines d.version text) k) (with_earlier taken s))
     given_here text r h (inl e) = inl (since first.count rec.count new.count i counted e)
@@ -247,13 +247,13 @@ module _ (p : Contents) (d : Head) (k i : ℕ) (taken : List FileBytes) (s : Sta
     line_breaks n stream.Device m given device = told_map known first.to_come IsThere (IsPlaceOf taken stream.Device) (λ text r h. inr (inr (device refl, here text r h given)))
     line_breaks n stream.OutOfMemory m given device = told_map known first.to_come IsThere (IsPlaceOf taken stream.OutOfMemory) (λ text r h. inr (inr (here text r h given)))
 
-    module _ (used : ℕ) (t : State) (front rest : List FileBytes) (next : FileBytes) (all : t.sink.shelf.files ≡ front ++ next ∷ rest) (passed : PassesOver p (read_as d.version held) s t rec.to_come new.to_come used) (count : new.count ≡ rec.count + used) where
+    module _ (used : ℕ) (t : State) (front rest : List FileBytes) (next : FileBytes) (all : t.sink.received.files ≡ front ++ next ∷ rest) (passed : PassesOver p (read_as d.version held) s t rec.to_come new.to_come used) (count : new.count ≡ rec.count + used) where
       file_here : (text : List ℕ) (r : Recording) → IsThere text r → IsAtFile p text r (reads known left failed first new) (taken ++ front)
       file_here text r h =
           let after = goes_on p text r d k i used taken s t held old (prepend_known ahead left) rec.to_come new.to_come h g passed in
-          let one = only_file front rest t.sink.shelf.files next (few_files p (read_as d.version held) s t rec.to_come (behind i r) new.to_come used h.rest none passed) all in
+          let one = only_file front rest t.sink.received.files next (few_files p (read_as d.version held) s t rec.to_come (behind i r) new.to_come used h.rest none passed) all in
           let put : taken ++ front ≡ taken = ap (λ (l : List FileBytes). taken ++ l) one.0 ∙ append-nil taken in
-          let gives : (taken ++ front) ++ next ∷ [] ≡ taken ++ t.sink.shelf.files = ap (λ (l : List FileBytes). l ++ next ∷ []) put ∙ sym (ap (λ (l : List FileBytes). taken ++ l) one.1) in
+          let gives : (taken ++ front) ++ next ∷ [] ≡ taken ++ t.sink.received.files = ap (λ (l : List FileBytes). l ++ next ∷ []) put ∙ sym (ap (λ (l : List FileBytes). taken ++ l) one.1) in
           let more : suc k ≡ k + 1 = omega arith in
           let there : Delivers p text r (suc k) (i + used) (with_earlier taken t) ((taken ++ front) ++ next ∷ []) = record { head = d; says = after.says; inside = after.inside; before = after.reached; gives = gives } in
           record {
@@ -277,23 +277,23 @@ module _ (p : Contents) (d : Head) (k i : ℕ) (taken : List FileBytes) (s : Sta
       file_breaks (stream.Read f) (inr e) device = absurd (cc e)
 
 -- why a walk stops at a line, and where it breaks off
-pub stop_breaks : {S : Type 0} (files : S → Option (List PutFile)) (broken : S → Bool) (listener failed : Bool) (p : Contents) (walk : Walk) (d : Head) (k : ℕ) (taken : List FileBytes) (held known old left text : Option (List ℕ)) (ahead : List ℕ) (first rec new : EntriesLeft) (start before after : S) (f : StreamFault)
-    → walk.profile.now ≡ p → walk.version ≡ d.version → walk.files.items ≡ sizes taken → walk.link.state.sink.shelf.files ≡ [] → text ≡ held → length ahead ≤ 2288 → GivesLine old (prepend_known ahead left) held true
-    → rec.count ≡ first.count + walk.used → GainsAll (files start) (files before) 1 taken
-    → WhereTold known first.to_come (λ text r. Stands p text r d k walk.used taken walk.link.state old rec.to_come) → StopsAt files broken listener walk text rec new before after f
+pub stop_breaks : {S : Type 0} (files : S → Option (List PutFile)) (broken : S → Bool) (listener failed : Bool) (p : Contents) (replay : Replay) (d : Head) (k : ℕ) (taken : List FileBytes) (held known old left text : Option (List ℕ)) (ahead : List ℕ) (first rec new : EntriesLeft) (start before after : S) (f : StreamFault)
+    → replay.profile.now ≡ p → replay.version ≡ d.version → replay.files.items ≡ sizes taken → replay.link.state.sink.received.files ≡ [] → text ≡ held → length ahead ≤ 2288 → GivesLine old (prepend_known ahead left) held true
+    → rec.count ≡ first.count + replay.used → GainsAll (files start) (files before) 1 taken
+    → WhereTold known first.to_come (λ text r. Stands p text r d k replay.used taken replay.link.state old rec.to_come) → StopsAt files broken listener replay text rec new before after f
     → BreaksOff p (reads known left failed first new) (shelved files broken start after) listener f
-stop_breaks files broken listener failed p walk d k taken held known old left text ahead first rec new start before after f bench version noted none same few g counted put told (inl h) =
+stop_breaks files broken listener failed p replay d k taken held known old left text ahead first rec new start before after f bench version noted none same few g counted put told (inl h) =
     record {
       files = taken;
-      place = line_breaks p d k walk.used taken walk.link.state known old left failed (broken after) listener ahead first rec new held none few g counted walk.lines f
-          (refused_here p walk d held text rec.to_come f bench version same h.ends)
+      place = line_breaks p d k replay.used taken replay.link.state known old left failed (broken after) listener ahead first rec new held none few g counted replay.lines f
+          (refused_here p replay d held text rec.to_come f bench version same h.ends)
           (rw (← bench, ← version, ← same) h.given) h.device told;
       put = rw h.put put;
     }
-stop_breaks files broken listener failed p walk d k taken held known old left text ahead first rec new start before after f bench version noted none same few g counted put told (inr h) =
+stop_breaks files broken listener failed p replay d k taken held known old left text ahead first rec new start before after f bench version noted none same few g counted put told (inr h) =
     record {
       files = taken ++ h.put.front;
-      place = file_breaks p d k walk.used taken walk.link.state known old left failed (broken after) listener ahead first rec new held none few g counted h.used h.state h.put.front h.put.more h.put.next h.put.first
+      place = file_breaks p d k replay.used taken replay.link.state known old left failed (broken after) listener ahead first rec new held none few g counted h.used h.state h.put.front h.put.more h.put.next h.put.first
           (rw (← bench, ← version, ← same) h.passed) h.given f h.fault h.device told;
-      put = put_on (files start) (files before) (files after) [] walk.files.items taken h.put.front put noted h.put.gained;
+      put = put_on (files start) (files before) (files after) [] replay.files.items taken h.put.front put noted h.put.gained;
     }

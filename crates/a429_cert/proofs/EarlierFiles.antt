@@ -71,5 +71,5 @@ fault_earlier p files s next n i line of.OutOfMemory h = (h.0, h.1, h.2, step_fa
 -- ---- files
 
 -- the files that were handed out are those of the lines before
-pub given_out : (files : List FileBytes) (s : State) → s.sink.shelf.files ≡ [] → files ≡ (with_earlier files s).sink.shelf.files
+pub given_out : (files : List FileBytes) (s : State) → s.sink.received.files ≡ [] → files ≡ (with_earlier files s).sink.received.files
 given_out files s none = sym (ap (λ (l : List FileBytes). files ++ l) none ∙ append-nil files)

@@ -30,10 +30,10 @@ use Rattle.a429_cert.specs.Passing.{uses, MakesStep, PassesText}
 
 -- ---- lists
 
-pub take_next : {X : Type 0} (k : ℕ) (w : X) (ys : List X) → slice_get ys k ≡ Some w → take (suc k) ys ≡ take k ys ++ w ∷ []
-take_next k w [] e = absurd (cc e)
-take_next zero w (y ∷ ys) e = let same : y ≡ w = cc in ap (λ v. v ∷ []) same
-take_next (suc k) w (y ∷ ys) e = ap (λ (l : List _). y ∷ l) (take_next k w ys e)
+pub step_and_report : {X : Type 0} (k : ℕ) (w : X) (ys : List X) → slice_get ys k ≡ Some w → take (suc k) ys ≡ take k ys ++ w ∷ []
+step_and_report k w [] e = absurd (cc e)
+step_and_report zero w (y ∷ ys) e = let same : y ≡ w = cc in ap (λ v. v ∷ []) same
+step_and_report (suc k) w (y ∷ ys) e = ap (λ (l : List _). y ∷ l) (step_and_report k w ys e)
 
 -- the first of what is left
 pub drop_get : {X : Type 0} (xs : List X) (k : ℕ) → slice_get (drop k xs) 0 ≡ slice_get xs k
@@ -77,11 +77,11 @@ lists_run p (Some l ∷ lines) (b ∷ steps) s h = (h.0.can, lists_run p lines s
 -- the entries that a step records are those that its letter uses
 act_used : (x : Act) (a : Step) (items : List Seen) (i : ℕ) (next : Option Seen) → slice_get items i ≡ next → step_with x next ≡ Some a → take (i + uses_of x) items ≡ take i items ++ trace (a ∷ [])
 act_used act.Sent a items i None g e = absurd (cc e)
-act_used act.Sent a items i (Some w) g e = subst (λ b. take (i + 1) items ≡ take i items ++ trace (b ∷ [])) (some_is _ a e) (let n : i + 1 ≡ suc i = omega arith in rw n (take_next i w items g))
+act_used act.Sent a items i (Some w) g e = subst (λ b. take (i + 1) items ≡ take i items ++ trace (b ∷ [])) (some_is _ a e) (let n : i + 1 ≡ suc i = omega arith in rw n (step_and_report i w items g))
 act_used act.Answered a items i None g e = absurd (cc e)
-act_used act.Answered a items i (Some w) g e = subst (λ b. take (i + 1) items ≡ take i items ++ trace (b ∷ [])) (some_is _ a e) (let n : i + 1 ≡ suc i = omega arith in rw n (take_next i w items g))
+act_used act.Answered a items i (Some w) g e = subst (λ b. take (i + 1) items ≡ take i items ++ trace (b ∷ [])) (some_is _ a e) (let n : i + 1 ≡ suc i = omega arith in rw n (step_and_report i w items g))
 act_used act.FreeSeen a items i None g e = absurd (cc e)
-act_used act.FreeSeen a items i (Some w) g e = subst (λ b. take (i + 1) items ≡ take i items ++ trace (b ∷ [])) (some_is _ a e) (let n : i + 1 ≡ suc i = omega arith in rw n (take_next i w items g))
+act_used act.FreeSeen a items i (Some w) g e = subst (λ b. take (i + 1) items ≡ take i items ++ trace (b ∷ [])) (some_is _ a e) (let n : i + 1 ≡ suc i = omega arith in rw n (step_and_report i w items g))
 act_used act.SentLost a items i next g e = subst (λ b. take (i + 0) items ≡ take i items ++ trace (b ∷ [])) (some_is _ a e) (let n : i + 0 ≡ i = omega arith in rw n (sym (append-nil (take i items))))
 act_used act.TimeOut a items i next g e = subst (λ b. take (i + 0) items ≡ take i items ++ trace (b ∷ [])) (some_is _ a e) (let n : i + 0 ≡ i = omega arith in rw n (sym (append-nil (take i items))))
 act_used act.TakeAnswer a items i next g e = subst (λ b. take (i + 0) items ≡ take i items ++ trace (b ∷ [])) (some_is _ a e) (let n : i + 0 ≡ i = omega arith in rw n (sym (append-nil (take i items))))
@@ -139,7 +139,7 @@ passed p first lines items k i text l s t g is inside h (Some a) e m q =
     record {
       reached = record {
         steps = h.steps ++ a ∷ [];
-        lists = rw (take_next k (Some text) lines g) (lists_push p (take k lines) h.steps (start p first) text a h.lists here);
+        lists = rw (step_and_report k (Some text) lines g) (lists_push p (take k lines) h.steps (start p first) text a h.lists here);
         used = trace_push h.steps a ∙ ap (λ (l : List Seen). l ++ trace (a ∷ [])) h.used ∙ sym (line_used l a items i e);
         ends = same ∙ sym (end_push p h.steps a (start p first));
       };
@@ -179,13 +179,13 @@ explains_all p certificate items d k i s w g all h =
 
 pub explained : (p : Contents) (certificate : List ℕ) (items : List Seen) (d : Head) (k i : ℕ) (s : State)
     → HasHead certificate d → slice_get (step_lines d.version certificate) k ≡ None → length items ≤ i
-    → Reaches p d.first (take k (step_lines d.version certificate)) (take i items) s → IsExplained p certificate items s.sink.shelf.files
+    → Reaches p d.first (take k (step_lines d.version certificate)) (take i items) s → IsExplained p certificate items s.sink.received.files
 explained p certificate items d k i s w g all h =
     record {
       first = d.first;
       steps = h.steps;
       explains = explains_all p certificate items d k i s w g all h;
-      delivers = ap (λ (t : State). t.sink.shelf.files) h.ends;
+      delivers = ap (λ (t : State). t.sink.received.files) h.ends;
     }
 
 -- what explains is a run

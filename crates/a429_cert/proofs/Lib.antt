@@ -21,7 +21,7 @@ pub mod VersionFacts
 pub mod StreamFacts
 pub mod StreamHeadFacts
 pub mod StreamStands
-pub mod StreamWalk
+pub mod StreamReplay
 pub mod StreamRefused
 pub mod ToldFacts
 pub mod ToldRefused

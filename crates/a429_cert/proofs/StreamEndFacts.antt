@@ -1,4 +1,4 @@
--- A walk behind the last line of a certificate, where an entry is left or the recording has a fault.
+-- A replay after the last line of a certificate, where an entry is left or the recording has a fault.
 use Rattle.std.proofs.Common.{◌≡◌, inl, inr, ℕ, List, [], false, Option, sym, subst}
 use Rattle.a429_profile.specs.Profile.{Contents}
 use Rattle.a429_link.specs.declared.file.FileBytes.{FileBytes}
@@ -18,14 +18,14 @@ use Rattle.a429_cert.proofs.ToldFacts.{Hears}
 use Rattle.a429_cert.proofs.ToldRefused.{heard_unfinished, heard_stopped}
 
 module _ (p : Contents) (d : Head) (k i : ℕ) (taken : List FileBytes) (s : State) (held known left more : Option (List ℕ)) (start rec new : Option Recording) (f : StreamFault) where
-  pub told_late : s.sink.shelf.files ≡ [] → GivesLine left more held false → EndsLate i rec new f
+  pub told_late : s.sink.received.files ≡ [] → GivesLine left more held false → EndsLate i rec new f
       → WhereTold known start (λ text r. Stands p text r d k i taken s left rec) → WhereTold known start (IsStreamFault p f taken)
   told_late none g (inl e) h =
       subst (λ (o : StreamFault). WhereTold known start (IsStreamFault p o taken)) (sym e.2) (told_unfinished p d k i taken s held known left more e.0 start rec new none g e.1 h)
   told_late none g (inr e) h =
       subst (λ (o : StreamFault). WhereTold known start (IsStreamFault p o taken)) (sym e.2) (told_stopped p d k i taken s held known left more start rec new e.0 none g e.1 h)
 
-  pub heard_late : {T : Type 0} (hears : Hearing T) (old now : T) → s.sink.shelf.files ≡ [] → GivesLine left more held false → EndsLate i rec new f
+  pub heard_late : {T : Type 0} (hears : Hearing T) (old now : T) → s.sink.received.files ≡ [] → GivesLine left more held false → EndsLate i rec new f
       → WhereTold known start (λ text r. Stands p text r d k i taken s left rec)
       → WhereTold known start (λ text r. Hears hears p d.first (step_lines d.version text) r k i (with_earlier taken s) old now) → HearsBefore hears p known start old now f
   heard_late hears old now none g (inl e) h b =

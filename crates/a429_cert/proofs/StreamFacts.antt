@@ -19,7 +19,7 @@ use Rattle.a429_cert.specs.Explained.{seen_of, step_of}
 use Rattle.a429_record.specs.declared.entry.Entry.{Entry}
 use Rattle.a429_record.specs.declared.fault.ReadFault.{ReadFault}
 use Rattle.a429_record.specs.declared.fault.ReadFault.TheVariants as read
-use Rattle.a429_cert.specs.declared.stream.Walk.{Walk}
+use Rattle.a429_cert.specs.declared.stream.Replay.{Replay}
 use Rattle.a429_cert.specs.Fault.{CanBe, IsNamed}
 use Rattle.a429_cert.specs.Passing.{uses, uses_listed, IsStepOfLine, MakesStep, PassesListed, IsFaultOfRead, RefusesListed, RefusesFirst, Lists, IsReady, IsReadyOf, IsNamedOf}
 use Rattle.a429_cert.specs.declared.stream_fault.StreamFault.{StreamFault}
@@ -277,11 +277,11 @@ cert_given Wants (of.WordDiffers m j) old new h = h
 cert_given Wants (of.Unfinished j) old new h = h
 cert_given Wants of.OutOfMemory old new h = h
 
-pub not_taken_given : (walk : Walk) (x : Listed) (next : Option Seen) (Wants : Type 0) (f : StreamFault) (old new : ℕ) → IsNotTaken walk x next f → (new ≡ old) ⊎ (Wants × (new ≡ old + 1)) → GivesAtFault Wants f old new
-not_taken_given walk x next Wants (stream.Cert f) old new m h = h
-not_taken_given walk x next Wants (stream.Read f) old new m h = absurd m
-not_taken_given walk x next Wants stream.Device old new m h = h
-not_taken_given walk x next Wants stream.OutOfMemory old new m h = h
+pub not_taken_given : (replay : Replay) (x : Listed) (next : Option Seen) (Wants : Type 0) (f : StreamFault) (old new : ℕ) → IsNotTaken replay x next f → (new ≡ old) ⊎ (Wants × (new ≡ old + 1)) → GivesAtFault Wants f old new
+not_taken_given replay x next Wants (stream.Cert f) old new m h = h
+not_taken_given replay x next Wants (stream.Read f) old new m h = absurd m
+not_taken_given replay x next Wants stream.Device old new m h = h
+not_taken_given replay x next Wants stream.OutOfMemory old new m h = h
 
 most_more : (A B : Type 0) (old new : ℕ) → (A → B) → (new ≡ old) ⊎ (A × (new ≡ old + 1)) → (new ≡ old) ⊎ (B × (new ≡ old + 1))
 most_more A B old new f (inl e) = inl e

@@ -1,4 +1,4 @@
--- What is told where a walk along a certificate's lines stops at one of them.
+-- What is told where a replay along a certificate's lines stops at one of them.
 use Rattle.std.proofs.Common.{◌≡◌, ◌⊎◌, ◌+◌, ◌++◌, inl, inr, ℕ, List, [], Bool, true, Option, ap, subst, sym}
 use Rattle.a429_profile.specs.Profile.{Contents}
 use Rattle.a429_link.specs.declared.file.FileBytes.{FileBytes}
@@ -7,11 +7,11 @@ use Rattle.a429_record.specs.Recording.{Recording}
 use Rattle.a429_record.specs.Entries.{EntriesLeft}
 use Rattle.a429_cert.specs.declared.explained.Head.{Head}
 use Rattle.a429_cert.specs.declared.shelf.PutFile.{PutFile}
-use Rattle.a429_cert.specs.declared.stream.Walk.{Walk}
+use Rattle.a429_cert.specs.declared.stream.Replay.{Replay}
 use Rattle.a429_cert.specs.declared.stream_fault.StreamFault.{StreamFault}
 use Rattle.a429_cert.specs.CutLines.{GivesLine}
 use Rattle.a429_cert.specs.Version.{read_as, step_lines}
-use Rattle.a429_cert.specs.Stream.{EndsWalk, GainsAll, IsUntold, PassesOver, RefusesOver, StopsAt, sizes}
+use Rattle.a429_cert.specs.Stream.{EndsReplay, GainsAll, IsUntold, PassesOver, RefusesOver, StopsAt, sizes}
 use Rattle.a429_cert.specs.StreamExplained.{HearsBefore, IsStreamFault, Refuses, WhereTold}
 use Rattle.a429_cert.specs.Told.{Hearing}
 use Rattle.a429_cert.proofs.StreamFacts.{put_on}
@@ -21,36 +21,36 @@ use Rattle.a429_cert.proofs.ToldFacts.{Hears}
 use Rattle.a429_cert.proofs.ToldRefused.{heard_refused, heard_nothing}
 
 -- why the line is refused, said of the line that the reader holds, under the profile and the version that were read
-pub refused_here : (p : Contents) (walk : Walk) (d : Head) (held text : Option (List ℕ)) (rec : Option Recording) (f : StreamFault) → walk.profile.now ≡ p → walk.version ≡ d.version → text ≡ held
-    → EndsWalk walk text rec f → RefusesOver p (read_as d.version held) walk.link.state rec walk.lines walk.used f
-refused_here p walk d held text rec f bench version same h = rw (← bench, ← version, ← same) h
+pub refused_here : (p : Contents) (replay : Replay) (d : Head) (held text : Option (List ℕ)) (rec : Option Recording) (f : StreamFault) → replay.profile.now ≡ p → replay.version ≡ d.version → text ≡ held
+    → EndsReplay replay text rec f → RefusesOver p (read_as d.version held) replay.link.state rec replay.lines replay.used f
+refused_here p replay d held text rec f bench version same h = rw (← bench, ← version, ← same) h
 
 -- the fault comes first, and the files of the lines before it are put
-pub line_stops : {S : Type 0} (shelved : S → Option (List PutFile)) (failed : S → Bool) (listener : Bool) (p : Contents) (walk : Walk) (d : Head) (k : ℕ) (taken : List FileBytes) (held known left more : Option (List ℕ)) (start_rec : Option Recording) (rec new_rec : EntriesLeft) (text : Option (List ℕ)) (first before after : S) (f : StreamFault)
-    → walk.profile.now ≡ p → walk.version ≡ d.version → walk.files.items ≡ sizes taken → walk.lines ≡ k + 3 → walk.link.state.sink.shelf.files ≡ [] → text ≡ held → GivesLine left more held true
+pub line_stops : {S : Type 0} (shelved : S → Option (List PutFile)) (failed : S → Bool) (listener : Bool) (p : Contents) (replay : Replay) (d : Head) (k : ℕ) (taken : List FileBytes) (held known left more : Option (List ℕ)) (start_rec : Option Recording) (rec new_rec : EntriesLeft) (text : Option (List ℕ)) (first before after : S) (f : StreamFault)
+    → replay.profile.now ≡ p → replay.version ≡ d.version → replay.files.items ≡ sizes taken → replay.lines ≡ k + 3 → replay.link.state.sink.received.files ≡ [] → text ≡ held → GivesLine left more held true
     → GainsAll (shelved first) (shelved before) 1 taken
-    → WhereTold known start_rec (λ text r. Stands p text r d k walk.used taken walk.link.state left rec.to_come) → StopsAt shelved failed listener walk text rec new_rec before after f
+    → WhereTold known start_rec (λ text r. Stands p text r d k replay.used taken replay.link.state left rec.to_come) → StopsAt shelved failed listener replay text rec new_rec before after f
     → Refuses p known start_rec (shelved first) (shelved after) f
-line_stops shelved failed listener p walk d k taken held known left more start_rec rec new_rec text first before after f bench version noted n none same given put told (inl h) =
+line_stops shelved failed listener p replay d k taken held known left more start_rec rec new_rec text first before after f bench version noted n none same given put told (inl h) =
     record {
       files = taken;
-      fault = told_refused p d k walk.used walk.lines taken walk.link.state held known left more start_rec rec.to_come f n none given (refused_here p walk d held text rec.to_come f bench version same h.ends) told;
+      fault = told_refused p d k replay.used replay.lines taken replay.link.state held known left more start_rec rec.to_come f n none given (refused_here p replay d held text rec.to_come f bench version same h.ends) told;
       put = rw h.put put;
     }
-line_stops shelved failed listener p walk d k taken held known left more start_rec rec new_rec text first before after f bench version noted n none same given put told (inr h) =
+line_stops shelved failed listener p replay d k taken held known left more start_rec rec new_rec text first before after f bench version noted n none same given put told (inr h) =
     record {
       files = taken ++ h.put.front;
-      fault = told_not_put p d k walk.used h.used taken h.put.front h.put.more h.put.next walk.link.state h.state (read_as walk.version text) known left start_rec rec.to_come new_rec.to_come f h.fault none h.put.first
-          (subst (λ q. PassesOver q (read_as walk.version text) walk.link.state h.state rec.to_come new_rec.to_come h.used) bench h.passed) told;
-      put = put_on (shelved first) (shelved before) (shelved after) [] walk.files.items taken h.put.front put noted h.put.gained;
+      fault = told_not_put p d k replay.used h.used taken h.put.front h.put.more h.put.next replay.link.state h.state (read_as replay.version text) known left start_rec rec.to_come new_rec.to_come f h.fault none h.put.first
+          (subst (λ q. PassesOver q (read_as replay.version text) replay.link.state h.state rec.to_come new_rec.to_come h.used) bench h.passed) told;
+      put = put_on (shelved first) (shelved before) (shelved after) [] replay.files.items taken h.put.front put noted h.put.gained;
     }
 
 -- a listener has heard the lines before the fault, and nothing else
-pub line_untold : {S T : Type 0} (hears : Hearing T) (shelved : S → Option (List PutFile)) (failed : S → Bool) (listener : Bool) (p : Contents) (walk : Walk) (d : Head) (k : ℕ) (taken : List FileBytes) (held known left more : Option (List ℕ)) (start_rec : Option Recording) (rec new_rec : EntriesLeft) (text : Option (List ℕ)) (before after : S) (f : StreamFault) (old now new : T)
-    → walk.profile.now ≡ p → walk.version ≡ d.version → walk.lines ≡ k + 3 → walk.link.state.sink.shelf.files ≡ [] → text ≡ held → GivesLine left more held true
-    → WhereTold known start_rec (λ text r. Stands p text r d k walk.used taken walk.link.state left rec.to_come)
-    → WhereTold known start_rec (λ text r. Hears hears p d.first (step_lines d.version text) r k walk.used (with_earlier taken walk.link.state) old now)
-    → IsUntold now new f → StopsAt shelved failed listener walk text rec new_rec before after f → HearsBefore hears p known start_rec old new f
-line_untold hears shelved failed listener p walk d k taken held known left more start_rec rec new_rec text before after f old now new bench version n none same given told heard untold (inl h) =
-    heard_refused hears p d k walk.used taken walk.link.state left rec.to_come old now known start_rec held more walk.lines f new n none given (refused_here p walk d held text rec.to_come f bench version same h.ends) untold told heard
-line_untold hears shelved failed listener p walk d k taken held known left more start_rec rec new_rec text before after f old now new bench version n none same given told heard untold (inr h) = heard_nothing hears p known start_rec old new f h.fault
+pub line_untold : {S T : Type 0} (hears : Hearing T) (shelved : S → Option (List PutFile)) (failed : S → Bool) (listener : Bool) (p : Contents) (replay : Replay) (d : Head) (k : ℕ) (taken : List FileBytes) (held known left more : Option (List ℕ)) (start_rec : Option Recording) (rec new_rec : EntriesLeft) (text : Option (List ℕ)) (before after : S) (f : StreamFault) (old now new : T)
+    → replay.profile.now ≡ p → replay.version ≡ d.version → replay.lines ≡ k + 3 → replay.link.state.sink.received.files ≡ [] → text ≡ held → GivesLine left more held true
+    → WhereTold known start_rec (λ text r. Stands p text r d k replay.used taken replay.link.state left rec.to_come)
+    → WhereTold known start_rec (λ text r. Hears hears p d.first (step_lines d.version text) r k replay.used (with_earlier taken replay.link.state) old now)
+    → IsUntold now new f → StopsAt shelved failed listener replay text rec new_rec before after f → HearsBefore hears p known start_rec old new f
+line_untold hears shelved failed listener p replay d k taken held known left more start_rec rec new_rec text before after f old now new bench version n none same given told heard untold (inl h) =
+    heard_refused hears p d k replay.used taken replay.link.state left rec.to_come old now known start_rec held more replay.lines f new n none given (refused_here p replay d held text rec.to_come f bench version same h.ends) untold told heard
+line_untold hears shelved failed listener p replay d k taken held known left more start_rec rec new_rec text before after f old now new bench version n none same given told heard untold (inr h) = heard_nothing hears p known start_rec old new f h.fault

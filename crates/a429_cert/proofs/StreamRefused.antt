@@ -1,4 +1,4 @@
--- Why a walk along a certificate's lines ends before the last of them, where both are told.
+-- Why a replay along a certificate's lines ends before the last of them, where both are told.
 use Rattle.std.proofs.Common.{◌≡◌, ◌≢◌, ◌⊎◌, ◌≤◌, ◌+◌, ◌∙◌, ◌++◌, ◌∷◌, arith, length, length-append, inl, inr, ℕ, suc, List, [], map, drop, true, false, Option, Some, None, slice_get, Ok, Err, refl, sym, ap, subst, append-nil}
 use Rattle.a429_profile.specs.Profile.{Contents}
 use Rattle.a429_link.specs.declared.file.FileBytes.{FileBytes}
@@ -33,7 +33,7 @@ use Rattle.a429_cert.specs.StreamExplained.{WhereTold, Delivers, EndsAt, WantsNe
 use Rattle.a429_cert.proofs.CutFacts.{says-uncut}
 use Rattle.a429_cert.proofs.ExplainedFacts.{none_read}
 use Rattle.a429_cert.proofs.StreamStands.{Stands, AreBehind, says_back, line_cut, next_at}
-use Rattle.a429_cert.proofs.StreamWalk.{told_map, none_next}
+use Rattle.a429_cert.proofs.StreamReplay.{told_map, none_next}
 
 -- ---- a fault of a line that may be cut
 
@@ -49,10 +49,10 @@ line_fault p s next n i line (of.WordDiffers m j) h = (h.0, says_back line h.0 h
 line_fault p s next n i line (of.Unfinished j) h = (h.0, says_back line h.0 h.1, h.2, h.3)
 line_fault p s next n i line of.OutOfMemory h = (h.0, says_back line h.0 h.1, h.2, h.3)
 
--- ---- a fault where a walk stands
+-- ---- a fault where a replay is
 
 pub delivers : (p : Contents) (d : Head) (k i : ℕ) (taken : List FileBytes) (s : State) (left : Option (List ℕ)) (rec : Option Recording) (text : List ℕ) (r : Recording)
-    → s.sink.shelf.files ≡ [] → Stands p text r d k i taken s left rec → Delivers p text r k i (with_earlier taken s) taken
+    → s.sink.received.files ≡ [] → Stands p text r d k i taken s left rec → Delivers p text r k i (with_earlier taken s) taken
 delivers p d k i taken s left rec text r none h = record { head = d; says = h.says; inside = h.inside; before = h.reached; gives = given_out taken s none }
 
 later : (p : Contents) (d : Head) (k i : ℕ) (taken : List FileBytes) (s : State) (left : Option (List ℕ)) (rec : Option Recording) (text : List ℕ) (r : Recording) (f : CertFault)
@@ -71,7 +71,7 @@ is_first p text items (of.Unfinished j) a b v h = (v, inr h)
 is_first p text items of.OutOfMemory a b v h = absurd (b refl)
 
 cert_fault : (p : Contents) (d : Head) (k i : ℕ) (taken : List FileBytes) (s : State) (left : Option (List ℕ)) (rec : Option Recording) (text : List ℕ) (r : Recording) (f : CertFault)
-    → f ≢ of.Version → f ≢ of.OutOfMemory → s.sink.shelf.files ≡ [] → EndsAt r f → Stands p text r d k i taken s left rec
+    → f ≢ of.Version → f ≢ of.OutOfMemory → s.sink.received.files ≡ [] → EndsAt r f → Stands p text r d k i taken s left rec
     → IsFaultAt p (with_earlier taken s) (slice_get (items_of r.entries) i) (k + 3) i (slice_get (step_lines d.version text) k) f
     → IsStreamFault p (stream.Cert f) taken text r
 unfolding later
@@ -119,14 +119,14 @@ fault_here p d k i taken s held left more rec f text r g m h =
     subst (λ o. IsFaultAt p (with_earlier taken s) (slice_get (items_of r.entries) i) (k + 3) i o f) (sym raw.1) here
 
 line_refused : (p : Contents) (d : Head) (k i : ℕ) (taken : List FileBytes) (s : State) (held left more : Option (List ℕ)) (rec : Option Recording) (f : CertFault) (text : List ℕ) (r : Recording)
-    → s.sink.shelf.files ≡ [] → GivesLine left more held true → IsFaultOfLine p s (next_of (behind i r)) (k + 3) i (read_as d.version held) f → HasEnd (behind i r) f → Stands p text r d k i taken s left rec
+    → s.sink.received.files ≡ [] → GivesLine left more held true → IsFaultOfLine p s (next_of (behind i r)) (k + 3) i (read_as d.version held) f → HasEnd (behind i r) f → Stands p text r d k i taken s left rec
     → IsStreamFault p (stream.Cert f) taken text r
 line_refused p d k i taken s held left more rec f text r none g m e h =
     let read = read_as d.version held in
     cert_fault p d k i taken s left rec text r f (no_version p s (next_of (behind i r)) (k + 3) i read f m) (no_memory p s (next_of (behind i r)) (k + 3) i read f m) none (ends_at p s r (k + 3) i read f m e) h
     (fault_here p d k i taken s held left more rec f text r g m h)
 
--- ---- a fault of the recording where a walk stands
+-- ---- a fault of the recording where a replay is
 
 wants_uncut : (p : Contents) (files : List FileBytes) (s : State) (line : Option (List ℕ)) → WantsEntry p (cut line) s → WantsEntry p line (with_earlier files s)
 wants_uncut p files s line h = (h.0, says_back line h.0 h.1, h.2, named_earlier p h.0 files s h.3)
@@ -143,7 +143,7 @@ pub wants_end : (p : Contents) (v : Version) (k : ℕ) (taken : List FileBytes) 
 wants_end p v k taken s held left more lines g h = subst (λ o. WantsNext p o (with_earlier taken s)) (sym (none_read v lines k (none_next lines k left more held h g))) tt
 
 read_fault : (p : Contents) (d : Head) (k i : ℕ) (taken : List FileBytes) (s : State) (left : Option (List ℕ)) (rec : Option Recording) (f : ReadFault) (text : List ℕ) (r : Recording)
-    → s.sink.shelf.files ≡ [] → WantsNext p (slice_get (step_lines d.version text) k) (with_earlier taken s) → Stops f (behind i r) → f ≢ read.OutOfMemory
+    → s.sink.received.files ≡ [] → WantsNext p (slice_get (step_lines d.version text) k) (with_earlier taken s) → Stops f (behind i r) → f ≢ read.OutOfMemory
     → Stands p text r d k i taken s left rec → IsWantedReadFault p text r f taken
 unfolding delivers
 read_fault p d k i taken s left rec f text r none wants stops told h =
@@ -160,16 +160,16 @@ read_fault p d k i taken s left rec f text r none wants stops told h =
 -- ---- files of some lines
 
 of_lines : (p : Contents) (d : Head) (k i : ℕ) (taken : List FileBytes) (s : State) (left : Option (List ℕ)) (rec : Option Recording) (text : List ℕ) (r : Recording)
-    → s.sink.shelf.files ≡ [] → Stands p text r d k i taken s left rec → AreOfLines p text r taken
+    → s.sink.received.files ≡ [] → Stands p text r d k i taken s left rec → AreOfLines p text r taken
 of_lines p d k i taken s left rec text r none h =
     record { k = k; i = i; state = with_earlier taken s; before = delivers p d k i taken s left rec text r none h }
 
 -- a line delivers at most one file: where one is not put, none is
-pub one_of : (p : Contents) (o : Option Step) (s t : State) → s.sink.shelf.files ≡ [] → MakesStep p o s t → length t.sink.shelf.files ≤ 1
+pub one_of : (p : Contents) (o : Option Step) (s t : State) → s.sink.received.files ≡ [] → MakesStep p o s t → length t.sink.received.files ≤ 1
 one_of p None s t none m = absurd m
 one_of p (Some a) s t none m =
-    let old : length s.sink.shelf.files ≡ 0 = ap (λ (l : List FileBytes). length l) none in
-    let new : length t.sink.shelf.files ≡ length (after p a s).sink.shelf.files = ap (λ (q : State). length q.sink.shelf.files) m.1 in
+    let old : length s.sink.received.files ≡ 0 = ap (λ (l : List FileBytes). length l) none in
+    let new : length t.sink.received.files ≡ length (after p a s).sink.received.files = ap (λ (q : State). length q.sink.received.files) m.1 in
     let one = delivers_one p a s in
     omega (arith, old, new, one)
 
@@ -181,10 +181,10 @@ no_front (x ∷ front) more f files few e =
     absurd (omega (arith, all, behind))
 
 none_of_line : (p : Contents) (text : Option (List ℕ)) (s t : State) (rec : Option Recording) (r : Recording) (new : Option Recording) (used : ℕ) (front more : List FileBytes) (f : FileBytes)
-    → rec ≡ Some r → s.sink.shelf.files ≡ [] → PassesOver p text s t rec new used → t.sink.shelf.files ≡ front ++ f ∷ more → front ≡ []
+    → rec ≡ Some r → s.sink.received.files ≡ [] → PassesOver p text s t rec new used → t.sink.received.files ≡ front ++ f ∷ more → front ≡ []
 none_of_line p text s t rec r new used front more f e none m first =
     let passes = subst (λ o. PassesOver p text s t o new used) e m in
-    no_front front more f t.sink.shelf.files (one_of p (step_of passes.0.0 (next_of r)) s t none passes.0.2.0) first
+    no_front front more f t.sink.received.files (one_of p (step_of passes.0.0 (next_of r)) s t none passes.0.2.0) first
 
 -- a fault of a device or for want of memory, where these files are put
 no_more : (p : Contents) (files : List FileBytes) (text : List ℕ) (r : Recording) (f : StreamFault) → (f ≡ stream.Device) ⊎ (f ≡ stream.OutOfMemory) → AreOfLines p text r files → IsStreamFault p f files text r
@@ -218,10 +218,10 @@ told_head p (Some text) old (Some r) f e h = by f (subst (λ o. RefusesHead IsFa
     by stream.Device h = inl refl
     by stream.OutOfMemory h = inl refl
 
--- ---- what a walk answers, where both are told
+-- ---- what a replay answers, where both are known
 
 refused : (p : Contents) (d : Head) (k i : ℕ) (taken : List FileBytes) (s : State) (held left more : Option (List ℕ)) (f : StreamFault) (text : List ℕ) (r : Recording)
-    → s.sink.shelf.files ≡ [] → GivesLine left more held true → RefusesOver p (read_as d.version held) s (Some (behind i r)) (k + 3) i f → Stands p text r d k i taken s left (Some (behind i r))
+    → s.sink.received.files ≡ [] → GivesLine left more held true → RefusesOver p (read_as d.version held) s (Some (behind i r)) (k + 3) i f → Stands p text r d k i taken s left (Some (behind i r))
     → IsStreamFault p f taken text r
 refused p d k i taken s held left more (stream.Cert f) text r none g m h = line_refused p d k i taken s held left more (Some (behind i r)) f text r none g m.0 m.1 h
 refused p d k i taken s held left more (stream.Read f) text r none g m h =
@@ -230,7 +230,7 @@ refused p d k i taken s held left more stream.Device text r none g m h = inr (of
 refused p d k i taken s held left more stream.OutOfMemory text r none g m h = inr (of_lines p d k i taken s left (Some (behind i r)) text r none h)
 
 pub told_refused : (p : Contents) (d : Head) (k i n : ℕ) (taken : List FileBytes) (s : State) (held known left more : Option (List ℕ)) (start_rec rec : Option Recording) (f : StreamFault)
-    → n ≡ k + 3 → s.sink.shelf.files ≡ [] → GivesLine left more held true → RefusesOver p (read_as d.version held) s rec n i f
+    → n ≡ k + 3 → s.sink.received.files ≡ [] → GivesLine left more held true → RefusesOver p (read_as d.version held) s rec n i f
     → WhereTold known start_rec (λ text r. Stands p text r d k i taken s left rec) → WhereTold known start_rec (IsStreamFault p f taken)
 told_refused p d k i n taken s held known left more start_rec rec f e none g m =
     told_map known start_rec (λ text r. Stands p text r d k i taken s left rec) (IsStreamFault p f taken)
@@ -240,7 +240,7 @@ told_refused p d k i n taken s held known left more start_rec rec f e none g m =
 
 -- the file of the line that was passed is not put
 pub told_not_put : (p : Contents) (d : Head) (k i used : ℕ) (taken front rest : List FileBytes) (next : FileBytes) (s t : State) (line known left : Option (List ℕ)) (start_rec rec new : Option Recording) (f : StreamFault)
-    → (f ≡ stream.Device) ⊎ (f ≡ stream.OutOfMemory) → s.sink.shelf.files ≡ [] → t.sink.shelf.files ≡ front ++ next ∷ rest → PassesOver p line s t rec new used
+    → (f ≡ stream.Device) ⊎ (f ≡ stream.OutOfMemory) → s.sink.received.files ≡ [] → t.sink.received.files ≡ front ++ next ∷ rest → PassesOver p line s t rec new used
     → WhereTold known start_rec (λ text r. Stands p text r d k i taken s left rec) → WhereTold known start_rec (IsStreamFault p f (taken ++ front))
 told_not_put p d k i used taken front rest next s t line known left start_rec rec new f e none first m =
     told_map known start_rec (λ text r. Stands p text r d k i taken s left rec) (IsStreamFault p f (taken ++ front))
@@ -257,13 +257,13 @@ left_here p d k i taken s held left more rec item new text r g e h =
     rw (next, none_read d.version (drop 2 (certificate_lines text)) k (none_next (drop 2 (certificate_lines text)) k left more held h.lines g)) refl
 
 unfinished : (p : Contents) (d : Head) (k i : ℕ) (taken : List FileBytes) (s : State) (held left more : Option (List ℕ)) (item : Entry) (new : Option Recording) (text : List ℕ) (r : Recording)
-    → s.sink.shelf.files ≡ [] → GivesLine left more held false → GivesNext (Some (behind i r)) new (Ok (Some item)) → Stands p text r d k i taken s left (Some (behind i r))
+    → s.sink.received.files ≡ [] → GivesLine left more held false → GivesNext (Some (behind i r)) new (Ok (Some item)) → Stands p text r d k i taken s left (Some (behind i r))
     → IsStreamFault p (stream.Cert (of.Unfinished i)) taken text r
 unfinished p d k i taken s held left more item new text r none g e h =
     cert_fault p d k i taken s left (Some (behind i r)) text r (of.Unfinished i) (λ z. cc) (λ z. cc) none tt h (left_here p d k i taken s held left more (Some (behind i r)) item new text r g e h)
 
 pub told_unfinished : (p : Contents) (d : Head) (k i : ℕ) (taken : List FileBytes) (s : State) (held known left more : Option (List ℕ)) (item : Entry) (start_rec rec new : Option Recording)
-    → s.sink.shelf.files ≡ [] → GivesLine left more held false → GivesNext rec new (Ok (Some item))
+    → s.sink.received.files ≡ [] → GivesLine left more held false → GivesNext rec new (Ok (Some item))
     → WhereTold known start_rec (λ text r. Stands p text r d k i taken s left rec) → WhereTold known start_rec (IsStreamFault p (stream.Cert (of.Unfinished i)) taken)
 told_unfinished p d k i taken s held known left more item start_rec rec new none g e =
     told_map known start_rec (λ text r. Stands p text r d k i taken s left rec) (IsStreamFault p (stream.Cert (of.Unfinished i)) taken)
@@ -280,7 +280,7 @@ known_stop p files text r read.OutOfMemory h g = inr h
 known_stop p files text r read.Failed h g = g (λ z. cc)
 
 pub told_stopped : (p : Contents) (d : Head) (k i : ℕ) (taken : List FileBytes) (s : State) (held known left more : Option (List ℕ)) (start_rec rec new : Option Recording) (f : ReadFault)
-    → s.sink.shelf.files ≡ [] → GivesLine left more held false → GivesNext rec new (Err f)
+    → s.sink.received.files ≡ [] → GivesLine left more held false → GivesNext rec new (Err f)
     → WhereTold known start_rec (λ text r. Stands p text r d k i taken s left rec) → WhereTold known start_rec (IsStreamFault p (of_read f) taken)
 told_stopped p d k i taken s held known left more start_rec rec new f none g e =
     told_map known start_rec (λ text r. Stands p text r d k i taken s left rec) (IsStreamFault p (of_read f) taken)
@@ -291,7 +291,7 @@ told_stopped p d k i taken s held known left more start_rec rec new f none g e =
 
 -- a device has failed before the next line
 pub told_device : (p : Contents) (d : Head) (k i : ℕ) (taken : List FileBytes) (s : State) (known left : Option (List ℕ)) (start_rec rec : Option Recording)
-    → s.sink.shelf.files ≡ [] → WhereTold known start_rec (λ text r. Stands p text r d k i taken s left rec) → WhereTold known start_rec (IsStreamFault p stream.Device taken)
+    → s.sink.received.files ≡ [] → WhereTold known start_rec (λ text r. Stands p text r d k i taken s left rec) → WhereTold known start_rec (IsStreamFault p stream.Device taken)
 told_device p d k i taken s known left start_rec rec none =
     told_map known start_rec (λ text r. Stands p text r d k i taken s left rec) (IsStreamFault p stream.Device taken)
     (λ text r h. inr (of_lines p d k i taken s left rec text r none h))

@@ -1,4 +1,4 @@
--- Where a walk along a certificate's lines stands, and what each line says of it.
+-- Where a replay along a certificate's lines stands, and what each line says of it.
 use Rattle.std.proofs.Common.{◌≡◌, ◌≤◌, ◌+◌, ◌∙◌, ◌++◌, ◌∷◌, ℕ, zero, suc, List, [], length, map, take, drop, Bool, true, false, ◌==◌, nat_le, if◌then◌else◌, Option, Some, None, option_map, option_and_then, slice_get, refl, sym, ap, subst, arith}
 use Rattle.std.proofs.lemmas.List.{drop-drop}
 use Rattle.a429_profile.specs.Profile.{Contents}
@@ -65,7 +65,7 @@ rest_behind r used i = ap (λ (l : List Entry). left l) (drop-drop used i r.entr
     left : List Entry → Recording
     left l = record { entries = l; fault = r.fault }
 
--- ---- where a walk stands
+-- ---- where a replay is
 
 -- k lines behind the first two were passed over the first i entries, and these files were handed out
 pub record Stands (p : Contents) (text : List ℕ) (r : Recording) (d : Head) (k i : ℕ) (taken : List FileBytes) (s : State) (left : Option (List ℕ)) (rec : Option Recording) : Type 0 where
@@ -128,7 +128,7 @@ goes_on p text r d k i used taken s t (Some said) left more rec new h g m =
 
 -- its files are handed out
 pub hands_out : (p : Contents) (text : List ℕ) (r : Recording) (d : Head) (k i : ℕ) (taken : List FileBytes) (s : State) (left : Option (List ℕ)) (rec : Option Recording)
-    → Stands p text r d k i taken s left rec → Stands p text r d k i (taken ++ s.sink.shelf.files) (handed_out s) left rec
+    → Stands p text r d k i taken s left rec → Stands p text r d k i (taken ++ s.sink.received.files) (handed_out s) left rec
 hands_out p text r d k i taken s left rec h =
     record {
       says = h.says;

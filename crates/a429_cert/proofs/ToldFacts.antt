@@ -1,4 +1,4 @@
--- What a listener has heard where a walk along a certificate's lines stands.
+-- What a listener has heard where a replay along a certificate's lines stands.
 use Rattle.std.proofs.Common.{◌≡◌, ◌≢◌, ◌≤◌, ◌+◌, ◌∙◌, ◌++◌, ◌∷◌, ℕ, suc, List, [], length, take, drop, true, false, Option, Some, None, slice_get, Result, Ok, Err, IfErr, IsErrOf, refl, sym, ap, subst, arith}
 use Rattle.std.specs.List.{FoldsTo}
 use Rattle.std.proofs.lemmas.List.{length-take-le}
@@ -36,7 +36,7 @@ use Rattle.a429_cert.specs.declared.fault.CertFault.{CertFault}
 use Rattle.a429_cert.specs.declared.fault.CertFault.TheVariants as of
 use Rattle.a429_cert.specs.declared.stream_fault.StreamFault.{StreamFault}
 use Rattle.a429_cert.specs.declared.stream_fault.StreamFault.TheVariants as stream
-use Rattle.a429_cert.specs.declared.stream.Walk.{Walk}
+use Rattle.a429_cert.specs.declared.stream.Replay.{Replay}
 use Rattle.a429_cert.specs.Stream.{behind, next_of, PassesOver, TakesNext, RefusesNext, EndsNext, IsNotTaken, of_cert}
 use Rattle.a429_cert.specs.StreamExplained.{WhereTold}
 use Rattle.a429_cert.specs.Told.{Told, Loads, Makes, with_number, told, told_steps, told_run, Hearing, IsHeard, told_listed, entry_used, IsNextEntry, HearsListed, HearsText}
@@ -46,7 +46,7 @@ use Rattle.a429_cert.proofs.StreamFacts.{refused_next}
 use Rattle.a429_cert.proofs.ExplainedFacts.{drop_get, none_past, none_read, passes_on, explains_all}
 use Rattle.a429_cert.proofs.StreamStands.{Stands, says_back, next_at, line_cut, text_back}
 use Rattle.a429_cert.proofs.EarlierFiles.{text_earlier}
-use Rattle.a429_cert.proofs.StreamWalk.{none_next}
+use Rattle.a429_cert.proofs.StreamReplay.{none_next}
 
 -- ---- what is told of steps
 
@@ -140,7 +140,7 @@ hears_line hears p first lines r k i used line s t old now new g inside h m q =
           (folds_on (hears p) old (told_run p r.entries first steps) now (told r.entries s i on.step) new h.heard (subst (λ (x : Told). hears p now x new) what q.4));
     }
 
--- ---- along a walk, where both are told
+-- ---- along a replay, where both are known
 
 pub told_both : (known : Option (List ℕ)) (rec : Option Recording) (A B C : List ℕ → Recording → Type 0) → ((text : List ℕ) (r : Recording) → A text r → B text r → C text r) → WhereTold known rec A → WhereTold known rec B → WhereTold known rec C
 told_both None rec A B C f a b = tt
@@ -162,7 +162,7 @@ hears_init hears p d s old known rec z =
 hears_more : {T : Type 0} (hears : Hearing T) (p : Contents) (d : Head) (k i used : ℕ) (taken : List FileBytes) (s t : State) (held left more : Option (List ℕ)) (rec new_rec : Option Recording) (old now new : T) (text : List ℕ) (r : Recording)
     → GivesLine left more held true → PassesOver p (read_as d.version held) s t rec new_rec used → HearsText hears p (read_as d.version held) s rec i now new
     → Stands p text r d k i taken s left rec → Hears hears p d.first (step_lines d.version text) r k i (with_earlier taken s) old now
-    → Hears hears p d.first (step_lines d.version text) r (suc k) (i + used) (with_earlier (taken ++ t.sink.shelf.files) (handed_out t)) old new
+    → Hears hears p d.first (step_lines d.version text) r (suc k) (i + used) (with_earlier (taken ++ t.sink.received.files) (handed_out t)) old new
 hears_more hears p d k i used taken s t held left more rec new_rec old now new text r g m q h b =
     let lines = drop 2 (certificate_lines text) in
     let items = items_of r.entries in
@@ -180,10 +180,10 @@ pub hears_on : {T : Type 0} (hears : Hearing T) (p : Contents) (d : Head) (k i u
     → GivesLine left more held true → PassesOver p (read_as d.version held) s t rec new_rec used → HearsText hears p (read_as d.version held) s rec i now new
     → WhereTold known start_rec (λ text r. Stands p text r d k i taken s left rec)
     → WhereTold known start_rec (λ text r. Hears hears p d.first (step_lines d.version text) r k i (with_earlier taken s) old now)
-    → WhereTold known start_rec (λ text r. Hears hears p d.first (step_lines d.version text) r (suc k) (i + used) (with_earlier (taken ++ t.sink.shelf.files) (handed_out t)) old new)
+    → WhereTold known start_rec (λ text r. Hears hears p d.first (step_lines d.version text) r (suc k) (i + used) (with_earlier (taken ++ t.sink.received.files) (handed_out t)) old new)
 hears_on hears p d k i used taken s t held known left more start_rec rec new_rec old now new g m q =
     told_both known start_rec (λ text r. Stands p text r d k i taken s left rec) (λ text r. Hears hears p d.first (step_lines d.version text) r k i (with_earlier taken s) old now)
-    (λ text r. Hears hears p d.first (step_lines d.version text) r (suc k) (i + used) (with_earlier (taken ++ t.sink.shelf.files) (handed_out t)) old new)
+    (λ text r. Hears hears p d.first (step_lines d.version text) r (suc k) (i + used) (with_earlier (taken ++ t.sink.received.files) (handed_out t)) old new)
     (λ text r h b. hears_more hears p d k i used taken s t held left more rec new_rec old now new text r g m q h b)
 
 -- ---- the end
@@ -228,19 +228,19 @@ hears_text hears p text x s rec i old new h g = (h.0, x, h.1, h.2, g)
 -- ---- a line that is not taken
 
 -- where no link data unit may be loaded
-pub not_loaded : (walk : Walk) (u : LduValue) (next : Option Seen) → (Can walk.link.profile (step.Load u) walk.link.state → ⊥) → IsNotTaken walk (listed.Load u) next (stream.Cert (of.NotAllowed walk.lines))
-not_loaded walk u next cannot = (λ l is z. by l is, λ e. cc)
+pub not_loaded : (replay : Replay) (u : LduValue) (next : Option Seen) → (Can replay.link.profile (step.Load u) replay.link.state → ⊥) → IsNotTaken replay (listed.Load u) next (stream.Cert (of.NotAllowed replay.lines))
+not_loaded replay u next cannot = (λ l is z. by l is, λ e. cc)
   where
-    by : (l : CertLine) → IsStepOfLine (listed.Load u) l → IsOfAStep l × IsFaultOfStep walk.link.profile walk.link.state next walk.lines walk.used l (of.NotAllowed walk.lines)
+    by : (l : CertLine) → IsStepOfLine (listed.Load u) l → IsOfAStep l × IsFaultOfStep replay.link.profile replay.link.state next replay.lines replay.used l (of.NotAllowed replay.lines)
     by (First file) is = absurd is
     by (Load l) is =
-        (tt, (refl, λ n. cannot (subst (λ (v : LduValue). Can walk.link.profile (step.Load v) walk.link.state) (sym is) (subst (λ (a : Step). Can walk.link.profile a walk.link.state) (sym (some_step (step.Load (listed_ldu l)) n.1.0 n.1.1)) n.1.2))))
+        (tt, (refl, λ n. cannot (subst (λ (v : LduValue). Can replay.link.profile (step.Load v) replay.link.state) (sym is) (subst (λ (a : Step). Can replay.link.profile a replay.link.state) (sym (some_step (step.Load (listed_ldu l)) n.1.0 n.1.1)) n.1.2))))
     by (Moved l) is = absurd is
 
 -- in the order of recording and certificate
-pub ends_next : (walk : Walk) (x : Listed) (old new : Option Recording) (next : Option Seen) (f : StreamFault) → TakesNext (uses_listed x) old new next → IsNotTaken walk x next f → EndsNext walk x old f
-ends_next walk x old new next (stream.Cert f) g h =
-    subst (RefusesNext walk.link.profile x walk.link.state old walk.lines walk.used) (same f h.1) (refused_next walk.link.profile x walk.link.state old new next walk.lines walk.used f g h.0)
+pub ends_next : (replay : Replay) (x : Listed) (old new : Option Recording) (next : Option Seen) (f : StreamFault) → TakesNext (uses_listed x) old new next → IsNotTaken replay x next f → EndsNext replay x old f
+ends_next replay x old new next (stream.Cert f) g h =
+    subst (RefusesNext replay.link.profile x replay.link.state old replay.lines replay.used) (same f h.1) (refused_next replay.link.profile x replay.link.state old new next replay.lines replay.used f g h.0)
   where
     same : (f : CertFault) → f ≢ of.OutOfMemory → of_cert f ≡ stream.Cert f
     same of.OutOfMemory n = absurd (n refl)
@@ -250,14 +250,14 @@ ends_next walk x old new next (stream.Cert f) g h =
     same (of.StateDiffers m) n = refl
     same (of.WordDiffers m j) n = refl
     same (of.Unfinished j) n = refl
-ends_next walk x None new next (stream.Read f) g h = tt
-ends_next walk x (Some r) new next (stream.Read f) g h = absurd h
-ends_next walk x None new next stream.Device g h = tt
-ends_next walk x (Some r) new next stream.Device g h = tt
-ends_next walk x None new next stream.OutOfMemory g h = tt
-ends_next walk x (Some r) new next stream.OutOfMemory g h = tt
+ends_next replay x None new next (stream.Read f) g h = tt
+ends_next replay x (Some r) new next (stream.Read f) g h = absurd h
+ends_next replay x None new next stream.Device g h = tt
+ends_next replay x (Some r) new next stream.Device g h = tt
+ends_next replay x None new next stream.OutOfMemory g h = tt
+ends_next replay x (Some r) new next stream.OutOfMemory g h = tt
 
 -- no fault of the recording is among them
-pub not_read : (walk : Walk) (x : Listed) (r : Result ℕ StreamFault) (f : ReadFault) → IfErr r (λ e. (next : Option Seen) → IsNotTaken walk x next e) → IsErrOf r (stream.Read f) → ⊥
-not_read walk x (Ok used) f h e = absurd (cc e)
-not_read walk x (Err fault) f h e = let same : fault ≡ stream.Read f = cc e in subst (IsNotTaken walk x None) same (h None)
+pub not_read : (replay : Replay) (x : Listed) (r : Result ℕ StreamFault) (f : ReadFault) → IfErr r (λ e. (next : Option Seen) → IsNotTaken replay x next e) → IsErrOf r (stream.Read f) → ⊥
+not_read replay x (Ok used) f h e = absurd (cc e)
+not_read replay x (Err fault) f h e = let same : fault ≡ stream.Read f = cc e in subst (IsNotTaken replay x None) same (h None)

@@ -1,4 +1,4 @@
--- What a listener has heard where a walk along a certificate's lines ends before the last of them.
+-- What a listener has heard where a replay along a certificate's lines ends before the last of them.
 use Rattle.std.proofs.Common.{◌≡◌, ◌≢◌, ◌⊎◌, ◌+◌, inl, inr, ℕ, List, [], drop, true, false, Option, Some, None, slice_get, Ok, Err, refl, sym, subst}
 use Rattle.a429_profile.specs.Profile.{Contents}
 use Rattle.a429_link.specs.declared.file.FileBytes.{FileBytes}
@@ -39,7 +39,7 @@ module _ {T : Type 0} (hears : Hearing T) (p : Contents) where
   heard_head known old rec stream.Device l e h = tt
   heard_head known old rec stream.OutOfMemory l e h = tt
 
-  -- ---- a fault where a walk stands
+  -- ---- a fault where a replay is
 
   module _ (d : Head) (k i : ℕ) (taken : List FileBytes) (s : State) (left : Option (List ℕ)) (rec : Option Recording) (old now : T) where
     later : (f : CertFault) (text : List ℕ) (r : Recording) → IsFaultAt p (with_earlier taken s) (slice_get (items_of r.entries) i) (k + 3) i (slice_get (step_lines d.version text) k) f
@@ -51,7 +51,7 @@ module _ {T : Type 0} (hears : Hearing T) (p : Contents) where
           heard = b.heard;
         }
 
-    stopped : (f : ReadFault) (text : List ℕ) (r : Recording) → s.sink.shelf.files ≡ [] → WantsNext p (slice_get (step_lines d.version text) k) (with_earlier taken s) → Stops f (behind i r) → f ≢ read.OutOfMemory
+    stopped : (f : ReadFault) (text : List ℕ) (r : Recording) → s.sink.received.files ≡ [] → WantsNext p (slice_get (step_lines d.version text) k) (with_earlier taken s) → Stops f (behind i r) → f ≢ read.OutOfMemory
         → Stands p text r d k i taken s left rec → Hears hears p d.first (step_lines d.version text) r k i (with_earlier taken s) old now → IsHeardBefore hears p old now (stream.Read f) text r
     stopped f text r none wants stops memory h b =
         record {
@@ -82,7 +82,7 @@ module _ {T : Type 0} (hears : Hearing T) (p : Contents) where
       HasHeard text r = Hears hears p d.first (step_lines d.version text) r k i (with_earlier taken s) old now
 
       -- the line that comes is refused
-      pub heard_refused : (held more : Option (List ℕ)) (n : ℕ) (f : StreamFault) (new : T) → n ≡ k + 3 → s.sink.shelf.files ≡ [] → GivesLine left more held true
+      pub heard_refused : (held more : Option (List ℕ)) (n : ℕ) (f : StreamFault) (new : T) → n ≡ k + 3 → s.sink.received.files ≡ [] → GivesLine left more held true
           → RefusesOver p (read_as d.version held) s rec n i f → IsUntold now new f → WhereTold known start IsThere → WhereTold known start HasHeard → HearsBefore hears p known start old new f
       heard_refused held more n (stream.Cert f) new e none g m u =
           told_both known start IsThere HasHeard (IsHeardBefore hears p old new (stream.Cert f))
@@ -106,7 +106,7 @@ module _ {T : Type 0} (hears : Hearing T) (p : Contents) where
           (λ text r h b. later (of.Unfinished i) text r (left_here p d k i taken s held left more rec item new_rec text r g (subst (λ o. GivesNext o new_rec (Ok (Some item))) h.rest e) h) h b)
 
       -- the recording has a fault there
-      pub heard_stopped : (held more : Option (List ℕ)) (f : ReadFault) (new_rec : Option Recording) → s.sink.shelf.files ≡ [] → GivesLine left more held false → GivesNext rec new_rec (Err f)
+      pub heard_stopped : (held more : Option (List ℕ)) (f : ReadFault) (new_rec : Option Recording) → s.sink.received.files ≡ [] → GivesLine left more held false → GivesNext rec new_rec (Err f)
           → WhereTold known start IsThere → WhereTold known start HasHeard → HearsBefore hears p known start old now (of_read f)
       heard_stopped held more f new_rec none g e a b = by f e
         where

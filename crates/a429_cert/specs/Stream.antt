@@ -17,7 +17,7 @@ use Rattle.a429_cert.specs.declared.stream_fault.StreamFault.TheVariants as stre
 use Rattle.a429_cert.specs.declared.listener.ListenFault.{ListenFault}
 use Rattle.a429_cert.specs.declared.listener.ListenFault.TheVariants as listen
 use Rattle.a429_cert.specs.declared.listed.Listed.{Listed}
-use Rattle.a429_cert.specs.declared.stream.Walk.{Walk}
+use Rattle.a429_cert.specs.declared.stream.Replay.{Replay}
 use Rattle.a429_cert.specs.declared.line.CertLine.{CertLine}
 use Rattle.a429_cert.specs.declared.shelf.PutFile.{PutFile}
 use Rattle.a429_link.specs.declared.file.FileBytes.{FileBytes}
@@ -118,45 +118,45 @@ RefusesOver p text s (Some r) n i (stream.Read f) = WantsEntry p text s × Stops
 RefusesOver p text s (Some r) n i stream.Device = ⊤
 RefusesOver p text s (Some r) n i stream.OutOfMemory = ⊤
 
--- ---- a walk along the lines
+-- ---- a replay along the lines
 
 -- a walk passes over what the next line lists, and that uses so many entries of the recording
-abbrev pub WalksNext : Walk → Walk → Listed → Option Recording → Option Recording → ℕ → Type 0
-WalksNext old new x rec rest used = PassesNext old.link.profile x old.link.state new.link.state rec rest used
+abbrev pub ReplaysNext : Replay → Replay → Listed → Option Recording → Option Recording → ℕ → Type 0
+ReplaysNext old new x rec rest used = PassesNext old.link.profile x old.link.state new.link.state rec rest used
 
 -- why a walk ends at what the last line lists
-abbrev pub EndsNext : Walk → Listed → Option Recording → StreamFault → Type 0
-EndsNext walk x rec f = RefusesNext walk.link.profile x walk.link.state rec walk.lines walk.used f
+abbrev pub EndsNext : Replay → Listed → Option Recording → StreamFault → Type 0
+EndsNext replay x rec f = RefusesNext replay.link.profile x replay.link.state rec replay.lines replay.used f
 
 -- why what the last line lists is not taken with this next entry: it is refused, or the listener has a fault
-abbrev pub IsNotTaken : Walk → Listed → Option Seen → StreamFault → Type 0
-IsNotTaken walk x next (stream.Cert f) = RefusesListed walk.link.profile x (record { line = walk.lines; entry = walk.used; next = next }) walk.link.state f × (f ≢ of.OutOfMemory)
-IsNotTaken walk x next (stream.Read f) = ⊥
-IsNotTaken walk x next stream.Device = ⊤
-IsNotTaken walk x next stream.OutOfMemory = ⊤
+abbrev pub IsNotTaken : Replay → Listed → Option Seen → StreamFault → Type 0
+IsNotTaken replay x next (stream.Cert f) = RefusesListed replay.link.profile x (record { line = replay.lines; entry = replay.used; next = next }) replay.link.state f × (f ≢ of.OutOfMemory)
+IsNotTaken replay x next (stream.Read f) = ⊥
+IsNotTaken replay x next stream.Device = ⊤
+IsNotTaken replay x next stream.OutOfMemory = ⊤
 
 -- a walk passes over the next line, as its version reads it, and that uses so many entries of the recording
-abbrev pub WalksOver : Walk → Walk → Option (List ℕ) → Option Recording → Option Recording → ℕ → Type 0
-WalksOver old new text rec rest used = PassesOver old.profile.now (read_as old.version text) old.link.state new.link.state rec rest used
+abbrev pub ReplaysLine : Replay → Replay → Option (List ℕ) → Option Recording → Option Recording → ℕ → Type 0
+ReplaysLine old new text rec rest used = PassesOver old.profile.now (read_as old.version text) old.link.state new.link.state rec rest used
 
 -- why a walk ends at this line, which was handed out last
-abbrev pub EndsWalk : Walk → Option (List ℕ) → Option Recording → StreamFault → Type 0
-EndsWalk walk text rec f = RefusesOver walk.profile.now (read_as walk.version text) walk.link.state rec walk.lines walk.used f
+abbrev pub EndsReplay : Replay → Option (List ℕ) → Option Recording → StreamFault → Type 0
+EndsReplay replay text rec f = RefusesOver replay.profile.now (read_as replay.version text) replay.link.state rec replay.lines replay.used f
 
 -- a listener is told of what the next line lists, with this entry, if it uses one
-abbrev pub TellsListed : {T : Type 0} → Hearing T → Walk → Listed → Option Entry → T → T → Type 0
-TellsListed hears walk x next old new = hears walk.profile.now old (told_listed walk.link.state.source.number x (with_number walk.used next)) new
+abbrev pub TellsListed : {T : Type 0} → Hearing T → Replay → Listed → Option Entry → T → T → Type 0
+TellsListed hears replay x next old new = hears replay.profile.now old (told_listed replay.link.state.source.number x (with_number replay.used next)) new
 
 -- with the entry that comes next, if it uses one
-abbrev pub HearsNext : {T : Type 0} → Hearing T → Walk → Listed → Option Recording → T → T → Type 0
-HearsNext hears walk x rec old new = HearsListed hears walk.profile.now x walk.link.state rec walk.used old new
+abbrev pub HearsNext : {T : Type 0} → Hearing T → Replay → Listed → Option Recording → T → T → Type 0
+HearsNext hears replay x rec old new = HearsListed hears replay.profile.now x replay.link.state rec replay.used old new
 
 -- a listener is told of what this line lists, which was handed out last
-abbrev pub HearsLine : {T : Type 0} → Hearing T → Walk → Option (List ℕ) → Option Recording → T → T → Type 0
-HearsLine hears walk text rec old new = HearsText hears walk.profile.now (read_as walk.version text) walk.link.state rec walk.used old new
+abbrev pub HearsLine : {T : Type 0} → Hearing T → Replay → Option (List ℕ) → Option Recording → T → T → Type 0
+HearsLine hears replay text rec old new = HearsText hears replay.profile.now (read_as replay.version text) replay.link.state rec replay.used old new
 
 -- a walk hands out the files that its link has delivered: nothing else changes, but what was noted
-abbrev pub HandsFilesOut : Walk → Walk → Type 0
+abbrev pub HandsFilesOut : Replay → Replay → Type 0
 HandsFilesOut old new = new ≡ record old { link = record (old.link) { state = handed_out old.link.state }; files = new.files }
 
 -- one of certificate, shelf and listener has failed
@@ -199,31 +199,31 @@ sizes files = map (λ f. (f.number, length f.bytes)) files
 -- ---- a line, and the files that its step delivers
 
 -- a walk passes over the next line, which uses so many entries, and all that its step delivers is put and noted
-pub record GoesOn {S : Type 0} (shelved : S → Option (List PutFile)) (old new : Walk) (text : Option (List ℕ)) (rec rest : Option Recording) (before after : S) (used : ℕ) : Type 0 where
+pub record GoesOn {S : Type 0} (shelved : S → Option (List PutFile)) (old new : Replay) (text : Option (List ℕ)) (rec rest : Option Recording) (before after : S) (used : ℕ) : Type 0 where
   pub state : State
   pub passed : PassesOver old.profile.now (read_as old.version text) old.link.state state rec rest used
-  pub put : PutsFiles shelved before after old.files.items state.sink.shelf.files
-  pub noted : new.files.items ≡ old.files.items ++ sizes state.sink.shelf.files
+  pub put : PutsFiles shelved before after old.files.items state.sink.received.files
+  pub noted : new.files.items ≡ old.files.items ++ sizes state.sink.received.files
   pub given : new.link.state ≡ handed_out state
 
 -- it passes over the line, and not all that its step delivers is put: the shelf has failed, or memory was refused
-pub record PutsTooFew {S : Type 0} (shelved : S → Option (List PutFile)) (failed : S → Bool) (old : Walk) (text : Option (List ℕ)) (rec new_rec : EntriesLeft) (before after : S) (f : StreamFault) : Type 0 where
+pub record PutsTooFew {S : Type 0} (shelved : S → Option (List PutFile)) (failed : S → Bool) (old : Replay) (text : Option (List ℕ)) (rec new_rec : EntriesLeft) (before after : S) (f : StreamFault) : Type 0 where
   pub state : State
   pub used : ℕ
   pub passed : PassesOver old.profile.now (read_as old.version text) old.link.state state rec.to_come new_rec.to_come used
   pub given : new_rec.count ≡ rec.count + used
-  pub put : PutsFirstFiles shelved before after old.files.items state.sink.shelf.files
+  pub put : PutsFirstFiles shelved before after old.files.items state.sink.received.files
   pub fault : (f ≡ stream.Device) ⊎ (f ≡ stream.OutOfMemory)
   pub device : f ≡ stream.Device → failed after ≡ true
 
 -- the line is refused, or memory is, or the listener has failed: nothing is put
-pub record EndsAtLine {S : Type 0} (listener : Bool) (old : Walk) (text : Option (List ℕ)) (rec new_rec : EntriesLeft) (before after : S) (f : StreamFault) : Type 0 where
-  pub ends : EndsWalk old text rec.to_come f
+pub record EndsAtLine {S : Type 0} (listener : Bool) (old : Replay) (text : Option (List ℕ)) (rec new_rec : EntriesLeft) (before after : S) (f : StreamFault) : Type 0 where
+  pub ends : EndsReplay old text rec.to_come f
   pub given : GivesAtFault (WantsEntry old.profile.now (read_as old.version text) old.link.state) f rec.count new_rec.count
   pub put : after ≡ before
   pub device : f ≡ stream.Device → listener ≡ true
 
 -- why a walk does not go on over the next line
-abbrev pub StopsAt : {S : Type 0} → (S → Option (List PutFile)) → (S → Bool) → Bool → Walk → Option (List ℕ) → EntriesLeft → EntriesLeft → S → S → StreamFault → Type 0
+abbrev pub StopsAt : {S : Type 0} → (S → Option (List PutFile)) → (S → Bool) → Bool → Replay → Option (List ℕ) → EntriesLeft → EntriesLeft → S → S → StreamFault → Type 0
 StopsAt shelved failed listener old text rec new_rec before after f =
     EndsAtLine listener old text rec new_rec before after f ⊎ PutsTooFew shelved failed old text rec new_rec before after f

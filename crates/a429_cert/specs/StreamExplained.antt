@@ -55,7 +55,7 @@ pub record Delivers (p : Contents) (text : List ℕ) (r : Recording) (k i : ℕ)
   pub says : HasHead text head
   pub inside : i ≤ length (items_of r.entries)
   pub before : Reaches p head.first (take k (step_lines head.version text)) (take i (items_of r.entries)) s
-  pub gives : files ≡ s.sink.shelf.files
+  pub gives : files ≡ s.sink.received.files
 
 -- a certificate's fault that says that no entry is left comes only where the recording has no fault there
 abbrev pub EndsAt : Recording → CertFault → Type 0
@@ -64,7 +64,7 @@ EndsAt r _ = ⊤
 
 -- the files that the lines before a certificate's fault deliver
 abbrev pub AreBeforeFault : Contents → List ℕ → Recording → CertFault → List FileBytes → Type 0
-AreBeforeFault p text r f files = (IsFaultOfHead text f × (files ≡ [])) ⊎ ((h : IsLaterFault p text (items_of r.entries) f) × (files ≡ h.state.sink.shelf.files))
+AreBeforeFault p text r f files = (IsFaultOfHead text f × (files ≡ [])) ⊎ ((h : IsLaterFault p text (items_of r.entries) f) × (files ≡ h.state.sink.received.files))
 
 -- the next line wants an entry, or there is none
 abbrev pub WantsNext : Contents → Option (Option (List ℕ)) → State → Type 0

@@ -13,7 +13,7 @@ use crate::entry::seen_at;
 use crate::fault::{CertFault, OutOfMemory};
 use crate::line::CertLine;
 use crate::lines::{Lines, TextLine};
-use crate::passing::pass;
+use crate::passing::replay_line;
 use crate::reading::read_line;
 use crate::verified::Verified;
 use crate::version::Version;
@@ -51,7 +51,7 @@ pub fn verify(
             entry: used,
             next: seen_at(entries, used),
         };
-        match pass(alloc, profile, &mut link, head.version.read(line), at) {
+        match replay_line(alloc, profile, &mut link, head.version.read(line), at) {
             Ok(count) => used += count,
             Err(fault) => return Err(fault),
         }
@@ -80,7 +80,7 @@ fn all_used(used: usize, entries: &[Entry]) -> Result<(), CertFault>
 
 // Takes the files out of a link that it has delivered, and puts them behind those that were taken.
 fn take_files(link: &mut Link<'_>, files: &mut Vec<FileBytes>) -> Result<(), OutOfMemory>
-    ensures taken { OnOk result (files.new.items ≡ files.old.items ++ link.old.state.sink.shelf.files) }
+    ensures taken { OnOk result (files.new.items ≡ files.old.items ++ link.old.state.sink.received.files) }
     ensures rest { OnOk result (link.new ≡ record (link.old) { state = handed_out link.old.state }) }
 {
     if link.delivered().is_empty() {

@@ -24,7 +24,7 @@ use std::alloc::Global;
 /// Takes the line of a certificate that stands there and says this: the link makes its step with the next
 /// entry. Answers how many entries it uses, 0 or 1.
 #[inline(always)]
-pub fn pass(
+pub fn replay_line(
     alloc: Global,
     profile: &Profile,
     link: &mut Link<'_>,
@@ -37,8 +37,8 @@ pub fn pass(
     ensures refused { IfErr result (RefusesText profile.now (option_map (λ b. b.now) text.entry) at link.old.state) }
     ensures kept { link.new.profile ≡ profile.now }
 {
-    match list_step(alloc, profile, link, text, at.line) {
-        Ok(listed) => take_step(link, listed, at),
+    match read_step(alloc, profile, link, text, at.line) {
+        Ok(listed) => make_step(link, listed, at),
         Err(fault) => Err(fault),
     }
 }
@@ -46,7 +46,7 @@ pub fn pass(
 /// Reads the step that line n lists, which says this, before its entry is known, if it wants one: a step of
 /// its name may then be made here.
 #[inline(always)]
-pub fn list_step(
+pub fn read_step(
     alloc: Global,
     profile: &Profile,
     link: &Link<'_>,
@@ -62,8 +62,8 @@ pub fn list_step(
         return Err(CertFault::Line(n));
     };
     match text {
-        [b'L', rest @ ..] => list_load(alloc, profile, rest, n),
-        [letter, rest @ ..] => list_moved(link, *letter, rest, n),
+        [b'L', rest @ ..] => read_load(alloc, profile, rest, n),
+        [letter, rest @ ..] => read_moved(link, *letter, rest, n),
         [] => Err(CertFault::Line(n)),
     }
 }
@@ -71,7 +71,7 @@ pub fn list_step(
 /// Takes the line of a certificate whose step was read: the link makes it with the next entry, if it wants
 /// one. Answers how many entries it uses, 0 or 1.
 #[inline(always)]
-pub fn take_step(link: &mut Link<'_>, listed: Listed, at: At) -> Result<usize, CertFault>
+pub fn make_step(link: &mut Link<'_>, listed: Listed, at: At) -> Result<usize, CertFault>
     requires { IsReady link.old.profile listed link.old.state }
     ensures passed { IfOk result (PassesListed link.old.profile listed at.next link.old.state link.new.state) }
     ensures refused { IfErr result (RefusesListed link.old.profile listed at link.old.state) }
@@ -85,25 +85,25 @@ pub fn take_step(link: &mut Link<'_>, listed: Listed, at: At) -> Result<usize, C
                 Err(CertFault::NotAllowed(at.line))
             }
         }
-        Listed::Moved(line) => take_moved(link, line, at),
+        Listed::Moved(line) => make_moved(link, line, at),
     }
 }
 
 // Reads the link data unit that line n lists behind its letter.
-fn list_load(alloc: Global, profile: &Profile, text: &[u8], n: usize) -> Result<Listed, CertFault>
+fn read_load(alloc: Global, profile: &Profile, text: &[u8], n: usize) -> Result<Listed, CertFault>
     requires { IsProfile profile.now }
     ensures listed { IfOk result (λ x. (s : State) → Lists profile.now (Some (76 ∷ text.now)) x s) }
     ensures refused { IfErr result (λ f. (s : State) → RefusesFirst profile.now (Some (76 ∷ text.now)) n s f) }
 {
     match load_of(alloc, text) {
-        Ok(Some(line)) => list_unit(alloc, profile, line, n),
+        Ok(Some(line)) => read_unit(alloc, profile, line, n),
         Ok(None) => Err(CertFault::Line(n)),
         Err(_) => Err(CertFault::OutOfMemory),
     }
 }
 
 // The link data unit of line n, which was read.
-fn list_unit(
+fn read_unit(
     alloc: Global,
     profile: &Profile,
     line: LoadLine,
@@ -129,7 +129,7 @@ fn list_unit(
 
 // Reads the other step that line n lists, by its letter and what stands behind it.
 #[inline(always)]
-fn list_moved(link: &Link<'_>, letter: u8, text: &[u8], n: usize) -> Result<Listed, CertFault>
+fn read_moved(link: &Link<'_>, letter: u8, text: &[u8], n: usize) -> Result<Listed, CertFault>
     requires { letter ≢ 76 }
     ensures listed { IfOk result (λ x. Lists link.now.profile (Some (letter ∷ text.now)) x link.now.state) }
     ensures refused { IfErr result (RefusesFirst link.now.profile (Some (letter ∷ text.now)) n link.now.state) }
@@ -148,7 +148,7 @@ fn list_moved(link: &Link<'_>, letter: u8, text: &[u8], n: usize) -> Result<List
 
 // Takes the line of another step, which was read. Answers how many entries it uses.
 #[inline(always)]
-fn take_moved(link: &mut Link<'_>, line: MovedLine, at: At) -> Result<usize, CertFault>
+fn make_moved(link: &mut Link<'_>, line: MovedLine, at: At) -> Result<usize, CertFault>
     requires { IsReadyOf link.old.profile line.act link.old.state }
     ensures passed { IfOk result (PassesLine link.old.profile (CertLine.Moved line) at.next link.old.state link.new.state) }
     ensures refused { IfErr result (RefusesLine link.old.profile (CertLine.Moved line) at link.old.state) }

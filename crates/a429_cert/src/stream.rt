@@ -15,7 +15,7 @@ ghost use Rattle.a429_cert.specs.Explained.{seen_of};
 ghost use Rattle.a429_cert.specs.StreamExplained.{SaysYes, HearsRun, HearsBefore, Refuses};
 ghost use Rattle.a429_cert.specs.BreakOff.{BreaksOff, readers, shelved};
 ghost use Rattle.a429_cert.specs.Told.{IsNextEntry, with_number};
-ghost use Rattle.a429_cert.specs.Stream.{IsFaultNext, TakesNext, WalksNext, EndsNext, TellsListed, HearsNext, IsNotTaken, IsUntold, WalksOver, EndsWalk, HearsLine, WantsEntry, GivesFor, GivesAtFault};
+ghost use Rattle.a429_cert.specs.Stream.{IsFaultNext, TakesNext, ReplaysNext, EndsNext, TellsListed, HearsNext, IsNotTaken, IsUntold, ReplaysLine, EndsReplay, HearsLine, WantsEntry, GivesFor, GivesAtFault};
 ghost use Rattle.a429_cert.specs.Stream.{OneFailed, HandsFilesOut, GoesOn, PutsFiles, PutsFirstFiles, StopsAt, sizes};
 
 use crate::at::At;
@@ -28,7 +28,7 @@ use crate::line_reader::LineReader;
 use crate::lines::TextLine;
 use crate::listed::Listed;
 use crate::listener::{Listener, NoListener};
-use crate::passing::{list_step, take_step};
+use crate::passing::{make_step, read_step};
 use crate::shelf::{Shelf, ShelfFault};
 use crate::stream_end::none_left;
 use crate::stream_fault::{StreamFault, of_cert, of_listener, of_read};
@@ -97,7 +97,7 @@ pub fn replay_stream<R: Read, C: Read, S: Shelf, T: Listener>(
         Ok(head) => head,
         Err(fault) => return Err(fault),
     };
-    let mut walk = Walk::start(bench, head);
+    let mut replay = Replay::start(bench, head);
     'lines: loop {
         let Ok(found) = lines.next_line(cert) else {
             return Err(StreamFault::Device);
@@ -105,14 +105,14 @@ pub fn replay_stream<R: Read, C: Read, S: Shelf, T: Listener>(
         if !found {
             break;
         }
-        walk.lines += 1;
-        match walk_on(&mut walk, lines.line(), rec, shelf, listener) {
-            Ok(used) => walk.used += used,
+        replay.lines += 1;
+        match replay_and_put(&mut replay, lines.line(), rec, shelf, listener) {
+            Ok(used) => replay.used += used,
             Err(fault) => return Err(fault),
         }
     }
-    match none_left(rec, walk.used) {
-        Ok(()) => Ok(walk.files),
+    match none_left(rec, replay.used) {
+        Ok(()) => Ok(replay.files),
         Err(fault) => Err(fault),
     }
 }
@@ -120,33 +120,33 @@ pub fn replay_stream<R: Read, C: Read, S: Shelf, T: Listener>(
 // Takes the last line that was handed out, over the next entry, if its step uses one, tells a listener where it is
 // accepted, and puts the files that the step delivers. Answers how many entries it uses, 0 or 1.
 #[inline(always)]
-fn walk_on<R: Read, S: Shelf, T: Listener>(
-    walk: &mut Walk<'_>,
+fn replay_and_put<R: Read, S: Shelf, T: Listener>(
+    replay: &mut Replay<'_>,
     line: TextLine<'_>,
     rec: &mut EntryReader<R>,
     shelf: &mut S,
     listener: &mut T,
 ) -> Result<usize, StreamFault>
-    requires sound { IsProfile walk.old.profile.now }
-    requires profile { walk.old.link.profile ≡ walk.old.profile.now }
-    ensures goes_on { IfOk result (GoesOn S.files walk.old walk.new (line_bytes line.entry) rec.old.to_come rec.new.to_come shelf.old shelf.new) }
-    ensures heard { OnOk result (HearsLine T.hears walk.old (line_bytes line.entry) rec.old.to_come listener.old listener.new) }
+    requires sound { IsProfile replay.old.profile.now }
+    requires profile { replay.old.link.profile ≡ replay.old.profile.now }
+    ensures goes_on { IfOk result (GoesOn S.files replay.old replay.new (line_bytes line.entry) rec.old.to_come rec.new.to_come shelf.old shelf.new) }
+    ensures heard { OnOk result (HearsLine T.hears replay.old (line_bytes line.entry) rec.old.to_come listener.old listener.new) }
     ensures ended { OnOk result (IsSome (line_bytes line.entry)) }
     ensures few { IfOk result (λ used. used ≤ 1) }
     ensures counts { IfOk result (λ used. rec.new.count ≡ rec.old.count + used) }
-    ensures stopped { IfErr result (StopsAt S.files S.failed (T.failed listener.new) walk.old (line_bytes line.entry) rec.old rec.new
+    ensures stopped { IfErr result (StopsAt S.files S.failed (T.failed listener.new) replay.old (line_bytes line.entry) rec.old rec.new
         shelf.old shelf.new) }
     ensures untold { IfErr result (IsUntold listener.old listener.new) }
     ensures device { IsErrOf result StreamFault.Device → (S.failed shelf.new ≡ true) ⊎ (T.failed listener.new ≡ true) }
     ensures read { IsErrOf result (StreamFault.Read read.Device) → rec.new.failed ≡ true }
-    ensures kept { walk.new ≡ record (walk.old) { link = walk.new.link; files = walk.new.files } }
-    ensures profile { walk.new.link.profile ≡ walk.old.profile.now }
+    ensures kept { replay.new ≡ record (replay.old) { link = replay.new.link; files = replay.new.files } }
+    ensures profile { replay.new.link.profile ≡ replay.old.profile.now }
 {
-    let used = match pass_over(walk, line, rec, listener) {
+    let used = match replay_and_report(replay, line, rec, listener) {
         Ok(used) => used,
         Err(refused) => return Err(refused),
     };
-    match put_delivered(walk, shelf) {
+    match put_delivered(replay, shelf) {
         Ok(()) => Ok(used),
         Err(fault) => Err(fault),
     }
@@ -168,9 +168,9 @@ fn entry_for<R: Read>(rec: &mut EntryReader<R>, listed: &Listed) -> Result<Optio
     rec.next()
 }
 
-// A walk along the lines of a certificate, over a recording.
+// How far a certificate is replayed over a recording.
 #[derive(Drop)]
-pub struct Walk<'a> {
+pub struct Replay<'a> {
     alloc: Global,
     profile: &'a Profile,
     version: Version,
@@ -182,10 +182,10 @@ pub struct Walk<'a> {
     files: Vec<(u8, u32)>,
 }
 
-impl<'a> Walk<'a> {
-    // A walk that has just passed the first two lines, and no entry.
+impl<'a> Replay<'a> {
+    // A replay that has just read the first two lines, and no entry.
     #[inline(always)]
-    fn start(bench: &Bench<'a>, head: Head) -> Walk<'a>
+    fn start(bench: &Bench<'a>, head: Head) -> Replay<'a>
         ensures sound { IsProfile bench.now }
         ensures profile { result.profile.now ≡ bench.now }
         ensures version { result.version ≡ head.version }
@@ -194,7 +194,7 @@ impl<'a> Walk<'a> {
         ensures used { result.used ≡ 0 }
         ensures files { result.files.items ≡ [] }
     {
-        Walk {
+        Replay {
             alloc: bench.alloc,
             profile: bench.profile,
             version: head.version,
@@ -224,60 +224,60 @@ fn numbered(number: usize, entry: Option<Entry>) -> Option<(usize, Entry)>
 // Takes the step that the last line lists, with the next entry, if it uses one, and tells a listener. Answers
 // how many entries it uses, 0 or 1.
 #[inline(always)]
-fn take_next<R: Read, T: Listener>(
-    walk: &mut Walk<'_>,
+fn step_and_report<R: Read, T: Listener>(
+    replay: &mut Replay<'_>,
     listed: Listed,
     rec: &mut EntryReader<R>,
     listener: &mut T,
 ) -> Result<usize, StreamFault>
-    requires { IsReady walk.old.link.profile listed walk.old.link.state }
-    ensures passed { IfOk result (WalksNext walk.old walk.new listed rec.old.to_come rec.new.to_come) }
-    ensures heard { OnOk result (HearsNext T.hears walk.old listed rec.old.to_come listener.old listener.new) }
+    requires { IsReady replay.old.link.profile listed replay.old.link.state }
+    ensures passed { IfOk result (ReplaysNext replay.old replay.new listed rec.old.to_come rec.new.to_come) }
+    ensures heard { OnOk result (HearsNext T.hears replay.old listed rec.old.to_come listener.old listener.new) }
     ensures few { IfOk result (λ used. used ≤ 1) }
     ensures counts { IfOk result (λ used. rec.new.count ≡ rec.old.count + used) }
-    ensures refused { IfErr result (EndsNext walk.old listed rec.old.to_come) }
+    ensures refused { IfErr result (EndsNext replay.old listed rec.old.to_come) }
     ensures given { IfErr result (λ f. GivesAtFault (uses_listed listed ≡ 1) f rec.old.count rec.new.count) }
     ensures untold { IfErr result (IsUntold listener.old listener.new) }
     ensures device { IsErrOf result StreamFault.Device → T.failed listener.new ≡ true }
     ensures read { IsErrOf result (StreamFault.Read read.Device) → rec.new.failed ≡ true }
-    ensures kept { walk.new ≡ record (walk.old) { link = walk.new.link } }
-    ensures profile { walk.new.link.profile ≡ walk.old.link.profile }
+    ensures kept { replay.new ≡ record (replay.old) { link = replay.new.link } }
+    ensures profile { replay.new.link.profile ≡ replay.old.link.profile }
 {
     let next = match entry_for(rec, &listed) {
         Ok(next) => next,
         Err(fault) => return Err(of_read(fault)),
     };
     match listed {
-        Listed::Load(unit) => take_load(walk, unit, listener),
-        Listed::Moved(line) => take_other(walk, line, next, listener),
+        Listed::Load(unit) => load_and_report(replay, unit, listener),
+        Listed::Moved(line) => move_and_report(replay, line, next, listener),
     }
 }
 
 // Loads the link data unit that the last line lists, where that may be, and tells a listener.
 #[inline(never)]
-fn take_load<T: Listener>(
-    walk: &mut Walk<'_>,
+fn load_and_report<T: Listener>(
+    replay: &mut Replay<'_>,
     unit: Ldu,
     listener: &mut T,
 ) -> Result<usize, StreamFault>
-    requires { IsLdu walk.old.link.profile unit }
-    ensures passed { IfOk result (λ used. (next : Option Seen) → PassesListed walk.old.link.profile (Listed.Load unit) next
-        walk.old.link.state walk.new.link.state used) }
-    ensures heard { OnOk result (TellsListed T.hears walk.old (Listed.Load unit) None listener.old listener.new) }
-    ensures refused { IfErr result (λ f. (next : Option Seen) → IsNotTaken walk.old (Listed.Load unit) next f) }
+    requires { IsLdu replay.old.link.profile unit }
+    ensures passed { IfOk result (λ used. (next : Option Seen) → PassesListed replay.old.link.profile (Listed.Load unit) next
+        replay.old.link.state replay.new.link.state used) }
+    ensures heard { OnOk result (TellsListed T.hears replay.old (Listed.Load unit) None listener.old listener.new) }
+    ensures refused { IfErr result (λ f. (next : Option Seen) → IsNotTaken replay.old (Listed.Load unit) next f) }
     ensures untold { IfErr result (IsUntold listener.old listener.new) }
     ensures device { IsErrOf result StreamFault.Device → T.failed listener.new ≡ true }
-    ensures kept { walk.new ≡ record (walk.old) { link = walk.new.link } }
-    ensures profile { walk.new.link.profile ≡ walk.old.link.profile }
+    ensures kept { replay.new ≡ record (replay.old) { link = replay.new.link } }
+    ensures profile { replay.new.link.profile ≡ replay.old.link.profile }
 {
-    if !walk.link.may_load() {
-        return Err(StreamFault::Cert(CertFault::NotAllowed(walk.lines)));
+    if !replay.link.may_load() {
+        return Err(StreamFault::Cert(CertFault::NotAllowed(replay.lines)));
     }
-    match listener.load(walk.profile, walk.link.number(), &unit) {
+    match listener.load(replay.profile, replay.link.number(), &unit) {
         Ok(()) => {}
         Err(fault) => return Err(of_listener(fault)),
     }
-    match walk.link.apply(Step::Load(unit)) {
+    match replay.link.apply(Step::Load(unit)) {
         Ok(()) => Ok(0),
         Err(_) => unreachable!(),
     }
@@ -285,32 +285,32 @@ fn take_load<T: Listener>(
 
 // Takes another step, which the last line lists, with the entry that was read for it, and tells a listener.
 #[inline(always)]
-fn take_other<T: Listener>(
-    walk: &mut Walk<'_>,
+fn move_and_report<T: Listener>(
+    replay: &mut Replay<'_>,
     line: MovedLine,
     next: Option<Entry>,
     listener: &mut T,
 ) -> Result<usize, StreamFault>
-    requires { IsReady walk.old.link.profile (Listed.Moved line) walk.old.link.state }
-    ensures passed { IfOk result (PassesListed walk.old.link.profile (Listed.Moved line) (option_map seen_of next) walk.old.link.state
-        walk.new.link.state) }
-    ensures heard { OnOk result (TellsListed T.hears walk.old (Listed.Moved line) next listener.old listener.new) }
-    ensures refused { IfErr result (IsNotTaken walk.old (Listed.Moved line) (option_map seen_of next)) }
+    requires { IsReady replay.old.link.profile (Listed.Moved line) replay.old.link.state }
+    ensures passed { IfOk result (PassesListed replay.old.link.profile (Listed.Moved line) (option_map seen_of next) replay.old.link.state
+        replay.new.link.state) }
+    ensures heard { OnOk result (TellsListed T.hears replay.old (Listed.Moved line) next listener.old listener.new) }
+    ensures refused { IfErr result (IsNotTaken replay.old (Listed.Moved line) (option_map seen_of next)) }
     ensures untold { IfErr result (IsUntold listener.old listener.new) }
     ensures device { IsErrOf result StreamFault.Device → T.failed listener.new ≡ true }
-    ensures kept { walk.new ≡ record (walk.old) { link = walk.new.link } }
-    ensures profile { walk.new.link.profile ≡ walk.old.link.profile }
+    ensures kept { replay.new ≡ record (replay.old) { link = replay.new.link } }
+    ensures profile { replay.new.link.profile ≡ replay.old.link.profile }
 {
     let at = At {
-        line: walk.lines,
-        entry: walk.used,
+        line: replay.lines,
+        entry: replay.used,
         next: seen_in(&next),
     };
-    let used = match take_step(&mut walk.link, Listed::Moved(line), at) {
+    let used = match make_step(&mut replay.link, Listed::Moved(line), at) {
         Ok(used) => used,
         Err(fault) => return Err(of_cert(fault)),
     };
-    match listener.make(walk.profile, line.act, numbered(walk.used, next)) {
+    match listener.make(replay.profile, line.act, numbered(replay.used, next)) {
         Ok(()) => Ok(used),
         Err(fault) => Err(of_listener(fault)),
     }
@@ -319,32 +319,38 @@ fn take_other<T: Listener>(
 // Takes the last line that was handed out, over the next entry, if its step uses one, and tells a listener
 // where it is accepted. Answers how many entries it uses, 0 or 1.
 #[inline(always)]
-pub fn pass_over<R: Read, T: Listener>(
-    walk: &mut Walk<'_>,
+pub fn replay_and_report<R: Read, T: Listener>(
+    replay: &mut Replay<'_>,
     line: TextLine<'_>,
     rec: &mut EntryReader<R>,
     listener: &mut T,
 ) -> Result<usize, StreamFault>
-    requires sound { IsProfile walk.old.profile.now }
-    requires profile { walk.old.link.profile ≡ walk.old.profile.now }
-    ensures passed { IfOk result (WalksOver walk.old walk.new (line_bytes line.entry) rec.old.to_come rec.new.to_come) }
-    ensures heard { OnOk result (HearsLine T.hears walk.old (line_bytes line.entry) rec.old.to_come listener.old listener.new) }
+    requires sound { IsProfile replay.old.profile.now }
+    requires profile { replay.old.link.profile ≡ replay.old.profile.now }
+    ensures passed { IfOk result (ReplaysLine replay.old replay.new (line_bytes line.entry) rec.old.to_come rec.new.to_come) }
+    ensures heard { OnOk result (HearsLine T.hears replay.old (line_bytes line.entry) rec.old.to_come listener.old listener.new) }
     ensures ended { OnOk result (IsSome (line_bytes line.entry)) }
     ensures few { IfOk result (λ used. used ≤ 1) }
     ensures counts { IfOk result (λ used. rec.new.count ≡ rec.old.count + used) }
-    ensures refused { IfErr result (EndsWalk walk.old (line_bytes line.entry) rec.old.to_come) }
+    ensures refused { IfErr result (EndsReplay replay.old (line_bytes line.entry) rec.old.to_come) }
     ensures given { IfErr result (λ f. GivesAtFault
-        (WantsEntry walk.old.profile.now (read_as walk.old.version (line_bytes line.entry)) walk.old.link.state) f
+        (WantsEntry replay.old.profile.now (read_as replay.old.version (line_bytes line.entry)) replay.old.link.state) f
         rec.old.count rec.new.count) }
     ensures untold { IfErr result (IsUntold listener.old listener.new) }
     ensures device { IsErrOf result StreamFault.Device → T.failed listener.new ≡ true }
     ensures read { IsErrOf result (StreamFault.Read read.Device) → rec.new.failed ≡ true }
-    ensures kept { walk.new ≡ record (walk.old) { link = walk.new.link } }
-    ensures profile { walk.new.link.profile ≡ walk.old.profile.now }
+    ensures kept { replay.new ≡ record (replay.old) { link = replay.new.link } }
+    ensures profile { replay.new.link.profile ≡ replay.old.profile.now }
 {
-    let text = walk.read(line);
-    match list_step(walk.alloc, walk.profile, &walk.link, text, walk.lines) {
-        Ok(listed) => take_next(walk, listed, rec, listener),
+    let text = replay.read(line);
+    match read_step(
+        replay.alloc,
+        replay.profile,
+        &replay.link,
+        text,
+        replay.lines,
+    ) {
+        Ok(listed) => step_and_report(replay, listed, rec, listener),
         Err(fault) => Err(of_cert(fault)),
     }
 }
@@ -410,17 +416,17 @@ fn put_all<S: Shelf>(
 
 // Puts the files that the link has delivered since they were last taken. Most lines deliver none.
 #[inline(always)]
-pub fn put_delivered<S: Shelf>(walk: &mut Walk<'_>, shelf: &mut S) -> Result<(), StreamFault>
-    ensures ok { OnOk result (PutsFiles S.files shelf.old shelf.new walk.old.files.items walk.old.link.state.sink.shelf.files) }
-    ensures noted { OnOk result (walk.new.files.items ≡ walk.old.files.items ++ sizes walk.old.link.state.sink.shelf.files) }
-    ensures err { OnErr result (PutsFirstFiles S.files shelf.old shelf.new walk.old.files.items walk.old.link.state.sink.shelf.files) }
+pub fn put_delivered<S: Shelf>(replay: &mut Replay<'_>, shelf: &mut S) -> Result<(), StreamFault>
+    ensures ok { OnOk result (PutsFiles S.files shelf.old shelf.new replay.old.files.items replay.old.link.state.sink.received.files) }
+    ensures noted { OnOk result (replay.new.files.items ≡ replay.old.files.items ++ sizes replay.old.link.state.sink.received.files) }
+    ensures err { OnErr result (PutsFirstFiles S.files shelf.old shelf.new replay.old.files.items replay.old.link.state.sink.received.files) }
     ensures device { IsErrOf result StreamFault.Device → S.failed shelf.new ≡ true }
     ensures fault { IfErr result (λ f. (f ≡ StreamFault.Device) ⊎ (f ≡ StreamFault.OutOfMemory)) }
-    ensures kept { HandsFilesOut walk.old walk.new }
+    ensures kept { HandsFilesOut replay.old replay.new }
 {
-    if walk.link.delivered().is_empty() {
+    if replay.link.delivered().is_empty() {
         return Ok(());
     }
-    let files = walk.link.take_delivered();
-    put_all(files.as_slice(), &mut walk.files, shelf)
+    let files = replay.link.take_delivered();
+    put_all(files.as_slice(), &mut replay.files, shelf)
 }

@@ -7,11 +7,11 @@ use Rattle.a429_ldu.specs.declared.forms.Form.TheVariants.{Rts, Cts, Ack, Nak, S
 use Rattle.a429_link.specs.declared.seen.Seen.{Seen}
 use Rattle.a429_explain.specs.declared.attempts.Role.{Role}
 use Rattle.a429_explain.specs.declared.attempts.Ahead.{Ahead}
-use Rattle.a429_explain.specs.declared.heard.HeardWord.{HeardWord}
-use Rattle.a429_explain.specs.Heard.{IsHeardAt, forms_of}
+use Rattle.a429_explain.specs.declared.decoded.DecodedWord.{DecodedWord}
+use Rattle.a429_explain.specs.Decoded.{IsHeardAt, forms_of}
 use Rattle.a429_explain.specs.Attempts.{next_start, role_of, roles, IsAhead}
 use Rattle.a429_explain.specs.Guess.{started, file_of}
-use Rattle.a429_explain.proofs.HeardFacts.{forms_from}
+use Rattle.a429_explain.proofs.DecodedFacts.{forms_from}
 
 -- where the pass has come to
 pub record Stands (said : List (Option Form)) (left : ℕ) (found : List Role) (ahead : Ahead) : Type 0 where
@@ -20,7 +20,7 @@ pub record Stands (said : List (Option Form)) (left : ℕ) (found : List Role) (
   pub inside : left ≤ length said
 
 -- a word before it has its role
-pub stands_next : (c : Codes) (items : List Seen) (n left : ℕ) (h : HeardWord) (found new : List Role) (ahead next : Ahead) (r : Role) → n + 1 ≡ left → IsHeardAt c items n h → ((more : List (Option Form)) → IsAhead more ahead → r ≡ role_of h.form more) → ((more : List (Option Form)) → IsAhead more ahead → IsAhead (h.form ∷ more) next) → new ≡ found ++ r ∷ [] → Stands (forms_of c items) left found ahead → Stands (forms_of c items) n new next
+pub stands_next : (c : Codes) (items : List Seen) (n left : ℕ) (h : DecodedWord) (found new : List Role) (ahead next : Ahead) (r : Role) → n + 1 ≡ left → IsHeardAt c items n h → ((more : List (Option Form)) → IsAhead more ahead → r ≡ role_of h.form more) → ((more : List (Option Form)) → IsAhead more ahead → IsAhead (h.form ∷ more) next) → new ≡ found ++ r ∷ [] → Stands (forms_of c items) left found ahead → Stands (forms_of c items) n new next
 stands_next c items n left h found new ahead next r l k role goes pushed s =
     let forms = forms_of c items in
     let here : drop n forms ≡ h.form ∷ drop left forms = forms_from c items n h k ∙ ap (λ (m : ℕ). h.form ∷ drop m forms) l in

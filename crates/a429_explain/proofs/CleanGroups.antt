@@ -16,7 +16,7 @@ use Rattle.a429_explain.specs.declared.attempts.Role.{Role}
 use Rattle.a429_explain.specs.declared.attempts.Role.TheVariants.{Request, Acknowledged}
 use Rattle.a429_explain.specs.declared.groups.Grouping.TheVariants.{Between, Within}
 use Rattle.a429_explain.specs.Attempts.{attempt_start, next_start, are_numbers, role_of, roles}
-use Rattle.a429_explain.specs.Heard.{forms_of}
+use Rattle.a429_explain.specs.Decoded.{forms_of}
 use Rattle.a429_explain.specs.Groups.{words_in, group_length, first_started, ends_its_group}
 use Rattle.a429_explain.specs.Matching.{IsOfBlock}
 use Rattle.a429_explain.specs.Guess.{first_file_of, file_of}

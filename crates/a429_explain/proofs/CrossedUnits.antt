@@ -19,12 +19,12 @@ use Rattle.a429_link.specs.declared.number.UnitNumber.{UnitNumber}
 use Rattle.a429_explain.specs.declared.stop.Stop.{Stop}
 use Rattle.a429_explain.specs.declared.stop.Stop.TheVariants.{Unexplained, OutOfMemory}
 use Rattle.a429_explain.specs.Attempts.{roles}
-use Rattle.a429_explain.specs.Heard.{forms_of, sight_at}
+use Rattle.a429_explain.specs.Decoded.{forms_of, sight_at}
 use Rattle.a429_explain.specs.Groups.{group_length, first_started, group_start, ends_its_group, is_settled}
 use Rattle.a429_explain.specs.declared.plan.Plan.{Plan}
 use Rattle.a429_explain.specs.Plan.{place_from, give_ups_from, place_behind, ArePlans, plain}
 use Rattle.a429_explain.specs.Block.{IsMatchedUnit, HasCrossed, IsStopIn}
-use Rattle.a429_explain.specs.Guess.{heard, place_at_group, place_past, plain_plans, ArePlansFrom, IsStopFrom, HaveCrossed}
+use Rattle.a429_explain.specs.Guess.{decoded, place_at_group, place_past, plain_plans, ArePlansFrom, IsStopFrom, HaveCrossed}
 use Rattle.a429_explain.specs.Whole.{wanted}
 use Rattle.a429_explain.proofs.GroupsFacts.{asked, AreSearched, searched_none, searched_free, searched_group, searched_all, searched_doubt}
 use Rattle.a429_explain.proofs.CleanBlock.{formed_sight}
@@ -47,7 +47,7 @@ pub record IsLeft (p : Contents) (items : List Seen) (done : List Plan) (us : Li
 pub record Finds (p : Contents) (items : List Seen) (rs : List Role) (first : ℕ) (done : List Plan) (place : UnitNumber) (at : ℕ) : Type 0 where
   pub units : ArePlans p done
   pub groups : AreSearched p items rs (first_number p.codes first) done place at
-  pub left : (us : List LduValue) → HaveCrossed (heard p items) first us → IsLeft p items done us place at
+  pub left : (us : List LduValue) → HaveCrossed (decoded p items) first us → IsLeft p items done us place at
 
 pub finds_none : (p : Contents) (items : List Seen) (rs : List Role) (first : ℕ) (done : List Plan) (place : UnitNumber) → first ≤ 255 → done ≡ [] → place ≡ first_number p.codes first → Finds p items rs first done place 0
 finds_none p items rs first done place f none same = record {
@@ -115,7 +115,7 @@ pub record IsNext (p : Contents) (items : List Seen) (rs : List Role) (done : Li
   pub more : List LduValue
   pub all : plain_plans p.codes 0 us items ≡ done ++ plain r.group.from unit ∷ plain_plans p.codes r.group.to more (drop r.group.to items)
   pub file : place.file ≤ 255
-  pub crossed : HasCrossed (heard p items) r place unit
+  pub crossed : HasCrossed (decoded p items) r place unit
   pub start : group_start rs r.group ≡ Some place
   pub settled : is_settled rs r.group ≡ true
   pub words : without_free p.codes (drop r.group.to items) ≡ clean_blocks p.codes (number_after p.codes place unit) more
@@ -154,7 +154,7 @@ next_is p is items done us place at to count (u ∷ more) i xs t f all h list ke
       fit = h.2;
     }
 
-pub finds_group : (p : Contents) → IsProfile p → (items : List Seen) (rs : List Role) (first : ℕ) (done : List Plan) (place : UnitNumber) (at from to count : ℕ) → rs ≡ roles (forms_of p.codes items) → at < length items → from ≡ at → to ≡ at + group_length (drop at rs) → Some count ≡ wanted (sight_at p.codes (slice_get items at)) → Finds p items rs first done place at → (us : List LduValue) → HaveCrossed (heard p items) first us → IsNext p items rs done us place (asked (record { from = from; to = to }) count)
+pub finds_group : (p : Contents) → IsProfile p → (items : List Seen) (rs : List Role) (first : ℕ) (done : List Plan) (place : UnitNumber) (at from to count : ℕ) → rs ≡ roles (forms_of p.codes items) → at < length items → from ≡ at → to ≡ at + group_length (drop at rs) → Some count ≡ wanted (sight_at p.codes (slice_get items at)) → Finds p items rs first done place at → (us : List LduValue) → HaveCrossed (decoded p items) first us → IsNext p items rs done us place (asked (record { from = from; to = to }) count)
 finds_group p is items rs first done place at from to count r l same t w h us crossed =
     let old = h.left us crossed in
     let here = has_item items at l in
@@ -192,13 +192,13 @@ units_push p [] plan h k = (k, tt)
 units_push p (v ∷ plans) plan h k = (h.0, units_push p plans plan h.1 k)
 
 -- the plan that is found is the next one, and the walk goes on behind its group
-pub finds_next : (p : Contents) (items : List Seen) (rs : List Role) (first : ℕ) (done new : List Plan) (place next : UnitNumber) (at wants : ℕ) (g : Group) (plan : Plan) → g.from ≡ at → g.to ≡ at + group_length (drop at rs) → wanted (sight_at p.codes (slice_get items at)) ≡ Some wants → plan.at ≡ at → plan.give_ups ≡ give_ups_from place (group_start rs g) → IsMatchedUnit (heard p items) (asked g wants) (place_at_group p.codes rs g place) plan.unit → new ≡ done ++ plan ∷ [] → next ≡ place_past p.codes rs g place plan.unit → ((u : LduValue) → HasCrossed (heard p items) (asked g wants) (place_at_group p.codes rs g place) u → plan.unit ≡ u) → ((us : List LduValue) → HaveCrossed (heard p items) first us → IsNext p items rs done us place (asked g wants)) → Finds p items rs first done place at → Finds p items rs first new next g.to
+pub finds_next : (p : Contents) (items : List Seen) (rs : List Role) (first : ℕ) (done new : List Plan) (place next : UnitNumber) (at wants : ℕ) (g : Group) (plan : Plan) → g.from ≡ at → g.to ≡ at + group_length (drop at rs) → wanted (sight_at p.codes (slice_get items at)) ≡ Some wants → plan.at ≡ at → plan.give_ups ≡ give_ups_from place (group_start rs g) → IsMatchedUnit (decoded p items) (asked g wants) (place_at_group p.codes rs g place) plan.unit → new ≡ done ++ plan ∷ [] → next ≡ place_past p.codes rs g place plan.unit → ((u : LduValue) → HasCrossed (decoded p items) (asked g wants) (place_at_group p.codes rs g place) u → plan.unit ≡ u) → ((us : List LduValue) → HaveCrossed (decoded p items) first us → IsNext p items rs done us place (asked g wants)) → Finds p items rs first done place at → Finds p items rs first new next g.to
 finds_next p items rs first done new place next at wants g plan from to asks here gives unit_is pushed number found group h = record {
   units = subst (ArePlans p) (sym pushed) (units_push p done plan h.units unit_is.gives.unit);
   groups = searched_group p items rs _ place next done new at wants g plan from to asks here gives unit_is pushed number h.groups;
   left = λ us crossed.
       let k = group us crossed in
-      let same : plan.unit ≡ k.unit = found k.unit (subst (λ (n : UnitNumber). HasCrossed (heard p items) (asked g wants) n k.unit) (sym (next_place p items rs done us place (asked g wants) k)) k.crossed) in
+      let same : plan.unit ≡ k.unit = found k.unit (subst (λ (n : UnitNumber). HasCrossed (decoded p items) (asked g wants) n k.unit) (sym (next_place p items rs done us place (asked g wants) k)) k.crossed) in
       let more = plain_plans p.codes g.to k.more (drop g.to items) in
       let after : next ≡ number_after p.codes place k.unit = number ∙ next_number_is p items rs done us place (asked g wants) plan.unit k same in
       record {
@@ -212,16 +212,16 @@ finds_next p items rs first done new place next at wants g plan from to asks her
 
 -- ---- the end
 
-pub finds_all : (p : Contents) (items : List Seen) (rs : List Role) (first : ℕ) (done : List Plan) (place : UnitNumber) (at : ℕ) → length items ≤ at → Finds p items rs first done place at → (us : List LduValue) → HaveCrossed (heard p items) first us → done ≡ plain_plans p.codes 0 us items
+pub finds_all : (p : Contents) (items : List Seen) (rs : List Role) (first : ℕ) (done : List Plan) (place : UnitNumber) (at : ℕ) → length items ≤ at → Finds p items rs first done place at → (us : List LduValue) → HaveCrossed (decoded p items) first us → done ≡ plain_plans p.codes 0 us items
 finds_all p items rs first done place at l h us crossed =
     let old = h.left us crossed in
     sym (old.all ∙ ap (λ (xs : List Plan). done ++ xs) (ap (plain_plans p.codes at old.rest) (drop_all at items l) ∙ plain_end p.codes at old.rest) ∙ append-nil done)
 
 -- those that are found are those of the groups
-pub finds_groups : (p : Contents) (items : List Seen) (rs : List Role) (first : ℕ) (done : List Plan) (place : UnitNumber) (at : ℕ) → length items ≤ at → Finds p items rs first done place at → ArePlansFrom (heard p items) rs first done
+pub finds_groups : (p : Contents) (items : List Seen) (rs : List Role) (first : ℕ) (done : List Plan) (place : UnitNumber) (at : ℕ) → length items ≤ at → Finds p items rs first done place at → ArePlansFrom (decoded p items) rs first done
 finds_groups p items rs first done place at l h = searched_all p items rs _ place done at l h.groups
 
 -- or a group is doubted
-pub finds_doubt : (p : Contents) (items : List Seen) (rs : List Role) (first : ℕ) (done : List Plan) (place : UnitNumber) (at wants : ℕ) (g : Group) (stop : Stop) → g.from ≡ at → g.to ≡ at + group_length (drop at rs) → wanted (sight_at p.codes (slice_get items at)) ≡ Some wants → IsStopIn (heard p items) (asked g wants) (place_at_group p.codes rs g place) stop → Finds p items rs first done place at → IsStopFrom (heard p items) rs first stop
+pub finds_doubt : (p : Contents) (items : List Seen) (rs : List Role) (first : ℕ) (done : List Plan) (place : UnitNumber) (at wants : ℕ) (g : Group) (stop : Stop) → g.from ≡ at → g.to ≡ at + group_length (drop at rs) → wanted (sight_at p.codes (slice_get items at)) ≡ Some wants → IsStopIn (decoded p items) (asked g wants) (place_at_group p.codes rs g place) stop → Finds p items rs first done place at → IsStopFrom (decoded p items) rs first stop
 finds_doubt p items rs first done place at wants g (Unexplained i doubt) from to asks is h = record { plans = done; are = searched_doubt p items rs _ place done at wants i doubt g from to asks is h.groups }
 finds_doubt p items rs first done place at wants g OutOfMemory from to asks is h = tt

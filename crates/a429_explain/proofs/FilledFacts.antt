@@ -12,21 +12,21 @@ use Rattle.a429_ldu.specs.Carried.{semis_in, joined_to, semis_of_words, paired, 
 use Rattle.a429_ldu.specs.CheckWord.{check_of}
 use Rattle.a429_ldu.proofs.FormFacts.{form_of-is}
 use Rattle.a429_link.specs.declared.seen.Seen.{Seen}
-use Rattle.a429_explain.specs.declared.heard.HeardWord.{HeardWord}
-use Rattle.a429_explain.specs.Heard.{IsHeardAt}
+use Rattle.a429_explain.specs.declared.decoded.DecodedWord.{DecodedWord}
+use Rattle.a429_explain.specs.Decoded.{IsHeardAt}
 use Rattle.a429_explain.specs.Filled.{is_end, has_end, gfi_of, first_gfi, Last, last_with, last_data, zeros, fillers, are_odd, none_yet, filled_up, unit_filled, filled}
-use Rattle.a429_explain.proofs.HeardFacts.{formed_range}
+use Rattle.a429_explain.proofs.DecodedFacts.{formed_range}
 use Rattle.a429_explain.proofs.WholeFacts.{range_next}
 
 -- ---- the next word
 
-pub end_next : (c : Codes) (items : List Seen) (at to : ℕ) (w : HeardWord) (t : Bool) → at < to → IsHeardAt c items at w → t ≡ is_end w.form → has_end c (slice_range items at to) ≡ (t || has_end c (slice_range items (at + 1) to))
+pub end_next : (c : Codes) (items : List Seen) (at to : ℕ) (w : DecodedWord) (t : Bool) → at < to → IsHeardAt c items at w → t ≡ is_end w.form → has_end c (slice_range items at to) ≡ (t || has_end c (slice_range items (at + 1) to))
 end_next c items at to w t l k e = ap (has_end c) (range_next items at to k.item l k.is) ∙ ap (λ (b : Bool). b || has_end c (slice_range items (at + 1) to)) (ap is_end k.form_is ∙ sym e)
 
-pub gfi_next : (c : Codes) (items : List Seen) (at to : ℕ) (w : HeardWord) (g : Option ℕ) → at < to → IsHeardAt c items at w → g ≡ gfi_of w.form → first_gfi c (slice_range items at to) ≡ unwrap_or g (first_gfi c (slice_range items (at + 1) to))
+pub gfi_next : (c : Codes) (items : List Seen) (at to : ℕ) (w : DecodedWord) (g : Option ℕ) → at < to → IsHeardAt c items at w → g ≡ gfi_of w.form → first_gfi c (slice_range items at to) ≡ unwrap_or g (first_gfi c (slice_range items (at + 1) to))
 gfi_next c items at to w g l k e = ap (first_gfi c) (range_next items at to k.item l k.is) ∙ ap (λ (x : Option ℕ). unwrap_or x (first_gfi c (slice_range items (at + 1) to))) (ap gfi_of k.form_is ∙ sym e)
 
-pub data_next : (c : Codes) (items : List Seen) (at to : ℕ) (w : HeardWord) (r s : Last) → at < to → IsHeardAt c items at w → s ≡ last_with w.form w.word r → last_data c (slice_range items at to) r ≡ last_data c (slice_range items (at + 1) to) s
+pub data_next : (c : Codes) (items : List Seen) (at to : ℕ) (w : DecodedWord) (r s : Last) → at < to → IsHeardAt c items at w → s ≡ last_with w.form w.word r → last_data c (slice_range items at to) r ≡ last_data c (slice_range items (at + 1) to) s
 data_next c items at to w r s l k g =
     ap (λ (xs : List Seen). last_data c xs r) (range_next items at to k.item l k.is)
     ∙ ap (λ (x : Option Form). last_data c (slice_range items (at + 1) to) (last_with x k.item.word r)) k.form_is
@@ -99,7 +99,7 @@ data_kept p is b w o r s e g h = subst (λ (l : Last). IsSome (semis_of_words p.
     by (Some (Part semis)) e = part r.begins (on_bus_a p is b w semis e)
     by _ e = h
 
-pub data_heard : (p : Contents) → IsProfile p → (items : List Seen) (n : ℕ) (w : HeardWord) (r s : Last) → IsHeardAt p.codes items n w → s ≡ last_with w.form w.word r → IsSome (semis_of_words p.codes r.words) → IsSome (semis_of_words p.codes s.words)
+pub data_heard : (p : Contents) → IsProfile p → (items : List Seen) (n : ℕ) (w : DecodedWord) (r s : Last) → IsHeardAt p.codes items n w → s ≡ last_with w.form w.word r → IsSome (semis_of_words p.codes r.words) → IsSome (semis_of_words p.codes s.words)
 data_heard p is items n w r s k g h = data_kept p is k.item.bus w.word w.form r s (sym (subst (λ (v : ℕ). form_of p.codes k.item.bus v ≡ w.form) k.word_is k.form_is)) g h
 
 is_some_map : (n : ℕ) (o : Option (List ℕ)) → is_some (option_map (λ bytes. n ∷ bytes) o) ≡ is_some o

@@ -16,11 +16,11 @@ use Rattle.a429_explain.specs.declared.stop.Stop.TheVariants.{Unexplained, OutOf
 use Rattle.a429_explain.specs.declared.verdict.Doubt.{Doubt}
 use Rattle.a429_explain.specs.declared.verdict.Doubt.TheVariants.{NeverWhole, NotOneBlock, NotReplayed}
 use Rattle.a429_explain.specs.Attempts.{roles}
-use Rattle.a429_explain.specs.Heard.{forms_of, sight_at}
+use Rattle.a429_explain.specs.Decoded.{forms_of, sight_at}
 use Rattle.a429_explain.specs.Block.{IsMatchedUnit, IsDoubtIn}
 use Rattle.a429_explain.specs.Groups.{group_length, group_from, group_start, start_of, first_started}
 use Rattle.a429_explain.specs.Plan.{give_ups_from}
-use Rattle.a429_explain.specs.Guess.{first_file_of, first_place, heard, IsNoRequestFrom, IsFirstRequest, place_at_group, place_past, ArePlansBefore, ArePlansOf, ArePlansFrom, IsNextDoubt, IsGroupStop, IsStopFrom, IsFirstStop, HasNoDoubt}
+use Rattle.a429_explain.specs.Guess.{first_file_of, first_place, decoded, IsNoRequestFrom, IsFirstRequest, place_at_group, place_past, ArePlansBefore, ArePlansOf, ArePlansFrom, IsNextDoubt, IsGroupStop, IsStopFrom, IsFirstStop, HasNoDoubt}
 use Rattle.a429_explain.specs.Whole.{wanted}
 
 -- a group whose first request wants so many words
@@ -89,7 +89,7 @@ group_is rs at g from to = ap (λ (n : ℕ). begun n g.to) from ∙ ap (begun at
     begun from to = record { from = from; to = to }
 
 -- past a group
-pub searched_group : (p : Contents) (items : List Seen) (rs : List Role) (start place next : UnitNumber) (done new : List Plan) (at wants : ℕ) (g : Group) (plan : Plan) → g.from ≡ at → g.to ≡ at + group_length (drop at rs) → wanted (sight_at p.codes (slice_get items at)) ≡ Some wants → plan.at ≡ at → plan.give_ups ≡ give_ups_from place (group_start rs g) → IsMatchedUnit (heard p items) (asked g wants) (place_at_group p.codes rs g place) plan.unit → new ≡ done ++ plan ∷ [] → next ≡ place_past p.codes rs g place plan.unit → AreSearched p items rs start done place at → AreSearched p items rs start new next g.to
+pub searched_group : (p : Contents) (items : List Seen) (rs : List Role) (start place next : UnitNumber) (done new : List Plan) (at wants : ℕ) (g : Group) (plan : Plan) → g.from ≡ at → g.to ≡ at + group_length (drop at rs) → wanted (sight_at p.codes (slice_get items at)) ≡ Some wants → plan.at ≡ at → plan.give_ups ≡ give_ups_from place (group_start rs g) → IsMatchedUnit (decoded p items) (asked g wants) (place_at_group p.codes rs g place) plan.unit → new ≡ done ++ plan ∷ [] → next ≡ place_past p.codes rs g place plan.unit → AreSearched p items rs start done place at → AreSearched p items rs start new next g.to
 searched_group p items rs start place next done new at wants g plan from to w here gives is pushed after h = subst (λ (us : List Plan). AreSearched p items rs start us next g.to) (sym pushed) (followed _ (HasCome p.codes items next g.to) p items rs start 0 done (plan ∷ []) on h)
   where
     same : g ≡ group_from rs at
@@ -103,7 +103,7 @@ searched_group p items rs start place next done new at wants g plan from to w he
         at_is = here;
         first = next_request p.codes items place q at n wants w c;
         give_ups = subst (λ (r : UnitNumber). plan.give_ups ≡ give_ups_from r (group_start rs (group_from rs at))) (sym c.same) (subst (λ (x : Group). plan.give_ups ≡ give_ups_from place (group_start rs x)) same gives);
-        is = subst (λ (r : UnitNumber). IsMatchedUnit (heard p items) (asked (group_from rs at) wants) (place_at_group p.codes rs (group_from rs at) r) plan.unit) (sym c.same) (subst (λ (x : Group). IsMatchedUnit (heard p items) (asked x wants) (place_at_group p.codes rs x place) plan.unit) same is);
+        is = subst (λ (r : UnitNumber). IsMatchedUnit (decoded p items) (asked (group_from rs at) wants) (place_at_group p.codes rs (group_from rs at) r) plan.unit) (sym c.same) (subst (λ (x : Group). IsMatchedUnit (decoded p items) (asked x wants) (place_at_group p.codes rs x place) plan.unit) same is);
       },
       record {
         same = ap (λ (r : UnitNumber). place_past p.codes rs (group_from rs at) r plan.unit) c.same ∙ ap (λ (x : Group). place_past p.codes rs x place plan.unit) (sym same) ∙ sym after;
@@ -125,7 +125,7 @@ searched_all p items rs start place done at l h = ended _ (λ numbers n. IsNoReq
         past k o = ap (λ (s : Option Seen). wanted (sight_at p.codes s)) (slice_get_past items k o)
 
 -- the next group is doubted
-pub searched_doubt : (p : Contents) (items : List Seen) (rs : List Role) (start place : UnitNumber) (done : List Plan) (at wants i : ℕ) (doubt : Doubt) (g : Group) → g.from ≡ at → g.to ≡ at + group_length (drop at rs) → wanted (sight_at p.codes (slice_get items at)) ≡ Some wants → IsDoubtIn (heard p items) (asked g wants) (place_at_group p.codes rs g place) i doubt → AreSearched p items rs start done place at → ArePlansBefore (IsNextDoubt p items rs i doubt) p items rs start 0 done
+pub searched_doubt : (p : Contents) (items : List Seen) (rs : List Role) (start place : UnitNumber) (done : List Plan) (at wants i : ℕ) (doubt : Doubt) (g : Group) → g.from ≡ at → g.to ≡ at + group_length (drop at rs) → wanted (sight_at p.codes (slice_get items at)) ≡ Some wants → IsDoubtIn (decoded p items) (asked g wants) (place_at_group p.codes rs g place) i doubt → AreSearched p items rs start done place at → ArePlansBefore (IsNextDoubt p items rs i doubt) p items rs start 0 done
 searched_doubt p items rs start place done at wants i doubt g from to w is h = ended _ (IsNextDoubt p items rs i doubt) p items rs start 0 done on h
   where
     on : (q : UnitNumber) (n : ℕ) → HasCome p.codes items place at q n → IsNextDoubt p items rs i doubt q n
@@ -133,7 +133,7 @@ searched_doubt p items rs start place done at wants i doubt g from to w is h = e
       from = at;
       wants = wants;
       first = next_request p.codes items place q at n wants w c;
-      is = subst (λ (r : UnitNumber). IsDoubtIn (heard p items) (asked (group_from rs at) wants) (place_at_group p.codes rs (group_from rs at) r) i doubt) (sym c.same) (subst (λ (x : Group). IsDoubtIn (heard p items) (asked x wants) (place_at_group p.codes rs x place) i doubt) (group_is rs at g from to) is);
+      is = subst (λ (r : UnitNumber). IsDoubtIn (decoded p items) (asked (group_from rs at) wants) (place_at_group p.codes rs (group_from rs at) r) i doubt) (sym c.same) (subst (λ (x : Group). IsDoubtIn (decoded p items) (asked x wants) (place_at_group p.codes rs x place) i doubt) (group_is rs at g from to) is);
     }
 
 -- no group is doubted for its steps
@@ -143,14 +143,14 @@ not_replayed p items rs place at i (u ∷ us) h = not_replayed p items rs (place
 
 -- ---- a recording
 
-pub no_doubt : (p : Contents) (items : List Seen) (rs : List Role) (first : ℕ) (plans : List Plan) → rs ≡ roles (forms_of p.codes items) → first ≡ first_file_of (forms_of p.codes items) → ArePlansFrom (heard p items) rs first plans → HasNoDoubt p items
+pub no_doubt : (p : Contents) (items : List Seen) (rs : List Role) (first : ℕ) (plans : List Plan) → rs ≡ roles (forms_of p.codes items) → first ≡ first_file_of (forms_of p.codes items) → ArePlansFrom (decoded p items) rs first plans → HasNoDoubt p items
 no_doubt p items rs first plans are from h = record {
   plans = plans;
-  are = subst (λ (n : ℕ). ArePlansFrom (heard p items) (roles (forms_of p.codes items)) n plans) from (subst (λ (q : List Role). ArePlansFrom (heard p items) q first plans) are h);
+  are = subst (λ (n : ℕ). ArePlansFrom (decoded p items) (roles (forms_of p.codes items)) n plans) from (subst (λ (q : List Role). ArePlansFrom (decoded p items) q first plans) are h);
 }
 
-pub first_stop : (p : Contents) (items : List Seen) (rs : List Role) (first : ℕ) (stop : Stop) → rs ≡ roles (forms_of p.codes items) → first ≡ first_file_of (forms_of p.codes items) → IsStopFrom (heard p items) rs first stop → IsFirstStop p items stop
-first_stop p items rs first stop are from h = by stop (subst (λ (n : ℕ). IsStopFrom (heard p items) (roles (forms_of p.codes items)) n stop) from (subst (λ (q : List Role). IsStopFrom (heard p items) q first stop) are h))
+pub first_stop : (p : Contents) (items : List Seen) (rs : List Role) (first : ℕ) (stop : Stop) → rs ≡ roles (forms_of p.codes items) → first ≡ first_file_of (forms_of p.codes items) → IsStopFrom (decoded p items) rs first stop → IsFirstStop p items stop
+first_stop p items rs first stop are from h = by stop (subst (λ (n : ℕ). IsStopFrom (decoded p items) (roles (forms_of p.codes items)) n stop) from (subst (λ (q : List Role). IsStopFrom (decoded p items) q first stop) are h))
   where
     by : (s : Stop) → IsGroupStop p items (roles (forms_of p.codes items)) (first_place p items) s → IsFirstStop p items s
     by OutOfMemory h = tt

@@ -1,5 +1,5 @@
 pub mod WalkFacts
-pub mod HeardFacts
+pub mod DecodedFacts
 pub mod ScreeningFacts
 pub mod AttemptsFacts
 pub mod MatchingFacts

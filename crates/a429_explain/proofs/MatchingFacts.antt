@@ -10,8 +10,8 @@ use Rattle.a429_link.specs.declared.seen.Seen.{Seen}
 use Rattle.a429_record.specs.declared.entry.Entry.{Entry}
 use Rattle.a429_cert.specs.Explained.{seen_of, items_of}
 use Rattle.a429_link.specs.declared.number.UnitNumber.{UnitNumber}
-use Rattle.a429_explain.specs.declared.heard.HeardWord.{HeardWord}
-use Rattle.a429_explain.specs.Heard.{IsHeardAt}
+use Rattle.a429_explain.specs.declared.decoded.DecodedWord.{DecodedWord}
+use Rattle.a429_explain.specs.Decoded.{IsHeardAt}
 use Rattle.a429_explain.specs.Matching.{is_word, passed_with, passing_as, passing, passed_after}
 
 passed_one : (is : ℕ → Bool) (k n : ℕ) → is k ≡ false → passed_with is k (suc n) ≡ passed_with is (suc k) n
@@ -57,7 +57,7 @@ passed_next c u place items a n i passed m e h =
 pub passed_none : (c : Codes) (u : LduValue) (place : UnitNumber) (items : List Seen) (a : ℕ) → passed_after c u place (slice_range items a a) (Some 0) ≡ Some 0
 passed_none c u place items a = let none : a - a ≡ 0 = omega arith in ap (λ (k : ℕ). passed_after c u place (take k (drop a items)) (Some 0)) none
 
-pub passed_step : (c : Codes) (u : LduValue) (place : UnitNumber) (items : List Seen) (a n : ℕ) (w : HeardWord) (passed : ℕ) (r : Option ℕ) → a ≤ n → IsHeardAt c items n w → passed_after c u place (slice_range items a n) (Some 0) ≡ Some passed → r ≡ passing_as w.form (passed_with (is_word c u place w.word) passed (count_of u - passed)) passed → passed_after c u place (slice_range items a (n + 1)) (Some 0) ≡ r
+pub passed_step : (c : Codes) (u : LduValue) (place : UnitNumber) (items : List Seen) (a n : ℕ) (w : DecodedWord) (passed : ℕ) (r : Option ℕ) → a ≤ n → IsHeardAt c items n w → passed_after c u place (slice_range items a n) (Some 0) ≡ Some passed → r ≡ passing_as w.form (passed_with (is_word c u place w.word) passed (count_of u - passed)) passed → passed_after c u place (slice_range items a (n + 1)) (Some 0) ≡ r
 passed_step c u place items a n w passed r m k h e =
     passed_next c u place items a n k.item passed m k.is h
     ∙ ap (λ (x : Option Form). passing_as x (passed_with (is_word c u place k.item.word) passed (count_of u - passed)) passed) k.form_is

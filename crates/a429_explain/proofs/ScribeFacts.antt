@@ -156,13 +156,13 @@ explains items first text gave l h =
     }
 
 -- the text explains the words written, by a run that delivers what the link has delivered
-pub certificate_written : (items : List Seen) (first : ℕ) (text : List ℕ) (gave : Bool) (l : LinkValue) → HasWritten first items text gave l → IsExplained l.profile (in_version gave text) items l.state.sink.shelf.files
+pub certificate_written : (items : List Seen) (first : ℕ) (text : List ℕ) (gave : Bool) (l : LinkValue) → HasWritten first items text gave l → IsExplained l.profile (in_version gave text) items l.state.sink.received.files
 certificate_written items first text gave l h =
     record {
       first = first;
       steps = h.steps;
       explains = explains items first text gave l h;
-      delivers = ap (λ (s : State). s.sink.shelf.files) h.ends;
+      delivers = ap (λ (s : State). s.sink.received.files) h.ends;
     }
 
 -- and is of the least version
@@ -173,7 +173,7 @@ version_written items first text gave l h = record { first = first; steps = h.st
 -- the words written begin a run
 pub run_begun : (items : List Seen) (first : ℕ) (text : List ℕ) (gave : Bool) (l : LinkValue) → HasWritten first items text gave l → BeginsARun l.profile items
 run_begun items first text gave l h =
-    let r = in_some_run l.profile (in_version gave text) items l.state.sink.shelf.files (certificate_written items first text gave l h) in
+    let r = in_some_run l.profile (in_version gave text) items l.state.sink.received.files (certificate_written items first text gave l h) in
     record { first = r.first; byte = r.byte; steps = r.steps; run = r.run; more = []; records = r.recorded ∙ sym (append-nil items) }
 
 -- so the words before an entry whose steps are refused do

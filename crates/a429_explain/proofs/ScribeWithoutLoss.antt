@@ -26,10 +26,10 @@ use Rattle.a429_explain.specs.declared.attempts.Role.TheVariants as role
 use Rattle.a429_explain.specs.declared.guess.Guess.{Guess}
 use Rattle.a429_explain.specs.declared.plan.Plan.{Plan}
 use Rattle.a429_explain.specs.Plan.{plain, plan_for, plans_left}
-use Rattle.a429_explain.specs.Guess.{heard, plain_plans, IsOfCrossing}
+use Rattle.a429_explain.specs.Guess.{decoded, plain_plans, IsOfCrossing}
 use Rattle.a429_explain.specs.Whole.{wanted}
 use Rattle.a429_explain.specs.Attempts.{attempt_start, sends_block as sends_words, are_numbers, role_of, roles}
-use Rattle.a429_explain.specs.Heard.{forms_of}
+use Rattle.a429_explain.specs.Decoded.{forms_of}
 use Rattle.a429_explain.specs.Scribe.{IsLossless, lossless_steps, link_after}
 use Rattle.a429_explain.specs.Matching.{IsOfBlock}
 use Rattle.a429_explain.proofs.CleanBlock.{AreOfBlock, block_has_forms, formed_sight}
@@ -238,7 +238,7 @@ planned_clean p is (u ∷ us) place f h =
 -- ---- the whole recording
 
 -- a recording without loss is on plan at its start
-pub plan_starts : (p : Contents) → IsProfile p → (items : List Seen) (g : Guess) (l : LinkValue) → g.first_file ≤ 255 → IsOfCrossing (heard p items) g → l ≡ record { profile = p; state = start p g.first_file } → OnPlan p items 0 g.plans.items l
+pub plan_starts : (p : Contents) → IsProfile p → (items : List Seen) (g : Guess) (l : LinkValue) → g.first_file ≤ 255 → IsOfCrossing (decoded p items) g → l ≡ record { profile = p; state = start p g.first_file } → OnPlan p items 0 g.plans.items l
 plan_starts p is items g l f h same =
     let us = h.units in
     let place = first_number p.codes g.first_file in

@@ -14,7 +14,7 @@ use Rattle.a429_link.specs.declared.seen.Seen.{Seen}
 use Rattle.a429_link.specs.Clean.{without_free}
 use Rattle.a429_link.specs.declared.number.UnitNumber.{UnitNumber}
 use Rattle.a429_explain.specs.Attempts.{attempt_start, next_start}
-use Rattle.a429_explain.specs.Heard.{forms_of}
+use Rattle.a429_explain.specs.Decoded.{forms_of}
 use Rattle.a429_explain.specs.Matching.{is_word, passed_with, passing_as, passed_after}
 use Rattle.a429_explain.specs.Whole.{Recorded, gathered_with, ended_by, first_whole, wanted, is_other, other_request}
 use Rattle.a429_explain.proofs.WalkFacts.{free_none}

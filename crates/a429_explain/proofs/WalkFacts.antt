@@ -21,8 +21,8 @@ use Rattle.a429_cert.specs.Explained.{seen_of, items_of}
 use Rattle.a429_explain.specs.declared.verdict.Reason.{Reason}
 use Rattle.a429_explain.specs.Verdict.{HasNoForm}
 use Rattle.a429_explain.specs.declared.verdict.Doubt.TheVariants.{NotOneBlock}
-use Rattle.a429_explain.specs.declared.heard.HeardWord.{HeardWord}
-use Rattle.a429_explain.specs.Heard.{sight_at, sights_of, IsHeardAt}
+use Rattle.a429_explain.specs.declared.decoded.DecodedWord.{DecodedWord}
+use Rattle.a429_explain.specs.Decoded.{sight_at, sights_of, IsHeardAt}
 use Rattle.a429_explain.specs.Stop.{IsDoubtOf, IsDoubtAt}
 use Rattle.a429_explain.specs.Matching.{IsOfBlock}
 use Rattle.a429_explain.specs.Walk.{AreAllowed, FitsAt, FitsSight, IsRefusable, IsRefusal}
@@ -128,7 +128,7 @@ pub formed : (p : Contents) (items : List Seen) → AreAllowed p items (length i
 formed p items h = formed_from p items at_first h
 
 -- a word of a block can be doubted
-pub block_doubt : (c : Codes) (items : List Seen) (n : ℕ) (w : HeardWord) → IsHeardAt c items n w → IsOfBlock w.form → IsDoubtAt c items n NotOneBlock
+pub block_doubt : (c : Codes) (items : List Seen) (n : ℕ) (w : DecodedWord) → IsHeardAt c items n w → IsOfBlock w.form → IsDoubtAt c items n NotOneBlock
 block_doubt c items n w k b = subst (λ (o : Option Seen). IsDoubtOf (sight_at c o) NotOneBlock) (sym k.is) (by (is_free c k.item.bus k.item.word) (form_of c k.item.bus k.item.word) (free_none c k.item.bus k.item.word) (subst IsOfBlock (sym k.form_is) b))
   where
     by : (t : Bool) (o : Option Form) → (t ≡ true → o ≡ None) → IsOfBlock o → IsDoubtOf (cond t sight.Free (sight_in o)) NotOneBlock

@@ -20,8 +20,8 @@ use Rattle.a429_ldu.specs.declared.sight.Sight.{Sight}
 use Rattle.a429_ldu.specs.declared.sight.Sight.TheVariants as sight
 use Rattle.a429_explain.specs.declared.verdict.Doubt.TheVariants.{NotOneBlock}
 use Rattle.a429_explain.specs.Stop.{IsDoubtOf, IsDoubtAt}
-use Rattle.a429_explain.specs.declared.heard.HeardWord.{HeardWord}
-use Rattle.a429_explain.specs.Heard.{sight_at, IsHeardAt}
+use Rattle.a429_explain.specs.declared.decoded.DecodedWord.{DecodedWord}
+use Rattle.a429_explain.specs.Decoded.{sight_at, IsHeardAt}
 use Rattle.a429_explain.specs.Whole.{Recorded, gathered_with, is_whole, unit_made, ended_by, first_whole, wanted, is_other, other_request}
 use Rattle.a429_explain.proofs.CleanBlock.{made_of}
 
@@ -107,17 +107,17 @@ unit_not_made p is count start gfi flags check words f l s n h =
     sym (ap (λ (o : Option ℕ). unit_made p count o words flags check) s ∙ ap (λ (t : Bool). cond t (Some v) None) (not_whole p is count words check f l n h))
 
 -- the search goes on behind a word
-pub whole_next : (p : Contents) (count : ℕ) (items : List Seen) (at to : ℕ) (w : HeardWord) (r : Recorded) → at < to → IsHeardAt p.codes items at w → first_whole p count (slice_range items at to) r ≡ option_or (ended_by p count w.form r) (first_whole p count (slice_range items (at + 1) to) (gathered_with w.form w.word r))
+pub whole_next : (p : Contents) (count : ℕ) (items : List Seen) (at to : ℕ) (w : DecodedWord) (r : Recorded) → at < to → IsHeardAt p.codes items at w → first_whole p count (slice_range items at to) r ≡ option_or (ended_by p count w.form r) (first_whole p count (slice_range items (at + 1) to) (gathered_with w.form w.word r))
 whole_next p count items at to w r l k =
     ap (λ (xs : List Seen). first_whole p count xs r) (range_next items at to k.item l k.is)
     ∙ ap (λ (x : Option Form). option_or (ended_by p count x r) (first_whole p count (slice_range items (at + 1) to) (gathered_with x k.item.word r))) k.form_is
     ∙ ap (λ (v : ℕ). option_or (ended_by p count w.form r) (first_whole p count (slice_range items (at + 1) to) (gathered_with w.form v r))) k.word_is
 
-pub whole_here : (p : Contents) (count : ℕ) (items : List Seen) (at to : ℕ) (w : HeardWord) (r : Recorded) (u : LduValue) → at < to → IsHeardAt p.codes items at w → Some u ≡ ended_by p count w.form r → first_whole p count (slice_range items at to) r ≡ Some u
+pub whole_here : (p : Contents) (count : ℕ) (items : List Seen) (at to : ℕ) (w : DecodedWord) (r : Recorded) (u : LduValue) → at < to → IsHeardAt p.codes items at w → Some u ≡ ended_by p count w.form r → first_whole p count (slice_range items at to) r ≡ Some u
 whole_here p count items at to w r u l k e =
     whole_next p count items at to w r l k ∙ ap (λ (x : Option LduValue). option_or x (first_whole p count (slice_range items (at + 1) to) (gathered_with w.form w.word r))) (sym e)
 
-pub whole_on : (p : Contents) (count : ℕ) (items : List Seen) (at to : ℕ) (w : HeardWord) (r s : Recorded) → at < to → IsHeardAt p.codes items at w → None ≡ ended_by p count w.form r → s ≡ gathered_with w.form w.word r → first_whole p count (slice_range items at to) r ≡ first_whole p count (slice_range items (at + 1) to) s
+pub whole_on : (p : Contents) (count : ℕ) (items : List Seen) (at to : ℕ) (w : DecodedWord) (r s : Recorded) → at < to → IsHeardAt p.codes items at w → None ≡ ended_by p count w.form r → s ≡ gathered_with w.form w.word r → first_whole p count (slice_range items at to) r ≡ first_whole p count (slice_range items (at + 1) to) s
 whole_on p count items at to w r s l k e g =
     whole_next p count items at to w r l k
     ∙ ap (λ (x : Option LduValue). option_or x (first_whole p count (slice_range items (at + 1) to) (gathered_with w.form w.word r))) (sym e)

@@ -19,8 +19,8 @@ use Rattle.a429_link.specs.Clean.{AllFit, on_a, clean_block, clean_words, withou
 use Rattle.a429_link.specs.Run.{BeginsARun}
 use Rattle.a429_link.proofs.CleanFiles.{EachCut, all_fit}
 use Rattle.a429_link.proofs.CleanRuns.{clean_is_run}
-use Rattle.a429_explain.specs.Heard.{forms_of}
-use Rattle.a429_explain.specs.Guess.{first_file_of, heard, HaveCrossed}
+use Rattle.a429_explain.specs.Decoded.{forms_of}
+use Rattle.a429_explain.specs.Guess.{first_file_of, decoded, HaveCrossed}
 use Rattle.a429_explain.specs.WithoutLoss.{Crossing, CanCross, IsWithoutLoss}
 use Rattle.a429_explain.specs.Matching.{IsOfBlock}
 use Rattle.a429_explain.proofs.CleanBlock.{HasForms, AreOfBlock, block_has_forms, formed_free}
@@ -61,7 +61,7 @@ units_fit : (p : Contents) → IsProfile p → (items : List Seen) (h : IsWithou
 units_fit p is items h first = all_fit p h.crossing.max_words h.crossing.files (each_cut p is h.crossing.max_words 0 h.crossing.files h.can.least h.can.most h.can.bytes h.can.cut) first
 
 -- they are those that are found
-pub units_found : (p : Contents) → IsProfile p → (items : List Seen) (h : IsWithoutLoss p items) (first : ℕ) → first ≡ first_file_of (forms_of p.codes items) → HaveCrossed (heard p items) first (its_units p items h)
+pub units_found : (p : Contents) → IsProfile p → (items : List Seen) (h : IsWithoutLoss p items) (first : ℕ) → first ≡ first_file_of (forms_of p.codes items) → HaveCrossed (decoded p items) first (its_units p items h)
 units_found p is items h first e = rw e (record { fit = units_fit p is items h (first_file_of (forms_of p.codes items)); words = clean_from_first p is h.crossing.first (its_units p items h) items h.can.byte (units_fit p is items h h.crossing.first) h.words })
 
 -- a run's trace begins with any number of its words

@@ -10,7 +10,7 @@ use Rattle.a429_explain.specs.declared.stop.Stop.TheVariants.{Unexplained, OutOf
 use Rattle.a429_explain.specs.declared.verdict.Doubt.{Doubt}
 use Rattle.a429_explain.specs.declared.verdict.Doubt.TheVariants.{NeverWhole, NotOneBlock, NotReplayed}
 use Rattle.a429_explain.specs.Filled.{group_unit}
-use Rattle.a429_explain.specs.Heard.{HeardValue}
+use Rattle.a429_explain.specs.Decoded.{HeardValue}
 use Rattle.a429_explain.specs.Matching.{AreMatched}
 use Rattle.a429_explain.specs.Whole.{words_for, other_request}
 

@@ -20,7 +20,7 @@ use Rattle.a429_explain.specs.declared.verdict.Doubt.TheVariants.{NotReplayed}
 use Rattle.a429_explain.specs.Attempts.{next_start, roles}
 use Rattle.a429_explain.specs.Block.{IsMatchedUnit, IsDoubtIn}
 use Rattle.a429_explain.specs.Groups.{group_from, group_start, is_settled}
-use Rattle.a429_explain.specs.Heard.{HeardValue, sight_at, forms_of}
+use Rattle.a429_explain.specs.Decoded.{HeardValue, sight_at, forms_of}
 use Rattle.a429_link.specs.Number.{first_number}
 use Rattle.a429_explain.specs.declared.plan.Plan.{Plan}
 use Rattle.a429_explain.specs.Plan.{place_from, give_ups_from, place_behind, ArePlans, plain}
@@ -58,8 +58,8 @@ abbrev pub IsNoRequestFrom : Codes → List Seen → ℕ → Type 0
 IsNoRequestFrom c items at = (k : ℕ) → at ≤ k → wanted (sight_at c (slice_get items k)) ≡ None
 
 -- the recording of these words
-abbrev pub heard : Contents → List Seen → HeardValue
-heard p items = record { profile = p; items = items }
+abbrev pub decoded : Contents → List Seen → HeardValue
+decoded p items = record { profile = p; items = items }
 
 -- the group that begins with the request at this place
 abbrev pub request_at : List Role → ℕ → ℕ → Request
@@ -81,7 +81,7 @@ pub record IsNextPlan (p : Contents) (items : List Seen) (rs : List Role) (place
   pub at_is : plan.at ≡ from
   pub first : IsFirstRequest p.codes items at from wants
   pub give_ups : plan.give_ups ≡ give_ups_from place (group_start rs (group_from rs from))
-  pub is : IsMatchedUnit (heard p items) (request_at rs from wants) (place_at_group p.codes rs (group_from rs from) place) plan.unit
+  pub is : IsMatchedUnit (decoded p items) (request_at rs from wants) (place_at_group p.codes rs (group_from rs from) place) plan.unit
 
 -- the first groups from place `at` on, to the first of which the source comes with these numbers, have these plans; behind
 -- them this comes, at the numbers and the place that follow
@@ -106,7 +106,7 @@ pub record IsNextDoubt (p : Contents) (items : List Seen) (rs : List Role) (i : 
   pub from : ℕ
   pub wants : ℕ
   pub first : IsFirstRequest p.codes items at from wants
-  pub is : IsDoubtIn (heard p items) (request_at rs from wants) (place_at_group p.codes rs (group_from rs from) place) i doubt
+  pub is : IsDoubtIn (decoded p items) (request_at rs from wants) (place_at_group p.codes rs (group_from rs from) place) i doubt
 
 -- the groups before it pass their tests, and this group does not
 pub record IsFirstDoubt (p : Contents) (items : List Seen) (rs : List Role) (place : UnitNumber) (i : ℕ) (doubt : Doubt) : Type 0 where

@@ -1,6 +1,6 @@
 pub mod Walk
 pub mod Attempts
-pub mod Heard
+pub mod Decoded
 pub mod Screening
 pub mod Stop
 pub mod Explanation

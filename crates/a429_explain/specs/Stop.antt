@@ -5,7 +5,7 @@ use Rattle.a429_ldu.specs.declared.forms.Form.TheVariants.{Rts, Sot, Part, Eot}
 use Rattle.a429_ldu.specs.declared.sight.Sight.{Sight}
 use Rattle.a429_ldu.specs.declared.sight.Sight.TheVariants as sight
 use Rattle.a429_link.specs.declared.seen.Seen.{Seen}
-use Rattle.a429_explain.specs.Heard.{sight_at}
+use Rattle.a429_explain.specs.Decoded.{sight_at}
 use Rattle.a429_explain.specs.declared.stop.Stop.{Stop}
 use Rattle.a429_explain.specs.declared.stop.Stop.TheVariants.{Unexplained, OutOfMemory}
 use Rattle.a429_explain.specs.declared.verdict.Doubt.{Doubt}

@@ -16,7 +16,7 @@ use Rattle.a429_ldu.specs.Ldu.{LduValue}
 use Rattle.a429_link.specs.declared.seen.Seen.{Seen}
 use Rattle.a429_explain.specs.declared.groups.Request.{Request}
 use Rattle.a429_explain.specs.Groups.{words_of_group}
-use Rattle.a429_explain.specs.Heard.{HeardValue, sight_at}
+use Rattle.a429_explain.specs.Decoded.{HeardValue, sight_at}
 
 -- what an attempt has recorded: the general format identifier of its start word, and its data words
 pub record Recorded : Type 0 where

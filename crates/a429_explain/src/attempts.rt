@@ -2,10 +2,10 @@
 
 ghost use Rattle.std.specs.Prelude.{◌≡◌, ◌∷◌, List, Option, IfOk, not};
 ghost use Rattle.a429_ldu.specs.declared.forms.Form.{Form};
-ghost use Rattle.a429_explain.specs.Heard.{forms_of};
+ghost use Rattle.a429_explain.specs.Decoded.{forms_of};
 ghost use Rattle.a429_explain.specs.Attempts.{sends_block, next_start, are_numbers, role_of, roles, IsAhead};
 
-use crate::heard::Heard;
+use crate::decoded::Decoded;
 use a429_ldu::Form;
 use a429_link::UnitNumber;
 use std::alloc::{AllocError, Global};
@@ -49,19 +49,19 @@ pub(crate) struct Ahead {
 }
 
 /// The role of each recorded word, by the rule of `check`.
-pub fn roles(alloc: Global, heard: &Heard) -> Result<Vec<Role>, AllocError>
-    ensures { IfOk result (λ found. found.items ≡ roles (forms_of heard.now.profile.codes heard.now.items)) }
+pub fn roles(alloc: Global, decoded: &Decoded) -> Result<Vec<Role>, AllocError>
+    ensures { IfOk result (λ found. found.items ≡ roles (forms_of decoded.now.profile.codes decoded.now.items)) }
 {
-    let mut found = Vec::with_capacity(alloc, heard.len())?;
+    let mut found = Vec::with_capacity(alloc, decoded.len())?;
     let mut ahead = Ahead {
         sends_block: false,
         attempt: None,
         start: None,
     };
-    let mut left = heard.len();
+    let mut left = decoded.len();
     while left > 0 {
         left -= 1;
-        let form = heard.word(left).form;
+        let form = decoded.word(left).form;
         found.push(role_of(&form, ahead))?;
         ahead = before(&form, ahead);
     }

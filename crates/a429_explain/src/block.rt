@@ -7,9 +7,9 @@ ghost use Rattle.a429_explain.specs.Stop.{IsDoubtAt, IsStop};
 ghost use Rattle.a429_explain.specs.Whole.{IsRequestOf};
 ghost use Rattle.a429_explain.specs.Block.{other_for, IsUnitFor, IsWhyNoUnit, IsMatchedUnit, IsStopIn, HasCrossed};
 
+use crate::decoded::Decoded;
 use crate::filled::filled_unit;
 use crate::groups::{Request, wanted};
-use crate::heard::Heard;
 use crate::matching::first_unmatched;
 use crate::stop::Stop;
 use crate::verdict::Doubt;
@@ -21,25 +21,25 @@ use std::alloc::Global;
 /// The link data unit of a group, where each word of the group stands in its block under these numbers.
 pub(crate) fn matched_unit(
     alloc: Global,
-    heard: &Heard,
+    decoded: &Decoded,
     request: Request,
     place: UnitNumber,
 ) -> Result<Ldu, Stop>
-    requires { IsRequestOf heard.now request }
-    ensures unit { IfOk result (λ u. IsMatchedUnit heard.now request place u) }
-    ensures fits { IfErr result (λ s. IsStop heard.now.profile.codes heard.now.items s) }
-    ensures first { IfErr result (λ s. IsStopIn heard.now request place s) }
-    ensures other { (i : ℕ) → other_for heard.now request ≡ Some i → result ≡ Err (Stop.Unexplained i doubt.NotOneBlock) }
-    ensures crossed { (u : LduValue) → HasCrossed heard.now request place u → IfOk result (λ v. v ≡ u) }
-    ensures crossed_err { (u : LduValue) → HasCrossed heard.now request place u → IfErr result (λ s. s ≡ Stop.OutOfMemory) }
+    requires { IsRequestOf decoded.now request }
+    ensures unit { IfOk result (λ u. IsMatchedUnit decoded.now request place u) }
+    ensures fits { IfErr result (λ s. IsStop decoded.now.profile.codes decoded.now.items s) }
+    ensures first { IfErr result (λ s. IsStopIn decoded.now request place s) }
+    ensures other { (i : ℕ) → other_for decoded.now request ≡ Some i → result ≡ Err (Stop.Unexplained i doubt.NotOneBlock) }
+    ensures crossed { (u : LduValue) → HasCrossed decoded.now request place u → IfOk result (λ v. v ≡ u) }
+    ensures crossed_err { (u : LduValue) → HasCrossed decoded.now request place u → IfErr result (λ s. s ≡ Stop.OutOfMemory) }
 {
     // (for the proof: the profile is sound)
-    let _profile = heard.profile();
-    let unit = match unit_of(alloc, heard, request) {
+    let _profile = decoded.profile();
+    let unit = match unit_of(alloc, decoded, request) {
         Ok(unit) => unit,
         Err(stop) => return Err(stop),
     };
-    match first_unmatched(heard, request.group, &unit, place) {
+    match first_unmatched(decoded, request.group, &unit, place) {
         Some(entry) => {
             let doubt = Doubt::NotOneBlock;
             Err(Stop::Unexplained { entry, doubt })
@@ -51,22 +51,22 @@ pub(crate) fn matched_unit(
 // The link data unit of a group whose first request wants this many words. The first whole attempt
 // gives it. Where there is none, and no end word was recorded, it is one of the data words of the last
 // attempt that recorded any, and of filler words behind them.
-fn unit_of(alloc: Global, heard: &Heard, request: Request) -> Result<Ldu, Stop>
-    requires { IsRequestOf heard.now request }
-    ensures ok { IfOk result (λ u. IsUnitFor heard.now request u) }
-    ensures err { IfErr result (λ s. IsWhyNoUnit heard.now request s × IsStop heard.now.profile.codes heard.now.items s) }
+fn unit_of(alloc: Global, decoded: &Decoded, request: Request) -> Result<Ldu, Stop>
+    requires { IsRequestOf decoded.now request }
+    ensures ok { IfOk result (λ u. IsUnitFor decoded.now request u) }
+    ensures err { IfErr result (λ s. IsWhyNoUnit decoded.now request s × IsStop decoded.now.profile.codes decoded.now.items s) }
 {
-    if let Some(entry) = other_request(heard, request) {
+    if let Some(entry) = other_request(decoded, request) {
         let doubt = Doubt::NotOneBlock;
         return Err(Stop::Unexplained { entry, doubt });
     }
-    let Ok(whole) = whole_unit(alloc, heard, request) else {
+    let Ok(whole) = whole_unit(alloc, decoded, request) else {
         return Err(Stop::OutOfMemory);
     };
     if let Some(unit) = whole {
         return Ok(unit);
     }
-    let Ok(filled) = filled_unit(alloc, heard, request) else {
+    let Ok(filled) = filled_unit(alloc, decoded, request) else {
         return Err(Stop::OutOfMemory);
     };
     match filled {
@@ -79,13 +79,13 @@ fn unit_of(alloc: Global, heard: &Heard, request: Request) -> Result<Ldu, Stop>
 }
 
 // The first request of a group that wants another number of words.
-fn other_request(heard: &Heard, request: Request) -> Option<usize>
-    requires { request.group.to ≤ length heard.now.items }
-    ensures first { result ≡ other_for heard.now request }
-    ensures fits { IfSome result (λ i. IsDoubtAt heard.now.profile.codes heard.now.items i doubt.NotOneBlock) }
+fn other_request(decoded: &Decoded, request: Request) -> Option<usize>
+    requires { request.group.to ≤ length decoded.now.items }
+    ensures first { result ≡ other_for decoded.now request }
+    ensures fits { IfSome result (λ i. IsDoubtAt decoded.now.profile.codes decoded.now.items i doubt.NotOneBlock) }
 {
     for at in request.group.from..request.group.to {
-        if let Some(count) = wanted(heard.sight(at)) {
+        if let Some(count) = wanted(decoded.sight(at)) {
             if count != request.count {
                 return Some(at);
             }

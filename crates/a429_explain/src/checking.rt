@@ -6,9 +6,9 @@ ghost use Rattle.a429_explain.specs.Verdict.{IsSoundVerdict, IsAccepted, IsOfLea
 ghost use Rattle.a429_explain.specs.Walk.{AreAllowed};
 ghost use Rattle.a429_explain.specs.WithoutLoss.{IsWithoutLoss};
 
+use crate::decoded::Decoded;
 use crate::explanation::{Explanation, Refusal, explain_by};
 use crate::guess::guess_of;
-use crate::heard::Heard;
 use crate::stop::Stop;
 use crate::verdict::{Doubt, Verdict};
 use crate::walk::{Halt, walk};
@@ -31,7 +31,7 @@ pub fn check(alloc: Global, profile: &Profile, entries: &[Entry]) -> Result<Verd
     ensures without_loss { IsWithoutLoss profile.now (items_of entries.now) → IfOk result IsExplanation }
 {
     match walk(alloc, profile, entries) {
-        Ok(heard) => explain(alloc, profile, entries, heard),
+        Ok(decoded) => explain(alloc, profile, entries, decoded),
         Err(Halt::Refused { entry, reason }) => Ok(Verdict::Impossible { entry, reason }),
         Err(Halt::OutOfMemory) => Err(OutOfMemory),
     }
@@ -42,9 +42,9 @@ fn explain(
     alloc: Global,
     profile: &Profile,
     entries: &[Entry],
-    heard: Heard<'_>,
+    decoded: Decoded<'_>,
 ) -> Result<Verdict, OutOfMemory>
-    requires heard { heard ≡ record { profile = profile.now; items = items_of entries.now } }
+    requires decoded { decoded ≡ record { profile = profile.now; items = items_of entries.now } }
     requires allowed { AreAllowed profile.now (items_of entries.now) (length (items_of entries.now)) }
     ensures explained { IfOk result (λ v. IsSoundVerdict profile.now (items_of entries.now) v) }
     ensures accepted { IfOk result (λ v. IsAccepted profile.now (items_of entries.now) v) }
@@ -54,13 +54,13 @@ fn explain(
     ensures first { IfOk result (λ v. IsFirst profile.now (items_of entries.now) v) }
     ensures without_loss { IsWithoutLoss profile.now (items_of entries.now) → IfOk result IsExplanation }
 {
-    let guess = match guess_of(alloc, &heard) {
+    let guess = match guess_of(alloc, &decoded) {
         Ok(guess) => guess,
         Err(Stop::Unexplained { entry, doubt }) => return Ok(Verdict::Unexplained { entry, doubt }),
         Err(Stop::OutOfMemory) => return Err(OutOfMemory),
     };
     // The lines are written by the roles: what the words say is not needed beside the text.
-    drop(heard);
+    drop(decoded);
     match explain_by(alloc, profile, entries, guess) {
         Ok(Explanation { certificate, files }) => Ok(Verdict::Explained { certificate, files }),
         Err(Refusal::NotReplayed { entry }) => Ok(Verdict::Unexplained {

@@ -3,7 +3,7 @@
 ghost use Rattle.std.specs.Prelude.{◌≡◌, ◌≢◌, IfOk, IfErr};
 ghost use Rattle.a429_cert.specs.Explained.{items_of, IsExplained, AreInEveryRun};
 ghost use Rattle.a429_explain.specs.Explanation.{HasNoFault, HasLeastVersion, IsWhyNotWritten};
-ghost use Rattle.a429_explain.specs.Guess.{heard, IsGuess, IsOfCrossing};
+ghost use Rattle.a429_explain.specs.Guess.{decoded, IsGuess, IsOfCrossing};
 
 use crate::certificate::Certificate;
 use crate::guess::Guess;
@@ -47,7 +47,7 @@ pub fn explain_by(
     ensures accepted { IfOk result (λ e. HasNoFault profile.now e.certificate (items_of entries.now)) }
     ensures version { IfOk result (λ e. HasLeastVersion profile.now e.certificate (items_of entries.now)) }
     ensures refused { IfErr result (λ r. IsWhyNotWritten profile.now (items_of entries.now) r) }
-    ensures without_loss { IsOfCrossing (heard profile.now (items_of entries.now)) guess → IfErr result (λ r. r ≡ Refusal.OutOfMemory) }
+    ensures without_loss { IsOfCrossing (decoded profile.now (items_of entries.now)) guess → IfErr result (λ r. r ≡ Refusal.OutOfMemory) }
 {
     // (for the proof: the profile is sound)
     let _codes = profile.codes();

@@ -9,8 +9,8 @@ ghost use Rattle.a429_explain.specs.Groups.{words_of_group};
 ghost use Rattle.a429_explain.specs.Whole.{words_for};
 ghost use Rattle.a429_explain.specs.Filled.{filled, unit_filled, fillers, zeros, are_odd, is_end, has_end, gfi_of, first_gfi, last_data, none_yet, last_with};
 
+use crate::decoded::{Decoded, DecodedWord};
 use crate::groups::{Group, Request};
-use crate::heard::{Heard, HeardWord};
 use crate::whole::{Ends, unit_with};
 use a429_ldu::{Form, Ldu, Semis, bytes_of, check_word, word_of};
 use a429_profile::Profile;
@@ -23,33 +23,33 @@ use std::marker::Model;
 /// words than that, or where no filler word can be added and the semi-octets are odd in number.
 pub(crate) fn filled_unit(
     alloc: Global,
-    heard: &Heard,
+    decoded: &Decoded,
     request: Request,
 ) -> Result<Option<Ldu>, AllocError>
-    requires { request.group.to ≤ length heard.now.items }
-    ensures exact { IfOk result (λ found. found ≡ filled heard.now.profile request.count (words_for heard.now request)) }
-    ensures unit { IfOk result (λ found. IfSome found (λ u. IsLdu heard.now.profile u)) }
+    requires { request.group.to ≤ length decoded.now.items }
+    ensures exact { IfOk result (λ found. found ≡ filled decoded.now.profile request.count (words_for decoded.now request)) }
+    ensures unit { IfOk result (λ found. IfSome found (λ u. IsLdu decoded.now.profile u)) }
     ensures count { IfOk result (λ found. IfSome found (λ u. count_of u ≡ request.count)) }
 {
-    let profile = heard.profile();
+    let profile = decoded.profile();
     let group = request.group;
-    if has_end(heard, group) {
+    if has_end(decoded, group) {
         return Ok(None);
     }
-    let mut words = last_data(alloc, heard, group)?;
+    let mut words = last_data(alloc, decoded, group)?;
     let is_odd = are_odd(alloc, profile, words.as_slice())?;
     fill(profile, &mut words, is_odd, request.count)?;
-    let gfi = first_gfi(heard, group);
+    let gfi = first_gfi(decoded, group);
     unit_filled(alloc, profile, gfi, words.as_slice(), request.count)
 }
 
 // An end word was recorded.
-fn has_end(heard: &Heard, group: Group) -> bool
-    requires { group.to ≤ length heard.now.items }
-    ensures { result ≡ has_end heard.now.profile.codes (words_of_group heard.now.items group) }
+fn has_end(decoded: &Decoded, group: Group) -> bool
+    requires { group.to ≤ length decoded.now.items }
+    ensures { result ≡ has_end decoded.now.profile.codes (words_of_group decoded.now.items group) }
 {
     for at in group.from..group.to {
-        if is_end(&heard.word(at).form) {
+        if is_end(&decoded.word(at).form) {
             return true;
         }
     }
@@ -63,13 +63,13 @@ fn is_end(form: &Option<Form>) -> bool
 }
 
 // The general format identifier of the first start word, or 0.
-fn first_gfi(heard: &Heard, group: Group) -> u8
-    requires { group.to ≤ length heard.now.items }
-    ensures exact { result ≡ first_gfi heard.now.profile.codes (words_of_group heard.now.items group) }
+fn first_gfi(decoded: &Decoded, group: Group) -> u8
+    requires { group.to ≤ length decoded.now.items }
+    ensures exact { result ≡ first_gfi decoded.now.profile.codes (words_of_group decoded.now.items group) }
     ensures fits { result ≤ 15 }
 {
     for at in group.from..group.to {
-        if let Some(gfi) = gfi_of(&heard.word(at).form) {
+        if let Some(gfi) = gfi_of(&decoded.word(at).form) {
             return gfi;
         }
     }
@@ -88,16 +88,16 @@ fn gfi_of(form: &Option<Form>) -> Option<u8>
 }
 
 // The data words of the last attempt that recorded any.
-fn last_data(alloc: Global, heard: &Heard, group: Group) -> Result<Vec<Word>, AllocError>
-    requires { group.to ≤ length heard.now.items }
-    ensures exact { IfOk result (λ words. words.items ≡ last_data heard.now.profile.codes (words_of_group heard.now.items group) none_yet) }
-    ensures sound { IfOk result (λ words. IsSome (semis_of_words heard.now.profile.codes words.items)) }
+fn last_data(alloc: Global, decoded: &Decoded, group: Group) -> Result<Vec<Word>, AllocError>
+    requires { group.to ≤ length decoded.now.items }
+    ensures exact { IfOk result (λ words. words.items ≡ last_data decoded.now.profile.codes (words_of_group decoded.now.items group) none_yet) }
+    ensures sound { IfOk result (λ words. IsSome (semis_of_words decoded.now.profile.codes words.items)) }
 {
     // (for the proof: the profile is sound)
-    let _profile = heard.profile();
+    let _profile = decoded.profile();
     let mut last = LastRecorded::new(alloc);
     for at in group.from..group.to {
-        match last.take(heard.word(at)) {
+        match last.take(decoded.word(at)) {
             Ok(()) => {}
             Err(error) => return Err(error),
         }
@@ -132,17 +132,17 @@ impl LastRecorded {
     }
 
     // Takes one more word.
-    fn take(&mut self, heard: HeardWord) -> Result<(), AllocError>
-        ensures { OnOk result (self.new ≡ last_with heard.form heard.word self.old) }
+    fn take(&mut self, decoded: DecodedWord) -> Result<(), AllocError>
+        ensures { OnOk result (self.new ≡ last_with decoded.form decoded.word self.old) }
     {
-        match heard.form {
+        match decoded.form {
             Some(Form::Rts { .. }) => self.begins = true,
             Some(Form::Part(_)) => {
                 if self.begins {
                     self.words.clear();
                 }
                 self.begins = false;
-                self.words.push(heard.word)?;
+                self.words.push(decoded.word)?;
             }
             _ => {}
         }

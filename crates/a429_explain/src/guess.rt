@@ -3,7 +3,7 @@
 ghost use Rattle.std.specs.Prelude.{◌≡◌, List, IfOk, IfErr};
 ghost use Rattle.a429_ldu.specs.Ldu.{LduValue};
 ghost use Rattle.a429_explain.specs.Attempts.{roles as roles_of};
-ghost use Rattle.a429_explain.specs.Heard.{forms_of};
+ghost use Rattle.a429_explain.specs.Decoded.{forms_of};
 ghost use Rattle.a429_explain.specs.Stop.{IsStop};
 ghost use Rattle.a429_explain.specs.Guess.{started, first_file_of, plain_plans, IsGuess, ArePlansFrom, IsStopFrom, IsFirstStop, HasNoDoubt, HaveCrossed, IsOfCrossing};
 ghost use Rattle.a429_explain.specs.Plan.{ArePlans};
@@ -11,8 +11,8 @@ ghost use Rattle.a429_explain.specs.WithoutLoss.{IsWithoutLoss};
 
 use crate::attempts::{Role, roles};
 use crate::block::matched_unit;
+use crate::decoded::Decoded;
 use crate::groups::{Request, group_at, group_start, is_settled, wanted};
-use crate::heard::Heard;
 use crate::plan::{Plan, give_ups_from, place_behind, place_from};
 use crate::stop::Stop;
 use a429_ldu::Form;
@@ -34,21 +34,21 @@ pub struct Guess {
 
 /// The guess by the rule of `check`, for a recording that no word is refused of; or the first doubt of its groups. Of
 /// a recording without loss it is the run that crosses without loss.
-pub(crate) fn guess_of(alloc: Global, heard: &Heard) -> Result<Guess, Stop>
-    ensures sound { IfOk result (λ g. IsGuess heard.now.profile heard.now.items g) }
-    ensures groups { IfOk result (λ g. HasNoDoubt heard.now.profile heard.now.items) }
-    ensures fits { IfErr result (λ s. IsStop heard.now.profile.codes heard.now.items s) }
-    ensures first { IfErr result (λ s. IsFirstStop heard.now.profile heard.now.items s) }
-    ensures clean { IsWithoutLoss heard.now.profile heard.now.items → IfOk result (λ g. IsOfCrossing heard.now g) }
-    ensures clean_err { IsWithoutLoss heard.now.profile heard.now.items → IfErr result (λ s. s ≡ Stop.OutOfMemory) }
+pub(crate) fn guess_of(alloc: Global, decoded: &Decoded) -> Result<Guess, Stop>
+    ensures sound { IfOk result (λ g. IsGuess decoded.now.profile decoded.now.items g) }
+    ensures groups { IfOk result (λ g. HasNoDoubt decoded.now.profile decoded.now.items) }
+    ensures fits { IfErr result (λ s. IsStop decoded.now.profile.codes decoded.now.items s) }
+    ensures first { IfErr result (λ s. IsFirstStop decoded.now.profile decoded.now.items s) }
+    ensures clean { IsWithoutLoss decoded.now.profile decoded.now.items → IfOk result (λ g. IsOfCrossing decoded.now g) }
+    ensures clean_err { IsWithoutLoss decoded.now.profile decoded.now.items → IfErr result (λ s. s ≡ Stop.OutOfMemory) }
 {
     // (for the proof: the profile is sound)
-    let _profile = heard.profile();
-    let Ok(roles) = roles(alloc, heard) else {
+    let _profile = decoded.profile();
+    let Ok(roles) = roles(alloc, decoded) else {
         return Err(Stop::OutOfMemory);
     };
-    let first_file = first_file(heard);
-    match plans_of(alloc, heard, roles.as_slice(), first_file) {
+    let first_file = first_file(decoded);
+    match plans_of(alloc, decoded, roles.as_slice(), first_file) {
         Ok(plans) => Ok(Guess {
             first_file,
             roles,
@@ -59,11 +59,11 @@ pub(crate) fn guess_of(alloc: Global, heard: &Heard) -> Result<Guess, Stop>
 }
 
 // The file number of the first start word, or 0.
-fn first_file(heard: &Heard) -> u8
-    ensures { result ≡ first_file_of (forms_of heard.now.profile.codes heard.now.items) }
+fn first_file(decoded: &Decoded) -> u8
+    ensures { result ≡ first_file_of (forms_of decoded.now.profile.codes decoded.now.items) }
 {
-    for at in 0..heard.len() {
-        if let Some(file) = started(&heard.word(at).form) {
+    for at in 0..decoded.len() {
+        if let Some(file) = started(&decoded.word(at).form) {
             return file;
         }
     }
@@ -84,30 +84,30 @@ fn started(form: &Option<Form>) -> Option<u8>
 // and is given the link data units that crossed.
 fn plans_of(
     alloc: Global,
-    heard: &Heard,
+    decoded: &Decoded,
     roles: &[Role],
     first_file: u8,
 ) -> Result<VecDeque<Plan>, Stop>
-    requires { roles.now ≡ roles_of (forms_of heard.now.profile.codes heard.now.items) }
-    ensures units { IfOk result (λ plans. ArePlans heard.now.profile plans.items) }
-    ensures groups { IfOk result (λ plans. ArePlansFrom heard.now roles.now first_file plans.items) }
-    ensures fits { IfErr result (λ s. IsStop heard.now.profile.codes heard.now.items s) }
-    ensures first { IfErr result (λ s. IsStopFrom heard.now roles.now first_file s) }
-    ensures clean { (us : List LduValue) → HaveCrossed heard.now first_file us → IfOk result (λ plans. plans.items ≡ plain_plans heard.now.profile.codes 0 us heard.now.items) }
-    ensures clean_err { (us : List LduValue) → HaveCrossed heard.now first_file us → IfErr result (λ s. s ≡ Stop.OutOfMemory) }
+    requires { roles.now ≡ roles_of (forms_of decoded.now.profile.codes decoded.now.items) }
+    ensures units { IfOk result (λ plans. ArePlans decoded.now.profile plans.items) }
+    ensures groups { IfOk result (λ plans. ArePlansFrom decoded.now roles.now first_file plans.items) }
+    ensures fits { IfErr result (λ s. IsStop decoded.now.profile.codes decoded.now.items s) }
+    ensures first { IfErr result (λ s. IsStopFrom decoded.now roles.now first_file s) }
+    ensures clean { (us : List LduValue) → HaveCrossed decoded.now first_file us → IfOk result (λ plans. plans.items ≡ plain_plans decoded.now.profile.codes 0 us decoded.now.items) }
+    ensures clean_err { (us : List LduValue) → HaveCrossed decoded.now first_file us → IfErr result (λ s. s ≡ Stop.OutOfMemory) }
 {
-    let profile = heard.profile();
+    let profile = decoded.profile();
     let mut plans = VecDeque::new(alloc);
     let mut place = UnitNumber::first(profile, first_file);
     let mut at = 0;
-    while at < heard.len() {
-        if let Some(count) = wanted(heard.sight(at)) {
+    while at < decoded.len() {
+        if let Some(count) = wanted(decoded.sight(at)) {
             let group = group_at(roles, at);
             let request = Request { group, count };
             let start = group_start(roles, group);
             let give_ups = give_ups_from(place, start);
             let numbers = place_from(profile, place, start);
-            let unit = match matched_unit(alloc, heard, request, numbers) {
+            let unit = match matched_unit(alloc, decoded, request, numbers) {
                 Ok(unit) => unit,
                 Err(stop) => return Err(stop),
             };

@@ -6,8 +6,8 @@ ghost use Rattle.a429_explain.specs.Matching.{is_word, passed_with, passing_with
 ghost use Rattle.a429_explain.specs.declared.verdict.Doubt.TheVariants as doubt;
 ghost use Rattle.a429_explain.specs.Stop.{IsDoubtAt};
 
+use crate::decoded::{Decoded, DecodedWord};
 use crate::groups::Group;
-use crate::heard::{Heard, HeardWord};
 use a429_ldu::{Form, Ldu};
 use a429_link::UnitNumber;
 use a429_profile::Profile;
@@ -16,23 +16,23 @@ use a429_word::Word;
 /// The first word of a block in a group that is not one of this link data unit: in each attempt the words
 /// recorded stand in the unit's block in their order.
 pub(crate) fn first_unmatched(
-    heard: &Heard,
+    decoded: &Decoded,
     group: Group,
     unit: &Ldu,
     place: UnitNumber,
 ) -> Option<usize>
     requires some { group.from ≤ group.to }
-    requires inside { group.to ≤ length heard.now.items }
-    ensures fits { IfSome result (λ i. IsDoubtAt heard.now.profile.codes heard.now.items i doubt.NotOneBlock) }
+    requires inside { group.to ≤ length decoded.now.items }
+    ensures fits { IfSome result (λ i. IsDoubtAt decoded.now.profile.codes decoded.now.items i doubt.NotOneBlock) }
     ensures within { IfSome result (λ i. i < group.to) }
-    ensures none { result ≡ None → AreMatched heard.now.profile.codes unit.now place heard.now.items group.from group.to }
-    ensures before { IfSome result (λ i. AreMatched heard.now.profile.codes unit.now place heard.now.items group.from i) }
-    ensures unmatched { IfSome result (λ i. ¬ AreMatched heard.now.profile.codes unit.now place heard.now.items group.from (i + 1)) }
+    ensures none { result ≡ None → AreMatched decoded.now.profile.codes unit.now place decoded.now.items group.from group.to }
+    ensures before { IfSome result (λ i. AreMatched decoded.now.profile.codes unit.now place decoded.now.items group.from i) }
+    ensures unmatched { IfSome result (λ i. ¬ AreMatched decoded.now.profile.codes unit.now place decoded.now.items group.from (i + 1)) }
 {
-    let profile = heard.profile();
+    let profile = decoded.profile();
     let mut passed = 0;
     for at in group.from..group.to {
-        match passing(profile, unit, place, passed, heard.word(at)) {
+        match passing(profile, unit, place, passed, decoded.word(at)) {
             Some(more) => passed = more,
             None => return Some(at),
         }
@@ -46,17 +46,17 @@ fn passing(
     unit: &Ldu,
     place: UnitNumber,
     passed: u8,
-    heard: HeardWord,
+    decoded: DecodedWord,
 ) -> Option<u8>
     requires { passed ≤ count_of unit.now }
-    ensures passed { result ≡ passing_with profile.now.codes unit.now place heard.form heard.word passed }
+    ensures passed { result ≡ passing_with profile.now.codes unit.now place decoded.form decoded.word passed }
     ensures inside { IfSome result (λ more. more ≤ count_of unit.now) }
-    ensures fits { result ≡ None → IsOfBlock heard.form }
+    ensures fits { result ≡ None → IsOfBlock decoded.form }
 {
-    match heard.form {
+    match decoded.form {
         Some(Form::Rts { .. }) => Some(0),
         Some(Form::Sot { .. } | Form::Part(_) | Form::Eot { .. }) => {
-            passed_with(profile, unit, place, passed, heard.word)
+            passed_with(profile, unit, place, passed, decoded.word)
         }
         Some(Form::Cts { .. } | Form::Ack { .. } | Form::Nak { .. }) => Some(passed),
         None => Some(passed),

@@ -66,7 +66,7 @@ impl<'a> Scribe<'a> {
     pub(crate) fn into_parts(self) -> (Vec<u8>, Vec<FileBytes>)
         requires { VERSION_AT < length self.text.items }
         ensures text { result.0.items ≡ in_version self.entry.gave_up self.entry.text.items }
-        ensures files { result.1.items ≡ self.entry.link.state.sink.shelf.files }
+        ensures files { result.1.items ≡ self.entry.link.state.sink.received.files }
     {
         let Scribe {
             mut text,

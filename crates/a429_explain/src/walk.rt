@@ -10,7 +10,7 @@ ghost use Rattle.a429_explain.specs.Verdict.{HasNoForm};
 ghost use Rattle.a429_explain.specs.WithoutLoss.{IsWithoutLoss};
 ghost use Rattle.a429_explain.specs.Walk.{AreAllowed, IsHalt, IsRefusable, FitsSight};
 
-use crate::heard::Heard;
+use crate::decoded::Decoded;
 use crate::screening::Screening;
 use crate::verdict::Reason;
 use a429_cert::seen;
@@ -22,7 +22,7 @@ use a429_record::Entry;
 use a429_word::{Bus, THIS_LABEL};
 use std::alloc::Global;
 
-/// Why a recording is not heard to its end.
+/// Why a recording is not decoded to its end.
 #[derive(Clone, Copy, Debug)]
 pub enum Halt {
     /// The words before this entry, counted from 0, do not allow it.
@@ -36,8 +36,8 @@ pub fn walk<'a>(
     alloc: Global,
     profile: &'a Profile,
     entries: &'a [Entry],
-) -> Result<Heard<'a>, Halt>
-    ensures heard { IfOk result (λ h. h ≡ record { profile = profile.now; items = items_of entries.now }) }
+) -> Result<Decoded<'a>, Halt>
+    ensures decoded { IfOk result (λ h. h ≡ record { profile = profile.now; items = items_of entries.now }) }
     ensures allowed { IfOk result (λ h. AreAllowed profile.now (items_of entries.now) (length (items_of entries.now))) }
     ensures formed { IfOk result (λ h. ¬ HasNoForm profile.now.codes (items_of entries.now)) }
     ensures halt { IfErr result (IsHalt profile.now (items_of entries.now)) }
@@ -62,7 +62,7 @@ pub fn walk<'a>(
             }
         }
     }
-    Ok(Heard::new(profile, entries, sights))
+    Ok(Decoded::new(profile, entries, sights))
 }
 
 // The entries of a recording, whose words are screened by the label of bus A.

@@ -5,8 +5,8 @@ ghost use Rattle.a429_ldu.specs.Form.{IsInRange};
 ghost use Rattle.a429_ldu.specs.Ldu.{IsLdu, count_of};
 ghost use Rattle.a429_explain.specs.Whole.{nothing_yet, gathered_with, unit_made, ended_by, first_whole, words_for};
 
+use crate::decoded::{Decoded, DecodedWord};
 use crate::groups::Request;
-use crate::heard::{Heard, HeardWord};
 use a429_ldu::{Form, Ldu, LduFault};
 use a429_profile::Profile;
 use a429_word::Word;
@@ -16,18 +16,18 @@ use std::marker::Model;
 /// The link data unit of the first whole attempt of a group whose requests want this many words.
 pub(crate) fn whole_unit(
     alloc: Global,
-    heard: &Heard,
+    decoded: &Decoded,
     request: Request,
 ) -> Result<Option<Ldu>, AllocError>
-    requires { request.group.to ≤ length heard.now.items }
-    ensures first { IfOk result (λ found. found ≡ first_whole heard.now.profile request.count (words_for heard.now request) nothing_yet) }
-    ensures unit { IfOk result (λ found. IfSome found (λ u. IsLdu heard.now.profile u)) }
+    requires { request.group.to ≤ length decoded.now.items }
+    ensures first { IfOk result (λ found. found ≡ first_whole decoded.now.profile request.count (words_for decoded.now request) nothing_yet) }
+    ensures unit { IfOk result (λ found. IfSome found (λ u. IsLdu decoded.now.profile u)) }
     ensures count { IfOk result (λ found. IfSome found (λ u. count_of u ≡ request.count)) }
 {
-    let profile = heard.profile();
+    let profile = decoded.profile();
     let mut attempt = Attempt::new(alloc);
     for at in request.group.from..request.group.to {
-        let word = heard.word(at);
+        let word = decoded.word(at);
         match attempt.ended_by(alloc, profile, &word.form, request.count) {
             Ok(Some(unit)) => return Ok(Some(unit)),
             Ok(None) => {}
@@ -70,17 +70,17 @@ impl Attempt {
     }
 
     // Takes one more word.
-    fn take(&mut self, heard: HeardWord) -> Result<(), AllocError>
-        requires { IfSome heard.form IsInRange }
-        ensures { OnOk result (self.new ≡ gathered_with heard.form heard.word self.old) }
+    fn take(&mut self, decoded: DecodedWord) -> Result<(), AllocError>
+        requires { IfSome decoded.form IsInRange }
+        ensures { OnOk result (self.new ≡ gathered_with decoded.form decoded.word self.old) }
     {
-        match heard.form {
+        match decoded.form {
             Some(Form::Rts { .. }) => {
                 self.start = None;
                 self.words.clear();
             }
             Some(Form::Sot { gfi, .. }) => self.start = Some(gfi),
-            Some(Form::Part(_)) => self.words.push(heard.word)?,
+            Some(Form::Part(_)) => self.words.push(decoded.word)?,
             _ => {}
         }
         Ok(())

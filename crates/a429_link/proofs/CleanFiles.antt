@@ -7,7 +7,7 @@ use Rattle.a429_ldu.specs.declared.fault.CutFault.TheVariants as cut
 use Rattle.std.proofs.lemmas.List.Elements.{recursion_from_All}
 use Rattle.a429_ldu.specs.Ldu.{IsLdu, LduValue, bytes_of, is_final, count_of}
 use Rattle.a429_link.specs.Run.{trace}
-use Rattle.a429_link.specs.Sink.{empty_shelf, Shelf, put}
+use Rattle.a429_link.specs.Sink.{nothing_received, Received, put}
 use Rattle.a429_link.specs.State.{State}
 use Rattle.a429_link.specs.declared.file.FileBytes.{FileBytes}
 use Rattle.a429_link.specs.declared.seen.Seen.{Seen}
@@ -43,17 +43,17 @@ clean_append c n (u ∷ (v ∷ us)) vs h =
     ap (λ (b : List Seen). clean_block c n u ++ b) (clean_append c (number_after c n u) (v ∷ us) vs h.1 ∙ ap (λ f. clean_blocks c (number_after c n u) (v ∷ us) ++ clean_blocks c (first_number c ((f + 1) % 256)) vs) (file_goes c n u h.0))
     ∙ sym (append_assoc (clean_block c n u) (clean_blocks c (number_after c n u) (v ∷ us)) (clean_blocks c (first_number c ((n.file + 1) % 256)) vs))
 
--- the files on a shelf, with one more
-abbrev closed : ℕ → List ℕ → Shelf → Shelf
+-- the files that were received, with one more
+abbrev closed : ℕ → List ℕ → Received → Received
 closed file bytes o = record { files = o.files ++ record { number = file; bytes = o.open_bytes ++ bytes } ∷ []; open_bytes = [] }
 
-put_last : (c : Codes) (file : ℕ) (bytes : List ℕ) (u : LduValue) (o : Shelf) → is_final c u.flags ≡ true → put file bytes (is_final c u.flags) o ≡ closed file bytes o
+put_last : (c : Codes) (file : ℕ) (bytes : List ℕ) (u : LduValue) (o : Received) → is_final c u.flags ≡ true → put file bytes (is_final c u.flags) o ≡ closed file bytes o
 put_last c file bytes u o e = rw e refl
 
-put_more : (c : Codes) (file : ℕ) (bytes : List ℕ) (u : LduValue) (o : Shelf) → is_final c u.flags ≡ false → put file bytes (is_final c u.flags) o ≡ record { files = o.files; open_bytes = o.open_bytes ++ bytes }
+put_more : (c : Codes) (file : ℕ) (bytes : List ℕ) (u : LduValue) (o : Received) → is_final c u.flags ≡ false → put file bytes (is_final c u.flags) o ≡ record { files = o.files; open_bytes = o.open_bytes ++ bytes }
 put_more c file bytes u o e = rw e refl
 
-pub shelved_append : (c : Codes) (n : UnitNumber) (us vs : List LduValue) (o : Shelf) → OnlyLastIsFinal c us → shelved c n (us ++ vs) o ≡ shelved c (first_number c ((n.file + 1) % 256)) vs (closed n.file (concat (map (bytes_of c) us)) o)
+pub shelved_append : (c : Codes) (n : UnitNumber) (us vs : List LduValue) (o : Received) → OnlyLastIsFinal c us → shelved c n (us ++ vs) o ≡ shelved c (first_number c ((n.file + 1) % 256)) vs (closed n.file (concat (map (bytes_of c) us)) o)
 shelved_append c n [] vs o h = absurd h
 shelved_append c n (u ∷ []) vs o h =
     ap (λ m. shelved c m vs (put n.file (bytes_of c u) (is_final c u.flags) o)) (file_ends c n u h)
@@ -64,10 +64,10 @@ shelved_append c n (u ∷ (v ∷ us)) vs o h =
     ∙ ap (λ f. shelved c (first_number c ((f + 1) % 256)) vs (closed f (concat (map (bytes_of c) (v ∷ us))) more)) (file_goes c n u h.0)
     ∙ ap (λ (b : List ℕ). shelved c (first_number c ((n.file + 1) % 256)) vs (on b)) (append_assoc o.open_bytes (bytes_of c u) (concat (map (bytes_of c) (v ∷ us))))
   where
-    more : Shelf
+    more : Received
     more = record { files = o.files; open_bytes = o.open_bytes ++ bytes_of c u }
 
-    on : List ℕ → Shelf
+    on : List ℕ → Received
     on b = record { files = o.files ++ record { number = n.file; bytes = b } ∷ []; open_bytes = [] }
 
 -- the number of the file's next one is at most one more
@@ -120,7 +120,7 @@ all_shelved p w first (bytes ∷ files) done h =
     ∙ all_shelved p w ((first + 1) % 256) files (done ++ record { number = first; bytes = bytes } ∷ []) h.1
     ∙ append_assoc done (record { number = first; bytes = bytes } ∷ []) (numbered ((first + 1) % 256) files)
   where
-    files_of : Shelf → List FileBytes
+    files_of : Received → List FileBytes
     files_of s = s.files
 
 trace_all : (gs : List (List Step)) (items : List Seen) → Records gs items → trace (all_steps gs) ≡ items
@@ -133,11 +133,11 @@ pub files_cross : (p : Contents) (w first : ℕ) (files : List (List ℕ)) → I
 files_cross p w first files is l h =
     let us = units_of_files p w files in
     let fit = all_fit p w files h first in
-    let goes = clean_goes p is us (first_number p.codes first) None empty_shelf 0 fit (start_ready p first us l fit) in
+    let goes = clean_goes p is us (first_number p.codes first) None nothing_received 0 fit (start_ready p first us l fit) in
     record {
       run = goes.run;
       records = trace_all (clean_steps p.codes (first_number p.codes first) us) (clean_blocks p.codes (first_number p.codes first) us) (clean_records p.codes us (first_number p.codes first));
-      gives = ap (λ (s : State). s.sink.shelf.files) goes.ends ∙ all_shelved p w first files [] h;
+      gives = ap (λ (s : State). s.sink.received.files) goes.ends ∙ all_shelved p w first files [] h;
     }
 
 -- ---- the link data units still to come

@@ -4,9 +4,9 @@ use Rattle.std.proofs.lemmas.Bool.{le-leb}
 use Rattle.a429_word.specs.declared.bus.Bus.TheVariants as bus
 use Rattle.a429_ldu.specs.Form.{form_of, is_free, word_number}
 use Rattle.a429_ldu.specs.Ldu.{IsLdu, LduValue, block_of, count_of, is_final}
-use Rattle.a429_link.proofs.Message.{Ack, AllParts, Cts, Eot, IsFit, IsRead, MaySay, Nak, Part, Rts, Message, Sot, answers_as, answers_message, block_messages, block_words, hears_as, hears_message, end_message, next_message, message_in, message_of, takes_as, takes_message, word_of}
+use Rattle.a429_link.proofs.Message.{Ack, AllParts, Cts, Eot, IsFit, IsRead, MaySay, Nak, Part, Rts, Message, Sot, answers_as, answers_message, block_messages, block_words, with_answer_as, with_answer_message, end_message, next_message, message_in, message_of, takes_as, takes_message, word_of}
 use Rattle.a429_link.specs.Run.{IsRun, end_of, trace, with_label}
-use Rattle.a429_link.specs.Sink.{empty_shelf, Block, Granted, InBlock, Listens, MayAnswerForm, Number, OwesAck, OwesClear, OwesNak, Quiet, Shelf, Sink, SinkPhase, answers_word, emptied, in_sequence, is_good, is_same, put, shelf_for}
+use Rattle.a429_link.specs.Sink.{nothing_received, Block, Granted, InBlock, Listens, MayAnswerForm, Number, OwesAck, OwesClear, OwesNak, Quiet, Received, Sink, SinkPhase, answers_word, emptied, in_sequence, is_good, is_same, put, received_for}
 use Rattle.a429_link.specs.Source.{Source, after_word, next_word}
 use Rattle.a429_link.specs.Step.{after, label}
 use Rattle.a429_link.specs.State.{start, State}
@@ -101,10 +101,10 @@ may_say count w kp x (Some (form.Part s)) m e = let same : Part w ≡ x = cc in 
     no_part OwesNak m = m
 may_say count w kp x (Some (form.Eot f c)) m e = let same : Eot f c ≡ x = cc in subst (MaySay count kp) (sym same) m
 
-reply_goes : (p : Contents) (number : UnitNumber) (cur : Option LduValue) (sp : SourceState) (k : Sink) (x : Message) → MaySay k.count k.phase x → message_of p bus.B (word_of p x) ≡ Some x → Goes p (replies (word_of p x)) (at number cur sp k) (heard_at (hears_message p cur sp x (source_at 0 number cur sp)) (answers_message p x k))
+reply_goes : (p : Contents) (number : UnitNumber) (cur : Option LduValue) (sp : SourceState) (k : Sink) (x : Message) → MaySay k.count k.phase x → message_of p bus.B (word_of p x) ≡ Some x → Goes p (replies (word_of p x)) (at number cur sp k) (heard_at (with_answer_message p cur sp x (source_at 0 number cur sp)) (answers_message p x k))
 reply_goes p number cur sp k x m f = record {
   run = ((refl, may_say k.count (word_of p x) k.phase x (form_of p.codes bus.B (word_of p x)) m f), (tt, tt));
-  ends = ap (λ q. heard_at q (answers_word p.codes (word_of p x) k)) (hears_as p (word_of p x) x (source_at 0 number cur sp) f) ∙ ap (λ q. heard_at (hears_message p cur sp x (source_at 0 number cur sp)) q) (answers_as p (word_of p x) x k f);
+  ends = ap (λ q. heard_at q (answers_word p.codes (word_of p x) k)) (with_answer_as p (word_of p x) x (source_at 0 number cur sp) f) ∙ ap (λ q. heard_at (with_answer_message p cur sp x (source_at 0 number cur sp)) q) (answers_as p (word_of p x) x k f);
 }
 
 -- ---- a block crosses
@@ -118,13 +118,13 @@ get_last : (ps : List ℕ) (e : Message) → slice_get (map Part ps ++ e ∷ [])
 get_last [] e = refl
 get_last (x ∷ ps) e = get_last ps e
 
--- the number comes next, and is not that of the last one; the shelf has no bytes of another file that is not whole
-pub record Comes (p : Contents) (number : UnitNumber) (last : Option Number) (shelf : Shelf) : Type 0 where
+-- the number comes next, and is not that of the last one; there are no bytes of another file that is not whole
+pub record Comes (p : Contents) (number : UnitNumber) (last : Option Number) (received : Received) : Type 0 where
   pub new : is_same last number ≡ false
   pub follows : in_sequence p.codes last number ≡ true
   pub byte : number.file ≤ 255
   pub room : number.ldu ≤ p.codes.first_ldu + 254
-  pub kept : shelf_for last number.file shelf ≡ shelf
+  pub kept : received_for last number.file received ≡ received
 
 eqb_same : (n : ℕ) → eqb n n ≡ true
 eqb_same n = eq-eqb n n refl
@@ -159,9 +159,9 @@ or_true : (b : Bool) → (b || true) ≡ true
 or_true true = refl
 or_true false = refl
 
-parts_goes : (p : Contents) → IsRead p → (number : UnitNumber) (u : LduValue) → Sound p u → (last : Option Number) (shelf : Shelf) → Comes p number last shelf → (qs ps : List ℕ) → qs ++ ps ≡ u.words → AllParts p ps → (k : ℕ) → k ≡ suc (length qs) → Goes p (all_steps (map sends_word (ps ++ word_of p (end_message u) ∷ []))) (at number (Some u) (Sending k) (sink_at last shelf (count_of u) (holding u number qs))) (at number (Some u) Waiting (sink_at last shelf (count_of u) (OwesAck (record { gfi = u.gfi; file = number.file; ldu = number.ldu; words = u.words }) u.flags)))
+parts_goes : (p : Contents) → IsRead p → (number : UnitNumber) (u : LduValue) → Sound p u → (last : Option Number) (received : Received) → Comes p number last received → (qs ps : List ℕ) → qs ++ ps ≡ u.words → AllParts p ps → (k : ℕ) → k ≡ suc (length qs) → Goes p (all_steps (map sends_word (ps ++ word_of p (end_message u) ∷ []))) (at number (Some u) (Sending k) (sink_at last received (count_of u) (holding u number qs))) (at number (Some u) Waiting (sink_at last received (count_of u) (OwesAck (record { gfi = u.gfi; file = number.file; ldu = number.ldu; words = u.words }) u.flags)))
 unfolding holding
-parts_goes p good number u s last shelf c qs [] e a k ek =
+parts_goes p good number u s last received c qs [] e a k ek =
     let same : qs ≡ u.words = sym (append-nil qs) ∙ e in
     let place : slice_get (block_messages u number) k ≡ Some (end_message u) = rw ek (rw same (get_last u.words (end_message u))) in
     let h = s.fit in
@@ -169,28 +169,28 @@ parts_goes p good number u s last shelf c qs [] e a k ek =
     let whole : eqb (suc k) (count_of u) ≡ true = rw ek (rw same (eq-eqb _ _ (omega arith))) in
     let b : Block = record { gfi = u.gfi; file = number.file; ldu = number.ldu; words = qs } in
     let is : is_good p last (count_of u) b u.check ≡ true = rw same (rw (eqb_same (length u.words + 2)) (rw s.carried (rw s.agrees (rw c.follows (or_true (is_same last number)))))) in
-    let one = word_goes p number (Some u) (Sending k) (sink_at last shelf (count_of u) (InBlock b)) (end_message u) place tt form in
+    let one = word_goes p number (Some u) (Sending k) (sink_at last received (count_of u) (InBlock b)) (end_message u) place tt form in
     record { run = one.run; ends = one.ends ∙ rw whole (rw is (rw same refl)) }
-parts_goes p good number u s last shelf c qs (q ∷ ps) e a k ek =
+parts_goes p good number u s last received c qs (q ∷ ps) e a k ek =
     let place : slice_get (block_messages u number) k ≡ Some (Part q) = rw ek (subst (λ ws. slice_get (map Part ws ++ end_message u ∷ []) (length qs) ≡ Some (Part q)) e (get_part qs q ps (end_message u))) in
     let form : message_of p bus.A (word_of p (Part q)) ≡ Some (Part q) = good.reads bus.A (Part q) a.0 in
     let long : length (qs ++ q ∷ ps) ≡ length u.words = ap length e in
     let more : eqb (suc k) (count_of u) ≡ false = not_last (suc k) (count_of u) _ refl (omega (arith, long, length-append qs (q ∷ ps))) in
     let b : Block = record { gfi = u.gfi; file = number.file; ldu = number.ldu; words = qs } in
-    let one = word_goes p number (Some u) (Sending k) (sink_at last shelf (count_of u) (InBlock b)) (Part q) place tt form in
-    let next = parts_goes p good number u s last shelf c (qs ++ q ∷ []) ps (append_assoc qs (q ∷ []) ps ∙ e) a.1 (suc k) (rw ek (omega (arith, length-append qs (q ∷ [])))) in
+    let one = word_goes p number (Some u) (Sending k) (sink_at last received (count_of u) (InBlock b)) (Part q) place tt form in
+    let next = parts_goes p good number u s last received c (qs ++ q ∷ []) ps (append_assoc qs (q ∷ []) ps ∙ e) a.1 (suc k) (rw ek (omega (arith, length-append qs (q ∷ [])))) in
     goes_append p (sends_word q) _ _ _ _ (record { run = one.run; ends = one.ends ∙ rw more refl }) next
 
-abbrev pub idle_at : UnitNumber → Option Number → Shelf → ℕ → State
-idle_at number last shelf count = at number None Idle (sink_at last shelf count Quiet)
+abbrev pub idle_at : UnitNumber → Option Number → Received → ℕ → State
+idle_at number last received count = at number None Idle (sink_at last received count Quiet)
 
 joined_words : (ws : List ℕ) (ack : ℕ) → all_steps (map sends_word ws ++ replies ack ∷ []) ≡ all_steps (map sends_word ws) ++ replies ack
 joined_words ws ack = joined_append (map sends_word ws) (replies ack ∷ []) ∙ ap (λ (l : List Step). all_steps (map sends_word ws) ++ l) (append-nil (replies ack))
 
 -- one link data unit crosses without loss
-block_goes : (p : Contents) → IsRead p → (number : UnitNumber) (u : LduValue) → IsLdu p u → Sound p u → (last : Option Number) (shelf : Shelf) (count : ℕ) → Comes p number last shelf → Goes p (all_steps (block_steps p.codes number u)) (idle_at number last shelf count) (idle_at (number_after p.codes number u) (Some (unit_number p.codes number u)) (put number.file (bytes_in p.codes u.words) (is_final p.codes u.flags) shelf) (count_of u))
+block_goes : (p : Contents) → IsRead p → (number : UnitNumber) (u : LduValue) → IsLdu p u → Sound p u → (last : Option Number) (received : Received) (count : ℕ) → Comes p number last received → Goes p (all_steps (block_steps p.codes number u)) (idle_at number last received count) (idle_at (number_after p.codes number u) (Some (unit_number p.codes number u)) (put number.file (bytes_in p.codes u.words) (is_final p.codes u.flags) received) (count_of u))
 unfolding holding
-block_goes p good number u is s last shelf count c =
+block_goes p good number u is s last received count c =
     let h = s.fit in
     let some = h.some in
     let room = h.room in
@@ -202,36 +202,36 @@ block_goes p good number u is s last shelf count c =
     let cts : message_of p bus.B (word_of p (Cts n)) ≡ Some (Cts n) = good.reads bus.B (Cts n) (omega arith, omega arith) in
     let ack : message_of p bus.B (word_of p (Ack number.file number.ldu)) ≡ Some (Ack number.file number.ldu) = good.reads bus.B (Ack number.file number.ldu) (byte, omega arith) in
     let sot : message_of p bus.A (word_of p (Sot u.gfi number.file number.ldu)) ≡ Some (Sot u.gfi number.file number.ldu) = good.reads bus.A (Sot u.gfi number.file number.ldu) (h.gfi, byte, omega arith) in
-    let asked = word_goes p number (Some u) Idle (sink_at last shelf count Quiet) (Rts n) refl tt rts in
-    let ask : Goes p (asks p.codes u) (idle_at number last shelf count) (at number (Some u) Awaiting (sink_at last shelf n OwesClear)) = record {
+    let asked = word_goes p number (Some u) Idle (sink_at last received count Quiet) (Rts n) refl tt rts in
+    let ask : Goes p (asks p.codes u) (idle_at number last received count) (at number (Some u) Awaiting (sink_at last received n OwesClear)) = record {
       run = ((tt, refl, fit, is), asked.run);
       ends = asked.ends;
     } in
-    let cleared = reply_goes p number (Some u) Awaiting (sink_at last shelf n OwesClear) (Cts n) refl cts in
-    let clear : Goes p (replies (word_of p (Cts n))) (at number (Some u) Awaiting (sink_at last shelf n OwesClear)) (at number (Some u) (Sending 0) (sink_at last shelf n Granted)) = record {
+    let cleared = reply_goes p number (Some u) Awaiting (sink_at last received n OwesClear) (Cts n) refl cts in
+    let clear : Goes p (replies (word_of p (Cts n))) (at number (Some u) Awaiting (sink_at last received n OwesClear)) (at number (Some u) (Sending 0) (sink_at last received n Granted)) = record {
       run = cleared.run;
       ends = cleared.ends ∙ rw (eqb_same n) refl;
     } in
-    let begun = word_goes p number (Some u) (Sending 0) (sink_at last shelf n Granted) (Sot u.gfi number.file number.ldu) refl tt sot in
+    let begun = word_goes p number (Some u) (Sending 0) (sink_at last received n Granted) (Sot u.gfi number.file number.ldu) refl tt sot in
     let more : eqb 1 n ≡ false = not_last 1 n _ refl (omega arith) in
-    let begin : Goes p (sends_word (word_of p (Sot u.gfi number.file number.ldu))) (at number (Some u) (Sending 0) (sink_at last shelf n Granted)) (at number (Some u) (Sending 1) (sink_at last shelf n (holding u number []))) = record {
+    let begin : Goes p (sends_word (word_of p (Sot u.gfi number.file number.ldu))) (at number (Some u) (Sending 0) (sink_at last received n Granted)) (at number (Some u) (Sending 1) (sink_at last received n (holding u number []))) = record {
       run = begun.run;
       ends = begun.ends ∙ rw more refl;
     } in
-    let words = parts_goes p good number u s last shelf c [] u.words refl h.parts 1 refl in
+    let words = parts_goes p good number u s last received c [] u.words refl h.parts 1 refl in
     let b : Block = record { gfi = u.gfi; file = number.file; ldu = number.ldu; words = u.words } in
-    let settled = reply_goes p number (Some u) Waiting (sink_at last shelf n (OwesAck b u.flags)) (Ack number.file number.ldu) (refl, refl) ack in
-    let settle : Goes p (replies (word_of p (Ack number.file number.ldu))) (at number (Some u) Waiting (sink_at last shelf n (OwesAck b u.flags))) (idle_at (number_after p.codes number u) (Some (unit_number p.codes number u)) (put number.file (bytes_in p.codes u.words) (is_final p.codes u.flags) shelf) n) = subst (λ (o : Shelf). Goes p (replies (word_of p (Ack number.file number.ldu))) (at number (Some u) Waiting (sink_at last shelf n (OwesAck b u.flags))) (idle_at (number_after p.codes number u) (Some (unit_number p.codes number u)) (put number.file (bytes_in p.codes u.words) (is_final p.codes u.flags) o) n)) c.kept (record {
+    let settled = reply_goes p number (Some u) Waiting (sink_at last received n (OwesAck b u.flags)) (Ack number.file number.ldu) (refl, refl) ack in
+    let settle : Goes p (replies (word_of p (Ack number.file number.ldu))) (at number (Some u) Waiting (sink_at last received n (OwesAck b u.flags))) (idle_at (number_after p.codes number u) (Some (unit_number p.codes number u)) (put number.file (bytes_in p.codes u.words) (is_final p.codes u.flags) received) n) = subst (λ (o : Received). Goes p (replies (word_of p (Ack number.file number.ldu))) (at number (Some u) Waiting (sink_at last received n (OwesAck b u.flags))) (idle_at (number_after p.codes number u) (Some (unit_number p.codes number u)) (put number.file (bytes_in p.codes u.words) (is_final p.codes u.flags) o) n)) c.kept (record {
       run = settled.run;
       ends = settled.ends ∙ rw (eqb_same number.file) (rw (eqb_same number.ldu) (rw c.new refl));
     }) in
     goes_append p (asks p.codes u) _ _ _ _ ask (goes_append p (replies (word_of p (Cts n))) _ _ _ _ clear (goes_append p (sends_word (word_of p (Sot u.gfi number.file number.ldu))) _ _ _ _ begin
-    (subst (λ acts. Goes p acts (at number (Some u) (Sending 1) (sink_at last shelf n (holding u number []))) (idle_at (number_after p.codes number u) (Some (unit_number p.codes number u)) (put number.file (bytes_in p.codes u.words) (is_final p.codes u.flags) shelf) n)) (sym (joined_words (u.words ++ word_of p (end_message u) ∷ []) (word_of p (Ack number.file number.ldu))))
+    (subst (λ acts. Goes p acts (at number (Some u) (Sending 1) (sink_at last received n (holding u number []))) (idle_at (number_after p.codes number u) (Some (unit_number p.codes number u)) (put number.file (bytes_in p.codes u.words) (is_final p.codes u.flags) received) n)) (sym (joined_words (u.words ++ word_of p (end_message u) ∷ []) (word_of p (Ack number.file number.ldu))))
     (goes_append p _ _ _ _ _ words settle))))
 
 -- the next number comes after this one
-next_comes : (p : Contents) → IsRead p → (number : UnitNumber) (bytes : List ℕ) (t : Bool) (shelf : Shelf) → number.file ≤ 255 → number.ldu ≤ p.codes.first_ldu + 254 → (next_number p.codes number t).ldu ≤ p.codes.first_ldu + 254 → Comes p (next_number p.codes number t) (Some (record { number = number; final = t })) (put number.file bytes t shelf)
-next_comes p good number bytes true shelf byte fit room =
+next_comes : (p : Contents) → IsRead p → (number : UnitNumber) (bytes : List ℕ) (t : Bool) (received : Received) → number.file ≤ 255 → number.ldu ≤ p.codes.first_ldu + 254 → (next_number p.codes number t).ldu ≤ p.codes.first_ldu + 254 → Comes p (next_number p.codes number t) (Some (record { number = number; final = t })) (put number.file bytes t received)
+next_comes p good number bytes true received byte fit room =
     let first = good.first in
     record {
       new = next_other p.codes number true (omega arith);
@@ -241,13 +241,13 @@ next_comes p good number bytes true shelf byte fit room =
       kept = emptied_again (eqb number.file ((number.file + 1) % 256));
     }
   where
-    closed : Shelf
-    closed = put number.file bytes true shelf
+    closed : Received
+    closed = put number.file bytes true received
 
     emptied_again : (same : Bool) → cond same closed (emptied closed) ≡ closed
     emptied_again true = refl
     emptied_again false = refl
-next_comes p good number bytes false shelf byte fit room =
+next_comes p good number bytes false received byte fit room =
     let first = good.first in
     let next = next_number p.codes number false in
     record {
@@ -271,22 +271,22 @@ number_behind c number [] = number
 number_behind c number (u ∷ us) = number_behind c (number_after c number u) us
 
 -- the number of the next one comes after the last one's, if there is a next one
-abbrev pub Ready : Contents → UnitNumber → Option Number → Shelf → List LduValue → Type 0
-Ready p number last shelf [] = Unit {0}
-Ready p number last shelf (u ∷ us) = Comes p number last shelf
+abbrev pub Ready : Contents → UnitNumber → Option Number → Received → List LduValue → Type 0
+Ready p number last received [] = Unit {0}
+Ready p number last received (u ∷ us) = Comes p number last received
 
-ready_next : (p : Contents) → IsRead p → (number : UnitNumber) (u : LduValue) (us : List LduValue) (shelf : Shelf) → number.file ≤ 255 → number.ldu ≤ p.codes.first_ldu + 254 → AllFit p (number_after p.codes number u) us → Ready p (number_after p.codes number u) (Some (unit_number p.codes number u)) (put number.file (bytes_in p.codes u.words) (is_final p.codes u.flags) shelf) us
-ready_next p good number u [] shelf byte fit h = tt
-ready_next p good number u (v ∷ us) shelf byte fit h = next_comes p good number (bytes_in p.codes u.words) (is_final p.codes u.flags) shelf byte fit h.1
+ready_next : (p : Contents) → IsRead p → (number : UnitNumber) (u : LduValue) (us : List LduValue) (received : Received) → number.file ≤ 255 → number.ldu ≤ p.codes.first_ldu + 254 → AllFit p (number_after p.codes number u) us → Ready p (number_after p.codes number u) (Some (unit_number p.codes number u)) (put number.file (bytes_in p.codes u.words) (is_final p.codes u.flags) received) us
+ready_next p good number u [] received byte fit h = tt
+ready_next p good number u (v ∷ us) received byte fit h = next_comes p good number (bytes_in p.codes u.words) (is_final p.codes u.flags) received byte fit h.1
 
 -- all cross
-pub clean_goes : (p : Contents) → IsProfile p → (us : List LduValue) (number : UnitNumber) (last : Option Number) (shelf : Shelf) (count : ℕ) → AllFit p number us → Ready p number last shelf us → Goes p (all_steps (clean_steps p.codes number us)) (idle_at number last shelf count) (idle_at (number_behind p.codes number us) (last_after p.codes number last us) (shelved p.codes number us shelf) (count_after count us))
-clean_goes p is [] number last shelf count h r = record { run = tt; ends = refl }
-clean_goes p is (u ∷ us) number last shelf count h r =
+pub clean_goes : (p : Contents) → IsProfile p → (us : List LduValue) (number : UnitNumber) (last : Option Number) (received : Received) (count : ℕ) → AllFit p number us → Ready p number last received us → Goes p (all_steps (clean_steps p.codes number us)) (idle_at number last received count) (idle_at (number_behind p.codes number us) (last_after p.codes number last us) (shelved p.codes number us received) (count_after count us))
+clean_goes p is [] number last received count h r = record { run = tt; ends = refl }
+clean_goes p is (u ∷ us) number last received count h r =
     let good = is_read p is in
-    let one = block_goes p good number u h.0 (sound p is u h.0) last shelf count r in
-    let more = clean_goes p is us (number_after p.codes number u) (Some (unit_number p.codes number u)) (put number.file (bytes_in p.codes u.words) (is_final p.codes u.flags) shelf) (count_of u) h.2 (ready_next p good number u us shelf r.byte r.room h.2) in
-    subst (λ acts. Goes p acts (idle_at number last shelf count) (idle_at (number_behind p.codes number (u ∷ us)) (last_after p.codes number last (u ∷ us)) (shelved p.codes number (u ∷ us) shelf) (count_after count (u ∷ us)))) (sym (joined_append (block_steps p.codes number u) (clean_steps p.codes (number_after p.codes number u) us)))
+    let one = block_goes p good number u h.0 (sound p is u h.0) last received count r in
+    let more = clean_goes p is us (number_after p.codes number u) (Some (unit_number p.codes number u)) (put number.file (bytes_in p.codes u.words) (is_final p.codes u.flags) received) (count_of u) h.2 (ready_next p good number u us received r.byte r.room h.2) in
+    subst (λ acts. Goes p acts (idle_at number last received count) (idle_at (number_behind p.codes number (u ∷ us)) (last_after p.codes number last (u ∷ us)) (shelved p.codes number (u ∷ us) received) (count_after count (u ∷ us)))) (sym (joined_append (block_steps p.codes number u) (clean_steps p.codes (number_after p.codes number u) us)))
     (goes_append p _ _ _ _ _ one more)
 
 -- ---- free words between
@@ -352,17 +352,17 @@ weave_goes p (i ∷ items) gs s r h =
     let both = woven_item p i items gs s (is_free p.codes i.bus i.word) refl r h (weave_goes p items) in
     record { goes = both.0; records = both.1 }
 
-pub start_ready : (p : Contents) (file : ℕ) (us : List LduValue) → file ≤ 255 → AllFit p (first_number p.codes file) us → Ready p (first_number p.codes file) None empty_shelf us
+pub start_ready : (p : Contents) (file : ℕ) (us : List LduValue) → file ≤ 255 → AllFit p (first_number p.codes file) us → Ready p (first_number p.codes file) None nothing_received us
 start_ready p file [] f h = tt
 start_ready p file (u ∷ us) f h = record { new = refl; follows = eqb_same p.codes.first_ldu; byte = f; room = h.1; kept = refl }
 
 -- a recording of a run without loss is the trace of the woven steps, and these deliver its files
-pub clean_is_run : (p : Contents) (file : ℕ) (us : List LduValue) (items : List Seen) → IsProfile p → file ≤ 255 → AllFit p (first_number p.codes file) us → without_free p.codes items ≡ clean_blocks p.codes (first_number p.codes file) us → IsRunOf p file (weave p.codes items (clean_steps p.codes (first_number p.codes file) us)) items (shelved p.codes (first_number p.codes file) us empty_shelf)
+pub clean_is_run : (p : Contents) (file : ℕ) (us : List LduValue) (items : List Seen) → IsProfile p → file ≤ 255 → AllFit p (first_number p.codes file) us → without_free p.codes items ≡ clean_blocks p.codes (first_number p.codes file) us → IsRunOf p file (weave p.codes items (clean_steps p.codes (first_number p.codes file) us)) items (shelved p.codes (first_number p.codes file) us nothing_received)
 clean_is_run p file us items is f h e =
-    let goes = clean_goes p is us (first_number p.codes file) None empty_shelf 0 h (start_ready p file us f h) in
+    let goes = clean_goes p is us (first_number p.codes file) None nothing_received 0 h (start_ready p file us f h) in
     let woven = weave_goes p items (clean_steps p.codes (first_number p.codes file) us) (start p file) (subst (Records (clean_steps p.codes (first_number p.codes file) us)) (sym e) (clean_records p.codes us (first_number p.codes file))) goes.run in
     record {
       run = woven.goes.run;
       records = woven.records;
-      gives = ap (λ (s : State). s.sink.shelf.files) (woven.goes.ends ∙ goes.ends);
+      gives = ap (λ (s : State). s.sink.received.files) (woven.goes.ends ∙ goes.ends);
     }

@@ -7,7 +7,7 @@ use Rattle.a429_ldu.specs.Form.{form_of, is_free, word_number}
 use Rattle.a429_ldu.specs.Ldu.{LduValue, is_final}
 use Rattle.a429_link.proofs.Message.{IsRead, Message}
 use Rattle.a429_link.specs.Run.{IsBounded, IsRun, end_of}
-use Rattle.a429_link.specs.Sink.{Block, Granted, InBlock, MayAnswerForm, Number, Owes, OwesAck, OwesClear, OwesNak, Quiet, Shelf, Sink, SinkPhase, accepts, accepts_owed, answers_form, emptied, is_same, is_same_file, put, shelf_for, takes_first, takes_form, number_of}
+use Rattle.a429_link.specs.Sink.{Block, Granted, InBlock, MayAnswerForm, Number, Owes, OwesAck, OwesClear, OwesNak, Quiet, Received, Sink, SinkPhase, accepts, accepts_owed, answers_form, emptied, is_same, is_same_file, put, received_for, takes_first, takes_form, number_of}
 use Rattle.a429_link.specs.Step.{Can, IsNamedStep, after, IsFault}
 use Rattle.a429_link.specs.Source.{next_word_of}
 use Rattle.a429_link.specs.State.{rest, start, State}
@@ -33,7 +33,7 @@ use Rattle.a429_link.specs.declared.number.UnitNumber.{UnitNumber}
 -- ---- steps and earlier files
 
 abbrev sink_with : List FileBytes → Sink → Sink
-sink_with files k = record k { shelf = record (k.shelf) { files = files ++ k.shelf.files } }
+sink_with files k = record k { received = record (k.received) { files = files ++ k.received.files } }
 
 takes_with : (p : Contents) (files : List FileBytes) (w : ℕ) (o : Option Form) (k : Sink) → takes_form p w o (sink_with files k) ≡ sink_with files (takes_form p w o k)
 takes_with p files w None k = refl
@@ -49,32 +49,32 @@ takes_first_with : (p : Contents) (files : List FileBytes) (ws : List ℕ) (k : 
 takes_first_with p files [] k = refl
 takes_first_with p files (w ∷ ws) k = takes_with p files w (form_of p.codes bus.A w) k
 
-abbrev shelf_with : List FileBytes → Shelf → Shelf
-shelf_with files s = record s { files = files ++ s.files }
+abbrev received_with : List FileBytes → Received → Received
+received_with files s = record s { files = files ++ s.files }
 
-put_with : (files : List FileBytes) (n : ℕ) (bytes : List ℕ) (t : Bool) (s : Shelf) → put n bytes t (shelf_with files s) ≡ shelf_with files (put n bytes t s)
+put_with : (files : List FileBytes) (n : ℕ) (bytes : List ℕ) (t : Bool) (s : Received) → put n bytes t (received_with files s) ≡ received_with files (put n bytes t s)
 put_with files n bytes true s = ap (λ (l : List FileBytes). put_on l) (append_assoc files s.files (record { number = n; bytes = s.open_bytes ++ bytes } ∷ []))
   where
-    put_on : List FileBytes → Shelf
+    put_on : List FileBytes → Received
     put_on l = record { files = l; open_bytes = [] }
 put_with files n bytes false s = refl
 
-shelf_for_with : (files : List FileBytes) (last : Option Number) (n : ℕ) (s : Shelf) → shelf_for last n (shelf_with files s) ≡ shelf_with files (shelf_for last n s)
-shelf_for_with files last n s = by_file (is_same_file last n)
+received_for_with : (files : List FileBytes) (last : Option Number) (n : ℕ) (s : Received) → received_for last n (received_with files s) ≡ received_with files (received_for last n s)
+received_for_with files last n s = by_file (is_same_file last n)
   where
-    by_file : (t : Bool) → cond t (shelf_with files s) (emptied (shelf_with files s)) ≡ shelf_with files (cond t s (emptied s))
+    by_file : (t : Bool) → cond t (received_with files s) (emptied (received_with files s)) ≡ received_with files (cond t s (emptied s))
     by_file true = refl
     by_file false = refl
 
 accepts_with : (c : Codes) (files : List FileBytes) (b : Block) (flags : ℕ) (k : Sink) → accepts c b flags (sink_with files k) ≡ sink_with files (accepts c b flags k)
 accepts_with c files b flags k = by_same (is_same k.last (number_of b))
   where
-    taken_in : Shelf → Sink
-    taken_in s = record k { last = Some (record { number = number_of b; final = is_final c flags }); shelf = s }
+    taken_in : Received → Sink
+    taken_in s = record k { last = Some (record { number = number_of b; final = is_final c flags }); received = s }
 
-    by_same : (t : Bool) → cond t (sink_with files k) (record (sink_with files k) { last = Some (record { number = number_of b; final = is_final c flags }); shelf = put b.file (bytes_in c b.words) (is_final c flags) (shelf_for k.last b.file (shelf_with files k.shelf)) }) ≡ sink_with files (cond t k (record k { last = Some (record { number = number_of b; final = is_final c flags }); shelf = put b.file (bytes_in c b.words) (is_final c flags) (shelf_for k.last b.file k.shelf) }))
+    by_same : (t : Bool) → cond t (sink_with files k) (record (sink_with files k) { last = Some (record { number = number_of b; final = is_final c flags }); received = put b.file (bytes_in c b.words) (is_final c flags) (received_for k.last b.file (received_with files k.received)) }) ≡ sink_with files (cond t k (record k { last = Some (record { number = number_of b; final = is_final c flags }); received = put b.file (bytes_in c b.words) (is_final c flags) (received_for k.last b.file k.received) }))
     by_same true = refl
-    by_same false = ap taken_in (ap (put b.file (bytes_in c b.words) (is_final c flags)) (shelf_for_with files k.last b.file k.shelf) ∙ put_with files b.file (bytes_in c b.words) (is_final c flags) (shelf_for k.last b.file k.shelf))
+    by_same false = ap taken_in (ap (put b.file (bytes_in c b.words) (is_final c flags)) (received_for_with files k.last b.file k.received) ∙ put_with files b.file (bytes_in c b.words) (is_final c flags) (received_for k.last b.file k.received))
 
 accepts_owed_with : (c : Codes) (files : List FileBytes) (kp : SinkPhase) (k : Sink) → accepts_owed c kp (sink_with files k) ≡ sink_with files (accepts_owed c kp k)
 accepts_owed_with c files (OwesAck b flags) k = accepts_with c files b flags k
@@ -183,18 +183,18 @@ kept_taken p s h =
     let r = h.reached in
     record {
       sound = h.sound;
-      earlier = h.earlier ++ s.sink.shelf.files;
+      earlier = h.earlier ++ s.sink.received.files;
       reached = record {
         first = r.first;
         byte = r.byte;
         steps = r.steps;
         run = r.run;
-        ends = r.ends ∙ ap (λ (l : List FileBytes). filed l) (sym (append-nil (h.earlier ++ s.sink.shelf.files)));
+        ends = r.ends ∙ ap (λ (l : List FileBytes). filed l) (sym (append-nil (h.earlier ++ s.sink.received.files)));
       };
     }
   where
     filed : List FileBytes → State
-    filed l = record s { sink = record (s.sink) { shelf = record (s.sink.shelf) { files = l } } }
+    filed l = record s { sink = record (s.sink) { received = record (s.sink.received) { files = l } } }
 
 pub kept_bounded : (p : Contents) (s : State) → IsKept p s → IsBounded s
 kept_bounded p s h =

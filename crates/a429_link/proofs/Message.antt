@@ -10,7 +10,7 @@ use Rattle.a429_ldu.specs.Form.{form_of, is_free, word_number}
 use Rattle.a429_ldu.specs.Ldu.{LduValue, IsLdu, count_of, block_of}
 use Rattle.a429_link.specs.declared.state.SourceState.{SourceState}
 use Rattle.a429_link.specs.declared.state.SourceState.TheVariants.{Idle, Awaiting, Sending, Waiting}
-use Rattle.a429_link.specs.Source.{Source, next_word, hears, hears_form, is_own_ack}
+use Rattle.a429_link.specs.Source.{Source, next_word, with_answer, with_answer_form, is_own_ack}
 use Rattle.a429_link.specs.Sink.{Sink, SinkPhase, Quiet, OwesClear, Granted, InBlock, OwesAck, OwesNak, Block, takes, takes_form, takes_word, answers, answers_form, answers_word, MayAnswer, MayAnswerForm}
 use Rattle.a429_link.specs.Run.{is_own_ack_form}
 use Rattle.a429_link.specs.declared.number.UnitNumber.{UnitNumber}
@@ -145,29 +145,29 @@ next_is_some p number (Some u) Waiting h = absurd (cc h)
 next_is_some p number None sp h = absurd (cc h)
 
 -- the source after an answer that says this
-abbrev pub hears_message : Contents → Option LduValue → SourceState → Message → Source → Source
-hears_message p cur sp x s = hears p.codes cur sp (form_for x) s
+abbrev pub with_answer_message : Contents → Option LduValue → SourceState → Message → Source → Source
+with_answer_message p cur sp x s = with_answer p.codes cur sp (form_for x) s
 
-abbrev pub hears_seen : Contents → Option Message → Source → Source
-hears_seen p None s = s
-hears_seen p (Some x) s = hears_message p s.current s.phase x s
+abbrev pub with_answer_seen : Contents → Option Message → Source → Source
+with_answer_seen p None s = s
+with_answer_seen p (Some x) s = with_answer_message p s.current s.phase x s
 
-hears_part : (p : Contents) (cur : Option LduValue) (sp : SourceState) (semis others : List ℕ) (s : Source) → hears p.codes cur sp (form.Part semis) s ≡ hears p.codes cur sp (form.Part others) s
-hears_part p None sp semis others s = refl
-hears_part p (Some u) Idle semis others s = refl
-hears_part p (Some u) Awaiting semis others s = refl
-hears_part p (Some u) (Sending k) semis others s = refl
-hears_part p (Some u) Waiting semis others s = refl
+with_answer_part : (p : Contents) (cur : Option LduValue) (sp : SourceState) (semis others : List ℕ) (s : Source) → with_answer p.codes cur sp (form.Part semis) s ≡ with_answer p.codes cur sp (form.Part others) s
+with_answer_part p None sp semis others s = refl
+with_answer_part p (Some u) Idle semis others s = refl
+with_answer_part p (Some u) Awaiting semis others s = refl
+with_answer_part p (Some u) (Sending k) semis others s = refl
+with_answer_part p (Some u) Waiting semis others s = refl
 
-pub hears_join : (p : Contents) (w : ℕ) (o : Option Form) (s : Source) → hears_form p.codes o s ≡ hears_seen p (message_in w o) s
-hears_join p w None s = refl
-hears_join p w (Some (form.Rts n)) s = refl
-hears_join p w (Some (form.Cts n)) s = refl
-hears_join p w (Some (form.Ack f l)) s = refl
-hears_join p w (Some (form.Nak b)) s = refl
-hears_join p w (Some (form.Sot g f l)) s = refl
-hears_join p w (Some (form.Part semis)) s = hears_part p s.current s.phase semis [] s
-hears_join p w (Some (form.Eot f c)) s = refl
+pub with_answer_join : (p : Contents) (w : ℕ) (o : Option Form) (s : Source) → with_answer_form p.codes o s ≡ with_answer_seen p (message_in w o) s
+with_answer_join p w None s = refl
+with_answer_join p w (Some (form.Rts n)) s = refl
+with_answer_join p w (Some (form.Cts n)) s = refl
+with_answer_join p w (Some (form.Ack f l)) s = refl
+with_answer_join p w (Some (form.Nak b)) s = refl
+with_answer_join p w (Some (form.Sot g f l)) s = refl
+with_answer_join p w (Some (form.Part semis)) s = with_answer_part p s.current s.phase semis [] s
+with_answer_join p w (Some (form.Eot f c)) s = refl
 
 abbrev pub is_own_ack_message : UnitNumber → SourceState → Message → Bool
 is_own_ack_message number sp x = is_own_ack number sp (form_for x)
@@ -258,8 +258,8 @@ takes_as p w x k e = takes_join p w (form_of p.codes bus.A w) k ∙ ap (λ o. ta
 pub answers_as : (p : Contents) (w : ℕ) (x : Message) (k : Sink) → message_of p bus.B w ≡ Some x → answers_word p.codes w k ≡ answers_message p x k
 answers_as p w x k e = answers_join p w (form_of p.codes bus.B w) k ∙ ap (λ o. answers_seen p o k) e
 
-pub hears_as : (p : Contents) (w : ℕ) (x : Message) (s : Source) → message_of p bus.B w ≡ Some x → hears_form p.codes (form_of p.codes bus.B w) s ≡ hears_message p s.current s.phase x s
-hears_as p w x s e = hears_join p w (form_of p.codes bus.B w) s ∙ ap (λ o. hears_seen p o s) e
+pub with_answer_as : (p : Contents) (w : ℕ) (x : Message) (s : Source) → message_of p bus.B w ≡ Some x → with_answer_form p.codes (form_of p.codes bus.B w) s ≡ with_answer_message p s.current s.phase x s
+with_answer_as p w x s e = with_answer_join p w (form_of p.codes bus.B w) s ∙ ap (λ o. with_answer_seen p o s) e
 
 -- each word says the next of these
 abbrev pub AllSay : Contents → Bus → List ℕ → List Message → Type 0

@@ -4,7 +4,7 @@ use Rattle.a429_profile.specs.Profile.{Contents}
 use Rattle.a429_ldu.specs.declared.semis.Semis.{Semis}
 use Rattle.a429_ldu.specs.declared.forms.Form.{Form}
 use Rattle.a429_ldu.specs.declared.forms.Form.TheVariants.{Rts, Cts, Ack, Nak, Sot, Part, Eot}
-use Rattle.a429_link.specs.Sink.{Number, Sink, SinkPhase, Quiet, OwesClear, Granted, InBlock, OwesAck, OwesNak, SinkSide, at_start, at_end, is_good, kept_words, takes, empty_block, empty_shelf}
+use Rattle.a429_link.specs.Sink.{Number, Sink, SinkPhase, Quiet, OwesClear, Granted, InBlock, OwesAck, OwesNak, SinkSide, at_start, at_end, is_good, kept_words, takes, empty_block, nothing_received}
 use Rattle.a429_link.specs.State.{rest}
 use Rattle.a429_link.specs.Observer.{KeepsRecorded}
 
@@ -30,7 +30,7 @@ end_keeps p last count flags check OwesNak n h = h
 
 -- the sink that is watched: without files and without words on their way, and what it keeps was recorded
 abbrev pub IsWatched : SinkSide → ℕ → Type 0
-IsWatched k n = (k.sink.shelf ≡ empty_shelf) × (k.to_sink ≡ []) × KeepsRecorded k.sink.phase n
+IsWatched k n = (k.sink.received ≡ nothing_received) × (k.to_sink ≡ []) × KeepsRecorded k.sink.phase n
 
 keeps_others : (p : Contents) (w : ℕ) (x : Form) (k : Sink) (n : ℕ) → ((s : Semis) → x ≡ Part s → ⊥) → KeepsRecorded k.phase n → KeepsRecorded (takes p w x k).phase n
 keeps_others p w (Rts c) k n o h = (omega arith, h.1)
@@ -41,7 +41,7 @@ keeps_others p w (Sot g f l) k n o h = (start_keeps g f l k.phase n h.0, h.1)
 keeps_others p w (Part s) k n o h = absurd (o s refl)
 keeps_others p w (Eot f c) k n o h = (end_keeps p k.last k.count f c k.phase n h.0, h.1)
 
-pub files_stay : (p : Contents) (w : ℕ) (x : Form) (k : Sink) → (takes p w x k).shelf ≡ k.shelf
+pub files_stay : (p : Contents) (w : ℕ) (x : Form) (k : Sink) → (takes p w x k).received ≡ k.received
 files_stay p w (Rts c) k = refl
 files_stay p w (Cts c) k = refl
 files_stay p w (Ack f l) k = refl

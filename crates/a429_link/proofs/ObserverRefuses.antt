@@ -7,7 +7,7 @@ use Rattle.a429_ldu.specs.Ldu.{is_final}
 use Rattle.a429_link.proofs.Message.{IsRead, MaySay, Part, Message, Sot, message_in}
 use Rattle.a429_link.specs.Observer.{Allows, AllowsForm, AllowsNext, HasGrant, IsRefused, Observer, at_first, observed, sees, sees_form, watching}
 use Rattle.a429_link.specs.Run.{BeginsARun}
-use Rattle.a429_link.specs.Sink.{empty_shelf, Granted, InBlock, Number, OwesAck, OwesClear, OwesNak, Quiet, Sink, SinkPhase, accepts_owed, answers, answers_form, is_same, put, shelf_for, takes_form, number_of}
+use Rattle.a429_link.specs.Sink.{nothing_received, Granted, InBlock, Number, OwesAck, OwesClear, OwesNak, Quiet, Sink, SinkPhase, accepts_owed, answers, answers_form, is_same, put, received_for, takes_form, number_of}
 use Rattle.a429_link.specs.declared.seen.Seen.{Seen}
 use Rattle.a429_profile.specs.Profile.{Contents}
 use Rattle.a429_word.specs.declared.bus.Bus.{Bus}
@@ -50,12 +50,12 @@ sees_on_as p bus.B w k = refl
 
 -- the files of a sink change nothing else
 abbrev bare : Sink → Sink
-bare k = record k { shelf = empty_shelf }
+bare k = record k { received = nothing_received }
 
 accepts_last : (c : Codes) (kp : SinkPhase) (k : Sink) → (accepts_owed c kp (bare k)).last ≡ (accepts_owed c kp k).last
 accepts_last c (OwesAck b flags) k = by_same (is_same k.last (number_of b))
   where
-    by_same : (t : Bool) → (cond t (bare k) (record (bare k) { last = Some (record { number = number_of b; final = is_final c flags }); shelf = put b.file (bytes_in c b.words) (is_final c flags) (shelf_for k.last b.file empty_shelf) })).last ≡ (cond t k (record k { last = Some (record { number = number_of b; final = is_final c flags }); shelf = put b.file (bytes_in c b.words) (is_final c flags) (shelf_for k.last b.file k.shelf) })).last
+    by_same : (t : Bool) → (cond t (bare k) (record (bare k) { last = Some (record { number = number_of b; final = is_final c flags }); received = put b.file (bytes_in c b.words) (is_final c flags) (received_for k.last b.file nothing_received) })).last ≡ (cond t k (record k { last = Some (record { number = number_of b; final = is_final c flags }); received = put b.file (bytes_in c b.words) (is_final c flags) (received_for k.last b.file k.received) })).last
     by_same true = refl
     by_same false = refl
 accepts_last c Quiet k = refl

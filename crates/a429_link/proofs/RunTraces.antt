@@ -3,10 +3,10 @@ use Rattle.std.proofs.Common.{◌≡◌, ◌⊎◌, ℕ, zero, suc, ◌+◌, ◌
 use Rattle.a429_word.specs.declared.bus.Bus.TheVariants as bus
 use Rattle.a429_ldu.specs.Form.{is_free}
 use Rattle.a429_ldu.specs.Ldu.{LduValue, count_of}
-use Rattle.a429_link.proofs.Message.{AllSay, Cts, Eot, IsRead, MaySay, Part, Rts, Message, Sot, block_messages, front, hears_as, hears_message, end_message, next_is_some, next_message, none_say, message_in, message_of, takes_as, takes_message}
+use Rattle.a429_link.proofs.Message.{AllSay, Cts, Eot, IsRead, MaySay, Part, Rts, Message, Sot, block_messages, front, with_answer_as, with_answer_message, end_message, next_is_some, next_message, none_say, message_in, message_of, takes_as, takes_message}
 use Rattle.a429_link.specs.Run.{IsSubsequenceOf, IsRun, trace, with_label}
 use Rattle.a429_link.specs.Sink.{Granted, InBlock, Owes, Sink, SinkPhase, at_part, at_start}
-use Rattle.a429_link.specs.Source.{Source, acknowledged, after_word, hears_first}
+use Rattle.a429_link.specs.Source.{Source, acknowledged, after_word, with_answer_first}
 use Rattle.a429_link.specs.Step.{Can, after, label}
 use Rattle.a429_link.specs.State.{rest, IsNonEmpty, start, State}
 use Rattle.a429_link.specs.declared.state.SourceState.{SourceState}
@@ -125,17 +125,17 @@ ack_seen : (p : Contents) (g : ℕ) (number : UnitNumber) (u : LduValue) (t : Bo
 ack_seen p g number u true vs seen = tt
 ack_seen p g number u false vs seen = tt
 
-heard_message_seen : (p : Contents) (g : ℕ) (number : UnitNumber) (cur : Option LduValue) (sp : SourceState) (count : ℕ) (kp : SinkPhase) (xs : List Message) (y : Message) (ys : List Message) (v : ℕ) (vs : List ℕ) (seen : List Message) → message_of p bus.B v ≡ Some y → AllSay p bus.B vs ys → Config number cur sp count kp xs (y ∷ ys) → SeenAt p number cur sp (v ∷ vs) seen → SeenBy p (hears_message p cur sp y (source_at g number cur sp)) vs seen
+heard_message_seen : (p : Contents) (g : ℕ) (number : UnitNumber) (cur : Option LduValue) (sp : SourceState) (count : ℕ) (kp : SinkPhase) (xs : List Message) (y : Message) (ys : List Message) (v : ℕ) (vs : List ℕ) (seen : List Message) → message_of p bus.B v ≡ Some y → AllSay p bus.B vs ys → Config number cur sp count kp xs (y ∷ ys) → SeenAt p number cur sp (v ∷ vs) seen → SeenBy p (with_answer_message p cur sp y (source_at g number cur sp)) vs seen
 heard_message_seen p g number cur sp count kp xs y ys v vs seen e d (cleared {u} r q) h =
     anywhere p (source_at g number (Some u) (Sending 0)) (source_at g number (Some u) Awaiting) _ vs seen (h (subst IsCts (sym e) tt)) (λ i. absurd (no_cts p vs (none_say p bus.B vs ys d refl) i))
 heard_message_seen p g number cur sp count kp xs y ys v vs seen e d (refused r) h = tt
 heard_message_seen p g number cur sp count kp xs y ys v vs seen e d (acked {u} {f} {l} r ef el) h = ack_seen p g number u (eqb f number.file && eqb l number.ldu) vs seen
 
-heard_seen : (p : Contents) (source : Source) (count : ℕ) (kp : SinkPhase) (xs ys : List Message) (vs : List ℕ) (seen : List Message) → IsNonEmpty vs → AllSay p bus.B vs ys → Config source.number source.current source.phase count kp xs ys → SeenBy p source vs seen → SeenBy p (hears_first p.codes vs source) (rest vs) seen
+heard_seen : (p : Contents) (source : Source) (count : ℕ) (kp : SinkPhase) (xs ys : List Message) (vs : List ℕ) (seen : List Message) → IsNonEmpty vs → AllSay p bus.B vs ys → Config source.number source.current source.phase count kp xs ys → SeenBy p source vs seen → SeenBy p (with_answer_first p.codes vs source) (rest vs) seen
 heard_seen p source count kp xs ys [] seen n d c h = absurd n
 heard_seen p source count kp xs [] (v ∷ vs) seen n d c h = absurd d
 heard_seen p source count kp xs (y ∷ ys) (v ∷ vs) seen n d c h =
-    subst (λ q. SeenBy p q vs seen) (sym (hears_as p v y source d.0)) (heard_message_seen p source.give_ups source.number source.current source.phase count kp xs y ys v vs seen d.0 d.1 c h)
+    subst (λ q. SeenBy p q vs seen) (sym (with_answer_as p v y source d.0)) (heard_message_seen p source.give_ups source.number source.current source.phase count kp xs y ys v vs seen d.0 d.1 c h)
 
 unheard_seen : (p : Contents) (number : UnitNumber) (cur : Option LduValue) (sp : SourceState) (count : ℕ) (kp : SinkPhase) (xs ys : List Message) (vs : List ℕ) (seen : List Message) → IsNonEmpty vs → AllSay p bus.B vs ys → Config number cur sp count kp xs ys → SeenAt p number cur sp vs seen → SeenAt p number cur sp (rest vs) seen
 unheard_seen p number cur sp count kp xs ys [] seen n d c h = absurd n

@@ -5,7 +5,7 @@ use Rattle.a429_ldu.specs.Form.{form_of, is_free}
 use Rattle.a429_ldu.specs.Ldu.{LduValue, count_of}
 use Rattle.a429_link.proofs.Message.{IsRead, Rts, Message, next_is_some, next_message, takes_as, takes_message}
 use Rattle.a429_link.specs.Run.{IsRun, delivered, end_of, trace, with_label}
-use Rattle.a429_link.specs.Sink.{Owes, Quiet, Shelf, Sink, SinkPhase, answers_form, answers_word, takes_first, takes_form, takes_word}
+use Rattle.a429_link.specs.Sink.{Owes, Quiet, Received, Sink, SinkPhase, answers_form, answers_word, takes_first, takes_form, takes_word}
 use Rattle.a429_link.specs.Source.{Waits, after_word}
 use Rattle.a429_link.specs.Step.{Can, after, label}
 use Rattle.a429_link.specs.State.{rest, IsNonEmpty, start, State}
@@ -160,26 +160,26 @@ run_alike p good (a ∷ acts) s k h c m =
     subst (λ x. Alike p (end_of p acts (after p a s)) x) (sink_from_label p (label a) (trace acts) k) (run_alike p good acts (after p a s) (sees p (label a) k) h.1 (step_holds p good a s h.0 c) (step_alike p good a s k h.0 c m))
 
 -- no word on the way changes what is delivered
-pub takes_shelf : (p : Contents) (w : ℕ) (o : Option Form) (k : Sink) → (takes_form p w o k).shelf ≡ k.shelf
-takes_shelf p w None k = refl
-takes_shelf p w (Some (form.Rts n)) k = refl
-takes_shelf p w (Some _) k = refl
+pub takes_received : (p : Contents) (w : ℕ) (o : Option Form) (k : Sink) → (takes_form p w o k).received ≡ k.received
+takes_received p w None k = refl
+takes_received p w (Some (form.Rts n)) k = refl
+takes_received p w (Some _) k = refl
 
-take_all_shelf : (p : Contents) (ws : List ℕ) (k : Sink) → (take_all p ws k).shelf ≡ k.shelf
-take_all_shelf p [] k = refl
-take_all_shelf p (w ∷ ws) k = take_all_shelf p ws (takes_word p w k) ∙ takes_shelf p w (form_of p.codes bus.A w) k
+take_all_received : (p : Contents) (ws : List ℕ) (k : Sink) → (take_all p ws k).received ≡ k.received
+take_all_received p [] k = refl
+take_all_received p (w ∷ ws) k = take_all_received p ws (takes_word p w k) ∙ takes_received p w (form_of p.codes bus.A w) k
 
 abbrev pub blank : Sink
-blank = record { last = None; shelf = record { files = []; open_bytes = [] }; count = 0; phase = Quiet }
+blank = record { last = None; received = record { files = []; open_bytes = [] }; count = 0; phase = Quiet }
 
 -- what is delivered is what the trace's sink has
-pub delivered_from_trace : (p : Contents) → IsRead p → (first : ℕ) → first ≤ 255 → (acts : List Step) → IsRun p acts (start p first) → delivered p first acts ≡ (sink_from p (trace acts) blank).shelf.files
+pub delivered_from_trace : (p : Contents) → IsRead p → (first : ℕ) → first ≤ 255 → (acts : List Step) → IsRun p acts (start p first) → delivered p first acts ≡ (sink_from p (trace acts) blank).received.files
 delivered_from_trace p good first f acts h =
     ⊎_elim
-    (λ e. sym (ap (λ (x : Shelf). x.files) (take_all_shelf p (end_of p acts (start p first)).to_sink (end_of p acts (start p first)).sink)) ∙ ap (λ (x : Sink). x.shelf.files) e)
-    (λ r. ap (λ (x : Sink). x.shelf.files) r.alike)
+    (λ e. sym (ap (λ (x : Received). x.files) (take_all_received p (end_of p acts (start p first)).to_sink (end_of p acts (start p first)).sink)) ∙ ap (λ (x : Sink). x.received.files) e)
+    (λ r. ap (λ (x : Sink). x.received.files) r.alike)
     (run_alike p good acts (start p first) blank h (start_holds p first f) (inl refl))
 
 pub same_delivered : (p : Contents) (f g : ℕ) (xs ys : List Step) → IsRead p → f ≤ 255 → g ≤ 255 → IsRun p xs (start p f) → IsRun p ys (start p g) → trace xs ≡ trace ys → delivered p f xs ≡ delivered p g ys
 same_delivered p f g xs ys good lf lg h k e =
-    delivered_from_trace p good f lf xs h ∙ ap (λ t. (sink_from p t blank).shelf.files) e ∙ sym (delivered_from_trace p good g lg ys k)
+    delivered_from_trace p good f lf xs h ∙ ap (λ t. (sink_from p t blank).received.files) e ∙ sym (delivered_from_trace p good g lg ys k)

@@ -3,7 +3,7 @@ use Rattle.std.proofs.Common.{◌≡◌, ◌⊎◌, ℕ, suc, ◌+◌, ◌*◌, 
 use Rattle.std.proofs.lemmas.Bool.{and_left, and_right, ne_eqb}
 use Rattle.a429_link.proofs.Subsequence.{sub_lost, sub_push}
 use Rattle.a429_link.specs.Run.{IsNear, IsSubsequenceOf, newest}
-use Rattle.a429_link.specs.Sink.{emptied, Number, Shelf, is_same, is_same_file, put, shelf_for}
+use Rattle.a429_link.specs.Sink.{emptied, Number, Received, is_same, is_same_file, put, received_for}
 use Rattle.a429_link.specs.declared.file.FileBytes.{FileBytes}
 use Rattle.a429_profile.specs.declared.codes.Codes.{Codes}
 use Rattle.a429_link.specs.declared.number.UnitNumber.{UnitNumber}
@@ -13,25 +13,25 @@ use Rattle.a429_link.proofs.NumberFacts.{next_ldu, other_file}
 -- ---- shelves
 
 -- a link data unit that is put on both
-pub put_both : (file : ℕ) (bytes : List ℕ) (t : Bool) (a b : Shelf) → IsSubsequenceOf a.files b.files → a.open_bytes ≡ b.open_bytes → IsSubsequenceOf (put file bytes t a).files (put file bytes t b).files
+pub put_both : (file : ℕ) (bytes : List ℕ) (t : Bool) (a b : Received) → IsSubsequenceOf a.files b.files → a.open_bytes ≡ b.open_bytes → IsSubsequenceOf (put file bytes t a).files (put file bytes t b).files
 put_both file bytes true a b h e =
     subst (λ x. IsSubsequenceOf (a.files ++ record { number = file; bytes = a.open_bytes ++ bytes } ∷ []) (b.files ++ record { number = file; bytes = x ++ bytes } ∷ [])) e (sub_push _ a.files b.files h)
 put_both file bytes false a b h e = h
 
 -- one that is put on the second
-pub put_second : (file : ℕ) (bytes : List ℕ) (t : Bool) (xs : List FileBytes) (b : Shelf) → IsSubsequenceOf xs b.files → IsSubsequenceOf xs (put file bytes t b).files
+pub put_second : (file : ℕ) (bytes : List ℕ) (t : Bool) (xs : List FileBytes) (b : Received) → IsSubsequenceOf xs b.files → IsSubsequenceOf xs (put file bytes t b).files
 put_second file bytes true xs b h = sub_lost _ xs b.files h
 put_second file bytes false xs b h = h
 
-pub put_open : (file : ℕ) (bytes : List ℕ) (t : Bool) (a b : Shelf) → a.open_bytes ≡ b.open_bytes → (put file bytes t a).open_bytes ≡ (put file bytes t b).open_bytes
+pub put_open : (file : ℕ) (bytes : List ℕ) (t : Bool) (a b : Received) → a.open_bytes ≡ b.open_bytes → (put file bytes t a).open_bytes ≡ (put file bytes t b).open_bytes
 put_open file bytes true a b e = refl
 put_open file bytes false a b e = ap (λ x. x ++ bytes) e
 
-pub put_closed : (file : ℕ) (bytes : List ℕ) (t : Bool) (s : Shelf) → t ≡ true → (put file bytes t s).open_bytes ≡ []
+pub put_closed : (file : ℕ) (bytes : List ℕ) (t : Bool) (s : Received) → t ≡ true → (put file bytes t s).open_bytes ≡ []
 put_closed file bytes true s e = refl
 put_closed file bytes false s e = absurd (cc e)
 
-pub put_room : (file : ℕ) (bytes : List ℕ) (t : Bool) (s : Shelf) → length (put file bytes t s).open_bytes ≤ length s.open_bytes + length bytes
+pub put_room : (file : ℕ) (bytes : List ℕ) (t : Bool) (s : Received) → length (put file bytes t s).open_bytes ≤ length s.open_bytes + length bytes
 put_room file bytes true s = omega arith
 put_room file bytes false s = omega (arith, length-append s.open_bytes bytes)
 
@@ -41,22 +41,22 @@ newest_push x (y ∷ []) = refl
 newest_push x (y ∷ (z ∷ zs)) = newest_push x (z ∷ zs)
 
 -- what is settled once the link data unit is acknowledged
-pub put_settled : (file : ℕ) (bytes : List ℕ) (t : Bool) (a b : Shelf) (fs : List FileBytes) → IsSubsequenceOf fs a.files → a.open_bytes ≡ b.open_bytes → IsSubsequenceOf (cond t (fs ++ newest (put file bytes t b).files) fs) (put file bytes t a).files
+pub put_settled : (file : ℕ) (bytes : List ℕ) (t : Bool) (a b : Received) (fs : List FileBytes) → IsSubsequenceOf fs a.files → a.open_bytes ≡ b.open_bytes → IsSubsequenceOf (cond t (fs ++ newest (put file bytes t b).files) fs) (put file bytes t a).files
 put_settled file bytes true a b fs h e =
     let z : FileBytes = record { number = file; bytes = b.open_bytes ++ bytes } in
     let same = ap (λ x. a.files ++ record { number = file; bytes = x ++ bytes } ∷ []) e in
     subst (λ l. IsSubsequenceOf (fs ++ l) (put file bytes true a).files) (sym (newest_push z b.files)) (subst (λ l. IsSubsequenceOf (fs ++ z ∷ []) l) (sym same) (sub_push z fs a.files h))
 put_settled file bytes false a b fs h e = h
 
-pub shelf_for_files : (last : Option Number) (file : ℕ) (s : Shelf) → (shelf_for last file s).files ≡ s.files
-shelf_for_files last file s = by_file (is_same_file last file)
+pub received_for_files : (last : Option Number) (file : ℕ) (s : Received) → (received_for last file s).files ≡ s.files
+received_for_files last file s = by_file (is_same_file last file)
   where
     by_file : (t : Bool) → (cond t s (emptied s)).files ≡ s.files
     by_file true = refl
     by_file false = refl
 
-pub shelf_for_empty : (last : Option Number) (file : ℕ) (s : Shelf) → s.open_bytes ≡ [] → (shelf_for last file s).open_bytes ≡ []
-shelf_for_empty last file s e = by_file (is_same_file last file)
+pub received_for_nothing : (last : Option Number) (file : ℕ) (s : Received) → s.open_bytes ≡ [] → (received_for last file s).open_bytes ≡ []
+received_for_nothing last file s e = by_file (is_same_file last file)
   where
     by_file : (t : Bool) → (cond t s (emptied s)).open_bytes ≡ []
     by_file true = e
@@ -80,7 +80,7 @@ past_given_up c (Some last) n g (inl (e, q)) = inr (1, omega arith, omega arith,
 past_given_up c (Some last) n g (inr (d, a, b, e)) = inr (suc d, omega arith, omega arith, omega arith)
 
 -- what the sink has of a file that is given up is not of the next one
-pub past_emptied : (last : Option Number) (n : UnitNumber) (g : ℕ) (s : Shelf) → g ≤ 126 → Past last n g → (shelf_for last ((n.file + 1) % 256) s).open_bytes ≡ []
+pub past_emptied : (last : Option Number) (n : UnitNumber) (g : ℕ) (s : Received) → g ≤ 126 → Past last n g → (received_for last ((n.file + 1) % 256) s).open_bytes ≡ []
 past_emptied None n g s l h = refl
 past_emptied (Some last) n g s l h = by_file (eqb last.number.file ((n.file + 1) % 256)) refl
   where
@@ -117,7 +117,7 @@ past_near first (Some last) bytes n g l f byte (inl (e, q)) = omega arith
 past_near first (Some last) bytes n g l f byte (inr (d, a, b, e)) = let low = f.byte in omega arith
 
 -- the bytes of the file that the next link data unit is put on
-pub room_for : (first : ℕ) (last : Option Number) (n : UnitNumber) (g : ℕ) (s : Shelf) → g ≤ 127 → Past last n g → first ≤ n.ldu → Fits first last s.open_bytes → length (shelf_for last n.file s).open_bytes + 632 * first ≤ 632 * n.ldu
+pub room_for : (first : ℕ) (last : Option Number) (n : UnitNumber) (g : ℕ) (s : Received) → g ≤ 127 → Past last n g → first ≤ n.ldu → Fits first last s.open_bytes → length (received_for last n.file s).open_bytes + 632 * first ≤ 632 * n.ldu
 room_for first None n g s l h low f = omega arith
 room_for first (Some last) n g s l h low f = by_file (eqb last.number.file n.file) refl
   where

@@ -4,8 +4,8 @@ use Rattle.std.proofs.lemmas.Bool.{and_parts, eqb-false}
 use Rattle.std.proofs.lemmas.List.{map_push}
 use Rattle.a429_ldu.specs.Carried.{bytes_in}
 use Rattle.a429_ldu.specs.Ldu.{LduValue, count_of, is_final}
-use Rattle.a429_link.proofs.Message.{Ack, Cts, Eot, MaySay, Nak, Part, Rts, Message, Sot, block_messages, front, hears_message, end_message, next_message, takes_message, taken_messages}
-use Rattle.a429_link.specs.Sink.{Block, Granted, InBlock, Listens, Number, Owes, OwesAck, OwesClear, OwesNak, Quiet, Shelf, Sink, SinkPhase, accepts_owed, held_count, is_good, is_same, put, shelf_for, number_of}
+use Rattle.a429_link.proofs.Message.{Ack, Cts, Eot, MaySay, Nak, Part, Rts, Message, Sot, block_messages, front, with_answer_message, end_message, next_message, takes_message, taken_messages}
+use Rattle.a429_link.specs.Sink.{Block, Granted, InBlock, Listens, Number, Owes, OwesAck, OwesClear, OwesNak, Quiet, Received, Sink, SinkPhase, accepts_owed, held_count, is_good, is_same, put, received_for, number_of}
 use Rattle.a429_link.specs.Run.{IsSubsequenceOf, SentFew, TookFew}
 use Rattle.a429_link.specs.Source.{IsIdle, Source, Waits, acknowledged, after_word}
 use Rattle.a429_link.specs.State.{rest, IsNonEmpty}
@@ -221,7 +221,7 @@ answer_fits number cur sp count kp xs ys w m _ = absurd m
 pub acks_count : (c : Codes) (kp : SinkPhase) (k : Sink) → (accepts_owed c kp k).count ≡ k.count
 acks_count c (OwesAck b f) k = acks_count_at (is_same k.last (number_of b))
   where
-    acks_count_at : (t : Bool) → (cond t k (record k { last = Some (record { number = number_of b; final = is_final c f }); shelf = put b.file (bytes_in c b.words) (is_final c f) (shelf_for k.last b.file k.shelf) })).count ≡ k.count
+    acks_count_at : (t : Bool) → (cond t k (record k { last = Some (record { number = number_of b; final = is_final c f }); received = put b.file (bytes_in c b.words) (is_final c f) (received_for k.last b.file k.received) })).count ≡ k.count
     acks_count_at true = refl
     acks_count_at false = refl
 acks_count c _ k = refl
@@ -245,8 +245,8 @@ each_take P zero xs h = tt
 each_take P (suc k) [] h = tt
 each_take P (suc k) (x ∷ xs) h = (h.0, each_take P k xs h.1)
 
-abbrev pub sink_at : Option Number → Shelf → ℕ → SinkPhase → Sink
-sink_at last shelf count kp = record { last = last; shelf = shelf; count = count; phase = kp }
+abbrev pub sink_at : Option Number → Received → ℕ → SinkPhase → Sink
+sink_at last received count kp = record { last = last; received = received; count = count; phase = kp }
 
 -- a data word goes behind those of the block
 part_behind : (b : Block) (s : ℕ) (xs : List Message) → taken_messages b ++ Part s ∷ xs ≡ taken_messages (record b { words = b.words ++ s ∷ [] }) ++ xs
@@ -254,17 +254,17 @@ part_behind b s xs =
     let e : map Part (b.words ++ s ∷ []) ++ xs ≡ (map Part b.words ++ Part s ∷ []) ++ xs = ap (λ l. l ++ xs) (map_push Part b.words s) in
     ap (λ l. Sot b.gfi b.file b.ldu ∷ l) (sym (append_assoc (map Part b.words) (Part s ∷ []) xs) ∙ sym e)
 
-sending_takes : (p : Contents) (last : Option Number) (shelf : Shelf) (number : UnitNumber) (u : LduValue) (k count : ℕ) (kp : SinkPhase) (w : Message) (xs : List Message) → length u.words ≤ 253 → InGrant kp → count ≡ count_of u → suc k ≤ count_of u → IsSubsequenceOf (block_taken kp ++ w ∷ xs) (take k (front u number)) → Config number (Some u) (Sending k) (takes_message p w (sink_at last shelf count kp)).count (takes_message p w (sink_at last shelf count kp)).phase xs []
-sending_takes p last shelf number u k count Granted (Sot g f l) xs r i c le h = sending r tt c le h
-sending_takes p last shelf number u k count Granted (Part s) xs r i c le h = sending r tt c le (sub_rest (Part s) xs (take k (front u number)) h)
-sending_takes p last shelf number u k count (InBlock b) (Sot g f l) xs r i c le h = sending r tt c le (sub_back (taken_messages b) (Sot g f l ∷ xs) (take k (front u number)) h)
-sending_takes p last shelf number u k count (InBlock b) (Part s) xs r i c le h =
+sending_takes : (p : Contents) (last : Option Number) (received : Received) (number : UnitNumber) (u : LduValue) (k count : ℕ) (kp : SinkPhase) (w : Message) (xs : List Message) → length u.words ≤ 253 → InGrant kp → count ≡ count_of u → suc k ≤ count_of u → IsSubsequenceOf (block_taken kp ++ w ∷ xs) (take k (front u number)) → Config number (Some u) (Sending k) (takes_message p w (sink_at last received count kp)).count (takes_message p w (sink_at last received count kp)).phase xs []
+sending_takes p last received number u k count Granted (Sot g f l) xs r i c le h = sending r tt c le h
+sending_takes p last received number u k count Granted (Part s) xs r i c le h = sending r tt c le (sub_rest (Part s) xs (take k (front u number)) h)
+sending_takes p last received number u k count (InBlock b) (Sot g f l) xs r i c le h = sending r tt c le (sub_back (taken_messages b) (Sot g f l ∷ xs) (take k (front u number)) h)
+sending_takes p last received number u k count (InBlock b) (Part s) xs r i c le h =
     sending r tt c le (subst (λ x. IsSubsequenceOf x (take k (front u number))) (part_behind b s xs) h)
-sending_takes p last shelf number u k count Granted w xs r i c le h =
+sending_takes p last received number u k count Granted w xs r i c le h =
     absurd (each_at IsFrontWord [] w xs (sub_each IsFrontWord (w ∷ xs) (take k (front u number)) h (each_take IsFrontWord k (front u number) (front_words u number))))
-sending_takes p last shelf number u k count (InBlock b) w xs r i c le h =
+sending_takes p last received number u k count (InBlock b) w xs r i c le h =
     absurd (each_at IsFrontWord (taken_messages b) w xs (sub_each IsFrontWord (taken_messages b ++ w ∷ xs) (take k (front u number)) h (each_take IsFrontWord k (front u number) (front_words u number))))
-sending_takes p last shelf number u k count _ w xs r i c le h = absurd i
+sending_takes p last received number u k count _ w xs r i c le h = absurd i
 
 -- the end word of a block
 closes : (p : Contents) (last : Option Number) (number : UnitNumber) (u : LduValue) (count : ℕ) (b : Block) (fl ch : ℕ) (t : Bool) → is_good p last count b ch ≡ t → length u.words ≤ 253 → count ≡ count_of u → fl ≡ u.flags → IsSubsequenceOf (taken_messages b) (front u number) → Config number (Some u) Waiting count (cond t (OwesAck b fl) OwesNak) [] []
@@ -275,29 +275,29 @@ closes p last number u count b fl ch true e r c q h =
     let all = sub_start b.gfi b.file b.ldu u.gfi number.file number.ldu b.words u.words h in
     whole r (record { told = number_from (number_of b) number all.0 all.1; words = same_parts b.words u.words len all.2; flags = q })
 
-waiting_takes : (p : Contents) (last : Option Number) (shelf : Shelf) (number : UnitNumber) (u : LduValue) (count : ℕ) (kp : SinkPhase) (w : Message) (xs : List Message) → length u.words ≤ 253 → InGrant kp → count ≡ count_of u → IsSubsequenceOf (block_taken kp ++ w ∷ xs) (block_messages u number) → Config number (Some u) Waiting (takes_message p w (sink_at last shelf count kp)).count (takes_message p w (sink_at last shelf count kp)).phase xs []
-waiting_takes p last shelf number u count Granted (Sot g f l) xs r i c h = waiting r tt c h
-waiting_takes p last shelf number u count Granted (Part s) xs r i c h = waiting r tt c (sub_rest (Part s) xs (block_messages u number) h)
-waiting_takes p last shelf number u count Granted (Eot fl ch) xs r i c h =
+waiting_takes : (p : Contents) (last : Option Number) (received : Received) (number : UnitNumber) (u : LduValue) (count : ℕ) (kp : SinkPhase) (w : Message) (xs : List Message) → length u.words ≤ 253 → InGrant kp → count ≡ count_of u → IsSubsequenceOf (block_taken kp ++ w ∷ xs) (block_messages u number) → Config number (Some u) Waiting (takes_message p w (sink_at last received count kp)).count (takes_message p w (sink_at last received count kp)).phase xs []
+waiting_takes p last received number u count Granted (Sot g f l) xs r i c h = waiting r tt c h
+waiting_takes p last received number u count Granted (Part s) xs r i c h = waiting r tt c (sub_rest (Part s) xs (block_messages u number) h)
+waiting_takes p last received number u count Granted (Eot fl ch) xs r i c h =
     let e = sub_end fl ch (end_message u) [] xs (front u number) (front_words u number) h in
     subst (λ x. Config number (Some u) Waiting count OwesNak x []) (sym e.1) (spoiled r)
-waiting_takes p last shelf number u count (InBlock b) (Sot g f l) xs r i c h = waiting r tt c (sub_back (taken_messages b) (Sot g f l ∷ xs) (block_messages u number) h)
-waiting_takes p last shelf number u count (InBlock b) (Part s) xs r i c h =
+waiting_takes p last received number u count (InBlock b) (Sot g f l) xs r i c h = waiting r tt c (sub_back (taken_messages b) (Sot g f l ∷ xs) (block_messages u number) h)
+waiting_takes p last received number u count (InBlock b) (Part s) xs r i c h =
     waiting r tt c (subst (λ x. IsSubsequenceOf x (block_messages u number)) (part_behind b s xs) h)
-waiting_takes p last shelf number u count (InBlock b) (Eot fl ch) xs r i c h =
+waiting_takes p last received number u count (InBlock b) (Eot fl ch) xs r i c h =
     let e = sub_end fl ch (end_message u) (taken_messages b) xs (front u number) (front_words u number) h in
     let same : fl ≡ u.flags = cc (e.0) in
     subst (λ x. Config number (Some u) Waiting count (cond (is_good p last count b ch) (OwesAck b fl) OwesNak) x []) (sym e.1) (closes p last number u count b fl ch (is_good p last count b ch) refl r c same e.2)
-waiting_takes p last shelf number u count Granted w xs r i c h =
+waiting_takes p last received number u count Granted w xs r i c h =
     absurd (each_at IsBlockWord [] w xs (sub_each IsBlockWord (w ∷ xs) (block_messages u number) h (block_words_each u number)))
-waiting_takes p last shelf number u count (InBlock b) w xs r i c h =
+waiting_takes p last received number u count (InBlock b) w xs r i c h =
     absurd (each_at IsBlockWord (taken_messages b) w xs (sub_each IsBlockWord (taken_messages b ++ w ∷ xs) (block_messages u number) h (block_words_each u number)))
-waiting_takes p last shelf number u count _ w xs r i c h = absurd i
+waiting_takes p last received number u count _ w xs r i c h = absurd i
 
-pub taken_fits : (p : Contents) (last : Option Number) (shelf : Shelf) (number : UnitNumber) (cur : Option LduValue) (sp : SourceState) (count : ℕ) (kp : SinkPhase) (w : Message) (xs ys : List Message) → Config number cur sp count kp (w ∷ xs) ys → Config number cur sp (takes_message p w (sink_at last shelf count kp)).count (takes_message p w (sink_at last shelf count kp)).phase xs ys
-taken_fits p last shelf number cur sp count kp w xs ys (asked {n} r s q) = heard r q
-taken_fits p last shelf number cur sp count kp w xs ys (sending {u} {k} r g c le h) = sending_takes p last shelf number u k count kp w xs r g c le h
-taken_fits p last shelf number cur sp count kp w xs ys (waiting {u} r g c h) = waiting_takes p last shelf number u count kp w xs r g c h
+pub taken_fits : (p : Contents) (last : Option Number) (received : Received) (number : UnitNumber) (cur : Option LduValue) (sp : SourceState) (count : ℕ) (kp : SinkPhase) (w : Message) (xs ys : List Message) → Config number cur sp count kp (w ∷ xs) ys → Config number cur sp (takes_message p w (sink_at last received count kp)).count (takes_message p w (sink_at last received count kp)).phase xs ys
+taken_fits p last received number cur sp count kp w xs ys (asked {n} r s q) = heard r q
+taken_fits p last received number cur sp count kp w xs ys (sending {u} {k} r g c le h) = sending_takes p last received number u k count kp w xs r g c le h
+taken_fits p last received number cur sp count kp w xs ys (waiting {u} r g c h) = waiting_takes p last received number u count kp w xs r g c h
 
 -- an answer is taken
 -- the numbers of a link data unit that crosses under these
@@ -321,7 +321,7 @@ hear_ack : (p : Contents) (g : ℕ) (number : UnitNumber) (u : LduValue) (count 
 hear_ack p g number u count true r = idle tt tt
 hear_ack p g number u count false r = over r
 
-pub heard_fits : (p : Contents) (g : ℕ) (number : UnitNumber) (cur : Option LduValue) (sp : SourceState) (count : ℕ) (kp : SinkPhase) (w : Message) (xs ys : List Message) → Config number cur sp count kp xs (w ∷ ys) → At (hears_message p cur sp w (source_at g number cur sp)) count kp xs ys
+pub heard_fits : (p : Contents) (g : ℕ) (number : UnitNumber) (cur : Option LduValue) (sp : SourceState) (count : ℕ) (kp : SinkPhase) (w : Message) (xs ys : List Message) → Config number cur sp count kp xs (w ∷ ys) → At (with_answer_message p cur sp w (source_at g number cur sp)) count kp xs ys
 heard_fits p g number cur sp count kp w xs ys (cleared {u} {n} r q) = hear_clear g number u count n (eqb n (count_of u)) refl r q
 heard_fits p g number cur sp count kp w xs ys (refused r) = idle r tt
 heard_fits p g number cur sp count kp w xs ys (acked {u} {f} {l} r ef el) = hear_ack p g number u count _ r

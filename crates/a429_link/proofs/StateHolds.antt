@@ -3,9 +3,9 @@ use Rattle.std.proofs.Common.{◌≡◌, ℕ, zero, suc, ◌≤◌, Bool, true, 
 use Rattle.a429_word.specs.declared.bus.Bus.TheVariants as bus
 use Rattle.a429_ldu.specs.Form.{form_of}
 use Rattle.a429_ldu.specs.Ldu.{IsLdu, LduValue, count_of, is_final}
-use Rattle.a429_link.proofs.Message.{Ack, AllParts, AllSay, Cts, Eot, InRange, IsFit, IsRead, MaySay, Nak, Part, Replies, Rts, Message, answers_as, answers_message, block_messages, hears_as, hears_message, next_is_some, next_message, next_says, none_say, replies, message_of, say_none, say_push, takes_as}
+use Rattle.a429_link.proofs.Message.{Ack, AllParts, AllSay, Cts, Eot, InRange, IsFit, IsRead, MaySay, Nak, Part, Replies, Rts, Message, answers_as, answers_message, block_messages, with_answer_as, with_answer_message, next_is_some, next_message, next_says, none_say, replies, message_of, say_none, say_push, takes_as}
 use Rattle.a429_link.specs.Sink.{Owes, Sink, SinkPhase, takes_first}
-use Rattle.a429_link.specs.Source.{Source, Waits, hears_first, next_word_of}
+use Rattle.a429_link.specs.Source.{Source, Waits, with_answer_first, next_word_of}
 use Rattle.a429_link.specs.Step.{Can, after}
 use Rattle.a429_link.specs.State.{rest, IsNonEmpty, start, State}
 use Rattle.a429_link.specs.declared.state.SourceState.{SourceState}
@@ -98,7 +98,7 @@ takes_holds p source k (w ∷ ws) vs (x ∷ xs) ys n e d f c h =
       source_words = d;
       file = f;
       current = c;
-      fits = taken_fits p k.last k.shelf _ _ _ _ _ x xs ys h;
+      fits = taken_fits p k.last k.received _ _ _ _ _ x xs ys h;
     })
 
 unheard_holds : (p : Contents) (source : Source) (k : Sink) (ws vs : List ℕ) (xs ys : List Message) → IsNonEmpty vs → AllSay p bus.A ws xs → AllSay p bus.B vs ys → source.number.file ≤ 255 → Current p source.current source.number.ldu → Config source.number source.current source.phase k.count k.phase xs ys → Holds p source k ws (rest vs)
@@ -123,18 +123,18 @@ either : (p : Contents) (t : Bool) (a b : Source) → Numbers p a → Numbers p 
 either p true a b h k = h
 either p false a b h k = k
 
-hear_numbers : (p : Contents) (g : ℕ) (number : UnitNumber) (cur : Option LduValue) (sp : SourceState) (count : ℕ) (kp : SinkPhase) (xs : List Message) (y : Message) (ys : List Message) → Config number cur sp count kp xs (y ∷ ys) → number.file ≤ 255 → Current p cur number.ldu → Numbers p (hears_message p cur sp y (source_at g number cur sp))
+hear_numbers : (p : Contents) (g : ℕ) (number : UnitNumber) (cur : Option LduValue) (sp : SourceState) (count : ℕ) (kp : SinkPhase) (xs : List Message) (y : Message) (ys : List Message) → Config number cur sp count kp xs (y ∷ ys) → number.file ≤ 255 → Current p cur number.ldu → Numbers p (with_answer_message p cur sp y (source_at g number cur sp))
 hear_numbers p g number cur sp count kp xs y ys (cleared {u} {n} r q) f c = either p _ _ _ (f, c) (f, c)
 hear_numbers p g number cur sp count kp xs y ys (refused r) f c = (f, c)
 hear_numbers p g number cur sp count kp xs y ys (acked {u} r ef el) f c =
     either p _ _ _ (next_byte p.codes number (is_final p.codes u.flags) f, tt) (f, c)
 
-hears_holds : (p : Contents) (source : Source) (k : Sink) (ws vs : List ℕ) (xs ys : List Message) → IsNonEmpty vs → AllSay p bus.A ws xs → AllSay p bus.B vs ys → source.number.file ≤ 255 → Current p source.current source.number.ldu → Config source.number source.current source.phase k.count k.phase xs ys → Holds p (hears_first p.codes vs source) k ws (rest vs)
-hears_holds p source k ws [] xs ys n e d f c h = absurd n
-hears_holds p source k ws (v ∷ vs) xs [] n e d f c h = absurd d
-hears_holds p source k ws (v ∷ vs) xs (y ∷ ys) n e d f c h =
+with_answer_holds : (p : Contents) (source : Source) (k : Sink) (ws vs : List ℕ) (xs ys : List Message) → IsNonEmpty vs → AllSay p bus.A ws xs → AllSay p bus.B vs ys → source.number.file ≤ 255 → Current p source.current source.number.ldu → Config source.number source.current source.phase k.count k.phase xs ys → Holds p (with_answer_first p.codes vs source) k ws (rest vs)
+with_answer_holds p source k ws [] xs ys n e d f c h = absurd n
+with_answer_holds p source k ws (v ∷ vs) xs [] n e d f c h = absurd d
+with_answer_holds p source k ws (v ∷ vs) xs (y ∷ ys) n e d f c h =
     let numbers = hear_numbers p source.give_ups source.number source.current source.phase k.count k.phase xs y ys h f c in
-    subst (λ q. Holds p q k ws vs) (sym (hears_as p v y source d.0))
+    subst (λ q. Holds p q k ws vs) (sym (with_answer_as p v y source d.0))
     (record {
       xs = xs;
       ys = ys;
@@ -191,7 +191,7 @@ step_holds p good (Load u) s c h =
 step_holds p good (Sent i) s c h = sent_holds p good s i c h
 step_holds p good SentLost s c h = on_way p s _ s.sink h h.file h.current (lost_fits _ _ _ _ _ _ _ (next_is_some p s.source.number s.source.current s.source.phase c) h.fits)
 step_holds p good TimeOut s c h = on_way p s _ s.sink h h.file h.current (late_fits _ _ _ _ _ _ _ c.0 c.3 (say_none p bus.A s.to_sink h.xs h.sink_words c.1) (say_none p bus.B s.to_source h.ys h.source_words c.2) h.fits)
-step_holds p good TakeAnswer s c h = hears_holds p s.source s.sink s.to_sink s.to_source h.xs h.ys c h.sink_words h.source_words h.file h.current h.fits
+step_holds p good TakeAnswer s c h = with_answer_holds p s.source s.sink s.to_sink s.to_source h.xs h.ys c h.sink_words h.source_words h.file h.current h.fits
 step_holds p good LoseAnswer s c h = unheard_holds p s.source s.sink s.to_sink s.to_source h.xs h.ys c h.sink_words h.source_words h.file h.current h.fits
 step_holds p good SinkTakes s c h = takes_holds p s.source s.sink s.to_sink s.to_source h.xs h.ys c.0 h.sink_words h.source_words h.file h.current h.fits
 step_holds p good Silent s c h = on_way p s s.source _ h h.file h.current (silent_fits _ _ _ _ _ _ _ c h.fits)

@@ -18,7 +18,7 @@ use Rattle.a429_link.specs.Number.{first_number, number_after}
 use Rattle.a429_link.specs.declared.seen.Seen.{Seen}
 use Rattle.a429_link.specs.declared.step.Step.{Step}
 use Rattle.a429_link.specs.declared.step.Step.TheVariants.{Load, Sent, TakeAnswer, SinkTakes, Answered, FreeSeen}
-use Rattle.a429_link.specs.Sink.{Shelf, put, empty_shelf}
+use Rattle.a429_link.specs.Sink.{Received, put, nothing_received}
 use Rattle.a429_link.specs.State.{start}
 use Rattle.a429_link.specs.Run.{IsRun, trace, delivered}
 
@@ -48,8 +48,8 @@ abbrev pub AllFit : Contents → UnitNumber → List LduValue → Type 0
 AllFit p n [] = Unit {0}
 AllFit p n (u ∷ us) = IsLdu p u × (n.ldu ≤ p.codes.first_ldu + 254) × AllFit p (number_after p.codes n u) us
 
--- the shelf with these link data units put on it
-abbrev pub shelved : Codes → UnitNumber → List LduValue → Shelf → Shelf
+-- what is received with these link data units after it
+abbrev pub shelved : Codes → UnitNumber → List LduValue → Received → Received
 shelved c n [] o = o
 shelved c n (u ∷ us) o = shelved c (number_after c n u) us (put n.file (bytes_of c u) (is_final c u.flags) o)
 
@@ -89,15 +89,15 @@ abbrev pub weave : Codes → List Seen → List (List Step) → List Step
 weave c [] gs = []
 weave c (i ∷ items) gs = if is_free c i.bus i.word then FreeSeen i ∷ weave c items gs else first_of gs ++ weave c items (rest_of gs)
 
--- the steps are a run from the start that records these words and delivers the files of this shelf
-pub record IsRunOf (p : Contents) (file : ℕ) (steps : List Step) (items : List Seen) (shelf : Shelf) : Type 0 where
+-- the steps are a run from the start that records these words and delivers these files
+pub record IsRunOf (p : Contents) (file : ℕ) (steps : List Step) (items : List Seen) (received : Received) : Type 0 where
   pub run : IsRun p steps (start p file)
   pub records : trace steps ≡ items
-  pub gives : delivered p file steps ≡ shelf.files
+  pub gives : delivered p file steps ≡ received.files
 
 -- the steps of this recording, free words among them, are a run from the start that delivers the files of these link data units
 abbrev pub CarriesUnits : Contents → ℕ → List LduValue → List Seen → Type 0
-CarriesUnits p first units items = IsRunOf p first (weave p.codes items (clean_steps p.codes (first_number p.codes first) units)) items (shelved p.codes (first_number p.codes first) units empty_shelf)
+CarriesUnits p first units items = IsRunOf p first (weave p.codes items (clean_steps p.codes (first_number p.codes first) units)) items (shelved p.codes (first_number p.codes first) units nothing_received)
 
 -- a recording in which, free words left out, link data units cross without loss, the first of them under this file's number
 pub record CleanRecording (p : Contents) : Type 0 where

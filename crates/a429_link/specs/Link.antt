@@ -15,7 +15,7 @@ pub record LinkValue : Type 0 where
 
 -- the state, with files that were delivered before
 abbrev pub with_earlier : List FileBytes → State → State
-with_earlier files s = record s { sink = record (s.sink) { shelf = record (s.sink.shelf) { files = files ++ s.sink.shelf.files } } }
+with_earlier files s = record s { sink = record (s.sink) { received = record (s.sink.received) { files = files ++ s.sink.received.files } } }
 
 -- the state with its delivered files handed out
 abbrev pub handed_out : State → State
@@ -52,11 +52,11 @@ left_by p (Taken ∷ calls) s = left_by p calls (handed_out s)
 abbrev pub taken : Contents → List Call → State → List FileBytes
 taken p [] s = []
 taken p (Applied a ∷ calls) s = taken p calls (after p a s)
-taken p (Taken ∷ calls) s = s.sink.shelf.files ++ taken p calls (handed_out s)
+taken p (Taken ∷ calls) s = s.sink.received.files ++ taken p calls (handed_out s)
 
 -- the files that calls take, in order, from the start on, where the first file has this number; and then those that wait
 abbrev pub taken_and_waiting : Contents → ℕ → List Call → List FileBytes
-taken_and_waiting p first calls = taken p calls (start p first) ++ (left_by p calls (start p first)).sink.shelf.files
+taken_and_waiting p first calls = taken p calls (start p first) ++ (left_by p calls (start p first)).sink.received.files
 
 -- the state that they lead to from there, with the files that they take put back before those that wait
 abbrev pub left_with_taken : Contents → ℕ → List Call → State

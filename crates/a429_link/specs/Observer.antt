@@ -8,7 +8,7 @@ use Rattle.a429_ldu.specs.declared.forms.Form.{Form}
 use Rattle.a429_ldu.specs.declared.forms.Form.TheVariants.{Rts, Cts, Sot, Part, Eot}
 use Rattle.a429_ldu.specs.Form.{form_of, is_free}
 use Rattle.a429_link.specs.declared.seen.Seen.{Seen}
-use Rattle.a429_link.specs.Sink.{Sink, SinkPhase, Quiet, Granted, InBlock, Number, takes, answers, MayAnswer, kept_words, empty_shelf}
+use Rattle.a429_link.specs.Sink.{Sink, SinkPhase, Quiet, Granted, InBlock, Number, takes, answers, MayAnswer, kept_words, nothing_received}
 
 pub record Observer : Type 0 where
   -- the sink without its files: the link data unit accepted last, the count of the last request, and the phase
@@ -23,7 +23,7 @@ abbrev pub at_first : Observer
 at_first = record { last = None; count = 0; phase = Quiet; begun = false; parts = 0 }
 
 abbrev pub sink_of : Observer → Sink
-sink_of o = record { last = o.last; shelf = empty_shelf; count = o.count; phase = o.phase }
+sink_of o = record { last = o.last; received = nothing_received; count = o.count; phase = o.phase }
 
 abbrev pub watching : Sink → Bool → ℕ → Observer
 watching k begun parts = record { last = k.last; count = k.count; phase = k.phase; begun = begun; parts = parts }

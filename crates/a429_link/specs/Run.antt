@@ -15,7 +15,7 @@ use Rattle.a429_link.specs.declared.state.SourceState.{SourceState}
 use Rattle.a429_link.specs.declared.state.SourceState.TheVariants.{Sending}
 use Rattle.a429_link.specs.declared.number.UnitNumber.{UnitNumber}
 use Rattle.a429_link.specs.Number.{files_past}
-use Rattle.a429_link.specs.Sink.{Number, Shelf, SinkPhase, InBlock, put, emptied, held_count, empty_shelf}
+use Rattle.a429_link.specs.Sink.{Number, Received, SinkPhase, InBlock, put, emptied, held_count, nothing_received}
 use Rattle.a429_link.specs.Step.{Can, after, label}
 use Rattle.a429_link.specs.State.{start, State}
 
@@ -39,23 +39,23 @@ trace (a ∷ steps) = with_label (label a) (trace steps)
 
 -- the files that the sink has delivered at the end of a run from the start
 abbrev pub delivered : Contents → ℕ → List Step → List FileBytes
-delivered p first steps = (end_of p steps (start p first)).sink.shelf.files
+delivered p first steps = (end_of p steps (start p first)).sink.received.files
 
 -- ---- offered: the link data units that were loaded, in order, cut after each final one, and where a file is given up
 
 -- a loaded link data unit joins its file, under the source's number; a final one closes it. Of a file that is given up
 -- before it is closed nothing is left
-abbrev pub offers : Contents → Step → State → Shelf → Shelf
+abbrev pub offers : Contents → Step → State → Received → Received
 offers p (Load u) s o = put s.source.number.file (bytes_of p.codes u) (is_final p.codes u.flags) o
 offers p GiveUp s o = emptied o
 offers p _ s o = o
 
-abbrev pub offered_from : Contents → List Step → State → Shelf → Shelf
+abbrev pub offered_from : Contents → List Step → State → Received → Received
 offered_from p [] s o = o
 offered_from p (a ∷ steps) s o = offered_from p steps (after p a s) (offers p a s o)
 
 abbrev pub offered : Contents → ℕ → List Step → List FileBytes
-offered p first steps = (offered_from p steps (start p first) empty_shelf).files
+offered p first steps = (offered_from p steps (start p first) nothing_received).files
 
 -- ---- settled: the offered files whose final link data unit the source takes as acknowledged
 
@@ -78,16 +78,16 @@ newest [] = []
 newest (x ∷ []) = x ∷ []
 newest (x ∷ (y ∷ ys)) = newest (y ∷ ys)
 
-abbrev pub settles : Contents → Step → State → Shelf → List FileBytes → List FileBytes
+abbrev pub settles : Contents → Step → State → Received → List FileBytes → List FileBytes
 settles p TakeAnswer s o xs = if ends_file p.codes s.source s.to_source then xs ++ newest o.files else xs
 settles p _ s o xs = xs
 
-abbrev pub settled_from : Contents → List Step → State → Shelf → List FileBytes → List FileBytes
+abbrev pub settled_from : Contents → List Step → State → Received → List FileBytes → List FileBytes
 settled_from p [] s o xs = xs
 settled_from p (a ∷ steps) s o xs = settled_from p steps (after p a s) (offers p a s o) (settles p a s o xs)
 
 abbrev pub settled : Contents → ℕ → List Step → List FileBytes
-settled p first steps = settled_from p steps (start p first) empty_shelf []
+settled p first steps = settled_from p steps (start p first) nothing_received []
 
 -- ---- what is said of runs
 
@@ -140,7 +140,7 @@ pub record IsBounded (s : State) : Type 0 where
   pub took : TookFew s.sink.phase
   pub words : length s.to_sink + held_count s.sink.phase ≤ 255
   pub answers : length s.to_source ≤ 1
-  pub bytes : length s.sink.shelf.open_bytes ≤ 161160
+  pub bytes : length s.sink.received.open_bytes ≤ 161160
 
 -- the file of this number is at most 128 past that of the link data unit accepted last
 abbrev pub IsNear : Option Number → UnitNumber → Type 0

@@ -49,17 +49,17 @@ pub record Number : Type 0 where
   pub final : Bool
 
 -- the files that are delivered, and the bytes of one that is not whole
-pub record Shelf : Type 0 where
+pub record Received : Type 0 where
   pub files : List FileBytes
   pub open_bytes : List ℕ
 
-abbrev pub empty_shelf : Shelf
-empty_shelf = record { files = []; open_bytes = [] }
+abbrev pub nothing_received : Received
+nothing_received = record { files = []; open_bytes = [] }
 
 pub record Sink : Type 0 where
   -- the link data unit accepted last
   pub last : Option Number
-  pub shelf : Shelf
+  pub received : Received
   -- the count of the last request taken
   pub count : ℕ
   pub phase : SinkPhase
@@ -158,29 +158,29 @@ takes_first p (w ∷ ws) k = takes_word p w k
 -- ---- answering
 
 -- the bytes join those of the file; its last link data unit closes the file, and a new one begins empty
-abbrev pub put : ℕ → List ℕ → Bool → Shelf → Shelf
-put file bytes true shelf = record { files = shelf.files ++ record { number = file; bytes = shelf.open_bytes ++ bytes } ∷ []; open_bytes = [] }
-put file bytes false shelf = record { files = shelf.files; open_bytes = shelf.open_bytes ++ bytes }
+abbrev pub put : ℕ → List ℕ → Bool → Received → Received
+put file bytes true received = record { files = received.files ++ record { number = file; bytes = received.open_bytes ++ bytes } ∷ []; open_bytes = [] }
+put file bytes false received = record { files = received.files; open_bytes = received.open_bytes ++ bytes }
 
 -- the link data unit accepted last was one of the file with this number
 abbrev pub is_same_file : Option Number → ℕ → Bool
 is_same_file None file = false
 is_same_file (Some last) file = last.number.file == file
 
--- the shelf without the bytes of the file that is not whole
-abbrev pub emptied : Shelf → Shelf
-emptied shelf = record { files = shelf.files; open_bytes = [] }
+-- what is received, without the bytes of the file that is not whole
+abbrev pub emptied : Received → Received
+emptied received = record { files = received.files; open_bytes = [] }
 
--- the shelf that a link data unit of this file is put on: the bytes of another file, which is not whole, are dropped
-abbrev pub shelf_for : Option Number → ℕ → Shelf → Shelf
-shelf_for last file shelf = if is_same_file last file then shelf else emptied shelf
+-- what a link data unit of this file comes after: the bytes of another file, which is not whole, are dropped
+abbrev pub received_for : Option Number → ℕ → Received → Received
+received_for last file received = if is_same_file last file then received else emptied received
 
 -- the sink that accepts a block with these flags; one that comes again changes nothing
 abbrev pub accepts : Codes → Block → ℕ → Sink → Sink
 accepts c b flags k =
     if is_same k.last (number_of b)
     then k
-    else record k { last = Some (record { number = number_of b; final = is_final c flags }); shelf = put b.file (bytes_in c b.words) (is_final c flags) (shelf_for k.last b.file k.shelf) }
+    else record k { last = Some (record { number = number_of b; final = is_final c flags }); received = put b.file (bytes_in c b.words) (is_final c flags) (received_for k.last b.file k.received) }
 
 abbrev pub accepts_owed : Codes → SinkPhase → Sink → Sink
 accepts_owed c (OwesAck b flags) k = accepts c b flags k
@@ -205,17 +205,17 @@ answers_form c (Some x) k = answers c x k
 abbrev pub answers_word : Codes → ℕ → Sink → Sink
 answers_word c word k = answers_form c (form_of c bus.B word) k
 
--- the sink with this shelf
-abbrev pub with_shelf : Shelf → Sink → Sink
-with_shelf shelf k = record k { shelf = shelf }
+-- the sink that has received this
+abbrev pub with_received : Received → Sink → Sink
+with_received received k = record k { received = received }
 
--- what the first of these sinks becomes that is then the second, but keeps its shelf
+-- what the first of these sinks becomes that is then the second, but keeps what it received
 abbrev pub unfiled : Sink → Sink → Sink
-unfiled old new = with_shelf old.shelf new
+unfiled old new = with_received old.received new
 
 -- the sink with its delivered files handed out
 abbrev pub without_files : Sink → Sink
-without_files k = with_shelf (record (k.shelf) { files = [] }) k
+without_files k = with_received (record (k.received) { files = [] }) k
 
 -- a sink in this phase, whose last request had this count, may give an answer of this form: the clear
 -- answer with that count; the acknowledgement with the block's numbers; a negative answer with any bits,

@@ -56,20 +56,20 @@ is_own_ack n _ _ = false
 
 -- the source after an answer of this form: the clear answer to its request lets it send; the
 -- acknowledgement ends the link data unit; a negative answer lets it ask again; no other answer counts
-abbrev pub hears : Codes → Option LduValue → SourceState → Form → Source → Source
-hears c (Some u) Awaiting (Cts n) s = if n == count_of u then record s { phase = Sending 0 } else s
-hears c (Some u) Waiting (Ack f l) s = if is_own_ack s.number Waiting (Ack f l) then acknowledged c u s else s
-hears c (Some u) Waiting (Nak bits) s = record s { phase = Idle }
-hears c _ _ _ s = s
+abbrev pub with_answer : Codes → Option LduValue → SourceState → Form → Source → Source
+with_answer c (Some u) Awaiting (Cts n) s = if n == count_of u then record s { phase = Sending 0 } else s
+with_answer c (Some u) Waiting (Ack f l) s = if is_own_ack s.number Waiting (Ack f l) then acknowledged c u s else s
+with_answer c (Some u) Waiting (Nak bits) s = record s { phase = Idle }
+with_answer c _ _ _ s = s
 
-abbrev pub hears_form : Codes → Option Form → Source → Source
-hears_form c None s = s
-hears_form c (Some x) s = hears c s.current s.phase x s
+abbrev pub with_answer_form : Codes → Option Form → Source → Source
+with_answer_form c None s = s
+with_answer_form c (Some x) s = with_answer c s.current s.phase x s
 
 -- the source after the first of these answers, which are words of bus B
-abbrev pub hears_first : Codes → List ℕ → Source → Source
-hears_first c [] s = s
-hears_first c (w ∷ ws) s = hears_form c (form_of c bus.B w) s
+abbrev pub with_answer_first : Codes → List ℕ → Source → Source
+with_answer_first c [] s = s
+with_answer_first c (w ∷ ws) s = with_answer_form c (form_of c bus.B w) s
 
 -- ---- giving a file up
 

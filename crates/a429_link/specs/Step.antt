@@ -11,7 +11,7 @@ use Rattle.a429_link.specs.declared.step.Step.{Step}
 use Rattle.a429_link.specs.declared.fault.StepFault.{StepFault}
 use Rattle.a429_link.specs.declared.fault.StepFault.TheVariants as fault
 use Rattle.a429_link.specs.declared.step.Step.TheVariants.{Load, Sent, SentLost, TimeOut, TakeAnswer, LoseAnswer, SinkTakes, Silent, Answered, FreeSeen, GiveUp}
-use Rattle.a429_link.specs.Source.{IsIdle, Waits, next_word_of, with_word_sent, hears_first, given_up}
+use Rattle.a429_link.specs.Source.{IsIdle, Waits, next_word_of, with_word_sent, with_answer_first, given_up}
 use Rattle.a429_link.specs.Sink.{Quiet, Listens, Owes, IsAck, MayAnswerForm, takes_first, answers_word}
 use Rattle.a429_link.specs.State.{State, IsNonEmpty, rest}
 
@@ -50,7 +50,7 @@ after p SentLost s = record s { source = with_word_sent s.source }
 -- the source is idle, and keeps its link data unit
 after p TimeOut s = record s { source = record (s.source) { phase = Idle } }
 -- the source has heard the first answer
-after p TakeAnswer s = record s { source = hears_first p.codes s.to_source s.source; to_source = rest s.to_source }
+after p TakeAnswer s = record s { source = with_answer_first p.codes s.to_source s.source; to_source = rest s.to_source }
 -- the first answer is gone
 after p LoseAnswer s = record s { to_source = rest s.to_source }
 -- the sink has taken the first word

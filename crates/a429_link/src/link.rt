@@ -114,14 +114,14 @@ impl<'a> Link<'a> {
 
     /// The files that the sink has delivered since they were last taken.
     pub fn delivered(&self) -> &[FileBytes]
-        ensures { result.now ≡ self.now.state.sink.shelf.files }
+        ensures { result.now ≡ self.now.state.sink.received.files }
     {
         self.transfer.delivered()
     }
 
     /// Hands out the files that the sink has delivered since they were last taken.
     pub fn take_delivered(&mut self) -> Vec<FileBytes>
-        ensures files { result.items ≡ self.old.state.sink.shelf.files }
+        ensures files { result.items ≡ self.old.state.sink.received.files }
         ensures rest { self.new ≡ record (self.old) { state = handed_out self.old.state } }
         ensures bounds { IsBounded self.new.state }
     {

@@ -26,14 +26,14 @@ pub struct Observer {
 impl Model for Observer {
     ghost use Rattle.std.specs.Prelude.{◌≡◌, []};
     ghost use Rattle.a429_link.specs.Observer as model;
-    ghost use Rattle.a429_link.specs.Sink.{empty_shelf};
+    ghost use Rattle.a429_link.specs.Sink.{nothing_received};
     ghost use Rattle.a429_link.specs.Observer.{watching, KeepsRecorded};
 
     ghost Value = { model.Observer };
 
     ghost view = { λ o. watching o.sink.sink o.begun o.parts };
 
-    ghost invariant = { λ o. (o.sink.sink.shelf ≡ empty_shelf) × (o.sink.to_sink ≡ []) × KeepsRecorded o.sink.sink.phase o.parts };
+    ghost invariant = { λ o. (o.sink.sink.received ≡ nothing_received) × (o.sink.to_sink ≡ []) × KeepsRecorded o.sink.sink.phase o.parts };
 }
 
 impl Observer {

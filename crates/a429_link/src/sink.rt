@@ -2,7 +2,7 @@
 
 ghost use Rattle.std.specs.Prelude.{◌≡◌, ◌≤◌, ◌↔◌, [], ◌∷◌, ◌++◌, length, slice_index, None, option_map, IfSome, IsNone, IsTrue};
 ghost use Rattle.a429_link.specs.Sink as model;
-ghost use Rattle.a429_link.specs.Sink.{takes, takes_request, takes_start, takes_part, takes_end, in_phase, is_good_for, is_same, is_same_file, may_come, block_with, phase_of, kept_words, without_files, Listens, Owes, held_count, latest_number, HasRoom, empty_shelf};
+ghost use Rattle.a429_link.specs.Sink.{takes, takes_request, takes_start, takes_part, takes_end, in_phase, is_good_for, is_same, is_same_file, may_come, block_with, phase_of, kept_words, without_files, Listens, Owes, held_count, latest_number, HasRoom, nothing_received};
 ghost use Rattle.a429_link.specs.State.{sink_state_of, IsNonEmpty, rest, past_first};
 ghost use Rattle.a429_link.specs.Observer.{HasGrant};
 
@@ -11,7 +11,7 @@ mod answers;
 use crate::file::FileBytes;
 use crate::lane::Lane;
 use crate::number::UnitNumber;
-use crate::shelf::Shelf;
+use crate::received::Received;
 use crate::state::SinkState;
 use a429_ldu::{Form, agrees, block_bytes};
 use a429_profile::Profile;
@@ -64,7 +64,7 @@ pub(crate) enum Phase {
 #[derive(Debug, Drop)]
 pub(crate) struct Sink {
     last: Option<Latest>,
-    shelf: Shelf,
+    received: Received,
     count: u8,
     phase: Phase,
     // What was taken are the data words of its block.
@@ -79,7 +79,7 @@ impl Model for Sink {
     ghost Value = { model.SinkSide };
 
     ghost view = { λ s. record {
-      sink = record { last = option_map latest_number s.last; shelf = s.shelf; count = s.count; phase = phase_of s.phase s.lane.taken };
+      sink = record { last = option_map latest_number s.last; received = s.received; count = s.count; phase = phase_of s.phase s.lane.taken };
       to_sink = s.lane.coming;
     } };
 
@@ -120,11 +120,11 @@ fn is_last_file(last: &Option<Latest>, file: u8) -> bool
 impl Sink {
     /// A sink that has taken nothing, and no word is on its way to it.
     pub(crate) fn new(alloc: Global) -> Sink
-        ensures { result ≡ record { sink = record { last = None; shelf = empty_shelf; count = 0; phase = model.Quiet }; to_sink = [] } }
+        ensures { result ≡ record { sink = record { last = None; received = nothing_received; count = 0; phase = model.Quiet }; to_sink = [] } }
     {
         Sink {
             last: None,
-            shelf: Shelf::new(alloc),
+            received: Received::new(alloc),
             count: 0,
             phase: Phase::Quiet,
             lane: Lane::new(),
@@ -302,16 +302,16 @@ impl Sink {
 
     /// The files delivered since they were last taken.
     pub(crate) fn delivered(&self) -> &[FileBytes]
-        ensures { result.now ≡ self.now.sink.shelf.files }
+        ensures { result.now ≡ self.now.sink.received.files }
     {
-        self.shelf.files()
+        self.received.files()
     }
 
     /// Hands these files out.
     pub(crate) fn take_delivered(&mut self, alloc: Global) -> Vec<FileBytes>
-        ensures files { result.items ≡ self.old.sink.shelf.files }
+        ensures files { result.items ≡ self.old.sink.received.files }
         ensures rest { self.new ≡ record (self.old) { sink = without_files self.old.sink } }
     {
-        self.shelf.take_files(alloc)
+        self.received.take_files(alloc)
     }
 }

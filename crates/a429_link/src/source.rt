@@ -4,7 +4,7 @@ ghost use Rattle.std.specs.Prelude.{◌≡◌, ◌≤◌, ◌+◌, ◌↔◌, Is
 ghost use Rattle.a429_profile.specs.Profile.{Contents};
 ghost use Rattle.a429_ldu.specs.Ldu.{IsLdu};
 ghost use Rattle.a429_link.specs.Source as model;
-ghost use Rattle.a429_link.specs.Source.{next_word, hears, IsIdle, Waits, with_word_sent, next_word_of, given_up};
+ghost use Rattle.a429_link.specs.Source.{next_word, with_answer, IsIdle, Waits, with_word_sent, next_word_of, given_up};
 
 use crate::number::UnitNumber;
 use crate::state::SourceState;
@@ -180,7 +180,7 @@ impl Source {
 
     /// Takes an answer of this form.
     pub(crate) fn hear(&mut self, profile: &Profile, answer: &Form)
-        ensures { self.new ≡ hears profile.now.codes self.old.current self.old.phase answer.now self.old }
+        ensures { self.new ≡ with_answer profile.now.codes self.old.current self.old.phase answer.now self.old }
     {
         let Some(unit) = &self.current else {
             return;

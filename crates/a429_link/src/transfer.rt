@@ -290,14 +290,14 @@ impl Transfer {
 
     /// The files delivered since they were last taken.
     pub(crate) fn delivered(&self) -> &[FileBytes]
-        ensures { result.now ≡ self.now.sink.shelf.files }
+        ensures { result.now ≡ self.now.sink.received.files }
     {
         self.sink.delivered()
     }
 
     /// Hands these files out.
     pub(crate) fn take_delivered(&mut self, alloc: Global) -> Vec<FileBytes>
-        ensures files { result.items ≡ self.old.sink.shelf.files }
+        ensures files { result.items ≡ self.old.sink.received.files }
         ensures rest { self.new ≡ handed_out self.old }
     {
         self.sink.take_delivered(alloc)

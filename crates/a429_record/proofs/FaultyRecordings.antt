@@ -1,4 +1,4 @@
--- What rows stand for where there is a fault, in either form.
+-- What rows stand for where there is a fault, in either format.
 use Rattle.std.proofs.Common.{◌≡◌, ◌==◌, ◌∙◌, ◌+◌, ◌<◌, ◌≤◌, ℕ, List, [], ◌∷◌, ◌++◌, map, length, drop, true, false, Option, Some, None, ◌⊎◌, inl, inr, nat_lt, refl, sym, ap, subst, arith}
 use Rattle.std.proofs.lemmas.Bool.{cases_Bool}
 use Rattle.std.proofs.lemmas.Bool.Decides.{nat_tests}

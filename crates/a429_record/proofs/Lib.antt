@@ -5,13 +5,13 @@ pub mod MarkFacts
 pub mod PlainFacts
 pub mod LinesFacts
 pub mod BinaryFacts
-pub mod FormFacts
+pub mod FormatFacts
 pub mod RowsFacts
 pub mod WritingFacts
 pub mod WholeRecordings
 pub mod FaultyRecordings
 pub mod Handed
-pub mod HandedForms
+pub mod HandedFormats
 pub mod PiecesFacts
 pub mod WrittenIsReadBack
 pub mod PackedIsReadBack

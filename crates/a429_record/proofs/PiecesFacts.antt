@@ -13,7 +13,7 @@ use Rattle.a429_record.specs.Rows.{GivesNext, IfEntry}
 use Rattle.a429_record.proofs.BinaryFacts.{pieces-first, pieces-last, pieces-next, piece_size}
 use Rattle.std.proofs.lemmas.Bool.{cases_lt}
 use Rattle.a429_record.proofs.Handed.{lost_so, consumed}
-use Rattle.a429_record.proofs.HandedForms.{kept_lost}
+use Rattle.a429_record.proofs.HandedFormats.{kept_lost}
 
 -- what is left of known bytes stands for
 abbrev pub Left : ℕ → ℕ → Option (List ℕ) → Option Recording

@@ -1,4 +1,4 @@
--- What rows stand for where there is no fault, in either form.
+-- What rows stand for where there is no fault, in either format.
 use Rattle.std.proofs.Common.{◌≡◌, ◌==◌, ◌∙◌, ◌+◌, ◌≤◌, ℕ, List, [], ◌∷◌, map, length, drop, true, false, Option, Some, None, inl, inr, nat_lt, refl, sym, ap, subst, arith}
 use Rattle.std.proofs.lemmas.Bool.{cases_Bool}
 use Rattle.std.proofs.lemmas.Bool.Decides.{nat_tests}
@@ -11,7 +11,7 @@ use Rattle.a429_record.specs.Recording.{Recording, most_entries, row_stands_for,
 use Rattle.a429_record.specs.WholeRecordings.{IsWholeText, IsWholeBinary}
 use Rattle.a429_record.proofs.BinaryFacts.{magic-split}
 
--- ---- by their form
+-- ---- by their format
 
 pub text-stands : (bytes : List ℕ) → is_binary bytes ≡ false → stands_for bytes ≡ text_stands_for bytes
 text-stands bytes text = rw text refl

@@ -1,4 +1,4 @@
--- The binary form of a recording (profile).
+-- The binary format of a recording (profile).
 use Rattle.std.specs.Prelude.{◌≡◌, ℕ, zero, suc, ◌+◌, ◌*◌, ◌/◌, ◌%◌, ◌^◌, List, [], ◌∷◌, ◌++◌, length, take, drop, map, flat_map, Bool, true, false, ◌==◌, if◌then◌else◌, Option, Some, None, codes, bytes_eq}
 use Rattle.a429_word.specs.Bus.{bus_text}
 use Rattle.a429_record.specs.declared.entry.Entry.{Entry}

@@ -3,7 +3,7 @@ use Rattle.std.specs.Prelude.{◌≡◌, ◌≤◌, ◌+◌, ℕ, List, Bool, fa
 use Rattle.a429_word.specs.declared.tally.Tally.{Tally}
 use Rattle.a429_word.specs.Tally.{has_failed, unread}
 use Rattle.a429_record.specs.declared.entry.Entry.{Entry}
-use Rattle.a429_record.specs.declared.form.Form.{Form}
+use Rattle.a429_record.specs.declared.format.Format.{Format}
 use Rattle.a429_record.specs.declared.stage.Stage.{Stage}
 use Rattle.a429_record.specs.declared.stage.Stage.TheVariants as stage
 use Rattle.a429_record.specs.declared.reading.Reading.{Reading}
@@ -11,12 +11,12 @@ use Rattle.a429_record.specs.Recording.{Recording, most_entries}
 use Rattle.a429_record.specs.Lines.{pending_of, room_of}
 use Rattle.a429_record.specs.Reading.{still_to_come, PassesAt}
 
--- what is still to come, where the bytes are known; where the reading stands, and in which form, once an entry was given; how many entries were
+-- what is still to come, where the bytes are known; where the reading stands, and in which format, once an entry was given; how many entries were
 -- given, and the time of the last; the bytes that were not given, those of them that the reader has still to give, and how many may still be given; whether it has failed
 pub record EntriesLeft : Type 0 where
   pub to_come : Option Recording
   pub stage : Stage
-  pub form : Form
+  pub format : Format
   pub count : ℕ
   pub last : ℕ
   pub bytes : Option (List ℕ)
@@ -29,7 +29,7 @@ abbrev pub entries_left : {R : Type 0} → (R → Option (List ℕ)) → Reading
 entries_left remaining s rec = record {
   to_come = still_to_come remaining s.stage s.rows rec;
   stage = s.stage;
-  form = s.rows.form;
+  format = s.rows.format;
   count = s.rows.count;
   last = s.rows.last;
   bytes = pending_of remaining s.rows.lines rec;
@@ -48,4 +48,4 @@ ComesNext old new e = (old.last ≤ e.time) × (new.last ≡ e.time) × (new.cou
 
 -- what is handed out makes no fault, by where a reader of entries stands
 abbrev pub PassesFrom : EntriesLeft → List ℕ → List ℕ → Type 0
-PassesFrom old taken rest = PassesAt old.stage old.form old.count taken rest
+PassesFrom old taken rest = PassesAt old.stage old.format old.count taken rest

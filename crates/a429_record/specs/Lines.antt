@@ -4,8 +4,8 @@ use Rattle.std.specs.Io.KnownBytes.{prepend_known, Consumes, Keeps}
 use Rattle.a429_word.specs.declared.tally.Tally.{Tally}
 use Rattle.a429_word.specs.Tally.{left_of, unread}
 use Rattle.a429_record.specs.declared.lines.Lines.{Lines}
-use Rattle.a429_record.specs.declared.form.Form.{Form}
-use Rattle.a429_record.specs.declared.form.Form.TheVariants as form
+use Rattle.a429_record.specs.declared.format.Format.{Format}
+use Rattle.a429_record.specs.declared.format.Format.TheVariants as format
 use Rattle.a429_record.specs.Binary.{magic, is_binary}
 use Rattle.a429_record.specs.Row.{Row}
 use Rattle.a429_record.specs.Handed.{Loses, IsLineHanded, AreLines}
@@ -42,10 +42,10 @@ HandsRows P remaining old rec new new_rec = HandsOut (AreLines P) remaining old 
 abbrev pub FailsAfter : {R : Type 0} → (List ℕ → List ℕ → Type 0) → (R → Option (List ℕ)) → Lines → Tally R → Tally R → Type 0
 FailsAfter P remaining old rec new_rec = Loses P (pending_of remaining old rec) (unread remaining new_rec)
 
--- known bytes choose a form: those of a binary recording lose the eight that it begins with, those of a text stay
-abbrev pub Chooses : Form → Option (List ℕ) → Option (List ℕ) → Type 0
-Chooses form.Text old new = Keeps old new × IfSome old (λ bytes. is_binary bytes ≡ false)
-Chooses form.Binary old new = Consumes old new magic
+-- known bytes choose a format: those of a binary recording lose the eight that it begins with, those of a text stay
+abbrev pub Chooses : Format → Option (List ℕ) → Option (List ℕ) → Type 0
+Chooses format.Text old new = Keeps old new × IfSome old (λ bytes. is_binary bytes ≡ false)
+Chooses format.Binary old new = Consumes old new magic
 
 -- fewer of these eight are handed out
 abbrev pub IsMagicFront : List ℕ → List ℕ → Type 0

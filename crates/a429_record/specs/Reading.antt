@@ -5,8 +5,8 @@ use Rattle.a429_record.specs.declared.entry.Entry.{Entry}
 use Rattle.a429_record.specs.declared.fault.ReadFault.{ReadFault}
 use Rattle.a429_record.specs.declared.fault.ReadFault.TheVariants as fault
 use Rattle.a429_record.specs.declared.reading.Reading.{Reading}
-use Rattle.a429_record.specs.declared.form.Form.{Form}
-use Rattle.a429_record.specs.declared.form.Form.TheVariants as form
+use Rattle.a429_record.specs.declared.format.Format.{Format}
+use Rattle.a429_record.specs.declared.format.Format.TheVariants as format
 use Rattle.a429_record.specs.declared.stage.Stage.{Stage}
 use Rattle.a429_record.specs.declared.stage.Stage.TheVariants as stage
 use Rattle.a429_record.specs.declared.rows.RowReader.{RowReader}
@@ -23,50 +23,50 @@ still_to_come remaining stage.Rows s rec = recording_left remaining s rec
 still_to_come remaining stage.Ended s rec = Some (whole [])
 still_to_come remaining stage.Failed s rec = Some (stops fault.Failed)
 
--- the bytes of the first entry are handed out, in this form, with those that come before all entries
-abbrev pub AreFirstHanded : Form → Entry → List ℕ → List ℕ → Type 0
-AreFirstHanded form.Text e taken rest = AreLines (AreGiven (e ∷ [])) taken rest
-AreFirstHanded form.Binary e taken rest = AreBinary taken (e ∷ [])
+-- the bytes of the first entry are handed out, in this format, with those that come before all entries
+abbrev pub AreFirstHanded : Format → Entry → List ℕ → List ℕ → Type 0
+AreFirstHanded format.Text e taken rest = AreLines (AreGiven (e ∷ [])) taken rest
+AreFirstHanded format.Binary e taken rest = AreBinary taken (e ∷ [])
 
 -- the bytes of a further entry are
-abbrev pub AreNextHanded : Form → Entry → List ℕ → List ℕ → Type 0
-AreNextHanded form.Text e taken rest = AreLines (AreEntryOf e) taken rest
-AreNextHanded form.Binary e taken rest = ArePieceOf e taken rest
+abbrev pub AreNextHanded : Format → Entry → List ℕ → List ℕ → Type 0
+AreNextHanded format.Text e taken rest = AreLines (AreEntryOf e) taken rest
+AreNextHanded format.Binary e taken rest = ArePieceOf e taken rest
 
 -- the bytes of an entry are, by where a reading stands
-abbrev pub AreHandedAt : Stage → Form → Entry → List ℕ → List ℕ → Type 0
+abbrev pub AreHandedAt : Stage → Format → Entry → List ℕ → List ℕ → Type 0
 AreHandedAt stage.Begins f e taken rest = AreFirstHanded f e taken rest
 AreHandedAt stage.Rows f e taken rest = AreNextHanded f e taken rest
 AreHandedAt stage.Ended f e taken rest = ⊥
 AreHandedAt stage.Failed f e taken rest = ⊥
 
--- what is handed out makes no fault after so many entries, in this form: the lines of a text that have their line feed are no row, and of a
+-- what is handed out makes no fault after so many entries, in this format: the lines of a text that have their line feed are no row, and of a
 -- binary recording it is a front of an entry at most
-abbrev pub MakesNoFault : Form → ℕ → List ℕ → List ℕ → Type 0
-MakesNoFault form.Text count taken rest = HasNoRow taken rest
-MakesNoFault form.Binary count taken rest = IsCutAfter count taken rest
+abbrev pub MakesNoFault : Format → ℕ → List ℕ → List ℕ → Type 0
+MakesNoFault format.Text count taken rest = HasNoRow taken rest
+MakesNoFault format.Binary count taken rest = IsCutAfter count taken rest
 
 -- a reader of rows fails before the next: what it has given until then is so
 abbrev pub FailsNext : {R : Type 0} → (R → Option (List ℕ)) → RowReader → Tally R → Tally R → Type 0
-FailsNext remaining old rec new_rec = FailsAfter (MakesNoFault old.form old.count) remaining old.lines rec new_rec
+FailsNext remaining old rec new_rec = FailsAfter (MakesNoFault old.format old.count) remaining old.lines rec new_rec
 
--- by where a reading stands: before all entries in whatever form
-abbrev pub PassesAt : Stage → Form → ℕ → List ℕ → List ℕ → Type 0
+-- by where a reading stands: before all entries in whatever format
+abbrev pub PassesAt : Stage → Format → ℕ → List ℕ → List ℕ → Type 0
 PassesAt stage.Begins f count taken rest = HasNoFault taken rest
 PassesAt stage.Rows f count taken rest = MakesNoFault f count taken rest
 PassesAt stage.Ended f count taken rest = ⊥
 PassesAt stage.Failed f count taken rest = ⊥
 
--- known bytes choose this form
-abbrev pub IsChosen : Option (List ℕ) → Form → Type 0
+-- known bytes choose this format
+abbrev pub IsChosen : Option (List ℕ) → Format → Type 0
 IsChosen bytes f = IfSome bytes (λ known. f ≡ chosen_form known)
 
--- the form is the one that the bytes choose, and then it stays
-abbrev pub IsFormAfter : Stage → Form → Option (List ℕ) → Form → Type 0
-IsFormAfter stage.Begins old bytes new = IsChosen bytes new
-IsFormAfter stage.Rows old bytes new = new ≡ old
-IsFormAfter stage.Ended old bytes new = new ≡ old
-IsFormAfter stage.Failed old bytes new = new ≡ old
+-- the format is the one that the bytes choose, and then it stays
+abbrev pub IsFormatAfter : Stage → Format → Option (List ℕ) → Format → Type 0
+IsFormatAfter stage.Begins old bytes new = IsChosen bytes new
+IsFormatAfter stage.Rows old bytes new = new ≡ old
+IsFormatAfter stage.Ended old bytes new = new ≡ old
+IsFormatAfter stage.Failed old bytes new = new ≡ old
 
 -- an answer is the next entry, the end or the fault of what is still to come, and after an entry the rest is
 abbrev pub AnswersNext : {R : Type 0} → (R → Option (List ℕ)) → Reading → Tally R → Reading → Tally R → Result (Option Entry) ReadFault → Type 0
@@ -74,12 +74,12 @@ AnswersNext remaining old rec new new_rec r = GivesNext (still_to_come remaining
 
 -- the bytes of an entry are given
 abbrev pub HandsEntry : {R : Type 0} → (R → Option (List ℕ)) → Reading → Tally R → Reading → Tally R → Entry → Type 0
-HandsEntry remaining old rec new new_rec e = HandsOut (AreHandedAt old.stage new.rows.form e) remaining old.rows.lines rec new.rows.lines new_rec
+HandsEntry remaining old rec new new_rec e = HandsOut (AreHandedAt old.stage new.rows.format e) remaining old.rows.lines rec new.rows.lines new_rec
 
 -- the reader fails: nothing that was given until then makes a fault
 abbrev pub FailsBehind : {R : Type 0} → (R → Option (List ℕ)) → Reading → Tally R → Tally R → Type 0
-FailsBehind remaining old rec new_rec = FailsAfter (PassesAt old.stage old.rows.form old.rows.count) remaining old.rows.lines rec new_rec
+FailsBehind remaining old rec new_rec = FailsAfter (PassesAt old.stage old.rows.format old.rows.count) remaining old.rows.lines rec new_rec
 
--- the form of what comes is chosen, or stays
-abbrev pub KeepsForm : {R : Type 0} → (R → Option (List ℕ)) → Reading → Tally R → Reading → Type 0
-KeepsForm remaining old rec new = IsFormAfter old.stage old.rows.form (pending_of remaining old.rows.lines rec) new.rows.form
+-- the format of what comes is chosen, or stays
+abbrev pub KeepsFormat : {R : Type 0} → (R → Option (List ℕ)) → Reading → Tally R → Reading → Type 0
+KeepsFormat remaining old rec new = IsFormatAfter old.stage old.rows.format (pending_of remaining old.rows.lines rec) new.rows.format

@@ -77,6 +77,6 @@ text_stands_for bytes = all_rows_stand_for (rows_of bytes)
 abbrev pub binary_stands_for : List ℕ → Recording
 binary_stands_for bytes = entries_stand_for 0 0 (piece_entries (drop 8 bytes))
 
--- what bytes stand for: their first eight choose the form
+-- what bytes stand for: their first eight choose the format
 abbrev pub stands_for : List ℕ → Recording
 stands_for bytes = if is_binary bytes then binary_stands_for bytes else text_stands_for bytes

@@ -5,8 +5,8 @@ use Rattle.a429_record.specs.declared.entry.Entry.{Entry}
 use Rattle.a429_record.specs.declared.fault.ReadFault.{ReadFault}
 use Rattle.a429_record.specs.declared.fault.ReadFault.TheVariants as fault
 use Rattle.a429_record.specs.declared.rows.RowReader.{RowReader}
-use Rattle.a429_record.specs.declared.form.Form.{Form}
-use Rattle.a429_record.specs.declared.form.Form.TheVariants as form
+use Rattle.a429_record.specs.declared.format.Format.{Format}
+use Rattle.a429_record.specs.declared.format.Format.TheVariants as format
 use Rattle.a429_record.specs.Row.{Row}
 use Rattle.a429_record.specs.Binary.{is_binary, piece_entries}
 use Rattle.a429_record.specs.Recording.{Recording, rows_of, whole, stops, with_entry, entries_stand_for, rows_stand_for, all_rows_stand_for, stands_for}
@@ -36,21 +36,21 @@ text_left remaining s rec = option_map (rows_stand_for s.count s.last) (rows_lef
 abbrev pub binary_left : {R : Type 0} → (R → Option (List ℕ)) → RowReader → Tally R → Option Recording
 binary_left remaining s rec = option_map (λ bytes. stands_from s (piece_entries bytes)) (pending_of remaining s.lines rec)
 
--- what is left stands for, in either form
-abbrev pub left_in : {R : Type 0} → (R → Option (List ℕ)) → Form → RowReader → Tally R → Option Recording
-left_in remaining form.Text s rec = text_left remaining s rec
-left_in remaining form.Binary s rec = binary_left remaining s rec
+-- what is left stands for, in either format
+abbrev pub left_in : {R : Type 0} → (R → Option (List ℕ)) → Format → RowReader → Tally R → Option Recording
+left_in remaining format.Text s rec = text_left remaining s rec
+left_in remaining format.Binary s rec = binary_left remaining s rec
 
 abbrev pub recording_left : {R : Type 0} → (R → Option (List ℕ)) → RowReader → Tally R → Option Recording
-recording_left remaining s rec = left_in remaining s.form s rec
+recording_left remaining s rec = left_in remaining s.format s rec
 
 -- what all bytes stand for, where nothing was given
 abbrev pub all_left : {R : Type 0} → (R → Option (List ℕ)) → RowReader → Tally R → Option Recording
 all_left remaining s rec = option_map stands_for (pending_of remaining s.lines rec)
 
--- the form that bytes choose
-abbrev pub chosen_form : List ℕ → Form
-chosen_form bytes = if is_binary bytes then form.Binary else form.Text
+-- the format that bytes choose
+abbrev pub chosen_form : List ℕ → Format
+chosen_form bytes = if is_binary bytes then format.Binary else format.Text
 
 -- a fault is all that is left, where it is no fault of the device or for want of memory
 abbrev pub Stops : ReadFault → Recording → Type 0

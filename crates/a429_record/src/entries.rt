@@ -42,7 +42,7 @@ impl<R: Read> Failing for EntryReader<R> {
 impl<R: Read> EntryReader<R> {
     ghost use Rattle.a429_record.specs.Recording.{stands_for};
     ghost use Rattle.a429_record.specs.Handed.{Loses};
-    ghost use Rattle.a429_record.specs.Reading.{AreHandedAt, IsFormAfter};
+    ghost use Rattle.a429_record.specs.Reading.{AreHandedAt, IsFormatAfter};
     ghost use Rattle.a429_record.specs.Stage.{may_go_on, stage_after, AnswersAt};
     ghost use Rattle.a429_record.specs.Rows.{GivesNext, IfEntry, entries_in};
     ghost use Rattle.a429_record.specs.Entries.{ComesNext, PassesFrom};
@@ -64,7 +64,7 @@ impl<R: Read> EntryReader<R> {
     }
 
     /// The next entry, or none at the end; the first call also reads the first eight bytes, which choose
-    /// the form, and the header of a text. After the end there is none again, and after a fault every
+    /// the format, and the header of a text. After the end there is none again, and after a fault every
     /// call answers `Failed`, which comes nowhere else. `Device` is answered where the reader has failed,
     /// and nothing makes a fault that it handed out whole before, `OutOfMemory` where memory was refused,
     /// and any other fault where it is the recording's first.
@@ -74,8 +74,8 @@ impl<R: Read> EntryReader<R> {
         ensures stage { self.new.stage ≡ stage_after result }
         ensures follows { IfEntry result (λ e. ComesNext self.old self.new e) }
         ensures counts { self.new.count ≡ self.old.count + entries_in result }
-        ensures form { IfEntry result (λ _. IsFormAfter self.old.stage self.old.form self.old.bytes self.new.form) }
-        ensures lines { IfEntry result (λ e. Loses (AreHandedAt self.old.stage self.new.form e) self.old.bytes self.new.bytes) }
+        ensures format { IfEntry result (λ _. IsFormatAfter self.old.stage self.old.format self.old.bytes self.new.format) }
+        ensures lines { IfEntry result (λ e. Loses (AreHandedAt self.old.stage self.new.format e) self.old.bytes self.new.bytes) }
         ensures before { IsErrOf result fault.Device → Loses (PassesFrom self.old) self.old.bytes self.new.unread }
         ensures room { IfEntry result (λ _. self.new.room < self.old.room) }
         ensures device { IsErrOf result fault.Device ↔ (may_go_on self.old.stage ≡ true) × (self.new.failed ≡ true) }

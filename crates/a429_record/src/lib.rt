@@ -5,7 +5,7 @@ mod binary;
 mod entries;
 mod entry;
 mod fault;
-mod form;
+mod format;
 pub mod laws;
 mod line;
 mod lines;

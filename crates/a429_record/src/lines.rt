@@ -8,7 +8,7 @@ ghost use Rattle.a429_record.specs.Handed.{IsOpen};
 
 use crate::binary::{MAGIC, begins_magic};
 use crate::fault::ReadFault;
-use crate::form::Form;
+use crate::format::Format;
 use a429_word::{Device, Tally};
 use memchr::memchr;
 use std::alloc::AllocError;
@@ -39,9 +39,9 @@ impl Lines {
         }
     }
 
-    /// Reads on until what was read chooses the form. The eight bytes that a binary recording begins with
+    /// Reads on until what was read chooses the format. The eight bytes that a binary recording begins with
     /// are given then, those of a text are not.
-    pub fn form<R: Read>(&mut self, rec: &mut Tally<R>) -> Result<Form, ReadFault>
+    pub fn format<R: Read>(&mut self, rec: &mut Tally<R>) -> Result<Format, ReadFault>
         requires none { ahead_of self.old ≡ [] }
         requires works { has_failed rec.old ≡ false }
         ensures chosen { IfOk result (λ f. Chooses f (pending_of R.remaining self.old rec.old) (pending_of R.remaining self.new rec.new)) }
@@ -55,15 +55,15 @@ impl Lines {
         'bytes: while self.filled < MAGIC.len() {
             match self.read_on(rec, MAGIC.len()) {
                 Ok(true) => {}
-                Ok(false) => return Ok(Form::Text),
+                Ok(false) => return Ok(Format::Text),
                 Err(Device) => return Err(ReadFault::Device),
             }
             if !begins_magic(&self.buffer[..self.filled]) {
-                return Ok(Form::Text);
+                return Ok(Format::Text);
             }
         }
         self.at = MAGIC.len();
-        Ok(Form::Binary)
+        Ok(Format::Binary)
     }
 
     // Reads on behind what was read, up to this place at most, and answers whether there was more.

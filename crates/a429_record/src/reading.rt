@@ -25,7 +25,7 @@ impl Reading {
     ghost use Rattle.a429_record.specs.Lines.{room_of};
     ghost use Rattle.a429_record.specs.Rows.{IfEntry, Follows, entries_in};
     ghost use Rattle.a429_record.specs.Stage.{may_go_on, stage_after, AnswersAt};
-    ghost use Rattle.a429_record.specs.Reading.{AnswersNext, HandsEntry, FailsBehind, KeepsForm};
+    ghost use Rattle.a429_record.specs.Reading.{AnswersNext, HandsEntry, FailsBehind, KeepsFormat};
     ghost use Rattle.a429_record.specs.declared.fault.ReadFault.TheVariants as fault;
 
     /// Nothing was read.
@@ -47,7 +47,7 @@ impl Reading {
         ensures gives { AnswersNext R.remaining self.old rec.old self.new rec.new result }
         ensures answers { AnswersAt self.old.stage result }
         ensures stage { self.new.stage ≡ stage_after result }
-        ensures form { IfEntry result (λ _. KeepsForm R.remaining self.old rec.old self.new) }
+        ensures format { IfEntry result (λ _. KeepsFormat R.remaining self.old rec.old self.new) }
         ensures lines { IfEntry result (λ e. HandsEntry R.remaining self.old rec.old self.new rec.new e) }
         ensures before { IsErrOf result fault.Device → FailsBehind R.remaining self.old rec.old rec.new }
         ensures follows { IfEntry result (λ e. Follows self.old.rows self.new.rows e) }

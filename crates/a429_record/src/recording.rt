@@ -13,7 +13,7 @@ use a429_word::Tally;
 use std::alloc::Global;
 use std::io::Read;
 
-/// Reads a recording in either form to its end and answers all its entries, or its first fault.
+/// Reads a recording in either format to its end and answers all its entries, or its first fault.
 /// `Device` is answered exactly where `rec` has failed, and nothing makes a fault that it handed out
 /// whole before. `OutOfMemory` is answered where memory was refused. `Failed` is never answered.
 pub fn read_entries<R: Read>(alloc: Global, rec: &mut Tally<R>) -> Result<Vec<Entry>, ReadFault>

@@ -7,7 +7,7 @@ ghost use Rattle.a429_record.specs.Recording.{most_entries};
 use crate::binary::{ENTRY_BYTES, entry_of_piece};
 use crate::entry::{Entry, MOST_ENTRIES};
 use crate::fault::ReadFault;
-use crate::form::Form;
+use crate::format::Format;
 use crate::line::{LineEntry, LineRow, entry_in_line, front_line, row_in_line};
 use crate::lines::Lines;
 use crate::row::is_header_row;
@@ -15,12 +15,12 @@ use a429_word::{Failing, Tally};
 use std::alloc::Global;
 use std::io::Read;
 
-/// How far a recording was read: its form, what was read of the reader and not yet given, how many
+/// How far a recording was read: its format, what was read of the reader and not yet given, how many
 /// entries were given, and the time of the last of them.
 #[derive(Drop)]
 pub struct RowReader {
     alloc: Global,
-    form: Form,
+    format: Format,
     lines: Lines,
     line: Vec<u8>,
     count: usize,
@@ -42,7 +42,7 @@ impl RowReader {
     {
         RowReader {
             alloc,
-            form: Form::Text,
+            format: Format::Text,
             lines: Lines::new(),
             line: Vec::new(alloc),
             count: 0,
@@ -54,8 +54,8 @@ impl RowReader {
     pub fn first<R: Read>(&mut self, rec: &mut Tally<R>) -> Result<Option<Entry>, ReadFault>
         requires { IsFresh self.old }
         ensures gives { GivesNext (all_left R.remaining self.old rec.old) (recording_left R.remaining self.new rec.new) result }
-        ensures form { IfEntry result (λ _. IsChosen (pending_of R.remaining self.old.lines rec.old) self.new.form) }
-        ensures lines { IfEntry result (λ e. HandsOut (AreFirstHanded self.new.form e) R.remaining self.old.lines rec.old
+        ensures format { IfEntry result (λ _. IsChosen (pending_of R.remaining self.old.lines rec.old) self.new.format) }
+        ensures lines { IfEntry result (λ e. HandsOut (AreFirstHanded self.new.format e) R.remaining self.old.lines rec.old
             self.new.lines rec.new) }
         ensures before { IsErrOf result fault.Device → FailsAfter HasNoFault R.remaining self.old.lines rec.old rec.new }
         ensures follows { IfEntry result (λ e. Follows self.old self.new e) }
@@ -67,13 +67,13 @@ impl RowReader {
         if rec.failed() {
             return Err(ReadFault::Device);
         }
-        match self.lines.form(rec) {
-            Ok(form) => self.form = form,
+        match self.lines.format(rec) {
+            Ok(format) => self.format = format,
             Err(fault) => return Err(fault),
         }
-        match self.form {
-            Form::Text => self.first_row(rec),
-            Form::Binary => self.next_piece(rec),
+        match self.format {
+            Format::Text => self.first_row(rec),
+            Format::Binary => self.next_piece(rec),
         }
     }
 
@@ -82,8 +82,8 @@ impl RowReader {
     pub fn next<R: Read>(&mut self, rec: &mut Tally<R>) -> Result<Option<Entry>, ReadFault>
         requires { has_failed rec.old ≡ false }
         ensures gives { GivesNext (recording_left R.remaining self.old rec.old) (recording_left R.remaining self.new rec.new) result }
-        ensures form { self.new.form ≡ self.old.form }
-        ensures lines { IfEntry result (λ e. HandsOut (AreNextHanded self.old.form e) R.remaining self.old.lines rec.old
+        ensures format { self.new.format ≡ self.old.format }
+        ensures lines { IfEntry result (λ e. HandsOut (AreNextHanded self.old.format e) R.remaining self.old.lines rec.old
             self.new.lines rec.new) }
         ensures before { IsErrOf result fault.Device → FailsNext R.remaining self.old rec.old rec.new }
         ensures follows { IfEntry result (λ e. Follows self.old self.new e) }
@@ -92,9 +92,9 @@ impl RowReader {
         ensures device { IsErrOf result fault.Device ↔ (has_failed rec.new ≡ true) }
         ensures no_failed { result ≢ Err fault.Failed }
     {
-        match self.form {
-            Form::Text => self.next_row(rec),
-            Form::Binary => self.next_piece(rec),
+        match self.format {
+            Format::Text => self.next_row(rec),
+            Format::Binary => self.next_piece(rec),
         }
     }
 
@@ -104,7 +104,7 @@ impl RowReader {
         ensures takes { TakesHeader (rows_left R.remaining self.old rec.old) (rows_left R.remaining self.new rec.new) result }
         ensures lines { OnOk result (HandsRows AreHeader R.remaining self.old.lines rec.old self.new.lines rec.new) }
         ensures before { IsErrOf result fault.Device → FailsAfter HasNoRow R.remaining self.old.lines rec.old rec.new }
-        ensures form { self.new.form ≡ self.old.form }
+        ensures format { self.new.format ≡ self.old.format }
         ensures count { self.new.count ≡ self.old.count }
         ensures last { self.new.last ≡ self.old.last }
         ensures room { OnOk result (room_of self.new.lines rec.new ≤ room_of self.old.lines rec.old) }
@@ -136,7 +136,7 @@ impl RowReader {
         requires fresh { IsUncounted self.old }
         requires works { has_failed rec.old ≡ false }
         ensures gives { GivesFirst R.remaining self.old rec.old self.new rec.new result }
-        ensures form { self.new.form ≡ self.old.form }
+        ensures format { self.new.format ≡ self.old.format }
         ensures lines { IfEntry result (λ e. HandsRows (AreGiven (e ∷ [])) R.remaining self.old.lines rec.old self.new.lines rec.new) }
         ensures before { IsErrOf result fault.Device → FailsAfter HasNoTextFault R.remaining self.old.lines rec.old rec.new }
         ensures follows { IfEntry result (λ e. Follows self.old self.new e) }
@@ -157,7 +157,7 @@ impl RowReader {
     fn next_row<R: Read>(&mut self, rec: &mut Tally<R>) -> Result<Option<Entry>, ReadFault>
         requires { has_failed rec.old ≡ false }
         ensures gives { GivesNext (text_left R.remaining self.old rec.old) (text_left R.remaining self.new rec.new) result }
-        ensures form { self.new.form ≡ self.old.form }
+        ensures format { self.new.format ≡ self.old.format }
         ensures lines { IfEntry result (λ e. HandsRows (AreEntryOf e) R.remaining self.old.lines rec.old self.new.lines rec.new) }
         ensures before { IsErrOf result fault.Device → FailsAfter HasNoRow R.remaining self.old.lines rec.old rec.new }
         ensures follows { IfEntry result (λ e. Follows self.old self.new e) }
@@ -191,7 +191,7 @@ impl RowReader {
         ensures none { IfNone result (self.new ≡ self.old) }
         ensures count { self.new.count ≡ self.old.count }
         ensures last { self.new.last ≡ self.old.last }
-        ensures form { self.new.form ≡ self.old.form }
+        ensures format { self.new.format ≡ self.old.format }
     {
         let line = front_line(self.lines.ahead())?;
         self.lines.pass(line.len + 1);
@@ -203,7 +203,7 @@ impl RowReader {
     fn next_piece<R: Read>(&mut self, rec: &mut Tally<R>) -> Result<Option<Entry>, ReadFault>
         requires { has_failed rec.old ≡ false }
         ensures gives { GivesNext (binary_left R.remaining self.old rec.old) (binary_left R.remaining self.new rec.new) result }
-        ensures form { self.new.form ≡ self.old.form }
+        ensures format { self.new.format ≡ self.old.format }
         ensures piece { IfEntry result (λ e. HandsOut (ArePieceOf e) R.remaining self.old.lines rec.old self.new.lines rec.new) }
         ensures before { IsErrOf result fault.Device → FailsAfter (IsCutAfter self.old.count) R.remaining self.old.lines rec.old rec.new }
         ensures follows { IfEntry result (λ e. Follows self.old self.new e) }
@@ -225,7 +225,7 @@ impl RowReader {
     fn piece_in_parts<R: Read>(&mut self, rec: &mut Tally<R>) -> Result<Option<Entry>, ReadFault>
         requires { has_failed rec.old ≡ false }
         ensures gives { GivesNext (binary_left R.remaining self.old rec.old) (binary_left R.remaining self.new rec.new) result }
-        ensures form { self.new.form ≡ self.old.form }
+        ensures format { self.new.format ≡ self.old.format }
         ensures piece { IfEntry result (λ e. HandsOut (ArePieceOf e) R.remaining self.old.lines rec.old self.new.lines rec.new) }
         ensures before { IsErrOf result fault.Device → FailsAfter (IsCutAfter self.old.count) R.remaining self.old.lines rec.old rec.new }
         ensures follows { IfEntry result (λ e. Follows self.old self.new e) }
@@ -261,7 +261,7 @@ impl RowReader {
         ensures follows { IfEntry result (λ e. Follows self.old self.new e) }
         ensures counts { self.new.count ≡ self.old.count + entries_in result }
         ensures lines { self.new.lines ≡ self.old.lines }
-        ensures form { self.new.form ≡ self.old.form }
+        ensures format { self.new.format ≡ self.old.format }
         ensures err { IfErr result (λ f. (f ≢ fault.Device) × (f ≢ fault.Failed)) }
     {
         if self.is_full() {

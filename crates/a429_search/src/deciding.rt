@@ -52,12 +52,12 @@ fn found(
     ensures accepted { IfOk result (λ found. IfSome found (λ e. HasNoFault profile.now e.certificate (items_of entries.now))) }
     ensures version { IfOk result (λ found. IfSome found (λ e. HasLeastVersion profile.now e.certificate (items_of entries.now))) }
 {
-    let heard = match walk(alloc, profile, entries) {
-        Ok(heard) => heard,
+    let decoded = match walk(alloc, profile, entries) {
+        Ok(decoded) => decoded,
         Err(Halt::Refused { .. }) => return Ok(None),
         Err(Halt::OutOfMemory) => return Err(OutOfMemory),
     };
-    let Ok(guess) = guess_of(alloc, &heard) else {
+    let Ok(guess) = guess_of(alloc, &decoded) else {
         return Err(OutOfMemory);
     };
     let Some(guess) = guess else {

@@ -8,7 +8,7 @@ use crate::budget::Budget;
 use crate::groups::Group;
 use crate::hypotheses::Hypothesis;
 use crate::trail::{Course, Trail, with_heard};
-use a429_explain::{Guess, Heard, HeardWord, roles};
+use a429_explain::{Decoded, DecodedWord, Guess, roles};
 use a429_ldu::Form;
 use a429_link::{UnitNumber, is_final};
 use a429_profile::Profile;
@@ -39,13 +39,13 @@ struct Tried {
 }
 
 /// What is guessed of the run that recorded these words; `None` where the search finds no run.
-pub(crate) fn guess_of(alloc: Global, heard: &Heard) -> Result<Option<Guess>, AllocError>
-    ensures { IfOk result (λ found. IfSome found (λ g. IsGuess heard.now.profile heard.now.items g)) }
+pub(crate) fn guess_of(alloc: Global, decoded: &Decoded) -> Result<Option<Guess>, AllocError>
+    ensures { IfOk result (λ found. IfSome found (λ g. IsGuess decoded.now.profile decoded.now.items g)) }
 {
-    let mut search = Search::new(alloc, heard)?;
+    let mut search = Search::new(alloc, decoded)?;
     let mut attempt = None;
-    for at in 0..heard.len() {
-        let HeardWord { word, form } = heard.word(at);
+    for at in 0..decoded.len() {
+        let DecodedWord { word, form } = decoded.word(at);
         match form {
             Some(Form::Rts { count }) => {
                 search.carry_all_on(attempt)?;
@@ -60,20 +60,20 @@ pub(crate) fn guess_of(alloc: Global, heard: &Heard) -> Result<Option<Guess>, Al
         }
     }
     search.carry_all_on(attempt)?;
-    search.guess(heard)
+    search.guess(decoded)
 }
 
 impl<'a> Search<'a> {
-    fn new(alloc: Global, heard: &Heard<'a>) -> Result<Search<'a>, AllocError> {
+    fn new(alloc: Global, decoded: &Decoded<'a>) -> Result<Search<'a>, AllocError> {
         let mut hypotheses = Vec::new(alloc);
         hypotheses.push(Hypothesis::START)?;
         Ok(Search {
             alloc,
-            profile: heard.profile(),
+            profile: decoded.profile(),
             hypotheses,
             groups: Vec::new(alloc),
-            trail: Trail::new(alloc, heard.profile()),
-            budget: Budget::of_entries(heard.len()),
+            trail: Trail::new(alloc, decoded.profile()),
+            budget: Budget::of_entries(decoded.len()),
         })
     }
 
@@ -257,8 +257,8 @@ impl<'a> Search<'a> {
     }
 
     // What is guessed by the hypothesis with the fewest files given up.
-    fn guess(self, heard: &Heard) -> Result<Option<Guess>, AllocError>
-        ensures { IfOk result (λ found. IfSome found (λ g. IsGuess heard.now.profile heard.now.items g)) }
+    fn guess(self, decoded: &Decoded) -> Result<Option<Guess>, AllocError>
+        ensures { IfOk result (λ found. IfSome found (λ g. IsGuess decoded.now.profile decoded.now.items g)) }
     {
         let Some(best) = self.best() else {
             return Ok(None);
@@ -273,8 +273,8 @@ impl<'a> Search<'a> {
         let Course {
             plans,
             heard: entries,
-        } = trail.course(heard.profile(), last)?;
-        let roles = roles(alloc, heard)?;
+        } = trail.course(decoded.profile(), last)?;
+        let roles = roles(alloc, decoded)?;
         let roles = with_heard(alloc, &roles, entries)?;
         Ok(Some(Guess {
             first_file: best.first_file,

@@ -20,8 +20,8 @@ use Rattle.a429_link.specs.declared.state.SourceState.TheVariants.{Awaiting, Wai
 use Rattle.a429_link.specs.declared.step.Step.{Step}
 use Rattle.a429_link.specs.declared.step.Step.TheVariants.{Answered, FreeSeen, GiveUp, Load, LoseAnswer, Sent, SentLost, Silent, SinkTakes, TakeAnswer, TimeOut}
 use Rattle.a429_link.specs.Number.{is_number}
-use Rattle.a429_link.specs.Source.{Source, acknowledged, hears, hears_first, hears_form}
-use Rattle.a429_link.specs.Sink.{Block, MayAnswerForm, Number, Shelf, Sink, SinkPhase, accepts, accepts_owed, answers_form, empty_shelf, is_same, number_of, put, shelf_for, takes_first, takes_form}
+use Rattle.a429_link.specs.Source.{Source, acknowledged, with_answer, with_answer_first, with_answer_form}
+use Rattle.a429_link.specs.Sink.{Block, MayAnswerForm, Number, Shelf, Sink, SinkPhase, accepts, accepts_owed, answers_form, nothing_received, is_same, number_of, put, received_for, takes_first, takes_form}
 use Rattle.a429_link.specs.State.{State, start}
 use Rattle.a429_link.specs.Step.{Can, after, label}
 use Rattle.a429_link.specs.Run.{IsRun, end_of, offers, settles, trace, with_label}
@@ -30,8 +30,8 @@ use Rattle.a429_link.proofs.MessageRead.{is_read}
 use Rattle.a429_link.proofs.NumberFacts.{number_same}
 use Rattle.a429_link.proofs.StateConfigs.{Config, Whole, idle, asked, unasked, sending, waiting, whole, may_owes, owes_stale, owes_grant}
 use Rattle.a429_link.proofs.StateHolds.{step_holds}
-use Rattle.a429_link.proofs.SinkFromTrace.{takes_shelf}
-use Rattle.a429_link.proofs.SinkShelves.{past_new, shelf_for_files}
+use Rattle.a429_link.proofs.SinkFromTrace.{takes_received}
+use Rattle.a429_link.proofs.SinkShelves.{past_new, received_for_files}
 use Rattle.a429_link.proofs.RunCrossing.{Books, Stand, start_books, step_crosses}
 use Rattle.a429_record.specs.declared.entry.Entry.{Entry}
 use Rattle.a429_cert.specs.declared.act.Act.{Act}
@@ -87,7 +87,7 @@ DueBy p source last due = DueAt p source.number source.current last due
 load_due : (p : Contents) (s : State) (u : LduValue) (o : Shelf) (fs : List FileBytes)
     → s.source.current ≡ None → Books p s o fs → DueAt p s.source.number (Some u) s.sink.last (file_ended p.codes s.source.number u)
 load_due p s u o fs n b =
-    let behind = subst (λ x. Stand p s.source.number s.source.give_ups x s.sink.last s.sink.shelf o fs) n b.crosses.stand in
+    let behind = subst (λ x. Stand p s.source.number s.source.give_ups x s.sink.last s.sink.received o fs) n b.crosses.stand in
     let new = past_new s.sink.last s.source.number s.source.give_ups b.crosses.few behind.past in
     sym (ap (λ (t : Bool). cond t None (file_ended p.codes s.source.number u)) new)
 
@@ -96,18 +96,18 @@ either : (p : Contents) (s t : Source) (b : Bool) (last : Option Number) (due : 
 either p s t true last due h k = h
 either p s t false last due h k = k
 
-hears_due : (p : Contents) (cur : Option LduValue) (sp : SourceState) (x : Form) (s : Source) (last : Option Number) (due : Option ℕ)
-    → DueBy p s last due → DueBy p (hears p.codes cur sp x s) last due
-hears_due p (Some u) Awaiting (form.Cts n) s last due h = either p _ s _ last due h h
-hears_due p (Some u) Waiting (form.Ack f l) s last due h = either p (acknowledged p.codes u s) s _ last due tt h
-hears_due p (Some u) Waiting (form.Nak bits) s last due h = h
-hears_due p _ _ _ s last due h = h
+with_answer_due : (p : Contents) (cur : Option LduValue) (sp : SourceState) (x : Form) (s : Source) (last : Option Number) (due : Option ℕ)
+    → DueBy p s last due → DueBy p (with_answer p.codes cur sp x s) last due
+with_answer_due p (Some u) Awaiting (form.Cts n) s last due h = either p _ s _ last due h h
+with_answer_due p (Some u) Waiting (form.Ack f l) s last due h = either p (acknowledged p.codes u s) s _ last due tt h
+with_answer_due p (Some u) Waiting (form.Nak bits) s last due h = h
+with_answer_due p _ _ _ s last due h = h
 
-form_due : (p : Contents) (o : Option Form) (s : Source) (last : Option Number) (due : Option ℕ) → DueBy p s last due → DueBy p (hears_form p.codes o s) last due
+form_due : (p : Contents) (o : Option Form) (s : Source) (last : Option Number) (due : Option ℕ) → DueBy p s last due → DueBy p (with_answer_form p.codes o s) last due
 form_due p None s last due h = h
-form_due p (Some x) s last due h = hears_due p s.current s.phase x s last due h
+form_due p (Some x) s last due h = with_answer_due p s.current s.phase x s last due h
 
-first_due : (p : Contents) (ws : List ℕ) (s : Source) (last : Option Number) (due : Option ℕ) → DueBy p s last due → DueBy p (hears_first p.codes ws s) last due
+first_due : (p : Contents) (ws : List ℕ) (s : Source) (last : Option Number) (due : Option ℕ) → DueBy p s last due → DueBy p (with_answer_first p.codes ws s) last due
 first_due p [] s last due h = h
 first_due p (w ∷ ws) s last due h = form_due p (form_of p.codes bus.B w) s last due h
 
@@ -117,16 +117,16 @@ form_last p w None k = refl
 form_last p w (Some (form.Rts n)) k = refl
 form_last p w (Some _) k = refl
 
-takes_keeps : (p : Contents) (ws : List ℕ) (k : Sink) → ((takes_first p ws k).last ≡ k.last) × ((takes_first p ws k).shelf ≡ k.shelf)
+takes_keeps : (p : Contents) (ws : List ℕ) (k : Sink) → ((takes_first p ws k).last ≡ k.last) × ((takes_first p ws k).shelf ≡ k.received)
 takes_keeps p [] k = (refl, refl)
-takes_keeps p (w ∷ ws) k = (form_last p w (form_of p.codes bus.A w) k, takes_shelf p w (form_of p.codes bus.A w) k)
+takes_keeps p (w ∷ ws) k = (form_last p w (form_of p.codes bus.A w) k, takes_received p w (form_of p.codes bus.A w) k)
 
 -- ---- an answer
 
 -- the sink delivers the file that crosses, and none else; what is due then
 record Answers (p : Contents) (number : UnitNumber) (cur : Option LduValue) (old new : Sink) (due : Option ℕ) (acknowledged : Bool) : Type 0 where
   next : DueAt p number cur new.last (still_due acknowledged due)
-  gives : numbers new.shelf.files ≡ numbers old.shelf.files ++ cons_option (crossing acknowledged due) []
+  gives : numbers new.received.files ≡ numbers old.received.files ++ cons_option (crossing acknowledged due) []
 
 put_numbers : (file : ℕ) (bytes : List ℕ) (t : Bool) (s : Shelf) → numbers (put file bytes t s).files ≡ numbers s.files ++ cons_option (cond t (Some file) None) []
 put_numbers file bytes true s = map-append (λ (f : FileBytes). f.number) s.files (record { number = file; bytes = s.open_bytes ++ bytes } ∷ [])
@@ -138,7 +138,7 @@ accepted : (p : Contents) (number : UnitNumber) (u : LduValue) (b : Block) (fl :
 accepted p number u b fl k due w d = by (is_same k.last (number_of b)) refl
   where
     kept : Shelf
-    kept = shelf_for k.last b.file k.shelf
+    kept = received_for k.last b.file k.received
 
     here : (t : Bool) → is_same k.last (number_of b) ≡ t → due ≡ cond t None (file_ended p.codes number u)
     here t e = d ∙ ap (λ (q : Bool). cond q None (file_ended p.codes number u)) (ap (is_same k.last) (sym w.told) ∙ e)
@@ -150,17 +150,17 @@ accepted p number u b fl k due w d = by (is_same k.last (number_of b)) refl
     ends = ap (λ (q : ℕ). cond (is_final p.codes q) (Some b.file) None) w.flags ∙ ap (λ (n : UnitNumber). cond (is_final p.codes u.flags) (Some n.file) None) w.told
 
     by : (t : Bool) → is_same k.last (number_of b) ≡ t
-        → Answers p number (Some u) k (cond t k (record k { last = Some (record { number = number_of b; final = is_final p.codes fl }); shelf = put b.file (bytes_in p.codes b.words) (is_final p.codes fl) kept })) due true
+        → Answers p number (Some u) k (cond t k (record k { last = Some (record { number = number_of b; final = is_final p.codes fl }); received = put b.file (bytes_in p.codes b.words) (is_final p.codes fl) kept })) due true
     by true e = record {
       next = sym (ap (λ (q : Bool). cond q None (file_ended p.codes number u)) (ap (is_same k.last) (sym w.told) ∙ e));
-      gives = sym (append-nil (numbers k.shelf.files)) ∙ ap (λ (o : Option ℕ). numbers k.shelf.files ++ cons_option o []) (sym (here true e));
+      gives = sym (append-nil (numbers k.received.files)) ∙ ap (λ (o : Option ℕ). numbers k.received.files ++ cons_option o []) (sym (here true e));
     }
     by false e = record {
       next = sym (ap (λ (q : Bool). cond q None (file_ended p.codes number u)) same);
       gives =
           put_numbers b.file (bytes_in p.codes b.words) (is_final p.codes fl) kept
-          ∙ ap (λ (l : List FileBytes). numbers l ++ cons_option (cond (is_final p.codes fl) (Some b.file) None) []) (shelf_for_files k.last b.file k.shelf)
-          ∙ ap (λ (o : Option ℕ). numbers k.shelf.files ++ cons_option o []) (ends ∙ sym (here false e));
+          ∙ ap (λ (l : List FileBytes). numbers l ++ cons_option (cond (is_final p.codes fl) (Some b.file) None) []) (received_for_files k.last b.file k.received)
+          ∙ ap (λ (o : Option ℕ). numbers k.received.files ++ cons_option o []) (ends ∙ sym (here false e));
     }
 
 -- the sink acknowledges only the unit of the source
@@ -181,7 +181,7 @@ answers_so p source xs ys k due (Some (form.Ack f l)) m c d =
     let a = acknowledges_own p source.number source.current source.phase k.count k.phase xs ys k due f l m c d in
     record { next = a.next; gives = a.gives }
 answers_so p source xs ys k due None m c d = absurd m
-answers_so p source xs ys k due (Some _) m c d = record { next = d; gives = sym (append-nil (numbers k.shelf.files)) }
+answers_so p source xs ys k due (Some _) m c d = record { next = d; gives = sym (append-nil (numbers k.received.files)) }
 
 -- ---- a step
 
@@ -221,22 +221,22 @@ inside_span span es next i all e l =
 record Goes (p : Contents) (span : Span) (a : Step) (s : State) (i : ℕ) (at : Place) (t : Told) : Type 0 where
   next : (past p.codes at t).next ≡ i + length (trace (a ∷ []))
   due : DueBy p (after p a s).source (after p a s).sink.last (past p.codes at t).due
-  gives : numbers (after p a s).sink.shelf.files ≡ numbers s.sink.shelf.files ++ crossings (shown p.codes span at t)
+  gives : numbers (after p a s).sink.received.files ≡ numbers s.sink.received.files ++ crossings (shown p.codes span at t)
 
 -- a step that records nothing, and leaves the files
 unseen_goes : (p : Contents) (span : Span) (a : Step) (s : State) (i : ℕ) (at : Place) (x : Act)
-    → at.next ≡ i → length (trace (a ∷ [])) ≡ 0 → DueBy p (after p a s).source (after p a s).sink.last at.due → (after p a s).sink.shelf.files ≡ s.sink.shelf.files
+    → at.next ≡ i → length (trace (a ∷ [])) ≡ 0 → DueBy p (after p a s).source (after p a s).sink.last at.due → (after p a s).sink.received.files ≡ s.sink.received.files
     → Goes p span a s i at (Makes x None)
 unseen_goes p span a s i at x n z d f = record {
   next = omega (arith, n, z);
   due = d;
-  gives = ap numbers f ∙ no_number s.sink.shelf.files (cond (is_within span at.next) (listed (unseen x)) []) (unseen_says (is_within span at.next) x);
+  gives = ap numbers f ∙ no_number s.sink.received.files (cond (is_within span at.next) (listed (unseen x)) []) (unseen_says (is_within span at.next) x);
 }
 
 -- a step that records a word which is no acknowledgement, and leaves the files
 seen_goes : (p : Contents) (es : List Entry) (span : Span) (a : Step) (s : State) (item : Seen) (i : ℕ) (at : Place) (x : Act)
     → at.next ≡ i → length (trace (a ∷ [])) ≡ 1 → NextEntry es i item → ((e : Entry) → acknowledges p.codes x e ≡ false)
-    → DueBy p (after p a s).source (after p a s).sink.last at.due → (after p a s).sink.shelf.files ≡ s.sink.shelf.files
+    → DueBy p (after p a s).source (after p a s).sink.last at.due → (after p a s).sink.received.files ≡ s.sink.received.files
     → Goes p span a s i at (Makes x (entry_numbered es i))
 seen_goes p es span a s item i at x n z h none d f =
     let t = Makes x (Some (i, h.entry)) in
@@ -245,7 +245,7 @@ seen_goes p es span a s item i at x n z h none d f =
     (record {
       next = omega (arith, z);
       due = subst (λ (b : Bool). DueBy p (after p a s).source (after p a s).sink.last (still_due b at.due)) (sym no) d;
-      gives = ap numbers f ∙ no_number s.sink.shelf.files (shown p.codes span at t) (seen_says (is_within span at.next) _ (ap (λ (b : Bool). crossing b at.due) no));
+      gives = ap numbers f ∙ no_number s.sink.received.files (shown p.codes span at t) (seen_says (is_within span at.next) _ (ap (λ (b : Bool). crossing b at.due) no));
     })
 
 answered_goes : (p : Contents) (es : List Entry) (span : Span) (s : State) (item : Seen) (i : ℕ) (at : Place) (o : Shelf) (fs : List FileBytes)
@@ -264,14 +264,14 @@ answered_goes p es span s item i at o fs all can b n h d =
       due = subst (λ (t : Bool). DueBy p s.source (answers_form p.codes x s.sink).last (still_due t at.due)) (sym ack_is) a.next;
       gives =
           a.gives
-          ∙ ap (λ (t : Bool). numbers s.sink.shelf.files ++ cons_option (crossing t at.due) []) (sym ack_is)
-          ∙ ap (λ (l : List ℕ). numbers s.sink.shelf.files ++ l) (sym (within_says (is_within span at.next) _ (inside_span span es at.next i all n h.inside)));
+          ∙ ap (λ (t : Bool). numbers s.sink.received.files ++ cons_option (crossing t at.due) []) (sym ack_is)
+          ∙ ap (λ (l : List ℕ). numbers s.sink.received.files ++ l) (sym (within_says (is_within span at.next) _ (inside_span span es at.next i all n h.inside)));
     })
 
 step_goes : (p : Contents) (es : List Entry) (span : Span) (a : Step) (s : State) (i : ℕ) (at : Place) (o : Shelf) (fs : List FileBytes)
     → HasAll span es → Can p a s → Books p s o fs → at.next ≡ i → IsNext es i (label a) → DueBy p s.source s.sink.last at.due → Goes p span a s i at (told es s i a)
 step_goes p es span (Load u) s i at o fs all can b n h d =
-    record { next = omega (arith, n); due = load_due p s u o fs can.1 b; gives = no_number s.sink.shelf.files (shown p.codes span at (Loads s.source.number u)) (load_says (is_within span at.next) s.source.number) }
+    record { next = omega (arith, n); due = load_due p s u o fs can.1 b; gives = no_number s.sink.received.files (shown p.codes span at (Loads s.source.number u)) (load_says (is_within span at.next) s.source.number) }
 step_goes p es span (Sent item) s i at o fs all can b n h d = seen_goes p es span (Sent item) s item i at act.Sent n refl h (λ e. refl) d refl
 step_goes p es span SentLost s i at o fs all can b n h d = unseen_goes p span SentLost s i at act.SentLost n refl d refl
 step_goes p es span TimeOut s i at o fs all can b n h d = unseen_goes p span TimeOut s i at act.TimeOut n refl d refl
@@ -294,12 +294,12 @@ label_push (Some i) items = refl
 run_goes : (p : Contents) → IsRead p → (es : List Entry) (span : Span) → HasAll span es
     → (steps : List Step) (s : State) (o : Shelf) (fs : List FileBytes) (before later : List Seen) (at : Place) (i : ℕ)
     → i ≡ length before → IsRun p steps s → Books p s o fs → items_of es ≡ before ++ (trace steps ++ later) → at.next ≡ i → DueBy p s.source s.sink.last at.due
-    → numbers (end_of p steps s).sink.shelf.files ≡ numbers s.sink.shelf.files ++ crossings (marks p.codes span at (told_steps p es steps s i))
-run_goes p good es span all [] s o fs before later at i z h b e n d = sym (append-nil (numbers s.sink.shelf.files))
+    → numbers (end_of p steps s).sink.received.files ≡ numbers s.sink.received.files ++ crossings (marks p.codes span at (told_steps p es steps s i))
+run_goes p good es span all [] s o fs before later at i z h b e n d = sym (append-nil (numbers s.sink.received.files))
 run_goes p good es span all (a ∷ steps) s o fs before later at i z h b e n d =
     let one = trace (a ∷ []) in
     let t = told es s i a in
-    let files = numbers s.sink.shelf.files in
+    let files = numbers s.sink.received.files in
     let g = step_goes p es span a s i at o fs all h.0 b n (subst (λ (k : ℕ). IsNext es k (label a)) (sym z) (next_is es before (label a) (trace steps) later e)) d in
     let books : Books p (after p a s) (offers p a s o) (settles p a s o fs) = record { holds = step_holds p good a s h.0 b.holds; crosses = step_crosses p good a s o fs h.0 b.holds b.crosses } in
     let on : items_of es ≡ (before ++ one) ++ (trace steps ++ later) =
@@ -314,7 +314,7 @@ run_goes p good es span all (a ∷ steps) s o fs before later at i z h b e n d =
 pub crossings_delivered : (p : Contents) (entries : List Entry) (span : Span) (r : RunOver p entries) → HasAll span entries → crossings (rows_over span r) ≡ numbers (delivered_over r)
 crossings_delivered p entries span r all =
     let run = r.run.is_run in
-    sym (run_goes p (is_read p run.sound) entries span all r.run.steps (start p r.run.first) empty_shelf [] [] r.later before_all 0 refl run.run (start_books p r.run.first run.byte) r.records refl tt)
+    sym (run_goes p (is_read p run.sound) entries span all r.run.steps (start p r.run.first) nothing_received [] [] r.later before_all 0 refl run.run (start_books p r.run.first run.byte) r.records refl tt)
 
 -- the run by which a certificate explains delivers the files of a yes
 pub crossings_explained : (p : Contents) (entries : List Entry) (span : Span) (e : ExplainedRun p entries) → HasAll span entries → crossings (rows_explained span e) ≡ numbers e.files

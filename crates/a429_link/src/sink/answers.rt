@@ -2,7 +2,7 @@
 
 ghost use Rattle.std.specs.Prelude.{◌≡◌, ◌≤◌, ◌↔◌, Some, IsTrue, OnOk, OnErr};
 ghost use Rattle.a429_link.specs.Sink as model;
-ghost use Rattle.a429_link.specs.Sink.{in_phase, put, shelf_for, accepts_block, with_shelf, unfiled, answers, IsAck, MayAnswer, held_count};
+ghost use Rattle.a429_link.specs.Sink.{in_phase, put, received_for, accepts_block, with_received, unfiled, answers, IsAck, MayAnswer, held_count};
 
 use crate::number::is_final;
 use crate::sink::{Latest, Phase, Sink, is_last, is_last_file};
@@ -71,7 +71,7 @@ impl Sink {
         Ok(())
     }
 
-    // Puts the bytes of a link data unit of this file on the shelf, and drops those of another file that is not whole.
+    // Puts the bytes of a link data unit of this file after those received, and drops those of another file that is not whole.
     fn put(
         &mut self,
         alloc: Global,
@@ -80,15 +80,15 @@ impl Sink {
         is_final: bool,
     ) -> Result<(), AllocError>
         ensures done { OnOk result (self.new ≡ record (self.old) {
-          sink = with_shelf
-              (put file bytes.now is_final (shelf_for self.old.sink.last file self.old.sink.shelf)) self.old.sink;
+          sink = with_received
+              (put file bytes.now is_final (received_for self.old.sink.last file self.old.sink.received)) self.old.sink;
         }) }
         ensures unchanged { OnErr result (self.new ≡ self.old) }
     {
         if is_last_file(&self.last, file) {
-            self.shelf.put(alloc, file, bytes, is_final)
+            self.received.put(alloc, file, bytes, is_final)
         } else {
-            self.shelf.put_first(alloc, file, bytes, is_final)
+            self.received.put_first(alloc, file, bytes, is_final)
         }
     }
 

@@ -25,13 +25,13 @@ loop-line-init c =
       rest = head.lines;
       inside = omega arith;
       profile = ap (λ (l : LinkValue). l.profile) c.start-link.ensures.begins;
-      none_left = ap (λ (l : LinkValue). l.state.sink.shelf.files) c.start-link.ensures.begins;
+      none_left = ap (λ (l : LinkValue). l.state.sink.received.files) c.start-link.ensures.begins;
       reached = subst (λ (fs : List FileBytes). Reaches p c.in-Ok.head.first [] [] (with_earlier fs s)) (sym c.new-files.ensures.items)
           (begins p c.in-Ok.head.first (with_earlier [] s) (ap (λ (l : LinkValue). l.state) c.start-link.ensures.begins));
     }
 
-pub returns-in-Err-pass-clause-err : goal.returns-in-Err-pass-clause-err
-returns-in-Err-pass-clause-err c = λ h.
+pub returns-in-Err-replay_line-clause-err : goal.returns-in-Err-replay_line-clause-err
+returns-in-Err-replay_line-clause-err c = λ h.
     let v = c.loop-line.invariant in
     let s = c.loop-line.link.state in
     let files = c.loop-line.files.items in
@@ -39,34 +39,34 @@ returns-in-Err-pass-clause-err c = λ h.
     let head = begun c.new-lines.result c.args.certificate.now c.in-Ok.head c.begin.new.lines c.new-lines.ensures c.in-Ok.ensures.ok in
     let raw = line_here line_bytes (drop 2 (certificate_lines c.args.certificate.now)) c.loop-line.lines v.k c.next_line.result c.in-Some.line v.rest c.next_line.ensures.given c.in-Some.is in
     let here = line_read c.in-Ok.head.version (drop 2 (certificate_lines c.args.certificate.now)) v.k (line_bytes c.in-Some.line) raw ∙ ap (λ (o : Option (List ℕ)). Some o) (sym c.read.ensures) in
-    faulty_now c.args.profile.now c.args.certificate.now (items_of c.args.entries.now) c.in-Ok.head v.k c.loop-line.used c.loop-line.n text c.seen_at.result (with_earlier files s) c.in-Err-pass.fault head.says here v.number c.seen_at.ensures v.inside v.reached
-    (fault_earlier c.args.profile.now files s c.seen_at.result c.loop-line.n c.loop-line.used text c.in-Err-pass.fault (c.in-Err-pass.ensures.refused h))
+    faulty_now c.args.profile.now c.args.certificate.now (items_of c.args.entries.now) c.in-Ok.head v.k c.loop-line.used c.loop-line.n text c.seen_at.result (with_earlier files s) c.in-Err-replay_line.fault head.says here v.number c.seen_at.ensures v.inside v.reached
+    (fault_earlier c.args.profile.now files s c.seen_at.result c.loop-line.n c.loop-line.used text c.in-Err-replay_line.fault (c.in-Err-replay_line.ensures.refused h))
 
 pub loop-line-preserved : goal.loop-line-preserved
 loop-line-preserved c =
     let p = c.args.profile.now in
     let v = c.loop-line.invariant in
     let s = c.loop-line.link.state in
-    let t = c.pass.new.link.state in
+    let t = c.replay_line.new.link.state in
     let files = c.loop-line.files.items in
     let text = option_map (λ b. b.now) c.read.result in
     let raw = line_here line_bytes (drop 2 (certificate_lines c.args.certificate.now)) c.loop-line.lines v.k c.next_line.result c.in-Some.line v.rest c.next_line.ensures.given c.in-Some.is in
     let here = line_read c.in-Ok.head.version (drop 2 (certificate_lines c.args.certificate.now)) v.k (line_bytes c.in-Some.line) raw ∙ ap (λ (o : Option (List ℕ)). Some o) (sym c.read.ensures) in
-    let on = passed_on p c.in-Ok.head.first (step_lines c.in-Ok.head.version c.args.certificate.now) (items_of c.args.entries.now) v.k c.loop-line.used c.in-Ok-pass.count text c.seen_at.result (with_earlier files s) (with_earlier files t) here c.seen_at.ensures v.inside v.reached
-    (text_earlier p text c.seen_at.result files s t c.in-Ok-pass.count c.in-Ok-pass.ensures.passed) in
+    let on = passed_on p c.in-Ok.head.first (step_lines c.in-Ok.head.version c.args.certificate.now) (items_of c.args.entries.now) v.k c.loop-line.used c.in-Ok-replay_line.count text c.seen_at.result (with_earlier files s) (with_earlier files t) here c.seen_at.ensures v.inside v.reached
+    (text_earlier p text c.seen_at.result files s t c.in-Ok-replay_line.count c.in-Ok-replay_line.ensures.passed) in
     let shorter = c.in-Some.ensures.shorter refl in
     let state : c.take_files.new.link.state ≡ handed_out t = ap (λ (l : LinkValue). l.state) c.in-Ok-take_files.ensures.rest in
     let same : with_earlier c.take_files.new.files.items c.take_files.new.link.state ≡ with_earlier files t =
-    ap (λ (fs : List FileBytes). with_earlier fs c.take_files.new.link.state) c.in-Ok-take_files.ensures.taken ∙ ap (with_earlier (files ++ t.sink.shelf.files)) state ∙ handed_earlier files t in
+    ap (λ (fs : List FileBytes). with_earlier fs c.take_files.new.link.state) c.in-Ok-take_files.ensures.taken ∙ ap (with_earlier (files ++ t.sink.received.files)) state ∙ handed_earlier files t in
     record {
       k = suc v.k;
       number = omega (arith, v.number);
       room = omega (arith, v.room, shorter);
       rest = left_on (drop 2 (certificate_lines c.args.certificate.now)) c.loop-line.lines c.next_line.new.self v.k v.rest c.next_line.ensures.rest;
       inside = on.inside;
-      profile = ap (λ (l : LinkValue). l.profile) c.in-Ok-take_files.ensures.rest ∙ c.in-Ok-pass.ensures.kept;
-      none_left = ap (λ (q : State). q.sink.shelf.files) state;
-      reached = subst (λ (q : State). Reaches p c.in-Ok.head.first (take (suc v.k) (step_lines c.in-Ok.head.version c.args.certificate.now)) (take (c.loop-line.used + c.in-Ok-pass.count) (items_of c.args.entries.now)) q) (sym same) on.reached;
+      profile = ap (λ (l : LinkValue). l.profile) c.in-Ok-take_files.ensures.rest ∙ c.in-Ok-replay_line.ensures.kept;
+      none_left = ap (λ (q : State). q.sink.received.files) state;
+      reached = subst (λ (q : State). Reaches p c.in-Ok.head.first (take (suc v.k) (step_lines c.in-Ok.head.version c.args.certificate.now)) (take (c.loop-line.used + c.in-Ok-replay_line.count) (items_of c.args.entries.now)) q) (sym same) on.reached;
     }
 
 pub returns-clause-err : goal.returns-clause-err

@@ -13,7 +13,7 @@ invariant-loop-line l = record {
   rest : certificate_lines l.lines ≡ drop k (drop 2 (certificate_lines l.certificate));
   inside : l.used ≤ length (items_of l.entries);
   profile : l.link.profile ≡ l.profile;
-  none_left : l.link.state.sink.shelf.files ≡ [];
+  none_left : l.link.state.sink.received.files ≡ [];
   reached : Reaches l.profile l.head.first (take k (step_lines l.head.version l.certificate)) (take l.used (items_of l.entries)) (with_earlier l.files.items l.link.state);
 }
 

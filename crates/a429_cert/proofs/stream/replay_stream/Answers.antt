@@ -1,5 +1,5 @@
 use Rattle.std.proofs.Common.{◌≡◌, ◌+◌, ◌++◌, ◌∙◌, ℕ, suc, List, [], true, false, Option, IsSome, length, ap, refl, subst, arith, rules}
-use Rattle.a429_cert.specs.declared.stream.Walk.{Walk}
+use Rattle.a429_cert.specs.declared.stream.Replay.{Replay}
 use Rattle.a429_cert.specs.CutLines.{GivesLine}
 use Rattle.a429_cert.specs.Lines.{line_bytes}
 use Rattle.a429_cert.specs.Version.{read_as}
@@ -12,7 +12,7 @@ use Rattle.a429_cert.specs.LineReader.{bytes_ahead, held_line, to_come}
 use Rattle.a429_cert.proofs.StreamFacts.{gains_none, put_on, noted_on}
 use Rattle.a429_word.specs.Tally.{has_failed, unread}
 use Rattle.a429_cert.proofs.BreakOffFacts.{head_breaks, between_breaks, late_breaks, stop_breaks}
-use Rattle.a429_cert.proofs.StreamWalk.{told_init, told_on, told_yes, fresh}
+use Rattle.a429_cert.proofs.StreamReplay.{told_init, told_on, told_yes, fresh}
 use Rattle.a429_cert.specs.Told.{HearsText}
 use Rattle.a429_cert.proofs.ToldFacts.{hears_init, hears_on, hears_all}
 use Rattle.a429_cert.proofs.ToldRefused.{heard_head}
@@ -23,28 +23,28 @@ pub lines-init : goal.lines-init
 lines-init g c =
     let known = unread g.C.Read.remaining c.args.cert.now in
     let old = to_come g.C.Read.remaining c.new-lines.result c.args.cert.now in
-    let state : c.start-walk.result.link.state ≡ start c.args.bench.now c.in-Ok.head.first = ap (λ (l : LinkValue). l.state) c.start-walk.ensures.link in
+    let state : c.start-replay.result.link.state ≡ start c.args.bench.now c.in-Ok.head.first = ap (λ (l : LinkValue). l.state) c.start-replay.ensures.link in
     let none : length (bytes_ahead c.new-lines.result) ≡ 0 = ap (λ (l : List ℕ). length l) c.new-lines.ensures in
-    let lines = c.start-walk.ensures.lines in
-    let used = c.start-walk.ensures.used in
+    let lines = c.start-replay.ensures.lines in
+    let used = c.start-replay.ensures.used in
     record {
       head = c.in-Ok.head;
       k = 0;
       taken = [];
       number = lines;
       told = rw used
-          (told_init c.args.bench.now c.in-Ok.head c.start-walk.result.link.state known old (to_come g.C.Read.remaining c.begin.new.lines c.begin.new.cert) c.args.rec.now.to_come
+          (told_init c.args.bench.now c.in-Ok.head c.start-replay.result.link.state known old (to_come g.C.Read.remaining c.begin.new.lines c.begin.new.cert) c.args.rec.now.to_come
           (fresh (bytes_ahead c.new-lines.result) known c.new-lines.ensures) c.in-Ok.ensures.ok state);
-      heard = rw used (hears_init g.T.Listener.hears c.args.bench.now c.in-Ok.head c.start-walk.result.link.state c.args.listener.now known c.args.rec.now.to_come state);
-      none_left = ap (λ (t : State). t.sink.shelf.files) state;
+      heard = rw used (hears_init g.T.Listener.hears c.args.bench.now c.in-Ok.head c.start-replay.result.link.state c.args.listener.now known c.args.rec.now.to_come state);
+      none_left = ap (λ (t : State). t.sink.received.files) state;
       put = gains_none (g.S.Shelf.files c.args.shelf.now) 1;
-      noted = c.start-walk.ensures.files;
+      noted = c.start-replay.ensures.files;
       few = omega (arith, lines, used);
       counted = omega (arith, used);
       room = omega (arith, c.in-Ok.ensures.room, none, lines);
-      link = ap (λ (l : LinkValue). l.profile) c.start-walk.ensures.link;
-      bench = c.start-walk.ensures.profile;
-      version = c.start-walk.ensures.version;
+      link = ap (λ (l : LinkValue). l.profile) c.start-replay.ensures.link;
+      bench = c.start-replay.ensures.profile;
+      version = c.start-replay.ensures.version;
     }
 
 pub returns-in-Err-clause-err : goal.returns-in-Err-clause-err
@@ -70,46 +70,46 @@ returns-in_default-clause-err g c =
     let left = to_come g.C.Read.remaining c.lines.lines c.lines.cert in
     record {
       files = v.taken;
-      fault = told_device c.args.bench.now v.head v.k c.lines.walk.used v.taken c.lines.walk.link.state known left c.args.rec.now.to_come c.lines.rec.to_come v.none_left v.told;
+      fault = told_device c.args.bench.now v.head v.k c.lines.replay.used v.taken c.lines.replay.link.state known left c.args.rec.now.to_come c.lines.rec.to_come v.none_left v.told;
       put = v.put;
     }
 
-pub overflow_add-walk : goal.overflow_add-walk
-overflow_add-walk g c =
+pub overflow_add-replay : goal.overflow_add-replay
+overflow_add-replay g c =
     let found : c.in-Ok-next_line.found ≡ true = c.if-not-found.false in
     omega (arith, c.lines.invariant.room, c.in-Ok-next_line.ensures.room found, c.left-most.ensures, c.left-most.type_inv)
 
-pub overflow_add-walk-in-Ok-walk_on : goal.overflow_add-walk-in-Ok-walk_on
-overflow_add-walk-in-Ok-walk_on g c =
-    let used : c.walk_on.new.walk.used ≡ c.lines.walk.used = ap (λ (w : Walk). w.used) c.in-Ok-walk_on.ensures.kept in
+pub overflow_add-replay-in-Ok-replay_and_put : goal.overflow_add-replay-in-Ok-replay_and_put
+overflow_add-replay-in-Ok-replay_and_put g c =
+    let used : c.replay_and_put.new.replay.used ≡ c.lines.replay.used = ap (λ (w : Replay). w.used) c.in-Ok-replay_and_put.ensures.kept in
     let found : c.in-Ok-next_line.found ≡ true = c.if-not-found.false in
-    omega (arith, used, c.in-Ok-walk_on.ensures.few, c.lines.invariant.few, c.lines.invariant.room, c.in-Ok-next_line.ensures.room found, c.left-most.ensures, c.left-most.type_inv)
+    omega (arith, used, c.in-Ok-replay_and_put.ensures.few, c.lines.invariant.few, c.lines.invariant.room, c.in-Ok-next_line.ensures.room found, c.left-most.ensures, c.left-most.type_inv)
 
-pub returns-in-Err-walk_on-clause-err : goal.returns-in-Err-walk_on-clause-err
-returns-in-Err-walk_on-clause-err g c =
+pub returns-in-Err-replay_and_put-clause-err : goal.returns-in-Err-replay_and_put-clause-err
+returns-in-Err-replay_and_put-clause-err g c =
     let v = c.lines.invariant in
     let known = unread g.C.Read.remaining c.args.cert.now in
     let left = to_come g.C.Read.remaining c.lines.lines c.lines.cert in
     let more = to_come g.C.Read.remaining c.next_line.new.self c.next_line.new.cert in
     let held = held_line c.next_line.new.self in
     let found : c.in-Ok-next_line.found ≡ true = c.if-not-found.false in
-    let n : c.lines.walk.lines + 1 ≡ v.k + 3 = let number = v.number in omega (arith, number) in
+    let n : c.lines.replay.lines + 1 ≡ v.k + 3 = let number = v.number in omega (arith, number) in
     let given = subst (GivesLine left more held) found c.in-Ok-next_line.ensures.given in
-    line_stops g.S.Shelf.files g.S.Failing.failed (g.T.Failing.failed c.walk_on.new.listener) c.args.bench.now (record (c.lines.walk) { lines = c.lines.walk.lines + 1 }) v.head v.k v.taken held known left more c.args.rec.now.to_come c.lines.rec c.walk_on.new.rec (line_bytes c.line.result)
-    c.args.shelf.now c.lines.shelf c.walk_on.new.shelf c.in-Err-walk_on.fault v.bench v.version v.noted n v.none_left c.line.ensures given v.put v.told c.in-Err-walk_on.ensures.stopped
+    line_stops g.S.Shelf.files g.S.Failing.failed (g.T.Failing.failed c.replay_and_put.new.listener) c.args.bench.now (record (c.lines.replay) { lines = c.lines.replay.lines + 1 }) v.head v.k v.taken held known left more c.args.rec.now.to_come c.lines.rec c.replay_and_put.new.rec (line_bytes c.line.result)
+    c.args.shelf.now c.lines.shelf c.replay_and_put.new.shelf c.in-Err-replay_and_put.fault v.bench v.version v.noted n v.none_left c.line.ensures given v.put v.told c.in-Err-replay_and_put.ensures.stopped
 
-pub returns-in-Err-walk_on-clause-told : goal.returns-in-Err-walk_on-clause-told
-returns-in-Err-walk_on-clause-told g c =
+pub returns-in-Err-replay_and_put-clause-told : goal.returns-in-Err-replay_and_put-clause-told
+returns-in-Err-replay_and_put-clause-told g c =
     let v = c.lines.invariant in
     let known = unread g.C.Read.remaining c.args.cert.now in
     let left = to_come g.C.Read.remaining c.lines.lines c.lines.cert in
     let more = to_come g.C.Read.remaining c.next_line.new.self c.next_line.new.cert in
     let held = held_line c.next_line.new.self in
     let found : c.in-Ok-next_line.found ≡ true = c.if-not-found.false in
-    let n : c.lines.walk.lines + 1 ≡ v.k + 3 = let number = v.number in omega (arith, number) in
+    let n : c.lines.replay.lines + 1 ≡ v.k + 3 = let number = v.number in omega (arith, number) in
     let given = subst (GivesLine left more held) found c.in-Ok-next_line.ensures.given in
-    line_untold g.T.Listener.hears g.S.Shelf.files g.S.Failing.failed (g.T.Failing.failed c.walk_on.new.listener) c.args.bench.now (record (c.lines.walk) { lines = c.lines.walk.lines + 1 }) v.head v.k v.taken held known left more c.args.rec.now.to_come c.lines.rec c.walk_on.new.rec (line_bytes c.line.result)
-    c.lines.shelf c.walk_on.new.shelf c.in-Err-walk_on.fault c.args.listener.now c.lines.listener c.walk_on.new.listener v.bench v.version n v.none_left c.line.ensures given v.told v.heard c.in-Err-walk_on.ensures.untold c.in-Err-walk_on.ensures.stopped
+    line_untold g.T.Listener.hears g.S.Shelf.files g.S.Failing.failed (g.T.Failing.failed c.replay_and_put.new.listener) c.args.bench.now (record (c.lines.replay) { lines = c.lines.replay.lines + 1 }) v.head v.k v.taken held known left more c.args.rec.now.to_come c.lines.rec c.replay_and_put.new.rec (line_bytes c.line.result)
+    c.lines.shelf c.replay_and_put.new.shelf c.in-Err-replay_and_put.fault c.args.listener.now c.lines.listener c.replay_and_put.new.listener v.bench v.version n v.none_left c.line.ensures given v.told v.heard c.in-Err-replay_and_put.ensures.untold c.in-Err-replay_and_put.ensures.stopped
 
 pub lines-preserved : goal.lines-preserved
 lines-preserved g c =
@@ -120,36 +120,36 @@ lines-preserved g c =
     let more = to_come g.C.Read.remaining c.next_line.new.self c.next_line.new.cert in
     let held = held_line c.next_line.new.self in
     let found : c.in-Ok-next_line.found ≡ true = c.if-not-found.false in
-    let s = c.lines.walk.link.state in
-    let on = c.in-Ok-walk_on.ensures.goes_on in
+    let s = c.lines.replay.link.state in
+    let on = c.in-Ok-replay_and_put.ensures.goes_on in
     let t = on.state in
-    let kept = c.in-Ok-walk_on.ensures.kept in
-    let lines : c.walk_on.new.walk.lines ≡ c.lines.walk.lines + 1 = ap (λ (w : Walk). w.lines) kept in
-    let used : c.walk_on.new.walk.used + c.in-Ok-walk_on.used ≡ c.lines.walk.used + c.in-Ok-walk_on.used = ap (λ (w : Walk). w.used + c.in-Ok-walk_on.used) kept in
-    let shorter = c.in-Ok-next_line.ensures.shorter (subst (λ (o : Option (List ℕ)). IsSome o) c.line.ensures c.in-Ok-walk_on.ensures.ended) in
+    let kept = c.in-Ok-replay_and_put.ensures.kept in
+    let lines : c.replay_and_put.new.replay.lines ≡ c.lines.replay.lines + 1 = ap (λ (w : Replay). w.lines) kept in
+    let used : c.replay_and_put.new.replay.used + c.in-Ok-replay_and_put.used ≡ c.lines.replay.used + c.in-Ok-replay_and_put.used = ap (λ (w : Replay). w.used + c.in-Ok-replay_and_put.used) kept in
+    let shorter = c.in-Ok-next_line.ensures.shorter (subst (λ (o : Option (List ℕ)). IsSome o) c.line.ensures c.in-Ok-replay_and_put.ensures.ended) in
     let given = subst (GivesLine left more held) found c.in-Ok-next_line.ensures.given in
-    let passed = subst (λ w. PassesOver p (read_as w (line_bytes c.line.result)) s t c.lines.rec.to_come c.walk_on.new.rec.to_come c.in-Ok-walk_on.used) v.version (subst (λ q. PassesOver q (read_as c.lines.walk.version (line_bytes c.line.result)) s t c.lines.rec.to_come c.walk_on.new.rec.to_come c.in-Ok-walk_on.used) v.bench on.passed) in
-    let held_passed = subst (λ (o : Option (List ℕ)). PassesOver p (read_as v.head.version o) s t c.lines.rec.to_come c.walk_on.new.rec.to_come c.in-Ok-walk_on.used) c.line.ensures passed in
-    let q = subst (λ w. HearsText g.T.Listener.hears p (read_as w (line_bytes c.line.result)) s c.lines.rec.to_come c.lines.walk.used c.lines.listener c.walk_on.new.listener) v.version (subst (λ q. HearsText g.T.Listener.hears q (read_as c.lines.walk.version (line_bytes c.line.result)) s c.lines.rec.to_come c.lines.walk.used c.lines.listener c.walk_on.new.listener) v.bench c.in-Ok-walk_on.ensures.heard) in
-    let held_heard = subst (λ (o : Option (List ℕ)). HearsText g.T.Listener.hears p (read_as v.head.version o) s c.lines.rec.to_come c.lines.walk.used c.lines.listener c.walk_on.new.listener) c.line.ensures q in
-    let heard = hears_on g.T.Listener.hears p v.head v.k c.lines.walk.used c.in-Ok-walk_on.used v.taken s t held known left more c.args.rec.now.to_come c.lines.rec.to_come c.walk_on.new.rec.to_come c.args.listener.now c.lines.listener c.walk_on.new.listener given held_passed held_heard v.told v.heard in
-    let told = told_on p v.head v.k c.lines.walk.used c.in-Ok-walk_on.used v.taken s t held known left more c.args.rec.now.to_come c.lines.rec.to_come c.walk_on.new.rec.to_come given held_passed v.told in
+    let passed = subst (λ w. PassesOver p (read_as w (line_bytes c.line.result)) s t c.lines.rec.to_come c.replay_and_put.new.rec.to_come c.in-Ok-replay_and_put.used) v.version (subst (λ q. PassesOver q (read_as c.lines.replay.version (line_bytes c.line.result)) s t c.lines.rec.to_come c.replay_and_put.new.rec.to_come c.in-Ok-replay_and_put.used) v.bench on.passed) in
+    let held_passed = subst (λ (o : Option (List ℕ)). PassesOver p (read_as v.head.version o) s t c.lines.rec.to_come c.replay_and_put.new.rec.to_come c.in-Ok-replay_and_put.used) c.line.ensures passed in
+    let q = subst (λ w. HearsText g.T.Listener.hears p (read_as w (line_bytes c.line.result)) s c.lines.rec.to_come c.lines.replay.used c.lines.listener c.replay_and_put.new.listener) v.version (subst (λ q. HearsText g.T.Listener.hears q (read_as c.lines.replay.version (line_bytes c.line.result)) s c.lines.rec.to_come c.lines.replay.used c.lines.listener c.replay_and_put.new.listener) v.bench c.in-Ok-replay_and_put.ensures.heard) in
+    let held_heard = subst (λ (o : Option (List ℕ)). HearsText g.T.Listener.hears p (read_as v.head.version o) s c.lines.rec.to_come c.lines.replay.used c.lines.listener c.replay_and_put.new.listener) c.line.ensures q in
+    let heard = hears_on g.T.Listener.hears p v.head v.k c.lines.replay.used c.in-Ok-replay_and_put.used v.taken s t held known left more c.args.rec.now.to_come c.lines.rec.to_come c.replay_and_put.new.rec.to_come c.args.listener.now c.lines.listener c.replay_and_put.new.listener given held_passed held_heard v.told v.heard in
+    let told = told_on p v.head v.k c.lines.replay.used c.in-Ok-replay_and_put.used v.taken s t held known left more c.args.rec.now.to_come c.lines.rec.to_come c.replay_and_put.new.rec.to_come given held_passed v.told in
     record {
       head = v.head;
       k = suc v.k;
-      taken = v.taken ++ t.sink.shelf.files;
+      taken = v.taken ++ t.sink.received.files;
       number = lines ∙ omega (arith, v.number);
       told = rw (used, on.given) told;
       heard = rw (used, on.given) heard;
-      none_left = ap (λ (q : State). q.sink.shelf.files) on.given;
-      put = put_on (g.S.Shelf.files c.args.shelf.now) (g.S.Shelf.files c.lines.shelf) (g.S.Shelf.files c.walk_on.new.shelf) [] c.lines.walk.files.items v.taken t.sink.shelf.files v.put v.noted on.put;
-      noted = noted_on [] c.lines.walk.files.items c.walk_on.new.walk.files.items v.taken t.sink.shelf.files v.noted on.noted;
-      few = omega (arith, lines, used, v.few, c.in-Ok-walk_on.ensures.few);
-      counted = omega (arith, used, v.counted, c.in-Ok-walk_on.ensures.counts);
+      none_left = ap (λ (q : State). q.sink.received.files) on.given;
+      put = put_on (g.S.Shelf.files c.args.shelf.now) (g.S.Shelf.files c.lines.shelf) (g.S.Shelf.files c.replay_and_put.new.shelf) [] c.lines.replay.files.items v.taken t.sink.received.files v.put v.noted on.put;
+      noted = noted_on [] c.lines.replay.files.items c.replay_and_put.new.replay.files.items v.taken t.sink.received.files v.noted on.noted;
+      few = omega (arith, lines, used, v.few, c.in-Ok-replay_and_put.ensures.few);
+      counted = omega (arith, used, v.counted, c.in-Ok-replay_and_put.ensures.counts);
       room = omega (arith, lines, v.room, shorter);
-      link = c.in-Ok-walk_on.ensures.profile ∙ v.bench;
-      bench = ap (λ (w : Walk). w.profile.now) kept ∙ v.bench;
-      version = ap (λ (w : Walk). w.version) kept ∙ v.version;
+      link = c.in-Ok-replay_and_put.ensures.profile ∙ v.bench;
+      bench = ap (λ (w : Replay). w.profile.now) kept ∙ v.bench;
+      version = ap (λ (w : Replay). w.version) kept ∙ v.version;
     }
 
 pub returns-in-Ok-none_left-clause-ok : goal.returns-in-Ok-none_left-clause-ok
@@ -163,7 +163,7 @@ returns-in-Ok-none_left-clause-ok g c =
     let given = subst (GivesLine left more held) found c.in-Ok-next_line.ensures.given in
     record {
       files = v.taken;
-      yes = told_yes c.args.bench.now v.head v.k c.lines.walk.used v.taken c.lines.walk.link.state held left more known c.args.rec.now.to_come c.lines.rec.to_come c.none_left.new.rec.to_come c.start-walk.ensures.sound v.none_left given c.in-Ok-none_left.ensures.ok v.told;
+      yes = told_yes c.args.bench.now v.head v.k c.lines.replay.used v.taken c.lines.replay.link.state held left more known c.args.rec.now.to_come c.lines.rec.to_come c.none_left.new.rec.to_come c.start-replay.ensures.sound v.none_left given c.in-Ok-none_left.ensures.ok v.told;
       put = v.put;
       answered = v.noted;
     }
@@ -177,7 +177,7 @@ returns-in-Ok-none_left-clause-heard g c =
     let held = held_line c.next_line.new.self in
     let found : c.in-Ok-next_line.found ≡ false = c.if-not-found.true in
     let given = subst (GivesLine left more held) found c.in-Ok-next_line.ensures.given in
-    hears_all g.T.Listener.hears c.args.bench.now v.head v.k c.lines.walk.used v.taken c.lines.walk.link.state held known left more c.args.rec.now.to_come c.lines.rec.to_come c.none_left.new.rec.to_come c.args.listener.now c.lines.listener given c.in-Ok-none_left.ensures.ok v.told v.heard
+    hears_all g.T.Listener.hears c.args.bench.now v.head v.k c.lines.replay.used v.taken c.lines.replay.link.state held known left more c.args.rec.now.to_come c.lines.rec.to_come c.none_left.new.rec.to_come c.args.listener.now c.lines.listener given c.in-Ok-none_left.ensures.ok v.told v.heard
 
 pub returns-in-Err-none_left-clause-err : goal.returns-in-Err-none_left-clause-err
 returns-in-Err-none_left-clause-err g c =
@@ -190,7 +190,7 @@ returns-in-Err-none_left-clause-err g c =
     let given = subst (GivesLine left more held) found c.in-Ok-next_line.ensures.given in
     record {
       files = v.taken;
-      fault = told_late c.args.bench.now v.head v.k c.lines.walk.used v.taken c.lines.walk.link.state held known left more c.args.rec.now.to_come c.lines.rec.to_come c.none_left.new.rec.to_come c.in-Err-none_left.fault v.none_left given c.in-Err-none_left.ensures.err v.told;
+      fault = told_late c.args.bench.now v.head v.k c.lines.replay.used v.taken c.lines.replay.link.state held known left more c.args.rec.now.to_come c.lines.rec.to_come c.none_left.new.rec.to_come c.in-Err-none_left.fault v.none_left given c.in-Err-none_left.ensures.err v.told;
       put = v.put;
     }
 
@@ -203,7 +203,7 @@ returns-in-Err-none_left-clause-told g c =
     let held = held_line c.next_line.new.self in
     let found : c.in-Ok-next_line.found ≡ false = c.if-not-found.true in
     let given = subst (GivesLine left more held) found c.in-Ok-next_line.ensures.given in
-    heard_late c.args.bench.now v.head v.k c.lines.walk.used v.taken c.lines.walk.link.state held known left more c.args.rec.now.to_come c.lines.rec.to_come c.none_left.new.rec.to_come c.in-Err-none_left.fault g.T.Listener.hears c.args.listener.now c.lines.listener v.none_left given c.in-Err-none_left.ensures.err v.told v.heard
+    heard_late c.args.bench.now v.head v.k c.lines.replay.used v.taken c.lines.replay.link.state held known left more c.args.rec.now.to_come c.lines.rec.to_come c.none_left.new.rec.to_come c.in-Err-none_left.fault g.T.Listener.hears c.args.listener.now c.lines.listener v.none_left given c.in-Err-none_left.ensures.err v.told v.heard
 
 pub returns-in-Err-clause-place : goal.returns-in-Err-clause-place
 returns-in-Err-clause-place g c =
@@ -225,13 +225,13 @@ returns-in_default-clause-place g c =
     let left = unread g.C.Read.remaining c.next_line.new.cert in
     record {
       files = v.taken;
-      place = between_breaks c.args.bench.now v.head v.k c.lines.walk.used v.taken c.lines.walk.link.state known old left (has_failed c.next_line.new.cert) (g.S.Failing.failed c.lines.shelf) (g.T.Failing.failed c.lines.listener)
+      place = between_breaks c.args.bench.now v.head v.k c.lines.replay.used v.taken c.lines.replay.link.state known old left (has_failed c.next_line.new.cert) (g.S.Failing.failed c.lines.shelf) (g.T.Failing.failed c.lines.listener)
           (bytes_ahead c.next_line.new.self) c.args.rec.now c.lines.rec c.lines.rec v.none_left (c.next_line.ensures.part (search rules)) (c.next_line.ensures.kept (search rules)) v.counted refl (c.next_line.ensures.device (search rules)) v.told;
       put = v.put;
     }
 
-pub returns-in-Err-walk_on-clause-place : goal.returns-in-Err-walk_on-clause-place
-returns-in-Err-walk_on-clause-place g c =
+pub returns-in-Err-replay_and_put-clause-place : goal.returns-in-Err-replay_and_put-clause-place
+returns-in-Err-replay_and_put-clause-place g c =
     let v = c.lines.invariant in
     let known = unread g.C.Read.remaining c.args.cert.now in
     let old = to_come g.C.Read.remaining c.lines.lines c.lines.cert in
@@ -240,9 +240,9 @@ returns-in-Err-walk_on-clause-place g c =
     let held = held_line c.next_line.new.self in
     let found : c.in-Ok-next_line.found ≡ true = c.if-not-found.false in
     let given = subst (GivesLine old more held) found c.in-Ok-next_line.ensures.given in
-    stop_breaks g.S.Shelf.files g.S.Failing.failed (g.T.Failing.failed c.walk_on.new.listener) (has_failed c.next_line.new.cert) c.args.bench.now (record (c.lines.walk) { lines = c.lines.walk.lines + 1 }) v.head v.k v.taken held known old left (line_bytes c.line.result)
-    (bytes_ahead c.next_line.new.self) c.args.rec.now c.lines.rec c.walk_on.new.rec c.args.shelf.now c.lines.shelf c.walk_on.new.shelf c.in-Err-walk_on.fault v.bench v.version v.noted v.none_left c.line.ensures c.next_line.ensures.few given v.counted v.put v.told
-    c.in-Err-walk_on.ensures.stopped
+    stop_breaks g.S.Shelf.files g.S.Failing.failed (g.T.Failing.failed c.replay_and_put.new.listener) (has_failed c.next_line.new.cert) c.args.bench.now (record (c.lines.replay) { lines = c.lines.replay.lines + 1 }) v.head v.k v.taken held known old left (line_bytes c.line.result)
+    (bytes_ahead c.next_line.new.self) c.args.rec.now c.lines.rec c.replay_and_put.new.rec c.args.shelf.now c.lines.shelf c.replay_and_put.new.shelf c.in-Err-replay_and_put.fault v.bench v.version v.noted v.none_left c.line.ensures c.next_line.ensures.few given v.counted v.put v.told
+    c.in-Err-replay_and_put.ensures.stopped
 
 pub returns-in-Err-none_left-clause-place : goal.returns-in-Err-none_left-clause-place
 returns-in-Err-none_left-clause-place g c =
@@ -256,7 +256,7 @@ returns-in-Err-none_left-clause-place g c =
     let given = subst (GivesLine old more held) found c.in-Ok-next_line.ensures.given in
     record {
       files = v.taken;
-      place = late_breaks c.args.bench.now v.head v.k c.lines.walk.used v.taken c.lines.walk.link.state known old left (has_failed c.next_line.new.cert) (g.S.Failing.failed c.lines.shelf) (g.T.Failing.failed c.lines.listener)
+      place = late_breaks c.args.bench.now v.head v.k c.lines.replay.used v.taken c.lines.replay.link.state known old left (has_failed c.next_line.new.cert) (g.S.Failing.failed c.lines.shelf) (g.T.Failing.failed c.lines.listener)
           (bytes_ahead c.next_line.new.self) c.args.rec.now c.lines.rec c.none_left.new.rec held c.none_left.new.rec.to_come c.in-Err-none_left.fault v.none_left c.next_line.ensures.few given (c.next_line.ensures.kept (λ e. cc (c.in-Ok-next_line.is, found, e))) v.counted c.in-Err-none_left.ensures.err c.in-Err-none_left.ensures.given v.told;
       put = v.put;
     }

@@ -16,18 +16,18 @@ invariant-lines g l = record {
   head : Head;
   k : ℕ;
   taken : List FileBytes;
-  number : l.walk.lines ≡ k + 2;
-  told : WhereTold (unread g.C.Read.remaining l.fn.cert) l.fn.rec.to_come (λ text r. Stands l.bench text r head k l.walk.used taken l.walk.link.state (to_come g.C.Read.remaining l.lines l.cert) l.rec.to_come);
-  heard : WhereTold (unread g.C.Read.remaining l.fn.cert) l.fn.rec.to_come (λ text r. Hears g.T.Listener.hears l.bench head.first (step_lines head.version text) r k l.walk.used (with_earlier taken l.walk.link.state) l.fn.listener l.listener);
-  none_left : l.walk.link.state.sink.shelf.files ≡ [];
+  number : l.replay.lines ≡ k + 2;
+  told : WhereTold (unread g.C.Read.remaining l.fn.cert) l.fn.rec.to_come (λ text r. Stands l.bench text r head k l.replay.used taken l.replay.link.state (to_come g.C.Read.remaining l.lines l.cert) l.rec.to_come);
+  heard : WhereTold (unread g.C.Read.remaining l.fn.cert) l.fn.rec.to_come (λ text r. Hears g.T.Listener.hears l.bench head.first (step_lines head.version text) r k l.replay.used (with_earlier taken l.replay.link.state) l.fn.listener l.listener);
+  none_left : l.replay.link.state.sink.received.files ≡ [];
   put : GainsAll (g.S.Shelf.files l.fn.shelf) (g.S.Shelf.files l.shelf) 1 taken;
-  noted : l.walk.files.items ≡ sizes taken;
-  few : l.walk.used ≤ l.walk.lines;
-  counted : l.rec.count ≡ l.fn.rec.count + l.walk.used;
-  room : l.walk.lines + room_left l.lines l.cert ≤ left_of l.fn.cert;
-  link : l.walk.link.profile ≡ l.bench;
-  bench : l.walk.profile.now ≡ l.bench;
-  version : l.walk.version ≡ head.version;
+  noted : l.replay.files.items ≡ sizes taken;
+  few : l.replay.used ≤ l.replay.lines;
+  counted : l.rec.count ≡ l.fn.rec.count + l.replay.used;
+  room : l.replay.lines + room_left l.lines l.cert ≤ left_of l.fn.cert;
+  link : l.replay.link.profile ≡ l.bench;
+  bench : l.replay.profile.now ≡ l.bench;
+  version : l.replay.version ≡ head.version;
 }
 
 abbrev pub decreases-lines : goal.decreases-lines

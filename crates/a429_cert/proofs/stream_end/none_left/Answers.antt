@@ -2,7 +2,7 @@ use Rattle.std.proofs.Common.{rules, ◌≡◌, ◌∙◌, Option, Ok, refl, ap,
 use Rattle.a429_record.specs.declared.entry.Entry.{Entry}
 use Rattle.a429_record.specs.declared.fault.ReadFault.TheVariants as read
 use Rattle.a429_record.specs.Rows.{GivesNext}
-use Rattle.a429_cert.proofs.StreamWalk.{read_no_device, read_device}
+use Rattle.a429_cert.proofs.StreamReplay.{read_no_device, read_device}
 use Rattle.a429_cert.proofs.stream_end.none_left.Goals as goal
 
 pub returns-in-Ok-None-clause-ok : goal.returns-in-Ok-None-clause-ok

@@ -4,7 +4,7 @@ use Rattle.a429_explain.specs.declared.groups.Request.{Request}
 use Rattle.a429_explain.specs.declared.stop.Stop.{Stop}
 use Rattle.a429_explain.specs.declared.stop.Stop.TheVariants.{Unexplained, OutOfMemory}
 use Rattle.a429_explain.specs.declared.verdict.Doubt.TheVariants.{NeverWhole, NotOneBlock, NotReplayed}
-use Rattle.a429_explain.specs.Heard.{HeardValue}
+use Rattle.a429_explain.specs.Decoded.{HeardValue}
 use Rattle.a429_explain.specs.Block.{other_for, unit_for, IsWhyNoUnit, HasCrossed}
 use Rattle.a429_explain.specs.Matching.{passed_after}
 use Rattle.a429_explain.proofs.CrossedUnit.{GivesUnit, crossed_gives}
@@ -12,8 +12,8 @@ use Rattle.a429_explain.proofs.block.matched_unit.Goals as goal
 use Rattle.a429_explain.proofs.block.matched_unit.Goals.{After-unit_of}
 
 -- what the group gives, where a link data unit has crossed
-gives : (c : After-unit_of) (u : LduValue) → HasCrossed c.args.heard.now c.args.request c.args.place u → GivesUnit c.args.heard.now.profile c.args.heard.now.items c.args.request.group.from c.args.request.group.to c.args.request.count c.args.place u
-gives c u h = crossed_gives c.args.heard.now.profile c.profile-profile.ensures.sound c.args.heard.now.items c.args.request.group.from c.args.request.group.to c.args.request.count c.args.place u c.requires.some c.requires.inside c.requires.wants h
+gives : (c : After-unit_of) (u : LduValue) → HasCrossed c.args.decoded.now c.args.request c.args.place u → GivesUnit c.args.decoded.now.profile c.args.decoded.now.items c.args.request.group.from c.args.request.group.to c.args.request.count c.args.place u
+gives c u h = crossed_gives c.args.decoded.now.profile c.profile-profile.ensures.sound c.args.decoded.now.items c.args.request.group.from c.args.request.group.to c.args.request.count c.args.place u c.requires.some c.requires.inside c.requires.wants h
 
 -- a group has one unit
 found : (unit u : LduValue) (o : Option LduValue) → o ≡ Some unit → o ≡ Some u → unit ≡ u
@@ -36,13 +36,13 @@ returns-in-Some-clause-first c = inr (record {
 })
 
 pub returns-in-Err-clause-crossed_err : goal.returns-in-Err-clause-crossed_err
-returns-in-Err-clause-crossed_err c = λ u h. let g = gives (goal.at.returns-in-Err-clause-crossed_err c).After-unit_of u h in lacks_memory c.args.heard.now c.args.request c.in-Err.stop u c.in-Err.ensures.err.0 g.others g.is
+returns-in-Err-clause-crossed_err c = λ u h. let g = gives (goal.at.returns-in-Err-clause-crossed_err c).After-unit_of u h in lacks_memory c.args.decoded.now c.args.request c.in-Err.stop u c.in-Err.ensures.err.0 g.others g.is
 
 pub returns-in-Some-clause-crossed_err : goal.returns-in-Some-clause-crossed_err
 returns-in-Some-clause-crossed_err c = λ u h.
     let g = gives (goal.at.returns-in-Some-clause-crossed_err c).After-unit_of u h in
     let same = found c.in-Ok.unit u _ c.in-Ok.ensures.ok.is g.is in
-    absurd (c.in-Some.ensures.unmatched (subst (λ (v : LduValue). IsSome (passed_after c.args.heard.now.profile.codes v c.args.place (slice_range c.args.heard.now.items c.args.request.group.from (c.in-Some.entry + 1)) (Some 0))) (sym same) (g.matched c.in-Some.entry c.in-Some.ensures.within)))
+    absurd (c.in-Some.ensures.unmatched (subst (λ (v : LduValue). IsSome (passed_after c.args.decoded.now.profile.codes v c.args.place (slice_range c.args.decoded.now.items c.args.request.group.from (c.in-Some.entry + 1)) (Some 0))) (sym same) (g.matched c.in-Some.entry c.in-Some.ensures.within)))
 
 pub returns-in-None-clause-crossed : goal.returns-in-None-clause-crossed
 returns-in-None-clause-crossed c = λ u h. let g = gives (goal.at.returns-in-None-clause-crossed c).After-unit_of u h in found c.in-Ok.unit u _ c.in-Ok.ensures.ok.is g.is

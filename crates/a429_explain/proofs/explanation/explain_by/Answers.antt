@@ -10,7 +10,7 @@ use Rattle.a429_cert.proofs.NoFault.{no_fault}
 use Rattle.a429_cert.proofs.ExplainedFacts.{in_every_run}
 use Rattle.a429_explain.specs.declared.plan.Plan.{Plan}
 use Rattle.a429_explain.specs.Explanation.{HasLeastVersion}
-use Rattle.a429_explain.specs.Guess.{heard, IsOfCrossing}
+use Rattle.a429_explain.specs.Guess.{decoded, IsOfCrossing}
 use Rattle.a429_explain.specs.Plan.{ArePlans}
 use Rattle.a429_explain.specs.Scribe.{in_version, Wrote}
 use Rattle.a429_explain.proofs.MatchingFacts.{length-items_of}
@@ -21,7 +21,7 @@ use Rattle.a429_explain.proofs.explanation.explain_by.Goals as goal
 use Rattle.a429_explain.proofs.explanation.explain_by.Goals.{After-seen, After-into_parts-text}
 
 -- of a recording without loss the next entry is on plan
-goes : (a : After-seen) → IsOfCrossing (heard a.args.profile.now (items_of a.args.entries.now)) a.args.guess → Goes a.args.profile.now a.seen.result (drop (a.loop-at.at + 1) (items_of a.args.entries.now)) a.loop-at.at a.index-role.result.now a.loop-at.plans.items a.loop-at.scribe.link
+goes : (a : After-seen) → IsOfCrossing (decoded a.args.profile.now (items_of a.args.entries.now)) a.args.guess → Goes a.args.profile.now a.seen.result (drop (a.loop-at.at + 1) (items_of a.args.entries.now)) a.loop-at.at a.index-role.result.now a.loop-at.plans.items a.loop-at.scribe.link
 goes a h = entry_next a.args.profile.now a.args.entries.now a.loop-at.at a.index-entries-at.result a.seen.result a.index-role.result.now a.args.guess.roles.items a.loop-at.plans.items a.loop-at.scribe.link a.loop-at-test.true a.index-entries-at.is a.seen.ensures h.roles_are a.index-role.ensures (a.loop-at.invariant.plan h)
 
 pub loop-at-init : goal.loop-at-init
@@ -81,7 +81,7 @@ explained : (a : After-into_parts-text) → IsExplained a.args.profile.now a.int
 explained a =
     let items = items_of a.args.entries.now in
     let s = a.loop-at.scribe in
-    let here = subst (λ q. IsExplained q (in_version s.gave_up s.text.items) items s.link.state.sink.shelf.files) a.loop-at.invariant.profile (certificate_written items a.args.guess.first_file s.text.items s.gave_up s.link (all_written a)) in
+    let here = subst (λ q. IsExplained q (in_version s.gave_up s.text.items) items s.link.state.sink.received.files) a.loop-at.invariant.profile (certificate_written items a.args.guess.first_file s.text.items s.gave_up s.link (all_written a)) in
     rw (a.into_parts-text.ensures.text, a.into_parts-text.ensures.files) here
 
 pub into_parts-text-requires : goal.into_parts-text-requires

@@ -6,5 +6,5 @@ use Rattle.a429_explain.proofs.matching.first_unmatched.Given as goal
 abbrev pub invariant-loop-at : goal.invariant-loop-at
 invariant-loop-at l = record {
   few : l.passed ≤ count_of l.unit;
-  passed : passed_after l.heard.profile.codes l.unit l.place (slice_range l.heard.items l.fn.group.from l.at) (Some 0) ≡ Some l.passed;
+  passed : passed_after l.decoded.profile.codes l.unit l.place (slice_range l.decoded.items l.fn.group.from l.at) (Some 0) ≡ Some l.passed;
 }

@@ -16,8 +16,8 @@ returns-in-Failed-clause-stage g c = search rules
 pub returns-in-Rows-clause-gives : goal.returns-in-Rows-clause-gives
 returns-in-Rows-clause-gives g c = search rules
 
-pub returns-in-Rows-clause-form : goal.returns-in-Rows-clause-form
-returns-in-Rows-clause-form g c = search rules
+pub returns-in-Rows-clause-format : goal.returns-in-Rows-clause-format
+returns-in-Rows-clause-format g c = search rules
 
 pub returns-in-Rows-clause-lines : goal.returns-in-Rows-clause-lines
 returns-in-Rows-clause-lines g c = search rules

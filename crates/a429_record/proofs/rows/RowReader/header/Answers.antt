@@ -28,7 +28,7 @@ lines-preserved g c =
     record {
       rows = same_rows (rows_left g.R.Read.remaining c.args.self.now c.args.rec.now) (pending_of g.R.Read.remaining c.next_line.new.self c.next_line.new.rec) c.next_line.new.line.items h none;
       blank = blank_lost (pending_of g.R.Read.remaining c.args.self.now.lines c.args.rec.now) (pending_of g.R.Read.remaining c.lines.self.lines c.lines.rec) (pending_of g.R.Read.remaining c.next_line.new.self c.next_line.new.rec) c.next_line.new.line.items c.lines.invariant.blank (c.in-Ok-true.ensures.takes c.in-Ok-true.field-0-test) (sym none);
-      form = c.lines.invariant.form;
+      format = c.lines.invariant.format;
       count = c.lines.invariant.count;
       last = c.lines.invariant.last;
       room = omega (arith, c.lines.invariant.room, c.in-Ok-true.ensures.room c.in-Ok-true.field-0-test);

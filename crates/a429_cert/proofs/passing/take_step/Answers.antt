@@ -1,5 +1,0 @@
-use Rattle.std.proofs.Common.{rules}
-use Rattle.a429_cert.proofs.passing.take_step.Goals as goal
-
-pub returns-else-load-clause-passed : goal.returns-else-load-clause-passed
-returns-else-load-clause-passed c = search rules
