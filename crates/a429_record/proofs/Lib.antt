@@ -1,4 +1,5 @@
 pub mod RowDigits
+pub mod ScanFacts
 pub mod LineRecords
 pub mod LinePlain
 pub mod MarkFacts
