@@ -9,6 +9,10 @@ pub mod SinkShelves
 pub mod RunCrossing
 pub mod RunTraces
 pub mod ObserverRefuses
+pub mod TraceFiles
+pub mod TraceReasons
+pub mod TraceKinds
+pub mod TraceWords
 pub mod MessageRead
 pub mod SampleRun
 pub mod SourceBlock

@@ -20,7 +20,8 @@ use Rattle.a429_link.proofs.MessageSubsequence.{Each, IsFrontWord, IsBlockWord, 
 use Rattle.a429_link.proofs.Subsequence.{sub_push}
 use Rattle.a429_link.proofs.StateConfigs.{Config, idle, asked, unasked, heard, cleared, sending, waiting, whole, spoiled, refused, acked, InGrant, block_taken, front_words, block_words_each, each_take, lost_front, length-front, may_owes, owes_stale, owes_grant, source_at}
 use Rattle.a429_link.proofs.StateHolds.{HoldsAt, step_holds, start_holds, sends, owed_form, alone_on_the_way}
-use Rattle.a429_link.proofs.SinkFromTrace.{sees, take_all, Alike, IsStill, step_alike, blank}
+use Rattle.a429_link.proofs.SinkFromTrace.{sees, take_all, Alike, IsStill, step_alike}
+use Rattle.a429_link.specs.Trace.{sink_at_first}
 use Rattle.a429_link.specs.declared.number.UnitNumber.{UnitNumber}
 
 abbrev pub parts_in : List Message → ℕ
@@ -307,5 +308,5 @@ run_allowed p good (a ∷ acts) s k seen h f m q =
     push_label p (label a) (trace acts) k seen (step_allowed p good a s k seen h.0 f m q) (run_allowed p good acts (after p a s) (sees p (label a) k) (see_label p (label a) seen) h.1 (step_holds p good a s h.0 f) (step_alike p good a s k h.0 f m) (step_seen p good a s seen h.0 f q))
 
 -- each word of a trace is one that the trace before it allows
-pub trace_allowed : (p : Contents) → IsRead p → (first : ℕ) → first ≤ 255 → (acts : List Step) → IsRun p acts (start p first) → AllAllowed p (trace acts) blank []
-trace_allowed p good first l acts h = run_allowed p good acts (start p first) blank [] h (start_holds p first l) (inl refl) tt
+pub trace_allowed : (p : Contents) → IsRead p → (first : ℕ) → first ≤ 255 → (acts : List Step) → IsRun p acts (start p first) → AllAllowed p (trace acts) sink_at_first []
+trace_allowed p good first l acts h = run_allowed p good acts (start p first) sink_at_first [] h (start_holds p first l) (inl refl) tt

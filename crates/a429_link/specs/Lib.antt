@@ -7,5 +7,8 @@ pub mod Step
 pub mod Transfer
 pub mod Run
 pub mod Observer
+pub mod Trace
+pub mod Why
+pub mod Allowed
 pub mod Link
 pub mod Clean

@@ -10,6 +10,7 @@ pub mod FormatFacts
 pub mod RowsFacts
 pub mod WritingFacts
 pub mod WholeRecordings
+pub mod LargerLimits
 pub mod FaultyRecordings
 pub mod Handed
 pub mod HandedFormats
