@@ -1,4 +1,4 @@
-"""What the pages of this repository refer to: their links, the scripts that they name, and the commands that their blocks show."""
+"""What the pages of this repository refer to: their links, the files that they name, and the commands that their blocks show."""
 import re
 from dataclasses import dataclass
 from pathlib import Path
@@ -85,12 +85,12 @@ def dead_links(page):
             yield Fault(page, line, f"no such heading: {target}")
 
 
-def missing_scripts(page, root):
-    """The scripts that a page names between backquotes and that are not there."""
+def missing_files(page, root):
+    """The files of this repository that a page names between backquotes and that are not there."""
     for number, line in enumerate(prose_of(page.read_text(encoding="utf-8")).splitlines(), 1):
-        for name in re.findall(r"`(?:\./)?((?:scripts|extras)/[\w./-]+)", line):
-            if not (root / name).exists():
-                yield Fault(page, number, f"no such script: {name}")
+        for name in re.findall(r"`(?:\./)?((?:scripts|extras|docs|examples|crates|\.ci)/[\w./-]+)(?=[` ])", line):
+            if not (re.search(r"\b[A-Z]{4,}/|\.\.", name) or (root / name).exists()):
+                yield Fault(page, number, f"no such file: {name}")
 
 
 def as_run(command):
