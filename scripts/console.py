@@ -30,6 +30,16 @@ CASES = sorted((SCRIPTS / "cases").glob("*.md"))
 
 
 @dataclass(frozen=True)
+class Block:
+    """A block of code, with the line of its first line, its language and the file that it is, if any."""
+
+    line: int
+    language: str
+    name: str
+    text: str
+
+
+@dataclass(frozen=True)
 class File:
     """A file of a page."""
 
@@ -60,16 +70,21 @@ class Written:
         return self.output + error + (f"[status {self.status}]\n" if self.status else "")
 
 
+def blocks_of(page):
+    """The blocks of code of a page."""
+    for block in re.finditer(r"^```(.*)\n((?:.*\n)*?)```$", page, re.MULTILINE):
+        language, _, name = block[1].partition(" ")
+        yield Block(page.count("\n", 0, block.start(2)) + 1, language, name, block[2])
+
+
 def steps_of(page):
     """The files and commands of a page."""
-    for block in re.finditer(r"^```(\S.*)\n((?:.*\n)*?)```$", page, re.MULTILINE):
-        language, _, name = block[1].partition(" ")
-        if name:
-            yield File(name, block[2])
-        elif language == "console":
-            first = page.count("\n", 0, block.start(2)) + 1
-            for it in re.finditer(r"^\$ (.*)\n((?:(?!\$ ).*\n)*)", block[2], re.MULTILINE):
-                yield Command(first + block[2].count("\n", 0, it.start()), it[1], it[2])
+    for block in blocks_of(page):
+        if block.name:
+            yield File(block.name, block.text)
+        elif block.language == "console":
+            for it in re.finditer(r"^\$ (.*)\n((?:(?!\$ ).*\n)*)", block.text, re.MULTILINE):
+                yield Command(block.line + block.text.count("\n", 0, it.start()), it[1], it[2])
 
 
 def wanted_of(command, is_exact):

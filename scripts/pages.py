@@ -4,10 +4,12 @@ from dataclasses import dataclass
 from pathlib import Path
 from urllib.parse import unquote
 
+from console import blocks_of
+
 # A line of a block that is a command, in a block that is not `console`.
 COMMAND = re.compile(r"(?:scripts/|\.ci/|\./|a429 |rt |cd |export )")
-# Commands that no test can run here, by a word of theirs, with what they need.
-NEEDS = {"parallel": "GNU parallel"}
+# A word of blocks whose commands no test can run here, since GNU parallel need not be there.
+NOT_HERE = "parallel"
 
 
 @dataclass(frozen=True)
@@ -19,30 +21,14 @@ class Fault:
     text: str
 
 
-@dataclass(frozen=True)
-class Block:
-    """A block of code, with the line of its first line, its language and the file that it is, if any."""
-
-    line: int
-    language: str
-    name: str
-    text: str
-
-    def commands(self):
-        """The commands that it shows, each with its line."""
-        for number, line in enumerate(self.text.splitlines(), self.line):
-            if self.language == "console":
-                if line.startswith("$ "):
-                    yield number, line[2:]
-            elif not self.name and self.language in ("", "sh", "bash") and COMMAND.match(line):
-                yield number, line.split(" #")[0].rstrip()
-
-
-def blocks_of(text):
-    """The blocks of code of a page."""
-    for block in re.finditer(r"^```(.*)\n((?:.*\n)*?)```$", text, re.MULTILINE):
-        language, _, name = block[1].partition(" ")
-        yield Block(text.count("\n", 0, block.start(2)) + 1, language, name, block[2])
+def commands_of(block):
+    """The commands that a block of code shows, each with its line."""
+    for number, line in enumerate(block.text.splitlines(), block.line):
+        if block.language == "console":
+            if line.startswith("$ "):
+                yield number, line[2:]
+        elif not block.name and block.language in ("", "sh", "bash") and COMMAND.match(line):
+            yield number, line.split(" #")[0].rstrip()
 
 
 def prose_of(text):
@@ -101,7 +87,7 @@ def as_run(command):
 def commands_run(pages):
     """The commands of the pages that a test runs."""
     return {as_run(it) for page in pages for block in blocks_of(page.read_text(encoding="utf-8"))
-            if block.language == "console" for _, it in block.commands()}
+            if block.language == "console" for _, it in commands_of(block)}
 
 
 def commands_never_run(page, pages_run):
@@ -111,15 +97,15 @@ def commands_never_run(page, pages_run):
     for block in blocks_of(text):
         if block.language == "console" and page in pages_run:
             continue
-        for line, command in block.commands():
-            if as_run(command) not in ran and not any(word in block.text for word in NEEDS):
+        for line, command in commands_of(block):
+            if as_run(command) not in ran and NOT_HERE not in block.text:
                 yield Fault(page, line, f"no test runs: {command}")
 
 
 def idle_files(page):
     """The files that a page shows and that none of its commands uses."""
     blocks = [*blocks_of(page.read_text(encoding="utf-8"))]
-    commands = " ".join(it for block in blocks if block.language == "console" for _, it in block.commands())
+    commands = " ".join(it for block in blocks if block.language == "console" for _, it in commands_of(block))
     for block in blocks:
         if block.name and block.name not in commands:
             yield Fault(page, block.line, f"no command uses the file {block.name}")

@@ -3,7 +3,8 @@ import tempfile
 import unittest
 from pathlib import Path
 
-from pages import anchors_of, blocks_of, commands_never_run, dead_links, idle_files, lost_definitions, missing_files
+from console import blocks_of
+from pages import anchors_of, commands_never_run, dead_links, idle_files, lost_definitions, missing_files
 
 PAGE = """\
 # A page
