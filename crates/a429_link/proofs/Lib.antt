@@ -24,4 +24,12 @@ pub mod ObserverSight
 pub mod CleanRuns
 pub mod CleanFiles
 pub mod DeliveredFiles
+pub mod WholeBlock
+pub mod NumbersCome
+pub mod LatestAttempt
+pub mod NumberKept
+pub mod BlockWords
+pub mod Contradictions
+pub mod RunAssigned
+pub mod AssignedRun
 mod LaneFacts

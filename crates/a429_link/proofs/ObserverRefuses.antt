@@ -40,11 +40,15 @@ sot_push [] g f l = refl
 sot_push (Part q ∷ seen) g f l = ap (λ n. suc n) (sot_push seen g f l)
 sot_push (_ ∷ seen) g f l = sot_push seen g f l
 
-abbrev sees_as : Contents → Bus → ℕ → Option Form → Sink → Sink
+abbrev pub sees_as : Contents → Bus → ℕ → Option Form → Sink → Sink
 sees_as p bus.A w o k = takes_form p w o k
 sees_as p bus.B w o k = answers_form p.codes o k
 
+<<<<<<< HEAD
 sees_on_as : (p : Contents) (b : Bus) (w : ℕ) (k : Sink) → sink_sees p b w k ≡ sees_as p b w (form_of p.codes b w) k
+=======
+pub sees_on_as : (p : Contents) (b : Bus) (w : ℕ) (k : Sink) → sees_on p b w k ≡ sees_as p b w (form_of p.codes b w) k
+>>>>>>> origin/groups
 sees_on_as p bus.A w k = refl
 sees_on_as p bus.B w k = refl
 
@@ -97,7 +101,11 @@ sees_form_same p bus.B w (Some (form.Sot g f l)) k seen = refl
 sees_form_same p bus.B w (Some (form.Part s)) k seen = refl
 sees_form_same p bus.B w (Some (form.Eot f c)) k seen = refl
 
+<<<<<<< HEAD
 pub sees_same : (p : Contents) (i : Seen) (k : Sink) (seen : List Message) → sees p i (seeing k seen) ≡ seeing (sink_sees p i.bus i.word k) (see_item p i seen)
+=======
+pub sees_same : (p : Contents) (i : Seen) (k : Sink) (seen : List Message) → sees p i (seeing k seen) ≡ seeing (sees_on p i.bus i.word k) (see_item p i seen)
+>>>>>>> origin/groups
 sees_same p i k seen = sees_form_same p i.bus i.word (form_of p.codes i.bus i.word) k seen ∙ ap (λ q. seeing q (see_item p i seen)) (sym (sees_on_as p i.bus i.word k))
 
 has_grant : (kp : SinkPhase) → InGrant kp → HasGrant kp
@@ -133,7 +141,7 @@ allows_form k seen bus.B w (Some (form.Part s)) a = absurd (no_data k.phase a)
     no_data OwesNak m = m
 allows_form k seen bus.B w (Some (form.Eot f c)) a = a
 
-allows_same : (p : Contents) (k : Sink) (seen : List Message) (i : Seen) → Allowed p k seen i → Allows p (seeing k seen) i
+pub allows_same : (p : Contents) (k : Sink) (seen : List Message) (i : Seen) → Allowed p k seen i → Allows p (seeing k seen) i
 allows_same p k seen i (inl e) = inl e
 allows_same p k seen i (inr a) = inr (allows_form k seen i.bus i.word (form_of p.codes i.bus i.word) a)
 

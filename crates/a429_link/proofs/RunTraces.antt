@@ -65,15 +65,15 @@ abbrev pub AllAllowed : Contents → List Seen → Sink → List Message → Typ
 AllAllowed p [] k seen = Unit {0}
 AllAllowed p (i ∷ items) k seen = Allowed p k seen i × AllAllowed p items (sees p (Some i) k) (see_item p i seen)
 
-abbrev IsCts : Option Message → Type 0
+abbrev pub IsCts : Option Message → Type 0
 IsCts (Some (Cts n)) = Unit {0}
 IsCts _ = ⊥
 
-abbrev HasCts : Contents → List ℕ → Type 0
+abbrev pub HasCts : Contents → List ℕ → Type 0
 HasCts p [] = ⊥
 HasCts p (v ∷ vs) = IsCts (message_of p bus.B v)
 
-no_cts : (p : Contents) (vs : List ℕ) → vs ≡ [] → HasCts p vs → ⊥
+pub no_cts : (p : Contents) (vs : List ℕ) → vs ≡ [] → HasCts p vs → ⊥
 no_cts p [] e h = h
 no_cts p (v ∷ vs) e h = cc e
 
@@ -232,7 +232,7 @@ parts_take zero ps = omega arith
 parts_take (suc k) [] = omega arith
 parts_take (suc k) (q ∷ ps) = omega (arith, parts_take k ps)
 
-only_start : (k : ℕ) (g f l : ℕ) (ps : List ℕ) (fl ch : ℕ) → slice_get (map Part ps ++ Eot fl ch ∷ []) k ≡ Some (Sot g f l) → ⊥
+pub only_start : (k : ℕ) (g f l : ℕ) (ps : List ℕ) (fl ch : ℕ) → slice_get (map Part ps ++ Eot fl ch ∷ []) k ≡ Some (Sot g f l) → ⊥
 only_start zero g f l [] fl ch e = cc e
 only_start (suc k) g f l [] fl ch e = cc e
 only_start zero g f l (q ∷ ps) fl ch e = cc e
@@ -244,7 +244,7 @@ part_place (suc k) s [] fl ch e = absurd (cc e)
 part_place zero s (q ∷ ps) fl ch e = omega arith
 part_place (suc k) s (q ∷ ps) fl ch e = omega (arith, part_place k s ps fl ch e)
 
-block_word : (P : Message → Type 0) (k : ℕ) (xs : List Message) (w : Message) → Each P xs → slice_get xs k ≡ Some w → P w
+pub block_word : (P : Message → Type 0) (k : ℕ) (xs : List Message) (w : Message) → Each P xs → slice_get xs k ≡ Some w → P w
 block_word P k [] w h e = absurd (cc e)
 block_word P zero (y ∷ ys) w h e = let same : y ≡ w = cc in subst P same h.0
 block_word P (suc k) (y ∷ ys) w h e = block_word P k ys w h.1 e

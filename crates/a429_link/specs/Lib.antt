@@ -10,5 +10,10 @@ pub mod Observer
 pub mod Trace
 pub mod Why
 pub mod Allowed
+pub mod Attempt
+pub mod Assignment
+pub mod Group
+pub mod WholeBlock
+pub mod Contradiction
 pub mod Link
 pub mod Clean
