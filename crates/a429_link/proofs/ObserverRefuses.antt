@@ -44,11 +44,7 @@ abbrev pub sees_as : Contents → Bus → ℕ → Option Form → Sink → Sink
 sees_as p bus.A w o k = takes_form p w o k
 sees_as p bus.B w o k = answers_form p.codes o k
 
-<<<<<<< HEAD
-sees_on_as : (p : Contents) (b : Bus) (w : ℕ) (k : Sink) → sink_sees p b w k ≡ sees_as p b w (form_of p.codes b w) k
-=======
-pub sees_on_as : (p : Contents) (b : Bus) (w : ℕ) (k : Sink) → sees_on p b w k ≡ sees_as p b w (form_of p.codes b w) k
->>>>>>> origin/groups
+pub sees_on_as : (p : Contents) (b : Bus) (w : ℕ) (k : Sink) → sink_sees p b w k ≡ sees_as p b w (form_of p.codes b w) k
 sees_on_as p bus.A w k = refl
 sees_on_as p bus.B w k = refl
 
@@ -101,11 +97,7 @@ sees_form_same p bus.B w (Some (form.Sot g f l)) k seen = refl
 sees_form_same p bus.B w (Some (form.Part s)) k seen = refl
 sees_form_same p bus.B w (Some (form.Eot f c)) k seen = refl
 
-<<<<<<< HEAD
 pub sees_same : (p : Contents) (i : Seen) (k : Sink) (seen : List Message) → sees p i (seeing k seen) ≡ seeing (sink_sees p i.bus i.word k) (see_item p i seen)
-=======
-pub sees_same : (p : Contents) (i : Seen) (k : Sink) (seen : List Message) → sees p i (seeing k seen) ≡ seeing (sees_on p i.bus i.word k) (see_item p i seen)
->>>>>>> origin/groups
 sees_same p i k seen = sees_form_same p i.bus i.word (form_of p.codes i.bus i.word) k seen ∙ ap (λ q. seeing q (see_item p i seen)) (sym (sees_on_as p i.bus i.word k))
 
 has_grant : (kp : SinkPhase) → InGrant kp → HasGrant kp

@@ -61,11 +61,7 @@ abbrev pub Alike : Contents → State → Sink → Type 0
 Alike p s k = (take_all p s.to_sink s.sink ≡ k) ⊎ Rests s k
 
 -- a free word tells nothing
-<<<<<<< HEAD
-free_sees : (p : Contents) → IsRead p → (bus : Bus) (w : ℕ) (k : Sink) → is_free p.codes bus w ≡ true → sink_sees p bus w k ≡ k
-=======
-pub free_sees : (p : Contents) → IsRead p → (bus : Bus) (w : ℕ) (k : Sink) → is_free p.codes bus w ≡ true → sees_on p bus w k ≡ k
->>>>>>> origin/groups
+pub free_sees : (p : Contents) → IsRead p → (bus : Bus) (w : ℕ) (k : Sink) → is_free p.codes bus w ≡ true → sink_sees p bus w k ≡ k
 free_sees p good bus.A w k e = ap (λ o. takes_form p w o k) (good.free bus.A w e)
 free_sees p good bus.B w k e = ap (λ o. answers_form p.codes o k) (good.free bus.B w e)
 
