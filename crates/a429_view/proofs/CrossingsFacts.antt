@@ -117,7 +117,7 @@ form_last p w None k = refl
 form_last p w (Some (form.Rts n)) k = refl
 form_last p w (Some _) k = refl
 
-takes_keeps : (p : Contents) (ws : List ℕ) (k : Sink) → ((takes_first p ws k).last ≡ k.last) × ((takes_first p ws k).shelf ≡ k.received)
+takes_keeps : (p : Contents) (ws : List ℕ) (k : Sink) → ((takes_first p ws k).last ≡ k.last) × ((takes_first p ws k).received ≡ k.received)
 takes_keeps p [] k = (refl, refl)
 takes_keeps p (w ∷ ws) k = (form_last p w (form_of p.codes bus.A w) k, takes_received p w (form_of p.codes bus.A w) k)
 
