@@ -31,7 +31,7 @@ use Rattle.a429_link.proofs.Message.{Ack, Cts, Eot, IsRead, Message, Rts, Sot, e
 use Rattle.a429_link.proofs.NumberFacts.{number_from, number_same}
 use Rattle.a429_link.proofs.SourceBlock.{block_length}
 use Rattle.a429_link.proofs.StateConfigs.{InGrant, acks_count, front_words, length-front, may_answer, sink_at, source_at}
-use Rattle.a429_link.proofs.SinkFromTrace.{blank, free_sees, sees_on}
+use Rattle.a429_link.proofs.SinkFromTrace.{free_sees}
 use Rattle.a429_link.proofs.RunTraces.{AllAllowed, see_item, trace_allowed}
 use Rattle.a429_link.proofs.RunAssigned.{run_assignable}
 use Rattle.a429_link.proofs.ObserverRefuses.{allows_same, seeing, sees_same}
@@ -39,6 +39,7 @@ use Rattle.a429_link.proofs.NumberKept.{own_ack}
 use Rattle.a429_link.proofs.StateHolds.{HoldsAt, each_get, sends, start_holds, step_holds}
 use Rattle.a429_link.proofs.MessageSubsequence.{IsFrontWord, get_front}
 use Rattle.a429_link.proofs.Subsequence.{sub_rest}
+use Rattle.a429_link.specs.Trace.{sink_at_first, sink_sees}
 
 -- ---- ways from state to state
 
@@ -257,11 +258,11 @@ record Move (p : Contents) (i : Seen) (items : List Seen) (s : State) (k : Sink)
   units : List Assigned
   source : Source
   answers : List ℕ
-  way : Way p (i ∷ []) s (at source (sees_on p i.bus i.word k) answers)
-  place : Place p now attempt source answers (sees_on p i.bus i.word k) units
+  way : Way p (i ∷ []) s (at source (sink_sees p i.bus i.word k) answers)
+  place : Place p now attempt source answers (sink_sees p i.bus i.word k) units
   goes : GoOnAssigned p now (attempts_from p attempt items) units
 
-move_to : (p : Contents) (i : Seen) (items : List Seen) (s : State) (k k' : Sink) (now : Option Assigned) (a : Attempt) (units : List Assigned) (q : Source) (vs : List ℕ) → sees_on p i.bus i.word k ≡ k' → Way p (i ∷ []) s (at q k' vs) → Place p now a q vs k' units → GoOnAssigned p now (attempts_from p a items) units → Move p i items s k
+move_to : (p : Contents) (i : Seen) (items : List Seen) (s : State) (k k' : Sink) (now : Option Assigned) (a : Attempt) (units : List Assigned) (q : Source) (vs : List ℕ) → sink_sees p i.bus i.word k ≡ k' → Way p (i ∷ []) s (at q k' vs) → Place p now a q vs k' units → GoOnAssigned p now (attempts_from p a items) units → Move p i items s k
 move_to p i items s k k' now a units q vs e w h g = record {
   now = now;
   attempt = a;
@@ -691,7 +692,7 @@ replay p is good (i ∷ items) o k seen now a q vs units e al holds h goes =
     let later = subst (λ (z : Observer). AreAllowed p (observes p i z) items) e al.1 in
     let move = move_item p is good i.bus i.word items now a q vs k seen units allowed later holds h goes in
     let held = way_holds p good (i ∷ []) _ _ move.way holds in
-    let rest = replay p is good items (observes p i o) (sees_on p i.bus i.word k) (see_item p i seen) move.now move.attempt move.source move.answers move.units (ap (observes p i) e ∙ sees_same p i k seen) al.1 held move.place move.goes in
+    let rest = replay p is good items (observes p i o) (sink_sees p i.bus i.word k) (see_item p i seen) move.now move.attempt move.source move.answers move.units (ap (observes p i) e ∙ sees_same p i k seen) al.1 held move.place move.goes in
     record { end = rest.end; way = way_join p (i ∷ []) items _ _ _ move.way rest.way }
 
 -- the number of the first file, so that as many files are given up before the first attempt as its assignment says
@@ -708,16 +709,16 @@ begins (t ∷ units) = record { file = (t.number.file + 256 - t.give_ups) % 256;
 assigned_is_run : (p : Contents) → IsProfile p → IsRead p → (items : List Seen) → AreAllowed p at_first items → IsAssignable p items → BeginsARun p items
 assigned_is_run p is good items allowed may =
     let b = begins may.units in
-    let r = replay p is good items at_first blank [] None (fresh 0) (source_at 0 (first_number p.codes b.file) None Idle) [] may.units refl allowed (start_holds p b.file b.byte) (at_first_one b.file b.first) may.are in
+    let r = replay p is good items at_first sink_at_first [] None (fresh 0) (source_at 0 (first_number p.codes b.file) None Idle) [] may.units refl allowed (start_holds p b.file b.byte) (at_first_one b.file b.first) may.are in
     record { first = b.file; byte = b.byte; steps = r.way.steps; run = r.way.run; more = []; records = r.way.records ∙ sym (append-nil items) }
 
 -- each word that a run records is allowed after those before it
 all_allowed : (p : Contents) (items more : List Seen) (k : Sink) (seen : List Message) (o : Observer) → o ≡ seeing k seen → AllAllowed p (items ++ more) k seen → AreAllowed p o items
 all_allowed p [] more k seen o e h = tt
 all_allowed p (i ∷ items) more k seen o e h =
-    (subst (λ q. Allows p q i) (sym e) (allows_same p k seen i h.0), all_allowed p items more (sees_on p i.bus i.word k) (see_item p i seen) (observes p i o) (ap (observes p i) e ∙ sees_same p i k seen) h.1)
+    (subst (λ q. Allows p q i) (sym e) (allows_same p k seen i h.0), all_allowed p items more (sink_sees p i.bus i.word k) (see_item p i seen) (observes p i o) (ap (observes p i) e ∙ sees_same p i k seen) h.1)
 
 -- these are exactly what runs record
 pub run_is_assigned : (p : Contents) → IsProfile p → IsRead p → (items : List Seen) → BeginsARun p items ↔ (AreAllowed p at_first items × IsAssignable p items)
 run_is_assigned p is good items =
-    (λ r. (all_allowed p items r.more blank [] at_first refl (subst (λ t. AllAllowed p t blank []) r.records (trace_allowed p good r.first r.byte r.steps r.run)), run_assignable p good items r), λ h. assigned_is_run p is good items h.0 h.1)
+    (λ r. (all_allowed p items r.more sink_at_first [] at_first refl (subst (λ t. AllAllowed p t sink_at_first []) r.records (trace_allowed p good r.first r.byte r.steps r.run)), run_assignable p good items r), λ h. assigned_is_run p is good items h.0 h.1)

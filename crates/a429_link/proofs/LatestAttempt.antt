@@ -10,8 +10,9 @@ use Rattle.a429_link.specs.declared.seen.Seen.{Seen}
 use Rattle.a429_link.specs.Attempt.{Attempt, asks, fresh, grown, latest, latest_from, under_way}
 use Rattle.a429_link.specs.Sink.{Sink}
 use Rattle.a429_link.proofs.ObserverRefuses.{sees_as, sees_on_as}
-use Rattle.a429_link.proofs.SinkFromTrace.{blank, sees, sink_from}
+use Rattle.a429_link.proofs.SinkFromTrace.{sees}
 use Rattle.a429_link.proofs.StateConfigs.{acks_count}
+use Rattle.a429_link.specs.Trace.{sink_after, sink_at_first}
 
 -- its words: a request or a clear answer begins anew, a word of a block joins
 abbrev pub joins : Bus → ℕ → Option Form → List ℕ → List ℕ
@@ -73,11 +74,11 @@ item_count p bus.B w (Some (form.Sot g f l)) a k e = e
 item_count p bus.B w (Some (form.Part s)) a k e = e
 item_count p bus.B w (Some (form.Eot f c)) a k e = e
 
-latest_count_from : (p : Contents) (items : List Seen) (a : Attempt) (k : Sink) → a.count ≡ k.count → (latest_from p a items).count ≡ (sink_from p items k).count
+latest_count_from : (p : Contents) (items : List Seen) (a : Attempt) (k : Sink) → a.count ≡ k.count → (latest_from p a items).count ≡ (sink_after p items k).count
 latest_count_from p [] a k e = e
 latest_count_from p (i ∷ items) a k e =
     latest_count_from p items (under_way (asks i.bus (form_of p.codes i.bus i.word)) (grown i.bus i.word (form_of p.codes i.bus i.word) a)) (sees p (Some i) k)
     (item_count p i.bus i.word (form_of p.codes i.bus i.word) a k e ∙ ap (λ (q : Sink). q.count) (sym (sees_on_as p i.bus i.word k)))
 
-pub latest_count : (p : Contents) (items : List Seen) → (latest p items).count ≡ (sink_from p items blank).count
-latest_count p items = latest_count_from p items (fresh 0) blank refl
+pub latest_count : (p : Contents) (items : List Seen) → (latest p items).count ≡ (sink_after p items sink_at_first).count
+latest_count p items = latest_count_from p items (fresh 0) sink_at_first refl

@@ -29,12 +29,13 @@ use Rattle.a429_link.proofs.SourceBlock.{block_length}
 use Rattle.a429_link.proofs.SinkShelves.{Past, past_given_up, past_new, past_next}
 use Rattle.a429_link.proofs.StateConfigs.{Config, Stale, acked, asked, block_words_each, cleared, idle, may_answer, may_owes, owes_alone, owes_grant, owes_stale, refused, sending, source_at, spoiled, unasked, waiting, whole}
 use Rattle.a429_link.proofs.StateHolds.{Current, HoldsAt, answered_count, owed_form, sends, start_holds, step_holds}
-use Rattle.a429_link.proofs.SinkFromTrace.{Alike, IsStill, blank, sees, sees_on, sink_from, step_alike}
+use Rattle.a429_link.proofs.SinkFromTrace.{Alike, IsStill, sees, step_alike}
 use Rattle.a429_link.proofs.RunTraces.{HasCts, IsCts, block_word, no_cts, see_item}
 use Rattle.a429_link.proofs.RunCrossing.{HasAck, IsAck, no_ack, one_answer}
 use Rattle.a429_link.proofs.LatestAttempt.{attempt, attempt_from, joins, latest_count, latest_words}
 use Rattle.a429_link.proofs.WholeBlock.{all_taken_fit}
 use Rattle.a429_link.proofs.NumbersCome.{start_has_number}
+use Rattle.a429_link.specs.Trace.{sink_after, sink_at_first, sink_sees}
 
 -- ---- lists
 
@@ -252,15 +253,15 @@ late_kept p n u sp vs att h = words_all p n u sp vs att h
 
 -- the count of the observer's sink after a word that says this
 count_on : (p : Contents) (k : Sink) (i : Seen) (x : Message) → i.bus ≡ bus.A → message_of p bus.A i.word ≡ Some x → (sees p (Some i) k).count ≡ (takes_message p x k).count
-count_on p k i x e h = ap (λ (q : Bus). (sees_on p q i.word k).count) e ∙ ap (λ (q : Sink). q.count) (takes_as p i.word x k h)
+count_on p k i x e h = ap (λ (q : Bus). (sink_sees p q i.word k).count) e ∙ ap (λ (q : Sink). q.count) (takes_as p i.word x k h)
 
 count_answered : (p : Contents) (k : Sink) (i : Seen) (x : Message) → i.bus ≡ bus.B → message_of p bus.B i.word ≡ Some x → (sees p (Some i) k).count ≡ k.count
-count_answered p k i x e h = ap (λ (q : Bus). (sees_on p q i.word k).count) e ∙ ap (λ (q : Sink). q.count) (answers_as p i.word x k h) ∙ answered_count p x k
+count_answered p k i x e h = ap (λ (q : Bus). (sink_sees p q i.word k).count) e ∙ ap (λ (q : Sink). q.count) (answers_as p i.word x k h) ∙ answered_count p x k
 
 count_free : (p : Contents) (k : Sink) (i : Seen) → form_of p.codes i.bus i.word ≡ None → (sees p (Some i) k).count ≡ k.count
 count_free p k i e = by i.bus e
   where
-    by : (b : Bus) → form_of p.codes b i.word ≡ None → (sees_on p b i.word k).count ≡ k.count
+    by : (b : Bus) → form_of p.codes b i.word ≡ None → (sink_sees p b i.word k).count ≡ k.count
     by bus.A e = ap (λ o. (takes_form p i.word o k).count) e
     by bus.B e = ap (λ o. (answers_form p.codes o k).count) e
 
@@ -628,14 +629,14 @@ abbrev Keeps : Contents → (State → Sink → List ℕ → Type 0) → (Seen �
 Keeps p I P = (a : Step) (s : State) (k : Sink) (att : List ℕ) → Can p a s → HoldsAt p s → Alike p s k → OnLabel P (label a) → I s k att → I (after p a s) (sees p (label a) k) (join_label p (label a) att)
 
 -- the first item is recorded by a later step, or by this one
-reach_label : (p : Contents) (I : State → Sink → List ℕ → Type 0) (P : Seen → Type 0) (l : Option Seen) (i : Seen) (items more rest : List Seen) (k : Sink) (att : List ℕ) → P i → (OnLabel P l → (front : List Seen) → AllOn P front → rest ≡ front ++ more → Reached p I (sink_from p front (sees p l k)) (attempt_from p front (join_label p l att)) more) → AllOn P items → with_label l rest ≡ i ∷ (items ++ more) → Reached p I (sink_from p (i ∷ items) k) (attempt_from p (i ∷ items) att) more
+reach_label : (p : Contents) (I : State → Sink → List ℕ → Type 0) (P : Seen → Type 0) (l : Option Seen) (i : Seen) (items more rest : List Seen) (k : Sink) (att : List ℕ) → P i → (OnLabel P l → (front : List Seen) → AllOn P front → rest ≡ front ++ more → Reached p I (sink_after p front (sees p l k)) (attempt_from p front (join_label p l att)) more) → AllOn P items → with_label l rest ≡ i ∷ (items ++ more) → Reached p I (sink_after p (i ∷ items) k) (attempt_from p (i ∷ items) att) more
 reach_label p I P None i items more rest k att here next all e = next tt (i ∷ items) (here, all) e
 reach_label p I P (Some j) i items more rest k att here next all e =
     let same : j ≡ i = cc in
     let left : rest ≡ items ++ more = cc in
-    subst (λ x. Reached p I (sink_from p (x ∷ items) k) (attempt_from p (x ∷ items) att) more) same (next (subst P (sym same) here) items all left)
+    subst (λ x. Reached p I (sink_after p (x ∷ items) k) (attempt_from p (x ∷ items) att) more) same (next (subst P (sym same) here) items all left)
 
-reach : (p : Contents) → IsRead p → (I : State → Sink → List ℕ → Type 0) (P : Seen → Type 0) → Keeps p I P → (steps : List Step) (s : State) (k : Sink) (att : List ℕ) (items more : List Seen) → IsRun p steps s → HoldsAt p s → Alike p s k → I s k att → AllOn P items → trace steps ≡ items ++ more → Reached p I (sink_from p items k) (attempt_from p items att) more
+reach : (p : Contents) → IsRead p → (I : State → Sink → List ℕ → Type 0) (P : Seen → Type 0) → Keeps p I P → (steps : List Step) (s : State) (k : Sink) (att : List ℕ) (items more : List Seen) → IsRun p steps s → HoldsAt p s → Alike p s k → I s k att → AllOn P items → trace steps ≡ items ++ more → Reached p I (sink_after p items k) (attempt_from p items att) more
 reach p good I P keeps steps s k att [] more h f m is all e = record { steps = steps; state = s; run = h; holds = f; alike = m; is = is; records = e }
 reach p good I P keeps [] s k att (i ∷ items) more h f m is all e = absurd (cc e)
 reach p good I P keeps (a ∷ steps) s k att (i ∷ items) more h f m is all e =
@@ -663,7 +664,7 @@ attempt_append : (p : Contents) (xs ys : List Seen) (att : List ℕ) → attempt
 attempt_append p [] ys att = refl
 attempt_append p (x ∷ xs) ys att = attempt_append p xs ys (join_item p x att)
 
-sink_append : (p : Contents) (xs ys : List Seen) (k : Sink) → sink_from p (xs ++ ys) k ≡ sink_from p ys (sink_from p xs k)
+sink_append : (p : Contents) (xs ys : List Seen) (k : Sink) → sink_after p (xs ++ ys) k ≡ sink_after p ys (sink_after p xs k)
 sink_append p [] ys k = refl
 sink_append p (x ∷ xs) ys k = sink_append p xs ys (sees p (Some x) k)
 
@@ -683,26 +684,26 @@ stage_carries p good n u k att ys more acks begins r = by r.is
     by (inl h) = since_carries p n u r.state k att h
     by (inr h) = absurd ((reach p good (λ s k att. Gone p n s att) (AcksItem p n) keeps r.steps r.state k att ys more r.run r.holds r.alike h acks r.records).is.2 begins)
 
-group_carries : (p : Contents) → IsRead p → (n : UnitNumber) (u : LduValue) (before : List Seen) (group more : List Seen) → Reached p (λ s k att. Since p n u s k att) (sink_from p before blank) (attempt p before) (group ++ more) → BeginsUnder p n (attempt p (before ++ group)) → AcksOnly p n group → (xs ys : List Seen) → group ≡ xs ++ ys → IsAttemptAt p n u (latest p (before ++ xs))
+group_carries : (p : Contents) → IsRead p → (n : UnitNumber) (u : LduValue) (before : List Seen) (group more : List Seen) → Reached p (λ s k att. Since p n u s k att) (sink_after p before sink_at_first) (attempt p before) (group ++ more) → BeginsUnder p n (attempt p (before ++ group)) → AcksOnly p n group → (xs ys : List Seen) → group ≡ xs ++ ys → IsAttemptAt p n u (latest p (before ++ xs))
 group_carries p good n u before group more r begins acks xs ys e =
     let all = subst (AllOn (AcksItem p n)) e (acks_all p n group acks) in
     let records = r.records ∙ ap (λ l. l ++ more) e ∙ append_assoc xs ys more in
-    let there = reach p good (Stage p n u) (AcksItem p n) (step_stage p good n u) r.steps r.state (sink_from p before blank) (attempt p before) xs (ys ++ more) r.run r.holds r.alike (inl r.is) (all_front (AcksItem p n) xs ys all) records in
+    let there = reach p good (Stage p n u) (AcksItem p n) (step_stage p good n u) r.steps r.state (sink_after p before sink_at_first) (attempt p before) xs (ys ++ more) r.run r.holds r.alike (inl r.is) (all_front (AcksItem p n) xs ys all) records in
     let whole : attempt p (before ++ group) ≡ attempt_from p ys (attempt_from p xs (attempt p before)) = attempt_append p before group [] ∙ ap (λ l. attempt_from p l (attempt p before)) e ∙ attempt_append p xs ys (attempt p before) in
     let now = stage_carries p good n u _ _ ys more (all_back (AcksItem p n) xs ys all) (subst (BeginsUnder p n) whole begins) there in
     record {
-      asked = latest_count p (before ++ xs) ∙ ap (λ (q : Sink). q.count) (sink_append p before xs blank) ∙ now.1;
+      asked = latest_count p (before ++ xs) ∙ ap (λ (q : Sink). q.count) (sink_append p before xs sink_at_first) ∙ now.1;
       words = subst (λ l. IsSubsequenceOf l (block_of p.codes u n.file n.ldu)) (sym (latest_words p (before ++ xs) ∙ attempt_append p before xs [])) now.0;
     }
 
 -- the attempts under one number are of one link data unit
 pub one_unit : (p : Contents) → IsRead p → (n : UnitNumber) (before group : List Seen) → BeginsARun p (before ++ group) → IsGroup p n before group → IsOneUnit p n before group
 one_unit p good n before group r is =
-    let first = reach p good (Begun p) AnyItem (step_begun p good) r.steps (start p r.first) blank [] before (group ++ r.more) r.run (start_holds p r.first r.byte) (inl refl) (λ m h. absurd h) (any_all before) (r.records ∙ append_assoc before group r.more) in
+    let first = reach p good (Begun p) AnyItem (step_begun p good) r.steps (start p r.first) sink_at_first [] before (group ++ r.more) r.run (start_holds p r.first r.byte) (inl refl) (λ m h. absurd h) (any_all before) (r.records ∙ append_assoc before group r.more) in
     let begins = subst (BeginsUnder p n) (latest_words p before) is.begins in
     let again = subst (BeginsUnder p n) (latest_words p (before ++ group)) is.again in
     let found = first.is n begins in
-    let there : Reached p (λ s k att. Since p n found.unit s k att) (sink_from p before blank) (attempt p before) (group ++ r.more) = record { steps = first.steps; state = first.state; run = first.run; holds = first.holds; alike = first.alike; is = found.since; records = first.records } in
+    let there : Reached p (λ s k att. Since p n found.unit s k att) (sink_after p before sink_at_first) (attempt p before) (group ++ r.more) = record { steps = first.steps; state = first.state; run = first.run; holds = first.holds; alike = first.alike; is = found.since; records = first.records } in
     record { unit = found.unit; is = found.is; carried = group_carries p good n found.unit before group r.more there again is.acks }
 
 -- as many of a list's items are all of them
@@ -779,7 +780,7 @@ pub goes_forward : (p : Contents) → IsRead p → (n m : UnitNumber) (before gr
 goes_forward p good n m before group r has has_again acks =
     let begins = subst (BeginsUnder p n) (latest_words p before) has in
     let again = subst (BeginsUnder p m) (latest_words p (before ++ group)) has_again in
-    let first = reach p good (Begun p) AnyItem (step_begun p good) r.steps (start p r.first) blank [] before (group ++ r.more) r.run (start_holds p r.first r.byte) (inl refl) (λ m h. absurd h) (any_all before) (r.records ∙ append_assoc before group r.more) in
+    let first = reach p good (Begun p) AnyItem (step_begun p good) r.steps (start p r.first) sink_at_first [] before (group ++ r.more) r.run (start_holds p r.first r.byte) (inl refl) (λ m h. absurd h) (any_all before) (r.records ∙ append_assoc before group r.more) in
     let found = first.is n begins in
-    let there = reach p good (ForwardStage p n found.unit) (AcksItem p n) (step_forward p good n found.unit) first.steps first.state (sink_from p before blank) (attempt p before) group r.more first.run first.holds first.alike (inl found.since, λ q h. inl (one_number p n q (attempt p before) begins h)) (acks_all p n group acks) first.records in
+    let there = reach p good (ForwardStage p n found.unit) (AcksItem p n) (step_forward p good n found.unit) first.steps first.state (sink_after p before sink_at_first) (attempt p before) group r.more first.run first.holds first.alike (inl found.since, λ q h. inl (one_number p n q (attempt p before) begins h)) (acks_all p n group acks) first.records in
     there.is.1 m (subst (BeginsUnder p m) (attempt_append p before group []) again)

@@ -37,11 +37,12 @@ use Rattle.a429_link.proofs.Subsequence.{sub_take}
 use Rattle.a429_link.proofs.SinkShelves.{Fits}
 use Rattle.a429_link.proofs.StateConfigs.{Config, acked, block_taken, cleared, idle, may_answer, may_owes, refused, sending, source_at, unit_number}
 use Rattle.a429_link.proofs.StateHolds.{HoldsAt, alone_on_the_way, owed_form, sends, step_holds}
-use Rattle.a429_link.proofs.SinkFromTrace.{Alike, IsStill, blank, sees, sees_on, step_alike, take_all}
+use Rattle.a429_link.proofs.SinkFromTrace.{Alike, IsStill, sees, step_alike, take_all}
 use Rattle.a429_link.proofs.RunTraces.{only_start, see_item}
 use Rattle.a429_link.proofs.RunCrossing.{Books, CrossesAt, HasAccepted, HasAck, IsAck, Crosses, start_books, step_crosses, takes_last}
 use Rattle.a429_link.proofs.ObserverRefuses.{seeing, sees_same}
 use Rattle.a429_link.proofs.WholeBlock.{all_taken_fit, whole_is_ldu}
+use Rattle.a429_link.specs.Trace.{sink_at_first, sink_sees}
 
 -- the next of a file that is not whole, or the first of a file that is as many past as were given up, and one
 abbrev pub Follows : Codes → Option Number → UnitNumber → ℕ → Type 0
@@ -281,15 +282,15 @@ comes_at p [] more k seen (suc i) o e h = tt
 comes_at p (x ∷ items) more k seen zero o e h =
     subst (λ (q : Observer). ComesNext p q (Some x)) (sym e) (comes_form p.codes x.bus x.word (form_of p.codes x.bus x.word) k h.0)
 comes_at p (x ∷ items) more k seen (suc i) o e h =
-    comes_at p items more (sees_on p x.bus x.word k) (see_item p x seen) i (observes p x o) (ap (observes p x) e ∙ sees_same p x k seen) h.1
+    comes_at p items more (sink_sees p x.bus x.word k) (see_item p x seen) i (observes p x o) (ap (observes p x) e ∙ sees_same p x k seen) h.1
 
-begun_comes : (p : Contents) → IsRead p → (items : List Seen) (i : ℕ) → (r : BeginsARun p (take (suc i) items)) → AllCome p (take (suc i) items ++ r.more) blank
+begun_comes : (p : Contents) → IsRead p → (items : List Seen) (i : ℕ) → (r : BeginsARun p (take (suc i) items)) → AllCome p (take (suc i) items ++ r.more) sink_at_first
 begun_comes p good items i r =
-    subst (λ t. AllCome p t blank) r.records (run_comes p good r.steps (start p r.first) blank nothing_received [] r.run (record { books = start_books p r.first r.byte; due = refl }) (inl refl))
+    subst (λ t. AllCome p t sink_at_first) r.records (run_comes p good r.steps (start p r.first) sink_at_first nothing_received [] r.run (record { books = start_books p r.first r.byte; due = refl }) (inl refl))
 
 -- the numbers of each recorded start word may come
 pub numbers_come : (p : Contents) → IsRead p → (items : List Seen) (i : ℕ) → BeginsARun p (take (suc i) items) → NumberComesAt p items i
-numbers_come p good items i r = comes_at p items r.more blank [] i at_first refl (begun_comes p good items i r)
+numbers_come p good items i r = comes_at p items r.more sink_at_first [] i at_first refl (begun_comes p good items i r)
 
 -- ---- a whole attempt is good
 
@@ -320,11 +321,11 @@ good_at p is [] more k seen (suc i) o e h whole = tt
 good_at p is (x ∷ items) more k seen zero o e h whole =
     subst (λ (q : Observer). GoodNext p q (Some x)) (sym e) (good_form p is x.bus x.word (form_of p.codes x.bus x.word) k h.0 (λ u ends. whole u (subst (λ (q : Observer). EndsWhole p q (Some x) u) (sym e) ends)))
 good_at p is (x ∷ items) more k seen (suc i) o e h whole =
-    good_at p is items more (sees_on p x.bus x.word k) (see_item p x seen) i (observes p x o) (ap (observes p x) e ∙ sees_same p x k seen) h.1 whole
+    good_at p is items more (sink_sees p x.bus x.word k) (see_item p x seen) i (observes p x o) (ap (observes p x) e ∙ sees_same p x k seen) h.1 whole
 
 -- the observer takes each whole block of a run for a good block
 pub whole_is_good : (p : Contents) → IsProfile p → IsRead p → (items : List Seen) (i : ℕ) → BeginsARun p (take (suc i) items) → EndsGoodAt p items i
-whole_is_good p is good items i r = good_at p is items r.more blank [] i at_first refl (begun_comes p good items i r) (λ u. whole_is_ldu p good items i u r)
+whole_is_good p is good items i r = good_at p is items r.more sink_at_first [] i at_first refl (begun_comes p good items i r) (λ u. whole_is_ldu p good items i u r)
 
 -- so no run ends a whole block that makes no link data unit
 good_or_bad : (p : Contents) (b : Bus) (x : Option Form) (kp : SinkPhase) (count : ℕ) (last : Option Number) → GoodForm p b x kp count last → EndsBadForm p b x kp count → ⊥

@@ -25,9 +25,10 @@ use Rattle.a429_link.proofs.MessageSubsequence.{IsFrontWord, get_front, same_par
 use Rattle.a429_link.proofs.Subsequence.{sub_take}
 use Rattle.a429_link.proofs.StateConfigs.{Config, block_taken, front_words, idle, sending, taken_fits}
 use Rattle.a429_link.proofs.StateHolds.{Current, HoldsAt, each_get, owed_form, sends, start_holds, step_holds}
-use Rattle.a429_link.proofs.SinkFromTrace.{Alike, IsStill, blank, sees, sees_on, step_alike, take_all}
+use Rattle.a429_link.proofs.SinkFromTrace.{Alike, IsStill, sees, step_alike, take_all}
 use Rattle.a429_link.proofs.RunTraces.{see_item}
 use Rattle.a429_link.proofs.ObserverRefuses.{seeing, sees_same}
+use Rattle.a429_link.specs.Trace.{sink_at_first, sink_sees}
 
 -- a message ends a whole block
 abbrev EndsMessage : Bus → Option Message → SinkPhase → ℕ → LduValue → Type 0
@@ -140,9 +141,9 @@ whole_at p [] more k seen zero o u e h ends = absurd ends
 whole_at p [] more k seen (suc i) o u e h ends = absurd ends
 whole_at p (x ∷ items) more k seen zero o u e h ends = h.0 u (subst (λ (q : Observer). EndsWhole p q (Some x) u) e ends)
 whole_at p (x ∷ items) more k seen (suc i) o u e h ends =
-    whole_at p items more (sees_on p x.bus x.word k) (see_item p x seen) i (observes p x o) u (ap (observes p x) e ∙ sees_same p x k seen) h.1 ends
+    whole_at p items more (sink_sees p x.bus x.word k) (see_item p x seen) i (observes p x o) u (ap (observes p x) e ∙ sees_same p x k seen) h.1 ends
 
 -- a whole block that a run's trace ends is a link data unit
 pub whole_is_ldu : (p : Contents) → IsRead p → (items : List Seen) (i : ℕ) (u : LduValue) → BeginsARun p (take (suc i) items) → EndsWholeAt p items i u → IsLdu p u
 whole_is_ldu p good items i u r ends =
-    whole_at p items r.more blank [] i at_first u refl (subst (λ t. AllWhole p t blank) r.records (run_whole p good r.steps (start p r.first) blank r.run (start_holds p r.first r.byte) (inl refl))) ends
+    whole_at p items r.more sink_at_first [] i at_first u refl (subst (λ t. AllWhole p t sink_at_first) r.records (run_whole p good r.steps (start p r.first) sink_at_first r.run (start_holds p r.first r.byte) (inl refl))) ends
