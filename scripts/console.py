@@ -23,10 +23,11 @@ from pathlib import Path
 
 SCRIPTS = Path(__file__).resolve().parent
 ROOT = SCRIPTS.parent
-# The pages that scripts/test-tutorial runs: those with a command. And those that scripts/test-program runs.
+# The pages that scripts/test-tutorial runs: those with a command. Those that scripts/test-program runs, and scripts/test-extras.
 DOCUMENTS = [it for it in sorted([*ROOT.glob("[RCS]*.md"), *ROOT.glob("docs/*.md"), *ROOT.glob("examples/*.md")])
              if "\n```console\n" in it.read_text(encoding="utf-8")]
 CASES = sorted((SCRIPTS / "cases").glob("*.md"))
+EXTRAS = sorted(ROOT.glob("extras/*/README.md"))
 
 
 @dataclass(frozen=True)

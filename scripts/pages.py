@@ -8,8 +8,8 @@ from console import blocks_of
 
 # A line of a block that is a command, in a block that is not `console`.
 COMMAND = re.compile(r"(?:scripts/|\.ci/|\./|a429 |rt |cd |export )")
-# A word of blocks whose commands no test can run here, since GNU parallel need not be there.
-NOT_HERE = "parallel"
+# The line above a block whose commands no test can run, with the reason.
+NOT_RUN = re.compile(r"<!-- not run: .+ -->")
 
 
 @dataclass(frozen=True)
@@ -91,15 +91,16 @@ def commands_run(pages):
 
 
 def commands_never_run(page, pages_run):
-    """The commands that a page shows and that no test runs."""
-    ran = commands_run(pages_run)
-    text = page.read_text(encoding="utf-8")
+    """The commands that a page shows and that no test runs, except in blocks that say why."""
+    ran, text = commands_run(pages_run), page.read_text(encoding="utf-8")
+    lines = text.splitlines()
     for block in blocks_of(text):
-        if block.language == "console" and page in pages_run:
-            continue
-        for line, command in commands_of(block):
-            if as_run(command) not in ran and NOT_HERE not in block.text:
-                yield Fault(page, line, f"no test runs: {command}")
+        # (the line before the one that opens the block)
+        is_excused = NOT_RUN.fullmatch(lines[block.line - 3]) if block.line > 2 else None
+        if not is_excused and not (block.language == "console" and page in pages_run):
+            for line, command in commands_of(block):
+                if as_run(command) not in ran:
+                    yield Fault(page, line, f"no test runs: {command}")
 
 
 def idle_files(page):

@@ -70,6 +70,11 @@ class Pages(unittest.TestCase):
         runs = self.put("runs.md", "```console\n$ a429 show x\nit\n$ a429 labels y\n$ a429 is no command here\n```\n")
         self.assertEqual(self.said(commands_never_run(self.page, {self.page, runs})), [])
 
+    def test_a_block_can_say_why_it_is_not_run(self):
+        text = "<!-- not run: no such tool -->\n```\na429 one\n```\n\n```\na429 two\n```\n"
+        faults = commands_never_run(self.put("excused.md", text), set())
+        self.assertEqual(self.said(faults), [(7, "no test runs: a429 two")])
+
     def test_commands_of_a_page_that_is_not_run_are_named(self):
         self.assertIn((21, "no test runs: sh try"), self.said(commands_never_run(self.page, set())))
 

@@ -68,26 +68,23 @@ impl From<AllocError> for ScanFault {
     }
 }
 
+// Goes to this place, and does this.
+#[inline(always)]
+fn to(place: Place, deed: Deed) -> Turn
+    ensures place { result.place ≡ place }
+    ensures deed { result.deed ≡ deed }
+{
+    Turn { place, deed }
+}
+
 fn in_field(byte: u8) -> Turn
     ensures { (state_of result.place, action_of result.deed) ≡ Machine.in_field default_config byte }
 {
     match byte {
-        b',' => Turn {
-            place: Place::FieldStart,
-            deed: Deed::EndField,
-        },
-        b'\r' => Turn {
-            place: Place::AfterReturn,
-            deed: Deed::EndRecord,
-        },
-        b'\n' => Turn {
-            place: Place::Start,
-            deed: Deed::EndRecord,
-        },
-        _ => Turn {
-            place: Place::Field,
-            deed: Deed::Copy,
-        },
+        b',' => to(Place::FieldStart, Deed::EndField),
+        b'\r' => to(Place::AfterReturn, Deed::EndRecord),
+        b'\n' => to(Place::Start, Deed::EndRecord),
+        _ => to(Place::Field, Deed::Copy),
     }
 }
 
@@ -95,10 +92,7 @@ fn start_field(byte: u8) -> Turn
     ensures { (state_of result.place, action_of result.deed) ≡ Machine.start_field default_config byte }
 {
     if byte == b'"' {
-        Turn {
-            place: Place::Quoted,
-            deed: Deed::Skip,
-        }
+        to(Place::Quoted, Deed::Skip)
     } else {
         in_field(byte)
     }
@@ -108,10 +102,7 @@ fn start_record(byte: u8) -> Turn
     ensures { (state_of result.place, action_of result.deed) ≡ Machine.start_record default_config byte }
 {
     if byte == b'\r' || byte == b'\n' {
-        Turn {
-            place: Place::Start,
-            deed: Deed::Skip,
-        }
+        to(Place::Start, Deed::Skip)
     } else {
         start_field(byte)
     }
@@ -121,15 +112,9 @@ fn in_quotes(byte: u8) -> Turn
     ensures { (state_of result.place, action_of result.deed) ≡ Machine.step default_config st.InQuoted byte }
 {
     if byte == b'"' {
-        Turn {
-            place: Place::AfterQuote,
-            deed: Deed::Skip,
-        }
+        to(Place::AfterQuote, Deed::Skip)
     } else {
-        Turn {
-            place: Place::Quoted,
-            deed: Deed::Copy,
-        }
+        to(Place::Quoted, Deed::Copy)
     }
 }
 
@@ -137,10 +122,7 @@ fn after_return(byte: u8) -> Turn
     ensures { (state_of result.place, action_of result.deed) ≡ Machine.step default_config st.AfterCr byte }
 {
     if byte == b'\n' {
-        Turn {
-            place: Place::Start,
-            deed: Deed::Skip,
-        }
+        to(Place::Start, Deed::Skip)
     } else {
         start_record(byte)
     }
@@ -219,12 +201,12 @@ pub fn next_record(
     let mut place = place;
     'bytes: for at in 0..bytes.len() {
         let byte = bytes[at];
-        let Some(turn) = step(place, byte) else {
+        let Some(next) = step(place, byte) else {
             return Err(ScanFault::QuoteInside);
         };
-        act(turn.deed, byte, row, field)?;
-        place = turn.place;
-        if is_end(turn.deed) {
+        act(next.deed, byte, row, field)?;
+        place = next.place;
+        if is_end(next.deed) {
             return Ok(Some(RecordEnd { place, len: at + 1 }));
         }
     }

@@ -23,7 +23,7 @@ returns-then-is_end c =
     let field = c.bytes.field.items in
     let xs = c.args.bytes.now in
     let here = at_drop_more (Machine.next_record default_config s fields field) xs c.bytes.at 0 (omega arith) in
-    let stop = stops_at s (state_of c.in-Some.turn.place) (action_of c.in-Some.turn.deed) fields field (get_or xs c.bytes.at 0) (drop (c.bytes.at + 1) xs)
+    let stop = stops_at s (state_of c.in-Some.next.place) (action_of c.in-Some.next.deed) fields field (get_or xs c.bytes.at 0) (drop (c.bytes.at + 1) xs)
     (rw c.in-Some.is at c.step.ensures) (sym c.is_end.ensures ∙ c.if-is_end.true) in
     (omega arith, rw c.in_ok-act.ensures.fields (c.bytes.invariant.reads ∙ here ∙ stop))
 
@@ -34,7 +34,7 @@ bytes-preserved c =
     let field = c.bytes.field.items in
     let xs = c.args.bytes.now in
     let here = at_drop_more (Machine.next_record default_config s fields field) xs c.bytes.at 0 (omega arith) in
-    let on = goes_on s (state_of c.in-Some.turn.place) (action_of c.in-Some.turn.deed) fields field (get_or xs c.bytes.at 0) (drop (c.bytes.at + 1) xs)
+    let on = goes_on s (state_of c.in-Some.next.place) (action_of c.in-Some.next.deed) fields field (get_or xs c.bytes.at 0) (drop (c.bytes.at + 1) xs)
     (rw c.in-Some.is at c.step.ensures) (sym c.is_end.ensures ∙ c.if-is_end.false) in
     record {
       reads = rw (c.in_ok-act.ensures.fields, c.in_ok-act.ensures.field) (c.bytes.invariant.reads ∙ here ∙ on);
