@@ -29,6 +29,7 @@ class Pages(unittest.TestCase):
     def test_junit(self):
         self.page("junit")
 
+    @unittest.skipIf(sys.version_info < (3, 10), "Python before 3.10")
     def test_python(self):
         self.page("python")
 

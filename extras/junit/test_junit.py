@@ -69,6 +69,8 @@ class Reports(unittest.TestCase):
 
     def test_no_results(self):
         self.assertEqual(self.report().get("tests"), "0")
+        done = subprocess.run([HERE / "junit", self.results / "missing"], capture_output=True)
+        self.assertEqual((done.returncode, done.stdout), (1, b""))
 
     def test_any_name_is_well_formed(self):
         names = {
