@@ -1,5 +1,7 @@
 //! Lines drawn at random: each is read as `csv` reads it as a text of its own.
 
+ghost use Rattle.std.specs.Prelude.{◌≤◌};
+
 use crate::runs::chance::Chance;
 use a429_record::{Entry, ReadFault, read_entries};
 use a429_word::{Bus, Tally, Word};
@@ -34,7 +36,7 @@ const BETWEEN: [&[u8]; 8] = [
 
 // One of these texts.
 fn push_one(line: &mut Vec<u8>, chance: &mut Chance, texts: &[&[u8]]) -> Result<(), AllocError> {
-    let many = texts.len() as u32;
+    let many = texts.len().min(100) as u32;
     if many == 0 {
         return Ok(());
     }
@@ -78,7 +80,8 @@ fn some_line(alloc: Global, chance: &mut Chance) -> Result<Vec<u8>, AllocError> 
 
 // The number of digits, of which there are at most so many.
 fn number_of(digits: &[u8], radix: u32, most: usize) -> Option<u64>
-    requires radix { (2 ≤ radix) × (radix ≤ 36) }
+    requires least { 2 ≤ radix }
+    requires largest { radix ≤ 36 }
 {
     if digits.is_empty() || digits.len() > most {
         return None;
