@@ -75,8 +75,8 @@ class Reports(unittest.TestCase):
     def test_any_name_is_well_formed(self):
         names = {
             "<a&b \"c'>": "<a&b \"c'>", "]]>": "]]>", "two words": "two words", "a.b": "a.b", "\u00e9\U0001f6e9": "\u00e9\U0001f6e9",
-            "bell\x07": "bell\\x07", "line\nfeed\ttab\rreturn": "line\nfeed\ttab\rreturn", "\ufffe": "\\ufffe",
-            os.fsdecode(b"\xff"): "\\udcff",
+            "bell\x07": "bell\\x07", "line\nfeed\ttab\rreturn": "line\nfeed\ttab\rreturn", "\ufffe": "\\xef\\xbf\\xbe",
+            os.fsdecode(b"\xff"): "\\xff",
         }  # fmt: skip
         for name in names:
             self.put(name, 1, f"IMPOSSIBLE 1 NotGranted {name}".encode(errors="replace").decode())

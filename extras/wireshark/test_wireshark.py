@@ -12,7 +12,7 @@ EXAMPLES = HERE.parents[1] / "examples"
 
 
 def capture(*words):
-    """Runs `capture`, and gives its exit status."""
+    """Runs `capture`, and returns its exit status."""
     return subprocess.run([HERE / "capture", EXAMPLES / "sample.toml", *words], stderr=subprocess.DEVNULL).returncode
 
 
