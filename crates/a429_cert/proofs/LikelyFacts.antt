@@ -21,7 +21,8 @@ use Rattle.a429_cert.specs.Version.{read_as}
 use Rattle.a429_cert.specs.declared.line.CertLine.{CertLine}
 use Rattle.a429_cert.specs.declared.version.Version.{Version}
 use Rattle.a429_cert.specs.declared.version.Version.TheVariants.{One, Two}
-use Rattle.a429_cert.specs.Likely.{sent_line, taken_line, texts_below, IsLikely}
+use Rattle.a429_cert.specs.declared.act.Act.TheVariants.{Sent, SinkTakes}
+use Rattle.a429_cert.specs.Likely.{sent_states, taken_states, sent_line, taken_line, texts_below, IsLikely}
 use Rattle.a429_cert.specs.StreamHead.{ReadsAtMost}
 use Rattle.a429_cert.specs.declared.stream_fault.StreamFault.TheVariants as stream
 use Rattle.a429_cert.proofs.LineShape.{IsVisible, line-visible}
@@ -45,13 +46,33 @@ sent_spells k least most = record { line = (omega arith, (least, omega arith)); 
 taken_spells : (k : ℕ) → 1 ≤ k → k < 254 → SpellsLine (spelling (taken_line k)) (taken_line k)
 taken_spells k least most = record { line = (omega arith, (omega arith, omega arith)); held = (omega arith, omega arith); spelled = refl }
 
-sent_read : (v : Version) (k : ℕ) → read_as v (Some (spelling (sent_line k))) ≡ Some (spelling (sent_line k))
-sent_read One k = refl
-sent_read Two k = refl
+-- neither is read in another way by a version
+sent_read : (k : ℕ) (v : Version) → read_as v (Some (spelling (sent_line k))) ≡ Some (spelling (sent_line k))
+sent_read k One = refl
+sent_read k Two = refl
 
-taken_read : (v : Version) (k : ℕ) → read_as v (Some (spelling (taken_line k))) ≡ Some (spelling (taken_line k))
-taken_read One k = refl
-taken_read Two k = refl
+taken_read : (k : ℕ) (v : Version) → read_as v (Some (spelling (taken_line k))) ≡ Some (spelling (taken_line k))
+taken_read k One = refl
+taken_read k Two = refl
+
+moved_is : (m n : MovedLine) → Moved m ≡ Moved n → m ≡ n
+moved_is m n e = cc e
+
+-- a line that may be spelled so, and that each version reads as it is
+likely : (n : MovedLine) (text : List ℕ) (m : MovedLine) → SpellsLine (spelling (Moved n)) (Moved n)
+    → ((v : Version) → read_as v (Some (spelling (Moved n))) ≡ Some (spelling (Moved n))) → text ≡ spelling (Moved n) → Moved m ≡ Moved n → IsLikely text m
+likely n text m spells read e is =
+    rw (e, moved_is m n is) (record {
+      says = λ v. rw (read v) spells;
+      spells = spells;
+      ends = λ rest. line_first (Moved n) (spelling (Moved n)) rest spells;
+    })
+
+pub sent_likely : (k : ℕ) (text : List ℕ) (m : MovedLine) → 1 ≤ k → k < 254 → text ≡ spelling (sent_line k) → Moved m ≡ sent_line k → IsLikely text m
+sent_likely k text m least most = likely (record { act = Sent; states = sent_states k }) text m (sent_spells k least most) (sent_read k)
+
+pub taken_likely : (k : ℕ) (text : List ℕ) (m : MovedLine) → 1 ≤ k → k < 254 → text ≡ spelling (taken_line k) → Moved m ≡ taken_line k → IsLikely text m
+taken_likely k text m least most = likely (record { act = SinkTakes; states = taken_states k }) text m (taken_spells k least most) (taken_read k)
 
 -- ---- the table
 
@@ -61,25 +82,6 @@ one_more f old new n text e g h = rw (add-one, g, e, h) refl
 length-below : (f : ℕ → List ℕ) (n : ℕ) → length (texts_below f n) ≡ n
 length-below f zero = refl
 length-below f (suc n) = omega (arith, length-append (texts_below f n) (f n ∷ []), length-below f n)
-
-moved_is : (m n : MovedLine) → Moved m ≡ Moved n → m ≡ n
-moved_is m n e = cc e
-
-pub sent_likely : (k : ℕ) (text : List ℕ) (m : MovedLine) → 1 ≤ k → k < 254 → text ≡ spelling (sent_line k) → Moved m ≡ sent_line k → IsLikely text m
-sent_likely k text m least most e is =
-    rw (e, moved_is m _ is) (record {
-      says = λ v. rw (sent_read v k) (sent_spells k least most);
-      spells = sent_spells k least most;
-      ends = λ rest. line_first (sent_line k) (spelling (sent_line k)) rest (sent_spells k least most);
-    })
-
-pub taken_likely : (k : ℕ) (text : List ℕ) (m : MovedLine) → 1 ≤ k → k < 254 → text ≡ spelling (taken_line k) → Moved m ≡ taken_line k → IsLikely text m
-taken_likely k text m least most e is =
-    rw (e, moved_is m _ is) (record {
-      says = λ v. rw (taken_read v k) (taken_spells k least most);
-      spells = taken_spells k least most;
-      ends = λ rest. line_first (taken_line k) (spelling (taken_line k)) rest (taken_spells k least most);
-    })
 
 -- the text of a number below
 pub get-below : (f : ℕ → List ℕ) (n k : ℕ) (d : List ℕ) → k < n → get_or (texts_below f n) k d ≡ f k
