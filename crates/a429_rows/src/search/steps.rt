@@ -198,7 +198,7 @@ fn search_differs(
 fn first_search(alloc: Global, profile: &Profile) -> Result<Option<[u32; 3]>, AllocError> {
     for i in 0..15 {
         for j in 0..15 {
-            for k in 0..15 {
+            for k in 0..7 {
                 for count in 1..6 {
                     if search_differs(alloc, profile, count, [i, j, k])? {
                         return Ok(Some([i, j, k]));
