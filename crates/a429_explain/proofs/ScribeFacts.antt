@@ -1,5 +1,5 @@
 -- What the scribe has written: its text is one of lines, and each line lists a step of a run.
-use Rattle.std.proofs.Common.{◌≡◌, ◌≢◌, ℕ, zero, suc, ◌≤◌, ◌<◌, ◌==◌, length, if◌then◌else◌, Bool, true, false, ◌||◌, List, [], ◌∷◌, ◌++◌, map, take, Option, Some, None, Result, Ok, Err, OnOk, refl, sym, ap, ◌∙◌, subst, arith, append_assoc, append-nil}
+use Rattle.std.proofs.Common.{◌≡◌, ◌≢◌, ℕ, zero, suc, ◌≤◌, ◌<◌, ◌==◌, length, if◌then◌else◌, Bool, true, false, ◌||◌, List, [], ◌∷◌, ◌++◌, map, take, slice_get, Option, Some, None, Result, Ok, Err, OnOk, IfErr, refl, sym, ap, ◌∙◌, subst, arith, append_assoc, append-nil}
 use Rattle.std.specs.List.{AllByRecursion}
 use Rattle.std.proofs.lemmas.Bool.{ne_eqb}
 use Rattle.a429_profile.specs.Profile.{Contents}
@@ -32,18 +32,20 @@ use Rattle.a429_cert.specs.declared.version.Version.TheVariants.{One, Two}
 use Rattle.a429_cert.specs.Version.{version_line, is_give_up, gives_up, least_version}
 use Rattle.a429_cert.specs.Lines.{certificate_lines, begun_with}
 use Rattle.a429_cert.proofs.VersionFacts.{least_lists}
-use Rattle.a429_explain.specs.Explanation.{HasLeastVersion, IsWhyNotWritten}
+use Rattle.a429_explain.specs.Explanation.{HasLeastVersion, IsRefusedAt, IsWhyNotWritten}
+use Rattle.a429_explain.specs.declared.guess.Guess.{Guess}
+use Rattle.a429_explain.specs.Plan.{plan_for, plans_after}
 use Rattle.a429_explain.specs.declared.explanation.Refusal.{Refusal}
 use Rattle.a429_explain.specs.declared.explanation.Refusal.TheVariants.{NotReplayed, OutOfMemory}
 use Rattle.a429_cert.specs.Explained.{step_of, ShowsStates, ListsSteps, IsExplained, Explains}
 use Rattle.a429_cert.specs.Act.{step_with, letter_of}
 use Rattle.a429_cert.proofs.LineShape.{IsVisible, line-visible}
-use Rattle.a429_cert.proofs.ExplainedFacts.{trace_push, lists_push, in_some_run}
+use Rattle.a429_cert.proofs.ExplainedFacts.{trace_push, lists_push, lists_run, in_some_run}
 use Rattle.a429_explain.specs.declared.attempts.Role.{Role}
 use Rattle.a429_explain.specs.declared.attempts.Role.TheVariants.{Request}
 use Rattle.a429_explain.specs.declared.plan.Plan.{Plan}
 use Rattle.a429_explain.specs.declared.scribe.Scribe.{Scribe}
-use Rattle.a429_explain.specs.Scribe.{IsLossless, lossless_steps, lines_text, in_version, HasWritten, with_next, WritesNext, link_after, CanMake, giving_up, begin_steps, sent, IsAtRest, IsClosing, Closes, ClosesOn, HasAsked}
+use Rattle.a429_explain.specs.Scribe.{OnlyLacksMemory, CannotWrite, IsLossless, lossless_steps, lines_text, in_version, HasWritten, with_next, WritesNext, link_after, CanMake, giving_up, begin_steps, sent, IsAtRest, IsClosing, Closes, ClosesOn, HasAsked}
 
 -- ---- the lines of a text
 
@@ -177,10 +179,32 @@ run_begun items first text gave l h =
     record { first = r.first; byte = r.byte; steps = r.steps; run = r.run; more = []; records = r.recorded ∙ sym (append-nil items) }
 
 -- so the words before an entry whose steps are refused do
-pub why_refused : (p : Contents) (items : List Seen) (n : ℕ) (f : StepFault) (r : Refusal) → (f ≡ fault.OutOfMemory → r ≡ OutOfMemory) → (f ≢ fault.OutOfMemory → r ≡ NotReplayed n) → n < length items → BeginsARun p (take n items) → IsWhyNotWritten p items r
-why_refused p items n fault.OutOfMemory r memory other l h = rw (memory refl) tt
-why_refused p items n fault.NotAllowed r memory other l h = rw (other (λ e. cc e)) (l, h)
-why_refused p items n fault.WordDiffers r memory other l h = rw (other (λ e. cc e)) (l, h)
+pub why_refused : (p : Contents) (items : List Seen) (g : Guess) (n : ℕ) (f : StepFault) (r : Refusal) → (f ≡ fault.OutOfMemory → r ≡ OutOfMemory) → (f ≢ fault.OutOfMemory → r ≡ NotReplayed n) → n < length items → BeginsARun p (take n items) → (f ≢ fault.OutOfMemory → IsRefusedAt p items g n) → IsWhyNotWritten p items g r
+why_refused p items g n fault.OutOfMemory r memory other l h k = rw (memory refl) tt
+why_refused p items g n fault.NotAllowed r memory other l h k = rw (other (λ e. cc e)) (l, h, k (λ e. cc e))
+why_refused p items g n fault.WordDiffers r memory other l h k = rw (other (λ e. cc e)) (l, h, k (λ e. cc e))
+
+-- the entry after those that were written
+pub refused_next : (items : List Seen) (g : Guess) (n : ℕ) (i : Seen) (r : Role) (plan : Option Plan) (text : List ℕ) (gave : Bool) (l : LinkValue) → slice_get items n ≡ Some i → slice_get g.roles.items n ≡ Some r → plan ≡ plan_for r n (plans_after (take n g.roles.items) 0 g.plans.items) → HasWritten g.first_file (take n items) text gave l → CannotWrite r i plan l → IsRefusedAt l.profile items g n
+refused_next items g n i r plan text gave l is role planned h cannot = record {
+  item = i;
+  is = is;
+  steps = h.steps;
+  run = lists_run l.profile (map (λ line. Some line) h.lines) h.steps (start l.profile g.first_file) h.lists;
+  records = h.used;
+  role = r;
+  role_is = role;
+  cannot = subst (λ (s : State). CannotWrite r i (plan_for r n (plans_after (take n g.roles.items) 0 g.plans.items)) (record { profile = l.profile; state = s })) h.ends (subst (λ (o : Option Plan). CannotWrite r i o l) planned cannot);
+}
+
+-- what is refused for another reason than memory cannot be made
+pub not_made : {X : Type 0} (r : Result X StepFault) (Ready Made : Type 0) → (Ready → Made → OnlyLacksMemory r) → IfErr r (λ e. e ≢ fault.OutOfMemory → Ready → ¬ Made)
+not_made (Ok x) Ready Made h = tt
+not_made (Err e) Ready Made h = λ other ready made. other (h ready made)
+
+-- the steps of a request can be made only if those before it can
+pub asking_parts : (plan : Option Plan) (i : Seen) (l : LinkValue) → CanMake (begin_steps plan ++ sent i) l → CanMake (begin_steps plan) l × CanMake (sent i) (link_after (begin_steps plan) l)
+asking_parts plan i l can = run_split l.profile (begin_steps plan) (sent i) l.state can
 
 -- ---- the line of a step
 

@@ -1,5 +1,5 @@
 -- What the source does before a group of attempts, and the numbers that it has (profile).
-use Rattle.std.specs.Prelude.{ℕ, ◌==◌, Bool, false, if◌then◌else◌, Option, Some, None, List, [], ◌∷◌, slice_get}
+use Rattle.std.specs.Prelude.{ℕ, ◌+◌, ◌==◌, Bool, false, if◌then◌else◌, Option, Some, None, List, [], ◌∷◌, slice_get}
 use Rattle.a429_profile.specs.declared.codes.Codes.{Codes}
 use Rattle.a429_profile.specs.Profile.{Contents}
 use Rattle.a429_ldu.specs.Ldu.{LduValue, IsLdu}
@@ -52,3 +52,8 @@ plan_for _ at plans = None
 abbrev pub plans_left : Role → ℕ → List Plan → List Plan
 plans_left (Request n start) at plans = if begins_at at plans then rest plans else plans
 plans_left _ at plans = plans
+
+-- those that come next after entries with these roles, the first of them entry `at`
+abbrev pub plans_after : List Role → ℕ → List Plan → List Plan
+plans_after [] at plans = plans
+plans_after (r ∷ rs) at plans = plans_after rs (at + 1) (plans_left r at plans)

@@ -18,7 +18,7 @@ use Rattle.a429_cert.specs.declared.version.Version.TheVariants.{One}
 use Rattle.a429_cert.specs.Version.{version_line, gives_up}
 use Rattle.a429_cert.specs.Explained.{ListsSteps}
 use Rattle.a429_explain.specs.declared.attempts.Role.{Role}
-use Rattle.a429_explain.specs.declared.attempts.Role.TheVariants.{Free, Request, Clear, OfBlock, Acknowledged}
+use Rattle.a429_explain.specs.declared.attempts.Role.TheVariants.{Free, Request, Clear, OfBlock, Acknowledged, Refused}
 use Rattle.a429_explain.specs.declared.plan.Plan.{Plan}
 use Rattle.a429_explain.specs.declared.scribe.Scribe.{Scribe}
 
@@ -115,6 +115,30 @@ ClosesOn l m = (k : LinkValue) → Closes k l → Closes k m
 abbrev pub HasAsked : Role → Seen → Option Plan → LinkValue → LinkValue → Type 0
 HasAsked (Request n start) i plan l m = (closed : LinkValue) × Closes l closed × (m ≡ link_after (begin_steps plan ++ sent i) closed)
 HasAsked _ i plan l m = Unit {0}
+
+-- ---- what an entry is refused for
+
+-- an answer of the sink is recorded, and lost before the source hears it
+abbrev pub unheard : Seen → List Step
+unheard i = step.Answered i ∷ (step.LoseAnswer ∷ [])
+
+-- the steps of an entry before which no word is lost and this plan is carried out
+abbrev pub plain_steps : Role → Seen → Option Plan → List Step
+plain_steps Free i plan = step.FreeSeen i ∷ []
+plain_steps (Request n start) i plan = begin_steps plan ++ sent i
+plain_steps OfBlock i plan = sent i
+plain_steps (Clear used) i plan = if used then answered i else unheard i
+plain_steps (Acknowledged ends) i plan = if ends then answered i else unheard i
+plain_steps Refused i plan = answered i
+
+-- the attempt before a request is closed
+abbrev pub IsReady : Role → LinkValue → Type 0
+IsReady (Request n start) l = IsAtRest l
+IsReady _ l = Unit {0}
+
+-- where the attempt before it is closed, the entry cannot be written without a loss
+abbrev pub CannotWrite : Role → Seen → Option Plan → LinkValue → Type 0
+CannotWrite role i plan l = IsReady role l → ¬ CanMake (plain_steps role i plan) l
 
 -- ---- where nothing is lost on the way
 

@@ -46,7 +46,7 @@ pub fn explain_by(
     ensures every { IfOk result (λ e. AreInEveryRun profile.now (items_of entries.now) e.files) }
     ensures accepted { IfOk result (λ e. HasNoFault profile.now e.certificate (items_of entries.now)) }
     ensures version { IfOk result (λ e. HasLeastVersion profile.now e.certificate (items_of entries.now)) }
-    ensures refused { IfErr result (λ r. IsWhyNotWritten profile.now (items_of entries.now) r) }
+    ensures refused { IfErr result (IsWhyNotWritten profile.now (items_of entries.now) guess) }
     ensures without_loss { IsOfCrossing (decoded profile.now (items_of entries.now)) guess → IfErr result (λ r. r ≡ Refusal.OutOfMemory) }
 {
     // (for the proof: the profile is sound)

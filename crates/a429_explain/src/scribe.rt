@@ -1,6 +1,6 @@
 //! The lines of a certificate, each written as a link makes its step.
 
-ghost use Rattle.std.specs.Prelude.{◌≡◌, ◌≢◌, ◌<◌, List, length, ◌++◌, ◌∷◌, [], Ok, None, Some, true, IfOk, IfErr, IfSome, IsSome, OnOk};
+ghost use Rattle.std.specs.Prelude.{◌≡◌, ◌≢◌, ◌<◌, List, length, ◌++◌, ◌∷◌, [], Ok, None, Some, true, IfOk, IfErr, IfSome, IsSome, OnOk, false};
 ghost use Rattle.a429_ldu.specs.Ldu.{IsLdu};
 ghost use Rattle.a429_link.specs.declared.step.Step.TheVariants as step;
 ghost use Rattle.a429_link.specs.Sink.{Listens};
@@ -8,7 +8,7 @@ ghost use Rattle.a429_link.specs.Source.{IsIdle};
 ghost use Rattle.a429_link.specs.Step.{Can, LoadsLdu, label};
 ghost use Rattle.a429_link.specs.State.{start};
 ghost use Rattle.a429_cert.specs.Line.{IsLine, IsHeld, spelling};
-ghost use Rattle.a429_explain.specs.Scribe.{in_version, Wrote, WritesNext, link_after, CanMake, OnlyLacksMemory, sent, answered, IsAtRest, giving_up, begin_steps, IsClosing, ClosesOn, HasAsked, MakesLossless};
+ghost use Rattle.a429_explain.specs.Scribe.{in_version, Wrote, WritesNext, link_after, CanMake, OnlyLacksMemory, sent, answered, unheard, IsAtRest, CannotWrite, giving_up, begin_steps, IsClosing, ClosesOn, HasAsked, MakesLossless};
 ghost use Rattle.a429_cert.specs.Act.{letter_of};
 ghost use Rattle.a429_cert.specs.Version.{is_give_up};
 
@@ -94,6 +94,7 @@ impl<'a> Scribe<'a> {
         ensures written { OnOk result (WritesNext (Some seen) self.old self.new) }
         ensures lossless { MakesLossless role seen plan self.old.link self.new.link result }
         ensures asked { OnOk result (HasAsked role seen plan self.old.link self.new.link) }
+        ensures refused { IfErr result (λ e. e ≢ StepFault.OutOfMemory → CannotWrite role seen plan self.old.link) }
     {
         match role {
             Role::Free => self.make(Step::FreeSeen(seen)),
@@ -224,6 +225,7 @@ impl<'a> Scribe<'a> {
         ensures profile { self.new.link.profile ≡ self.old.link.profile }
         ensures written { OnOk result (WritesNext (Some seen) self.old self.new) }
         ensures lossless { is_taken ≡ true → CanMake (answered seen) self.old.link → OnlyLacksMemory result }
+        ensures lost { is_taken ≡ false → CanMake (unheard seen) self.old.link → OnlyLacksMemory result }
         ensures reached { is_taken ≡ true → OnOk result (self.new.link ≡ link_after (answered seen) self.old.link) }
     {
         match self.make(Step::Answered(seen)) {

@@ -1,4 +1,8 @@
-//! Link data units of which each attempt was recorded with losses, under the sample profile.
+//! Link data units of which each attempt was recorded with losses, under the sample profile; and each step to one on short
+//! lists.
+
+mod plain;
+mod steps;
 
 ghost use Rattle.std.specs.Prelude.{◌≤◌};
 

@@ -1,5 +1,7 @@
-use Rattle.std.proofs.Common.{◌≡◌, ◌<◌, ℕ, List, [], ◌∷◌, ◌++◌, ◌+◌, Option, sym, take, drop, length, take_all, ap, subst, ◌∙◌, arith}
+use Rattle.std.proofs.Common.{◌≡◌, ◌<◌, ℕ, List, [], ◌∷◌, ◌++◌, ◌+◌, Option, Some, slice_get, option_map, refl, sym, take, drop, length, take_all, ap, subst, ◌∙◌, arith}
 use Rattle.std.specs.Option.{IfSome}
+use Rattle.std.proofs.lemmas.Option.{slice_get-map, slice_get_read}
+use Rattle.a429_cert.specs.Explained.{seen_of}
 use Rattle.a429_ldu.specs.Ldu.{IsLdu}
 use Rattle.a429_link.specs.declared.seen.Seen.{Seen}
 use Rattle.a429_link.specs.Link.{LinkValue}
@@ -9,13 +11,13 @@ use Rattle.a429_cert.specs.Fault.{IsFirstCertFault}
 use Rattle.a429_cert.proofs.NoFault.{no_fault}
 use Rattle.a429_cert.proofs.ExplainedFacts.{in_every_run}
 use Rattle.a429_explain.specs.declared.plan.Plan.{Plan}
-use Rattle.a429_explain.specs.Explanation.{HasLeastVersion}
+use Rattle.a429_explain.specs.Explanation.{HasLeastVersion, IsRefusedAt}
 use Rattle.a429_explain.specs.Guess.{decoded, IsOfCrossing}
-use Rattle.a429_explain.specs.Plan.{ArePlans}
+use Rattle.a429_explain.specs.Plan.{ArePlans, plan_for, plans_left}
 use Rattle.a429_explain.specs.Scribe.{in_version, Wrote}
 use Rattle.a429_explain.proofs.MatchingFacts.{length-items_of}
-use Rattle.a429_explain.proofs.PlanFacts.{plan_fits, left_fit}
-use Rattle.a429_explain.proofs.ScribeFacts.{certificate_written, version_written, written_long, run_begun, why_refused}
+use Rattle.a429_explain.proofs.PlanFacts.{plan_fits, left_fit, after_more}
+use Rattle.a429_explain.proofs.ScribeFacts.{certificate_written, version_written, written_long, run_begun, why_refused, refused_next}
 use Rattle.a429_explain.proofs.ScribeWithoutLoss.{Goes, entries_next, entry_next, goes_run, goes_lossless, plan_kept, plan_starts}
 use Rattle.a429_explain.proofs.explanation.explain_by.Goals as goal
 use Rattle.a429_explain.proofs.explanation.explain_by.Goals.{After-seen, After-into_parts-text}
@@ -29,6 +31,7 @@ loop-at-init c = record {
   profile = ap {A = LinkValue} (λ l. l.profile) c.in-Ok.ensures.start;
   plans = c.requires.plans;
   written = c.in-Ok.ensures.written;
+  left = refl;
   plan = λ h. plan_starts c.args.profile.now c.codes-codes.ensures.sound (items_of c.args.entries.now) c.args.guess c.in-Ok.scribe.link c.in-Ok.ensures.written.byte h c.in-Ok.ensures.start;
 }
 
@@ -44,7 +47,12 @@ returns-in-Err-clause-refused c =
     let s = c.loop-at.scribe in
     let inside : c.loop-at.at < length items = omega (arith, c.loop-at-test.true, length-items_of c.args.entries.now) in
     let begun = subst (λ q. BeginsARun q (take c.loop-at.at items)) c.loop-at.invariant.profile (run_begun (take c.loop-at.at items) c.args.guess.first_file s.text.items s.gave_up s.link c.loop-at.invariant.written) in
-    why_refused c.args.profile.now items c.loop-at.at c.in-Err.fault c.refused_at.result c.refused_at.ensures.memory c.refused_at.ensures.step inside begun
+    let here : slice_get items c.loop-at.at ≡ Some c.seen.result = slice_get-map seen_of c.args.entries.now c.loop-at.at ∙ ap (option_map seen_of) (slice_get_read c.args.entries.now (length c.args.entries.now) c.loop-at.at c.index-entries-at.result refl c.loop-at-test.true c.index-entries-at.is) ∙ ap Some (sym c.seen.ensures) in
+    let role : slice_get c.args.guess.roles.items c.loop-at.at ≡ Some c.index-role.result.now = slice_get_read c.args.guess.roles.items (length c.args.guess.roles.items) c.loop-at.at c.index-role.result.now refl (omega (arith, inside, c.requires.many)) c.index-role.ensures in
+    let plan = c.take_plan-plan.ensures.taken ∙ ap (plan_for c.index-role.result.now c.loop-at.at) c.loop-at.invariant.left in
+    why_refused c.args.profile.now items c.args.guess c.loop-at.at c.in-Err.fault c.refused_at.result c.refused_at.ensures.memory c.refused_at.ensures.step inside begun
+    (λ other. subst (λ q. IsRefusedAt q items c.args.guess c.loop-at.at) c.loop-at.invariant.profile
+    (refused_next items c.args.guess c.loop-at.at c.seen.result c.index-role.result.now c.take_plan-plan.result s.text.items s.gave_up s.link here role plan c.loop-at.invariant.written (c.in-Err.ensures.refused other)))
 
 pub returns-in-Err-clause-without_loss : goal.returns-in-Err-clause-without_loss
 returns-in-Err-clause-without_loss c = λ h.
@@ -62,6 +70,7 @@ loop-at-preserved c =
       profile = c.in-Ok-write_entry.ensures.profile ∙ c.loop-at.invariant.profile;
       plans = subst (ArePlans p) (sym c.take_plan-plan.ensures.left) (left_fit p c.index-role.result.now c.loop-at.at c.loop-at.plans.items c.loop-at.invariant.plans);
       written = subst (λ (items : List Seen). Wrote c.args.guess.first_file items c.write_entry.new.self) (ap (λ (i : Seen). take c.loop-at.at (items_of es) ++ i ∷ []) c.seen.ensures ∙ entries_next es c.loop-at.at c.index-entries-at.result c.loop-at-test.true c.index-entries-at.is) (c.in-Ok-write_entry.ensures.written c.args.guess.first_file (take c.loop-at.at (items_of es)) c.loop-at.invariant.written);
+      left = c.take_plan-plan.ensures.left ∙ ap (plans_left c.index-role.result.now c.loop-at.at) c.loop-at.invariant.left ∙ sym (after_more c.args.guess.roles.items c.loop-at.at c.index-role.result.now c.args.guess.plans.items (omega (arith, c.loop-at-test.true, c.requires.many, length-items_of es)) c.index-role.ensures);
       plan = λ h.
           let k = goes (goal.at.loop-at-preserved c).After-seen h in
           let more = drop (c.loop-at.at + 1) (items_of es) in
