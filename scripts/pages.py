@@ -7,7 +7,7 @@ from urllib.parse import unquote
 from console import blocks_of
 
 # A line of a block that is a command, in a block that is not `console`.
-COMMAND = re.compile(r"(?:scripts/|\.ci/|\./|a429 |rt |cd |export )")
+COMMAND = re.compile(r"(?:scripts/|\.ci/|\./|a429 [a-z]|rt |cd |export )")
 # The line above a block whose commands no test can run, with the reason.
 NOT_RUN = re.compile(r"<!-- not run: .+ -->")
 

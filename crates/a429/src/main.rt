@@ -4,7 +4,7 @@
 use a429_check::{
     Canvas, Claim, Command, Folder, RunFault, Span, command, read_whole, report, run_check,
     run_decide, run_extract, run_forms, run_labels, run_make, run_pack, run_picture, run_show,
-    run_units, run_upgrade, run_verify, run_word,
+    run_survey, run_units, run_upgrade, run_verify, run_version, run_word,
 };
 use a429_record::EntryReader;
 use a429_view::UnitRows;
@@ -67,10 +67,12 @@ fn answer<W: Write + Drop>(
 ) -> Result<u8, RunFault> {
     let mut out = out;
     let status = match command {
+        Command::Version => run_version(&mut out),
         Command::Word(hex) => run_word(hex, &mut out),
         Command::Labels(profile) => labels(rt, alloc, profile, &mut out),
         Command::Show { profile, recording } => show(rt, alloc, profile, recording, &mut out),
         Command::Forms { profile, recording } => forms(rt, alloc, profile, recording, &mut out),
+        Command::Survey { profile, recording } => survey(rt, alloc, profile, recording, &mut out),
         Command::Make { profile, files } => make(rt, alloc, profile, files.as_slice(), &mut out),
         Command::Pack(recording) => pack(rt, alloc, recording, &mut out),
         Command::Check(claim) => check(rt, alloc, claim, &mut out),
@@ -133,6 +135,18 @@ fn forms<W: Write>(
     let profile = bytes_of(rt, alloc, profile)?;
     let mut rec = opened(rt, recording, CAP)?;
     run_forms(alloc, profile.as_slice(), &mut rec, out)
+}
+
+fn survey<W: Write>(
+    rt: &impl Files,
+    alloc: Global,
+    profile: &str,
+    recording: &str,
+    out: &mut Tally<W>,
+) -> Result<u8, RunFault> {
+    let profile = bytes_of(rt, alloc, profile)?;
+    let mut rec = opened_whole(rt, alloc, recording)?;
+    run_survey(alloc, profile.as_slice(), &mut rec, out)
 }
 
 fn make<W: Write>(
@@ -314,6 +328,16 @@ fn opened_claim<F: Files>(
 fn opened<F: Files>(rt: &F, path: &str, cap: u64) -> Result<Tally<F::File>, RunFault> {
     let file = fs::open(rt, path).map_err(|_| RunFault::Device)?;
     Ok(Tally::new(file, cap))
+}
+
+// A recording of any length to read.
+fn opened_whole<F: Files>(
+    rt: &F,
+    alloc: Global,
+    path: &str,
+) -> Result<EntryReader<F::File>, RunFault> {
+    let rec = opened(rt, path, u64::MAX)?;
+    Ok(EntryReader::of_most(alloc, rec, usize::MAX))
 }
 
 // A certificate to read, in pieces that are larger than its longest line.

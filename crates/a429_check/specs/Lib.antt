@@ -15,3 +15,6 @@ pub mod Pack
 pub mod Upgrade
 pub mod Units
 pub mod Picture
+pub mod Streaming
+pub mod Survey
+pub mod Version

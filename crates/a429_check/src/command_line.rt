@@ -27,6 +27,7 @@ fn command_of<'a>(alloc: Global, matches: &ArgMatches<'a>) -> Result<Command<'a>
     ensures { IfErr result (λ e. (e ≡ RunFault.Memory) ⊎ (e ≡ RunFault.Usage)) }
 {
     match matches.subcommand() {
+        Some(("version", _)) => Ok(Command::Version),
         Some(("word", given)) => match given.get_str("HEX") {
             Some(hex) => Ok(Command::Word(hex)),
             None => Err(RunFault::Usage),
@@ -78,6 +79,7 @@ fn of_recording<'a>(name: &str, given: &ArgMatches<'a>) -> Result<Command<'a>, R
     match name {
         "show" => return Ok(Command::Show { profile, recording }),
         "forms" => return Ok(Command::Forms { profile, recording }),
+        "survey" => return Ok(Command::Survey { profile, recording }),
         _ => {}
     }
     let Some(certificate) = given.get_str("CERT") else {
@@ -126,11 +128,13 @@ fn parser<'a>(alloc: Global) -> Result<Parser<'a>, AllocError> {
     let all = Parser::new(alloc, "a429")
         .no_binary_name(true)
         .subcommand_required(true);
+    let all = with(all, Ok(Parser::new(alloc, "version")))?;
     let all = with(all, Parser::new(alloc, "word").arg(once(alloc, "HEX")))?;
     let all = with(all, with_profile(alloc, "labels"))?;
     let all = with(all, Parser::new(alloc, "pack").arg(once(alloc, "REC")))?;
     let all = with(all, with_recording(alloc, "show"))?;
     let all = with(all, with_recording(alloc, "forms"))?;
+    let all = with(all, with_recording(alloc, "survey"))?;
     let all = with(all, with_certificate(alloc, "check"))?;
     let all = with(all, with_certificate(alloc, "decide"))?;
     let all = with(all, with_certificate(alloc, "verify"))?;

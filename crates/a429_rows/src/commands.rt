@@ -12,6 +12,7 @@ pub(crate) mod make;
 pub(crate) mod pack;
 mod picture;
 pub(crate) mod show;
+mod survey;
 pub(crate) mod units;
 pub(crate) mod upgrade;
 mod verify;

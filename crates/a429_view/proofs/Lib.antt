@@ -2,3 +2,4 @@ pub mod UnitsFacts
 pub mod SketchFacts
 pub mod PictureFacts
 pub mod CrossingsFacts
+pub mod SurveyFacts

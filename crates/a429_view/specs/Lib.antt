@@ -5,3 +5,4 @@ pub mod Mark
 pub mod Sketch
 pub mod Crossings
 pub mod Picture
+pub mod Survey

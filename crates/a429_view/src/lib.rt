@@ -6,10 +6,13 @@ pub mod laws;
 mod mark;
 mod picture;
 mod sketch;
+mod survey;
 mod units;
 
 pub use crate::forms::put_what;
 pub use crate::mark::{Mark, Recorded, Span};
 pub use crate::picture::put_picture;
 pub use crate::sketch::{MOST_STEPS, Place, Sketch};
+pub use crate::survey::Survey;
+pub use crate::survey::text::put_survey;
 pub use crate::units::rows::UnitRows;

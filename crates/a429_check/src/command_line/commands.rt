@@ -14,6 +14,8 @@ pub struct Claim<'a> {
 /// A command of the program, with its words.
 #[derive(Debug, PartialEq, Eq, Drop)]
 pub enum Command<'a> {
+    /// `version`: names the version of the program, and those of the certificates that it reads.
+    Version,
     /// `word HEX`: shows what a word holds.
     Word(&'a str),
     /// `labels PROFILE`: lists the label table of a profile.
@@ -25,6 +27,11 @@ pub enum Command<'a> {
     },
     /// `forms PROFILE REC`: tells what each word of a recording is to the transfer of a profile.
     Forms {
+        profile: &'a str,
+        recording: &'a str,
+    },
+    /// `survey PROFILE REC`: counts what a recording has.
+    Survey {
         profile: &'a str,
         recording: &'a str,
     },

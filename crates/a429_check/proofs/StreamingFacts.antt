@@ -1,0 +1,63 @@
+-- Entries that come one by one.
+use Rattle.std.proofs.Common.{◌≡◌, List, [], ◌∷◌, ◌++◌, append_assoc, append-nil, Bool, Option, Some, None, Ok, Err, refl, sym, ap, ◌∙◌}
+use Rattle.std.specs.Prelude.{IfSome}
+use Rattle.a429_record.specs.declared.entry.Entry.{Entry}
+use Rattle.a429_record.specs.declared.fault.ReadFault.{ReadFault}
+use Rattle.a429_record.specs.declared.fault.ReadFault.TheVariants as read
+use Rattle.a429_record.specs.Recording.{Recording, whole}
+use Rattle.a429_record.specs.Rows.{GivesNext}
+use Rattle.a429_check.specs.declared.fault.RunFault.{RunFault}
+use Rattle.a429_check.specs.declared.fault.RunFault.TheVariants as run
+use Rattle.a429_profile.specs.declared.codes.Codes.{Codes}
+use Rattle.a429_view.specs.declared.survey.Survey.{Survey}
+use Rattle.a429_view.specs.Survey.{IsSurvey}
+use Rattle.a429_check.specs.Survey.{IsSomeSurvey}
+use Rattle.a429_check.specs.Streaming.{Came, IsFaultToCome, IsNextFault}
+
+pub came_first : (first : Option Recording) → Came first [] first
+came_first None = tt
+came_first (Some r) = (r, refl, refl)
+
+pub came_more : (first left new : Option Recording) (es : List Entry) (e : Entry) → GivesNext left new (Ok (Some e)) → Came first es left → Came first (es ++ e ∷ []) new
+came_more None left new es e gives h = tt
+came_more (Some r) left new es e gives h =
+    let next = rw h.1 at gives in
+    let rest = next.0 in
+    let all = ap (λ (q : Recording). record { entries = es ++ q.entries; fault = q.fault }) next.2 in
+    (rest, next.1, h.2 ∙ all ∙ ap (λ (l : List Entry). record { entries = l; fault = rest.fault }) (sym (append_assoc es (e ∷ []) rest.entries)))
+
+pub came_whole : (first left new : Option Recording) (es : List Entry) → GivesNext left new (Ok None) → Came first es left → IfSome first (λ r. r ≡ whole es)
+came_whole None left new es gives h = tt
+came_whole (Some r) left new es gives h =
+    let end = rw h.1 at gives in
+    h.2 ∙ ap (λ (q : Recording). record { entries = es ++ q.entries; fault = q.fault }) end ∙ ap whole (append-nil es)
+
+earlier : (first left : Option Recording) (es : List Entry) (f : ReadFault) → Came first es left → IfSome left (λ r. r.fault ≡ Some f) → IfSome first (λ r. r.fault ≡ Some f)
+earlier None left es f h is = tt
+earlier (Some r) left es f h is = let there = rw h.1 at is in ap (λ (q : Recording). q.fault) h.2 ∙ there
+
+fault_earlier : (first left : Option Recording) (es : List Entry) (f : ReadFault) → Came first es left → IsFaultToCome left f → IsFaultToCome first f
+fault_earlier first left es read.Header h is = earlier first left es read.Header h is
+fault_earlier first left es (read.Row i) h is = earlier first left es (read.Row i) h is
+fault_earlier first left es (read.TimeBack i) h is = earlier first left es (read.TimeBack i) h is
+fault_earlier first left es read.TooMany h is = earlier first left es read.TooMany h is
+fault_earlier first left es read.Device h is = is
+fault_earlier first left es read.OutOfMemory h is = is
+fault_earlier first left es read.Failed h is = earlier first left es read.Failed h is
+
+-- the fault of what has still to come is that of all
+pub next_earlier : (first left : Option Recording) (es : List Entry) (failed : Bool) (e : RunFault) → Came first es left → IsNextFault left failed e → IsNextFault first failed e
+next_earlier first left es failed (run.Read f) h is = fault_earlier first left es f h is
+next_earlier first left es failed (run.Profile f) h is = is
+next_earlier first left es failed (run.Cut k f) h is = is
+next_earlier first left es failed run.TooLong h is = is
+next_earlier first left es failed run.Device h is = is
+next_earlier first left es failed run.Memory h is = is
+next_earlier first left es failed run.BadWord h is = is
+next_earlier first left es failed run.Usage h is = is
+
+pub where_counted : {P : Type 0} (s : Survey) → IsSomeSurvey s → ((c : Codes) (es : List Entry) → IsSurvey c s es → P) → P
+where_counted s w f = f w.0 w.1 w.2
+
+pub by_fact : {A P : Type 0} → A → (A → P) → P
+by_fact a f = f a

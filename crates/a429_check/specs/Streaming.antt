@@ -1,0 +1,31 @@
+-- What a recording says that is read entry by entry, or what is wrong with it (profile).
+use Rattle.std.specs.Prelude.{◌≡◌, ℕ, List, [], ◌∷◌, ◌++◌, Bool, true, Option, Some, IfSome}
+use Rattle.a429_profile.specs.Profile.{Contents}
+use Rattle.a429_record.specs.declared.entry.Entry.{Entry}
+use Rattle.a429_record.specs.declared.fault.ReadFault.{ReadFault}
+use Rattle.a429_record.specs.declared.fault.ReadFault.TheVariants as read
+use Rattle.a429_record.specs.Recording.{Recording, whole}
+use Rattle.a429_check.specs.declared.fault.RunFault.{RunFault}
+use Rattle.a429_check.specs.Fault.{ComesBy, never}
+use Rattle.a429_check.specs.Profile.{IsProfileOf}
+
+-- a profile's text, and what a reader of a recording has to give, say these contents and entries; what the reader gives need not be known
+pub record SayStream (profile : List ℕ) (rec : Option Recording) : Type 0 where
+  pub contents : Contents
+  pub entries : List Entry
+  pub is_profile : IsProfileOf profile contents
+  pub stand : IfSome rec (λ r. r ≡ whole entries)
+
+-- the fault of what a reader has to give, where that is known; a failed reader and want of memory are none
+abbrev pub IsFaultToCome : Option Recording → ReadFault → Type 0
+IsFaultToCome known read.Device = ⊥
+IsFaultToCome known read.OutOfMemory = ⊥
+IsFaultToCome known f = IfSome known (λ r. r.fault ≡ Some f)
+
+-- why no more entries come: the recording's own fault, a reader that failed, or want of memory
+abbrev pub IsNextFault : Option Recording → Bool → RunFault → Type 0
+IsNextFault known failed = ComesBy (record never { recording = IsFaultToCome known; device = failed ≡ true; memory = Unit {0} })
+
+-- these entries came, and the rest has still to come
+abbrev pub Came : Option Recording → List Entry → Option Recording → Type 0
+Came first es left = IfSome first (λ r. (rest : Recording) × (left ≡ Some rest) × (r ≡ record { entries = es ++ rest.entries; fault = rest.fault }))

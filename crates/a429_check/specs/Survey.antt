@@ -1,0 +1,34 @@
+-- What `a429 survey` writes, and why it may fail (profile).
+use Rattle.std.specs.Prelude.{◌≡◌, ◌⊎◌, ℕ, List, Bool, true, Option, IfSome}
+use Rattle.std.specs.Str.{IsUtf8}
+use Rattle.a429_profile.specs.declared.codes.Codes.{Codes}
+use Rattle.a429_record.specs.declared.entry.Entry.{Entry}
+use Rattle.a429_record.specs.Recording.{Recording, whole}
+use Rattle.a429_view.specs.declared.survey.Survey.{Survey}
+use Rattle.a429_view.specs.Survey.{IsSurvey, survey_text}
+use Rattle.a429_check.specs.declared.fault.RunFault.{RunFault}
+use Rattle.a429_check.specs.Fault.{ComesBy, never}
+use Rattle.a429_check.specs.Profile.{IsSomeProfile, HasFault}
+use Rattle.a429_check.specs.Streaming.{SayStream, IsFaultToCome}
+
+-- the text is that of what a profile's text and a recording say
+pub record Surveys (profile : List ℕ) (rec : Option Recording) (text : List ℕ) : Type 0 where
+  pub says : SayStream profile rec
+  pub lines : text ≡ survey_text says.contents.codes says.entries
+
+-- the counts are those of the entries that come
+abbrev pub Counts : Codes → Option Recording → Survey → Type 0
+Counts c rec s = (es : List Entry) × IsSurvey c s es × IfSome rec (λ r. r ≡ whole es)
+
+-- the counts are those of some entries
+abbrev pub IsSomeSurvey : Survey → Type 0
+IsSomeSurvey s = (c : Codes) × (es : List Entry) × IsSurvey c s es
+
+-- why `survey` may fail: the profile's own fault, then the recording's, a reader or writer that failed after the profile was read, or want of memory, once the profile is known to be a text
+abbrev pub IsSurveyFault : List ℕ → Option Recording → Bool → Bool → RunFault → Type 0
+IsSurveyFault profile rec rec_failed out_failed = ComesBy (record never {
+  profile = HasFault profile;
+  recording = λ f. IsSomeProfile profile × IsFaultToCome rec f;
+  device = IsSomeProfile profile × ((rec_failed ≡ true) ⊎ (out_failed ≡ true));
+  memory = IsUtf8 profile;
+})

@@ -1,0 +1,202 @@
+-- Counts of entries, one more at a time.
+use Rattle.std.proofs.Common.{◌≡◌, ◌≢◌, ℕ, zero, suc, ◌+◌, ◌-◌, ◌^◌, ◌%◌, ◌<◌, ◌≤◌, ◌==◌, min, Bool, true, false, cond, eqb, not, List, [], ◌∷◌, ◌++◌, length, length-append, append-nil, append_assoc, get_or, set, inl, inr, codes, refl, sym, ap, ◌∙◌, subst, arith}
+use Rattle.std.specs.Prelude.{◌↔◌, IsTrue, filter}
+use Rattle.std.specs.Fmt.{decimal}
+use Rattle.std.proofs.lemmas.Bool.{cases_Bool}
+use Rattle.std.proofs.lemmas.Bool.Decides.{nat_tests}
+use Rattle.std.proofs.lemmas.List.{get_or-set_same, get_or-set_other, length-set}
+use Rattle.std.proofs.lemmas.List.Elements.{filter-append}
+use Rattle.a429_word.specs.Word.{count_of_ones, HasOddParity}
+use Rattle.a429_word.specs.Digits.{octal_text}
+use Rattle.a429_word.specs.Bus.{bus_text}
+use Rattle.a429_word.specs.declared.bus.Bus.{Bus}
+use Rattle.a429_word.specs.declared.bus.Bus.TheVariants as bus
+use Rattle.a429_profile.specs.declared.codes.Codes.{Codes}
+use Rattle.a429_record.specs.declared.entry.Entry.{Entry}
+use Rattle.a429_view.specs.declared.survey.kind.WordKind.{WordKind}
+use Rattle.a429_view.specs.declared.survey.counts.Hits.{Hits}
+use Rattle.a429_view.specs.declared.survey.counts.LabelCount.{LabelCount}
+use Rattle.a429_view.specs.declared.survey.counts.BusCount.{BusCount}
+use Rattle.a429_view.specs.declared.survey.Survey.{Survey}
+use Rattle.a429_view.specs.Survey.{Numbered, numbered, on_bus, is_bus, place_of, label_in, with_label, with_even_parity, is_even, last_time, IsHits, IsLabelCount, IsBusCount, IsSurvey, AreTimes, no_hits, no_label, name, times_line, kind_line, label_line, label_lines}
+
+-- ---- one more element, filtered
+
+pub filter_yes : {X : Type 0} (p : X → Bool) (xs : List X) (x : X) → p x ≡ true → filter p (xs ++ x ∷ []) ≡ filter p xs ++ x ∷ []
+filter_yes p xs x e = filter-append p xs (x ∷ []) ∙ rw e refl
+
+pub filter_no : {X : Type 0} (p : X → Bool) (xs : List X) (x : X) → p x ≡ false → filter p (xs ++ x ∷ []) ≡ filter p xs
+filter_no p xs x e = filter-append p xs (x ∷ []) ∙ rw e (append-nil (filter p xs))
+
+pub filter_short : {X : Type 0} (p : X → Bool) (xs : List X) → length (filter p xs) ≤ length xs
+filter_short p [] = omega arith
+filter_short p (x ∷ xs) = elim (cases_Bool (p x)) [
+  | inl here ↦ let short = filter_short p xs in rw here (omega (arith, short))
+  | inr passed ↦ let short = filter_short p xs in rw passed (omega (arith, short))
+]
+
+-- ---- a table of counts, by a key of what is counted
+
+abbrev pub AreBy : {X H : Type 0} → (X → ℕ) → (H → List X → Type 0) → H → ℕ → List H → List X → Type 0
+AreBy key Is none size table xs = (k : ℕ) → k < size → Is (get_or table k none) (filter (λ x. key x == k) xs)
+
+pub by_more : {X H : Type 0} (key : X → ℕ) (Is : H → List X → Type 0) (none : H) (size : ℕ) (table : List H) (xs : List X) (x : X) (h : H) → length table ≡ size → key x < size
+    → AreBy key Is none size table xs → Is h (filter (λ y. key y == key x) xs ++ x ∷ []) → AreBy key Is none size (set table (key x) h) (xs ++ x ∷ [])
+by_more key Is none size table xs x h long inside before one k l = elim (cases_Bool (key x == k)) [
+  | inl same ↦
+      let at : k ≡ key x = grind (arith, nat_tests) in
+      let here : get_or (set table (key x) h) k none ≡ h = rw at (get_or-set_same table (key x) h none (omega (arith, inside, long))) in
+      let more : filter (λ y. key y == k) (xs ++ x ∷ []) ≡ filter (λ y. key y == key x) xs ++ x ∷ [] = filter_yes (λ y. key y == k) xs x same ∙ ap (λ j. filter (λ y. key y == j) xs ++ x ∷ []) at in
+      rw (here, more) one
+  | inr other ↦
+      let apart : k ≢ key x = grind (arith, nat_tests) in
+      rw (get_or-set_other table (key x) k h none apart, filter_no (λ y. key y == k) xs x other) (before k l)
+]
+
+-- ---- the counts of a kind and of a label
+
+-- a counter that is below the largest number counts one more
+one_more : (new old n : ℕ) → new ≡ min (old + 1) (2 ^ 64 - 1) → old ≡ n → n + 1 < 2 ^ 64 → new ≡ n + 1
+one_more new old n e is few = grind arith
+
+even_more : (xs : List Numbered) (x : Numbered) → length (with_even_parity (xs ++ x ∷ [])) ≡ length (with_even_parity xs) + cond (is_even x) 1 0
+even_more xs x = elim (cases_Bool (is_even x)) [
+  | inl here ↦ ap length (filter_yes is_even xs x here) ∙ length-append (filter is_even xs) (x ∷ []) ∙ rw here refl
+  | inr passed ↦ ap length (filter_no is_even xs x passed) ∙ rw passed (omega arith)
+]
+
+pub label_more : (old new : LabelCount) (xs : List Numbered) (x : Numbered) → new.count ≡ min (old.count + 1) (2 ^ 64 - 1) → (is_even x ≡ true → new.even ≡ min (old.even + 1) (2 ^ 64 - 1)) → (is_even x ≡ false → new.even ≡ old.even)
+    → length xs + 1 < 2 ^ 64 → IsLabelCount old xs → IsLabelCount new (xs ++ x ∷ [])
+label_more old new xs x count even odd few h =
+    let sum = length-append xs (x ∷ []) in
+    let size : old.count ≡ length xs = h.0 in
+    let evens : old.even ≡ length (with_even_parity xs) = h.1 in
+    let short = filter_short is_even xs in
+    let more = even_more xs x in (
+      one_more new.count old.count (length xs) count size few ∙ sym sum,
+      elim (cases_Bool (is_even x)) [
+        | inl here ↦ let one = rw here at more in one_more new.even old.even (length (with_even_parity xs)) (even here) evens (omega (arith, short, few)) ∙ sym one
+        | inr passed ↦ let none = rw passed at more in let is = odd passed in omega (arith, none, is, evens)
+      ],
+    )
+
+-- ---- the counts of a bus
+
+pub bus_more : (c : Codes) (old new : BusCount) (xs : List Numbered) (x : Numbered) (at_kind at_label : ℕ) (hits : Hits) (label : LabelCount) → length xs + 1 < 2 ^ 64
+    → at_kind ≡ place_of c x → at_label ≡ label_in x
+    → new.entries ≡ min (old.entries + 1) (2 ^ 64 - 1) → new.kinds ≡ set old.kinds at_kind hits → new.labels ≡ set old.labels at_label label
+    → place_of c x < 12 → label_in x < 256
+    → ((ys : List Numbered) → length ys + 1 < 2 ^ 64 → IsHits (get_or old.kinds (place_of c x) no_hits) ys → IsHits hits (ys ++ x ∷ []))
+    → ((ys : List Numbered) → length ys + 1 < 2 ^ 64 → IsLabelCount (get_or old.labels (label_in x) no_label) ys → IsLabelCount label (ys ++ x ∷ []))
+    → IsBusCount c old xs → IsBusCount c new (xs ++ x ∷ [])
+bus_more c old new xs x at_kind at_label hits label few is_kind is_label entries kinds labels place in_range hit lab h =
+    let sum = length-append xs (x ∷ []) in
+    let size : old.entries ≡ length xs = h.entries in
+    let of_kind = filter (λ y. place_of c y == place_of c x) xs in
+    let of_label = filter (λ y. label_in y == label_in x) xs in
+    let short = filter_short (λ y. place_of c y == place_of c x) xs in
+    let short' = filter_short (λ y. label_in y == label_in x) xs in
+    record {
+      entries = one_more new.entries old.entries (length xs) entries size few ∙ sym sum;
+      kind_count = ap length kinds ∙ length-set old.kinds at_kind hits ∙ h.kind_count;
+      kinds = rw (kinds, is_kind) (by_more (place_of c) IsHits no_hits 12 old.kinds xs x hits h.kind_count place h.kinds (hit of_kind (omega (arith, short, few)) (h.kinds (place_of c x) place)));
+      label_count = ap length labels ∙ length-set old.labels at_label label ∙ h.label_count;
+      labels = rw (labels, is_label) (by_more label_in IsLabelCount no_label 256 old.labels xs x label h.label_count in_range h.labels (lab of_label (omega (arith, short', few)) (h.labels (label_in x) in_range)));
+    }
+
+-- ---- the counts of a recording
+
+numbered_more : (n : ℕ) (es : List Entry) (e : Entry) → numbered n (es ++ e ∷ []) ≡ numbered n es ++ record { number = n + length es; entry = e } ∷ []
+numbered_more n [] e = let none : n + 0 ≡ n = omega arith in rw none refl
+numbered_more n (x ∷ es) e = let sum : suc n + length es ≡ n + suc (length es) = omega arith in ap (λ ys. record { number = n; entry = x } ∷ ys) (numbered_more (suc n) es e ∙ ap (λ k. numbered (suc n) es ++ record { number = k; entry = e } ∷ []) sum)
+
+numbered_all : (es : List Entry) (e : Entry) → numbered 0 (es ++ e ∷ []) ≡ numbered 0 es ++ record { number = length es; entry = e } ∷ []
+numbered_all es e = let same : 0 + length es ≡ length es = omega arith in numbered_more 0 es e ∙ ap (λ k. numbered 0 es ++ record { number = k; entry = e } ∷ []) same
+
+numbered_long : (n : ℕ) (es : List Entry) → length (numbered n es) ≡ length es
+numbered_long n [] = refl
+numbered_long n (x ∷ es) = ap suc (numbered_long (suc n) es)
+
+pub on_bus_short : (b : Bus) (es : List Entry) → length (on_bus b (numbered 0 es)) ≤ length es
+on_bus_short b es = let short = filter_short (λ x. is_bus b x.entry.bus) (numbered 0 es) in omega (arith, short, numbered_long 0 es)
+
+pub on_bus_yes : (b : Bus) (es : List Entry) (e : Entry) → is_bus b e.bus ≡ true → on_bus b (numbered 0 (es ++ e ∷ [])) ≡ on_bus b (numbered 0 es) ++ record { number = length es; entry = e } ∷ []
+on_bus_yes b es e here = ap (on_bus b) (numbered_all es e) ∙ filter_yes (λ x. is_bus b x.entry.bus) (numbered 0 es) (record { number = length es; entry = e }) here
+
+pub on_bus_no : (b : Bus) (es : List Entry) (e : Entry) → is_bus b e.bus ≡ false → on_bus b (numbered 0 (es ++ e ∷ [])) ≡ on_bus b (numbered 0 es)
+on_bus_no b es e passed = ap (on_bus b) (numbered_all es e) ∙ filter_no (λ x. is_bus b x.entry.bus) (numbered 0 es) (record { number = length es; entry = e }) passed
+
+last_more : (time : ℕ) (es : List Entry) (e : Entry) → last_time time (es ++ e ∷ []) ≡ e.time
+last_more time [] e = refl
+last_more time (x ∷ es) e = last_more x.time es e
+
+pub times_more : (old new : Survey) (es : List Entry) (e : Entry) → old.entries ≡ length es → (old.entries ≡ 0 → new.first ≡ e.time) → (old.entries ≢ 0 → new.first ≡ old.first) → new.last ≡ e.time → AreTimes old es → AreTimes new (es ++ e ∷ [])
+times_more old new [] e size first later last h = (first size, last)
+times_more old new (x ∷ es) e size first later last h = (later (λ none. absurd (cc (size, none))) ∙ h.0, last ∙ sym (last_more x.time es e))
+
+abbrev Adds : Codes → BusCount → BusCount → ℕ → Entry → Type 0
+Adds c old new number e = (xs : List Numbered) → length xs + 1 < 2 ^ 64 → IsBusCount c old xs → IsBusCount c new (xs ++ record { number = number; entry = e } ∷ [])
+
+-- one more entry of a bus
+added : (c : Codes) (b : Bus) (old new : BusCount) (n : ℕ) (es : List Entry) (e : Entry) → is_bus b e.bus ≡ true → n ≡ length es → length es + 1 < 2 ^ 64 → Adds c old new n e
+    → IsBusCount c old (on_bus b (numbered 0 es)) → IsBusCount c new (on_bus b (numbered 0 (es ++ e ∷ [])))
+added c b old new n es e here size few adds h =
+    let short = on_bus_short b es in
+    let more = adds (on_bus b (numbered 0 es)) (omega (arith, short, few)) h in
+    subst (IsBusCount c new) (sym (on_bus_yes b es e here)) (subst (λ k. IsBusCount c new (on_bus b (numbered 0 es) ++ record { number = k; entry = e } ∷ [])) size more)
+
+passed_by : (c : Codes) (b : Bus) (old new : BusCount) (es : List Entry) (e : Entry) → is_bus b e.bus ≡ false → new ≡ old → IsBusCount c old (on_bus b (numbered 0 es)) → IsBusCount c new (on_bus b (numbered 0 (es ++ e ∷ [])))
+passed_by c b old new es e passed same h = subst (λ q. IsBusCount c q (on_bus b (numbered 0 (es ++ e ∷ [])))) (sym same) (subst (IsBusCount c old) (sym (on_bus_no b es e passed)) h)
+
+pub survey_a : (c : Codes) (old new : Survey) (es : List Entry) (e : Entry) → length es + 1 < 2 ^ 64 → e.bus ≡ bus.A → new.entries ≡ min (old.entries + 1) (2 ^ 64 - 1) → (old.entries ≡ 0 → new.first ≡ e.time) → (old.entries ≢ 0 → new.first ≡ old.first) → new.last ≡ e.time
+    → new.b ≡ old.b → Adds c old.a new.a old.entries e → IsSurvey c old es → IsSurvey c new (es ++ e ∷ [])
+survey_a c old new es e few on entries first later last same adds h = record {
+  entries = one_more new.entries old.entries (length es) entries h.entries few ∙ sym (length-append es (e ∷ []));
+  times = times_more old new es e h.entries first later last h.times;
+  a = added c bus.A old.a new.a old.entries es e (ap (is_bus bus.A) on) h.entries few adds h.a;
+  b = passed_by c bus.B old.b new.b es e (ap (is_bus bus.B) on) same h.b;
+}
+
+pub survey_b : (c : Codes) (old new : Survey) (es : List Entry) (e : Entry) → length es + 1 < 2 ^ 64 → e.bus ≡ bus.B → new.entries ≡ min (old.entries + 1) (2 ^ 64 - 1) → (old.entries ≡ 0 → new.first ≡ e.time) → (old.entries ≢ 0 → new.first ≡ old.first) → new.last ≡ e.time
+    → new.a ≡ old.a → Adds c old.b new.b old.entries e → IsSurvey c old es → IsSurvey c new (es ++ e ∷ [])
+survey_b c old new es e few on entries first later last same adds h = record {
+  entries = one_more new.entries old.entries (length es) entries h.entries few ∙ sym (length-append es (e ∷ []));
+  times = times_more old new es e h.entries first later last h.times;
+  a = passed_by c bus.A old.a new.a es e (ap (is_bus bus.A) on) same h.a;
+  b = added c bus.B old.b new.b old.entries es e (ap (is_bus bus.B) on) h.entries few adds h.b;
+}
+
+-- ---- the lines
+
+pub times_text : (s : Survey) (es : List Entry) → s.entries ≡ length es → 0 < s.entries → AreTimes s es → times_line es ≡ codes "from " ++ decimal s.first ++ codes " to " ++ decimal s.last ++ codes "\n"
+times_text s [] size some h = absurd (omega (arith, size, some))
+times_text s (e ∷ es) size some h = rw (h.0, h.1) refl
+
+pub kind_text : (b : Bus) (k : WordKind) (h : Hits) (xs : List Numbered) → 0 < h.count → IsHits h xs → kind_line b k xs ≡ bus_text b ++ codes " " ++ name k ++ codes " " ++ decimal h.count ++ codes " first " ++ decimal h.first ++ codes "\n"
+kind_text b k h [] some is = absurd (omega (arith, is, some))
+kind_text b k h (x ∷ xs) some is = rw (is.0, is.1) refl
+
+pub label_text : (b : Bus) (label : ℕ) (l : LabelCount) (xs : List Numbered) → 0 < l.count → IsLabelCount l xs → label_line b label xs ≡ bus_text b ++ codes " label " ++ octal_text label ++ codes " " ++ decimal l.count ++ codes " even " ++ decimal l.even ++ codes "\n"
+label_text b label l [] some is = let none : l.count ≡ 0 = is.0 in absurd (omega (arith, none, some))
+label_text b label l (x ∷ xs) some is = rw (is.0, is.1) refl
+
+-- a word whose parity is not odd
+pub even_where : (x : Numbered) (w : ℕ) (odd : Bool) → IsTrue odd ↔ HasOddParity w → odd ≡ false → x.entry.word ≡ w → is_even x ≡ true
+even_where x w odd says is same = subst (λ v. not (count_of_ones v % 2 == 1) ≡ true) (sym same) (elim (cases_Bool (count_of_ones w % 2 == 1)) [
+  | inl one ↦ let ones : count_of_ones w % 2 ≡ 1 = grind (arith, nat_tests) in absurd (cc (is, says.1 ones))
+  | inr other ↦ rw other refl
+])
+
+pub label_lines_none : (b : Bus) (xs : List Numbered) → label_lines b 0 xs ≡ []
+unfolding label_lines
+label_lines_none b xs = refl
+
+pub label_lines_more : (b : Bus) (n : ℕ) (xs : List Numbered) → label_lines b (n + 1) xs ≡ label_lines b n xs ++ label_line b n (with_label n xs)
+unfolding label_lines
+label_lines_more b n xs = let next : n + 1 ≡ suc n = omega arith in rw next refl
+
+-- an element that is there does not depend on what is read where there is none
+pub read_of : {X : Type 0} (xs : List X) (i : ℕ) (d e : X) → i < length xs → get_or xs i d ≡ get_or xs i e
+read_of [] i d e l = absurd (omega arith)
+read_of (x ∷ xs) zero d e l = refl
+read_of (x ∷ xs) (suc i) d e l = read_of xs i d e (omega arith)
