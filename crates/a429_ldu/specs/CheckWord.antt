@@ -56,7 +56,7 @@ register_after k bytes = fold (fed k.poly) k.init (flat_map (fed_bits k.low_firs
 abbrev pub check_by_register : Check → List ℕ → ℕ
 check_by_register k bytes = bit_xor (if k.low_first then reverse_bits_onto 16 (register_after k bytes) 0 else register_after k bytes) k.xor
 
--- one bit more of a register whose bits stand in the other order, as do those of the polynomial: it moves down one place
+-- one bit more of a register whose bits are in the other order, as are those of the polynomial: it moves down one place
 abbrev pub fed_down : ℕ → ℕ → ℕ → ℕ
 fed_down poly register b = if (register + b) % 2 == 1 then bit_xor (register / 2) poly else register / 2
 

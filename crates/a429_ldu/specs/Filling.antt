@@ -15,6 +15,6 @@ fives rest = rest ∷ []
 abbrev pub data_words : Codes → List ℕ → List ℕ
 data_words c bytes = map (λ semis. word_number c (Part semis)) (fives (semis_of_bytes bytes))
 
--- the label and the type of a full data word, where they stand in it
+-- the label and the type of a full data word, in their places
 abbrev pub full_frame : Codes → ℕ
 full_frame c = label_bits c.to_sink + c.full * 2 ^ 28

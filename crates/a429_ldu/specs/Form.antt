@@ -1,4 +1,4 @@
--- The forms of transfer words. The messages are those of ARINC 429 Part 3; where each number stands in a word is this project's choice (profile), with the numbers that a bench's profile gives.
+-- The forms of transfer words. The messages are those of ARINC 429 Part 3; where each number is in a word is this project's choice (profile), with the numbers that a bench's profile gives.
 use Rattle.std.specs.Prelude.{ℕ, ◌+◌, ◌-◌, ◌*◌, ◌/◌, ◌%◌, ◌^◌, ◌<◌, ◌≤◌, ◌≡◌, ◌≢◌, ◌⊎◌, Bool, not, ◌&&◌, ◌||◌, ◌==◌, nat_le, if◌then◌else◌, Option, Some, None, List, [], ◌∷◌, slice_index, Contains}
 use Rattle.std.specs.List.{list_any}
 use Rattle.a429_word.specs.Word.{sum_below, bit, number_at, label_of, count_of_ones, HasOddParity}
@@ -21,7 +21,7 @@ pub record Fields : Type 0 where
   pub middle : ℕ
   pub lower : ℕ
 
--- the numbers that stand in a word; the lowest numbered bit of each is the least
+-- the numbers in a word; the lowest numbered bit of each is the least
 abbrev pub fields_of : ℕ → Fields
 fields_of w = record { kind = number_at w 29 3; upper = number_at w 25 4; middle = number_at w 17 8; lower = number_at w 9 8 }
 
@@ -33,7 +33,7 @@ fields_in parts = record { kind = parts.kind; upper = parts.upper; middle = part
 abbrev pub full_fields : Codes → ℕ → Fields
 full_fields c n = record { kind = c.full; upper = n / 65536; middle = n / 256 % 256; lower = n % 256 }
 
--- semi-octets stand from bit 9 up, four bits each, and zeros behind them; five fill a full word, fewer a partial one, whose code tells how many
+-- semi-octets begin at bit 9, four bits each, with zeros after them; five fill a full word, fewer a partial one, whose code says how many
 abbrev pub data_row : Codes → List ℕ → Fields
 data_row c (p ∷ []) = record { kind = c.partial; upper = slice_index c.partial_codes 0; middle = 0; lower = p }
 data_row c (p ∷ q ∷ []) = record { kind = c.partial; upper = slice_index c.partial_codes 1; middle = 0; lower = p + 16 * q }
@@ -43,7 +43,7 @@ data_row c (p ∷ q ∷ r ∷ s ∷ t ∷ []) = record { kind = c.full; upper = 
 -- no other list has a word: no type is 8
 data_row c _ = record { kind = 8; upper = 0; middle = 0; lower = 0 }
 
--- what stands in the word of each form
+-- what is in the word of each form
 abbrev pub row : Codes → Form → Fields
 row c (Rts count) = record { kind = c.protocol; upper = c.rts; middle = c.destination; lower = count }
 row c (Cts count) = record { kind = c.protocol; upper = c.cts; middle = c.destination; lower = count }

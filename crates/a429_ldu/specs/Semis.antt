@@ -19,7 +19,7 @@ five_of n = n % 16 ∷ n / 16 % 16 ∷ n / 256 % 16 ∷ n / 4096 % 16 ∷ n / 65
 
 -- ---- how they are kept
 
--- in an array of five, with zeros behind them
+-- in an array of five, with zeros after them
 pub record AreKept (kept : Inside) : Type 0 where
   pub semis : AreSemis (take kept.count kept.digits)
   pub count : length (take kept.count kept.digits) ≡ kept.count

@@ -52,7 +52,7 @@ pub fn bytes_of(
     }
 }
 
-/// The bytes that at most 253 words carry, the most that a block has, as `bytes_of` tells them. It takes
+/// The bytes that at most 253 words carry, the most that a block has, as `bytes_of` returns them. It takes
 /// no memory.
 pub fn block_bytes(profile: &Profile, words: &[Word]) -> Option<BlockBytes>
     requires { length words.now ≤ most_data_words }

@@ -13,7 +13,7 @@ pub enum LduFault {
     OutOfMemory,
 }
 
-/// Why a file can not be cut into link data units, in the order in which it is tested.
+/// Why a file cannot be cut into link data units, in the order in which it is tested.
 #[derive(Clone, Copy, Debug, PartialEq, Eq)]
 pub enum CutFault {
     /// The file has no bytes.

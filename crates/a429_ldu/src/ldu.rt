@@ -20,7 +20,7 @@ pub const MOST_DATA_WORDS: usize = 253;
 pub const MOST_UNIT_BYTES: usize = 632;
 
 /// A link data unit (ARINC 429 Part 3): 1 to 253 data words, and the numbers of the start and end words
-/// that stand round them.
+/// around them.
 #[derive(Debug, Drop)]
 pub struct Ldu {
     gfi: u8,
@@ -42,7 +42,7 @@ impl Model for Ldu {
 
 impl Ldu {
     /// The link data unit with these data words. GFI and flags are 0 to 15. The fault is the first that
-    /// holds; memory is refused only where none does.
+    /// applies; out of memory comes only if none does.
     pub fn new(
         alloc: Global,
         profile: &Profile,

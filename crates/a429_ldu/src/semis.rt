@@ -53,7 +53,7 @@ impl Semis {
         })
     }
 
-    /// The first of these digits, 1 to 5, which are below 16; those behind them are 0.
+    /// The first of these digits, 1 to 5, which are below 16; those after them are 0.
     pub(crate) fn kept(digits: [u8; 5], count: u8) -> Semis
         requires { AreKept (record { digits = digits; count = count }) }
         ensures { result ≡ take count digits }
@@ -69,7 +69,7 @@ impl Semis {
         &self.digits[..self.count as usize]
     }
 
-    /// The semi-octets with zeros behind them, five in all, and how many they are.
+    /// The semi-octets with zeros after them, five in all, and how many they are.
     pub(crate) fn padded(&self) -> ([u8; 5], u8)
         ensures digits { result.0 ≡ self.now ++ replicate (5 - length self.now) 0 }
         ensures count { result.1 ≡ length self.now }

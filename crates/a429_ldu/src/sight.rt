@@ -41,7 +41,7 @@ impl Sight {
     }
 }
 
-/// What a word says on a bus (ARINC 429 Part 3; where its numbers stand is the profile's).
+/// What a word says on a bus (ARINC 429 Part 3; where its numbers are in it: profile).
 #[inline(always)]
 pub fn form(profile: &Profile, bus: Bus, word: Word) -> Sight
     ensures free { (result ≡ Sight.Free) ↔ IsFree profile.now.codes bus word }

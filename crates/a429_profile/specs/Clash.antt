@@ -38,7 +38,7 @@ label_clash_after codes earlier (e ∷ es) = if label_clashes codes earlier e th
 
 -- ---- types and codes
 
--- a number and the key that it stands at
+-- a number and its key
 abbrev pub NumberAtKey : Type 0
 NumberAtKey = SectionKey × ℕ
 
@@ -56,7 +56,7 @@ abbrev pub twins_after : List NumberAtKey → List NumberAtKey → Option Profil
 twins_after earlier [] = None
 twins_after earlier (x ∷ xs) = twins (key_of x.1 earlier) x.0 (twins_after (earlier ++ x ∷ []) xs)
 
--- numbers that stand at one key
+-- numbers at one key
 abbrev pub all_at_key : SectionKey → List ℕ → List NumberAtKey
 all_at_key k ns = map (λ n. (k, n)) ns
 

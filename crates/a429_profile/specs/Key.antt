@@ -65,7 +65,7 @@ label_row label.Flags = record { key = codes "flags"; rule = flags; may_be_missi
 abbrev pub value_fault : Key → Rule → Data → Option ProfileFault
 value_fault k rule d = if has_kind rule d then (if is_in_range rule d then None else Some (OutOfRange k)) else Some (WrongKind k)
 
--- what stands at a key: nothing, where the key or its section is not there; no section, where that is no table; or a value
+-- what is at a key: nothing, where the key or its section is not there; no section, where that is no table; or a value
 pub data Place : Type 0 where
   nothing : Place
   no_section : Place

@@ -1,4 +1,4 @@
--- Where in a label table the entry for each label and SDI stands (profile).
+-- Where in a label table the entry for each label and SDI is (profile).
 use Rattle.std.specs.Prelude.{◌≡◌, ◌<◌, ◌+◌, ◌*◌, ℕ, List, length, Option, Some, None, IfSome, slice_get}
 use Rattle.std.specs.List.{find}
 use Rattle.a429_profile.specs.declared.entry.LabelEntry.{LabelEntry}
@@ -9,7 +9,7 @@ abbrev pub entry_at : List LabelEntry → Option ℕ → Option LabelEntry
 entry_at es None = None
 entry_at es (Some i) = slice_get es i
 
--- at this place stands the entry for words of this label and SDI
+-- at this place is the entry for words of this label and SDI
 abbrev pub IsPlace : List LabelEntry → ℕ → ℕ → Option ℕ → Type 0
 IsPlace es label sdi place = entry_at es place ≡ find (is_for label sdi) es
 

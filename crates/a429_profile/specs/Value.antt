@@ -19,7 +19,7 @@ pub data Rule : Type 0 where
   kind_word : Rule
   flags : Rule
 
--- ---- what stands in a value
+-- ---- what is in a value
 
 abbrev pub text_of_value : Data → List ℕ
 text_of_value d = unwrap_or (as_str d) []

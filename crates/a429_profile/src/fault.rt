@@ -19,8 +19,8 @@ pub enum ProfileFault {
     /// The value lies outside the key's range.
     #[error("out of range {0}")]
     OutOfRange(Key),
-    /// An entry of this label stands where another one has the label already, or the label is an
-    /// address label of the transfer.
+    /// Two entries of this label are for the same words, or the label is an address label of the
+    /// transfer.
     #[error("label clash {0:03o}")]
     LabelClash(u8),
     /// The second key gives a number that the first one has given.

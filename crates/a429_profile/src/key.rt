@@ -59,7 +59,7 @@ pub enum LabelKey {
 }
 
 impl SectionKey {
-    /// The section that the key stands in.
+    /// The section of the key.
     pub fn section(self) -> &'static str
         ensures { result.now ≡ (section_row self).section }
     {

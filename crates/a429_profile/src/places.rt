@@ -1,4 +1,4 @@
-//! Where in a label table the entry for each label and SDI stands.
+//! Where in a label table the entry for each label and SDI is.
 
 ghost use Rattle.std.specs.Prelude.{[], IfOk};
 ghost use Rattle.a429_profile.specs.Profile.{entries_of, AreKeyed, ApartAfter};

@@ -72,8 +72,8 @@ impl Profile {
         self.shown_of_good(word)
     }
 
-    /// What is shown of a word whose parity is known to be odd: the same as `shown` answers, without a
-    /// test of it.
+    /// What is shown of a word whose parity is known to be odd: the same as `shown` returns, without
+    /// testing it.
     pub fn shown_of_good(&self, word: &Word) -> Shown<'_>
         requires { HasOddParity word.now }
         ensures shown { IsShown self.now word.now result }

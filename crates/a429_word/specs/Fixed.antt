@@ -20,7 +20,7 @@ IsWholePart [] = ⊥
 IsWholePart (c ∷ []) = Unit {0}
 IsWholePart (c ∷ d ∷ cs) = digit_value c ≢ 0
 
--- digits behind a point: the last, if there is one, is not 0
+-- digits after a point: the last, if there is one, is not 0
 abbrev pub EndsWell : List ℕ → Type 0
 EndsWell [] = Unit {0}
 EndsWell (c ∷ []) = digit_value c ≢ 0
@@ -38,7 +38,7 @@ pub record SpellsFraction (text : List ℕ) (number : ℤ) (decimals : ℕ) : Ty
   pub trailing : EndsWell part
   -- a minus sign where the fraction is below zero, and only there
   pub sign : (minus ≡ true) ↔ (number <ℤ pos 0)
-  -- its value: all its digits as one number, over 10 ^ (how many of them stand behind the point)
+  -- its value: all its digits as one number, over 10 ^ (how many of them come after the point)
   pub value : digits_value 10 (whole ++ part) * 10 ^ decimals ≡ unsigned_abs number * 10 ^ length part
 
 -- the spelling of a fraction is so

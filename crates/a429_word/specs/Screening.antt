@@ -1,4 +1,4 @@
--- How a word is sorted by its parity and label (ARINC 429 Part 1; which number tells what: profile).
+-- How a word is sorted by its parity and label (ARINC 429 Part 1; which number means what: profile).
 use Rattle.std.specs.Prelude.{ℕ, ◌%◌, ◌==◌, if◌then◌else◌}
 use Rattle.a429_word.specs.Word.{count_of_ones, label_of}
 

@@ -15,7 +15,7 @@ left_of t = t.left
 abbrev pub has_failed : {T : Type 0} → Tally T → Bool
 has_failed t = t.is_failed
 
--- known bytes grow by some front of bs
+-- known bytes grow by some prefix of bs
 abbrev pub AppendsPrefix : Option (List ℕ) → Option (List ℕ) → List ℕ → Type 0
 AppendsPrefix old new bs = (n : ℕ) × (n ≤ length bs) × Appends old new (take n bs)
 
@@ -29,7 +29,7 @@ EndsBefore (Some xs) (Some ys) n = (length xs < n) × (ys ≡ [])
 abbrev pub Puts : {W : Type 0} → (W → Option (List ℕ)) → Tally W → Tally W → List ℕ → Type 0
 Puts contents old new text = Appends (contents (inner_of old)) (contents (inner_of new)) text
 
--- some front of these
+-- some prefix of these
 abbrev pub PutsFront : {W : Type 0} → (W → Option (List ℕ)) → Tally W → Tally W → List ℕ → Type 0
 PutsFront contents old new text = AppendsPrefix (contents (inner_of old)) (contents (inner_of new)) text
 

@@ -7,14 +7,14 @@ ghost use Rattle.a429_word.specs.Bcd.{digit_of, decimal_of, AreDecimal, IsFirstB
 use crate::word::Word;
 
 /// The place of the first digit above 9 (profile), from 1 to 5, where 1 is the most significant. It is
-/// never 1 in truth, since the first digit has three bits.
+/// never 1, since the first digit has three bits.
 #[derive(Clone, Copy, Debug, PartialEq, Eq)]
 pub struct BadDigit(pub u8);
 
 impl Word {
     /// The number that the first k digits of a BCD word write, k from 1 to 5 (ARINC 429 Part 1). The
-    /// most significant digit has bits 29 to 27, each further one the four bits below. Where one of them
-    /// is above 9, the answer is the place of the first such digit.
+    /// most significant digit has bits 29 to 27, each further one the four bits below. If one of them
+    /// is above 9, the error is the place of the first such digit.
     pub fn bcd_digits(self, k: u8) -> Result<u32, BadDigit>
         requires least { 1 ≤ k }
         requires most { k ≤ 5 }

@@ -39,7 +39,7 @@ impl Fixed {
 
     /// Writes the fraction in decimal digits (profile): a minus sign where the number is below zero, the
     /// whole part without leading zeros, then a point and the decimals without trailing zeros, and no
-    /// point where none remain. After `Device` a front of this text has been written.
+    /// point where none remain. After `Device` a prefix of this text has been written.
     pub fn write_text<W: Write>(&self, out: &mut Tally<W>) -> Result<(), Device>
         requires { self.now.decimals ≤ 24 }
         ensures ok { OnOk result (SpelledSo self.now (λ text. Puts W.contents out.old out.new text)) }

@@ -37,7 +37,7 @@ pub fn hex_is_read_back()
 /// The raw number of a word is two's complement in s + 1 bits: the number of the bits from bit `29-s` up
 /// to bit 29, less `2^(s+1)` where bit 29 is 1. It is one that `Word::bnr_word` takes, from `-2^s` to
 /// `2^s - 1`, and no two words of odd parity have the same label, SDI, SSM, raw number and other bits of
-/// the data field: so of what `Word::bnr_raw` answers, `Word::bnr_word` makes that word again. The other
+/// the data field: so `Word::bnr_word` makes that word again of what `Word::bnr_raw` returns. The other
 /// way needs no law: clause `raw` of `Word::bnr_word` and the contract of `Word::bnr_raw` both say `raw_of`.
 pub fn bnr_is_read_back()
     ensures bits { (w s : ℕ) → 1 ≤ s → s ≤ 18 → raw_of w s ≡ pos (number_at w (29 - s) (s + 1)) -ℤ pos (2 ^ (s + 1) * bit w 29) }
@@ -46,7 +46,7 @@ pub fn bnr_is_read_back()
 {}
 
 /// The decimal digits of the number that the first k digits of a word write are these digits. A word that
-/// has a number there, as `Word::bcd_word` promises, is one of which `Word::bcd_digits` answers that number
+/// has a number there, as `Word::bcd_word` promises, is one of which `Word::bcd_digits` returns that number
 /// and no bad digit.
 pub fn bcd_is_read_back()
     ensures digits { (w k i : ℕ) → AreDecimal w k → 1 ≤ i → i ≤ k → decimal_of w k / 10 ^ (k - i) % 10 ≡ digit_of w i }

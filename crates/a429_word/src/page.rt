@@ -1,4 +1,4 @@
-//! A page of output: pieces that are gathered, and put at once.
+//! A page of output: pieces that are gathered and written at once.
 
 ghost use Rattle.std.specs.Prelude.{◌≡◌, ◌↔◌, ◌++◌, List, ℕ, [], codes, true, length, IsErr, IfOk, OnOk, OnErr};
 ghost use Rattle.std.specs.Fmt.{decimal};
@@ -18,7 +18,7 @@ const ROOM: usize = 16384;
 // How many digits the longest number has.
 const LONGEST: usize = 20;
 
-/// Bytes that wait to be put, so that a writer is called once for many pieces.
+/// Bytes that wait to be written, so that a writer is called once for many pieces.
 #[derive(Drop)]
 pub struct Page {
     bytes: Vec<u8>,
@@ -46,8 +46,8 @@ impl Page {
         })
     }
 
-    /// Puts bytes on the page. Where they have no room the page is put, and then they are. After
-    /// `Device` a prefix of all this has been written.
+    /// Puts bytes on the page. If they do not fit, what is on it is written first. After `Device` a
+    /// prefix of all this has been written.
     #[inline(always)]
     pub fn put<W: Write>(&mut self, out: &mut Tally<W>, bytes: &[u8]) -> Result<(), Device>
         ensures ok { OnOk result (PutsOn W.contents out.old self.old out.new self.new bytes.now) }
@@ -92,7 +92,7 @@ impl Page {
         self.put(out, &digits[start..])
     }
 
-    /// Puts what is on the page, which is empty then. After `Device` a front of it has been written.
+    /// Writes what is on the page, which is empty then. After `Device` a prefix of it has been written.
     pub fn finish<W: Write>(&mut self, out: &mut Tally<W>) -> Result<(), Device>
         ensures ok { OnOk result (Keeps (paged W.contents out.old self.old) (W.contents (inner_of out.new))) }
         ensures empty { OnOk result (self.new ≡ []) }

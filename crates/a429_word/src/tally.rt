@@ -23,9 +23,9 @@ pub trait Failing {
 
 /// A reader or writer over another one, its inner one.
 ///
-/// It has failed once a call of the inner one answered an error (`Interrupted` is one), a write of
+/// It has failed once a call of the inner one returned an error (`Interrupted` is one), a write of
 /// some bytes took none of them, or a read was asked for after `cap` bytes had been handed out.
-/// Once failed it stays so: every later call answers an error that is not `Interrupted`, and the
+/// Once failed it stays so: every later call returns an error that is not `Interrupted`, and the
 /// inner one is not called again.
 #[derive(Debug, Drop)]
 pub struct Tally<T> {
@@ -69,7 +69,7 @@ impl<T> Tally<T> {
 impl<R: Read> Tally<R> {
     ghost use Rattle.a429_word.specs.Tally.{left_of, has_failed, unread};
 
-    /// Reads up to as many bytes as `buf` has room for, and answers their number: 0 is the end.
+    /// Reads at most as many bytes as `buf` holds, and returns their number; 0 is the end.
     pub fn pull(&mut self, buf: &mut [u8]) -> Result<usize, Device>
         requires { 0 < length buf.old }
         ensures bound { ReadsAtMost result buf.new }
@@ -104,7 +104,7 @@ impl<R: Read> Tally<R> {
 impl<W: Write> Tally<W> {
     ghost use Rattle.a429_word.specs.Tally.{left_of, has_failed, Puts, PutsFront};
 
-    /// Writes all the bytes. After `Device` a front of them has been written.
+    /// Writes all the bytes. After `Device` a prefix of them has been written.
     pub fn put(&mut self, bytes: &[u8]) -> Result<(), Device>
         ensures ok { OnOk result (Puts W.contents self.old self.new bytes.now) }
         ensures err { OnErr result (PutsFront W.contents self.old self.new bytes.now) }

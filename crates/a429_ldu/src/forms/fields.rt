@@ -1,4 +1,4 @@
-//! The numbers that stand in a transfer word.
+//! The numbers in a transfer word.
 
 ghost use Rattle.std.specs.Prelude.{◌≡◌, ◌≤◌, ◌<◌, ◌^◌};
 ghost use Rattle.a429_word.specs.Word.{label_of, HasOddParity};

@@ -9,7 +9,7 @@ use crate::semis::Semis;
 use a429_profile::{Codes, Profile};
 use a429_word::{Bus, Word};
 
-/// The word of a form (ARINC 429 Part 3; where its numbers stand is the profile's). Its numbers lie in
+/// The word of a form (ARINC 429 Part 3; where its numbers are in it: profile). Its numbers lie in
 /// the ranges that `Form` states. The word goes on the form's own bus.
 pub fn word_of(profile: &Profile, form: &Form) -> Word
     requires { IsInRange form.now }
@@ -30,7 +30,7 @@ pub(crate) fn address(codes: &Codes, bus: Bus) -> u8
     }
 }
 
-// What stands in the word of a form.
+// What is in the word of a form.
 fn row(codes: &Codes, form: &Form) -> Parts
     requires { IsInRange form.now }
     ensures { row codes.now form.now ≡ fields_in result }
@@ -67,7 +67,7 @@ fn protocol_row(codes: &Codes, code: u8, middle: u8, lower: u8) -> Parts
     }
 }
 
-// What stands in a data word.
+// What is in a data word.
 fn data_row(codes: &Codes, semis: &Semis) -> Parts
     ensures { data_row codes.now semis.now ≡ fields_in result }
 {
