@@ -13,3 +13,4 @@ pub mod UpgradeFacts
 pub mod PictureFacts
 pub mod ExtractFacts
 pub mod CheckFacts
+pub mod OutputFacts

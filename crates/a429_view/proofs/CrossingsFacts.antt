@@ -21,7 +21,7 @@ use Rattle.a429_link.specs.declared.step.Step.{Step}
 use Rattle.a429_link.specs.declared.step.Step.TheVariants.{Answered, FreeSeen, GiveUp, Load, LoseAnswer, Sent, SentLost, Silent, SinkTakes, TakeAnswer, TimeOut}
 use Rattle.a429_link.specs.Number.{is_number}
 use Rattle.a429_link.specs.Source.{Source, acknowledged, with_answer, with_answer_first, with_answer_form}
-use Rattle.a429_link.specs.Sink.{Block, MayAnswerForm, Number, Shelf, Sink, SinkPhase, accepts, accepts_owed, answers_form, nothing_received, is_same, number_of, put, received_for, takes_first, takes_form}
+use Rattle.a429_link.specs.Sink.{Block, MayAnswerForm, Number, Received, Sink, SinkPhase, accepts, accepts_owed, answers_form, nothing_received, is_same, number_of, put, received_for, takes_first, takes_form}
 use Rattle.a429_link.specs.State.{State, start}
 use Rattle.a429_link.specs.Step.{Can, after, label}
 use Rattle.a429_link.specs.Run.{IsRun, end_of, offers, settles, trace, with_label}
@@ -84,7 +84,7 @@ abbrev DueBy : Contents → Source → Option Number → Option ℕ → Type 0
 DueBy p source last due = DueAt p source.number source.current last due
 
 -- a unit that is loaded is new to the sink
-load_due : (p : Contents) (s : State) (u : LduValue) (o : Shelf) (fs : List FileBytes)
+load_due : (p : Contents) (s : State) (u : LduValue) (o : Received) (fs : List FileBytes)
     → s.source.current ≡ None → Books p s o fs → DueAt p s.source.number (Some u) s.sink.last (file_ended p.codes s.source.number u)
 load_due p s u o fs n b =
     let behind = subst (λ x. Stand p s.source.number s.source.give_ups x s.sink.last s.sink.received o fs) n b.crosses.stand in
@@ -117,7 +117,7 @@ form_last p w None k = refl
 form_last p w (Some (form.Rts n)) k = refl
 form_last p w (Some _) k = refl
 
-takes_keeps : (p : Contents) (ws : List ℕ) (k : Sink) → ((takes_first p ws k).last ≡ k.last) × ((takes_first p ws k).shelf ≡ k.received)
+takes_keeps : (p : Contents) (ws : List ℕ) (k : Sink) → ((takes_first p ws k).last ≡ k.last) × ((takes_first p ws k).received ≡ k.received)
 takes_keeps p [] k = (refl, refl)
 takes_keeps p (w ∷ ws) k = (form_last p w (form_of p.codes bus.A w) k, takes_received p w (form_of p.codes bus.A w) k)
 
@@ -128,7 +128,7 @@ record Answers (p : Contents) (number : UnitNumber) (cur : Option LduValue) (old
   next : DueAt p number cur new.last (still_due acknowledged due)
   gives : numbers new.received.files ≡ numbers old.received.files ++ cons_option (crossing acknowledged due) []
 
-put_numbers : (file : ℕ) (bytes : List ℕ) (t : Bool) (s : Shelf) → numbers (put file bytes t s).files ≡ numbers s.files ++ cons_option (cond t (Some file) None) []
+put_numbers : (file : ℕ) (bytes : List ℕ) (t : Bool) (s : Received) → numbers (put file bytes t s).files ≡ numbers s.files ++ cons_option (cond t (Some file) None) []
 put_numbers file bytes true s = map-append (λ (f : FileBytes). f.number) s.files (record { number = file; bytes = s.open_bytes ++ bytes } ∷ [])
 put_numbers file bytes false s = sym (append-nil (numbers s.files))
 
@@ -137,7 +137,7 @@ accepted : (p : Contents) (number : UnitNumber) (u : LduValue) (b : Block) (fl :
     → Whole u number b fl → DueAt p number (Some u) k.last due → Answers p number (Some u) k (accepts p.codes b fl k) due true
 accepted p number u b fl k due w d = by (is_same k.last (number_of b)) refl
   where
-    kept : Shelf
+    kept : Received
     kept = received_for k.last b.file k.received
 
     here : (t : Bool) → is_same k.last (number_of b) ≡ t → due ≡ cond t None (file_ended p.codes number u)
@@ -248,7 +248,7 @@ seen_goes p es span a s item i at x n z h none d f =
       gives = ap numbers f ∙ no_number s.sink.received.files (shown p.codes span at t) (seen_says (is_within span at.next) _ (ap (λ (b : Bool). crossing b at.due) no));
     })
 
-answered_goes : (p : Contents) (es : List Entry) (span : Span) (s : State) (item : Seen) (i : ℕ) (at : Place) (o : Shelf) (fs : List FileBytes)
+answered_goes : (p : Contents) (es : List Entry) (span : Span) (s : State) (item : Seen) (i : ℕ) (at : Place) (o : Received) (fs : List FileBytes)
     → HasAll span es → Can p (Answered item) s → Books p s o fs → at.next ≡ i → NextEntry es i item → DueBy p s.source s.sink.last at.due
     → Goes p span (Answered item) s i at (told es s i (Answered item))
 answered_goes p es span s item i at o fs all can b n h d =
@@ -268,7 +268,7 @@ answered_goes p es span s item i at o fs all can b n h d =
           ∙ ap (λ (l : List ℕ). numbers s.sink.received.files ++ l) (sym (within_says (is_within span at.next) _ (inside_span span es at.next i all n h.inside)));
     })
 
-step_goes : (p : Contents) (es : List Entry) (span : Span) (a : Step) (s : State) (i : ℕ) (at : Place) (o : Shelf) (fs : List FileBytes)
+step_goes : (p : Contents) (es : List Entry) (span : Span) (a : Step) (s : State) (i : ℕ) (at : Place) (o : Received) (fs : List FileBytes)
     → HasAll span es → Can p a s → Books p s o fs → at.next ≡ i → IsNext es i (label a) → DueBy p s.source s.sink.last at.due → Goes p span a s i at (told es s i a)
 step_goes p es span (Load u) s i at o fs all can b n h d =
     record { next = omega (arith, n); due = load_due p s u o fs can.1 b; gives = no_number s.sink.received.files (shown p.codes span at (Loads s.source.number u)) (load_says (is_within span at.next) s.source.number) }
@@ -279,7 +279,7 @@ step_goes p es span TakeAnswer s i at o fs all can b n h d = unseen_goes p span 
 step_goes p es span LoseAnswer s i at o fs all can b n h d = unseen_goes p span LoseAnswer s i at act.LoseAnswer n refl d refl
 step_goes p es span SinkTakes s i at o fs all can b n h d =
     let keeps = takes_keeps p s.to_sink s.sink in
-    unseen_goes p span SinkTakes s i at act.SinkTakes n refl (subst (λ (l : Option Number). DueBy p s.source l at.due) (sym keeps.0) d) (ap (λ (q : Shelf). q.files) keeps.1)
+    unseen_goes p span SinkTakes s i at act.SinkTakes n refl (subst (λ (l : Option Number). DueBy p s.source l at.due) (sym keeps.0) d) (ap (λ (q : Received). q.files) keeps.1)
 step_goes p es span Silent s i at o fs all can b n h d = unseen_goes p span Silent s i at act.Silent n refl d refl
 step_goes p es span (Answered item) s i at o fs all can b n h d = answered_goes p es span s item i at o fs all can b n h d
 step_goes p es span (FreeSeen item) s i at o fs all can b n h d = seen_goes p es span (FreeSeen item) s item i at act.FreeSeen n refl h (λ e. refl) d refl
@@ -292,7 +292,7 @@ label_push None items = refl
 label_push (Some i) items = refl
 
 run_goes : (p : Contents) → IsRead p → (es : List Entry) (span : Span) → HasAll span es
-    → (steps : List Step) (s : State) (o : Shelf) (fs : List FileBytes) (before later : List Seen) (at : Place) (i : ℕ)
+    → (steps : List Step) (s : State) (o : Received) (fs : List FileBytes) (before later : List Seen) (at : Place) (i : ℕ)
     → i ≡ length before → IsRun p steps s → Books p s o fs → items_of es ≡ before ++ (trace steps ++ later) → at.next ≡ i → DueBy p s.source s.sink.last at.due
     → numbers (end_of p steps s).sink.received.files ≡ numbers s.sink.received.files ++ crossings (marks p.codes span at (told_steps p es steps s i))
 run_goes p good es span all [] s o fs before later at i z h b e n d = sym (append-nil (numbers s.sink.received.files))
