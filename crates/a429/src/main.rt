@@ -2,9 +2,9 @@
 #![tactic(auto)]
 
 use a429_check::{
-    Canvas, Claim, Command, Folder, RunFault, Span, command, read_whole, report, run_check,
-    run_decide, run_extract, run_forms, run_labels, run_make, run_pack, run_picture, run_show,
-    run_survey, run_units, run_upgrade, run_verify, run_version, run_word,
+    Claim, Command, Folder, Rule, RunFault, Span, command, read_whole, report, run_by_rule,
+    run_extract, run_forms, run_labels, run_make, run_pack, run_picture, run_show, run_survey,
+    run_units, run_upgrade, run_verify, run_version, run_word,
 };
 use a429_record::EntryReader;
 use a429_view::UnitRows;
@@ -75,11 +75,11 @@ fn answer<W: Write + Drop>(
         Command::Survey { profile, recording } => survey(rt, alloc, profile, recording, &mut out),
         Command::Make { profile, files } => make(rt, alloc, profile, files.as_slice(), &mut out),
         Command::Pack(recording) => pack(rt, alloc, recording, &mut out),
-        Command::Check(claim) => check(rt, alloc, claim, &mut out),
-        Command::Decide(claim) => decide(rt, alloc, claim, &mut out),
+        Command::Check(claim) => find(rt, alloc, claim, Rule::Check, &mut out),
+        Command::Decide(claim) => find(rt, alloc, claim, Rule::Decide, &mut out),
         Command::Verify(claim) => verify(rt, alloc, claim, &mut out),
         Command::Units(claim) => return units(rt, alloc, claim, out),
-        Command::Picture { claim, span } => return picture(rt, alloc, claim, span, out),
+        Command::Picture { claim, span } => picture(rt, alloc, claim, span, &mut out),
         Command::Extract { claim, folder } => extract(rt, alloc, claim, folder, &mut out),
         Command::Upgrade { cert, new_cert } => upgrade(rt, cert, new_cert, &mut out),
     };
@@ -161,35 +161,22 @@ fn make<W: Write>(
     run_make(alloc, profile.as_slice(), files.as_slice(), out)
 }
 
-fn check<W: Write>(
+// Finds a certificate, by this rule.
+fn find<W: Write>(
     rt: &impl Files,
     alloc: Global,
     claim: Claim<'_>,
+    rule: Rule,
     out: &mut Tally<W>,
 ) -> Result<u8, RunFault> {
     let mut quest = opened_quest(rt, alloc, claim)?;
-    run_check(
+    run_by_rule(
         alloc,
         quest.profile.as_slice(),
         &mut quest.rec,
         &mut quest.cert,
         out,
-    )
-}
-
-fn decide<W: Write>(
-    rt: &impl Files,
-    alloc: Global,
-    claim: Claim<'_>,
-    out: &mut Tally<W>,
-) -> Result<u8, RunFault> {
-    let mut quest = opened_quest(rt, alloc, claim)?;
-    run_decide(
-        alloc,
-        quest.profile.as_slice(),
-        &mut quest.rec,
-        &mut quest.cert,
-        out,
+        rule,
     )
 }
 
@@ -209,7 +196,7 @@ fn verify<W: Write>(
     )
 }
 
-// Rows and canvas have the output to themselves: what waits to be written is flushed here.
+// The rows have the output to themselves: what waits to be written is flushed here.
 fn units<W: Write + Drop>(
     rt: &impl Files,
     alloc: Global,
@@ -247,23 +234,22 @@ fn extract<W: Write>(
     )
 }
 
-fn picture<W: Write + Drop>(
+fn picture<W: Write>(
     rt: &impl Files,
     alloc: Global,
     claim: Claim<'_>,
     span: Span,
-    out: Tally<W>,
+    out: &mut Tally<W>,
 ) -> Result<u8, RunFault> {
     let mut case = opened_claim(rt, alloc, claim)?;
-    let mut canvas = Canvas { span, out };
-    let status = run_picture(
+    run_picture(
         alloc,
         case.profile.as_slice(),
         &mut case.rec,
         &mut case.cert,
-        &mut canvas,
-    );
-    flushed(status, &mut canvas.out)
+        span,
+        out,
+    )
 }
 
 fn upgrade<W: Write>(

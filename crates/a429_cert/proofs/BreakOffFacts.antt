@@ -282,18 +282,18 @@ pub stop_breaks : {S : Type 0} (files : S → Option (List PutFile)) (broken : S
     → rec.count ≡ first.count + replay.used → GainsAll (files start) (files before) 1 taken
     → WhereTold known first.to_come (λ text r. Stands p text r d k replay.used taken replay.link.state old rec.to_come) → StopsAt files broken listener replay text rec new before after f
     → BreaksOff p (reads known left failed first new) (shelved files broken start after) listener f
-stop_breaks files broken listener failed p replay d k taken held known old left text ahead first rec new start before after f bench version noted none same few g counted put told (inl h) =
+stop_breaks files broken listener failed p replay d k taken held known old left text ahead first rec new start before after f profile version noted none same few g counted put told (inl h) =
     record {
       files = taken;
       place = line_breaks p d k replay.used taken replay.link.state known old left failed (broken after) listener ahead first rec new held none few g counted replay.lines f
-          (refused_here p replay d held text rec.to_come f bench version same h.ends)
-          (rw (← bench, ← version, ← same) h.given) h.device told;
+          (refused_here p replay d held text rec.to_come f profile version same h.ends)
+          (rw (← profile, ← version, ← same) h.given) h.device told;
       put = rw h.put put;
     }
-stop_breaks files broken listener failed p replay d k taken held known old left text ahead first rec new start before after f bench version noted none same few g counted put told (inr h) =
+stop_breaks files broken listener failed p replay d k taken held known old left text ahead first rec new start before after f profile version noted none same few g counted put told (inr h) =
     record {
       files = taken ++ h.put.front;
       place = file_breaks p d k replay.used taken replay.link.state known old left failed (broken after) listener ahead first rec new held none few g counted h.used h.state h.put.front h.put.more h.put.next h.put.first
-          (rw (← bench, ← version, ← same) h.passed) h.given f h.fault h.device told;
+          (rw (← profile, ← version, ← same) h.passed) h.given f h.fault h.device told;
       put = put_on (files start) (files before) (files after) [] replay.files.items taken h.put.front put noted h.put.gained;
     }

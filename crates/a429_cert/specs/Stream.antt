@@ -14,8 +14,8 @@ use Rattle.a429_cert.specs.declared.fault.CertFault.{CertFault}
 use Rattle.a429_cert.specs.declared.fault.CertFault.TheVariants as of
 use Rattle.a429_cert.specs.declared.stream_fault.StreamFault.{StreamFault}
 use Rattle.a429_cert.specs.declared.stream_fault.StreamFault.TheVariants as stream
-use Rattle.a429_cert.specs.declared.listener.ListenFault.{ListenFault}
-use Rattle.a429_cert.specs.declared.listener.ListenFault.TheVariants as listen
+use Rattle.a429_word.specs.declared.trouble.Trouble.{Trouble}
+use Rattle.a429_word.specs.declared.trouble.Trouble.TheVariants as trouble
 use Rattle.a429_cert.specs.declared.listed.Listed.{Listed}
 use Rattle.a429_cert.specs.declared.stream.Replay.{Replay}
 use Rattle.a429_cert.specs.declared.line.CertLine.{CertLine}
@@ -61,7 +61,7 @@ abbrev pub GivesAtFault : Type 0 → StreamFault → ℕ → ℕ → Type 0
 GivesAtFault Wants (stream.Read f) old new = new ≡ old
 GivesAtFault Wants f old new = (new ≡ old) ⊎ (Wants × (new ≡ old + 1))
 
--- the faults of a stream by those of a certificate, of a recording and of a listener: each want of memory is one fault
+-- the faults of a stream by those of a certificate and of a recording, and by what has stopped a shelf or a listener: out of memory is one fault
 abbrev pub of_cert : CertFault → StreamFault
 of_cert of.OutOfMemory = stream.OutOfMemory
 of_cert f = stream.Cert f
@@ -70,9 +70,9 @@ abbrev pub of_read : ReadFault → StreamFault
 of_read read.OutOfMemory = stream.OutOfMemory
 of_read f = stream.Read f
 
-abbrev pub of_listener : ListenFault → StreamFault
-of_listener listen.Device = stream.Device
-of_listener listen.OutOfMemory = stream.OutOfMemory
+abbrev pub of_trouble : Trouble → StreamFault
+of_trouble trouble.Device = stream.Device
+of_trouble trouble.OutOfMemory = stream.OutOfMemory
 
 -- ---- one line
 

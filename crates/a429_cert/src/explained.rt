@@ -22,7 +22,7 @@ use a429_profile::Profile;
 use a429_record::Entry;
 use std::alloc::Global;
 
-/// Holds a certificate against the entries of a recording, under the profile of the bench. Where it
+/// Holds a certificate against the entries of a recording, under a profile. Where it
 /// explains them by a run of source and sink, the answer is the files that this run delivers, and each
 /// other run that records the same words delivers the same. Else the fault is the first one in the
 /// order of the lines.

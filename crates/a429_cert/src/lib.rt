@@ -3,7 +3,6 @@
 
 mod act;
 mod at;
-mod bench;
 mod entry;
 mod explained;
 mod fault;
@@ -30,14 +29,13 @@ mod words;
 mod writing;
 
 pub use crate::act::{Act, letter_of};
-pub use crate::bench::Bench;
 pub use crate::entry::seen;
 pub use crate::explained::verify;
 pub use crate::fault::{CertFault, OutOfMemory};
 pub use crate::line::{CertLine, LoadLine, MovedLine};
 pub use crate::line_reader::LineReader;
 pub use crate::lines::TextLine;
-pub use crate::listener::{ListenFault, Listener, NoListener};
+pub use crate::listener::{Listener, NoListener};
 pub use crate::reading::read_line;
 pub use crate::shelf::{MemoryShelf, NoShelf, PutFile, Shelf, ShelfFault};
 pub use crate::stream::{replay_stream, verify_stream};

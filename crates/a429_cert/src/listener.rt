@@ -7,16 +7,7 @@ use a429_ldu::Ldu;
 use a429_link::UnitNumber;
 use a429_profile::Profile;
 use a429_record::Entry;
-use a429_word::Failing;
-
-/// Why a listener has not taken what it was told.
-#[derive(Clone, Copy, Debug, PartialEq, Eq)]
-pub enum ListenFault {
-    /// The listener has failed.
-    Device,
-    /// Memory was refused.
-    OutOfMemory,
-}
+use a429_word::{Failing, Trouble};
 
 /// What is told of each step that a certificate lists, once its line is accepted: what it has heard are the
 /// first steps of a run, and a whole run only where the whole certificate is accepted.
@@ -29,9 +20,9 @@ pub trait Listener: Failing {
     ghost hears: { Contents → Self → Told → Self → Type 0 };
 
     /// The source is given a link data unit, which has this number.
-    fn load(&mut self, profile: &Profile, number: UnitNumber, unit: &Ldu) -> Result<(), ListenFault>
+    fn load(&mut self, profile: &Profile, number: UnitNumber, unit: &Ldu) -> Result<(), Trouble>
         ensures heard { OnOk result (hears profile.now self.old (Loads number unit.now) self.new) }
-        ensures device { IsErrOf result ListenFault.Device → Self.failed self.new ≡ true };
+        ensures device { IsErrOf result Trouble.Device → Self.failed self.new ≡ true };
 
     /// Another step is made. It records this entry, which has this number, counted from 0.
     fn make(
@@ -39,9 +30,9 @@ pub trait Listener: Failing {
         profile: &Profile,
         act: Act,
         entry: Option<(usize, Entry)>,
-    ) -> Result<(), ListenFault>
+    ) -> Result<(), Trouble>
         ensures heard { OnOk result (hears profile.now self.old (Makes act entry) self.new) }
-        ensures device { IsErrOf result ListenFault.Device → Self.failed self.new ≡ true };
+        ensures device { IsErrOf result Trouble.Device → Self.failed self.new ≡ true };
 }
 
 /// A listener that does not listen.
@@ -61,13 +52,13 @@ impl Listener for NoListener {
 
     ghost hears = { λ _ _ _ _. ⊤ };
 
-    fn load(&mut self, _: &Profile, _: UnitNumber, _: &Ldu) -> Result<(), ListenFault>
+    fn load(&mut self, _: &Profile, _: UnitNumber, _: &Ldu) -> Result<(), Trouble>
         ensures told { IsOk result }
     {
         Ok(())
     }
 
-    fn make(&mut self, _: &Profile, _: Act, _: Option<(usize, Entry)>) -> Result<(), ListenFault>
+    fn make(&mut self, _: &Profile, _: Act, _: Option<(usize, Entry)>) -> Result<(), Trouble>
         ensures told { IsOk result }
     {
         Ok(())

@@ -5,18 +5,12 @@ ghost use Rattle.a429_cert.specs.Shelf.{Gains, IsUnchanged};
 ghost use Rattle.a429_cert.specs.declared.shelf.PutFile.{PutFile};
 
 use a429_link::{Bytes, FileBytes};
-use a429_word::Failing;
+use a429_word::{Failing, Trouble};
 use std::alloc::Global;
 use std::marker::Model;
 
 /// Why a shelf has not taken a file.
-#[derive(Clone, Copy, Debug, PartialEq, Eq)]
-pub enum ShelfFault {
-    /// The shelf has failed.
-    Device,
-    /// Memory was refused.
-    OutOfMemory,
-}
+pub type ShelfFault = Trouble;
 
 /// A file that was put.
 #[derive(Debug, Drop)]
@@ -33,10 +27,10 @@ pub trait Shelf: Failing {
 
     /// Puts a file: its place among the files of its certificate, from 1, its number, and its bytes. A
     /// file that is refused is not there.
-    fn put(&mut self, index: u32, number: u8, bytes: &[u8]) -> Result<(), ShelfFault>
+    fn put(&mut self, index: u32, number: u8, bytes: &[u8]) -> Result<(), Trouble>
         ensures ok { OnOk result (Gains (files self.old) (files self.new) index number bytes.now) }
         ensures err { OnErr result (IsUnchanged (files self.old) (files self.new)) }
-        ensures device { IsErrOf result ShelfFault.Device → Self.failed self.new ≡ true }
+        ensures device { IsErrOf result Trouble.Device → Self.failed self.new ≡ true }
         ensures stays { Self.failed self.old ≡ true → Self.failed self.new ≡ true };
 }
 
@@ -86,15 +80,15 @@ impl Failing for MemoryShelf {
 impl Shelf for MemoryShelf {
     ghost files = { λ s. Some s };
 
-    fn put(&mut self, index: u32, number: u8, bytes: &[u8]) -> Result<(), ShelfFault> {
+    fn put(&mut self, index: u32, number: u8, bytes: &[u8]) -> Result<(), Trouble> {
         let mut kept = Vec::new(self.alloc);
         if kept.extend_from_slice(bytes).is_err() {
-            return Err(ShelfFault::OutOfMemory);
+            return Err(Trouble::OutOfMemory);
         }
         let bytes = Bytes::new(kept);
         let file = FileBytes { number, bytes };
         if self.files.push(PutFile { index, file }).is_err() {
-            return Err(ShelfFault::OutOfMemory);
+            return Err(Trouble::OutOfMemory);
         }
         Ok(())
     }
@@ -115,7 +109,7 @@ impl Failing for NoShelf {
 impl Shelf for NoShelf {
     ghost files = { λ s. None };
 
-    fn put(&mut self, _: u32, _: u8, _: &[u8]) -> Result<(), ShelfFault>
+    fn put(&mut self, _: u32, _: u8, _: &[u8]) -> Result<(), Trouble>
         ensures taken { IsOk result }
     {
         Ok(())

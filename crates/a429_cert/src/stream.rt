@@ -20,7 +20,6 @@ ghost use Rattle.a429_cert.specs.Stream.{IsFaultNext, TakesNext, ReplaysNext, En
 ghost use Rattle.a429_cert.specs.Stream.{OneFailed, HandsFilesOut, GoesOn, PutsFiles, PutsFirstFiles, StopsAt, sizes};
 
 use crate::at::At;
-use crate::bench::Bench;
 use crate::entry::seen_in;
 use crate::explained::Head;
 use crate::fault::{CertFault, OutOfMemory};
@@ -31,9 +30,9 @@ use crate::lines::TextLine;
 use crate::listed::Listed;
 use crate::listener::{Listener, NoListener};
 use crate::passing::{make_step, read_step};
-use crate::shelf::{Shelf, ShelfFault};
+use crate::shelf::Shelf;
 use crate::stream_end::none_left;
-use crate::stream_fault::{StreamFault, of_cert, of_listener, of_read};
+use crate::stream_fault::{StreamFault, of_cert, of_read, of_trouble};
 use crate::stream_head::begin;
 use crate::version::Version;
 use a429_ldu::Ldu;
@@ -44,7 +43,7 @@ use a429_word::Tally;
 use std::alloc::Global;
 use std::io::Read;
 
-/// Holds a certificate against a recording, under the profile of the bench, both read as they come. Where
+/// Holds a certificate against a recording, under a profile, both read as they come. Where
 /// it explains the recording, the files that cross are put on the shelf, in order, and the answer is their
 /// numbers and lengths. Else the fault is the first one in the order of the lines, where a recording's comes
 /// where its entry is wanted, and the files that the lines before it deliver are put. Where a device fails or
@@ -63,13 +62,7 @@ pub fn verify_stream<R: Read, C: Read, S: Shelf>(
     ensures device { IsErrOf result StreamFault.Device → (has_failed cert.new ≡ true) ⊎ (S.failed shelf.new ≡ true) }
     ensures read { IsErrOf result (StreamFault.Read read.Device) → rec.new.failed ≡ true }
 {
-    replay_stream(
-        &Bench::new(alloc, profile),
-        rec,
-        cert,
-        shelf,
-        &mut NoListener,
-    )
+    replay_stream(alloc, profile, rec, cert, shelf, &mut NoListener)
 }
 
 /// The same, and a listener is told of each step once its line is accepted. Where the answer is a yes, it has
@@ -77,33 +70,34 @@ pub fn verify_stream<R: Read, C: Read, S: Shelf>(
 /// is a fault of the certificate or of the recording, those of the lines before the fault. Where it has not
 /// taken a step, that is the fault, and the files of the lines before are put.
 pub fn replay_stream<R: Read, C: Read, S: Shelf, T: Listener>(
-    bench: &Bench<'_>,
+    alloc: Global,
+    profile: &Profile,
     rec: &mut EntryReader<R>,
     cert: &mut Tally<C>,
     shelf: &mut S,
     listener: &mut T,
 ) -> Result<Vec<(u8, u32)>, StreamFault>
-    ensures ok { IfOk result (SaysYes bench.now (unread C.remaining cert.old) rec.old.to_come (S.files shelf.old) (S.files shelf.new)) }
-    ensures heard { OnOk result (HearsRun T.hears bench.now (unread C.remaining cert.old) rec.old.to_come listener.old listener.new) }
-    ensures err { IfErr result (Refuses bench.now (unread C.remaining cert.old) rec.old.to_come (S.files shelf.old) (S.files shelf.new)) }
-    ensures place { IfErr result (BreaksOff bench.now (readers C.remaining cert.old cert.new rec.old rec.new)
+    ensures ok { IfOk result (SaysYes profile.now (unread C.remaining cert.old) rec.old.to_come (S.files shelf.old) (S.files shelf.new)) }
+    ensures heard { OnOk result (HearsRun T.hears profile.now (unread C.remaining cert.old) rec.old.to_come listener.old listener.new) }
+    ensures err { IfErr result (Refuses profile.now (unread C.remaining cert.old) rec.old.to_come (S.files shelf.old) (S.files shelf.new)) }
+    ensures place { IfErr result (BreaksOff profile.now (readers C.remaining cert.old cert.new rec.old rec.new)
         (shelved S.files S.failed shelf.old shelf.new) (T.failed listener.new)) }
-    ensures told { IfErr result (HearsBefore T.hears bench.now (unread C.remaining cert.old) rec.old.to_come listener.old listener.new) }
+    ensures told { IfErr result (HearsBefore T.hears profile.now (unread C.remaining cert.old) rec.old.to_come listener.old listener.new) }
     ensures device { IsErrOf result StreamFault.Device → OneFailed (has_failed cert.new) (S.failed shelf.new) (T.failed listener.new) }
     ensures read { IsErrOf result (StreamFault.Read read.Device) → rec.new.failed ≡ true }
 {
     // No line is empty of bytes, so that lines and entries are no more than the bytes that may come.
     let _most: u64 = cert.left();
-    let words = match WordLines::new(bench.alloc) {
+    let words = match WordLines::new(alloc) {
         Ok(words) => words,
         Err(OutOfMemory) => return Err(StreamFault::OutOfMemory),
     };
     let mut lines = LineReader::new();
-    let head = match begin(bench.alloc, &mut lines, cert) {
+    let head = match begin(alloc, &mut lines, cert) {
         Ok(head) => head,
         Err(fault) => return Err(fault),
     };
-    let mut replay = Replay::start(bench, head);
+    let mut replay = Replay::start(alloc, profile, head);
     'lines: loop {
         let Ok(next) = lines.next_near(cert, words.likely(replay.link.states())) else {
             return Err(StreamFault::Device);
@@ -193,23 +187,23 @@ pub struct Replay<'a> {
 impl<'a> Replay<'a> {
     // A replay that has just read the first two lines, and no entry.
     #[inline(always)]
-    fn start(bench: &Bench<'a>, head: Head) -> Replay<'a>
-        ensures sound { IsProfile bench.now }
-        ensures profile { result.profile.now ≡ bench.now }
+    fn start(alloc: Global, profile: &'a Profile, head: Head) -> Replay<'a>
+        ensures sound { IsProfile profile.now }
+        ensures profile { result.profile.now ≡ profile.now }
         ensures version { result.version ≡ head.version }
-        ensures link { result.link ≡ record { profile = bench.now; state = start bench.now head.first } }
+        ensures link { result.link ≡ record { profile = profile.now; state = start profile.now head.first } }
         ensures lines { result.lines ≡ 2 }
         ensures used { result.used ≡ 0 }
         ensures files { result.files.items ≡ [] }
     {
         Replay {
-            alloc: bench.alloc,
-            profile: bench.profile,
+            alloc,
+            profile,
             version: head.version,
-            link: Link::start(bench.alloc, bench.profile, head.first),
+            link: Link::start(alloc, profile, head.first),
             lines: 2,
             used: 0,
-            files: Vec::new(bench.alloc),
+            files: Vec::new(alloc),
         }
     }
 
@@ -283,7 +277,7 @@ fn load_and_report<T: Listener>(
     }
     match listener.load(replay.profile, replay.link.number(), &unit) {
         Ok(()) => {}
-        Err(fault) => return Err(of_listener(fault)),
+        Err(trouble) => return Err(of_trouble(trouble)),
     }
     match replay.link.apply(Step::Load(unit)) {
         Ok(()) => Ok(0),
@@ -320,7 +314,7 @@ fn move_and_report<T: Listener>(
     };
     match listener.make(replay.profile, line.act, numbered(replay.used, next)) {
         Ok(()) => Ok(used),
-        Err(fault) => Err(of_listener(fault)),
+        Err(trouble) => Err(of_trouble(trouble)),
     }
 }
 
@@ -399,8 +393,7 @@ fn put_file<S: Shelf>(
     }
     match shelf.put(index, file.number, bytes) {
         Ok(()) => Ok(()),
-        Err(ShelfFault::Device) => Err(StreamFault::Device),
-        Err(ShelfFault::OutOfMemory) => Err(StreamFault::OutOfMemory),
+        Err(trouble) => Err(of_trouble(trouble)),
     }
 }
 

@@ -1,11 +1,11 @@
 //! Why a certificate that is read as it comes, or its recording, is refused.
 
 ghost use Rattle.std.specs.Prelude.{◌≡◌};
-ghost use Rattle.a429_cert.specs.Stream.{of_cert, of_listener, of_read};
+ghost use Rattle.a429_cert.specs.Stream.{of_cert, of_read, of_trouble};
 
 use crate::fault::CertFault;
-use crate::listener::ListenFault;
 use a429_record::ReadFault;
+use a429_word::Trouble;
 
 /// Why a certificate and a recording that are read as they come are refused.
 #[derive(Clone, Copy, Debug, PartialEq, Eq)]
@@ -40,12 +40,12 @@ pub fn of_read(fault: ReadFault) -> StreamFault
     }
 }
 
-/// The fault of a stream for one of its listener.
-pub fn of_listener(fault: ListenFault) -> StreamFault
-    ensures { result ≡ of_listener fault }
+/// The fault of a stream whose shelf or listener has not taken something.
+pub fn of_trouble(trouble: Trouble) -> StreamFault
+    ensures { result ≡ of_trouble trouble }
 {
-    match fault {
-        ListenFault::Device => StreamFault::Device,
-        ListenFault::OutOfMemory => StreamFault::OutOfMemory,
+    match trouble {
+        Trouble::Device => StreamFault::Device,
+        Trouble::OutOfMemory => StreamFault::OutOfMemory,
     }
 }

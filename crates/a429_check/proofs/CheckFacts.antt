@@ -1,66 +1,57 @@
--- What a command that finds a certificate has told, once a verdict was put.
-use Rattle.std.proofs.Common.{◌≡◌, ◌≢◌, ◌⊎◌, inl, inr, ℕ, List, Bool, true, false, Option, Result, Ok, Err, IfOk, IfErr, sym, subst}
-use Rattle.std.specs.Result.{OnOk, OnErr}
+-- What a command that finds a certificate has written, once a verdict was found.
+use Rattle.std.proofs.Common.{◌≡◌, ◌⊎◌, inl, inr, List, ℕ, Option, Result, Ok, Err, IfOk, IfErr, Bool, true, false, sym, subst}
 use Rattle.std.specs.Str.{IsUtf8}
-use Rattle.a429_word.specs.declared.tally.Tally.{Tally}
-use Rattle.a429_word.specs.Tally.{unread, Puts, PutsFront}
-use Rattle.a429_cert.specs.Explained.{items_of}
+use Rattle.a429_link.specs.declared.seen.Seen.{Seen}
+use Rattle.a429_profile.specs.Profile.{Contents}
+use Rattle.a429_cert.specs.declared.fault.OutOfMemory.{OutOfMemory}
 use Rattle.a429_explain.specs.declared.verdict.Verdict.{Verdict}
 use Rattle.a429_explain.specs.Verdict.{IsSoundVerdict, IsOfLeastVersion, IsImpossible, IsDoubted, HasNoForm, IsImpossibility, IsExplanation}
 use Rattle.a429_explain.specs.WithoutLoss.{IsWithoutLoss}
 use Rattle.a429_check.specs.declared.fault.RunFault.{RunFault}
 use Rattle.a429_check.specs.declared.fault.RunFault.TheVariants as run
-use Rattle.a429_check.specs.Output.{UsedWork}
+use Rattle.a429_check.specs.Output.{Output, UsedWork}
 use Rattle.a429_check.specs.Recording.{SayInput}
 use Rattle.a429_check.specs.declared.engines.rule.Rule.{Rule}
-use Rattle.a429_check.specs.Check.{certificate_text, verdict_status, verdict_text, IsByRule, IsCheckFault, IsVerdictOn, PutsFrontAtMost, PutsVerdictOn}
+use Rattle.a429_check.specs.Check.{EitherFailed, IsByRule, IsCheckFault, IsVerdictBy, IsVerdictOn, LeavesVerdict, ReportsVerdict}
 
--- a verdict on the entries is one on the recording that stands for them
-pub found : (by_rule : Rule) (profile : List ℕ) (known : Option (List ℕ)) (says : SayInput profile known) (r : Result Verdict RunFault)
-    → IfOk r (IsSoundVerdict says.contents (items_of says.entries)) → IfOk r (IsOfLeastVersion says.contents (items_of says.entries)) → IfOk r (IsImpossible says.contents (items_of says.entries))
-    → IfOk r (IsDoubted says.contents (items_of says.entries)) → IfOk r (IsByRule by_rule says.contents (items_of says.entries)) → (HasNoForm (says.contents.codes) (items_of says.entries) → IfOk r IsImpossibility)
-    → (IsWithoutLoss says.contents (items_of says.entries) → IfOk r IsExplanation) → IfOk r (IsVerdictOn by_rule profile known)
-found by_rule profile known says (Ok v) sound version impossible doubted first no_form without_loss =
-    record { says = says; sound = sound; version = version; impossible = impossible; doubted = doubted; first = first; no_form = no_form; without_loss = without_loss }
-found by_rule profile known says (Err f) sound version impossible doubted first no_form without_loss = tt
+-- what the library's call says of its verdict, as one
+pub found : (by_rule : Rule) (p : Contents) (items : List Seen) (r : Result Verdict OutOfMemory)
+    → IfOk r (IsSoundVerdict p items) → IfOk r (IsOfLeastVersion p items) → IfOk r (IsImpossible p items) → IfOk r (IsDoubted p items) → IfOk r (IsByRule by_rule p items)
+    → (HasNoForm p.codes items → IfOk r IsImpossibility) → (IsWithoutLoss p items → IfOk r IsExplanation) → IfOk r (IsVerdictBy by_rule p items)
+found by_rule p items (Ok v) sound version impossible doubted first no_form without_loss =
+    record { sound = sound; version = version; impossible = impossible; doubted = doubted; first = first; no_form = no_form; without_loss = without_loss }
+found by_rule p items (Err e) sound version impossible doubted first no_form without_loss = tt
 
--- no verdict on the entries, for the one reason that there may be
-pub not_found : (profile : List ℕ) (known : Option (List ℕ)) (failed : Bool) (r : Result Verdict RunFault)
-    → IsUtf8 profile → IfErr r (λ e. e ≡ run.Memory) → IfErr r (IsCheckFault profile known failed false false)
-not_found profile known failed (Ok v) text f = tt
-not_found profile known failed (Err e) text f = subst (λ (e : RunFault). IsCheckFault profile known failed false false e) (sym f) text
+-- what was written of one verdict was written of one that is such
+pub reported : {C W : Type 0} (cert : Output C) (out : Output W) (v : Verdict) (IsSuch : Verdict → Type 0) (r : Result ℕ RunFault) → IsSuch v
+    → IfOk r (ReportsVerdict cert out (λ w. w ≡ v)) → IfOk r (ReportsVerdict cert out IsSuch)
+reported cert out v IsSuch (Ok status) such h = record { verdict = h.verdict; is = subst IsSuch (sym h.is) such; status_is = h.status_is; certificate = h.certificate; text = h.text; none = h.none }
+reported cert out v IsSuch (Err e) such h = tt
 
-pub says_input : (profile : List ℕ) (known : Option (List ℕ)) (r : Result Verdict RunFault) → SayInput profile known → OnOk r (SayInput profile known)
-says_input profile known (Ok v) says = says
-says_input profile known (Err f) says = tt
-
-pub told : {C W R : Type 0} (by_rule : Rule) (certificate_in : C → Option (List ℕ)) (cert new_cert : Tally C) (contents : W → Option (List ℕ)) (out new_out : Tally W)
-    (profile : List ℕ) (remaining : R → Option (List ℕ)) (rec : Tally R) (v : Verdict) (r : Result ℕ RunFault)
-    → IsVerdictOn by_rule profile (unread remaining rec) v → IfOk r (λ status. status ≡ verdict_status v) → OnOk r (Puts certificate_in cert new_cert (certificate_text v)) → OnOk r (Puts contents out new_out (verdict_text v))
-    → IfOk r (PutsVerdictOn by_rule certificate_in cert new_cert contents out new_out profile remaining rec)
-told by_rule certificate_in cert new_cert contents out new_out profile remaining rec v (Ok status) is e put text = (v, is, e, put, text)
-told by_rule certificate_in cert new_cert contents out new_out profile remaining rec v (Err f) is e put text = tt
+pub left : {C W : Type 0} (cert : Output C) (out : Output W) (v : Verdict) (IsSuch : Verdict → Type 0) (rec : Bool) (r : Result ℕ RunFault) → IsSuch v → rec ≡ false
+    → IfErr r (LeavesVerdict cert out ⊥ (λ w. w ≡ v)) → IfErr r (LeavesVerdict cert out (rec ≡ true) IsSuch)
+left cert out v IsSuch rec (Ok status) such works h = tt
+left cert out v IsSuch rec (Err e) such works (inl same) = inl same
+left cert out v IsSuch rec (Err e) such works (inr (device, _, (w, is, cut))) = inr (device, (λ failed. cc (failed, works)), (w, subst IsSuch (sym is) such, cut))
 
 -- the recording's reader has not failed either
 pub used : (r : Result ℕ RunFault) (rec cert out : Bool) → rec ≡ false → IfOk r (UsedWork false cert out) → IfOk r (UsedWork rec cert out)
 used r rec cert out e w = subst (λ (b : Bool). IfOk r (UsedWork b cert out)) (sym e) w
 
 -- a writer alone failed
-pub not_told : (profile : List ℕ) (known : Option (List ℕ)) (r : Result ℕ RunFault) (rec cert out : Bool) → SayInput profile known
-    → IfErr r (λ e. (e ≡ run.Device) × ((cert ≡ true) ⊎ (out ≡ true))) → IfErr r (IsCheckFault profile known rec cert out)
-not_told profile known (Ok status) rec cert out says f = tt
-not_told profile known (Err e) rec cert out says f = subst (λ (e : RunFault). IsCheckFault profile known rec cert out e) (sym f.0) (inr (says, f.1))
+pub not_written : (profile : List ℕ) (known : Option (List ℕ)) (r : Result ℕ RunFault) (rec cert out : Bool) → SayInput profile known
+    → IfErr r (λ e. (e ≡ run.Device) × EitherFailed cert out) → IfErr r (IsCheckFault profile known rec (EitherFailed cert out))
+not_written profile known (Ok status) rec cert out says f = tt
+not_written profile known (Err e) rec cert out says f = subst (λ (e : RunFault). IsCheckFault profile known rec (EitherFailed cert out) e) (sym f.0) (inr (says, f.1))
 
-pub silent : (Failed Same : Type 0) (r : Result ℕ RunFault) (rec : Bool) → rec ≡ false
-    → IfErr r (λ e. (e ≡ run.Device) × Failed) → IfErr r (λ e. (e ≢ run.Device) ⊎ (rec ≡ true) → Same)
-silent Failed Same (Ok status) rec w f = tt
-silent Failed Same (Err e) rec w f = by
-  where
-    by : (e ≢ run.Device) ⊎ (rec ≡ true) → Same
-    by (inl h) = absurd (h f.0)
-    by (inr h) = cc (w, h)
-
-pub front : {C : Type 0} (by_rule : Rule) (contents : C → Option (List ℕ)) (old new : Tally C) (profile : List ℕ) (known : Option (List ℕ)) (v : Verdict) (r : Result ℕ RunFault)
-    → IsVerdictOn by_rule profile known v → OnErr r (PutsFront contents old new (certificate_text v)) → OnErr r (PutsFrontAtMost by_rule contents old new profile known)
-front by_rule contents old new profile known v (Ok status) is h = tt
-front by_rule contents old new profile known v (Err e) is h = inr (v, is, h)
+-- no verdict was found, whatever the writers would have done
+pub not_found : (profile : List ℕ) (known : Option (List ℕ)) (rec : Bool) (Writers : Type 0) (e : RunFault) → IsCheckFault profile known rec ⊥ e → IsCheckFault profile known rec Writers e
+not_found profile known rec Writers (run.Profile f) h = h
+not_found profile known rec Writers (run.Read f) h = h
+not_found profile known rec Writers run.Device (inl h) = inl h
+not_found profile known rec Writers run.Device (inr h) = absurd h.1
+not_found profile known rec Writers run.Memory h = h
+not_found profile known rec Writers (run.Cut k f) h = h
+not_found profile known rec Writers run.TooLong h = h
+not_found profile known rec Writers run.BadWord h = h
+not_found profile known rec Writers run.Usage h = h

@@ -14,3 +14,4 @@ pub mod PictureFacts
 pub mod ExtractFacts
 pub mod CheckFacts
 pub mod StreamingFacts
+pub mod OutputFacts

@@ -1,14 +1,10 @@
 -- What a sketch that listened to a certificate holds, and why there is no picture.
-use Rattle.std.proofs.Common.{◌≡◌, ◌≢◌, ◌≤◌, ◌<◌, inl, inr, ℕ, List, Bool, true, Option, Some, None, Result, Ok, Err, IfOk, IfErr, refl, sym, ap, subst}
-use Rattle.std.specs.Result.{OnOk}
-use Rattle.a429_word.specs.declared.tally.Tally.{Tally}
-use Rattle.a429_word.specs.Tally.{Puts}
+use Rattle.std.proofs.Common.{◌≡◌, ◌≤◌, ◌<◌, inl, inr, ℕ, List, Bool, true, false, nat_lt, Option, Some, None, Ok, refl, sym, ap, subst}
+use Rattle.std.specs.Prelude.{IsTrue, ◌↔◌}
+use Rattle.std.proofs.lemmas.Bool.{ltb-true, ltb-false}
 use Rattle.a429_profile.specs.Profile.{Contents}
 use Rattle.a429_record.specs.Recording.{Recording}
-use Rattle.a429_cert.specs.declared.fault.CertFault.{CertFault}
-use Rattle.a429_cert.specs.declared.fault.CertFault.TheVariants as cert
-use Rattle.a429_cert.specs.declared.stream_fault.StreamFault.TheVariants as stream
-use Rattle.a429_cert.specs.StreamExplained.{Extracts, HearsRun, Refuses, WhereTold}
+use Rattle.a429_cert.specs.StreamExplained.{Extracts, HearsRun, WhereTold}
 use Rattle.a429_cert.specs.Told.{IsHeard, told_run}
 use Rattle.a429_view.specs.declared.mark.Span.{Span}
 use Rattle.a429_view.specs.declared.sketch.Sketch.{Sketch}
@@ -18,9 +14,10 @@ use Rattle.a429_view.proofs.SketchFacts.{is_of}
 use Rattle.a429_check.specs.declared.fault.RunFault.{RunFault}
 use Rattle.a429_check.specs.declared.fault.RunFault.TheVariants as run
 use Rattle.a429_check.specs.Profile.{IsProfileOf}
-use Rattle.a429_check.specs.Output.{PutsText}
-use Rattle.a429_check.specs.Verdict.{ByProfile, no_text}
-use Rattle.a429_check.specs.Picture.{ARun, DrawsRun, IsTooLongRun, IsPicture, IsNoPicture, IsSketchFault}
+use Rattle.a429_check.specs.Output.{Output, HasFailedIn, IsCutShort}
+use Rattle.a429_check.specs.declared.engines.verdict.Judged.{Judged}
+use Rattle.a429_check.specs.Verdict.{AnyFailed, Input, IsVerifyFault, no_shelf}
+use Rattle.a429_check.specs.Picture.{ARun, DrawsRun, IsTooLongRun, IsPicture, IsPictureFault, IsSketchFault, IsSketched, IsSomePicture}
 
 where_told : (known : Option (List ℕ)) (rec : Option Recording) (A B : List ℕ → Recording → Type 0) → ((text : List ℕ) (r : Recording) → A text r → B text r) → WhereTold known rec A → WhereTold known rec B
 where_told None rec A B f a = tt
@@ -40,10 +37,11 @@ draws p span old new text r b e h =
     record { run = heard_run h; few = of.1; drawn = ap (svg_text p.codes) of.0 }
 
 -- a picture of what was heard
-pub accepted : (profile : List ℕ) (p : Contents) (known : Option (List ℕ)) (rec : Option Recording) (span : Span) (old new : Sketch) (files : List (ℕ × ℕ))
-    → IsProfileOf profile p → Extracts p known rec None None files → IsBlank span old → HearsRun Hears p known rec old new → new.steps ≤ most_steps
-    → IsPicture profile known rec span 0 (svg_text p.codes new.rows.items)
-accepted profile p known rec span old new files is here b h e =
+pub drawn : (i : Input) (span : Span) (old new : Sketch) (j : Judged) (files : List (ℕ × ℕ)) (text : List ℕ)
+    → IsProfileOf i.profile j.profile → Extracts j.profile i.certificate i.recording None None files → IsBlank span old → HearsRun Hears j.profile i.certificate i.recording old new → IsSketched j.profile.codes new text
+    → IsPicture i span 0 text
+drawn i span old new j files text is here b h sketched =
+    let p = j.profile in
     inl (
       refl,
       record {
@@ -51,56 +49,60 @@ accepted profile p known rec span old new files is here b h e =
         is_profile = is;
         files = files;
         yes = here;
-        so = where_told known rec (IsHeard Hears p old new) (DrawsRun p span (svg_text p.codes new.rows.items)) (λ text r. draws p span old new text r b e) h;
+        so = where_told i.certificate i.recording (IsHeard Hears p old new) (DrawsRun p span text) (λ t r g. subst (λ (drawing : List ℕ). DrawsRun p span drawing t r) (sym sketched.0) (draws p span old new t r b sketched.1 g)) h;
       },
     )
 
--- a certificate that is refused
-pub refused : (profile : List ℕ) (p : Contents) (known : Option (List ℕ)) (rec : Option Recording) (span : Span) (f : CertFault)
-    → IsProfileOf profile p → Refuses p known rec None None (stream.Cert f) → f ≢ cert.OutOfMemory → IsPicture profile known rec span 2 (no_text f)
-refused profile p known rec span f is here other =
-    inr (refl, record { answer = Err (stream.Cert f); judged = record { contents = p; is_profile = is; is = here }; told = (refl, refl, other) })
-
 -- too many steps
-too_long : (profile : List ℕ) (p : Contents) (known : Option (List ℕ)) (rec : Option Recording) (span : Span) (old new : Sketch) (files : List (ℕ × ℕ))
-    → IsProfileOf profile p → Extracts p known rec None None files → IsBlank span old → HearsRun Hears p known rec old new → most_steps < new.steps
-    → IsNoPicture profile known rec span run.TooLong
-too_long profile p known rec span old new files is here b h e =
+too_long : (i : Input) (p : Contents) (span : Span) (Failed : Type 0) (old new : Sketch) (files : List (ℕ × ℕ))
+    → IsProfileOf i.profile p → Extracts p i.certificate i.recording None None files → IsBlank span old → HearsRun Hears p i.certificate i.recording old new → most_steps < new.steps
+    → IsPictureFault i span Failed run.TooLong
+too_long i p span Failed old new files is here b h e =
     record {
       contents = p;
       is_profile = is;
       files = files;
       yes = here;
-      so = where_told known rec (IsHeard Hears p old new) (IsTooLongRun p span) (λ text r g. record { run = heard_run g; many = (heard_of p span old new text r b g).many e }) h;
+      so = where_told i.certificate i.recording (IsHeard Hears p old new) (IsTooLongRun p span) (λ text r g. record { run = heard_run g; many = (heard_of p span old new text r b g).many e }) h;
     }
 
--- ---- what a command answers once its text was put
+-- a fault of `a429 verify` is one of `picture`
+pub as_verify : (i : Input) (span : Span) (Failed : Type 0) (e : RunFault) → IsVerifyFault i no_shelf Failed e → IsPictureFault i span Failed e
+as_verify i span Failed (run.Profile f) h = h
+as_verify i span Failed (run.Read f) h = h
+as_verify i span Failed run.Device h = h
+as_verify i span Failed run.Memory h = h
+as_verify i span Failed (run.Cut k f) h = absurd h
+as_verify i span Failed run.TooLong h = absurd h
+as_verify i span Failed run.BadWord h = absurd h
+as_verify i span Failed run.Usage h = absurd h
 
-pub puts_picture : {W : Type 0} (contents : W → Option (List ℕ)) (old new : Tally W) (r : Result ℕ RunFault) (p : Contents) (Is : List ℕ → ℕ → List ℕ → Type 0) (n : ℕ) (text : List ℕ) (Fact : Type 0)
-    → IfOk r (λ status. status ≡ n) → OnOk r (Puts contents old new text) → OnOk r Fact → (Fact → ByProfile p (λ profile. Is profile n text))
-    → IfOk r (λ status. ByProfile p (λ profile. PutsText contents old new (Is profile status)))
-puts_picture contents old new (Ok status) p Is n text Fact e puts fact is = λ profile by. (text, subst (λ (k : ℕ). Is profile k text) (sym e) (is fact profile by), puts)
-puts_picture contents old new (Err f) p Is n text Fact e puts fact is = tt
+-- what was sketched was not drawn
+pub not_drawn : (i : Input) (span : Span) (rec certificate out : Bool) (old new : Sketch) (p : Contents) (files : List (ℕ × ℕ)) (e : RunFault)
+    → IsProfileOf i.profile p → Extracts p i.certificate i.recording None None files → IsBlank span old → HearsRun Hears p i.certificate i.recording old new
+    → IsSketchFault new.steps out e → IsPictureFault i span (AnyFailed rec certificate false out) e
+not_drawn i span rec certificate out old new p files run.TooLong is here b h many = too_long i p span (AnyFailed rec certificate false out) old new files is here b h many
+not_drawn i span rec certificate out old new p files run.Memory is here b h _ = (is.0, inl tt)
+not_drawn i span rec certificate out old new p files run.Device is here b h failed = (inr failed, (Ok files, record { contents = p; is_profile = is; is = here }))
+not_drawn i span rec certificate out old new p files (run.Profile f) is here b h g = absurd g
+not_drawn i span rec certificate out old new p files (run.Read f) is here b h g = absurd g
+not_drawn i span rec certificate out old new p files (run.Cut k f) is here b h g = absurd g
+not_drawn i span rec certificate out old new p files run.BadWord is here b h g = absurd g
+not_drawn i span rec certificate out old new p files run.Usage is here b h g = absurd g
 
-pub no_picture : (p : Contents) (known : Option (List ℕ)) (rec : Option Recording) (span : Span) (out : Bool) (old new : Sketch) (files : List (ℕ × ℕ)) (r : Result ℕ RunFault)
-    → Extracts p known rec None None files → IsBlank span old → HearsRun Hears p known rec old new
-    → IfErr r (IsSketchFault new.steps out) → IfErr r (λ e. ByProfile p (λ profile. IsNoPicture profile known rec span e))
-no_picture p known rec span out old new files (Ok status) here b h f = tt
-no_picture p known rec span out old new files (Err e) here b h f = λ profile is. by profile is e f
+-- how far the picture was written
+pub drawing_cut : {W : Type 0} (o : Output W) (i : Input) (span : Span) (Readers : Type 0) (old new : Sketch) (j : Judged) (files : List (ℕ × ℕ)) (e : RunFault)
+    → IsProfileOf i.profile j.profile → Extracts j.profile i.certificate i.recording None None files → IsBlank span old → HearsRun Hears j.profile i.certificate i.recording old new → (Readers → ⊥)
+    → IsCutShort o ⊥ (IsSketched j.profile.codes new) e → IsCutShort o Readers (IsSomePicture i span) e
+drawing_cut o i span Readers old new j files e is here b h work (inl same) = inl same
+drawing_cut o i span Readers old new j files e is here b h work (inr cut) =
+    let text = cut.prefix in
+    inr (record { device = cut.device; failed = cut.failed; alone = work; prefix = (text.0, (0, drawn i span old new j files text.0 is here b h text.1), text.2) })
+
+-- a sketch that is not too long has few steps
+pub few_steps : (b : Bool) (n : ℕ) → (IsTrue b ↔ (most_steps < n)) → b ≡ false → n ≤ most_steps
+few_steps b n iff none = by (nat_lt most_steps n) refl
   where
-    by : (profile : List ℕ) → IsProfileOf profile p → (e : RunFault) → IsSketchFault new.steps out e → IsNoPicture profile known rec span e
-    by profile is run.TooLong many = too_long profile p known rec span old new files is here b h many
-    by profile is run.Memory _ = (is.0, inl tt)
-    by profile is run.Device _ = (tt, (Ok files, record { contents = p; is_profile = is; is = here }))
-    by profile is (run.Profile f) f' = absurd f'
-    by profile is (run.Read f) f' = absurd f'
-    by profile is (run.Cut k f) f' = absurd f'
-    by profile is run.BadWord f' = absurd f'
-    by profile is run.Usage f' = absurd f'
-
--- the output alone failed
-pub no_refusal : (p : Contents) (known : Option (List ℕ)) (rec : Option Recording) (span : Span) (out : Bool) (f : CertFault) (r : Result ℕ RunFault)
-    → Refuses p known rec None None (stream.Cert f) → IfErr r (λ e. (e ≡ run.Device) × (out ≡ true)) → IfErr r (λ e. ByProfile p (λ profile. IsNoPicture profile known rec span e))
-no_refusal p known rec span out f (Ok status) here g = tt
-no_refusal p known rec span out f (Err e) here g = λ profile is.
-    subst (IsNoPicture profile known rec span) (sym g.0) (tt, (Err (stream.Cert f), record { contents = p; is_profile = is; is = here }))
+    by : (t : Bool) → nat_lt most_steps n ≡ t → n ≤ most_steps
+    by true e = let long = iff.1 (ltb-true most_steps n e) in absurd (cc (long, none))
+    by false e = ltb-false most_steps n e

@@ -11,8 +11,9 @@ use Rattle.std.specs.Prelude.{◌==◌, ◌↔◌, IsErr, OnOk}
 use Rattle.std.proofs.Math.Seq.{take-append_seam}
 use Rattle.std.proofs.lemmas.Bool.{false_from_ne_true}
 use Rattle.a429_word.specs.declared.sheet.Sheet.{Sheet}
+use Rattle.a429_word.specs.declared.tally.Tally.{Tally}
 use Rattle.a429_word.specs.Sheet.{IsWritten, sheet_failed, Says}
-use Rattle.a429_word.proofs.SheetFacts.{says_works, has_all_at_ok}
+use Rattle.a429_word.proofs.SheetFacts.{says_works, writes}
 use Rattle.a429_check.specs.Output.{PutsText}
 use Rattle.a429_check.specs.Show.{unit_text, flag_text, SaysSome, IsShowLine, AreShowLines, AreFirstShowLines}
 
@@ -33,11 +34,6 @@ AreShowLines-join p (e ∷ es) more text rest lines next =
 pub AreShowLines-next : (p : Contents) (es : List Entry) (i : ℕ) (e : Entry) (text line : List ℕ) → i < length es → e ≡ get_or es i e → AreShowLines p (take i es) text → IsShowLine p e line → AreShowLines p (take (i + 1) es) (text ++ line)
 AreShowLines-next p es i e text line h found lines is = rw (take_more es i e h ∙ ap (λ x. take i es ++ x ∷ []) (sym found)) (AreShowLines-join p (take i es) (e ∷ []) text line lines (line, [], is, refl, sym (append-nil line)))
 
--- where a reader has not failed, a fault of the device is the writer's
-pub not_the_reader : {E P : Type 0} (e : E) (failed : Bool) → failed ≡ false → (e ≢ e) ⊎ (failed ≡ true) → P
-not_the_reader e failed h (inl other) = absurd (other refl)
-not_the_reader e failed h (inr is) = absurd (cc)
-
 -- a unit that is there, after a space
 pub unit_text-is : (unit : List ℕ) → (length unit == 0) ≡ false → codes " " ++ unit ≡ unit_text unit
 unit_text-is [] none = absurd (cc (none))
@@ -48,12 +44,12 @@ pub AreShowLines-first : (p : Contents) (es more all : List Entry) (text : List 
 AreShowLines-first p es more all text e lines = (length es, rw (ap (take (length es)) (sym e) ∙ take-append_seam es more) lines)
 
 -- some text that is such, put where the output works, is what it has at Ok
-pub some_at_ok : {W T E : Type 0} {contents : W → Option (List ℕ)} {start last done : Sheet W} {IsSuch : List ℕ → Type 0} (r : Result T E)
-    → start.page.now ≡ [] → (sheet_failed last ≡ false → SaysSome contents start last IsSuch) → Says contents last done []
-    → OnOk r (IsWritten contents done) → (IsErr r ↔ (sheet_failed done ≡ true)) → OnOk r (PutsText contents start.out.now done.out.now IsSuch)
-some_at_ok {E} {done} (Ok x) empty some rest whole device =
+pub some_at_ok : {W T E : Type 0} {contents : W → Option (List ℕ)} {start last done : Sheet W} {IsSuch : List ℕ → Type 0} {old : Tally W} (r : Result T E)
+    → start.page.now ≡ [] → start.out.now ≡ old → (sheet_failed last ≡ false → SaysSome contents start last IsSuch) → Says contents last done []
+    → (sheet_failed done ≡ false → IsWritten contents done) → (IsErr r ↔ (sheet_failed done ≡ true)) → OnOk r (PutsText contents old done.out.now IsSuch)
+some_at_ok {done} (Ok x) empty same some rest whole device =
     let works : sheet_failed done ≡ false = false_from_ne_true _ (λ failed. absurd (cc (device.1 failed))) in
     let text = some (says_works rest works) in
-    let puts = has_all_at_ok {E = E} (Ok x) empty text.2 rest whole device in
-    (text.0, text.1, puts)
-some_at_ok (Err e) empty some rest whole device = tt
+    let written = writes empty same text.2 rest whole in
+    (text.0, text.1, written.all works)
+some_at_ok (Err e) empty same some rest whole device = tt

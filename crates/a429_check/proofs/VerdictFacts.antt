@@ -1,30 +1,32 @@
--- What is answered of a certificate, and what a command tells where there is no verdict.
+-- What is answered of a certificate, and what a command reports where there is no verdict.
 use Rattle.std.proofs.Common.{◌≡◌, ◌⊎◌, ◌∙◌, ◌++◌, inl, inr, ℕ, Bool, true, false, ◌≢◌, List, length, Vec, Global, Option, Some, None, Result, Ok, Err, IfOk, IfErr, refl, sym, ap, subst}
 use Rattle.std.specs.List.{flat_map}
 use Rattle.std.specs.Result.{OnOk}
 use Rattle.std.proofs.lemmas.List.{length-map}
 use Rattle.std.proofs.lemmas.List.Folds.{flat_map-map}
-use Rattle.a429_word.specs.declared.tally.Tally.{Tally}
-use Rattle.a429_word.specs.Tally.{has_failed, Puts}
+use Rattle.a429_word.specs.Tally.{has_failed}
+use Rattle.a429_word.specs.Sheet.{Writes}
 use Rattle.a429_link.specs.declared.file.FileBytes.{FileBytes}
 use Rattle.a429_cert.specs.Stream.{OneFailed, sizes}
 use Rattle.a429_profile.specs.Profile.{Contents}
 use Rattle.a429_record.specs.declared.fault.ReadFault.TheVariants as read
-use Rattle.a429_record.specs.Recording.{Recording}
 use Rattle.a429_cert.specs.declared.shelf.PutFile.{PutFile}
 use Rattle.a429_cert.specs.declared.stream_fault.StreamFault.{StreamFault}
 use Rattle.a429_cert.specs.declared.stream_fault.StreamFault.TheVariants as stream
 use Rattle.a429_cert.specs.Shelf.{IsUnchanged}
-use Rattle.a429_cert.specs.StreamExplained.{Extracts, Refuses, SaysYes}
+use Rattle.a429_cert.specs.BreakOff.{Shelved}
+use Rattle.a429_cert.specs.StreamExplained.{Refuses, SaysYes}
 use Rattle.a429_cert.specs.declared.fault.CertFault.{CertFault}
+use Rattle.a429_cert.specs.declared.fault.CertFault.TheVariants as cert
 use Rattle.a429_profile.specs.declared.fault.ProfileFault.{ProfileFault}
+use Rattle.a429_check.specs.declared.engines.verdict.Judged.{Judged}
 use Rattle.a429_check.specs.declared.fault.RunFault.{RunFault}
 use Rattle.a429_check.specs.declared.fault.RunFault.TheVariants as run
-use Rattle.a429_check.specs.Profile.{IsProfileOf}
-use Rattle.a429_check.specs.Output.{PutsText}
-use Rattle.a429_check.specs.Verdict.{AllWork, ByProfile, HasAnswer, HasFailed, IsNoVerdict, IsSilent, IsTold, IsVerdict, Judges, as_answer, IsVerifyFault, SaysNo, of_stream, count_line, file_line, line_of_file, no_text, yes_text}
+use Rattle.a429_check.specs.Profile.{IsProfileOf, IsProfileFault}
+use Rattle.a429_check.specs.Output.{Output, HasFailedIn, IsCutShort}
+use Rattle.a429_check.specs.Verdict.{AllWork, AnyFailed, HasAnswer, HasFailed, Input, IsAnswered, IsJudged, IsSomeVerdict, IsVerdict, IsVerifyFault, Judges, Rejects, count_line, file_line, line_of_file, no, no_text, of_stream, status_of_answer, text_of_answer, yes, yes_text}
 
--- what is told of files, by their lines
+-- what is reported of files, by their lines
 pub yes_of_files : (files : List FileBytes) → yes_text (sizes files) ≡ count_line (length files) ++ flat_map line_of_file files
 yes_of_files files =
     ap (λ n. count_line n ++ flat_map file_line (sizes files)) (length-map files (λ f. (f.number, length f.bytes)))
@@ -34,125 +36,103 @@ pub unchanged : (files : Option (List PutFile)) → IsUnchanged files files
 unchanged None = tt
 unchanged (Some files) = refl
 
-pub answered : (profile : List ℕ) (p : Contents) (certificate : Option (List ℕ)) (rec : Option Recording) (old new : Option (List PutFile)) (r : Result (Vec (ℕ × ℕ) Global) StreamFault)
-    → IsProfileOf profile p → IfOk r (λ files. Extracts p certificate rec old new files.items) → IfErr r (Refuses p certificate rec old new) → HasAnswer profile certificate rec old new
-answered profile p certificate rec old new (Ok files) is here _ = (Ok files.items, record { contents = p; is_profile = is; is = here })
-answered profile p certificate rec old new (Err f) is _ here = (Err f, record { contents = p; is_profile = is; is = here })
+-- ---- what was judged
 
--- what is answered to a certificate is found by its profile
-pub judges : (profile : List ℕ) (p : Contents) (certificate : Option (List ℕ)) (rec : Option Recording) (old new : Option (List PutFile)) (a : Result (Vec (ℕ × ℕ) Global) CertFault)
-    → IsProfileOf profile p → IfOk a (SaysYes p certificate rec old new) → IfErr a (SaysNo p certificate rec old new) → Judges profile certificate rec old new (as_answer a)
-judges profile p certificate rec old new (Ok files) is here _ = record { contents = p; is_profile = is; is = here }
-judges profile p certificate rec old new (Err f) is _ here = record { contents = p; is_profile = is; is = here.0 }
+-- the answer of a stream is judged by its profile
+pub has_answer : (i : Input) (shelf : Shelved) (p : Contents) (r : Result (Vec (ℕ × ℕ) Global) StreamFault) → IsProfileOf i.profile p
+    → IfOk r (SaysYes p i.certificate i.recording shelf.before shelf.after) → IfErr r (Refuses p i.certificate i.recording shelf.before shelf.after) → HasAnswer i shelf
+has_answer i shelf p (Ok files) is here _ = (Ok files.items, record { contents = p; is_profile = is; is = here })
+has_answer i shelf p (Err f) is _ here = (Err f, record { contents = p; is_profile = is; is = here })
 
--- so some answer was found
-pub answer_told : (profile : List ℕ) (p : Contents) (certificate : Option (List ℕ)) (rec : Option Recording) (old new : Option (List PutFile)) (a : Result (Vec (ℕ × ℕ) Global) CertFault)
-    → IsProfileOf profile p → IfOk a (SaysYes p certificate rec old new) → IfErr a (SaysNo p certificate rec old new) → HasAnswer profile certificate rec old new
-answer_told profile p certificate rec old new a is here there = (as_answer a, judges profile p certificate rec old new a is here there)
+judged_answer : (i : Input) (shelf : Shelved) (p : Contents) (a : Result (Vec (ℕ × ℕ) Global) CertFault) → IsProfileOf i.profile p → IsAnswered p i shelf a → HasAnswer i shelf
+judged_answer i shelf p (Ok files) is here = (Ok files.items, record { contents = p; is_profile = is; is = here })
+judged_answer i shelf p (Err f) is here = (Err (stream.Cert f), record { contents = p; is_profile = is; is = here.0 })
 
--- the text of an answer was written
-pub puts_answer : {W : Type 0} (contents : W → Option (List ℕ)) (out new_out : Tally W) (p : Contents) (certificate : Option (List ℕ)) (rec : Option Recording) (old new : Option (List PutFile))
-    (a : Result (Vec (ℕ × ℕ) Global) CertFault) (r : Result ℕ RunFault) → IfOk a (SaysYes p certificate rec old new) → IfErr a (SaysNo p certificate rec old new)
-    → IfOk r (λ status. PutsText contents out new_out (IsTold (as_answer a) status))
-    → IfOk r (λ status. ByProfile p (λ profile. PutsText contents out new_out (IsVerdict profile certificate rec old new status)))
-puts_answer contents out new_out p certificate rec old new a (Ok status) here there (text, told, puts) = λ profile by.
-    (text, record { answer = as_answer a; judged = judges profile p certificate rec old new a by here there; told = told }, puts)
-puts_answer contents out new_out p certificate rec old new a (Err e) here there _ = tt
+pub judged : (i : Input) (shelf : Shelved) (j : Judged) → IsJudged i shelf j → HasAnswer i shelf
+judged i shelf j h = judged_answer i shelf j.profile j.answer h.0 h.1
 
--- the output alone failed
-pub answer_not_put : (p : Contents) (certificate : Option (List ℕ)) (rec : Option Recording) (old new : Option (List PutFile)) (a : Result (Vec (ℕ × ℕ) Global) CertFault) (r : Result ℕ RunFault) (out : Bool)
-    → IfOk a (SaysYes p certificate rec old new) → IfErr a (SaysNo p certificate rec old new) → IfErr r (λ e. (e ≡ run.Device) × (out ≡ true))
-    → IfErr r (λ e. ByProfile p (λ profile. IsNoVerdict profile certificate rec old new e))
-answer_not_put p certificate rec old new a (Ok status) out here there g = tt
-answer_not_put p certificate rec old new a (Err e) out here there g = λ profile is.
-    subst (λ (f : RunFault). IsNoVerdict profile certificate rec old new f) (sym g.0) (tt, answer_told profile p certificate rec old new a is here there)
+-- a certificate that is refused is a no
+pub rejects : (i : Input) (shelf : Shelved) (p : Contents) (f : CertFault) → IsProfileOf i.profile p → Refuses p i.certificate i.recording shelf.before shelf.after (stream.Cert f) × (f ≢ cert.OutOfMemory) → Rejects i shelf 2 (no_text f)
+rejects i shelf p f is here = record { contents = p; is_profile = is; fault = f; refused = here.0; of_certificate = here.1; status_is = refl; text_is = refl }
 
--- ---- by the text of which a profile was read
+answered : (i : Input) (shelf : Shelved) (p : Contents) (a : Result (Vec (ℕ × ℕ) Global) CertFault) → IsProfileOf i.profile p → IsAnswered p i shelf a → IsVerdict i shelf (status_of_answer a) (text_of_answer a)
+answered i shelf p (Ok files) is here = yes p is files.items here refl refl
+answered i shelf p (Err f) is here = no (rejects i shelf p f is here)
 
-pub ok_by_text : (r : Result ℕ RunFault) (p bench : Contents) (text : List ℕ) (Holds : ℕ → List ℕ → Type 0) → IsProfileOf text p → bench ≡ p
-    → IfOk r (λ status. ByProfile bench (Holds status)) → IfOk r (λ status. Holds status text)
-ok_by_text (Ok status) p bench text Holds is e h = h text (subst (IsProfileOf text) (sym e) is)
-ok_by_text (Err f) p bench text Holds is e h = tt
+-- its text is the text of a verdict
+pub verdict : (i : Input) (shelf : Shelved) (j : Judged) → IsJudged i shelf j → IsVerdict i shelf (status_of_answer j.answer) (text_of_answer j.answer)
+verdict i shelf j h = answered i shelf j.profile j.answer h.0 h.1
 
-pub err_by_text : (r : Result ℕ RunFault) (p bench : Contents) (text : List ℕ) (Holds : RunFault → List ℕ → Type 0) → IsProfileOf text p → bench ≡ p
-    → IfErr r (λ e. ByProfile bench (Holds e)) → IfErr r (λ e. Holds e text)
-err_by_text (Ok status) p bench text Holds is e h = tt
-err_by_text (Err f) p bench text Holds is e h = h text (subst (IsProfileOf text) (sym e) is)
+-- ---- what has failed
 
--- ---- what has failed where an answer is put
-
-pub all_work : (r : Result ℕ RunFault) (rec certificate shelf listener out : Bool) → AllWork rec certificate shelf listener → OnOk r (out ≡ false) → OnOk r (AllWork rec certificate shelf out)
-all_work (Ok status) rec certificate shelf listener out (a, b, c, d) h = (a, b, c, h)
-all_work (Err f) rec certificate shelf listener out w h = tt
-
-none_failed : (rec certificate shelf listener : Bool) → AllWork rec certificate shelf listener → HasFailed rec certificate shelf → ⊥
+pub none_failed : (rec certificate shelf listener : Bool) → AllWork rec certificate shelf listener → HasFailed rec certificate shelf → ⊥
 none_failed rec certificate shelf listener (a, b, c, d) (inl h) = cc (a, h)
 none_failed rec certificate shelf listener (a, b, c, d) (inr (inl h)) = cc (b, h)
 none_failed rec certificate shelf listener (a, b, c, d) (inr (inr h)) = cc (c, h)
 
--- the output is as it was after any fault but its own
-pub silent : {W : Type 0} (rec certificate shelf listener : Bool) (old new : Tally W) (r : Result ℕ RunFault) → AllWork rec certificate shelf listener
-    → IfErr r (λ e. (e ≢ run.Device) ⊎ (has_failed new ≡ false) → new ≡ old) → IfErr r (IsSilent (HasFailed rec certificate shelf) old new)
-silent rec certificate shelf listener old new (Ok status) w s = tt
-silent rec certificate shelf listener old new (Err e) w s = by
-  where
-    by : (e ≢ run.Device) ⊎ (HasFailed rec certificate shelf ⊎ (has_failed new ≡ false)) → new ≡ old
-    by (inl h) = s (inl h)
-    by (inr (inl h)) = absurd (none_failed rec certificate shelf listener w h)
-    by (inr (inr h)) = s (inr h)
+-- the output alone has failed, in the text of what was judged
+pub cut_in : {W : Type 0} (o : Output W) (IsSuch : List ℕ → Type 0) (text : List ℕ) (rec certificate shelf listener : Bool) → AllWork rec certificate shelf listener
+    → IsSuch text → Writes o.contents o.old o.new text → has_failed o.new ≡ true → IsCutShort o (HasFailed rec certificate shelf) IsSuch run.Device
+cut_in o IsSuch text rec certificate shelf listener works is writes failed =
+    inr (record { device = refl; failed = failed; alone = none_failed rec certificate shelf listener works; prefix = (text, is, writes.prefix) })
 
-pub its_own : {W : Type 0} (out : Bool) (old new : Tally W) (r : Result ℕ RunFault) → IfErr r (λ e. (e ≡ run.Device) × (out ≡ true)) → IfErr r (λ e. (e ≢ run.Device) ⊎ (out ≡ false) → new ≡ old)
-its_own out old new (Ok status) h = tt
-its_own out old new (Err e) h = by
-  where
-    by : (e ≢ run.Device) ⊎ (out ≡ false) → new ≡ old
-    by (inl g) = absurd (g h.0)
-    by (inr g) = let t = h.1 in absurd (cc (g, t))
+pub all_work : (rec certificate shelf listener out : Bool) → AllWork rec certificate shelf listener → out ≡ false → AllWork rec certificate shelf out
+all_work rec certificate shelf listener out (a, b, c, d) h = (a, b, c, h)
 
--- a fault of a stream, as a command tells it
-pub told : (profile : List ℕ) (p : Contents) (certificate : Option (List ℕ)) (rec : Option Recording) (old new : Option (List PutFile)) (Failed : Type 0) (f : StreamFault)
-    → IsProfileOf profile p → Refuses p certificate rec old new f → (f ≡ stream.Device → Failed) → (f ≡ stream.Read read.Device → Failed) → IsVerifyFault profile certificate rec old new Failed (of_stream f)
-told profile p certificate rec old new Failed f is here a b = by f here a b
-  where
-    answer : (f : StreamFault) → Refuses p certificate rec old new f → HasAnswer profile certificate rec old new
-    answer f here = (Err f, record { contents = p; is_profile = is; is = here })
+-- a listener that never fails has not
+pub without_listener : (rec certificate shelf out : Bool) → AnyFailed rec certificate shelf false → AnyFailed rec certificate shelf out
+without_listener rec certificate shelf out (inl h) = inl h
+without_listener rec certificate shelf out (inr e) = absurd (cc e)
 
-    by : (f : StreamFault) → Refuses p certificate rec old new f → (f ≡ stream.Device → Failed) → (f ≡ stream.Read read.Device → Failed) → IsVerifyFault profile certificate rec old new Failed (of_stream f)
-    by (stream.Cert f) here a b = (is.0, inr (answer (stream.Cert f) here))
-    by (stream.Read read.Header) here a b = (refl, record { contents = p; is_profile = is; is = here })
-    by (stream.Read (read.Row i)) here a b = (refl, record { contents = p; is_profile = is; is = here })
-    by (stream.Read (read.TimeBack i)) here a b = (refl, record { contents = p; is_profile = is; is = here })
-    by (stream.Read read.TooMany) here a b = (refl, record { contents = p; is_profile = is; is = here })
-    by (stream.Read read.Failed) here a b = (refl, record { contents = p; is_profile = is; is = here })
-    by (stream.Read read.Device) here a b = (b refl, answer (stream.Read read.Device) here)
-    by (stream.Read read.OutOfMemory) here a b = (is.0, inr (answer (stream.Read read.OutOfMemory) here))
-    by stream.Device here a b = (a refl, answer stream.Device here)
-    by stream.OutOfMemory here a b = (is.0, inr (answer stream.OutOfMemory here))
+-- what has failed where a stream reports a device
+pub one_failed : (rec cert shelf listener : Bool) → OneFailed cert shelf listener → HasFailed rec cert shelf ⊎ (listener ≡ true)
+one_failed rec cert shelf listener (inl a) = inl (inr (inl a))
+one_failed rec cert shelf listener (inr (inl b)) = inl (inr (inr b))
+one_failed rec cert shelf listener (inr (inr d)) = inr d
+
+-- ---- why there is no verdict
+
+-- a profile that was not read
+pub by_profile : (i : Input) (shelf : Shelved) (Failed : Type 0) (e : RunFault) → IsUnchanged shelf.before shelf.after → IsProfileFault i.profile e → IsVerifyFault i shelf Failed e
+by_profile i shelf Failed (run.Profile f) same h = (h, same)
+by_profile i shelf Failed run.Memory same h = (h, inl same)
+by_profile i shelf Failed (run.Read f) same h = absurd h
+by_profile i shelf Failed run.Device same h = absurd h
+by_profile i shelf Failed (run.Cut k f) same h = absurd h
+by_profile i shelf Failed run.TooLong same h = absurd h
+by_profile i shelf Failed run.BadWord same h = absurd h
+by_profile i shelf Failed run.Usage same h = absurd h
+
+-- a fault of a stream, as a command reports it
+pub by_stream : (i : Input) (shelf : Shelved) (p : Contents) (Failed : Type 0) (f : StreamFault) → IsProfileOf i.profile p → Refuses p i.certificate i.recording shelf.before shelf.after f
+    → (f ≡ stream.Device → Failed) → (f ≡ stream.Read read.Device → Failed) → IsVerifyFault i shelf Failed (of_stream f)
+by_stream i shelf p Failed f is here a b = by f here a b
+  where
+    found : (f : StreamFault) → Refuses p i.certificate i.recording shelf.before shelf.after f → Judges i shelf (Err f)
+    found f here = record { contents = p; is_profile = is; is = here }
+
+    by : (f : StreamFault) → Refuses p i.certificate i.recording shelf.before shelf.after f → (f ≡ stream.Device → Failed) → (f ≡ stream.Read read.Device → Failed) → IsVerifyFault i shelf Failed (of_stream f)
+    by (stream.Cert f) here a b = (is.0, inr (Err (stream.Cert f), found (stream.Cert f) here))
+    by (stream.Read read.Header) here a b = (refl, found (stream.Read read.Header) here)
+    by (stream.Read (read.Row n)) here a b = (refl, found (stream.Read (read.Row n)) here)
+    by (stream.Read (read.TimeBack n)) here a b = (refl, found (stream.Read (read.TimeBack n)) here)
+    by (stream.Read read.TooMany) here a b = (refl, found (stream.Read read.TooMany) here)
+    by (stream.Read read.Failed) here a b = (refl, found (stream.Read read.Failed) here)
+    by (stream.Read read.Device) here a b = (b refl, (Err (stream.Read read.Device), found (stream.Read read.Device) here))
+    by (stream.Read read.OutOfMemory) here a b = (is.0, inr (Err (stream.Read read.OutOfMemory), found (stream.Read read.OutOfMemory) here))
+    by stream.Device here a b = (a refl, (Err stream.Device, found stream.Device here))
+    by stream.OutOfMemory here a b = (is.0, inr (Err stream.OutOfMemory, found stream.OutOfMemory here))
 
 -- what has failed may be more
-pub weaker_fault : (profile : List ℕ) (certificate : Option (List ℕ)) (rec : Option Recording) (old new : Option (List PutFile)) (Failed More : Type 0) (e : RunFault)
-    → (Failed → More) → IsVerifyFault profile certificate rec old new Failed e → IsVerifyFault profile certificate rec old new More e
-weaker_fault profile certificate rec old new Failed More (run.Profile f) more h = h
-weaker_fault profile certificate rec old new Failed More (run.Read f) more h = h
-weaker_fault profile certificate rec old new Failed More (run.Cut k f) more h = h
-weaker_fault profile certificate rec old new Failed More run.TooLong more h = h
-weaker_fault profile certificate rec old new Failed More run.Device more h = (more h.0, h.1)
-weaker_fault profile certificate rec old new Failed More run.Memory more h = h
-weaker_fault profile certificate rec old new Failed More run.BadWord more h = h
-weaker_fault profile certificate rec old new Failed More run.Usage more h = h
-
--- `Device` is told only of a device
-pub told_device : (Failed : Type 0) (f : StreamFault) → of_stream f ≡ run.Device → (f ≡ stream.Device → Failed) → (f ≡ stream.Read read.Device → Failed) → Failed
-told_device Failed (stream.Cert f) e a b = cc e
-told_device Failed (stream.Read read.Header) e a b = cc e
-told_device Failed (stream.Read (read.Row i)) e a b = cc e
-told_device Failed (stream.Read (read.TimeBack i)) e a b = cc e
-told_device Failed (stream.Read read.TooMany) e a b = cc e
-told_device Failed (stream.Read read.Failed) e a b = cc e
-told_device Failed (stream.Read read.Device) e a b = b refl
-told_device Failed (stream.Read read.OutOfMemory) e a b = cc e
-told_device Failed stream.Device e a b = a refl
-told_device Failed stream.OutOfMemory e a b = cc e
+pub more_failed : (i : Input) (shelf : Shelved) (Failed More : Type 0) (e : RunFault) → (Failed → More) → IsVerifyFault i shelf Failed e → IsVerifyFault i shelf More e
+more_failed i shelf Failed More (run.Profile f) more h = h
+more_failed i shelf Failed More (run.Read f) more h = h
+more_failed i shelf Failed More (run.Cut k f) more h = h
+more_failed i shelf Failed More run.TooLong more h = h
+more_failed i shelf Failed More run.Device more h = (more h.0, h.1)
+more_failed i shelf Failed More run.Memory more h = h
+more_failed i shelf Failed More run.BadWord more h = h
+more_failed i shelf Failed More run.Usage more h = h
 
 -- no fault of a stream is one of a profile
 pub no_profile : (f : StreamFault) (fault : ProfileFault) → of_stream f ≡ run.Profile fault → ⊥
@@ -166,9 +146,3 @@ no_profile (stream.Read read.Device) fault e = cc e
 no_profile (stream.Read read.OutOfMemory) fault e = cc e
 no_profile stream.Device fault e = cc e
 no_profile stream.OutOfMemory fault e = cc e
-
--- what has failed where a stream tells a device
-pub one_failed : (rec cert shelf listener : Bool) → OneFailed cert shelf listener → HasFailed rec cert shelf ⊎ (listener ≡ true)
-one_failed rec cert shelf listener (inl a) = inl (inr (inl a))
-one_failed rec cert shelf listener (inr (inl b)) = inl (inr (inr b))
-one_failed rec cert shelf listener (inr (inr d)) = inr d

@@ -1,9 +1,8 @@
 -- The verdict on a recording, and how it is written (profile).
-use Rattle.std.specs.Prelude.{◌≡◌, ◌⊎◌, ◌++◌, ℕ, List, [], codes, Bool, true, Option}
+use Rattle.std.specs.Prelude.{◌≡◌, ◌≢◌, ◌⊎◌, ◌++◌, ℕ, List, [], codes, Bool, true, Option}
 use Rattle.a429_profile.specs.Profile.{Contents}
 use Rattle.a429_link.specs.declared.seen.Seen.{Seen}
 use Rattle.std.specs.Fmt.{decimal}
-use Rattle.a429_word.specs.declared.tally.Tally.{Tally}
 use Rattle.a429_cert.specs.Explained.{items_of}
 use Rattle.a429_explain.specs.declared.verdict.Verdict.{Verdict}
 use Rattle.a429_explain.specs.declared.verdict.Verdict.TheVariants.{Explained, Impossible, Unexplained}
@@ -16,8 +15,10 @@ use Rattle.a429_explain.specs.Verdict.{IsSoundVerdict, IsOfLeastVersion, IsImpos
 use Rattle.a429_explain.specs.WithoutLoss.{IsWithoutLoss}
 use Rattle.std.specs.Str.{IsUtf8}
 use Rattle.a429_cert.specs.Stream.{sizes}
-use Rattle.a429_word.specs.Tally.{has_failed, unread, Puts, PutsFront}
+use Rattle.a429_word.specs.Tally.{has_failed, Puts, PutsFront}
 use Rattle.a429_check.specs.declared.fault.RunFault.{RunFault}
+use Rattle.a429_check.specs.declared.fault.RunFault.TheVariants as run
+use Rattle.a429_check.specs.Output.{Output}
 use Rattle.a429_check.specs.declared.engines.rule.Rule.{Rule}
 use Rattle.a429_check.specs.declared.engines.rule.Rule.TheVariants as rule
 use Rattle.a429_check.specs.Fault.{ComesBy, never}
@@ -61,39 +62,52 @@ abbrev pub IsByRule : Rule → Contents → List Seen → Verdict → Type 0
 IsByRule rule.Check p items v = IsFirst p items v
 IsByRule rule.Decide p items v = IsOfCheck p items v
 
--- the verdict is one on the recording, by this rule and by the profile whose text the bytes are; the recording's bytes are known where its reader tells them
-pub record IsVerdictOn (by_rule : Rule) (profile : List ℕ) (recording : Option (List ℕ)) (v : Verdict) : Type 0 where
-  pub says : SayInput profile recording
-  pub sound : IsSoundVerdict (says.contents) (items_of (says.entries)) v
-  pub version : IsOfLeastVersion (says.contents) (items_of (says.entries)) v
-  pub impossible : IsImpossible (says.contents) (items_of (says.entries)) v
-  pub doubted : IsDoubted (says.contents) (items_of (says.entries)) v
-  pub first : IsByRule by_rule (says.contents) (items_of (says.entries)) v
-  pub no_form : HasNoForm (says.contents.codes) (items_of (says.entries)) → IsImpossibility v
-  pub without_loss : IsWithoutLoss (says.contents) (items_of (says.entries)) → IsExplanation v
+-- such a verdict on recorded words, under a profile
+pub record IsVerdictBy (by_rule : Rule) (p : Contents) (items : List Seen) (v : Verdict) : Type 0 where
+  pub sound : IsSoundVerdict p items v
+  pub version : IsOfLeastVersion p items v
+  pub impossible : IsImpossible p items v
+  pub doubted : IsDoubted p items v
+  pub first : IsByRule by_rule p items v
+  pub no_form : HasNoForm p.codes items → IsImpossibility v
+  pub without_loss : IsWithoutLoss p items → IsExplanation v
 
--- such a verdict was told: its certificate to a writer, its text on the output, and its status; the recording is as its reader has it to give
-abbrev pub PutsVerdictOn : {C W R : Type 0} → Rule → (C → Option (List ℕ)) → Tally C → Tally C → (W → Option (List ℕ)) → Tally W → Tally W → List ℕ → (R → Option (List ℕ)) → Tally R → ℕ → Type 0
-PutsVerdictOn by_rule certificate_in cert new_cert contents out new_out profile remaining rec status =
-    (v : Verdict) × IsVerdictOn by_rule profile (unread remaining rec) v × (status ≡ verdict_status v)
-    × Puts certificate_in cert new_cert (certificate_text v) × Puts contents out new_out (verdict_text v)
+-- it is one on a recording, by the profile whose text the bytes are; the recording's bytes are known where its reader says them
+abbrev pub IsVerdictOn : Rule → List ℕ → Option (List ℕ) → Verdict → Type 0
+IsVerdictOn by_rule profile recording v = (says : SayInput profile recording) × IsVerdictBy by_rule says.contents (items_of says.entries) v
 
--- a writer is as it was, or has gained some front of the certificate of a verdict on the recording
-abbrev pub PutsFrontAtMost : {C : Type 0} → Rule → (C → Option (List ℕ)) → Tally C → Tally C → List ℕ → Option (List ℕ) → Type 0
-PutsFrontAtMost by_rule contents old new profile recording =
-    (new ≡ old) ⊎ ((v : Verdict) × IsVerdictOn by_rule profile recording v × PutsFront contents old new (certificate_text v))
+-- such a verdict is reported: its certificate to a writer, its text on the output, and its status; nothing is written of a certificate but of a yes
+pub record ReportsVerdict {C W : Type 0} (cert : Output C) (out : Output W) (IsSuch : Verdict → Type 0) (status : ℕ) : Type 0 where
+  pub verdict : Verdict
+  pub is : IsSuch verdict
+  pub status_is : status ≡ verdict_status verdict
+  pub certificate : Puts cert.contents cert.old cert.new (certificate_text verdict)
+  pub text : Puts out.contents out.old out.new (verdict_text verdict)
+  pub none : status ≢ 0 → cert.new ≡ cert.old
 
 -- ---- why there is none
 
--- the profile's own fault, then the recording's; the recording's reader failed, or, once the recording was read whole, the certificate's or the output did; want of memory, once the profile is known to be a text
-abbrev pub IsCheckFault : List ℕ → Option (List ℕ) → Bool → Bool → Bool → RunFault → Type 0
-IsCheckFault profile known rec_failed cert_failed out_failed = ComesBy (record never {
+-- the certificate's writer has failed, or the output has
+abbrev pub EitherFailed : Bool → Bool → Type 0
+EitherFailed cert out = (cert ≡ true) ⊎ (out ≡ true)
+
+-- the profile's own fault, then the recording's; the recording's reader failed, or, once the recording was read whole, a writer did; out of memory, once the profile is known to be a text
+abbrev pub IsCheckFault : List ℕ → Option (List ℕ) → Bool → Type 0 → RunFault → Type 0
+IsCheckFault profile known rec_failed Writers = ComesBy (record never {
   profile = HasFault profile;
   recording = λ f. IsSomeProfile profile × IsRecordingFault known f;
-  device = (IsSomeProfile profile × (rec_failed ≡ true)) ⊎ (SayInput profile known × ((cert_failed ≡ true) ⊎ (out_failed ≡ true)));
+  device = (IsSomeProfile profile × (rec_failed ≡ true)) ⊎ (SayInput profile known × Writers);
   memory = IsUtf8 profile;
 })
 
--- such a fault, as it left the recording's reader, the certificate's reader or writer, and the output
-abbrev pub LeavesFault : {R C W : Type 0} → List ℕ → Option (List ℕ) → Tally R → Tally C → Tally W → RunFault → Type 0
-LeavesFault profile known rec certificate out = IsCheckFault profile known (has_failed rec) (has_failed certificate) (has_failed out)
+-- the writing of a verdict was cut short: its certificate's writer failed, which has a prefix of the certificate, and the output is as it was; or
+-- the output did, which has a prefix of the text, and the certificate is whole
+pub data IsCutIn {C W : Type 0} (cert : Output C) (out : Output W) (v : Verdict) : Type 0 where
+  in_certificate : (failed : has_failed cert.new ≡ true) (prefix : PutsFront cert.contents cert.old cert.new (certificate_text v)) (same : out.new ≡ out.old) → IsCutIn cert out v
+  in_text : (failed : has_failed out.new ≡ true) (whole : Puts cert.contents cert.old cert.new (certificate_text v)) (prefix : PutsFront out.contents out.old out.new (verdict_text v)) → IsCutIn cert out v
+
+-- what both have after a fault: what they had; or a writer has failed, and no reader, and the writing of a verdict was cut short
+abbrev pub LeavesVerdict : {C W : Type 0} → Output C → Output W → Type 0 → (Verdict → Type 0) → RunFault → Type 0
+LeavesVerdict cert out Readers IsSuch e =
+    ((cert.new ≡ cert.old) × (out.new ≡ out.old))
+    ⊎ ((e ≡ run.Device) × (Readers → ⊥) × ((v : Verdict) × IsSuch v × IsCutIn cert out v))

@@ -1,4 +1,5 @@
 pub mod Fault
+pub mod Names
 pub mod Profile
 pub mod Recording
 pub mod Output

@@ -108,7 +108,12 @@ pub record ShowsEntries (profile : List ℕ) (recording : Option (List ℕ)) (te
   pub says : SayInput profile recording
   pub lines : AreShowLines (says.contents) (says.entries) text
 
--- why `show` may fail: the profile's own fault, then the recording's, a reader or writer that failed after the profile was read, or want of memory, once the profile is known to be a text
+-- the text is that of the first so many of these entries
+pub record ShowsFirst (profile : List ℕ) (recording : Option (List ℕ)) (text : List ℕ) : Type 0 where
+  pub says : SayInput profile recording
+  pub lines : AreFirstShowLines (says.contents) (says.entries) text
+
+-- why `show` may fail: the profile's own fault, then the recording's, a reader or writer that failed after the profile was read, or out of memory, once the profile is known to be a text
 abbrev pub IsShowFault : List ℕ → Option (List ℕ) → Bool → Bool → RunFault → Type 0
 IsShowFault profile known rec_failed out_failed = ComesBy (record never {
   profile = HasFault profile;

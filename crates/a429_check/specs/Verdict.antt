@@ -1,10 +1,10 @@
--- The verdict of a certificate, and how it is written (profile).
-use Rattle.std.specs.Prelude.{◌≡◌, ◌≢◌, ◌⊎◌, ◌++◌, ℕ, List, [], length, codes, Bool, true, false, Option, None, Result, Ok, Err, Vec}
+-- The verdict on a certificate, and how it is written (profile).
+use Rattle.std.specs.Prelude.{◌≡◌, ◌≢◌, ◌⊎◌, ◌++◌, ℕ, List, [], length, codes, Bool, true, false, Option, None, Result, Ok, Err, Vec, IfErr}
 use Rattle.std.specs.List.{flat_map}
 use Rattle.std.specs.Fmt.{decimal}
 use Rattle.std.specs.Str.{IsUtf8}
 use Rattle.a429_word.specs.declared.tally.Tally.{Tally}
-use Rattle.a429_word.specs.Tally.{has_failed, unread}
+use Rattle.a429_word.specs.Tally.{unread}
 use Rattle.a429_profile.specs.Profile.{Contents}
 use Rattle.a429_link.specs.declared.file.FileBytes.{FileBytes}
 use Rattle.a429_record.specs.declared.fault.ReadFault.{ReadFault}
@@ -17,11 +17,13 @@ use Rattle.a429_cert.specs.declared.shelf.PutFile.{PutFile}
 use Rattle.a429_cert.specs.declared.stream_fault.StreamFault.{StreamFault}
 use Rattle.a429_cert.specs.declared.stream_fault.StreamFault.TheVariants as stream
 use Rattle.a429_cert.specs.Shelf.{IsUnchanged}
-use Rattle.a429_cert.specs.StreamExplained.{Extracts, Refuses}
+use Rattle.a429_cert.specs.BreakOff.{Shelved}
+use Rattle.a429_cert.specs.StreamExplained.{Extracts, Refuses, HearsRun, HearsBefore}
+use Rattle.a429_cert.specs.Told.{Hearing}
 use Rattle.a429_check.specs.declared.fault.RunFault.{RunFault}
 use Rattle.a429_check.specs.declared.fault.RunFault.TheVariants as run
 use Rattle.a429_check.specs.Fault.{Causes, ComesBy, never}
-use Rattle.a429_check.specs.Output.{PutsText}
+use Rattle.a429_check.specs.declared.engines.verdict.Judged.{Judged}
 use Rattle.a429_check.specs.Profile.{IsProfileOf, HasFault}
 
 -- ---- the text
@@ -39,7 +41,7 @@ line_of_file f = file_line (f.number, length f.bytes)
 abbrev pub yes_text : List (ℕ × ℕ) → List ℕ
 yes_text files = count_line (length files) ++ flat_map file_line files
 
--- want of memory is no verdict
+-- out of memory is no verdict
 abbrev pub no_text : CertFault → List ℕ
 no_text cert.Version = codes "NO version\n"
 no_text (cert.Line n) = codes "NO line " ++ decimal n ++ codes "\n"
@@ -51,46 +53,37 @@ no_text cert.OutOfMemory = []
 
 -- ---- what it stands for
 
--- the answer to a certificate that is held against a recording, and what it puts on a shelf
-abbrev pub Answer : Type 0
-Answer = Result (List (ℕ × ℕ)) StreamFault
+-- what is judged: the bytes of a profile, and a certificate and a recording, where their readers say what they have to give
+pub record Input : Type 0 where
+  pub profile : List ℕ
+  pub certificate : Option (List ℕ)
+  pub recording : Option Recording
 
-abbrev pub IsAnswer : Contents → Option (List ℕ) → Option Recording → Option (List PutFile) → Option (List PutFile) → Answer → Type 0
-IsAnswer p certificate rec old new (Ok files) = Extracts p certificate rec old new files
-IsAnswer p certificate rec old new (Err f) = Refuses p certificate rec old new f
+abbrev pub input : {C : Type 0} → List ℕ → (C → Option (List ℕ)) → Tally C → EntriesLeft → Input
+input profile remaining cert rec = record { profile = profile; certificate = unread remaining cert; recording = rec.to_come }
 
--- what is answered to a certificate, where no reader and no shelf has failed
-abbrev pub as_answer : {Z : Type 0} → Result (Vec (ℕ × ℕ) Z) CertFault → Answer
-as_answer (Ok files) = Ok files.items
-as_answer (Err f) = Err (stream.Cert f)
+-- no shelf
+abbrev pub no_shelf : Shelved
+no_shelf = record { before = None; after = None; failed = false }
 
--- such an answer, by the profile whose text the bytes are
-pub record Judges (profile : List ℕ) (certificate : Option (List ℕ)) (rec : Option Recording) (old new : Option (List PutFile)) (answer : Answer) : Type 0 where
+-- a no: the first fault of the certificate, and status 2
+pub record Rejects (i : Input) (shelf : Shelved) (status : ℕ) (text : List ℕ) : Type 0 where
   pub contents : Contents
-  pub is_profile : IsProfileOf profile contents
-  pub is : IsAnswer contents certificate rec old new answer
+  pub is_profile : IsProfileOf i.profile contents
+  pub fault : CertFault
+  pub refused : Refuses contents i.certificate i.recording shelf.before shelf.after (stream.Cert fault)
+  pub of_certificate : fault ≢ cert.OutOfMemory
+  pub status_is : status ≡ 2
+  pub text_is : text ≡ no_text fault
 
--- an answer, told: 0 and a yes with its files, or 2 and a no; other faults are no verdict
-abbrev pub IsTold : Answer → ℕ → List ℕ → Type 0
-IsTold (Ok files) status text = (status ≡ 0) × (text ≡ yes_text files)
-IsTold (Err (stream.Cert f)) status text = (status ≡ 2) × (text ≡ no_text f) × (f ≢ cert.OutOfMemory)
-IsTold (Err _) status text = ⊥
+-- a verdict on a certificate: a yes with the files that cross, which are on the shelf, and status 0; or a no
+pub data IsVerdict (i : Input) (shelf : Shelved) (status : ℕ) (text : List ℕ) : Type 0 where
+  yes : (contents : Contents) (is_profile : IsProfileOf i.profile contents) (files : List (ℕ × ℕ)) (extracts : Extracts contents i.certificate i.recording shelf.before shelf.after files) (status_is : status ≡ 0) (text_is : text ≡ yes_text files) → IsVerdict i shelf status text
+  no : (rejects : Rejects i shelf status text) → IsVerdict i shelf status text
 
--- a verdict: the status and the text of an answer
-pub record IsVerdict (profile : List ℕ) (certificate : Option (List ℕ)) (rec : Option Recording) (old new : Option (List PutFile)) (status : ℕ) (text : List ℕ) : Type 0 where
-  pub answer : Answer
-  pub judged : Judges profile certificate rec old new answer
-  pub told : IsTold answer status text
-
--- a verdict was written on the output, by a profile, and by a certificate and a recording as their readers have them to give
-abbrev pub PutsVerdict : {W C : Type 0} → (W → Option (List ℕ)) → Tally W → Tally W → List ℕ → (C → Option (List ℕ)) → Tally C → EntriesLeft → ℕ → Type 0
-PutsVerdict contents out new_out profile remaining cert rec status =
-    PutsText contents out new_out (IsVerdict profile (unread remaining cert) rec.to_come None None status)
-
--- and the files of the answer, which is a yes or a no, were put on a shelf
-abbrev pub PutsAnswer : {W S C : Type 0} → (W → Option (List ℕ)) → Tally W → Tally W → (S → Option (List PutFile)) → S → S → List ℕ → (C → Option (List ℕ)) → Tally C → EntriesLeft → ℕ → Type 0
-PutsAnswer contents out new_out files shelf new_shelf profile remaining cert rec status =
-    PutsText contents out new_out (IsVerdict profile (unread remaining cert) rec.to_come (files shelf) (files new_shelf) status)
+-- with one of the two statuses
+abbrev pub IsSomeVerdict : Input → Shelved → List ℕ → Type 0
+IsSomeVerdict i shelf text = (status : ℕ) × IsVerdict i shelf status text
 
 -- neither a reader nor the shelf nor the output has failed
 abbrev pub AllWork : Bool → Bool → Bool → Bool → Type 0
@@ -98,7 +91,24 @@ AllWork rec certificate shelf out = (rec ≡ false) × (certificate ≡ false) �
 
 -- ---- why there is none
 
--- the fault of a command by that of a stream: a failed device and want of memory are one fault each
+-- what a certificate that is read streaming is answered: its files, or a fault
+abbrev pub Answer : Type 0
+Answer = Result (List (ℕ × ℕ)) StreamFault
+
+abbrev pub IsAnswer : Contents → Option (List ℕ) → Option Recording → Shelved → Answer → Type 0
+IsAnswer p certificate rec shelf (Ok files) = Extracts p certificate rec shelf.before shelf.after files
+IsAnswer p certificate rec shelf (Err f) = Refuses p certificate rec shelf.before shelf.after f
+
+-- such an answer, by the profile whose text the bytes are
+pub record Judges (i : Input) (shelf : Shelved) (answer : Answer) : Type 0 where
+  pub contents : Contents
+  pub is_profile : IsProfileOf i.profile contents
+  pub is : IsAnswer contents i.certificate i.recording shelf answer
+
+abbrev pub HasAnswer : Input → Shelved → Type 0
+HasAnswer i shelf = (answer : Answer) × Judges i shelf answer
+
+-- the fault of a command by that of a stream: a failed device and out of memory are one fault each
 abbrev pub of_stream : StreamFault → RunFault
 of_stream (stream.Read read.Device) = run.Device
 of_stream (stream.Read read.OutOfMemory) = run.Memory
@@ -118,40 +128,50 @@ HasFailed rec certificate shelf = (rec ≡ true) ⊎ ((certificate ≡ true) ⊎
 abbrev pub AnyFailed : Bool → Bool → Bool → Bool → Type 0
 AnyFailed rec certificate shelf out = HasFailed rec certificate shelf ⊎ (out ≡ true)
 
--- some answer was found, by the profile whose text the bytes are
-abbrev pub HasAnswer : List ℕ → Option (List ℕ) → Option Recording → Option (List PutFile) → Option (List PutFile) → Type 0
-HasAnswer profile certificate rec old new = (answer : Answer) × Judges profile certificate rec old new answer
-
--- the profile's own fault, and the shelf is as it was; the recording's, where its entry is wanted first; a device that has failed; want of memory, once the profile is known to be a text
-abbrev pub verify_causes : List ℕ → Option (List ℕ) → Option Recording → Option (List PutFile) → Option (List PutFile) → Type 0 → Causes
-verify_causes profile certificate rec old new Failed = record never {
-  profile = λ f. HasFault profile f × IsUnchanged old new;
-  recording = λ f. IsReportedAsRead f × Judges profile certificate rec old new (Err (stream.Read f));
-  device = Failed × HasAnswer profile certificate rec old new;
-  memory = IsUtf8 profile × (IsUnchanged old new ⊎ HasAnswer profile certificate rec old new);
+-- the profile's own fault, and the shelf is as it was; the recording's, where its entry is wanted first; a device that has failed; out of memory, once the profile is known to be a text
+abbrev pub verify_causes : Input → Shelved → Type 0 → Causes
+verify_causes i shelf Failed = record never {
+  profile = λ f. HasFault i.profile f × IsUnchanged shelf.before shelf.after;
+  recording = λ f. IsReportedAsRead f × Judges i shelf (Err (stream.Read f));
+  device = Failed × HasAnswer i shelf;
+  memory = IsUtf8 i.profile × (IsUnchanged shelf.before shelf.after ⊎ HasAnswer i shelf);
 }
 
-abbrev pub IsVerifyFault : List ℕ → Option (List ℕ) → Option Recording → Option (List PutFile) → Option (List PutFile) → Type 0 → RunFault → Type 0
-IsVerifyFault profile certificate rec old new Failed = ComesBy (verify_causes profile certificate rec old new Failed)
+abbrev pub IsVerifyFault : Input → Shelved → Type 0 → RunFault → Type 0
+IsVerifyFault i shelf Failed = ComesBy (verify_causes i shelf Failed)
 
--- such a fault, whichever device it is that has failed
-abbrev pub IsNoVerdict : List ℕ → Option (List ℕ) → Option Recording → Option (List PutFile) → Option (List PutFile) → RunFault → Type 0
-IsNoVerdict profile certificate rec old new = IsVerifyFault profile certificate rec old new (Unit {0})
+-- ---- a certificate that is judged, before the verdict is written
 
--- the output is as it was after any fault but `Device`, where a reader or the shelf has failed, and where the output has not
-abbrev pub IsSilent : {W : Type 0} → Type 0 → Tally W → Tally W → RunFault → Type 0
-IsSilent Failed out new_out e = (e ≢ run.Device) ⊎ (Failed ⊎ (has_failed new_out ≡ false)) → new_out ≡ out
+-- the files of a yes, or why it is refused, which is a verdict
+abbrev pub IsAnswered : {Z : Type 0} → Contents → Input → Shelved → Result (Vec (ℕ × ℕ) Z) CertFault → Type 0
+IsAnswered p i shelf (Ok files) = Extracts p i.certificate i.recording shelf.before shelf.after files.items
+IsAnswered p i shelf (Err f) = Refuses p i.certificate i.recording shelf.before shelf.after (stream.Cert f) × (f ≢ cert.OutOfMemory)
 
--- ---- by a profile that was read
+-- it is judged under the profile whose text the bytes are
+abbrev pub IsJudged : Input → Shelved → Judged → Type 0
+IsJudged i shelf j = IsProfileOf i.profile j.profile × IsAnswered j.profile i shelf j.answer
 
--- of whichever text the profile was read
-abbrev pub ByProfile : Contents → (List ℕ → Type 0) → Type 0
-ByProfile p Holds = (text : List ℕ) → IsProfileOf text p → Holds text
+-- a listener before and after
+pub record Listening (T : Type 0) : Type 0 where
+  pub old : T
+  pub new : T
 
--- why a certificate is refused, which is a verdict
-abbrev pub SaysNo : Contents → Option (List ℕ) → Option Recording → Option (List PutFile) → Option (List PutFile) → CertFault → Type 0
-SaysNo p certificate rec old new f = Refuses p certificate rec old new (stream.Cert f) × (f ≢ cert.OutOfMemory)
+abbrev pub listening : {T : Type 0} → T → T → Listening T
+listening old new = record { old = old; new = new }
 
--- why there is no verdict
-abbrev pub IsNoVerdictBy : Contents → Option (List ℕ) → Option Recording → Option (List PutFile) → Option (List PutFile) → Type 0 → RunFault → Type 0
-IsNoVerdictBy p certificate rec old new Failed e = ByProfile p (λ text. IsVerifyFault text certificate rec old new Failed e)
+-- it has heard the whole run of a certificate that is accepted, and of one that is refused the steps before the fault
+abbrev pub HearsAnswer : {T Z : Type 0} → Hearing T → Contents → Input → Listening T → Result (Vec (ℕ × ℕ) Z) CertFault → Type 0
+HearsAnswer hears p i l (Ok files) = HearsRun hears p i.certificate i.recording l.old l.new
+HearsAnswer hears p i l (Err f) = HearsBefore hears p i.certificate i.recording l.old l.new (stream.Cert f)
+
+abbrev pub HearsJudged : {T : Type 0} → Hearing T → Input → Listening T → Judged → Type 0
+HearsJudged hears i l j = HearsAnswer hears j.profile i l j.answer
+
+-- the text and the status of what was judged
+abbrev pub status_of_answer : {Z : Type 0} → Result (Vec (ℕ × ℕ) Z) CertFault → ℕ
+status_of_answer (Ok files) = 0
+status_of_answer (Err f) = 2
+
+abbrev pub text_of_answer : {Z : Type 0} → Result (Vec (ℕ × ℕ) Z) CertFault → List ℕ
+text_of_answer (Ok files) = yes_text files.items
+text_of_answer (Err f) = no_text f

@@ -1,6 +1,7 @@
 //! Reads the words after `a429`.
 
-ghost use Rattle.std.specs.Prelude.{◌≡◌, ◌≤◌, ◌⊎◌, IfOk, IfErr};
+ghost use Rattle.std.specs.Prelude.{◌≡◌, ◌≢◌, ◌↔◌, ◌≤◌, ◌⊎◌, IsTrue, IfOk, IfErr};
+ghost use Rattle.a429_check.specs.Names.{IsCertificateApart, KeepsInputs};
 
 use crate::fault::RunFault;
 use a429_view::Span;
@@ -11,10 +12,12 @@ use std::alloc::{AllocError, Global};
 
 pub mod commands;
 
-/// Reads the words after `a429`. The fault is `Memory` for want of memory, and else `Usage`: no
-/// command or an unknown one, too few or too many words, an option, or a wish for help.
+/// Reads the words after `a429`. The fault is `Memory` where memory was refused, and else `Usage`: no
+/// command or an unknown one, too few or too many words, an option, a wish for help, or a name to write to
+/// that is written like the name of something to read.
 pub fn command<'a>(alloc: Global, words: &'a [String]) -> Result<Command<'a>, RunFault>
-    ensures { IfErr result (λ e. (e ≡ RunFault.Memory) ⊎ (e ≡ RunFault.Usage)) }
+    ensures apart { IfOk result KeepsInputs }
+    ensures err { IfErr result (λ e. (e ≡ RunFault.Memory) ⊎ (e ≡ RunFault.Usage)) }
 {
     match parser(alloc)?.try_get_matches_from(words) {
         Ok(matches) => command_of(alloc, &matches),
@@ -24,7 +27,8 @@ pub fn command<'a>(alloc: Global, words: &'a [String]) -> Result<Command<'a>, Ru
 
 // The command that the words name.
 fn command_of<'a>(alloc: Global, matches: &ArgMatches<'a>) -> Result<Command<'a>, RunFault>
-    ensures { IfErr result (λ e. (e ≡ RunFault.Memory) ⊎ (e ≡ RunFault.Usage)) }
+    ensures apart { IfOk result KeepsInputs }
+    ensures err { IfErr result (λ e. (e ≡ RunFault.Memory) ⊎ (e ≡ RunFault.Usage)) }
 {
     match matches.subcommand() {
         Some(("version", _)) => Ok(Command::Version),
@@ -41,7 +45,10 @@ fn command_of<'a>(alloc: Global, matches: &ArgMatches<'a>) -> Result<Command<'a>
             None => Err(RunFault::Usage),
         },
         Some(("upgrade", given)) => match (given.get_str("CERT"), given.get_str("OUT")) {
-            (Some(cert), Some(new_cert)) => Ok(Command::Upgrade { cert, new_cert }),
+            (Some(cert), Some(new_cert)) if differ(new_cert, cert) => Ok(Command::Upgrade {
+                cert,
+                new_cert,
+            }),
             _ => Err(RunFault::Usage),
         },
         Some(("make", given)) => match given.get_str("PROFILE") {
@@ -68,7 +75,8 @@ fn fault_of(kind: ErrorKind) -> RunFault
 
 // The commands that take a profile and a recording, and then more.
 fn of_recording<'a>(name: &str, given: &ArgMatches<'a>) -> Result<Command<'a>, RunFault>
-    ensures { IfErr result (λ e. e ≡ RunFault.Usage) }
+    ensures apart { IfOk result KeepsInputs }
+    ensures err { IfErr result (λ e. e ≡ RunFault.Usage) }
 {
     let Some(profile) = given.get_str("PROFILE") else {
         return Err(RunFault::Usage);
@@ -91,17 +99,42 @@ fn of_recording<'a>(name: &str, given: &ArgMatches<'a>) -> Result<Command<'a>, R
         certificate,
     };
     match (name, given.get_str("DIR")) {
-        ("check", _) => Ok(Command::Check(claim)),
-        ("decide", _) => Ok(Command::Decide(claim)),
+        ("check", _) if is_apart(&claim) => Ok(Command::Check(claim)),
+        ("decide", _) if is_apart(&claim) => Ok(Command::Decide(claim)),
         ("verify", _) => Ok(Command::Verify(claim)),
         ("units", _) => Ok(Command::Units(claim)),
-        ("extract", Some(folder)) => Ok(Command::Extract { claim, folder }),
+        ("extract", Some(folder)) if is_new(folder, &claim) => Ok(Command::Extract {
+            claim,
+            folder,
+        }),
         ("picture", _) => Ok(Command::Picture {
             claim,
             span: span_of(given)?,
         }),
         _ => Err(RunFault::Usage),
     }
+}
+
+// Whether the certificate, which is written, is not written like the profile or the recording.
+fn is_apart(claim: &Claim<'_>) -> bool
+    ensures { IsTrue result ↔ IsCertificateApart claim.now }
+{
+    differ(claim.certificate, claim.profile) && differ(claim.certificate, claim.recording)
+}
+
+// Whether a folder is not written like one of the files that are read.
+fn is_new(folder: &str, claim: &Claim<'_>) -> bool
+    ensures { IsTrue result ↔ ((folder.now ≢ claim.now.profile.now) × (folder.now ≢ claim.now.recording.now) × (folder.now ≢ claim.now.certificate.now)) }
+{
+    differ(folder, claim.profile)
+        && differ(folder, claim.recording)
+        && differ(folder, claim.certificate)
+}
+
+fn differ(a: &str, b: &str) -> bool
+    ensures { IsTrue result ↔ (a.now ≢ b.now) }
+{
+    a != b
 }
 
 // The span of the entries FROM to TO.

@@ -1,18 +1,16 @@
 //! What each command writes and answers, a file for each.
 
 pub mod check;
-pub mod decide;
 pub mod extract;
 pub mod folder;
 pub mod forms;
 pub mod labels;
 pub mod make;
-mod output;
 pub mod pack;
 pub mod picture;
 mod profile;
 mod recording;
-mod rule;
+pub mod rule;
 pub mod show;
 mod streaming;
 pub mod survey;

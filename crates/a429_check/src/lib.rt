@@ -9,15 +9,15 @@ pub mod laws;
 
 pub use crate::command_line::command;
 pub use crate::command_line::commands::{Claim, Command};
-pub use crate::engines::check::run_check;
-pub use crate::engines::decide::run_decide;
+pub use crate::engines::check::{run_by_rule, run_check, run_decide};
 pub use crate::engines::extract::run_extract;
 pub use crate::engines::folder::Folder;
 pub use crate::engines::forms::run_forms;
 pub use crate::engines::labels::run_labels;
 pub use crate::engines::make::run_make;
 pub use crate::engines::pack::run_pack;
-pub use crate::engines::picture::{Canvas, run_picture};
+pub use crate::engines::picture::run_picture;
+pub use crate::engines::rule::Rule;
 pub use crate::engines::show::run_show;
 pub use crate::engines::survey::run_survey;
 pub use crate::engines::units::run_units;

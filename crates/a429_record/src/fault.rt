@@ -1,4 +1,4 @@
-//! Why a recording was not read or not written.
+//! Why a recording was not read.
 
 use thiserror::Error;
 
@@ -27,13 +27,4 @@ pub enum ReadFault {
     /// A fault was answered before: of an `EntryReader` alone.
     #[error("failed")]
     Failed,
-}
-
-/// Why a recording was not written.
-#[derive(Clone, Copy, Debug, PartialEq, Eq, Drop)]
-pub enum WriteFault {
-    /// The writer has failed.
-    Device,
-    /// Memory was refused.
-    OutOfMemory,
 }

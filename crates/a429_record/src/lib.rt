@@ -22,8 +22,8 @@ mod writing;
 
 pub use crate::entries::EntryReader;
 pub use crate::entry::{Entry, MOST_ENTRIES};
-pub use crate::fault::{ReadFault, WriteFault};
+pub use crate::fault::ReadFault;
 pub use crate::packing::write_binary;
 pub use crate::recording::read_entries;
 pub use crate::screening::{SCREENED, screen_entries};
-pub use crate::writing::{put_header, put_line, put_parts, write_entries};
+pub use crate::writing::{WriteFault, put_header, put_line, put_parts, write_entries};

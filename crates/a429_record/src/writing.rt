@@ -4,22 +4,24 @@ ghost use Rattle.std.specs.Prelude.{◌≡◌, ◌↔◌, ◌++◌, ◌∷◌, [
 ghost use Rattle.std.specs.Fmt.{decimal};
 ghost use Rattle.std.specs.List.{flat_map};
 ghost use Rattle.a429_word.specs.Tally.{has_failed, Puts, PutsFront};
-ghost use Rattle.a429_word.specs.Sheet.{Says};
+ghost use Rattle.a429_word.specs.Sheet.{Says, Writes};
 ghost use Rattle.a429_word.specs.Digits.{hex_text};
 ghost use Rattle.a429_word.specs.Bus.{bus_text};
 ghost use Rattle.a429_record.specs.Writing.{header_text, line_text, entry_text, written_form};
 ghost use Rattle.a429_record.specs.Recording.{IsRecordable};
-ghost use Rattle.a429_record.specs.declared.fault.WriteFault.TheVariants as fault;
+ghost use Rattle.a429_word.specs.declared.trouble.Trouble.TheVariants as fault;
 
 use crate::entry::Entry;
-use crate::fault::WriteFault;
-use a429_word::{Bus, Device, Failing, Page, Sheet, Tally, Word};
+use a429_word::{Bus, Device, Failing, Page, Sheet, Tally, Trouble, Word};
 use itoa::write_digits;
 use std::alloc::Global;
 use std::io::Write;
 
 // How many digits the longest time has.
 const LONGEST_TIME: usize = 20;
+
+/// Why a recording was not written.
+pub type WriteFault = Trouble;
 
 /// Writes entries, at most 1,000,000 whose times never fall, as a text recording: the header, and a
 /// line for each. If memory runs out, nothing is written; after `Device` a prefix has been.
@@ -37,20 +39,15 @@ pub fn write_entries<W: Write>(
     if out.failed() {
         return Err(WriteFault::Device);
     }
-    let Ok(page) = Page::new(alloc) else {
-        return Err(WriteFault::OutOfMemory);
-    };
-    match put_entries(page, out, entries) {
-        Ok(()) => Ok(()),
-        Err(Device) => Err(WriteFault::Device),
-    }
+    let page = Page::new(alloc)?;
+    put_entries(page, out, entries)?;
+    Ok(())
 }
 
 // Writes entries by an empty page.
 fn put_entries<W: Write>(page: Page, out: &mut Tally<W>, entries: &[Entry]) -> Result<(), Device>
     requires { page ≡ [] }
-    ensures ok { OnOk result (Puts W.contents out.old out.new (written_form entries.now)) }
-    ensures prefix { PutsFront W.contents out.old out.new (written_form entries.now) }
+    ensures written { Writes W.contents out.old out.new (written_form entries.now) }
     ensures device { IsErr result ↔ (has_failed out.new ≡ true) }
 {
     let mut page = page;

@@ -1,9 +1,9 @@
 //! The text of a picture: SVG, with the source at the left and the sink at the right.
 
-ghost use Rattle.std.specs.Prelude.{◌≡◌, ◌↔◌, ◌≤◌, ◌+◌, ◌*◌, ◌++◌, [], codes, length, true, IsErr, OnOk};
+ghost use Rattle.std.specs.Prelude.{◌≡◌, ◌↔◌, ◌≤◌, ◌+◌, ◌*◌, ◌++◌, [], codes, length, true, IsErr};
 ghost use Rattle.std.specs.Fmt.{decimal};
-ghost use Rattle.a429_word.specs.Tally.{has_failed, Puts, PutsFront};
-ghost use Rattle.a429_word.specs.Sheet.{Says};
+ghost use Rattle.a429_word.specs.Tally.{has_failed};
+ghost use Rattle.a429_word.specs.Sheet.{Says, Writes};
 ghost use Rattle.a429_view.specs.Picture.{stamp_text, arrow_text, crosses_text, word_text, seen_text, unseen_text, load_text, mark_text, row_text, rows_text, style_text, frame_text, names_text, size_text, head_text, svg_text};
 
 use crate::forms::{put_named, put_what};
@@ -23,8 +23,7 @@ pub fn put_picture<W: Write>(
 ) -> Result<(), Device>
     requires empty { page ≡ [] }
     requires few { length rows.now ≤ 2000 }
-    ensures ok { OnOk result (Puts W.contents out.old out.new (svg_text profile.now.codes rows.now)) }
-    ensures prefix { PutsFront W.contents out.old out.new (svg_text profile.now.codes rows.now) }
+    ensures written { Writes W.contents out.old out.new (svg_text profile.now.codes rows.now) }
     ensures device { IsErr result ↔ (has_failed out.new ≡ true) }
 {
     let mut page = page;

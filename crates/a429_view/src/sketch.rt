@@ -6,12 +6,12 @@ ghost use Rattle.a429_view.specs.Mark.{file_ended, acknowledges, crossing, still
 use crate::mark::{Mark, Recorded, Span};
 use crate::units::counts::form_of;
 use crate::units::span::is_ack_form;
-use a429_cert::{Act, ListenFault, Listener};
+use a429_cert::{Act, Listener};
 use a429_ldu::Ldu;
 use a429_link::{UnitNumber, is_final};
 use a429_profile::Profile;
 use a429_record::Entry;
-use a429_word::Failing;
+use a429_word::{Failing, Trouble};
 use std::alloc::Global;
 
 /// The most steps that a picture shows (profile).
@@ -75,9 +75,9 @@ impl Sketch {
         act: Act,
         number: usize,
         entry: Entry,
-    ) -> Result<(), ListenFault>
+    ) -> Result<(), Trouble>
         ensures heard { OnOk result (Hears profile.now self.old (Makes act (Some (number, entry))) self.new) }
-        ensures memory { IfErr result (λ f. f ≡ ListenFault.OutOfMemory) }
+        ensures memory { IfErr result (λ f. f ≡ Trouble.OutOfMemory) }
     {
         let due = self.at.due;
         let acknowledged = acknowledges(profile, act, &entry);
@@ -87,16 +87,16 @@ impl Sketch {
     }
 
     // Notes a step, where it lies in the span.
-    fn note(&mut self, row: Option<Mark>, next: Place) -> Result<(), ListenFault>
+    fn note(&mut self, row: Option<Mark>, next: Place) -> Result<(), Trouble>
         ensures noted { OnOk result (Notes self.old row next self.new) }
-        ensures memory { IfErr result (λ f. f ≡ ListenFault.OutOfMemory) }
+        ensures memory { IfErr result (λ f. f ≡ Trouble.OutOfMemory) }
     {
         if self.steps <= MOST_STEPS && is_within(self.span, self.at.next) {
             self.steps += 1;
             if let Some(row) = row
                 && self.rows.push(row).is_err()
             {
-                return Err(ListenFault::OutOfMemory);
+                return Err(Trouble::OutOfMemory);
             }
         }
         self.at = next;
@@ -125,7 +125,7 @@ impl Listener for Sketch {
         profile: &Profile,
         number: UnitNumber,
         unit: &Ldu,
-    ) -> Result<(), ListenFault> {
+    ) -> Result<(), Trouble> {
         let next = Place {
             next: self.at.next,
             due: file_ended(profile, number, unit),
@@ -138,7 +138,7 @@ impl Listener for Sketch {
         profile: &Profile,
         act: Act,
         entry: Option<(usize, Entry)>,
-    ) -> Result<(), ListenFault> {
+    ) -> Result<(), Trouble> {
         match entry {
             None => {
                 let at = self.at;

@@ -7,8 +7,9 @@ use Rattle.std.proofs.Math.Seq.{take-append-add}
 use Rattle.std.proofs.KnownBytes.{Appends-trans, Appends-nil, Appends-kept, Keeps-refl}
 use Rattle.std.specs.Io.KnownBytes.{Appends, Keeps, append_known}
 use Rattle.a429_word.specs.declared.sheet.Sheet.{Sheet}
+use Rattle.a429_word.specs.declared.tally.Tally.{Tally}
 use Rattle.a429_word.specs.Tally.{inner_of, AppendsPrefix, Puts, PutsFront}
-use Rattle.a429_word.specs.Sheet.{written, all_put, IsWritten, sheet_failed, IsPut, Says, said}
+use Rattle.a429_word.specs.Sheet.{written, all_put, IsWritten, sheet_failed, IsPut, Says, said, Writes}
 use Rattle.a429_word.proofs.PageFacts.{AppendsPrefix-none, AppendsPrefix-longer}
 
 -- where all of the first text was put, a prefix of what waits then and of the second is one of both texts
@@ -84,10 +85,6 @@ prefix_of : {W : Type 0} {contents : W → Option (List ℕ)} {start last done :
 prefix_of {contents} {start} {last} {done} {text} empty says rest =
     subst (AppendsPrefix (written contents start) (written contents done)) (ap (λ p. p ++ (text ++ [])) empty ∙ append-nil text) (put_both says rest).prefix
 
-at_ok_of : {W T E : Type 0} {contents : W → Option (List ℕ)} {start last done : Sheet W} {text : List ℕ} (r : Result T E) → start.page.now ≡ [] → IsPut contents start last text → IsPut contents last done [] → OnOk r (IsWritten contents done) → (IsErr r ↔ (sheet_failed done ≡ true)) → OnOk r (Puts contents start.out.now done.out.now text)
-at_ok_of (Ok x) empty says rest whole device = whole_of empty says rest (false_from_ne_true _ (λ failed. absurd (cc (device.1 failed)))) whole
-at_ok_of (Err e) empty says rest whole device = tt
-
 -- ---- the same of `Says`
 
 pub says_both : {W : Type 0} {contents : W → Option (List ℕ)} {a b c : Sheet W} {x y : List ℕ} → Says contents a b x → Says contents b c y → Says contents a c (x ++ y)
@@ -125,9 +122,8 @@ says_works (said p) works = false_from_ne_true _ (λ failed. let same = p.stays 
 pub says_all : {W : Type 0} {contents : W → Option (List ℕ)} {a b : Sheet W} {x : List ℕ} → Says contents a b x → sheet_failed b ≡ false → Appends (all_put contents a) (all_put contents b) x
 says_all (said p) works = p.all works
 
--- what an output has, once the sheet is finished: a prefix of the text at most, and all of it at `Ok`
-pub has_prefix : {W : Type 0} {contents : W → Option (List ℕ)} {start last done : Sheet W} {text : List ℕ} → start.page.now ≡ [] → Says contents start last text → Says contents last done [] → PutsFront contents start.out.now done.out.now text
-has_prefix empty (said says) (said rest) = prefix_of empty says rest
-
-pub has_all_at_ok : {W T E : Type 0} {contents : W → Option (List ℕ)} {start last done : Sheet W} {text : List ℕ} (r : Result T E) → start.page.now ≡ [] → Says contents start last text → Says contents last done [] → OnOk r (IsWritten contents done) → (IsErr r ↔ (sheet_failed done ≡ true)) → OnOk r (Puts contents start.out.now done.out.now text)
-has_all_at_ok r empty (said says) (said rest) whole device = at_ok_of r empty says rest whole device
+-- what is put on a sheet, begun with an empty page, is what is written to its output, once the sheet is finished
+pub writes : {W : Type 0} {contents : W → Option (List ℕ)} {start last done : Sheet W} {text : List ℕ} {old : Tally W} → start.page.now ≡ [] → start.out.now ≡ old → Says contents start last text → Says contents last done [] → (sheet_failed done ≡ false → IsWritten contents done) → Writes contents old done.out.now text
+writes {contents} {done} {text} empty same (said says) (said rest) whole =
+    subst (λ old. Writes contents old done.out.now text) same
+    (record { all = λ works. whole_of empty says rest works (whole works); prefix = prefix_of empty says rest; stays = λ failed. (put_both says rest).stays failed })

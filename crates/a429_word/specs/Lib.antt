@@ -5,6 +5,7 @@ pub mod Bcd
 pub mod Digits
 pub mod Bus
 pub mod Tally
+pub mod Room
 pub mod Page
 pub mod Fixed
 pub mod Sheet

@@ -2,7 +2,8 @@
 use Rattle.std.specs.Prelude.{◌≡◌, ℕ, List, ◌++◌, Option, Bool, true, false}
 use Rattle.std.specs.Io.KnownBytes.{Appends, Keeps}
 use Rattle.a429_word.specs.declared.sheet.Sheet.{Sheet}
-use Rattle.a429_word.specs.Tally.{inner_of, has_failed, AppendsPrefix}
+use Rattle.a429_word.specs.declared.tally.Tally.{Tally}
+use Rattle.a429_word.specs.Tally.{inner_of, has_failed, AppendsPrefix, Puts, PutsFront}
 use Rattle.a429_word.specs.Page.{paged}
 
 -- the bytes that the output has
@@ -36,3 +37,10 @@ pub record IsPut {W : Type 0} (contents : W → Option (List ℕ)) (old new : Sh
 -- a sheet says this text: the same, as one fact, so that a search does not open it
 pub data Says {W : Type 0} (contents : W → Option (List ℕ)) (old new : Sheet W) (text : List ℕ) : Type 0 where
   said : IsPut contents old new text → Says contents old new text
+
+-- a text was written to an output: all of it where the output has not failed, and in any case a prefix of it, at most; nothing where it had
+-- failed before
+pub record Writes {W : Type 0} (contents : W → Option (List ℕ)) (old new : Tally W) (text : List ℕ) : Type 0 where
+  pub all : has_failed new ≡ false → Puts contents old new text
+  pub prefix : PutsFront contents old new text
+  pub stays : has_failed old ≡ true → new ≡ old

@@ -11,6 +11,7 @@ mod page;
 mod screening;
 mod sheet;
 mod tally;
+mod trouble;
 mod word;
 
 pub use crate::bcd::BadDigit;
@@ -21,4 +22,5 @@ pub use crate::page::Page;
 pub use crate::screening::{BAD_PARITY, OTHER_LABEL, THIS_LABEL, screen};
 pub use crate::sheet::Sheet;
 pub use crate::tally::{Device, Failing, Tally};
+pub use crate::trouble::Trouble;
 pub use crate::word::Word;

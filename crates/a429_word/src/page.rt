@@ -18,21 +18,23 @@ const ROOM: usize = 16384;
 // How many digits the longest number has.
 const LONGEST: usize = 20;
 
-/// Bytes that wait to be written, so that a writer is called once for many pieces.
+/// Bytes that wait to be written, so that a writer is called once for many pieces. A `Sheet` fills it.
 #[derive(Drop)]
 pub struct Page {
-    bytes: Vec<u8>,
+    // none: each piece is written at once
+    room: Option<Vec<u8>>,
     filled: usize,
 }
 
 impl Model for Page {
-    ghost use Rattle.std.specs.Prelude.{List, ℕ, take, length, ◌≡◌, ◌≤◌};
+    ghost use Rattle.std.specs.Prelude.{List, ℕ, take, length, ◌≤◌};
+    ghost use Rattle.a429_word.specs.Room.{room_of};
 
     ghost Value = { List ℕ };
 
-    ghost view = { λ p. take p.filled p.bytes.items };
+    ghost view = { λ p. take p.filled (room_of p.room) };
 
-    ghost invariant = { λ p. (length p.bytes.items ≡ 16384) × (p.filled ≤ 16384) };
+    ghost invariant = { λ p. p.filled ≤ length (room_of p.room) };
 }
 
 impl Page {
@@ -41,28 +43,40 @@ impl Page {
         ensures { IfOk result (λ p. p ≡ []) }
     {
         Ok(Page {
-            bytes: zeros(alloc, ROOM)?,
+            room: Some(zeros(alloc, ROOM)?),
             filled: 0,
         })
+    }
+
+    /// A page without room, which takes no memory: a sheet with it writes each piece at once.
+    pub fn without_room() -> Page
+        ensures { result ≡ [] }
+    {
+        Page {
+            room: None,
+            filled: 0,
+        }
     }
 
     /// Puts bytes on the page. If they do not fit, what is on it is written first. After `Device` a
     /// prefix of all this has been written.
     #[inline(always)]
-    pub fn put<W: Write>(&mut self, out: &mut Tally<W>, bytes: &[u8]) -> Result<(), Device>
+    pub(crate) fn put<W: Write>(&mut self, out: &mut Tally<W>, bytes: &[u8]) -> Result<(), Device>
         ensures ok { OnOk result (PutsOn W.contents out.old self.old out.new self.new bytes.now) }
         ensures prefix { PutsFront W.contents out.old out.new (self.old ++ bytes.now) }
         ensures device { IsErr result → has_failed out.new ≡ true }
         ensures works { OnOk result (has_failed out.new ≡ has_failed out.old) }
         ensures stays { has_failed out.old ≡ true → out.new ≡ out.old }
     {
-        if bytes.len() > ROOM - self.filled {
-            return self.put_past(out, bytes);
+        match &mut self.room {
+            Some(room) if bytes.len() <= room.len() - self.filled => {
+                let end = self.filled + bytes.len();
+                room[self.filled..end].copy_from_slice(bytes);
+                self.filled = end;
+                Ok(())
+            }
+            _ => self.put_past(out, bytes),
         }
-        let end = self.filled + bytes.len();
-        self.bytes[self.filled..end].copy_from_slice(bytes);
-        self.filled = end;
-        Ok(())
     }
 
     // Puts the page, and then bytes that have no room on it.
@@ -80,7 +94,7 @@ impl Page {
 
     /// Puts a number on the page, in decimal.
     #[inline(always)]
-    pub fn put_number<W: Write>(&mut self, out: &mut Tally<W>, number: u64) -> Result<(), Device>
+    pub(crate) fn put_number<W: Write>(&mut self, out: &mut Tally<W>, number: u64) -> Result<(), Device>
         ensures ok { OnOk result (PutsOn W.contents out.old self.old out.new self.new (decimal number)) }
         ensures prefix { PutsFront W.contents out.old out.new (self.old ++ decimal number) }
         ensures device { IsErr result → has_failed out.new ≡ true }
@@ -93,14 +107,17 @@ impl Page {
     }
 
     /// Writes what is on the page, which is empty then. After `Device` a prefix of it has been written.
-    pub fn finish<W: Write>(&mut self, out: &mut Tally<W>) -> Result<(), Device>
+    pub(crate) fn finish<W: Write>(&mut self, out: &mut Tally<W>) -> Result<(), Device>
         ensures ok { OnOk result (Keeps (paged W.contents out.old self.old) (W.contents (inner_of out.new))) }
         ensures empty { OnOk result (self.new ≡ []) }
         ensures err { OnErr result (PutsFront W.contents out.old out.new self.old) }
         ensures device { IsErr result ↔ (has_failed out.new ≡ true) }
         ensures stays { has_failed out.old ≡ true → out.new ≡ out.old }
     {
-        out.put(&self.bytes[..self.filled])?;
+        match &self.room {
+            Some(room) => out.put(&room[..self.filled])?,
+            None => out.put(b"")?,
+        }
         self.filled = 0;
         Ok(())
     }

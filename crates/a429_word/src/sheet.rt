@@ -1,6 +1,6 @@
 //! A sheet of output: pieces on their way to a writer, with the failure remembered.
 
-ghost use Rattle.std.specs.Prelude.{◌≡◌, ◌↔◌, [], true, IsErr, OnOk};
+ghost use Rattle.std.specs.Prelude.{◌≡◌, ◌↔◌, [], true, false, IsErr};
 ghost use Rattle.std.specs.Fmt.{decimal};
 ghost use Rattle.a429_word.specs.Sheet.{sheet_failed, IsWritten, Says};
 
@@ -54,7 +54,7 @@ impl<'a, W: Write> Sheet<'a, W> {
     /// Writes what waits on the page. `Device` where that fails, or an earlier write has.
     pub fn finish(&mut self) -> Result<(), Device>
         ensures nothing_more { Says W.contents self.old self.new [] }
-        ensures written { OnOk result (IsWritten W.contents self.new) }
+        ensures written { sheet_failed self.new ≡ false → IsWritten W.contents self.new }
         ensures device { IsErr result ↔ (sheet_failed self.new ≡ true) }
     {
         self.page.finish(self.out)

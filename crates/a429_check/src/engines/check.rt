@@ -1,17 +1,15 @@
-//! `a429 check PROFILE REC CERT`: finds a certificate for a recording, or says why there is none.
+//! `a429 check PROFILE REC CERT`: finds a certificate for a recording, or says why there is none; and `a429 decide`,
+//! which does the same, and searches for a run where `check` has a doubt.
 
-ghost use Rattle.std.specs.Prelude.{◌≡◌, ◌≢◌, ◌⊎◌, ◌↔◌, true, false, IsErr, IfOk, IfErr, OnOk, OnErr};
+ghost use Rattle.std.specs.Prelude.{◌≡◌, ◌≢◌, ◌↔◌, true, false, IsErr, IfOk, IfErr, OnOk};
 ghost use Rattle.std.specs.Fmt.{decimal};
-ghost use Rattle.a429_word.specs.Tally.{has_failed, unread, PutsFront, Puts};
+ghost use Rattle.a429_word.specs.Tally.{has_failed, unread, Puts};
+ghost use Rattle.a429_word.specs.Sheet.{Says, Writes};
 ghost use Rattle.a429_cert.specs.Explained.{items_of};
-ghost use Rattle.a429_explain.specs.Verdict.{IsSoundVerdict, IsOfLeastVersion, IsImpossible, IsDoubted, HasNoForm, IsImpossibility, IsExplanation};
-ghost use Rattle.a429_explain.specs.WithoutLoss.{IsWithoutLoss};
 ghost use Rattle.a429_check.specs.declared.engines.rule.Rule.TheVariants as rules;
-ghost use Rattle.a429_check.specs.Recording.{SayInput};
-ghost use Rattle.a429_check.specs.Output.{UsedWork};
-ghost use Rattle.a429_check.specs.Check.{reason_text, doubt_text, verdict_text, certificate_text, verdict_status, IsByRule, IsVerdictOn, IsCheckFault, LeavesFault, PutsFrontAtMost, PutsVerdictOn};
+ghost use Rattle.a429_check.specs.Output.{output, UsedWork};
+ghost use Rattle.a429_check.specs.Check.{reason_text, doubt_text, verdict_text, certificate_text, verdict_status, EitherFailed, IsCheckFault, IsVerdictBy, IsVerdictOn, LeavesVerdict, ReportsVerdict};
 
-use crate::engines::output::put_decimal;
 use crate::engines::profile::profile_of;
 use crate::engines::recording::entries_of;
 use crate::engines::rule::Rule;
@@ -22,13 +20,13 @@ use a429_explain::{Doubt, Reason, Verdict, check};
 use a429_profile::Profile;
 use a429_record::Entry;
 use a429_search::decide;
-use a429_word::{Device, Tally};
+use a429_word::{Device, Page, Sheet, Tally};
 use std::alloc::Global;
 use std::io::{Read, Write};
 
 /// Writes the verdict on a recording to `out`, and where it is explained the certificate to
 /// `cert` before, and answers the verdict's status: 0 explained, 1 impossible, 2 unexplained.
-/// `profile` is the bytes of its text. Where a writer fails, a front of the certificate may be written.
+/// `profile` is the bytes of its text. Where a writer fails, a prefix of the certificate may be written.
 pub fn run_check<R: Read, C: Write, W: Write>(
     alloc: Global,
     profile: &[u8],
@@ -36,91 +34,98 @@ pub fn run_check<R: Read, C: Write, W: Write>(
     cert: &mut Tally<C>,
     out: &mut Tally<W>,
 ) -> Result<u8, RunFault>
-    ensures verdict { IfOk result (PutsVerdictOn rules.Check C.contents cert.old cert.new W.contents out.old out.new profile.now R.remaining rec.old) }
-    ensures none { IfOk result (λ status. status ≢ 0 → cert.new ≡ cert.old) }
+    ensures verdict { IfOk result (ReportsVerdict (output C.contents cert.old cert.new) (output W.contents out.old out.new)
+        (IsVerdictOn rules.Check profile.now (unread R.remaining rec.old))) }
     ensures device { IfOk result (UsedWork (has_failed rec.new) (has_failed cert.new) (has_failed out.new)) }
-    ensures err { IfErr result (LeavesFault profile.now (unread R.remaining rec.old) rec.new cert.new out.new) }
-    ensures silent { IfErr result (λ e. (e ≢ RunFault.Device) ⊎ (has_failed rec.new ≡ true) → (cert.new ≡ cert.old) × (out.new ≡ out.old)) }
-    ensures last { OnErr result (has_failed out.new ≡ false → out.new ≡ out.old) }
-    ensures front { OnErr result (PutsFrontAtMost rules.Check C.contents cert.old cert.new profile.now (unread R.remaining rec.old)) }
+    ensures err { IfErr result (IsCheckFault profile.now (unread R.remaining rec.old) (has_failed rec.new) (EitherFailed (has_failed cert.new) (has_failed out.new))) }
+    ensures cut { IfErr result (LeavesVerdict (output C.contents cert.old cert.new) (output W.contents out.old out.new)
+        (has_failed rec.new ≡ true) (IsVerdictOn rules.Check profile.now (unread R.remaining rec.old))) }
 {
-    let verdict = verdict_on(alloc, profile, rec, Rule::Check)?;
-    put_both(cert, out, &verdict)
+    run_by_rule(alloc, profile, rec, cert, out, Rule::Check)
 }
 
-/// Writes the certificate of a verdict and then the verdict, and answers its status.
-pub(crate) fn put_both<C: Write, W: Write>(
+/// Does what `run_check` does, with one difference: where `check` has a doubt it searches for a run, and where it finds
+/// one the recording is explained.
+pub fn run_decide<R: Read, C: Write, W: Write>(
+    alloc: Global,
+    profile: &[u8],
+    rec: &mut Tally<R>,
+    cert: &mut Tally<C>,
+    out: &mut Tally<W>,
+) -> Result<u8, RunFault>
+    ensures verdict { IfOk result (ReportsVerdict (output C.contents cert.old cert.new) (output W.contents out.old out.new)
+        (IsVerdictOn rules.Decide profile.now (unread R.remaining rec.old))) }
+    ensures device { IfOk result (UsedWork (has_failed rec.new) (has_failed cert.new) (has_failed out.new)) }
+    ensures err { IfErr result (IsCheckFault profile.now (unread R.remaining rec.old) (has_failed rec.new) (EitherFailed (has_failed cert.new) (has_failed out.new))) }
+    ensures cut { IfErr result (LeavesVerdict (output C.contents cert.old cert.new) (output W.contents out.old out.new)
+        (has_failed rec.new ≡ true) (IsVerdictOn rules.Decide profile.now (unread R.remaining rec.old))) }
+{
+    run_by_rule(alloc, profile, rec, cert, out, Rule::Decide)
+}
+
+/// Does what `run_check` or `run_decide` does, by this rule.
+pub fn run_by_rule<R: Read, C: Write, W: Write>(
+    alloc: Global,
+    profile: &[u8],
+    rec: &mut Tally<R>,
+    cert: &mut Tally<C>,
+    out: &mut Tally<W>,
+    rule: Rule,
+) -> Result<u8, RunFault>
+    ensures verdict { IfOk result (ReportsVerdict (output C.contents cert.old cert.new) (output W.contents out.old out.new)
+        (IsVerdictOn rule profile.now (unread R.remaining rec.old))) }
+    ensures device { IfOk result (UsedWork (has_failed rec.new) (has_failed cert.new) (has_failed out.new)) }
+    ensures err { IfErr result (IsCheckFault profile.now (unread R.remaining rec.old) (has_failed rec.new) (EitherFailed (has_failed cert.new) (has_failed out.new))) }
+    ensures cut { IfErr result (LeavesVerdict (output C.contents cert.old cert.new) (output W.contents out.old out.new)
+        (has_failed rec.new ≡ true) (IsVerdictOn rule profile.now (unread R.remaining rec.old))) }
+{
+    let verdict = verdict_on(alloc, profile, rec, rule)?;
+    write_both(cert, out, &verdict)
+}
+
+// Writes the certificate of a verdict and then the verdict, and answers its status.
+fn write_both<C: Write, W: Write>(
     cert: &mut Tally<C>,
     out: &mut Tally<W>,
     verdict: &Verdict,
 ) -> Result<u8, RunFault>
-    ensures status { IfOk result (λ status. status ≡ verdict_status verdict.now) }
-    ensures certificate { OnOk result (Puts C.contents cert.old cert.new (certificate_text verdict.now)) }
-    ensures text { OnOk result (Puts W.contents out.old out.new (verdict_text verdict.now)) }
-    ensures none { IfOk result (λ status. status ≢ 0 → cert.new ≡ cert.old) }
+    ensures verdict { IfOk result (ReportsVerdict (output C.contents cert.old cert.new) (output W.contents out.old out.new) (λ v. v ≡ verdict.now)) }
     ensures device { IfOk result (UsedWork false (has_failed cert.new) (has_failed out.new)) }
-    ensures err { IfErr result (λ e. (e ≡ RunFault.Device) × ((has_failed cert.new ≡ true) ⊎ (has_failed out.new ≡ true))) }
-    ensures last { OnErr result (has_failed out.new ≡ false → out.new ≡ out.old) }
-    ensures front { OnErr result (PutsFront C.contents cert.old cert.new (certificate_text verdict.now)) }
+    ensures err { IfErr result (λ e. (e ≡ RunFault.Device) × EitherFailed (has_failed cert.new) (has_failed out.new)) }
+    ensures cut { IfErr result (LeavesVerdict (output C.contents cert.old cert.new) (output W.contents out.old out.new) ⊥ (λ v. v ≡ verdict.now)) }
 {
-    put_certificate(cert, verdict)?;
-    put_verdict(out, verdict)?;
+    write_certificate(cert, verdict)?;
+    write_verdict(out, verdict)?;
     Ok(status_of(verdict))
 }
 
-/// The verdict on a recording, by this rule.
-pub(crate) fn verdict_on<R: Read>(
+// The verdict on a recording, by this rule.
+fn verdict_on<R: Read>(
     alloc: Global,
     profile: &[u8],
     rec: &mut Tally<R>,
     rule: Rule,
 ) -> Result<Verdict, RunFault>
     ensures verdict { IfOk result (IsVerdictOn rule profile.now (unread R.remaining rec.old)) }
-    ensures says { OnOk result (SayInput profile.now (unread R.remaining rec.old)) }
     ensures device { OnOk result (has_failed rec.new ≡ false) }
-    ensures err { IfErr result (IsCheckFault profile.now (unread R.remaining rec.old) (has_failed rec.new) false false) }
+    ensures err { IfErr result (IsCheckFault profile.now (unread R.remaining rec.old) (has_failed rec.new) ⊥) }
 {
     let profile = profile_of(alloc, profile)?;
     let entries = entries_of(alloc, rec)?;
-    verdict_by(alloc, &profile, entries.as_slice(), rule)
-}
-
-// The same of its entries, under a profile that was read.
-fn verdict_by(
-    alloc: Global,
-    profile: &Profile,
-    entries: &[Entry],
-    rule: Rule,
-) -> Result<Verdict, RunFault>
-    ensures sound { IfOk result (IsSoundVerdict profile.now (items_of entries.now)) }
-    ensures version { IfOk result (IsOfLeastVersion profile.now (items_of entries.now)) }
-    ensures impossible { IfOk result (IsImpossible profile.now (items_of entries.now)) }
-    ensures doubted { IfOk result (IsDoubted profile.now (items_of entries.now)) }
-    ensures first { IfOk result (IsByRule rule profile.now (items_of entries.now)) }
-    ensures no_form { HasNoForm profile.now.codes (items_of entries.now) → IfOk result IsImpossibility }
-    ensures without_loss { IsWithoutLoss profile.now (items_of entries.now) → IfOk result IsExplanation }
-    ensures err { IfErr result (λ e. e ≡ RunFault.Memory) }
-{
-    match found_by(alloc, profile, entries, rule) {
+    match verdict_by(alloc, &profile, entries.as_slice(), rule) {
         Ok(verdict) => Ok(verdict),
         Err(_) => Err(RunFault::Memory),
     }
 }
 
-// The same by the call of the library that has this rule.
-fn found_by(
+// The same of its entries, under a profile that was read, by the call of the library that has this rule.
+fn verdict_by(
     alloc: Global,
     profile: &Profile,
     entries: &[Entry],
     rule: Rule,
 ) -> Result<Verdict, OutOfMemory>
-    ensures sound { IfOk result (IsSoundVerdict profile.now (items_of entries.now)) }
-    ensures version { IfOk result (IsOfLeastVersion profile.now (items_of entries.now)) }
-    ensures impossible { IfOk result (IsImpossible profile.now (items_of entries.now)) }
-    ensures doubted { IfOk result (IsDoubted profile.now (items_of entries.now)) }
-    ensures first { IfOk result (IsByRule rule profile.now (items_of entries.now)) }
-    ensures no_form { HasNoForm profile.now.codes (items_of entries.now) → IfOk result IsImpossibility }
-    ensures without_loss { IsWithoutLoss profile.now (items_of entries.now) → IfOk result IsExplanation }
+    ensures { IfOk result (IsVerdictBy rule profile.now (items_of entries.now)) }
 {
     match rule {
         Rule::Check => check(alloc, profile, entries),
@@ -138,12 +143,13 @@ fn status_of(verdict: &Verdict) -> u8
     }
 }
 
-fn put_certificate<W: Write>(out: &mut Tally<W>, verdict: &Verdict) -> Result<(), Device>
-    ensures ok { OnOk result (Puts W.contents out.old out.new (certificate_text verdict.now)) }
-    ensures err { OnErr result (PutsFront W.contents out.old out.new (certificate_text verdict.now)) }
+// Writes the certificate of a verdict, where there is one.
+fn write_certificate<W: Write>(out: &mut Tally<W>, verdict: &Verdict) -> Result<(), Device>
+    ensures written { Writes W.contents out.old out.new (certificate_text verdict.now) }
     ensures none { verdict_status verdict.now ≢ 0 → out.new ≡ out.old }
     ensures explained { verdict_status verdict.now ≡ 0 → (IsErr result ↔ (has_failed out.new ≡ true)) }
     ensures device { IsErr result → has_failed out.new ≡ true }
+    ensures whole { OnOk result (Puts W.contents out.old out.new (certificate_text verdict.now)) }
 {
     match verdict {
         Verdict::Explained { certificate, .. } => out.put(certificate.as_slice()),
@@ -151,53 +157,59 @@ fn put_certificate<W: Write>(out: &mut Tally<W>, verdict: &Verdict) -> Result<()
     }
 }
 
-fn put_verdict<W: Write>(out: &mut Tally<W>, verdict: &Verdict) -> Result<(), Device>
-    ensures ok { OnOk result (Puts W.contents out.old out.new (verdict_text verdict.now)) }
+// Writes the text of a verdict.
+fn write_verdict<W: Write>(out: &mut Tally<W>, verdict: &Verdict) -> Result<(), Device>
+    ensures written { Writes W.contents out.old out.new (verdict_text verdict.now) }
     ensures device { IsErr result ↔ (has_failed out.new ≡ true) }
+{
+    let mut page = Page::without_room();
+    let mut sheet = Sheet::new(out, &mut page);
+    put_verdict(&mut sheet, verdict);
+    sheet.finish()
+}
+
+fn put_verdict<W: Write>(sheet: &mut Sheet<'_, W>, verdict: &Verdict)
+    ensures { Says W.contents sheet.old sheet.new (verdict_text verdict.now) }
 {
     match verdict {
-        Verdict::Explained { files, .. } => put_explained(out, files.files()),
-        Verdict::Impossible { entry, reason } => put_impossible(out, *entry, *reason),
-        Verdict::Unexplained { entry, doubt } => put_unexplained(out, *entry, *doubt),
+        Verdict::Explained { files, .. } => put_explained(sheet, files.files()),
+        Verdict::Impossible { entry, reason } => put_impossible(sheet, *entry, *reason),
+        Verdict::Unexplained { entry, doubt } => put_unexplained(sheet, *entry, *doubt),
     }
 }
 
-fn put_impossible<W: Write>(out: &mut Tally<W>, entry: usize, reason: Reason) -> Result<(), Device>
-    ensures ok { OnOk result (Puts W.contents out.old out.new (verdict_text (Verdict.Impossible entry reason))) }
-    ensures device { IsErr result ↔ (has_failed out.new ≡ true) }
+fn put_impossible<W: Write>(sheet: &mut Sheet<'_, W>, entry: usize, reason: Reason)
+    ensures { Says W.contents sheet.old sheet.new (verdict_text (Verdict.Impossible entry reason)) }
 {
-    out.put(b"IMPOSSIBLE ")?;
-    put_decimal(out, entry as u64)?;
-    put_reason(out, reason)
+    sheet.put(b"IMPOSSIBLE ");
+    sheet.put_number(entry as u64);
+    sheet.put(name_of_reason(reason));
 }
 
-fn put_unexplained<W: Write>(out: &mut Tally<W>, entry: usize, doubt: Doubt) -> Result<(), Device>
-    ensures ok { OnOk result (Puts W.contents out.old out.new (verdict_text (Verdict.Unexplained entry doubt))) }
-    ensures device { IsErr result ↔ (has_failed out.new ≡ true) }
+fn put_unexplained<W: Write>(sheet: &mut Sheet<'_, W>, entry: usize, doubt: Doubt)
+    ensures { Says W.contents sheet.old sheet.new (verdict_text (Verdict.Unexplained entry doubt)) }
 {
-    out.put(b"UNEXPLAINED ")?;
-    put_decimal(out, entry as u64)?;
-    put_doubt(out, doubt)
+    sheet.put(b"UNEXPLAINED ");
+    sheet.put_number(entry as u64);
+    sheet.put(name_of_doubt(doubt));
 }
 
-fn put_reason<W: Write>(out: &mut Tally<W>, reason: Reason) -> Result<(), Device>
-    ensures ok { OnOk result (Puts W.contents out.old out.new (reason_text reason)) }
-    ensures device { IsErr result ↔ (has_failed out.new ≡ true) }
+fn name_of_reason(reason: Reason) -> &'static [u8]
+    ensures { result.now ≡ reason_text reason }
 {
     match reason {
-        Reason::NoForm => out.put(b" NoForm\n"),
-        Reason::NotGranted => out.put(b" NotGranted\n"),
-        Reason::WrongAnswer => out.put(b" WrongAnswer\n"),
+        Reason::NoForm => b" NoForm\n",
+        Reason::NotGranted => b" NotGranted\n",
+        Reason::WrongAnswer => b" WrongAnswer\n",
     }
 }
 
-fn put_doubt<W: Write>(out: &mut Tally<W>, doubt: Doubt) -> Result<(), Device>
-    ensures ok { OnOk result (Puts W.contents out.old out.new (doubt_text doubt)) }
-    ensures device { IsErr result ↔ (has_failed out.new ≡ true) }
+fn name_of_doubt(doubt: Doubt) -> &'static [u8]
+    ensures { result.now ≡ doubt_text doubt }
 {
     match doubt {
-        Doubt::NeverWhole => out.put(b" NeverWhole\n"),
-        Doubt::NotOneBlock => out.put(b" NotOneBlock\n"),
-        Doubt::NotReplayed => out.put(b" NotReplayed\n"),
+        Doubt::NeverWhole => b" NeverWhole\n",
+        Doubt::NotOneBlock => b" NotOneBlock\n",
+        Doubt::NotReplayed => b" NotReplayed\n",
     }
 }

@@ -2,8 +2,8 @@
 
 ghost use Rattle.std.specs.Prelude.{◌≡◌, None, false, IfOk};
 
-use a429_cert::{OutOfMemory, Shelf, ShelfFault};
-use a429_word::{Device, Failing, Tally};
+use a429_cert::{OutOfMemory, Shelf};
+use a429_word::{Device, Failing, Tally, Trouble};
 use std::alloc::Global;
 use std::fs;
 use std::rt::Files;
@@ -51,16 +51,16 @@ impl<F: Files> Failing for Folder<'_, F> {
 impl<F: Files> Shelf for Folder<'_, F> {
     ghost files = { λ f. None };
 
-    fn put(&mut self, index: u32, _: u8, bytes: &[u8]) -> Result<(), ShelfFault> {
+    fn put(&mut self, index: u32, _: u8, bytes: &[u8]) -> Result<(), Trouble> {
         if self.is_failed {
-            return Err(ShelfFault::Device);
+            return Err(Trouble::Device);
         }
         let Ok(path) = format!(in self.alloc; "{}/{index:06}.bin", self.dir.as_str()) else {
-            return Err(ShelfFault::OutOfMemory);
+            return Err(Trouble::OutOfMemory);
         };
         if self.write(path.as_str(), bytes).is_err() {
             self.is_failed = true;
-            return Err(ShelfFault::Device);
+            return Err(Trouble::Device);
         }
         Ok(())
     }

@@ -1,9 +1,9 @@
 //! `a429 forms PROFILE REC`: what each word of a recording is to the file transfer, a line for each.
 
-ghost use Rattle.std.specs.Prelude.{◌≡◌, ◌≢◌, ◌⊎◌, ◌↔◌, [], true, false, IsErr, IfOk, IfErr, OnOk};
-ghost use Rattle.a429_word.specs.Tally.{has_failed, unread, Puts, PutsFront};
-ghost use Rattle.a429_word.specs.Sheet.{Says};
-ghost use Rattle.a429_check.specs.Output.{PutsText};
+ghost use Rattle.std.specs.Prelude.{◌≡◌, ◌↔◌, [], true, false, IsErr, IfOk, IfErr, OnOk};
+ghost use Rattle.a429_word.specs.Tally.{has_failed, unread};
+ghost use Rattle.a429_word.specs.Sheet.{Says, Writes};
+ghost use Rattle.a429_check.specs.Output.{output, IsCutShort, PutsText};
 ghost use Rattle.a429_check.specs.Show.{IsShowFault};
 ghost use Rattle.a429_check.specs.Forms.{form_line, form_lines, TellsForms};
 
@@ -30,7 +30,7 @@ pub fn run_forms<R: Read, W: Write>(
     ensures ok { IfOk result (λ status. status ≡ 0) }
     ensures lines { OnOk result (PutsText W.contents out.old out.new (TellsForms profile.now (unread R.remaining rec.old))) }
     ensures err { IfErr result (IsShowFault profile.now (unread R.remaining rec.old) (has_failed rec.new) (has_failed out.new)) }
-    ensures silent { IfErr result (λ e. (e ≢ RunFault.Device) ⊎ (has_failed rec.new ≡ true) → out.new ≡ out.old) }
+    ensures cut { IfErr result (IsCutShort (output W.contents out.old out.new) (has_failed rec.new ≡ true) (TellsForms profile.now (unread R.remaining rec.old))) }
     ensures device { OnOk result ((has_failed rec.new ≡ false) × (has_failed out.new ≡ false)) }
 {
     let profile = profile_of(alloc, profile)?;
@@ -48,8 +48,7 @@ fn put_entries<W: Write>(
     entries: &[Entry],
 ) -> Result<(), Device>
     requires { page ≡ [] }
-    ensures ok { OnOk result (Puts W.contents out.old out.new (form_lines profile.now.codes entries.now)) }
-    ensures prefix { PutsFront W.contents out.old out.new (form_lines profile.now.codes entries.now) }
+    ensures written { Writes W.contents out.old out.new (form_lines profile.now.codes entries.now) }
     ensures device { IsErr result ↔ (has_failed out.new ≡ true) }
 {
     let mut page = page;

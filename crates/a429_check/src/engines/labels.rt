@@ -1,15 +1,16 @@
 //! `a429 labels PROFILE`: the label table of a profile, a line for each entry.
 
-ghost use Rattle.std.specs.Prelude.{◌≡◌, ◌≢◌, ◌↔◌, true, false, IsErr, IfOk, IfErr, OnOk};
-ghost use Rattle.a429_word.specs.Tally.{has_failed, Puts};
-ghost use Rattle.a429_check.specs.Output.{PutsText};
+ghost use Rattle.std.specs.Prelude.{◌≡◌, ◌↔◌, ◌++◌, codes, length, true, false, IsErr, IfOk, IfErr, OnOk};
+ghost use Rattle.std.specs.Fmt.{decimal};
+ghost use Rattle.a429_word.specs.Tally.{has_failed};
+ghost use Rattle.a429_word.specs.Sheet.{Says, Writes};
+ghost use Rattle.a429_check.specs.Output.{output, IsCutShort, PutsText};
 ghost use Rattle.a429_check.specs.Labels.{IsLabelsFault, TellsLabels, sdi_text, kind_text, address_text, label_line, label_lines};
 
-use crate::engines::output::put_decimal;
 use crate::engines::profile::profile_of;
 use crate::fault::RunFault;
-use a429_profile::{Kind, LabelEntry, Profile};
-use a429_word::{Device, Tally, octal};
+use a429_profile::{Flag, Kind, LabelEntry, Profile};
+use a429_word::{Device, Page, Sheet, Tally, octal};
 use std::alloc::Global;
 use std::io::Write;
 
@@ -24,95 +25,101 @@ pub fn run_labels<W: Write>(
     ensures lines { OnOk result (PutsText W.contents out.old out.new (TellsLabels profile.now)) }
     ensures err { IfErr result (IsLabelsFault profile.now (has_failed out.new)) }
     ensures device { OnOk result (has_failed out.new ≡ false) }
-    ensures silent { IfErr result (λ e. e ≢ RunFault.Device → out.new ≡ out.old) }
+    ensures cut { IfErr result (IsCutShort (output W.contents out.old out.new) ⊥ (TellsLabels profile.now)) }
 {
     let profile = profile_of(alloc, profile)?;
     write_labels(&profile, out)?;
     Ok(0)
 }
 
-// A line for each entry. A writer that has failed is told where there is none, too.
+// A line for each entry.
 fn write_labels<W: Write>(profile: &Profile, out: &mut Tally<W>) -> Result<(), Device>
-    ensures ok { OnOk result (Puts W.contents out.old out.new (label_lines profile.now.labels)) }
+    ensures written { Writes W.contents out.old out.new (label_lines profile.now.labels) }
     ensures device { IsErr result ↔ (has_failed out.new ≡ true) }
+{
+    let mut page = Page::without_room();
+    let mut sheet = Sheet::new(out, &mut page);
+    put_labels(&mut sheet, profile);
+    sheet.finish()
+}
+
+fn put_labels<W: Write>(sheet: &mut Sheet<'_, W>, profile: &Profile)
+    ensures { Says W.contents sheet.old sheet.new (label_lines profile.now.labels) }
 {
     for i in 0..profile.entry_count() {
         match profile.entries(i) {
-            Some(entry) => put_entry(out, entry)?,
+            Some(entry) => put_entry(sheet, entry),
             None => unreachable!(),
         }
     }
-    out.put(b"")
 }
 
-fn put_entry<W: Write>(out: &mut Tally<W>, entry: &LabelEntry) -> Result<(), Device>
-    ensures ok { OnOk result (Puts W.contents out.old out.new (label_line entry.now)) }
-    ensures device { IsErr result ↔ (has_failed out.new ≡ true) }
+fn put_entry<W: Write>(sheet: &mut Sheet<'_, W>, entry: &LabelEntry)
+    ensures { Says W.contents sheet.old sheet.new (label_line entry.now) }
 {
-    put_address(out, entry)?;
-    out.put(b" ")?;
-    put_kind(out, &entry.kind)?;
-    out.put(b" ")?;
-    out.put(entry.name.as_str().as_bytes())?;
-    out.put(b"\n")
+    put_address(sheet, entry);
+    sheet.put(b" ");
+    put_kind(sheet, &entry.kind);
+    sheet.put(b" ");
+    sheet.put(entry.name.as_str().as_bytes());
+    sheet.put(b"\n");
 }
 
 // The words that the entry is for.
-fn put_address<W: Write>(out: &mut Tally<W>, entry: &LabelEntry) -> Result<(), Device>
-    ensures ok { OnOk result (Puts W.contents out.old out.new (address_text entry.now)) }
-    ensures device { IsErr result ↔ (has_failed out.new ≡ true) }
+fn put_address<W: Write>(sheet: &mut Sheet<'_, W>, entry: &LabelEntry)
+    ensures { Says W.contents sheet.old sheet.new (address_text entry.now) }
 {
-    out.put(&octal(entry.label))?;
-    out.put(b" ")?;
-    put_sdi(out, entry.sdi)
+    sheet.put(&octal(entry.label));
+    sheet.put(b" ");
+    put_sdi(sheet, entry.sdi);
 }
 
-fn put_sdi<W: Write>(out: &mut Tally<W>, sdi: Option<u8>) -> Result<(), Device>
-    ensures ok { OnOk result (Puts W.contents out.old out.new (sdi_text sdi)) }
-    ensures device { IsErr result ↔ (has_failed out.new ≡ true) }
+fn put_sdi<W: Write>(sheet: &mut Sheet<'_, W>, sdi: Option<u8>)
+    ensures { Says W.contents sheet.old sheet.new (sdi_text sdi) }
 {
     match sdi {
-        None => out.put(b"*"),
-        Some(sdi) => put_decimal(out, u64::from(sdi)),
+        None => sheet.put(b"*"),
+        Some(sdi) => sheet.put_number(u64::from(sdi)),
     }
 }
 
-fn put_kind<W: Write>(out: &mut Tally<W>, kind: &Kind) -> Result<(), Device>
-    ensures ok { OnOk result (Puts W.contents out.old out.new (kind_text kind.now)) }
-    ensures device { IsErr result ↔ (has_failed out.new ≡ true) }
+fn put_kind<W: Write>(sheet: &mut Sheet<'_, W>, kind: &Kind)
+    ensures { Says W.contents sheet.old sheet.new (kind_text kind.now) }
 {
     match kind {
         Kind::Bnr {
             bits,
             range,
             decimals,
-        } => put_bnr(out, *bits, *range, *decimals),
-        Kind::Bcd { digits, decimals } => put_bcd(out, *digits, *decimals),
-        Kind::Discrete { flags } => {
-            out.put(b"discrete ")?;
-            put_decimal(out, flags.as_slice().len() as u64)
-        }
+        } => put_bnr(sheet, *bits, *range, *decimals),
+        Kind::Bcd { digits, decimals } => put_bcd(sheet, *digits, *decimals),
+        Kind::Discrete { flags } => put_discrete(sheet, flags.as_slice()),
     }
 }
 
-fn put_bnr<W: Write>(out: &mut Tally<W>, bits: u8, range: u32, decimals: u8) -> Result<(), Device>
-    ensures ok { OnOk result (Puts W.contents out.old out.new (kind_text (Kind.Bnr bits range decimals))) }
-    ensures device { IsErr result ↔ (has_failed out.new ≡ true) }
+fn put_bnr<W: Write>(sheet: &mut Sheet<'_, W>, bits: u8, range: u32, decimals: u8)
+    ensures { Says W.contents sheet.old sheet.new (kind_text (Kind.Bnr bits range decimals)) }
 {
-    out.put(b"bnr ")?;
-    put_decimal(out, u64::from(bits))?;
-    out.put(b" ")?;
-    put_decimal(out, u64::from(range))?;
-    out.put(b" ")?;
-    put_decimal(out, u64::from(decimals))
+    sheet.put(b"bnr ");
+    sheet.put_number(u64::from(bits));
+    sheet.put(b" ");
+    sheet.put_number(u64::from(range));
+    sheet.put(b" ");
+    sheet.put_number(u64::from(decimals));
 }
 
-fn put_bcd<W: Write>(out: &mut Tally<W>, digits: u8, decimals: u8) -> Result<(), Device>
-    ensures ok { OnOk result (Puts W.contents out.old out.new (kind_text (Kind.Bcd digits decimals))) }
-    ensures device { IsErr result ↔ (has_failed out.new ≡ true) }
+fn put_bcd<W: Write>(sheet: &mut Sheet<'_, W>, digits: u8, decimals: u8)
+    ensures { Says W.contents sheet.old sheet.new (kind_text (Kind.Bcd digits decimals)) }
 {
-    out.put(b"bcd ")?;
-    put_decimal(out, u64::from(digits))?;
-    out.put(b" ")?;
-    put_decimal(out, u64::from(decimals))
+    sheet.put(b"bcd ");
+    sheet.put_number(u64::from(digits));
+    sheet.put(b" ");
+    sheet.put_number(u64::from(decimals));
+}
+
+fn put_discrete<W: Write>(sheet: &mut Sheet<'_, W>, flags: &[Flag])
+    ensures { Says W.contents sheet.old sheet.new (codes "discrete " ++ decimal (length flags.now)) }
+{
+    sheet.put(b"discrete ");
+    sheet.put_number(flags.len() as u64);
 }

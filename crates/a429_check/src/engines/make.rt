@@ -1,13 +1,13 @@
 //! `a429 make PROFILE FILE..`: the recording of a transfer of files without loss.
 
-ghost use Rattle.std.specs.Prelude.{◌≡◌, ◌≢◌, ◌+◌, ◌*◌, ◌/◌, ℕ, List, map, flat_map, true, false, None, Some, IfOk, IfErr, OnOk, ◌≤◌, length};
+ghost use Rattle.std.specs.Prelude.{◌≡◌, ◌≢◌, ◌⊎◌, ◌+◌, ◌*◌, ◌/◌, ℕ, List, map, flat_map, true, false, None, Some, IfOk, IfErr, OnOk, OnErr, ◌≤◌, length};
 ghost use Rattle.a429_word.specs.Sheet.{Says};
-ghost use Rattle.a429_word.specs.Tally.{Puts, has_failed};
+ghost use Rattle.a429_word.specs.Tally.{Puts, PutsFront, has_failed};
 ghost use Rattle.a429_profile.specs.Profile.{Contents};
 ghost use Rattle.a429_link.specs.Clean.{cut_fault, first_refused};
 ghost use Rattle.a429_record.specs.Recording.{most_entries};
 ghost use Rattle.a429_record.specs.Writing.{line_text};
-ghost use Rattle.a429_check.specs.Output.{PutsText};
+ghost use Rattle.a429_check.specs.Output.{PutsText, PutsPrefixOf, SaysPrefix};
 ghost use Rattle.a429_check.specs.Make.{timed, words_made, recording_made, MakesWords, MakesRecording, IsMakeFault, IsFilesFault, IsPutFault};
 
 use crate::engines::profile::profile_of;
@@ -29,7 +29,7 @@ const MAX_WORDS: u8 = 255;
 /// Writes the recording of a transfer of these files without loss, an entry each thousandth of a second,
 /// and answers status 0. `profile` is the bytes of its text. Nothing is written where the profile has a
 /// fault, a file is refused, or there are more than 1,000,000 words. The words of one file are held at a
-/// time: after `Device` or `Memory` some of the recording may have been written.
+/// time: after `Device` or `Memory` a prefix of the recording may have been written.
 pub fn run_make<W: Write>(
     alloc: Global,
     profile: &[u8],
@@ -41,6 +41,7 @@ pub fn run_make<W: Write>(
     ensures err { IfErr result (IsMakeFault profile.now (map (λ f. f.items) files.now) (has_failed out.new)) }
     ensures device { OnOk result (has_failed out.new ≡ false) }
     ensures silent { IfErr result (λ e. e ≢ RunFault.Device → e ≢ RunFault.Memory → out.new ≡ out.old) }
+    ensures prefix { OnErr result ((out.new ≡ out.old) ⊎ PutsPrefixOf W.contents out.old out.new (MakesRecording profile.now (map (λ f. f.items) files.now))) }
 {
     let profile = profile_of(alloc, profile)?;
     check_files(files)?;
@@ -103,14 +104,15 @@ fn put_recording<W: Write>(
     requires cut { first_refused 255 0 (map (λ f. f.items) files.now) ≡ None }
     requires most { length (words_made profile.now (map (λ f. f.items) files.now)) ≤ most_entries }
     ensures ok { OnOk result (Puts W.contents out.old out.new (recording_made profile.now (map (λ f. f.items) files.now))) }
+    ensures prefix { PutsFront W.contents out.old out.new (recording_made profile.now (map (λ f. f.items) files.now)) }
     ensures err { IfErr result (IsPutFault (has_failed out.new)) }
     ensures device { OnOk result (has_failed out.new ≡ false) }
 {
     let mut page = Page::new(alloc)?;
     let mut sheet = Sheet::new(out, &mut page);
-    put_files(alloc, profile, files, &mut sheet)?;
+    let made = put_files(alloc, profile, files, &mut sheet);
     sheet.finish()?;
-    Ok(())
+    made
 }
 
 // The header, and the lines of all files.
@@ -123,6 +125,7 @@ fn put_files<W: Write>(
     requires cut { first_refused 255 0 (map (λ f. f.items) files.now) ≡ None }
     requires most { length (words_made profile.now (map (λ f. f.items) files.now)) ≤ most_entries }
     ensures ok { OnOk result (Says W.contents sheet.old sheet.new (recording_made profile.now (map (λ f. f.items) files.now))) }
+    ensures prefix { OnErr result (SaysPrefix W.contents sheet.old sheet.new (recording_made profile.now (map (λ f. f.items) files.now))) }
     ensures err { IfErr result (λ e. e ≡ RunFault.Memory) }
 {
     // (for the proof: the profile is sound)

@@ -1,8 +1,8 @@
 //! `a429 pack REC`: a recording, written in binary.
 
-ghost use Rattle.std.specs.Prelude.{◌≡◌, ◌≢◌, ◌⊎◌, true, false, IfOk, IfErr, OnOk};
+ghost use Rattle.std.specs.Prelude.{◌≡◌, true, false, IfOk, IfErr, OnOk};
 ghost use Rattle.a429_word.specs.Tally.{has_failed, unread};
-ghost use Rattle.a429_check.specs.Output.{PutsText};
+ghost use Rattle.a429_check.specs.Output.{output, IsCutShort, PutsText};
 ghost use Rattle.a429_check.specs.Pack.{Packs, IsPackFault};
 
 use crate::engines::recording::entries_of;
@@ -22,7 +22,7 @@ pub fn run_pack<R: Read, W: Write>(
     ensures ok { IfOk result (λ status. status ≡ 0) }
     ensures packed { OnOk result (PutsText W.contents out.old out.new (Packs (unread R.remaining rec.old))) }
     ensures err { IfErr result (IsPackFault (unread R.remaining rec.old) (has_failed rec.new) (has_failed out.new)) }
-    ensures silent { IfErr result (λ e. (e ≢ RunFault.Device) ⊎ (has_failed rec.new ≡ true) → out.new ≡ out.old) }
+    ensures cut { IfErr result (IsCutShort (output W.contents out.old out.new) (has_failed rec.new ≡ true) (Packs (unread R.remaining rec.old))) }
     ensures device { OnOk result ((has_failed rec.new ≡ false) × (has_failed out.new ≡ false)) }
 {
     let entries = entries_of(alloc, rec)?;

@@ -2,7 +2,7 @@
 
 /// Which command asks for a verdict.
 #[derive(Clone, Copy, Debug, PartialEq, Eq)]
-pub(crate) enum Rule {
+pub enum Rule {
     /// `check`: the fixed rule alone.
     Check,
     /// `decide`: that of `check`, and where it has a doubt a search.

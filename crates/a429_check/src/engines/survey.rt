@@ -1,11 +1,12 @@
 //! `a429 survey PROFILE REC`: what a recording has, counted.
 
 ghost use Rattle.std.specs.Prelude.{◌≡◌, ◌≢◌, ◌⊎◌, ◌↔◌, [], List, true, false, IsErr, IfOk, IfErr, OnOk};
-ghost use Rattle.a429_word.specs.Tally.{has_failed, Puts};
+ghost use Rattle.a429_word.specs.Tally.{has_failed};
+ghost use Rattle.a429_word.specs.Sheet.{Writes};
 ghost use Rattle.a429_profile.specs.declared.codes.Codes.{Codes};
 ghost use Rattle.a429_record.specs.declared.entry.Entry.{Entry};
 ghost use Rattle.a429_view.specs.Survey.{IsSurvey, survey_text};
-ghost use Rattle.a429_check.specs.Output.{PutsText};
+ghost use Rattle.a429_check.specs.Output.{PutsText, IsCutShort, output};
 ghost use Rattle.a429_check.specs.Streaming.{IsNextFault};
 ghost use Rattle.a429_check.specs.Survey.{Counts, IsSomeSurvey, Surveys, IsSurveyFault};
 
@@ -32,7 +33,7 @@ pub fn run_survey<R: Read, W: Write>(
     ensures ok { IfOk result (λ status. status ≡ 0) }
     ensures lines { OnOk result (PutsText W.contents out.old out.new (Surveys profile.now rec.old.to_come)) }
     ensures err { IfErr result (IsSurveyFault profile.now rec.old.to_come rec.new.failed (has_failed out.new)) }
-    ensures silent { IfErr result (λ e. (e ≢ RunFault.Device) ⊎ (rec.new.failed ≡ true) → out.new ≡ out.old) }
+    ensures cut { IfErr result (IsCutShort (output W.contents out.old out.new) (rec.new.failed ≡ true) (Surveys profile.now rec.old.to_come)) }
     ensures device { OnOk result ((rec.new.failed ≡ false) × (has_failed out.new ≡ false)) }
 {
     let profile = profile_of(alloc, profile)?;
@@ -63,7 +64,7 @@ fn survey_of<R: Read>(profile: &Profile, rec: &mut EntryReader<R>) -> Result<Sur
 fn put_lines<W: Write>(page: Page, out: &mut Tally<W>, survey: &Survey) -> Result<(), Device>
     requires page { page ≡ [] }
     requires counted { IsSomeSurvey survey.now }
-    ensures ok { (c : Codes) (es : List Entry) → IsSurvey c survey.now es → OnOk result (Puts W.contents out.old out.new (survey_text c es)) }
+    ensures written { (c : Codes) (es : List Entry) → IsSurvey c survey.now es → Writes W.contents out.old out.new (survey_text c es) }
     ensures device { IsErr result ↔ (has_failed out.new ≡ true) }
 {
     let mut page = page;

@@ -2,8 +2,8 @@
 
 ghost use Rattle.std.specs.Prelude.{◌≡◌, ◌≢◌, ◌⊎◌, ◌<◌, ◌↔◌, ◌++◌, ℕ, List, length, true, false, IsErr, IfOk, IfErr, OnOk, OnErr};
 ghost use Rattle.a429_word.specs.Tally.{has_failed, unread, Puts, PutsFront};
-ghost use Rattle.a429_check.specs.Output.{UsedWork};
-ghost use Rattle.a429_check.specs.Upgrade.{OfUnread, PutsUpgrade, PutsUpgradeFront, TakesVersion, IsUpgradeFault, is_version_line, version_two_line};
+ghost use Rattle.a429_check.specs.Output.{output, UsedWork};
+ghost use Rattle.a429_check.specs.Upgrade.{OfUnread, PutsUpgrade, PutsUpgradeFront, PutsUpgradeText, TakesVersion, IsUpgradeFault, is_version_line, version_two_line};
 
 use crate::fault::RunFault;
 use a429_word::{Device, Failing, Tally};
@@ -12,22 +12,23 @@ use std::io::{Read, Write};
 // How many bytes are copied at a time.
 const ROOM: usize = 4096;
 
-/// Writes a certificate to `new_cert` as one of version 2, tells it on `out`, and answers status 0: its first line
+/// Writes a certificate to `new_cert` as one of version 2, says so on `out`, and answers status 0: its first line
 /// is that of version 2, and all other bytes are as they were. Where its first line is that of neither version, or
-/// has no line feed, `out` is told so, nothing is written to `new_cert`, and the status is 2. Nothing else of the
-/// certificate is judged, and no memory is taken. The one fault is `Device`, where a front of the new certificate
+/// has no line feed, `out` says so, nothing is written to `new_cert`, and the status is 2. Nothing else of the
+/// certificate is judged, and no memory is taken. The one fault is `Device`, where a prefix of the new certificate
 /// may have been written.
 pub fn run_upgrade<R: Read, C: Write, W: Write>(
     cert: &mut Tally<R>,
     new_cert: &mut Tally<C>,
     out: &mut Tally<W>,
 ) -> Result<u8, RunFault>
-    ensures upgraded { IfOk result (PutsUpgrade C.contents new_cert.old new_cert.new W.contents out.old out.new R.remaining cert.old) }
+    ensures upgraded { IfOk result (PutsUpgrade (output C.contents new_cert.old new_cert.new) (output W.contents out.old out.new) R.remaining cert.old) }
     ensures none { IfOk result (λ status. status ≢ 0 → new_cert.new ≡ new_cert.old) }
     ensures device { IfOk result (UsedWork (has_failed cert.new) (has_failed new_cert.new) (has_failed out.new)) }
     ensures err { IfErr result (IsUpgradeFault (has_failed cert.new) (has_failed new_cert.new) (has_failed out.new)) }
     ensures last { OnErr result ((has_failed cert.new ≡ true) ⊎ (has_failed out.new ≡ false) → out.new ≡ out.old) }
     ensures front { OnErr result (OfUnread R.remaining cert.old (PutsUpgradeFront C.contents new_cert.old new_cert.new)) }
+    ensures prefix { OnErr result (OfUnread R.remaining cert.old (PutsUpgradeText W.contents out.old out.new)) }
 {
     let found = take_version(cert)?;
     if found {

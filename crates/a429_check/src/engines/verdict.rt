@@ -1,114 +1,80 @@
-//! Holds a certificate against a recording, both read as they come, and tells the verdict, as each command
-//! that takes one does.
+//! Judges a certificate against a recording, both read streaming, and writes the verdict, as each command that
+//! takes a certificate does.
 
-ghost use Rattle.std.specs.Prelude.{◌≡◌, ◌↔◌, ◌≢◌, true, false, Err, codes, ◌++◌, IsErr, IfOk, IfErr, IsErrOf, OnOk};
+ghost use Rattle.std.specs.Prelude.{◌≡◌, ◌↔◌, ◌≢◌, true, false, codes, ◌++◌, IsErr, IfOk, IfErr, OnOk, Err};
 ghost use Rattle.std.specs.List.{flat_map};
 ghost use Rattle.std.specs.Fmt.{decimal};
-ghost use Rattle.a429_word.specs.Tally.{has_failed, unread, Puts};
+ghost use Rattle.a429_word.specs.Tally.{has_failed};
+ghost use Rattle.a429_word.specs.Sheet.{Says, Writes};
+ghost use Rattle.a429_profile.specs.declared.fault.ProfileFault.{ProfileFault};
 ghost use Rattle.a429_cert.specs.Stream.{sizes};
-ghost use Rattle.a429_cert.specs.StreamExplained.{HearsBefore, HearsRun, SaysYes};
 ghost use Rattle.a429_cert.specs.BreakOff.{readers, shelved};
-ghost use Rattle.a429_check.specs.Extract.{Leaves};
-ghost use Rattle.a429_check.specs.Verdict.{as_answer, count_line, file_line, line_of_file, yes_text, no_text, of_stream, AllWork, AnyFailed, ByProfile, HasFailed, IsNoVerdict, IsNoVerdictBy, IsTold, SaysNo, IsSilent, PutsAnswer};
-ghost use Rattle.a429_check.specs.Output.{PutsText};
+ghost use Rattle.a429_check.specs.Extract.{progress, Leaves};
+ghost use Rattle.a429_check.specs.Verdict.{count_line, file_line, line_of_file, yes_text, no_text, text_of_answer, status_of_answer, of_stream, input, listening, AllWork, AnyFailed, HearsJudged, IsJudged, IsVerifyFault};
 
-use crate::engines::output::put_decimal;
+use crate::engines::profile::profile_of;
 use crate::fault::RunFault;
-use a429_cert::{Bench, CertFault, Listener, NoListener, Shelf, StreamFault, replay_stream};
+use a429_cert::{CertFault, Listener, Shelf, StreamFault, replay_stream};
 use a429_link::FileBytes;
-use a429_profile::ProfileFault;
+use a429_profile::Profile;
 use a429_record::{EntryReader, ReadFault};
-use a429_word::{Device, Failing, Tally};
+use a429_word::{Device, Failing, Page, Sheet, Tally};
+use std::alloc::Global;
 use std::io::{Read, Write};
 
 /// The numbers and lengths of the files that a certificate puts on a shelf, or why it is refused.
 pub(crate) type Answer = Result<Vec<(u8, u32)>, CertFault>;
 
-/// Puts the files that a certificate gives on a shelf, writes the verdict, and answers its status: 0 for a
-/// yes, 2 for a no.
-pub(crate) fn judge<R: Read, C: Read, S: Shelf, W: Write>(
-    bench: &Bench<'_>,
-    rec: &mut EntryReader<R>,
-    cert: &mut Tally<C>,
-    shelf: &mut S,
-    out: &mut Tally<W>,
-) -> Result<u8, RunFault>
-    ensures verdict { IfOk result (λ status. ByProfile bench.now (λ text.
-        PutsAnswer W.contents out.old out.new S.files shelf.old shelf.new text C.remaining cert.old rec.old status)) }
-    ensures device { OnOk result (AllWork rec.new.failed (has_failed cert.new) (S.failed shelf.new) (has_failed out.new)) }
-    ensures err { IfErr result (λ e. ByProfile bench.now (λ text.
-        IsNoVerdict text (unread C.remaining cert.old) rec.old.to_come (S.files shelf.old) (S.files shelf.new) e)) }
-    ensures files { IfErr result (λ e. ByProfile bench.now (λ text. Leaves text (readers C.remaining cert.old cert.new rec.old rec.new)
-        (shelved S.files S.failed shelf.old shelf.new) false
-        (HasFailed rec.new.failed (has_failed cert.new) (S.failed shelf.new)) e)) }
-    ensures failed { IsErrOf result RunFault.Device → AnyFailed rec.new.failed (has_failed cert.new) (S.failed shelf.new) (has_failed out.new) }
-    ensures silent { IfErr result (IsSilent (HasFailed rec.new.failed (has_failed cert.new) (S.failed shelf.new)) out.old out.new) }
-{
-    let answer = answer_of(bench, rec, cert, shelf, &mut NoListener)?;
-    put_answer(out, &answer)
+/// A certificate, judged under a profile.
+#[derive(Drop)]
+pub(crate) struct Judged {
+    pub(crate) profile: Profile,
+    pub(crate) answer: Answer,
 }
 
-// Writes what is answered to a certificate, and tells its status.
-fn put_answer<W: Write>(out: &mut Tally<W>, answer: &Answer) -> Result<u8, RunFault>
-    requires { answer.now ≢ Err CertFault.OutOfMemory }
-    ensures told { IfOk result (λ status. PutsText W.contents out.old out.new (IsTold (as_answer answer.now) status)) }
-    ensures works { OnOk result (has_failed out.new ≡ false) }
-    ensures err { IfErr result (λ e. (e ≡ RunFault.Device) × (has_failed out.new ≡ true)) }
-{
-    match answer {
-        Ok(files) => {
-            put_yes(out, files.as_slice())?;
-            Ok(0)
-        }
-        Err(fault) => {
-            put_no(out, *fault)?;
-            Ok(2)
-        }
-    }
-}
-
-/// What is answered to a certificate, where no reader, no shelf and no listener has failed. The listener is told
-/// of the certificate's steps, those before its fault where it has one.
-pub(crate) fn answer_of<R: Read, C: Read, S: Shelf, T: Listener>(
-    bench: &Bench<'_>,
+/// Judges a certificate against a recording, under the profile whose text the bytes are. Files are put on the shelf,
+/// and the listener hears the steps, as `replay_stream` says. The fault is `Device` where a reader, the shelf or the
+/// listener has failed.
+pub(crate) fn judge<R: Read, C: Read, S: Shelf, T: Listener>(
+    alloc: Global,
+    profile: &[u8],
     rec: &mut EntryReader<R>,
     cert: &mut Tally<C>,
     shelf: &mut S,
     listener: &mut T,
-) -> Result<Answer, RunFault>
-    ensures yes { IfOk result (λ a. IfOk a (SaysYes bench.now (unread C.remaining cert.old) rec.old.to_come
-        (S.files shelf.old) (S.files shelf.new))) }
-    ensures no { IfOk result (λ a. IfErr a (SaysNo bench.now (unread C.remaining cert.old) rec.old.to_come
-        (S.files shelf.old) (S.files shelf.new))) }
-    ensures heard { IfOk result (λ a. OnOk a (HearsRun T.hears bench.now (unread C.remaining cert.old) rec.old.to_come
-        listener.old listener.new)) }
-    ensures told { IfOk result (λ a. IfErr a (λ f. HearsBefore T.hears bench.now (unread C.remaining cert.old) rec.old.to_come
-        listener.old listener.new (StreamFault.Cert f))) }
+) -> Result<Judged, RunFault>
+    ensures judged { IfOk result (IsJudged (input profile.now C.remaining cert.old rec.old) (shelved S.files S.failed shelf.old shelf.new)) }
+    ensures heard { IfOk result (HearsJudged T.hears (input profile.now C.remaining cert.old rec.old) (listening listener.old listener.new)) }
     ensures works { OnOk result (AllWork rec.new.failed (has_failed cert.new) (S.failed shelf.new) (T.failed listener.new)) }
-    ensures err { IfErr result (IsNoVerdictBy bench.now (unread C.remaining cert.old) rec.old.to_come (S.files shelf.old) (S.files shelf.new)
+    ensures err { IfErr result (IsVerifyFault (input profile.now C.remaining cert.old rec.old) (shelved S.files S.failed shelf.old shelf.new)
         (AnyFailed rec.new.failed (has_failed cert.new) (S.failed shelf.new) (T.failed listener.new))) }
-    ensures files { IfErr result (λ e. ByProfile bench.now (λ text. Leaves text (readers C.remaining cert.old cert.new rec.old rec.new)
-        (shelved S.files S.failed shelf.old shelf.new) (T.failed listener.new)
-        (AnyFailed rec.new.failed (has_failed cert.new) (S.failed shelf.new) (T.failed listener.new)) e)) }
-    ensures failed { IsErrOf result RunFault.Device →
-        AnyFailed rec.new.failed (has_failed cert.new) (S.failed shelf.new) (T.failed listener.new) }
-    ensures other { (f : ProfileFault) → result ≢ Err (RunFault.Profile f) }
+    ensures files { IfErr result (Leaves profile.now
+        (progress (readers C.remaining cert.old cert.new rec.old rec.new) (shelved S.files S.failed shelf.old shelf.new) (T.failed listener.new))
+        (AnyFailed rec.new.failed (has_failed cert.new) (S.failed shelf.new) (T.failed listener.new))) }
+    ensures before { (f : ProfileFault) → result ≡ Err (RunFault.Profile f) → listener.new ≡ listener.old }
 {
-    let answer = replay_stream(bench, rec, cert, shelf, listener);
+    let profile = profile_of(alloc, profile)?;
+    let answer = replay_stream(alloc, &profile, rec, cert, shelf, listener);
     if any_failed(rec, cert, shelf, listener) {
         return Err(RunFault::Device);
     }
     match answer {
-        Ok(files) => Ok(Ok(files)),
+        Ok(files) => Ok(Judged {
+            profile,
+            answer: Ok(files),
+        }),
         Err(fault) => match of_certificate(fault) {
-            Ok(fault) => Ok(Err(fault)),
+            Ok(fault) => Ok(Judged {
+                profile,
+                answer: Err(fault),
+            }),
             Err(fault) => Err(fault),
         },
     }
 }
 
-/// Whether a reader, the shelf or the listener has failed.
-pub(crate) fn any_failed<R: Read, C: Read, S: Shelf, T: Listener>(
+// Whether a reader, the shelf or the listener has failed.
+fn any_failed<R: Read, C: Read, S: Shelf, T: Listener>(
     rec: &EntryReader<R>,
     cert: &Tally<C>,
     shelf: &S,
@@ -120,8 +86,8 @@ pub(crate) fn any_failed<R: Read, C: Read, S: Shelf, T: Listener>(
     rec.failed() || cert.failed() || shelf.failed() || listener.failed()
 }
 
-/// The fault, where it is one of the certificate.
-pub(crate) fn of_certificate(fault: StreamFault) -> Result<CertFault, RunFault>
+// The fault, where it is one of the certificate.
+fn of_certificate(fault: StreamFault) -> Result<CertFault, RunFault>
     ensures ok { IfOk result (λ f. (fault ≡ StreamFault.Cert f) × (f ≢ CertFault.OutOfMemory)) }
     ensures err { IfErr result (λ e. e ≡ of_stream fault) }
 {
@@ -146,107 +112,121 @@ fn of_recording(fault: ReadFault) -> RunFault
     }
 }
 
-// Writes that the certificate is accepted, with the number and the length of each of its files.
-fn put_yes<W: Write>(out: &mut Tally<W>, files: &[(u8, u32)]) -> Result<(), Device>
-    ensures ok { OnOk result (Puts W.contents out.old out.new (yes_text files.now)) }
+/// Writes the verdict, a yes with its files or a no, and answers its status: 0 for a yes, 2 for a no.
+pub(crate) fn write_answer<W: Write>(out: &mut Tally<W>, answer: &Answer) -> Result<u8, Device>
+    ensures status { IfOk result (λ status. status ≡ status_of_answer answer.now) }
+    ensures written { Writes W.contents out.old out.new (text_of_answer answer.now) }
     ensures device { IsErr result ↔ (has_failed out.new ≡ true) }
 {
-    put_count(out, files.len())?;
-    put_sizes(out, files)
+    let mut page = Page::without_room();
+    let mut sheet = Sheet::new(out, &mut page);
+    put_answer(&mut sheet, answer);
+    sheet.finish()?;
+    Ok(status_of(answer))
 }
 
-/// Writes that a recording is explained, with its files.
-pub(crate) fn put_explained<W: Write>(out: &mut Tally<W>, files: &[FileBytes]) -> Result<(), Device>
-    ensures ok { OnOk result (Puts W.contents out.old out.new (yes_text (sizes files.now))) }
-    ensures device { IsErr result ↔ (has_failed out.new ≡ true) }
+fn status_of(answer: &Answer) -> u8
+    ensures { result ≡ status_of_answer answer.now }
 {
-    put_count(out, files.len())?;
-    put_files(out, files)
+    match answer {
+        Ok(_) => 0,
+        Err(_) => 2,
+    }
 }
 
-fn put_count<W: Write>(out: &mut Tally<W>, count: usize) -> Result<(), Device>
-    ensures ok { OnOk result (Puts W.contents out.old out.new (count_line count)) }
-    ensures device { IsErr result ↔ (has_failed out.new ≡ true) }
+fn put_answer<W: Write>(sheet: &mut Sheet<'_, W>, answer: &Answer)
+    ensures { Says W.contents sheet.old sheet.new (text_of_answer answer.now) }
 {
-    out.put(b"YES files ")?;
-    put_decimal(out, count as u64)?;
-    out.put(b"\n")
+    match answer {
+        Ok(files) => put_yes(sheet, files.as_slice()),
+        Err(fault) => put_no(sheet, *fault),
+    }
 }
 
-fn put_sizes<W: Write>(out: &mut Tally<W>, files: &[(u8, u32)]) -> Result<(), Device>
-    ensures ok { OnOk result (Puts W.contents out.old out.new (flat_map file_line files.now)) }
-    ensures device { IsErr result → has_failed out.new ≡ true }
-    ensures goes_on { OnOk result (has_failed out.old ≡ false → has_failed out.new ≡ false) }
+// That the certificate is accepted, with the number and the length of each of its files.
+fn put_yes<W: Write>(sheet: &mut Sheet<'_, W>, files: &[(u8, u32)])
+    ensures { Says W.contents sheet.old sheet.new (yes_text files.now) }
+{
+    put_count(sheet, files.len());
+    put_sizes(sheet, files);
+}
+
+/// Puts that a recording is explained, with its files.
+pub(crate) fn put_explained<W: Write>(sheet: &mut Sheet<'_, W>, files: &[FileBytes])
+    ensures { Says W.contents sheet.old sheet.new (yes_text (sizes files.now)) }
+{
+    put_count(sheet, files.len());
+    put_files(sheet, files);
+}
+
+fn put_count<W: Write>(sheet: &mut Sheet<'_, W>, count: usize)
+    ensures { Says W.contents sheet.old sheet.new (count_line count) }
+{
+    put_reason(sheet, b"YES files ", count);
+}
+
+fn put_sizes<W: Write>(sheet: &mut Sheet<'_, W>, files: &[(u8, u32)])
+    ensures { Says W.contents sheet.old sheet.new (flat_map file_line files.now) }
 {
     for file in files {
-        put_size(out, file)?;
+        put_size(sheet, file);
     }
-    Ok(())
 }
 
-fn put_size<W: Write>(out: &mut Tally<W>, file: &(u8, u32)) -> Result<(), Device>
-    ensures ok { OnOk result (Puts W.contents out.old out.new (file_line file.now)) }
-    ensures device { IsErr result ↔ (has_failed out.new ≡ true) }
+fn put_size<W: Write>(sheet: &mut Sheet<'_, W>, file: &(u8, u32))
+    ensures { Says W.contents sheet.old sheet.new (file_line file.now) }
 {
     let (number, len) = *file;
-    put_file(out, number, u64::from(len))
+    put_file(sheet, number, u64::from(len));
 }
 
-fn put_files<W: Write>(out: &mut Tally<W>, files: &[FileBytes]) -> Result<(), Device>
-    ensures ok { OnOk result (Puts W.contents out.old out.new (flat_map line_of_file files.now)) }
-    ensures device { IsErr result → has_failed out.new ≡ true }
-    ensures goes_on { OnOk result (has_failed out.old ≡ false → has_failed out.new ≡ false) }
+fn put_files<W: Write>(sheet: &mut Sheet<'_, W>, files: &[FileBytes])
+    ensures { Says W.contents sheet.old sheet.new (flat_map line_of_file files.now) }
 {
     for file in files {
-        put_file(out, file.number, file.bytes.as_slice().len() as u64)?;
+        put_file(sheet, file.number, file.bytes.as_slice().len() as u64);
     }
-    Ok(())
 }
 
-fn put_file<W: Write>(out: &mut Tally<W>, number: u8, len: u64) -> Result<(), Device>
-    ensures ok { OnOk result (Puts W.contents out.old out.new (file_line (number, len))) }
-    ensures device { IsErr result ↔ (has_failed out.new ≡ true) }
+fn put_file<W: Write>(sheet: &mut Sheet<'_, W>, number: u8, len: u64)
+    ensures { Says W.contents sheet.old sheet.new (file_line (number, len)) }
 {
-    out.put(b"file ")?;
-    put_decimal(out, u64::from(number))?;
-    out.put(b" ")?;
-    put_decimal(out, len)?;
-    out.put(b"\n")
+    sheet.put(b"file ");
+    sheet.put_number(u64::from(number));
+    sheet.put(b" ");
+    sheet.put_number(len);
+    sheet.put(b"\n");
 }
 
-/// Writes why the certificate is refused.
-pub(crate) fn put_no<W: Write>(out: &mut Tally<W>, fault: CertFault) -> Result<(), Device>
-    requires { fault ≢ CertFault.OutOfMemory }
-    ensures ok { OnOk result (Puts W.contents out.old out.new (no_text fault)) }
-    ensures device { IsErr result ↔ (has_failed out.new ≡ true) }
+// Why the certificate is refused.
+fn put_no<W: Write>(sheet: &mut Sheet<'_, W>, fault: CertFault)
+    ensures { Says W.contents sheet.old sheet.new (no_text fault) }
 {
     match fault {
-        CertFault::Version => out.put(b"NO version\n"),
-        CertFault::Line(n) => put_reason(out, b"NO line ", n),
-        CertFault::NotAllowed(n) => put_reason(out, b"NO not allowed ", n),
-        CertFault::StateDiffers(n) => put_reason(out, b"NO state differs ", n),
-        CertFault::WordDiffers { line, entry } => put_word_differs(out, line, entry),
-        CertFault::Unfinished(i) => put_reason(out, b"NO unfinished ", i),
-        CertFault::OutOfMemory => unreachable!(),
+        CertFault::Version => sheet.put(b"NO version\n"),
+        CertFault::Line(n) => put_reason(sheet, b"NO line ", n),
+        CertFault::NotAllowed(n) => put_reason(sheet, b"NO not allowed ", n),
+        CertFault::StateDiffers(n) => put_reason(sheet, b"NO state differs ", n),
+        CertFault::WordDiffers { line, entry } => put_word_differs(sheet, line, entry),
+        CertFault::Unfinished(i) => put_reason(sheet, b"NO unfinished ", i),
+        CertFault::OutOfMemory => {}
     }
 }
 
-fn put_word_differs<W: Write>(out: &mut Tally<W>, line: usize, entry: usize) -> Result<(), Device>
-    ensures ok { OnOk result (Puts W.contents out.old out.new (no_text (CertFault.WordDiffers line entry))) }
-    ensures device { IsErr result ↔ (has_failed out.new ≡ true) }
+fn put_word_differs<W: Write>(sheet: &mut Sheet<'_, W>, line: usize, entry: usize)
+    ensures { Says W.contents sheet.old sheet.new (no_text (CertFault.WordDiffers line entry)) }
 {
-    out.put(b"NO word differs ")?;
-    put_decimal(out, line as u64)?;
-    out.put(b" ")?;
-    put_decimal(out, entry as u64)?;
-    out.put(b"\n")
+    sheet.put(b"NO word differs ");
+    sheet.put_number(line as u64);
+    sheet.put(b" ");
+    sheet.put_number(entry as u64);
+    sheet.put(b"\n");
 }
 
-fn put_reason<W: Write>(out: &mut Tally<W>, reason: &[u8], number: usize) -> Result<(), Device>
-    ensures ok { OnOk result (Puts W.contents out.old out.new (reason.now ++ decimal number ++ codes "\n")) }
-    ensures device { IsErr result ↔ (has_failed out.new ≡ true) }
+fn put_reason<W: Write>(sheet: &mut Sheet<'_, W>, reason: &[u8], number: usize)
+    ensures { Says W.contents sheet.old sheet.new (reason.now ++ decimal number ++ codes "\n") }
 {
-    out.put(reason)?;
-    put_decimal(out, number as u64)?;
-    out.put(b"\n")
+    sheet.put(reason);
+    sheet.put_number(number as u64);
+    sheet.put(b"\n");
 }

@@ -1,22 +1,22 @@
 //! `a429 verify PROFILE REC CERT`: whether a certificate explains a recording.
 
-ghost use Rattle.std.specs.Prelude.{None, false, IfOk, IfErr, IsErrOf, OnOk};
-ghost use Rattle.a429_word.specs.Tally.{has_failed, unread};
-ghost use Rattle.a429_check.specs.Verdict.{AllWork, AnyFailed, HasFailed, IsNoVerdict, IsSilent, PutsVerdict};
+ghost use Rattle.std.specs.Prelude.{false, IfOk, IfErr, OnOk};
+ghost use Rattle.a429_word.specs.Tally.{has_failed};
+ghost use Rattle.a429_check.specs.Output.{output, IsCutShort, PutsText};
+ghost use Rattle.a429_check.specs.Verdict.{input, no_shelf, AllWork, AnyFailed, HasFailed, IsSomeVerdict, IsVerdict, IsVerifyFault};
 
-use crate::engines::profile::profile_of;
-use crate::engines::verdict::judge;
+use crate::engines::extract::run_extract;
 use crate::fault::RunFault;
-use a429_cert::{Bench, NoShelf};
+use a429_cert::NoShelf;
 use a429_record::EntryReader;
 use a429_word::Tally;
 use std::alloc::Global;
 use std::io::{Read, Write};
 
-/// Writes the verdict of a certificate, and answers its status: 0 where it explains the recording, so
-/// that each run that gives the recorded words delivers the files that are told, and 2 where it is
-/// refused. `profile` is the bytes of its text. Recording and certificate are read as they come, so that
-/// the fault that is met first is told.
+/// Writes the verdict on a certificate, and answers its status: 0 where it explains the recording, so
+/// that each run that records the same words delivers the files that are listed, and 2 where it is
+/// refused. `profile` is the bytes of its text. Recording and certificate are read streaming, so that
+/// the fault that is met first is reported.
 pub fn run_verify<R: Read, C: Read, W: Write>(
     alloc: Global,
     profile: &[u8],
@@ -24,12 +24,13 @@ pub fn run_verify<R: Read, C: Read, W: Write>(
     cert: &mut Tally<C>,
     out: &mut Tally<W>,
 ) -> Result<u8, RunFault>
-    ensures verdict { IfOk result (PutsVerdict W.contents out.old out.new profile.now C.remaining cert.old rec.old) }
+    ensures verdict { IfOk result (λ status. PutsText W.contents out.old out.new
+        (IsVerdict (input profile.now C.remaining cert.old rec.old) no_shelf status)) }
     ensures device { OnOk result (AllWork rec.new.failed (has_failed cert.new) false (has_failed out.new)) }
-    ensures err { IfErr result (IsNoVerdict profile.now (unread C.remaining cert.old) rec.old.to_come None None) }
-    ensures failed { IsErrOf result RunFault.Device → AnyFailed rec.new.failed (has_failed cert.new) false (has_failed out.new) }
-    ensures silent { IfErr result (IsSilent (HasFailed rec.new.failed (has_failed cert.new) false) out.old out.new) }
+    ensures err { IfErr result (IsVerifyFault (input profile.now C.remaining cert.old rec.old) no_shelf
+        (AnyFailed rec.new.failed (has_failed cert.new) false (has_failed out.new))) }
+    ensures cut { IfErr result (IsCutShort (output W.contents out.old out.new) (HasFailed rec.new.failed (has_failed cert.new) false)
+        (IsSomeVerdict (input profile.now C.remaining cert.old rec.old) no_shelf)) }
 {
-    let profile = profile_of(alloc, profile)?;
-    judge(&Bench::new(alloc, &profile), rec, cert, &mut NoShelf, out)
+    run_extract(alloc, profile, rec, cert, &mut NoShelf, out)
 }

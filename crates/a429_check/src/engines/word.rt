@@ -1,13 +1,14 @@
 //! `a429 word HEX`: what a word holds, a line for each part.
 
-ghost use Rattle.std.specs.Prelude.{◌≡◌, ◌↔◌, true, false, IsOk, IsErr, IsErrOf, IfOk, OnOk};
+ghost use Rattle.std.specs.Prelude.{◌≡◌, ◌↔◌, true, false, IsOk, IsErr, IsErrOf, IfOk};
 ghost use Rattle.std.specs.Str.Parse.{digits_value};
-ghost use Rattle.a429_word.specs.Tally.{has_failed, Puts};
+ghost use Rattle.a429_word.specs.Tally.{has_failed, Puts, PutsFront};
+ghost use Rattle.a429_word.specs.Sheet.{Says, Writes};
 ghost use Rattle.a429_word.specs.Digits.{IsHexWord};
 ghost use Rattle.a429_check.specs.Word.{line, bits_text, parity_text, word_lines};
 
 use crate::fault::RunFault;
-use a429_word::{Device, Tally, Word, octal};
+use a429_word::{Device, Page, Sheet, Tally, Word, octal};
 use itoa::Buffer;
 use std::io::Write;
 
@@ -20,6 +21,7 @@ pub fn run_word<W: Write>(text: &str, out: &mut Tally<W>) -> Result<u8, RunFault
     ensures bad { IsErrOf result RunFault.BadWord ↔ (¬ IsHexWord text.now) }
     ensures silent { (¬ IsHexWord text.now) → out.new ≡ out.old }
     ensures device { IsErrOf result RunFault.Device ↔ (IsHexWord text.now × (has_failed out.new ≡ true)) }
+    ensures prefix { PutsFront W.contents out.old out.new (word_lines (digits_value 16 text.now)) }
 {
     let Some(word) = Word::parse_hex(text.as_bytes()) else {
         return Err(RunFault::BadWord);
@@ -30,17 +32,26 @@ pub fn run_word<W: Write>(text: &str, out: &mut Tally<W>) -> Result<u8, RunFault
 
 // The seven lines of a word.
 fn write_word<W: Write>(word: Word, out: &mut Tally<W>) -> Result<(), Device>
-    ensures ok { OnOk result (Puts W.contents out.old out.new (word_lines word)) }
+    ensures written { Writes W.contents out.old out.new (word_lines word) }
     ensures device { IsErr result ↔ (has_failed out.new ≡ true) }
 {
+    let mut page = Page::without_room();
+    let mut sheet = Sheet::new(out, &mut page);
+    put_word(&mut sheet, word);
+    sheet.finish()
+}
+
+fn put_word<W: Write>(sheet: &mut Sheet<'_, W>, word: Word)
+    ensures { Says W.contents sheet.old sheet.new (word_lines word) }
+{
     let mut bnr = Buffer::new();
-    put_line(out, "word", &word.hex())?;
-    put_line(out, "bits", &bits(word))?;
-    put_line(out, "label", &octal(word.label()))?;
-    put_line(out, "sdi", &[b'0' + word.sdi()])?;
-    put_line(out, "ssm", &[b'0' + word.ssm()])?;
-    put_line(out, "parity", parity(word).as_bytes())?;
-    put_line(out, "bnr", bnr.format(word.bnr_raw(18)).as_bytes())
+    put_line(sheet, "word", &word.hex());
+    put_line(sheet, "bits", &bits(word));
+    put_line(sheet, "label", &octal(word.label()));
+    put_line(sheet, "sdi", &[b'0' + word.sdi()]);
+    put_line(sheet, "ssm", &[b'0' + word.ssm()]);
+    put_line(sheet, "parity", parity(word).as_bytes());
+    put_line(sheet, "bnr", bnr.format(word.bnr_raw(18)).as_bytes());
 }
 
 // The bits from 32 down to 1, a digit each.
@@ -62,12 +73,11 @@ fn parity(word: Word) -> &'static str
 }
 
 // A line: a name, a space and a value.
-fn put_line<W: Write>(out: &mut Tally<W>, name: &str, value: &[u8]) -> Result<(), Device>
-    ensures ok { OnOk result (Puts W.contents out.old out.new (line name.now value.now)) }
-    ensures device { IsErr result ↔ (has_failed out.new ≡ true) }
+fn put_line<W: Write>(sheet: &mut Sheet<'_, W>, name: &str, value: &[u8])
+    ensures { Says W.contents sheet.old sheet.new (line name.now value.now) }
 {
-    out.put(name.as_bytes())?;
-    out.put(b" ")?;
-    out.put(value)?;
-    out.put(b"\n")
+    sheet.put(name.as_bytes());
+    sheet.put(b" ");
+    sheet.put(value);
+    sheet.put(b"\n");
 }

@@ -1,7 +1,7 @@
 //! Pictures of the transfer of one byte, under the sample profile.
 
 use crate::calls::told;
-use a429_check::{Canvas, RunFault, Span, run_picture};
+use a429_check::{RunFault, Span, run_picture};
 use a429_record::EntryReader;
 use a429_sample::{CERTIFICATE, PROFILE, RECORDING};
 use a429_word::Tally;
@@ -13,10 +13,11 @@ fn picture<R: io::Read + Drop, C: io::Read, W: io::Write>(
     alloc: Global,
     rec: Tally<R>,
     cert: &mut Tally<C>,
-    canvas: &mut Canvas<W>,
+    span: Span,
+    out: &mut Tally<W>,
 ) -> Result<u8, RunFault> {
     let mut rec = EntryReader::new(alloc, rec);
-    run_picture(alloc, PROFILE.as_bytes(), &mut rec, cert, canvas)
+    run_picture(alloc, PROFILE.as_bytes(), &mut rec, cert, span, out)
 }
 
 // What is told of the picture of the entries from one to another.
@@ -24,11 +25,8 @@ fn picture_told(alloc: Global, recording: &str, from: usize, to: usize) -> Optio
     let mut written = Vec::new(alloc);
     let rec = Tally::new(recording.as_bytes(), 1000);
     let mut cert = Tally::new(CERTIFICATE.as_bytes(), 1000);
-    let mut canvas = Canvas {
-        span: Span { from, to },
-        out: Tally::new(&mut written, 0),
-    };
-    let answer = picture(alloc, rec, &mut cert, &mut canvas);
+    let mut out = Tally::new(&mut written, 0);
+    let answer = picture(alloc, rec, &mut cert, Span { from, to }, &mut out);
     told(alloc, answer, written.as_slice())
 }
 

@@ -8,12 +8,12 @@ ghost use Rattle.a429_view.specs.UnitSteps.{line_before, PutsAll};
 
 use crate::units::row::UnitRow;
 use crate::units::text::put_line_before;
-use a429_cert::{Act, ListenFault, Listener};
+use a429_cert::{Act, Listener};
 use a429_ldu::Ldu;
 use a429_link::UnitNumber;
 use a429_profile::Profile;
 use a429_record::Entry;
-use a429_word::{Device, Failing, Page, Sheet, Tally};
+use a429_word::{Device, Failing, Page, Sheet, Tally, Trouble};
 use std::alloc::{AllocError, Global};
 use std::io::Write;
 
@@ -93,9 +93,9 @@ impl<W: Write> Listener for UnitRows<W> {
         profile: &Profile,
         number: UnitNumber,
         unit: &Ldu,
-    ) -> Result<(), ListenFault> {
+    ) -> Result<(), Trouble> {
         if self.put_last().is_err() {
-            return Err(ListenFault::Device);
+            return Err(Trouble::Device);
         }
         self.row = Some(UnitRow::new(profile, number, unit));
         Ok(())
@@ -106,13 +106,13 @@ impl<W: Write> Listener for UnitRows<W> {
         profile: &Profile,
         act: Act,
         entry: Option<(usize, Entry)>,
-    ) -> Result<(), ListenFault> {
+    ) -> Result<(), Trouble> {
         let Some(row) = &mut self.row else {
             return Ok(());
         };
         match row.add(profile, act, &entry) {
             Ok(()) => Ok(()),
-            Err(_) => Err(ListenFault::OutOfMemory),
+            Err(_) => Err(Trouble::OutOfMemory),
         }
     }
 }

@@ -17,16 +17,16 @@ invariant-lines g l = record {
   k : ℕ;
   taken : List FileBytes;
   number : l.replay.lines ≡ k + 2;
-  told : WhereTold (unread g.C.Read.remaining l.fn.cert) l.fn.rec.to_come (λ text r. Stands l.bench text r head k l.replay.used taken l.replay.link.state (to_come g.C.Read.remaining l.lines l.cert) l.rec.to_come);
-  heard : WhereTold (unread g.C.Read.remaining l.fn.cert) l.fn.rec.to_come (λ text r. Hears g.T.Listener.hears l.bench head.first (step_lines head.version text) r k l.replay.used (with_earlier taken l.replay.link.state) l.fn.listener l.listener);
+  told : WhereTold (unread g.C.Read.remaining l.fn.cert) l.fn.rec.to_come (λ text r. Stands l.profile text r head k l.replay.used taken l.replay.link.state (to_come g.C.Read.remaining l.lines l.cert) l.rec.to_come);
+  heard : WhereTold (unread g.C.Read.remaining l.fn.cert) l.fn.rec.to_come (λ text r. Hears g.T.Listener.hears l.profile head.first (step_lines head.version text) r k l.replay.used (with_earlier taken l.replay.link.state) l.fn.listener l.listener);
   none_left : l.replay.link.state.sink.received.files ≡ [];
   put : GainsAll (g.S.Shelf.files l.fn.shelf) (g.S.Shelf.files l.shelf) 1 taken;
   noted : l.replay.files.items ≡ sizes taken;
   few : l.replay.used ≤ l.replay.lines;
   counted : l.rec.count ≡ l.fn.rec.count + l.replay.used;
   room : l.replay.lines + room_left l.lines l.cert ≤ left_of l.fn.cert;
-  link : l.replay.link.profile ≡ l.bench;
-  bench : l.replay.profile.now ≡ l.bench;
+  link : l.replay.link.profile ≡ l.profile;
+  profile : l.replay.profile.now ≡ l.profile;
   version : l.replay.version ≡ head.version;
 }
 

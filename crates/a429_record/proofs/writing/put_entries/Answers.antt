@@ -1,16 +1,9 @@
 use Rattle.std.proofs.Common.{◌∙◌, rules}
-use Rattle.std.proofs.lemmas.Result.{on_ok_weaker}
-use Rattle.a429_word.proofs.SheetFacts.{◌▹◌, has_all_at_ok, has_prefix}
+use Rattle.a429_word.proofs.SheetFacts.{◌▹◌, writes}
 use Rattle.a429_record.proofs.writing.put_entries.Goals as goal
 
-pub returns-clause-ok : goal.returns-clause-ok
-returns-clause-ok g c =
+pub returns-clause-written : goal.returns-clause-written
+returns-clause-written g c =
     let text = c.put_header.ensures ▹ c.put_lines.ensures in
-    let all = has_all_at_ok c.finish.result (c.new-sheet.ensures.page ∙ c.requires) text c.finish.ensures.nothing_more c.finish.ensures.written c.finish.ensures.device in
-    on_ok_weaker c.finish.result (λ puts. search rules) all
-
-pub returns-clause-prefix : goal.returns-clause-prefix
-returns-clause-prefix g c =
-    let text = c.put_header.ensures ▹ c.put_lines.ensures in
-    let prefix = has_prefix (c.new-sheet.ensures.page ∙ c.requires) text c.finish.ensures.nothing_more in
-    (prefix.0, prefix.1, search rules)
+    let written = writes (c.new-sheet.ensures.page ∙ c.requires) c.new-sheet.ensures.out text c.finish.ensures.nothing_more c.finish.ensures.written in
+    search rules

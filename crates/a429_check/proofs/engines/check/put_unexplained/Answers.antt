@@ -1,9 +1,5 @@
-use Rattle.std.proofs.KnownBytes.{Appends-trans}
-use Rattle.std.proofs.lemmas.Result.{on_ok_weaker}
+use Rattle.a429_word.proofs.SheetFacts.{◌▹◌}
 use Rattle.a429_check.proofs.engines.check.put_unexplained.Goals as goal
 
-pub returns-clause-ok : goal.returns-clause-ok
-returns-clause-ok g c =
-    on_ok_weaker c.put_doubt.result
-    (λ last. Appends-trans _ _ _ _ _ (Appends-trans _ _ _ _ _ c.in_ok-put.ensures.ok c.in_ok-put_decimal.ensures.ok) last)
-    c.put_doubt.ensures.ok
+pub returns : goal.returns
+returns g c = c.put.ensures ▹ c.put_number.ensures ▹ (rw c.name_of_doubt.ensures at c.put-2.ensures)

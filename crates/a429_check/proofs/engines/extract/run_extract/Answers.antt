@@ -1,42 +1,64 @@
-use Rattle.std.proofs.Common.{false, refl, arith}
+use Rattle.std.proofs.Common.{inl, inr, refl, false}
+use Rattle.std.proofs.lemmas.Bool.{false_from_ne_true}
 use Rattle.std.proofs.lemmas.Result.{err_from_is_err_and}
-use Rattle.a429_word.specs.Tally.{has_failed, unread}
+use Rattle.a429_word.specs.Tally.{has_failed}
 use Rattle.a429_cert.specs.BreakOff.{readers, shelved}
-use Rattle.a429_check.specs.Extract.{Leaves}
-use Rattle.a429_check.proofs.ExtractFacts.{left_by_profile}
-use Rattle.a429_check.specs.Verdict.{HasFailed, IsNoVerdict, PutsAnswer}
-use Rattle.a429_check.proofs.VerdictFacts.{ok_by_text, err_by_text, unchanged}
+use Rattle.a429_check.specs.Extract.{progress}
+use Rattle.a429_check.specs.Output.{output}
+use Rattle.a429_check.specs.Verdict.{input, status_of_answer, text_of_answer, AnyFailed, HasFailed, IsSomeVerdict}
+use Rattle.a429_check.proofs.ExtractFacts.{left_more, no_listener}
+use Rattle.a429_check.proofs.VerdictFacts.{all_work, cut_in, judged, more_failed, verdict, without_listener}
 use Rattle.a429_check.proofs.engines.extract.run_extract.Goals as goal
+
+pub returns-in_err-judged-clause-err : goal.returns-in_err-judged-clause-err
+returns-in_err-judged-clause-err g c =
+    let new = c.judge.new in
+    let p = err_from_is_err_and c.from_residual.result c.from_residual.ensures.1 in
+    rw (p.1, p.2)
+    (more_failed (input c.args.profile.now g.C.Read.remaining c.args.cert.now c.args.rec.now) (shelved g.S.Shelf.files g.S.Failing.failed c.args.shelf.now new.shelf) _ _ _
+    (without_listener new.rec.failed (has_failed new.cert) (g.S.Failing.failed new.shelf) (has_failed c.args.out.now)) c.in_err-judged.ensures.err)
+
+pub returns-in_err-judged-clause-files : goal.returns-in_err-judged-clause-files
+returns-in_err-judged-clause-files g c =
+    let new = c.judge.new in
+    let p = err_from_is_err_and c.from_residual.result c.from_residual.ensures.1 in
+    rw (p.1, p.2)
+    (left_more c.args.profile.now (progress (readers g.C.Read.remaining c.args.cert.now new.cert c.args.rec.now new.rec) (shelved g.S.Shelf.files g.S.Failing.failed c.args.shelf.now new.shelf) false) _ _ _
+    (no_listener new.rec.failed (has_failed new.cert) (g.S.Failing.failed new.shelf)) c.in_err-judged.ensures.files)
+
+pub returns-in_err-write_answer-clause-err : goal.returns-in_err-write_answer-clause-err
+returns-in_err-write_answer-clause-err g c =
+    let p = err_from_is_err_and c.from_residual-in_err-write_answer.result c.from_residual-in_err-write_answer.ensures.1 in
+    rw (p.1, p.2)
+    (inr (c.in_err-write_answer.ensures.device.0 refl), judged (input c.args.profile.now g.C.Read.remaining c.args.cert.now c.args.rec.now) (shelved g.S.Shelf.files g.S.Failing.failed c.args.shelf.now c.judge.new.shelf) c.in_ok-judged.judged c.in_ok-judged.ensures.judged)
+
+pub returns-in_err-write_answer-clause-files : goal.returns-in_err-write_answer-clause-files
+returns-in_err-write_answer-clause-files g c =
+    let i = input c.args.profile.now g.C.Read.remaining c.args.cert.now c.args.rec.now in
+    let shelf = shelved g.S.Shelf.files g.S.Failing.failed c.args.shelf.now c.judge.new.shelf in
+    let p = err_from_is_err_and c.from_residual-in_err-write_answer.result c.from_residual-in_err-write_answer.ensures.1 in
+    rw (p.1, p.2) (inr (_, (_, verdict i shelf c.in_ok-judged.judged c.in_ok-judged.ensures.judged)))
+
+pub returns-in_err-write_answer-clause-cut : goal.returns-in_err-write_answer-clause-cut
+returns-in_err-write_answer-clause-cut g c =
+    let new = c.judge.new in
+    let i = input c.args.profile.now g.C.Read.remaining c.args.cert.now c.args.rec.now in
+    let shelf = shelved g.S.Shelf.files g.S.Failing.failed c.args.shelf.now new.shelf in
+    let j = c.in_ok-judged.judged in
+    let p = err_from_is_err_and c.from_residual-in_err-write_answer.result c.from_residual-in_err-write_answer.ensures.1 in
+    rw (p.1, p.2)
+    (cut_in (output g.W.Write.contents c.args.out.now c.write_answer.new.out) (IsSomeVerdict i shelf) (text_of_answer j.answer) new.rec.failed (has_failed new.cert) (g.S.Failing.failed new.shelf) false c.in_ok-judged.ensures.works
+    (status_of_answer j.answer, verdict i shelf j c.in_ok-judged.ensures.judged) c.in_err-write_answer.ensures.written (c.in_err-write_answer.ensures.device.0 refl))
 
 pub returns-clause-verdict : goal.returns-clause-verdict
 returns-clause-verdict g c =
-    ok_by_text c.judge.result c.in_ok-profile.profile c.new.result c.args.profile.now (λ status text. PutsAnswer g.W.Write.contents c.args.out.now c.judge.new.out g.S.Shelf.files c.args.shelf.now c.judge.new.shelf text g.C.Read.remaining c.args.cert.now c.args.rec.now status) c.in_ok-profile.ensures.ok c.new.ensures c.judge.ensures.verdict
+    let i = input c.args.profile.now g.C.Read.remaining c.args.cert.now c.args.rec.now in
+    let shelf = shelved g.S.Shelf.files g.S.Failing.failed c.args.shelf.now c.judge.new.shelf in
+    let works = false_from_ne_true _ (λ failed. absurd (cc (c.in_ok-write_answer.ensures.device.1 failed))) in
+    rw c.in_ok-write_answer.ensures.status (_, verdict i shelf c.in_ok-judged.judged c.in_ok-judged.ensures.judged, c.in_ok-write_answer.ensures.written.all works)
 
 pub returns-clause-device : goal.returns-clause-device
-returns-clause-device g c = c.judge.ensures.device
-
-pub returns-clause-err : goal.returns-clause-err
-returns-clause-err g c =
-    err_by_text c.judge.result c.in_ok-profile.profile c.new.result c.args.profile.now (λ e text. IsNoVerdict text (unread g.C.Read.remaining c.args.cert.now) c.args.rec.now.to_come (g.S.Shelf.files c.args.shelf.now) (g.S.Shelf.files c.judge.new.shelf) e) c.in_ok-profile.ensures.ok c.new.ensures c.judge.ensures.err
-
-pub returns-clause-failed : goal.returns-clause-failed
-returns-clause-failed g c = c.judge.ensures.failed
-
-pub returns-clause-silent : goal.returns-clause-silent
-returns-clause-silent g c = c.judge.ensures.silent
-
-pub returns-clause-files : goal.returns-clause-files
-returns-clause-files g c =
+returns-clause-device g c =
     let new = c.judge.new in
-    err_by_text c.judge.result c.in_ok-profile.profile c.new.result c.args.profile.now
-    (λ e text. Leaves text (readers g.C.Read.remaining c.args.cert.now new.cert c.args.rec.now new.rec) (shelved g.S.Shelf.files g.S.Failing.failed c.args.shelf.now new.shelf) false
-    (HasFailed new.rec.failed (has_failed new.cert) (g.S.Failing.failed new.shelf)) e)
-    c.in_ok-profile.ensures.ok c.new.ensures c.judge.ensures.files
-
-pub returns-in_err-profile-clause-files : goal.returns-in_err-profile-clause-files
-returns-in_err-profile-clause-files g c =
-    let shelf = c.args.shelf.now in
-    let p = err_from_is_err_and c.from_residual.result c.from_residual.ensures.1 in
-    rw (p.1, p.2)
-    (left_by_profile c.args.profile.now (readers g.C.Read.remaining c.args.cert.now c.args.cert.now c.args.rec.now c.args.rec.now) (shelved g.S.Shelf.files g.S.Failing.failed shelf shelf) false
-    (HasFailed c.args.rec.now.failed (has_failed c.args.cert.now) (g.S.Failing.failed shelf)) _ c.in_err-profile.ensures.err (refl, omega (arith), unchanged (g.S.Shelf.files shelf)))
+    let works = false_from_ne_true _ (λ failed. absurd (cc (c.in_ok-write_answer.ensures.device.1 failed))) in
+    all_work new.rec.failed (has_failed new.cert) (g.S.Failing.failed new.shelf) false (has_failed c.write_answer.new.out) c.in_ok-judged.ensures.works works

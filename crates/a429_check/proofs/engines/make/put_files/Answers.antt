@@ -52,3 +52,10 @@ pub returns-clause-ok : goal.returns-clause-ok
 returns-clause-ok g c =
     let all = all_words c.args.profile.now c.args.files.now c.loop-file.file-index c.loop-file.number c.loop-file.count c.loop-file-test.false c.loop-file.invariant.made in
     rw all at c.loop-file.invariant.written
+
+-- the files that are left make no lines
+pub returns-in-Err-OutOfMemory-clause-prefix : goal.returns-in-Err-OutOfMemory-clause-prefix
+returns-in-Err-OutOfMemory-clause-prefix g c =
+    let words = words_made c.args.profile.now (map (λ f. f.items) c.args.files.now) in
+    let rest = flat_map line_text (timed (length (take c.loop-file.count words)) (drop c.loop-file.count words)) in
+    (written_form (timed 0 (take c.loop-file.count words)), rest, recording-rest words c.loop-file.count, c.loop-file.invariant.written)

@@ -27,3 +27,18 @@ returns-in_ok-put-clause-upgraded g c =
 pub returns-in_ok-put-2-clause-upgraded : goal.returns-in_ok-put-2-clause-upgraded
 returns-in_ok-put-2-clause-upgraded g c =
     of_none _ _ c.in_ok-found.found _ c.if-found.false c.in_ok-found.ensures.taken (λ bytes is. rw is (refl, Appends-nil _, c.in_ok-put-2.ensures.ok))
+
+pub returns-in_err-found-clause-prefix : goal.returns-in_err-found-clause-prefix
+returns-in_err-found-clause-prefix g c = on_err c.from_residual.result (of_any _ _ (λ bytes. front_none _ _))
+
+pub returns-in_err-put_version_two-clause-prefix : goal.returns-in_err-put_version_two-clause-prefix
+returns-in_err-put_version_two-clause-prefix g c = on_err c.from_residual-in_err-put_version_two.result (of_any _ _ (λ bytes. front_none _ _))
+
+pub returns-in_err-put-clause-prefix : goal.returns-in_err-put-clause-prefix
+returns-in_err-put-clause-prefix g c =
+    on_err c.from_residual-in_err-put.result
+    (of_upgraded _ _ c.in_ok-found.found _ _ c.if-found.true c.in_ok-found.ensures.taken c.in_ok-put_version_two.ensures.ok (λ bytes rest is put. rw is c.in_err-put.ensures.err))
+
+pub returns-in_err-put-2-clause-prefix : goal.returns-in_err-put-2-clause-prefix
+returns-in_err-put-2-clause-prefix g c =
+    on_err c.from_residual-in_err-put-2.result (of_none _ _ c.in_ok-found.found _ c.if-found.false c.in_ok-found.ensures.taken (λ bytes is. rw is c.in_err-put-2.ensures.err))

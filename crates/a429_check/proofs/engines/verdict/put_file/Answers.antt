@@ -1,6 +1,5 @@
-use Rattle.std.proofs.Common.{arith}
-use Rattle.std.proofs.lemmas.Grind.{common_steps}
+use Rattle.a429_word.proofs.SheetFacts.{◌▹◌}
 use Rattle.a429_check.proofs.engines.verdict.put_file.Goals as goal
 
-pub returns-clause-ok : goal.returns-clause-ok
-returns-clause-ok g c = grind (arith, common_steps)
+pub returns : goal.returns
+returns g c = c.put.ensures ▹ (rw c.from.ensures at c.put_number.ensures) ▹ c.put-2.ensures ▹ c.put_number-2.ensures ▹ c.put-3.ensures

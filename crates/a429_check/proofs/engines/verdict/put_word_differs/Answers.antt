@@ -1,9 +1,5 @@
-use Rattle.std.proofs.KnownBytes.{Appends-trans}
-use Rattle.std.proofs.lemmas.Result.{on_ok_weaker}
+use Rattle.a429_word.proofs.SheetFacts.{◌▹◌}
 use Rattle.a429_check.proofs.engines.verdict.put_word_differs.Goals as goal
 
-pub returns-clause-ok : goal.returns-clause-ok
-returns-clause-ok g c =
-    on_ok_weaker c.put-3.result
-    (λ last. Appends-trans _ _ _ _ _ (Appends-trans _ _ _ _ _ (Appends-trans _ _ _ _ _ (Appends-trans _ _ _ _ _ c.in_ok-put.ensures.ok c.in_ok-put_decimal.ensures.ok) c.in_ok-put-2.ensures.ok) c.in_ok-put_decimal-2.ensures.ok) last)
-    c.put-3.ensures.ok
+pub returns : goal.returns
+returns g c = c.put.ensures ▹ c.put_number.ensures ▹ c.put-2.ensures ▹ c.put_number-2.ensures ▹ c.put-3.ensures
