@@ -2,7 +2,8 @@
 
 A block of code that names a file after its language is that file. In a block of `console` each line that begins with
 `$ ` is a command, and the lines up to the next command are what it writes. All is done in its order in one shell, in a home
-folder of the page's own that has this repository as ~/hulqasem, with the tested program as `a429` and nothing on standard input.
+folder of the page's own that has this repository as ~/hulqasem, with the tested program as `a429` and as its `scripts/a429`, and
+nothing on standard input.
 
 The pages of docs show what a terminal shows: standard output and standard error together, and no status. The pages of
 scripts/cases are exact. There a line of standard error begins with `2> `, as the shell names it, and a last line
@@ -22,6 +23,21 @@ from pathlib import Path
 
 SCRIPTS = Path(__file__).resolve().parent
 ROOT = SCRIPTS.parent
+# The pages that scripts/test-tutorial runs: those with a command. Those that scripts/test-program runs, and scripts/test-extras.
+DOCUMENTS = [it for it in sorted([*ROOT.glob("[RCS]*.md"), *ROOT.glob("docs/*.md"), *ROOT.glob("examples/*.md")])
+             if "\n```console\n" in it.read_text(encoding="utf-8")]
+CASES = sorted((SCRIPTS / "cases").glob("*.md"))
+EXTRAS = sorted(ROOT.glob("extras/*/README.md"))
+
+
+@dataclass(frozen=True)
+class Block:
+    """A block of code, with the line of its first line, its language and the file that it is, if any."""
+
+    line: int
+    language: str
+    name: str
+    text: str
 
 
 @dataclass(frozen=True)
@@ -55,16 +71,21 @@ class Written:
         return self.output + error + (f"[status {self.status}]\n" if self.status else "")
 
 
+def blocks_of(page):
+    """The blocks of code of a page."""
+    for block in re.finditer(r"^```(.*)\n((?:.*\n)*?)```$", page, re.MULTILINE):
+        language, _, name = block[1].partition(" ")
+        yield Block(page.count("\n", 0, block.start(2)) + 1, language, name, block[2])
+
+
 def steps_of(page):
     """The files and commands of a page."""
-    for block in re.finditer(r"^```(\S.*)\n((?:.*\n)*?)```$", page, re.MULTILINE):
-        language, _, name = block[1].partition(" ")
-        if name:
-            yield File(name, block[2])
-        elif language == "console":
-            first = page.count("\n", 0, block.start(2)) + 1
-            for it in re.finditer(r"^\$ (.*)\n((?:(?!\$ ).*\n)*)", block[2], re.MULTILINE):
-                yield Command(first + block[2].count("\n", 0, it.start()), it[1], it[2])
+    for block in blocks_of(page):
+        if block.name:
+            yield File(block.name, block.text)
+        elif block.language == "console":
+            for it in re.finditer(r"^\$ (.*)\n((?:(?!\$ ).*\n)*)", block.text, re.MULTILINE):
+                yield Command(block.line + block.text.count("\n", 0, it.start()), it[1], it[2])
 
 
 def wanted_of(command, is_exact):
@@ -104,6 +125,15 @@ def written_by(number, answers, is_exact):
     return Written(text("output"), text("error") if is_exact else "", int(text("status")) if is_exact else None)
 
 
+def lay_repository(folder, program):
+    """Makes a folder that has this repository, with the tested program as scripts/a429."""
+    (folder / "scripts").mkdir(parents=True)
+    for it in [*ROOT.iterdir(), *SCRIPTS.iterdir()]:
+        if it not in (SCRIPTS, SCRIPTS / "a429"):
+            (folder / it.relative_to(ROOT)).symlink_to(it)
+    (folder / "scripts/a429").symlink_to(program)
+
+
 def answers_of(steps, program, is_exact):
     """What each command of a page writes, by its place among the steps."""
     with tempfile.TemporaryDirectory(prefix="a429-page.") as room:
@@ -111,7 +141,7 @@ def answers_of(steps, program, is_exact):
         for folder in (home, home / "bin", answers):
             folder.mkdir()
         (home / "bin/a429").symlink_to(program)
-        (home / "hulqasem").symlink_to(ROOT)
+        lay_repository(home / "hulqasem", program)
         script.write_text(script_of(steps, is_exact))
         env = {**os.environ, "HOME": str(home), "PATH": f"{home}/bin:{os.environ['PATH']}"}
         subprocess.run(["bash", str(script), str(answers)], env=env, cwd=home, stdin=subprocess.DEVNULL)

@@ -29,3 +29,4 @@ pub mod StreamLine
 pub mod StreamEndFacts
 pub mod BreakOffFacts
 pub mod EarlierFiles
+pub mod LikelyFacts

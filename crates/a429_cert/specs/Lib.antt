@@ -18,3 +18,4 @@ pub mod StreamEnd
 pub mod StreamExplained
 pub mod BreakOff
 pub mod Told
+pub mod Likely

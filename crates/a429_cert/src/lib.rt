@@ -8,6 +8,7 @@ mod explained;
 mod fault;
 mod field;
 pub mod laws;
+mod likely;
 mod line;
 mod line_reader;
 mod lines;

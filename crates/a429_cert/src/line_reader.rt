@@ -1,11 +1,14 @@
 //! The lines of a certificate that is read as it comes, by a buffer of a fixed size.
 
-ghost use Rattle.std.specs.Prelude.{◌≡◌, ◌⊎◌, ◌<◌, ◌≤◌, [], None, true, false, length, IsErr, IsSome, IfOk, OnOk, OnErr, Ok, ◌≢◌};
+ghost use Rattle.std.specs.Prelude.{◌≡◌, ◌⊎◌, ◌<◌, ◌≤◌, ◌∷◌, ◌++◌, [], Some, None, true, false, length, IsErr, IsSome, IfOk, IfSome, IfNone, OnOk, OnErr, Ok, ◌≢◌};
 ghost use Rattle.std.specs.Io.KnownBytes.{Keeps, IsAtEnd};
 ghost use Rattle.a429_word.specs.Tally.{left_of, has_failed, unread};
+ghost use Rattle.a429_cert.specs.Likely.{IsLikely, SaysAlways};
 ghost use Rattle.a429_cert.specs.Lines.{line_bytes};
 ghost use Rattle.a429_cert.specs.CutLines.{BeginsWith, HasNoLineFeed, cut};
 
+use crate::likely::LikelyLine;
+use crate::line::MovedLine;
 use crate::lines::TextLine;
 use a429_word::{Device, Tally};
 use memchr::memchr;
@@ -25,6 +28,13 @@ pub struct LineReader {
     ghost begun: { at ≤ next },
     ghost ordered: { next ≤ filled },
     ghost in_range: { filled ≤ 2288 },
+}
+
+/// Whether a line was handed out, and what it says, where that was foreseen.
+#[derive(Clone, Copy, Drop)]
+pub(crate) struct NextLine {
+    pub found: bool,
+    pub known: Option<MovedLine>,
 }
 
 impl LineReader {
@@ -74,6 +84,73 @@ impl LineReader {
             if !self.read_on(cert)? {
                 return Ok(!self.buffer[self.next..self.filled].is_empty());
             }
+        }
+    }
+
+    /// The same, where this line likely comes next: then it is only held against what was read.
+    #[inline(always)]
+    pub(crate) fn next_near<R: Read>(
+        &mut self,
+        cert: &mut Tally<R>,
+        likely: Option<LikelyLine<'_>>,
+    ) -> Result<NextLine, Device>
+        requires { IfSome likely (λ l. IsLikely l.text.now l.line) }
+        ensures given { IfOk result (λ n. HandsOutLine R.remaining self.old cert.old self.new cert.new n.found) }
+        ensures shorter { OnOk result (IsSome (held_line self.new) → room_left self.new cert.new < room_left self.old cert.old) }
+        ensures room { IfOk result (λ n. n.found ≡ true → 0 < room_left self.old cert.old) }
+        ensures known { IfOk result (λ n. IfSome n.known (SaysAlways (held_line self.new))) }
+        ensures ended { IfOk result (λ n. n.found ≡ false → Keeps (to_come R.remaining self.old cert.old) (to_come R.remaining self.new cert.new)) }
+        ensures kept { IsErr result → Keeps (to_come R.remaining self.old cert.old) (to_come R.remaining self.new cert.new) }
+        ensures part { IsErr result → HasNoLineFeed (bytes_ahead self.new) }
+        ensures few { length (bytes_ahead self.new) ≤ 2288 }
+        ensures device { IsErr result → has_failed cert.new ≡ true }
+        ensures stays { has_failed cert.old ≡ true → has_failed cert.new ≡ true }
+    {
+        if let Some(line) = self.take_likely(likely) {
+            return Ok(NextLine {
+                found: true,
+                known: Some(line),
+            });
+        }
+        Ok(NextLine {
+            found: self.next_line(cert)?,
+            known: None,
+        })
+    }
+
+    // Hands out the next line, where it is this one.
+    #[inline(always)]
+    fn take_likely(&mut self, likely: Option<LikelyLine<'_>>) -> Option<MovedLine>
+        requires { IfSome likely (λ l. IsLikely l.text.now l.line) }
+        ensures yes { IsSome result → BeginsWith (bytes_ahead self.old) (held_line self.new) (bytes_ahead self.new) }
+        ensures line { IsSome result → IsSome (held_line self.new) × (cut (held_line self.new) ≡ held_line self.new) }
+        ensures short { IsSome result → length (bytes_ahead self.new) < length (bytes_ahead self.old) }
+        ensures known { IfSome result (SaysAlways (held_line self.new)) }
+        ensures no { IfNone result (self.new ≡ self.old) }
+    {
+        let likely = likely?;
+        if self.take_text(likely.text) {
+            Some(likely.line)
+        } else {
+            None
+        }
+    }
+
+    // Hands out the next line, where it is this text and was read.
+    #[inline(always)]
+    fn take_text(&mut self, text: &[u8]) -> bool
+        ensures yes { result ≡ true → bytes_ahead self.old ≡ text.now ++ 10 ∷ bytes_ahead self.new }
+        ensures line { result ≡ true → held_line self.new ≡ Some text.now }
+        ensures no { result ≡ false → self.new ≡ self.old }
+    {
+        let len = text.len();
+        let ahead = &self.buffer[self.next..self.filled];
+        if len < ahead.len() && ahead[len] == b'\n' && ahead.starts_with(text) {
+            self.at = self.next;
+            self.next += len + 1;
+            true
+        } else {
+            false
         }
     }
 

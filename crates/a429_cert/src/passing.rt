@@ -1,6 +1,6 @@
 //! One line of a certificate, held against a link and the next entry of a recording.
 
-ghost use Rattle.std.specs.Prelude.{◌≡◌, ◌≢◌, ◌∷◌, Some, None, IfOk, IfErr, OnOk, option_map, true, false};
+ghost use Rattle.std.specs.Prelude.{◌≡◌, ◌≢◌, ◌∷◌, ℕ, List, Option, Some, None, IfOk, IfErr, IfSome, OnOk, option_map, true, false};
 ghost use Rattle.a429_profile.specs.Profile.{IsProfile};
 ghost use Rattle.a429_link.specs.Step.{Can, LoadsLdu};
 ghost use Rattle.a429_link.specs.State.{State, states_of};
@@ -8,6 +8,7 @@ ghost use Rattle.a429_link.specs.declared.step.Step.TheVariants as step;
 ghost use Rattle.a429_cert.specs.declared.at.At.{At};
 ghost use Rattle.a429_cert.specs.Line.{IsLine};
 ghost use Rattle.a429_cert.specs.Act.{step_with};
+ghost use Rattle.a429_cert.specs.Fault.{SaysLine};
 ghost use Rattle.a429_cert.specs.Passing.{IsNamedOf, IsReady, IsReadyOf, IsStepFault, IsStepOfLine, Lists, MakesStep, PassesLine, PassesListed, PassesText, RefusesFirst, RefusesLine, RefusesListed, RefusesText, no_step, no_unit};
 
 use crate::act::{Act, step_with, used_by};
@@ -37,27 +38,32 @@ pub fn replay_line(
     ensures refused { IfErr result (RefusesText profile.now (option_map (λ b. b.now) text.entry) at link.old.state) }
     ensures kept { link.new.profile ≡ profile.now }
 {
-    match read_step(alloc, profile, link, text, at.line) {
+    match read_step(alloc, profile, link, text, None, at.line) {
         Ok(listed) => make_step(link, listed, at),
         Err(fault) => Err(fault),
     }
 }
 
 /// Reads the step that line n lists, which says this, before its entry is known, if it wants one: a step of
-/// its name may then be made here.
+/// its name may then be made here. Where it is known what the line says, it is not read.
 #[inline(always)]
 pub fn read_step(
     alloc: Global,
     profile: &Profile,
     link: &Link<'_>,
     text: Option<&[u8]>,
+    known: Option<MovedLine>,
     n: usize,
 ) -> Result<Listed, CertFault>
     requires sound { IsProfile profile.now }
     requires profile { link.now.profile ≡ profile.now }
+    requires known { IfSome known (λ m. SaysLine (option_map (λ b. b.now) text) (CertLine.Moved m)) }
     ensures listed { IfOk result (λ x. Lists profile.now (option_map (λ b. b.now) text.entry) x link.now.state) }
     ensures refused { IfErr result (RefusesFirst profile.now (option_map (λ b. b.now) text.entry) n link.now.state) }
 {
+    if let Some(line) = known {
+        return allow_line(link, line, n);
+    }
     let Some(text) = text else {
         return Err(CertFault::Line(n));
     };
@@ -135,14 +141,21 @@ fn read_moved(link: &Link<'_>, letter: u8, text: &[u8], n: usize) -> Result<List
     ensures refused { IfErr result (RefusesFirst link.now.profile (Some (letter ∷ text.now)) n link.now.state) }
 {
     match moved_from(letter, text, link.states()) {
-        Some(line) => {
-            if may_record(link, line.act) {
-                Ok(Listed::Moved(line))
-            } else {
-                Err(CertFault::NotAllowed(n))
-            }
-        }
+        Some(line) => allow_line(link, line, n),
         None => Err(CertFault::Line(n)),
+    }
+}
+
+// The other step of line n, which says this.
+#[inline(always)]
+fn allow_line(link: &Link<'_>, line: MovedLine, n: usize) -> Result<Listed, CertFault>
+    ensures listed { IfOk result (λ x. (text : Option (List ℕ)) → SaysLine text (CertLine.Moved line) → Lists link.now.profile text x link.now.state) }
+    ensures refused { IfErr result (λ f. (text : Option (List ℕ)) → SaysLine text (CertLine.Moved line) → RefusesFirst link.now.profile text n link.now.state f) }
+{
+    if may_record(link, line.act) {
+        Ok(Listed::Moved(line))
+    } else {
+        Err(CertFault::NotAllowed(n))
     }
 }
 

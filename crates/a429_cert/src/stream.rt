@@ -6,6 +6,7 @@ ghost use Rattle.a429_ldu.specs.Ldu.{IsLdu};
 ghost use Rattle.a429_link.specs.declared.seen.Seen.{Seen};
 ghost use Rattle.a429_link.specs.State.{start};
 ghost use Rattle.a429_record.specs.declared.fault.ReadFault.TheVariants as read;
+ghost use Rattle.a429_cert.specs.Likely.{SaysAlways};
 ghost use Rattle.a429_cert.specs.Lines.{line_bytes};
 ghost use Rattle.a429_cert.specs.Shelf.{IsUnchanged};
 ghost use Rattle.a429_cert.specs.Version.{read_as};
@@ -21,7 +22,8 @@ ghost use Rattle.a429_cert.specs.Stream.{OneFailed, HandsFilesOut, GoesOn, PutsF
 use crate::at::At;
 use crate::entry::seen_in;
 use crate::explained::Head;
-use crate::fault::CertFault;
+use crate::fault::{CertFault, OutOfMemory};
+use crate::likely::WordLines;
 use crate::line::MovedLine;
 use crate::line_reader::LineReader;
 use crate::lines::TextLine;
@@ -86,6 +88,10 @@ pub fn replay_stream<R: Read, C: Read, S: Shelf, T: Listener>(
 {
     // No line is empty of bytes, so that lines and entries are no more than the bytes that may come.
     let _most: u64 = cert.left();
+    let words = match WordLines::new(alloc) {
+        Ok(words) => words,
+        Err(OutOfMemory) => return Err(StreamFault::OutOfMemory),
+    };
     let mut lines = LineReader::new();
     let head = match begin(alloc, &mut lines, cert) {
         Ok(head) => head,
@@ -93,14 +99,14 @@ pub fn replay_stream<R: Read, C: Read, S: Shelf, T: Listener>(
     };
     let mut replay = Replay::start(alloc, profile, head);
     'lines: loop {
-        let Ok(found) = lines.next_line(cert) else {
+        let Ok(next) = lines.next_near(cert, words.likely(replay.link.states())) else {
             return Err(StreamFault::Device);
         };
-        if !found {
+        if !next.found {
             break;
         }
         replay.lines += 1;
-        match replay_and_put(&mut replay, lines.line(), rec, shelf, listener) {
+        match replay_and_put(&mut replay, lines.line(), next.known, rec, shelf, listener) {
             Ok(used) => replay.used += used,
             Err(fault) => return Err(fault),
         }
@@ -117,12 +123,14 @@ pub fn replay_stream<R: Read, C: Read, S: Shelf, T: Listener>(
 fn replay_and_put<R: Read, S: Shelf, T: Listener>(
     replay: &mut Replay<'_>,
     line: TextLine<'_>,
+    known: Option<MovedLine>,
     rec: &mut EntryReader<R>,
     shelf: &mut S,
     listener: &mut T,
 ) -> Result<usize, StreamFault>
     requires sound { IsProfile replay.old.profile.now }
     requires profile { replay.old.link.profile ≡ replay.old.profile.now }
+    requires known { IfSome known (SaysAlways (line_bytes line)) }
     ensures goes_on { IfOk result (GoesOn S.files replay.old replay.new (line_bytes line.entry) rec.old.to_come rec.new.to_come shelf.old shelf.new) }
     ensures heard { OnOk result (HearsLine T.hears replay.old (line_bytes line.entry) rec.old.to_come listener.old listener.new) }
     ensures ended { OnOk result (IsSome (line_bytes line.entry)) }
@@ -136,7 +144,7 @@ fn replay_and_put<R: Read, S: Shelf, T: Listener>(
     ensures kept { replay.new ≡ record (replay.old) { link = replay.new.link; files = replay.new.files } }
     ensures profile { replay.new.link.profile ≡ replay.old.profile.now }
 {
-    let used = match replay_and_report(replay, line, rec, listener) {
+    let used = match replay_and_report(replay, line, known, rec, listener) {
         Ok(used) => used,
         Err(refused) => return Err(refused),
     };
@@ -316,11 +324,13 @@ fn move_and_report<T: Listener>(
 pub fn replay_and_report<R: Read, T: Listener>(
     replay: &mut Replay<'_>,
     line: TextLine<'_>,
+    known: Option<MovedLine>,
     rec: &mut EntryReader<R>,
     listener: &mut T,
 ) -> Result<usize, StreamFault>
     requires sound { IsProfile replay.old.profile.now }
     requires profile { replay.old.link.profile ≡ replay.old.profile.now }
+    requires known { IfSome known (SaysAlways (line_bytes line)) }
     ensures passed { IfOk result (ReplaysLine replay.old replay.new (line_bytes line.entry) rec.old.to_come rec.new.to_come) }
     ensures heard { OnOk result (HearsLine T.hears replay.old (line_bytes line.entry) rec.old.to_come listener.old listener.new) }
     ensures ended { OnOk result (IsSome (line_bytes line.entry)) }
@@ -342,6 +352,7 @@ pub fn replay_and_report<R: Read, T: Listener>(
         replay.profile,
         &replay.link,
         text,
+        known,
         replay.lines,
     ) {
         Ok(listed) => step_and_report(replay, listed, rec, listener),

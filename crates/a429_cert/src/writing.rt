@@ -55,11 +55,10 @@ fn put_line(line: &CertLine, out: &mut Vec<u8>) -> Result<(), OutOfMemory>
     }
 }
 
-// Appends the line of a step that is no load.
+/// The text of the line of a step that is no load.
 #[inline(always)]
-fn put_moved(line: MovedLine, out: &mut Vec<u8>) -> Result<(), OutOfMemory>
-    ensures appends { AppendsOrFront result out.old out.new (spelling (Moved line)) }
-    ensures held { OnOk result (IsHeld (Moved line)) }
+pub fn moved_text(line: MovedLine) -> ShortText
+    ensures { result ≡ spelling (Moved line) }
 {
     let mut text = ShortText::new();
     text.push(act_letter(line.act));
@@ -67,7 +66,16 @@ fn put_moved(line: MovedLine, out: &mut Vec<u8>) -> Result<(), OutOfMemory>
     text.push_sink(line.states.sink);
     text.push_number(line.states.to_sink);
     text.push_number(line.states.to_source);
-    put(text.as_slice(), out)
+    text
+}
+
+// Appends it.
+#[inline(always)]
+fn put_moved(line: MovedLine, out: &mut Vec<u8>) -> Result<(), OutOfMemory>
+    ensures appends { AppendsOrFront result out.old out.new (spelling (Moved line)) }
+    ensures held { OnOk result (IsHeld (Moved line)) }
+{
+    put(moved_text(line).as_slice(), out)
 }
 
 // Appends text, or for want of memory nothing.

@@ -2,9 +2,13 @@
 
 ghost use Rattle.std.specs.Prelude.{◌≡◌, ◌≤◌, ◌<◌, ◌+◌, ℕ, true, bit_xor, fold, replicate, slice_index, if◌then◌else◌};
 ghost use Rattle.std.specs.Int.{reverse_bits_onto};
+ghost use Rattle.std.specs.List.{flat_map};
 ghost use Rattle.a429_ldu.specs.CheckWord.{fed_bits, check_of, agrees, fed_down, IsTable};
 
 use a429_profile::Check;
+
+// How many bytes cost as much without a table as the table.
+const FEW: usize = 24;
 
 /// The check word of bytes (ARINC 429 Part 3; how it is made is the profile's): their remainder in a
 /// cyclic redundancy check of 16 bits.
@@ -12,12 +16,37 @@ pub fn check_word(check: &Check, bytes: &[u8]) -> u16
     ensures { result ≡ check_of check.now bytes.now }
 {
     // The register's bits stand in the order in which low bits come first.
-    let table = Table::new(check.poly.reverse_bits());
-    let mut register = check.init.reverse_bits();
-    for byte in bytes {
-        register = table.after_byte(register, ordered(check.low_first, *byte));
-    }
+    let poly = check.poly.reverse_bits();
+    let start = check.init.reverse_bits();
+    let register = if bytes.len() < FEW {
+        after_few(poly, start, check.low_first, bytes)
+    } else {
+        after_many(poly, start, check.low_first, bytes)
+    };
     finished(check.low_first, register) ^ check.xor
+}
+
+// The register after bytes, by a table.
+fn after_many(poly: u16, start: u16, low_first: bool, bytes: &[u8]) -> u16
+    ensures { result ≡ fold (fed_down poly) start (flat_map (fed_bits low_first) bytes.now) }
+{
+    let table = Table::new(poly);
+    let mut register = start;
+    for byte in bytes {
+        register = table.after_byte(register, ordered(low_first, *byte));
+    }
+    register
+}
+
+// The same without one.
+fn after_few(poly: u16, start: u16, low_first: bool, bytes: &[u8]) -> u16
+    ensures { result ≡ fold (fed_down poly) start (flat_map (fed_bits low_first) bytes.now) }
+{
+    let mut register = start;
+    for byte in bytes {
+        register = after_byte(poly, register, ordered(low_first, *byte));
+    }
+    register
 }
 
 /// Whether a check word is that of the bytes, or the profile compares none.
@@ -61,14 +90,21 @@ impl Table {
     }
 }
 
+// The same without a table.
+fn after_byte(poly: u16, register: u16, byte: u8) -> u16
+    ensures { result ≡ fold (fed_down poly) register (fed_bits true byte) }
+{
+    let lowest = (register & 255) as u8 ^ byte;
+    after_eight(poly, u16::from(lowest)) ^ (register >> 8)
+}
+
 // The first sixteen entries of a table.
 fn low_entries(poly: u16) -> [u16; 16]
     ensures { IsTable 16 poly result }
 {
     let mut entries = [0; 16];
     for i in 0..16 {
-        let halfway = after_four(poly, i);
-        entries[i as usize] = after_four(poly, halfway);
+        entries[i as usize] = after_eight(poly, i);
     }
     entries
 }
@@ -82,6 +118,14 @@ fn fill(entries: &mut [u16; 256], at: usize, low: &[u16; 16], high: u16)
     for i in 0..16 {
         entries[at + i] = low[i] ^ high;
     }
+}
+
+// The register after eight bits 0.
+fn after_eight(poly: u16, register: u16) -> u16
+    ensures { result ≡ fold (fed_down poly) register (replicate 8 0) }
+{
+    let halfway = after_four(poly, register);
+    after_four(poly, halfway)
 }
 
 // The register after four bits 0.

@@ -36,11 +36,11 @@ pub record Goes (p : Contents) (acts : List Step) (s t : State) : Type 0 where
   pub run : IsRun p acts s
   pub ends : end_of p acts s ≡ t
 
-run_append : (p : Contents) (xs ys : List Step) (s : State) → IsRun p xs s → IsRun p ys (end_of p xs s) → IsRun p (xs ++ ys) s
+pub run_append : (p : Contents) (xs ys : List Step) (s : State) → IsRun p xs s → IsRun p ys (end_of p xs s) → IsRun p (xs ++ ys) s
 run_append p [] ys s h k = k
 run_append p (x ∷ xs) ys s h k = (h.0, run_append p xs ys (after p x s) h.1 k)
 
-end_append : (p : Contents) (xs ys : List Step) (s : State) → end_of p (xs ++ ys) s ≡ end_of p ys (end_of p xs s)
+pub end_append : (p : Contents) (xs ys : List Step) (s : State) → end_of p (xs ++ ys) s ≡ end_of p ys (end_of p xs s)
 end_append p [] ys s = refl
 end_append p (x ∷ xs) ys s = end_append p xs ys (after p x s)
 

@@ -9,6 +9,10 @@ pub mod SinkShelves
 pub mod RunCrossing
 pub mod RunTraces
 pub mod ObserverRefuses
+pub mod TraceFiles
+pub mod TraceReasons
+pub mod TraceKinds
+pub mod TraceWords
 pub mod MessageRead
 pub mod SampleRun
 pub mod SourceBlock
@@ -20,4 +24,12 @@ pub mod ObserverSight
 pub mod CleanRuns
 pub mod CleanFiles
 pub mod DeliveredFiles
+pub mod WholeBlock
+pub mod NumbersCome
+pub mod LatestAttempt
+pub mod NumberKept
+pub mod BlockWords
+pub mod Contradictions
+pub mod RunAssigned
+pub mod AssignedRun
 mod LaneFacts

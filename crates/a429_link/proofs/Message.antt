@@ -232,7 +232,7 @@ pub record Replies (count : ℕ) (kp : SinkPhase) (o : Option Message) : Type 0 
   pub is : o ≡ Some said
   pub owed : MaySay count kp said
 
-no_part : (count : ℕ) (kp : SinkPhase) (semis : List ℕ) → MayAnswer count kp (form.Part semis) → ⊥
+pub no_part : (count : ℕ) (kp : SinkPhase) (semis : List ℕ) → MayAnswer count kp (form.Part semis) → ⊥
 no_part count Quiet semis m = m
 no_part count OwesClear semis m = m
 no_part count Granted semis m = m

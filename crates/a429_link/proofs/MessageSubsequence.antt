@@ -96,7 +96,7 @@ same_parts (s ∷ ps) (t ∷ qs) n (inr (zs, q, h)) =
     cc
 
 -- the start word is the only one
-pub sub_start : (g f l g' f' l' : ℕ) (ps qs : List ℕ) → IsSubsequenceOf (Sot g f l ∷ map Part ps) (Sot g' f' l' ∷ map Part qs) → (f ≡ f') × (l ≡ l') × IsSubsequenceOf (map Part ps) (map Part qs)
+pub sub_start : (g f l g' f' l' : ℕ) (ps qs : List ℕ) → IsSubsequenceOf (Sot g f l ∷ map Part ps) (Sot g' f' l' ∷ map Part qs) → (f ≡ f') × (l ≡ l') × IsSubsequenceOf (map Part ps) (map Part qs) × (g ≡ g')
 sub_start g f l g' f' l' ps qs (inl h) = absurd (no_start qs h)
   where
     no_start : (qs : List ℕ) → IsSubsequenceOf (Sot g f l ∷ map Part ps) (map Part qs) → ⊥
@@ -105,4 +105,4 @@ sub_start g f l g' f' l' ps qs (inl h) = absurd (no_start qs h)
     no_start (t ∷ qs) (inr (zs, q, h)) = cc q
 sub_start g f l g' f' l' ps qs (inr (zs, q, h)) =
     let same : zs ≡ map Part ps = cc in
-    (cc, cc, subst (λ x. IsSubsequenceOf x (map Part qs)) same h)
+    (cc, cc, subst (λ x. IsSubsequenceOf x (map Part qs)) same h, cc)

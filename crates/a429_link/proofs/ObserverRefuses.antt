@@ -15,7 +15,7 @@ use Rattle.a429_ldu.specs.declared.forms.Form.{Form}
 use Rattle.a429_ldu.specs.declared.forms.Form.TheVariants as form
 use Rattle.a429_profile.specs.declared.codes.Codes.{Codes}
 use Rattle.a429_link.proofs.StateConfigs.{InGrant, acks_count}
-use Rattle.a429_link.proofs.SinkFromTrace.{sees_on, blank}
+use Rattle.a429_link.specs.Trace.{sink_at_first, sink_sees}
 use Rattle.a429_link.proofs.RunTraces.{parts_in, see, see_item, AllowsMessage, Allowed, AllAllowed, trace_allowed}
 
 abbrev has_message : List Message → Bool
@@ -40,11 +40,11 @@ sot_push [] g f l = refl
 sot_push (Part q ∷ seen) g f l = ap (λ n. suc n) (sot_push seen g f l)
 sot_push (_ ∷ seen) g f l = sot_push seen g f l
 
-abbrev sees_as : Contents → Bus → ℕ → Option Form → Sink → Sink
+abbrev pub sees_as : Contents → Bus → ℕ → Option Form → Sink → Sink
 sees_as p bus.A w o k = takes_form p w o k
 sees_as p bus.B w o k = answers_form p.codes o k
 
-sees_on_as : (p : Contents) (b : Bus) (w : ℕ) (k : Sink) → sees_on p b w k ≡ sees_as p b w (form_of p.codes b w) k
+pub sees_on_as : (p : Contents) (b : Bus) (w : ℕ) (k : Sink) → sink_sees p b w k ≡ sees_as p b w (form_of p.codes b w) k
 sees_on_as p bus.A w k = refl
 sees_on_as p bus.B w k = refl
 
@@ -97,7 +97,7 @@ sees_form_same p bus.B w (Some (form.Sot g f l)) k seen = refl
 sees_form_same p bus.B w (Some (form.Part s)) k seen = refl
 sees_form_same p bus.B w (Some (form.Eot f c)) k seen = refl
 
-sees_same : (p : Contents) (i : Seen) (k : Sink) (seen : List Message) → sees p i (seeing k seen) ≡ seeing (sees_on p i.bus i.word k) (see_item p i seen)
+pub sees_same : (p : Contents) (i : Seen) (k : Sink) (seen : List Message) → sees p i (seeing k seen) ≡ seeing (sink_sees p i.bus i.word k) (see_item p i seen)
 sees_same p i k seen = sees_form_same p i.bus i.word (form_of p.codes i.bus i.word) k seen ∙ ap (λ q. seeing q (see_item p i seen)) (sym (sees_on_as p i.bus i.word k))
 
 has_grant : (kp : SinkPhase) → InGrant kp → HasGrant kp
@@ -133,7 +133,7 @@ allows_form k seen bus.B w (Some (form.Part s)) a = absurd (no_data k.phase a)
     no_data OwesNak m = m
 allows_form k seen bus.B w (Some (form.Eot f c)) a = a
 
-allows_same : (p : Contents) (k : Sink) (seen : List Message) (i : Seen) → Allowed p k seen i → Allows p (seeing k seen) i
+pub allows_same : (p : Contents) (k : Sink) (seen : List Message) (i : Seen) → Allowed p k seen i → Allows p (seeing k seen) i
 allows_same p k seen i (inl e) = inl e
 allows_same p k seen i (inr a) = inr (allows_form k seen i.bus i.word (form_of p.codes i.bus i.word) a)
 
@@ -141,9 +141,9 @@ allowed_at : (p : Contents) (items more : List Seen) (k : Sink) (seen : List Mes
 allowed_at p [] more k seen zero o e h = tt
 allowed_at p [] more k seen (suc i) o e h = tt
 allowed_at p (x ∷ items) more k seen zero o e h = subst (λ q. Allows p q x) (sym e) (allows_same p k seen x h.0)
-allowed_at p (x ∷ items) more k seen (suc i) o e h = allowed_at p items more (sees_on p x.bus x.word k) (see_item p x seen) i (sees p x o) (ap (sees p x) e ∙ sees_same p x k seen) h.1
+allowed_at p (x ∷ items) more k seen (suc i) o e h = allowed_at p items more (sink_sees p x.bus x.word k) (see_item p x seen) i (sees p x o) (ap (sees p x) e ∙ sees_same p x k seen) h.1
 
 -- what the observer refuses begins no trace
 pub impossible : (p : Contents) → IsRead p → (items : List Seen) (i : ℕ) → IsRefused p items i → BeginsARun p (take (suc i) items) → ⊥
 impossible p good items i refused r =
-    refused (allowed_at p items r.more blank [] i at_first refl (subst (λ t. AllAllowed p t blank []) r.records (trace_allowed p good r.first r.byte r.steps r.run)))
+    refused (allowed_at p items r.more sink_at_first [] i at_first refl (subst (λ t. AllAllowed p t sink_at_first []) r.records (trace_allowed p good r.first r.byte r.steps r.run)))

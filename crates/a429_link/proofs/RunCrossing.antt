@@ -82,7 +82,7 @@ pub record Crosses (p : Contents) (source : Source) (last : Option Number) (rece
 abbrev pub CrossesAt : Contents → State → Received → List FileBytes → Type 0
 CrossesAt p s o fs = Crosses p s.source s.sink.last s.sink.received s.to_source o fs
 
-no_ack : (p : Contents) (vs : List ℕ) → vs ≡ [] → HasAck p vs → ⊥
+pub no_ack : (p : Contents) (vs : List ℕ) → vs ≡ [] → HasAck p vs → ⊥
 no_ack p [] e h = h
 no_ack p (v ∷ vs) e h = cc e
 
@@ -204,7 +204,7 @@ hear_form p good g number cur sp count kp xs y ys last received v vs o fs e (ref
 hear_form p good g number cur sp count kp xs y ys last received v vs o fs e (acked {u} {f} {l} r ef el) c =
     hear_ack p good g number u (eqb f number.file && eqb l number.ldu) last received (v ∷ vs) o fs c (c.accepted (subst IsAck (sym e) tt))
 
-one_answer : (number : UnitNumber) (cur : Option LduValue) (sp : SourceState) (count : ℕ) (kp : SinkPhase) (xs : List Message) (y : Message) (ys : List Message) → Config number cur sp count kp xs (y ∷ ys) → ys ≡ []
+pub one_answer : (number : UnitNumber) (cur : Option LduValue) (sp : SourceState) (count : ℕ) (kp : SinkPhase) (xs : List Message) (y : Message) (ys : List Message) → Config number cur sp count kp xs (y ∷ ys) → ys ≡ []
 one_answer number cur sp count kp xs y ys (cleared r q) = refl
 one_answer number cur sp count kp xs y ys (refused r) = refl
 one_answer number cur sp count kp xs y ys (acked r f l) = refl
@@ -228,7 +228,7 @@ lose_crosses p source k (v ∷ vs) xs (y ∷ ys) o fs n d h c =
     with_answers p source k.last k.received (v ∷ vs) vs o fs (no_ack p vs none) c
 
 -- a word that is taken leaves the files and the last numbers
-takes_last : (p : Contents) (w : ℕ) (o : Option Form) (k : Sink) → (takes_form p w o k).last ≡ k.last
+pub takes_last : (p : Contents) (w : ℕ) (o : Option Form) (k : Sink) → (takes_form p w o k).last ≡ k.last
 takes_last p w None k = refl
 takes_last p w (Some (form.Rts n)) k = refl
 takes_last p w (Some _) k = refl

@@ -20,7 +20,8 @@ use Rattle.a429_link.proofs.MessageSubsequence.{Each, IsFrontWord, IsBlockWord, 
 use Rattle.a429_link.proofs.Subsequence.{sub_push}
 use Rattle.a429_link.proofs.StateConfigs.{Config, idle, asked, unasked, heard, cleared, sending, waiting, whole, spoiled, refused, acked, InGrant, block_taken, front_words, block_words_each, each_take, lost_front, length-front, may_owes, owes_stale, owes_grant, source_at}
 use Rattle.a429_link.proofs.StateHolds.{HoldsAt, step_holds, start_holds, sends, owed_form, alone_on_the_way}
-use Rattle.a429_link.proofs.SinkFromTrace.{sees, take_all, Alike, IsStill, step_alike, blank}
+use Rattle.a429_link.proofs.SinkFromTrace.{sees, take_all, Alike, IsStill, step_alike}
+use Rattle.a429_link.specs.Trace.{sink_at_first}
 use Rattle.a429_link.specs.declared.number.UnitNumber.{UnitNumber}
 
 abbrev pub parts_in : List Message → ℕ
@@ -64,15 +65,15 @@ abbrev pub AllAllowed : Contents → List Seen → Sink → List Message → Typ
 AllAllowed p [] k seen = Unit {0}
 AllAllowed p (i ∷ items) k seen = Allowed p k seen i × AllAllowed p items (sees p (Some i) k) (see_item p i seen)
 
-abbrev IsCts : Option Message → Type 0
+abbrev pub IsCts : Option Message → Type 0
 IsCts (Some (Cts n)) = Unit {0}
 IsCts _ = ⊥
 
-abbrev HasCts : Contents → List ℕ → Type 0
+abbrev pub HasCts : Contents → List ℕ → Type 0
 HasCts p [] = ⊥
 HasCts p (v ∷ vs) = IsCts (message_of p bus.B v)
 
-no_cts : (p : Contents) (vs : List ℕ) → vs ≡ [] → HasCts p vs → ⊥
+pub no_cts : (p : Contents) (vs : List ℕ) → vs ≡ [] → HasCts p vs → ⊥
 no_cts p [] e h = h
 no_cts p (v ∷ vs) e h = cc e
 
@@ -231,7 +232,7 @@ parts_take zero ps = omega arith
 parts_take (suc k) [] = omega arith
 parts_take (suc k) (q ∷ ps) = omega (arith, parts_take k ps)
 
-only_start : (k : ℕ) (g f l : ℕ) (ps : List ℕ) (fl ch : ℕ) → slice_get (map Part ps ++ Eot fl ch ∷ []) k ≡ Some (Sot g f l) → ⊥
+pub only_start : (k : ℕ) (g f l : ℕ) (ps : List ℕ) (fl ch : ℕ) → slice_get (map Part ps ++ Eot fl ch ∷ []) k ≡ Some (Sot g f l) → ⊥
 only_start zero g f l [] fl ch e = cc e
 only_start (suc k) g f l [] fl ch e = cc e
 only_start zero g f l (q ∷ ps) fl ch e = cc e
@@ -243,7 +244,7 @@ part_place (suc k) s [] fl ch e = absurd (cc e)
 part_place zero s (q ∷ ps) fl ch e = omega arith
 part_place (suc k) s (q ∷ ps) fl ch e = omega (arith, part_place k s ps fl ch e)
 
-block_word : (P : Message → Type 0) (k : ℕ) (xs : List Message) (w : Message) → Each P xs → slice_get xs k ≡ Some w → P w
+pub block_word : (P : Message → Type 0) (k : ℕ) (xs : List Message) (w : Message) → Each P xs → slice_get xs k ≡ Some w → P w
 block_word P k [] w h e = absurd (cc e)
 block_word P zero (y ∷ ys) w h e = let same : y ≡ w = cc in subst P same h.0
 block_word P (suc k) (y ∷ ys) w h e = block_word P k ys w h.1 e
@@ -307,5 +308,5 @@ run_allowed p good (a ∷ acts) s k seen h f m q =
     push_label p (label a) (trace acts) k seen (step_allowed p good a s k seen h.0 f m q) (run_allowed p good acts (after p a s) (sees p (label a) k) (see_label p (label a) seen) h.1 (step_holds p good a s h.0 f) (step_alike p good a s k h.0 f m) (step_seen p good a s seen h.0 f q))
 
 -- each word of a trace is one that the trace before it allows
-pub trace_allowed : (p : Contents) → IsRead p → (first : ℕ) → first ≤ 255 → (acts : List Step) → IsRun p acts (start p first) → AllAllowed p (trace acts) blank []
-trace_allowed p good first l acts h = run_allowed p good acts (start p first) blank [] h (start_holds p first l) (inl refl) tt
+pub trace_allowed : (p : Contents) → IsRead p → (first : ℕ) → first ≤ 255 → (acts : List Step) → IsRun p acts (start p first) → AllAllowed p (trace acts) sink_at_first []
+trace_allowed p good first l acts h = run_allowed p good acts (start p first) sink_at_first [] h (start_holds p first l) (inl refl) tt

@@ -6,6 +6,7 @@ use Rattle.a429_ldu.specs.Ldu.{LduValue, count_of}
 use Rattle.a429_link.proofs.Message.{IsRead, Rts, Message, next_is_some, next_message, takes_as, takes_message}
 use Rattle.a429_link.specs.Run.{IsRun, delivered, end_of, trace, with_label}
 use Rattle.a429_link.specs.Sink.{Owes, Quiet, Received, Sink, SinkPhase, answers_form, answers_word, takes_first, takes_form, takes_word}
+use Rattle.a429_link.specs.Trace.{sink_after, sink_at_first, sink_sees}
 use Rattle.a429_link.specs.Source.{Waits, after_word}
 use Rattle.a429_link.specs.Step.{Can, after, label}
 use Rattle.a429_link.specs.State.{rest, IsNonEmpty, start, State}
@@ -22,19 +23,10 @@ use Rattle.a429_ldu.specs.declared.forms.Form.{Form}
 use Rattle.a429_ldu.specs.declared.forms.Form.TheVariants as form
 use Rattle.a429_link.specs.declared.number.UnitNumber.{UnitNumber}
 
--- the sink after a recorded word, taken at once
-abbrev pub sees_on : Contents → Bus → ℕ → Sink → Sink
-sees_on p bus.A w k = takes_word p w k
-sees_on p bus.B w k = answers_word p.codes w k
-
+-- the trace's sink after a step's word
 abbrev pub sees : Contents → Option Seen → Sink → Sink
 sees p None k = k
-sees p (Some i) k = sees_on p i.bus i.word k
-
--- the sink after a whole trace
-abbrev pub sink_from : Contents → List Seen → Sink → Sink
-sink_from p [] k = k
-sink_from p (i ∷ items) k = sink_from p items (sees p (Some i) k)
+sees p (Some i) k = sink_sees p i.bus i.word k
 
 -- the sink after all words on the way
 abbrev pub take_all : Contents → List ℕ → Sink → Sink
@@ -69,7 +61,7 @@ abbrev pub Alike : Contents → State → Sink → Type 0
 Alike p s k = (take_all p s.to_sink s.sink ≡ k) ⊎ Rests s k
 
 -- a free word tells nothing
-free_sees : (p : Contents) → IsRead p → (bus : Bus) (w : ℕ) (k : Sink) → is_free p.codes bus w ≡ true → sees_on p bus w k ≡ k
+pub free_sees : (p : Contents) → IsRead p → (bus : Bus) (w : ℕ) (k : Sink) → is_free p.codes bus w ≡ true → sink_sees p bus w k ≡ k
 free_sees p good bus.A w k e = ap (λ o. takes_form p w o k) (good.free bus.A w e)
 free_sees p good bus.B w k e = ap (λ o. answers_form p.codes o k) (good.free bus.B w e)
 
@@ -83,7 +75,7 @@ waits_still Waiting w = tt
 step_on : (p : Contents) → IsRead p → (a : Step) (s : State) (k : Sink) → Can p a s → HoldsAt p s → take_all p s.to_sink s.sink ≡ k → Alike p (after p a s) (sees p (label a) k)
 step_on p good (Load u) s k h c e = inl e
 step_on p good (Sent i) s k h c e =
-    subst (λ b. Alike p (after p (Sent i) s) (sees_on p b i.word k)) (sym h.0) (inl (take_all_push p i.word s.to_sink s.sink ∙ ap (takes_word p i.word) e))
+    subst (λ b. Alike p (after p (Sent i) s) (sink_sees p b i.word k)) (sym h.0) (inl (take_all_push p i.word s.to_sink s.sink ∙ ap (takes_word p i.word) e))
 step_on p good SentLost s k h c e = inl e
 step_on p good TimeOut s k h c e = inl e
 step_on p good TakeAnswer s k h c e = inl e
@@ -100,7 +92,7 @@ step_on p good Silent s k h c e =
 step_on p good (Answered i) s k h c e =
     let r = owed_form p s i h in
     let alone = alone_on_the_way p s (may_owes s.sink.count s.sink.phase r.said r.owed) c in
-    subst (λ b. Alike p (after p (Answered i) s) (sees_on p b i.word k)) (sym h.0) (inl (ap (λ ws. take_all p ws (answers_word p.codes i.word s.sink)) alone.1 ∙ ap (answers_word p.codes i.word) (subst (λ ws. take_all p ws s.sink ≡ k) alone.1 e)))
+    subst (λ b. Alike p (after p (Answered i) s) (sink_sees p b i.word k)) (sym h.0) (inl (ap (λ ws. take_all p ws (answers_word p.codes i.word s.sink)) alone.1 ∙ ap (answers_word p.codes i.word) (subst (λ ws. take_all p ws s.sink ≡ k) alone.1 e)))
 step_on p good (FreeSeen i) s k h c e = inl (e ∙ sym (free_sees p good i.bus i.word k h))
 step_on p good GiveUp s k h c e = inl e
 
@@ -133,7 +125,7 @@ step_off p good (Load u) s k h c r = inr (record { alike = r.alike; still = r.st
 step_off p good (Sent i) s k h c r =
     let says = sends p good s.source i.word c.file c.current h.1 in
     let same : takes_word p i.word (quieted k) ≡ takes_word p i.word k = takes_as p i.word says.said (quieted k) says.says ∙ sent_still p _ _ _ says.said k says.next r.still ∙ sym (takes_as p i.word says.said k says.says) in
-    subst (λ b. Alike p (after p (Sent i) s) (sees_on p b i.word k)) (sym h.0)
+    subst (λ b. Alike p (after p (Sent i) s) (sink_sees p b i.word k)) (sym h.0)
     (inl (take_all_push p i.word s.to_sink s.sink ∙ ap (λ ws. takes_word p i.word (take_all p ws s.sink)) r.no_words ∙ ap (takes_word p i.word) r.alike ∙ same))
 step_off p good SentLost s k h c r = inr (record { alike = r.alike; still = lost_still s.source.number s.source.current s.source.phase (next_is_some p s.source.number s.source.current s.source.phase h) r.still; no_words = r.no_words; no_answers = r.no_answers })
 step_off p good TimeOut s k h c r = inr (record { alike = r.alike; still = tt; no_words = r.no_words; no_answers = r.no_answers })
@@ -150,11 +142,11 @@ pub step_alike : (p : Contents) → IsRead p → (a : Step) (s : State) (k : Sin
 step_alike p good a s k h c (inl e) = step_on p good a s k h c e
 step_alike p good a s k h c (inr r) = step_off p good a s k h c r
 
-sink_from_label : (p : Contents) (l : Option Seen) (items : List Seen) (k : Sink) → sink_from p items (sees p l k) ≡ sink_from p (with_label l items) k
+sink_from_label : (p : Contents) (l : Option Seen) (items : List Seen) (k : Sink) → sink_after p items (sees p l k) ≡ sink_after p (with_label l items) k
 sink_from_label p None items k = refl
 sink_from_label p (Some i) items k = refl
 
-run_alike : (p : Contents) → IsRead p → (acts : List Step) (s : State) (k : Sink) → IsRun p acts s → HoldsAt p s → Alike p s k → Alike p (end_of p acts s) (sink_from p (trace acts) k)
+run_alike : (p : Contents) → IsRead p → (acts : List Step) (s : State) (k : Sink) → IsRun p acts s → HoldsAt p s → Alike p s k → Alike p (end_of p acts s) (sink_after p (trace acts) k)
 run_alike p good [] s k h c m = m
 run_alike p good (a ∷ acts) s k h c m =
     subst (λ x. Alike p (end_of p acts (after p a s)) x) (sink_from_label p (label a) (trace acts) k) (run_alike p good acts (after p a s) (sees p (label a) k) h.1 (step_holds p good a s h.0 c) (step_alike p good a s k h.0 c m))
@@ -169,17 +161,14 @@ take_all_received : (p : Contents) (ws : List ℕ) (k : Sink) → (take_all p ws
 take_all_received p [] k = refl
 take_all_received p (w ∷ ws) k = take_all_received p ws (takes_word p w k) ∙ takes_received p w (form_of p.codes bus.A w) k
 
-abbrev pub blank : Sink
-blank = record { last = None; received = record { files = []; open_bytes = [] }; count = 0; phase = Quiet }
-
 -- what is delivered is what the trace's sink has
-pub delivered_from_trace : (p : Contents) → IsRead p → (first : ℕ) → first ≤ 255 → (acts : List Step) → IsRun p acts (start p first) → delivered p first acts ≡ (sink_from p (trace acts) blank).received.files
+pub delivered_from_trace : (p : Contents) → IsRead p → (first : ℕ) → first ≤ 255 → (acts : List Step) → IsRun p acts (start p first) → delivered p first acts ≡ (sink_after p (trace acts) sink_at_first).received.files
 delivered_from_trace p good first f acts h =
     ⊎_elim
     (λ e. sym (ap (λ (x : Received). x.files) (take_all_received p (end_of p acts (start p first)).to_sink (end_of p acts (start p first)).sink)) ∙ ap (λ (x : Sink). x.received.files) e)
     (λ r. ap (λ (x : Sink). x.received.files) r.alike)
-    (run_alike p good acts (start p first) blank h (start_holds p first f) (inl refl))
+    (run_alike p good acts (start p first) sink_at_first h (start_holds p first f) (inl refl))
 
 pub same_delivered : (p : Contents) (f g : ℕ) (xs ys : List Step) → IsRead p → f ≤ 255 → g ≤ 255 → IsRun p xs (start p f) → IsRun p ys (start p g) → trace xs ≡ trace ys → delivered p f xs ≡ delivered p g ys
 same_delivered p f g xs ys good lf lg h k e =
-    delivered_from_trace p good f lf xs h ∙ ap (λ t. (sink_from p t blank).received.files) e ∙ sym (delivered_from_trace p good g lg ys k)
+    delivered_from_trace p good f lf xs h ∙ ap (λ t. (sink_after p t sink_at_first).received.files) e ∙ sym (delivered_from_trace p good g lg ys k)

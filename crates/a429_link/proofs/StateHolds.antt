@@ -44,7 +44,7 @@ parts_forms p (w ∷ ws) h = (h.0, parts_forms p ws h.1)
 block_forms : (p : Contents) (u : LduValue) (number : UnitNumber) → IsFit p u → number.file ≤ 255 → number.ldu ≤ 255 → Each (InRange p bus.A) (block_messages u number)
 block_forms p u number h f l = ((h.gfi, f, l), each_push (InRange p bus.A) (map Part u.words) (Eot u.flags u.check) (parts_forms p u.words h.parts) (h.flags, h.check))
 
-each_get : (P : Message → Type 0) (k : ℕ) (xs : List Message) (x : Message) → Each P xs → slice_get xs k ≡ Some x → P x
+pub each_get : (P : Message → Type 0) (k : ℕ) (xs : List Message) (x : Message) → Each P xs → slice_get xs k ≡ Some x → P x
 each_get P k [] x h e = absurd (cc e)
 each_get P zero (y ∷ ys) x h e = let same : y ≡ x = cc in subst P same h.0
 each_get P (suc k) (y ∷ ys) x h e = each_get P k ys x h.1 e
@@ -151,7 +151,7 @@ answered_phase p (Ack a b) k count kp m = refl
 answered_phase p (Nak b) k count kp m = refl
 answered_phase p x k count kp m = absurd (may_answer count kp x m)
 
-answered_count : (p : Contents) (x : Message) (k : Sink) → (answers_message p x k).count ≡ k.count
+pub answered_count : (p : Contents) (x : Message) (k : Sink) → (answers_message p x k).count ≡ k.count
 answered_count p (Ack a b) k = acks_count p.codes k.phase k
 answered_count p _ k = refl
 

@@ -7,5 +7,13 @@ pub mod Step
 pub mod Transfer
 pub mod Run
 pub mod Observer
+pub mod Trace
+pub mod Why
+pub mod Allowed
+pub mod Attempt
+pub mod Assignment
+pub mod Group
+pub mod WholeBlock
+pub mod Contradiction
 pub mod Link
 pub mod Clean

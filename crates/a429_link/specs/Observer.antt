@@ -76,3 +76,8 @@ IsRefused p items i = AllowsNext p (observed p (take i items) at_first) (slice_g
 -- a block that is kept has at most as many data words as were recorded, and those are few
 abbrev pub KeepsRecorded : SinkPhase → ℕ → Type 0
 KeepsRecorded phase parts = (length (kept_words phase) ≤ parts) × (parts ≤ 253)
+
+-- each of these items is allowed after those before it
+abbrev pub AreAllowed : Contents → Observer → List Seen → Type 0
+AreAllowed p o [] = Unit {0}
+AreAllowed p o (i ∷ items) = Allows p o i × AreAllowed p (sees p i o) items

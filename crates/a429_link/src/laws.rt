@@ -9,6 +9,9 @@ ghost use Rattle.a429_link.specs.Run.{IsRun, RunOf, end_of, trace, delivered, de
 ghost use Rattle.a429_link.specs.Observer.{IsRefused};
 ghost use Rattle.a429_link.specs.Link.{Call, AreMade, applied, taken_and_waiting, left_with_taken};
 
+pub mod attempts;
+pub mod traces;
+
 /// Two runs that record the same words deliver the same files, with whichever file numbers they begin.
 pub fn one_trace_one_delivery()
     ensures { (p : Contents) (r s : RunOf p) → trace r.steps ≡ trace s.steps → delivered_by r ≡ delivered_by s }

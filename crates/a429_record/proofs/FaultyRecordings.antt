@@ -22,7 +22,7 @@ Refuses n last row _ = ⊥
 
 -- ---- from the rows
 
-refused-stops : (n last : ℕ) (row : Option Entry) (behind : List (Option Entry)) (f : ReadFault) → Refuses n last row f → entries_stand_for n last (row ∷ behind) ≡ stops f
+refused-stops : (n last : ℕ) (row : Option Entry) (behind : List (Option Entry)) (f : ReadFault) → Refuses n last row f → entries_stand_for most_entries n last (row ∷ behind) ≡ stops f
 refused-stops n last row behind fault.Header h = absurd h
 refused-stops n last row behind fault.Device h = absurd h
 refused-stops n last row behind fault.OutOfMemory h = absurd h
@@ -39,14 +39,14 @@ refused-stops n last row behind (fault.TimeBack i) h =
 
 -- entries come before what the rest stands for
 entries-after : (n last : ℕ) (rest : List (Option Entry)) (es : List Entry) (f : ReadFault) → n + length es ≤ most_entries → NeverFalls last es
-    → entries_stand_for (n + length es) (last_time last es) rest ≡ stops f → entries_stand_for n last (map Some es ++ rest) ≡ stops_after es f
+    → entries_stand_for most_entries (n + length es) (last_time last es) rest ≡ stops f → entries_stand_for most_entries n last (map Some es ++ rest) ≡ stops_after es f
 entries-after n last rest [] f few up h = let none : n + 0 ≡ n = omega arith in rw none at h
 entries-after n last rest (x ∷ es) f few up h =
     let least : last ≤ x.time = up.0 in
     let room : (n == most_entries) ≡ false = grind (arith, nat_tests) in
     let kept : nat_lt x.time last ≡ false = grind (arith, nat_tests) in
     let count : n + length (x ∷ es) ≡ n + 1 + length es = omega arith in
-    let after = entries-after (n + 1) x.time rest es f (omega arith) up.1 (subst (λ (k : ℕ). entries_stand_for k (last_time x.time es) rest ≡ stops f) count h) in
+    let after = entries-after (n + 1) x.time rest es f (omega arith) up.1 (subst (λ (k : ℕ). entries_stand_for most_entries k (last_time x.time es) rest ≡ stops f) count h) in
     rw (room, kept, after) refl
 
 refuses : (es : List Entry) (row : Option Entry) (f : ReadFault) → IsRefusedRow es row f → Refuses (0 + length es) (last_time 0 es) row f
@@ -61,20 +61,20 @@ refuses es row (fault.TimeBack i) h =
     let last : last_time 0 es ≡ above.1.time = ap (last_time 0) above.2 ∙ last_time-push 0 above.0 above.1 in
     (omega (arith, h.0), h.1, (h.2.0, h.2.1, rw last above.3))
 
-refused-stands : (rows : List (Option Entry)) (es : List Entry) (f : ReadFault) → IsRefusedAmong rows es f → entries_stand_for 0 0 rows ≡ stops_after es f
+refused-stands : (rows : List (Option Entry)) (es : List Entry) (f : ReadFault) → IsRefusedAmong rows es f → entries_stand_for most_entries 0 0 rows ≡ stops_after es f
 refused-stands rows es f w =
     let c = w.comes in
     let stop = refused-stops (0 + length es) (last_time 0 es) w.entry c.behind f (refuses es w.entry f w.refused) in
-    ap (entries_stand_for 0 0) c.all ∙ entries-after 0 0 (w.entry ∷ c.behind) es f (omega (arith, c.recordable.0)) c.recordable.1 stop
+    ap (entries_stand_for most_entries 0 0) c.all ∙ entries-after 0 0 (w.entry ∷ c.behind) es f (omega (arith, c.recordable.0)) c.recordable.1 stop
 
-behind-stands : (rows : List Row) (es : List Entry) (f : ReadFault) → IsRefusedBehind rows es f → all_rows_stand_for rows ≡ stops_after es f
-behind-stands rows es f w = ap all_rows_stand_for w.all ∙ rw w.first (refused-stands (map entry_in w.more) es f w.among)
+behind-stands : (rows : List Row) (es : List Entry) (f : ReadFault) → IsRefusedBehind rows es f → all_rows_stand_for most_entries rows ≡ stops_after es f
+behind-stands rows es f w = ap (all_rows_stand_for most_entries) w.all ∙ rw w.first (refused-stands (map entry_in w.more) es f w.among)
 
-headless : (rows : List Row) → HasNoHeader rows → all_rows_stand_for rows ≡ stops fault.Header
+headless : (rows : List Row) → HasNoHeader rows → all_rows_stand_for most_entries rows ≡ stops fault.Header
 headless [] h = refl
 headless (r ∷ rows) h = rw h refl
 
-text-faulty : (bytes : List ℕ) (es : List Entry) (f : ReadFault) → IsFaultyText bytes es f → all_rows_stand_for (rows_of bytes) ≡ stops_after es f
+text-faulty : (bytes : List ℕ) (es : List Entry) (f : ReadFault) → IsFaultyText bytes es f → all_rows_stand_for most_entries (rows_of bytes) ≡ stops_after es f
 text-faulty bytes es fault.Header h = headless (rows_of bytes) h.1 ∙ ap (λ (l : List Entry). stops_after l fault.Header) (sym h.0)
 text-faulty bytes es (fault.Row i) h = behind-stands (rows_of bytes) es (fault.Row i) h
 text-faulty bytes es (fault.TimeBack i) h = behind-stands (rows_of bytes) es (fault.TimeBack i) h
@@ -152,16 +152,16 @@ row-stands n last r (Some x) more es f under is e = elim (cases_Bool (nat_lt x.t
 nothing_stops : (es : List Entry) (f : ReadFault) → whole [] ≡ stops_after es f → ⊥
 nothing_stops es f e = cc (ap (λ (t : Recording). t.fault) e)
 
-rows-stop : (n last : ℕ) (rows : List (Option Entry)) (es : List Entry) (f : ReadFault) → n ≤ most_entries → entries_stand_for n last rows ≡ stops_after es f → StopsAt n last rows es f
+rows-stop : (n last : ℕ) (rows : List (Option Entry)) (es : List Entry) (f : ReadFault) → n ≤ most_entries → entries_stand_for most_entries n last rows ≡ stops_after es f → StopsAt n last rows es f
 rows-stop n last [] es f few e = absurd (nothing_stops es f e)
 rows-stop n last (r ∷ rows) es f few e = elim (cases_Bool (n == most_entries)) [
   | inl full ↦ let all : n ≡ most_entries = grind (arith, nat_tests) in stops_here n last r rows es f fault.TooMany few (rw full at e) all
   | inr room ↦
       let under : n < most_entries = grind (arith, nat_tests) in
-      elim (row-stands n last r r (λ x. entries_stand_for (n + 1) x.time rows) es f under refl (rw room at e)) [
+      elim (row-stands n last r r (λ x. entries_stand_for most_entries (n + 1) x.time rows) es f under refl (rw room at e)) [
         | inl h ↦ stops_here n last r rows es f h.0 few h.1 h.2
         | inr w ↦
-            let rest = entries_stand_for (n + 1) w.entry.time rows in
+            let rest = entries_stand_for most_entries (n + 1) w.entry.time rows in
             let same : rest ≡ stops_after rest.entries f = ap (λ (o : Option ReadFault). record { entries = rest.entries; fault = o }) w.rest in
             let later = rows-stop (n + 1) w.entry.time rows rest.entries f (omega arith) same in
             let There : List Entry → Type 0 = λ l. StopsAt n last (r ∷ rows) l f in
@@ -223,9 +223,9 @@ no_header bytes rows es f is none e =
     let There : ReadFault → Type 0 = λ g. IsFaultyText bytes es g in
     subst There same (sym (ap (λ (t : Recording). t.entries) e), rw is none)
 
-stands-faulty : (bytes : List ℕ) (es : List Entry) (f : ReadFault) → all_rows_stand_for (rows_of bytes) ≡ stops_after es f → IsFaultyText bytes es f
+stands-faulty : (bytes : List ℕ) (es : List Entry) (f : ReadFault) → all_rows_stand_for most_entries (rows_of bytes) ≡ stops_after es f → IsFaultyText bytes es f
 stands-faulty bytes es f e = from_rows (rows_of bytes) refl e where
-  from_rows : (rows : List Row) → rows_of bytes ≡ rows → all_rows_stand_for rows ≡ stops_after es f → IsFaultyText bytes es f
+  from_rows : (rows : List Row) → rows_of bytes ≡ rows → all_rows_stand_for most_entries rows ≡ stops_after es f → IsFaultyText bytes es f
   from_rows [] is e = no_header bytes [] es f is tt e
   from_rows (r ∷ rows) is e = elim (cases_Bool (is_header r)) [
     | inl first ↦ behind_header bytes r rows es f is first (rows-stop 0 0 (map entry_in rows) es f (omega arith) (rw first at e))

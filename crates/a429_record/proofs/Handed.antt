@@ -10,7 +10,7 @@ use Rattle.a429_record.specs.declared.entry.Entry.{Entry}
 use Rattle.a429_record.specs.declared.fault.ReadFault.{ReadFault}
 use Rattle.a429_record.specs.Ends.{HasNoEnd}
 use Rattle.a429_record.specs.Row.{Row, is_header, entry_in, line_rows}
-use Rattle.a429_record.specs.Recording.{Recording, recording_lines, with_first, rows_of, most_entries, row_stands_for, entries_stand_for, IsRecordable}
+use Rattle.a429_record.specs.Recording.{Recording, recording_lines, with_first, rows_of, row_stands_for, entries_stand_for, IsWithin}
 use Rattle.a429_record.specs.Handed.{onto_first, ended_lines, ended_rows, AreSound, Loses, HasNoTextFault, HasNoRow, IsOpen, IsLineHanded, IsEnded, AreLines, AreHeader, AreEntryOf, AreGiven}
 use Rattle.a429_record.proofs.LinesFacts.{lines_of-ended, lines_of-last, given}
 use Rattle.a429_record.proofs.WholeRecordings.{recordable-whole}
@@ -172,26 +172,26 @@ row-front n last (Some x) long short h e = elim (cases_Bool (nat_lt x.time last)
   | inr kept ↦ rw kept (h x (rw kept at e))
 ]
 
-entries-front : (n last : ℕ) (rows more : List (Option Entry)) → (entries_stand_for n last (rows ++ more)).fault ≡ None → (entries_stand_for n last rows).fault ≡ None
-entries-front n last [] more e = refl
-entries-front n last (r ∷ rows) more e = elim (cases_Bool (n == most_entries)) [
+entries-front : (most n last : ℕ) (rows more : List (Option Entry)) → (entries_stand_for most n last (rows ++ more)).fault ≡ None → (entries_stand_for most n last rows).fault ≡ None
+entries-front most n last [] more e = refl
+entries-front most n last (r ∷ rows) more e = elim (cases_Bool (n == most)) [
   | inl full ↦ rw full (rw full at e)
-  | inr room ↦ rw room (row-front n last r (λ x. entries_stand_for (n + 1) x.time (rows ++ more)) (λ x. entries_stand_for (n + 1) x.time rows) (λ x. entries-front (n + 1) x.time rows more) (rw room at e))
+  | inr room ↦ rw room (row-front n last r (λ x. entries_stand_for most (n + 1) x.time (rows ++ more)) (λ x. entries_stand_for most (n + 1) x.time rows) (λ x. entries-front most (n + 1) x.time rows more) (rw room at e))
 ]
 
-given-sound : (es : List Entry) (rows more : List Row) → IsRecordable es → AreGiven es (rows ++ more) → AreSound rows
-given-sound es [] more h g = tt
-given-sound es (r ∷ rows) more h g =
+given-sound : (most : ℕ) (es : List Entry) (rows more : List Row) → IsWithin most es → AreGiven es (rows ++ more) → AreSound most rows
+given-sound most es [] more h g = tt
+given-sound most es (r ∷ rows) more h g =
     let here : r ≡ g.header = cc g.all in
     let rest : rows ++ more ≡ g.more = cc g.all in
     let first : is_header r ≡ true = rw here g.first in
     let all : map entry_in rows ++ map entry_in more ≡ map entry_in g.more = sym (map-append entry_in rows more) ∙ ap (map entry_in) rest in
-    let holds = ap (entries_stand_for 0 0) all ∙ recordable-whole (map entry_in g.more) es g.entries h in
-    rw first (entries-front 0 0 (map entry_in rows) (map entry_in more) (ap (λ (t : Recording). t.fault) holds))
+    let holds = ap (entries_stand_for most 0 0) all ∙ recordable-whole most (map entry_in g.more) es g.entries h in
+    rw first (entries-front most 0 0 (map entry_in rows) (map entry_in more) (ap (λ (t : Recording). t.fault) holds))
 
 -- entries were given, and then there was no row
-pub sound : (es : List Entry) (t u rest : List ℕ) → IsRecordable es → AreLines (AreGiven es) t (u ++ rest) → HasNoRow u rest → HasNoTextFault (t ++ u) rest
-sound es t u rest h p none = let (more, g) = lines_no_row (AreGiven es) t u rest p none in given-sound es (ended_rows (t ++ u)) more h g
+pub sound : (most : ℕ) (es : List Entry) (t u rest : List ℕ) → IsWithin most es → AreLines (AreGiven es) t (u ++ rest) → HasNoRow u rest → HasNoTextFault most (t ++ u) rest
+sound most es t u rest h p none = let (more, g) = lines_no_row (AreGiven es) t u rest p none in given-sound most es (ended_rows (t ++ u)) more h g
 
 -- a row more
 pub given_row : (es : List Entry) (e : Entry) (x y : List Row) → AreGiven es x → map entry_in y ≡ Some e ∷ [] → AreGiven (es ++ (e ∷ [])) (x ++ y)
@@ -260,18 +260,18 @@ given_next es more e a b c is p q =
     lines_both (AreGiven es) (AreEntryOf e) (AreGiven (es ++ (e ∷ []))) t u rest before after (given_row es e)))
 
 -- the reader fails before an entry
-pub failed_next : (es : List Entry) (a b c : Option (List ℕ)) → IsRecordable es → Loses (AreLines (AreGiven es)) a b → Loses HasNoRow b c → Loses HasNoTextFault a c
-failed_next es a b c h p q = lost_both _ _ _ a b c p q (λ t u rest before after. sound es t u rest h before after)
+pub failed_next : (most : ℕ) (es : List Entry) (a b c : Option (List ℕ)) → IsWithin most es → Loses (AreLines (AreGiven es)) a b → Loses HasNoRow b c → Loses (HasNoTextFault most) a c
+failed_next most es a b c h p q = lost_both _ _ _ a b c p q (λ t u rest before after. sound most es t u rest h before after)
 
 -- ---- the header and the first entry
 
 -- the reader fails before the header
-pub failed_header : (a b : Option (List ℕ)) → Loses HasNoRow a b → Loses HasNoTextFault a b
-failed_header a b h = lost_so HasNoRow HasNoTextFault a b h (λ t rest none. subst AreSound (sym none) tt)
+pub failed_header : (most : ℕ) (a b : Option (List ℕ)) → Loses HasNoRow a b → Loses (HasNoTextFault most) a b
+failed_header most a b h = lost_so HasNoRow (HasNoTextFault most) a b h (λ t rest none. subst (AreSound most) (sym none) tt)
 
 -- it fails behind the header
-pub failed_first : (a b c : Option (List ℕ)) → Loses (AreLines AreHeader) a b → Loses HasNoRow b c → Loses HasNoTextFault a c
-failed_first a b c p q = failed_next [] a b c (omega arith, tt) (given_header a b p) q
+pub failed_first : (most : ℕ) (a b c : Option (List ℕ)) → Loses (AreLines AreHeader) a b → Loses HasNoRow b c → Loses (HasNoTextFault most) a c
+failed_first most a b c p q = failed_next most [] a b c (omega arith, tt) (given_header a b p) q
 
 -- the header comes, and then an entry, where the answer is one
 pub given_first : (r : Result (Option Entry) ReadFault) (a b c : Option (List ℕ)) → Loses (AreLines AreHeader) a b → IfOk r (λ o. IfSome o (λ e. Loses (AreLines (AreEntryOf e)) b c))

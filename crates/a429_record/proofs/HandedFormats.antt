@@ -12,9 +12,9 @@ use Rattle.a429_record.specs.declared.stage.Stage.{Stage}
 use Rattle.a429_record.specs.declared.stage.Stage.TheVariants as stage
 use Rattle.a429_record.specs.Ends.{HasNoEnd}
 use Rattle.a429_record.specs.Binary.{magic, is_binary, piece_entries}
-use Rattle.a429_record.specs.Recording.{Recording, rows_of, entries_stand_for, all_rows_stand_for, stands_for, IsRecordable}
+use Rattle.a429_record.specs.Recording.{Recording, rows_of, entries_stand_for, all_rows_stand_for, stands_within, IsWithin}
 use Rattle.a429_record.specs.WholeRecordings.{AreBinary}
-use Rattle.a429_record.specs.Handed.{AreSound, Loses, HasNoFault, HasNoTextFault, HasNoRow, IsCut, IsCutAfter, IsCutBinary, AreLines, AreGiven, ArePieceOf}
+use Rattle.a429_record.specs.Handed.{AreSound, Loses, HasNoFaultWithin, HasNoTextFault, HasNoRow, IsCut, IsCutAfter, IsCutBinary, AreLines, AreGiven, ArePieceOf}
 use Rattle.a429_record.specs.Lines.{Chooses, IsMagicFront}
 use Rattle.a429_record.specs.Rows.{GivesNext, IfEntry, chosen_form}
 use Rattle.a429_record.specs.Reading.{AreFirstHanded, AreNextHanded, AreHandedAt, MakesNoFault, PassesAt, IsChosen, IsFormatAfter}
@@ -24,10 +24,10 @@ use Rattle.a429_record.proofs.Handed.{nothing_lost, lost_both, lost_so, open_no_
 -- ---- the first bytes
 
 -- nothing was read, and the reader has failed
-pub failed_begun : (k : Option (List ℕ)) (ahead : List ℕ) → ahead ≡ [] → Loses HasNoFault (prepend_known ahead k) k
-failed_begun k ahead none =
+pub failed_begun : (most : ℕ) (k : Option (List ℕ)) (ahead : List ℕ) → ahead ≡ [] → Loses (HasNoFaultWithin most) (prepend_known ahead k) k
+failed_begun most k ahead none =
     let own : prepend_known ahead k ≡ k = rw none (prepend_known-nil k) in
-    subst (λ (o : Option (List ℕ)). Loses HasNoFault o k) (sym own) (nothing_lost HasNoFault k (λ rest. (λ e. cc e, λ e. tt)))
+    subst (λ (o : Option (List ℕ)). Loses (HasNoFaultWithin most) o k) (sym own) (nothing_lost (HasNoFaultWithin most) k (λ rest. (λ e. cc e, λ e. tt)))
 
 HasNoEnd-take : (n : ℕ) (xs : List ℕ) → HasNoEnd xs → HasNoEnd (take n xs)
 HasNoEnd-take zero xs h = tt
@@ -38,47 +38,47 @@ magic-end : HasNoEnd magic
 magic-end = search rules
 
 -- the reader fails among the eight bytes
-pub failed_magic : (a b : Option (List ℕ)) → Loses IsMagicFront a b → Loses HasNoFault a b
-failed_magic a b h = lost_so IsMagicFront HasNoFault a b h (λ t rest w.
+pub failed_magic : (most : ℕ) (a b : Option (List ℕ)) → Loses IsMagicFront a b → Loses (HasNoFaultWithin most) a b
+failed_magic most a b h = lost_so IsMagicFront (HasNoFaultWithin most) a b h (λ t rest w.
     let few : length t < 8 = rw w.2 (subst (λ (n : ℕ). n < 8) (sym (length-take-le w.0 magic (omega (arith, w.1)))) w.1) in
     let none : HasNoRow t rest = open_no_row t rest (rw w.2 (HasNoEnd-take w.0 magic magic-end)) in
-    (λ binary. absurd (cc (sym (short_text t few) ∙ binary)), λ text. subst AreSound (sym none) tt))
+    (λ binary. absurd (cc (sym (short_text t few) ∙ binary)), λ text. subst (AreSound most) (sym none) tt))
 
 -- it fails in a text
-pub failed_text : (a b c : Option (List ℕ)) → Chooses format.Text a b → Loses HasNoTextFault b c → Loses HasNoFault a c
-failed_text None b c p q = tt
-failed_text (Some xs) None c p q = absurd p.0
-failed_text (Some xs) (Some ys) None p q = absurd q
-failed_text (Some xs) (Some ys) (Some zs) p q =
+pub failed_text : (most : ℕ) (a b c : Option (List ℕ)) → Chooses format.Text a b → Loses (HasNoTextFault most) b c → Loses (HasNoFaultWithin most) a c
+failed_text most None b c p q = tt
+failed_text most (Some xs) None c p q = absurd p.0
+failed_text most (Some xs) (Some ys) None p q = absurd q
+failed_text most (Some xs) (Some ys) (Some zs) p q =
     let all : xs ≡ q.0 ++ zs = sym p.0 ∙ q.1 in
     (q.0, all, (λ binary. absurd (cc (sym p.1 ∙ ap is_binary all ∙ still_binary q.0 zs binary)), λ text. q.2))
 
 -- it fails in a binary recording, before an entry was given
-pub failed_binary : (a b c : Option (List ℕ)) (count : ℕ) → count ≡ 0 → Chooses format.Binary a b → Loses (IsCutAfter count) b c → Loses HasNoFault a c
-failed_binary None b c count none p q = tt
-failed_binary (Some xs) None c count none p q = absurd p
-failed_binary (Some xs) (Some ys) None count none p q = absurd q
-failed_binary (Some xs) (Some ys) (Some zs) count none p q =
-    let short : IsCut 0 q.0 = rw none at q.2 in
-    let sound : IsCutBinary (magic ++ q.0) = record { entries = []; front = magic; cut = q.0; all = refl; whole = (record { behind = []; all = refl; entries = refl }, (omega arith, tt)); short = short } in
+pub failed_binary : (most : ℕ) (a b c : Option (List ℕ)) (count : ℕ) → count ≡ 0 → Chooses format.Binary a b → Loses (IsCutAfter most count) b c → Loses (HasNoFaultWithin most) a c
+failed_binary most None b c count none p q = tt
+failed_binary most (Some xs) None c count none p q = absurd p
+failed_binary most (Some xs) (Some ys) None count none p q = absurd q
+failed_binary most (Some xs) (Some ys) (Some zs) count none p q =
+    let short : IsCut most 0 q.0 = rw none at q.2 in
+    let sound : IsCutBinary most (magic ++ q.0) = record { entries = []; front = magic; cut = q.0; all = refl; whole = (record { behind = []; all = refl; entries = refl }, (omega arith, tt)); short = short } in
     (magic ++ q.0, p ∙ ap (λ (l : List ℕ). magic ++ l) q.1 ∙ sym (append_assoc magic q.0 zs), (λ binary. sound, λ text. cc text))
 
 -- ---- the first answer
 
-pub first_text : (a b : Option (List ℕ)) (new : Option Recording) (r : Result (Option Entry) ReadFault) → Chooses format.Text a b
-    → GivesNext (option_map all_rows_stand_for (option_map rows_of b)) new r → GivesNext (option_map stands_for a) new r
-first_text None b new r p h = tt
-first_text (Some xs) None new r p h = absurd p.0
-first_text (Some xs) (Some ys) new r p h =
-    let same : all_rows_stand_for (rows_of ys) ≡ stands_for xs = rw (p.1, p.0) refl in
+pub first_text : (most : ℕ) (a b : Option (List ℕ)) (new : Option Recording) (r : Result (Option Entry) ReadFault) → Chooses format.Text a b
+    → GivesNext (option_map (all_rows_stand_for most) (option_map rows_of b)) new r → GivesNext (option_map (stands_within most) a) new r
+first_text most None b new r p h = tt
+first_text most (Some xs) None new r p h = absurd p.0
+first_text most (Some xs) (Some ys) new r p h =
+    let same : all_rows_stand_for most (rows_of ys) ≡ stands_within most xs = rw (p.1, p.0) refl in
     subst (λ (t : Recording). GivesNext (Some t) new r) same h
 
-pub first_binary : (a b : Option (List ℕ)) (new : Option Recording) (n last : ℕ) (r : Result (Option Entry) ReadFault) → n ≡ 0 → last ≡ 0 → Chooses format.Binary a b
-    → GivesNext (option_map (λ bytes. entries_stand_for n last (piece_entries bytes)) b) new r → GivesNext (option_map stands_for a) new r
-first_binary None b new n last r none start p h = tt
-first_binary (Some xs) None new n last r none start p h = absurd p
-first_binary (Some xs) (Some ys) new n last r none start p h =
-    let same : entries_stand_for n last (piece_entries ys) ≡ stands_for xs = rw (none, start, p) refl in
+pub first_binary : (most : ℕ) (a b : Option (List ℕ)) (new : Option Recording) (n last : ℕ) (r : Result (Option Entry) ReadFault) → n ≡ 0 → last ≡ 0 → Chooses format.Binary a b
+    → GivesNext (option_map (λ bytes. entries_stand_for most n last (piece_entries bytes)) b) new r → GivesNext (option_map (stands_within most) a) new r
+first_binary most None b new n last r none start p h = tt
+first_binary most (Some xs) None new n last r none start p h = absurd p
+first_binary most (Some xs) (Some ys) new n last r none start p h =
+    let same : entries_stand_for most n last (piece_entries ys) ≡ stands_within most xs = rw (none, start, p) refl in
     subst (λ (t : Recording). GivesNext (Some t) new r) same h
 
 pub chosen_text : (a b : Option (List ℕ)) → Chooses format.Text a b → IsChosen a format.Text
@@ -177,32 +177,32 @@ form_at stage.Failed old f es (Some xs) None p has stays = absurd p
 form_at stage.Failed old f es (Some xs) (Some ys) p has stays = absurd p.2
 
 -- the reader fails behind entries of a binary recording
-cut_binary : (es : List Entry) (count : ℕ) (t u rest : List ℕ) → IsRecordable es → length es ≡ count → AreBinary t es → IsCut count u → HasNoFault (t ++ u) rest
-cut_binary es count t u rest h size given cut =
-    let short : IsCut (length es) u = rw size cut in
-    let sound : IsCutBinary (t ++ u) = record { entries = es; front = t; cut = u; all = refl; whole = (given, h); short = short } in
+cut_binary : (most : ℕ) (es : List Entry) (count : ℕ) (t u rest : List ℕ) → IsWithin most es → length es ≡ count → AreBinary t es → IsCut most count u → HasNoFaultWithin most (t ++ u) rest
+cut_binary most es count t u rest h size given cut =
+    let short : IsCut most (length es) u = rw size cut in
+    let sound : IsCutBinary most (t ++ u) = record { entries = es; front = t; cut = u; all = refl; whole = (given, h); short = short } in
     let binary : is_binary (t ++ u) ≡ true = rw given.all refl in
     (λ _. sound, λ text. absurd (cc (sym binary ∙ text)))
 
-failed_in : (f : Format) (es : List Entry) (count : ℕ) (a b c : Option (List ℕ)) → IsRecordable es → length es ≡ count → IsChosen a f → Loses (AreGivenIn f es) a b → Loses (MakesNoFault f count) b c
-    → Loses HasNoFault a c
-failed_in format.Text es count None b c h size chosen p q = tt
-failed_in format.Text es count (Some xs) b c h size chosen p q =
-    failed_text (Some xs) (Some xs) c (refl, text_of xs chosen) (failed_next es (Some xs) b c h p q)
+failed_in : (most : ℕ) (f : Format) (es : List Entry) (count : ℕ) (a b c : Option (List ℕ)) → IsWithin most es → length es ≡ count → IsChosen a f → Loses (AreGivenIn f es) a b → Loses (MakesNoFault most f count) b c
+    → Loses (HasNoFaultWithin most) a c
+failed_in most format.Text es count None b c h size chosen p q = tt
+failed_in most format.Text es count (Some xs) b c h size chosen p q =
+    failed_text most (Some xs) (Some xs) c (refl, text_of xs chosen) (failed_next most es (Some xs) b c h p q)
   where
     text_of : (xs : List ℕ) → format.Text ≡ chosen_form xs → is_binary xs ≡ false
     text_of xs chosen = elim (cases_Bool (is_binary xs)) [
       | inr text ↦ text
       | inl binary ↦ cc (rw binary at chosen)
     ]
-failed_in format.Binary es count a b c h size chosen p q = lost_both _ _ _ a b c p q (λ t u rest before after. cut_binary es count t u rest h size before after)
+failed_in most format.Binary es count a b c h size chosen p q = lost_both _ _ _ a b c p q (λ t u rest before after. cut_binary most es count t u rest h size before after)
 
 -- it fails
-pub failed_at : (at : Stage) (f : Format) (es : List Entry) (count : ℕ) (a b c : Option (List ℕ)) → IsRecordable es → length es ≡ count → IsFormOf at a f → Loses (AreGivenAt at f es) a b
-    → Loses (PassesAt at f count) b c → Loses HasNoFault a c
-failed_at stage.Begins f es count a b c h size has p q = lost_both _ _ _ a b c p q (λ t u rest before after.
-    let There : List ℕ → Type 0 = λ l. HasNoFault (l ++ u) rest in
+pub failed_at : (most : ℕ) (at : Stage) (f : Format) (es : List Entry) (count : ℕ) (a b c : Option (List ℕ)) → IsWithin most es → length es ≡ count → IsFormOf at a f → Loses (AreGivenAt at f es) a b
+    → Loses (PassesAt most at f count) b c → Loses (HasNoFaultWithin most) a c
+failed_at most stage.Begins f es count a b c h size has p q = lost_both _ _ _ a b c p q (λ t u rest before after.
+    let There : List ℕ → Type 0 = λ l. HasNoFaultWithin most (l ++ u) rest in
     subst There (sym before.1) after)
-failed_at stage.Rows f es count a b c h size has p q = failed_in f es count a b c h size has p q
-failed_at stage.Ended f es count a b c h size has p q = lost_both _ _ _ a b c p q (λ t u rest before after. absurd before)
-failed_at stage.Failed f es count a b c h size has p q = lost_both _ _ _ a b c p q (λ t u rest before after. absurd before)
+failed_at most stage.Rows f es count a b c h size has p q = failed_in most f es count a b c h size has p q
+failed_at most stage.Ended f es count a b c h size has p q = lost_both _ _ _ a b c p q (λ t u rest before after. absurd before)
+failed_at most stage.Failed f es count a b c h size has p q = lost_both _ _ _ a b c p q (λ t u rest before after. absurd before)

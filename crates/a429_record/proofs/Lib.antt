@@ -1,4 +1,5 @@
 pub mod RowDigits
+pub mod ScanFacts
 pub mod LineRecords
 pub mod LinePlain
 pub mod MarkFacts
@@ -9,6 +10,7 @@ pub mod FormatFacts
 pub mod RowsFacts
 pub mod WritingFacts
 pub mod WholeRecordings
+pub mod LargerLimits
 pub mod FaultyRecordings
 pub mod Handed
 pub mod HandedFormats

@@ -38,29 +38,29 @@ same_rows (Some all) b line h none = let e : all ≡ h.0 = rw (← none) at h.2 
 -- ---- the header
 
 -- the row of a line is the header, or it is not
-pub header_row : (rows : Option (List Row)) (b : Option (List ℕ)) (line : List ℕ) (r : Row) (u : Unit {0}) → AreRowsAfter rows line b → r ∷ [] ≡ line_rows line → is_header r ≡ true
-    → TakesHeader rows (option_map rows_of b) (Ok u)
-header_row None b line r u h one first = tt
-header_row (Some all) b line r u h one first =
-    let e : all ≡ r ∷ h.0 = rw (← one) at h.2 in (h.0, h.1, ap all_rows_stand_for e ∙ rw first refl)
+pub header_row : (most : ℕ) (rows : Option (List Row)) (b : Option (List ℕ)) (line : List ℕ) (r : Row) (u : Unit {0}) → AreRowsAfter rows line b → r ∷ [] ≡ line_rows line → is_header r ≡ true
+    → TakesHeader most rows (option_map rows_of b) (Ok u)
+header_row most None b line r u h one first = tt
+header_row most (Some all) b line r u h one first =
+    let e : all ≡ r ∷ h.0 = rw (← one) at h.2 in (h.0, h.1, ap (all_rows_stand_for most) e ∙ rw first refl)
 
-pub other_row : (rows : Option (List Row)) (b : Option (List ℕ)) (line : List ℕ) (r : Row) → AreRowsAfter rows line b → r ∷ [] ≡ line_rows line → is_header r ≡ false
-    → TakesHeader rows (option_map rows_of b) (Err fault.Header)
-other_row None b line r h one first = tt
-other_row (Some all) b line r h one first =
-    let e : all ≡ r ∷ h.0 = rw (← one) at h.2 in ap all_rows_stand_for e ∙ rw first refl
+pub other_row : (most : ℕ) (rows : Option (List Row)) (b : Option (List ℕ)) (line : List ℕ) (r : Row) → AreRowsAfter rows line b → r ∷ [] ≡ line_rows line → is_header r ≡ false
+    → TakesHeader most rows (option_map rows_of b) (Err fault.Header)
+other_row most None b line r h one first = tt
+other_row most (Some all) b line r h one first =
+    let e : all ≡ r ∷ h.0 = rw (← one) at h.2 in ap (all_rows_stand_for most) e ∙ rw first refl
 
 -- the header makes a fault
-pub header_stops : (rows mid : Option (List Row)) (new : Option Recording) (f : ReadFault) → TakesHeader rows mid (Err f) → GivesNext (option_map all_rows_stand_for rows) new (Err f)
-header_stops None mid new f h = tt
-header_stops (Some all) mid new f h = h
+pub header_stops : (most : ℕ) (rows mid : Option (List Row)) (new : Option Recording) (f : ReadFault) → TakesHeader most rows mid (Err f) → GivesNext (option_map (all_rows_stand_for most) rows) new (Err f)
+header_stops most None mid new f h = tt
+header_stops most (Some all) mid new f h = h
 
 -- the header is taken, and then the answer is that of the rows behind it
-pub header_passes : (rows mid : Option (List Row)) (new : Option Recording) (n last : ℕ) (u : Unit {0}) (answer : Result (Option Entry) ReadFault) → n ≡ 0 → last ≡ 0
-    → TakesHeader rows mid (Ok u) → GivesNext (option_map (rows_stand_for n last) mid) new answer → GivesNext (option_map all_rows_stand_for rows) new answer
-header_passes None mid new n last u answer zero start took h = tt
-header_passes (Some all) mid new n last u answer zero start took h =
-    let same : option_map (rows_stand_for n last) mid ≡ Some (all_rows_stand_for all) = rw (took.1, zero, start) (ap Some (sym took.2)) in
+pub header_passes : (most : ℕ) (rows mid : Option (List Row)) (new : Option Recording) (n last : ℕ) (u : Unit {0}) (answer : Result (Option Entry) ReadFault) → n ≡ 0 → last ≡ 0
+    → TakesHeader most rows mid (Ok u) → GivesNext (option_map (rows_stand_for most n last) mid) new answer → GivesNext (option_map (all_rows_stand_for most) rows) new answer
+header_passes most None mid new n last u answer zero start took h = tt
+header_passes most (Some all) mid new n last u answer zero start took h =
+    let same : option_map (rows_stand_for most n last) mid ≡ Some (all_rows_stand_for most all) = rw (took.1, zero, start) (ap Some (sym took.2)) in
     subst (λ (o : Option Recording). GivesNext o new answer) same h
 
 -- ---- entries
@@ -72,16 +72,16 @@ one_row (r ∷ []) o e = (r, refl, cc e)
 one_row (r ∷ s ∷ rows) o e = cc e
 
 -- the answer for a row, and what is left after it
-pub gives_row : (n last n' last' : ℕ) (rows : Option (List Row)) (b : Option (List ℕ)) (line : List ℕ) (r : Row) (o : Option Entry) (answer : Result (Option Entry) ReadFault)
+pub gives_row : (most n last most' n' last' : ℕ) (rows : Option (List Row)) (b : Option (List ℕ)) (line : List ℕ) (r : Row) (o : Option Entry) (answer : Result (Option Entry) ReadFault)
     → r ∷ [] ≡ line_rows line → entry_in r ≡ o → AreRowsAfter rows line b
-    → ((more : List (Option Entry)) → GivesNext (Some (entries_stand_for n last (o ∷ more))) (Some (entries_stand_for n' last' more)) answer)
-    → GivesNext (option_map (rows_stand_for n last) rows) (option_map (rows_stand_for n' last') (option_map rows_of b)) answer
-gives_row n last n' last' None b line r o answer one is h more = tt
-gives_row n last n' last' (Some all) b line r o answer one is h more =
+    → ((more : List (Option Entry)) → GivesNext (Some (entries_stand_for most n last (o ∷ more))) (Some (entries_stand_for most' n' last' more)) answer)
+    → GivesNext (option_map (rows_stand_for most n last) rows) (option_map (rows_stand_for most' n' last') (option_map rows_of b)) answer
+gives_row most n last most' n' last' None b line r o answer one is h more = tt
+gives_row most n last most' n' last' (Some all) b line r o answer one is h more =
     let e : all ≡ r ∷ h.0 = rw (← one) at h.2 in
-    let Here : Option Entry → Type 0 = λ x. GivesNext (Some (entries_stand_for n last (x ∷ map entry_in h.0))) (Some (rows_stand_for n' last' h.0)) answer in
-    let Before : List Row → Type 0 = λ x. GivesNext (Some (rows_stand_for n last x)) (option_map (rows_stand_for n' last') (option_map rows_of b)) answer in
-    let After : Option (List Row) → Type 0 = λ o. GivesNext (Some (rows_stand_for n last (r ∷ h.0))) (option_map (rows_stand_for n' last') o) answer in
+    let Here : Option Entry → Type 0 = λ x. GivesNext (Some (entries_stand_for most n last (x ∷ map entry_in h.0))) (Some (rows_stand_for most' n' last' h.0)) answer in
+    let Before : List Row → Type 0 = λ x. GivesNext (Some (rows_stand_for most n last x)) (option_map (rows_stand_for most' n' last') (option_map rows_of b)) answer in
+    let After : Option (List Row) → Type 0 = λ o. GivesNext (Some (rows_stand_for most n last (r ∷ h.0))) (option_map (rows_stand_for most' n' last') o) answer in
     subst Before (sym e) (subst After (sym h.1) (subst Here (sym is) (more (map entry_in h.0))))
 
 -- ---- all entries

@@ -7,37 +7,37 @@ use Rattle.a429_record.specs.declared.fault.ReadFault.{ReadFault}
 use Rattle.a429_record.specs.declared.fault.ReadFault.TheVariants as fault
 use Rattle.a429_record.specs.Row.{Row, is_header, entry_in}
 use Rattle.a429_record.specs.Binary.{is_binary, piece_entries}
-use Rattle.a429_record.specs.Recording.{Recording, most_entries, row_stands_for, entries_stand_for, all_rows_stand_for, text_stands_for, binary_stands_for, stands_for, rows_of, whole, stops, NeverFalls, IsRecordable}
+use Rattle.a429_record.specs.Recording.{Recording, most_entries, row_stands_for, entries_stand_for, all_rows_stand_for, text_stands_for, binary_stands_for, stands_for, rows_of, whole, stops, NeverFalls, IsWithin}
 use Rattle.a429_record.specs.WholeRecordings.{IsWholeText, IsWholeBinary}
 use Rattle.a429_record.proofs.BinaryFacts.{magic-split}
 
 -- ---- by their format
 
-pub text-stands : (bytes : List ℕ) → is_binary bytes ≡ false → stands_for bytes ≡ text_stands_for bytes
+pub text-stands : (bytes : List ℕ) → is_binary bytes ≡ false → stands_for bytes ≡ text_stands_for most_entries bytes
 text-stands bytes text = rw text refl
 
-pub binary-stands : (bytes : List ℕ) → is_binary bytes ≡ true → stands_for bytes ≡ binary_stands_for bytes
+pub binary-stands : (bytes : List ℕ) → is_binary bytes ≡ true → stands_for bytes ≡ binary_stands_for most_entries bytes
 binary-stands bytes binary = rw binary refl
 
 -- ---- from the rows
 
-pub entries-whole : (n last : ℕ) (es : List Entry) → n + length es ≤ most_entries → NeverFalls last es → entries_stand_for n last (map Some es) ≡ whole es
-entries-whole n last [] few up = refl
-entries-whole n last (x ∷ es) few up =
+pub entries-whole : (most n last : ℕ) (es : List Entry) → n + length es ≤ most → NeverFalls last es → entries_stand_for most n last (map Some es) ≡ whole es
+entries-whole most n last [] few up = refl
+entries-whole most n last (x ∷ es) few up =
     let least : last ≤ x.time = up.0 in
-    let room : (n == most_entries) ≡ false = grind (arith, nat_tests) in
+    let room : (n == most) ≡ false = grind (arith, nat_tests) in
     let kept : nat_lt x.time last ≡ false = grind (arith, nat_tests) in
-    rw (room, kept, entries-whole (n + 1) x.time es (omega arith) up.1) refl
+    rw (room, kept, entries-whole most (n + 1) x.time es (omega arith) up.1) refl
 
 -- all entries, from the first on
-pub recordable-whole : (rows : List (Option Entry)) (es : List Entry) → rows ≡ map Some es → IsRecordable es → entries_stand_for 0 0 rows ≡ whole es
-recordable-whole rows es is h = ap (entries_stand_for 0 0) is ∙ entries-whole 0 0 es (omega (arith, h.0)) h.1
+pub recordable-whole : (most : ℕ) (rows : List (Option Entry)) (es : List Entry) → rows ≡ map Some es → IsWithin most es → entries_stand_for most 0 0 rows ≡ whole es
+recordable-whole most rows es is h = ap (entries_stand_for most 0 0) is ∙ entries-whole most 0 0 es (omega (arith, h.0)) h.1
 
 pub text-whole : (bytes : List ℕ) (es : List Entry) → is_binary bytes ≡ false → IsWholeText bytes es → stands_for bytes ≡ whole es
-text-whole bytes es text w = text-stands bytes text ∙ ap all_rows_stand_for w.all ∙ rw w.first (recordable-whole (map entry_in w.rows) es w.entries w.recordable)
+text-whole bytes es text w = text-stands bytes text ∙ ap (all_rows_stand_for most_entries) w.all ∙ rw w.first (recordable-whole most_entries (map entry_in w.rows) es w.entries w.recordable)
 
 pub binary-whole : (bytes : List ℕ) (es : List Entry) → IsWholeBinary bytes es → stands_for bytes ≡ whole es
-binary-whole bytes es w = rw w.0.all (recordable-whole (piece_entries w.0.behind) es w.0.entries w.1)
+binary-whole bytes es w = rw w.0.all (recordable-whole most_entries (piece_entries w.0.behind) es w.0.entries w.1)
 
 -- ---- and back
 
@@ -69,15 +69,15 @@ row-stands n last (Some x) more es e = elim (cases_Bool (nat_lt x.time last)) [
 first_entry : (r : Option Entry) (x : Entry) (rows : List (Option Entry)) (es : List Entry) → r ≡ Some x → rows ≡ map Some es → r ∷ rows ≡ map Some (x ∷ es)
 first_entry r x rows es here rest = rw (here, rest) refl
 
-entries-of : (n last : ℕ) (rows : List (Option Entry)) (es : List Entry) → n ≤ most_entries → entries_stand_for n last rows ≡ whole es
+entries-of : (n last : ℕ) (rows : List (Option Entry)) (es : List Entry) → n ≤ most_entries → entries_stand_for most_entries n last rows ≡ whole es
     → (rows ≡ map Some es) × (n + length es ≤ most_entries) × NeverFalls last es
 entries-of n last [] [] few e = (refl, omega arith, tt)
 entries-of n last [] (x ∷ es) few e = absurd (nothing_more x es e)
 entries-of n last (r ∷ rows) es few e = elim (cases_Bool (n == most_entries)) [
   | inl full ↦ absurd (faulty fault.TooMany es (rw full at e))
   | inr room ↦
-      let w = row-stands n last r (λ x. entries_stand_for (n + 1) x.time rows) es (rw room at e) in
-      let rest = entries_stand_for (n + 1) w.entry.time rows in
+      let w = row-stands n last r (λ x. entries_stand_for most_entries (n + 1) x.time rows) es (rw room at e) in
+      let rest = entries_stand_for most_entries (n + 1) w.entry.time rows in
       let more : n + 1 ≤ most_entries = grind (arith, nat_tests) in
       let same : rest ≡ whole rest.entries = ap (λ (f : Option ReadFault). record { entries = rest.entries; fault = f }) w.none in
       let (maps, count, up) = entries-of (n + 1) w.entry.time rows rest.entries more same in
@@ -88,7 +88,7 @@ entries-of n last (r ∷ rows) es few e = elim (cases_Bool (n == most_entries)) 
 
 pub whole-text : (bytes : List ℕ) (es : List Entry) → is_binary bytes ≡ false → stands_for bytes ≡ whole es → IsWholeText bytes es
 whole-text bytes es text e = from_rows (rows_of bytes) refl (sym (text-stands bytes text) ∙ e) where
-  from_rows : (rows : List Row) → rows_of bytes ≡ rows → all_rows_stand_for rows ≡ whole es → IsWholeText bytes es
+  from_rows : (rows : List Row) → rows_of bytes ≡ rows → all_rows_stand_for most_entries rows ≡ whole es → IsWholeText bytes es
   from_rows [] is e = absurd (faulty fault.Header es e)
   from_rows (r ∷ rows) is e = elim (cases_Bool (is_header r)) [
     | inl first ↦

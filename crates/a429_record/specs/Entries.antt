@@ -1,5 +1,5 @@
 -- What contracts see of a reader of entries (profile).
-use Rattle.std.specs.Prelude.{◌≡◌, ◌≤◌, ◌+◌, ℕ, List, Bool, false, Option}
+use Rattle.std.specs.Prelude.{◌≡◌, ◌≤◌, ◌<◌, ◌^◌, ◌+◌, ℕ, List, Bool, false, Option}
 use Rattle.a429_word.specs.declared.tally.Tally.{Tally}
 use Rattle.a429_word.specs.Tally.{has_failed, unread}
 use Rattle.a429_record.specs.declared.entry.Entry.{Entry}
@@ -7,16 +7,17 @@ use Rattle.a429_record.specs.declared.format.Format.{Format}
 use Rattle.a429_record.specs.declared.stage.Stage.{Stage}
 use Rattle.a429_record.specs.declared.stage.Stage.TheVariants as stage
 use Rattle.a429_record.specs.declared.reading.Reading.{Reading}
-use Rattle.a429_record.specs.Recording.{Recording, most_entries}
+use Rattle.a429_record.specs.Recording.{Recording}
 use Rattle.a429_record.specs.Lines.{pending_of, room_of}
 use Rattle.a429_record.specs.Reading.{still_to_come, PassesAt}
 
--- what is still to come, where the bytes are known; where the reading stands, and in which format, once an entry was given; how many entries were
--- given, and the time of the last; the bytes that were not given, those of them that the reader has still to give, and how many may still be given; whether it has failed
+-- what is still to come, where the bytes are known; where the reading stands, and in which format, once an entry was given; how many entries may be
+-- given in all, how many were, and the time of the last; the bytes that were not given, those of them that the reader has still to give, and how many may still be given; whether it has failed
 pub record EntriesLeft : Type 0 where
   pub to_come : Option Recording
   pub stage : Stage
   pub format : Format
+  pub most : ℕ
   pub count : ℕ
   pub last : ℕ
   pub bytes : Option (List ℕ)
@@ -30,6 +31,7 @@ entries_left remaining s rec = record {
   to_come = still_to_come remaining s.stage s.rows rec;
   stage = s.stage;
   format = s.rows.format;
+  most = s.rows.most;
   count = s.rows.count;
   last = s.rows.last;
   bytes = pending_of remaining s.rows.lines rec;
@@ -42,10 +44,10 @@ entries_left remaining s rec = record {
 abbrev pub IsWorking : {R : Type 0} → Reading → Tally R → Type 0
 IsWorking s rec = s.stage ≡ stage.Rows → has_failed rec ≡ false
 
--- an entry comes next, no earlier than the last one, and is then the last one; so many a recording may have
+-- an entry comes next, no earlier than the last one, and is then the last one; so many may be given, as before, and their number fits in 64 bits
 abbrev pub ComesNext : EntriesLeft → EntriesLeft → Entry → Type 0
-ComesNext old new e = (old.last ≤ e.time) × (new.last ≡ e.time) × (new.count ≡ old.count + 1) × (new.count ≤ most_entries)
+ComesNext old new e = (old.last ≤ e.time) × (new.last ≡ e.time) × (new.count ≡ old.count + 1) × (new.count ≤ new.most) × (new.most ≡ old.most) × (new.count < 2 ^ 64)
 
 -- what is handed out makes no fault, by where a reader of entries stands
 abbrev pub PassesFrom : EntriesLeft → List ℕ → List ℕ → Type 0
-PassesFrom old taken rest = PassesAt old.stage old.format old.count taken rest
+PassesFrom old taken rest = PassesAt old.most old.stage old.format old.count taken rest

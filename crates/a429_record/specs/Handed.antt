@@ -4,8 +4,8 @@ use Rattle.a429_record.specs.declared.entry.Entry.{Entry}
 use Rattle.a429_record.specs.Ends.{HasNoEnd}
 use Rattle.a429_record.specs.Row.{Row, line_rows, is_header, entry_in}
 use Rattle.a429_record.specs.Binary.{is_binary, entry_bytes, piece_entry}
-use Rattle.a429_record.specs.Recording.{rows_of, all_rows_stand_for, most_entries}
-use Rattle.a429_record.specs.WholeRecordings.{IsWholeBinary}
+use Rattle.a429_record.specs.Recording.{rows_of, all_rows_stand_for, most_entries, IsWithin}
+use Rattle.a429_record.specs.WholeRecordings.{AreBinary}
 
 -- lines with a byte before the first of them, if there is one
 abbrev pub onto_first : ℕ → List (List ℕ) → List (List ℕ)
@@ -22,9 +22,9 @@ abbrev pub ended_rows : List ℕ → List Row
 ended_rows bytes = flat_map line_rows (ended_lines bytes)
 
 -- rows make no fault, whatever comes behind them: there is none, or they are the header's and entries'
-abbrev pub AreSound : List Row → Type 0
-AreSound [] = ⊤
-AreSound (row ∷ rows) = (all_rows_stand_for (row ∷ rows)).fault ≡ None
+abbrev pub AreSound : ℕ → List Row → Type 0
+AreSound most [] = ⊤
+AreSound most (row ∷ rows) = (all_rows_stand_for most (row ∷ rows)).fault ≡ None
 
 -- known bytes lose a front, which is handed out; it and what is left are so
 abbrev pub Loses : (List ℕ → List ℕ → Type 0) → Option (List ℕ) → Option (List ℕ) → Type 0
@@ -33,29 +33,33 @@ Loses P (Some xs) None = ⊥
 Loses P (Some xs) (Some ys) = (taken : List ℕ) × (xs ≡ taken ++ ys) × P taken ys
 
 -- bytes may be a front of an entry's that comes after so many: they are too few for it, and none where there are as many as may be
-abbrev pub IsCut : ℕ → List ℕ → Type 0
-IsCut count bytes = (length bytes < entry_bytes) × (count ≡ most_entries → bytes ≡ [])
+abbrev pub IsCut : ℕ → ℕ → List ℕ → Type 0
+IsCut most count bytes = (length bytes < entry_bytes) × (count ≡ most → bytes ≡ [])
 
-abbrev pub IsCutAfter : ℕ → List ℕ → List ℕ → Type 0
-IsCutAfter count taken rest = IsCut count taken
+abbrev pub IsCutAfter : ℕ → ℕ → List ℕ → List ℕ → Type 0
+IsCutAfter most count taken rest = IsCut most count taken
 
 -- bytes are those of a binary recording, and then at most a front of an entry's
-pub record IsCutBinary (bytes : List ℕ) : Type 0 where
+pub record IsCutBinary (most : ℕ) (bytes : List ℕ) : Type 0 where
   pub entries : List Entry
   pub front : List ℕ
   pub cut : List ℕ
   pub all : bytes ≡ front ++ cut
-  pub whole : IsWholeBinary front entries
-  pub short : IsCut (length entries) cut
+  pub whole : AreBinary front entries × IsWithin most entries
+  pub short : IsCut most (length entries) cut
 
 -- no line of a text that is handed out with its line feed makes a fault
-abbrev pub HasNoTextFault : List ℕ → List ℕ → Type 0
-HasNoTextFault taken rest = AreSound (ended_rows taken)
+abbrev pub HasNoTextFault : ℕ → List ℕ → List ℕ → Type 0
+HasNoTextFault most taken rest = AreSound most (ended_rows taken)
 
 -- nothing that is handed out makes a fault, whatever comes behind it: of a binary recording no whole entry and no byte behind the last that
 -- may be, of a text no line with its line feed
+abbrev pub HasNoFaultWithin : ℕ → List ℕ → List ℕ → Type 0
+HasNoFaultWithin most taken rest = (is_binary taken ≡ true → IsCutBinary most taken) × (is_binary taken ≡ false → HasNoTextFault most taken rest)
+
+-- of a recording of at most `most_entries`
 abbrev pub HasNoFault : List ℕ → List ℕ → Type 0
-HasNoFault taken rest = (is_binary taken ≡ true → IsCutBinary taken) × (is_binary taken ≡ false → HasNoTextFault taken rest)
+HasNoFault taken rest = HasNoFaultWithin most_entries taken rest
 
 -- no line that is handed out with its line feed has a row
 abbrev pub HasNoRow : List ℕ → List ℕ → Type 0

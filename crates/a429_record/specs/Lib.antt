@@ -1,4 +1,5 @@
 pub mod Row
+pub mod Scan
 pub mod Ends
 pub mod Lines
 pub mod Line

@@ -12,7 +12,7 @@ use Rattle.a429_record.specs.declared.stage.Stage.TheVariants as stage
 use Rattle.a429_record.specs.declared.rows.RowReader.{RowReader}
 use Rattle.a429_record.specs.Recording.{Recording, whole, stops}
 use Rattle.a429_record.specs.WholeRecordings.{AreBinary}
-use Rattle.a429_record.specs.Handed.{HasNoFault, HasNoRow, IsCutAfter, AreLines, AreGiven, AreEntryOf, ArePieceOf}
+use Rattle.a429_record.specs.Handed.{HasNoFaultWithin, HasNoRow, IsCutAfter, AreLines, AreGiven, AreEntryOf, ArePieceOf}
 use Rattle.a429_record.specs.Lines.{pending_of, HandsOut, FailsAfter}
 use Rattle.a429_record.specs.Rows.{all_left, recording_left, chosen_form, GivesNext}
 
@@ -42,20 +42,20 @@ AreHandedAt stage.Failed f e taken rest = ⊥
 
 -- what is handed out makes no fault after so many entries, in this format: the lines of a text that have their line feed are no row, and of a
 -- binary recording it is a front of an entry at most
-abbrev pub MakesNoFault : Format → ℕ → List ℕ → List ℕ → Type 0
-MakesNoFault format.Text count taken rest = HasNoRow taken rest
-MakesNoFault format.Binary count taken rest = IsCutAfter count taken rest
+abbrev pub MakesNoFault : ℕ → Format → ℕ → List ℕ → List ℕ → Type 0
+MakesNoFault most format.Text count taken rest = HasNoRow taken rest
+MakesNoFault most format.Binary count taken rest = IsCutAfter most count taken rest
 
 -- a reader of rows fails before the next: what it has given until then is so
 abbrev pub FailsNext : {R : Type 0} → (R → Option (List ℕ)) → RowReader → Tally R → Tally R → Type 0
-FailsNext remaining old rec new_rec = FailsAfter (MakesNoFault old.format old.count) remaining old.lines rec new_rec
+FailsNext remaining old rec new_rec = FailsAfter (MakesNoFault old.most old.format old.count) remaining old.lines rec new_rec
 
 -- by where a reading stands: before all entries in whatever format
-abbrev pub PassesAt : Stage → Format → ℕ → List ℕ → List ℕ → Type 0
-PassesAt stage.Begins f count taken rest = HasNoFault taken rest
-PassesAt stage.Rows f count taken rest = MakesNoFault f count taken rest
-PassesAt stage.Ended f count taken rest = ⊥
-PassesAt stage.Failed f count taken rest = ⊥
+abbrev pub PassesAt : ℕ → Stage → Format → ℕ → List ℕ → List ℕ → Type 0
+PassesAt most stage.Begins f count taken rest = HasNoFaultWithin most taken rest
+PassesAt most stage.Rows f count taken rest = MakesNoFault most f count taken rest
+PassesAt most stage.Ended f count taken rest = ⊥
+PassesAt most stage.Failed f count taken rest = ⊥
 
 -- known bytes choose this format
 abbrev pub IsChosen : Option (List ℕ) → Format → Type 0
@@ -78,7 +78,7 @@ HandsEntry remaining old rec new new_rec e = HandsOut (AreHandedAt old.stage new
 
 -- the reader fails: nothing that was given until then makes a fault
 abbrev pub FailsBehind : {R : Type 0} → (R → Option (List ℕ)) → Reading → Tally R → Tally R → Type 0
-FailsBehind remaining old rec new_rec = FailsAfter (PassesAt old.stage old.rows.format old.rows.count) remaining old.rows.lines rec new_rec
+FailsBehind remaining old rec new_rec = FailsAfter (PassesAt old.rows.most old.stage old.rows.format old.rows.count) remaining old.rows.lines rec new_rec
 
 -- the format of what comes is chosen, or stays
 abbrev pub KeepsFormat : {R : Type 0} → (R → Option (List ℕ)) → Reading → Tally R → Reading → Type 0

@@ -1,5 +1,5 @@
 -- What a reader of rows has still to give (profile).
-use Rattle.std.specs.Prelude.{◌≡◌, ◌≤◌, ◌+◌, ℕ, List, [], ◌∷◌, if◌then◌else◌, Option, Some, None, option_map, Result, Ok, Err, IfOk, IfSome, ⊤}
+use Rattle.std.specs.Prelude.{◌≡◌, ◌≤◌, ◌<◌, ◌^◌, ◌+◌, ℕ, List, [], ◌∷◌, if◌then◌else◌, Option, Some, None, option_map, Result, Ok, Err, IfOk, IfSome, ⊤}
 use Rattle.a429_word.specs.declared.tally.Tally.{Tally}
 use Rattle.a429_record.specs.declared.entry.Entry.{Entry}
 use Rattle.a429_record.specs.declared.fault.ReadFault.{ReadFault}
@@ -9,7 +9,7 @@ use Rattle.a429_record.specs.declared.format.Format.{Format}
 use Rattle.a429_record.specs.declared.format.Format.TheVariants as format
 use Rattle.a429_record.specs.Row.{Row}
 use Rattle.a429_record.specs.Binary.{is_binary, piece_entries}
-use Rattle.a429_record.specs.Recording.{Recording, rows_of, whole, stops, with_entry, entries_stand_for, rows_stand_for, all_rows_stand_for, stands_for}
+use Rattle.a429_record.specs.Recording.{Recording, rows_of, whole, stops, with_entry, entries_stand_for, rows_stand_for, all_rows_stand_for, stands_within}
 use Rattle.a429_record.specs.Lines.{ahead_of, pending_of}
 
 -- no entry was given
@@ -26,11 +26,11 @@ rows_left remaining s rec = option_map rows_of (pending_of remaining s.lines rec
 
 -- what rows with these entries, or with none, stand for after the entries that were given
 abbrev pub stands_from : RowReader → List (Option Entry) → Recording
-stands_from s = entries_stand_for s.count s.last
+stands_from s = entries_stand_for s.most s.count s.last
 
 -- what the rows of a text that are left stand for
 abbrev pub text_left : {R : Type 0} → (R → Option (List ℕ)) → RowReader → Tally R → Option Recording
-text_left remaining s rec = option_map (rows_stand_for s.count s.last) (rows_left remaining s rec)
+text_left remaining s rec = option_map (rows_stand_for s.most s.count s.last) (rows_left remaining s rec)
 
 -- what the pieces of a binary recording that are left stand for
 abbrev pub binary_left : {R : Type 0} → (R → Option (List ℕ)) → RowReader → Tally R → Option Recording
@@ -46,7 +46,7 @@ recording_left remaining s rec = left_in remaining s.format s rec
 
 -- what all bytes stand for, where nothing was given
 abbrev pub all_left : {R : Type 0} → (R → Option (List ℕ)) → RowReader → Tally R → Option Recording
-all_left remaining s rec = option_map stands_for (pending_of remaining s.lines rec)
+all_left remaining s rec = option_map (stands_within s.most) (pending_of remaining s.lines rec)
 
 -- the format that bytes choose
 abbrev pub chosen_form : List ℕ → Format
@@ -63,10 +63,10 @@ Stops fault.TooMany t = t ≡ stops fault.TooMany
 Stops fault.Failed t = t ≡ stops fault.Failed
 
 -- the header is taken from known rows
-abbrev pub TakesHeader : Option (List Row) → Option (List Row) → Result (Unit {0}) ReadFault → Type 0
-TakesHeader None new r = ⊤
-TakesHeader (Some rows) new (Ok u) = (more : List Row) × (new ≡ Some more) × (all_rows_stand_for rows ≡ rows_stand_for 0 0 more)
-TakesHeader (Some rows) new (Err f) = Stops f (all_rows_stand_for rows)
+abbrev pub TakesHeader : ℕ → Option (List Row) → Option (List Row) → Result (Unit {0}) ReadFault → Type 0
+TakesHeader most None new r = ⊤
+TakesHeader most (Some rows) new (Ok u) = (more : List Row) × (new ≡ Some more) × (all_rows_stand_for most rows ≡ rows_stand_for most 0 0 more)
+TakesHeader most (Some rows) new (Err f) = Stops f (all_rows_stand_for most rows)
 
 -- an answer is the next entry, the end or the fault of what is left, and after an entry the rest is left
 abbrev pub GivesNext : Option Recording → Option Recording → Result (Option Entry) ReadFault → Type 0
@@ -77,7 +77,7 @@ GivesNext (Some t) new (Err f) = Stops f t
 
 -- an answer is the first entry, the end or the fault of all rows of a text, the header's first, and after an entry the rest is left
 abbrev pub GivesFirst : {R : Type 0} → (R → Option (List ℕ)) → RowReader → Tally R → RowReader → Tally R → Result (Option Entry) ReadFault → Type 0
-GivesFirst remaining old rec new new_rec r = GivesNext (option_map all_rows_stand_for (rows_left remaining old rec)) (text_left remaining new new_rec) r
+GivesFirst remaining old rec new new_rec r = GivesNext (option_map (all_rows_stand_for old.most) (rows_left remaining old rec)) (text_left remaining new new_rec) r
 
 -- an answer is that to a row with this entry, or with none, whatever rows come behind it
 abbrev pub GivesRow : RowReader → Option Entry → RowReader → Result (Option Entry) ReadFault → Type 0
@@ -93,6 +93,6 @@ entries_in (Ok (Some e)) = 1
 entries_in (Ok None) = 0
 entries_in (Err f) = 0
 
--- an entry is given after the last one, and is then the last one
+-- an entry is given after the last one, and is then the last one; as many may be given as before, and their number fits in 64 bits
 abbrev pub Follows : RowReader → RowReader → Entry → Type 0
-Follows old new e = (old.last ≤ e.time) × (new.last ≡ e.time) × (new.count ≡ old.count + 1)
+Follows old new e = (old.last ≤ e.time) × (new.last ≡ e.time) × (new.count ≡ old.count + 1) × (new.most ≡ old.most) × (new.count < 2 ^ 64)

@@ -3,7 +3,7 @@
 ghost use Rattle.std.specs.Prelude.{◌≡◌, ◌↔◌, ◌+◌, ◌<◌, Bool, true, false, Option, option_map, IsErrOf};
 ghost use Rattle.a429_word.specs.Tally.{has_failed, left_of, unread};
 
-use crate::entry::Entry;
+use crate::entry::{Entry, MOST_ENTRIES};
 use crate::fault::ReadFault;
 use crate::reading::Reading;
 use a429_word::{Failing, Tally};
@@ -40,7 +40,7 @@ impl<R: Read> Failing for EntryReader<R> {
 }
 
 impl<R: Read> EntryReader<R> {
-    ghost use Rattle.a429_record.specs.Recording.{stands_for};
+    ghost use Rattle.a429_record.specs.Recording.{stands_for, stands_within};
     ghost use Rattle.a429_record.specs.Handed.{Loses};
     ghost use Rattle.a429_record.specs.Reading.{AreHandedAt, IsFormatAfter};
     ghost use Rattle.a429_record.specs.Stage.{may_go_on, stage_after, AnswersAt};
@@ -56,9 +56,22 @@ impl<R: Read> EntryReader<R> {
         ensures bytes { (result.bytes ≡ unread R.remaining rec) × (result.unread ≡ unread R.remaining rec) }
         ensures room { result.room ≡ left_of rec }
         ensures failed { result.failed ≡ has_failed rec }
+        ensures most { result.most ≡ MOST_ENTRIES }
+    {
+        EntryReader::of_most(alloc, rec, MOST_ENTRIES)
+    }
+
+    /// The same, of a recording that may have so many entries: `usize::MAX` for one of any length.
+    pub fn of_most(alloc: Global, rec: Tally<R>, most: usize) -> EntryReader<R>
+        ensures to_come { result.to_come ≡ option_map (stands_within most) (unread R.remaining rec) }
+        ensures begins { (result.stage ≡ at.Begins) × (result.count ≡ 0) × (result.last ≡ 0) }
+        ensures bytes { (result.bytes ≡ unread R.remaining rec) × (result.unread ≡ unread R.remaining rec) }
+        ensures room { result.room ≡ left_of rec }
+        ensures failed { result.failed ≡ has_failed rec }
+        ensures most { result.most ≡ most }
     {
         EntryReader {
-            reading: Reading::new(alloc),
+            reading: Reading::new(alloc, most),
             rec,
         }
     }

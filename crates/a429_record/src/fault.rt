@@ -14,7 +14,8 @@ pub enum ReadFault {
     /// The entry at this place has a time below the one before.
     #[error("time back {0}")]
     TimeBack(usize),
-    /// A row, or the first byte of one, comes after 1,000,000 entries.
+    /// A row, or the first byte of one, comes after as many entries as may be: 1,000,000, or as
+    /// many as an `EntryReader` was given.
     #[error("too many")]
     TooMany,
     /// The reader has failed.

@@ -1,10 +1,10 @@
 //! Laws of the definitions that the contracts of this crate cite.
 
-ghost use Rattle.std.specs.Prelude.{◌≡◌, ◌<◌, ◌^◌, ℕ, List};
+ghost use Rattle.std.specs.Prelude.{◌≡◌, ◌≤◌, ◌<◌, ◌^◌, ℕ, List};
 ghost use Rattle.csv.specs.Writing.{row_text, default_writer};
 ghost use Rattle.a429_record.specs.declared.entry.Entry.{Entry};
 ghost use Rattle.a429_record.specs.Binary.{IsBinary, IsText, binary_form};
-ghost use Rattle.a429_record.specs.Recording.{stands_for, whole, most_entries, IsRecordable};
+ghost use Rattle.a429_record.specs.Recording.{stands_for, stands_within, whole, most_entries, IsRecordable, IsTooMany};
 ghost use Rattle.a429_record.specs.declared.fault.ReadFault.{ReadFault};
 ghost use Rattle.a429_record.specs.WholeRecordings.{IsWholeText, IsWholeBinary, AreEntries};
 ghost use Rattle.a429_record.specs.FaultyRecordings.{StopAfter, IsFaultyText, IsFaultyBinary};
@@ -15,6 +15,11 @@ use crate::entry::MOST_ENTRIES;
 /// The number of entries that the code allows is the one of the definitions.
 pub fn the_most_entries()
     ensures { MOST_ENTRIES ≡ most_entries }
+{}
+
+/// Where there are not too many entries for a limit, bytes stand for the same under a larger one.
+pub fn larger_limits()
+    ensures { (most more : ℕ) (bytes : List ℕ) → most ≤ more → (IsTooMany (stands_within most bytes) → ⊥) → stands_within more bytes ≡ stands_within most bytes }
 {}
 
 /// The bytes of a text recording stand for entries with no fault where they are the header and the

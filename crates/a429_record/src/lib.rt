@@ -15,6 +15,7 @@ mod reading;
 mod recording;
 mod row;
 mod rows;
+mod scan;
 mod screening;
 mod stage;
 mod writing;

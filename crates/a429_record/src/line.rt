@@ -1,23 +1,29 @@
-//! What one line holds: its row, by `csv`, and its entry.
+//! What one line holds: its row, by a scan or by `csv`, and its entry.
 
 ghost use Rattle.std.specs.Prelude.{◌≡◌, ◌↔◌, ◌<◌, ◌∷◌, [], ◌==◌, IsTrue, IfOk, IfErr, IfSome, length, take, slice_index};
 ghost use Rattle.std.specs.List.{list_all};
-ghost use Rattle.csv.specs.Reading.{strip_bom};
+ghost use Rattle.csv.specs.Reading.{strip_bom, default_config, records};
 ghost use Rattle.a429_record.specs.Ends.{HasNoEnd};
 ghost use Rattle.a429_record.specs.Line.{line_entries, found_rows, found_entries};
 ghost use Rattle.a429_record.specs.Plain.{IsLineEnd};
-ghost use Rattle.a429_record.specs.Row.{line_rows};
+ghost use Rattle.a429_record.specs.Row.{line_rows, rows_in};
 ghost use Rattle.a429_record.specs.declared.fault.ReadFault.TheVariants as fault;
 
 use crate::entry::Entry;
 use crate::fault::ReadFault;
 use crate::plain::plain_row;
 use crate::row::entry_of;
+use crate::scan::{Place, ScanFault, next_record};
 use csv::{ByteRecord, ReaderBuilder};
 use std::alloc::Global;
 
 // A byte order mark.
 const MARK: [u8; 3] = [0xef, 0xbb, 0xbf];
+
+// How many fields an entry has, and how many bytes at most: a time of 20 digits, a bus and a word.
+const ROW_FIELDS: usize = 3;
+
+const ROW_BYTES: usize = 29;
 
 /// The row of a line.
 #[derive(Drop)]
@@ -46,10 +52,14 @@ pub fn row_in_line(alloc: Global, line: &[u8]) -> Result<LineRow, ReadFault>
     ensures ok { IfOk result (λ r. found_rows r ≡ line_rows line.now) }
     ensures err { IfErr result (λ f. f ≡ fault.OutOfMemory) }
 {
-    if is_blank(without_mark(line)) {
-        Ok(LineRow::Blank)
-    } else {
-        row_by_csv(alloc, line)
+    let text = without_mark(line);
+    if is_blank(text) {
+        return Ok(LineRow::Blank);
+    }
+    match row_by_scan(alloc, text) {
+        Ok(row) => Ok(row),
+        Err(ScanFault::QuoteInside) => row_by_csv(alloc, line),
+        Err(ScanFault::OutOfMemory) => Err(ReadFault::OutOfMemory),
     }
 }
 
@@ -69,6 +79,23 @@ pub fn entry_in_line(alloc: Global, line: &[u8]) -> Result<LineEntry, ReadFault>
         },
         Ok(LineRow::Several) => Ok(LineEntry::Bad),
         Err(fault) => Err(fault),
+    }
+}
+
+// The row of a line without its byte order mark, where no quote is inside quotes.
+fn row_by_scan(alloc: Global, text: &[u8]) -> Result<LineRow, ScanFault>
+    ensures { IfOk result (λ r. found_rows r ≡ rows_in (records default_config text.now)) }
+{
+    let mut row = ByteRecord::with_capacity(alloc, ROW_BYTES, ROW_FIELDS)?;
+    let mut field = Vec::with_capacity(alloc, ROW_BYTES)?;
+    let Some(end) = next_record(Place::Start, text, &mut row, &mut field)? else {
+        return Ok(LineRow::Blank);
+    };
+    let mut next = ByteRecord::new(alloc);
+    let second = next_record(end.place, &text[end.len..], &mut next, &mut field)?;
+    match second {
+        Some(_) => Ok(LineRow::Several),
+        None => Ok(LineRow::One(row)),
     }
 }
 
@@ -109,8 +136,8 @@ fn without_mark(line: &[u8]) -> &[u8]
     }
 }
 
-// Whether the line has nothing but carriage returns. `csv` takes long to start, and such lines are
-// many in some recordings.
+// Whether the line has nothing but carriage returns, as many lines have in some recordings. They are read without
+// memory.
 fn is_blank(line: &[u8]) -> bool
     ensures { result ≡ list_all (λ b. b == 13) line.now }
 {

@@ -61,10 +61,10 @@ fn leading_number(bytes: &[u8]) -> Leading
     ensures digits { AllDigits 10 (take result.len bytes.now) }
     ensures number { result.number ≡ digits_value 10 (take result.len bytes.now) }
 {
-    let (mut number, mut len) = match eight_digits(bytes) {
-        Some(eight) => (eight, 8),
-        None => (0, 0),
-    };
+    let Leading {
+        mut number,
+        mut len,
+    } = whole_eights(bytes);
     let most = bytes.len().min(SURE_DIGITS);
     'digits: while len < most {
         let byte = bytes[len];
@@ -77,13 +77,46 @@ fn leading_number(bytes: &[u8]) -> Leading
     Leading { number, len }
 }
 
-// The number of the first eight bytes, where each is a digit. It is told at once, since most times have
-// that many digits, and one by one they take three times as long.
+// The number of the first sixteen bytes or of the first eight, where each is a digit, or else of none.
+#[inline(always)]
+fn whole_eights(bytes: &[u8]) -> Leading
+    ensures inside { result.len ≤ length bytes.now }
+    ensures few { result.len ≤ 16 }
+    ensures digits { AllDigits 10 (take result.len bytes.now) }
+    ensures number { result.number ≡ digits_value 10 (take result.len bytes.now) }
+{
+    let Some(high) = eight_digits(bytes) else {
+        return Leading { number: 0, len: 0 };
+    };
+    if may_be_long(bytes) {
+        if let Some(low) = eight_digits(&bytes[8..]) {
+            return Leading {
+                number: high * 100_000_000 + low,
+                len: 16,
+            };
+        }
+    }
+    Leading {
+        number: high,
+        len: 8,
+    }
+}
+
+// Whether a row that begins with eight digits may begin with sixteen: at these two places a shorter time has a comma, a
+// bus or a digit of the word, and not two digits.
+#[inline(always)]
+fn may_be_long(bytes: &[u8]) -> bool {
+    bytes.len() > 11 && is_digit(bytes[11]) && is_digit(bytes[8])
+}
+
+// The number of the first eight bytes, where each is a digit. They are read at once, since one by one they take three
+// times as long.
 #[inline(always)]
 fn eight_digits(bytes: &[u8]) -> Option<u64>
     ensures long { IfSome result (λ n. 8 ≤ length bytes.now) }
     ensures digits { IfSome result (λ n. AllDigits 10 (take 8 bytes.now)) }
     ensures number { IfSome result (λ n. n ≡ digits_value 10 (take 8 bytes.now)) }
+    ensures below { IfSome result (λ n. n < 100000000) }
 {
     if bytes.len() < 8 {
         return None;

@@ -28,12 +28,13 @@ impl Reading {
     ghost use Rattle.a429_record.specs.Reading.{AnswersNext, HandsEntry, FailsBehind, KeepsFormat};
     ghost use Rattle.a429_record.specs.declared.fault.ReadFault.TheVariants as fault;
 
-    /// Nothing was read.
-    pub fn new(alloc: Global) -> Self
-        ensures { result.stage ≡ at.Begins }
+    /// Nothing was read, and at most so many entries may be.
+    pub fn new(alloc: Global, most: usize) -> Self
+        ensures stage { result.stage ≡ at.Begins }
+        ensures most { result.rows.most ≡ most }
     {
         Reading {
-            rows: RowReader::new(alloc),
+            rows: RowReader::new(alloc, most),
             stage: Stage::Begins,
         }
     }

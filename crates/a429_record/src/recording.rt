@@ -6,7 +6,7 @@ ghost use Rattle.a429_record.specs.Recording.{stands_for, whole, IsRecordable};
 ghost use Rattle.a429_record.specs.Fault.{IsFirstReadFault};
 ghost use Rattle.a429_record.specs.Handed.{Loses, HasNoFault};
 
-use crate::entry::Entry;
+use crate::entry::{Entry, MOST_ENTRIES};
 use crate::fault::ReadFault;
 use crate::reading::Reading;
 use a429_word::Tally;
@@ -24,7 +24,7 @@ pub fn read_entries<R: Read>(alloc: Global, rec: &mut Tally<R>) -> Result<Vec<En
     ensures before { IsErrOf result ReadFault.Device → Loses HasNoFault (unread R.remaining rec.old) (unread R.remaining rec.new) }
     ensures no_failed { IfErr result (λ f. f ≢ ReadFault.Failed) }
 {
-    let mut reading = Reading::new(alloc);
+    let mut reading = Reading::new(alloc, MOST_ENTRIES);
     let mut entries = Vec::new(alloc);
     'entries: loop {
         let Some(entry) = reading.next(rec)? else {

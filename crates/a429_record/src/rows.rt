@@ -2,10 +2,9 @@
 
 ghost use Rattle.std.specs.Prelude.{◌≡◌, ◌≢◌, ◌↔◌, ◌∷◌, ◌+◌, ◌<◌, ◌≤◌, [], false, true, IsErrOf, IsTrue, IfOk, IfErr, IfSome, IfNone, OnOk, Err};
 ghost use Rattle.a429_word.specs.Tally.{has_failed};
-ghost use Rattle.a429_record.specs.Recording.{most_entries};
 
 use crate::binary::{ENTRY_BYTES, entry_of_piece};
-use crate::entry::{Entry, MOST_ENTRIES};
+use crate::entry::Entry;
 use crate::fault::ReadFault;
 use crate::format::Format;
 use crate::line::{LineEntry, LineRow, entry_in_line, front_line, row_in_line};
@@ -16,35 +15,38 @@ use std::alloc::Global;
 use std::io::Read;
 
 /// How far a recording was read: its format, what was read of the reader and not yet given, how many
-/// entries were given, and the time of the last of them.
+/// entries may be given and how many were, and the time of the last of them.
 #[derive(Drop)]
 pub struct RowReader {
     alloc: Global,
     format: Format,
     lines: Lines,
     line: Vec<u8>,
+    most: usize,
     count: usize,
     last: u64,
-    ghost in_range: { count ≤ most_entries },
+    ghost in_range: { count ≤ most },
 }
 
 impl RowReader {
     ghost use Rattle.a429_record.specs.Lines.{ahead_of, pending_of, room_of, HandsRows, HandsOut, FailsAfter, Chooses, IsMagicFront};
     ghost use Rattle.a429_record.specs.Line.{GivesEntry};
-    ghost use Rattle.a429_record.specs.Handed.{HasNoRow, HasNoFault, HasNoTextFault, IsCutAfter, AreHeader, AreEntryOf, AreGiven, ArePieceOf};
+    ghost use Rattle.a429_record.specs.Handed.{HasNoRow, HasNoFaultWithin, HasNoTextFault, IsCutAfter, AreHeader, AreEntryOf, AreGiven, ArePieceOf};
     ghost use Rattle.a429_record.specs.Rows.{IsFresh, IsUncounted, rows_left, text_left, binary_left, recording_left, all_left, TakesHeader, GivesNext, GivesFirst, GivesRow, IfEntry, Follows, entries_in};
     ghost use Rattle.a429_record.specs.Reading.{AreFirstHanded, AreNextHanded, FailsNext, IsChosen};
     ghost use Rattle.a429_record.specs.declared.fault.ReadFault.TheVariants as fault;
 
-    /// Nothing was read.
-    pub fn new(alloc: Global) -> Self
-        ensures { IsFresh result }
+    /// Nothing was read, and at most so many entries may be.
+    pub fn new(alloc: Global, most: usize) -> Self
+        ensures fresh { IsFresh result }
+        ensures most { result.most ≡ most }
     {
         RowReader {
             alloc,
             format: Format::Text,
             lines: Lines::new(),
             line: Vec::new(alloc),
+            most,
             count: 0,
             last: 0,
         }
@@ -57,7 +59,7 @@ impl RowReader {
         ensures format { IfEntry result (λ _. IsChosen (pending_of R.remaining self.old.lines rec.old) self.new.format) }
         ensures lines { IfEntry result (λ e. HandsOut (AreFirstHanded self.new.format e) R.remaining self.old.lines rec.old
             self.new.lines rec.new) }
-        ensures before { IsErrOf result fault.Device → FailsAfter HasNoFault R.remaining self.old.lines rec.old rec.new }
+        ensures before { IsErrOf result fault.Device → FailsAfter (HasNoFaultWithin self.old.most) R.remaining self.old.lines rec.old rec.new }
         ensures follows { IfEntry result (λ e. Follows self.old self.new e) }
         ensures counts { self.new.count ≡ self.old.count + entries_in result }
         ensures room { IfEntry result (λ _. room_of self.new.lines rec.new < room_of self.old.lines rec.old) }
@@ -101,10 +103,11 @@ impl RowReader {
     // Reads the header of a text, which comes before the first entry.
     fn header<R: Read>(&mut self, rec: &mut Tally<R>) -> Result<(), ReadFault>
         requires { has_failed rec.old ≡ false }
-        ensures takes { TakesHeader (rows_left R.remaining self.old rec.old) (rows_left R.remaining self.new rec.new) result }
+        ensures takes { TakesHeader self.old.most (rows_left R.remaining self.old rec.old) (rows_left R.remaining self.new rec.new) result }
         ensures lines { OnOk result (HandsRows AreHeader R.remaining self.old.lines rec.old self.new.lines rec.new) }
         ensures before { IsErrOf result fault.Device → FailsAfter HasNoRow R.remaining self.old.lines rec.old rec.new }
         ensures format { self.new.format ≡ self.old.format }
+        ensures most { self.new.most ≡ self.old.most }
         ensures count { self.new.count ≡ self.old.count }
         ensures last { self.new.last ≡ self.old.last }
         ensures room { OnOk result (room_of self.new.lines rec.new ≤ room_of self.old.lines rec.old) }
@@ -138,7 +141,7 @@ impl RowReader {
         ensures gives { GivesFirst R.remaining self.old rec.old self.new rec.new result }
         ensures format { self.new.format ≡ self.old.format }
         ensures lines { IfEntry result (λ e. HandsRows (AreGiven (e ∷ [])) R.remaining self.old.lines rec.old self.new.lines rec.new) }
-        ensures before { IsErrOf result fault.Device → FailsAfter HasNoTextFault R.remaining self.old.lines rec.old rec.new }
+        ensures before { IsErrOf result fault.Device → FailsAfter (HasNoTextFault self.old.most) R.remaining self.old.lines rec.old rec.new }
         ensures follows { IfEntry result (λ e. Follows self.old self.new e) }
         ensures counts { self.new.count ≡ self.old.count + entries_in result }
         ensures room { IfEntry result (λ _. room_of self.new.lines rec.new < room_of self.old.lines rec.old) }
@@ -189,6 +192,7 @@ impl RowReader {
     fn plain_entry(&mut self) -> Option<Entry>
         ensures some { IfSome result (λ e. GivesEntry (ahead_of self.old.lines) (ahead_of self.new.lines) e) }
         ensures none { IfNone result (self.new ≡ self.old) }
+        ensures most { self.new.most ≡ self.old.most }
         ensures count { self.new.count ≡ self.old.count }
         ensures last { self.new.last ≡ self.old.last }
         ensures format { self.new.format ≡ self.old.format }
@@ -205,7 +209,7 @@ impl RowReader {
         ensures gives { GivesNext (binary_left R.remaining self.old rec.old) (binary_left R.remaining self.new rec.new) result }
         ensures format { self.new.format ≡ self.old.format }
         ensures piece { IfEntry result (λ e. HandsOut (ArePieceOf e) R.remaining self.old.lines rec.old self.new.lines rec.new) }
-        ensures before { IsErrOf result fault.Device → FailsAfter (IsCutAfter self.old.count) R.remaining self.old.lines rec.old rec.new }
+        ensures before { IsErrOf result fault.Device → FailsAfter (IsCutAfter self.old.most self.old.count) R.remaining self.old.lines rec.old rec.new }
         ensures follows { IfEntry result (λ e. Follows self.old self.new e) }
         ensures counts { self.new.count ≡ self.old.count + entries_in result }
         ensures room { IfEntry result (λ _. room_of self.new.lines rec.new < room_of self.old.lines rec.old) }
@@ -227,7 +231,7 @@ impl RowReader {
         ensures gives { GivesNext (binary_left R.remaining self.old rec.old) (binary_left R.remaining self.new rec.new) result }
         ensures format { self.new.format ≡ self.old.format }
         ensures piece { IfEntry result (λ e. HandsOut (ArePieceOf e) R.remaining self.old.lines rec.old self.new.lines rec.new) }
-        ensures before { IsErrOf result fault.Device → FailsAfter (IsCutAfter self.old.count) R.remaining self.old.lines rec.old rec.new }
+        ensures before { IsErrOf result fault.Device → FailsAfter (IsCutAfter self.old.most self.old.count) R.remaining self.old.lines rec.old rec.new }
         ensures follows { IfEntry result (λ e. Follows self.old self.new e) }
         ensures counts { self.new.count ≡ self.old.count + entries_in result }
         ensures room { IfEntry result (λ _. room_of self.new.lines rec.new < room_of self.old.lines rec.old) }
@@ -247,11 +251,11 @@ impl RowReader {
         }
     }
 
-    // Whether as many entries were given as a recording may have.
+    // Whether as many entries were given as may be.
     fn is_full(&self) -> bool
-        ensures { IsTrue result ↔ (self.now.count ≡ most_entries) }
+        ensures { IsTrue result ↔ (self.now.count ≡ self.now.most) }
     {
-        self.count == MOST_ENTRIES
+        self.count == self.most
     }
 
     // Takes a row for the next entry, which it may not be.

@@ -18,3 +18,5 @@ mod link;
 mod recordings;
 #[cfg(test)]
 mod runs;
+#[cfg(test)]
+mod search;

@@ -4,6 +4,7 @@ mod chance;
 mod check;
 mod draft;
 mod link;
+mod rows;
 mod source;
 mod tried;
 mod words;

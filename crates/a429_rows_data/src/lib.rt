@@ -1,5 +1,4 @@
-//! Rows of known answers: words, profiles, recordings, link data units and what is found of those recorded with losses,
-//! worked out by hand.
+//! Rows of known answers, worked out by hand: words, profiles, recordings and link data units.
 #![tactic(auto)]
 
 #[cfg(test)]
@@ -10,7 +9,5 @@ mod ldu;
 mod profile;
 #[cfg(test)]
 mod record;
-#[cfg(test)]
-mod search;
 #[cfg(test)]
 mod word;

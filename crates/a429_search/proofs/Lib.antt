@@ -10,3 +10,4 @@ pub mod FillFacts
 pub mod BoundedFacts
 pub mod DifferingFacts
 pub mod MergedFacts
+pub mod BlockFacts

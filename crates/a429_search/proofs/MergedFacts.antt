@@ -1,8 +1,8 @@
 -- The data words of several attempts.
-use Rattle.std.proofs.Common.{ℕ, List, get_or, Option, Some, None, Result, Ok, Err, IfOk, IfSome}
+use Rattle.std.proofs.Common.{◌≡◌, ◌<◌, ℕ, List, length, get_or, Option, Some, None, Result, Ok, Err, IfOk, IfSome, IfNone, inl, inr}
 use Rattle.a429_profile.specs.Profile.{Contents}
 use Rattle.a429_search.specs.Order.{HasEach}
-use Rattle.a429_search.specs.Fill.{IsFilled, AreDataOf}
+use Rattle.a429_search.specs.Fill.{Fits, IsFilled, AreDataOf, HasNoFreeWord, CanBeCompleted, rest_filled}
 use Rattle.a429_search.proofs.SubsequenceFacts.{sub_trans}
 
 -- a clause on a result, and what follows from it
@@ -10,6 +10,17 @@ pub some_from : {X E : Type 0} (P Q : X → Type 0) (r : Result (Option X) E) �
 some_from P Q (Ok (Some x)) f p = f x p
 some_from P Q (Ok None) f p = p
 some_from P Q (Err e) f p = p
+
+-- two clauses on a result that is none, and what follows from both
+pub none_from : {X E : Type 0} (P Q R : Type 0) (r : Result (Option X) E) → (P → Q → R) → IfOk r (λ o. IfNone o P) → IfOk r (λ o. IfNone o Q) → IfOk r (λ o. IfNone o R)
+none_from P Q R (Ok (Some x)) f p q = p
+none_from P Q R (Ok None) f p q = f p q
+none_from P Q R (Err e) f p q = p
+
+-- words that neither fit nor are fewer, with a free word that makes them fit, cannot be completed
+pub not_completed : (p : Contents) (count : ℕ) (wanted : Option ℕ) (words : List ℕ) → (length words ≡ count → ¬ Fits p wanted words) → (length words < count → HasNoFreeWord p wanted (rest_filled p.codes count words)) → ¬ CanBeCompleted p count wanted words
+not_completed p count wanted words whole filled (inl h) = whole h.0 h.1
+not_completed p count wanted words whole filled (inr h) = filled h.0 h.1.semis h.1.are h.1.fits
 
 -- a merge that is filled up
 pub merge_filled : (p : Contents) (count : ℕ) (wanted : Option ℕ) (lists : List (List ℕ)) (merged words : List ℕ) → HasEach merged lists → IsFilled p count wanted merged words → AreDataOf p count wanted lists words

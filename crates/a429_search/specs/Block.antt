@@ -1,15 +1,22 @@
 -- The link data unit of a group, by what its attempts recorded (profile).
-use Rattle.std.specs.Prelude.{◌≡◌, ℕ, Option, Some, None, IfSome, if◌then◌else◌}
+use Rattle.std.specs.Prelude.{◌≡◌, ℕ, true, ◌-◌, List, Option, Some, None, IfSome, if◌then◌else◌}
 use Rattle.a429_profile.specs.Profile.{Contents}
+use Rattle.a429_ldu.specs.Carried.{CarryBytes}
+use Rattle.a429_ldu.specs.CheckWord.{check_of}
 use Rattle.a429_ldu.specs.Ldu.{LduValue, IsLdu, count_of}
 use Rattle.a429_search.specs.declared.pieces.EndWord.{EndWord}
 use Rattle.a429_search.specs.declared.pieces.GroupPieces.{GroupPieces}
 use Rattle.a429_search.specs.Order.{lists_of, HasEach}
+use Rattle.a429_search.specs.Fill.{CanBeCompleted}
 
 -- the check word that the data words must have: that of the end word, where one was recorded and check words are compared
 abbrev pub check_wanted : Contents → Option EndWord → Option ℕ
 check_wanted p None = None
 check_wanted p (Some end) = if p.check.compare then Some end.check else None
+
+-- the bytes of the data words have this check word, where check words are compared
+abbrev pub HaveCheckWord : Contents → List ℕ → ℕ → Type 0
+HaveCheckWord p words check = (bytes : List ℕ) → CarryBytes p.codes words bytes → p.check.compare ≡ true → check ≡ check_of p.check bytes
 
 -- the link data unit has what was recorded: as many words as were asked for, the numbers of the start word and of the end
 -- word, and the data words of each attempt in their order
@@ -19,3 +26,7 @@ pub record IsUnitOf (p : Contents) (pieces : GroupPieces) (u : LduValue) : Type 
   pub gfi : IfSome pieces.gfi (λ n. u.gfi ≡ n)
   pub end : IfSome pieces.end (λ e. (u.flags ≡ e.flags) × (u.check ≡ e.check))
   pub each : HasEach u.words (lists_of pieces.attempts.items)
+
+-- these data words of an attempt have those of each, and are a whole unit or can be filled up to one
+abbrev pub GivesUnit : Contents → GroupPieces → List ℕ → Type 0
+GivesUnit p pieces words = HasEach words (lists_of pieces.attempts.items) × CanBeCompleted p (pieces.count - 2) (check_wanted p pieces.end) words

@@ -1,5 +1,5 @@
 -- Data words that are filled up with others, so that they make a block (profile).
-use Rattle.std.specs.Prelude.{◌≡◌, ℕ, zero, suc, ◌-◌, ◌/◌, ◌%◌, List, [], ◌∷◌, ◌++◌, length, replicate, Option, Some, IfSome}
+use Rattle.std.specs.Prelude.{◌≡◌, ◌⊎◌, ◌<◌, ℕ, zero, suc, ◌-◌, ◌/◌, ◌%◌, List, [], ◌∷◌, ◌++◌, length, replicate, Option, Some, IfSome}
 use Rattle.a429_profile.specs.declared.codes.Codes.{Codes}
 use Rattle.a429_profile.specs.Profile.{Contents}
 use Rattle.a429_ldu.specs.declared.forms.Form.TheVariants.{Part}
@@ -48,3 +48,13 @@ filler c = data_word c (0 ∷ 0 ∷ [])
 -- recorded words, and fillers up to one fewer than so many words: one more word comes before them
 abbrev pub rest_filled : Codes → ℕ → List ℕ → List ℕ
 rest_filled c count recorded = recorded ++ replicate (count - 1 - length recorded) (filler c)
+
+-- a data word before the others makes them fit
+pub record HasFreeWord (p : Contents) (wanted : Option ℕ) (rest : List ℕ) : Type 0 where
+  pub semis : List ℕ
+  pub are : AreSemis semis
+  pub fits : Fits p wanted (data_word p.codes semis ∷ rest)
+
+-- recorded words are completed to so many that fit: as they are, or with a free word before them and fillers after them
+abbrev pub CanBeCompleted : Contents → ℕ → Option ℕ → List ℕ → Type 0
+CanBeCompleted p count wanted recorded = ((length recorded ≡ count) × Fits p wanted recorded) ⊎ ((length recorded < count) × HasFreeWord p wanted (rest_filled p.codes count recorded))

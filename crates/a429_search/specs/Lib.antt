@@ -3,6 +3,7 @@ pub mod Bounded
 pub mod Choice
 pub mod Fill
 pub mod FreeBits
+pub mod Hypotheses
 pub mod Order
 pub mod Pair
 pub mod Deciding

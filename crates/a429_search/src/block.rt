@@ -1,13 +1,16 @@
 //! The link data unit of a group.
 
-ghost use Rattle.std.specs.Prelude.{◌≡◌, ◌≤◌, ◌+◌, IfOk, IfSome, length};
-ghost use Rattle.a429_search.specs.Order.{lists_of, HasEach};
-ghost use Rattle.a429_search.specs.Fill.{AreDataOf};
-ghost use Rattle.a429_search.specs.Block.{check_wanted, IsUnitOf};
+ghost use Rattle.std.specs.Prelude.{◌≡◌, ◌↔◌, ◌≤◌, ◌+◌, IfOk, IfSome, IfNone, IsSome, IsTrue, EachIndex, length};
+ghost use Rattle.a429_ldu.specs.Ldu.{HasLength};
+ghost use Rattle.a429_search.specs.Order.{lists_of, words_at, HasEach};
+ghost use Rattle.a429_search.specs.Fill.{Fits, AreDataOf, CanBeCompleted};
+ghost use Rattle.a429_search.specs.Block.{check_wanted, HaveCheckWord, IsUnitOf, GivesUnit};
 
 use crate::bounded::search_words;
+use crate::budget::Budget;
 use crate::differing::differing;
 use crate::fill::Wanted;
+use crate::longest::complete_longest;
 use crate::merged::completed_merge;
 use crate::one_by_one::merge_one_by_one;
 use crate::order::merge_in_one_order;
@@ -17,24 +20,27 @@ use a429_profile::Profile;
 use a429_word::Word;
 use std::alloc::{AllocError, Global};
 
-/// A link data unit that has all that was recorded of a group: the attempts are merged in one order, or one after the
-/// other, or by a search with a budget, and missing data words are filled in. The first of these steps that gives a unit
-/// is taken; other units may do as well. `None` where no step gives one, and then there may be a unit all the same.
+/// A link data unit that has all that was recorded of a group. A longest attempt is taken, where it has all others; else the
+/// attempts are merged in one order, or one after the other, or by a search, as long as the budget lasts. Missing data words
+/// are filled in. The first of these steps that gives a unit is taken; other units may do as well. `None` where no step gives
+/// one, and then there may be a unit all the same, but none of a longest attempt that has all others.
 pub fn unit_of_pieces(
     alloc: Global,
     profile: &Profile,
     pieces: &GroupPieces,
+    budget: &mut Budget,
 ) -> Result<Option<Ldu>, AllocError>
     requires count { 3 ≤ pieces.now.count }
     requires gfi { IfSome pieces.now.gfi (λ n. n ≤ 15) }
     requires flags { IfSome pieces.now.end (λ e. e.flags ≤ 15) }
-    ensures { IfOk result (λ found. IfSome found (λ u. IsUnitOf profile.now pieces.now u)) }
+    ensures some { IfOk result (λ found. IfSome found (λ u. IsUnitOf profile.now pieces.now u)) }
+    ensures none { IfOk result (λ found. IfNone found (EachIndex pieces.now.attempts.items (λ i. ¬ GivesUnit profile.now pieces.now (words_at (lists_of pieces.now.attempts.items) i)))) }
 {
     let wanted = Wanted {
         count: usize::from(pieces.count) - 2,
         check: check_wanted(profile, pieces.end),
     };
-    match data_words(alloc, profile, &pieces.attempts, wanted)? {
+    match data_words(alloc, profile, &pieces.attempts, wanted, budget)? {
         Some(words) => unit_with(alloc, profile, pieces, &words),
         None => Ok(None),
     }
@@ -50,17 +56,24 @@ fn check_wanted(profile: &Profile, end: Option<EndWord>) -> Option<u16>
     }
 }
 
-// Data words that have those of each attempt. Where too many attempts differ, none.
+// Data words that have those of each attempt. `None` only where no longest attempt gives them.
 fn data_words(
     alloc: Global,
     profile: &Profile,
     attempts: &[Vec<Word>],
     wanted: Wanted,
+    budget: &mut Budget,
 ) -> Result<Option<Vec<Word>>, AllocError>
-    ensures { IfOk result (λ found. IfSome found (λ v. AreDataOf profile.now wanted.count wanted.check (lists_of attempts.now) v.items)) }
+    ensures some { IfOk result (λ found. IfSome found (λ v. AreDataOf profile.now wanted.count wanted.check (lists_of attempts.now) v.items)) }
+    ensures none { IfOk result (λ found. IfNone found (EachIndex attempts.now (λ i. HasEach (words_at (lists_of attempts.now) i) (lists_of attempts.now)
+        → ¬ CanBeCompleted profile.now wanted.count wanted.check (words_at (lists_of attempts.now) i)))) }
 {
-    match differing(alloc, attempts)? {
-        Some(lists) => words_of(alloc, profile, &lists, wanted),
+    let found = complete_longest(alloc, profile, attempts, wanted, budget)?;
+    if found.is_some() || budget.is_spent() {
+        return Ok(found);
+    }
+    match differing(alloc, attempts, budget)? {
+        Some(lists) => words_of(alloc, profile, &lists, wanted, budget),
         None => Ok(None),
     }
 }
@@ -71,22 +84,26 @@ fn words_of(
     profile: &Profile,
     lists: &[Vec<Word>],
     wanted: Wanted,
+    budget: &mut Budget,
 ) -> Result<Option<Vec<Word>>, AllocError>
     ensures { IfOk result (λ found. IfSome found (λ v. AreDataOf profile.now wanted.count wanted.check (lists_of lists.now) v.items)) }
 {
-    if let Some(merged) = merge_in_one_order(alloc, lists)? {
-        let found = completed_merge(alloc, profile, lists, &merged, wanted)?;
+    if let Some(merged) = merge_in_one_order(alloc, lists, budget)? {
+        let found = completed_merge(alloc, profile, lists, &merged, wanted, budget)?;
         if found.is_some() {
             return Ok(found);
         }
     }
-    if let Some(merged) = merge_one_by_one(alloc, lists)? {
-        let found = completed_merge(alloc, profile, lists, &merged, wanted)?;
+    if budget.is_spent() {
+        return Ok(None);
+    }
+    if let Some(merged) = merge_one_by_one(alloc, lists, budget)? {
+        let found = completed_merge(alloc, profile, lists, &merged, wanted, budget)?;
         if found.is_some() {
             return Ok(found);
         }
     }
-    search_words(alloc, profile, lists, wanted)
+    search_words(alloc, profile, lists, wanted, budget)
 }
 
 // The link data unit of these data words. Where no start word was recorded its general format identifier is 0; where no
@@ -99,19 +116,31 @@ fn unit_with(
 ) -> Result<Option<Ldu>, AllocError>
     requires gfi { IfSome pieces.now.gfi (λ n. n ≤ 15) }
     requires flags { IfSome pieces.now.end (λ e. e.flags ≤ 15) }
+    requires long { HasLength words.now }
     requires count { length words.now + 2 ≡ pieces.now.count }
     requires each { HasEach words.now (lists_of pieces.now.attempts.items) }
-    ensures { IfOk result (λ found. IfSome found (λ u. IsUnitOf profile.now pieces.now u)) }
+    requires fits { Fits profile.now (check_wanted profile.now pieces.now.end) words.now }
+    ensures unit { IfOk result (λ found. IfSome found (λ u. IsUnitOf profile.now pieces.now u)) }
+    ensures found { IfOk result IsSome }
 {
+    // (for the proof: the profile is sound)
+    let _codes = profile.codes();
     let gfi = pieces.gfi.unwrap_or(0);
     let Some(end) = end_word(alloc, profile, pieces.end, words)? else {
         return Ok(None);
     };
     match Ldu::new(alloc, profile, gfi, end.flags, end.check, words) {
         Ok(unit) => Ok(Some(unit)),
-        Err(fault) if fault == LduFault::OutOfMemory => Err(AllocError),
+        Err(fault) if is_out_of_memory(&fault) => Err(AllocError),
+        // Never: the data words fit.
         Err(_) => Ok(None),
     }
+}
+
+fn is_out_of_memory(fault: &LduFault) -> bool
+    ensures { IsTrue result ↔ (fault.now ≡ LduFault.OutOfMemory) }
+{
+    matches!(fault, LduFault::OutOfMemory)
 }
 
 // The end word that was recorded, or else one of flags 0 with the check word of the data words.
@@ -121,10 +150,15 @@ fn end_word(
     recorded: Option<EndWord>,
     words: &[Word],
 ) -> Result<Option<EndWord>, AllocError>
-    requires { IfSome recorded (λ e. e.flags ≤ 15) }
+    requires flags { IfSome recorded (λ e. e.flags ≤ 15) }
+    requires fits { Fits profile.now (check_wanted profile.now recorded) words.now }
+    ensures found { IfOk result IsSome }
+    ensures check { IfOk result (λ found. IfSome found (λ e. HaveCheckWord profile.now words.now e.check)) }
     ensures recorded { IfOk result (λ found. IfSome found (λ e. IfSome recorded (λ r. e ≡ r))) }
     ensures flags { IfOk result (λ found. IfSome found (λ e. e.flags ≤ 15)) }
 {
+    // (for the proof: the profile is sound)
+    let _codes = profile.codes();
     if recorded.is_some() {
         return Ok(recorded);
     }

@@ -5,6 +5,7 @@ ghost use Rattle.a429_search.specs.Order.{lists_of, IsNext};
 ghost use Rattle.a429_search.specs.Fill.{AreDataOf};
 ghost use Rattle.a429_search.specs.Bounded.{IsPair, ArePassed, HasPassed, HasRests, IsStep};
 
+use crate::budget::Budget;
 use crate::fill::Wanted;
 use crate::merged::completed_merge;
 use crate::order::{are_passed, next_word, pass, words_at};
@@ -15,21 +16,25 @@ use a429_word::Word;
 use std::alloc::{AllocError, Global};
 
 /// The most places at which one search chooses a next word, or looks at a list.
-pub const MOST_NODES: usize = 2_000;
+pub const MOST_NODES: usize = 100_000;
+
+// How many steps a pair of lists counts for when the bound is computed: its table is seldom in a cache.
+const STEPS_A_PAIR: usize = 4;
 
 /// The wanted data words that have each of these lists in its order. The search goes depth first: it takes a word that is
 /// next in some list and passes it in each list where it is next. Where all words are passed it completes the list of those
 /// taken; where that fails, or a shortest list for what is left of two lists is too long, it goes back. `None` where it
-/// finds none at `MOST_NODES` places.
-pub(crate) fn search_words(
+/// finds none at `MOST_NODES` places, or before the budget is spent.
+pub fn search_words(
     alloc: Global,
     profile: &Profile,
     lists: &[Vec<Word>],
     wanted: Wanted,
+    budget: &mut Budget,
 ) -> Result<Option<Vec<Word>>, AllocError>
     ensures { IfOk result (λ found. IfSome found (λ v. AreDataOf profile.now wanted.count wanted.check (lists_of lists.now) v.items)) }
 {
-    let Some(pairs) = pairs_of(alloc, lists)? else {
+    let Some(pairs) = pairs_of(alloc, lists, budget)? else {
         return Ok(None);
     };
     let search = Search {
@@ -43,7 +48,7 @@ pub(crate) fn search_words(
         merged: Vec::new(alloc),
         nodes: MOST_NODES,
     };
-    extend(alloc, &search, &passed, &mut path)
+    extend(alloc, &search, &passed, &mut path, budget)
 }
 
 /// Two of the lists, and the length of a shortest list that has what is left of them, by `merged_lengths`.
@@ -72,13 +77,17 @@ struct Path {
 }
 
 // Each pair of lists. `None` where one has more words than a link data unit can have.
-fn pairs_of(alloc: Global, lists: &[Vec<Word>]) -> Result<Option<Vec<Pair>>, AllocError>
+fn pairs_of(
+    alloc: Global,
+    lists: &[Vec<Word>],
+    budget: &mut Budget,
+) -> Result<Option<Vec<Pair>>, AllocError>
     ensures { IfOk result (λ found. IfSome found (λ pairs. All (IsPair (lists_of lists.now)) pairs.items)) }
 {
     let mut pairs = Vec::new(alloc);
     for right in 0..lists.len() {
         for left in 0..right {
-            match pair_of(alloc, lists, left, right)? {
+            match pair_of(alloc, lists, left, right, budget)? {
                 Some(pair) => pairs.push(pair)?,
                 None => return Ok(None),
             }
@@ -92,6 +101,7 @@ fn pair_of(
     lists: &[Vec<Word>],
     left: usize,
     right: usize,
+    budget: &mut Budget,
 ) -> Result<Option<Pair>, AllocError>
     requires in_left { left < length lists.now }
     requires in_right { right < length lists.now }
@@ -102,6 +112,7 @@ fn pair_of(
     if lefts.len() > MOST_DATA_WORDS || rights.len() > MOST_DATA_WORDS {
         return Ok(None);
     }
+    budget.spend(lefts.len() * rights.len());
     let rows = merged_lengths(alloc, lefts, rights)?;
     Ok(Some(Pair { left, right, rows }))
 }
@@ -180,6 +191,7 @@ fn extend(
     search: &Search,
     passed: &[usize],
     path: &mut Path,
+    budget: &mut Budget,
 ) -> Result<Option<Vec<Word>>, AllocError>
     requires passed { ArePassed (lists_of search.now.lists.now) passed.now }
     requires merged { HasPassed (lists_of search.now.lists.now) passed.now path.old.merged.items }
@@ -187,13 +199,20 @@ fn extend(
     ensures some { IfOk result (λ found. IfSome found (λ v. AreDataOf search.now.profile.now search.now.wanted.count search.now.wanted.check (lists_of search.now.lists.now) v.items)) }
     ensures back { result ≡ Ok None → path.new.merged.items ≡ path.old.merged.items }
 {
-    if path.nodes == 0 {
+    if path.nodes == 0 || budget.is_spent() {
         return Ok(None);
     }
     path.nodes -= 1;
     if are_passed(search.lists, passed) {
         let merged = path.merged.as_slice();
-        return completed_merge(alloc, search.profile, search.lists, merged, search.wanted);
+        return completed_merge(
+            alloc,
+            search.profile,
+            search.lists,
+            merged,
+            search.wanted,
+            budget,
+        );
     }
     let least = least_left(search, passed);
     for is_best in [true, false] {
@@ -201,12 +220,13 @@ fn extend(
             let Some(next) = step_at(alloc, search.lists, passed, i)? else {
                 continue;
             };
+            budget.spend(search.pairs.len().saturating_mul(STEPS_A_PAIR));
             let left = least_left(search, &next.passed);
             if (left < least) != is_best || left >= search.wanted.count - path.merged.len() {
                 continue;
             }
             path.merged.push(next.word)?;
-            let found = extend(alloc, search, &next.passed, path)?;
+            let found = extend(alloc, search, &next.passed, path, budget)?;
             if found.is_some() {
                 return Ok(found);
             }

@@ -4,6 +4,7 @@ ghost use Rattle.std.specs.Prelude.{◌≤◌, ◌<◌, ◌↔◌, ℕ, List, If
 ghost use Rattle.a429_link.specs.Run.{IsSubsequenceOf};
 ghost use Rattle.a429_search.specs.Order.{lists_of, words_at, HasEach};
 
+use crate::budget::Budget;
 use crate::order::words_at;
 use crate::subsequence::is_subsequence;
 use a429_word::Word;
@@ -18,12 +19,14 @@ pub const MOST_ATTEMPTS: usize = 16;
 pub(crate) fn differing(
     alloc: Global,
     lists: &[Vec<Word>],
+    budget: &mut Budget,
 ) -> Result<Option<Vec<Vec<Word>>>, AllocError>
     ensures all { IfOk result (λ found. IfSome found (λ kept. (zs : List ℕ) → HasEach zs (lists_of kept.items) → HasEach zs (lists_of lists.now))) }
     ensures few { IfOk result (λ found. IfSome found (λ kept. length kept.items ≤ 16)) }
 {
     let mut kept = Vec::new(alloc);
     for list in lists {
+        budget.spend(MOST_ATTEMPTS.saturating_mul(list.len()));
         if is_in_some(list, &kept) {
             continue;
         }

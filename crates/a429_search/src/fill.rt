@@ -12,7 +12,7 @@ use std::alloc::{AllocError, Global};
 
 /// What the data words of a block must be.
 #[derive(Clone, Copy, Debug)]
-pub(crate) struct Wanted {
+pub struct Wanted {
     /// So many.
     pub count: usize,
     /// With this check word, where one is wanted.
@@ -21,7 +21,7 @@ pub(crate) struct Wanted {
 
 /// The wanted data words, which have those recorded in their order. `None` where these are too many, where they are as
 /// many as wanted and do not fit, and where they are fewer and no free word before them makes them fit.
-pub(crate) fn completed(
+pub fn completed(
     alloc: Global,
     profile: &Profile,
     recorded: &[Word],

@@ -11,7 +11,7 @@ use std::alloc::{AllocError, Global};
 
 /// So many bits, at most 32: exclusive-ored into the first bytes, the lowest bit first, they give the bytes
 /// the wanted check word. `None` where no such bits do.
-pub(crate) fn bits_for_check_word(
+pub fn bits_for_check_word(
     alloc: Global,
     rule: &Check,
     bytes: &[u8],

@@ -60,9 +60,10 @@ impl Group {
         attempt: &Attempt,
         budget: &mut Budget,
     ) -> Result<bool, AllocError> {
-        if self.contradicts(attempt) || !budget.take(self.steps_to_compare()) {
+        if self.contradicts(attempt) || budget.is_spent() {
             return Ok(false);
         }
+        budget.spend(self.steps_to_compare());
         let is_known = attempt.gfi().is_none() || self.pieces.gfi.is_some();
         let ends_known = attempt.end.is_none() || self.pieces.end.is_some();
         if is_known && ends_known && self.has(&attempt.data) {
@@ -109,12 +110,10 @@ impl Group {
         false
     }
 
-    // How many words at most are compared to find out.
+    // How many words at most are compared to find out, and to leave attempts out.
     fn steps_to_compare(&self) -> usize {
-        self.pieces
-            .attempts
-            .len()
-            .saturating_mul(usize::from(self.pieces.count))
+        let many = self.pieces.attempts.len().saturating_mul(2);
+        many.saturating_mul(usize::from(self.pieces.count))
     }
 
     // Leaves out the attempts whose data words the attempt taken last has, in their order: it has these.
@@ -145,17 +144,10 @@ fn unit_found(
     pieces: &GroupPieces,
     budget: &mut Budget,
 ) -> Result<Option<Ldu>, AllocError> {
-    if !budget.take(steps_to_merge(pieces)) || !are_in_range(pieces) {
+    if budget.is_spent() || !are_in_range(pieces) {
         return Ok(None);
     }
-    unit_of_pieces(alloc, profile, pieces)
-}
-
-// About how many steps it takes to merge the attempts: each pair of them, in a table of their words.
-fn steps_to_merge(pieces: &GroupPieces) -> usize {
-    let count = usize::from(pieces.count);
-    let many = pieces.attempts.len();
-    many.saturating_mul(many).saturating_mul(count * count) / 4
+    unit_of_pieces(alloc, profile, pieces, budget)
 }
 
 // Always, of what was recorded.

@@ -1,5 +1,8 @@
 //! What the source may have done up to an attempt.
 
+ghost use Rattle.std.specs.Prelude.{◌≡◌, None, IfSome};
+ghost use Rattle.a429_search.specs.Hypotheses.{all_give_ups, KeepGiveUps};
+
 use a429_link::UnitNumber;
 
 /// How many files a source may give up from one acknowledgement to the next (profile).
@@ -54,7 +57,9 @@ impl Hypothesis {
 
     /// How the source may come to an attempt whose start word has this number, where one was recorded. The first link
     /// data unit of a file has the number `first_ldu`.
-    pub(crate) fn ways(&self, first_ldu: u8, start: Option<UnitNumber>) -> Ways {
+    pub(crate) fn ways(&self, first_ldu: u8, start: Option<UnitNumber>) -> Ways
+        ensures { KeepGiveUps self.now result }
+    {
         match (start, self.known) {
             (None, _) => self.ways_without_start(first_ldu),
             (Some(number), None) => self.first_ways(first_ldu, number),
@@ -71,7 +76,9 @@ impl Hypothesis {
     }
 
     /// How many files were given up since the acknowledgement heard last.
-    pub(crate) fn all_give_ups(&self) -> u8 {
+    pub(crate) fn all_give_ups(&self) -> u8
+        ensures { result ≡ all_give_ups self.now }
+    {
         self.give_ups.saturating_add(self.since)
     }
 
@@ -86,7 +93,9 @@ impl Hypothesis {
     }
 
     // The attempt recorded no start word: it is of the present group, or else of a new file.
-    fn ways_without_start(&self, first_ldu: u8) -> Ways {
+    fn ways_without_start(&self, first_ldu: u8) -> Ways
+        ensures { KeepGiveUps self.now result }
+    {
         let is_past_last = self.is_past_last(first_ldu);
         let may_begin = self.group.is_some() || is_past_last;
         let begin = if may_begin && self.all_give_ups() < MOST_GIVE_UPS {
@@ -107,24 +116,29 @@ impl Hypothesis {
     }
 
     // The attempt has the first start word that was recorded: it begins a file, that of the present group, or the next.
-    fn first_ways(&self, first_ldu: u8, number: UnitNumber) -> Ways {
+    fn first_ways(&self, first_ldu: u8, number: UnitNumber) -> Ways
+        ensures { KeepGiveUps self.now result }
+    {
         if number.ldu != u16::from(first_ldu) {
             return Ways::NONE;
         }
-        let next = self.since.saturating_add(1);
+        let before = self.all_give_ups();
+        let begin = if self.group.is_some() && before < MOST_GIVE_UPS {
+            Some((1, self.began(number, before + 1)))
+        } else {
+            None
+        };
         Ways {
-            join: Some(self.began(number, self.since)),
-            begin: if self.group.is_some() && next <= MOST_GIVE_UPS {
-                Some((1, self.began(number, next)))
-            } else {
-                None
-            },
+            join: Some(self.began(number, before)),
+            begin,
             begin_last: false,
         }
     }
 
     // It is at a first start word, before which so many files were given up.
-    fn began(&self, number: UnitNumber, give_ups: u8) -> Hypothesis {
+    fn began(&self, number: UnitNumber, give_ups: u8) -> Hypothesis
+        ensures { all_give_ups result ≡ give_ups }
+    {
         Hypothesis {
             first_file: number.file.wrapping_sub(give_ups),
             ..self.at(number, give_ups)
@@ -132,7 +146,9 @@ impl Hypothesis {
     }
 
     // It is at a start word, up to which so many files were given up since the acknowledgement heard last.
-    fn at(&self, number: UnitNumber, give_ups: u8) -> Hypothesis {
+    fn at(&self, number: UnitNumber, give_ups: u8) -> Hypothesis
+        ensures { all_give_ups result ≡ give_ups }
+    {
         Hypothesis {
             known: Some(number),
             give_ups,
@@ -143,7 +159,9 @@ impl Hypothesis {
     }
 
     // The attempt has a start word, and the source has come from a known number.
-    fn ways_to(&self, first_ldu: u8, number: UnitNumber, known: UnitNumber) -> Ways {
+    fn ways_to(&self, first_ldu: u8, number: UnitNumber, known: UnitNumber) -> Ways
+        ensures { KeepGiveUps self.now result }
+    {
         let past = number.file.wrapping_sub(known.file);
         if past == 0 && self.since == 0 {
             let fits = number.ldu == known.ldu && !self.is_past_last(first_ldu);
@@ -175,7 +193,10 @@ impl Ways {
     };
 
     // With the present group, where this holds.
-    fn joining(fits: bool, next: Hypothesis) -> Ways {
+    fn joining(fits: bool, next: Hypothesis) -> Ways
+        ensures join { IfSome result.join (λ h. h ≡ next) }
+        ensures begin { result.begin ≡ None }
+    {
         Ways {
             join: if fits { Some(next) } else { None },
             ..Ways::NONE

@@ -4,6 +4,7 @@ ghost use Rattle.std.specs.Prelude.{◌≡◌, ◌<◌, IfOk, IfSome, IfNone, le
 ghost use Rattle.a429_ldu.specs.Ldu.{most_data_words};
 ghost use Rattle.a429_search.specs.Order.{lists_of, HasEach};
 
+use crate::budget::Budget;
 use crate::pair::merge_shortest;
 use a429_ldu::MOST_DATA_WORDS;
 use a429_word::Word;
@@ -14,6 +15,7 @@ use std::alloc::{AllocError, Global};
 pub(crate) fn merge_one_by_one(
     alloc: Global,
     lists: &[Vec<Word>],
+    budget: &mut Budget,
 ) -> Result<Option<Vec<Word>>, AllocError>
     ensures kept { IfOk result (λ merged. IfSome merged (λ v. HasEach v.items (lists_of lists.now))) }
     ensures none { IfOk result (λ merged. IfNone merged (most_data_words < sum_by (λ list. length list.items) lists.now)) }
@@ -23,6 +25,7 @@ pub(crate) fn merge_one_by_one(
         if merged.len() > MOST_DATA_WORDS || list.len() > MOST_DATA_WORDS {
             return Ok(None);
         }
+        budget.spend(merged.len() * list.len());
         merged = merge_shortest(alloc, &merged, list)?;
     }
     Ok(Some(merged))

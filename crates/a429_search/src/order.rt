@@ -3,14 +3,16 @@
 ghost use Rattle.std.specs.Prelude.{◌≡◌, ◌≢◌, ◌↔◌, ℕ, ◌+◌, ◌<◌, ◌≤◌, List, length, slice_index, slice_index_or, slice_get, IsTrue, IfOk, IfSome, IfNone, None, EachIndex, SomeIndex};
 ghost use Rattle.a429_search.specs.Order.{lists_of, words_at, HasEach, HasNoneTwice, AreTheirs, IsNext, IsLater, IsFree, passed_with, IsAllPassed};
 
+use crate::budget::Budget;
 use a429_word::Word;
 use std::alloc::{AllocError, Global};
 
 /// A list that has each of these in its order, no word twice, and none but theirs; `None` where there is no list that has
 /// each and no word twice.
-pub(crate) fn merge_in_one_order(
+pub fn merge_in_one_order(
     alloc: Global,
     lists: &[Vec<Word>],
+    budget: &mut Budget,
 ) -> Result<Option<Vec<Word>>, AllocError>
     ensures kept { IfOk result (λ merged. IfSome merged (λ v. HasEach v.items (lists_of lists.now))) }
     ensures once { IfOk result (λ merged. IfSome merged (λ v. HasNoneTwice v.items)) }
@@ -19,7 +21,7 @@ pub(crate) fn merge_in_one_order(
 {
     let mut passed = vec![in alloc; 0usize; lists.len()]?;
     let mut merged = Vec::new(alloc);
-    while let Some(word) = free_word(lists, &passed) {
+    while let Some(word) = free_word(lists, &passed, budget) {
         merged.push(word)?;
         pass(lists, &mut passed, word);
     }
@@ -31,7 +33,7 @@ pub(crate) fn merge_in_one_order(
 }
 
 // A word that is next in some list, and comes later in none.
-fn free_word(lists: &[Vec<Word>], passed: &[usize]) -> Option<Word>
+fn free_word(lists: &[Vec<Word>], passed: &[usize], budget: &mut Budget) -> Option<Word>
     requires { length passed.now ≡ length lists.now }
     ensures next { IfSome result (λ w. SomeIndex lists.now (λ i. IsNext (lists_of lists.now) passed.now i w)) }
     ensures free { IfSome result (IsFree (lists_of lists.now) passed.now) }
@@ -41,7 +43,7 @@ fn free_word(lists: &[Vec<Word>], passed: &[usize]) -> Option<Word>
         let Some(word) = next_word(words_at(lists, i), passed[i]) else {
             continue;
         };
-        if is_free(lists, passed, word) {
+        if is_free(lists, passed, word, budget) {
             return Some(word);
         }
     }
@@ -49,12 +51,12 @@ fn free_word(lists: &[Vec<Word>], passed: &[usize]) -> Option<Word>
 }
 
 // The word comes later in none of the lists.
-fn is_free(lists: &[Vec<Word>], passed: &[usize], word: Word) -> bool
+fn is_free(lists: &[Vec<Word>], passed: &[usize], word: Word, budget: &mut Budget) -> bool
     requires { length passed.now ≡ length lists.now }
     ensures { IsTrue result ↔ IsFree (lists_of lists.now) passed.now word }
 {
     for i in 0..lists.len() {
-        if comes_later(words_at(lists, i), passed[i], word) {
+        if comes_later(words_at(lists, i), passed[i], word, budget) {
             return false;
         }
     }
@@ -102,8 +104,9 @@ pub(crate) fn next_word(words: &[Word], passed: usize) -> Option<Word>
 }
 
 // The word comes after the next one.
-fn comes_later(words: &[Word], passed: usize, word: Word) -> bool
+fn comes_later(words: &[Word], passed: usize, word: Word, budget: &mut Budget) -> bool
     ensures { IsTrue result ↔ IsLater words.now passed word }
 {
+    budget.spend(words.len().saturating_sub(passed));
     passed < words.len() && words[passed + 1..].contains(&word)
 }

@@ -10,11 +10,7 @@ use a429_word::Word;
 use std::alloc::{AllocError, Global};
 
 /// A shortest list that has both of these, each in its order.
-pub(crate) fn merge_shortest(
-    alloc: Global,
-    left: &[Word],
-    right: &[Word],
-) -> Result<Vec<Word>, AllocError>
+pub fn merge_shortest(alloc: Global, left: &[Word], right: &[Word]) -> Result<Vec<Word>, AllocError>
     requires few_left { length left.now ≤ most_data_words }
     requires few_right { length right.now ≤ most_data_words }
     ensures left { IfOk result (λ v. IsSubsequenceOf left.now v.items) }
@@ -72,7 +68,7 @@ pub(crate) fn merged_lengths(
     requires few_right { length right.now ≤ most_data_words }
     ensures { IfOk result (λ rows. IsTable left.now right.now (lists_of rows.items)) }
 {
-    let mut rows = Vec::new(alloc);
+    let mut rows = Vec::with_capacity(alloc, left.len() + 1)?;
     rows.push(first_row(alloc, right)?)?;
     for m in 0..left.len() {
         let row = next_row(alloc, left, right, m, &rows[m])?;
@@ -86,7 +82,7 @@ fn first_row(alloc: Global, right: &[Word]) -> Result<Vec<u16>, AllocError>
     requires { length right.now ≤ most_data_words }
     ensures { IfOk result (λ row. IsRow [] right.now row.items) }
 {
-    let mut row = Vec::new(alloc);
+    let mut row = Vec::with_capacity(alloc, right.len() + 1)?;
     for n in 0..right.len() + 1 {
         row.push(n as u16)?;
     }
@@ -108,13 +104,16 @@ fn next_row(
     ensures { IfOk result (λ row. IsRow (last (m + 1) left.now) right.now row.items) }
 {
     let word = left[left.len() - 1 - m];
-    let mut row = Vec::new(alloc);
+    let mut row = Vec::with_capacity(alloc, right.len() + 1)?;
     row.push(below[0] + 1)?;
     for n in 0..right.len() {
+        // (both are read, so that this is no branch, which few words would lead astray)
+        let with_both = below[n];
+        let with_one = below[n + 1].min(row[n]);
         let rest = if word == right[right.len() - 1 - n] {
-            below[n]
+            with_both
         } else {
-            below[n + 1].min(row[n])
+            with_one
         };
         row.push(rest + 1)?;
     }

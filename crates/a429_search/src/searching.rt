@@ -7,7 +7,8 @@ use crate::attempts::Attempt;
 use crate::budget::Budget;
 use crate::groups::Group;
 use crate::hypotheses::Hypothesis;
-use crate::trail::{Course, Trail, with_heard};
+use crate::merged::STEPS_A_WORD;
+use crate::trail::{Course, Trail, group_of, with_heard};
 use a429_explain::{Decoded, DecodedWord, Guess, roles};
 use a429_ldu::Form;
 use a429_link::{UnitNumber, is_final};
@@ -88,6 +89,7 @@ impl<'a> Search<'a> {
             self.carry_on(hypothesis, &attempt, &mut tried)?;
         }
         self.hear(&attempt)?;
+        self.trail.leave_out(&mut self.hypotheses)?;
         self.leave_groups_out()
     }
 
@@ -123,13 +125,26 @@ impl<'a> Search<'a> {
         if group.is_none() {
             return Ok(());
         }
-        let closed = self.trail.close(hypothesis, &self.groups, None)?;
+        let closed = self.close(hypothesis, None)?;
         self.add(Hypothesis {
             group,
             before,
             closed,
             ..next
         })
+    }
+
+    // Closes the present group of a hypothesis, as `close` of a trail does: its link data unit is copied.
+    fn close(
+        &mut self,
+        hypothesis: &Hypothesis,
+        heard: Option<usize>,
+    ) -> Result<Option<usize>, AllocError> {
+        if let Some(group) = group_of(hypothesis, &self.groups) {
+            self.budget
+                .spend(usize::from(group.pieces.count) * STEPS_A_WORD);
+        }
+        self.trail.close(hypothesis, &self.groups, heard)
     }
 
     // The present group with the attempt, where the attempt fits it; where there is none, the group that it begins.
@@ -208,9 +223,7 @@ impl<'a> Search<'a> {
             let Some(hypothesis) = self.hypotheses.get(place).copied() else {
                 break;
             };
-            let closed = self
-                .trail
-                .close(&hypothesis, &self.groups, attempt.acknowledged)?;
+            let closed = self.close(&hypothesis, attempt.acknowledged)?;
             self.add(Hypothesis {
                 first_file: hypothesis.first_file,
                 known,

@@ -11,6 +11,7 @@ use a429_ldu::{Ldu, LduFault};
 use a429_profile::Profile;
 use std::alloc::{AllocError, Global};
 use std::collections::VecDeque;
+use std::mem;
 
 /// A group after which another one begins, or whose acknowledgement the source has heard.
 #[derive(Debug, Drop)]
@@ -27,12 +28,17 @@ pub(crate) struct Closed {
     pub heard: Option<usize>,
 }
 
-/// All groups that were closed, by any hypothesis.
+/// How many groups may be closed, beside twice those that hypotheses need, until the others are left out.
+const SPARE_GROUPS: usize = 1_000;
+
+/// The groups that were closed by a hypothesis that is still carried, and some that no hypothesis needs any more.
 #[derive(Drop)]
 pub(crate) struct Trail<'a> {
     alloc: Global,
     profile: &'a Profile,
     closed: Vec<Closed>,
+    // With how many of them those that no hypothesis needs are left out.
+    most: usize,
 }
 
 /// What the source does before each group, and the entries of the acknowledgements that it hears, last first.
@@ -48,6 +54,7 @@ impl<'a> Trail<'a> {
             alloc,
             profile,
             closed: Vec::new(alloc),
+            most: SPARE_GROUPS,
         }
     }
 
@@ -74,6 +81,65 @@ impl<'a> Trail<'a> {
             heard,
         })?;
         Ok(Some(place))
+    }
+
+    /// Leaves out the groups that none of these hypotheses needs, once there are many. The places of the others change, and
+    /// with them those in the hypotheses.
+    pub(crate) fn leave_out(&mut self, hypotheses: &mut [Hypothesis]) -> Result<(), AllocError> {
+        if self.closed.len() < self.most {
+            return Ok(());
+        }
+        let places = self.new_places(hypotheses)?;
+        let closed = mem::replace(&mut self.closed, Vec::new(self.alloc));
+        for (place, group) in closed.into_iter().enumerate() {
+            if place_in(&places, Some(place)).is_some() {
+                let mut kept = group;
+                kept.before = place_in(&places, kept.before);
+                self.closed.push(kept)?;
+            }
+        }
+        for hypothesis in hypotheses.iter_mut() {
+            hypothesis.closed = place_in(&places, hypothesis.closed);
+        }
+        self.most = self
+            .closed
+            .len()
+            .saturating_mul(2)
+            .saturating_add(SPARE_GROUPS);
+        Ok(())
+    }
+
+    // The new place of each group; none of a group that none of these hypotheses needs.
+    fn new_places(&self, hypotheses: &[Hypothesis]) -> Result<Vec<Option<usize>>, AllocError> {
+        let mut places = vec![in self.alloc; None; self.closed.len()]?;
+        for hypothesis in hypotheses {
+            self.need(&mut places, hypothesis.closed);
+        }
+        let mut next = 0_usize;
+        for place in places.iter_mut() {
+            if place.is_some() {
+                *place = Some(next);
+                next = next.saturating_add(1);
+            }
+        }
+        Ok(places)
+    }
+
+    // Gives a place to each group from the last one back to the first, or to one that has a place already.
+    fn need(&self, places: &mut [Option<usize>], last: Option<usize>) {
+        let mut next = last;
+        for _ in 0..self.closed.len() {
+            let Some(place) = next else {
+                break;
+            };
+            if !is_marked(places, place) {
+                break;
+            }
+            next = match self.closed.get(place) {
+                Some(group) => group.before,
+                None => None,
+            };
+        }
     }
 
     /// What the source does up to the group at this place of the trail.
@@ -116,8 +182,31 @@ impl<'a> Trail<'a> {
     }
 }
 
-// The present group of a hypothesis.
-fn group_of<'a>(hypothesis: &Hypothesis, groups: &'a [Group]) -> Option<&'a Group> {
+// Gives the group at a place a place, and answers whether it had none before.
+fn is_marked(places: &mut [Option<usize>], at: usize) -> bool {
+    match places.get_mut(at) {
+        Some(place) => {
+            let is_new = place.is_none();
+            *place = Some(at);
+            is_new
+        }
+        None => false,
+    }
+}
+
+// The new place of the group at a place.
+fn place_in(places: &[Option<usize>], place: Option<usize>) -> Option<usize> {
+    match place {
+        Some(at) => match places.get(at) {
+            Some(found) => *found,
+            None => None,
+        },
+        None => None,
+    }
+}
+
+/// The present group of a hypothesis.
+pub(crate) fn group_of<'a>(hypothesis: &Hypothesis, groups: &'a [Group]) -> Option<&'a Group> {
     match hypothesis.group {
         Some(place) => groups.get(place),
         None => None,

@@ -30,10 +30,6 @@ numeral-last (suc k) n =
     let quotient : n / 10 ^ suc k ≡ n / 10 / 10 ^ k = ap (λ x. n / x) (pow-succ' 10 k) ∙ sym (div-div-eq-div-mul n 10 (10 ^ k)) in
     ap (λ q. digit_glyph true (q % 10) ∷ numeral 10 (suc k) n) quotient ∙ ap (λ t. digit_glyph true (n / 10 / 10 ^ k % 10) ∷ t) (numeral-last k n)
 
--- the last digit goes in front of what stands there
-pub numeral-moves : (j k n : ℕ) (text : List ℕ) → j ≡ suc k → numeral 10 j n ++ text ≡ numeral 10 k (n / 10) ++ ((48 + n % 10) ∷ text)
-numeral-moves j k n text e = ap (λ i. numeral 10 i n ++ text) e ∙ ap (λ t. t ++ text) (numeral-last k n) ∙ append_assoc (numeral 10 k (n / 10)) ((48 + n % 10) ∷ []) text
-
 -- no digits
 pub numeral-none : (k n : ℕ) (text : List ℕ) → k ≡ 0 → text ≡ numeral 10 k n ++ text
 numeral-none k n text e = sym (ap (λ i. numeral 10 i n ++ text) e ∙ ap (λ t. t ++ text) (numeral-empty n))
@@ -41,6 +37,22 @@ numeral-none k n text e = sym (ap (λ i. numeral 10 i n ++ text) e ∙ ap (λ t.
 -- the last digits left out, some and then more
 pub quotient-more : (n i j : ℕ) → n / 10 ^ i / 10 ^ j ≡ n / 10 ^ (i + j)
 quotient-more n i j = rw (pow-add 10 i j) (div-div-eq-div-mul n (10 ^ i) (10 ^ j))
+
+-- the last digits apart
+numeral-cut : (i j n : ℕ) → numeral 10 (i + j) n ≡ numeral 10 i (n / 10 ^ j) ++ numeral 10 j n
+unfolding numeral
+numeral-cut zero j n = let all : 0 + j ≡ j = omega arith in ap (λ k. numeral 10 k n) all
+numeral-cut (suc i) j n =
+    let more : suc i + j ≡ suc (i + j) = omega arith in
+    let turned : i + j ≡ j + i = omega arith in
+    let first : n / 10 ^ (i + j) ≡ n / 10 ^ j / 10 ^ i = ap (λ k. n / 10 ^ k) turned ∙ sym (quotient-more n j i) in
+    ap (λ k. numeral 10 k n) more ∙ ap (λ q. digit_glyph true (q % 10) ∷ numeral 10 (i + j) n) first
+    ∙ ap (λ t. digit_glyph true (n / 10 ^ j / 10 ^ i % 10) ∷ t) (numeral-cut i j n)
+
+-- the last digits go in front of what is there
+pub numeral-moved : (i j k n : ℕ) (text : List ℕ) → k ≡ i + j → numeral 10 k n ++ text ≡ numeral 10 i (n / 10 ^ j) ++ (numeral 10 j n ++ text)
+numeral-moved i j k n text e =
+    ap (λ m. numeral 10 m n ++ text) e ∙ ap (λ t. t ++ text) (numeral-cut i j n) ∙ append_assoc (numeral 10 i (n / 10 ^ j)) (numeral 10 j n) text
 
 pub length-numeral : (k n : ℕ) → length (numeral 10 k n) ≡ k
 unfolding numeral

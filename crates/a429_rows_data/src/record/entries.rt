@@ -1,8 +1,8 @@
 //! Recordings read entry by entry: after the end there is none, after a fault comes `Failed`.
 
 use crate::record::{Answer, entry, failed, five_answers};
-use a429_record::ReadFault;
-use a429_word::{Bus, Tally};
+use a429_record::{EntryReader, ReadFault};
+use a429_word::{Bus, Failing, Tally};
 use std::alloc::Global;
 use std::io;
 use std::io::Read;
@@ -65,6 +65,35 @@ fn first_size_that_differs(alloc: Global) -> Option<usize> {
 #[test]
 fn pieces_of_every_size(rt: HostRuntime) {
     assert_eq!(rt; first_size_that_differs(rt.alloc()), None);
+}
+
+// What four calls of a reader of at most so many entries answer.
+fn answers_within(alloc: Global, text: &[u8], most: usize) -> [Answer; 4] {
+    let mut reader = EntryReader::of_most(alloc, Tally::new(text, 1000), most);
+    let mut answers = [(Ok(None), false); 4];
+    for answer in &mut answers {
+        let next = reader.next();
+        *answer = (next, reader.failed());
+    }
+    answers
+}
+
+// One entry too many.
+fn too_many() -> Answer {
+    (Err(ReadFault::TooMany), false)
+}
+
+#[test]
+fn limits_of_its_own(rt: HostRuntime) {
+    let none = answers_within(rt.alloc(), TWO_ENTRIES, 0);
+    assert!(rt; none == [too_many(), failed(false), failed(false), failed(false)]);
+    let [first, second] = both();
+    let one = answers_within(rt.alloc(), TWO_ENTRIES, 1);
+    assert!(rt; one[0] == first && one[1] == too_many() && one[2] == failed(false));
+    for most in [2, usize::MAX] {
+        let two = answers_within(rt.alloc(), TWO_ENTRIES, most);
+        assert!(rt; two[0] == first && two[1] == second && two[2] == (Ok(None), false));
+    }
 }
 
 const WITH_A_FAULT: [(&str, ReadFault); 3] = [

@@ -107,6 +107,9 @@ pub fn without_fives(number: u128, count: u8) -> Option<u128>
     requires { count ≤ 24 }
     ensures { IfSome result (λ rest. number ≡ rest * 5 ^ count) }
 {
+    if count == 0 {
+        return Some(number);
+    }
     let five = power_of_five(count);
     if number > u128::from(u64::MAX) {
         return multiple_of(number, u128::from(five));

@@ -54,18 +54,30 @@ impl Text {
         ensures len { length self.new ≡ length self.old + count }
         ensures rest { result ≡ number / 10 ^ count }
     {
-        if count == 0 {
-            return number;
-        }
         let mut rest = number;
         let mut left = count;
         while left > 18 {
-            rest = self.push_last_digit(rest);
-            left -= 1;
+            rest = self.push_digits(rest, 18);
+            left -= 18;
+        }
+        self.push_digits(rest, left)
+    }
+
+    // The same of at most 18 digits, which 64 bits hold: so one division is enough for all of them.
+    #[inline(always)]
+    fn push_digits(&mut self, number: u128, count: u8) -> u128
+        requires few { count ≤ 18 }
+        requires room { length self.old + count < 72 }
+        ensures text { self.new ≡ numeral 10 count number ++ self.old }
+        ensures len { length self.new ≡ length self.old + count }
+        ensures rest { result ≡ number / 10 ^ count }
+    {
+        if count == 0 {
+            return number;
         }
         // A 1 before the digits keeps the zeros that they may begin with. The text starts behind it.
-        let one = power_of_ten(left);
-        let (whole, decimals) = over_power_of_ten(rest, left);
+        let one = power_of_ten(count);
+        let (whole, decimals) = over_power_of_ten(number, count);
         self.start = write_digits(one + decimals, &mut self.bytes, self.start) + 1;
         whole
     }

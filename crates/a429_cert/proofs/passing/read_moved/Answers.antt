@@ -1,23 +1,22 @@
-use Rattle.std.proofs.Common.{rules, ◌∙◌, ◌∷◌, refl, sym}
-use Rattle.a429_cert.specs.declared.line.CertLine.TheVariants.{Moved}
-use Rattle.a429_cert.specs.declared.fault.CertFault.TheVariants as of
+use Rattle.std.proofs.Common.{Some, ◌∷◌, ◌∙◌, sym}
+use Rattle.std.proofs.lemmas.Result.{IfErr-weaker, IfOk-weaker}
+use Rattle.a429_cert.specs.Passing.{Lists, RefusesFirst}
 use Rattle.a429_cert.proofs.ReadingFacts.{moved-only}
-use Rattle.a429_cert.proofs.PassingText.{no_move, fault-read}
+use Rattle.a429_cert.proofs.PassingText.{no_move}
 use Rattle.a429_cert.proofs.passing.read_moved.Goals as goal
 
-pub returns-then-may_record-clause-listed : goal.returns-then-may_record-clause-listed
-returns-then-may_record-clause-listed c =
-    (Moved c.in-Some.line, moved-only c.args.letter c.args.text.now c.in-Some.line (sym c.moved_from.ensures ∙ c.in-Some.is), refl, c.may_record.ensures.yes c.if-may_record.true)
+pub returns-in-Some-clause-listed : goal.returns-in-Some-clause-listed
+returns-in-Some-clause-listed c =
+    let says = moved-only c.args.letter c.args.text.now c.in-Some.line (sym c.moved_from.ensures ∙ c.in-Some.is) in
+    IfOk-weaker c.allow_line.result _ (λ x. Lists c.args.link.now.profile (Some (c.args.letter ∷ c.args.text.now)) x c.args.link.now.state)
+    (λ x h. h (Some (c.args.letter ∷ c.args.text.now)) says) c.allow_line.ensures.listed
 
-pub returns-else-may_record-clause-refused : goal.returns-else-may_record-clause-refused
-returns-else-may_record-clause-refused c = λ at here z.
-    fault-read c.args.link.now.profile c.args.link.now.state at.next at.line at.entry (c.args.letter ∷ c.args.text.now) (Moved c.in-Some.line) (of.NotAllowed c.args.n)
-    (moved-only c.args.letter c.args.text.now c.in-Some.line (sym c.moved_from.ensures ∙ c.in-Some.is)) tt
-    (tt, (sym here, c.may_record.ensures.no c.if-may_record.false))
+pub returns-in-Some-clause-refused : goal.returns-in-Some-clause-refused
+returns-in-Some-clause-refused c =
+    let says = moved-only c.args.letter c.args.text.now c.in-Some.line (sym c.moved_from.ensures ∙ c.in-Some.is) in
+    IfErr-weaker c.allow_line.result _ (RefusesFirst c.args.link.now.profile (Some (c.args.letter ∷ c.args.text.now)) c.args.n c.args.link.now.state)
+    (λ f h. h (Some (c.args.letter ∷ c.args.text.now)) says) c.allow_line.ensures.refused
 
 pub returns-in-None-clause-refused : goal.returns-in-None-clause-refused
 returns-in-None-clause-refused c = λ at here z.
     (sym here, λ l is says. no_move c.args.letter c.args.text.now l c.requires (sym c.moved_from.ensures ∙ c.in-None.is) is says)
-
-pub returns-else-may_record-clause-listed : goal.returns-else-may_record-clause-listed
-returns-else-may_record-clause-listed c = search rules

@@ -16,6 +16,8 @@ use Rattle.a429_cert.proofs.StreamReplay.{told_init, told_on, told_yes, fresh}
 use Rattle.a429_cert.specs.Told.{HearsText}
 use Rattle.a429_cert.proofs.ToldFacts.{hears_init, hears_on, hears_all}
 use Rattle.a429_cert.proofs.ToldRefused.{heard_head}
+use Rattle.a429_cert.specs.declared.stream_fault.StreamFault.TheVariants as stream
+use Rattle.a429_cert.proofs.LikelyFacts.{is_yes, is_no, nothing_read}
 use Rattle.a429_cert.proofs.StreamEndFacts.{told_late, heard_late}
 use Rattle.a429_cert.proofs.stream.replay_stream.Goals as goal
 
@@ -23,45 +25,70 @@ pub lines-init : goal.lines-init
 lines-init g c =
     let known = unread g.C.Read.remaining c.args.cert.now in
     let old = to_come g.C.Read.remaining c.new-lines.result c.args.cert.now in
-    let state : c.start-replay.result.link.state ≡ start c.args.profile.now c.in-Ok.head.first = ap (λ (l : LinkValue). l.state) c.start-replay.ensures.link in
+    let state : c.start-replay.result.link.state ≡ start c.args.profile.now c.in-Ok-begin.head.first = ap (λ (l : LinkValue). l.state) c.start-replay.ensures.link in
     let none : length (bytes_ahead c.new-lines.result) ≡ 0 = ap (λ (l : List ℕ). length l) c.new-lines.ensures in
     let lines = c.start-replay.ensures.lines in
     let used = c.start-replay.ensures.used in
     record {
-      head = c.in-Ok.head;
+      head = c.in-Ok-begin.head;
       k = 0;
       taken = [];
       number = lines;
       told = rw used
-          (told_init c.args.profile.now c.in-Ok.head c.start-replay.result.link.state known old (to_come g.C.Read.remaining c.begin.new.lines c.begin.new.cert) c.args.rec.now.to_come
-          (fresh (bytes_ahead c.new-lines.result) known c.new-lines.ensures) c.in-Ok.ensures.ok state);
-      heard = rw used (hears_init g.T.Listener.hears c.args.profile.now c.in-Ok.head c.start-replay.result.link.state c.args.listener.now known c.args.rec.now.to_come state);
+          (told_init c.args.profile.now c.in-Ok-begin.head c.start-replay.result.link.state known old (to_come g.C.Read.remaining c.begin.new.lines c.begin.new.cert) c.args.rec.now.to_come
+          (fresh (bytes_ahead c.new-lines.result) known c.new-lines.ensures) c.in-Ok-begin.ensures.ok state);
+      heard = rw used (hears_init g.T.Listener.hears c.args.profile.now c.in-Ok-begin.head c.start-replay.result.link.state c.args.listener.now known c.args.rec.now.to_come state);
       none_left = ap (λ (t : State). t.sink.received.files) state;
       put = gains_none (g.S.Shelf.files c.args.shelf.now) 1;
       noted = c.start-replay.ensures.files;
       few = omega (arith, lines, used);
       counted = omega (arith, used);
-      room = omega (arith, c.in-Ok.ensures.room, none, lines);
+      room = omega (arith, c.in-Ok-begin.ensures.room, none, lines);
       link = ap (λ (l : LinkValue). l.profile) c.start-replay.ensures.link;
       profile = c.start-replay.ensures.profile;
       version = c.start-replay.ensures.version;
     }
 
+-- no memory for the table: nothing was read
 pub returns-in-Err-clause-err : goal.returns-in-Err-clause-err
 returns-in-Err-clause-err g c =
     let known = unread g.C.Read.remaining c.args.cert.now in
-    let old = to_come g.C.Read.remaining c.new-lines.result c.args.cert.now in
     record {
       files = [];
-      fault = told_head c.args.profile.now known old c.args.rec.now.to_come c.in-Err.fault (fresh (bytes_ahead c.new-lines.result) known c.new-lines.ensures) c.in-Err.ensures.err;
+      fault = told_head c.args.profile.now known known c.args.rec.now.to_come stream.OutOfMemory refl tt;
       put = gains_none (g.S.Shelf.files c.args.shelf.now) 1;
     }
 
 pub returns-in-Err-clause-told : goal.returns-in-Err-clause-told
 returns-in-Err-clause-told g c =
     let known = unread g.C.Read.remaining c.args.cert.now in
+    heard_head g.T.Listener.hears c.args.profile.now known known c.args.rec.now.to_come stream.OutOfMemory c.args.listener.now refl tt
+
+pub returns-in-Err-clause-place : goal.returns-in-Err-clause-place
+returns-in-Err-clause-place g c =
+    let known = unread g.C.Read.remaining c.args.cert.now in
+    record {
+      files = [];
+      place = head_breaks c.args.profile.now known known known (has_failed c.args.cert.now) (g.S.Failing.failed c.args.shelf.now) (g.T.Failing.failed c.args.listener.now) c.args.rec.now c.args.rec.now stream.OutOfMemory
+          refl (nothing_read known) tt refl (λ e. absurd (cc e));
+      put = gains_none (g.S.Shelf.files c.args.shelf.now) 1;
+    }
+
+pub returns-in-Err-begin-clause-err : goal.returns-in-Err-begin-clause-err
+returns-in-Err-begin-clause-err g c =
+    let known = unread g.C.Read.remaining c.args.cert.now in
     let old = to_come g.C.Read.remaining c.new-lines.result c.args.cert.now in
-    heard_head g.T.Listener.hears c.args.profile.now known old c.args.rec.now.to_come c.in-Err.fault c.args.listener.now (fresh (bytes_ahead c.new-lines.result) known c.new-lines.ensures) c.in-Err.ensures.err
+    record {
+      files = [];
+      fault = told_head c.args.profile.now known old c.args.rec.now.to_come c.in-Err-begin.fault (fresh (bytes_ahead c.new-lines.result) known c.new-lines.ensures) c.in-Err-begin.ensures.err;
+      put = gains_none (g.S.Shelf.files c.args.shelf.now) 1;
+    }
+
+pub returns-in-Err-begin-clause-told : goal.returns-in-Err-begin-clause-told
+returns-in-Err-begin-clause-told g c =
+    let known = unread g.C.Read.remaining c.args.cert.now in
+    let old = to_come g.C.Read.remaining c.new-lines.result c.args.cert.now in
+    heard_head g.T.Listener.hears c.args.profile.now known old c.args.rec.now.to_come c.in-Err-begin.fault c.args.listener.now (fresh (bytes_ahead c.new-lines.result) known c.new-lines.ensures) c.in-Err-begin.ensures.err
 
 pub returns-in_default-clause-err : goal.returns-in_default-clause-err
 returns-in_default-clause-err g c =
@@ -76,25 +103,25 @@ returns-in_default-clause-err g c =
 
 pub overflow_add-replay : goal.overflow_add-replay
 overflow_add-replay g c =
-    let found : c.in-Ok-next_line.found ≡ true = c.if-not-found.false in
-    omega (arith, c.lines.invariant.room, c.in-Ok-next_line.ensures.room found, c.left-most.ensures, c.left-most.type_inv)
+    let found : c.in-Ok-next_near.next.found ≡ true = is_yes c.in-Ok-next_near.next.found c.if-not-next.false in
+    omega (arith, c.lines.invariant.room, c.in-Ok-next_near.ensures.room found, c.left-most.ensures, c.left-most.type_inv)
 
 pub overflow_add-replay-in-Ok-replay_and_put : goal.overflow_add-replay-in-Ok-replay_and_put
 overflow_add-replay-in-Ok-replay_and_put g c =
     let used : c.replay_and_put.new.replay.used ≡ c.lines.replay.used = ap (λ (w : Replay). w.used) c.in-Ok-replay_and_put.ensures.kept in
-    let found : c.in-Ok-next_line.found ≡ true = c.if-not-found.false in
-    omega (arith, used, c.in-Ok-replay_and_put.ensures.few, c.lines.invariant.few, c.lines.invariant.room, c.in-Ok-next_line.ensures.room found, c.left-most.ensures, c.left-most.type_inv)
+    let found : c.in-Ok-next_near.next.found ≡ true = is_yes c.in-Ok-next_near.next.found c.if-not-next.false in
+    omega (arith, used, c.in-Ok-replay_and_put.ensures.few, c.lines.invariant.few, c.lines.invariant.room, c.in-Ok-next_near.ensures.room found, c.left-most.ensures, c.left-most.type_inv)
 
 pub returns-in-Err-replay_and_put-clause-err : goal.returns-in-Err-replay_and_put-clause-err
 returns-in-Err-replay_and_put-clause-err g c =
     let v = c.lines.invariant in
     let known = unread g.C.Read.remaining c.args.cert.now in
     let left = to_come g.C.Read.remaining c.lines.lines c.lines.cert in
-    let more = to_come g.C.Read.remaining c.next_line.new.self c.next_line.new.cert in
-    let held = held_line c.next_line.new.self in
-    let found : c.in-Ok-next_line.found ≡ true = c.if-not-found.false in
+    let more = to_come g.C.Read.remaining c.next_near.new.self c.next_near.new.cert in
+    let held = held_line c.next_near.new.self in
+    let found : c.in-Ok-next_near.next.found ≡ true = is_yes c.in-Ok-next_near.next.found c.if-not-next.false in
     let n : c.lines.replay.lines + 1 ≡ v.k + 3 = let number = v.number in omega (arith, number) in
-    let given = subst (GivesLine left more held) found c.in-Ok-next_line.ensures.given in
+    let given = subst (GivesLine left more held) found c.in-Ok-next_near.ensures.given in
     line_stops g.S.Shelf.files g.S.Failing.failed (g.T.Failing.failed c.replay_and_put.new.listener) c.args.profile.now (record (c.lines.replay) { lines = c.lines.replay.lines + 1 }) v.head v.k v.taken held known left more c.args.rec.now.to_come c.lines.rec c.replay_and_put.new.rec (line_bytes c.line.result)
     c.args.shelf.now c.lines.shelf c.replay_and_put.new.shelf c.in-Err-replay_and_put.fault v.profile v.version v.noted n v.none_left c.line.ensures given v.put v.told c.in-Err-replay_and_put.ensures.stopped
 
@@ -103,11 +130,11 @@ returns-in-Err-replay_and_put-clause-told g c =
     let v = c.lines.invariant in
     let known = unread g.C.Read.remaining c.args.cert.now in
     let left = to_come g.C.Read.remaining c.lines.lines c.lines.cert in
-    let more = to_come g.C.Read.remaining c.next_line.new.self c.next_line.new.cert in
-    let held = held_line c.next_line.new.self in
-    let found : c.in-Ok-next_line.found ≡ true = c.if-not-found.false in
+    let more = to_come g.C.Read.remaining c.next_near.new.self c.next_near.new.cert in
+    let held = held_line c.next_near.new.self in
+    let found : c.in-Ok-next_near.next.found ≡ true = is_yes c.in-Ok-next_near.next.found c.if-not-next.false in
     let n : c.lines.replay.lines + 1 ≡ v.k + 3 = let number = v.number in omega (arith, number) in
-    let given = subst (GivesLine left more held) found c.in-Ok-next_line.ensures.given in
+    let given = subst (GivesLine left more held) found c.in-Ok-next_near.ensures.given in
     line_untold g.T.Listener.hears g.S.Shelf.files g.S.Failing.failed (g.T.Failing.failed c.replay_and_put.new.listener) c.args.profile.now (record (c.lines.replay) { lines = c.lines.replay.lines + 1 }) v.head v.k v.taken held known left more c.args.rec.now.to_come c.lines.rec c.replay_and_put.new.rec (line_bytes c.line.result)
     c.lines.shelf c.replay_and_put.new.shelf c.in-Err-replay_and_put.fault c.args.listener.now c.lines.listener c.replay_and_put.new.listener v.profile v.version n v.none_left c.line.ensures given v.told v.heard c.in-Err-replay_and_put.ensures.untold c.in-Err-replay_and_put.ensures.stopped
 
@@ -117,17 +144,17 @@ lines-preserved g c =
     let v = c.lines.invariant in
     let known = unread g.C.Read.remaining c.args.cert.now in
     let left = to_come g.C.Read.remaining c.lines.lines c.lines.cert in
-    let more = to_come g.C.Read.remaining c.next_line.new.self c.next_line.new.cert in
-    let held = held_line c.next_line.new.self in
-    let found : c.in-Ok-next_line.found ≡ true = c.if-not-found.false in
+    let more = to_come g.C.Read.remaining c.next_near.new.self c.next_near.new.cert in
+    let held = held_line c.next_near.new.self in
+    let found : c.in-Ok-next_near.next.found ≡ true = is_yes c.in-Ok-next_near.next.found c.if-not-next.false in
     let s = c.lines.replay.link.state in
     let on = c.in-Ok-replay_and_put.ensures.goes_on in
     let t = on.state in
     let kept = c.in-Ok-replay_and_put.ensures.kept in
     let lines : c.replay_and_put.new.replay.lines ≡ c.lines.replay.lines + 1 = ap (λ (w : Replay). w.lines) kept in
     let used : c.replay_and_put.new.replay.used + c.in-Ok-replay_and_put.used ≡ c.lines.replay.used + c.in-Ok-replay_and_put.used = ap (λ (w : Replay). w.used + c.in-Ok-replay_and_put.used) kept in
-    let shorter = c.in-Ok-next_line.ensures.shorter (subst (λ (o : Option (List ℕ)). IsSome o) c.line.ensures c.in-Ok-replay_and_put.ensures.ended) in
-    let given = subst (GivesLine left more held) found c.in-Ok-next_line.ensures.given in
+    let shorter = c.in-Ok-next_near.ensures.shorter (subst (λ (o : Option (List ℕ)). IsSome o) c.line.ensures c.in-Ok-replay_and_put.ensures.ended) in
+    let given = subst (GivesLine left more held) found c.in-Ok-next_near.ensures.given in
     let passed = subst (λ w. PassesOver p (read_as w (line_bytes c.line.result)) s t c.lines.rec.to_come c.replay_and_put.new.rec.to_come c.in-Ok-replay_and_put.used) v.version (subst (λ q. PassesOver q (read_as c.lines.replay.version (line_bytes c.line.result)) s t c.lines.rec.to_come c.replay_and_put.new.rec.to_come c.in-Ok-replay_and_put.used) v.profile on.passed) in
     let held_passed = subst (λ (o : Option (List ℕ)). PassesOver p (read_as v.head.version o) s t c.lines.rec.to_come c.replay_and_put.new.rec.to_come c.in-Ok-replay_and_put.used) c.line.ensures passed in
     let q = subst (λ w. HearsText g.T.Listener.hears p (read_as w (line_bytes c.line.result)) s c.lines.rec.to_come c.lines.replay.used c.lines.listener c.replay_and_put.new.listener) v.version (subst (λ q. HearsText g.T.Listener.hears q (read_as c.lines.replay.version (line_bytes c.line.result)) s c.lines.rec.to_come c.lines.replay.used c.lines.listener c.replay_and_put.new.listener) v.profile c.in-Ok-replay_and_put.ensures.heard) in
@@ -157,10 +184,10 @@ returns-in-Ok-none_left-clause-ok g c =
     let v = c.lines.invariant in
     let known = unread g.C.Read.remaining c.args.cert.now in
     let left = to_come g.C.Read.remaining c.lines.lines c.lines.cert in
-    let more = to_come g.C.Read.remaining c.next_line.new.self c.next_line.new.cert in
-    let held = held_line c.next_line.new.self in
-    let found : c.in-Ok-next_line.found ≡ false = c.if-not-found.true in
-    let given = subst (GivesLine left more held) found c.in-Ok-next_line.ensures.given in
+    let more = to_come g.C.Read.remaining c.next_near.new.self c.next_near.new.cert in
+    let held = held_line c.next_near.new.self in
+    let found : c.in-Ok-next_near.next.found ≡ false = is_no c.in-Ok-next_near.next.found c.if-not-next.true in
+    let given = subst (GivesLine left more held) found c.in-Ok-next_near.ensures.given in
     record {
       files = v.taken;
       yes = told_yes c.args.profile.now v.head v.k c.lines.replay.used v.taken c.lines.replay.link.state held left more known c.args.rec.now.to_come c.lines.rec.to_come c.none_left.new.rec.to_come c.start-replay.ensures.sound v.none_left given c.in-Ok-none_left.ensures.ok v.told;
@@ -173,47 +200,47 @@ returns-in-Ok-none_left-clause-heard g c =
     let v = c.lines.invariant in
     let known = unread g.C.Read.remaining c.args.cert.now in
     let left = to_come g.C.Read.remaining c.lines.lines c.lines.cert in
-    let more = to_come g.C.Read.remaining c.next_line.new.self c.next_line.new.cert in
-    let held = held_line c.next_line.new.self in
-    let found : c.in-Ok-next_line.found ≡ false = c.if-not-found.true in
-    let given = subst (GivesLine left more held) found c.in-Ok-next_line.ensures.given in
+    let more = to_come g.C.Read.remaining c.next_near.new.self c.next_near.new.cert in
+    let held = held_line c.next_near.new.self in
+    let found : c.in-Ok-next_near.next.found ≡ false = is_no c.in-Ok-next_near.next.found c.if-not-next.true in
+    let given = subst (GivesLine left more held) found c.in-Ok-next_near.ensures.given in
     hears_all g.T.Listener.hears c.args.profile.now v.head v.k c.lines.replay.used v.taken c.lines.replay.link.state held known left more c.args.rec.now.to_come c.lines.rec.to_come c.none_left.new.rec.to_come c.args.listener.now c.lines.listener given c.in-Ok-none_left.ensures.ok v.told v.heard
 
-pub returns-in-Err-none_left-clause-err : goal.returns-in-Err-none_left-clause-err
-returns-in-Err-none_left-clause-err g c =
+pub returns-clause-err : goal.returns-clause-err
+returns-clause-err g c =
     let v = c.lines.invariant in
     let known = unread g.C.Read.remaining c.args.cert.now in
     let left = to_come g.C.Read.remaining c.lines.lines c.lines.cert in
-    let more = to_come g.C.Read.remaining c.next_line.new.self c.next_line.new.cert in
-    let held = held_line c.next_line.new.self in
-    let found : c.in-Ok-next_line.found ≡ false = c.if-not-found.true in
-    let given = subst (GivesLine left more held) found c.in-Ok-next_line.ensures.given in
+    let more = to_come g.C.Read.remaining c.next_near.new.self c.next_near.new.cert in
+    let held = held_line c.next_near.new.self in
+    let found : c.in-Ok-next_near.next.found ≡ false = is_no c.in-Ok-next_near.next.found c.if-not-next.true in
+    let given = subst (GivesLine left more held) found c.in-Ok-next_near.ensures.given in
     record {
       files = v.taken;
       fault = told_late c.args.profile.now v.head v.k c.lines.replay.used v.taken c.lines.replay.link.state held known left more c.args.rec.now.to_come c.lines.rec.to_come c.none_left.new.rec.to_come c.in-Err-none_left.fault v.none_left given c.in-Err-none_left.ensures.err v.told;
       put = v.put;
     }
 
-pub returns-in-Err-none_left-clause-told : goal.returns-in-Err-none_left-clause-told
-returns-in-Err-none_left-clause-told g c =
+pub returns-clause-told : goal.returns-clause-told
+returns-clause-told g c =
     let v = c.lines.invariant in
     let known = unread g.C.Read.remaining c.args.cert.now in
     let left = to_come g.C.Read.remaining c.lines.lines c.lines.cert in
-    let more = to_come g.C.Read.remaining c.next_line.new.self c.next_line.new.cert in
-    let held = held_line c.next_line.new.self in
-    let found : c.in-Ok-next_line.found ≡ false = c.if-not-found.true in
-    let given = subst (GivesLine left more held) found c.in-Ok-next_line.ensures.given in
+    let more = to_come g.C.Read.remaining c.next_near.new.self c.next_near.new.cert in
+    let held = held_line c.next_near.new.self in
+    let found : c.in-Ok-next_near.next.found ≡ false = is_no c.in-Ok-next_near.next.found c.if-not-next.true in
+    let given = subst (GivesLine left more held) found c.in-Ok-next_near.ensures.given in
     heard_late c.args.profile.now v.head v.k c.lines.replay.used v.taken c.lines.replay.link.state held known left more c.args.rec.now.to_come c.lines.rec.to_come c.none_left.new.rec.to_come c.in-Err-none_left.fault g.T.Listener.hears c.args.listener.now c.lines.listener v.none_left given c.in-Err-none_left.ensures.err v.told v.heard
 
-pub returns-in-Err-clause-place : goal.returns-in-Err-clause-place
-returns-in-Err-clause-place g c =
+pub returns-in-Err-begin-clause-place : goal.returns-in-Err-begin-clause-place
+returns-in-Err-begin-clause-place g c =
     let known = unread g.C.Read.remaining c.args.cert.now in
     let old = to_come g.C.Read.remaining c.new-lines.result c.args.cert.now in
     let left = unread g.C.Read.remaining c.begin.new.cert in
     record {
       files = [];
-      place = head_breaks c.args.profile.now known old left (has_failed c.begin.new.cert) (g.S.Failing.failed c.args.shelf.now) (g.T.Failing.failed c.args.listener.now) c.args.rec.now c.args.rec.now c.in-Err.fault
-          (fresh (bytes_ahead c.new-lines.result) known c.new-lines.ensures) c.in-Err.ensures.read c.in-Err.ensures.err refl (λ e. c.in-Err.ensures.device (cc e));
+      place = head_breaks c.args.profile.now known old left (has_failed c.begin.new.cert) (g.S.Failing.failed c.args.shelf.now) (g.T.Failing.failed c.args.listener.now) c.args.rec.now c.args.rec.now c.in-Err-begin.fault
+          (fresh (bytes_ahead c.new-lines.result) known c.new-lines.ensures) c.in-Err-begin.ensures.read c.in-Err-begin.ensures.err refl (λ e. c.in-Err-begin.ensures.device (cc e));
       put = gains_none (g.S.Shelf.files c.args.shelf.now) 1;
     }
 
@@ -222,11 +249,11 @@ returns-in_default-clause-place g c =
     let v = c.lines.invariant in
     let known = unread g.C.Read.remaining c.args.cert.now in
     let old = to_come g.C.Read.remaining c.lines.lines c.lines.cert in
-    let left = unread g.C.Read.remaining c.next_line.new.cert in
+    let left = unread g.C.Read.remaining c.next_near.new.cert in
     record {
       files = v.taken;
-      place = between_breaks c.args.profile.now v.head v.k c.lines.replay.used v.taken c.lines.replay.link.state known old left (has_failed c.next_line.new.cert) (g.S.Failing.failed c.lines.shelf) (g.T.Failing.failed c.lines.listener)
-          (bytes_ahead c.next_line.new.self) c.args.rec.now c.lines.rec c.lines.rec v.none_left (c.next_line.ensures.part (search rules)) (c.next_line.ensures.kept (search rules)) v.counted refl (c.next_line.ensures.device (search rules)) v.told;
+      place = between_breaks c.args.profile.now v.head v.k c.lines.replay.used v.taken c.lines.replay.link.state known old left (has_failed c.next_near.new.cert) (g.S.Failing.failed c.lines.shelf) (g.T.Failing.failed c.lines.listener)
+          (bytes_ahead c.next_near.new.self) c.args.rec.now c.lines.rec c.lines.rec v.none_left (c.next_near.ensures.part (search rules)) (c.next_near.ensures.kept (search rules)) v.counted refl (c.next_near.ensures.device (search rules)) v.told;
       put = v.put;
     }
 
@@ -235,28 +262,28 @@ returns-in-Err-replay_and_put-clause-place g c =
     let v = c.lines.invariant in
     let known = unread g.C.Read.remaining c.args.cert.now in
     let old = to_come g.C.Read.remaining c.lines.lines c.lines.cert in
-    let left = unread g.C.Read.remaining c.next_line.new.cert in
-    let more = to_come g.C.Read.remaining c.next_line.new.self c.next_line.new.cert in
-    let held = held_line c.next_line.new.self in
-    let found : c.in-Ok-next_line.found ≡ true = c.if-not-found.false in
-    let given = subst (GivesLine old more held) found c.in-Ok-next_line.ensures.given in
-    stop_breaks g.S.Shelf.files g.S.Failing.failed (g.T.Failing.failed c.replay_and_put.new.listener) (has_failed c.next_line.new.cert) c.args.profile.now (record (c.lines.replay) { lines = c.lines.replay.lines + 1 }) v.head v.k v.taken held known old left (line_bytes c.line.result)
-    (bytes_ahead c.next_line.new.self) c.args.rec.now c.lines.rec c.replay_and_put.new.rec c.args.shelf.now c.lines.shelf c.replay_and_put.new.shelf c.in-Err-replay_and_put.fault v.profile v.version v.noted v.none_left c.line.ensures c.next_line.ensures.few given v.counted v.put v.told
+    let left = unread g.C.Read.remaining c.next_near.new.cert in
+    let more = to_come g.C.Read.remaining c.next_near.new.self c.next_near.new.cert in
+    let held = held_line c.next_near.new.self in
+    let found : c.in-Ok-next_near.next.found ≡ true = is_yes c.in-Ok-next_near.next.found c.if-not-next.false in
+    let given = subst (GivesLine old more held) found c.in-Ok-next_near.ensures.given in
+    stop_breaks g.S.Shelf.files g.S.Failing.failed (g.T.Failing.failed c.replay_and_put.new.listener) (has_failed c.next_near.new.cert) c.args.profile.now (record (c.lines.replay) { lines = c.lines.replay.lines + 1 }) v.head v.k v.taken held known old left (line_bytes c.line.result)
+    (bytes_ahead c.next_near.new.self) c.args.rec.now c.lines.rec c.replay_and_put.new.rec c.args.shelf.now c.lines.shelf c.replay_and_put.new.shelf c.in-Err-replay_and_put.fault v.profile v.version v.noted v.none_left c.line.ensures c.next_near.ensures.few given v.counted v.put v.told
     c.in-Err-replay_and_put.ensures.stopped
 
-pub returns-in-Err-none_left-clause-place : goal.returns-in-Err-none_left-clause-place
-returns-in-Err-none_left-clause-place g c =
+pub returns-clause-place : goal.returns-clause-place
+returns-clause-place g c =
     let v = c.lines.invariant in
     let known = unread g.C.Read.remaining c.args.cert.now in
     let old = to_come g.C.Read.remaining c.lines.lines c.lines.cert in
-    let left = unread g.C.Read.remaining c.next_line.new.cert in
-    let more = to_come g.C.Read.remaining c.next_line.new.self c.next_line.new.cert in
-    let held = held_line c.next_line.new.self in
-    let found : c.in-Ok-next_line.found ≡ false = c.if-not-found.true in
-    let given = subst (GivesLine old more held) found c.in-Ok-next_line.ensures.given in
+    let left = unread g.C.Read.remaining c.next_near.new.cert in
+    let more = to_come g.C.Read.remaining c.next_near.new.self c.next_near.new.cert in
+    let held = held_line c.next_near.new.self in
+    let found : c.in-Ok-next_near.next.found ≡ false = is_no c.in-Ok-next_near.next.found c.if-not-next.true in
+    let given = subst (GivesLine old more held) found c.in-Ok-next_near.ensures.given in
     record {
       files = v.taken;
-      place = late_breaks c.args.profile.now v.head v.k c.lines.replay.used v.taken c.lines.replay.link.state known old left (has_failed c.next_line.new.cert) (g.S.Failing.failed c.lines.shelf) (g.T.Failing.failed c.lines.listener)
-          (bytes_ahead c.next_line.new.self) c.args.rec.now c.lines.rec c.none_left.new.rec held c.none_left.new.rec.to_come c.in-Err-none_left.fault v.none_left c.next_line.ensures.few given (c.next_line.ensures.kept (λ e. cc (c.in-Ok-next_line.is, found, e))) v.counted c.in-Err-none_left.ensures.err c.in-Err-none_left.ensures.given v.told;
+      place = late_breaks c.args.profile.now v.head v.k c.lines.replay.used v.taken c.lines.replay.link.state known old left (has_failed c.next_near.new.cert) (g.S.Failing.failed c.lines.shelf) (g.T.Failing.failed c.lines.listener)
+          (bytes_ahead c.next_near.new.self) c.args.rec.now c.lines.rec c.none_left.new.rec held c.none_left.new.rec.to_come c.in-Err-none_left.fault v.none_left c.next_near.ensures.few given (c.in-Ok-next_near.ensures.ended found) v.counted c.in-Err-none_left.ensures.err c.in-Err-none_left.ensures.given v.told;
       put = v.put;
     }

@@ -1,11 +1,11 @@
-use Rattle.std.proofs.Common.{Vec, Global, ℕ}
+use Rattle.std.proofs.Common.{Vec, Global, ℕ, ◌≡◌, ◌<◌, length}
 use Rattle.a429_search.specs.Order.{lists_of}
-use Rattle.a429_search.specs.Fill.{IsFilled, AreDataOf}
-use Rattle.a429_search.proofs.MergedFacts.{some_from, merge_filled}
+use Rattle.a429_search.specs.Fill.{Fits, IsFilled, AreDataOf, HasNoFreeWord, CanBeCompleted, rest_filled}
+use Rattle.a429_search.proofs.MergedFacts.{some_from, none_from, merge_filled, not_completed}
 use Rattle.a429_search.proofs.merged.completed_merge.Goals as goal
 
-pub returns : goal.returns
-returns c =
+pub returns-clause-some : goal.returns-clause-some
+returns-clause-some c =
     let p = c.args.profile.now in
     let count = c.args.wanted.count in
     let wanted = c.args.wanted.check in
@@ -13,3 +13,12 @@ returns c =
     let merged = c.args.merged.now in
     some_from (λ (v : Vec ℕ Global). IsFilled p count wanted merged v.items) (λ (v : Vec ℕ Global). AreDataOf p count wanted L v.items) c.completed.result
     (λ v f. merge_filled p count wanted L merged v.items c.requires f) c.completed.ensures.some
+
+pub returns-clause-none : goal.returns-clause-none
+returns-clause-none c =
+    let p = c.args.profile.now in
+    let count = c.args.wanted.count in
+    let wanted = c.args.wanted.check in
+    let merged = c.args.merged.now in
+    none_from (length merged ≡ count → ¬ Fits p wanted merged) (length merged < count → HasNoFreeWord p wanted (rest_filled p.codes count merged)) (¬ CanBeCompleted p count wanted merged) c.completed.result
+    (not_completed p count wanted merged) c.completed.ensures.whole c.completed.ensures.filled

@@ -12,7 +12,7 @@ overflow_add-below c = omega (arith, row_most (last c.args.m c.args.left.now) c.
 pub loop-n-init : goal.loop-n-init
 loop-n-init c =
     let first = first_value c.args.left.now c.args.right.now c.args.below.now c.args.m c.requires.more c.requires.row in
-    let items : c.push.new.self.items ≡ (slice_index c.args.below.now 0 + 1) ∷ [] = c.in_ok-push.ensures.items ∙ ap (λ (xs : List ℕ). xs ++ (slice_index c.args.below.now 0 + 1) ∷ []) c.new-row.ensures.items in
+    let items : c.push.new.self.items ≡ (slice_index c.args.below.now 0 + 1) ∷ [] = c.in_ok-push.ensures.items ∙ ap (λ (xs : List ℕ). xs ++ (slice_index c.args.below.now 0 + 1) ∷ []) c.in_ok-row.ensures.items in
     record {
       long = ap length items;
       each = λ k l. ap (λ (xs : List ℕ). slice_index xs k) items ∙ row_begun (last (c.args.m + 1) c.args.left.now) c.args.right.now [] (slice_index c.args.below.now 0 + 1) first k l;
@@ -30,7 +30,7 @@ next c =
     elim c.if-eq.branch [
       | then-eq w ↦ same_value (last (m + 1) xs) (last m xs) ys c.args.below.now c.loop-n.row.items x n c.if-eq.rest begins c.loop-n-test.true c.requires.row c.loop-n.invariant.long c.loop-n.invariant.each (same_read xs ys (length xs - 1 - m) (length ys - 1 - n) c.index-left-left.result c.index-right-right.result c.eq.result (omega arith) (omega arith) c.index-left-left.is c.index-right-right.is c.eq.ensures w.if-eq.true) w.rest-is
       | else-eq w ↦ other_value (last (m + 1) xs) (last m xs) ys c.args.below.now c.loop-n.row.items x n c.if-eq.rest begins c.loop-n-test.true c.requires.row c.loop-n.invariant.long c.loop-n.invariant.each (other_read xs ys (length xs - 1 - m) (length ys - 1 - n) c.index-left-left.result c.index-right-right.result c.eq.result (omega arith) (omega arith) c.index-left-left.is c.index-right-right.is c.eq.ensures w.if-eq.false)
-          (w.rest-is ∙ w.min-rest.ensures ∙ ap (λ (v : ℕ). min (get_or c.args.below.now (n + 1) 0) v) (get_or_read c.loop-n.row.items n w.index.result.now (let long = c.loop-n.invariant.long in omega arith) w.index.ensures 0))
+          (w.rest-is ∙ c.min-with_one.ensures ∙ ap (λ (v : ℕ). min (get_or c.args.below.now (n + 1) 0) v) (get_or_read c.loop-n.row.items n c.index.result.now (let long = c.loop-n.invariant.long in omega arith) c.index.ensures 0))
     ]
 
 pub overflow_add-rest : goal.overflow_add-rest

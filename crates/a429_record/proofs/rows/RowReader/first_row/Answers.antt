@@ -11,5 +11,5 @@ returns-clause-lines g c =
 
 pub returns-clause-before : goal.returns-clause-before
 returns-clause-before g c failed =
-    failed_first (pending_of g.R.Read.remaining c.args.self.now.lines c.args.rec.now) (pending_of g.R.Read.remaining c.header.new.self.lines c.header.new.rec)
+    failed_first c.args.self.now.most (pending_of g.R.Read.remaining c.args.self.now.lines c.args.rec.now) (pending_of g.R.Read.remaining c.header.new.self.lines c.header.new.rec)
     (unread g.R.Read.remaining c.next_row.new.rec) c.in-Ok.ensures.lines (c.next_row.ensures.before failed)

@@ -29,6 +29,7 @@ lines-preserved g c =
       rows = same_rows (rows_left g.R.Read.remaining c.args.self.now c.args.rec.now) (pending_of g.R.Read.remaining c.next_line.new.self c.next_line.new.rec) c.next_line.new.line.items h none;
       blank = blank_lost (pending_of g.R.Read.remaining c.args.self.now.lines c.args.rec.now) (pending_of g.R.Read.remaining c.lines.self.lines c.lines.rec) (pending_of g.R.Read.remaining c.next_line.new.self c.next_line.new.rec) c.next_line.new.line.items c.lines.invariant.blank (c.in-Ok-true.ensures.takes c.in-Ok-true.field-0-test) (sym none);
       format = c.lines.invariant.format;
+      most = c.lines.invariant.most;
       count = c.lines.invariant.count;
       last = c.lines.invariant.last;
       room = omega (arith, c.lines.invariant.room, c.in-Ok-true.ensures.room c.in-Ok-true.field-0-test);
@@ -41,7 +42,7 @@ returns-then-is_header_row-clause-takes g c =
     let r : Row = Some (fields_of c.in-Ok-One.row) in
     let one : r ∷ [] ≡ line_rows c.next_line.new.line.items = rw (c.in-Ok-One.field-0-is, c.as_slice.ensures.value) at c.in-Ok-One.ensures.ok in
     let first : is_header r ≡ true = sym c.is_header_row.ensures ∙ c.if-is_header_row.true in
-    header_row (rows_left g.R.Read.remaining c.args.self.now c.args.rec.now) (pending_of g.R.Read.remaining c.next_line.new.self c.next_line.new.rec) c.next_line.new.line.items r _ h one first
+    header_row c.args.self.now.most (rows_left g.R.Read.remaining c.args.self.now c.args.rec.now) (pending_of g.R.Read.remaining c.next_line.new.self c.next_line.new.rec) c.next_line.new.line.items r _ h one first
 
 pub returns-then-is_header_row-clause-lines : goal.returns-then-is_header_row-clause-lines
 returns-then-is_header_row-clause-lines g c =
@@ -56,14 +57,14 @@ returns-in-Ok-One-clause-takes g c =
     let r : Row = Some (fields_of c.in-Ok-One.row) in
     let one : r ∷ [] ≡ line_rows c.next_line.new.line.items = rw (c.in-Ok-One.field-0-is, c.as_slice.ensures.value) at c.in-Ok-One.ensures.ok in
     let other : is_header r ≡ false = sym c.is_header_row.ensures ∙ c.if-is_header_row.false in
-    other_row (rows_left g.R.Read.remaining c.args.self.now c.args.rec.now) (pending_of g.R.Read.remaining c.next_line.new.self c.next_line.new.rec) c.next_line.new.line.items r h one other
+    other_row c.args.self.now.most (rows_left g.R.Read.remaining c.args.self.now c.args.rec.now) (pending_of g.R.Read.remaining c.next_line.new.self c.next_line.new.rec) c.next_line.new.line.items r h one other
 
 pub returns-in-Ok-Several-clause-takes : goal.returns-in-Ok-Several-clause-takes
 returns-in-Ok-Several-clause-takes g c =
     let h = line_taken g (goal.at.returns-in-Ok-Several-clause-takes g c).After-row_in_line in
     let r : Row = None in
     let one : r ∷ [] ≡ line_rows c.next_line.new.line.items = rw (c.in-Ok-Several.field-0-is, c.as_slice.ensures.value) at c.in-Ok-Several.ensures.ok in
-    other_row (rows_left g.R.Read.remaining c.args.self.now c.args.rec.now) (pending_of g.R.Read.remaining c.next_line.new.self c.next_line.new.rec) c.next_line.new.line.items r h one refl
+    other_row c.args.self.now.most (rows_left g.R.Read.remaining c.args.self.now c.args.rec.now) (pending_of g.R.Read.remaining c.next_line.new.self c.next_line.new.rec) c.next_line.new.line.items r h one refl
 
 pub returns-in-Ok-false-clause-lines : goal.returns-in-Ok-false-clause-lines
 returns-in-Ok-false-clause-lines g c = tt

@@ -29,7 +29,7 @@ returns-clause-gives g c =
     let before = pending_of g.R.Read.remaining s.lines c.args.rec.now in
     let long : 13 ≤ length ahead = rw c.ahead-ahead.ensures at c.if-ahead-lt-ENTRY_BYTES.false in
     let size = length-take-le 13 ahead long in
-    let given = piece_given s.count s.last c.take_row.new.self.count c.take_row.new.self.last before (g.R.Read.remaining (inner_of c.args.rec.now))
+    let given = piece_given s.most s.count s.last c.take_row.new.self.most c.take_row.new.self.count c.take_row.new.self.last before (g.R.Read.remaining (inner_of c.args.rec.now))
     (pending_of g.R.Read.remaining c.pass.new.self c.args.rec.now) ahead (take 13 ahead) c.entry_of_piece-row.result c.take_row.result (Keeps-refl before)
     (omega arith) (took g c) (omega (arith, size)) (λ few. absurd (omega (arith, size, few))) (row_is g c) c.take_row.ensures.gives in
     rw c.take_row.ensures.lines given

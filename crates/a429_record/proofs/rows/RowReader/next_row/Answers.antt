@@ -25,27 +25,27 @@ returns-in-Some-clause-gives g c =
     let rows = rows_left g.R.Read.remaining c.args.self.now c.args.rec.now in
     let took = takes_ended before after gave.0 gave.1 (gives (g.R.Read.remaining (inner_of c.args.rec.now)) _ _ _ gave.3) in
     let one = one_row (line_rows gave.0) (Some c.in-Some.entry) (sym gave.2) in
-    let given = gives_row c.plain_entry.new.self.count c.plain_entry.new.self.last c.take_row.new.self.count c.take_row.new.self.last
+    let given = gives_row c.plain_entry.new.self.most c.plain_entry.new.self.count c.plain_entry.new.self.last c.take_row.new.self.most c.take_row.new.self.count c.take_row.new.self.last
     rows after gave.0 one.0 (Some c.in-Some.entry) c.take_row.result one.1 one.2 (taken rows before after gave.0 (own_rows before) took) c.take_row.ensures.gives in
-    rw c.take_row.ensures.lines (rw (c.plain_entry.ensures.count, c.plain_entry.ensures.last) at given)
+    rw c.take_row.ensures.lines (rw (c.plain_entry.ensures.most, c.plain_entry.ensures.count, c.plain_entry.ensures.last) at given)
 
 pub returns-in-Ok-One-clause-gives : goal.returns-in-Ok-One-clause-gives
 returns-in-Ok-One-clause-gives g c =
     let h = line_taken g (goal.at.returns-in-Ok-One-clause-gives g c).After-entry_in_line in
     let one = one_row (line_rows c.next_line.new.line.items) (Some c.in-Ok-One.entry) (rw (c.in-Ok-One.field-0-is, c.as_slice.ensures.value) at c.in-Ok-One.ensures.ok) in
-    let given = gives_row c.lines.self.count c.lines.self.last c.take_row-in-Ok-One.new.self.count c.take_row-in-Ok-One.new.self.last
+    let given = gives_row c.lines.self.most c.lines.self.count c.lines.self.last c.take_row-in-Ok-One.new.self.most c.take_row-in-Ok-One.new.self.count c.take_row-in-Ok-One.new.self.last
     (rows_left g.R.Read.remaining c.args.self.now c.args.rec.now) (pending_of g.R.Read.remaining c.next_line.new.self c.next_line.new.rec)
     c.next_line.new.line.items one.0 (Some c.in-Ok-One.entry) c.take_row-in-Ok-One.result one.1 one.2 h c.take_row-in-Ok-One.ensures.gives in
-    rw c.take_row-in-Ok-One.ensures.lines (rw (c.lines.invariant.count, c.lines.invariant.last) at given)
+    rw c.take_row-in-Ok-One.ensures.lines (rw (c.lines.invariant.most, c.lines.invariant.count, c.lines.invariant.last) at given)
 
 pub returns-in-Ok-Bad-clause-gives : goal.returns-in-Ok-Bad-clause-gives
 returns-in-Ok-Bad-clause-gives g c =
     let h = line_taken g (goal.at.returns-in-Ok-Bad-clause-gives g c).After-entry_in_line in
     let one = one_row (line_rows c.next_line.new.line.items) None (rw (c.in-Ok-Bad.field-0-is, c.as_slice.ensures.value) at c.in-Ok-Bad.ensures.ok) in
-    let given = gives_row c.lines.self.count c.lines.self.last c.take_row-in-Ok-Bad.new.self.count c.take_row-in-Ok-Bad.new.self.last
+    let given = gives_row c.lines.self.most c.lines.self.count c.lines.self.last c.take_row-in-Ok-Bad.new.self.most c.take_row-in-Ok-Bad.new.self.count c.take_row-in-Ok-Bad.new.self.last
     (rows_left g.R.Read.remaining c.args.self.now c.args.rec.now) (pending_of g.R.Read.remaining c.next_line.new.self c.next_line.new.rec)
     c.next_line.new.line.items one.0 None c.take_row-in-Ok-Bad.result one.1 one.2 h c.take_row-in-Ok-Bad.ensures.gives in
-    rw c.take_row-in-Ok-Bad.ensures.lines (rw (c.lines.invariant.count, c.lines.invariant.last) at given)
+    rw c.take_row-in-Ok-Bad.ensures.lines (rw (c.lines.invariant.most, c.lines.invariant.count, c.lines.invariant.last) at given)
 
 pub returns-in-Err-clause-before : goal.returns-in-Err-clause-before
 returns-in-Err-clause-before g c failed =
@@ -61,6 +61,7 @@ lines-preserved g c =
       rows = same_rows (rows_left g.R.Read.remaining c.args.self.now c.args.rec.now) (pending_of g.R.Read.remaining c.next_line.new.self c.next_line.new.rec) c.next_line.new.line.items h empty;
       blank = blank_lost (pending_of g.R.Read.remaining c.args.self.now.lines c.args.rec.now) (pending_of g.R.Read.remaining c.lines.self.lines c.lines.rec) (pending_of g.R.Read.remaining c.next_line.new.self c.next_line.new.rec) c.next_line.new.line.items c.lines.invariant.blank (c.in-Ok-true.ensures.takes c.in-Ok-true.field-0-test) (sym empty);
       format = c.lines.invariant.format;
+      most = c.lines.invariant.most;
       count = c.lines.invariant.count;
       last = c.lines.invariant.last;
       room = omega (arith, c.lines.invariant.room, c.in-Ok-true.ensures.room c.in-Ok-true.field-0-test);

@@ -2,10 +2,10 @@
 
 ghost use Rattle.std.specs.Prelude.{◌≤◌};
 
-use crate::profile::sample_profile;
+use crate::calls::sample;
 use a429_ldu::{Form, Ldu, Semis, word_of};
 use a429_profile::Profile;
-use a429_search::{EndWord, GroupPieces, unit_of_pieces};
+use a429_search::{Budget, EndWord, GroupPieces, unit_of_pieces};
 use a429_word::Word;
 use std::alloc::{AllocError, Global};
 use std::test::Fail;
@@ -31,7 +31,8 @@ fn unit_with(
         end,
         attempts,
     };
-    unit_of_pieces(alloc, profile, &pieces)
+    let mut budget = Budget::of_entries(0);
+    unit_of_pieces(alloc, profile, &pieces, &mut budget)
 }
 
 // The data words that carry these bytes, one byte each.
@@ -65,7 +66,7 @@ fn is_found(
 
 #[test]
 fn a_check_word_with_words_lost(rt: HostRuntime) -> Result<(), Fail> {
-    let profile = sample_profile(&rt);
+    let profile = sample(&rt);
     let alloc = rt.alloc();
     // The check word of 123456789.
     let check = Some(0x906E);
@@ -79,7 +80,7 @@ fn a_check_word_with_words_lost(rt: HostRuntime) -> Result<(), Fail> {
 
 #[test]
 fn merged_attempts(rt: HostRuntime) -> Result<(), Fail> {
-    let profile = sample_profile(&rt);
+    let profile = sample(&rt);
     let alloc = rt.alloc();
     assert!(rt; is_found(alloc, &profile, 5, None, &["ab", "bc", "ac"])?);
     assert!(rt; !is_found(alloc, &profile, 4, None, &["ab", "bc", "ac"])?);

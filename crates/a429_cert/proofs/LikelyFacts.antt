@@ -1,0 +1,137 @@
+-- Lines that are written before they are needed.
+use Rattle.std.proofs.Common.{◌≡◌, ◌∙◌, ◌<◌, ◌≤◌, ◌+◌, ◌-◌, ◌==◌, ℕ, zero, suc, List, [], ◌∷◌, ◌++◌, length, get_or, take, drop, Bool, true, false, not, nat_lt, if◌then◌else◌, Option, Some, None, refl, sym, ap, subst, arith, add-one}
+use Rattle.std.specs.List.{AllByRecursion, starts_with}
+use Rattle.std.proofs.Math.Seq.{take-append_seam}
+use Rattle.std.proofs.lemmas.Bool.Decides.{Decides-eqb, nat_tests}
+use Rattle.std.proofs.lemmas.List.{length-append, get_or_append_left, get_or_push, drop_more}
+use Rattle.std.proofs.lemmas.Slice.Eq.{starts_is}
+use Rattle.a429_cert.proofs.LineReaderFacts.{held_now, ahead_now}
+use Rattle.a429_cert.specs.declared.line.MovedLine.{MovedLine}
+use Rattle.a429_cert.specs.declared.line.CertLine.TheVariants.{Moved}
+use Rattle.a429_cert.specs.Fault.{SaysLine}
+use Rattle.a429_cert.specs.declared.fault.CertFault.TheVariants as of
+use Rattle.a429_cert.specs.Passing.{IsNamedOf, RefusesFirst}
+use Rattle.a429_cert.proofs.PassingText.{fault-read}
+use Rattle.a429_link.specs.State.{State}
+use Rattle.a429_profile.specs.Profile.{Contents}
+use Rattle.a429_cert.specs.Line.{spelling}
+use Rattle.a429_cert.specs.Line.{SpellsLine}
+use Rattle.a429_cert.specs.Lines.{certificate_lines}
+use Rattle.a429_cert.specs.Version.{read_as}
+use Rattle.a429_cert.specs.declared.line.CertLine.{CertLine}
+use Rattle.a429_cert.specs.declared.version.Version.{Version}
+use Rattle.a429_cert.specs.declared.version.Version.TheVariants.{One, Two}
+use Rattle.a429_cert.specs.Likely.{sent_line, taken_line, texts_below, IsLikely}
+use Rattle.a429_cert.specs.StreamHead.{ReadsAtMost}
+use Rattle.a429_cert.specs.declared.stream_fault.StreamFault.TheVariants as stream
+use Rattle.a429_cert.proofs.LineShape.{IsVisible, line-visible}
+
+-- ---- the texts of the lines
+
+no_end : (b : ℕ) → IsVisible b → (b == 10) ≡ false
+no_end b h = grind (arith, nat_tests, h.0)
+
+-- a line without control characters ends at its line feed
+ends_there : (text rest : List ℕ) → AllByRecursion IsVisible text → certificate_lines (text ++ 10 ∷ rest) ≡ Some text ∷ certificate_lines rest
+ends_there [] rest h = refl
+ends_there (b ∷ bs) rest h = rw (no_end b h.0, ends_there bs rest h.1) refl
+
+line_first : (l : CertLine) (text rest : List ℕ) → SpellsLine text l → certificate_lines (text ++ 10 ∷ rest) ≡ Some text ∷ certificate_lines rest
+line_first l text rest s = ends_there text rest (subst (AllByRecursion IsVisible) (sym s.spelled) (line-visible l s.line s.held))
+
+sent_spells : (k : ℕ) → 1 ≤ k → k < 254 → SpellsLine (spelling (sent_line k)) (sent_line k)
+sent_spells k least most = record { line = (omega arith, (least, omega arith)); held = (omega arith, omega arith); spelled = refl }
+
+taken_spells : (k : ℕ) → 1 ≤ k → k < 254 → SpellsLine (spelling (taken_line k)) (taken_line k)
+taken_spells k least most = record { line = (omega arith, (omega arith, omega arith)); held = (omega arith, omega arith); spelled = refl }
+
+sent_read : (v : Version) (k : ℕ) → read_as v (Some (spelling (sent_line k))) ≡ Some (spelling (sent_line k))
+sent_read One k = refl
+sent_read Two k = refl
+
+taken_read : (v : Version) (k : ℕ) → read_as v (Some (spelling (taken_line k))) ≡ Some (spelling (taken_line k))
+taken_read One k = refl
+taken_read Two k = refl
+
+-- ---- the table
+
+pub one_more : (f : ℕ → List ℕ) (old new : List (List ℕ)) (n : ℕ) (text : List ℕ) → old ≡ texts_below f n → new ≡ old ++ text ∷ [] → text ≡ f n → new ≡ texts_below f (n + 1)
+one_more f old new n text e g h = rw (add-one, g, e, h) refl
+
+length-below : (f : ℕ → List ℕ) (n : ℕ) → length (texts_below f n) ≡ n
+length-below f zero = refl
+length-below f (suc n) = omega (arith, length-append (texts_below f n) (f n ∷ []), length-below f n)
+
+moved_is : (m n : MovedLine) → Moved m ≡ Moved n → m ≡ n
+moved_is m n e = cc e
+
+pub sent_likely : (k : ℕ) (text : List ℕ) (m : MovedLine) → 1 ≤ k → k < 254 → text ≡ spelling (sent_line k) → Moved m ≡ sent_line k → IsLikely text m
+sent_likely k text m least most e is =
+    rw (e, moved_is m _ is) (record {
+      says = λ v. rw (sent_read v k) (sent_spells k least most);
+      spells = sent_spells k least most;
+      ends = λ rest. line_first (sent_line k) (spelling (sent_line k)) rest (sent_spells k least most);
+    })
+
+pub taken_likely : (k : ℕ) (text : List ℕ) (m : MovedLine) → 1 ≤ k → k < 254 → text ≡ spelling (taken_line k) → Moved m ≡ taken_line k → IsLikely text m
+taken_likely k text m least most e is =
+    rw (e, moved_is m _ is) (record {
+      says = λ v. rw (taken_read v k) (taken_spells k least most);
+      spells = taken_spells k least most;
+      ends = λ rest. line_first (taken_line k) (spelling (taken_line k)) rest (taken_spells k least most);
+    })
+
+-- the text of a number below
+pub get-below : (f : ℕ → List ℕ) (n k : ℕ) (d : List ℕ) → k < n → get_or (texts_below f n) k d ≡ f k
+get-below f zero k d h = absurd (omega arith)
+get-below f (suc n) k d h = by (get-below f n k d) (nat_lt k n) refl
+  where
+    by : (k < n → get_or (texts_below f n) k d ≡ f k) → (b : Bool) → nat_lt k n ≡ b → get_or (texts_below f n ++ f n ∷ []) k d ≡ f k
+    by before true e = let less : k < n = grind (arith, nat_tests) in get_or_append_left (texts_below f n) (f n ∷ []) d k (omega (arith, length-below f n)) ∙ before less
+    by before false e =
+        let same : k ≡ n = grind (arith, nat_tests) in
+        rw same (get_or_push (texts_below f n) (f n) d n (length-below f n))
+
+-- ---- a line that was held against a text
+
+-- the bytes that were read begin with the text and a line feed
+pub text_ahead : (buffer text : List ℕ) (next filled : ℕ) (r : Bool) → r ≡ starts_with ◌==◌ (take (filled - next) (drop next buffer)) text → r ≡ true
+    → length text < length (take (filled - next) (drop next buffer)) → get_or (take (filled - next) (drop next buffer)) (length text) 0 ≡ 10
+    → take (filled - next) (drop next buffer) ≡ text ++ 10 ∷ take (filled - (next + (length text + 1))) (drop (next + (length text + 1)) buffer)
+text_ahead buffer text next filled r e is inside feed =
+    let ahead = take (filled - next) (drop next buffer) in
+    let starts = (starts_is Decides-eqb ahead text r e).0 is in
+    let rest = drop_more ahead (length text) 0 inside in
+    let one : length text + 1 ≡ suc (length text) = omega arith in
+    starts ∙ ap (λ l. text ++ l) (rest ∙ rw (feed, one) refl ∙ ap (λ l. 10 ∷ l) (ahead_now buffer next filled (length text) inside))
+
+pub text_held : (buffer text : List ℕ) (next filled : ℕ) (rest : List ℕ) → length text < length (take (filled - next) (drop next buffer)) → take (filled - next) (drop next buffer) ≡ text ++ rest
+    → (if nat_lt next (next + (length text + 1)) then Some (take (next + (length text + 1) - 1 - next) (drop next buffer)) else None) ≡ Some text
+text_held buffer text next filled rest inside is =
+    let longer : nat_lt next (next + (length text + 1)) ≡ true = grind (arith, nat_tests) in
+    rw longer (ap Some (held_now buffer next filled (length text) inside ∙ ap (take (length text)) is ∙ take-append_seam text rest))
+
+-- ---- a line that is known
+
+-- a step of its name may not be made
+pub refused_line : (p : Contents) (text : Option (List ℕ)) (m : MovedLine) (n : ℕ) (s : State) → SaysLine text (Moved m) → (IsNamedOf p m.act s → ⊥) → RefusesFirst p text n s (of.NotAllowed n)
+refused_line p None m n s says none = absurd says
+refused_line p (Some text) m n s says none = λ at here z.
+    fault-read p s at.next at.line at.entry text (Moved m) (of.NotAllowed n) says tt (tt, (sym here, none))
+
+-- ---- tests turned round
+
+pub is_yes : (b : Bool) → not b ≡ false → b ≡ true
+is_yes true e = refl
+is_yes false e = absurd (cc e)
+
+pub is_no : (b : Bool) → not b ≡ true → b ≡ false
+is_no true e = absurd (cc e)
+is_no false e = refl
+
+-- ---- where no memory was there
+
+-- nothing was read yet
+pub nothing_read : (known : Option (List ℕ)) → ReadsAtMost 2 known known stream.OutOfMemory
+nothing_read None = tt
+nothing_read (Some text) = record { lines = 0; ahead = []; from = omega arith; to = omega arith; few = omega arith; read = refl }

@@ -1,0 +1,33 @@
+//! Laws of what a recording says of its sink by itself, whatever its source did.
+
+ghost use Rattle.std.specs.Prelude.{◌≡◌, ◌↔◌, ℕ, true, List, [], ◌∷◌, ◌++◌, Option, Some, None, IsSome, Contains};
+ghost use Rattle.a429_profile.specs.Profile.{Contents, IsProfile};
+ghost use Rattle.a429_link.specs.declared.seen.Seen.{Seen};
+ghost use Rattle.a429_link.specs.Run.{RunOf, trace, delivered_by};
+ghost use Rattle.a429_link.specs.Observer.{Observer, HasGrant, at_first, observed, sink_of};
+ghost use Rattle.a429_link.specs.Sink.{Block, Number, OwesNak, Sink, nothing_received, is_good, takes_end, with_received};
+ghost use Rattle.a429_link.specs.Trace.{files_of, sink_after, sink_at_first, sink_sees};
+ghost use Rattle.a429_link.specs.Why.{block_in, why_bad};
+ghost use Rattle.a429_link.specs.Allowed.{AllowsKind, AllowsWordOf, Kind, kinds_allowed};
+
+/// Each run that records these words delivers the files of a sink which takes each word of bus A, and gives
+/// each answer of bus B, at the moment it is recorded: the observer with its files.
+pub fn a_recording_has_its_files()
+    ensures files { (p : Contents) (r : RunOf p) (items : List Seen) → trace r.steps ≡ items → delivered_by r ≡ files_of p items }
+    ensures observer { (p : Contents) (items : List Seen) → sink_of (observed p items at_first) ≡ with_received nothing_received (sink_after p items sink_at_first) }
+    ensures step { (p : Contents) (items : List Seen) (i : Seen) → (sink_after p (items ++ i ∷ []) sink_at_first).received ≡ (sink_sees p i.bus i.word (with_received (sink_after p items sink_at_first).received (sink_of (observed p items at_first)))).received }
+{}
+
+/// A block has a reason why it is not good exactly where it is not good. At an end word a sink which takes
+/// the words of a block owes a negative answer exactly where there is a reason.
+pub fn a_bad_block_has_a_reason()
+    ensures good { (p : Contents) (last : Option Number) (count : ℕ) (b : Block) (check : ℕ) → (why_bad p last count (Some b) check ≡ None) ↔ (is_good p last count b check ≡ true) }
+    ensures owed { (p : Contents) (k : Sink) (flags check : ℕ) → HasGrant k.phase → ((takes_end p flags check k).phase ≡ OwesNak) ↔ IsSome (why_bad p k.last k.count (block_in k.phase) check) }
+{}
+
+/// A kind is in the list of what is allowed exactly where some form of that kind is; and after recorded words
+/// exactly where some word of that kind is.
+pub fn listed_is_what_is_allowed()
+    ensures form { (o : Observer) (k : Kind) → Contains (kinds_allowed o) k ↔ AllowsKind o k }
+    ensures word { (p : Contents) (items : List Seen) (k : Kind) → IsProfile p → Contains (kinds_allowed (observed p items at_first)) k ↔ AllowsWordOf p (observed p items at_first) k }
+{}

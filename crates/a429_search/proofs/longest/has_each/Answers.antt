@@ -1,0 +1,12 @@
+use Rattle.std.proofs.Common.{◌<◌, [], length, refl, subst, arith}
+use Rattle.std.proofs.lemmas.List.{get_or_default}
+use Rattle.a429_link.specs.Run.{IsSubsequenceOf}
+use Rattle.a429_search.specs.Order.{lists_of}
+use Rattle.a429_search.proofs.OrderFacts.{inside_given}
+use Rattle.a429_search.proofs.longest.has_each.Goals as goal
+
+pub returns : goal.returns
+returns c =
+    let lists = c.args.lists.now in
+    let words = c.args.words.now in
+    ((λ h k d l. subst (λ xs. IsSubsequenceOf xs words) (get_or_default (lists_of lists) k [] d l) (c.loop-i.invariant k (let inside : k < length lists = inside_given lists k l in omega arith))), (λ h. refl))

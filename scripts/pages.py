@@ -1,0 +1,135 @@
+"""What the pages of this repository refer to: their links, the files that they name, and the commands that their blocks show."""
+import re
+from dataclasses import dataclass
+from pathlib import Path
+from urllib.parse import unquote
+
+from console import blocks_of
+
+# A line of a block that is a command, in a block that is not `console`.
+COMMAND = re.compile(r"(?:scripts/|\.ci/|\./|a429 |rt |cd |export )")
+# The line above a block whose commands no test can run, with the reason.
+NOT_RUN = re.compile(r"<!-- not run: .+ -->")
+
+
+@dataclass(frozen=True)
+class Fault:
+    """Something on a page that is not as it should be."""
+
+    page: Path
+    line: int
+    text: str
+
+
+def commands_of(block):
+    """The commands that a block of code shows, each with its line."""
+    for number, line in enumerate(block.text.splitlines(), block.line):
+        if block.language == "console":
+            if line.startswith("$ "):
+                yield number, line[2:]
+        elif not block.name and block.language in ("", "sh", "bash") and COMMAND.match(line):
+            yield number, line.split(" #")[0].rstrip()
+
+
+def prose_of(text):
+    """A page without its blocks, of which the lines are empty."""
+    return re.sub(r"^```.*\n(?:.*\n)*?```$", lambda it: "\n" * it[0].count("\n"), text, flags=re.MULTILINE)
+
+
+def without_code(text):
+    """Prose without what stands between backquotes."""
+    return re.sub(r"`[^`\n]*`", "", text)
+
+
+def anchors_of(text):
+    """What the headings of a page are called in a link, a second of the same words with -1, and so on."""
+    seen = {}
+    for heading in re.findall(r"^#+ +(.*?) *$", prose_of(text), re.MULTILINE):
+        words = re.sub(r"\[([^\]]*)\]\([^)]*\)", r"\1", heading).lower()
+        slug = re.sub(r"[^\w\- ]", "", words).replace(" ", "-")
+        count = seen[slug] = seen.get(slug, -1) + 1
+        yield f"{slug}-{count}" if count else slug
+
+
+def links_of(text):
+    """The targets of a page's links to files, each with its line."""
+    for number, line in enumerate(without_code(prose_of(text)).splitlines(), 1):
+        for target in re.findall(r"\]\(([^)\s]+)\)", line):
+            if not re.match(r"[a-z]+:", target):
+                yield number, unquote(target)
+
+
+def dead_links(page):
+    """The links of a page that lead to no file, or to no heading of it."""
+    text = page.read_text(encoding="utf-8")
+    for line, target in links_of(text):
+        name, _, anchor = target.partition("#")
+        file = page.parent / name if name else page
+        if not file.exists():
+            yield Fault(page, line, f"no such file: {target}")
+        elif anchor and anchor not in anchors_of(file.read_text(encoding="utf-8")):
+            yield Fault(page, line, f"no such heading: {target}")
+
+
+def missing_files(page, root):
+    """The files of this repository that a page names between backquotes and that are not there."""
+    for number, line in enumerate(prose_of(page.read_text(encoding="utf-8")).splitlines(), 1):
+        for name in re.findall(r"`(?:\./)?((?:scripts|extras|docs|examples|crates|\.ci)/[\w./-]+)(?=[` ])", line):
+            if not (re.search(r"\b[A-Z]{4,}/|\.\.", name) or (root / name).exists()):
+                yield Fault(page, number, f"no such file: {name}")
+
+
+def as_run(command):
+    """A command as the pages that are run have it: `scripts/a429` is `a429` there."""
+    return re.sub(r"(^|[ (])(?:~/hulqasem/)?scripts/a429 ", r"\1a429 ", command)
+
+
+def commands_run(pages):
+    """The commands of the pages that a test runs."""
+    return {as_run(it) for page in pages for block in blocks_of(page.read_text(encoding="utf-8"))
+            if block.language == "console" for _, it in commands_of(block)}
+
+
+def commands_never_run(page, pages_run):
+    """The commands that a page shows and that no test runs, except in blocks that say why."""
+    ran, text = commands_run(pages_run), page.read_text(encoding="utf-8")
+    lines = text.splitlines()
+    for block in blocks_of(text):
+        # (the line before the one that opens the block)
+        is_excused = NOT_RUN.fullmatch(lines[block.line - 3]) if block.line > 2 else None
+        if not is_excused and not (block.language == "console" and page in pages_run):
+            for line, command in commands_of(block):
+                if as_run(command) not in ran:
+                    yield Fault(page, line, f"no test runs: {command}")
+
+
+def idle_files(page):
+    """The files that a page shows and that none of its commands uses."""
+    blocks = [*blocks_of(page.read_text(encoding="utf-8"))]
+    commands = " ".join(it for block in blocks if block.language == "console" for _, it in commands_of(block))
+    for block in blocks:
+        if block.name and block.name not in commands:
+            yield Fault(page, block.line, f"no command uses the file {block.name}")
+
+
+def definitions_of(text):
+    """The definitions that DEFINITIONS lists, each with its line, its crate and the files that its row names, or else the row before."""
+    crate, files = None, []
+    for number, line in enumerate(text.splitlines(), 1):
+        heading = re.match(r"## (.*)", line)
+        crate = heading[1] if heading else crate
+        if line.startswith("| `"):
+            names, *_, place = line.strip("| ").split(" | ")
+            named = re.findall(r"`([^`]+)`", place)
+            files = named if "same" not in place else files
+            for name in re.findall(r"`(\w+)", names):
+                yield number, crate, name, [*files, *named]
+
+
+def lost_definitions(page, root):
+    """The definitions of the page that are in none of the files that it names."""
+    for line, crate, name, files in definitions_of(page.read_text(encoding="utf-8")):
+        if (root / "crates" / crate).is_dir():
+            paths = [root / "crates" / crate / it for it in files]
+            if not any(it.exists() and re.search(rf"\b{name}\b", it.read_text(encoding="utf-8")) for it in paths):
+                yield Fault(page, line, f"{name} is not in {' or '.join(files)} of {crate}")

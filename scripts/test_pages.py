@@ -1,0 +1,95 @@
+"""Small pages, and what is wrong with them."""
+import tempfile
+import unittest
+from pathlib import Path
+
+from console import blocks_of
+from pages import anchors_of, commands_never_run, dead_links, idle_files, lost_definitions, missing_files
+
+PAGE = """\
+# A page
+
+See [the other](other.md#two-words), [none](none.md), [no heading](other.md#three), [here](#a-page) and `[code](none.md)`,
+![a picture](a.svg) [outside](https://example.org/none.md). `scripts/there` and `scripts/gone -x`.
+
+```sh try
+a429 word 00000000
+```
+
+```sh
+scripts/a429 show x    # with a remark
+a429 labels y
+```
+
+```
+[no link](none.md)
+a429 is no command here
+```
+
+```console
+$ sh try
+```
+"""
+
+
+class Pages(unittest.TestCase):
+    def setUp(self):
+        folder = tempfile.TemporaryDirectory(prefix="a429-pages.")
+        self.addCleanup(folder.cleanup)
+        self.root = Path(folder.name)
+        self.page = self.put("page.md", PAGE)
+        self.put("other.md", "# Other\n\n## Two words\n\n```\n# Three\n```\n")
+        self.put("a.svg", "")
+        self.put("scripts/there", "")
+
+    def put(self, name, text):
+        path = self.root / name
+        path.parent.mkdir(parents=True, exist_ok=True)
+        path.write_text(text)
+        return path
+
+    def said(self, faults):
+        return [(it.line, it.text) for it in faults]
+
+    def test_links_lead_to_files_and_headings(self):
+        wanted = [(3, "no such file: none.md"), (3, "no such heading: other.md#three")]
+        self.assertEqual(self.said(dead_links(self.page)), wanted)
+
+    def test_headings_are_named_as_links_name_them(self):
+        self.assertEqual([*anchors_of("# `a429 word HEX`\n## A, b\n## A, b\n")], ["a429-word-hex", "a-b", "a-b-1"])
+
+    def test_files_that_are_named_are_there(self):
+        self.assertEqual(self.said(missing_files(self.page, self.root)), [(4, "no such file: scripts/gone")])
+
+    def test_blocks_know_their_lines(self):
+        self.assertEqual([(it.line, it.language, it.name) for it in blocks_of(PAGE)][:2], [(7, "sh", "try"), (11, "sh", "")])
+
+    def test_commands_that_no_page_runs_are_named(self):
+        wanted = [(11, "no test runs: scripts/a429 show x"), (12, "no test runs: a429 labels y"), (17, "no test runs: a429 is no command here")]
+        self.assertEqual(self.said(commands_never_run(self.page, {self.page})), wanted)
+        runs = self.put("runs.md", "```console\n$ a429 show x\nit\n$ a429 labels y\n$ a429 is no command here\n```\n")
+        self.assertEqual(self.said(commands_never_run(self.page, {self.page, runs})), [])
+
+    def test_a_block_can_say_why_it_is_not_run(self):
+        text = "<!-- not run: no such tool -->\n```\na429 one\n```\n\n```\na429 two\n```\n"
+        faults = commands_never_run(self.put("excused.md", text), set())
+        self.assertEqual(self.said(faults), [(7, "no test runs: a429 two")])
+
+    def test_commands_of_a_page_that_is_not_run_are_named(self):
+        self.assertIn((21, "no test runs: sh try"), self.said(commands_never_run(self.page, set())))
+
+    def test_files_that_no_command_uses_are_named(self):
+        self.assertEqual(self.said(idle_files(self.page)), [])
+        idle = self.put("idle.md", "```awk convert.awk\n{ print }\n```\n")
+        self.assertEqual(self.said(idle_files(idle)), [(2, "no command uses the file convert.awk")])
+
+    def test_definitions_are_in_the_files_that_are_named(self):
+        self.put("crates/low/specs/One.antt", "one two")
+        self.put("crates/low/specs/Two.antt", "three")
+        text = "## low\n\n| `one w` | | `specs/One.antt` |\n| `two`, `four` | | same |\n| `three` | | same, `specs/Two.antt` |\n"
+        faults = lost_definitions(self.put("definitions.md", text), self.root)
+        self.assertEqual(self.said(faults), [(4, "four is not in specs/One.antt of low")])
+
+
+if __name__ == "__main__":
+    unittest.main()
