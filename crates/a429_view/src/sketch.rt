@@ -120,12 +120,7 @@ impl Listener for Sketch {
 
     ghost hears = { Hears };
 
-    fn load(
-        &mut self,
-        profile: &Profile,
-        number: UnitNumber,
-        unit: &Ldu,
-    ) -> Result<(), Trouble> {
+    fn load(&mut self, profile: &Profile, number: UnitNumber, unit: &Ldu) -> Result<(), Trouble> {
         let next = Place {
             next: self.at.next,
             due: file_ended(profile, number, unit),

@@ -94,7 +94,11 @@ impl Page {
 
     /// Puts a number on the page, in decimal.
     #[inline(always)]
-    pub(crate) fn put_number<W: Write>(&mut self, out: &mut Tally<W>, number: u64) -> Result<(), Device>
+    pub(crate) fn put_number<W: Write>(
+        &mut self,
+        out: &mut Tally<W>,
+        number: u64,
+    ) -> Result<(), Device>
         ensures ok { OnOk result (PutsOn W.contents out.old self.old out.new self.new (decimal number)) }
         ensures prefix { PutsFront W.contents out.old out.new (self.old ++ decimal number) }
         ensures device { IsErr result → has_failed out.new ≡ true }

@@ -88,12 +88,7 @@ impl<W: Write> Listener for UnitRows<W> {
 
     ghost hears = { λ p old told new. HearsRows W.contents p old told new };
 
-    fn load(
-        &mut self,
-        profile: &Profile,
-        number: UnitNumber,
-        unit: &Ldu,
-    ) -> Result<(), Trouble> {
+    fn load(&mut self, profile: &Profile, number: UnitNumber, unit: &Ldu) -> Result<(), Trouble> {
         if self.put_last().is_err() {
             return Err(Trouble::Device);
         }
