@@ -15,6 +15,8 @@ mod devices;
 #[cfg(test)]
 mod link;
 #[cfg(test)]
+mod parts;
+#[cfg(test)]
 mod recordings;
 #[cfg(test)]
 mod runs;

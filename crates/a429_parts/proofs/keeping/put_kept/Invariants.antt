@@ -1,0 +1,16 @@
+use Rattle.std.proofs.Common.{List, Ok}
+use Rattle.a429_word.specs.Sheet.{Says}
+use Rattle.a429_record.specs.declared.entry.Entry.{Entry}
+use Rattle.a429_parts.specs.Keeping.{kept_text}
+use Rattle.a429_parts.proofs.KeepingFacts.{Gave, left_with}
+use Rattle.a429_parts.proofs.keeping.put_kept.Given as goal
+
+abbrev pub invariant-entries : goal.invariant-entries
+invariant-entries g l = record {
+  entries : List Entry;
+  says : Says g.W.Write.contents l.fn.sheet l.sheet (kept_text l.profile.codes entries);
+  gave : Gave l.fn.rec.to_come entries l.rec.to_come (Ok l.next);
+}
+
+abbrev pub decreases-entries : goal.decreases-entries
+decreases-entries g l = left_with l.next l.rec.room

@@ -1,0 +1,46 @@
+//! A recording, written as it comes, with the entries alone that its transfer needs.
+
+ghost use Rattle.std.specs.Prelude.{◌≡◌, true, IfErr, IsErrOf, OnOk};
+ghost use Rattle.a429_word.specs.Sheet.{Says};
+ghost use Rattle.a429_record.specs.declared.fault.ReadFault.TheVariants as read;
+ghost use Rattle.a429_parts.specs.Keeping.{kept_line, KeepsAll, KeepsUntil};
+
+use crate::kept::is_kept;
+use a429_profile::Profile;
+use a429_record::{Entry, EntryReader, ReadFault, put_header, put_line};
+use a429_word::Sheet;
+use std::io::{Read, Write};
+
+/// Puts a text recording of the entries that are kept (`is_kept`), in order, as they are read. Where the
+/// recording has a fault, the rows of the entries before it are put; where no entry comes before it, nothing is.
+pub fn put_kept<R: Read, W: Write>(
+    profile: &Profile,
+    rec: &mut EntryReader<R>,
+    sheet: &mut Sheet<'_, W>,
+) -> Result<(), ReadFault>
+    ensures all { OnOk result (KeepsAll W.contents profile.now.codes rec.old.to_come sheet.old sheet.new) }
+    ensures until { IfErr result (KeepsUntil W.contents profile.now.codes rec.old.to_come sheet.old sheet.new) }
+    ensures device { IsErrOf result read.Device → rec.new.failed ≡ true }
+{
+    let mut next = rec.next()?;
+    put_header(sheet);
+    'entries: loop {
+        let Some(entry) = next else {
+            return Ok(());
+        };
+        if sheet.failed() {
+            return Ok(());
+        }
+        put_if_kept(profile, entry, sheet);
+        next = rec.next()?;
+    }
+}
+
+// Puts the line of an entry that is kept.
+fn put_if_kept<W: Write>(profile: &Profile, entry: Entry, sheet: &mut Sheet<'_, W>)
+    ensures { Says W.contents sheet.old sheet.new (kept_line profile.now.codes entry) }
+{
+    if is_kept(profile, &entry) {
+        put_line(sheet, entry);
+    }
+}

@@ -1,0 +1,23 @@
+//! What may be left out of a recording.
+
+ghost use Rattle.std.specs.Prelude.{◌≡◌, List};
+ghost use Rattle.a429_profile.specs.Profile.{Contents};
+ghost use Rattle.a429_link.specs.declared.seen.Seen.{Seen};
+ghost use Rattle.a429_link.specs.Run.{RunOf, delivered_by, trace};
+ghost use Rattle.a429_record.specs.declared.entry.Entry.{Entry};
+ghost use Rattle.a429_cert.specs.Explained.{items_of};
+ghost use Rattle.a429_parts.specs.Kept.{IsWithoutFree, HasRun, kept};
+
+/// Leaving free words out of a recording changes neither whether there is a run that records it nor the files
+/// that such a run delivers. With the law that all runs of one recording deliver the same files: the files of
+/// every run stay the same.
+pub fn free_words_change_nothing()
+    ensures left_out { (p : Contents) (r : RunOf p) (items : List Seen) → IsWithoutFree p.codes (trace r.steps) items → HasRun p items (delivered_by r) }
+    ensures put_in { (p : Contents) (r : RunOf p) (items : List Seen) → IsWithoutFree p.codes items (trace r.steps) → HasRun p items (delivered_by r) }
+{}
+
+/// Where only the entries are kept whose words have the label that the transfer has on their bus, free words
+/// alone are left out.
+pub fn only_free_words_are_left_out()
+    ensures { (p : Contents) (entries : List Entry) → IsWithoutFree p.codes (items_of entries) (items_of (kept p.codes entries)) }
+{}

@@ -1,0 +1,55 @@
+//! What of a recording its transfer needs, by the sample profile.
+
+use crate::calls::sample;
+use a429_parts::put_kept;
+use a429_profile::Profile;
+use a429_record::{EntryReader, ReadFault};
+use a429_word::{Page, Sheet, Tally};
+use std::alloc::Global;
+use std::io::{Read, Write};
+
+/// Writes a recording of any length without the entries that its transfer does not need.
+fn keep<R: Read, W: Write>(
+    alloc: Global,
+    profile: &Profile,
+    rec: Tally<R>,
+    out: &mut Tally<W>,
+) -> Result<(), ReadFault> {
+    let mut page = Page::new(alloc).map_err(|_| ReadFault::OutOfMemory)?;
+    let mut sheet = Sheet::new(out, &mut page);
+    let mut reader = EntryReader::of_most(alloc, rec, usize::MAX);
+    let kept = put_kept(profile, &mut reader, &mut sheet);
+    sheet.finish().map_err(|_| ReadFault::Device)?;
+    kept
+}
+
+// A recording, and what is kept of it: damaged and ignored words with the transfer's label of their bus, and no other word.
+const KEPT: (&str, &str) = (
+    "time,bus,word
+0,A,41410323
+1,B,C24103A3
+2,A,92004123
+3,A,E13880C1
+4,B,41410323
+5,A,50000023
+",
+    "time,bus,word
+0,A,41410323
+1,B,C24103A3
+2,A,92004123
+5,A,50000023
+",
+);
+
+const EMPTY: (&str, &str) = ("time,bus,word\n", "time,bus,word\n");
+
+#[test]
+fn what_is_kept(rt: HostRuntime) {
+    let profile = sample(&rt);
+    for (recording, text) in [KEPT, EMPTY] {
+        let mut written = Vec::new(rt.alloc());
+        let rec = Tally::new(recording.as_bytes(), u64::MAX);
+        let kept = keep(rt.alloc(), &profile, rec, &mut Tally::new(&mut written, 0));
+        assert!(rt; kept.is_ok() && written.as_slice() == text.as_bytes());
+    }
+}
