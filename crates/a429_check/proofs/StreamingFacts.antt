@@ -1,5 +1,5 @@
 -- Entries that come one by one.
-use Rattle.std.proofs.Common.{◌≡◌, List, [], ◌∷◌, ◌++◌, append_assoc, append-nil, Bool, Option, Some, None, Ok, Err, refl, sym, ap, ◌∙◌}
+use Rattle.std.proofs.Common.{◌≡◌, List, [], ◌∷◌, ◌++◌, append_assoc, append-nil, Bool, Option, Some, None, Ok, Err, refl, sym, ap, ◌∙◌, ℕ, inl}
 use Rattle.std.specs.Prelude.{IfSome}
 use Rattle.a429_record.specs.declared.entry.Entry.{Entry}
 use Rattle.a429_record.specs.declared.fault.ReadFault.{ReadFault}
@@ -8,10 +8,12 @@ use Rattle.a429_record.specs.Recording.{Recording, whole}
 use Rattle.a429_record.specs.Rows.{GivesNext}
 use Rattle.a429_check.specs.declared.fault.RunFault.{RunFault}
 use Rattle.a429_check.specs.declared.fault.RunFault.TheVariants as run
+use Rattle.a429_profile.specs.Profile.{Contents}
 use Rattle.a429_profile.specs.declared.codes.Codes.{Codes}
 use Rattle.a429_view.specs.declared.survey.Survey.{Survey}
 use Rattle.a429_view.specs.Survey.{IsSurvey}
-use Rattle.a429_check.specs.Survey.{IsSomeSurvey}
+use Rattle.a429_check.specs.Survey.{IsSomeSurvey, IsSurveyFault}
+use Rattle.a429_check.specs.Profile.{IsProfileOf}
 use Rattle.a429_check.specs.Streaming.{Came, IsFaultToCome, IsNextFault}
 
 pub came_first : (first : Option Recording) → Came first [] first
@@ -61,3 +63,14 @@ where_counted s w f = f w.0 w.1 w.2
 
 pub by_fact : {A P : Type 0} → A → (A → P) → P
 by_fact a f = f a
+
+-- why no more entries come, under a profile that was read, is why `survey` fails
+pub survey_fault : (profile : List ℕ) (p : Contents) (known : Option Recording) (rec_failed out_failed : Bool) (e : RunFault) → IsProfileOf profile p → IsNextFault known rec_failed e → IsSurveyFault profile known rec_failed out_failed e
+survey_fault profile p known rec_failed out_failed (run.Read f) is h = ((p, is), h)
+survey_fault profile p known rec_failed out_failed run.Device is h = ((p, is), inl h)
+survey_fault profile p known rec_failed out_failed run.Memory is h = is.0
+survey_fault profile p known rec_failed out_failed (run.Profile f) is h = absurd h
+survey_fault profile p known rec_failed out_failed (run.Cut k f) is h = absurd h
+survey_fault profile p known rec_failed out_failed run.TooLong is h = absurd h
+survey_fault profile p known rec_failed out_failed run.BadWord is h = absurd h
+survey_fault profile p known rec_failed out_failed run.Usage is h = absurd h

@@ -2,7 +2,13 @@ use Rattle.std.proofs.Common.{inr, refl}
 use Rattle.std.proofs.lemmas.Bool.{false_from_ne_true}
 use Rattle.std.proofs.lemmas.Result.{err_from_is_err_and}
 use Rattle.a429_check.specs.Streaming.{SayStream}
+use Rattle.a429_check.proofs.StreamingFacts.{survey_fault}
 use Rattle.a429_check.proofs.engines.survey.run_survey.Goals as goal
+
+pub returns-in_err-survey-clause-err : goal.returns-in_err-survey-clause-err
+returns-in_err-survey-clause-err g c =
+    let p = err_from_is_err_and c.from_residual-in_err-survey.result c.from_residual-in_err-survey.ensures.1 in
+    rw (p.1, p.2) (survey_fault c.args.profile.now c.in_ok-profile.profile c.args.rec.now.to_come c.survey_of.new.rec.failed _ _ c.in_ok-profile.ensures.ok c.in_err-survey.ensures.err)
 
 pub returns-in_err-put_lines-clause-err : goal.returns-in_err-put_lines-clause-err
 returns-in_err-put_lines-clause-err g c =
