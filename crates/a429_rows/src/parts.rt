@@ -9,7 +9,7 @@ use std::alloc::Global;
 use std::io::{Read, Write};
 
 /// Writes a recording of any length without the entries that its transfer does not need.
-fn keep<R: Read, W: Write>(
+fn keep<R: Read + Drop, W: Write>(
     alloc: Global,
     profile: &Profile,
     rec: Tally<R>,
@@ -43,13 +43,26 @@ const KEPT: (&str, &str) = (
 
 const EMPTY: (&str, &str) = ("time,bus,word\n", "time,bus,word\n");
 
+// Whether this is kept of a recording.
+fn keeps(alloc: Global, profile: &Profile, recording: &str, text: &str) -> bool {
+    let mut written = Vec::new(alloc);
+    let rec = Tally::new(recording.as_bytes(), u64::MAX);
+    let mut out = Tally::new(&mut written, 0);
+    let kept = keep(alloc, profile, rec, &mut out);
+    kept.is_ok() && written.as_slice() == text.as_bytes()
+}
+
+// The first recording of which another text is kept.
+fn first_that_differs(alloc: Global, profile: &Profile) -> Option<&'static str> {
+    for (recording, text) in [KEPT, EMPTY] {
+        if !keeps(alloc, profile, recording, text) {
+            return Some(recording);
+        }
+    }
+    None
+}
+
 #[test]
 fn what_is_kept(rt: HostRuntime) {
-    let profile = sample(&rt);
-    for (recording, text) in [KEPT, EMPTY] {
-        let mut written = Vec::new(rt.alloc());
-        let rec = Tally::new(recording.as_bytes(), u64::MAX);
-        let kept = keep(rt.alloc(), &profile, rec, &mut Tally::new(&mut written, 0));
-        assert!(rt; kept.is_ok() && written.as_slice() == text.as_bytes());
-    }
+    assert_eq!(rt; first_that_differs(rt.alloc(), &sample(&rt)), None);
 }

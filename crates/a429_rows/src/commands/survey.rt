@@ -52,14 +52,22 @@ const EMPTY: (&str, &str) = ("time,bus,word\n", "0\nentries 0\nA 0\nB 0\n");
 
 const FAULTY: (&str, &str) = (
     "time,bus,word\n0,A,41410323\n0,A,4141032\n",
-    "3\nrecording: row 1\n",
+    "recording: row 1\n",
 );
+
+// The first recording of which another text is told.
+fn first_that_differs(alloc: Global) -> Option<&'static str> {
+    for (recording, text) in [COUNTED, EMPTY, FAULTY] {
+        if !tells(alloc, recording, text) {
+            return Some(recording);
+        }
+    }
+    None
+}
 
 #[test]
 fn recordings_are_counted(rt: HostRuntime) {
-    for (recording, text) in [COUNTED, EMPTY, FAULTY] {
-        assert!(rt; tells(rt.alloc(), recording, text));
-    }
+    assert_eq!(rt; first_that_differs(rt.alloc()), None);
 }
 
 #[test]
