@@ -110,7 +110,7 @@ class Program(unittest.TestCase):
         self.assertEqual(self.error_of(4, a429.check, PROFILE, self.room / "missing").line, "device")
         self.assertEqual(self.error_of(3, a429.check, PROFILE, PROFILE).line, "recording: header")
         self.assertTrue(self.error_of(3, a429.check, recording("one-byte"), PROFILE).line.startswith("profile: "))
-        self.assertEqual(self.error_of(4, a429.extract, PROFILE, recording("one-byte"), certificate("one-byte"), PROFILE).line, "device")
+        self.assertEqual(self.error_of(4, a429.extract, PROFILE, recording("one-byte"), certificate("one-byte"), __file__).line, "device")
 
     def test_a_name_that_begins_with_a_hyphen_is_no_option(self):
         shutil.copy(recording("one-byte"), self.room / "-x")
