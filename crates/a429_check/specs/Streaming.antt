@@ -16,13 +16,13 @@ pub record SayStream (profile : List ℕ) (rec : Option Recording) : Type 0 wher
   pub is_profile : IsProfileOf profile contents
   pub stand : IfSome rec (λ r. r ≡ whole entries)
 
--- the fault of what a reader has to give, where that is known; a failed reader and want of memory are none
+-- the fault in the rest of a recording, if its bytes are known; a failed reader and refused memory are no faults of the recording
 abbrev pub IsFaultToCome : Option Recording → ReadFault → Type 0
 IsFaultToCome known read.Device = ⊥
 IsFaultToCome known read.OutOfMemory = ⊥
 IsFaultToCome known f = IfSome known (λ r. r.fault ≡ Some f)
 
--- why no more entries come: the recording's own fault, a reader that failed, or want of memory
+-- why no more entries are read: the recording has a fault, the reader failed, or memory was refused
 abbrev pub IsNextFault : Option Recording → Bool → RunFault → Type 0
 IsNextFault known failed = ComesBy (record never { recording = IsFaultToCome known; device = failed ≡ true; memory = Unit {0} })
 

@@ -24,7 +24,7 @@ Counts c rec s = (es : List Entry) × IsSurvey c s es × IfSome rec (λ r. r ≡
 abbrev pub IsSomeSurvey : Survey → Type 0
 IsSomeSurvey s = (c : Codes) × (es : List Entry) × IsSurvey c s es
 
--- why `survey` may fail: the profile's own fault, then the recording's, a reader or writer that failed after the profile was read, or want of memory, once the profile is known to be a text
+-- why `survey` fails: the profile has a fault; or the profile has none, and the recording has a fault or the reader or writer failed; or the profile is a text, and memory was refused
 abbrev pub IsSurveyFault : List ℕ → Option Recording → Bool → Bool → RunFault → Type 0
 IsSurveyFault profile rec rec_failed out_failed = ComesBy (record never {
   profile = HasFault profile;

@@ -7,7 +7,7 @@ use a429_sample::PROFILE;
 use a429_word::Tally;
 use std::alloc::Global;
 
-// This is told of a recording, or why it is not.
+// Whether `survey` writes this text for a recording, after its status, or ends with this error line.
 fn tells(alloc: Global, recording: &str, text: &str) -> bool {
     let mut written = Vec::new(alloc);
     let rec = Tally::new(recording.as_bytes(), u64::MAX);
@@ -55,7 +55,7 @@ const FAULTY: (&str, &str) = (
     "recording: row 1\n",
 );
 
-// The first recording of which another text is told.
+// The first recording for which it does otherwise.
 fn first_that_differs(alloc: Global) -> Option<&'static str> {
     for (recording, text) in [COUNTED, EMPTY, FAULTY] {
         if !tells(alloc, recording, text) {
