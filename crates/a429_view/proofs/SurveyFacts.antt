@@ -1,24 +1,31 @@
 -- Counts of entries, one more at a time.
-use Rattle.std.proofs.Common.{◌≡◌, ◌≢◌, ℕ, zero, suc, ◌+◌, ◌-◌, ◌^◌, ◌%◌, ◌<◌, ◌≤◌, ◌==◌, min, Bool, true, false, cond, eqb, not, List, [], ◌∷◌, ◌++◌, length, length-append, append-nil, append_assoc, get_or, set, inl, inr, codes, refl, sym, ap, ◌∙◌, subst, arith}
-use Rattle.std.specs.Prelude.{◌↔◌, IsTrue, filter}
+use Rattle.std.proofs.Common.{◌≡◌, ◌≢◌, ℕ, zero, suc, ◌+◌, ◌-◌, ◌^◌, ◌%◌, ◌<◌, ◌≤◌, ◌==◌, min, Bool, true, false, cond, not, List, [], ◌∷◌, ◌++◌, length, length-append, append-nil, get_or, set, inl, inr, codes, Option, Some, None, ◌&&◌, refl, sym, ap, ◌∙◌, subst, arith}
+use Rattle.std.specs.Prelude.{filter}
+use Rattle.std.specs.List.{list_any}
 use Rattle.std.specs.Fmt.{decimal}
 use Rattle.std.proofs.lemmas.Bool.{cases_Bool}
 use Rattle.std.proofs.lemmas.Bool.Decides.{nat_tests}
 use Rattle.std.proofs.lemmas.List.{get_or-set_same, get_or-set_other, length-set}
 use Rattle.std.proofs.lemmas.List.Elements.{filter-append}
-use Rattle.a429_word.specs.Word.{count_of_ones, HasOddParity}
+use Rattle.a429_word.specs.Word.{count_of_ones, label_of, number_at}
 use Rattle.a429_word.specs.Digits.{octal_text}
 use Rattle.a429_word.specs.Bus.{bus_text}
 use Rattle.a429_word.specs.declared.bus.Bus.{Bus}
 use Rattle.a429_word.specs.declared.bus.Bus.TheVariants as bus
 use Rattle.a429_profile.specs.declared.codes.Codes.{Codes}
+use Rattle.a429_ldu.specs.declared.forms.Form.{Form}
+use Rattle.a429_ldu.specs.declared.forms.Form.TheVariants as form
+use Rattle.a429_ldu.specs.declared.freedom.Freedom.{Freedom}
+use Rattle.a429_ldu.specs.declared.freedom.Freedom.TheVariants.{BadParity, OtherLabel, IgnoredType, IgnoredCode}
+use Rattle.a429_ldu.specs.Form.{address_of, form_of}
 use Rattle.a429_record.specs.declared.entry.Entry.{Entry}
 use Rattle.a429_view.specs.declared.survey.kind.WordKind.{WordKind}
+use Rattle.a429_view.specs.declared.survey.kind.WordKind.TheVariants as kind
 use Rattle.a429_view.specs.declared.survey.counts.Hits.{Hits}
 use Rattle.a429_view.specs.declared.survey.counts.LabelCount.{LabelCount}
 use Rattle.a429_view.specs.declared.survey.counts.BusCount.{BusCount}
 use Rattle.a429_view.specs.declared.survey.Survey.{Survey}
-use Rattle.a429_view.specs.Survey.{Numbered, numbered, on_bus, is_bus, place_of, label_in, with_label, with_even_parity, is_even, last_time, IsHits, IsLabelCount, IsBusCount, IsSurvey, AreTimes, no_hits, no_label, name, times_line, kind_line, label_line, label_lines}
+use Rattle.a429_view.specs.Survey.{Numbered, numbered, kind_in, kind_of, on_bus, is_bus, place_of, label_in, with_label, with_even_parity, is_even, last_time, IsHits, IsLabelCount, IsBusCount, IsSurvey, AreTimes, no_hits, no_label, name, times_line, kind_line, label_line, label_lines}
 
 -- ---- one more element, filtered
 
@@ -181,11 +188,37 @@ label_text b label l [] some is = let none : l.count ≡ 0 = is.0 in absurd (ome
 label_text b label l (x ∷ xs) some is = rw (is.0, is.1) refl
 
 -- a word whose parity is not odd
-pub even_where : (x : Numbered) (w : ℕ) (odd : Bool) → IsTrue odd ↔ HasOddParity w → odd ≡ false → x.entry.word ≡ w → is_even x ≡ true
-even_where x w odd says is same = subst (λ v. not (count_of_ones v % 2 == 1) ≡ true) (sym same) (elim (cases_Bool (count_of_ones w % 2 == 1)) [
-  | inl one ↦ let ones : count_of_ones w % 2 ≡ 1 = grind (arith, nat_tests) in absurd (cc (is, says.1 ones))
-  | inr other ↦ rw other refl
-])
+abbrev pub is_of_parity : WordKind → Bool
+is_of_parity kind.FreeParity = true
+is_of_parity _ = false
+
+-- the first of four tests that holds, and the kind by it
+abbrev kind_by : Bool → Bool → Bool → Bool → Option Form → WordKind
+kind_by parity label type code f = kind_in (cond parity (Some BadParity) (cond label (Some OtherLabel) (cond type (Some IgnoredType) (cond code (Some IgnoredCode) None)))) f
+
+parity_by : (parity label type code : Bool) (f : Option Form) → is_of_parity (kind_by parity label type code f) ≡ parity
+parity_by true label type code f = refl
+parity_by false true type code f = refl
+parity_by false false true code f = refl
+parity_by false false false true f = refl
+parity_by false false false false None = refl
+parity_by false false false false (Some (form.Rts n)) = refl
+parity_by false false false false (Some (form.Cts n)) = refl
+parity_by false false false false (Some (form.Ack file ldu)) = refl
+parity_by false false false false (Some (form.Nak bits)) = refl
+parity_by false false false false (Some (form.Sot gfi file ldu)) = refl
+parity_by false false false false (Some (form.Part semis)) = refl
+parity_by false false false false (Some (form.Eot flags check)) = refl
+
+parity_of_kind : (c : Codes) (b : Bus) (w : ℕ) → is_of_parity (kind_of c b w) ≡ not (count_of_ones w % 2 == 1)
+parity_of_kind c b w = parity_by (not (count_of_ones w % 2 == 1)) (not (label_of w == address_of c b)) (list_any (λ n. n == number_at w 29 3) c.ignored_types) (number_at w 29 3 == c.protocol && list_any (λ n. n == number_at w 25 4) c.ignored_codes) (form_of c b w)
+
+pub even_by_kind : (c : Codes) (x : Numbered) (k : WordKind) → k ≡ kind_of c x.entry.bus x.entry.word → is_of_parity k ≡ is_even x
+even_by_kind c x k is = ap is_of_parity is ∙ parity_of_kind c x.entry.bus x.entry.word
+
+pub no_reason : (o : Option Freedom) → (o ≢ None → ⊥) → o ≡ None
+no_reason None h = refl
+no_reason (Some why) h = absurd (h (λ e. absurd (cc e)))
 
 pub label_lines_none : (b : Bus) (xs : List Numbered) → label_lines b 0 xs ≡ []
 unfolding label_lines

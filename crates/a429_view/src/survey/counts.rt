@@ -1,9 +1,8 @@
 //! How often each kind of word and each label occurs on a bus.
 
 ghost use Rattle.std.specs.Prelude.{◌≡◌, ◌+◌, ◌<◌, ◌^◌, ◌∷◌, ◌++◌, [], List, length};
-ghost use Rattle.a429_word.specs.Word.{HasOddParity};
 ghost use Rattle.a429_profile.specs.declared.codes.Codes.{Codes};
-ghost use Rattle.a429_view.specs.Survey.{Numbered, IsHits, IsLabelCount, IsBusCount, of_kind, with_label};
+ghost use Rattle.a429_view.specs.Survey.{Numbered, IsHits, IsLabelCount, IsBusCount, is_even, of_kind, with_label};
 
 use crate::survey::kind::{KIND_COUNT, WordKind};
 use a429_profile::Profile;
@@ -45,16 +44,16 @@ impl LabelCount {
     /// No entry.
     pub(crate) const NONE: LabelCount = LabelCount { count: 0, even: 0 };
 
-    // And an entry, by whether the parity of its word is odd.
-    fn and(self, entry: &Entry) -> LabelCount
-        ensures { (xs : List Numbered) (x : Numbered) → length xs + 1 < 2 ^ 64 → x.entry ≡ entry.now → IsLabelCount self xs → IsLabelCount result (xs ++ x ∷ []) }
+    // And an entry, by whether the parity of its word is even.
+    fn and(self, even: bool) -> LabelCount
+        ensures { (xs : List Numbered) (x : Numbered) → length xs + 1 < 2 ^ 64 → even ≡ is_even x → IsLabelCount self xs → IsLabelCount result (xs ++ x ∷ []) }
     {
         LabelCount {
             count: self.count.saturating_add(1),
-            even: if entry.word.parity_ok() {
-                self.even
-            } else {
+            even: if even {
                 self.even.saturating_add(1)
+            } else {
+                self.even
             },
         }
     }
@@ -100,9 +99,10 @@ impl BusCount {
             → IsBusCount profile.now.codes self.new (xs ++ record { number = number; entry = entry.now } ∷ []) }
     {
         self.entries = self.entries.saturating_add(1);
-        let kind = WordKind::of(profile, entry).place();
-        self.kinds[kind] = self.kinds[kind].and(number);
+        let kind = WordKind::of(profile, entry);
+        let place = kind.place();
+        self.kinds[place] = self.kinds[place].and(number);
         let label = usize::from(entry.word.label());
-        self.labels[label] = self.labels[label].and(entry);
+        self.labels[label] = self.labels[label].and(kind.is_even());
     }
 }

@@ -2,9 +2,10 @@
 
 ghost use Rattle.std.specs.Prelude.{◌≡◌, ◌<◌, Option, Some, None};
 ghost use Rattle.a429_ldu.specs.Form.{form_of};
-ghost use Rattle.a429_view.specs.Survey.{kind_of, kind_in, place, name};
+ghost use Rattle.a429_profile.specs.declared.codes.Codes.{Codes};
+ghost use Rattle.a429_view.specs.Survey.{Numbered, is_even, kind_of, kind_in, place, name};
 
-use a429_ldu::{Form, Freedom, form, why_free};
+use a429_ldu::{Form, Freedom, Sight, form, why_free};
 use a429_profile::Profile;
 use a429_record::Entry;
 
@@ -54,9 +55,14 @@ impl WordKind {
     pub(crate) fn of(profile: &Profile, entry: &Entry) -> WordKind
         ensures { result ≡ kind_of profile.now.codes entry.now.bus entry.now.word }
     {
-        match why_free(profile, entry.bus, entry.word) {
-            Some(why) => free_kind(why),
-            None => form_kind(form(profile, entry.bus, entry.word).form()),
+        match form(profile, entry.bus, entry.word) {
+            Sight::Form(form) => form_kind(Some(form)),
+            Sight::NoForm => form_kind(None),
+            Sight::Free => match why_free(profile, entry.bus, entry.word) {
+                Some(why) => free_kind(why),
+                // (a free word has a reason)
+                None => form_kind(None),
+            },
         }
     }
 
@@ -79,6 +85,13 @@ impl WordKind {
             WordKind::FreeType => 10,
             WordKind::FreeCode => 11,
         }
+    }
+
+    /// Whether it is that of words with even parity.
+    pub(crate) fn is_even(self) -> bool
+        ensures { (c : Codes) (x : Numbered) → self ≡ kind_of c x.entry.bus x.entry.word → result ≡ is_even x }
+    {
+        matches!(self, WordKind::FreeParity)
     }
 
     /// Its name in the lines of a survey.

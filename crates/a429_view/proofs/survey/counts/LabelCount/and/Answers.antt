@@ -1,9 +1,11 @@
-use Rattle.std.proofs.Common.{ap, true, false}
-use Rattle.a429_record.specs.declared.entry.Entry.{Entry}
-use Rattle.a429_view.proofs.SurveyFacts.{label_more, even_where}
+use Rattle.std.proofs.Common.{refl}
+use Rattle.a429_view.proofs.SurveyFacts.{label_more}
 use Rattle.a429_view.proofs.survey.counts.LabelCount.and.Goals as goal
 
-pub returns-else-parity_ok : goal.returns-else-parity_ok
-returns-else-parity_ok c = λ xs x few is h.
-    let even = even_where x c.args.entry.now.word c.parity_ok.result c.parity_ok.ensures c.if-parity_ok.false (ap (λ (e : Entry). e.word) is) in
-    label_more c.args.self (record { count = c.saturating_add.result; even = c.saturating_add-else-parity_ok.result }) xs x c.saturating_add.ensures (λ _. c.saturating_add-else-parity_ok.ensures) (λ odd. absurd (cc (even, odd))) few h
+pub returns-then-even : goal.returns-then-even
+returns-then-even c = λ xs x few is h.
+    label_more c.args.self (record { count = c.saturating_add.result; even = c.saturating_add-then-even.result }) xs x c.saturating_add.ensures (λ _. c.saturating_add-then-even.ensures) (λ odd. absurd (cc (c.if-even.true, is, odd))) few h
+
+pub returns-else-even : goal.returns-else-even
+returns-else-even c = λ xs x few is h.
+    label_more c.args.self (record { count = c.saturating_add.result; even = c.args.self.even }) xs x c.saturating_add.ensures (λ yes. absurd (cc (c.if-even.false, is, yes))) (λ _. refl) few h
