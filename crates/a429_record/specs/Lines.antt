@@ -1,4 +1,4 @@
--- What a reader of lines has still to give, and what it gives (profile).
+-- What a reader of lines will still return, and what it returns (profile).
 use Rattle.std.specs.Prelude.{◌≡◌, ◌<◌, ℕ, ◌+◌, List, [], length, take, drop, false, Option, IfSome}
 use Rattle.std.specs.Io.KnownBytes.{prepend_known, Consumes, Keeps}
 use Rattle.a429_word.specs.declared.tally.Tally.{Tally}
@@ -10,7 +10,7 @@ use Rattle.a429_record.specs.Binary.{magic, is_binary}
 use Rattle.a429_record.specs.Row.{Row}
 use Rattle.a429_record.specs.Handed.{Loses, IsLineHanded, AreLines}
 
--- the bytes that were read and not yet given
+-- the bytes that were read and not yet used
 abbrev pub ahead_of : Lines → List ℕ
 ahead_of s = drop s.at (take s.filled s.buffer)
 
@@ -18,27 +18,27 @@ ahead_of s = drop s.at (take s.filled s.buffer)
 abbrev pub pending_of : {R : Type 0} → (R → Option (List ℕ)) → Lines → Tally R → Option (List ℕ)
 pending_of remaining s rec = prepend_known (ahead_of s) (unread remaining rec)
 
--- how many bytes may still be given
+-- how many bytes may still be used
 abbrev pub room_of : {R : Type 0} → Lines → Tally R → ℕ
 room_of s rec = left_of rec + length (ahead_of s)
 
--- these bytes are given
+-- these bytes are returned
 abbrev pub HandsBytes : {R : Type 0} → (R → Option (List ℕ)) → List ℕ → Lines → Tally R → Lines → Tally R → Type 0
 HandsBytes remaining bytes old rec new new_rec = Consumes (pending_of remaining old rec) (pending_of remaining new new_rec) bytes
 
--- lines are given: what they take of the bytes, and what is then left, are so
+-- lines are returned: what they take of the bytes, and what is then left, are so
 abbrev pub HandsOut : {R : Type 0} → (List ℕ → List ℕ → Type 0) → (R → Option (List ℕ)) → Lines → Tally R → Lines → Tally R → Type 0
 HandsOut P remaining old rec new new_rec = Loses P (pending_of remaining old rec) (pending_of remaining new new_rec)
 
--- this line is given
+-- this line is returned
 abbrev pub HandsLine : {R : Type 0} → (R → Option (List ℕ)) → List ℕ → Lines → Tally R → Lines → Tally R → Type 0
 HandsLine remaining line old rec new new_rec = HandsOut (IsLineHanded line) remaining old rec new new_rec
 
--- whole lines are given, and their rows are so
+-- whole lines are returned, and their rows are so
 abbrev pub HandsRows : {R : Type 0} → (List Row → Type 0) → (R → Option (List ℕ)) → Lines → Tally R → Lines → Tally R → Type 0
 HandsRows P remaining old rec new new_rec = HandsOut (AreLines P) remaining old rec new new_rec
 
--- the reader fails: what it has given until then, with what was ahead, and what it leaves, are so
+-- the reader fails: what it has returned until then, with the bytes that were read ahead, and what it leaves, are so
 abbrev pub FailsAfter : {R : Type 0} → (List ℕ → List ℕ → Type 0) → (R → Option (List ℕ)) → Lines → Tally R → Tally R → Type 0
 FailsAfter P remaining old rec new_rec = Loses P (pending_of remaining old rec) (unread remaining new_rec)
 

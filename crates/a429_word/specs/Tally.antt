@@ -7,7 +7,7 @@ use Rattle.a429_word.specs.declared.tally.Tally.{Tally}
 abbrev pub inner_of : {T : Type 0} → Tally T → T
 inner_of t = t.inner
 
--- how many bytes reads may still hand out
+-- how many bytes reads may still return
 abbrev pub left_of : {T : Type 0} → Tally T → ℕ
 left_of t = t.left
 
@@ -33,7 +33,7 @@ Puts contents old new text = Appends (contents (inner_of old)) (contents (inner_
 abbrev pub PutsFront : {W : Type 0} → (W → Option (List ℕ)) → Tally W → Tally W → List ℕ → Type 0
 PutsFront contents old new text = AppendsPrefix (contents (inner_of old)) (contents (inner_of new)) text
 
--- the bytes that a reader has still to give, where they are known
+-- the bytes that a reader will still return, where they are known
 abbrev pub unread : {R : Type 0} → (R → Option (List ℕ)) → Tally R → Option (List ℕ)
 unread remaining rec = remaining (inner_of rec)
 

@@ -7,8 +7,8 @@ ghost use Rattle.a429_word.specs.Bnr.{raw_of};
 use crate::word::Word;
 
 impl Word {
-    /// The raw number of a BNR word with s significant bits, s from 1 to 18 (ARINC 429 Part 1): two's
-    /// complement in the s + 1 bits from bit 29, the sign, down to bit `29-s`.
+    /// The raw number of a BNR word with s significant bits, s from 1 to 18 (ARINC 429 Part 1), from `-2^s` to `2^s - 1`:
+    /// two's complement in the s + 1 bits from bit 29, the sign, down to bit `29-s`.
     pub fn bnr_raw(self, s: u8) -> i32
         requires least { 1 ≤ s }
         requires most { s ≤ 18 }

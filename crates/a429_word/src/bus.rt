@@ -3,7 +3,7 @@
 ghost use Rattle.std.specs.Prelude.{◌≡◌};
 ghost use Rattle.a429_word.specs.Bus.{bus_text};
 
-/// A bus carries the words of one transmitter (ARINC 429 Part 1).
+/// A bus: it carries the words of one transmitter (ARINC 429 Part 1). Which of a pair is A and which B: profile.
 #[derive(Clone, Copy, Debug, PartialEq, Eq)]
 pub enum Bus {
     /// From the source of a file to its sink.

@@ -10,7 +10,7 @@ use crate::word::Word;
 
 const HEX_DIGITS: [u8; 16] = *b"0123456789ABCDEF";
 
-// What stands for a byte that is no hexadecimal digit: more than four digits write.
+// The value of a byte that is no hexadecimal digit: above any number of four digits.
 const NONE: u32 = 65536;
 
 // The value of each byte as a hexadecimal digit of either case, and `NONE` of a byte that is none.
@@ -34,7 +34,7 @@ const HEX_VALUES: [u32; 256] = [
 ];
 
 impl Word {
-    /// Reads eight hexadecimal digits of either case. Any other text is `None`.
+    /// The word that eight hexadecimal digits of either case write; `None` for any other text (profile).
     pub fn parse_hex(text: &[u8]) -> Option<Word>
         ensures { ReadsHex text.now result }
     {
@@ -49,7 +49,7 @@ impl Word {
         Some(Word::from_u32(upper * 65536 + lower))
     }
 
-    /// The number as eight hexadecimal digits in upper case.
+    /// The word's number as eight hexadecimal digits in upper case (profile).
     pub fn hex(self) -> [u8; 8]
         ensures { result ≡ hex_text self }
     {

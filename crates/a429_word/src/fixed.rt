@@ -53,7 +53,7 @@ impl Fixed {
         out.put(text.as_slice())
     }
 
-    /// Puts the same text on a sheet of output.
+    /// Adds the same text to a sheet of output.
     pub fn put_on<W: Write>(&self, sheet: &mut Sheet<'_, W>)
         requires { self.now.decimals ≤ 24 }
         ensures { SpelledSo self.now (λ text. Says W.contents sheet.old sheet.new text) }

@@ -18,7 +18,7 @@ const ROOM: usize = 16384;
 // How many digits the longest number has.
 const LONGEST: usize = 20;
 
-/// Bytes that wait to be written, so that a writer is called once for many pieces. A `Sheet` fills it.
+/// Bytes that wait to be written, 16,384 at most, so that a writer is called once for many pieces. A `Sheet` fills it.
 #[derive(Drop)]
 pub struct Page {
     // none: each piece is written at once
@@ -38,7 +38,7 @@ impl Model for Page {
 }
 
 impl Page {
-    /// A page with nothing on it.
+    /// An empty page. The error is out of memory.
     pub fn new(alloc: Global) -> Result<Page, AllocError>
         ensures { IfOk result (λ p. p ≡ []) }
     {
@@ -48,7 +48,7 @@ impl Page {
         })
     }
 
-    /// A page without room, which takes no memory: a sheet with it writes each piece at once.
+    /// An empty page without room, which takes no memory: a sheet with it writes each piece at once.
     pub fn without_room() -> Page
         ensures { result ≡ [] }
     {
@@ -58,8 +58,8 @@ impl Page {
         }
     }
 
-    /// Puts bytes on the page. If they do not fit, what is on it is written first. After `Device` a
-    /// prefix of all this has been written.
+    /// Adds bytes to the page. If they do not fit, what is on it is written first. After `Device` a prefix of what was on
+    /// it and of the bytes has been written.
     #[inline(always)]
     pub(crate) fn put<W: Write>(&mut self, out: &mut Tally<W>, bytes: &[u8]) -> Result<(), Device>
         ensures ok { OnOk result (PutsOn W.contents out.old self.old out.new self.new bytes.now) }
@@ -79,7 +79,7 @@ impl Page {
         }
     }
 
-    // Puts the page, and then bytes that have no room on it.
+    // Writes the page, and then bytes that have no room on it.
     #[cold]
     #[inline(never)]
     fn put_past<W: Write>(&mut self, out: &mut Tally<W>, bytes: &[u8]) -> Result<(), Device>
@@ -92,7 +92,7 @@ impl Page {
         out.put(bytes)
     }
 
-    /// Puts a number on the page, in decimal.
+    /// Adds a number to the page, in decimal.
     #[inline(always)]
     pub(crate) fn put_number<W: Write>(
         &mut self,
@@ -127,7 +127,7 @@ impl Page {
     }
 }
 
-// So many bytes 0.
+// A list of so many bytes 0.
 fn zeros(alloc: Global, len: usize) -> Result<Vec<u8>, AllocError>
     ensures { IfOk result (λ v. length v.items ≡ len) }
 {

@@ -8,20 +8,20 @@ ghost use Rattle.a429_word.specs.Screening.{screened};
 use crate::word::Word;
 use std::simd::prelude::*;
 
-/// The answer of `screen` for a word of even parity, whose label is not looked at.
+/// What `screen` returns for a word of even parity, whose label is not looked at.
 pub const BAD_PARITY: u8 = 0;
 
-/// The answer of `screen` for a good word with the label that is looked for.
+/// What `screen` returns for a word of odd parity with the label that is looked for.
 pub const THIS_LABEL: u8 = 1;
 
-/// The answer of `screen` for a good word with another label.
+/// What `screen` returns for a word of odd parity with another label.
 pub const OTHER_LABEL: u8 = 2;
 
 // How many words are looked at together.
 const LANES: usize = 8;
 
-/// Answers for each word, in its place of `out`, whether its parity is odd and, if so, whether it has
-/// this label (Part 1): `BAD_PARITY`, `THIS_LABEL` or `OTHER_LABEL`. `out` is as long as `words`.
+/// Writes for each word, at its place of `out`, whether its parity is odd and, if so, whether it has this label
+/// (ARINC 429 Part 1): `BAD_PARITY`, `THIS_LABEL` or `OTHER_LABEL`. `out` is as long as `words`.
 pub fn screen(words: &[u32], label: u8, out: &mut [u8])
     requires { length words.now ≡ length out.old }
     ensures { out.new ≡ map (screened label) words.now }
@@ -32,7 +32,7 @@ pub fn screen(words: &[u32], label: u8, out: &mut [u8])
     }
 }
 
-// Screens the words that fill whole vectors, from the front, and answers how many those are.
+// Screens the words that fill whole vectors, from the first on, and returns how many those are.
 fn screen_vectors(words: &[u32], label: u8, out: &mut [u8]) -> usize
     requires { length words.now ≡ length out.old }
     ensures within { result ≤ length words.now }
@@ -59,7 +59,7 @@ fn answer_for(word: Word, label: u8) -> u8
     }
 }
 
-// The answers for the words of one vector, from a place on.
+// The results for the words of one vector, from a place on.
 fn answers_at(words: &[u32], at: usize, label: u8) -> u8x8
     requires { at + LANES ≤ length words.now }
     ensures { result ≡ map (screened label) (chunk at 8 words.now) }

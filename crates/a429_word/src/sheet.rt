@@ -9,8 +9,8 @@ use crate::tally::{Device, Failing, Tally};
 use std::io::Write;
 
 /// An output and the page before it, as one value that remembers a failure: pieces are put one after the
-/// other, and `finish` answers once for all of them. What is put after the output has failed is not
-/// written. So a long loop asks `failed` now and then.
+/// other, and `finish` reports a failure once for all of them. What is put after the output has failed is not
+/// written. So a long loop calls `failed` now and then.
 #[derive(Drop)]
 pub struct Sheet<'a, W> {
     out: &'a mut Tally<W>,
@@ -18,7 +18,7 @@ pub struct Sheet<'a, W> {
 }
 
 impl<'a, W: Write> Sheet<'a, W> {
-    /// A sheet of this output, with what waits on the page.
+    /// A sheet over this output and this page. What waits on the page is written first.
     pub fn new(out: &'a mut Tally<W>, page: &'a mut Page) -> Sheet<'a, W>
         ensures same_out { result.out.ghost_name ≡ out.entry.ghost_name }
         ensures same_page { result.page.ghost_name ≡ page.entry.ghost_name }
@@ -28,7 +28,7 @@ impl<'a, W: Write> Sheet<'a, W> {
         Sheet { out, page }
     }
 
-    /// Puts bytes.
+    /// Adds bytes.
     #[inline(always)]
     pub fn put(&mut self, bytes: &[u8])
         ensures { Says W.contents self.old self.new bytes.now }
@@ -36,7 +36,7 @@ impl<'a, W: Write> Sheet<'a, W> {
         let _ = self.page.put(self.out, bytes);
     }
 
-    /// Puts a number, in decimal.
+    /// Adds a number, in decimal.
     #[inline(always)]
     pub fn put_number(&mut self, number: u64)
         ensures { Says W.contents self.old self.new (decimal number) }

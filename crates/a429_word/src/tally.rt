@@ -12,7 +12,7 @@ use std::io::{ErrorKind, Read, Write};
 #[derive(Clone, Copy, Debug, PartialEq, Eq)]
 pub struct Device;
 
-/// What may fail for good.
+/// What may fail, and then stays failed.
 pub trait Failing {
     ghost failed: { Self → Bool };
 
@@ -24,7 +24,7 @@ pub trait Failing {
 /// A reader or writer over another one, its inner one.
 ///
 /// It has failed once a call of the inner one returned an error (`Interrupted` is one), a write of
-/// some bytes took none of them, or a read was asked for after `cap` bytes had been handed out.
+/// some bytes took none of them, or a read was asked for after `cap` bytes had been read.
 /// Once failed it stays so: every later call returns an error that is not `Interrupted`, and the
 /// inner one is not called again.
 #[derive(Debug, Drop)]
@@ -45,7 +45,7 @@ impl<T> Failing for Tally<T> {
 impl<T> Tally<T> {
     ghost use Rattle.a429_word.specs.Tally.{inner_of, left_of, has_failed};
 
-    /// A tally over `inner` whose reads hand out at most `cap` bytes. Writes have no limit.
+    /// A tally over `inner` whose reads return at most `cap` bytes in all. Writes have no limit.
     pub fn new(inner: T, cap: u64) -> Self
         ensures inner { inner_of result ≡ inner }
         ensures left { left_of result ≡ cap }
@@ -58,7 +58,7 @@ impl<T> Tally<T> {
         }
     }
 
-    /// How many bytes reads may still hand out.
+    /// How many bytes reads may still return.
     pub fn left(&self) -> u64
         ensures { result ≡ left_of self.now }
     {
@@ -169,7 +169,7 @@ impl<R: Read> Read for Tally<R> {
 impl<R: Read> Tally<R> {
     ghost use Rattle.a429_word.specs.Tally.{inner_of, left_of, has_failed, unread, FallsShort};
 
-    // A read that has no room for a byte.
+    // A read into no bytes.
     fn read_none(&mut self) -> io::Result<usize>
         ensures none { IfOk result (λ n. n ≡ 0) }
         ensures inner { inner_of self.new ≡ inner_of self.old }
@@ -270,7 +270,7 @@ impl<W: Write> Write for Tally<W> {
     }
 }
 
-// The length, but no more than is left.
+// The length, or what is left where that is less.
 fn at_most(len: usize, left: u64) -> usize
     ensures len { result ≤ len }
     ensures left { result ≤ left }

@@ -1,11 +1,11 @@
-//! What may stop any call, whatever the call is about.
+//! What may stop any call, whatever it does.
 
 ghost use Rattle.a429_word.specs.declared.trouble.Trouble.TheVariants as trouble;
 
 use crate::tally::Device;
 use std::alloc::AllocError;
 
-/// Why a call could not be done, where nothing was wrong with what it was given.
+/// Why a call failed, where nothing is wrong with its input.
 #[derive(Clone, Copy, Debug, PartialEq, Eq, Drop)]
 pub enum Trouble {
     /// A reader, a writer or another device has failed.

@@ -47,7 +47,7 @@ impl Text {
         &self.bytes[self.start..]
     }
 
-    /// Puts the number's last digits in front, count of them, and answers the number without them.
+    /// Puts the last `count` decimal digits of a number in front, and returns the number without them.
     pub fn push_decimals(&mut self, number: u128, count: u8) -> u128
         requires { length self.old + count < 72 }
         ensures text { self.new ≡ numeral 10 count number ++ self.old }
@@ -75,14 +75,14 @@ impl Text {
         if count == 0 {
             return number;
         }
-        // A 1 before the digits keeps the zeros that they may begin with. The text starts behind it.
+        // A 1 before the digits keeps the zeros that they may begin with. The text starts after it.
         let one = power_of_ten(count);
         let (whole, decimals) = over_power_of_ten(number, count);
         self.start = write_digits(one + decimals, &mut self.bytes, self.start) + 1;
         whole
     }
 
-    /// Puts a point in front, where there is something behind it.
+    /// Puts a point in front, unless the text is empty.
     pub fn push_point(&mut self)
         requires { length self.old < 72 }
         ensures { self.new ≡ with_point self.old }
@@ -115,7 +115,7 @@ impl Text {
         }
     }
 
-    // Puts the number's last digit in front, and answers the number without it.
+    // Puts the last decimal digit of a number in front, and returns the number without it.
     #[inline(always)]
     fn push_last_digit(&mut self, number: u128) -> u128
         requires { length self.old < 72 }
