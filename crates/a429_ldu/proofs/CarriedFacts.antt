@@ -1,5 +1,5 @@
 -- The bytes that data words carry, word by word.
-use Rattle.std.proofs.Common.{◌≡◌, ◌⊎◌, inl, inr, ℕ, zero, suc, ◌+◌, ◌*◌, ◌/◌, ◌%◌, ◌^◌, ◌<◌, ◌≤◌, true, false, List, [], ◌∷◌, ◌++◌, length, take, get_or, Option, Some, None, is_some, refl, sym, ap, ◌∙◌, arith, subst, append_assoc, append-nil, bit_or, length-append}
+use Rattle.std.proofs.Common.{◌≡◌, ◌⊎◌, inl, inr, ℕ, zero, suc, ◌+◌, ◌*◌, ◌/◌, ◌%◌, ◌^◌, ◌<◌, ◌≤◌, true, false, List, [], ◌∷◌, ◌++◌, length, take, get_or, Option, Some, None, is_some, unwrap_or, refl, sym, ap, ◌∙◌, arith, subst, append_assoc, append-nil, bit_or, length-append}
 use Rattle.std.specs.List.{AllByRecursion, concat}
 use Rattle.std.specs.Option.{option_to_list, option_map, option_and_then}
 use Rattle.std.proofs.lemmas.List.{take_more}
@@ -11,7 +11,7 @@ use Rattle.a429_ldu.specs.declared.forms.Form.{Form}
 use Rattle.a429_ldu.specs.declared.forms.Form.TheVariants.{Rts, Cts, Ack, Nak, Sot, Part, Eot}
 use Rattle.a429_ldu.specs.Semis.{semis_of_bytes, five_of}
 use Rattle.a429_ldu.specs.Form.{form_of}
-use Rattle.a429_ldu.specs.Carried.{AreDataWords, Carries, CarryBytes, semis_in, joined_to, semis_of_words, paired, if_some, bytes_carried}
+use Rattle.a429_ldu.specs.Carried.{AreDataWords, Carries, CarryBytes, semis_in, joined_to, semis_of_words, paired, if_some, bytes_carried, semis_count, semis_in_words}
 use Rattle.a429_ldu.proofs.FormFacts.{form_of-is, form_is_not_free}
 use Rattle.a429_ldu.proofs.CutPieces.{length-semis}
 
@@ -166,6 +166,20 @@ carried-some c ws ss e = ap (λ o. if_some (option_and_then paired o)) e
 pub carried-read : (c : Codes) (ws none ss : List ℕ) → none ≡ [] → joined_to (Some (semis_of_bytes none ++ [])) (semis_of_words c ws) ≡ Some ss → if_some (paired ss) ≡ bytes_carried c ws
 carried-read c ws [] ss e h = sym (carried-some c ws ss (sym (joined_from_nil (semis_of_words c ws)) ∙ h))
 carried-read c ws (b ∷ bs) ss e h = absurd (cc)
+
+-- ---- how many semi-octets there are
+
+pub semis_counted : (c : Codes) (ws none made : List ℕ) (rest : Option ℕ) → none ≡ [] → joined_to (Some (semis_of_bytes none ++ [])) (semis_of_words c ws) ≡ Some (semis_of_bytes made ++ option_to_list rest) → semis_count (length made) rest ≡ semis_in_words c ws
+semis_counted c ws [] made rest e h =
+    let is : semis_of_words c ws ≡ Some (semis_of_bytes made ++ option_to_list rest) = sym (joined_from_nil (semis_of_words c ws)) ∙ h in
+    let sum = length-append (semis_of_bytes made) (option_to_list rest) in
+    let bytes = length-semis made in
+    let count : semis_count (length made) rest ≡ length (semis_of_bytes made ++ option_to_list rest) = omega (arith, sum, bytes) in
+    count ∙ sym (ap (λ o. length (unwrap_or o [])) is)
+semis_counted c ws (b ∷ bs) made rest e h = absurd (cc)
+
+pub none_counted : (c : Codes) (ws : List ℕ) → semis_of_words c ws ≡ None → 0 ≡ semis_in_words c ws
+none_counted c ws e = sym (ap (λ o. length (unwrap_or o [])) e)
 
 -- ---- words read piece by piece
 

@@ -41,6 +41,10 @@ abbrev pub semis_of_words : Codes → List ℕ → Option (List ℕ)
 semis_of_words c [] = Some []
 semis_of_words c (w ∷ ws) = joined_to (semis_in (form_of c bus.A w)) (semis_of_words c ws)
 
+-- how many they are, and none where there are none
+abbrev pub semis_in_words : Codes → List ℕ → ℕ
+semis_in_words c words = length (unwrap_or (semis_of_words c words) [])
+
 -- the semi-octets of bytes, and one that waits for its byte
 abbrev pub semis_held : List ℕ → Option ℕ → List ℕ
 semis_held bytes low = semis_of_bytes bytes ++ option_to_list low

@@ -7,7 +7,7 @@ ghost use Rattle.a429_word.specs.declared.bus.Bus.TheVariants as bus;
 ghost use Rattle.a429_profile.specs.Profile.{IsProfile};
 ghost use Rattle.a429_ldu.specs.Semis.{five_of};
 ghost use Rattle.a429_ldu.specs.Form.{fields_of, full_fields, form_of};
-ghost use Rattle.a429_ldu.specs.Carried.{CarryBytes, semis_in, semis_of_words, semis_held, AddSemis, semis_count, paired, if_some, bytes_carried};
+ghost use Rattle.a429_ldu.specs.Carried.{CarryBytes, semis_in, semis_of_words, semis_held, AddSemis, semis_count, paired, if_some, bytes_carried, semis_in_words};
 ghost use Rattle.a429_ldu.specs.Ldu.{most_data_words};
 
 use crate::forms::Form;
@@ -66,6 +66,29 @@ pub fn block_bytes(profile: &Profile, words: &[Word]) -> Option<BlockBytes>
         Some(bytes)
     } else {
         None
+    }
+}
+
+/// How many semi-octets at most 253 words carry; 0 where one is no data word of bus A. It takes no memory.
+pub fn count_semis(profile: &Profile, words: &[Word]) -> usize
+    requires { length words.now ≤ most_data_words }
+    ensures { result ≡ semis_in_words profile.now.codes words.now }
+{
+    let mut bytes = BlockBytes::new();
+    match carry(profile, words, None, &mut bytes) {
+        Some(low) => count_held(&bytes, low),
+        None => 0,
+    }
+}
+
+// How many semi-octets are those of bytes, and of one that waits.
+fn count_held(bytes: &[u8], low: Option<u8>) -> usize
+    requires { length bytes.now ≤ 632 }
+    ensures { result ≡ semis_count (length bytes.now) low }
+{
+    match low {
+        Some(_) => 2 * bytes.len() + 1,
+        None => 2 * bytes.len(),
     }
 }
 

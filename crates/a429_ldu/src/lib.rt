@@ -14,7 +14,7 @@ mod ldu;
 mod semis;
 mod sight;
 
-pub use crate::carried::{BlockBytes, block_bytes, bytes_of};
+pub use crate::carried::{BlockBytes, block_bytes, bytes_of, count_semis};
 pub use crate::check_words::{agrees, check_word};
 pub use crate::cutting::{MOST_UNITS, cut};
 pub use crate::fault::{CutFault, LduFault};

@@ -17,6 +17,7 @@ pub mod MessageRead
 pub mod SampleRun
 pub mod SourceBlock
 pub mod SinkGoodBlock
+pub mod SinkBadBlock
 pub mod LinkKept
 pub mod LinkCalls
 pub mod ObserverBlock

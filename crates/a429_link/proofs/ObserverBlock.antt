@@ -4,7 +4,7 @@ use Rattle.a429_profile.specs.Profile.{Contents}
 use Rattle.a429_ldu.specs.declared.semis.Semis.{Semis}
 use Rattle.a429_ldu.specs.declared.forms.Form.{Form}
 use Rattle.a429_ldu.specs.declared.forms.Form.TheVariants.{Rts, Cts, Ack, Nak, Sot, Part, Eot}
-use Rattle.a429_link.specs.Sink.{Number, Sink, SinkPhase, Quiet, OwesClear, Granted, InBlock, OwesAck, OwesNak, SinkSide, at_start, at_end, is_good, kept_words, takes, empty_block, nothing_received}
+use Rattle.a429_link.specs.Sink.{Number, Sink, SinkPhase, Quiet, OwesClear, Granted, InBlock, OwesAck, OwesNak, SinkSide, at_start, at_end, is_good, kept_words, takes, empty_block, Received}
 use Rattle.a429_link.specs.State.{rest}
 use Rattle.a429_link.specs.Observer.{KeepsRecorded}
 
@@ -28,9 +28,9 @@ end_keeps p last count flags check (InBlock b) n h = by (is_good p last count b 
 end_keeps p last count flags check (OwesAck b f) n h = h
 end_keeps p last count flags check OwesNak n h = h
 
--- the sink that is watched: without files and without words on their way, and what it keeps was recorded
+-- the sink that is watched: without delivered files and without words on their way, and what it keeps was recorded
 abbrev pub IsWatched : SinkSide → ℕ → Type 0
-IsWatched k n = (k.sink.received ≡ nothing_received) × (k.to_sink ≡ []) × KeepsRecorded k.sink.phase n
+IsWatched k n = (k.sink.received.files ≡ []) × (k.to_sink ≡ []) × KeepsRecorded k.sink.phase n
 
 keeps_others : (p : Contents) (w : ℕ) (x : Form) (k : Sink) (n : ℕ) → ((s : Semis) → x ≡ Part s → ⊥) → KeepsRecorded k.phase n → KeepsRecorded (takes p w x k).phase n
 keeps_others p w (Rts c) k n o h = (omega arith, h.1)
@@ -56,4 +56,4 @@ after_taking p x k = record { sink = takes p (slice_index k.to_sink 0) x k.sink;
 
 -- a word that is no data word adds none
 pub others_watched : (p : Contents) (w : ℕ) (x : Form) (k : SinkSide) (n : ℕ) → ((s : Semis) → x ≡ Part s → ⊥) → IsWatched k n → IsWatched (after_taking p x (record k { to_sink = k.to_sink ++ w ∷ [] })) n
-others_watched p w x k n o h = (files_stay p _ x k.sink ∙ h.0, ap (λ (ws : List ℕ). rest (ws ++ w ∷ [])) h.1, keeps_others p _ x k.sink n o h.2)
+others_watched p w x k n o h = (ap (λ (r : Received). r.files) (files_stay p _ x k.sink) ∙ h.0, ap (λ (ws : List ℕ). rest (ws ++ w ∷ [])) h.1, keeps_others p _ x k.sink n o h.2)

@@ -3,11 +3,12 @@ use Rattle.std.proofs.Common.{◌≡◌, ◌↔◌, ℕ, suc, ◌+◌, ◌*◌, 
 use Rattle.std.proofs.lemmas.Bool.Decides.{nat_tests}
 use Rattle.a429_profile.specs.Profile.{Contents}
 use Rattle.a429_profile.specs.declared.codes.Codes.{Codes}
-use Rattle.a429_ldu.specs.Carried.{bytes_carried, bytes_in, if_some, paired, semis_of_words}
+use Rattle.a429_ldu.specs.Carried.{bytes_carried, bytes_in, if_some, paired, semis_in_words, semis_of_words}
 use Rattle.a429_ldu.specs.CheckWord.{agrees}
 use Rattle.a429_link.specs.Sink.{Block, Granted, InBlock, Number, OwesAck, OwesClear, OwesNak, Quiet, Sink, SinkPhase, at_end, is_good, may_come, number_of, takes_end}
 use Rattle.a429_link.specs.Observer.{HasGrant}
-use Rattle.a429_link.specs.Why.{Why, are_half, block_in, semis_in_words, why_bad}
+use Rattle.a429_link.specs.declared.why.Why.{Why}
+use Rattle.a429_link.specs.Why.{are_half, block_in, why_bad}
 
 mapped_some : (o : Option (List ℕ)) (n : ℕ) → is_some (option_map (λ bytes. n ∷ bytes) o) ≡ is_some o
 mapped_some None n = refl

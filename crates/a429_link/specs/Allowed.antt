@@ -6,6 +6,8 @@ use Rattle.a429_ldu.specs.declared.forms.Form.{Form}
 use Rattle.a429_ldu.specs.declared.forms.Form.TheVariants as form
 use Rattle.a429_ldu.specs.Form.{form_of}
 use Rattle.a429_link.specs.declared.seen.Seen.{Seen}
+use Rattle.a429_link.specs.declared.next.Next.{Next}
+use Rattle.a429_link.specs.declared.next.Next.TheVariants as next
 use Rattle.a429_link.specs.Sink.{SinkPhase, Quiet, OwesClear, Granted, InBlock, OwesAck, OwesNak}
 use Rattle.a429_link.specs.Observer.{Observer, Allows, AllowsForm}
 
@@ -53,3 +55,11 @@ AllowsKind o k = (b : Bus) × (x : Form) × (kind_of x ≡ k) × AllowsForm o b 
 -- some word of a form of this kind is allowed
 abbrev pub AllowsWordOf : Contents → Observer → Kind → Type 0
 AllowsWordOf p o k = (i : Seen) × (x : Form) × (form_of p.codes i.bus i.word ≡ Some x) × (kind_of x ≡ k) × Allows p o i
+
+-- the kinds that `Next` stands for, in order
+abbrev pub kinds_of_next : Next → List Kind
+kinds_of_next next.Request = AnyRts ∷ []
+kinds_of_next (next.Clear n) = AnyRts ∷ CtsOf n ∷ []
+kinds_of_next (next.Block start more) = AnyRts ∷ (if start then AnySot ∷ [] else []) ++ ((if more then AnyData ∷ [] else []) ++ AnyEot ∷ [])
+kinds_of_next (next.Ack file ldu) = AnyRts ∷ AckOf file ldu ∷ AnyNak ∷ []
+kinds_of_next next.Nak = AnyRts ∷ AnyNak ∷ []

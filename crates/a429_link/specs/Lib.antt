@@ -9,6 +9,7 @@ pub mod Run
 pub mod Observer
 pub mod Trace
 pub mod Why
+pub mod Implied
 pub mod Allowed
 pub mod Attempt
 pub mod Assignment

@@ -2,11 +2,14 @@
 #![tactic(auto)]
 
 mod clean;
+mod doing;
 mod fault;
 mod file;
+mod implied;
 mod lane;
 pub mod laws;
 mod link;
+mod next;
 mod number;
 mod observer;
 mod reading;
@@ -17,14 +20,19 @@ mod source;
 mod state;
 mod step;
 mod transfer;
+mod why;
 
 pub use crate::clean::clean_run;
+pub use crate::doing::{Crossing, Doing};
 pub use crate::fault::{CleanFault, StepFault};
 pub use crate::file::{Bytes, FileBytes};
+pub use crate::implied::ImpliedSink;
 pub use crate::link::Link;
+pub use crate::next::Next;
 pub use crate::number::{UnitNumber, is_final};
 pub use crate::observer::Observer;
 pub use crate::reading::form_of;
 pub use crate::seen::Seen;
 pub use crate::state::{SinkState, SourceState, States};
 pub use crate::step::Step;
+pub use crate::why::Why;

@@ -1,12 +1,12 @@
 //! The observer of a recording.
 
-ghost use Rattle.std.specs.Prelude.{◌≡◌, ◌↔◌, Some, IsTrue, IsOk, IfOk, IfErr, OnOk, OnErr};
+ghost use Rattle.std.specs.Prelude.{◌≡◌, ◌↔◌, Some, IsOk, IfOk, IfErr, OnOk, OnErr};
 ghost use Rattle.a429_ldu.specs.Sight.{sight_of};
 ghost use Rattle.a429_link.specs.Observer as model;
 ghost use Rattle.a429_link.specs.Observer.{at_first, sees, sees_form, Allows, AllowsForm};
 
+use crate::implied::ImpliedSink;
 use crate::seen::Seen;
-use crate::sink::Sink;
 use a429_ldu::{Form, Sight, form};
 use a429_profile::Profile;
 use a429_word::{Bus, Word};
@@ -18,22 +18,20 @@ use std::marker::Model;
 /// no files.
 #[derive(Debug, Drop)]
 pub struct Observer {
-    sink: Sink,
-    begun: bool,
-    parts: u8,
+    sink: ImpliedSink,
 }
 
 impl Model for Observer {
-    ghost use Rattle.std.specs.Prelude.{◌≡◌, []};
+    ghost use Rattle.std.specs.Prelude.{◌≡◌};
     ghost use Rattle.a429_link.specs.Observer as model;
     ghost use Rattle.a429_link.specs.Sink.{nothing_received};
-    ghost use Rattle.a429_link.specs.Observer.{watching, KeepsRecorded};
+    ghost use Rattle.a429_link.specs.Implied.{observer_of};
 
     ghost Value = { model.Observer };
 
-    ghost view = { λ o. watching o.sink.sink o.begun o.parts };
+    ghost view = { λ o. observer_of o.sink };
 
-    ghost invariant = { λ o. (o.sink.sink.received ≡ nothing_received) × (o.sink.to_sink ≡ []) × KeepsRecorded o.sink.sink.phase o.parts };
+    ghost invariant = { λ o. o.sink.sink.received ≡ nothing_received };
 }
 
 impl Observer {
@@ -42,9 +40,7 @@ impl Observer {
         ensures { result ≡ at_first }
     {
         Observer {
-            sink: Sink::new(alloc),
-            begun: false,
-            parts: 0,
+            sink: ImpliedSink::new(alloc),
         }
     }
 
@@ -62,7 +58,7 @@ impl Observer {
             Sight::Free => Ok(sight),
             Sight::NoForm => Err(sight),
             Sight::Form(form) => {
-                if !self.allows(seen.bus, form) {
+                if !self.sink.allows(seen.bus, form) {
                     return Err(sight);
                 }
                 self.take(profile, seen.bus, seen.word, form);
@@ -71,58 +67,13 @@ impl Observer {
         }
     }
 
-    // The words so far allow a word of this form.
-    fn allows(&self, bus: Bus, form: &Form) -> bool
-        ensures { IsTrue result ↔ AllowsForm self.now bus (Some form.now) }
-    {
-        match (bus, *form) {
-            (Bus::A, Form::Rts { .. }) => true,
-            (Bus::A, Form::Sot { .. }) => self.sink.has_grant() && !self.begun,
-            (Bus::A, Form::Part(_)) => {
-                self.sink.has_grant() && u16::from(self.parts) + 2 < u16::from(self.sink.count())
-            }
-            (Bus::A, Form::Eot { .. }) => self.sink.has_grant(),
-            (Bus::A, Form::Cts { .. } | Form::Ack { .. } | Form::Nak { .. }) => false,
-            (Bus::B, _) => self.sink.may_answer(form),
-        }
-    }
-
     fn take(&mut self, profile: &Profile, bus: Bus, word: Word, form: &Form)
         requires { AllowsForm self.old bus (Some form.now) }
         ensures { self.new ≡ sees_form profile.now bus word (Some form.now) self.old }
     {
         match bus {
-            Bus::A => self.take_word(profile, word, form),
-            Bus::B => self.take_answer(profile, form),
-        }
-    }
-
-    fn take_word(&mut self, profile: &Profile, word: Word, form: &Form)
-        requires { AllowsForm self.old Bus.A (Some form.now) }
-        ensures { self.new ≡ sees_form profile.now Bus.A word (Some form.now) self.old }
-    {
-        let count = self.sink.count();
-        self.sink.push(word);
-        self.sink.take(profile, form);
-        match *form {
-            Form::Sot { .. } => self.begun = true,
-            Form::Part(_) => {
-                self.begun = true;
-                if self.parts < count {
-                    self.parts += 1;
-                }
-            }
-            _ => {}
-        }
-    }
-
-    fn take_answer(&mut self, profile: &Profile, form: &Form)
-        ensures { self.new ≡ sees_form profile.now Bus.B 0 (Some form.now) self.old }
-    {
-        self.sink.answer_unfiled(profile, form);
-        if let Form::Cts { .. } = *form {
-            self.begun = false;
-            self.parts = 0;
+            Bus::A => self.sink.take_word(profile, word, form),
+            Bus::B => self.sink.take_unfiled(profile, form),
         }
     }
 }

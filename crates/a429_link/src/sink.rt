@@ -1,19 +1,22 @@
 //! The sink of a file transfer.
 
-ghost use Rattle.std.specs.Prelude.{◌≡◌, ◌≤◌, ◌↔◌, [], ◌∷◌, ◌++◌, length, slice_index, None, option_map, IfSome, IsNone, IsTrue};
+ghost use Rattle.std.specs.Prelude.{◌≡◌, ◌≤◌, ◌↔◌, [], ◌∷◌, ◌++◌, length, slice_index, Some, None, option_map, IfSome, IsNone, IsTrue};
 ghost use Rattle.a429_link.specs.Sink as model;
-ghost use Rattle.a429_link.specs.Sink.{takes, takes_request, takes_start, takes_part, takes_end, in_phase, is_good_for, is_same, is_same_file, may_come, block_with, phase_of, kept_words, without_files, Listens, Owes, held_count, latest_number, HasRoom, nothing_received};
+ghost use Rattle.a429_link.specs.Sink.{takes, takes_request, takes_start, takes_part, takes_end, in_phase, is_same, is_same_file, may_come, block_with, phase_of, kept_words, without_files, Listens, Owes, held_count, latest_number, HasRoom, nothing_received};
 ghost use Rattle.a429_link.specs.State.{sink_state_of, IsNonEmpty, rest, past_first};
 ghost use Rattle.a429_link.specs.Observer.{HasGrant};
+ghost use Rattle.a429_link.specs.Why.{block_in, why_bad};
 
 mod answers;
+mod doing;
 
 use crate::file::FileBytes;
 use crate::lane::Lane;
 use crate::number::UnitNumber;
 use crate::received::Received;
 use crate::state::SinkState;
-use a429_ldu::{Form, agrees, block_bytes};
+use crate::why::Why;
+use a429_ldu::{Form, agrees, block_bytes, check_word, count_semis};
 use a429_profile::Profile;
 use a429_word::Word;
 use std::alloc::Global;
@@ -249,33 +252,47 @@ impl Sink {
         self.pass();
         match self.phase {
             Phase::Granted => self.enter(Phase::OwesNak),
-            Phase::InBlock(start) => {
-                if self.ends_well(profile, start, check) {
-                    self.phase = Phase::OwesAck { start, flags };
-                } else {
-                    self.enter(Phase::OwesNak);
-                }
-            }
+            Phase::InBlock(start) => match self.why_bad(profile, check) {
+                None => self.phase = Phase::OwesAck { start, flags },
+                Some(_) => self.enter(Phase::OwesNak),
+            },
             Phase::Quiet | Phase::OwesClear | Phase::OwesAck { .. } | Phase::OwesNak => {}
         }
     }
 
-    // The block of this start word and the data words that it has taken is good, ended by a word with this check word.
-    fn ends_well(&self, profile: &Profile, start: StartWord, check: u16) -> bool
-        ensures { result ≡ is_good_for self.now.sink profile.now (block_with start (kept_words self.now.sink.phase)) check }
+    /// Why the block that it is in is not good, ended by a word with this check word; `None` exactly where it is. There
+    /// is none where it is in no block.
+    pub(crate) fn why_bad(&self, profile: &Profile, check: u16) -> Option<Why>
+        ensures { result ≡ why_bad profile.now self.now.sink.last self.now.sink.count (block_in self.now.sink.phase) check }
+    {
+        match self.phase {
+            Phase::InBlock(start) => self.why_bad_from(profile, start, check),
+            _ => Some(Why::NoStart),
+        }
+    }
+
+    // The same of the block of this start word and the data words that it has taken.
+    fn why_bad_from(&self, profile: &Profile, start: StartWord, check: u16) -> Option<Why>
+        ensures { result ≡ why_bad profile.now self.now.sink.last self.now.sink.count (Some (block_with start (kept_words self.now.sink.phase))) check }
     {
         let count = self.count;
         let words = self.lane.taken();
         if words.len() + 2 != usize::from(count) {
-            return false;
+            return Some(Why::OtherCount {
+                words: words.len(),
+                asked: count.saturating_sub(2),
+            });
         }
         let Some(bytes) = block_bytes(profile, words) else {
-            return false;
+            return Some(Why::HalfBytes(count_semis(profile, words)));
         };
         if !agrees(profile.check(), bytes.as_slice(), check) {
-            return false;
+            return Some(Why::OtherCheck(check_word(profile.check(), bytes.as_slice())));
         }
-        may_come(profile, &self.last, start.number())
+        if !may_come(profile, &self.last, start.number()) {
+            return Some(Why::OutOfSequence);
+        }
+        None
     }
 
     // It drops what it has taken, and is then in this phase.

@@ -1,7 +1,7 @@
 use Rattle.std.proofs.Common.{sym, subst, ap, ◌∙◌}
 use Rattle.a429_link.specs.Sink.{SinkSide}
 use Rattle.a429_link.proofs.ObserverBlock.{IsWatched, after_taking, others_watched}
-use Rattle.a429_link.proofs.observer.Observer.take_word.Goals as goal
+use Rattle.a429_link.proofs.implied.ImpliedSink.take_word.Goals as goal
 
 pub invariant_of-self-in_default : goal.invariant_of-self-in_default
 invariant_of-self-in_default c =
