@@ -19,3 +19,9 @@ good_made p last count b check words o v same n made is =
     good_where p last count b check v.items
     (ap (λ ws. length ws + 2) (sym same) ∙ n)
     (ap (bytes_carried p.codes) (sym same) ∙ (sym made ∙ ap (option_map (λ (a : ArrayVec ℕ). a.items)) is))
+
+-- words that carry bytes, and of which these bytes were made
+pub unit_made : (p : Contents) (words ws : List ℕ) (check : ℕ) (o : Option (ArrayVec ℕ)) (v : ArrayVec ℕ) → ws ≡ words → option_map (λ (a : ArrayVec ℕ). a.items) o ≡ bytes_carried p.codes ws → o ≡ Some v → (is_some (bytes_carried p.codes words) && agrees p.check (bytes_in p.codes words) check) ≡ agrees p.check v.items check
+unit_made p words ws check o v same made is =
+    ap (λ (bs : Option (List ℕ)). is_some bs && agrees p.check (unwrap_or bs []) check)
+    (ap (bytes_carried p.codes) (sym same) ∙ (sym made ∙ ap (option_map (λ (a : ArrayVec ℕ). a.items)) is))

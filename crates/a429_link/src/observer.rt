@@ -4,7 +4,9 @@ ghost use Rattle.std.specs.Prelude.{◌≡◌, ◌↔◌, Some, IsTrue, IsOk, If
 ghost use Rattle.a429_ldu.specs.Sight.{sight_of};
 ghost use Rattle.a429_link.specs.Observer as model;
 ghost use Rattle.a429_link.specs.Observer.{at_first, sees, sees_form, Allows, AllowsForm};
+ghost use Rattle.a429_link.specs.WholeBlock.{ComesForm, EndsBadForm};
 
+use crate::number::UnitNumber;
 use crate::seen::Seen;
 use crate::sink::Sink;
 use a429_ldu::{Form, Sight, form};
@@ -68,6 +70,29 @@ impl Observer {
                 self.take(profile, seen.bus, seen.word, form);
                 Ok(sight)
             }
+        }
+    }
+
+    /// A word of this form ends a block that was recorded whole, and makes no link data unit of it.
+    pub fn ends_bad(&self, profile: &Profile, bus: Bus, form: &Form) -> bool
+        ensures { IsTrue result ↔ EndsBadForm profile.now bus (Some form.now) self.now.phase self.now.count }
+    {
+        match (bus, *form) {
+            (Bus::A, Form::Eot { check, .. }) => self.sink.ends_bad(profile, check),
+            _ => false,
+        }
+    }
+
+    /// If a word of this form is a start word, its number is that of the link data unit accepted last, or in sequence with it.
+    pub fn number_comes(&self, profile: &Profile, bus: Bus, form: &Form) -> bool
+        ensures { IsTrue result ↔ ComesForm profile.now.codes bus (Some form.now) self.now.last }
+    {
+        match (bus, *form) {
+            (Bus::A, Form::Sot { file, ldu, .. }) => {
+                let ldu = u16::from(ldu);
+                self.sink.number_may_come(profile, UnitNumber { file, ldu })
+            }
+            _ => true,
         }
     }
 
