@@ -4,11 +4,13 @@ ghost use Rattle.std.specs.Prelude.{◌≡◌, ◌↔◌, ◌+◌, nat_lt, Some,
 ghost use Rattle.a429_link.specs.Observer.{AllowsForm, sees_form};
 ghost use Rattle.a429_link.specs.Sink.{answers, unfiled};
 ghost use Rattle.a429_link.specs.Allowed.{kinds_allowed, kinds_of_next};
+ghost use Rattle.a429_link.specs.WholeBlock.{ComesForm, EndsBadForm};
 ghost use Rattle.a429_link.specs.Implied.{crossing_in, does, implied_at_first, implies_form, observer_of, why_at, with_counts};
 
 use crate::doing::{Crossing, Doing};
 use crate::file::FileBytes;
 use crate::next::Next;
+use crate::number::UnitNumber;
 use crate::seen::Seen;
 use crate::sink::Sink;
 use crate::why::Why;
@@ -110,6 +112,29 @@ impl ImpliedSink {
                 Ok(self.sink.doing(why))
             }
             Bus::B => self.take_answer(alloc, profile, form),
+        }
+    }
+
+    /// A word of this form ends a block that was recorded whole, and makes no link data unit of it.
+    pub(crate) fn ends_bad(&self, profile: &Profile, bus: Bus, form: &Form) -> bool
+        ensures { IsTrue result ↔ EndsBadForm profile.now bus (Some form.now) self.now.sink.phase self.now.sink.count }
+    {
+        match (bus, *form) {
+            (Bus::A, Form::Eot { check, .. }) => self.sink.ends_bad(profile, check),
+            _ => false,
+        }
+    }
+
+    /// If a word of this form is a start word, its number is that of the link data unit accepted last, or in sequence with it.
+    pub(crate) fn number_comes(&self, profile: &Profile, bus: Bus, form: &Form) -> bool
+        ensures { IsTrue result ↔ ComesForm profile.now.codes bus (Some form.now) self.now.sink.last }
+    {
+        match (bus, *form) {
+            (Bus::A, Form::Sot { file, ldu, .. }) => {
+                let ldu = u16::from(ldu);
+                self.sink.number_may_come(profile, UnitNumber { file, ldu })
+            }
+            _ => true,
         }
     }
 

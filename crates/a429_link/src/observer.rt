@@ -1,9 +1,10 @@
 //! The observer of a recording.
 
-ghost use Rattle.std.specs.Prelude.{◌≡◌, ◌↔◌, Some, IsOk, IfOk, IfErr, OnOk, OnErr};
+ghost use Rattle.std.specs.Prelude.{◌≡◌, ◌↔◌, Some, IsTrue, IsOk, IfOk, IfErr, OnOk, OnErr};
 ghost use Rattle.a429_ldu.specs.Sight.{sight_of};
 ghost use Rattle.a429_link.specs.Observer as model;
 ghost use Rattle.a429_link.specs.Observer.{at_first, sees, sees_form, Allows, AllowsForm};
+ghost use Rattle.a429_link.specs.WholeBlock.{ComesForm, EndsBadForm};
 
 use crate::implied::ImpliedSink;
 use crate::seen::Seen;
@@ -65,6 +66,20 @@ impl Observer {
                 Ok(sight)
             }
         }
+    }
+
+    /// A word of this form ends a block that was recorded whole, and makes no link data unit of it.
+    pub fn ends_bad(&self, profile: &Profile, bus: Bus, form: &Form) -> bool
+        ensures { IsTrue result ↔ EndsBadForm profile.now bus (Some form.now) self.now.phase self.now.count }
+    {
+        self.sink.ends_bad(profile, bus, form)
+    }
+
+    /// If a word of this form is a start word, its number is that of the link data unit accepted last, or in sequence with it.
+    pub fn number_comes(&self, profile: &Profile, bus: Bus, form: &Form) -> bool
+        ensures { IsTrue result ↔ ComesForm profile.now.codes bus (Some form.now) self.now.last }
+    {
+        self.sink.number_comes(profile, bus, form)
     }
 
     fn take(&mut self, profile: &Profile, bus: Bus, word: Word, form: &Form)

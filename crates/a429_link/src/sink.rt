@@ -1,11 +1,15 @@
 //! The sink of a file transfer.
 
-ghost use Rattle.std.specs.Prelude.{◌≡◌, ◌≤◌, ◌↔◌, [], ◌∷◌, ◌++◌, length, slice_index, Some, None, option_map, IfSome, IsNone, IsTrue};
+ghost use Rattle.std.specs.Prelude.{ℕ, true, ◌≡◌, ◌≤◌, ◌+◌, ◌&&◌, ◌↔◌, [], ◌∷◌, ◌++◌, length, slice_index, Some, None, is_some, option_map, IfSome, IsNone, IsTrue};
+ghost use Rattle.a429_ldu.specs.Ldu.{most_data_words};
+ghost use Rattle.a429_ldu.specs.Carried.{bytes_carried, bytes_in};
+ghost use Rattle.a429_ldu.specs.CheckWord.{agrees};
 ghost use Rattle.a429_link.specs.Sink as model;
 ghost use Rattle.a429_link.specs.Sink.{takes, takes_request, takes_start, takes_part, takes_end, in_phase, is_same, is_same_file, may_come, block_with, phase_of, kept_words, without_files, Listens, Owes, held_count, latest_number, HasRoom, nothing_received};
 ghost use Rattle.a429_link.specs.State.{sink_state_of, IsNonEmpty, rest, past_first};
 ghost use Rattle.a429_link.specs.Observer.{HasGrant};
 ghost use Rattle.a429_link.specs.Why.{block_in, why_bad};
+ghost use Rattle.a429_link.specs.WholeBlock.{EndsBadForm};
 
 mod answers;
 mod doing;
@@ -18,7 +22,7 @@ use crate::state::SinkState;
 use crate::why::Why;
 use a429_ldu::{Form, agrees, block_bytes, check_word, count_semis};
 use a429_profile::Profile;
-use a429_word::Word;
+use a429_word::{Bus, Word};
 use std::alloc::Global;
 use std::marker::Model;
 
@@ -293,6 +297,43 @@ impl Sink {
             return Some(Why::OutOfSequence);
         }
         None
+    }
+
+    // Its block has as many data words as the request asked for.
+    fn is_whole(&self) -> bool
+        ensures whole { IsTrue result ↔ (length (kept_words self.now.sink.phase) + 2 ≡ self.now.sink.count) }
+        ensures few { result ≡ true → length (kept_words self.now.sink.phase) ≤ most_data_words }
+    {
+        let count = self.count;
+        self.lane.taken().len() + 2 == usize::from(count)
+    }
+
+    // The data words of its block carry bytes that have this check word, where the profile compares check words.
+    fn makes_unit(&self, profile: &Profile, check: u16) -> bool
+        requires { length (kept_words self.now.sink.phase) ≤ most_data_words }
+        ensures { result ≡ (is_some (bytes_carried profile.now.codes (kept_words self.now.sink.phase)) && agrees profile.now.check (bytes_in profile.now.codes (kept_words self.now.sink.phase)) check) }
+    {
+        match block_bytes(profile, self.lane.taken()) {
+            Some(bytes) => agrees(profile.check(), bytes.as_slice(), check),
+            None => false,
+        }
+    }
+
+    /// An end word with this check word ends a block that is whole, and makes no link data unit of it.
+    pub(crate) fn ends_bad(&self, profile: &Profile, check: u16) -> bool
+        ensures { (flags : ℕ) → IsTrue result ↔ EndsBadForm profile.now Bus.A (Some (Form.Eot flags check)) self.now.sink.phase self.now.sink.count }
+    {
+        if !matches!(self.phase, Phase::InBlock(_)) || !self.is_whole() {
+            return false;
+        }
+        !self.makes_unit(profile, check)
+    }
+
+    /// A block with this number comes again, or in sequence.
+    pub(crate) fn number_may_come(&self, profile: &Profile, number: UnitNumber) -> bool
+        ensures { result ≡ may_come profile.now.codes self.now.sink.last number }
+    {
+        may_come(profile, &self.last, number)
     }
 
     // It drops what it has taken, and is then in this phase.
