@@ -1,5 +1,5 @@
 -- A part that is held against the run that goes through the parts before it.
-use Rattle.std.proofs.Common.{◌≡◌, ◌≢◌, ◌⊎◌, ◌≤◌, ◌+◌, ◌-◌, ◌%◌, ◌∙◌, ◌++◌, ◌∷◌, inl, inr, ℕ, zero, suc, List, [], length, take, drop, Bool, true, false, nat_le, if◌then◌else◌, Option, Some, None, option_map, slice_get, Ok, Err, refl, sym, ap, subst, arith, append-nil}
+use Rattle.std.proofs.Common.{◌≡◌, ◌≢◌, ◌⊎◌, ◌≤◌, ◌+◌, ◌-◌, ◌%◌, ◌∙◌, ◌++◌, ◌∷◌, inl, inr, ℕ, zero, suc, List, [], length, take, drop, Bool, true, false, nat_le, if◌then◌else◌, Option, Some, None, option_map, slice_get, Ok, Err, refl, sym, ap, subst, arith}
 use Rattle.std.proofs.lemmas.Bool.{le-leb, leb-true}
 use Rattle.std.proofs.lemmas.List.{take_all}
 use Rattle.a429_profile.specs.Profile.{Contents}
@@ -12,7 +12,7 @@ use Rattle.a429_link.specs.GiveUps.{MayGiveUp}
 use Rattle.a429_link.specs.Number.{files_past}
 use Rattle.a429_link.specs.Run.{end_of}
 use Rattle.a429_link.specs.Source.{IsIdle}
-use Rattle.a429_link.specs.State.{State, start}
+use Rattle.a429_link.specs.State.{State}
 use Rattle.a429_record.specs.declared.fault.ReadFault.{ReadFault}
 use Rattle.a429_record.specs.declared.fault.ReadFault.TheVariants as read
 use Rattle.a429_record.specs.Entries.{EntriesLeft}
@@ -34,7 +34,7 @@ use Rattle.a429_cert.specs.Stream.{behind, next_of, PassesOver, RefusesOver, Sto
 use Rattle.a429_cert.specs.StreamEnd.{EndsLate}
 use Rattle.a429_cert.specs.StreamHead.{RefusesHead, TakesHead}
 use Rattle.a429_cert.specs.StreamExplained.{WhereTold, WantsNext, EndsAt}
-use Rattle.a429_cert.specs.Series.{SeriesValue, IsBetweenParts, begun, allowed, gap, give_ups, Fits, LeadsInPart, IsFaultInPart, IsReadFaultInPart, IsPartFault, RefusesPart}
+use Rattle.a429_cert.specs.Series.{SeriesValue, IsBetweenParts, begun, allowed, gap, give_ups, Fits, IsPartFault, RefusesPart}
 use Rattle.a429_cert.proofs.ExplainedFacts.{begins_at, none_past, none_read}
 use Rattle.a429_cert.proofs.EarlierFiles.{given_out}
 use Rattle.a429_cert.proofs.StreamStands.{StandsFrom, goes_from, hands_from, next_at}

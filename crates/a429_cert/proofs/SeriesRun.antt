@@ -1,5 +1,5 @@
 -- Parts that were added one after the other are one run.
-use Rattle.std.proofs.Common.{◌≡◌, ◌≤◌, ◌⊎◌, ◌+◌, ◌∙◌, ◌++◌, ◌∷◌, inl, inr, ℕ, zero, suc, List, [], map, length, Bool, true, false, nat_le, if◌then◌else◌, Option, Some, None, refl, sym, ap, subst, arith, append-nil, append_assoc}
+use Rattle.std.proofs.Common.{◌≡◌, ◌≤◌, ◌⊎◌, ◌+◌, ◌∙◌, ◌++◌, ◌∷◌, inl, inr, ℕ, zero, suc, List, [], length, Bool, true, false, nat_le, if◌then◌else◌, Option, Some, None, refl, sym, ap, subst, arith, append-nil, append_assoc}
 use Rattle.std.proofs.lemmas.Bool.{leb-true}
 use Rattle.std.proofs.lemmas.List.{map-append}
 use Rattle.a429_profile.specs.Profile.{Contents, IsProfile}
@@ -11,15 +11,15 @@ use Rattle.a429_link.specs.declared.step.Step.{Step}
 use Rattle.a429_link.specs.declared.step.Step.TheVariants.{GiveUp}
 use Rattle.a429_link.specs.Link.{with_earlier, handed_out}
 use Rattle.a429_link.specs.Number.{files_past}
-use Rattle.a429_link.specs.Run.{IsRun, end_of, trace, delivered}
+use Rattle.a429_link.specs.Run.{IsRun, end_of, trace}
 use Rattle.a429_link.specs.Source.{IsIdle}
 use Rattle.a429_link.specs.State.{State, start}
-use Rattle.a429_link.specs.Step.{Can, after}
+use Rattle.a429_link.specs.Step.{after}
 use Rattle.a429_link.proofs.CleanRuns.{run_append, end_append, trace_append}
 use Rattle.a429_link.proofs.LinkCalls.{handed_earlier}
 use Rattle.a429_link.proofs.LinkKept.{after_earlier, can_earlier}
 use Rattle.a429_record.specs.Recording.{Recording}
-use Rattle.a429_cert.specs.Explained.{items_of, Leads, AreInSomeRun, AreInEveryRun}
+use Rattle.a429_cert.specs.Explained.{items_of, Leads, AreInSomeRun}
 use Rattle.a429_cert.specs.Stream.{sizes}
 use Rattle.a429_cert.specs.Version.{step_lines}
 use Rattle.a429_cert.specs.Series.{SeriesValue, no_parts, IsOneRun, give_ups, allowed, gap, begun, Fits, Joins, Part, joined, AreAdded, IsRunTo, IsPast, HasJoined}

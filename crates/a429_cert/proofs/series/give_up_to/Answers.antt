@@ -1,4 +1,4 @@
-use Rattle.std.proofs.Common.{◌≡◌, ◌∙◌, ◌≤◌, ◌+◌, ◌-◌, ◌%◌, ◌∷◌, ℕ, List, true, false, arith, ap, refl, sym, subst}
+use Rattle.std.proofs.Common.{◌≡◌, ◌∙◌, ◌≤◌, ◌+◌, ◌-◌, ◌%◌, List, arith, ap, refl, sym}
 use Rattle.a429_link.specs.GiveUps.{MayGiveUp}
 use Rattle.a429_link.specs.Link.{LinkValue}
 use Rattle.a429_link.specs.Number.{files_past}

@@ -1,6 +1,5 @@
-use Rattle.std.proofs.Common.{◌≡◌, ◌⊎◌, ◌+◌, ◌++◌, ◌∙◌, ◌≤◌, inl, inr, ℕ, suc, List, [], true, false, Option, IsSome, length, ap, refl, sym, subst, arith, append-nil}
+use Rattle.std.proofs.Common.{◌≡◌, ◌+◌, ◌++◌, ◌∙◌, inr, ℕ, suc, List, [], true, false, Option, IsSome, length, ap, refl, sym, subst, arith, append-nil}
 use Rattle.a429_word.specs.Tally.{unread}
-use Rattle.a429_profile.specs.Profile.{Contents}
 use Rattle.a429_link.specs.Link.{LinkValue}
 use Rattle.a429_link.specs.State.{State}
 use Rattle.a429_cert.specs.declared.stream.Replay.{Replay}
@@ -8,7 +7,7 @@ use Rattle.a429_cert.specs.declared.stream_fault.StreamFault.TheVariants as stre
 use Rattle.a429_cert.specs.CutLines.{GivesLine}
 use Rattle.a429_cert.specs.LineReader.{bytes_ahead, held_line, to_come}
 use Rattle.a429_cert.specs.Lines.{line_bytes}
-use Rattle.a429_cert.specs.Stream.{PassesOver, sizes}
+use Rattle.a429_cert.specs.Stream.{PassesOver}
 use Rattle.a429_cert.specs.Version.{read_as}
 use Rattle.a429_cert.specs.Series.{SeriesValue, begun}
 use Rattle.a429_cert.proofs.LikelyFacts.{is_yes, is_no}
