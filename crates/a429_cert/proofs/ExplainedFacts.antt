@@ -23,7 +23,7 @@ use Rattle.a429_cert.specs.declared.version.Version.{Version}
 use Rattle.a429_cert.specs.declared.explained.Head.{Head}
 use Rattle.a429_cert.specs.Lines.{certificate_lines}
 use Rattle.a429_cert.specs.Version.{version_line, read_as, step_lines}
-use Rattle.a429_cert.specs.Explained.{step_of, ShowsStates, ListsStep, ListsSteps, Reaches, Explains, IsExplained, AreInSomeRun, AreInEveryRun}
+use Rattle.a429_cert.specs.Explained.{step_of, ShowsStates, ListsStep, ListsSteps, Leads, Reaches, Explains, IsExplained, AreInSomeRun, AreInEveryRun}
 use Rattle.a429_cert.specs.Act.{step_with, uses_of}
 use Rattle.a429_cert.specs.Fault.{HasHead}
 use Rattle.a429_cert.specs.Passing.{uses, MakesStep, PassesText}
@@ -117,31 +117,34 @@ line_inside (Moved m) a items i e l = act_inside m.act a items i (slice_get item
 
 -- ---- one more line
 
+pub begins_at : (p : Contents) (from s : State) → s ≡ from → Leads p from [] [] s
+begins_at p from s e = record { steps = []; lists = tt; used = refl; ends = e }
+
 pub begins : (p : Contents) (first : ℕ) (s : State) → s ≡ start p first → Reaches p first [] [] s
-begins p first s e = record { steps = []; lists = tt; used = refl; ends = e }
+begins p first s e = begins_at p (start p first) s e
 
 -- what passes is a step, which comes behind the others
-pub record Passed (p : Contents) (first : ℕ) (lines : List (Option (List ℕ))) (items : List Seen) (k i : ℕ) (t : State) (before : List Step) (o : Option Step) : Type 0 where
-  pub reached : Reaches p first (take (suc k) lines) (take i items) t
+pub record Passed (p : Contents) (from : State) (lines : List (Option (List ℕ))) (items : List Seen) (k i : ℕ) (t : State) (before : List Step) (o : Option Step) : Type 0 where
+  pub reached : Leads p from (take (suc k) lines) (take i items) t
   pub inside : i ≤ length items
   pub step : Step
   pub is : o ≡ Some step
   pub behind : reached.steps ≡ before ++ step ∷ []
 
-passed : (p : Contents) (first : ℕ) (lines : List (Option (List ℕ))) (items : List Seen) (k i : ℕ) (text : List ℕ) (l : CertLine) (s t : State)
-    → slice_get lines k ≡ Some (Some text) → SpellsLine text l → i ≤ length items → (h : Reaches p first (take k lines) (take i items) s)
-    → (o : Option Step) → step_of l (slice_get items i) ≡ o → MakesStep p o s t → ShowsStates l t → Passed p first lines items k (i + uses l) t h.steps (step_of l (slice_get items i))
-passed p first lines items k i text l s t g is inside h None e m q = absurd m
-passed p first lines items k i text l s t g is inside h (Some a) e m q =
-    let can : Can p a (end_of p h.steps (start p first)) = subst (Can p a) h.ends m.0 in
-    let same : t ≡ after p a (end_of p h.steps (start p first)) = m.1 ∙ ap (after p a) h.ends in
-    let here : ListsStep p text a (end_of p h.steps (start p first)) = record { line = l; spelled = is; next = slice_get items i; step = e; can = can; shows = subst (ShowsStates l) same q } in
+passed : (p : Contents) (from : State) (lines : List (Option (List ℕ))) (items : List Seen) (k i : ℕ) (text : List ℕ) (l : CertLine) (s t : State)
+    → slice_get lines k ≡ Some (Some text) → SpellsLine text l → i ≤ length items → (h : Leads p from (take k lines) (take i items) s)
+    → (o : Option Step) → step_of l (slice_get items i) ≡ o → MakesStep p o s t → ShowsStates l t → Passed p from lines items k (i + uses l) t h.steps (step_of l (slice_get items i))
+passed p from lines items k i text l s t g is inside h None e m q = absurd m
+passed p from lines items k i text l s t g is inside h (Some a) e m q =
+    let can : Can p a (end_of p h.steps from) = subst (Can p a) h.ends m.0 in
+    let same : t ≡ after p a (end_of p h.steps from) = m.1 ∙ ap (after p a) h.ends in
+    let here : ListsStep p text a (end_of p h.steps from) = record { line = l; spelled = is; next = slice_get items i; step = e; can = can; shows = subst (ShowsStates l) same q } in
     record {
       reached = record {
         steps = h.steps ++ a ∷ [];
-        lists = rw (step_and_report k (Some text) lines g) (lists_push p (take k lines) h.steps (start p first) text a h.lists here);
+        lists = rw (step_and_report k (Some text) lines g) (lists_push p (take k lines) h.steps from text a h.lists here);
         used = trace_push h.steps a ∙ ap (λ (l : List Seen). l ++ trace (a ∷ [])) h.used ∙ sym (line_used l a items i e);
-        ends = same ∙ sym (end_push p h.steps a (start p first));
+        ends = same ∙ sym (end_push p h.steps a from);
       };
       inside = line_inside l a items i e inside;
       step = a;
@@ -149,12 +152,17 @@ passed p first lines items k i text l s t g is inside h (Some a) e m q =
       behind = refl;
     }
 
+pub passes_from : (p : Contents) (from : State) (lines : List (Option (List ℕ))) (items : List Seen) (k i used : ℕ) (line : Option (List ℕ)) (s t : State)
+    → slice_get lines k ≡ Some line → i ≤ length items → (h : Leads p from (take k lines) (take i items) s) → (m : PassesText p line (slice_get items i) s t used)
+    → Passed p from lines items k (i + used) t h.steps (step_of m.0 (slice_get items i))
+passes_from p from lines items k i used None s t g inside h m = absurd m.1
+passes_from p from lines items k i used (Some text) s t g inside h m =
+    subst (λ n. Passed p from lines items k (i + n) t h.steps (step_of m.0 (slice_get items i))) (sym m.2.2) (passed p from lines items k i text m.0 s t g m.1 inside h (step_of m.0 (slice_get items i)) refl m.2.0 m.2.1)
+
 pub passes_on : (p : Contents) (first : ℕ) (lines : List (Option (List ℕ))) (items : List Seen) (k i used : ℕ) (line : Option (List ℕ)) (s t : State)
     → slice_get lines k ≡ Some line → i ≤ length items → (h : Reaches p first (take k lines) (take i items) s) → (m : PassesText p line (slice_get items i) s t used)
-    → Passed p first lines items k (i + used) t h.steps (step_of m.0 (slice_get items i))
-passes_on p first lines items k i used None s t g inside h m = absurd m.1
-passes_on p first lines items k i used (Some text) s t g inside h m =
-    subst (λ n. Passed p first lines items k (i + n) t h.steps (step_of m.0 (slice_get items i))) (sym m.2.2) (passed p first lines items k i text m.0 s t g m.1 inside h (step_of m.0 (slice_get items i)) refl m.2.0 m.2.1)
+    → Passed p (start p first) lines items k (i + used) t h.steps (step_of m.0 (slice_get items i))
+passes_on p first = passes_from p (start p first)
 
 -- ---- the end
 
@@ -201,12 +209,14 @@ in_some_run p certificate items files h =
     }
 
 -- what one run delivers, each run with its trace delivers
-pub in_every_run : (p : Contents) → IsProfile p → (certificate : List ℕ) (items : List Seen) (files : List FileBytes) → IsExplained p certificate items files → AreInEveryRun p items files
-in_every_run p is certificate items files h = λ f steps byte run same.
+pub some_in_every : (p : Contents) → IsProfile p → (items : List Seen) (files : List FileBytes) → AreInSomeRun p items files → AreInEveryRun p items files
+some_in_every p is items files own = λ f steps byte run same.
     let read = is_read p is in
-    let own = in_some_run p certificate items files h in
     let these : files ≡ delivered p f steps = own.gives ∙ same_delivered p own.first f own.steps steps read own.byte byte own.run run (own.recorded ∙ sym same) in
     (these, subst (λ (l : List FileBytes). IsSubsequenceOf l (offered p f steps)) (sym these) (delivered_subsequence p f steps read byte run), subst (λ (l : List FileBytes). IsSubsequenceOf (settled p f steps) l) (sym these) (settled_subsequence p f steps read byte run))
+
+pub in_every_run : (p : Contents) → IsProfile p → (certificate : List ℕ) (items : List Seen) (files : List FileBytes) → IsExplained p certificate items files → AreInEveryRun p items files
+in_every_run p is certificate items files h = some_in_every p is items files (in_some_run p certificate items files h)
 
 -- ---- where a loop stands
 
@@ -237,6 +247,6 @@ left_on lines left more k e g = let n : k + 1 ≡ suc k = omega arith in g ∙ a
 
 pub passed_on : (p : Contents) (first : ℕ) (lines : List (Option (List ℕ))) (items : List Seen) (k i used : ℕ) (line : Option (List ℕ)) (next : Option Seen) (s t : State)
     → slice_get lines k ≡ Some line → next ≡ slice_get items i → i ≤ length items → (h : Reaches p first (take k lines) (take i items) s) → (m : PassesText p line next s t used)
-    → Passed p first lines items k (i + used) t h.steps (step_of m.0 (slice_get items i))
+    → Passed p (start p first) lines items k (i + used) t h.steps (step_of m.0 (slice_get items i))
 passed_on p first lines items k i used line next s t g o inside h m =
     passes_on p first lines items k i used line s t g inside h (subst (λ x. PassesText p line x s t used) o m)

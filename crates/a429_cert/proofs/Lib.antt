@@ -30,3 +30,5 @@ pub mod StreamEndFacts
 pub mod BreakOffFacts
 pub mod EarlierFiles
 pub mod LikelyFacts
+pub mod SeriesFacts
+pub mod SeriesRun

@@ -3,7 +3,7 @@ use Rattle.std.proofs.Common.{◌≡◌, ◌≢◌, ◌⊎◌, ◌≤◌, ◌+�
 use Rattle.a429_profile.specs.Profile.{Contents}
 use Rattle.a429_link.specs.declared.file.FileBytes.{FileBytes}
 use Rattle.a429_link.specs.declared.seen.Seen.{Seen}
-use Rattle.a429_link.specs.State.{State}
+use Rattle.a429_link.specs.State.{State, start}
 use Rattle.a429_link.specs.Step.{after}
 use Rattle.a429_link.specs.Link.{with_earlier}
 use Rattle.a429_link.specs.declared.step.Step.{Step}
@@ -32,7 +32,7 @@ use Rattle.a429_cert.specs.StreamHead.{RefusesHead}
 use Rattle.a429_cert.specs.StreamExplained.{WhereTold, Delivers, EndsAt, WantsNext, IsWantedReadFault, AreOfLines, IsStreamFault}
 use Rattle.a429_cert.proofs.CutFacts.{says-uncut}
 use Rattle.a429_cert.proofs.ExplainedFacts.{none_read}
-use Rattle.a429_cert.proofs.StreamStands.{Stands, AreBehind, says_back, line_cut, next_at}
+use Rattle.a429_cert.proofs.StreamStands.{Stands, StandsFrom, AreBehind, says_back, line_cut, next_at}
 use Rattle.a429_cert.proofs.StreamReplay.{told_map, none_next}
 
 -- ---- a fault of a line that may be cut
@@ -99,7 +99,7 @@ no_memory p s next n i line (of.Unfinished j) h = λ e. cc
 no_memory p s next n i line of.OutOfMemory h = λ e. h.3
 
 -- where no entry is left, the recording has no fault there
-ends_at : (p : Contents) (s : State) (r : Recording) (n i : ℕ) (line : Option (List ℕ)) (f : CertFault) → IsFaultOfLine p s (next_of (behind i r)) n i line f → HasEnd (behind i r) f → EndsAt r f
+pub ends_at : (p : Contents) (s : State) (r : Recording) (n i : ℕ) (line : Option (List ℕ)) (f : CertFault) → IsFaultOfLine p s (next_of (behind i r)) n i line f → HasEnd (behind i r) f → EndsAt r f
 ends_at p s r n i line of.Version h e = tt
 ends_at p s r n i line (of.Line m) h e = tt
 ends_at p s r n i line (of.NotAllowed m) h e = tt
@@ -109,14 +109,19 @@ ends_at p s r n i line (of.Unfinished j) h e = tt
 ends_at p s r n i line of.OutOfMemory h e = tt
 
 -- the fault of the line that comes, where it stands
-pub fault_here : (p : Contents) (d : Head) (k i : ℕ) (taken : List FileBytes) (s : State) (held left more : Option (List ℕ)) (rec : Option Recording) (f : CertFault) (text : List ℕ) (r : Recording)
-    → GivesLine left more held true → IsFaultOfLine p s (next_of (behind i r)) (k + 3) i (read_as d.version held) f → Stands p text r d k i taken s left rec
+pub fault_from : (p : Contents) (from : State) (d : Head) (k i : ℕ) (taken : List FileBytes) (s : State) (held left more : Option (List ℕ)) (rec : Option Recording) (f : CertFault) (text : List ℕ) (r : Recording)
+    → GivesLine left more held true → IsFaultOfLine p s (next_of (behind i r)) (k + 3) i (read_as d.version held) f → StandsFrom p from text r d k i taken s left rec
     → IsFaultAt p (with_earlier taken s) (slice_get (items_of r.entries) i) (k + 3) i (slice_get (step_lines d.version text) k) f
-fault_here p d k i taken s held left more rec f text r g m h =
+fault_from p from d k i taken s held left more rec f text r g m h =
     let raw = line_cut d.version (drop 2 (certificate_lines text)) k left more held h.lines g in
     let uncut = fault_earlier p taken s (next_of (behind i r)) (k + 3) i raw.0 f (line_fault p s (next_of (behind i r)) (k + 3) i raw.0 f (subst (λ o. IsFaultOfLine p s (next_of (behind i r)) (k + 3) i o f) (sym raw.2) m)) in
     let here = subst (λ o. IsFaultOfLine p (with_earlier taken s) o (k + 3) i raw.0 f) (next_at r.entries i) uncut in
     subst (λ o. IsFaultAt p (with_earlier taken s) (slice_get (items_of r.entries) i) (k + 3) i o f) (sym raw.1) here
+
+pub fault_here : (p : Contents) (d : Head) (k i : ℕ) (taken : List FileBytes) (s : State) (held left more : Option (List ℕ)) (rec : Option Recording) (f : CertFault) (text : List ℕ) (r : Recording)
+    → GivesLine left more held true → IsFaultOfLine p s (next_of (behind i r)) (k + 3) i (read_as d.version held) f → Stands p text r d k i taken s left rec
+    → IsFaultAt p (with_earlier taken s) (slice_get (items_of r.entries) i) (k + 3) i (slice_get (step_lines d.version text) k) f
+fault_here p d = fault_from p (start p d.first) d
 
 line_refused : (p : Contents) (d : Head) (k i : ℕ) (taken : List FileBytes) (s : State) (held left more : Option (List ℕ)) (rec : Option Recording) (f : CertFault) (text : List ℕ) (r : Recording)
     → s.sink.received.files ≡ [] → GivesLine left more held true → IsFaultOfLine p s (next_of (behind i r)) (k + 3) i (read_as d.version held) f → HasEnd (behind i r) f → Stands p text r d k i taken s left rec
@@ -249,12 +254,17 @@ told_not_put p d k i used taken front rest next s t line known left start_rec re
     no_more p (taken ++ front) text r f e (subst (AreOfLines p text r) (sym same) (of_lines p d k i taken s left rec text r none h)))
 
 -- an entry is left
+pub left_from : (p : Contents) (from : State) (d : Head) (k i : ℕ) (taken : List FileBytes) (s : State) (held left more : Option (List ℕ)) (rec : Option Recording) (item : Entry) (new : Option Recording) (text : List ℕ) (r : Recording)
+    → GivesLine left more held false → GivesNext (Some (behind i r)) new (Ok (Some item)) → StandsFrom p from text r d k i taken s left rec
+    → IsFaultAt p (with_earlier taken s) (slice_get (items_of r.entries) i) (k + 3) i (slice_get (step_lines d.version text) k) (of.Unfinished i)
+left_from p from d k i taken s held left more rec item new text r g e h =
+    let next : slice_get (items_of r.entries) i ≡ Some (seen_of item) = sym (next_at r.entries i) ∙ ap next_of e.2 in
+    rw (next, none_read d.version (drop 2 (certificate_lines text)) k (none_next (drop 2 (certificate_lines text)) k left more held h.lines g)) refl
+
 pub left_here : (p : Contents) (d : Head) (k i : ℕ) (taken : List FileBytes) (s : State) (held left more : Option (List ℕ)) (rec : Option Recording) (item : Entry) (new : Option Recording) (text : List ℕ) (r : Recording)
     → GivesLine left more held false → GivesNext (Some (behind i r)) new (Ok (Some item)) → Stands p text r d k i taken s left rec
     → IsFaultAt p (with_earlier taken s) (slice_get (items_of r.entries) i) (k + 3) i (slice_get (step_lines d.version text) k) (of.Unfinished i)
-left_here p d k i taken s held left more rec item new text r g e h =
-    let next : slice_get (items_of r.entries) i ≡ Some (seen_of item) = sym (next_at r.entries i) ∙ ap next_of e.2 in
-    rw (next, none_read d.version (drop 2 (certificate_lines text)) k (none_next (drop 2 (certificate_lines text)) k left more held h.lines g)) refl
+left_here p d = left_from p (start p d.first) d
 
 unfinished : (p : Contents) (d : Head) (k i : ℕ) (taken : List FileBytes) (s : State) (held left more : Option (List ℕ)) (item : Entry) (new : Option Recording) (text : List ℕ) (r : Recording)
     → s.sink.received.files ≡ [] → GivesLine left more held false → GivesNext (Some (behind i r)) new (Ok (Some item)) → Stands p text r d k i taken s left (Some (behind i r))

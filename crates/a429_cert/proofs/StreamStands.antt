@@ -4,7 +4,7 @@ use Rattle.std.proofs.lemmas.List.{drop-drop}
 use Rattle.a429_profile.specs.Profile.{Contents}
 use Rattle.a429_link.specs.declared.file.FileBytes.{FileBytes}
 use Rattle.a429_link.specs.declared.seen.Seen.{Seen}
-use Rattle.a429_link.specs.State.{State}
+use Rattle.a429_link.specs.State.{State, start}
 use Rattle.a429_link.specs.Link.{with_earlier, handed_out}
 use Rattle.a429_link.proofs.LinkCalls.{handed_earlier}
 use Rattle.a429_record.specs.declared.entry.Entry.{Entry}
@@ -12,7 +12,7 @@ use Rattle.a429_record.specs.Recording.{Recording}
 use Rattle.a429_cert.specs.declared.line.CertLine.{CertLine}
 use Rattle.a429_cert.specs.Lines.{certificate_lines}
 use Rattle.a429_cert.specs.CutLines.{cut, when_short, GivesLine}
-use Rattle.a429_cert.specs.Explained.{items_of, Reaches}
+use Rattle.a429_cert.specs.Explained.{items_of, Leads}
 use Rattle.a429_cert.specs.declared.version.Version.{Version}
 use Rattle.a429_cert.specs.declared.version.Version.TheVariants.{One, Two}
 use Rattle.a429_cert.specs.declared.explained.Head.{Head}
@@ -21,7 +21,7 @@ use Rattle.a429_cert.specs.Fault.{HasHead, SaysLine}
 use Rattle.a429_cert.specs.Passing.{PassesText}
 use Rattle.a429_cert.specs.Stream.{behind, PassesOver}
 use Rattle.a429_cert.proofs.Options.{some_is}
-use Rattle.a429_cert.proofs.ExplainedFacts.{drop_get, line_read, passes_on}
+use Rattle.a429_cert.proofs.ExplainedFacts.{drop_get, line_read, passes_from}
 use Rattle.a429_cert.proofs.EarlierFiles.{text_earlier}
 
 -- ---- lines and entries that come
@@ -68,12 +68,16 @@ rest_behind r used i = ap (λ (l : List Entry). left l) (drop-drop used i r.entr
 -- ---- where a replay is
 
 -- k lines behind the first two were passed over the first i entries, and these files were handed out
-pub record Stands (p : Contents) (text : List ℕ) (r : Recording) (d : Head) (k i : ℕ) (taken : List FileBytes) (s : State) (left : Option (List ℕ)) (rec : Option Recording) : Type 0 where
+pub record StandsFrom (p : Contents) (from : State) (text : List ℕ) (r : Recording) (d : Head) (k i : ℕ) (taken : List FileBytes) (s : State) (left : Option (List ℕ)) (rec : Option Recording) : Type 0 where
   pub says : HasHead text d
   pub lines : AreBehind (drop 2 (certificate_lines text)) k left
   pub inside : i ≤ length (items_of r.entries)
-  pub reached : Reaches p d.first (take k (step_lines d.version text)) (take i (items_of r.entries)) (with_earlier taken s)
+  pub reached : Leads p from (take k (step_lines d.version text)) (take i (items_of r.entries)) (with_earlier taken s)
   pub rest : rec ≡ Some (behind i r)
+
+-- of a run from its start
+abbrev pub Stands : Contents → List ℕ → Recording → Head → ℕ → ℕ → List FileBytes → State → Option (List ℕ) → Option Recording → Type 0
+Stands p text r d k i taken s left rec = StandsFrom p (start p d.first) text r d k i taken s left rec
 
 pub cut_of : (o : Option (Option (List ℕ))) (line : Option (List ℕ)) → option_map cut o ≡ Some line → (raw : Option (List ℕ)) × (o ≡ Some raw) × (cut raw ≡ line)
 cut_of None line e = absurd (cc e)
@@ -106,17 +110,17 @@ line_cut v lines k left more line h g =
 pub text_back : (p : Contents) (raw line : Option (List ℕ)) (next : Option Seen) (s t : State) (used : ℕ) → cut raw ≡ line → PassesText p line next s t used → PassesText p raw next s t used
 text_back p raw line next s t used e h = (h.0, says_back raw h.0 (subst (λ o. SaysLine o h.0) (sym e) h.1), h.2)
 
-pub goes_on : (p : Contents) (text : List ℕ) (r : Recording) (d : Head) (k i used : ℕ) (taken : List FileBytes) (s t : State) (line left more : Option (List ℕ)) (rec new : Option Recording)
-    → Stands p text r d k i taken s left rec → GivesLine left more line true → PassesOver p (read_as d.version line) s t rec new used → Stands p text r d (suc k) (i + used) taken t more new
-goes_on p text r d k i used taken s t None left more rec new h g m = absurd ((subst (λ q. PassesOver p q s t (Some (behind i r)) new used) (nothing_read d.version) (subst (λ o. PassesOver p (read_as d.version None) s t o new used) h.rest m)).0.1)
-goes_on p text r d k i used taken s t (Some said) left more rec new h g m =
+pub goes_from : (p : Contents) (from : State) (text : List ℕ) (r : Recording) (d : Head) (k i used : ℕ) (taken : List FileBytes) (s t : State) (line left more : Option (List ℕ)) (rec new : Option Recording)
+    → StandsFrom p from text r d k i taken s left rec → GivesLine left more line true → PassesOver p (read_as d.version line) s t rec new used → StandsFrom p from text r d (suc k) (i + used) taken t more new
+goes_from p from text r d k i used taken s t None left more rec new h g m = absurd ((subst (λ q. PassesOver p q s t (Some (behind i r)) new used) (nothing_read d.version) (subst (λ o. PassesOver p (read_as d.version None) s t o new used) h.rest m)).0.1)
+goes_from p from text r d k i used taken s t (Some said) left more rec new h g m =
     let lines = drop 2 (certificate_lines text) in
     let items = items_of r.entries in
     let read = read_as d.version (Some said) in
     let raw = line_cut d.version lines k left more (Some said) h.lines g in
     let here = subst (λ o. PassesOver p read s t o new used) h.rest m in
     let passes = subst (λ o. PassesText p read o s t used) (next_at r.entries i) here.0 in
-    let on = passes_on p d.first (step_lines d.version text) items k i used raw.0 (with_earlier taken s) (with_earlier taken t) raw.1 h.inside h.reached
+    let on = passes_from p from (step_lines d.version text) items k i used raw.0 (with_earlier taken s) (with_earlier taken t) raw.1 h.inside h.reached
     (text_back p raw.0 read (slice_get items i) (with_earlier taken s) (with_earlier taken t) used raw.2 (text_earlier p read (slice_get items i) taken s t used passes)) in
     record {
       says = h.says;
@@ -126,14 +130,22 @@ goes_on p text r d k i used taken s t (Some said) left more rec new h g m =
       rest = here.1 ∙ ap (λ (q : Recording). Some q) (rest_behind r used i);
     }
 
+pub goes_on : (p : Contents) (text : List ℕ) (r : Recording) (d : Head) (k i used : ℕ) (taken : List FileBytes) (s t : State) (line left more : Option (List ℕ)) (rec new : Option Recording)
+    → Stands p text r d k i taken s left rec → GivesLine left more line true → PassesOver p (read_as d.version line) s t rec new used → Stands p text r d (suc k) (i + used) taken t more new
+goes_on p text r d = goes_from p (start p d.first) text r d
+
 -- its files are handed out
-pub hands_out : (p : Contents) (text : List ℕ) (r : Recording) (d : Head) (k i : ℕ) (taken : List FileBytes) (s : State) (left : Option (List ℕ)) (rec : Option Recording)
-    → Stands p text r d k i taken s left rec → Stands p text r d k i (taken ++ s.sink.received.files) (handed_out s) left rec
-hands_out p text r d k i taken s left rec h =
+pub hands_from : (p : Contents) (from : State) (text : List ℕ) (r : Recording) (d : Head) (k i : ℕ) (taken : List FileBytes) (s : State) (left : Option (List ℕ)) (rec : Option Recording)
+    → StandsFrom p from text r d k i taken s left rec → StandsFrom p from text r d k i (taken ++ s.sink.received.files) (handed_out s) left rec
+hands_from p from text r d k i taken s left rec h =
     record {
       says = h.says;
       lines = h.lines;
       inside = h.inside;
-      reached = subst (λ (q : State). Reaches p d.first (take k (step_lines d.version text)) (take i (items_of r.entries)) q) (sym (handed_earlier taken s)) h.reached;
+      reached = subst (λ (q : State). Leads p from (take k (step_lines d.version text)) (take i (items_of r.entries)) q) (sym (handed_earlier taken s)) h.reached;
       rest = h.rest;
     }
+
+pub hands_out : (p : Contents) (text : List ℕ) (r : Recording) (d : Head) (k i : ℕ) (taken : List FileBytes) (s : State) (left : Option (List ℕ)) (rec : Option Recording)
+    → Stands p text r d k i taken s left rec → Stands p text r d k i (taken ++ s.sink.received.files) (handed_out s) left rec
+hands_out p text r d = hands_from p (start p d.first) text r d

@@ -61,12 +61,16 @@ ListsSteps p [] [] s = Unit {0}
 ListsSteps p (Some text ∷ lines) (a ∷ steps) s = ListsStep p text a s × ListsSteps p lines steps (after p a s)
 ListsSteps p _ _ s = ⊥
 
--- lines and entries are those of a run that goes from the start to this state
-pub record Reaches (p : Contents) (first : ℕ) (lines : List (Option (List ℕ))) (items : List Seen) (s : State) : Type 0 where
+-- lines and entries are those of steps that lead from one state to another
+pub record Leads (p : Contents) (from : State) (lines : List (Option (List ℕ))) (items : List Seen) (s : State) : Type 0 where
   pub steps : List Step
-  pub lists : ListsSteps p lines steps (start p first)
+  pub lists : ListsSteps p lines steps from
   pub used : trace steps ≡ items
-  pub ends : s ≡ end_of p steps (start p first)
+  pub ends : s ≡ end_of p steps from
+
+-- of a run that goes from the start to this state
+abbrev pub Reaches : Contents → ℕ → List (Option (List ℕ)) → List Seen → State → Type 0
+Reaches p first lines items s = Leads p (start p first) lines items s
 
 -- the certificate explains the recorded words by this run: its first two lines are the version and the
 -- number of the first file, its others, as that version reads them, are the run's steps, and the run records

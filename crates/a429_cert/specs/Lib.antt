@@ -19,3 +19,4 @@ pub mod StreamExplained
 pub mod BreakOff
 pub mod Told
 pub mod Likely
+pub mod Series

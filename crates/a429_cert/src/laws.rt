@@ -1,8 +1,10 @@
 //! Laws of the definitions that the contracts of this crate cite.
 
-ghost use Rattle.std.specs.Prelude.{◌≡◌, ◌≤◌, ℕ, List, length, Option, Some, false};
+ghost use Rattle.std.specs.Prelude.{◌≡◌, ◌≤◌, ◌++◌, ℕ, List, [], length, Option, Some, false};
 ghost use Rattle.std.specs.List.{AllByRecursion};
-ghost use Rattle.a429_profile.specs.Profile.{Contents};
+ghost use Rattle.a429_profile.specs.Profile.{Contents, IsProfile};
+ghost use Rattle.a429_link.specs.declared.file.FileBytes.{FileBytes};
+ghost use Rattle.a429_link.specs.declared.seen.Seen.{Seen};
 ghost use Rattle.a429_link.specs.Run.{delivered};
 ghost use Rattle.a429_cert.specs.declared.fault.CertFault.{CertFault};
 ghost use Rattle.a429_cert.specs.declared.line.CertLine.{CertLine};
@@ -10,7 +12,9 @@ ghost use Rattle.a429_cert.specs.Line.{spelling, IsLine, IsHeld, SpellsLine, Rea
 ghost use Rattle.a429_cert.specs.declared.version.Version.TheVariants.{One, Two};
 ghost use Rattle.a429_cert.specs.Version.{headed, gives_up};
 ghost use Rattle.a429_cert.specs.CutLines.{cut};
-ghost use Rattle.a429_cert.specs.Explained.{Explains, Explanation, AreInSomeRun};
+ghost use Rattle.a429_cert.specs.Explained.{Explains, Explanation, AreInSomeRun, items_of};
+ghost use Rattle.a429_cert.specs.Series.{AreAdded, HasJoined, IsOneRun, Joins, Part, SeriesValue, joined, no_parts};
+ghost use Rattle.a429_record.specs.Recording.{Recording};
 ghost use Rattle.a429_cert.specs.Fault.{IsFirstCertFault, SaysLine};
 
 /// A line has one spelling, and no two lines have the same.
@@ -58,4 +62,19 @@ pub fn version_2_explains_what_version_1_does()
 /// steps do. That every run which records them delivers the same is `every_run` of `verify`.
 pub fn what_explains_is_a_run()
     ensures { (p : Contents) (text : List ℕ) (e : Explanation p text) → AreInSomeRun p e.items (delivered p e.first e.steps) }
+{}
+
+/// Parts that a `Series` has taken, one after the other, are one run: some run records exactly what is recorded in all of
+/// them, and each run that does delivers exactly the files that the series answers, each one that its source offered.
+pub fn parts_are_one_run()
+    ensures { (p : Contents) → IsProfile p → (parts : List Part) (s : SeriesValue) → AreAdded (no_parts p) parts s → IsOneRun p (joined parts) s.files }
+{}
+
+/// The same for a caller that adds part after part: what holds before the first part, what each part adds, and what it says.
+pub fn each_part_goes_on()
+    ensures none { (p : Contents) → HasJoined (no_parts p) [] [] }
+    ensures more { (old new : SeriesValue) (text : List ℕ) (r : Recording) (items : List Seen) (files : List FileBytes) → HasJoined old items files
+        → (j : Joins old (Some text) (Some r) new) → HasJoined new (items ++ items_of r.entries) (files ++ j.files) }
+    ensures run { (s : SeriesValue) (items : List Seen) (files : List FileBytes) → IsProfile s.profile → HasJoined s items files
+        → IsOneRun s.profile items s.files }
 {}

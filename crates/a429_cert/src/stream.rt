@@ -120,7 +120,7 @@ pub fn replay_stream<R: Read, C: Read, S: Shelf, T: Listener>(
 // Takes the last line that was handed out, over the next entry, if its step uses one, tells a listener where it is
 // accepted, and puts the files that the step delivers. Answers how many entries it uses, 0 or 1.
 #[inline(always)]
-fn replay_and_put<R: Read, S: Shelf, T: Listener>(
+pub fn replay_and_put<R: Read, S: Shelf, T: Listener>(
     replay: &mut Replay<'_>,
     line: TextLine<'_>,
     known: Option<MovedLine>,
@@ -173,15 +173,15 @@ fn entry_for<R: Read>(rec: &mut EntryReader<R>, listed: &Listed) -> Result<Optio
 // How far a certificate is replayed over a recording.
 #[derive(Drop)]
 pub struct Replay<'a> {
-    alloc: Global,
-    profile: &'a Profile,
-    version: Version,
-    link: Link<'a>,
+    pub alloc: Global,
+    pub profile: &'a Profile,
+    pub version: Version,
+    pub link: Link<'a>,
     // how many lines were handed out, and how many entries they use
-    lines: usize,
-    used: usize,
+    pub lines: usize,
+    pub used: usize,
     // the number and the length of each file that was put
-    files: Vec<(u8, u32)>,
+    pub files: Vec<(u8, u32)>,
 }
 
 impl<'a> Replay<'a> {

@@ -6,6 +6,7 @@ ghost use Rattle.a429_link.specs.declared.seen.Seen.{Seen};
 ghost use Rattle.a429_link.specs.Step.{Can, after, LoadsLdu, IsFault, IsNamedStep};
 ghost use Rattle.a429_link.specs.State.{start, states_of};
 ghost use Rattle.a429_link.specs.Link.{handed_out};
+ghost use Rattle.a429_link.specs.GiveUps.{MayGiveUp};
 ghost use Rattle.a429_link.specs.Run.{IsBounded};
 
 use crate::fault::StepFault;
@@ -87,6 +88,13 @@ impl<'a> Link<'a> {
         ensures { (u : LduValue) → IsLdu self.now.profile u → (IsTrue result ↔ Can self.now.profile (Step.Load u) self.now.state) }
     {
         self.transfer.may_load(self.profile)
+    }
+
+    /// The source may give up so many files now, one after the other: at most 127 since its last acknowledgement (profile).
+    pub fn may_give_up(&self, files: u8) -> bool
+        ensures { IsTrue result ↔ MayGiveUp self.now.state files }
+    {
+        self.transfer.may_give_up(files)
     }
 
     /// What the source and the sink are doing, and how many words are on their way to the sink, 0 to 255,

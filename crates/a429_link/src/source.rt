@@ -85,11 +85,11 @@ impl Source {
         self.current = Some(unit);
     }
 
-    /// It can give its file up.
-    pub(crate) fn may_give_up(&self) -> bool
-        ensures { IsTrue result ↔ (IsIdle self.now.phase × (self.now.give_ups ≤ 126)) }
+    /// It can give up so many files, its own and the next ones, one after the other.
+    pub(crate) fn may_give_up(&self, files: u8) -> bool
+        ensures { IsTrue result ↔ (IsIdle self.now.phase × (self.now.give_ups + files ≤ 127)) }
     {
-        self.state == SourceState::Idle && self.give_ups <= 126
+        self.state == SourceState::Idle && files <= 127 && self.give_ups <= 127 - files
     }
 
     /// Gives its file up, with what it has loaded, and goes on to the next file.

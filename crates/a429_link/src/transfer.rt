@@ -8,6 +8,7 @@ ghost use Rattle.a429_link.specs.Sink.{held_count};
 ghost use Rattle.a429_link.specs.Step.{LoadsLdu};
 ghost use Rattle.a429_link.specs.State.{start, sink_state_of};
 ghost use Rattle.a429_link.specs.Transfer.{Applies, IsReadyStep, LeadsToBounded};
+ghost use Rattle.a429_link.specs.GiveUps.{MayGiveUp};
 ghost use Rattle.a429_link.specs.Run.{IsBounded};
 ghost use Rattle.a429_link.specs.declared.seen.Seen.{Seen};
 ghost use Rattle.a429_link.specs.Link.{handed_out};
@@ -86,6 +87,13 @@ impl Transfer {
         ensures { (u : LduValue) → IsLdu profile.now u → (IsTrue result ↔ IsReadyStep profile.now (step.Load u) self.now) }
     {
         self.source.may_load(profile.codes().first_ldu)
+    }
+
+    /// So many files may be given up now, one after the other.
+    pub(crate) fn may_give_up(&self, files: u8) -> bool
+        ensures { IsTrue result ↔ MayGiveUp self.now files }
+    {
+        self.source.may_give_up(files)
     }
 
     /// Makes a step, or refuses it and changes nothing.
@@ -245,7 +253,7 @@ impl Transfer {
     fn give_up(&mut self, profile: &Profile) -> Result<(), StepFault>
         ensures { Applies profile.now step.GiveUp self.old self.new result }
     {
-        if !self.source.may_give_up() {
+        if !self.source.may_give_up(1) {
             return Err(StepFault::NotAllowed);
         }
         self.source.give_up(profile);
