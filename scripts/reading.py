@@ -51,20 +51,24 @@ def pieces_of(packed):
         yield (bus, int.from_bytes(piece[9:], "big"), int.from_bytes(piece[:8], "big")) if bus in LABELS else None
 
 
-def entries_of(recording):
-    """The bus and the word of each entry, and the first fault where its entry is wanted."""
+def timed_entries(recording, most):
+    """The bus, the word and the time of each entry, at most so many, and the first fault where its entry is wanted."""
     before = 0
     rows = pieces_of(recording) if recording.startswith(PACKED) else rows_of(recording)
     for n, row in enumerate(rows):
-        if n == 1_000_000:
+        if n == most:
             raise Refused("recording: too many")
         if row is None:
             raise Refused(f"recording: row {n}")
-        bus, word, time = row
-        if time < before:
+        if row[2] < before:
             raise Refused(f"recording: time back {n}")
-        before = time
-        yield bus, word
+        before = row[2]
+        yield row
+
+
+def entries_of(recording):
+    """The same without times, for the commands that read 1,000,000 entries at most."""
+    return (row[:2] for row in timed_entries(recording, 1_000_000))
 
 
 # ---- words

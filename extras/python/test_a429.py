@@ -47,15 +47,6 @@ class Program(unittest.TestCase):
         self.assertEqual(caught.exception.status, status)
         return caught.exception
 
-    def known(self, command, *words):
-        """The command's answer. Skips the test where the program does not know the command."""
-        try:
-            return command(*words)
-        except Error as error:
-            if error.status == 5:
-                self.skipTest(f"this a429 has no command {command.__name__}")
-            raise
-
     def test_check(self):
         for name, verdict in VERDICTS.items():
             with self.subTest(name):
@@ -120,14 +111,25 @@ class Program(unittest.TestCase):
         self.assertEqual(a429.check(PROFILE, "-x"), VERDICTS["one-byte"])
 
     def test_version(self):
-        self.assertEqual(self.known(a429.version).certificates, (1, 2))
+        self.assertEqual(a429.version().certificates, (1, 2))
 
     def test_trace(self):
-        found = self.known(a429.trace, PROFILE, recording("impossible"))
-        self.assertEqual(found, a429._trace(IMPOSSIBLE))
-        found = a429.trace(PROFILE, recording("unexplained"))
-        self.assertEqual(found, a429._trace(UNEXPLAINED))
-        self.assertEqual(a429.trace(PROFILE, recording("lost-acknowledgement")).verdict, Only((File(1, 1),)))
+        self.assertEqual(a429.trace(PROFILE, recording("impossible")), a429._trace(IMPOSSIBLE))
+        self.assertEqual(a429.trace(PROFILE, recording("unexplained")), a429._trace(UNEXPLAINED))
+        found = a429.trace(PROFILE, recording("lost-acknowledgement"))
+        self.assertEqual(found.verdict, Only((File(1, 1),)))
+        self.assertEqual(found.entries[-1], Traced(11, 11000, "B", 0x450101A3, "ack 1 1", "quiet, again 1 1"))
+
+    def test_a_trace_names_the_files_of_a_yes(self):
+        for name, verdict in VERDICTS.items():
+            with self.subTest(name):
+                found = a429.trace(PROFILE, recording(name)).verdict
+                self.assertEqual(found, verdict if isinstance(verdict, Impossible) else Only(getattr(verdict, "files", ())))
+
+    def test_lines_before_a_fault_of_the_recording(self):
+        (self.room / "rec").write_text("time,bus,word\n0,A,41410323\n1,A,6\n")
+        error = self.error_of(3, a429.trace, PROFILE, self.room / "rec")
+        self.assertEqual((error.line, error.output), ("recording: row 1", IMPOSSIBLE.splitlines(keepends=True)[0]))
 
 
 IMPOSSIBLE = """\
