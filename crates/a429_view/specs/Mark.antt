@@ -1,4 +1,4 @@
--- What a picture shows of the steps that are told of a run (profile).
+-- What a picture shows of the steps that are reported of a run (profile).
 use Rattle.std.specs.Prelude.{◌+◌, ◌&&◌, ℕ, nat_le, List, [], ◌∷◌, ◌++◌, if◌then◌else◌, Bool, false, Option, Some, None}
 use Rattle.a429_profile.specs.declared.codes.Codes.{Codes}
 use Rattle.a429_ldu.specs.Form.{form_of}
