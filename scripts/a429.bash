@@ -2,7 +2,7 @@
 _a429() {
     local word=${COMP_WORDS[COMP_CWORD]}
     if [ "$COMP_CWORD" -eq 1 ]; then
-        mapfile -t COMPREPLY < <(compgen -W "version word labels show forms survey trace make pack decide check verify extract units picture upgrade" -- "$word")
+        mapfile -t COMPREPLY < <(compgen -W "version word labels show forms survey trace keep make pack decide check verify extract units picture upgrade" -- "$word")
     elif [ "${COMP_WORDS[1]}" = extract ] && [ "$COMP_CWORD" -eq 5 ]; then
         mapfile -t COMPREPLY < <(compgen -d -- "$word")
     elif [ "${COMP_WORDS[1]}" != word ] && [ "${COMP_WORDS[1]}" != version ]; then

@@ -6,6 +6,7 @@ use Rattle.a429_record.specs.declared.fault.ReadFault.{ReadFault}
 use Rattle.a429_record.specs.declared.fault.ReadFault.TheVariants as read
 use Rattle.a429_record.specs.Recording.{Recording, whole}
 use Rattle.a429_check.specs.declared.fault.RunFault.{RunFault}
+use Rattle.a429_check.specs.declared.fault.RunFault.TheVariants as run
 use Rattle.a429_check.specs.Fault.{ComesBy, never}
 use Rattle.a429_check.specs.Profile.{IsProfileOf}
 
@@ -21,6 +22,12 @@ abbrev pub IsFaultToCome : Option Recording → ReadFault → Type 0
 IsFaultToCome known read.Device = ⊥
 IsFaultToCome known read.OutOfMemory = ⊥
 IsFaultToCome known f = IfSome known (λ r. r.fault ≡ Some f)
+
+-- how a command reports why no more entries are read
+abbrev pub reported : ReadFault → RunFault
+reported read.Device = run.Device
+reported read.OutOfMemory = run.Memory
+reported f = run.Read f
 
 -- why no more entries are read: the recording has a fault, the reader failed, or memory was refused
 abbrev pub IsNextFault : Option Recording → Bool → RunFault → Type 0

@@ -4,6 +4,7 @@ pub mod check;
 pub mod extract;
 pub mod folder;
 pub mod forms;
+pub mod keep;
 pub mod labels;
 pub mod make;
 pub mod pack;

@@ -13,6 +13,7 @@ pub use crate::engines::check::{run_by_rule, run_check, run_decide};
 pub use crate::engines::extract::run_extract;
 pub use crate::engines::folder::Folder;
 pub use crate::engines::forms::run_forms;
+pub use crate::engines::keep::run_keep;
 pub use crate::engines::labels::run_labels;
 pub use crate::engines::make::run_make;
 pub use crate::engines::pack::run_pack;

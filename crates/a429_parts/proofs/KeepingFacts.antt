@@ -1,6 +1,5 @@
 -- What a recording has given, and the text of what is kept of it.
 use Rattle.std.proofs.Common.{◌≡◌, ◌==◌, ℕ, suc, ◌+◌, ◌<◌, Bool, true, false, if◌then◌else◌, List, [], ◌∷◌, ◌++◌, Option, Some, None, Result, Ok, Err, IfSome, refl, sym, ap, ◌∙◌, append_assoc, append-nil, arith}
-use Rattle.std.specs.Bool.{⊤}
 use Rattle.std.specs.List.{flat_map}
 use Rattle.std.proofs.lemmas.Grind.{flat_map-append}
 use Rattle.a429_word.specs.Word.{label_of}
@@ -8,7 +7,7 @@ use Rattle.a429_profile.specs.declared.codes.Codes.{Codes}
 use Rattle.a429_ldu.specs.Form.{address_of}
 use Rattle.a429_record.specs.declared.entry.Entry.{Entry}
 use Rattle.a429_record.specs.declared.fault.ReadFault.{ReadFault}
-use Rattle.a429_record.specs.Recording.{Recording, whole, with_entry}
+use Rattle.a429_record.specs.Recording.{Recording, whole}
 use Rattle.a429_record.specs.Rows.{GivesNext, Stops}
 use Rattle.a429_record.specs.Writing.{header_text, line_text}
 use Rattle.a429_parts.specs.Kept.{kept}
@@ -16,40 +15,47 @@ use Rattle.a429_parts.specs.Keeping.{BeginsWith, kept_line, kept_text, kept_text
 
 -- ---- what was given
 
--- a recording has given these entries, and this is the next answer
+-- these entries came, and the rest has still to come
+abbrev pub Came : Option Recording → List Entry → Option Recording → Type 0
+Came first es left = IfSome first (λ r. (rest : Recording) × (left ≡ Some rest) × (r ≡ with_entries es rest))
+
+pub came_first : (first : Option Recording) → Came first [] first
+came_first None = tt
+came_first (Some r) = (r, refl, refl)
+
+pub came_more : (first left new : Option Recording) (es : List Entry) (e : Entry) → GivesNext left new (Ok (Some e)) → Came first es left → Came first (es ++ e ∷ []) new
+came_more None left new es e gives h = tt
+came_more (Some r) left new es e gives (rest, is, all) =
+    let next = rw is at gives in
+    let more = next.0 in
+    (more, next.1, all ∙ ap (with_entries es) next.2 ∙ ap (λ (l : List Entry). record { entries = l; fault = more.fault }) (sym (append_assoc es (e ∷ []) more.entries)))
+
+pub came_whole : (first left new : Option Recording) (es : List Entry) → GivesNext left new (Ok None) → Came first es left → IfSome first (λ r. r ≡ whole es)
+came_whole None left new es gives h = tt
+came_whole (Some r) left new es gives (rest, is, all) =
+    let end = rw is at gives in
+    all ∙ ap (with_entries es) end ∙ ap whole (append-nil es)
+
+-- these entries came, and this is the next answer
 abbrev pub Gave : Option Recording → List Entry → Option Recording → Result (Option Entry) ReadFault → Type 0
-Gave None es left r = ⊤
-Gave (Some t) es left r = (rest : Recording) × (t ≡ with_entries es rest) × GivesNext (Some rest) left r
+Gave old es left r = (mid : Option Recording) × Came old es mid × GivesNext mid left r
 
 pub gave_first : (old left : Option Recording) (r : Result (Option Entry) ReadFault) → GivesNext old left r → Gave old [] left r
-gave_first None left r h = tt
-gave_first (Some t) left r h = (t, refl, h)
-
-with_entries-push : (es : List Entry) (e : Entry) (rest : Recording) → with_entries (es ++ e ∷ []) rest ≡ with_entries es (with_entry e rest)
-with_entries-push [] e rest = refl
-with_entries-push (x ∷ es) e rest = ap (with_entry x) (with_entries-push es e rest)
+gave_first old left r h = (old, came_first old, h)
 
 pub gave_more : (old mid left : Option Recording) (es : List Entry) (e : Entry) (r : Result (Option Entry) ReadFault) → Gave old es mid (Ok (Some e)) → GivesNext mid left r → Gave old (es ++ e ∷ []) left r
-gave_more None mid left es e r h g = tt
-gave_more (Some t) mid left es e r (rest, q, h) g =
-    let next = rw h.1 at g in
-    (h.0, q ∙ (ap (with_entries es) h.2 ∙ sym (with_entries-push es e h.0)), next)
-
-whole_of : (es : List Entry) → with_entries es (whole []) ≡ whole es
-whole_of [] = refl
-whole_of (e ∷ es) = ap (with_entry e) (whole_of es)
+gave_more old mid left es e r (before, came, h) g = (mid, came_more old before mid es e h came, g)
 
 pub gave_all : (old left : Option Recording) (es : List Entry) → Gave old es left (Ok None) → IfSome old (λ r. r ≡ whole es)
-gave_all None left es h = tt
-gave_all (Some t) left es (rest, q, h) = q ∙ (ap (with_entries es) h ∙ whole_of es)
+gave_all old left es (mid, came, h) = came_whole old mid left es h came
 
 pub gave_these : (old left : Option Recording) (es : List Entry) (r : Result (Option Entry) ReadFault) → Gave old es left r → BeginsWith old es
 gave_these None left es r h = tt
-gave_these (Some t) left es r (rest, q, h) = (rest, q)
+gave_these (Some t) left es r (mid, (rest, is, all), h) = (rest, all)
 
 pub gave_until : (old left : Option Recording) (es : List Entry) (f : ReadFault) → Gave old es left (Err f) → IfSome old (λ r. (rest : Recording) × (r ≡ with_entries es rest) × Stops f rest)
 gave_until None left es f h = tt
-gave_until (Some t) left es f h = h
+gave_until (Some t) left es f (mid, (rest, is, all), h) = (rest, all, rw is at h)
 
 -- ---- the text of what is kept
 

@@ -1,5 +1,5 @@
 -- The text recording of the entries that are kept (profile).
-use Rattle.std.specs.Prelude.{◌≡◌, ◌==◌, ℕ, false, if◌then◌else◌, List, [], ◌∷◌, Option, IfSome}
+use Rattle.std.specs.Prelude.{◌≡◌, ◌==◌, ℕ, false, if◌then◌else◌, List, [], ◌∷◌, ◌++◌, Option, IfSome}
 use Rattle.a429_word.specs.declared.sheet.Sheet.{Sheet}
 use Rattle.a429_word.specs.Sheet.{Says, sheet_failed}
 use Rattle.a429_word.specs.Word.{label_of}
@@ -7,7 +7,7 @@ use Rattle.a429_profile.specs.declared.codes.Codes.{Codes}
 use Rattle.a429_ldu.specs.Form.{address_of}
 use Rattle.a429_record.specs.declared.entry.Entry.{Entry}
 use Rattle.a429_record.specs.declared.fault.ReadFault.{ReadFault}
-use Rattle.a429_record.specs.Recording.{Recording, whole, with_entry}
+use Rattle.a429_record.specs.Recording.{Recording, whole}
 use Rattle.a429_record.specs.Rows.{Stops}
 use Rattle.a429_record.specs.Writing.{line_text, written_form}
 use Rattle.a429_parts.specs.Kept.{kept}
@@ -27,8 +27,7 @@ kept_text_before c (e ∷ es) = kept_text c (e ∷ es)
 
 -- a recording whose first entries are these
 abbrev pub with_entries : List Entry → Recording → Recording
-with_entries [] rest = rest
-with_entries (e ∷ es) rest = with_entry e (with_entries es rest)
+with_entries es rest = record { entries = es ++ rest.entries; fault = rest.fault }
 
 -- a recording begins with these entries
 abbrev pub BeginsWith : Option Recording → List Entry → Type 0

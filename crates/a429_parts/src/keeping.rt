@@ -1,18 +1,20 @@
 //! A recording, written as it comes, with the entries alone that its transfer needs.
 
-ghost use Rattle.std.specs.Prelude.{◌≡◌, true, IfErr, IsErrOf, OnOk};
-ghost use Rattle.a429_word.specs.Sheet.{Says};
+ghost use Rattle.std.specs.Prelude.{◌≡◌, ◌<◌, true, false, None, IfOk, IfErr, IsErrOf, OnOk};
+ghost use Rattle.a429_word.specs.Sheet.{Says, sheet_failed};
+ghost use Rattle.a429_record.specs.Rows.{GivesNext, IfEntry};
 ghost use Rattle.a429_record.specs.declared.fault.ReadFault.TheVariants as read;
 ghost use Rattle.a429_parts.specs.Keeping.{kept_line, KeepsAll, KeepsUntil};
 
 use crate::kept::is_kept;
 use a429_profile::Profile;
 use a429_record::{Entry, EntryReader, ReadFault, put_header, put_line};
-use a429_word::Sheet;
+use a429_word::{Failing, Sheet};
 use std::io::{Read, Write};
 
 /// Puts a text recording of the entries that are kept (`is_kept`), in order, as they are read. Where the
 /// recording has a fault, the rows of the entries before it are put; where no entry comes before it, nothing is.
+/// A reader that has failed is no end of the recording: the fault is `Device`.
 pub fn put_kept<R: Read, W: Write>(
     profile: &Profile,
     rec: &mut EntryReader<R>,
@@ -21,8 +23,9 @@ pub fn put_kept<R: Read, W: Write>(
     ensures all { OnOk result (KeepsAll W.contents profile.now.codes rec.old.to_come sheet.old sheet.new) }
     ensures until { IfErr result (KeepsUntil W.contents profile.now.codes rec.old.to_come sheet.old sheet.new) }
     ensures device { IsErrOf result read.Device → rec.new.failed ≡ true }
+    ensures works { OnOk result (sheet_failed sheet.new ≡ false → rec.new.failed ≡ false) }
 {
-    let mut next = rec.next()?;
+    let mut next = next_of(rec)?;
     put_header(sheet);
     'entries: loop {
         let Some(entry) = next else {
@@ -32,7 +35,20 @@ pub fn put_kept<R: Read, W: Write>(
             return Ok(());
         }
         put_if_kept(profile, entry, sheet);
-        next = rec.next()?;
+        next = next_of(rec)?;
+    }
+}
+
+// The next entry, or none at the recording's end.
+fn next_of<R: Read>(rec: &mut EntryReader<R>) -> Result<Option<Entry>, ReadFault>
+    ensures gives { GivesNext rec.old.to_come rec.new.to_come result }
+    ensures room { IfEntry result (λ _. rec.new.room < rec.old.room) }
+    ensures works { IfOk result (λ o. o ≡ None → rec.new.failed ≡ false) }
+    ensures device { IsErrOf result read.Device → rec.new.failed ≡ true }
+{
+    match rec.next() {
+        Ok(None) if rec.failed() => Err(ReadFault::Device),
+        next => next,
     }
 }
 

@@ -7,6 +7,7 @@ mod decide;
 mod extract;
 mod faults;
 mod forms;
+mod keep;
 pub(crate) mod labels;
 pub(crate) mod make;
 pub(crate) mod pack;

@@ -35,6 +35,11 @@ pub enum Command<'a> {
         profile: &'a str,
         recording: &'a str,
     },
+    /// `keep PROFILE REC`: writes a recording without the entries that its transfer does not need.
+    Keep {
+        profile: &'a str,
+        recording: &'a str,
+    },
     /// `check PROFILE REC CERT`: finds a certificate for a recording, and writes it to CERT.
     Check(Claim<'a>),
     /// `decide PROFILE REC CERT`: as `check`, and where that has a doubt a search for a run.

@@ -2,7 +2,7 @@
 
 ghost use Rattle.std.specs.Prelude.{◌≡◌, ◌+◌, ◌<◌, ◌^◌, false, None, Ok, IfOk, IfErr, IfSome};
 ghost use Rattle.a429_record.specs.Rows.{GivesNext};
-ghost use Rattle.a429_check.specs.Streaming.{IsNextFault};
+ghost use Rattle.a429_check.specs.Streaming.{IsNextFault, reported};
 
 use crate::fault::RunFault;
 use a429_record::{Entry, EntryReader, ReadFault};
@@ -21,8 +21,17 @@ pub(crate) fn next_entry<R: Read>(rec: &mut EntryReader<R>) -> Result<Option<Ent
         Ok(Some(entry)) => Ok(Some(entry)),
         Ok(None) if rec.failed() => Err(RunFault::Device),
         Ok(None) => Ok(None),
-        Err(ReadFault::Device) => Err(RunFault::Device),
-        Err(ReadFault::OutOfMemory) => Err(RunFault::Memory),
-        Err(fault) => Err(RunFault::Read(fault)),
+        Err(fault) => Err(fault_of(fault)),
+    }
+}
+
+/// How a command reports why no more entries are read.
+pub(crate) fn fault_of(fault: ReadFault) -> RunFault
+    ensures { result ≡ reported fault }
+{
+    match fault {
+        ReadFault::Device => RunFault::Device,
+        ReadFault::OutOfMemory => RunFault::Memory,
+        fault => RunFault::Read(fault),
     }
 }

@@ -13,14 +13,15 @@ returns-in_err-next-clause-until g c =
     rw (p.1, p.2) (record {
       entries = [];
       says = says_nothing _ c.args.sheet.now;
-      stops = gave_until c.args.rec.now.to_come c.next.new.self.to_come [] _ (gave_first c.args.rec.now.to_come c.next.new.self.to_come _ c.in_err-next.ensures.gives);
+      stops = gave_until c.args.rec.now.to_come c.next_of.new.rec.to_come [] _ (gave_first c.args.rec.now.to_come c.next_of.new.rec.to_come _ c.in_err-next.ensures.gives);
     })
 
 pub entries-init : goal.entries-init
 entries-init g c = record {
   entries = [];
   says = c.put_header.ensures;
-  gave = gave_first c.args.rec.now.to_come c.next.new.self.to_come _ c.in_ok-next.ensures.gives;
+  gave = gave_first c.args.rec.now.to_come c.next_of.new.rec.to_come _ c.in_ok-next.ensures.gives;
+  works = c.in_ok-next.ensures.works;
 }
 
 pub returns-in_default-clause-all : goal.returns-in_default-clause-all
@@ -49,7 +50,7 @@ returns-in_err-next-2-clause-until g c =
     rw (p.1, p.2) (record {
       entries = es ++ e ∷ [];
       says = rw (before_is codes es e ∙ kept_text-push codes es e) (c.entries.invariant.says ▹ c.put_if_kept.ensures);
-      stops = gave_until c.args.rec.now.to_come c.next-in-entries.new.self.to_come (es ++ e ∷ []) _ (gave_more _ _ _ es e _ (rw c.in-Some.is at c.entries.invariant.gave) c.in_err-next-2.ensures.gives);
+      stops = gave_until c.args.rec.now.to_come c.next_of-in-entries.new.rec.to_come (es ++ e ∷ []) _ (gave_more _ _ _ es e _ (rw c.in-Some.is at c.entries.invariant.gave) c.in_err-next-2.ensures.gives);
     })
 
 pub entries-smaller : goal.entries-smaller
@@ -64,4 +65,8 @@ entries-preserved g c =
       entries = es ++ e ∷ [];
       says = rw (kept_text-push codes es e) (c.entries.invariant.says ▹ c.put_if_kept.ensures);
       gave = gave_more c.args.rec.now.to_come _ _ es e _ (rw c.in-Some.is at c.entries.invariant.gave) c.in_ok-next-2.ensures.gives;
+      works = c.in_ok-next-2.ensures.works;
     }
+
+pub returns-in_default-clause-works : goal.returns-in_default-clause-works
+returns-in_default-clause-works g c working = c.entries.invariant.works c.in_default.is

@@ -1,4 +1,4 @@
-use Rattle.std.proofs.Common.{List, Ok}
+use Rattle.std.proofs.Common.{◌≡◌, List, Ok, None, false}
 use Rattle.a429_word.specs.Sheet.{Says}
 use Rattle.a429_record.specs.declared.entry.Entry.{Entry}
 use Rattle.a429_parts.specs.Keeping.{kept_text}
@@ -10,6 +10,7 @@ invariant-entries g l = record {
   entries : List Entry;
   says : Says g.W.Write.contents l.fn.sheet l.sheet (kept_text l.profile.codes entries);
   gave : Gave l.fn.rec.to_come entries l.rec.to_come (Ok l.next);
+  works : l.next ≡ None → l.rec.failed ≡ false;
 }
 
 abbrev pub decreases-entries : goal.decreases-entries

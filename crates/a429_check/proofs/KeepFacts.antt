@@ -1,0 +1,55 @@
+-- What `keep` writes, and what it leaves after a fault.
+use Rattle.std.proofs.Common.{◌≡◌, ℕ, List, [], ◌∷◌, true, false, Option, Some, None, inl}
+use Rattle.std.specs.Prelude.{IfSome}
+use Rattle.a429_word.specs.declared.sheet.Sheet.{Sheet}
+use Rattle.a429_word.specs.declared.tally.Tally.{Tally}
+use Rattle.a429_word.specs.Sheet.{Writes, sheet_failed}
+use Rattle.a429_word.specs.Tally.{AppendsPrefix, has_failed}
+use Rattle.a429_word.proofs.PageFacts.{AppendsPrefix-longer}
+use Rattle.a429_profile.specs.declared.codes.Codes.{Codes}
+use Rattle.a429_record.specs.declared.entry.Entry.{Entry}
+use Rattle.a429_record.specs.declared.fault.ReadFault.{ReadFault}
+use Rattle.a429_record.specs.declared.fault.ReadFault.TheVariants as read
+use Rattle.a429_record.specs.Recording.{Recording}
+use Rattle.a429_record.specs.Rows.{Stops}
+use Rattle.a429_parts.specs.Keeping.{BeginsWith, KeepsAll, KeepsUntil, kept_text, kept_text_before, with_entries}
+use Rattle.a429_check.specs.Output.{Output, output}
+use Rattle.a429_check.specs.Streaming.{reported}
+use Rattle.a429_check.specs.Keep.{FailsKept, GainsUntil, PutsKept, PutsKeptUntil}
+
+-- these entries come before this fault
+abbrev pub ComesAfter : Option Recording → List Entry → ReadFault → Type 0
+ComesAfter rec es f = IfSome rec (λ r. (rest : Recording) × (r ≡ with_entries es rest) × Stops f rest)
+
+pub begins : (rec : Option Recording) (es : List Entry) (f : ReadFault) → ComesAfter rec es f → BeginsWith rec es
+begins None es f h = tt
+begins (Some r) es f (rest, is, stop) = (rest, is)
+
+-- a prefix of the rows before a fault is one of all rows of these entries
+pub front_before : (a b : Option (List ℕ)) (c : Codes) (es : List Entry) → AppendsPrefix a b (kept_text_before c es) → AppendsPrefix a b (kept_text c es)
+front_before a b c [] h = AppendsPrefix-longer a b [] (kept_text c []) h
+front_before a b c (e ∷ es) h = h
+
+rows_until : {W : Type 0} (o : Output W) (rec : Option Recording) (c : Codes) (fault : ReadFault) → PutsKeptUntil o.contents o.old o.new rec c fault → GainsUntil o rec (reported fault) c
+rows_until o rec c read.Device rows = inl rows
+rows_until o rec c read.OutOfMemory rows = rows
+rows_until o rec c read.Header rows = rows
+rows_until o rec c (read.Row i) rows = rows
+rows_until o rec c (read.TimeBack i) rows = rows
+rows_until o rec c read.TooMany rows = rows
+rows_until o rec c read.Failed rows = rows
+
+-- ---- what was written, once the sheet is finished
+
+pub puts_kept : {W : Type 0} {contents : W → Option (List ℕ)} {a b : Sheet W} {old new : Tally W} (c : Codes) (rec : Option Recording) (all : KeepsAll contents c rec a b) → Writes contents old new (kept_text c all.entries) → has_failed new ≡ false → sheet_failed b ≡ false → PutsKept contents old new rec c
+puts_kept c rec all written works before = record { entries = all.entries; all = all.all before; puts = written.all works }
+
+pub fails_all : {W : Type 0} {contents : W → Option (List ℕ)} {a b : Sheet W} {old new : Tally W} (c : Codes) (rec : Option Recording) (all : KeepsAll contents c rec a b) → Writes contents old new (kept_text c all.entries) → has_failed new ≡ true → FailsKept contents old new rec c
+fails_all c rec all written failed = record { failed = failed; entries = all.entries; first = all.first; prefix = written.prefix }
+
+pub fails_until : {W : Type 0} {contents : W → Option (List ℕ)} {a b : Sheet W} {old new : Tally W} (c : Codes) (rec : Option Recording) (fault : ReadFault) (until : KeepsUntil contents c rec a b fault) → Writes contents old new (kept_text_before c until.entries) → has_failed new ≡ true → FailsKept contents old new rec c
+fails_until c rec fault until written failed = record { failed = failed; entries = until.entries; first = begins rec until.entries fault until.stops; prefix = front_before _ _ c until.entries written.prefix }
+
+-- the sheet's output, by its last value
+pub gains_rows : {W : Type 0} (contents : W → Option (List ℕ)) {a b : Sheet W} (old new : Tally W) (c : Codes) (rec : Option Recording) (fault : ReadFault) (until : KeepsUntil contents c rec a b fault) → Writes contents old new (kept_text_before c until.entries) → has_failed new ≡ false → GainsUntil (output contents old new) rec (reported fault) c
+gains_rows contents old new c rec fault until written works = rows_until (output contents old new) rec c fault (record { entries = until.entries; stops = until.stops; puts = written.all works })
