@@ -27,7 +27,7 @@ pub record Block : Type 0 where
 abbrev pub empty_block : ℕ → ℕ → ℕ → Block
 empty_block gfi file ldu = record { gfi = gfi; file = file; ldu = ldu; words = [] }
 
--- the number that its start word tells
+-- the number in its start word
 abbrev pub number_of : Block → UnitNumber
 number_of b = record { file = b.file; ldu = b.ldu }
 
@@ -35,7 +35,7 @@ pub data SinkPhase : Type 0 where
   Quiet : SinkPhase
   -- a request was taken
   OwesClear : SinkPhase
-  -- the clear answer was given
+  -- the clear answer was sent
   Granted : SinkPhase
   InBlock : (block : Block) → SinkPhase
   -- the block is good; these are the flags of its end word
@@ -190,7 +190,7 @@ accepts_owed c phase k = k
 abbrev pub accepts_block : Codes → Sink → Sink
 accepts_block c k = accepts_owed c k.phase k
 
--- the sink after it has given an answer of this form: an acknowledgement accepts its block
+-- the sink after it has sent an answer of this form: an acknowledgement accepts its block
 abbrev pub answers : Codes → Form → Sink → Sink
 answers c (Cts n) k = in_phase Granted k
 answers c (Ack file ldu) k = in_phase Quiet (accepts_block c k)
@@ -201,7 +201,7 @@ abbrev pub answers_form : Codes → Option Form → Sink → Sink
 answers_form c None k = k
 answers_form c (Some x) k = answers c x k
 
--- the sink after it has given this word of bus B
+-- the sink after it has sent this word of bus B
 abbrev pub answers_word : Codes → ℕ → Sink → Sink
 answers_word c word k = answers_form c (form_of c bus.B word) k
 
@@ -217,7 +217,7 @@ unfiled old new = with_received old.received new
 abbrev pub without_files : Sink → Sink
 without_files k = with_received (record (k.received) { files = [] }) k
 
--- a sink in this phase, whose last request had this count, may give an answer of this form: the clear
+-- a sink in this phase, whose last request had this count, may send an answer of this form: the clear
 -- answer with that count; the acknowledgement with the block's numbers; a negative answer with any bits,
 -- in place of an acknowledgement too
 abbrev pub MayAnswer : ℕ → SinkPhase → Form → Type 0
@@ -237,7 +237,7 @@ abbrev pub IsAck : Option Form → Type 0
 IsAck (Some (Ack file ldu)) = Unit {0}
 IsAck _ = ⊥
 
--- ---- where it stands
+-- ---- where it is
 
 -- it takes words
 abbrev pub Listens : SinkPhase → Type 0
