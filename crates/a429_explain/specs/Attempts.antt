@@ -17,7 +17,7 @@ sends_block (Some (Part semis) ∷ more) = true
 sends_block (Some (Eot flags check) ∷ more) = true
 sends_block (_ ∷ more) = sends_block more
 
--- the numbers of the next start word; behind an acknowledgement it is one of a later attempt
+-- the numbers of the next start word; after an acknowledgement it is one of a later attempt
 abbrev pub next_start : List (Option Form) → Option UnitNumber
 next_start [] = None
 next_start (Some (Sot gfi file ldu) ∷ more) = Some (record { file = file; ldu = ldu })

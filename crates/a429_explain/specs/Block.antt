@@ -1,5 +1,5 @@
--- What a group gives whose first request wants so many words (profile). It is put to three tests: whether all its
--- requests want as many, whether it gives a link data unit, and whether its words stand in the block of that.
+-- The link data unit of a group whose first request asks for so many words (profile). The group has to pass three tests: all
+-- its requests ask for as many words, it makes a link data unit, and its words are some of the block of that.
 use Rattle.std.specs.Prelude.{◌≡◌, ◌⊎◌, ◌+◌, ◌<◌, ◌≤◌, ℕ, Option, Some, None}
 use Rattle.a429_ldu.specs.Ldu.{LduValue, IsLdu, count_of}
 use Rattle.a429_link.specs.Clean.{without_free, clean_block}
@@ -16,7 +16,7 @@ use Rattle.a429_explain.specs.Whole.{words_for, other_request}
 
 -- ---- the first two tests
 
--- the first request of the group that wants another number of words than its first one
+-- the first request of the group that asks for another number of words than its first one
 abbrev pub other_for : HeardValue → Request → Option ℕ
 other_for h r = other_request h.profile.codes r.count (words_for h r) r.group.from
 
@@ -24,16 +24,16 @@ other_for h r = other_request h.profile.codes r.count (words_for h r) r.group.fr
 abbrev pub unit_for : HeardValue → Request → Option LduValue
 unit_for h r = group_unit h.profile r.count (words_for h r)
 
--- the group gives this link data unit
+-- the group makes this link data unit
 pub record IsUnitFor (h : HeardValue) (r : Request) (u : LduValue) : Type 0 where
   pub unit : IsLdu h.profile u
   pub count : count_of u ≡ r.count
-  -- each request of the group wants as many words
+  -- each request of the group asks for as many words
   pub others : other_for h r ≡ None
-  -- it is that of the first whole attempt, or else that of the last data words with filler words behind them
+  -- it is that of the first whole attempt, or else that of the last data words with filler words after them
   pub is : unit_for h r ≡ Some u
 
--- why the group gives none; memory may be refused only where each request wants as many words
+-- why the group makes none; memory may be refused only where each request asks for as many words
 abbrev pub IsWhyNoUnit : HeardValue → Request → Stop → Type 0
 IsWhyNoUnit h r (Unexplained i NotOneBlock) = other_for h r ≡ Some i
 IsWhyNoUnit h r (Unexplained i NeverWhole) = (i ≡ r.group.from) × (other_for h r ≡ None) × (unit_for h r ≡ None)
@@ -42,7 +42,7 @@ IsWhyNoUnit h r OutOfMemory = other_for h r ≡ None
 
 -- ---- all three
 
--- the words of the group stand, too, in the block of its link data unit under these numbers: each is matched with the
+-- the words of the group are, too, some of the block of its link data unit under these numbers: each is matched with the
 -- first equal word there that is not yet passed, at each request from the start of the block on
 pub record IsMatchedUnit (h : HeardValue) (r : Request) (place : UnitNumber) (u : LduValue) : Type 0 where
   pub gives : IsUnitFor h r u

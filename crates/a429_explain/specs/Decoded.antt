@@ -18,7 +18,7 @@ pub record HeardValue : Type 0 where
 abbrev pub sights_of : Codes → List Seen → List Sight
 sights_of c items = map (λ i. sight_of c i.bus i.word) items
 
--- what the word at a place is; past the last word nothing is said to the transfer
+-- what the word at a place is; past the last word it is free
 abbrev pub sight_at : Codes → Option Seen → Sight
 sight_at c None = sight.Free
 sight_at c (Some i) = sight_of c i.bus i.word

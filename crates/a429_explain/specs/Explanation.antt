@@ -1,4 +1,4 @@
--- What is said of a certificate that is written for a guess, and why none is written (profile).
+-- The certificate of a guess, and why none is written (profile).
 use Rattle.std.specs.Prelude.{◌≡◌, ◌<◌, ℕ, List, Some, take, length, slice_get}
 use Rattle.a429_profile.specs.Profile.{Contents}
 use Rattle.a429_link.specs.declared.seen.Seen.{Seen}
@@ -20,7 +20,7 @@ use Rattle.a429_explain.specs.declared.explanation.Refusal.TheVariants.{NotRepla
 abbrev pub HasNoFault : Contents → List ℕ → List Seen → Type 0
 HasNoFault p certificate items = (f : CertFault) → ¬ IsFirstCertFault p certificate items f
 
--- the certificate is of the least version that can say the steps of its run: of version 2 exactly where one gives a file up
+-- the certificate is of the least version that has all steps of its run: of version 2 exactly where one gives a file up
 pub record HasLeastVersion (p : Contents) (certificate : List ℕ) (items : List Seen) : Type 0 where
   pub first : ℕ
   pub steps : List Step

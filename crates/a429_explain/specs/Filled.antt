@@ -1,5 +1,5 @@
 -- The link data unit of a group of which no attempt was recorded whole (profile): the data words of the last attempt
--- that recorded any, and filler words behind them.
+-- that recorded any, and filler words after them.
 use Rattle.std.specs.Prelude.{ℕ, zero, suc, ◌-◌, ◌%◌, ◌==◌, Bool, true, false, ◌||◌, if◌then◌else◌, Option, Some, None, unwrap_or, List, [], ◌∷◌, ◌++◌, length}
 use Rattle.std.specs.Option.{option_or}
 use Rattle.a429_profile.specs.declared.codes.Codes.{Codes}
@@ -69,7 +69,7 @@ abbrev pub fillers : Codes → Bool → ℕ → List ℕ
 fillers c odd zero = []
 fillers c odd (suc n) = word_number c (Part (zeros odd n)) ∷ fillers c odd n
 
--- data words, and filler words up to as many as stand in a block of so many words, between its start and its end word
+-- data words, and filler words up to as many as a block of so many words has between its start and its end word
 abbrev pub filled_up : Codes → ℕ → List ℕ → List ℕ
 filled_up c wants words = words ++ fillers c (are_odd c words) (wants - 2 - length words)
 
@@ -78,7 +78,7 @@ filled_up c wants words = words ++ fillers c (are_odd c words) (wants - 2 - leng
 abbrev pub unit_filled : Contents → ℕ → ℕ → List ℕ → Option LduValue
 unit_filled p wants gfi words = unit_made p wants (Some gfi) words 0 (check_of p.check (bytes_in p.codes words))
 
--- that of a group whose requests want so many words; none where an end word was recorded
+-- that of a group whose requests ask for so many words; none where an end word was recorded
 abbrev pub filled : Contents → ℕ → List Seen → Option LduValue
 filled p wants items = if has_end p.codes items then None else unit_filled p wants (first_gfi p.codes items) (filled_up p.codes wants (last_data p.codes items none_yet))
 

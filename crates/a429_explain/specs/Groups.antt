@@ -1,4 +1,4 @@
--- Where a group of attempts ends, and what it says of its link data unit (profile). It ends with an acknowledgement behind which
+-- Where a group of attempts ends, and what it says of its link data unit (profile). It ends with an acknowledgement after which
 -- that unit does not start again, and before an attempt whose start word has other numbers than those before it.
 use Rattle.std.specs.Prelude.{ℕ, suc, ◌+◌, ◌-◌, Bool, true, false, not, if◌then◌else◌, Option, Some, None, List, [], ◌∷◌, drop, slice_get, slice_range}
 use Rattle.std.specs.Option.{option_or}
@@ -29,7 +29,7 @@ abbrev pub start_in : Grouping → Option UnitNumber
 start_in Between = None
 start_in (Within start) = start
 
--- where a recording stands behind a word
+-- whether a group has begun after a word
 abbrev pub with_role : Grouping → Role → Grouping
 with_role g (Request n start) = Within (option_or start (start_in g))
 with_role g (Acknowledged ends) = if ends then Between else g

@@ -47,13 +47,13 @@ first_place p items = first_number p.codes (first_file_of (forms_of p.codes item
 
 -- ---- plans
 
--- the first request from place `at` on stands here
+-- the first request from place `at` on is here
 pub record IsFirstRequest (c : Codes) (items : List Seen) (at from wants : ℕ) : Type 0 where
   pub behind : at ≤ from
   pub request : wanted (sight_at c (slice_get items from)) ≡ Some wants
   pub none : (k : ℕ) → at ≤ k → k < from → wanted (sight_at c (slice_get items k)) ≡ None
 
--- no request stands from place `at` on
+-- there is no request from place `at` on
 abbrev pub IsNoRequestFrom : Codes → List Seen → ℕ → Type 0
 IsNoRequestFrom c items at = (k : ℕ) → at ≤ k → wanted (sight_at c (slice_get items k)) ≡ None
 
@@ -83,7 +83,7 @@ pub record IsNextPlan (p : Contents) (items : List Seen) (rs : List Role) (place
   pub give_ups : plan.give_ups ≡ give_ups_from place (group_start rs (group_from rs from))
   pub is : IsMatchedUnit (decoded p items) (request_at rs from wants) (place_at_group p.codes rs (group_from rs from) place) plan.unit
 
--- the first groups from place `at` on, to the first of which the source comes with these numbers, have these plans; behind
+-- the first groups from place `at` on, to the first of which the source comes with these numbers, have these plans; after
 -- them this comes, at the numbers and the place that follow
 abbrev pub ArePlansBefore : (UnitNumber → ℕ → Type 0) → Contents → List Seen → List Role → UnitNumber → ℕ → List Plan → Type 0
 ArePlansBefore Comes p items rs place at [] = Comes place at

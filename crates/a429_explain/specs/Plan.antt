@@ -13,7 +13,7 @@ use Rattle.a429_explain.specs.declared.plan.Plan.{Plan}
 -- ---- numbers
 
 -- those of a group whose first start word has these, where the source comes to it with those of `place`: if the file is another,
--- the source gives each file up before that one
+-- the source gives up each file before that one
 abbrev pub place_from : Codes → UnitNumber → Option UnitNumber → UnitNumber
 place_from c place None = place
 place_from c place (Some start) = if start.file == place.file then place else first_number c start.file

@@ -24,7 +24,7 @@ use Rattle.a429_explain.specs.declared.scribe.Scribe.{Scribe}
 
 -- ---- the text
 
--- the text of these lines, each with a line feed behind it
+-- the text of these lines, each with a line feed after it
 abbrev pub lines_text : List (List ℕ) → List ℕ
 lines_text [] = []
 lines_text (line ∷ lines) = line ++ 10 ∷ lines_text lines
@@ -33,7 +33,7 @@ lines_text (line ∷ lines) = line ++ 10 ∷ lines_text lines
 abbrev pub in_version : Bool → List ℕ → List ℕ
 in_version gave_up text = if gave_up then slice_set text 14 50 else text
 
--- the text is a certificate of a run that records these words and leads to the link's state, save that its first line is
+-- the text is a certificate of a run that records these words and leads to the link's state, except that its first line is
 -- that of version 1, and `gave_up` says whether it gives a file up
 pub record HasWritten (first : ℕ) (items : List Seen) (text : List ℕ) (gave_up : Bool) (l : LinkValue) : Type 0 where
   pub byte : first ≤ 255
@@ -45,7 +45,7 @@ pub record HasWritten (first : ℕ) (items : List Seen) (text : List ℕ) (gave_
   pub ends : l.state ≡ end_of l.profile steps (start l.profile first)
   pub gave_up_is : gave_up ≡ gives_up steps
 
--- words, and one behind them where there is one
+-- words, and one after them where there is one
 abbrev pub with_next : Option Seen → List Seen → List Seen
 with_next None items = items
 with_next (Some i) items = items ++ i ∷ []
@@ -66,7 +66,7 @@ link_after steps l = record l { state = end_of l.profile steps l.state }
 abbrev pub CanMake : List Step → LinkValue → Type 0
 CanMake steps l = IsRun l.profile steps l.state
 
--- what is refused is refused for want of memory alone
+-- the only reason for a refusal is out of memory
 abbrev pub OnlyLacksMemory : {X : Type 0} → Result X StepFault → Type 0
 OnlyLacksMemory r = IfErr r (λ e. e ≡ OutOfMemory)
 
@@ -82,7 +82,7 @@ answered i = step.Answered i ∷ (step.TakeAnswer ∷ [])
 abbrev pub IsAtRest : LinkValue → Type 0
 IsAtRest l = IsIdle l.state.source.phase × Listens l.state.sink.phase
 
--- ---- the first request of a group: the source gives up the files of its plan, and is given its link data unit
+-- ---- the first request of a group: the source gives up the files of its plan, and loads its link data unit
 
 abbrev pub giving_up : ℕ → List Step
 giving_up files = replicate files step.GiveUp

@@ -21,7 +21,7 @@ abbrev pub IsSoundVerdict : Contents → List Seen → Verdict → Type 0
 IsSoundVerdict p items (Explained certificate files) = IsExplained p certificate items files × AreInEveryRun p items files
 IsSoundVerdict p items _ = Unit {0}
 
--- in the certificate there is no fault, so `verify` accepts it, want of memory aside
+-- in the certificate there is no fault, so `verify` accepts it, unless it is out of memory
 abbrev pub IsAccepted : Contents → List Seen → Verdict → Type 0
 IsAccepted p items (Explained certificate files) = HasNoFault p certificate items
 IsAccepted p items _ = Unit {0}
@@ -53,7 +53,7 @@ abbrev pub IsDoubted : Contents → List Seen → Verdict → Type 0
 IsDoubted p items (Unexplained i doubt) = IsDoubtAt p.codes items i doubt
 IsDoubted p items _ = Unit {0}
 
--- the verdict stands where the first test fails: whether each word is allowed after those before it, then whether each group
+-- the verdict is at the first test that fails: whether each word is allowed after those before it, then whether each group
 -- passes its tests, then whether the steps can be made
 abbrev pub IsFirst : Contents → List Seen → Verdict → Type 0
 IsFirst p items (Impossible i reason) = IsFirstRefused p items i

@@ -1,5 +1,5 @@
 -- Which link data unit a group carries (profile). A whole attempt has a start word, as many data words as its request
--- wants, that carry bytes, and an end word whose check word agrees.
+-- asks for, that carry bytes, and an end word whose check word agrees.
 use Rattle.std.specs.Prelude.{◌≡◌, ◌<◌, ◌≤◌, ℕ, ◌+◌, ◌==◌, Bool, false, not, ◌&&◌, if◌then◌else◌, Option, Some, None, is_some, List, [], ◌∷◌, ◌++◌, length, slice_get}
 use Rattle.std.specs.Option.{option_or}
 use Rattle.a429_ldu.specs.CheckWord.{agrees}
@@ -33,7 +33,7 @@ gathered_with (Some (Sot gfi file ldu)) word r = record { start = Some gfi; word
 gathered_with (Some (Part semis)) word r = record { start = r.start; words = r.words ++ word ∷ [] }
 gathered_with _ word r = r
 
--- data words and a check word are those that such a request wants
+-- data words and a check word are those of a unit for which such a request asks
 abbrev pub is_whole : Contents → ℕ → List ℕ → ℕ → Bool
 is_whole p count words check = (length words + 2 == count) && (is_some (bytes_carried p.codes words) && agrees p.check (bytes_in p.codes words) check)
 
@@ -52,7 +52,7 @@ abbrev pub first_whole : Contents → ℕ → List Seen → Recorded → Option 
 first_whole p count [] r = None
 first_whole p count (i ∷ items) r = option_or (ended_by p count (form_of p.codes i.bus i.word) r) (first_whole p count items (gathered_with (form_of p.codes i.bus i.word) i.word r))
 
--- how many words a request wants
+-- how many words a request asks for
 abbrev pub wanted : Sight → Option ℕ
 wanted (sight.Form (Rts n)) = Some n
 wanted _ = None
@@ -61,12 +61,12 @@ abbrev pub is_other : ℕ → Option ℕ → Bool
 is_other count None = false
 is_other count (Some n) = not (n == count)
 
--- the place of the first request that wants another number of words, the places counted from k
+-- the place of the first request that asks for another number of words, the places counted from k
 abbrev pub other_request : Codes → ℕ → List Seen → ℕ → Option ℕ
 other_request c count [] k = None
 other_request c count (i ∷ items) k = if is_other count (wanted (sight_of c i.bus i.word)) then Some k else other_request c count items (k + 1)
 
--- the group stands in the recording, and begins with a request that wants so many words
+-- the group is one of the recording, and begins with a request that asks for so many words
 pub record IsRequestOf (h : HeardValue) (r : Request) : Type 0 where
   pub some : r.group.from < r.group.to
   pub inside : r.group.to ≤ length h.items

@@ -15,8 +15,8 @@ use std::alloc::{AllocError, Global};
 pub enum Role {
     /// The transfer passes over it.
     Free,
-    /// A request: an attempt begins, whose block has so many words; and the numbers of its start word,
-    /// where one was recorded. `explain_by` looks at neither: its plans say at which requests a group begins.
+    /// A request: an attempt begins. Its block has so many words, 3 to 255; and the numbers of its start word, where
+    /// one was recorded. `explain_by` looks at neither: its plans say at which requests a group begins.
     Request {
         count: u8,
         start: Option<UnitNumber>,
@@ -37,7 +37,7 @@ pub enum Role {
     },
 }
 
-// What is recorded behind a word.
+// What is recorded after a word.
 #[derive(Clone, Copy, Debug)]
 pub(crate) struct Ahead {
     /// A word of a block comes before the next request.
@@ -48,7 +48,7 @@ pub(crate) struct Ahead {
     pub start: Option<UnitNumber>,
 }
 
-/// The role of each recorded word, by the rule of `check`.
+/// The role of each recorded word, by the rule of `check` (docs/CHECKER.md). The error is out of memory.
 pub fn roles(alloc: Global, decoded: &Decoded) -> Result<Vec<Role>, AllocError>
     ensures { IfOk result (λ found. found.items ≡ roles (forms_of decoded.now.profile.codes decoded.now.items)) }
 {
@@ -98,7 +98,7 @@ fn are_numbers(start: Option<UnitNumber>, file: u8, ldu: u8) -> bool
     }
 }
 
-// What is ahead of the word before this one.
+// What is recorded after the word before this one.
 fn before(form: &Option<Form>, ahead: Ahead) -> Ahead
     ensures { (more : List (Option Form)) → IsAhead more ahead → IsAhead (form.now ∷ more) result }
 {

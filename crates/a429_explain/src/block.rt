@@ -18,7 +18,7 @@ use a429_ldu::Ldu;
 use a429_link::UnitNumber;
 use std::alloc::Global;
 
-/// The link data unit of a group, where each word of the group stands in its block under these numbers.
+/// The link data unit of a group, whose words are some of its block under these numbers; or the group's first doubt.
 pub(crate) fn matched_unit(
     alloc: Global,
     decoded: &Decoded,
@@ -48,9 +48,9 @@ pub(crate) fn matched_unit(
     }
 }
 
-// The link data unit of a group whose first request wants this many words. The first whole attempt
-// gives it. Where there is none, and no end word was recorded, it is one of the data words of the last
-// attempt that recorded any, and of filler words behind them.
+// The link data unit of a group whose first request asks for so many words: that of its first whole attempt. Where
+// there is none, and no end word was recorded, it is made of the data words of the last attempt that recorded any,
+// and of filler words after them.
 fn unit_of(alloc: Global, decoded: &Decoded, request: Request) -> Result<Ldu, Stop>
     requires { IsRequestOf decoded.now request }
     ensures ok { IfOk result (λ u. IsUnitFor decoded.now request u) }
@@ -78,7 +78,7 @@ fn unit_of(alloc: Global, decoded: &Decoded, request: Request) -> Result<Ldu, St
     }
 }
 
-// The first request of a group that wants another number of words.
+// The first request of a group that asks for another number of words than its first one.
 fn other_request(decoded: &Decoded, request: Request) -> Option<usize>
     requires { request.group.to ≤ length decoded.now.items }
     ensures first { result ≡ other_for decoded.now request }

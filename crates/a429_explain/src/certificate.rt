@@ -26,14 +26,14 @@ impl Certificate {
         Certificate { text }
     }
 
-    /// The text, lent.
+    /// The text's bytes.
     pub fn as_slice(&self) -> &[u8]
         ensures { result.now ≡ self.now }
     {
         self.text.as_slice()
     }
 
-    /// The text, given away.
+    /// The list that holds the text, without taking memory.
     pub fn into_vec(self) -> Vec<u8>
         ensures { result.items ≡ self }
     {

@@ -17,9 +17,9 @@ use a429_profile::Profile;
 use a429_record::Entry;
 use std::alloc::Global;
 
-/// The verdict on a recording, under the profile of its bench: whether no run of source and sink records
-/// its words; or else the certificate of one that does, as far as one is found. `verify` accepts that
-/// certificate, which is of version 2 exactly where a file is given up.
+/// The verdict on a recording under the profile of its bench, by the rule of `check` (docs/CHECKER.md): impossible, where no
+/// run of source and sink records its words; explained, with the certificate of a run that does; or unexplained, where
+/// none is found. `verify` accepts the certificate, which is of version 2 exactly where its run gives a file up.
 pub fn check(alloc: Global, profile: &Profile, entries: &[Entry]) -> Result<Verdict, OutOfMemory>
     ensures explained { IfOk result (λ v. IsSoundVerdict profile.now (items_of entries.now) v) }
     ensures accepted { IfOk result (λ v. IsAccepted profile.now (items_of entries.now) v) }
@@ -59,7 +59,7 @@ fn explain(
         Err(Stop::Unexplained { entry, doubt }) => return Ok(Verdict::Unexplained { entry, doubt }),
         Err(Stop::OutOfMemory) => return Err(OutOfMemory),
     };
-    // The lines are written by the roles: what the words say is not needed beside the text.
+    // The lines follow from the roles, so what each word is takes no memory beside the text.
     drop(decoded);
     match explain_by(alloc, profile, entries, guess) {
         Ok(Explanation { certificate, files }) => Ok(Verdict::Explained { certificate, files }),

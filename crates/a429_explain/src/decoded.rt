@@ -1,4 +1,4 @@
-//! What each recorded word says.
+//! What each recorded word is.
 
 ghost use Rattle.std.specs.Prelude.{◌≡◌, ◌<◌, IfSome, length, slice_get};
 ghost use Rattle.a429_profile.specs.Profile.{IsProfile};
@@ -40,7 +40,7 @@ impl<'a> Model for Decoded<'a> {
 }
 
 impl<'a> Decoded<'a> {
-    /// What a recording says, where each of its words is this.
+    /// A recording of which each word is this.
     pub(crate) fn new(profile: &'a Profile, entries: &'a [Entry], sights: Vec<Sight>) -> Decoded<'a>
         requires { sights.items ≡ sights_of profile.now.codes (items_of entries.now) }
         ensures { result ≡ record { profile = profile.now; items = items_of entries.now } }
@@ -69,7 +69,7 @@ impl<'a> Decoded<'a> {
         self.entries.len()
     }
 
-    /// What the word at this place is.
+    /// What the word at this place is, counted from 0.
     pub fn sight(&self, at: usize) -> Sight
         requires { at < length self.now.items }
         ensures { result ≡ sight_at self.now.profile.codes (slice_get self.now.items at) }

@@ -15,7 +15,7 @@ use a429_profile::Profile;
 use a429_record::Entry;
 use std::alloc::Global;
 
-// About how many bytes the lines of an entry take where no word is lost: a certificate begins with room for so many.
+// The lines of an entry take about so many bytes where no word is lost: a certificate begins with this room for each.
 const BYTES_OF_AN_ENTRY: usize = 40;
 
 /// A certificate that explains a recording, and the files that are delivered in every run that records its words.
@@ -28,13 +28,13 @@ pub struct Explanation {
 /// Why no certificate is written for a guess.
 #[derive(Clone, Copy, Debug, PartialEq, Eq)]
 pub enum Refusal {
-    /// The guessed steps record the entries before this one, counted from 0, and its own steps cannot be made.
+    /// The guessed steps record the entries before this one, counted from 0, and those of this one cannot be made.
     NotReplayed { entry: usize },
     OutOfMemory,
 }
 
-/// Writes the certificate of a guess: makes its steps on a link, one entry after the other, and a line for each. What is
-/// guessed is not trusted: a step that the link refuses ends it.
+/// Writes the certificate of a guess: it makes the steps on a link, entry after entry, and writes a line for each. The guess
+/// is not trusted: at a step that the link refuses it returns `NotReplayed`.
 pub fn explain_by(
     alloc: Global,
     profile: &Profile,

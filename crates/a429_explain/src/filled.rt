@@ -18,9 +18,9 @@ use a429_word::Word;
 use std::alloc::{AllocError, Global};
 use std::marker::Model;
 
-/// A link data unit of so many words in all: its first data words are those of the last attempt that
-/// recorded any, and filler words follow. None where an end word was recorded, where there are more data
-/// words than that, or where no filler word can be added and the semi-octets are odd in number.
+/// A link data unit whose block has so many words: its first data words are those of the last attempt that
+/// recorded any, and filler words follow. `None` where an end word was recorded, where there are more data words than
+/// that, or where no filler word can be added and the semi-octets are odd in number.
 pub(crate) fn filled_unit(
     alloc: Global,
     decoded: &Decoded,

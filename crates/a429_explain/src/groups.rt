@@ -1,4 +1,4 @@
-//! Where a group of attempts stands in a recording, and how many words its requests want.
+//! The groups of attempts in a recording, and how many words their requests ask for.
 
 ghost use Rattle.std.specs.Prelude.{◌≡◌, ◌<◌, ◌≤◌, ◌+◌, Some, drop, length};
 ghost use Rattle.a429_explain.specs.Groups.{are_other, stays_within, start_in, with_role, group_length, start_of, group_start, ends_its_group, is_settled};
@@ -15,25 +15,25 @@ pub(crate) struct Group {
     pub to: usize,
 }
 
-/// A group, and how many words its first request wants.
+/// A group, and how many words its first request asks for, 3 to 255.
 #[derive(Clone, Copy, Debug)]
 pub(crate) struct Request {
     pub group: Group,
     pub count: u8,
 }
 
-/// Where a recording stands between two words.
+/// Whether a group has begun between two words of a recording.
 #[derive(Clone, Copy, Debug, PartialEq, Eq)]
 pub(crate) enum Grouping {
     /// Between two groups.
     Between,
-    /// Within a group, and the numbers of its start words, where one was recorded.
+    /// Within a group; with the numbers of its start words, where one was recorded.
     Within { start: Option<UnitNumber> },
 }
 
 impl Grouping {
-    /// A word belongs to the group that those before it have begun: it is no request of an attempt that
-    /// records a start word of other numbers.
+    /// Whether the next word belongs to the group that has begun: it does unless it is the request of an attempt
+    /// whose start word has other numbers.
     pub(crate) fn goes_on(self, role: Role) -> bool
         ensures { result ≡ stays_within self role }
     {
@@ -46,7 +46,7 @@ impl Grouping {
         }
     }
 
-    /// Where it stands behind a word.
+    /// The same after this word.
     pub(crate) fn with_role(self, role: Role) -> Grouping
         ensures { result ≡ with_role self role }
     {
@@ -139,7 +139,7 @@ fn settles(role: Role) -> bool
     matches!(role, Role::Acknowledged { ends_group: true })
 }
 
-/// How many words a request wants, if a word is one.
+/// How many words a request asks for, if the word is one.
 pub(crate) fn wanted(sight: Sight) -> Option<u8>
     ensures { result ≡ wanted sight }
 {

@@ -1,4 +1,4 @@
-//! What is guessed of the run that recorded a recording's words.
+//! A guess of the run that recorded the words of a recording.
 
 ghost use Rattle.std.specs.Prelude.{◌≡◌, List, IfOk, IfErr};
 ghost use Rattle.a429_ldu.specs.Ldu.{LduValue};
@@ -20,10 +20,10 @@ use a429_link::UnitNumber;
 use std::alloc::Global;
 use std::collections::VecDeque;
 
-/// What is guessed of the run that recorded some entries: the steps follow from it, one entry after the other.
+/// A guess of the run that recorded some entries. Its steps follow from the guess, entry after entry.
 #[derive(Drop)]
 pub struct Guess {
-    /// The number of the file that the source begins with.
+    /// The number of the file with which the source begins, 0 to 255.
     pub first_file: u8,
     /// What each entry is to the steps, entry 0 first.
     pub roles: Vec<Role>,
@@ -32,8 +32,8 @@ pub struct Guess {
     pub plans: VecDeque<Plan>,
 }
 
-/// The guess by the rule of `check`, for a recording that no word is refused of; or the first doubt of its groups. Of
-/// a recording without loss it is the run that crosses without loss.
+/// The guess by the rule of `check`, for a recording of which no word is refused; or the first doubt of its groups. Of
+/// a recording without loss it is the run in which nothing is lost.
 pub(crate) fn guess_of(alloc: Global, decoded: &Decoded) -> Result<Guess, Stop>
     ensures sound { IfOk result (λ g. IsGuess decoded.now.profile decoded.now.items g) }
     ensures groups { IfOk result (λ g. HasNoDoubt decoded.now.profile decoded.now.items) }
@@ -80,8 +80,8 @@ fn started(form: &Option<Form>) -> Option<u8>
     }
 }
 
-// What the source does before each group, in their order. Of a recording without loss it gives nothing up,
-// and is given the link data units that crossed.
+// What the source does before each group, in their order. Of a recording without loss it gives nothing up, and loads
+// the link data units that crossed.
 fn plans_of(
     alloc: Global,
     decoded: &Decoded,

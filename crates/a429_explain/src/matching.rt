@@ -13,8 +13,8 @@ use a429_link::UnitNumber;
 use a429_profile::Profile;
 use a429_word::Word;
 
-/// The first word of a block in a group that is not one of this link data unit: in each attempt the words
-/// recorded stand in the unit's block in their order.
+/// The first start, data or end word of a group that is not matched with a word of this link data unit's block: in each
+/// attempt the recorded words have to be some of the block, in their order.
 pub(crate) fn first_unmatched(
     decoded: &Decoded,
     group: Group,
@@ -40,7 +40,8 @@ pub(crate) fn first_unmatched(
     None
 }
 
-// How many words of the block are passed with this word, where so many are passed before it.
+// How many words of the block are passed with this word, where `passed` are passed before it; none where it is not
+// matched.
 fn passing(
     profile: &Profile,
     unit: &Ldu,

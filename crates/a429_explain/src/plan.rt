@@ -10,7 +10,7 @@ use a429_profile::Profile;
 use std::collections::VecDeque;
 
 /// What the source does before it sends the first request of a group: it gives up so many files, one after the
-/// other, and is given this link data unit.
+/// other, and loads this link data unit.
 #[derive(Debug, Drop)]
 pub struct Plan {
     /// The entry of that request, counted from 0.
@@ -19,8 +19,7 @@ pub struct Plan {
     pub unit: Ldu,
 }
 
-/// The plan that is carried out before this entry, taken from those that come next: at a request, the first of
-/// them where it is one for this entry.
+/// Takes the plan for this entry from the plans that come next: at a request the first of them, if it is for this entry.
 pub(crate) fn take_plan(plans: &mut VecDeque<Plan>, role: Role, at: usize) -> Option<Plan>
     ensures taken { result ≡ plan_for role at plans.old.items }
     ensures left { plans.new.items ≡ plans_left role at plans.old.items }
@@ -41,8 +40,8 @@ fn begins_at(plans: &VecDeque<Plan>, at: usize) -> bool
     }
 }
 
-/// The numbers of a group whose first start word has these, where the source comes to it with those of
-/// `place`.
+/// The numbers of a group, where the source comes to it with those of `place`, and its first start word has those of
+/// `start`: where that has another file, those of the first unit of that file.
 pub(crate) fn place_from(
     profile: &Profile,
     place: UnitNumber,
@@ -56,7 +55,7 @@ pub(crate) fn place_from(
     }
 }
 
-/// How many files the source gives up before that group.
+/// How many files the source gives up before that group, 0 to 255.
 pub(crate) fn give_ups_from(place: UnitNumber, start: Option<UnitNumber>) -> u8
     ensures { result ≡ give_ups_from place start }
 {

@@ -7,7 +7,7 @@ ghost use Rattle.a429_explain.specs.Screening.{AreAnswers, window_at};
 use a429_record::{Entry, SCREENED, screen_entries};
 use std::marker::Model;
 
-/// The entries of a recording, with what `screen` answers by a label for the words of some in a row.
+/// The entries of a recording, with what `screen` returns, by one label, for the words of some of them in a row.
 #[derive(Drop)]
 pub(crate) struct Screening<'a> {
     entries: &'a [Entry],
@@ -40,8 +40,8 @@ impl<'a> Screening<'a> {
         }
     }
 
-    /// What `screen` answers for the word of an entry. Where that is not known yet, the entries behind it
-    /// are screened too.
+    /// What `screen` returns for the word of an entry. Where that is not known yet, the entry is screened together with
+    /// those after it.
     pub(crate) fn answer(&mut self, at: usize) -> u8
         requires { at < length self.old.entries }
         ensures answer { IfSome (slice_get self.old.entries at) (λ e. result ≡ screened self.old.label e.word) }
@@ -56,7 +56,7 @@ impl<'a> Screening<'a> {
     }
 }
 
-// What `screen` answers for the words of the entries from a place on, as many as are screened together.
+// What `screen` returns for the words of the entries from a place on, 256 at most.
 fn answers_from(entries: &[Entry], label: u8, from: usize) -> [u8; SCREENED]
     requires { from ≤ length entries.now }
     ensures { AreAnswers label (window_at entries.now from) result }

@@ -34,7 +34,8 @@ pub(crate) struct Scribe<'a> {
 }
 
 impl<'a> Scribe<'a> {
-    /// The first two lines, where the first file has this number, and room for so many bytes at first.
+    /// A certificate of two lines, the second with the number of the first file, and with room for so many bytes at
+    /// first.
     pub(crate) fn new(
         alloc: Global,
         profile: &'a Profile,
@@ -81,8 +82,9 @@ impl<'a> Scribe<'a> {
         (text, files)
     }
 
-    /// Writes the lines of the next entry. Before a request that begins a group the source does what its plan says;
-    /// at one without a plan it asks again for the link data unit that it has. A step that can't be made is refused.
+    /// Writes the lines of the next entry. Before a request that begins a group the source does what the plan says; at
+    /// a request without a plan it asks again for the link data unit that it has. Fails at a step that cannot be made,
+    /// or out of memory.
     pub(crate) fn write_entry(
         &mut self,
         seen: Seen,
@@ -220,7 +222,7 @@ impl<'a> Scribe<'a> {
         Err(StepFault::NotAllowed)
     }
 
-    // An answer of the sink is recorded, and the source takes it, or it is lost behind the recorder.
+    // An answer of the sink is recorded, and the source takes it, or it is lost after the recorder.
     fn answer(&mut self, seen: Seen, is_taken: bool) -> Result<(), StepFault>
         ensures profile { self.new.link.profile ≡ self.old.link.profile }
         ensures written { OnOk result (WritesNext (Some seen) self.old self.new) }
@@ -239,7 +241,7 @@ impl<'a> Scribe<'a> {
         }
     }
 
-    // Where a group begins, the source gives up the files of its plan, and is given its link data unit.
+    // Where a group begins, the source gives up the files of its plan, and loads its link data unit.
     fn begin(&mut self, plan: Option<Plan>) -> Result<(), StepFault>
         requires { IfSome plan (λ q. IsLdu self.old.link.profile q.unit) }
         ensures profile { self.new.link.profile ≡ self.old.link.profile }
@@ -274,7 +276,7 @@ impl<'a> Scribe<'a> {
         Ok(())
     }
 
-    // The source is given a link data unit.
+    // The source loads a link data unit.
     fn load(&mut self, unit: Ldu) -> Result<(), StepFault>
         requires { IsLdu self.old.link.profile unit }
         ensures profile { self.new.link.profile ≡ self.old.link.profile }

@@ -3,11 +3,11 @@
 use crate::certificate::Certificate;
 use a429_cert::Verified;
 
-/// The verdict on a recording.
+/// The verdict on a recording (profile).
 #[derive(Debug, Drop)]
 pub enum Verdict {
-    /// A run records these words and no others: the certificate lists its steps. In every run that
-    /// records them these files are delivered.
+    /// A run records exactly these words: the certificate lists its steps. Every run that records them delivers exactly
+    /// these files.
     Explained {
         certificate: Certificate,
         files: Verified,
@@ -24,25 +24,26 @@ pub enum Verdict {
     },
 }
 
-/// Why no run records a word after those before it.
+/// Why no run records a word after those before it (docs/CHECKER.md, Impossible).
 #[derive(Clone, Copy, Debug, PartialEq, Eq)]
 pub enum Reason {
-    /// It claims to be a word of the transfer, and has no form.
+    /// It has the label of the transfer and no form.
     NoForm,
-    /// A word of a block that was not granted, or not so far.
+    /// It is a start, data or end word without a clear answer before it, or one word too many.
     NotGranted,
-    /// An answer that is not owed.
+    /// It is an answer that the sink does not owe.
     WrongAnswer,
 }
 
-/// Why a recording that may be that of a run is not explained.
+/// Why a recording is neither explained nor impossible: what the rule of `check` was missing (docs/CHECKER.md, Attempts
+/// and groups).
 #[derive(Clone, Copy, Debug, PartialEq, Eq)]
 pub enum Doubt {
-    /// The link data unit that begins with this request was never recorded whole, though an end word was,
-    /// or it has room for no whole bytes.
+    /// The link data unit of this request was never recorded whole, although an end word was; or no filler words make
+    /// its semi-octets whole bytes.
     NeverWhole,
-    /// This word does not belong to the link data unit that the others of its requests make.
+    /// This word is not one of the link data unit that the other words of its group make.
     NotOneBlock,
-    /// The steps that were guessed can not be made from here on.
+    /// The guessed steps cannot be made from this entry on.
     NotReplayed,
 }

@@ -1,4 +1,4 @@
-//! What a recording says, word after word, up to the first that no run records.
+//! What each word of a recording is, up to the first that no run records.
 
 ghost use Rattle.std.specs.Prelude.{◌≡◌, ◌↔◌, IsOk, IfOk, IfErr, OnOk, length};
 ghost use Rattle.a429_word.specs.Screening.{screened};
@@ -25,13 +25,13 @@ use std::alloc::Global;
 /// Why a recording is not decoded to its end.
 #[derive(Clone, Copy, Debug)]
 pub enum Halt {
-    /// The words before this entry, counted from 0, do not allow it.
+    /// The words before this entry, counted from 0, do not allow its word.
     Refused { entry: usize, reason: Reason },
     OutOfMemory,
 }
 
-/// What a recording says, where its words allow each other. Else the first entry that no run records
-/// after those before it, and why. Each word is looked at once.
+/// What each word of a recording is, where each is allowed after those before it; else the first entry that is not,
+/// which no run records there, and why. Each word is looked at once.
 pub fn walk<'a>(
     alloc: Global,
     profile: &'a Profile,
@@ -73,8 +73,8 @@ fn screening_of<'a>(profile: &Profile, entries: &'a [Entry]) -> Screening<'a>
     Screening::new(entries, profile.codes().to_sink)
 }
 
-// Takes the next recorded word, as an observer does, where it is known what `screen` answers for it by the
-// label of bus A: most words of that bus that are free are told by this alone.
+// Takes the next recorded word, as an observer does. `answer` is what `screen` returns for it by the label of bus A:
+// that alone shows most free words of that bus.
 fn see_screened(
     observer: &mut Observer,
     profile: &Profile,

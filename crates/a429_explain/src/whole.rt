@@ -13,7 +13,8 @@ use a429_word::Word;
 use std::alloc::{AllocError, Global};
 use std::marker::Model;
 
-/// The link data unit of the first whole attempt of a group whose requests want this many words.
+/// The link data unit of the first whole attempt of a group whose requests ask for so many words; `None` where no attempt
+/// is whole.
 pub(crate) fn whole_unit(
     alloc: Global,
     decoded: &Decoded,
@@ -86,7 +87,7 @@ impl Attempt {
         Ok(())
     }
 
-    // The link data unit that a word of this form makes of the words before it.
+    // The link data unit that a word of this form ends, with the words before it.
     fn ended_by(
         &self,
         alloc: Global,
@@ -113,8 +114,7 @@ impl Attempt {
     }
 }
 
-/// What the words around the data words say: the general format identifier of the start word, where there
-/// is one, and what the end word has.
+/// The general format identifier of the start word, where there is one, and flags and check word of the end word.
 #[derive(Clone, Copy, Debug)]
 pub(crate) struct Ends {
     pub start: Option<u8>,
@@ -122,8 +122,8 @@ pub(crate) struct Ends {
     pub check: u16,
 }
 
-/// The link data unit that a start word, data words and an end word make, where its requests want this
-/// many words.
+/// The link data unit that a start word, data words and an end word make, where the request asks for as many words;
+/// `None` where they make none. The error is out of memory.
 pub(crate) fn unit_with(
     alloc: Global,
     profile: &Profile,

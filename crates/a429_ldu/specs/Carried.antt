@@ -49,7 +49,7 @@ semis_held bytes low = semis_of_bytes bytes ++ option_to_list low
 abbrev pub AddSemis : Codes → List ℕ → List ℕ → Option ℕ → List ℕ → Option ℕ → Type 0
 AddSemis c words bytes low more rest = joined_to (Some (semis_held bytes low)) (semis_of_words c words) ≡ Some (semis_held more rest)
 
--- how many are held
+-- how many semi-octets that is
 abbrev pub semis_count : ℕ → Option ℕ → ℕ
 semis_count bytes low = 2 * bytes + length (option_to_list low)
 

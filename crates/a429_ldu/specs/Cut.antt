@@ -10,7 +10,7 @@ use Rattle.a429_ldu.specs.Ldu.{LduValue, is_final}
 abbrev pub unit_of : Contents → List ℕ → ℕ → LduValue
 unit_of p bytes flags = record { gfi = 0; flags = flags; check = check_of p.check bytes; words = data_words p.codes bytes }
 
--- the largest whole number of bytes that the data words of a unit hold, which has two words more
+-- the largest whole number of bytes in the data words of a unit of so many words: two fewer, since a start and an end word are among them
 abbrev pub room : ℕ → ℕ
 room max_words = (max_words - 2) * 5 / 2
 

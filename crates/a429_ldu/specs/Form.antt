@@ -1,4 +1,5 @@
--- The forms of transfer words. The messages are those of ARINC 429 Part 3; where each number is in a word is this project's choice (profile), with the numbers that a bench's profile gives.
+-- The forms of transfer words. The messages are those of ARINC 429 Part 3; where each number is in a word is this project's choice
+-- (profile), with the numbers of a bench's profile.
 use Rattle.std.specs.Prelude.{ℕ, ◌+◌, ◌-◌, ◌*◌, ◌/◌, ◌%◌, ◌^◌, ◌<◌, ◌≤◌, ◌≡◌, ◌≢◌, ◌⊎◌, Bool, not, ◌&&◌, ◌||◌, ◌==◌, nat_le, if◌then◌else◌, Option, Some, None, List, [], ◌∷◌, slice_index, Contains}
 use Rattle.std.specs.List.{list_any}
 use Rattle.a429_word.specs.Word.{sum_below, bit, number_at, label_of, count_of_ones, HasOddParity}
@@ -12,7 +13,7 @@ use Rattle.a429_ldu.specs.Semis.{AreSemis}
 
 -- ---- the table of forms
 
--- what a transfer word holds beside its label and its parity bit
+-- the numbers in a transfer word, beside its label and its parity bit
 pub record Fields : Type 0 where
   -- its type, bits 29 to 31
   pub kind : ℕ
@@ -25,7 +26,7 @@ pub record Fields : Type 0 where
 abbrev pub fields_of : ℕ → Fields
 fields_of w = record { kind = number_at w 29 3; upper = number_at w 25 4; middle = number_at w 17 8; lower = number_at w 9 8 }
 
--- the same numbers, as code holds them
+-- the same numbers, as the code has them
 abbrev pub fields_in : Parts → Fields
 fields_in parts = record { kind = parts.kind; upper = parts.upper; middle = parts.middle; lower = parts.lower }
 
@@ -113,7 +114,7 @@ partial_on c f =
     else (if f.upper == slice_index c.partial_codes 3 then Some (Part (f.lower % 16 ∷ f.lower / 16 ∷ f.middle % 16 ∷ f.middle / 16 ∷ []))
     else None)))
 
--- what the fields of a word say that is not free
+-- the form of a word that is not free, by its numbers
 abbrev pub form_on : Codes → Bus → Fields → Option Form
 form_on c bus.A f =
     if f.kind == c.protocol then (if f.upper == c.rts && (f.middle == c.destination && nat_le 3 f.lower) then Some (Rts f.lower) else None)

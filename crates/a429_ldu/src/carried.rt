@@ -19,12 +19,12 @@ use a429_word::{Bus, Word};
 use arrayvec::ArrayVec;
 use std::alloc::{AllocError, Global};
 
-/// The bytes of the data words of one block.
+/// The bytes of the data words of one block: 632 at most.
 pub type BlockBytes = ArrayVec<u8, 632>;
 
 /// The bytes that words carry (ARINC 429 Part 3): their semi-octets make bytes, of each the low one
 /// first (profile). `None` where one is no data word of bus A, or the semi-octets are odd in number, or
-/// there are no words.
+/// there are no words. The error is out of memory.
 pub fn bytes_of(
     alloc: Global,
     profile: &Profile,
@@ -36,7 +36,7 @@ pub fn bytes_of(
 {
     let mut bytes = Vec::with_capacity(alloc, words.len() * 5 / 2)?;
     let mut low = None;
-    // As many words as there is room for, beside a semi-octet that waits.
+    // (252 words: there has to be room for one more semi-octet, the one that waits)
     for piece in words.chunks(252) {
         let mut made = BlockBytes::new();
         let Some(left) = carry(profile, piece, low, &mut made) else {
@@ -52,8 +52,8 @@ pub fn bytes_of(
     }
 }
 
-/// The bytes that at most 253 words carry, the most that a block has, as `bytes_of` returns them. It takes
-/// no memory.
+/// The bytes that words carry, as `bytes_of` returns them, without taking memory: for at most 253 words, as many
+/// as a block has.
 pub fn block_bytes(profile: &Profile, words: &[Word]) -> Option<BlockBytes>
     requires { length words.now ≤ most_data_words }
     ensures some { IfSome result (λ bytes. CarryBytes profile.now.codes words.now bytes.items) }
@@ -69,8 +69,8 @@ pub fn block_bytes(profile: &Profile, words: &[Word]) -> Option<BlockBytes>
     }
 }
 
-// Makes bytes of the words' semi-octets, behind those that there are. A low one that no high one has
-// followed is given back, and handed in with the next words. `None` where a word is no data word of bus A.
+// Adds the bytes that the words' semi-octets make. `low` is a semi-octet that still waits for the high one of its
+// byte; the one that waits at the end is returned, for the next words. `None` where a word is no data word of bus A.
 fn carry(
     profile: &Profile,
     words: &[Word],
@@ -133,8 +133,8 @@ fn semis_in(form: &Form) -> Option<Semis>
     }
 }
 
-// Makes bytes of five semi-octets: two, and the last semi-octet waits for the next word's first, or
-// three, where one has waited.
+// Adds the bytes that five semi-octets make: two, and the last semi-octet waits for the first of the next word; or
+// three, where one waited before.
 fn push_full(bytes: &mut BlockBytes, low: Option<u8>, number: u32) -> Option<u8>
     requires low { IfSome low (λ digit. digit < 16) }
     requires number { number < 2 ^ 20 }
@@ -158,8 +158,7 @@ fn push_full(bytes: &mut BlockBytes, low: Option<u8>, number: u32) -> Option<u8>
     }
 }
 
-// Makes bytes of semi-octets. A low one that no high one has followed is given back, and handed in with
-// the next ones.
+// Adds the bytes that semi-octets make, and returns the semi-octet that waits then, if one does.
 #[inline(never)]
 fn push_semis(bytes: &mut BlockBytes, low: Option<u8>, semis: &Semis) -> Option<u8>
     requires low { IfSome low (λ digit. digit < 16) }

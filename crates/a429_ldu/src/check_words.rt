@@ -7,15 +7,15 @@ ghost use Rattle.a429_ldu.specs.CheckWord.{fed_bits, check_of, agrees, fed_down,
 
 use a429_profile::Check;
 
-// How many bytes cost as much without a table as the table.
+// For fewer bytes than this, making the table takes longer than it saves.
 const FEW: usize = 24;
 
-/// The check word of bytes (ARINC 429 Part 3; how it is made is the profile's): their remainder in a
-/// cyclic redundancy check of 16 bits.
+/// The check word of bytes (ARINC 429 Part 3): their remainder in a cyclic redundancy check of 16 bits. The profile
+/// has its polynomial, its start, its end and the order of bits.
 pub fn check_word(check: &Check, bytes: &[u8]) -> u16
     ensures { result ≡ check_of check.now bytes.now }
 {
-    // The register's bits stand in the order in which low bits come first.
+    // The register keeps its bits in reverse order, so that the low bit of each byte comes first.
     let poly = check.poly.reverse_bits();
     let start = check.init.reverse_bits();
     let register = if bytes.len() < FEW {
@@ -26,7 +26,7 @@ pub fn check_word(check: &Check, bytes: &[u8]) -> u16
     finished(check.low_first, register) ^ check.xor
 }
 
-// The register after bytes, by a table.
+// The register after bytes, by a table of 256 entries.
 fn after_many(poly: u16, start: u16, low_first: bool, bytes: &[u8]) -> u16
     ensures { result ≡ fold (fed_down poly) start (flat_map (fed_bits low_first) bytes.now) }
 {
@@ -49,14 +49,14 @@ fn after_few(poly: u16, start: u16, low_first: bool, bytes: &[u8]) -> u16
     register
 }
 
-/// Whether a check word is that of the bytes, or the profile compares none.
+/// Whether this is the check word of the bytes, or the profile compares none (ARINC 429 Part 3).
 pub fn agrees(rule: &Check, bytes: &[u8], check: u16) -> bool
     ensures { result ≡ agrees rule.now bytes.now check }
 {
     !rule.compare || check == check_word(rule, bytes)
 }
 
-// What eight bits 0 make of the register, for each number that its lowest eight bits can be.
+// The table: what eight bits 0 make of a register, for each number below 256.
 #[derive(Drop)]
 struct Table {
     poly: u16,

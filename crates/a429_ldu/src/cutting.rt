@@ -17,9 +17,10 @@ use std::alloc::{AllocError, Global};
 pub const MOST_UNITS: usize = 255;
 
 /// The link data units of a file (ARINC 429 Part 3; how a file is cut is this project's choice, profile),
-/// each of at most this many words, 3 to 255. Each but the last takes the largest whole number of bytes
-/// that its data words hold. A unit has full words, and then at most one partial word; its GFI is 0, its
-/// check word is that of its bytes, and its flags are 0, or in the last one the final bit alone.
+/// each of at most `max_words` words, 3 to 255. Each but the last takes the largest whole number of bytes
+/// that its data words hold. A unit has full words, and then at most one partial word; its general format
+/// identifier is 0, its check word is that of its bytes, and its flags are 0, or in the last one the final bit
+/// alone. The fault is the first that applies.
 pub fn cut(
     alloc: Global,
     profile: &Profile,

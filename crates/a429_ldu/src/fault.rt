@@ -1,6 +1,6 @@
-//! What is refused.
+//! Why there is no link data unit.
 
-/// Why words make no link data unit, in the order in which it is tested.
+/// Why words make no link data unit (profile), in the order in which it is tested.
 #[derive(Clone, Copy, Debug, PartialEq, Eq)]
 pub enum LduFault {
     /// There are no words, or more than 253.
@@ -13,7 +13,7 @@ pub enum LduFault {
     OutOfMemory,
 }
 
-/// Why a file cannot be cut into link data units, in the order in which it is tested.
+/// Why a file cannot be cut into link data units (profile), in the order in which it is tested.
 #[derive(Clone, Copy, Debug, PartialEq, Eq)]
 pub enum CutFault {
     /// The file has no bytes.

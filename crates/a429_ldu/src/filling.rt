@@ -36,7 +36,7 @@ pub(crate) fn data_words(
     Ok(words)
 }
 
-// What stands in each full data word beside its semi-octets and its parity bit.
+// The bits of a full data word other than its semi-octets and its parity bit.
 fn full_frame(profile: &Profile) -> u32
     ensures value { result ≡ full_frame profile.now.codes }
     ensures room { result < 7 * 2 ^ 28 + 2 ^ 8 }
@@ -61,7 +61,7 @@ fn two_words(frame: u32, bytes: [u8; 5]) -> [Word; 2]
     ]
 }
 
-// The full data word with these semi-octets, of which the first stands lowest.
+// The full data word with these semi-octets, the first of them in the lowest bits.
 fn full_word(frame: u32, semis: u32) -> Word
     requires frame { frame < 7 * 2 ^ 28 + 2 ^ 8 }
     requires semis { semis < 2 ^ 20 }
@@ -70,7 +70,7 @@ fn full_word(frame: u32, semis: u32) -> Word
     Word::with_odd_parity(frame + (semis << 8))
 }
 
-// Adds the data words of bytes.
+// Adds the data words of bytes: full ones, and then at most one partial one.
 fn add_words(words: &mut Vec<Word>, profile: &Profile, bytes: &[u8]) -> Result<(), AllocError>
     requires { length bytes.now ≤ most_unit_bytes }
     ensures { OnOk result (words.new.items ≡ words.old.items ++ data_words profile.now.codes bytes.now) }
@@ -105,7 +105,7 @@ fn at_most_five(left: usize) -> u8
     if left < 5 { left as u8 } else { 5 }
 }
 
-// The semi-octet at a place, and 0 behind the last.
+// The semi-octet at a place; 0 after the last.
 fn digit_at(bytes: &[u8], at: usize) -> u8
     ensures value { result ≡ slice_index (semis_of_bytes bytes.now) at }
     ensures small { result < 16 }

@@ -10,10 +10,10 @@ use crate::sight::{ignores_code, ignores_type};
 use a429_profile::Profile;
 use a429_word::{Bus, Word};
 
-/// Why the transfer passes over a word.
+/// Why the transfer passes over a word (profile), in the order in which it is tested.
 #[derive(Clone, Copy, Debug, PartialEq, Eq)]
 pub enum Freedom {
-    /// Its parity is not odd: it is damaged.
+    /// Its parity is even: it is damaged.
     BadParity,
     /// Its label is not the address label of its bus.
     OtherLabel,

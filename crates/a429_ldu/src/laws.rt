@@ -37,20 +37,20 @@ pub fn a_form_has_one_word()
     ensures { (c : Codes) (b : Bus) (v w : ℕ) (x : Form) → IsForm c b v x → IsForm c b w x → v ≡ w }
 {}
 
-/// What is computed of a word is what the table says of it.
+/// What code computes of a word is what the table of forms says.
 pub fn forms_are_computed()
     ensures free { (c : Codes) (b : Bus) (w : ℕ) → IsTrue (is_free c b w) ↔ IsFree c b w }
     ensures form { (p : Contents) (b : Bus) (w : ℕ) (x : Form) → IsProfile p
         → (form_of p.codes b w ≡ Some x) ↔ IsTransferForm p.codes b w x }
 {}
 
-/// What is computed of words is what they carry, and they carry one list of bytes.
+/// The bytes that code computes are those that the words carry, and words carry one list of bytes.
 pub fn bytes_are_computed()
     ensures carried { (p : Contents) (ws bs : List ℕ) → IsProfile p → (bytes_carried p.codes ws ≡ Some bs) ↔ CarryBytes p.codes ws bs }
     ensures one { (p : Contents) (ws xs ys : List ℕ) → IsProfile p → CarryBytes p.codes ws xs → CarryBytes p.codes ws ys → xs ≡ ys }
 {}
 
-/// The limits that code names are those of the definitions, and a unit of 255 words has room for this many
+/// The limits in the code are those of the definitions, and a unit of 255 words has room for `MOST_UNIT_BYTES`
 /// bytes.
 pub fn limits_are_those_of_the_definitions()
     ensures words { MOST_DATA_WORDS ≡ most_data_words }
@@ -64,8 +64,8 @@ pub fn units_have_few_bytes()
     ensures { (p : Contents) (u : LduValue) → IsProfile p → IsLdu p u → HasUnitBytes (bytes_of p.codes u) }
 {}
 
-/// A link data unit has no fault, and what is none has one first fault. So `Ldu::new` refuses with a fault
-/// exactly where it is there.
+/// A link data unit has no fault, and words that make none have exactly one first fault. So `Ldu::new` returns a
+/// fault exactly where there is one.
 pub fn a_unit_has_no_fault()
     ensures none { (p : Contents) (u : LduValue) (f : LduFault) → IsProfile p → IsLdu p u → ¬ IsFirstLduFault p u.check u.words f }
     ensures one { (p : Contents) (k : ℕ) (ws : List ℕ) (f g : LduFault) → IsFirstLduFault p k ws f → IsFirstLduFault p k ws g → f ≡ g }

@@ -13,10 +13,10 @@ use a429_word::Word;
 use std::alloc::Global;
 use std::marker::Model;
 
-/// The most data words of a link data unit, whose block has a start word and an end word more.
+/// The most data words of a link data unit (profile); its block has a start word and an end word more.
 pub const MOST_DATA_WORDS: usize = 253;
 
-/// The most bytes that these carry.
+/// The most bytes that so many data words carry.
 pub const MOST_UNIT_BYTES: usize = 632;
 
 /// A link data unit (ARINC 429 Part 3): 1 to 253 data words, and the numbers of the start and end words
@@ -41,8 +41,8 @@ impl Model for Ldu {
 }
 
 impl Ldu {
-    /// The link data unit with these data words. GFI and flags are 0 to 15. The fault is the first that
-    /// applies; out of memory comes only if none does.
+    /// The link data unit with these data words, 1 to 253 of bus A. General format identifier and flags are 0 to 15.
+    /// The fault is the first that applies; out of memory is returned only if none does.
     pub fn new(
         alloc: Global,
         profile: &Profile,
@@ -78,7 +78,7 @@ impl Ldu {
         }
     }
 
-    /// The link data unit of these parts, with a GFI of 0.
+    /// The link data unit of these parts, with a general format identifier of 0.
     pub(crate) fn of_parts(flags: u8, check: u16, words: Vec<Word>) -> Ldu
         requires flags { flags ≤ 15 }
         requires words { HasLength words.items }
@@ -130,8 +130,8 @@ impl Ldu {
         self.words.len() as u8 + 2
     }
 
-    /// Word k of its block, k from 0 and below its count, under a file number and a number of its own:
-    /// the start word, the data words, the end word.
+    /// Word k of its block (ARINC 429 Part 3), k from 0 and below its count: the start word with this file number and
+    /// this number of the unit, the data words, the end word.
     pub fn word(&self, profile: &Profile, k: u8, file: u8, ldu: u8) -> Word
         requires { k < count_of self.now }
         ensures { result ≡ slice_index (block_of profile.now.codes self.now file ldu) k }

@@ -14,7 +14,7 @@ use crate::forms::writing::address;
 use a429_profile::{Codes, Profile};
 use a429_word::{Bus, Word};
 
-/// What a word is to the file transfer.
+/// What a word is to the file transfer (ARINC 429 Part 3; which words are free: profile).
 #[derive(Clone, Copy, Debug, PartialEq, Eq)]
 pub enum Sight {
     /// A word that the transfer passes over: its parity is wrong, its label is not the address label of
@@ -41,7 +41,8 @@ impl Sight {
     }
 }
 
-/// What a word says on a bus (ARINC 429 Part 3; where its numbers are in it: profile).
+/// What a word is to the transfer on this bus (ARINC 429 Part 3; where its numbers are in it: profile). Each word is
+/// exactly one of the three.
 #[inline(always)]
 pub fn form(profile: &Profile, bus: Bus, word: Word) -> Sight
     ensures free { (result ≡ Sight.Free) ↔ IsFree profile.now.codes bus word }
@@ -52,8 +53,8 @@ pub fn form(profile: &Profile, bus: Bus, word: Word) -> Sight
     seen(profile, bus, word)
 }
 
-// Most words of a recording are full data words. These are told first: no other word has their type,
-// and it is none of those that are ignored.
+// Full data words are tested first, since most words of a recording are such: no other form has their type,
+// and no profile ignores it.
 #[inline(always)]
 fn seen(profile: &Profile, bus: Bus, word: Word) -> Sight
     ensures sight { result ≡ sight_of profile.now.codes bus word }

@@ -19,7 +19,7 @@ AreApartAfter meet earlier (x ∷ xs) = (list_any (λ o. meet o x) earlier ≡ f
 
 -- ---- labels
 
--- two SDIs are for some word alike: they are equal, or one is not stated
+-- two SDIs name some word both: they are equal, or one is not stated
 abbrev pub sdis_meet : Option ℕ → Option ℕ → Bool
 sdis_meet (Some s) (Some t) = s == t
 sdis_meet _ _ = true

@@ -1,4 +1,4 @@
--- What the sections of a profile say (profile).
+-- The sections of a profile (profile).
 use Rattle.std.specs.Prelude.{ℕ, List, Bool, false}
 use Rattle.toml.specs.Data.{Data, boolean, Members}
 use Rattle.a429_profile.specs.declared.codes.Codes.{Codes}
@@ -11,7 +11,7 @@ use Rattle.a429_profile.specs.declared.key.SectionKey.TheVariants as key
 use Rattle.a429_profile.specs.Value.{text_of_value, octal_number, number_of_value, truth_of_value, numbers_of_value}
 use Rattle.a429_profile.specs.Key.{Place, value, section_place}
 
--- the value at a place; where there is none, one that says nothing
+-- the value at a place; where there is none, `false`
 abbrev pub value_at_place : Place → Data
 value_at_place (value d) = d
 value_at_place _ = boolean false

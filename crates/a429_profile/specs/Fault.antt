@@ -1,4 +1,4 @@
--- What a reader of a profile answers: a value, or the first fault (profile).
+-- What a reader of a profile returns: a value, or the first fault (profile).
 use Rattle.std.specs.Prelude.{◌≡◌, ◌≢◌, Option, Some, None, Result, Ok, Err}
 use Rattle.a429_profile.specs.declared.fault.ProfileFault.{ProfileFault}
 use Rattle.a429_profile.specs.declared.fault.ProfileFault.TheVariants.{OutOfMemory}
@@ -8,7 +8,7 @@ abbrev pub first_or : Option ProfileFault → Option ProfileFault → Option Pro
 first_or (Some f) rest = Some f
 first_or None rest = rest
 
--- the value where nothing is at fault, and else this very fault
+-- the value where nothing is wrong, and else exactly this fault
 abbrev pub Gives : {A : Type 0} → A → Option ProfileFault → Result A ProfileFault → Type 0
 Gives value fault (Ok a) = (fault ≡ None) × (value ≡ a)
 Gives value fault (Err f) = fault ≡ Some f

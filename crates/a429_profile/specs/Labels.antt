@@ -1,4 +1,4 @@
--- What the label table of a profile says, and what is wrong with it (profile).
+-- The label table of a profile, and what is wrong with it (profile).
 use Rattle.std.specs.Prelude.{ℕ, suc, List, [], ◌∷◌, map, Bool, true, codes, Option, Some, None, unwrap_or, if◌then◌else◌, Result}
 use Rattle.toml.specs.Data.{Data, Members, no_members, get_member, as_table}
 use Rattle.a429_profile.specs.declared.entry.Kind.{Kind}
@@ -61,7 +61,7 @@ label_keys ms = label.Octal ∷ label.Sdi ∷ label.Name ∷ label.Unit ∷ labe
 abbrev pub entry_fault : ℕ → Members → Option ProfileFault
 entry_fault i ms = first_label_fault i ms (label_keys ms)
 
--- ---- the entry that a table says
+-- ---- the entry that a table describes
 
 abbrev pub label_number : Members → LabelKey → ℕ
 label_number ms k = number_of_value (label_value ms k)
@@ -70,7 +70,7 @@ abbrev pub number_at_place : Place → Option ℕ
 number_at_place (value d) = Some (number_of_value d)
 number_at_place _ = None
 
--- the label that a table says, and its SDI, if it says one
+-- the label of a table, and its SDI, if it has one
 abbrev pub label_in_table : Members → ℕ
 label_in_table ms = octal_number (label_text ms label.Octal)
 
@@ -83,7 +83,7 @@ kind_in ms (Some word.Bcd) = kind.Bcd (label_number ms label.Digits) (label_numb
 kind_in ms (Some word.Discrete) = kind.Discrete (map flag_of (elements_of (label_value ms label.Flags)))
 kind_in ms None = kind.Discrete []
 
--- the kind of this word that a table says, or the first fault of its keys; the second takes memory
+-- the kind of a table, named by this word, or the first fault of its keys; the second takes memory
 abbrev pub GivesKind : ℕ → Members → KindWord → Result Kind ProfileFault → Type 0
 GivesKind i ms word = Gives (kind_in ms (Some word)) (kind_fault i ms word)
 

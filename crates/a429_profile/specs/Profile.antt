@@ -1,4 +1,4 @@
--- What a profile's text says, or what is wrong with it (profile).
+-- The profile of a text, or what is wrong with it (profile).
 use Rattle.std.specs.Prelude.{◌≡◌, ◌≤◌, ℕ, List, [], ◌∷◌, ◌++◌, map, length, All, Bool, ◌==◌, ◌&&◌, Option, Some, None, Result, Ok, Err}
 use Rattle.toml.specs.Data.{Members}
 use Rattle.a429_profile.specs.declared.codes.Codes.{Codes}
@@ -19,7 +19,7 @@ pub record Contents : Type 0 where
   pub check : Check
   pub labels : List LabelEntry
 
--- what a document without a fault says
+-- the profile of a document without a fault
 abbrev pub contents_of : Members → Contents
 contents_of doc = record { codes = codes_of doc; check = check_rule doc; labels = labels_of doc }
 
@@ -31,13 +31,13 @@ section_keys = transfer_keys ++ type_keys ++ code_keys ++ partial_keys ++ check_
 abbrev pub fault_of : Members → Option ProfileFault
 fault_of doc = first_or (first_section_fault doc section_keys) (first_or (labels_fault doc) (first_clash (codes_of doc) (labels_of doc)))
 
--- the answer for a text that is this document, or none
+-- the result for a text that is this document, or is none
 abbrev pub Answers : Option Members → Result Contents ProfileFault → Type 0
 Answers None r = r ≡ Err NotToml
 Answers (Some doc) (Ok contents) = (fault_of doc ≡ None) × (contents ≡ contents_of doc)
 Answers (Some doc) (Err f) = fault_of doc ≡ Some f
 
--- some document without a fault says this
+-- it is the profile of some document without a fault
 abbrev pub IsProfile : Contents → Type 0
 IsProfile contents = (doc : Members) × (fault_of doc ≡ None) × (contents ≡ contents_of doc)
 

@@ -20,7 +20,7 @@ use Rattle.a429_profile.specs.Entry.{IsKindInRange}
 
 -- ---- the status
 
--- what the SSM numbers 0, 1, 2 and 3 say of a word: for BCD 0 is plus and 3 is minus (Part 1)
+-- what the SSM numbers 0, 1, 2 and 3 mean: for BCD 0 is plus and 3 is minus (Part 1)
 abbrev pub senses : Kind → List Sense
 senses (Bnr bits range decimals) = NoValue Failure ∷ NoValue NoData ∷ Test ∷ Normal ∷ []
 senses (Bcd digits decimals) = Normal ∷ NoValue NoData ∷ Test ∷ Normal ∷ []
@@ -29,7 +29,7 @@ senses (Discrete flags) = Normal ∷ NoValue NoData ∷ Test ∷ NoValue Failure
 abbrev pub sense_of : Kind → ℕ → Sense
 sense_of kind ssm = get_or (senses kind) ssm Normal
 
--- a functional test is shown as a value is
+-- a word has a value in normal operation and in a functional test
 abbrev pub HasValue : Kind → ℕ → Bool → Type 0
 HasValue kind w true = sense_of kind (ssm_of w) ≡ Test
 HasValue kind w false = sense_of kind (ssm_of w) ≡ Normal
@@ -88,7 +88,7 @@ HasItsRanges (shown.Bits e field is_test) = IsKindInRange e.now.kind
 
 -- ---- two showings
 
--- they show the same by the same entry, at whatever place in memory each has found it
+-- both show the same by the same entry, wherever in memory it is
 pub data ShowSame : Shown → Shown → Type 0 where
   same_parity : ShowSame shown.BadParity shown.BadParity
   same_no_entry : ShowSame shown.NoEntry shown.NoEntry

@@ -1,4 +1,4 @@
--- What a key may hold (profile): a kind of value, and a range.
+-- Which values a key may have (profile): a kind of value, and a range.
 use Rattle.std.specs.Prelude.{ℕ, ℤ, pos, negsuc, List, [], ◌∷◌, map, length, Bool, true, false, ◌&&◌, nat_le, nat_eq, codes, Option, Some, None, is_some, unwrap_or, if◌then◌else◌, ◌+◌, ◌-◌, ◌*◌}
 use Rattle.std.specs.List.{list_all}
 use Rattle.std.specs.Option.{option_map_or}
@@ -47,7 +47,7 @@ elements_of d = list_of (unwrap_or (as_array d) no_items)
 abbrev pub numbers_of_value : Data → List ℕ
 numbers_of_value d = map number_of_value (elements_of d)
 
--- what a test says of the value at a key: no where there is none
+-- whether there is a value at a key that passes this test
 abbrev pub holds_at : (Data → Bool) → List ℕ → Members → Bool
 holds_at test key ms = option_map_or test (get_member key ms) false
 
@@ -143,7 +143,7 @@ abbrev pub octal_number : List ℕ → ℕ
 octal_number (a ∷ b ∷ c ∷ []) = 64 * (a - 48) + 8 * (b - 48) + (c - 48)
 octal_number _ = 0
 
--- a flag that a table says
+-- the flag that a table describes
 abbrev pub flag_in : Option Members → Flag
 flag_in None = record { bit = 0; name = [] }
 flag_in (Some ms) = record { bit = option_map_or number_of_value (get_member (codes "bit") ms) 0; name = option_map_or text_of_value (get_member (codes "name") ms) [] }

@@ -52,7 +52,7 @@ fn meets_any(earlier: &[LabelEntry], entry: &LabelEntry) -> bool
     earlier.iter().any(|other| entries_meet(other, entry))
 }
 
-// Whether some word is for both.
+// Whether both are for some word.
 fn entries_meet(a: &LabelEntry, b: &LabelEntry) -> bool
     ensures { result ≡ entries_meet a.now b.now }
 {

@@ -14,50 +14,53 @@ use crate::value::{four_numbers, in_section, number, numbers, octal, small, trut
 use std::alloc::Global;
 use toml::Table;
 
-/// The numbers of a file transfer's words (ARINC 429 Part 3; the numbers are the bench's own).
+/// The numbers in the words of a file transfer (messages: ARINC 429 Part 3; the numbers are the bench's own: profile).
 #[derive(Debug, Drop)]
 pub struct Codes {
     /// The address label of words to the sink, on bus A.
     pub to_sink: u8,
     /// The address label of words to the source, on bus B.
     pub to_source: u8,
-    /// The destination code of requests and clear answers.
+    /// The destination code in requests and clear answers.
     pub destination: u8,
     /// The number of a file's first link data unit, 0 or 1.
     pub first_ldu: u8,
     /// The bit of an end word that marks a file's last link data unit, 25 to 28.
     pub final_bit: u8,
-    /// The type of full data words, 0 to 7, and so for the next four.
+    /// Bits 29 to 31, the type, 0 to 7: of full data words, and then of partial ones, of requests and answers, of start
+    /// words and of end words.
     pub full: u8,
     pub partial: u8,
     pub protocol: u8,
     pub sot: u8,
     pub eot: u8,
-    /// The code of requests to send, 0 to 15, and so for the next three.
+    /// Bits 25 to 28, the code, 0 to 15: of requests to send, and then of the clear answer, of the acknowledgement and of
+    /// the negative answer.
     pub rts: u8,
     pub cts: u8,
     pub ack: u8,
     pub nak: u8,
-    /// Types of words that pass unjudged.
+    /// Types of words over which the transfer passes.
     pub ignored_types: Numbers,
-    /// Codes of protocol words that pass unjudged.
+    /// Codes of protocol words over which the transfer passes.
     pub ignored_codes: Numbers,
     /// The codes of partial data words of 1, 2, 3 and 4 semi-octets, 0 to 15.
     pub partial_codes: [u8; 4],
 }
 
-/// How a link data unit's check word is made.
+/// How the check word of a link data unit is made: a cyclic redundancy check of 16 bits (ARINC 429 Part 3; the numbers are
+/// the bench's own: profile).
 #[derive(Clone, Copy, Debug, PartialEq, Eq)]
 pub struct Check {
     /// The polynomial without its highest term.
     pub poly: u16,
-    /// What the register starts with.
+    /// The bits with which the register starts.
     pub init: u16,
-    /// What is exclusive-ored at the end.
+    /// The number that is exclusive-ored with the register at the end.
     pub xor: u16,
-    /// Whether each byte's lowest bit comes first.
+    /// Whether the lowest bit of each byte is fed in first.
     pub low_first: bool,
-    /// Whether check words are compared at all.
+    /// Whether check words are compared. Where not, any check word is good.
     pub compare: bool,
 }
 

@@ -41,7 +41,7 @@ impl Text {
     }
 }
 
-/// A list of small numbers.
+/// A list of numbers from 0 to 255.
 #[derive(Debug, Drop)]
 pub struct Numbers {
     numbers: Vec<u8>,
@@ -80,7 +80,7 @@ impl Numbers {
 /// A bit of a discrete word that has a meaning of its own.
 #[derive(Debug, Drop)]
 pub struct Flag {
-    /// 11 to 29.
+    /// The bit of the word, 11 to 29, counted from 1.
     pub bit: u8,
     pub name: Text,
 }
@@ -125,10 +125,10 @@ impl Flags {
 /// How the data field of a label's words is read (ARINC 429 Part 1).
 #[derive(Debug, Drop)]
 pub enum Kind {
-    /// Two's complement with this many significant bits, 1 to 18, over this range, 1 to
-    /// 1,000,000,000, in units of `10^-decimals`, 0 to 6.
+    /// A binary number in two's complement: `bits` significant bits, 1 to 18, below the sign. The sign bit counts `range`,
+    /// 1 to 1,000,000,000, in units of `10^-decimals`, 0 to 6.
     Bnr { bits: u8, range: u32, decimals: u8 },
-    /// This many decimal digits, 1 to 5, in units of `10^-decimals`, 0 to 6.
+    /// A decimal number: `digits` digits, 1 to 5, in units of `10^-decimals`, 0 to 6.
     Bcd { digits: u8, decimals: u8 },
     /// Single bits, 1 to 19 of them.
     Discrete { flags: Flags },
@@ -142,15 +142,16 @@ pub(crate) enum KindWord {
     Discrete,
 }
 
-/// An entry of the label table.
+/// An entry of the label table (profile): how the words of one label are read.
 #[derive(Debug, Drop)]
 pub struct LabelEntry {
+    /// The label, 0 to 255: the number of its three octal digits.
     pub label: u8,
     /// The SDI of the words that it is for, 0 to 3; `None` where it is for any.
     pub sdi: Option<u8>,
-    /// 1 to 32 printable characters.
+    /// What is shown before a value: 1 to 32 printable characters.
     pub name: Text,
-    /// 0 to 16 printable characters.
+    /// What is shown after a value: 0 to 16 printable characters.
     pub unit: Text,
     pub kind: Kind,
 }

@@ -3,8 +3,8 @@
 use crate::key::{Key, SectionKey};
 use thiserror::Error;
 
-/// The first thing wrong with a profile, in the order in which it is tested. Its text is the line that
-/// an answer shows of it.
+/// The first thing wrong with a profile (profile): the document, then its keys in their order, then clashes. The text of a
+/// fault is its line on standard error.
 #[derive(Clone, Copy, Debug, PartialEq, Eq, Error)]
 pub enum ProfileFault {
     /// The text is no TOML document.
@@ -13,7 +13,7 @@ pub enum ProfileFault {
     /// The key is not there, or its section is not.
     #[error("missing {0}")]
     Missing(Key),
-    /// The key holds another kind of value, or its section is no table.
+    /// The value at the key is of another kind, or its section is no table.
     #[error("wrong kind {0}")]
     WrongKind(Key),
     /// The value lies outside the key's range.
@@ -23,7 +23,7 @@ pub enum ProfileFault {
     /// transfer.
     #[error("label clash {0:03o}")]
     LabelClash(u8),
-    /// The second key gives a number that the first one has given.
+    /// Both keys have the same number.
     #[error("code clash {0} {1}")]
     CodeClash(SectionKey, SectionKey),
     /// Two flags of an entry of this label have this bit.

@@ -110,7 +110,7 @@ fn has_name(table: &Table) -> bool
     }
 }
 
-// The flags that tables say.
+// The flags that tables describe.
 fn made_of(alloc: Global, values: &[Value]) -> Result<Vec<Flag>, AllocError>
     requires { list_all (λ v. is_flag_in_range (view v)) values.now ≡ true }
     ensures { IfOk result (λ v. v.items ≡ map (λ w. flag_of (view w)) values.now) }
@@ -122,7 +122,7 @@ fn made_of(alloc: Global, values: &[Value]) -> Result<Vec<Flag>, AllocError>
     Ok(flags)
 }
 
-// The flag that a table says; the rest of its keys are not looked at.
+// The flag that a table describes; the rest of its keys are not looked at.
 fn flag(alloc: Global, value: &Value) -> Result<Flag, AllocError>
     requires { is_flag_in_range (view value.now) ≡ true }
     ensures { IfOk result (λ f. f ≡ flag_of (view value.now)) }

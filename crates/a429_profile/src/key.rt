@@ -8,7 +8,7 @@ use std::fmt;
 /// A key of a profile.
 #[derive(Clone, Copy, Debug, PartialEq, Eq)]
 pub enum Key {
-    /// A key of one of the sections, as `transfer.to_sink`.
+    /// A key of one of the sections, such as `transfer.to_sink`.
     Section(SectionKey),
     /// The array `label` itself.
     Labels,

@@ -131,7 +131,7 @@ fn read_kind(
     }
 }
 
-// The entry that the table at this position says.
+// The entry that the table at this position describes.
 fn read_entry(alloc: Global, table: &Table, position: usize) -> Result<LabelEntry, ProfileFault>
     ensures { GivesInMemory (entry_in_table (table_view table.now)) (entry_fault position (table_view table.now)) result }
 {
@@ -174,7 +174,7 @@ fn are_tables(values: &[Value]) -> bool
     values.iter().all(|value| value.is_table())
 }
 
-// The entries that tables say, in order.
+// The entries that tables describe, in their order.
 fn read_entries(alloc: Global, values: &[Value]) -> Result<Vec<LabelEntry>, ProfileFault>
     requires { list_all (λ v. is_table (view v)) values.now ≡ true }
     ensures ok { OnOk result (entries_fault 0 (map view values.now) ≡ None) }
@@ -192,7 +192,7 @@ fn read_entries(alloc: Global, values: &[Value]) -> Result<Vec<LabelEntry>, Prof
     Ok(entries)
 }
 
-// The entry that a table says.
+// The entry that a table describes.
 fn read_table(alloc: Global, value: &Value, position: usize) -> Result<LabelEntry, ProfileFault>
     requires { is_table (view value.now) ≡ true }
     ensures { GivesInMemory (entry_in_table (table_of (view value.now))) (entry_fault position (table_of (view value.now))) result }

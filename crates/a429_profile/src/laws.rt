@@ -21,7 +21,7 @@ pub fn no_number_is_given_twice()
 {}
 
 /// Nothing in the label table clashes: no entry has an address label of the transfer, and none names a
-/// bit twice. That no two entries share a word is `a_word_has_one_entry`.
+/// bit twice. That no two entries are for the same words is law `a_word_has_one_entry`.
 pub fn nothing_clashes()
     ensures addresses { (c : Contents) → IsProfile c → All (IsNoAddress c.codes) c.labels }
     ensures bits { (c : Contents) → IsProfile c → All (λ e. HasDistinctBits e.kind) c.labels }
@@ -32,8 +32,8 @@ pub fn each_number_lies_in_its_range()
     ensures { (c : Contents) → IsProfile c → AreInRange c }
 {}
 
-/// Of one word by one profile one thing is shown: the same entry, and the same status, place, number with
-/// its decimals, or data field.
+/// By one profile one thing is shown of a word: the same entry, and the same status, place, number with its decimals,
+/// or data field.
 pub fn a_word_shows_one_thing()
     ensures { (p : Contents) (w : ℕ) (s t : Shown) → IsShown p w s → IsShown p w t → ShowSame s t }
 {}

@@ -1,4 +1,4 @@
-//! A bench's profile: the numbers of its file transfer, its check word, and its table of labels.
+//! A bench's profile: the numbers of its file transfer, how check words are made, and its table of labels.
 #![tactic(auto)]
 
 mod clash;

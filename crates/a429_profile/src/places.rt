@@ -14,8 +14,8 @@ pub(crate) const SDIS: usize = 4;
 // How many labels there are.
 const LABELS: usize = 256;
 
-/// The place of the entry for words of each label and SDI, those of label 0 first. A word's entry is found
-/// by it without a search.
+/// The place of the entry for words of each label and SDI, 1,024 of them, those of label 0 first. So a word's entry is
+/// found without a search. The error is out of memory.
 pub(crate) fn places_of(
     alloc: Global,
     labels: &IndexMap<(u8, Option<u8>), LabelEntry>,
@@ -33,7 +33,7 @@ pub(crate) fn places_of(
     Ok(places)
 }
 
-/// The place of the entry for words of this label and SDI, sought in the table.
+/// The place of the entry for words of this label and SDI, by a search of the table.
 pub(crate) fn place_of(
     labels: &IndexMap<(u8, Option<u8>), LabelEntry>,
     label: u8,

@@ -1,4 +1,4 @@
-//! A profile: what its text says, and its entries by label.
+//! Profiles: read from a text, and the label table's entries by label and SDI.
 
 ghost use Rattle.std.specs.Prelude.{◌≡◌, ◌≢◌, [], ◌∷◌, ◌++◌, false, Some, None, Err, IfOk, IfErr, IfSome, OnOk, option_map, slice_get, length};
 ghost use Rattle.std.specs.List.{find, list_any};
@@ -20,13 +20,13 @@ use std::alloc::{AllocError, Global};
 use std::marker::Model;
 use toml::Table;
 
-/// A bench's profile. It is that of some text: each number lies in its range, and nothing clashes.
+/// A bench's profile, as it was read from a text: each number lies in its range, and nothing clashes.
 #[derive(Debug, Drop)]
 pub struct Profile {
     codes: Codes,
     check: Check,
     labels: IndexMap<(u8, Option<u8>), LabelEntry>,
-    // Of each label and SDI, where in `labels` its entry stands.
+    // Of each label and SDI, the place of its entry in `labels`.
     places: Vec<Option<usize>>,
 }
 
@@ -43,8 +43,8 @@ impl Model for Profile {
         × ArePlaces (entries_of p.labels.entries) p.places.items };
 }
 
-/// Reads a profile from its text. The fault is the first one in the order of the keys, and then the
-/// first clash.
+/// Reads a profile from its text, a TOML document (docs/PROFILE.md has the keys). The fault is the first one in the order of
+/// the keys, or else the first clash; or `OutOfMemory`, where memory was refused.
 pub fn read_profile(alloc: Global, text: &str) -> Result<Profile, ProfileFault>
     ensures { result ≢ Err ProfileFault.OutOfMemory → Answers (parse_document text.now) result }
 {
@@ -60,7 +60,7 @@ pub fn read_profile(alloc: Global, text: &str) -> Result<Profile, ProfileFault>
     }
 }
 
-// The profile that a document says.
+// The profile of a document.
 fn read_document(alloc: Global, doc: &Table) -> Result<Profile, ProfileFault>
     ensures ok { OnOk result (fault_of (table_view doc.now) ≡ None) }
     ensures value { IfOk result (λ p. p ≡ contents_of (table_view doc.now)) }
@@ -89,7 +89,7 @@ fn read_document(alloc: Global, doc: &Table) -> Result<Profile, ProfileFault>
     }
 }
 
-// Entries of which no two meet, each at its label and SDI.
+// A map from label and SDI to the entry. No two entries are for the same words.
 fn keyed(
     alloc: Global,
     entries: Vec<LabelEntry>,
@@ -105,7 +105,7 @@ fn keyed(
     Ok(labels)
 }
 
-// Keeps an entry, at the end, that meets none that is kept.
+// Adds an entry at the end. It is for no words that an earlier one is for.
 fn keep(
     labels: &mut IndexMap<(u8, Option<u8>), LabelEntry>,
     entry: LabelEntry,
@@ -142,7 +142,7 @@ impl Profile {
         self.labels.len()
     }
 
-    /// The entry at a place from 0 in the file's order; `None` past the last.
+    /// Entry i of the label table in the file's order, counted from 0; `None` past the last.
     pub fn entries(&self, i: usize) -> Option<&LabelEntry>
         ensures { option_map (λ e. e.now) result ≡ slice_get self.now.labels i }
     {
@@ -152,8 +152,8 @@ impl Profile {
         }
     }
 
-    /// The entry for words of this label and SDI, 0 to 3: the one with this label whose SDI is this
-    /// one or not stated.
+    /// The entry for words of this label and this SDI, 0 to 3: the one with this label and this SDI, or without an SDI.
+    /// There is at most one.
     pub fn entry(&self, label: u8, sdi: u8) -> Option<&LabelEntry>
         ensures entry { option_map (λ e. e.now) result ≡ find (is_for label sdi) self.now.labels }
         ensures range { IfSome result (λ e. IsKindInRange e.now.kind) }

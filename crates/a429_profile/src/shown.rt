@@ -19,7 +19,8 @@ pub enum Status {
     Failure,
 }
 
-/// What is shown of a word, by the entry of its label and SDI.
+/// What is shown of a word, by the label table's entry for its label and SDI (ARINC 429 Part 1; what is shown of which
+/// status: profile). One of these holds of each word.
 #[derive(Debug, Drop)]
 pub enum Shown<'a> {
     /// Its parity is even, so that none of its bits is to be trusted.
@@ -37,13 +38,14 @@ pub enum Shown<'a> {
         entry: &'a LabelEntry,
         place: u8,
     },
-    /// Its value, in the entry's unit; whether it is that of a functional test.
+    /// Its value, in the entry's unit; `is_test` where it is that of a functional test.
     Value {
         entry: &'a LabelEntry,
         value: Fixed,
         is_test: bool,
     },
-    /// The data field of a discrete word, bit 11 its lowest; whether it is that of a functional test.
+    /// The data field of a discrete word, bits 11 to 29, bit 11 the lowest; `is_test` where it is that of a functional
+    /// test.
     Bits {
         entry: &'a LabelEntry,
         field: u32,
@@ -51,7 +53,7 @@ pub enum Shown<'a> {
     },
 }
 
-// What an SSM says of its word.
+// What the SSM of a word means.
 #[derive(Clone, Copy)]
 enum Sense {
     Normal,
@@ -101,7 +103,7 @@ fn sense_at(kind: &Kind, ssm: u8) -> Sense
     }
 }
 
-// What is shown of a word whose status gives it a value.
+// What is shown of a word that has a value by its SSM.
 fn with_value(entry: &LabelEntry, word: Word, is_test: bool) -> Shown<'_>
     requires { IsKindInRange entry.now.kind }
     ensures shown { (p : Contents) → IsEntryOf p word entry.now → HasValue entry.now.kind word is_test → IsShown p word result }

@@ -15,14 +15,14 @@ use crate::key::{Key, LabelKey, SectionKey};
 use std::alloc::{AllocError, Global};
 use toml::{Table, Value};
 
-// What stands at a key of a table.
+// The value at a key of a table.
 pub(crate) fn at<'a>(table: &'a Table, key: &str) -> Option<&'a Value>
     ensures { option_map (λ v. view v.now) result ≡ get_member key.now (table_view table.now) }
 {
     table.get(key)
 }
 
-// What stands at a key of a section.
+// The value at a key of a section.
 pub(crate) fn in_section(doc: &Table, key: SectionKey) -> Result<&Value, ProfileFault>
     ensures ok { IfOk result (λ v. section_place (table_view doc.now) key ≡ value (view v.now)) }
     ensures err { IfErr result (λ f. section_fault (table_view doc.now) key ≡ Some f) }
@@ -60,7 +60,7 @@ pub(crate) fn truth(value: &Value, key: Key) -> Result<bool, ProfileFault>
     value.as_bool().ok_or(ProfileFault::WrongKind(key))
 }
 
-// Three octal digits, 000 to 377.
+// The number of three octal digits, 000 to 377.
 pub(crate) fn octal(value: &Value, key: Key) -> Result<u8, ProfileFault>
     ensures { Gives (octal_number (text_of_value (view value.now))) (value_fault key octal (view value.now)) result }
 {
@@ -75,7 +75,7 @@ pub(crate) fn octal(value: &Value, key: Key) -> Result<u8, ProfileFault>
     }
 }
 
-// What stands at a key of the table of `label` at this position.
+// The value at a key of the table of `label` at this position.
 pub(crate) fn in_label(
     table: &Table,
     position: usize,
@@ -90,7 +90,7 @@ pub(crate) fn in_label(
     }
 }
 
-// How many characters a text may have, both included.
+// The least and the most characters that a text may have.
 #[derive(Clone, Copy)]
 pub(crate) struct Lengths {
     pub(crate) least: usize,
@@ -184,7 +184,7 @@ pub(crate) fn is_between(value: &Value, low: u8, high: u8) -> bool
     i64::from(low) <= number && number <= i64::from(high)
 }
 
-// The number of an integer; 0 where it is none, or no byte.
+// An integer as a byte; 0 for any other value.
 #[tactic(auto, unfolding(crate::specs::Value::byte_of))]
 pub(crate) fn byte(value: &Value) -> u8
     ensures { result ≡ byte_of (view value.now) }

@@ -11,8 +11,9 @@ use Rattle.a429_record.specs.Recording.{Recording}
 use Rattle.a429_record.specs.Lines.{pending_of, room_of}
 use Rattle.a429_record.specs.Reading.{still_to_come, PassesAt}
 
--- what is still to come, where the bytes are known; where the reading stands, and in which format, once an entry was given; how many entries may be
--- given in all, how many were, and the time of the last; the bytes that were not given, those of them that the reader has still to give, and how many may still be given; whether it has failed
+-- what is still to come, where the bytes are known; the stage of the reading, and the format, once an entry was returned; how many
+-- entries may be returned in all, how many were, and the time of the last; the bytes that were not used, those of them that are not
+-- read yet, and how many may still be read; whether it has failed
 pub record EntriesLeft : Type 0 where
   pub to_come : Option Recording
   pub stage : Stage
@@ -25,7 +26,7 @@ pub record EntriesLeft : Type 0 where
   pub room : ℕ
   pub failed : Bool
 
--- what a reading has left of a reader
+-- what a reading has left of its reader
 abbrev pub entries_left : {R : Type 0} → (R → Option (List ℕ)) → Reading → Tally R → EntriesLeft
 entries_left remaining s rec = record {
   to_come = still_to_come remaining s.stage s.rows rec;
@@ -44,10 +45,11 @@ entries_left remaining s rec = record {
 abbrev pub IsWorking : {R : Type 0} → Reading → Tally R → Type 0
 IsWorking s rec = s.stage ≡ stage.Rows → has_failed rec ≡ false
 
--- an entry comes next, no earlier than the last one, and is then the last one; so many may be given, as before, and their number fits in 64 bits
+-- an entry comes next, no earlier than the last one, and is then the last one; the limit of entries stays, and their number fits in 64
+-- bits
 abbrev pub ComesNext : EntriesLeft → EntriesLeft → Entry → Type 0
 ComesNext old new e = (old.last ≤ e.time) × (new.last ≡ e.time) × (new.count ≡ old.count + 1) × (new.count ≤ new.most) × (new.most ≡ old.most) × (new.count < 2 ^ 64)
 
--- what is handed out makes no fault, by where a reader of entries stands
+-- what is handed out makes no fault, by the stage of a reader of entries
 abbrev pub PassesFrom : EntriesLeft → List ℕ → Type 0
 PassesFrom old taken = PassesAt old.most old.stage old.format old.count taken

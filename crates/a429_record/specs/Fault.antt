@@ -4,7 +4,7 @@ use Rattle.a429_record.specs.declared.fault.ReadFault.{ReadFault}
 use Rattle.a429_record.specs.declared.fault.ReadFault.TheVariants as fault
 use Rattle.a429_record.specs.Recording.{stands_for}
 
--- a fault is the first one of the bytes, where it is no fault of the device or for want of memory; `Failed` is none of any bytes
+-- a fault is the first one of the bytes, unless it is a failed device or out of memory; `Failed` is none of any bytes
 abbrev pub IsFirstReadFault : ReadFault → List ℕ → Type 0
 IsFirstReadFault fault.Device bytes = ⊤
 IsFirstReadFault fault.OutOfMemory bytes = ⊤

@@ -25,7 +25,7 @@ pub record ComesAfter (es : List Entry) (entry : Option Entry) (rows : List (Opt
 abbrev pub EndsAbove : ℕ → List Entry → Type 0
 EndsAbove t es = (earlier : List Entry) × (last : Entry) × (es ≡ earlier ++ (last ∷ [])) × (t < last.time)
 
--- behind these entries a row makes a fault: one row too many, no entry, or an entry whose time is below the one before
+-- after these entries a row makes a fault: it is one too many, is no entry, or has a time below the one before
 abbrev pub IsRefusedRow : List Entry → Option Entry → ReadFault → Type 0
 IsRefusedRow es entry fault.TooMany = length es ≡ most_entries
 IsRefusedRow es entry (fault.Row i) = (i ≡ length es) × (i < most_entries) × (entry ≡ None)
@@ -35,7 +35,7 @@ IsRefusedRow es entry fault.Device = ⊥
 IsRefusedRow es entry fault.OutOfMemory = ⊥
 IsRefusedRow es entry fault.Failed = ⊥
 
--- behind these entries a row makes this fault
+-- after these entries a row makes this fault
 pub record IsRefusedAmong (rows : List (Option Entry)) (es : List Entry) (f : ReadFault) : Type 0 where
   pub entry : Option Entry
   pub comes : ComesAfter es entry rows
@@ -46,7 +46,7 @@ abbrev pub HasNoHeader : List Row → Type 0
 HasNoHeader [] = ⊤
 HasNoHeader (row ∷ rows) = is_header row ≡ false
 
--- rows of a text are the header's, and behind it one makes a fault after these entries
+-- rows of a text are the header's, and after it one makes a fault after these entries
 pub record IsRefusedBehind (rows : List Row) (es : List Entry) (f : ReadFault) : Type 0 where
   pub header : Row
   pub more : List Row
@@ -59,7 +59,7 @@ abbrev pub IsFaultyText : List ℕ → List Entry → ReadFault → Type 0
 IsFaultyText bytes es fault.Header = (es ≡ []) × HasNoHeader (rows_of bytes)
 IsFaultyText bytes es f = IsRefusedBehind (rows_of bytes) es f
 
--- bytes are the eight of a binary recording, and behind them a piece makes a fault after these entries
+-- bytes are the eight of a binary recording, and after them a piece makes a fault after these entries
 pub record IsFaultyBinary (bytes : List ℕ) (es : List Entry) (f : ReadFault) : Type 0 where
   pub behind : List ℕ
   pub all : bytes ≡ magic ++ behind

@@ -21,12 +21,12 @@ ended_lines (b ∷ bs) = if b == 10 then [] ∷ ended_lines bs else onto_first b
 abbrev pub ended_rows : List ℕ → List Row
 ended_rows bytes = flat_map line_rows (ended_lines bytes)
 
--- rows make no fault, whatever comes behind them: there is none, or they are the header's and entries'
+-- rows make no fault, whatever comes after them: there is none, or they are the header's and entries'
 abbrev pub AreSound : ℕ → List Row → Type 0
 AreSound most [] = ⊤
 AreSound most (row ∷ rows) = (all_rows_stand_for most (row ∷ rows)).fault ≡ None
 
--- known bytes lose a front, which is handed out; it and what is left are so
+-- known bytes lose a prefix, which is handed out; it and what is left are so
 abbrev pub Loses : (List ℕ → List ℕ → Type 0) → Option (List ℕ) → Option (List ℕ) → Type 0
 Loses P None new = ⊤
 Loses P (Some xs) None = ⊥
@@ -36,11 +36,11 @@ Loses P (Some xs) (Some ys) = (taken : List ℕ) × (xs ≡ taken ++ ys) × P ta
 abbrev pub OfTaken : (List ℕ → Type 0) → List ℕ → List ℕ → Type 0
 OfTaken P taken rest = P taken
 
--- bytes may be a front of an entry's that comes after so many: they are too few for it, and none where there are as many as may be
+-- bytes may be a prefix of those of the next entry after so many: they are too few for it, and none where no further entry is allowed
 abbrev pub IsCut : ℕ → ℕ → List ℕ → Type 0
 IsCut most count bytes = (length bytes < entry_bytes) × (count ≡ most → bytes ≡ [])
 
--- bytes are those of a binary recording, and then at most a front of an entry's
+-- bytes are those of a binary recording, and then at most a prefix of an entry's
 pub record IsCutBinary (most : ℕ) (bytes : List ℕ) : Type 0 where
   pub entries : List Entry
   pub front : List ℕ
@@ -53,8 +53,8 @@ pub record IsCutBinary (most : ℕ) (bytes : List ℕ) : Type 0 where
 abbrev pub HasNoTextFault : ℕ → List ℕ → Type 0
 HasNoTextFault most taken = AreSound most (ended_rows taken)
 
--- nothing that is handed out makes a fault, whatever comes behind it: of a binary recording no whole entry and no byte behind the last that
--- may be, of a text no line with its line feed
+-- nothing that is handed out makes a fault, whatever comes after it: of a binary recording no whole entry and no byte after the last
+-- that is allowed, of a text no line with its line feed
 abbrev pub HasNoFaultWithin : ℕ → List ℕ → Type 0
 HasNoFaultWithin most taken = (is_binary taken ≡ true → IsCutBinary most taken) × (is_binary taken ≡ false → HasNoTextFault most taken)
 

@@ -1,4 +1,4 @@
--- What is still in a reader of lines, and what it hands out (profile).
+-- What a reader of lines will still return, and what it returns (profile).
 use Rattle.std.specs.Prelude.{◌≡◌, ◌<◌, ℕ, ◌+◌, List, [], length, take, drop, false, Option, IfSome}
 use Rattle.std.specs.Io.KnownBytes.{prepend_known, Consumes, Keeps}
 use Rattle.a429_word.specs.declared.tally.Tally.{Tally}
@@ -10,7 +10,7 @@ use Rattle.a429_record.specs.Binary.{magic, is_binary}
 use Rattle.a429_record.specs.Row.{Row}
 use Rattle.a429_record.specs.Handed.{Loses, OfTaken, IsLineHanded, AreLines}
 
--- the bytes that were read and not yet handed out
+-- the bytes that were read and not yet used
 abbrev pub ahead_of : Lines → List ℕ
 ahead_of s = drop s.at (take s.filled s.buffer)
 
@@ -18,7 +18,7 @@ ahead_of s = drop s.at (take s.filled s.buffer)
 abbrev pub pending_of : {R : Type 0} → (R → Option (List ℕ)) → Lines → Tally R → Option (List ℕ)
 pending_of remaining s rec = prepend_known (ahead_of s) (unread remaining rec)
 
--- how many bytes may still be handed out
+-- how many bytes may still be used
 abbrev pub room_of : {R : Type 0} → Lines → Tally R → ℕ
 room_of s rec = left_of rec + length (ahead_of s)
 
@@ -30,23 +30,23 @@ pub record Pending : Type 0 where
 abbrev pub pending : {R : Type 0} → (R → Option (List ℕ)) → Lines → Tally R → Lines → Tally R → Pending
 pending remaining old rec new new_rec = record { old = pending_of remaining old rec; new = pending_of remaining new new_rec }
 
--- these bytes are handed out
+-- these bytes are returned
 abbrev pub HandsBytes : List ℕ → Pending → Type 0
 HandsBytes bytes p = Consumes p.old p.new bytes
 
--- lines are handed out: what they take of the bytes, and what is then left, are so
+-- lines are returned: what they take of the bytes, and what is then left, are so
 abbrev pub HandsOut : (List ℕ → List ℕ → Type 0) → Pending → Type 0
 HandsOut P p = Loses P p.old p.new
 
--- this line is handed out
+-- this line is returned
 abbrev pub HandsLine : List ℕ → Pending → Type 0
 HandsLine line p = HandsOut (IsLineHanded line) p
 
--- whole lines are handed out, and their rows are so
+-- whole lines are returned, and their rows are so
 abbrev pub HandsRows : (List Row → Type 0) → Pending → Type 0
 HandsRows P p = HandsOut (AreLines P) p
 
--- the reader fails: what it has handed out until then, with what was ahead, is so
+-- the reader fails: what it has returned until then, with the bytes that were read ahead, is so
 abbrev pub FailsAfter : {R : Type 0} → (List ℕ → Type 0) → (R → Option (List ℕ)) → Lines → Tally R → Tally R → Type 0
 FailsAfter P remaining old rec new_rec = Loses (OfTaken P) (pending_of remaining old rec) (unread remaining new_rec)
 

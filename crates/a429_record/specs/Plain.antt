@@ -11,6 +11,6 @@ pub record IsPlainRow (bytes : List ℕ) (e : Entry) : Type 0 where
   pub layout : bytes ≡ time ++ (44 ∷ (bus ++ (44 ∷ word)))
   pub says : entry_in (Some (time ∷ bus ∷ word ∷ [])) ≡ Some e
 
--- what may stand behind a plain row on its line
+-- what may come after a plain row on its line
 abbrev pub IsLineEnd : List ℕ → Type 0
 IsLineEnd tail = (tail ≡ []) ⊎ (tail ≡ 13 ∷ [])

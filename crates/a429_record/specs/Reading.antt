@@ -1,4 +1,4 @@
--- What a reading has still to give, by where it stands (profile).
+-- What a reading will still return, by its stage (profile).
 use Rattle.std.specs.Prelude.{ℕ, List, [], ◌∷◌, ◌≡◌, Option, Some, IfSome, Result}
 use Rattle.a429_word.specs.declared.tally.Tally.{Tally}
 use Rattle.a429_record.specs.declared.entry.Entry.{Entry}
@@ -33,24 +33,24 @@ abbrev pub AreNextHanded : Format → Entry → List ℕ → List ℕ → Type 0
 AreNextHanded format.Text e taken rest = AreLines (AreEntryOf e) taken rest
 AreNextHanded format.Binary e taken rest = ArePieceOf e taken rest
 
--- the bytes of an entry are, by where a reading stands
+-- the bytes of an entry are, by the stage of a reading
 abbrev pub AreHandedAt : Stage → Format → Entry → List ℕ → List ℕ → Type 0
 AreHandedAt stage.Begins f e taken rest = AreFirstHanded f e taken rest
 AreHandedAt stage.Rows f e taken rest = AreNextHanded f e taken rest
 AreHandedAt stage.Ended f e taken rest = ⊥
 AreHandedAt stage.Failed f e taken rest = ⊥
 
--- what is handed out makes no fault after so many entries, in this format: the lines of a text that have their line feed are no row, and of a
--- binary recording it is a front of an entry at most
+-- what is handed out makes no fault after so many entries, in this format: the lines of a text that have their line feed are no row,
+-- and of a binary recording it is at most a prefix of an entry
 abbrev pub MakesNoFault : ℕ → Format → ℕ → List ℕ → Type 0
 MakesNoFault most format.Text count taken = HasNoRow taken
 MakesNoFault most format.Binary count taken = IsCut most count taken
 
--- a reader of rows fails before the next: what it has given until then is so
+-- a reader of rows fails before the next: what it has returned until then is so
 abbrev pub FailsNext : {R : Type 0} → (R → Option (List ℕ)) → RowReader → Tally R → Tally R → Type 0
 FailsNext remaining old rec new_rec = FailsAfter (MakesNoFault old.most old.format old.count) remaining old.lines rec new_rec
 
--- by where a reading stands: before all entries in whatever format
+-- by the stage of a reading: before all entries in either format
 abbrev pub PassesAt : ℕ → Stage → Format → ℕ → List ℕ → Type 0
 PassesAt most stage.Begins f count taken = HasNoFaultWithin most taken
 PassesAt most stage.Rows f count taken = MakesNoFault most f count taken
@@ -72,11 +72,11 @@ IsFormatAfter stage.Failed old bytes new = new ≡ old
 abbrev pub left_to_come : {R : Type 0} → (R → Option (List ℕ)) → Reading → Tally R → Option Recording
 left_to_come remaining reading rec = still_to_come remaining reading.stage reading.rows rec
 
--- the bytes of an entry are handed out
+-- the bytes of an entry are passed
 abbrev pub HandsEntry : Reading → Reading → Pending → Entry → Type 0
 HandsEntry old new p e = HandsOut (AreHandedAt old.stage new.rows.format e) p
 
--- the reader fails: nothing that was given until then makes a fault
+-- the reader fails: nothing that was returned until then makes a fault
 abbrev pub FailsBehind : {R : Type 0} → (R → Option (List ℕ)) → Reading → Tally R → Tally R → Type 0
 FailsBehind remaining old rec new_rec = FailsAfter (PassesAt old.rows.most old.stage old.rows.format old.rows.count) remaining old.rows.lines rec new_rec
 

@@ -58,7 +58,7 @@ IsWithin most entries = (length entries ≤ most) × NeverFalls 0 entries
 abbrev pub IsRecordable : List Entry → Type 0
 IsRecordable entries = IsWithin most_entries entries
 
--- a row after n entries, the last of them at the time `last`: after its entry comes what `more` gives for it
+-- a row after n entries, the last of them at the time `last`: after its entry comes what `more` says for it
 abbrev pub row_stands_for : ℕ → ℕ → Option Entry → (Entry → Recording) → Recording
 row_stands_for n last None more = stops (fault.Row n)
 row_stands_for n last (Some e) more = if nat_lt e.time last then stops (fault.TimeBack n) else with_entry e (more e)

@@ -1,4 +1,4 @@
--- What a reader of rows has still to give (profile).
+-- What a reader of rows will still return (profile).
 use Rattle.std.specs.Prelude.{◌≡◌, ◌≤◌, ◌<◌, ◌^◌, ◌+◌, ℕ, List, [], ◌∷◌, if◌then◌else◌, Option, Some, None, option_map, Result, Ok, Err, IfOk, IfSome, ⊤}
 use Rattle.a429_word.specs.declared.tally.Tally.{Tally}
 use Rattle.a429_record.specs.declared.entry.Entry.{Entry}
@@ -12,7 +12,7 @@ use Rattle.a429_record.specs.Binary.{is_binary, piece_entries}
 use Rattle.a429_record.specs.Recording.{Recording, rows_of, whole, stops, with_entry, entries_stand_for, rows_stand_for, all_rows_stand_for, stands_within}
 use Rattle.a429_record.specs.Lines.{ahead_of, pending_of}
 
--- no entry was given
+-- no entry was returned
 abbrev pub IsUncounted : RowReader → Type 0
 IsUncounted s = (s.count ≡ 0) × (s.last ≡ 0)
 
@@ -24,7 +24,7 @@ IsFresh s = IsUncounted s × (ahead_of s.lines ≡ [])
 abbrev pub rows_left : {R : Type 0} → (R → Option (List ℕ)) → RowReader → Tally R → Option (List Row)
 rows_left remaining s rec = option_map rows_of (pending_of remaining s.lines rec)
 
--- what rows with these entries, or with none, stand for after the entries that were given
+-- what rows with these entries, or with none, stand for after the entries that were returned
 abbrev pub stands_from : RowReader → List (Option Entry) → Recording
 stands_from s = entries_stand_for s.most s.count s.last
 
@@ -44,7 +44,7 @@ left_in remaining format.Binary s rec = binary_left remaining s rec
 abbrev pub recording_left : {R : Type 0} → (R → Option (List ℕ)) → RowReader → Tally R → Option Recording
 recording_left remaining s rec = left_in remaining s.format s rec
 
--- what all bytes stand for, where nothing was given
+-- what all bytes stand for, where nothing was returned
 abbrev pub all_left : {R : Type 0} → (R → Option (List ℕ)) → RowReader → Tally R → Option Recording
 all_left remaining s rec = option_map (stands_within s.most) (pending_of remaining s.lines rec)
 
@@ -52,7 +52,7 @@ all_left remaining s rec = option_map (stands_within s.most) (pending_of remaini
 abbrev pub chosen_form : List ℕ → Format
 chosen_form bytes = if is_binary bytes then format.Binary else format.Text
 
--- a fault is all that is left, where it is no fault of the device or for want of memory
+-- a fault is all that is left, unless it is a failed device or out of memory
 abbrev pub Stops : ReadFault → Recording → Type 0
 Stops fault.Device t = ⊤
 Stops fault.OutOfMemory t = ⊤
@@ -79,7 +79,7 @@ GivesNext (Some t) new (Err f) = Stops f t
 abbrev pub first_left : {R : Type 0} → (R → Option (List ℕ)) → RowReader → Tally R → Option Recording
 first_left remaining s rec = option_map (all_rows_stand_for s.most) (rows_left remaining s rec)
 
--- an answer is that to a row with this entry, or with none, whatever rows come behind it
+-- an answer is that to a row with this entry, or with none, whatever rows come after it
 abbrev pub GivesRow : RowReader → Option Entry → RowReader → Result (Option Entry) ReadFault → Type 0
 GivesRow old entry new r = (more : List (Option Entry)) → GivesNext (Some (stands_from old (entry ∷ more))) (Some (stands_from new more)) r
 
@@ -87,12 +87,13 @@ GivesRow old entry new r = (more : List (Option Entry)) → GivesNext (Some (sta
 abbrev pub IfEntry : Result (Option Entry) ReadFault → (Entry → Type 0) → Type 0
 IfEntry answer P = IfOk answer (λ o. IfSome o P)
 
--- how many entries an answer gives
+-- how many entries an answer has
 abbrev pub entries_in : Result (Option Entry) ReadFault → ℕ
 entries_in (Ok (Some e)) = 1
 entries_in (Ok None) = 0
 entries_in (Err f) = 0
 
--- an entry is given after the last one, and is then the last one; as many may be given as before, and their number fits in 64 bits
+-- an entry is returned, no earlier than the last one, and is then the last one; the limit of entries stays, and their number fits in 64
+-- bits
 abbrev pub Follows : RowReader → RowReader → Entry → Type 0
 Follows old new e = (old.last ≤ e.time) × (new.last ≡ e.time) × (new.count ≡ old.count + 1) × (new.most ≡ old.most) × (new.count < 2 ^ 64)

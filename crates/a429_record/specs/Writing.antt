@@ -17,7 +17,7 @@ entry_fields e = decimal e.time ∷ bus_text e.bus ∷ hex_text e.word ∷ []
 abbrev pub header_text : List ℕ
 header_text = codes "time,bus,word\n"
 
--- the time, the bus and the word of an entry, with one byte between them and one behind them
+-- the time, the bus and the word of an entry, with one byte between them and one after them
 abbrev pub entry_text : ℕ → ℕ → Entry → List ℕ
 entry_text between behind e = decimal e.time ++ between ∷ [] ++ bus_text e.bus ++ between ∷ [] ++ hex_text e.word ++ behind ∷ []
 

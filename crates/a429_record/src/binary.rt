@@ -14,10 +14,10 @@ pub const MAGIC: [u8; 8] = *b"A429REC1";
 /// How many bytes an entry has (profile).
 pub const ENTRY_BYTES: usize = 13;
 
-// Where its bus stands.
+// The place of its bus.
 const BUS: usize = 8;
 
-// Where its word stands.
+// The place of its word.
 const WORD: usize = 9;
 
 /// Whether the bytes are those that a binary recording begins with, or the first of them.

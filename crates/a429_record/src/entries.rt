@@ -11,8 +11,8 @@ use std::alloc::Global;
 use std::io::Read;
 use std::marker::Model;
 
-/// A reader of a recording's entries, one after the other. As a device it has failed where the reader
-/// that it owns has.
+/// A reader of a recording's entries, one after the other, in either format. It has failed where the reader that it
+/// owns has.
 #[derive(Drop)]
 pub struct EntryReader<R: Read> {
     reading: Reading,
@@ -49,7 +49,7 @@ impl<R: Read> EntryReader<R> {
     ghost use Rattle.a429_record.specs.declared.fault.ReadFault.TheVariants as fault;
     ghost use Rattle.a429_record.specs.declared.stage.Stage.TheVariants as at;
 
-    /// Nothing was read of `rec`.
+    /// A reader of the entries of `rec`, 1,000,000 at most, of which nothing was read yet.
     pub fn new(alloc: Global, rec: Tally<R>) -> EntryReader<R>
         ensures to_come { result.to_come ≡ option_map stands_for (unread R.remaining rec) }
         ensures begins { (result.stage ≡ at.Begins) × (result.count ≡ 0) × (result.last ≡ 0) }
@@ -61,7 +61,7 @@ impl<R: Read> EntryReader<R> {
         EntryReader::of_most(alloc, rec, MOST_ENTRIES)
     }
 
-    /// The same, of a recording that may have so many entries: `usize::MAX` for one of any length.
+    /// The same with another limit of entries: `usize::MAX` for a recording of any length.
     pub fn of_most(alloc: Global, rec: Tally<R>, most: usize) -> EntryReader<R>
         ensures to_come { result.to_come ≡ option_map (stands_within most) (unread R.remaining rec) }
         ensures begins { (result.stage ≡ at.Begins) × (result.count ≡ 0) × (result.last ≡ 0) }
@@ -76,11 +76,12 @@ impl<R: Read> EntryReader<R> {
         }
     }
 
-    /// The next entry, or none at the end; the first call also reads the first eight bytes, which choose
-    /// the format, and the header of a text. After the end there is none again, and after a fault every
-    /// call answers `Failed`, which comes nowhere else. `Device` is answered where the reader has failed,
-    /// and nothing makes a fault that it handed out whole before, `OutOfMemory` where memory was refused,
-    /// and any other fault where it is the recording's first.
+    /// The next entry; `None` at the end, and at each call after it. The first call also reads the first eight
+    /// bytes, which choose the format, and the header of a text.
+    ///
+    /// Faults: `Device` where the reader has failed and the rows that it returned whole before have no fault;
+    /// `OutOfMemory` where memory was refused; `Failed` at each call after a fault, and only there; any other is the
+    /// recording's first fault.
     pub fn next(&mut self) -> Result<Option<Entry>, ReadFault>
         ensures gives { GivesNext self.old.to_come self.new.to_come result }
         ensures answers { AnswersAt self.old.stage result }

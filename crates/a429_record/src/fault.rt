@@ -2,7 +2,8 @@
 
 use thiserror::Error;
 
-/// Why a recording was not read. A place counts entries from 0. Its text is the line that names it.
+/// Why a recording was not read (profile). Places count entries from 0. The text of a fault is its line on standard
+/// error.
 #[derive(Clone, Copy, Debug, PartialEq, Eq, Drop, Error)]
 pub enum ReadFault {
     /// The first row of a text is not the header.
@@ -14,8 +15,8 @@ pub enum ReadFault {
     /// The entry at this place has a time below the one before.
     #[error("time back {0}")]
     TimeBack(usize),
-    /// A row, or the first byte of one, comes after as many entries as may be: 1,000,000, or as
-    /// many as an `EntryReader` was given.
+    /// A row, or the first byte of one, comes after the last entry that is allowed: 1,000,000 are, or the limit
+    /// of an `EntryReader`.
     #[error("too many")]
     TooMany,
     /// The reader has failed.
@@ -24,7 +25,7 @@ pub enum ReadFault {
     /// Memory was refused.
     #[error("memory")]
     OutOfMemory,
-    /// A fault was answered before: of an `EntryReader` alone.
+    /// A call before this one returned a fault. Only an `EntryReader` returns this.
     #[error("failed")]
     Failed,
 }

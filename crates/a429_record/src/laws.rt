@@ -22,40 +22,40 @@ pub fn larger_limits()
     ensures { (most more : ℕ) (bytes : List ℕ) → most ≤ more → (IsTooMany (stands_within most bytes) → ⊥) → stands_within more bytes ≡ stands_within most bytes }
 {}
 
-/// The bytes of a text recording stand for entries with no fault where they are the header and the
-/// entries' rows, at most 1,000,000 whose times never fall, and nowhere else.
+/// The bytes of a text recording stand for entries without a fault exactly where they are the header and
+/// the rows of the entries, at most 1,000,000, whose times never fall.
 pub fn whole_texts()
     ensures there { (bytes : List ℕ) (es : List Entry) → IsText bytes → IsWholeText bytes es → stands_for bytes ≡ whole es }
     ensures only { (bytes : List ℕ) (es : List Entry) → IsText bytes → stands_for bytes ≡ whole es → IsWholeText bytes es }
 {}
 
-/// Those of a binary recording do where the entries' pieces come behind their first eight.
+/// Those of a binary recording do exactly where they are its first eight bytes and the pieces of such entries.
 pub fn whole_binaries()
     ensures there { (bytes : List ℕ) (es : List Entry) → IsWholeBinary bytes es → stands_for bytes ≡ whole es }
     ensures only { (bytes : List ℕ) (es : List Entry) → IsBinary bytes → stands_for bytes ≡ whole es → IsWholeBinary bytes es }
 {}
 
-/// The bytes of a text recording stand for entries and a fault after them where the header is missing,
-/// or else where behind it and these entries' rows comes a row too many, one that is no entry or one
-/// whose time is below the one before, and nowhere else.
+/// The bytes of a text recording stand for entries and then a fault exactly where the header is missing, or
+/// where after it and the rows of these entries comes a row that is one too many, is no entry, or has a time
+/// below the one before.
 pub fn texts_with_a_fault()
     ensures there { (bytes : List ℕ) (es : List Entry) (f : ReadFault) → IsText bytes → IsFaultyText bytes es f → StopAfter bytes es f }
     ensures only { (bytes : List ℕ) (es : List Entry) (f : ReadFault) → IsText bytes → StopAfter bytes es f → IsFaultyText bytes es f }
 {}
 
-/// Those of a binary recording do where behind its entries' pieces comes such a piece, which is no entry
-/// where it is cut too.
+/// Those of a binary recording do exactly where such a piece comes after the pieces of these entries. A piece
+/// that is cut is no entry either.
 pub fn binaries_with_a_fault()
     ensures there { (bytes : List ℕ) (es : List Entry) (f : ReadFault) → IsFaultyBinary bytes es f → StopAfter bytes es f }
     ensures only { (bytes : List ℕ) (es : List Entry) (f : ReadFault) → IsBinary bytes → StopAfter bytes es f → IsFaultyBinary bytes es f }
 {}
 
-/// What is written of entries as a text stands for these entries.
+/// The text that is written of entries stands for these entries.
 pub fn written_is_read_back()
     ensures { (es : List Entry) → AreEntries es → IsRecordable es → stands_for (written_form es) ≡ whole es }
 {}
 
-/// What is written of them in binary does too.
+/// The binary recording that is written of them does too.
 pub fn packed_is_read_back()
     ensures { (es : List Entry) → AreEntries es → IsRecordable es → stands_for (binary_form es) ≡ whole es }
 {}

@@ -125,7 +125,7 @@ fn row_by_csv(alloc: Global, line: &[u8]) -> Result<LineRow, ReadFault>
     Ok(LineRow::One(row))
 }
 
-// A line without the byte order mark at its front, where it has one.
+// A line without the byte order mark that it may begin with.
 fn without_mark(line: &[u8]) -> &[u8]
     ensures { result.now ≡ strip_bom line.now }
 {
@@ -144,7 +144,7 @@ fn is_blank(line: &[u8]) -> bool
     line.iter().all(|byte| *byte == b'\r')
 }
 
-/// A line at the front of bytes.
+/// The line that bytes begin with, as an entry.
 #[derive(Clone, Copy, Drop)]
 pub struct FrontLine {
     pub entry: Entry,
@@ -153,7 +153,7 @@ pub struct FrontLine {
 }
 
 /// The entry of the line that bytes begin with, where it has its line feed, and nothing but a plain row
-/// and at most a carriage return behind it.
+/// and at most a carriage return after it.
 #[inline(always)]
 pub fn front_line(bytes: &[u8]) -> Option<FrontLine>
     ensures inside { IfSome result (λ l. l.len < length bytes.now) }
@@ -175,7 +175,7 @@ pub fn front_line(bytes: &[u8]) -> Option<FrontLine>
     }
 }
 
-// The entry of a line that has nothing but a plain row, and at most a carriage return behind it.
+// The entry of a line that has nothing but a plain row, and at most a carriage return after it.
 fn plain_entry(line: &[u8]) -> Option<Entry>
     ensures { IfSome result (λ e. line_entries line.now ≡ Some e ∷ []) }
 {

@@ -13,7 +13,7 @@ use memchr::memchr;
 use std::alloc::AllocError;
 use std::io::Read;
 
-/// What was read of a reader and not yet given: the bytes from `at` to `filled`.
+/// A buffer of a reader's bytes: those from `at` to `filled` were read and not yet used.
 #[derive(Drop)]
 pub struct Lines {
     buffer: [u8; 16384],
@@ -27,7 +27,7 @@ impl Lines {
     ghost use Rattle.a429_record.specs.Lines.{ahead_of, pending, pending_of, room_of, HandsBytes, HandsLine, FailsAfter, Chooses, IsMagicFront, IsShort, IsNothing};
     ghost use Rattle.a429_record.specs.declared.fault.ReadFault.TheVariants as fault;
 
-    /// Nothing was read.
+    /// An empty buffer.
     pub fn new() -> Self
         ensures { ahead_of result ≡ [] }
     {
@@ -38,8 +38,8 @@ impl Lines {
         }
     }
 
-    /// Reads on until what was read chooses the format. The eight bytes that a binary recording begins with
-    /// are given then, those of a text are not.
+    /// Reads until the bytes choose the format. The eight bytes that a binary recording begins with are passed
+    /// then, those of a text are not.
     pub fn format<R: Read>(&mut self, rec: &mut Tally<R>) -> Result<Format, ReadFault>
         requires none { ahead_of self.old ≡ [] }
         requires works { has_failed rec.old ≡ false }
@@ -65,7 +65,7 @@ impl Lines {
         Ok(Format::Binary)
     }
 
-    // Reads on behind what was read, up to this place at most, and answers whether there was more.
+    // Reads more bytes, up to this place of the buffer at most, and returns whether there were any.
     fn read_on<R: Read>(&mut self, rec: &mut Tally<R>, end: usize) -> Result<bool, Device>
         requires start { self.old.at ≡ 0 }
         requires some { self.old.filled < end }
@@ -85,7 +85,7 @@ impl Lines {
         Ok(n > 0)
     }
 
-    /// Whether a byte comes, which is read and not given.
+    /// Whether there is another byte. It is read, but not passed.
     pub fn is_more<R: Read>(&mut self, rec: &mut Tally<R>) -> Result<bool, ReadFault>
         requires { has_failed rec.old ≡ false }
         ensures keeps { OnOk result (Keeps (pending_of R.remaining self.old rec.old) (pending_of R.remaining self.new rec.new)) }
@@ -105,7 +105,7 @@ impl Lines {
         }
     }
 
-    /// Reads as many bytes as there is room for, or else all that are left, and answers their number.
+    /// Fills `bytes`, or its beginning where fewer are left, and returns how many bytes there were.
     pub fn fill<R: Read>(
         &mut self,
         rec: &mut Tally<R>,
@@ -135,7 +135,7 @@ impl Lines {
         }
     }
 
-    // Gives as many of the bytes that were read as there is room for, and answers their number.
+    // Moves bytes from the buffer to `bytes`, as many as both have room for, and returns their number.
     fn take_bytes(&mut self, bytes: &mut [u8]) -> usize
         ensures size { length bytes.new ≡ length bytes.old }
         ensures most { result ≤ length bytes.new }
@@ -149,7 +149,7 @@ impl Lines {
         n
     }
 
-    /// Reads the next line, without its line feed, into `line`, and answers whether there was one.
+    /// Reads the next line, without its line feed, into `line`, and returns whether there was one.
     pub fn next_line<R: Read>(
         &mut self,
         rec: &mut Tally<R>,
@@ -180,7 +180,7 @@ impl Lines {
         }
     }
 
-    /// What was read and not yet given.
+    /// The bytes that were read and not yet used.
     #[inline(always)]
     pub fn ahead(&self) -> &[u8]
         ensures { result.now ≡ ahead_of self.now }
@@ -188,7 +188,7 @@ impl Lines {
         &self.buffer[self.at..self.filled]
     }
 
-    /// Gives this many of the bytes that were read.
+    /// Passes this many of the bytes that were read.
     #[inline(always)]
     pub fn pass(&mut self, count: usize)
         requires { count ≤ length (ahead_of self.old) }
@@ -197,7 +197,7 @@ impl Lines {
         self.at += count;
     }
 
-    // Gives what was read of the line, and answers whether the line ends there.
+    // Adds what was read of the line to `line`, and returns whether the line ends there.
     fn take_part(&mut self, line: &mut Vec<u8>) -> Result<bool, AllocError>
         ensures part { IfOk result (λ ended. (part : List ℕ) × HasNoEnd part × (line.new.items ≡ line.old.items ++ part)
             × (ahead_of self.old ≡ part ++ (if ended then 10 ∷ [] else []) ++ ahead_of self.new)) }
@@ -218,7 +218,7 @@ impl Lines {
         }
     }
 
-    // Reads on, where all that was read is given, and answers whether there was more.
+    // Reads more bytes into the empty buffer, and returns whether there were any.
     fn refill<R: Read>(&mut self, rec: &mut Tally<R>) -> Result<bool, Device>
         requires { ahead_of self.old ≡ [] }
         ensures keeps { OnOk result (Keeps (pending_of R.remaining self.old rec.old) (pending_of R.remaining self.new rec.new)) }

@@ -14,8 +14,8 @@ use std::io::Write;
 // How many entries are put at once.
 const GROUP: usize = 256;
 
-/// Writes entries, at most 1,000,000 whose times never fall, as a binary recording. It takes no memory. After `Device`
-/// a prefix of the recording has been written.
+/// Writes entries, at most 1,000,000 whose times never fall, as a binary recording: eight bytes, and 13 for each
+/// entry. It takes no memory. After `Device` a prefix of the recording has been written.
 pub fn write_binary<W: Write>(out: &mut Tally<W>, entries: &[Entry]) -> Result<(), Device>
     requires { IsRecordable entries.now }
     ensures written { Writes W.contents out.old out.new (binary_form entries.now) }

@@ -9,13 +9,13 @@ use crate::entry::Entry;
 use crate::row::bus_of;
 use a429_word::Word;
 
-// How many digits fit 64 bits, whatever they are.
+// So many digits fit 64 bits, whatever they are.
 const SURE_DIGITS: usize = 19;
 
-// How many bytes come behind the time: a bus and a word, each after a comma.
+// How many bytes come after the time: a bus and a word, each after a comma.
 const BEHIND: usize = 11;
 
-/// A row at the front of bytes.
+/// The row that bytes begin with.
 #[derive(Clone, Copy, Drop)]
 pub struct PlainRow {
     pub entry: Entry,
@@ -23,15 +23,15 @@ pub struct PlainRow {
     pub len: usize,
 }
 
-// A number at the front of bytes.
+// The number that bytes begin with, and how many digits it has.
 #[derive(Clone, Copy, Drop)]
 struct Leading {
     number: u64,
     len: usize,
 }
 
-/// The entry of a row that bytes begin with, where it is plain. What comes behind it is not looked at. A
-/// row whose time has twenty digits is not found.
+/// The row that bytes begin with, where it is plain. What comes after it is not looked at. A row whose time has
+/// twenty digits is not found.
 #[inline(always)]
 pub fn plain_row(bytes: &[u8]) -> Option<PlainRow>
     ensures { IfSome result (λ r. (r.len ≤ length bytes.now) × IsPlainRow (take r.len bytes.now) r.entry) }

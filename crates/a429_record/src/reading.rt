@@ -1,4 +1,4 @@
-//! One reading of a recording, answer by answer.
+//! One reading of a recording, entry by entry.
 
 ghost use Rattle.std.specs.Prelude.{◌≡◌, ◌↔◌, ◌+◌, ◌<◌, true, false, IsErrOf};
 ghost use Rattle.a429_word.specs.Tally.{has_failed};
@@ -13,7 +13,7 @@ use a429_word::Tally;
 use std::alloc::Global;
 use std::io::Read;
 
-/// How far a recording was read, and what was answered last.
+/// How far a recording was read, and what the last call returned.
 #[derive(Drop)]
 pub struct Reading {
     rows: RowReader,
@@ -28,7 +28,7 @@ impl Reading {
     ghost use Rattle.a429_record.specs.Reading.{left_to_come, HandsEntry, FailsBehind, KeepsFormat};
     ghost use Rattle.a429_record.specs.declared.fault.ReadFault.TheVariants as fault;
 
-    /// Nothing was read, and at most so many entries may be.
+    /// A reading in which nothing was read yet, of at most this many entries.
     pub fn new(alloc: Global, most: usize) -> Self
         ensures stage { result.stage ≡ at.Begins }
         ensures most { result.rows.most ≡ most }
@@ -39,9 +39,7 @@ impl Reading {
         }
     }
 
-    /// Reads the next entry, where there is one; what comes before all
-    /// entries before the first. After the end there is
-    /// none, and after a fault comes the fault `Failed`.
+    /// Reads the next entry; `None` at the end, and each time after it. After a fault every call returns `Failed`.
     #[inline(always)]
     pub fn next<R: Read>(&mut self, rec: &mut Tally<R>) -> Result<Option<Entry>, ReadFault>
         requires { self.old.stage ≡ at.Rows → has_failed rec.old ≡ false }

@@ -13,9 +13,9 @@ use a429_word::Tally;
 use std::alloc::Global;
 use std::io::Read;
 
-/// Reads a recording in either format to its end and answers all its entries, or its first fault.
-/// `Device` is answered exactly where `rec` has failed, and nothing makes a fault that it handed out
-/// whole before. `OutOfMemory` is answered where memory was refused. `Failed` is never answered.
+/// Reads a recording in either format to its end. It returns all entries, at most 1,000,000, or the first fault:
+/// `Device` exactly where `rec` has failed and the rows that it returned whole before have no fault, `OutOfMemory`
+/// where memory was refused; never `Failed`.
 pub fn read_entries<R: Read>(alloc: Global, rec: &mut Tally<R>) -> Result<Vec<Entry>, ReadFault>
     ensures ok { IfOk result (λ v. IfSome (unread R.remaining rec.old) (λ bytes. stands_for bytes ≡ whole v.items)) }
     ensures recordable { IfOk result (λ v. IsRecordable v.items) }

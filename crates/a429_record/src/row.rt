@@ -66,7 +66,7 @@ fn word_of(text: &[u8]) -> Option<Word>
     Word::parse_hex(text)
 }
 
-// The entry of three fields. It is handed on in registers where this is inlined.
+// The entry of three fields. Where this is inlined, it is passed in registers.
 #[inline(always)]
 pub fn entry_from(time: &[u8], bus: &[u8], word: &[u8]) -> Option<Entry>
     ensures { result ≡ entry_in (Some (time.now ∷ bus.now ∷ word.now ∷ [])) }

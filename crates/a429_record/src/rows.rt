@@ -14,8 +14,8 @@ use a429_word::{Failing, Tally};
 use std::alloc::Global;
 use std::io::Read;
 
-/// How far a recording was read: its format, what was read of the reader and not yet given, how many
-/// entries may be given and how many were, and the time of the last of them.
+/// How far a recording was read: its format, the bytes that were read and not yet used, how many entries
+/// may be returned and how many were, and the time of the last of them in microseconds.
 #[derive(Drop)]
 pub struct RowReader {
     alloc: Global,
@@ -36,7 +36,7 @@ impl RowReader {
     ghost use Rattle.a429_record.specs.Reading.{AreFirstHanded, AreNextHanded, FailsNext, IsChosen};
     ghost use Rattle.a429_record.specs.declared.fault.ReadFault.TheVariants as fault;
 
-    /// Nothing was read, and at most so many entries may be.
+    /// A reading in which nothing was read yet, of at most this many entries.
     pub fn new(alloc: Global, most: usize) -> Self
         ensures fresh { IsFresh result }
         ensures most { result.most ≡ most }
@@ -52,7 +52,8 @@ impl RowReader {
         }
     }
 
-    /// Reads what comes before all entries, and the first of them, where there is one.
+    /// Reads what comes before all entries (the eight bytes of the binary format, or the header of a text) and
+    /// the first entry; `None` where there is no entry.
     pub fn first<R: Read>(&mut self, rec: &mut Tally<R>) -> Result<Option<Entry>, ReadFault>
         requires { IsFresh self.old }
         ensures gives { GivesNext (all_left R.remaining self.old rec.old) (recording_left R.remaining self.new rec.new) result }
@@ -79,7 +80,7 @@ impl RowReader {
         }
     }
 
-    /// Reads the next entry, where there is one. What comes before all entries was read.
+    /// Reads the next entry, after `first` has read the first one; `None` at the end.
     #[inline(always)]
     pub fn next<R: Read>(&mut self, rec: &mut Tally<R>) -> Result<Option<Entry>, ReadFault>
         requires { has_failed rec.old ≡ false }
@@ -134,7 +135,7 @@ impl RowReader {
         }
     }
 
-    // Reads the header of a text, and the entry behind it, where there is one.
+    // Reads the header of a text, and the entry after it, where there is one.
     fn first_row<R: Read>(&mut self, rec: &mut Tally<R>) -> Result<Option<Entry>, ReadFault>
         requires fresh { IsUncounted self.old }
         requires works { has_failed rec.old ≡ false }
@@ -187,7 +188,7 @@ impl RowReader {
         }
     }
 
-    // The entry of the next line, where all of the line was read and it is plain. The line is given then.
+    // The entry of the next line, where all of the line was read and it is plain. The line is passed then.
     #[inline(always)]
     fn plain_entry(&mut self) -> Option<Entry>
         ensures some { IfSome result (λ e. GivesEntry (ahead_of self.old.lines) (ahead_of self.new.lines) e) }
@@ -251,14 +252,14 @@ impl RowReader {
         }
     }
 
-    // Whether as many entries were given as may be.
+    // Whether as many entries were returned as may be.
     fn is_full(&self) -> bool
         ensures { IsTrue result ↔ (self.now.count ≡ self.now.most) }
     {
         self.count == self.most
     }
 
-    // Takes a row for the next entry, which it may not be.
+    // The entry of the next row, or the fault that the row makes: one too many, no entry, a time that falls.
     fn take_row(&mut self, row: Option<Entry>) -> Result<Option<Entry>, ReadFault>
         ensures gives { GivesRow self.old row self.new result }
         ensures entry { IfOk result (λ o. o ≡ row) }

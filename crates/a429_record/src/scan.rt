@@ -68,7 +68,7 @@ impl From<AllocError> for ScanFault {
     }
 }
 
-// Goes to this place, and does this.
+// The next place of the scan, and what is done on the way there.
 #[inline(always)]
 fn to(place: Place, deed: Deed) -> Turn
     ensures place { result.place ≡ place }
@@ -167,7 +167,7 @@ fn ends_at_end(place: Place) -> bool
     }
 }
 
-// Does what a byte does to the fields and to the field at hand.
+// Does what a byte does: it ends the field, joins it, or changes nothing.
 #[inline(always)]
 fn act(deed: Deed, byte: u8, row: &mut ByteRecord, field: &mut Vec<u8>) -> Result<(), AllocError>
     requires { partial_of row.old ≡ [] }

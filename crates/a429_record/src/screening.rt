@@ -9,8 +9,8 @@ use a429_word::screen;
 /// How many entries are screened together.
 pub const SCREENED: usize = 256;
 
-/// What `screen` answers for the word of each entry, at the entry's place; what stands behind them says
-/// nothing. The buses are not looked at.
+/// What `screen` returns for the word of each entry, at the entry's place. The values after those of the
+/// entries mean nothing. The buses are not looked at.
 pub fn screen_entries(entries: &[Entry], label: u8) -> [u8; SCREENED]
     requires { length entries.now ≤ SCREENED }
     ensures { take (length entries.now) result ≡ map (λ e. screened label e.word) entries.now }

@@ -1,4 +1,4 @@
-//! Where a reading of a recording stands.
+//! The stages of reading a recording.
 
 ghost use Rattle.std.specs.Prelude.{◌≡◌};
 ghost use Rattle.a429_record.specs.Stage.{stage_after};
@@ -6,21 +6,21 @@ ghost use Rattle.a429_record.specs.Stage.{stage_after};
 use crate::entry::Entry;
 use crate::fault::ReadFault;
 
-/// Where a reading of a recording stands.
+/// The stage of reading a recording, by what the last call returned.
 #[derive(Clone, Copy)]
 pub enum Stage {
-    /// Nothing was read: what comes before all entries is first.
+    /// Nothing was read yet.
     Begins,
-    /// The rows of entries come.
+    /// An entry was returned.
     Rows,
-    /// The end was answered.
+    /// The end was returned.
     Ended,
-    /// A fault was answered.
+    /// A fault was returned.
     Failed,
 }
 
 impl Stage {
-    /// Where a reading stands after an answer.
+    /// The stage after this answer.
     #[inline(always)]
     pub fn after(answer: &Result<Option<Entry>, ReadFault>) -> Stage
         ensures { result ≡ stage_after answer.now }

@@ -44,7 +44,7 @@ pub fn write_entries<W: Write>(
     Ok(())
 }
 
-// Writes entries by an empty page.
+// Writes the entries, on a page that is empty.
 fn put_entries<W: Write>(page: Page, out: &mut Tally<W>, entries: &[Entry]) -> Result<(), Device>
     requires { page ≡ [] }
     ensures written { Writes W.contents out.old out.new (written_form entries.now) }
@@ -94,7 +94,7 @@ pub fn put_parts<W: Write>(sheet: &mut Sheet<'_, W>, entry: Entry, between: u8, 
     sheet.put(&text[start..]);
 }
 
-// A bus and a word, one byte before each and one behind them.
+// A bus and a word, one byte before each and one after them.
 #[inline(always)]
 fn bus_and_word(bus: Bus, word: Word, before: u8, behind: u8) -> [u8; 12]
     ensures { result ≡ before ∷ (bus_text bus ++ (before ∷ (hex_text word ++ behind ∷ []))) }

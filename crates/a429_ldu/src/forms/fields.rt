@@ -6,7 +6,7 @@ ghost use Rattle.a429_ldu.specs.Form.{fields_of, fields_in};
 
 use a429_word::Word;
 
-/// What a transfer word holds beside its label and its parity bit.
+/// The numbers in a transfer word, beside its label and its parity bit (profile).
 #[derive(Clone, Copy)]
 pub(crate) struct Parts {
     /// The type, bits 29 to 31.
@@ -19,7 +19,7 @@ pub(crate) struct Parts {
     pub lower: u8,
 }
 
-/// The numbers in a word.
+/// The numbers in this word.
 pub(crate) fn parts_of(word: Word) -> Parts
     ensures fields { fields_of word ≡ fields_in result }
     ensures upper { result.upper ≤ 15 }

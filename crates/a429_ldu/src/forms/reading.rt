@@ -90,7 +90,7 @@ pub(crate) fn full_form(parts: Parts) -> Form
     Form::Part(Semis::kept(digits, 5))
 }
 
-// The form of a partial word: its code tells how many semi-octets it has, and the others are 0.
+// The form of a partial word: its code says how many semi-octets it has, and the others have to be 0.
 fn partial_form(codes: &Codes, parts: Parts) -> Option<Form>
     ensures { result ≡ partial_on codes.now (fields_in parts) }
 {

@@ -30,7 +30,7 @@ pub(crate) fn address(codes: &Codes, bus: Bus) -> u8
     }
 }
 
-// What is in the word of a form.
+// The numbers in the word of a form.
 fn row(codes: &Codes, form: &Form) -> Parts
     requires { IsInRange form.now }
     ensures { row codes.now form.now ≡ fields_in result }
@@ -67,7 +67,7 @@ fn protocol_row(codes: &Codes, code: u8, middle: u8, lower: u8) -> Parts
     }
 }
 
-// What is in a data word.
+// The numbers in a data word.
 fn data_row(codes: &Codes, semis: &Semis) -> Parts
     ensures { data_row codes.now semis.now ≡ fields_in result }
 {
