@@ -111,10 +111,18 @@ abbrev pub at_part : ℕ → SinkPhase → SinkPhase
 at_part word (InBlock b) = InBlock (record b { words = b.words ++ word ∷ [] })
 at_part word phase = phase
 
-abbrev pub at_end : Contents → Option Number → ℕ → ℕ → ℕ → SinkPhase → SinkPhase
-at_end p last count flags check Granted = OwesNak
-at_end p last count flags check (InBlock b) = if is_good p last count b check then OwesAck b flags else OwesNak
-at_end p last count flags check phase = phase
+-- what an end word says: its flags and its check word
+pub record EndWord : Type 0 where
+  pub flags : ℕ
+  pub check : ℕ
+
+abbrev pub end_word : ℕ → ℕ → EndWord
+end_word flags check = record { flags = flags; check = check }
+
+abbrev pub at_end : Contents → Option Number → ℕ → EndWord → SinkPhase → SinkPhase
+at_end p last count e Granted = OwesNak
+at_end p last count e (InBlock b) = if is_good p last count b e.check then OwesAck b e.flags else OwesNak
+at_end p last count e phase = phase
 
 -- the sink in this phase, with all else as it was
 abbrev pub in_phase : SinkPhase → Sink → Sink
@@ -132,7 +140,7 @@ abbrev pub takes_part : ℕ → Sink → Sink
 takes_part word k = in_phase (at_part word k.phase) k
 
 abbrev pub takes_end : Contents → ℕ → ℕ → Sink → Sink
-takes_end p flags check k = in_phase (at_end p k.last k.count flags check k.phase) k
+takes_end p flags check k = in_phase (at_end p k.last k.count (end_word flags check) k.phase) k
 
 -- the sink after a word of this form
 abbrev pub takes : Contents → ℕ → Form → Sink → Sink
