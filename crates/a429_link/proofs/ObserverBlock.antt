@@ -4,8 +4,9 @@ use Rattle.a429_profile.specs.Profile.{Contents}
 use Rattle.a429_ldu.specs.declared.semis.Semis.{Semis}
 use Rattle.a429_ldu.specs.declared.forms.Form.{Form}
 use Rattle.a429_ldu.specs.declared.forms.Form.TheVariants.{Rts, Cts, Ack, Nak, Sot, Part, Eot}
-use Rattle.a429_link.specs.Sink.{end_word, Number, Sink, SinkPhase, Quiet, OwesClear, Granted, InBlock, OwesAck, OwesNak, SinkSide, at_start, at_end, is_good, kept_words, takes, empty_block, nothing_received}
+use Rattle.a429_link.specs.Sink.{Number, Sink, SinkPhase, Quiet, OwesClear, Granted, InBlock, OwesAck, OwesNak, SinkSide, at_start, at_end, is_good, kept_words, takes, empty_block, nothing_received}
 use Rattle.a429_link.specs.State.{rest}
+use Rattle.a429_link.specs.Sink.{end_word}
 use Rattle.a429_link.specs.Observer.{KeepsRecorded}
 
 start_keeps : (gfi file ldu : ℕ) (kp : SinkPhase) (n : ℕ) → length (kept_words kp) ≤ n → length (kept_words (at_start (empty_block gfi file ldu) kp)) ≤ n
