@@ -26,7 +26,7 @@ use Rattle.a429_cert.specs.declared.line.MovedLine.{MovedLine}
 use Rattle.a429_cert.specs.declared.line.CertLine.TheVariants.{Load, Moved}
 use Rattle.a429_cert.specs.declared.fault.CertFault.{CertFault}
 use Rattle.a429_cert.specs.declared.fault.CertFault.TheVariants as of
-use Rattle.a429_cert.specs.Fault.{at_line, IsNamed}
+use Rattle.a429_cert.specs.Fault.{IsNamed}
 use Rattle.a429_cert.specs.Passing.{IsNamedOf, IsReadyOf, IsStepFault, IsFaultOfRead, MakesStep, RefusesLine, no_unit}
 use Rattle.a429_cert.specs.Explained.{listed_ldu}
 use Rattle.a429_cert.proofs.Options.{some_is}

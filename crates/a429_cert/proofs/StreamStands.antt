@@ -132,7 +132,7 @@ goes_from p from text r d k i used taken s t (Some said) left more rec new h g m
     }
 
 pub goes_on : (p : Contents) (text : List ℕ) (r : Recording) (d : Head) (k i used : ℕ) (taken : List FileBytes) (s t : State) (line left more : Option (List ℕ)) (rec new : Option Recording)
-    → Stands p text r d k i taken s left rec → GivesLine left more line true → PassesOver p (read_as d.version line) s t rec new used → Stands p text r d (suc k) (i + used) taken t more new
+    → Stands p text r d k i taken s left rec → GivesLine left more line true → PassesOver p (read_as d.version line) (change s t) (change rec new) used → Stands p text r d (suc k) (i + used) taken t more new
 goes_on p text r d = goes_from p (start p d.first) text r d
 
 -- its files are handed out

@@ -1,5 +1,5 @@
 -- What a reader of lines has handed out, and what is still to come (profile).
-use Rattle.std.specs.Prelude.{ℕ, ◌+◌, ◌-◌, List, length, take, drop, Bool, nat_lt, if◌then◌else◌, Option, Some, None}
+use Rattle.std.specs.Prelude.{ℕ, ◌+◌, ◌-◌, List, length, take, drop, nat_lt, if◌then◌else◌, Option, Some, None}
 use Rattle.std.specs.Io.KnownBytes.{prepend_known}
 use Rattle.a429_word.specs.declared.tally.Tally.{Tally}
 use Rattle.a429_word.specs.Tally.{left_of, unread}

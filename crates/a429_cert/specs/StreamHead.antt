@@ -1,15 +1,12 @@
 -- The first two lines of a certificate that is read streaming (profile).
 use Rattle.std.specs.Prelude.{◌≡◌, ℕ, List, drop, Option, Some, None, slice_get, ⊤}
-use Rattle.a429_word.specs.declared.tally.Tally.{Tally}
 use Rattle.a429_cert.specs.declared.fault.CertFault.{CertFault}
 use Rattle.a429_cert.specs.declared.fault.CertFault.TheVariants as of
 use Rattle.a429_cert.specs.declared.stream_fault.StreamFault.{StreamFault}
 use Rattle.a429_cert.specs.declared.stream_fault.StreamFault.TheVariants as stream
 use Rattle.a429_cert.specs.Lines.{certificate_lines}
 use Rattle.a429_cert.specs.declared.explained.Head.{Head}
-use Rattle.a429_cert.specs.declared.line_reader.LineReader.{LineReader}
 use Rattle.a429_cert.specs.Fault.{HasHead, IsVersioned, IsNoFirst}
-use Rattle.a429_cert.specs.LineReader.{to_come}
 use Rattle.a429_cert.specs.CutLines.{HasReadTo}
 
 -- this text was the next line of what was to come, and what follows it is still to come
