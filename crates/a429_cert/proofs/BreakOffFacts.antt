@@ -21,11 +21,11 @@ use Rattle.a429_cert.specs.CutLines.{GivesLine, HasNoLineFeed, HasRead, HasReadT
 use Rattle.a429_cert.specs.Explained.{step_of}
 use Rattle.a429_cert.specs.Fault.{IsFaultOfHead}
 use Rattle.a429_cert.specs.Version.{read_as, step_lines}
-use Rattle.a429_cert.specs.Stream.{behind, next_of, of_read, sizes, GainsAll, GivesAtFault, PassesOver, RefusesOver, StopsAt, WantsEntry}
+use Rattle.a429_cert.specs.Stream.{taking, behind, next_of, of_read, sizes, GainsAll, GivesAtFault, PassesOver, RefusesOver, StopsAt, WantsEntry}
 use Rattle.a429_cert.specs.StreamEnd.{EndsLate, GivesNone}
 use Rattle.a429_cert.specs.StreamHead.{ReadsAtMost, RefusesHead}
-use Rattle.a429_cert.specs.StreamExplained.{WhereTold, WantsNext, Delivers}
-use Rattle.a429_cert.specs.BreakOff.{Readers, shelved, IsBetweenLines, IsAtLine, IsAtFile, IsAtEntry, IsPlace, BreaksOff}
+use Rattle.a429_cert.specs.StreamExplained.{reached, WhereTold, WantsNext, Delivers}
+use Rattle.a429_cert.specs.BreakOff.{halted, Readers, shelved, IsBetweenLines, IsAtLine, IsAtFile, IsAtEntry, IsPlace, BreaksOff}
 use Rattle.a429_cert.proofs.Options.{some_is}
 use Rattle.a429_cert.proofs.EarlierFiles.{given_out}
 use Rattle.a429_cert.proofs.StreamFacts.{put_on}
@@ -33,6 +33,8 @@ use Rattle.a429_cert.proofs.StreamStands.{AreBehind, Stands, lines_behind, goes_
 use Rattle.a429_cert.proofs.StreamRefused.{delivers, wants_line, wants_end, one_of}
 use Rattle.a429_cert.proofs.StreamReplay.{told_map}
 use Rattle.a429_cert.proofs.StreamLine.{refused_here}
+use Rattle.a429_cert.specs.Change.{change}
+use Rattle.a429_cert.specs.Told.{position}
 
 -- ---- how far the text was read
 
@@ -91,16 +93,16 @@ module _ (p : Contents) (d : Head) (k i : ℕ) (taken : List FileBytes) (s : Sta
   between ahead none cut keeps given h = record {
     k = k;
     state = with_earlier taken s;
-    before = subst (λ n. Delivers p text r k n (with_earlier taken s) taken) (sym given) (delivers p d k i taken s old rec text r none h);
+    before = subst (λ n. Delivers p text r (reached k n (with_earlier taken s)) taken) (sym given) (delivers p d k i taken s old rec text r none h);
     part = ahead;
     cut = cut;
     lines = has_read text k ahead read.left (keeps_behind (drop 2 (certificate_lines text)) k old (prepend_known ahead read.left) keeps h.lines);
   }
 
-  at_line : s.sink.received.files ≡ [] → HasReadTo text read.left (k + 2) (k + 3)
+  at_this_line : s.sink.received.files ≡ [] → HasReadTo text read.left (k + 2) (k + 3)
       → (read.given ≡ i) ⊎ ((read.given ≡ i + 1) × WantsNext p (slice_get (step_lines d.version text) k) (with_earlier taken s))
       → Stands p text r d k i taken s old rec → IsAtLine p text r read taken
-  at_line none lines given h = record {
+  at_this_line none lines given h = record {
     k = k;
     i = i;
     state = with_earlier taken s;
@@ -109,9 +111,9 @@ module _ (p : Contents) (d : Head) (k i : ℕ) (taken : List FileBytes) (s : Sta
     given = given;
   }
 
-  at_entry : (f : ReadFault) → s.sink.received.files ≡ [] → HasReadTo text read.left (k + 2) (k + 3) → read.given ≡ i → WantsNext p (slice_get (step_lines d.version text) k) (with_earlier taken s)
-      → Stops f (behind i r) → f ≢ fault.OutOfMemory → Stands p text r d k i taken s old rec → IsAtEntry p text r read f taken
-  at_entry f none lines given wants stops told h = record {
+  at_entry : (shelf listener : Bool) (f : ReadFault) → s.sink.received.files ≡ [] → HasReadTo text read.left (k + 2) (k + 3) → read.given ≡ i → WantsNext p (slice_get (step_lines d.version text) k) (with_earlier taken s)
+      → Stops f (behind i r) → f ≢ fault.OutOfMemory → Stands p text r d k i taken s old rec → IsAtEntry (halted p read shelf listener taken) f text r
+  at_entry shelf listener f none lines given wants stops told h = record {
     wanted = record {
       k = k;
       i = i;
@@ -143,9 +145,9 @@ used_more first now new i used e g = omega (arith, e, g)
 -- ---- a line delivers one file at most
 
 few_files : (p : Contents) (text : Option (List ℕ)) (s t : State) (rec : Option Recording) (r : Recording) (new : Option Recording) (used : ℕ)
-    → rec ≡ Some r → s.sink.received.files ≡ [] → PassesOver p text s t rec new used → length t.sink.received.files ≤ 1
+    → rec ≡ Some r → s.sink.received.files ≡ [] → PassesOver p text (change s t) (change rec new) used → length t.sink.received.files ≤ 1
 few_files p text s t rec r new used e none m =
-    let passes = subst (λ o. PassesOver p text s t o new used) e m in
+    let passes = subst (λ o. PassesOver p text (change s t) (change o new) used) e m in
     one_of p (step_of passes.0.0 (next_of r)) s t none passes.0.2.0
 
 only_file : (front more files : List FileBytes) (f : FileBytes) → length files ≤ 1 → files ≡ front ++ f ∷ more → (front ≡ []) × (files ≡ f ∷ [])
@@ -162,7 +164,7 @@ only_file (x ∷ front) more files f few e =
 
 pub head_breaks : (p : Contents) (known old left : Option (List ℕ)) (failed shelf listener : Bool) (first new : EntriesLeft) (f : StreamFault)
     → old ≡ known → ReadsAtMost 2 old left f → RefusesHead IsFaultOfHead old f → new.count ≡ first.count → (f ≡ stream.Device → failed ≡ true)
-    → WhereTold known first.to_come (IsPlace p (reads known left failed first new) shelf listener [] f)
+    → WhereTold known first.to_come (IsPlace (halted p (reads known left failed first new) shelf listener []) f)
 head_breaks p known old left failed shelf listener first new f e h other given device =
     by known first.to_come f (subst (λ o. ReadsAtMost 2 o left f) e h) other device
   where
@@ -170,7 +172,7 @@ head_breaks p known old left failed shelf listener first new f e h other given d
     none = omega (arith, given)
 
     by : (known : Option (List ℕ)) (rec : Option Recording) (f : StreamFault) → ReadsAtMost 2 known left f → RefusesHead IsFaultOfHead old f → (f ≡ stream.Device → failed ≡ true)
-        → WhereTold known rec (IsPlace p (record { certificate = known; left = left; failed = failed; recording = rec; given = new.count - first.count }) shelf listener [] f)
+        → WhereTold known rec (IsPlace (halted p (record { certificate = known; left = left; failed = failed; recording = rec; given = new.count - first.count }) shelf listener []) f)
     by None rec f h other device = tt
     by (Some text) None f h other device = tt
     by (Some text) (Some r) (stream.Cert f) h other device = tt
@@ -185,7 +187,7 @@ module _ (p : Contents) (d : Head) (k i : ℕ) (taken : List FileBytes) (s : Sta
   IsThere text r = Stands p text r d k i taken s old rec.to_come
 
   abbrev IsPlaceOf : List FileBytes → StreamFault → List ℕ → Recording → Type 0
-  IsPlaceOf files f = IsPlace p (reads known left failed first new) shelf listener files f
+  IsPlaceOf files f = IsPlace (halted p (reads known left failed first new) shelf listener files) f
 
   -- the certificate's reader has failed between lines
   pub between_breaks : s.sink.received.files ≡ [] → HasNoLineFeed ahead → Keeps old (prepend_known ahead left) → rec.count ≡ first.count + i → new.count ≡ rec.count → failed ≡ true
@@ -207,9 +209,9 @@ module _ (p : Contents) (d : Head) (k i : ℕ) (taken : List FileBytes) (s : Sta
       by : (text : List ℕ) (r : Recording) → IsThere text r → (f : ReadFault) → GivesNext (Some (behind i r)) rest (Err f) → GivesNone (of_read f) rec.count new.count → IsPlaceOf taken (of_read f) text r
       by text r h f stops same = cases f stops same
         where
-          entry : (f : ReadFault) → f ≢ fault.OutOfMemory → Stops f (behind i r) → new.count ≡ rec.count → IsAtEntry p text r (reads known left failed first new) f taken
+          entry : (f : ReadFault) → f ≢ fault.OutOfMemory → Stops f (behind i r) → new.count ≡ rec.count → IsAtEntry (halted p (reads known left failed first new) shelf listener taken) f text r
           entry f told stops same =
-              at_entry p d k i taken s old rec.to_come (reads known left failed first new) text r f none (reads_none text k ahead old left few keeps h.lines) (since first.count rec.count new.count i counted same)
+              at_entry p d k i taken s old rec.to_come (reads known left failed first new) text r shelf listener f none (reads_none text k ahead old left few keeps h.lines) (since first.count rec.count new.count i counted same)
               (wants_end p d.version k taken s held old (prepend_known ahead left) (drop 2 (certificate_lines text)) g h.lines) stops told h
 
           cases : (f : ReadFault) → Stops f (behind i r) → GivesNone (of_read f) rec.count new.count → IsPlaceOf taken (of_read f) text r
@@ -220,7 +222,7 @@ module _ (p : Contents) (d : Head) (k i : ℕ) (taken : List FileBytes) (s : Sta
           cases fault.Device stops same = entry fault.Device (λ z. cc) stops same
           cases fault.Failed stops same = entry fault.Failed (λ z. cc) stops same
           cases fault.OutOfMemory stops same =
-              inr (inr (at_line p d k i taken s old rec.to_come (reads known left failed first new) text r none (reads_none text k ahead old left few keeps h.lines) (inl (since first.count rec.count new.count i counted same)) h))
+              inr (inr (at_this_line p d k i taken s old rec.to_come (reads known left failed first new) text r none (reads_none text k ahead old left few keeps h.lines) (inl (since first.count rec.count new.count i counted same)) h))
 
   module _ (held : Option (List ℕ)) (none : s.sink.received.files ≡ []) (few : length ahead ≤ 2288) (g : GivesLine old (prepend_known ahead left) held true) (counted : rec.count ≡ first.count + i) where
     given_here : (text : List ℕ) (r : Recording) → IsThere text r → (new.count ≡ rec.count) ⊎ (WantsEntry p (read_as d.version held) s × (new.count ≡ rec.count + 1))
@@ -232,22 +234,22 @@ module _ (p : Contents) (d : Head) (k i : ℕ) (taken : List FileBytes) (s : Sta
     here : (text : List ℕ) (r : Recording) → IsThere text r → (new.count ≡ rec.count) ⊎ (WantsEntry p (read_as d.version held) s × (new.count ≡ rec.count + 1))
         → IsAtLine p text r (reads known left failed first new) taken
     here text r h m =
-        at_line p d k i taken s old rec.to_come (reads known left failed first new) text r none (reads_line text k ahead old left held few g h.lines) (given_here text r h m) h
+        at_this_line p d k i taken s old rec.to_come (reads known left failed first new) text r none (reads_line text k ahead old left held few g h.lines) (given_here text r h m) h
 
     -- at a line, of which nothing is put
-    pub line_breaks : (n : ℕ) (f : StreamFault) → RefusesOver p (read_as d.version held) s rec.to_come n i f → GivesAtFault (WantsEntry p (read_as d.version held) s) f rec.count new.count → (f ≡ stream.Device → listener ≡ true)
+    pub line_breaks : (n : ℕ) (f : StreamFault) → RefusesOver p (read_as d.version held) (position s rec.to_come i) n f → GivesAtFault (WantsEntry p (read_as d.version held) s) f rec.count new.count → (f ≡ stream.Device → listener ≡ true)
         → WhereTold known first.to_come IsThere → WhereTold known first.to_come (IsPlaceOf taken f)
     line_breaks n (stream.Cert f) m given device = told_map known first.to_come IsThere (IsPlaceOf taken (stream.Cert f)) (λ text r h. tt)
     line_breaks n (stream.Read f) m given device =
         told_map known first.to_come IsThere (IsPlaceOf taken (stream.Read f))
         (λ text r h.
-        let wanted = subst (λ o. RefusesOver p (read_as d.version held) s o n i (stream.Read f)) h.rest m in
-        at_entry p d k i taken s old rec.to_come (reads known left failed first new) text r f none (reads_line text k ahead old left held few g h.lines) (since first.count rec.count new.count i counted given)
+        let wanted = subst (λ o. RefusesOver p (read_as d.version held) (position s o i) n (stream.Read f)) h.rest m in
+        at_entry p d k i taken s old rec.to_come (reads known left failed first new) text r shelf listener f none (reads_line text k ahead old left held few g h.lines) (since first.count rec.count new.count i counted given)
         (wants_line p d.version k taken s held old (prepend_known ahead left) (drop 2 (certificate_lines text)) g h.lines wanted.0) wanted.1 wanted.2 h)
     line_breaks n stream.Device m given device = told_map known first.to_come IsThere (IsPlaceOf taken stream.Device) (λ text r h. inr (inr (device refl, here text r h given)))
     line_breaks n stream.OutOfMemory m given device = told_map known first.to_come IsThere (IsPlaceOf taken stream.OutOfMemory) (λ text r h. inr (inr (here text r h given)))
 
-    module _ (used : ℕ) (t : State) (front rest : List FileBytes) (next : FileBytes) (all : t.sink.received.files ≡ front ++ next ∷ rest) (passed : PassesOver p (read_as d.version held) s t rec.to_come new.to_come used) (count : new.count ≡ rec.count + used) where
+    module _ (used : ℕ) (t : State) (front rest : List FileBytes) (next : FileBytes) (all : t.sink.received.files ≡ front ++ next ∷ rest) (passed : PassesOver p (read_as d.version held) (change s t) (change rec.to_come new.to_come) used) (count : new.count ≡ rec.count + used) where
       file_here : (text : List ℕ) (r : Recording) → IsThere text r → IsAtFile p text r (reads known left failed first new) (taken ++ front)
       file_here text r h =
           let after = goes_on p text r d k i used taken s t held old (prepend_known ahead left) rec.to_come new.to_come h g passed in
@@ -255,16 +257,16 @@ module _ (p : Contents) (d : Head) (k i : ℕ) (taken : List FileBytes) (s : Sta
           let put : taken ++ front ≡ taken = ap (λ (l : List FileBytes). taken ++ l) one.0 ∙ append-nil taken in
           let gives : (taken ++ front) ++ next ∷ [] ≡ taken ++ t.sink.received.files = ap (λ (l : List FileBytes). l ++ next ∷ []) put ∙ sym (ap (λ (l : List FileBytes). taken ++ l) one.1) in
           let more : suc k ≡ k + 1 = omega arith in
-          let there : Delivers p text r (suc k) (i + used) (with_earlier taken t) ((taken ++ front) ++ next ∷ []) = record { head = d; says = after.says; inside = after.inside; before = after.reached; gives = gives } in
+          let there : Delivers p text r (reached (suc k) (i + used) (with_earlier taken t)) ((taken ++ front) ++ next ∷ []) = record { head = d; says = after.says; inside = after.inside; before = after.reached; gives = gives } in
           record {
             k = k;
             i = i;
             state = with_earlier taken s;
-            before = subst (λ (l : List FileBytes). Delivers p text r k i (with_earlier taken s) l) (sym put) (delivers p d k i taken s old rec.to_come text r none h);
+            before = subst (λ (l : List FileBytes). Delivers p text r (reached k i (with_earlier taken s)) l) (sym put) (delivers p d k i taken s old rec.to_come text r none h);
             file = next;
             after = with_earlier taken t;
-            here = subst (λ n. Delivers p text r n (new.count - first.count) (with_earlier taken t) ((taken ++ front) ++ next ∷ [])) more
-                (subst (λ n. Delivers p text r (suc k) n (with_earlier taken t) ((taken ++ front) ++ next ∷ [])) (sym (used_more first.count rec.count new.count i used counted count)) there);
+            here = subst (λ n. Delivers p text r (reached n (new.count - first.count) (with_earlier taken t)) ((taken ++ front) ++ next ∷ [])) more
+                (subst (λ n. Delivers p text r (reached (suc k) n (with_earlier taken t)) ((taken ++ front) ++ next ∷ [])) (sym (used_more first.count rec.count new.count i used counted count)) there);
             lines = reads_line text k ahead old left held few g h.lines;
           }
 
@@ -280,7 +282,7 @@ module _ (p : Contents) (d : Head) (k i : ℕ) (taken : List FileBytes) (s : Sta
 pub stop_breaks : {S : Type 0} (files : S → Option (List PutFile)) (broken : S → Bool) (listener failed : Bool) (p : Contents) (replay : Replay) (d : Head) (k : ℕ) (taken : List FileBytes) (held known old left text : Option (List ℕ)) (ahead : List ℕ) (first rec new : EntriesLeft) (start before after : S) (f : StreamFault)
     → replay.profile.now ≡ p → replay.version ≡ d.version → replay.files.items ≡ sizes taken → replay.link.state.sink.received.files ≡ [] → text ≡ held → length ahead ≤ 2288 → GivesLine old (prepend_known ahead left) held true
     → rec.count ≡ first.count + replay.used → GainsAll (files start) (files before) 1 taken
-    → WhereTold known first.to_come (λ text r. Stands p text r d k replay.used taken replay.link.state old rec.to_come) → StopsAt files broken listener replay text rec new before after f
+    → WhereTold known first.to_come (λ text r. Stands p text r d k replay.used taken replay.link.state old rec.to_come) → StopsAt files broken listener (taking replay text (change rec new) (change before after)) f
     → BreaksOff p (reads known left failed first new) (shelved files broken start after) listener f
 stop_breaks files broken listener failed p replay d k taken held known old left text ahead first rec new start before after f profile version noted none same few g counted put told (inl h) =
     record {

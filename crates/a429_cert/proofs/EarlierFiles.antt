@@ -13,8 +13,9 @@ use Rattle.a429_cert.specs.declared.line.CertLine.TheVariants.{First, Load, Move
 use Rattle.a429_cert.specs.declared.fault.CertFault.{CertFault}
 use Rattle.a429_cert.specs.declared.fault.CertFault.TheVariants as of
 use Rattle.a429_cert.specs.Explained.{ShowsStates}
-use Rattle.a429_cert.specs.Fault.{CanBe, IsNamed, IsFaultOfStep, IsFaultOfLine}
+use Rattle.a429_cert.specs.Fault.{at_line, CanBe, IsNamed, IsFaultOfStep, IsFaultOfLine}
 use Rattle.a429_cert.specs.Passing.{MakesStep, PassesText}
+use Rattle.a429_cert.specs.Change.{change}
 
 -- ---- a line that passes
 
@@ -27,7 +28,7 @@ shows_earlier (First file) files t h = tt
 shows_earlier (Load u) files t h = tt
 shows_earlier (Moved m) files t h = h
 
-pub text_earlier : (p : Contents) (text : Option (List ℕ)) (next : Option Seen) (files : List FileBytes) (s t : State) (used : ℕ) → PassesText p text next s t used → PassesText p text next (with_earlier files s) (with_earlier files t) used
+pub text_earlier : (p : Contents) (text : Option (List ℕ)) (next : Option Seen) (files : List FileBytes) (s t : State) (used : ℕ) → PassesText p text next (change s t) used → PassesText p text next (change (with_earlier files s) (with_earlier files t)) used
 text_earlier p text next files s t used h = (h.0, h.1, (step_earlier p _ files s t h.2.0, shows_earlier h.0 files t h.2.1, h.2.2))
 
 -- ---- a fault
@@ -49,7 +50,7 @@ shows_later (First file) files t h = tt
 shows_later (Load u) files t h = tt
 shows_later (Moved m) files t h = h
 
-step_fault_earlier : (p : Contents) (files : List FileBytes) (s : State) (next : Option Seen) (n i : ℕ) (l : CertLine) (f : CertFault) → IsFaultOfStep p s next n i l f → IsFaultOfStep p (with_earlier files s) next n i l f
+step_fault_earlier : (p : Contents) (files : List FileBytes) (s : State) (next : Option Seen) (n i : ℕ) (l : CertLine) (f : CertFault) → IsFaultOfStep p s (at_line n i next) l f → IsFaultOfStep p (with_earlier files s) (at_line n i next) l f
 step_fault_earlier p files s next n i l of.Version h = h
 step_fault_earlier p files s next n i l (of.Line m) h = h
 step_fault_earlier p files s next n i l (of.NotAllowed m) h = (h.0, λ c. h.1 (named_later p l files s c))
@@ -59,7 +60,7 @@ step_fault_earlier p files s next n i l (of.WordDiffers m j) h = (h.0, h.1, name
 step_fault_earlier p files s next n i l (of.Unfinished j) h = h
 step_fault_earlier p files s next n i l of.OutOfMemory h = h
 
-pub fault_earlier : (p : Contents) (files : List FileBytes) (s : State) (next : Option Seen) (n i : ℕ) (line : Option (List ℕ)) (f : CertFault) → IsFaultOfLine p s next n i line f → IsFaultOfLine p (with_earlier files s) next n i line f
+pub fault_earlier : (p : Contents) (files : List FileBytes) (s : State) (next : Option Seen) (n i : ℕ) (line : Option (List ℕ)) (f : CertFault) → IsFaultOfLine p s (at_line n i next) line f → IsFaultOfLine p (with_earlier files s) (at_line n i next) line f
 fault_earlier p files s next n i line (of.Line m) h = h
 fault_earlier p files s next n i line of.Version h = (h.0, h.1, h.2, step_fault_earlier p files s next n i h.0 of.Version h.3)
 fault_earlier p files s next n i line (of.NotAllowed m) h = (h.0, h.1, h.2, step_fault_earlier p files s next n i h.0 (of.NotAllowed m) h.3)

@@ -27,6 +27,7 @@ use Rattle.a429_cert.specs.Explained.{step_of, ShowsStates, ListsStep, ListsStep
 use Rattle.a429_cert.specs.Act.{step_with, uses_of}
 use Rattle.a429_cert.specs.Fault.{HasHead}
 use Rattle.a429_cert.specs.Passing.{uses, MakesStep, PassesText}
+use Rattle.a429_cert.specs.Change.{change}
 
 -- ---- lists
 
@@ -153,14 +154,14 @@ passed p from lines items k i text l s t g is inside h (Some a) e m q =
     }
 
 pub passes_from : (p : Contents) (from : State) (lines : List (Option (List ℕ))) (items : List Seen) (k i used : ℕ) (line : Option (List ℕ)) (s t : State)
-    → slice_get lines k ≡ Some line → i ≤ length items → (h : Leads p from (take k lines) (take i items) s) → (m : PassesText p line (slice_get items i) s t used)
+    → slice_get lines k ≡ Some line → i ≤ length items → (h : Leads p from (take k lines) (take i items) s) → (m : PassesText p line (slice_get items i) (change s t) used)
     → Passed p from lines items k (i + used) t h.steps (step_of m.0 (slice_get items i))
 passes_from p from lines items k i used None s t g inside h m = absurd m.1
 passes_from p from lines items k i used (Some text) s t g inside h m =
     subst (λ n. Passed p from lines items k (i + n) t h.steps (step_of m.0 (slice_get items i))) (sym m.2.2) (passed p from lines items k i text m.0 s t g m.1 inside h (step_of m.0 (slice_get items i)) refl m.2.0 m.2.1)
 
 pub passes_on : (p : Contents) (first : ℕ) (lines : List (Option (List ℕ))) (items : List Seen) (k i used : ℕ) (line : Option (List ℕ)) (s t : State)
-    → slice_get lines k ≡ Some line → i ≤ length items → (h : Reaches p first (take k lines) (take i items) s) → (m : PassesText p line (slice_get items i) s t used)
+    → slice_get lines k ≡ Some line → i ≤ length items → (h : Reaches p first (take k lines) (take i items) s) → (m : PassesText p line (slice_get items i) (change s t) used)
     → Passed p (start p first) lines items k (i + used) t h.steps (step_of m.0 (slice_get items i))
 passes_on p first = passes_from p (start p first)
 
@@ -246,7 +247,7 @@ pub left_on : (lines : List (Option (List ℕ))) (left more : List ℕ) (k : ℕ
 left_on lines left more k e g = let n : k + 1 ≡ suc k = omega arith in g ∙ ap (drop 1) e ∙ drop-drop 1 k lines ∙ ap (λ m. drop m lines) n
 
 pub passed_on : (p : Contents) (first : ℕ) (lines : List (Option (List ℕ))) (items : List Seen) (k i used : ℕ) (line : Option (List ℕ)) (next : Option Seen) (s t : State)
-    → slice_get lines k ≡ Some line → next ≡ slice_get items i → i ≤ length items → (h : Reaches p first (take k lines) (take i items) s) → (m : PassesText p line next s t used)
+    → slice_get lines k ≡ Some line → next ≡ slice_get items i → i ≤ length items → (h : Reaches p first (take k lines) (take i items) s) → (m : PassesText p line next (change s t) used)
     → Passed p (start p first) lines items k (i + used) t h.steps (step_of m.0 (slice_get items i))
 passed_on p first lines items k i used line next s t g o inside h m =
-    passes_on p first lines items k i used line s t g inside h (subst (λ x. PassesText p line x s t used) o m)
+    passes_on p first lines items k i used line s t g inside h (subst (λ x. PassesText p line x (change s t) used) o m)

@@ -14,7 +14,7 @@ use Rattle.a429_cert.specs.declared.explained.Head.{Head}
 use Rattle.a429_cert.specs.Lines.{certificate_lines}
 use Rattle.a429_cert.specs.Version.{version_line, step_lines}
 use Rattle.a429_cert.specs.Explained.{Reaches}
-use Rattle.a429_cert.specs.Fault.{IsVersioned, HasHead, IsFaultOfLine, IsFaultAt, IsLaterFault, IsFirstCertFault, Begins, file_in}
+use Rattle.a429_cert.specs.Fault.{at_line, IsVersioned, HasHead, IsFaultOfLine, IsFaultAt, IsLaterFault, IsFirstCertFault, Begins, file_in}
 use Rattle.a429_cert.proofs.Options.{some_is}
 use Rattle.a429_cert.proofs.ReadingFacts.{one-line}
 use Rattle.a429_cert.proofs.ExplainedFacts.{drop_get}
@@ -65,12 +65,12 @@ some_within [] k l = absurd (omega arith)
 some_within (x ∷ xs) zero l = (x, refl)
 some_within (x ∷ xs) (suc k) l = some_within xs k (omega arith)
 
-no_version : (p : Contents) (s : State) (next : Option Seen) (n i : ℕ) (o : Option (Option (List ℕ))) → IsFaultAt p s next n i o of.Version → ⊥
+no_version : (p : Contents) (s : State) (next : Option Seen) (n i : ℕ) (o : Option (Option (List ℕ))) → IsFaultAt p s (at_line n i next) o of.Version → ⊥
 no_version p s next n i (Some line) d = d.3
 no_version p s (Some item) n i None d = d
 no_version p s None n i None d = d
 
-no_memory : (p : Contents) (s : State) (next : Option Seen) (n i : ℕ) (o : Option (Option (List ℕ))) → IsFaultAt p s next n i o of.OutOfMemory → ⊥
+no_memory : (p : Contents) (s : State) (next : Option Seen) (n i : ℕ) (o : Option (Option (List ℕ))) → IsFaultAt p s (at_line n i next) o of.OutOfMemory → ⊥
 no_memory p s next n i (Some line) d = d.3
 no_memory p s (Some item) n i None d = d
 no_memory p s None n i None d = d
@@ -87,9 +87,9 @@ later p certificate items (of.Unfinished i) v h = (v, inr h)
 -- the fault of the next line
 pub faulty : (p : Contents) (certificate : List ℕ) (items : List Seen) (d : Head) (k i : ℕ) (line : Option (List ℕ)) (s : State) (f : CertFault)
     → HasHead certificate d → slice_get (step_lines d.version certificate) k ≡ Some line → i ≤ length items
-    → Reaches p d.first (take k (step_lines d.version certificate)) (take i items) s → IsFaultOfLine p s (slice_get items i) (k + 3) i line f → IsFirstCertFault p certificate items f
+    → Reaches p d.first (take k (step_lines d.version certificate)) (take i items) s → IsFaultOfLine p s (at_line (k + 3) i (slice_get items i)) line f → IsFirstCertFault p certificate items f
 faulty p certificate items d k i line s f w g inside h m =
-    later p certificate items f (d.version, w.0) (record { head = d; says = w; k = k; i = i; inside = inside; state = s; before = h; fault = subst (λ o. IsFaultAt p s (slice_get items i) (k + 3) i o f) (sym g) m })
+    later p certificate items f (d.version, w.0) (record { head = d; says = w; k = k; i = i; inside = inside; state = s; before = h; fault = subst (λ o. IsFaultAt p s (at_line (k + 3) i (slice_get items i)) o f) (sym g) m })
 
 -- an entry that is left
 pub left_over : (p : Contents) (certificate : List ℕ) (items : List Seen) (d : Head) (k i : ℕ) (s : State)
@@ -97,11 +97,11 @@ pub left_over : (p : Contents) (certificate : List ℕ) (items : List Seen) (d :
     → Reaches p d.first (take k (step_lines d.version certificate)) (take i items) s → IsFirstCertFault p certificate items (of.Unfinished i)
 left_over p certificate items d k i s w g more h =
     let next = some_within items i more in
-    let here : IsFaultAt p s (slice_get items i) (k + 3) i None (of.Unfinished i) = subst (λ o. IsFaultAt p s o (k + 3) i None (of.Unfinished i)) (sym next.1) refl in
-    later p certificate items (of.Unfinished i) (d.version, w.0) (record { head = d; says = w; k = k; i = i; inside = omega arith; state = s; before = h; fault = subst (λ o. IsFaultAt p s (slice_get items i) (k + 3) i o (of.Unfinished i)) (sym g) here })
+    let here : IsFaultAt p s (at_line (k + 3) i (slice_get items i)) None (of.Unfinished i) = subst (λ o. IsFaultAt p s (at_line (k + 3) i o) None (of.Unfinished i)) (sym next.1) refl in
+    later p certificate items (of.Unfinished i) (d.version, w.0) (record { head = d; says = w; k = k; i = i; inside = omega arith; state = s; before = h; fault = subst (λ o. IsFaultAt p s (at_line (k + 3) i (slice_get items i)) o (of.Unfinished i)) (sym g) here })
 
 pub faulty_now : (p : Contents) (certificate : List ℕ) (items : List Seen) (d : Head) (k i n : ℕ) (line : Option (List ℕ)) (next : Option Seen) (s : State) (f : CertFault)
     → HasHead certificate d → slice_get (step_lines d.version certificate) k ≡ Some line → n ≡ k + 3 → next ≡ slice_get items i → i ≤ length items
-    → Reaches p d.first (take k (step_lines d.version certificate)) (take i items) s → IsFaultOfLine p s next n i line f → IsFirstCertFault p certificate items f
+    → Reaches p d.first (take k (step_lines d.version certificate)) (take i items) s → IsFaultOfLine p s (at_line n i next) line f → IsFirstCertFault p certificate items f
 faulty_now p certificate items d k i n line next s f w g e o inside h m =
-    faulty p certificate items d k i line s f w g inside h (subst (λ x. IsFaultOfLine p s (slice_get items i) x i line f) e (subst (λ x. IsFaultOfLine p s x n i line f) o m))
+    faulty p certificate items d k i line s f w g inside h (subst (λ x. IsFaultOfLine p s (at_line x i (slice_get items i)) line f) e (subst (λ x. IsFaultOfLine p s (at_line n i x) line f) o m))

@@ -20,7 +20,7 @@ use Rattle.a429_cert.specs.Lines.{certificate_lines}
 use Rattle.a429_cert.specs.Version.{version_line, read_as, step_lines}
 use Rattle.a429_cert.specs.Explained.{listed_ldu, step_of, ShowsStates, ListsStep, ListsSteps, Explains}
 use Rattle.a429_cert.specs.Act.{step_with}
-use Rattle.a429_cert.specs.Fault.{IsVersioned, HasFirst, IsOfAStep, IsFaultOfStep, IsFaultOfLine, IsFaultAt, IsLaterFault, IsFirstCertFault}
+use Rattle.a429_cert.specs.Fault.{at_line, IsVersioned, HasFirst, IsOfAStep, IsFaultOfStep, IsFaultOfLine, IsFaultAt, IsLaterFault, IsFirstCertFault}
 use Rattle.a429_cert.proofs.ReadingFacts.{one-line}
 use Rattle.a429_cert.proofs.Options.{some_is}
 
@@ -117,7 +117,7 @@ is_of_a_step (First file) next a e = absurd (cc e)
 is_of_a_step (Load u) next a e = tt
 is_of_a_step (Moved m) next a e = tt
 
-sound_step : (p : Contents) (s : State) (text : List ℕ) (a : Step) (next : Option Seen) (n i : ℕ) (f : CertFault) → (t : ListsStep p text a s) → step_of t.line next ≡ Some a → IsFaultOfStep p s next n i t.line f → ⊥
+sound_step : (p : Contents) (s : State) (text : List ℕ) (a : Step) (next : Option Seen) (n i : ℕ) (f : CertFault) → (t : ListsStep p text a s) → step_of t.line next ≡ Some a → IsFaultOfStep p s (at_line n i next) t.line f → ⊥
 sound_step p s text a next n i (of.NotAllowed m) t own d = d.1 (t.next, (a, t.step, t.can))
 sound_step p s text a next n i (of.WordDiffers m j) t own d = d.3 (a, own, t.can)
 sound_step p s text a next n i (of.StateDiffers m) t own d =
@@ -129,10 +129,10 @@ sound_step p s text a next n i (of.Unfinished m) t own d = d
 sound_step p s text a next n i of.OutOfMemory t own d = d
 
 of_line : (p : Contents) (s : State) (text : List ℕ) (a : Step) (next : Option Seen) (n i : ℕ) (f : CertFault) → (t : ListsStep p text a s) → step_of t.line next ≡ Some a
-    → (l : CertLine) × SpellsLine text l × IsOfAStep l × IsFaultOfStep p s next n i l f → ⊥
-of_line p s text a next n i f t own d = sound_step p s text a next n i f t own (subst (λ l. IsFaultOfStep p s next n i l f) (one-line text d.0 t.line d.1 t.spelled) d.3)
+    → (l : CertLine) × SpellsLine text l × IsOfAStep l × IsFaultOfStep p s (at_line n i next) l f → ⊥
+of_line p s text a next n i f t own d = sound_step p s text a next n i f t own (subst (λ l. IsFaultOfStep p s (at_line n i next) l f) (one-line text d.0 t.line d.1 t.spelled) d.3)
 
-sound_line : (p : Contents) (s : State) (text : List ℕ) (a : Step) (next : Option Seen) (n i : ℕ) (f : CertFault) → (t : ListsStep p text a s) → step_of t.line next ≡ Some a → IsFaultOfLine p s next n i (Some text) f → ⊥
+sound_line : (p : Contents) (s : State) (text : List ℕ) (a : Step) (next : Option Seen) (n i : ℕ) (f : CertFault) → (t : ListsStep p text a s) → step_of t.line next ≡ Some a → IsFaultOfLine p s (at_line n i next) (Some text) f → ⊥
 sound_line p s text a next n i (of.Line m) t own d = d.1 t.line (is_of_a_step t.line t.next a t.step) t.spelled
 sound_line p s text a next n i (of.NotAllowed m) t own d = of_line p s text a next n i (of.NotAllowed m) t own d
 sound_line p s text a next n i (of.WordDiffers m j) t own d = of_line p s text a next n i (of.WordDiffers m j) t own d
@@ -144,10 +144,10 @@ sound_line p s text a next n i of.OutOfMemory t own d = d.3
 -- ---- lines that are all steps
 
 clash : (p : Contents) (lines : List (Option (List ℕ))) (xs ys : List Step) (s : State) (n i m j : ℕ) (f : CertFault) → ListsSteps p lines xs s → ListsSteps p (take n lines) ys s → trace ys ≡ take i (trace xs)
-    → IsFaultAt p (end_of p ys s) (slice_get (trace xs) i) m j (slice_get lines n) f → ⊥
+    → IsFaultAt p (end_of p ys s) (at_line m j (slice_get (trace xs) i)) (slice_get lines n) f → ⊥
 clash p [] [] ys s n i m j f h k e d = none ys (slice_get (trace []) i) refl d
   where
-    none : (ys : List Step) (o : Option Seen) → o ≡ None → IsFaultAt p (end_of p ys s) o m j None f → ⊥
+    none : (ys : List Step) (o : Option Seen) → o ≡ None → IsFaultAt p (end_of p ys s) (at_line m j o) None f → ⊥
     none ys None q d = d
     none ys (Some w) q d = absurd (cc q)
 clash p [] (a ∷ xs) ys s n i m j f h k e d = absurd h
@@ -160,7 +160,7 @@ clash p (Some text ∷ lines) (a ∷ xs) (b ∷ ys) s (suc n) i m j f h k e d =
     let other : step_of h.0.line k.0.next ≡ Some b = subst (λ l. step_of l k.0.next ≡ Some b) (one-line text k.0.line h.0.line k.0.spelled h.0.spelled) k.0.step in
     let r = heads a b xs ys i (line_alike h.0.line h.0.next k.0.next a b h.0.step other) e in
     let lists = subst (λ c. ListsSteps p (take n lines) ys (after p c s)) r.same k.1 in
-    clash p lines xs ys (after p a s) n r.k m j f h.1 lists r.rest (subst (λ o. IsFaultAt p (end_of p ys (after p a s)) o m j (slice_get lines n) f) r.next (subst (λ c. IsFaultAt p (end_of p ys (after p c s)) (slice_get (trace (a ∷ xs)) i) m j (slice_get lines n) f) r.same d))
+    clash p lines xs ys (after p a s) n r.k m j f h.1 lists r.rest (subst (λ o. IsFaultAt p (end_of p ys (after p a s)) (at_line m j o) (slice_get lines n) f) r.next (subst (λ c. IsFaultAt p (end_of p ys (after p c s)) (at_line m j (slice_get (trace (a ∷ xs)) i)) (slice_get lines n) f) r.same d))
 
 -- ---- the whole
 
@@ -189,8 +189,8 @@ later_fault p certificate items first steps f h k =
     let before = k.before in
     let lists : ListsSteps p (take k.k read) before.steps (start p first) = subst (λ n. ListsSteps p (take k.k read) before.steps (start p n)) same (subst (λ (l : List (Option (List ℕ))). ListsSteps p (take k.k l) before.steps (start p k.head.first)) lines before.lists) in
     let ends : k.state ≡ end_of p before.steps (start p first) = before.ends ∙ ap (λ n. end_of p before.steps (start p n)) same in
-    let fault : IsFaultAt p (end_of p before.steps (start p first)) (slice_get (trace steps) k.i) (k.k + 3) k.i (slice_get read k.k) f =
-    subst (λ (l : List Seen). IsFaultAt p (end_of p before.steps (start p first)) (slice_get l k.i) (k.k + 3) k.i (slice_get read k.k) f) (sym h.used) (subst (λ (l : List (Option (List ℕ))). IsFaultAt p (end_of p before.steps (start p first)) (slice_get items k.i) (k.k + 3) k.i (slice_get l k.k) f) lines (subst (λ t. IsFaultAt p t (slice_get items k.i) (k.k + 3) k.i (slice_get (step_lines k.head.version certificate) k.k) f) ends k.fault)) in
+    let fault : IsFaultAt p (end_of p before.steps (start p first)) (at_line (k.k + 3) k.i (slice_get (trace steps) k.i)) (slice_get read k.k) f =
+    subst (λ (l : List Seen). IsFaultAt p (end_of p before.steps (start p first)) (at_line (k.k + 3) k.i (slice_get l k.i)) (slice_get read k.k) f) (sym h.used) (subst (λ (l : List (Option (List ℕ))). IsFaultAt p (end_of p before.steps (start p first)) (at_line (k.k + 3) k.i (slice_get items k.i)) (slice_get l k.k) f) lines (subst (λ t. IsFaultAt p t (at_line (k.k + 3) k.i (slice_get items k.i)) (slice_get (step_lines k.head.version certificate) k.k) f) ends k.fault)) in
     clash p read steps before.steps (start p first) k.k k.i (k.k + 3) k.i f h.lists lists (before.used ∙ ap (take k.i) (sym h.used)) fault
 
 no_other : (p : Contents) (certificate : List ℕ) (items : List Seen) (first : ℕ) (steps : List Step) (f : CertFault) → Explains p certificate items first steps

@@ -135,7 +135,7 @@ unit_refused p is s at l f e g first = λ h. rw g (by f first (λ q. h (g ∙ q)
         let can : Can p (step.Load (listed_ldu l)) s = subst (λ b. Can p b s) (sym (some_is _ m.1.0 m.1.1)) m.1.2 in
         no_unit_is p is (listed_ldu l) f first can.3
 
-    by : (f : LduFault) → (f ≢ unit.OutOfMemory → IsFirstLduFault p l.check l.words f) → (no_unit f at.line ≢ of.OutOfMemory) → IsFaultOfRead p s at.next at.line at.entry (Load l) (no_unit f at.line)
+    by : (f : LduFault) → (f ≢ unit.OutOfMemory → IsFirstLduFault p l.check l.words f) → (no_unit f at.line ≢ of.OutOfMemory) → IsFaultOfRead p s at (Load l) (no_unit f at.line)
     by unit.Count first h = (tt, (refl, none unit.Count (first (λ q. cc q))))
     by unit.NotBytes first h = (tt, (refl, none unit.NotBytes (first (λ q. cc q))))
     by unit.CheckWrong first h = (tt, (refl, none unit.CheckWrong (first (λ q. cc q))))
@@ -144,6 +144,6 @@ unit_refused p is s at l f e g first = λ h. rw g (by f first (λ q. h (g ∙ q)
 pub state_differs : (p : Contents) (l : MovedLine) (s t : State) (at : At) → MakesStep p (step_with l.act at.next) s t → (states_of t ≡ l.states → ⊥) → RefusesLine p (Moved l) at s (of.StateDiffers at.line)
 state_differs p l s t at made other = λ _. by (step_with l.act at.next) refl made
   where
-    by : (o : Option Step) → step_with l.act at.next ≡ o → MakesStep p o s t → IsFaultOfRead p s at.next at.line at.entry (Moved l) (of.StateDiffers at.line)
+    by : (o : Option Step) → step_with l.act at.next ≡ o → MakesStep p o s t → IsFaultOfRead p s at (Moved l) (of.StateDiffers at.line)
     by None e m = absurd m
     by (Some a) e m = (tt, (refl, a, e, m.0, λ q. other (ap states_of m.1 ∙ q)))

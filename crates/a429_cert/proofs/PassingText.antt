@@ -9,7 +9,7 @@ use Rattle.a429_cert.specs.declared.fault.CertFault.{CertFault}
 use Rattle.a429_cert.specs.declared.fault.CertFault.TheVariants as of
 use Rattle.a429_cert.specs.Line.{SpellsLine}
 use Rattle.a429_cert.specs.Reading.{first_in, load_in, moved_in, line_in}
-use Rattle.a429_cert.specs.Fault.{IsOfAStep, IsFaultOfLine}
+use Rattle.a429_cert.specs.Fault.{at_line, IsOfAStep, IsFaultOfLine}
 use Rattle.a429_cert.specs.declared.at.At.{At}
 use Rattle.a429_cert.specs.declared.listed.Listed.{Listed}
 use Rattle.a429_cert.specs.declared.listed.Listed.TheVariants as listed
@@ -48,7 +48,7 @@ no_move letter bytes l other e is s =
     ]
 
 -- the fault of a line that was read is that of its text
-pub fault-read : (p : Contents) (s : State) (next : Option Seen) (n i : ℕ) (text : List ℕ) (l : CertLine) (f : CertFault) → SpellsLine text l → IsOfAStep l → IsFaultOfRead p s next n i l f → IsFaultOfLine p s next n i (Some text) f
+pub fault-read : (p : Contents) (s : State) (next : Option Seen) (n i : ℕ) (text : List ℕ) (l : CertLine) (f : CertFault) → SpellsLine text l → IsOfAStep l → IsFaultOfRead p s (at_line n i next) l f → IsFaultOfLine p s (at_line n i next) (Some text) f
 fault-read p s next n i text l of.Version spells is h = (l, spells, h.0, h.1)
 fault-read p s next n i text l (of.Line m) spells is h = absurd (h.1 is)
 fault-read p s next n i text l (of.NotAllowed m) spells is h = (l, spells, h.0, h.1)

@@ -25,12 +25,14 @@ use Rattle.a429_cert.specs.declared.shelf.PutFile.{PutFile}
 use Rattle.a429_cert.specs.declared.stream.Replay.{Replay}
 use Rattle.a429_cert.specs.declared.stream_fault.StreamFault.{StreamFault}
 use Rattle.a429_cert.specs.declared.stream_fault.StreamFault.TheVariants as stream
+use Rattle.a429_cert.specs.Change.{change}
+use Rattle.a429_cert.specs.Told.{position}
 use Rattle.a429_cert.specs.Lines.{certificate_lines}
 use Rattle.a429_cert.specs.Version.{read_as, step_lines}
 use Rattle.a429_cert.specs.CutLines.{GivesLine}
 use Rattle.a429_cert.specs.Explained.{items_of, Leads}
-use Rattle.a429_cert.specs.Fault.{IsFaultAt, IsFaultOfHead}
-use Rattle.a429_cert.specs.Stream.{behind, next_of, PassesOver, RefusesOver, StopsAt, of_read}
+use Rattle.a429_cert.specs.Fault.{at_line, IsFaultAt, IsFaultOfHead}
+use Rattle.a429_cert.specs.Stream.{taking, behind, next_of, PassesOver, RefusesOver, StopsAt, of_read}
 use Rattle.a429_cert.specs.StreamEnd.{EndsLate}
 use Rattle.a429_cert.specs.StreamHead.{RefusesHead, TakesHead}
 use Rattle.a429_cert.specs.StreamExplained.{WhereTold, WantsNext, EndsAt}
@@ -105,7 +107,7 @@ module _ (old : SeriesValue) (d : Head) where
       by (Some ys) h = record { says = h.0; lines = (ys, refl, h.1); inside = omega arith; reached = begins_at old.profile from (with_earlier [] s) z; rest = refl }
 
   module _ (k i : ℕ) (taken : List FileBytes) (s : State) (known left more held : Option (List ℕ)) (first rec : Option Recording) where
-    pub part_on : (used : ℕ) (t : State) (new : Option Recording) → GivesLine left more held true → PassesOver old.profile (read_as d.version held) s t rec new used
+    pub part_on : (used : ℕ) (t : State) (new : Option Recording) → GivesLine left more held true → PassesOver old.profile (read_as d.version held) (change s t) (change rec new) used
         → WhereTold known first (IsIn k i taken s left rec) → WhereTold known first (IsIn (suc k) (i + used) (taken ++ t.sink.received.files) (handed_out t) more new)
     part_on used t new g m =
         told_map known first (IsIn k i taken s left rec) (IsIn (suc k) (i + used) (taken ++ t.sink.received.files) (handed_out t) more new)
@@ -114,7 +116,7 @@ module _ (old : SeriesValue) (d : Head) where
     -- ---- a line that is refused
 
     cert_part : (f : CertFault) (text : List ℕ) (r : Recording) → EndsAt r f
-        → IsFaultAt old.profile (with_earlier taken s) (slice_get (items_of r.entries) i) (k + 3) i (slice_get (step_lines d.version text) k) f
+        → IsFaultAt old.profile (with_earlier taken s) (at_line (k + 3) i (slice_get (items_of r.entries) i)) (slice_get (step_lines d.version text) k) f
         → IsIn k i taken s left rec text r → IsPartFault old (stream.Cert f) text r
     cert_part f text r ends g h = inr (record { k = k; i = i; state = with_earlier taken s; before = record { head = d; says = h.says; inside = h.inside; before = h.reached }; fault = g; ends = ends })
 
@@ -123,7 +125,7 @@ module _ (old : SeriesValue) (d : Head) where
     read_part f text r wants stops told h =
         record { k = k; i = i; state = with_earlier taken s; before = record { head = d; says = h.says; inside = h.inside; before = h.reached }; wants = wants; fault = stops; told = told }
 
-    line_part : (f : StreamFault) (text : List ℕ) (r : Recording) → GivesLine left more held true → RefusesOver old.profile (read_as d.version held) s (Some (behind i r)) (k + 3) i f
+    line_part : (f : StreamFault) (text : List ℕ) (r : Recording) → GivesLine left more held true → RefusesOver old.profile (read_as d.version held) (position s (Some (behind i r)) i) (k + 3) f
         → IsIn k i taken s left rec text r → IsPartFault old f text r
     line_part (stream.Cert f) text r g m h =
         cert_part f text r (ends_at old.profile s r (k + 3) i (read_as d.version held) f m.0 m.1) (fault_from old.profile from d k i taken s held left more rec f text r g m.0 h) h
@@ -132,11 +134,11 @@ module _ (old : SeriesValue) (d : Head) where
     line_part stream.Device text r g m h = tt
     line_part stream.OutOfMemory text r g m h = tt
 
-    pub part_refused : (n : ℕ) (f : StreamFault) → n ≡ k + 3 → GivesLine left more held true → RefusesOver old.profile (read_as d.version held) s rec n i f
+    pub part_refused : (n : ℕ) (f : StreamFault) → n ≡ k + 3 → GivesLine left more held true → RefusesOver old.profile (read_as d.version held) (position s rec i) n f
         → WhereTold known first (IsIn k i taken s left rec) → RefusesPart old known first f
     part_refused n f e g m =
         told_map known first (IsIn k i taken s left rec) (IsPartFault old f)
-        (λ text r h. line_part f text r g (subst (λ (j : ℕ). RefusesOver old.profile (read_as d.version held) s (Some (behind i r)) j i f) e (subst (λ o. RefusesOver old.profile (read_as d.version held) s o n i f) h.rest m)) h)
+        (λ text r h. line_part f text r g (subst (λ (j : ℕ). RefusesOver old.profile (read_as d.version held) (position s (Some (behind i r)) i) j f) e (subst (λ o. RefusesOver old.profile (read_as d.version held) (position s o i) n f) h.rest m)) h)
 
     -- ---- after the last line
 
@@ -226,7 +228,7 @@ part_stopped old (Some text) (Some r) (stream.Read f) (inr e) = absurd (cc e)
 -- a line is not gone on from
 pub part_stops : {S : Type 0} {shelved : S → Option (List PutFile)} {failed : S → Bool} {listener : Bool} {before after : S} (old : SeriesValue) (replay : Replay) (d : Head) (k : ℕ) (taken : List FileBytes) (known left more held text : Option (List ℕ)) (first : Option Recording) (rec new : EntriesLeft) (f : StreamFault)
     → replay.profile.now ≡ old.profile → replay.version ≡ d.version → replay.lines ≡ k + 3 → text ≡ held → GivesLine left more held true
-    → WhereTold known first (IsIn old d k replay.used taken replay.link.state left rec.to_come) → StopsAt shelved failed listener replay text rec new before after f → RefusesPart old known first f
+    → WhereTold known first (IsIn old d k replay.used taken replay.link.state left rec.to_come) → StopsAt shelved failed listener (taking replay text (change rec new) (change before after)) f → RefusesPart old known first f
 part_stops old replay d k taken known left more held text first rec new f profile version n same given told (inl h) =
     part_refused old d k replay.used taken replay.link.state known left more held first rec.to_come replay.lines f n given (refused_here old.profile replay d held text rec.to_come f profile version same h.ends) told
 part_stops old replay d k taken known left more held text first rec new f profile version n same given told (inr h) = part_stopped old known first f h.fault

@@ -10,8 +10,8 @@ use Rattle.a429_cert.specs.declared.explained.Head.{Head}
 use Rattle.a429_cert.specs.Version.{step_lines}
 use Rattle.a429_cert.specs.CutLines.{GivesLine}
 use Rattle.a429_cert.specs.StreamEnd.{EndsLate}
-use Rattle.a429_cert.specs.StreamExplained.{WhereTold, IsStreamFault, HearsBefore}
-use Rattle.a429_cert.specs.Told.{Hearing}
+use Rattle.a429_cert.specs.StreamExplained.{compared, WhereTold, IsStreamFault, HearsBefore}
+use Rattle.a429_cert.specs.Told.{listening, Hearing}
 use Rattle.a429_cert.proofs.StreamStands.{Stands}
 use Rattle.a429_cert.proofs.StreamRefused.{told_unfinished, told_stopped}
 use Rattle.a429_cert.proofs.ToldFacts.{Hears}
@@ -27,8 +27,8 @@ module _ (p : Contents) (d : Head) (k i : ℕ) (taken : List FileBytes) (s : Sta
 
   pub heard_late : {T : Type 0} (hears : Hearing T) (old now : T) → s.sink.received.files ≡ [] → GivesLine left more held false → EndsLate i rec new f
       → WhereTold known start (λ text r. Stands p text r d k i taken s left rec)
-      → WhereTold known start (λ text r. Hears hears p d.first (step_lines d.version text) r k i (with_earlier taken s) old now) → HearsBefore hears p known start old now f
+      → WhereTold known start (λ text r. Hears hears p d.first (step_lines d.version text) r k i (with_earlier taken s) old now) → HearsBefore (listening hears old now) (compared p known start) f
   heard_late hears old now none g (inl e) h b =
-      subst (HearsBefore hears p known start old now) (sym e.2) (heard_unfinished hears p d k i taken s left rec old now known start held more e.0 new g e.1 h b)
+      subst (HearsBefore (listening hears old now) (compared p known start)) (sym e.2) (heard_unfinished hears p d k i taken s left rec old now known start held more e.0 new g e.1 h b)
   heard_late hears old now none g (inr e) h b =
-      subst (HearsBefore hears p known start old now) (sym e.2) (heard_stopped hears p d k i taken s left rec old now known start held more e.0 new none g e.1 h b)
+      subst (HearsBefore (listening hears old now) (compared p known start)) (sym e.2) (heard_stopped hears p d k i taken s left rec old now known start held more e.0 new none g e.1 h b)

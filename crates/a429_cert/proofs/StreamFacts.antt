@@ -20,7 +20,7 @@ use Rattle.a429_record.specs.declared.entry.Entry.{Entry}
 use Rattle.a429_record.specs.declared.fault.ReadFault.{ReadFault}
 use Rattle.a429_record.specs.declared.fault.ReadFault.TheVariants as read
 use Rattle.a429_cert.specs.declared.stream.Replay.{Replay}
-use Rattle.a429_cert.specs.Fault.{CanBe, IsNamed}
+use Rattle.a429_cert.specs.Fault.{at_line, CanBe, IsNamed}
 use Rattle.a429_cert.specs.Passing.{uses, uses_listed, IsStepOfLine, MakesStep, PassesListed, IsFaultOfRead, RefusesListed, RefusesFirst, Lists, IsReady, IsReadyOf, IsNamedOf}
 use Rattle.a429_cert.specs.declared.stream_fault.StreamFault.{StreamFault}
 use Rattle.a429_cert.specs.declared.stream_fault.StreamFault.TheVariants as stream
@@ -30,6 +30,8 @@ use Rattle.a429_link.specs.declared.file.FileBytes.{FileBytes}
 use Rattle.a429_cert.specs.Shelf.{Gains, IsUnchanged}
 use Rattle.a429_cert.specs.Stream.{next_of, TakesNext, PassesNext, RefusesNext, HasEnd, of_cert, of_read, RefusesOver, WantsEntry, GivesFor, GivesAtFault, IsNotTaken, placed, GainsAll, GainsFront, sizes}
 use Rattle.a429_cert.proofs.PassingText.{fault-listed}
+use Rattle.a429_cert.specs.Change.{change}
+use Rattle.a429_cert.specs.Told.{position}
 
 -- ---- the line of a step, and the entries that it uses
 
@@ -98,13 +100,13 @@ wants (Moved m) e = act_wants m.act e
 
 -- ---- a line that passes
 
-pub few_used : (p : Contents) (x : Listed) (next : Option Seen) (s t : State) (used : ℕ) → PassesListed p x next s t used → used ≤ 1
+pub few_used : (p : Contents) (x : Listed) (next : Option Seen) (s t : State) (used : ℕ) → PassesListed p x next (change s t) used → used ≤ 1
 few_used p x next s t used h =
     let l = line_of x in
     let n : used ≡ uses_listed x = (h l.0 l.1).2 ∙ same_uses x l.0 l.1 in
     omega (arith, listed_few x, n)
 
-used_is : (p : Contents) (x : Listed) (next : Option Seen) (s t : State) (used : ℕ) → PassesListed p x next s t used → used ≡ uses_listed x
+used_is : (p : Contents) (x : Listed) (next : Option Seen) (s t : State) (used : ℕ) → PassesListed p x next (change s t) used → used ≡ uses_listed x
 used_is p x next s t used h = let l = line_of x in (h l.0 l.1).2 ∙ same_uses x l.0 l.1
 
 no_step : (p : Contents) (o : Option Step) (s t : State) → o ≡ None → MakesStep p o s t → ⊥
@@ -112,7 +114,7 @@ no_step p None s t e m = m
 no_step p (Some a) s t e m = absurd (cc e)
 
 passes_over : (p : Contents) (x : Listed) (s t : State) (r : Recording) (new : Option Recording) (next : Option Seen) (used n : ℕ)
-    → uses_listed x ≡ n → TakesNext n (Some r) new next → PassesListed p x next s t used → PassesNext p x s t (Some r) new used
+    → uses_listed x ≡ n → TakesNext n (Some r) new next → PassesListed p x next (change s t) used → PassesNext p x (change s t) (change (Some r) new) used
 passes_over p x s t r new next used zero e g h =
     let none : used ≡ 0 = used_is p x next s t used h ∙ e in (
       λ l is.
@@ -123,14 +125,14 @@ passes_over p x s t r new next used zero e g h =
     )
 passes_over p x s t r new (Some item) used (suc n) e g h =
     let one : used ≡ 1 = let u = used_is p x (Some item) s t used h in let few = listed_few x in omega (arith, u, few, e) in
-    (subst (λ o. PassesListed p x o s t used) (sym g.0) h, rw one g.1)
+    (subst (λ o. PassesListed p x o (change s t) used) (sym g.0) h, rw one g.1)
 passes_over p x s t r new None used (suc n) e g h =
     let l = line_of x in
     let one : uses l.0 ≡ 1 = let u = same_uses x l.0 l.1 in let few = listed_few x in omega (arith, u, few, e) in
     absurd (no_step p (step_of l.0 None) s t (wants l.0 one) (h l.0 l.1).0)
 
 pub passes_next : (p : Contents) (x : Listed) (s t : State) (old new : Option Recording) (next : Option Seen) (used : ℕ)
-    → TakesNext (uses_listed x) old new next → PassesListed p x next s t used → PassesNext p x s t old new used
+    → TakesNext (uses_listed x) old new next → PassesListed p x next (change s t) used → PassesNext p x (change s t) (change old new) used
 passes_next p x s t None new next used g h = tt
 passes_next p x s t (Some r) new next used g h = passes_over p x s t r new next used (uses_listed x) refl g h
 
@@ -140,7 +142,7 @@ passes_next p x s t (Some r) new next used g h = passes_over p x s t r new next 
 can_alone : (p : Contents) (l : CertLine) (a b : Option Seen) (s : State) → uses l ≡ 0 → CanBe p l a s → CanBe p l b s
 can_alone p l a b s e h = (h.0, sym (alone l a b e) ∙ h.1, h.2)
 
-fault_alone : (p : Contents) (s : State) (a b : Option Seen) (n i : ℕ) (l : CertLine) (f : CertFault) → uses l ≡ 0 → IsFaultOfRead p s a n i l f → IsFaultOfRead p s b n i l f
+fault_alone : (p : Contents) (s : State) (a b : Option Seen) (n i : ℕ) (l : CertLine) (f : CertFault) → uses l ≡ 0 → IsFaultOfRead p s (at_line n i a) l f → IsFaultOfRead p s (at_line n i b) l f
 fault_alone p s a b n i l of.Version e h = h
 fault_alone p s a b n i l (of.Line m) e h = h
 fault_alone p s a b n i l (of.NotAllowed m) e h = h
@@ -150,7 +152,7 @@ fault_alone p s a b n i l (of.Unfinished j) e h = h
 fault_alone p s a b n i l of.OutOfMemory e h = h
 
 -- no word differs where none is used
-none_differs : (p : Contents) (s : State) (next : Option Seen) (n i m j : ℕ) (l : CertLine) → uses l ≡ 0 → IsFaultOfRead p s next n i l (of.WordDiffers m j) → ⊥
+none_differs : (p : Contents) (s : State) (next : Option Seen) (n i m j : ℕ) (l : CertLine) → uses l ≡ 0 → IsFaultOfRead p s (at_line n i next) l (of.WordDiffers m j) → ⊥
 none_differs p s next n i m j l e h = h.1.3 (can_alone p l h.1.2.0 next s e h.1.2.1)
 
 has_end : (p : Contents) (x : Listed) (s : State) (r : Recording) (new : Option Recording) (next : Option Seen) (n i k : ℕ) (f : CertFault)
@@ -175,7 +177,7 @@ refuses_over p x s r new None n i (suc k) f e g h =
     let none : next_of r ≡ None = ap next_of g in
     subst (λ o. RefusesListed p x (record { line = n; entry = i; next = o }) s f) (sym none) h
 
-known_refused : (p : Contents) (x : Listed) (s : State) (r : Recording) (n i : ℕ) (f : CertFault) → RefusesListed p x (record { line = n; entry = i; next = next_of r }) s f → HasEnd r f → RefusesNext p x s (Some r) n i (of_cert f)
+known_refused : (p : Contents) (x : Listed) (s : State) (r : Recording) (n i : ℕ) (f : CertFault) → RefusesListed p x (record { line = n; entry = i; next = next_of r }) s f → HasEnd r f → RefusesNext p x (position s (Some r) i) n (of_cert f)
 known_refused p x s r n i of.Version h e = (h, e, λ z. cc)
 known_refused p x s r n i (of.Line m) h e = (h, e, λ z. cc)
 known_refused p x s r n i (of.NotAllowed m) h e = (h, e, λ z. cc)
@@ -185,7 +187,7 @@ known_refused p x s r n i (of.Unfinished j) h e = (h, e, λ z. cc)
 known_refused p x s r n i of.OutOfMemory h e = tt
 
 pub refused_next : (p : Contents) (x : Listed) (s : State) (old new : Option Recording) (next : Option Seen) (n i : ℕ) (f : CertFault)
-    → TakesNext (uses_listed x) old new next → RefusesListed p x (record { line = n; entry = i; next = next }) s f → RefusesNext p x s old n i (of_cert f)
+    → TakesNext (uses_listed x) old new next → RefusesListed p x (record { line = n; entry = i; next = next }) s f → RefusesNext p x (position s old i) n (of_cert f)
 refused_next p x s None new next n i f g h = tt
 refused_next p x s (Some r) new next n i f g h =
     known_refused p x s r n i f (refuses_over p x s r new next n i (uses_listed x) f refl g h) (has_end p x s r new next n i (uses_listed x) f refl g h)
@@ -211,7 +213,7 @@ named p (listed.Moved m) (Moved l) s is e h = subst (λ (q : MovedLine). IsNamed
 named p (listed.Moved m) (First file) s is e h = absurd is
 named p (listed.Moved m) (Load l) s is e h = absurd is
 
-pub refused_text : (p : Contents) (text : Option (List ℕ)) (x : Listed) (s : State) (old : Option Recording) (n i : ℕ) (f : StreamFault) → Lists p text x s → RefusesNext p x s old n i f → RefusesOver p text s old n i f
+pub refused_text : (p : Contents) (text : Option (List ℕ)) (x : Listed) (s : State) (old : Option Recording) (n i : ℕ) (f : StreamFault) → Lists p text x s → RefusesNext p x (position s old i) n f → RefusesOver p text (position s old i) n f
 refused_text p text x s None n i f h m = tt
 refused_text p text x s (Some r) n i (stream.Cert f) h m = (fault-listed p text x (record { line = n; entry = i; next = next_of r }) s f h m.0 m.2, m.1)
 refused_text p text x s (Some r) n i (stream.Read f) h m = ((h.0, h.1, same_uses x h.0 h.2 ∙ m.0, named p x h.0 s h.2 m.0 h.3), m.1, m.2)
@@ -219,7 +221,7 @@ refused_text p text x s (Some r) n i stream.Device h m = tt
 refused_text p text x s (Some r) n i stream.OutOfMemory h m = tt
 
 -- before its entry is known it is refused whatever the next entry is
-first_refused : (p : Contents) (text : Option (List ℕ)) (s : State) (r : Recording) (n i : ℕ) (f : CertFault) → RefusesFirst p text n s f → RefusesOver p text s (Some r) n i (of_cert f)
+first_refused : (p : Contents) (text : Option (List ℕ)) (s : State) (r : Recording) (n i : ℕ) (f : CertFault) → RefusesFirst p text n s f → RefusesOver p text (position s (Some r) i) n (of_cert f)
 first_refused p text s r n i of.OutOfMemory h = tt
 first_refused p text s r n i of.Version h = (h (record { line = n; entry = i; next = next_of r }) refl (λ z. cc), tt)
 first_refused p text s r n i (of.Line m) h = (h (record { line = n; entry = i; next = next_of r }) refl (λ z. cc), tt)
@@ -234,14 +236,14 @@ first_refused p text s r n i (of.WordDiffers m j) h =
     apart : (j i : ℕ) → j ≡ i → j ≡ suc i → ⊥
     apart j i e g = omega (arith, e, g)
 
-pub refused_first : (p : Contents) (text : Option (List ℕ)) (s : State) (old : Option Recording) (n i : ℕ) (f : CertFault) → RefusesFirst p text n s f → RefusesOver p text s old n i (of_cert f)
+pub refused_first : (p : Contents) (text : Option (List ℕ)) (s : State) (old : Option Recording) (n i : ℕ) (f : CertFault) → RefusesFirst p text n s f → RefusesOver p text (position s old i) n (of_cert f)
 refused_first p text s None n i f h = tt
 refused_first p text s (Some r) n i f h = first_refused p text s r n i f h
 
 -- ---- how many entries a reader has given
 
 -- a line that passes uses those that were given for it
-pub used_given : (p : Contents) (x : Listed) (next : Option Entry) (s t : State) (used old new : ℕ) → GivesFor (uses_listed x) next old new → PassesListed p x (option_map seen_of next) s t used → new ≡ old + used
+pub used_given : (p : Contents) (x : Listed) (next : Option Entry) (s t : State) (used old new : ℕ) → GivesFor (uses_listed x) next old new → PassesListed p x (option_map seen_of next) (change s t) used → new ≡ old + used
 used_given p x (Some e) s t used old new g h =
     let u = used_is p x (Some (seen_of e)) s t used h in omega (arith, g.0, g.1, u)
 used_given p x None s t used old new g h = by (uses_listed x) refl

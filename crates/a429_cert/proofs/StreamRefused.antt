@@ -26,21 +26,23 @@ use Rattle.a429_cert.specs.Version.{read_as, step_lines}
 use Rattle.a429_cert.specs.CutLines.{cut, GivesLine}
 use Rattle.a429_cert.specs.Explained.{items_of, seen_of, step_of}
 use Rattle.a429_cert.specs.Passing.{MakesStep}
-use Rattle.a429_cert.specs.Fault.{IsVersioned, IsFaultOfHead, SaysLine, IsFaultOfLine, IsFaultAt, IsLaterFault, IsFirstCertFault}
+use Rattle.a429_cert.specs.Fault.{at_line, IsVersioned, IsFaultOfHead, SaysLine, IsFaultOfLine, IsFaultAt, IsLaterFault, IsFirstCertFault}
 use Rattle.a429_cert.specs.Stream.{behind, next_of, HasEnd, WantsEntry, RefusesOver, PassesOver, of_read}
 use Rattle.a429_cert.specs.StreamHead.{RefusesHead}
-use Rattle.a429_cert.specs.StreamExplained.{WhereTold, Delivers, EndsAt, WantsNext, IsWantedReadFault, AreOfLines, IsStreamFault}
+use Rattle.a429_cert.specs.StreamExplained.{reached, WhereTold, Delivers, EndsAt, WantsNext, IsWantedReadFault, AreOfLines, IsStreamFault}
 use Rattle.a429_cert.proofs.CutFacts.{says-uncut}
 use Rattle.a429_cert.proofs.ExplainedFacts.{none_read}
 use Rattle.a429_cert.proofs.StreamStands.{Stands, StandsFrom, AreBehind, says_back, line_cut, next_at}
 use Rattle.a429_cert.proofs.StreamReplay.{told_map, none_next}
+use Rattle.a429_cert.specs.Change.{change}
+use Rattle.a429_cert.specs.Told.{position}
 
 -- ---- a fault of a line that may be cut
 
 says_same : (line : Option (List ℕ)) (l : CertLine) → SaysLine line l → SaysLine (cut line) l
 says_same line l s = subst (λ o. SaysLine o l) (sym (says-uncut line l s)) s
 
-line_fault : (p : Contents) (s : State) (next : Option Seen) (n i : ℕ) (line : Option (List ℕ)) (f : CertFault) → IsFaultOfLine p s next n i (cut line) f → IsFaultOfLine p s next n i line f
+line_fault : (p : Contents) (s : State) (next : Option Seen) (n i : ℕ) (line : Option (List ℕ)) (f : CertFault) → IsFaultOfLine p s (at_line n i next) (cut line) f → IsFaultOfLine p s (at_line n i next) line f
 line_fault p s next n i line of.Version h = (h.0, says_back line h.0 h.1, h.2, h.3)
 line_fault p s next n i line (of.Line m) h = (h.0, λ l is says. h.1 l is (says_same line l says))
 line_fault p s next n i line (of.NotAllowed m) h = (h.0, says_back line h.0 h.1, h.2, h.3)
@@ -52,11 +54,11 @@ line_fault p s next n i line of.OutOfMemory h = (h.0, says_back line h.0 h.1, h.
 -- ---- a fault where a replay is
 
 pub delivers : (p : Contents) (d : Head) (k i : ℕ) (taken : List FileBytes) (s : State) (left : Option (List ℕ)) (rec : Option Recording) (text : List ℕ) (r : Recording)
-    → s.sink.received.files ≡ [] → Stands p text r d k i taken s left rec → Delivers p text r k i (with_earlier taken s) taken
+    → s.sink.received.files ≡ [] → Stands p text r d k i taken s left rec → Delivers p text r (reached k i (with_earlier taken s)) taken
 delivers p d k i taken s left rec text r none h = record { head = d; says = h.says; inside = h.inside; before = h.reached; gives = given_out taken s none }
 
 later : (p : Contents) (d : Head) (k i : ℕ) (taken : List FileBytes) (s : State) (left : Option (List ℕ)) (rec : Option Recording) (text : List ℕ) (r : Recording) (f : CertFault)
-    → Stands p text r d k i taken s left rec → IsFaultAt p (with_earlier taken s) (slice_get (items_of r.entries) i) (k + 3) i (slice_get (step_lines d.version text) k) f
+    → Stands p text r d k i taken s left rec → IsFaultAt p (with_earlier taken s) (at_line (k + 3) i (slice_get (items_of r.entries) i)) (slice_get (step_lines d.version text) k) f
     → IsLaterFault p text (items_of r.entries) f
 later p d k i taken s left rec text r f h g = record { head = d; says = h.says; k = k; i = i; inside = h.inside; state = with_earlier taken s; before = h.reached; fault = g }
 
@@ -72,7 +74,7 @@ is_first p text items of.OutOfMemory a b v h = absurd (b refl)
 
 cert_fault : (p : Contents) (d : Head) (k i : ℕ) (taken : List FileBytes) (s : State) (left : Option (List ℕ)) (rec : Option Recording) (text : List ℕ) (r : Recording) (f : CertFault)
     → f ≢ of.Version → f ≢ of.OutOfMemory → s.sink.received.files ≡ [] → EndsAt r f → Stands p text r d k i taken s left rec
-    → IsFaultAt p (with_earlier taken s) (slice_get (items_of r.entries) i) (k + 3) i (slice_get (step_lines d.version text) k) f
+    → IsFaultAt p (with_earlier taken s) (at_line (k + 3) i (slice_get (items_of r.entries) i)) (slice_get (step_lines d.version text) k) f
     → IsStreamFault p (stream.Cert f) taken text r
 unfolding later
 cert_fault p d k i taken s left rec text r f a b none e h g =
@@ -80,7 +82,7 @@ cert_fault p d k i taken s left rec text r f a b none e h g =
     (is_first p text (items_of r.entries) f a b (d.version, h.says.0) here, e, inr (here, given_out taken s none))
 
 -- no fault of a line is one of the version, or for want of memory
-no_version : (p : Contents) (s : State) (next : Option Seen) (n i : ℕ) (line : Option (List ℕ)) (f : CertFault) → IsFaultOfLine p s next n i line f → f ≢ of.Version
+no_version : (p : Contents) (s : State) (next : Option Seen) (n i : ℕ) (line : Option (List ℕ)) (f : CertFault) → IsFaultOfLine p s (at_line n i next) line f → f ≢ of.Version
 no_version p s next n i line of.Version h = λ e. h.3
 no_version p s next n i line (of.Line m) h = λ e. cc
 no_version p s next n i line (of.NotAllowed m) h = λ e. cc
@@ -89,7 +91,7 @@ no_version p s next n i line (of.WordDiffers m j) h = λ e. cc
 no_version p s next n i line (of.Unfinished j) h = λ e. cc
 no_version p s next n i line of.OutOfMemory h = λ e. h.3
 
-no_memory : (p : Contents) (s : State) (next : Option Seen) (n i : ℕ) (line : Option (List ℕ)) (f : CertFault) → IsFaultOfLine p s next n i line f → f ≢ of.OutOfMemory
+no_memory : (p : Contents) (s : State) (next : Option Seen) (n i : ℕ) (line : Option (List ℕ)) (f : CertFault) → IsFaultOfLine p s (at_line n i next) line f → f ≢ of.OutOfMemory
 no_memory p s next n i line of.Version h = λ e. h.3
 no_memory p s next n i line (of.Line m) h = λ e. cc
 no_memory p s next n i line (of.NotAllowed m) h = λ e. cc
@@ -99,7 +101,7 @@ no_memory p s next n i line (of.Unfinished j) h = λ e. cc
 no_memory p s next n i line of.OutOfMemory h = λ e. h.3
 
 -- where no entry is left, the recording has no fault there
-pub ends_at : (p : Contents) (s : State) (r : Recording) (n i : ℕ) (line : Option (List ℕ)) (f : CertFault) → IsFaultOfLine p s (next_of (behind i r)) n i line f → HasEnd (behind i r) f → EndsAt r f
+pub ends_at : (p : Contents) (s : State) (r : Recording) (n i : ℕ) (line : Option (List ℕ)) (f : CertFault) → IsFaultOfLine p s (at_line n i (next_of (behind i r))) line f → HasEnd (behind i r) f → EndsAt r f
 ends_at p s r n i line of.Version h e = tt
 ends_at p s r n i line (of.Line m) h e = tt
 ends_at p s r n i line (of.NotAllowed m) h e = tt
@@ -110,21 +112,21 @@ ends_at p s r n i line of.OutOfMemory h e = tt
 
 -- the fault of the line that comes, where it stands
 pub fault_from : (p : Contents) (from : State) (d : Head) (k i : ℕ) (taken : List FileBytes) (s : State) (held left more : Option (List ℕ)) (rec : Option Recording) (f : CertFault) (text : List ℕ) (r : Recording)
-    → GivesLine left more held true → IsFaultOfLine p s (next_of (behind i r)) (k + 3) i (read_as d.version held) f → StandsFrom p from text r d k i taken s left rec
-    → IsFaultAt p (with_earlier taken s) (slice_get (items_of r.entries) i) (k + 3) i (slice_get (step_lines d.version text) k) f
+    → GivesLine left more held true → IsFaultOfLine p s (at_line (k + 3) i (next_of (behind i r))) (read_as d.version held) f → StandsFrom p from text r d k i taken s left rec
+    → IsFaultAt p (with_earlier taken s) (at_line (k + 3) i (slice_get (items_of r.entries) i)) (slice_get (step_lines d.version text) k) f
 fault_from p from d k i taken s held left more rec f text r g m h =
     let raw = line_cut d.version (drop 2 (certificate_lines text)) k left more held h.lines g in
-    let uncut = fault_earlier p taken s (next_of (behind i r)) (k + 3) i raw.0 f (line_fault p s (next_of (behind i r)) (k + 3) i raw.0 f (subst (λ o. IsFaultOfLine p s (next_of (behind i r)) (k + 3) i o f) (sym raw.2) m)) in
-    let here = subst (λ o. IsFaultOfLine p (with_earlier taken s) o (k + 3) i raw.0 f) (next_at r.entries i) uncut in
-    subst (λ o. IsFaultAt p (with_earlier taken s) (slice_get (items_of r.entries) i) (k + 3) i o f) (sym raw.1) here
+    let uncut = fault_earlier p taken s (next_of (behind i r)) (k + 3) i raw.0 f (line_fault p s (next_of (behind i r)) (k + 3) i raw.0 f (subst (λ o. IsFaultOfLine p s (at_line (k + 3) i (next_of (behind i r))) o f) (sym raw.2) m)) in
+    let here = subst (λ o. IsFaultOfLine p (with_earlier taken s) (at_line (k + 3) i o) raw.0 f) (next_at r.entries i) uncut in
+    subst (λ o. IsFaultAt p (with_earlier taken s) (at_line (k + 3) i (slice_get (items_of r.entries) i)) o f) (sym raw.1) here
 
 pub fault_here : (p : Contents) (d : Head) (k i : ℕ) (taken : List FileBytes) (s : State) (held left more : Option (List ℕ)) (rec : Option Recording) (f : CertFault) (text : List ℕ) (r : Recording)
-    → GivesLine left more held true → IsFaultOfLine p s (next_of (behind i r)) (k + 3) i (read_as d.version held) f → Stands p text r d k i taken s left rec
-    → IsFaultAt p (with_earlier taken s) (slice_get (items_of r.entries) i) (k + 3) i (slice_get (step_lines d.version text) k) f
+    → GivesLine left more held true → IsFaultOfLine p s (at_line (k + 3) i (next_of (behind i r))) (read_as d.version held) f → Stands p text r d k i taken s left rec
+    → IsFaultAt p (with_earlier taken s) (at_line (k + 3) i (slice_get (items_of r.entries) i)) (slice_get (step_lines d.version text) k) f
 fault_here p d = fault_from p (start p d.first) d
 
 line_refused : (p : Contents) (d : Head) (k i : ℕ) (taken : List FileBytes) (s : State) (held left more : Option (List ℕ)) (rec : Option Recording) (f : CertFault) (text : List ℕ) (r : Recording)
-    → s.sink.received.files ≡ [] → GivesLine left more held true → IsFaultOfLine p s (next_of (behind i r)) (k + 3) i (read_as d.version held) f → HasEnd (behind i r) f → Stands p text r d k i taken s left rec
+    → s.sink.received.files ≡ [] → GivesLine left more held true → IsFaultOfLine p s (at_line (k + 3) i (next_of (behind i r))) (read_as d.version held) f → HasEnd (behind i r) f → Stands p text r d k i taken s left rec
     → IsStreamFault p (stream.Cert f) taken text r
 line_refused p d k i taken s held left more rec f text r none g m e h =
     let read = read_as d.version held in
@@ -186,9 +188,9 @@ no_front (x ∷ front) more f files few e =
     absurd (omega (arith, all, behind))
 
 none_of_line : (p : Contents) (text : Option (List ℕ)) (s t : State) (rec : Option Recording) (r : Recording) (new : Option Recording) (used : ℕ) (front more : List FileBytes) (f : FileBytes)
-    → rec ≡ Some r → s.sink.received.files ≡ [] → PassesOver p text s t rec new used → t.sink.received.files ≡ front ++ f ∷ more → front ≡ []
+    → rec ≡ Some r → s.sink.received.files ≡ [] → PassesOver p text (change s t) (change rec new) used → t.sink.received.files ≡ front ++ f ∷ more → front ≡ []
 none_of_line p text s t rec r new used front more f e none m first =
-    let passes = subst (λ o. PassesOver p text s t o new used) e m in
+    let passes = subst (λ o. PassesOver p text (change s t) (change o new) used) e m in
     no_front front more f t.sink.received.files (one_of p (step_of passes.0.0 (next_of r)) s t none passes.0.2.0) first
 
 -- a fault of a device or for want of memory, where these files are put
@@ -226,7 +228,7 @@ told_head p (Some text) old (Some r) f e h = by f (subst (λ o. RefusesHead IsFa
 -- ---- what a replay answers, where both are known
 
 refused : (p : Contents) (d : Head) (k i : ℕ) (taken : List FileBytes) (s : State) (held left more : Option (List ℕ)) (f : StreamFault) (text : List ℕ) (r : Recording)
-    → s.sink.received.files ≡ [] → GivesLine left more held true → RefusesOver p (read_as d.version held) s (Some (behind i r)) (k + 3) i f → Stands p text r d k i taken s left (Some (behind i r))
+    → s.sink.received.files ≡ [] → GivesLine left more held true → RefusesOver p (read_as d.version held) (position s (Some (behind i r)) i) (k + 3) f → Stands p text r d k i taken s left (Some (behind i r))
     → IsStreamFault p f taken text r
 refused p d k i taken s held left more (stream.Cert f) text r none g m h = line_refused p d k i taken s held left more (Some (behind i r)) f text r none g m.0 m.1 h
 refused p d k i taken s held left more (stream.Read f) text r none g m h =
@@ -235,17 +237,17 @@ refused p d k i taken s held left more stream.Device text r none g m h = inr (of
 refused p d k i taken s held left more stream.OutOfMemory text r none g m h = inr (of_lines p d k i taken s left (Some (behind i r)) text r none h)
 
 pub told_refused : (p : Contents) (d : Head) (k i n : ℕ) (taken : List FileBytes) (s : State) (held known left more : Option (List ℕ)) (start_rec rec : Option Recording) (f : StreamFault)
-    → n ≡ k + 3 → s.sink.received.files ≡ [] → GivesLine left more held true → RefusesOver p (read_as d.version held) s rec n i f
+    → n ≡ k + 3 → s.sink.received.files ≡ [] → GivesLine left more held true → RefusesOver p (read_as d.version held) (position s rec i) n f
     → WhereTold known start_rec (λ text r. Stands p text r d k i taken s left rec) → WhereTold known start_rec (IsStreamFault p f taken)
 told_refused p d k i n taken s held known left more start_rec rec f e none g m =
     told_map known start_rec (λ text r. Stands p text r d k i taken s left rec) (IsStreamFault p f taken)
     (λ text r h. refused p d k i taken s held left more f text r none g
-    (subst (λ (j : ℕ). RefusesOver p (read_as d.version held) s (Some (behind i r)) j i f) e (subst (λ o. RefusesOver p (read_as d.version held) s o n i f) h.rest m))
+    (subst (λ (j : ℕ). RefusesOver p (read_as d.version held) (position s (Some (behind i r)) i) j f) e (subst (λ o. RefusesOver p (read_as d.version held) (position s o i) n f) h.rest m))
     (subst (λ o. Stands p text r d k i taken s left o) h.rest h))
 
 -- the file of the line that was passed is not put
 pub told_not_put : (p : Contents) (d : Head) (k i used : ℕ) (taken front rest : List FileBytes) (next : FileBytes) (s t : State) (line known left : Option (List ℕ)) (start_rec rec new : Option Recording) (f : StreamFault)
-    → (f ≡ stream.Device) ⊎ (f ≡ stream.OutOfMemory) → s.sink.received.files ≡ [] → t.sink.received.files ≡ front ++ next ∷ rest → PassesOver p line s t rec new used
+    → (f ≡ stream.Device) ⊎ (f ≡ stream.OutOfMemory) → s.sink.received.files ≡ [] → t.sink.received.files ≡ front ++ next ∷ rest → PassesOver p line (change s t) (change rec new) used
     → WhereTold known start_rec (λ text r. Stands p text r d k i taken s left rec) → WhereTold known start_rec (IsStreamFault p f (taken ++ front))
 told_not_put p d k i used taken front rest next s t line known left start_rec rec new f e none first m =
     told_map known start_rec (λ text r. Stands p text r d k i taken s left rec) (IsStreamFault p f (taken ++ front))
@@ -256,14 +258,14 @@ told_not_put p d k i used taken front rest next s t line known left start_rec re
 -- an entry is left
 pub left_from : (p : Contents) (from : State) (d : Head) (k i : ℕ) (taken : List FileBytes) (s : State) (held left more : Option (List ℕ)) (rec : Option Recording) (item : Entry) (new : Option Recording) (text : List ℕ) (r : Recording)
     → GivesLine left more held false → GivesNext (Some (behind i r)) new (Ok (Some item)) → StandsFrom p from text r d k i taken s left rec
-    → IsFaultAt p (with_earlier taken s) (slice_get (items_of r.entries) i) (k + 3) i (slice_get (step_lines d.version text) k) (of.Unfinished i)
+    → IsFaultAt p (with_earlier taken s) (at_line (k + 3) i (slice_get (items_of r.entries) i)) (slice_get (step_lines d.version text) k) (of.Unfinished i)
 left_from p from d k i taken s held left more rec item new text r g e h =
     let next : slice_get (items_of r.entries) i ≡ Some (seen_of item) = sym (next_at r.entries i) ∙ ap next_of e.2 in
     rw (next, none_read d.version (drop 2 (certificate_lines text)) k (none_next (drop 2 (certificate_lines text)) k left more held h.lines g)) refl
 
 pub left_here : (p : Contents) (d : Head) (k i : ℕ) (taken : List FileBytes) (s : State) (held left more : Option (List ℕ)) (rec : Option Recording) (item : Entry) (new : Option Recording) (text : List ℕ) (r : Recording)
     → GivesLine left more held false → GivesNext (Some (behind i r)) new (Ok (Some item)) → Stands p text r d k i taken s left rec
-    → IsFaultAt p (with_earlier taken s) (slice_get (items_of r.entries) i) (k + 3) i (slice_get (step_lines d.version text) k) (of.Unfinished i)
+    → IsFaultAt p (with_earlier taken s) (at_line (k + 3) i (slice_get (items_of r.entries) i)) (slice_get (step_lines d.version text) k) (of.Unfinished i)
 left_here p d = left_from p (start p d.first) d
 
 unfinished : (p : Contents) (d : Head) (k i : ℕ) (taken : List FileBytes) (s : State) (held left more : Option (List ℕ)) (item : Entry) (new : Option Recording) (text : List ℕ) (r : Recording)

@@ -27,6 +27,7 @@ use Rattle.a429_cert.specs.StreamHead.{TakesHead}
 use Rattle.a429_cert.specs.StreamExplained.{WhereTold}
 use Rattle.a429_cert.proofs.ExplainedFacts.{begins}
 use Rattle.a429_cert.proofs.StreamStands.{Stands, goes_on, hands_out}
+use Rattle.a429_cert.specs.Change.{change}
 
 -- ---- where both are told
 
@@ -46,7 +47,7 @@ told_init p d s (Some text) old left (Some r) e h z = by left (subst (λ o. Take
     by (Some ys) h = record { says = h.0; lines = (ys, refl, h.1); inside = omega arith; reached = begins p d.first (with_earlier [] s) z; rest = refl }
 
 pub told_on : (p : Contents) (d : Head) (k i used : ℕ) (taken : List FileBytes) (s t : State) (line known left more : Option (List ℕ)) (start_rec rec new : Option Recording)
-    → GivesLine left more line true → PassesOver p (read_as d.version line) s t rec new used
+    → GivesLine left more line true → PassesOver p (read_as d.version line) (change s t) (change rec new) used
     → WhereTold known start_rec (λ text r. Stands p text r d k i taken s left rec)
     → WhereTold known start_rec (λ text r. Stands p text r d (suc k) (i + used) (taken ++ t.sink.received.files) (handed_out t) more new)
 told_on p d k i used taken s t line known left more start_rec rec new g m =

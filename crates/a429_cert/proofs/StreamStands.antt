@@ -23,6 +23,7 @@ use Rattle.a429_cert.specs.Stream.{behind, PassesOver}
 use Rattle.a429_cert.proofs.Options.{some_is}
 use Rattle.a429_cert.proofs.ExplainedFacts.{drop_get, line_read, passes_from}
 use Rattle.a429_cert.proofs.EarlierFiles.{text_earlier}
+use Rattle.a429_cert.specs.Change.{change}
 
 -- ---- lines and entries that come
 
@@ -107,19 +108,19 @@ line_cut v lines k left more line h g =
     let raw = cut_of (slice_get lines k) line (line_next lines k left more line h g) in
     (read_as v raw.0, line_read v lines k raw.0 raw.1, sym (read_cut v raw.0) ∙ ap (read_as v) raw.2)
 
-pub text_back : (p : Contents) (raw line : Option (List ℕ)) (next : Option Seen) (s t : State) (used : ℕ) → cut raw ≡ line → PassesText p line next s t used → PassesText p raw next s t used
+pub text_back : (p : Contents) (raw line : Option (List ℕ)) (next : Option Seen) (s t : State) (used : ℕ) → cut raw ≡ line → PassesText p line next (change s t) used → PassesText p raw next (change s t) used
 text_back p raw line next s t used e h = (h.0, says_back raw h.0 (subst (λ o. SaysLine o h.0) (sym e) h.1), h.2)
 
 pub goes_from : (p : Contents) (from : State) (text : List ℕ) (r : Recording) (d : Head) (k i used : ℕ) (taken : List FileBytes) (s t : State) (line left more : Option (List ℕ)) (rec new : Option Recording)
-    → StandsFrom p from text r d k i taken s left rec → GivesLine left more line true → PassesOver p (read_as d.version line) s t rec new used → StandsFrom p from text r d (suc k) (i + used) taken t more new
-goes_from p from text r d k i used taken s t None left more rec new h g m = absurd ((subst (λ q. PassesOver p q s t (Some (behind i r)) new used) (nothing_read d.version) (subst (λ o. PassesOver p (read_as d.version None) s t o new used) h.rest m)).0.1)
+    → StandsFrom p from text r d k i taken s left rec → GivesLine left more line true → PassesOver p (read_as d.version line) (change s t) (change rec new) used → StandsFrom p from text r d (suc k) (i + used) taken t more new
+goes_from p from text r d k i used taken s t None left more rec new h g m = absurd ((subst (λ q. PassesOver p q (change s t) (change (Some (behind i r)) new) used) (nothing_read d.version) (subst (λ o. PassesOver p (read_as d.version None) (change s t) (change o new) used) h.rest m)).0.1)
 goes_from p from text r d k i used taken s t (Some said) left more rec new h g m =
     let lines = drop 2 (certificate_lines text) in
     let items = items_of r.entries in
     let read = read_as d.version (Some said) in
     let raw = line_cut d.version lines k left more (Some said) h.lines g in
-    let here = subst (λ o. PassesOver p read s t o new used) h.rest m in
-    let passes = subst (λ o. PassesText p read o s t used) (next_at r.entries i) here.0 in
+    let here = subst (λ o. PassesOver p read (change s t) (change o new) used) h.rest m in
+    let passes = subst (λ o. PassesText p read o (change s t) used) (next_at r.entries i) here.0 in
     let on = passes_from p from (step_lines d.version text) items k i used raw.0 (with_earlier taken s) (with_earlier taken t) raw.1 h.inside h.reached
     (text_back p raw.0 read (slice_get items i) (with_earlier taken s) (with_earlier taken t) used raw.2 (text_earlier p read (slice_get items i) taken s t used passes)) in
     record {
@@ -131,7 +132,7 @@ goes_from p from text r d k i used taken s t (Some said) left more rec new h g m
     }
 
 pub goes_on : (p : Contents) (text : List ℕ) (r : Recording) (d : Head) (k i used : ℕ) (taken : List FileBytes) (s t : State) (line left more : Option (List ℕ)) (rec new : Option Recording)
-    → Stands p text r d k i taken s left rec → GivesLine left more line true → PassesOver p (read_as d.version line) s t rec new used → Stands p text r d (suc k) (i + used) taken t more new
+    → Stands p text r d k i taken s left rec → GivesLine left more line true → PassesOver p (read_as d.version line) (change s t) (change rec new) used → Stands p text r d (suc k) (i + used) taken t more new
 goes_on p text r d = goes_from p (start p d.first) text r d
 
 -- its files are handed out

@@ -30,7 +30,7 @@ use Rattle.a429_cert.specs.Version.{read_as, step_lines}
 use Rattle.a429_cert.specs.CutLines.{GivesLine}
 use Rattle.a429_cert.specs.Act.{step_with, uses_of}
 use Rattle.a429_cert.specs.Explained.{items_of, listed_ldu, step_of, Reaches}
-use Rattle.a429_cert.specs.Fault.{SaysLine, IsOfAStep, IsFaultOfStep}
+use Rattle.a429_cert.specs.Fault.{at_line, SaysLine, IsOfAStep, IsFaultOfStep}
 use Rattle.a429_cert.specs.Passing.{uses_listed, IsStepOfLine, PassesText, Lists}
 use Rattle.a429_cert.specs.declared.fault.CertFault.{CertFault}
 use Rattle.a429_cert.specs.declared.fault.CertFault.TheVariants as of
@@ -39,7 +39,7 @@ use Rattle.a429_cert.specs.declared.stream_fault.StreamFault.TheVariants as stre
 use Rattle.a429_cert.specs.declared.stream.Replay.{Replay}
 use Rattle.a429_cert.specs.Stream.{behind, next_of, PassesOver, TakesNext, RefusesNext, EndsNext, IsNotTaken, of_cert}
 use Rattle.a429_cert.specs.StreamExplained.{WhereTold}
-use Rattle.a429_cert.specs.Told.{Told, Loads, Makes, with_number, told, told_steps, told_run, Hearing, IsHeard, told_listed, entry_used, IsNextEntry, HearsListed, HearsText}
+use Rattle.a429_cert.specs.Told.{listening, position, Told, Loads, Makes, with_number, told, told_steps, told_run, Hearing, IsHeard, told_listed, entry_used, IsNextEntry, HearsListed, HearsText}
 use Rattle.a429_cert.proofs.Options.{some_is}
 use Rattle.a429_cert.proofs.ReadingFacts.{one-line}
 use Rattle.a429_cert.proofs.StreamFacts.{refused_next}
@@ -47,6 +47,7 @@ use Rattle.a429_cert.proofs.ExplainedFacts.{drop_get, none_past, none_read, pass
 use Rattle.a429_cert.proofs.StreamStands.{Stands, says_back, next_at, line_cut, text_back}
 use Rattle.a429_cert.proofs.EarlierFiles.{text_earlier}
 use Rattle.a429_cert.proofs.StreamReplay.{none_next}
+use Rattle.a429_cert.specs.Change.{change}
 
 -- ---- what is told of steps
 
@@ -121,8 +122,8 @@ says_one (Some text) l m a b = one-line text l m a b
 
 -- one more line
 hears_line : {T : Type 0} (hears : Hearing T) (p : Contents) (first : ℕ) (lines : List (Option (List ℕ))) (r : Recording) (k i used : ℕ) (line : Option (List ℕ)) (s t : State) (old now new : T)
-    → slice_get lines k ≡ Some line → i ≤ length (items_of r.entries) → Hears hears p first lines r k i s old now → PassesText p line (slice_get (items_of r.entries) i) s t used
-    → HearsText hears p line s (Some (behind i r)) i now new → Hears hears p first lines r (suc k) (i + used) t old new
+    → slice_get lines k ≡ Some line → i ≤ length (items_of r.entries) → Hears hears p first lines r k i s old now → PassesText p line (slice_get (items_of r.entries) i) (change s t) used
+    → HearsText (listening hears now new) p line (position s (Some (behind i r)) i) → Hears hears p first lines r (suc k) (i + used) t old new
 hears_line hears p first lines r k i used line s t old now new g inside h m q =
     let on = passes_on p first lines (items_of r.entries) k i used line s t g inside h.reached m in
     let steps = h.reached.steps in
@@ -160,7 +161,7 @@ hears_init hears p d s old known rec z =
     (λ text r. record { reached = record { steps = []; lists = tt; used = refl; ends = z }; heard = refl })
 
 hears_more : {T : Type 0} (hears : Hearing T) (p : Contents) (d : Head) (k i used : ℕ) (taken : List FileBytes) (s t : State) (held left more : Option (List ℕ)) (rec new_rec : Option Recording) (old now new : T) (text : List ℕ) (r : Recording)
-    → GivesLine left more held true → PassesOver p (read_as d.version held) s t rec new_rec used → HearsText hears p (read_as d.version held) s rec i now new
+    → GivesLine left more held true → PassesOver p (read_as d.version held) (change s t) (change rec new_rec) used → HearsText (listening hears now new) p (read_as d.version held) (position s rec i)
     → Stands p text r d k i taken s left rec → Hears hears p d.first (step_lines d.version text) r k i (with_earlier taken s) old now
     → Hears hears p d.first (step_lines d.version text) r (suc k) (i + used) (with_earlier (taken ++ t.sink.received.files) (handed_out t)) old new
 hears_more hears p d k i used taken s t held left more rec new_rec old now new text r g m q h b =
@@ -168,16 +169,16 @@ hears_more hears p d k i used taken s t held left more rec new_rec old now new t
     let items = items_of r.entries in
     let read = read_as d.version held in
     let raw = line_cut d.version lines k left more held h.lines g in
-    let here = subst (λ o. PassesOver p read s t o new_rec used) h.rest m in
-    let passes = subst (λ o. PassesText p read o s t used) (next_at r.entries i) here.0 in
+    let here = subst (λ o. PassesOver p read (change s t) (change o new_rec) used) h.rest m in
+    let passes = subst (λ o. PassesText p read o (change s t) used) (next_at r.entries i) here.0 in
     let passed = text_back p raw.0 read (slice_get items i) (with_earlier taken s) (with_earlier taken t) used raw.2 (text_earlier p read (slice_get items i) taken s t used passes) in
-    let told = subst (λ o. HearsText hears p read s o i now new) h.rest q in
+    let told = subst (λ o. HearsText (listening hears now new) p read (position s o i)) h.rest q in
     let says : SaysLine raw.0 told.0 = says_back raw.0 told.0 (subst (λ o. SaysLine o told.0) (sym raw.2) told.2) in
     subst (λ (z : State). Hears hears p d.first (step_lines d.version text) r (suc k) (i + used) z old new) (sym (handed_earlier taken t))
     (hears_line hears p d.first (step_lines d.version text) r k i used raw.0 (with_earlier taken s) (with_earlier taken t) old now new raw.1 h.inside b passed (told.0, told.1, says, told.3, told.4))
 
 pub hears_on : {T : Type 0} (hears : Hearing T) (p : Contents) (d : Head) (k i used : ℕ) (taken : List FileBytes) (s t : State) (held known left more : Option (List ℕ)) (start_rec rec new_rec : Option Recording) (old now new : T)
-    → GivesLine left more held true → PassesOver p (read_as d.version held) s t rec new_rec used → HearsText hears p (read_as d.version held) s rec i now new
+    → GivesLine left more held true → PassesOver p (read_as d.version held) (change s t) (change rec new_rec) used → HearsText (listening hears now new) p (read_as d.version held) (position s rec i)
     → WhereTold known start_rec (λ text r. Stands p text r d k i taken s left rec)
     → WhereTold known start_rec (λ text r. Hears hears p d.first (step_lines d.version text) r k i (with_earlier taken s) old now)
     → WhereTold known start_rec (λ text r. Hears hears p d.first (step_lines d.version text) r (suc k) (i + used) (with_earlier (taken ++ t.sink.received.files) (handed_out t)) old new)
@@ -190,7 +191,7 @@ hears_on hears p d k i used taken s t held known left more start_rec rec new_rec
 
 hears_end : {T : Type 0} (hears : Hearing T) (p : Contents) (d : Head) (k i : ℕ) (taken : List FileBytes) (s : State) (held left more : Option (List ℕ)) (rec new_rec : Option Recording) (old now : T) (text : List ℕ) (r : Recording)
     → GivesLine left more held false → GivesNext rec new_rec (Ok None) → Stands p text r d k i taken s left rec
-    → Hears hears p d.first (step_lines d.version text) r k i (with_earlier taken s) old now → IsHeard hears p old now text r
+    → Hears hears p d.first (step_lines d.version text) r k i (with_earlier taken s) old now → IsHeard (listening hears old now) p text r
 hears_end hears p d k i taken s held left more rec new_rec old now text r g e h b =
     let end : behind i r ≡ whole [] = subst (λ o. GivesNext o new_rec (Ok None)) h.rest e in
     let items = items_of r.entries in
@@ -207,22 +208,22 @@ pub hears_all : {T : Type 0} (hears : Hearing T) (p : Contents) (d : Head) (k i 
     → GivesLine left more held false → GivesNext rec new_rec (Ok None)
     → WhereTold known start_rec (λ text r. Stands p text r d k i taken s left rec)
     → WhereTold known start_rec (λ text r. Hears hears p d.first (step_lines d.version text) r k i (with_earlier taken s) old now)
-    → WhereTold known start_rec (IsHeard hears p old now)
+    → WhereTold known start_rec (IsHeard (listening hears old now) p)
 hears_all hears p d k i taken s held known left more start_rec rec new_rec old now g e =
     told_both known start_rec (λ text r. Stands p text r d k i taken s left rec) (λ text r. Hears hears p d.first (step_lines d.version text) r k i (with_earlier taken s) old now)
-    (IsHeard hears p old now) (λ text r h b. hears_end hears p d k i taken s held left more rec new_rec old now text r g e h b)
+    (IsHeard (listening hears old now) p) (λ text r h b. hears_end hears p d k i taken s held left more rec new_rec old now text r g e h b)
 
 -- ---- a line that was read
 
 -- what is told of what it lists, with the entry that was read
 pub hears_listed : {T : Type 0} (hears : Hearing T) (p : Contents) (x : Listed) (s : State) (rec : Option Recording) (next : Option Entry) (i : ℕ) (old new : T)
-    → IsNextEntry (uses_listed x) rec next → hears p old (told_listed s.source.number x (with_number i next)) new → HearsListed hears p x s rec i old new
+    → IsNextEntry (uses_listed x) rec next → hears p old (told_listed s.source.number x (with_number i next)) new → HearsListed (listening hears old new) p x (position s rec i)
 hears_listed hears p x s None next i old new e h = tt
 hears_listed hears p x s (Some r) next i old new e h = subst (λ (o : Option Entry). hears p old (told_listed s.source.number x (with_number i o)) new) e h
 
 -- what is told of what a line of the text lists
 pub hears_text : {T : Type 0} (hears : Hearing T) (p : Contents) (text : Option (List ℕ)) (x : Listed) (s : State) (rec : Option Recording) (i : ℕ) (old new : T)
-    → Lists p text x s → HearsListed hears p x s rec i old new → HearsText hears p text s rec i old new
+    → Lists p text x s → HearsListed (listening hears old new) p x (position s rec i) → HearsText (listening hears old new) p text (position s rec i)
 hears_text hears p text x s rec i old new h g = (h.0, x, h.1, h.2, g)
 
 -- ---- a line that is not taken
@@ -231,7 +232,7 @@ hears_text hears p text x s rec i old new h g = (h.0, x, h.1, h.2, g)
 pub not_loaded : (replay : Replay) (u : LduValue) (next : Option Seen) → (Can replay.link.profile (step.Load u) replay.link.state → ⊥) → IsNotTaken replay (listed.Load u) next (stream.Cert (of.NotAllowed replay.lines))
 not_loaded replay u next cannot = (λ l is z. by l is, λ e. cc)
   where
-    by : (l : CertLine) → IsStepOfLine (listed.Load u) l → IsOfAStep l × IsFaultOfStep replay.link.profile replay.link.state next replay.lines replay.used l (of.NotAllowed replay.lines)
+    by : (l : CertLine) → IsStepOfLine (listed.Load u) l → IsOfAStep l × IsFaultOfStep replay.link.profile replay.link.state (at_line replay.lines replay.used next) l (of.NotAllowed replay.lines)
     by (First file) is = absurd is
     by (Load l) is =
         (tt, (refl, λ n. cannot (subst (λ (v : LduValue). Can replay.link.profile (step.Load v) replay.link.state) (sym is) (subst (λ (a : Step). Can replay.link.profile a replay.link.state) (sym (some_step (step.Load (listed_ldu l)) n.1.0 n.1.1)) n.1.2))))
@@ -240,7 +241,7 @@ not_loaded replay u next cannot = (λ l is z. by l is, λ e. cc)
 -- in the order of recording and certificate
 pub ends_next : (replay : Replay) (x : Listed) (old new : Option Recording) (next : Option Seen) (f : StreamFault) → TakesNext (uses_listed x) old new next → IsNotTaken replay x next f → EndsNext replay x old f
 ends_next replay x old new next (stream.Cert f) g h =
-    subst (RefusesNext replay.link.profile x replay.link.state old replay.lines replay.used) (same f h.1) (refused_next replay.link.profile x replay.link.state old new next replay.lines replay.used f g h.0)
+    subst (RefusesNext replay.link.profile x (position replay.link.state old replay.used) replay.lines) (same f h.1) (refused_next replay.link.profile x replay.link.state old new next replay.lines replay.used f g h.0)
   where
     same : (f : CertFault) → f ≢ of.OutOfMemory → of_cert f ≡ stream.Cert f
     same of.OutOfMemory n = absurd (n refl)

@@ -18,11 +18,11 @@ use Rattle.a429_cert.specs.Lines.{certificate_lines}
 use Rattle.a429_cert.specs.Version.{read_as, step_lines}
 use Rattle.a429_cert.specs.CutLines.{GivesLine}
 use Rattle.a429_cert.specs.Explained.{items_of}
-use Rattle.a429_cert.specs.Fault.{IsFaultOfHead, IsFaultAt}
+use Rattle.a429_cert.specs.Fault.{at_line, IsFaultOfHead, IsFaultAt}
 use Rattle.a429_cert.specs.Stream.{behind, RefusesOver, IsUntold, of_read}
 use Rattle.a429_cert.specs.StreamHead.{RefusesHead}
-use Rattle.a429_cert.specs.StreamExplained.{WhereTold, WantsNext, IsHeardBefore, HearsBefore}
-use Rattle.a429_cert.specs.Told.{Hearing, told_run}
+use Rattle.a429_cert.specs.StreamExplained.{compared, WhereTold, WantsNext, IsHeardBefore, HearsBefore}
+use Rattle.a429_cert.specs.Told.{listening, position, Hearing, told_run}
 use Rattle.a429_cert.proofs.EarlierFiles.{given_out}
 use Rattle.a429_cert.proofs.StreamStands.{Stands}
 use Rattle.a429_cert.proofs.StreamRefused.{fault_here, left_here, wants_line, wants_end}
@@ -31,7 +31,7 @@ use Rattle.a429_cert.proofs.ToldFacts.{Hears, told_both}
 module _ {T : Type 0} (hears : Hearing T) (p : Contents) where
   -- ---- the first two lines are refused
 
-  pub heard_head : (known old : Option (List ℕ)) (rec : Option Recording) (f : StreamFault) (l : T) → old ≡ known → RefusesHead IsFaultOfHead old f → HearsBefore hears p known rec l l f
+  pub heard_head : (known old : Option (List ℕ)) (rec : Option Recording) (f : StreamFault) (l : T) → old ≡ known → RefusesHead IsFaultOfHead old f → HearsBefore (listening hears l l) (compared p known rec) f
   heard_head None old rec (stream.Cert f) l e h = tt
   heard_head (Some text) old None (stream.Cert f) l e h = tt
   heard_head (Some text) old (Some r) (stream.Cert f) l e h = record { told = []; before = inl (subst (λ o. RefusesHead IsFaultOfHead o (stream.Cert f)) e h, refl); heard = refl }
@@ -42,8 +42,8 @@ module _ {T : Type 0} (hears : Hearing T) (p : Contents) where
   -- ---- a fault where a replay is
 
   module _ (d : Head) (k i : ℕ) (taken : List FileBytes) (s : State) (left : Option (List ℕ)) (rec : Option Recording) (old now : T) where
-    later : (f : CertFault) (text : List ℕ) (r : Recording) → IsFaultAt p (with_earlier taken s) (slice_get (items_of r.entries) i) (k + 3) i (slice_get (step_lines d.version text) k) f
-        → Stands p text r d k i taken s left rec → Hears hears p d.first (step_lines d.version text) r k i (with_earlier taken s) old now → IsHeardBefore hears p old now (stream.Cert f) text r
+    later : (f : CertFault) (text : List ℕ) (r : Recording) → IsFaultAt p (with_earlier taken s) (at_line (k + 3) i (slice_get (items_of r.entries) i)) (slice_get (step_lines d.version text) k) f
+        → Stands p text r d k i taken s left rec → Hears hears p d.first (step_lines d.version text) r k i (with_earlier taken s) old now → IsHeardBefore (listening hears old now) p (stream.Cert f) text r
     later f text r g h b =
         record {
           told = told_run p r.entries d.first b.reached.steps;
@@ -52,7 +52,7 @@ module _ {T : Type 0} (hears : Hearing T) (p : Contents) where
         }
 
     stopped : (f : ReadFault) (text : List ℕ) (r : Recording) → s.sink.received.files ≡ [] → WantsNext p (slice_get (step_lines d.version text) k) (with_earlier taken s) → Stops f (behind i r) → f ≢ read.OutOfMemory
-        → Stands p text r d k i taken s left rec → Hears hears p d.first (step_lines d.version text) r k i (with_earlier taken s) old now → IsHeardBefore hears p old now (stream.Read f) text r
+        → Stands p text r d k i taken s left rec → Hears hears p d.first (step_lines d.version text) r k i (with_earlier taken s) old now → IsHeardBefore (listening hears old now) p (stream.Read f) text r
     stopped f text r none wants stops memory h b =
         record {
           told = told_run p r.entries d.first b.reached.steps;
@@ -83,39 +83,39 @@ module _ {T : Type 0} (hears : Hearing T) (p : Contents) where
 
       -- the line that comes is refused
       pub heard_refused : (held more : Option (List ℕ)) (n : ℕ) (f : StreamFault) (new : T) → n ≡ k + 3 → s.sink.received.files ≡ [] → GivesLine left more held true
-          → RefusesOver p (read_as d.version held) s rec n i f → IsUntold now new f → WhereTold known start IsThere → WhereTold known start HasHeard → HearsBefore hears p known start old new f
+          → RefusesOver p (read_as d.version held) (position s rec i) n f → IsUntold now new f → WhereTold known start IsThere → WhereTold known start HasHeard → HearsBefore (listening hears old new) (compared p known start) f
       heard_refused held more n (stream.Cert f) new e none g m u =
-          told_both known start IsThere HasHeard (IsHeardBefore hears p old new (stream.Cert f))
+          told_both known start IsThere HasHeard (IsHeardBefore (listening hears old new) p (stream.Cert f))
           (λ text r h b.
-          let here = subst (λ (j : ℕ). RefusesOver p (read_as d.version held) s (Some (behind i r)) j i (stream.Cert f)) e (subst (λ o. RefusesOver p (read_as d.version held) s o n i (stream.Cert f)) h.rest m) in
-          subst (λ (t : T). IsHeardBefore hears p old t (stream.Cert f) text r) (sym u) (later f text r (fault_here p d k i taken s held left more rec f text r g here.0 h) h b))
+          let here = subst (λ (j : ℕ). RefusesOver p (read_as d.version held) (position s (Some (behind i r)) i) j (stream.Cert f)) e (subst (λ o. RefusesOver p (read_as d.version held) (position s o i) n (stream.Cert f)) h.rest m) in
+          subst (λ (t : T). IsHeardBefore (listening hears old t) p (stream.Cert f) text r) (sym u) (later f text r (fault_here p d k i taken s held left more rec f text r g here.0 h) h b))
       heard_refused held more n (stream.Read f) new e none g m u =
-          told_both known start IsThere HasHeard (IsHeardBefore hears p old new (stream.Read f))
+          told_both known start IsThere HasHeard (IsHeardBefore (listening hears old new) p (stream.Read f))
           (λ text r h b.
-          let here = subst (λ o. RefusesOver p (read_as d.version held) s o n i (stream.Read f)) h.rest m in
-          subst (λ (t : T). IsHeardBefore hears p old t (stream.Read f) text r) (sym u)
+          let here = subst (λ o. RefusesOver p (read_as d.version held) (position s o i) n (stream.Read f)) h.rest m in
+          subst (λ (t : T). IsHeardBefore (listening hears old t) p (stream.Read f) text r) (sym u)
           (stopped f text r none (wants_line p d.version k taken s held left more (drop 2 (certificate_lines text)) g h.lines here.0) here.1 here.2 h b))
       heard_refused held more n stream.Device new e none g m u = λ a b. tt
       heard_refused held more n stream.OutOfMemory new e none g m u = λ a b. tt
 
       -- an entry is left behind the last line
       pub heard_unfinished : (held more : Option (List ℕ)) (item : Entry) (new_rec : Option Recording) → GivesLine left more held false → GivesNext rec new_rec (Ok (Some item))
-          → WhereTold known start IsThere → WhereTold known start HasHeard → HearsBefore hears p known start old now (stream.Cert (of.Unfinished i))
+          → WhereTold known start IsThere → WhereTold known start HasHeard → HearsBefore (listening hears old now) (compared p known start) (stream.Cert (of.Unfinished i))
       heard_unfinished held more item new_rec g e =
-          told_both known start IsThere HasHeard (IsHeardBefore hears p old now (stream.Cert (of.Unfinished i)))
+          told_both known start IsThere HasHeard (IsHeardBefore (listening hears old now) p (stream.Cert (of.Unfinished i)))
           (λ text r h b. later (of.Unfinished i) text r (left_here p d k i taken s held left more rec item new_rec text r g (subst (λ o. GivesNext o new_rec (Ok (Some item))) h.rest e) h) h b)
 
       -- the recording has a fault there
       pub heard_stopped : (held more : Option (List ℕ)) (f : ReadFault) (new_rec : Option Recording) → s.sink.received.files ≡ [] → GivesLine left more held false → GivesNext rec new_rec (Err f)
-          → WhereTold known start IsThere → WhereTold known start HasHeard → HearsBefore hears p known start old now (of_read f)
+          → WhereTold known start IsThere → WhereTold known start HasHeard → HearsBefore (listening hears old now) (compared p known start) (of_read f)
       heard_stopped held more f new_rec none g e a b = by f e
         where
-          here : (f : ReadFault) → f ≢ read.OutOfMemory → GivesNext rec new_rec (Err f) → WhereTold known start (IsHeardBefore hears p old now (stream.Read f))
+          here : (f : ReadFault) → f ≢ read.OutOfMemory → GivesNext rec new_rec (Err f) → WhereTold known start (IsHeardBefore (listening hears old now) p (stream.Read f))
           here f memory e =
-              told_both known start IsThere HasHeard (IsHeardBefore hears p old now (stream.Read f))
+              told_both known start IsThere HasHeard (IsHeardBefore (listening hears old now) p (stream.Read f))
               (λ text r h b. stopped f text r none (wants_end p d.version k taken s held left more (drop 2 (certificate_lines text)) g h.lines) (subst (λ o. GivesNext o new_rec (Err f)) h.rest e) memory h b) a b
 
-          by : (f : ReadFault) → GivesNext rec new_rec (Err f) → HearsBefore hears p known start old now (of_read f)
+          by : (f : ReadFault) → GivesNext rec new_rec (Err f) → HearsBefore (listening hears old now) (compared p known start) (of_read f)
           by read.Header e = here read.Header (λ z. cc) e
           by (read.Row n) e = here (read.Row n) (λ z. cc) e
           by (read.TimeBack n) e = here (read.TimeBack n) (λ z. cc) e
@@ -125,7 +125,7 @@ module _ {T : Type 0} (hears : Hearing T) (p : Contents) where
           by read.Failed e = here read.Failed (λ z. cc) e
 
   -- a fault of a device, or for want of memory, says nothing
-  pub heard_nothing : (known : Option (List ℕ)) (rec : Option Recording) (old new : T) (f : StreamFault) → (f ≡ stream.Device) ⊎ (f ≡ stream.OutOfMemory) → HearsBefore hears p known rec old new f
+  pub heard_nothing : (known : Option (List ℕ)) (rec : Option Recording) (old new : T) (f : StreamFault) → (f ≡ stream.Device) ⊎ (f ≡ stream.OutOfMemory) → HearsBefore (listening hears old new) (compared p known rec) f
   heard_nothing known rec old new stream.Device e = tt
   heard_nothing known rec old new stream.OutOfMemory e = tt
   heard_nothing known rec old new (stream.Cert f) (inl e) = absurd (cc e)

@@ -1,4 +1,4 @@
--- The steps that a certificate's lines name: their letters, and the steps that these stand for (profile).
+-- The steps that a certificate's lines name: their letters, and the steps that these mean (profile).
 use Rattle.std.specs.Prelude.{ℕ, List, ◌==◌, if◌then◌else◌, codes, Option, Some, None, option_map}
 use Rattle.a429_link.specs.declared.seen.Seen.{Seen}
 use Rattle.a429_link.specs.declared.step.Step.{Step}

@@ -14,12 +14,12 @@ use Rattle.a429_cert.specs.declared.stream_fault.StreamFault.TheVariants as stre
 use Rattle.a429_cert.specs.Version.{step_lines}
 use Rattle.a429_cert.specs.CutLines.{HasNoLineFeed, HasRead, HasReadTo}
 use Rattle.a429_cert.specs.Stream.{GainsAll}
-use Rattle.a429_cert.specs.StreamExplained.{WhereTold, WantsNext, Delivers, IsWantedReadFault}
+use Rattle.a429_cert.specs.StreamExplained.{WhereTold, WantsNext, Delivers, IsWantedReadFault, reached}
 
 -- ---- what was read and put until then
 
--- a certificate's bytes that were to come, those that its reader has still to give, and whether it has failed;
--- the recording that was to come, and how many of its entries were given
+-- a certificate's bytes that were to come, those that are still in its reader, and whether it has failed;
+-- the recording that was to come, and how many of its entries were handed out
 pub record Readers : Type 0 where
   pub certificate : Option (List ℕ)
   pub left : Option (List ℕ)
@@ -45,9 +45,20 @@ pub record Shelved : Type 0 where
 abbrev pub shelved : {S : Type 0} → (S → Option (List PutFile)) → (S → Bool) → S → S → Shelved
 shelved files failed old new = record { before = files old; after = files new; failed = failed new }
 
+-- where a check has broken off: what was read, whether the shelf and the listener have failed, and the files that were put
+pub record Halted : Type 0 where
+  pub profile : Contents
+  pub read : Readers
+  pub shelf : Bool
+  pub listener : Bool
+  pub files : List FileBytes
+
+abbrev pub halted : Contents → Readers → Bool → Bool → List FileBytes → Halted
+halted p read shelf listener files = record { profile = p; read = read; shelf = shelf; listener = listener; files = files }
+
 -- ---- places
 
--- in the first two lines: no entry was given, and no file is put (a line delivers none before the third)
+-- in the first two lines: no entry was handed out, and no file is put (a line delivers none before the third)
 pub record IsInHead (text : List ℕ) (read : Readers) (files : List FileBytes) : Type 0 where
   pub lines : HasReadTo text read.left 0 2
   pub given : read.given ≡ 0
@@ -57,17 +68,17 @@ pub record IsInHead (text : List ℕ) (read : Readers) (files : List FileBytes) 
 pub record IsBetweenLines (p : Contents) (text : List ℕ) (r : Recording) (read : Readers) (files : List FileBytes) : Type 0 where
   pub k : ℕ
   pub state : State
-  pub before : Delivers p text r k read.given state files
+  pub before : Delivers p text r (reached k read.given state) files
   pub part : List ℕ
   pub cut : HasNoLineFeed part
   pub lines : HasRead text read.left (k + 2) part
 
--- at the line after the first two and k more, or after the last: these k lines deliver the files that are put; the entry that the line wants was given or not
+-- at the line after the first two and k more, or after the last: these k lines deliver the files that are put; the entry that the line wants was handed out or not
 pub record IsAtLine (p : Contents) (text : List ℕ) (r : Recording) (read : Readers) (files : List FileBytes) : Type 0 where
   pub k : ℕ
   pub i : ℕ
   pub state : State
-  pub before : Delivers p text r k i state files
+  pub before : Delivers p text r (reached k i state) files
   pub lines : HasReadTo text read.left (k + 2) (k + 3)
   pub given : (read.given ≡ i) ⊎ ((read.given ≡ i + 1) × WantsNext p (slice_get (step_lines before.head.version text) k) state)
 
@@ -76,29 +87,29 @@ pub record IsAtFile (p : Contents) (text : List ℕ) (r : Recording) (read : Rea
   pub k : ℕ
   pub i : ℕ
   pub state : State
-  pub before : Delivers p text r k i state files
+  pub before : Delivers p text r (reached k i state) files
   pub file : FileBytes
   pub after : State
-  pub here : Delivers p text r (k + 1) read.given after (files ++ file ∷ [])
+  pub here : Delivers p text r (reached (k + 1) read.given after) (files ++ file ∷ [])
   pub lines : HasReadTo text read.left (k + 2) (k + 3)
 
--- at an entry of the recording: those before it were given, and no line after the one that wants it was taken
-pub record IsAtEntry (p : Contents) (text : List ℕ) (r : Recording) (read : Readers) (f : ReadFault) (files : List FileBytes) : Type 0 where
-  pub wanted : IsWantedReadFault p text r f files
-  pub lines : HasReadTo text read.left (wanted.k + 2) (wanted.k + 3)
-  pub given : read.given ≡ wanted.i
+-- at an entry of the recording: those before it were handed out, and no line after the one that wants it was taken
+pub record IsAtEntry (h : Halted) (f : ReadFault) (text : List ℕ) (r : Recording) : Type 0 where
+  pub wanted : IsWantedReadFault h.profile text r f h.files
+  pub lines : HasReadTo text h.read.left (wanted.k + 2) (wanted.k + 3)
+  pub given : h.read.given ≡ wanted.i
 
 -- the place of a fault, by what has failed: the certificate's reader, the shelf or the listener; a fault of the certificate says its line itself
-abbrev pub IsPlace : Contents → Readers → Bool → Bool → List FileBytes → StreamFault → List ℕ → Recording → Type 0
-IsPlace p read shelf listener files (stream.Cert f) text r = ⊤
-IsPlace p read shelf listener files (stream.Read f) text r = IsAtEntry p text r read f files
-IsPlace p read shelf listener files stream.Device text r =
-    ((read.failed ≡ true) × (IsInHead text read files ⊎ IsBetweenLines p text r read files))
-    ⊎ (((shelf ≡ true) × IsAtFile p text r read files) ⊎ ((listener ≡ true) × IsAtLine p text r read files))
-IsPlace p read shelf listener files stream.OutOfMemory text r = IsInHead text read files ⊎ (IsAtFile p text r read files ⊎ IsAtLine p text r read files)
+abbrev pub IsPlace : Halted → StreamFault → List ℕ → Recording → Type 0
+IsPlace h (stream.Cert f) text r = ⊤
+IsPlace h (stream.Read f) text r = IsAtEntry h f text r
+IsPlace h stream.Device text r =
+    ((h.read.failed ≡ true) × (IsInHead text h.read h.files ⊎ IsBetweenLines h.profile text r h.read h.files))
+    ⊎ (((h.shelf ≡ true) × IsAtFile h.profile text r h.read h.files) ⊎ ((h.listener ≡ true) × IsAtLine h.profile text r h.read h.files))
+IsPlace h stream.OutOfMemory text r = IsInHead text h.read h.files ⊎ (IsAtFile h.profile text r h.read h.files ⊎ IsAtLine h.profile text r h.read h.files)
 
 -- the files that are put are those of the place, from place 1 on
 pub record BreaksOff (p : Contents) (read : Readers) (shelf : Shelved) (listener : Bool) (f : StreamFault) : Type 0 where
   pub files : List FileBytes
-  pub place : WhereTold read.certificate read.recording (IsPlace p read shelf.failed listener files f)
+  pub place : WhereTold read.certificate read.recording (IsPlace (halted p read shelf.failed listener files) f)
   pub put : GainsAll shelf.before shelf.after 1 files

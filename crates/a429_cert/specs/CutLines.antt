@@ -1,4 +1,4 @@
--- The lines of a certificate that is read as it comes (profile).
+-- The lines of a certificate that is read streaming (profile).
 use Rattle.std.specs.Prelude.{◌≡◌, ◌≤◌, ℕ, List, [], ◌∷◌, ◌++◌, length, drop, Bool, true, false, nat_le, if◌then◌else◌, Option, Some, None, option_and_then, option_map, slice_get, ⊤}
 use Rattle.memchr.specs.Find.{Nowhere, Passes, is_byte}
 use Rattle.a429_cert.specs.Lines.{certificate_lines}
@@ -7,7 +7,7 @@ use Rattle.a429_cert.specs.Lines.{certificate_lines}
 abbrev pub HasNoLineFeed : List ℕ → Type 0
 HasNoLineFeed text = Nowhere (Passes (is_byte 10) text) 0 (length text)
 
--- bytes begin with this line and its line feed, and these are behind it, whatever comes behind both
+-- bytes begin with this line and its line feed, and these come after it, whatever follows both
 abbrev pub BeginsWith : List ℕ → Option (List ℕ) → List ℕ → Type 0
 BeginsWith bytes line behind = (more : List ℕ) → certificate_lines (bytes ++ more) ≡ line ∷ certificate_lines (behind ++ more)
 
@@ -19,7 +19,7 @@ when_short text = if nat_le (length text) 2287 then Some text else None
 abbrev pub cut : Option (List ℕ) → Option (List ℕ)
 cut line = option_and_then when_short line
 
--- what is still to come behind a line that was handed out: an unended one stays where it is
+-- what is still to come after a line that was handed out: an unended one stays where it is
 abbrev pub StandsBehind : Option (List ℕ) → List ℕ → List ℕ → Type 0
 StandsBehind (Some line) old new = certificate_lines new ≡ drop 1 (certificate_lines old)
 StandsBehind None old new = new ≡ old
@@ -37,7 +37,7 @@ GivesLine (Some xs) (Some ys) line found = IsFirstLine found xs ys line
 
 -- ---- how far a text was read
 
--- the first n lines of the text were read, each with its line feed, and these bytes after them: the reader has the rest still to give
+-- the first n lines of the text were read, each with its line feed, and these bytes after them: the rest is still in the reader
 abbrev pub HasRead : List ℕ → Option (List ℕ) → ℕ → List ℕ → Type 0
 HasRead text None n ahead = ⊥
 HasRead text (Some left) n ahead = certificate_lines (ahead ++ left) ≡ drop n (certificate_lines text)

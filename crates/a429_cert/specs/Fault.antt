@@ -5,6 +5,7 @@ use Rattle.a429_link.specs.declared.seen.Seen.{Seen}
 use Rattle.a429_link.specs.declared.step.Step.{Step}
 use Rattle.a429_link.specs.Step.{Can, after}
 use Rattle.a429_link.specs.State.{State}
+use Rattle.a429_cert.specs.declared.at.At.{At}
 use Rattle.a429_cert.specs.declared.line.CertLine.{CertLine}
 use Rattle.a429_cert.specs.declared.line.CertLine.TheVariants.{First, Load, Moved}
 use Rattle.a429_cert.specs.declared.fault.CertFault.{CertFault}
@@ -27,7 +28,7 @@ HasVersion certificate v = slice_get (certificate_lines certificate) 0 ≡ Some 
 abbrev pub IsVersioned : List ℕ → Type 0
 IsVersioned certificate = (v : Version) × HasVersion certificate v
 
--- the second line gives the number of the first file
+-- the second line has the number of the first file
 abbrev pub HasFirst : List ℕ → ℕ → Type 0
 HasFirst certificate first = (first ≤ 255) × (slice_get (certificate_lines certificate) 1 ≡ Some (Some (spelling (First first))))
 
@@ -35,13 +36,13 @@ HasFirst certificate first = (first ≤ 255) × (slice_get (certificate_lines ce
 abbrev pub HasHead : List ℕ → Head → Type 0
 HasHead certificate h = HasVersion certificate h.version × HasFirst certificate h.first
 
--- the text begins with them, they say this, and this is behind them
+-- the text begins with them, they say this, and this comes after them
 pub record Begins (text : List ℕ) (head : Head) (behind : List ℕ) : Type 0 where
   pub says : HasHead text head
   pub lines : certificate_lines behind ≡ drop 2 (certificate_lines text)
   pub shorter : length behind + 2 ≤ length text
 
--- the number of the first file, where the line gives it
+-- the number of the first file, where the line has it
 abbrev pub file_in : CertLine → Option ℕ
 file_in (First file) = Some file
 file_in _ = None
@@ -52,7 +53,7 @@ IsFaultOfHead text of.Version = ¬ IsVersioned text
 IsFaultOfHead text (Line n) = (n ≡ 2) × IsVersioned text × ((first : ℕ) → ¬ HasFirst text first)
 IsFaultOfHead text _ = ⊥
 
--- the second line gives no number, and that is the fault
+-- the second line has no number, and that is the fault
 abbrev pub IsNoFirst : Option (Option (List ℕ)) → CertFault → Type 0
 IsNoFirst line f = (f ≡ Line 2) × ((first : ℕ) → first ≤ 255 → line ≢ Some (Some (spelling (First first))))
 
@@ -63,7 +64,7 @@ abbrev pub SaysLine : Option (List ℕ) → CertLine → Type 0
 SaysLine (Some text) l = SpellsLine text l
 SaysLine None l = ⊥
 
--- the line of the first file number stands at the second place alone
+-- the line of the first file number comes at the second place alone
 abbrev pub IsOfAStep : CertLine → Type 0
 IsOfAStep (First file) = ⊥
 IsOfAStep (Load l) = Unit {0}
@@ -77,29 +78,37 @@ CanBe p l next s = (a : Step) × (step_of l next ≡ Some a) × Can p a s
 abbrev pub IsNamed : Contents → CertLine → State → Type 0
 IsNamed p l s = (next : Option Seen) × CanBe p l next s
 
--- the fault of line n, which says l, in the state that the lines before it lead to; `next` is the next entry, number i
-abbrev pub IsFaultOfStep : Contents → State → Option Seen → ℕ → ℕ → CertLine → CertFault → Type 0
+-- line n, where entry i is next, if one is left
+abbrev pub at_line : ℕ → ℕ → Option Seen → At
+at_line n i next = record { line = n; entry = i; next = next }
+
+-- the fault of the line at this place, which says l, in the state that the lines before it lead to
+abbrev pub IsFaultOfStep : Contents → State → At → CertLine → CertFault → Type 0
 -- no step of its name may be made, whatever the next entry is
-IsFaultOfStep p s next n i l (NotAllowed m) = (m ≡ n) × (¬ IsNamed p l s)
+IsFaultOfStep p s at l (NotAllowed m) = (m ≡ at.line) × (¬ IsNamed p l s)
 -- a step of its name may be made, but not with this next entry
-IsFaultOfStep p s next n i l (WordDiffers m j) = (m ≡ n) × (j ≡ i) × IsNamed p l s × (¬ CanBe p l next s)
+IsFaultOfStep p s at l (WordDiffers m j) = (m ≡ at.line) × (j ≡ at.entry) × IsNamed p l s × (¬ CanBe p l at.next s)
 -- its step may be made, and it writes another state than the one after it
-IsFaultOfStep p s next n i l (StateDiffers m) = (m ≡ n) × (a : Step) × (step_of l next ≡ Some a) × Can p a s × (¬ ShowsStates l (after p a s))
-IsFaultOfStep p s next n i l _ = ⊥
+IsFaultOfStep p s at l (StateDiffers m) = (m ≡ at.line) × (a : Step) × (step_of l at.next ≡ Some a) × Can p a s × (¬ ShowsStates l (after p a s))
+IsFaultOfStep p s at l _ = ⊥
 
--- the fault of line n, whatever it says
-abbrev pub IsFaultOfLine : Contents → State → Option Seen → ℕ → ℕ → Option (List ℕ) → CertFault → Type 0
+-- the fault of the line at this place, whatever it says
+abbrev pub IsFaultOfLine : Contents → State → At → Option (List ℕ) → CertFault → Type 0
 -- it says no step
-IsFaultOfLine p s next n i line (Line m) = (m ≡ n) × ((l : CertLine) → IsOfAStep l → ¬ SaysLine line l)
-IsFaultOfLine p s next n i line f = (l : CertLine) × SaysLine line l × IsOfAStep l × IsFaultOfStep p s next n i l f
+IsFaultOfLine p s at line (Line m) = (m ≡ at.line) × ((l : CertLine) → IsOfAStep l → ¬ SaysLine line l)
+IsFaultOfLine p s at line f = (l : CertLine) × SaysLine line l × IsOfAStep l × IsFaultOfStep p s at l f
 
--- the fault at a place: past the last line it is an entry that is left
-abbrev pub IsFaultAt : Contents → State → Option Seen → ℕ → ℕ → Option (Option (List ℕ)) → CertFault → Type 0
-IsFaultAt p s next n i (Some line) f = IsFaultOfLine p s next n i line f
-IsFaultAt p s (Some item) n i None (Unfinished j) = j ≡ i
-IsFaultAt p s _ n i None _ = ⊥
+-- past the last line the fault is the next entry, which is left
+abbrev pub IsLeft : Option Seen → ℕ → CertFault → Type 0
+IsLeft (Some item) i (Unfinished j) = j ≡ i
+IsLeft _ i _ = ⊥
 
--- behind the first two lines, k lines are the steps of a run over the first i entries, and the fault comes next
+-- the fault at a place: of the line there, or past the last line
+abbrev pub IsFaultAt : Contents → State → At → Option (Option (List ℕ)) → CertFault → Type 0
+IsFaultAt p s at (Some line) f = IsFaultOfLine p s at line f
+IsFaultAt p s at None f = IsLeft at.next at.entry f
+
+-- after the first two lines, k lines are the steps of a run over the first i entries, and the fault comes next
 pub record IsLaterFault (p : Contents) (certificate : List ℕ) (items : List Seen) (f : CertFault) : Type 0 where
   pub head : Head
   pub says : HasHead certificate head
@@ -108,7 +117,7 @@ pub record IsLaterFault (p : Contents) (certificate : List ℕ) (items : List Se
   pub inside : i ≤ length items
   pub state : State
   pub before : Reaches p head.first (take k (step_lines head.version certificate)) (take i items) state
-  pub fault : IsFaultAt p state (slice_get items i) (k + 3) i (slice_get (step_lines head.version certificate) k) f
+  pub fault : IsFaultAt p state (at_line (k + 3) i (slice_get items i)) (slice_get (step_lines head.version certificate) k) f
 
 -- the first fault in the order of the lines
 abbrev pub IsFirstCertFault : Contents → List ℕ → List Seen → CertFault → Type 0
@@ -116,6 +125,6 @@ IsFirstCertFault p certificate items of.Version = ¬ IsVersioned certificate
 IsFirstCertFault p certificate items OutOfMemory = ⊥
 IsFirstCertFault p certificate items f = IsVersioned certificate × ((((first : ℕ) → ¬ HasFirst certificate first) × (f ≡ Line 2)) ⊎ IsLaterFault p certificate items f)
 
--- what holds of a fault, where it is not want of memory
+-- what holds of a fault, where it is not out of memory
 abbrev pub UnlessMemory : (CertFault → Type 0) → CertFault → Type 0
 UnlessMemory Holds f = f ≢ OutOfMemory → Holds f

@@ -4,7 +4,7 @@ use Rattle.std.specs.Char.{digit_value, is_ascii_lowercase}
 use Rattle.std.specs.List.{list_all}
 use Rattle.std.specs.Str.Parse.{digits_value}
 
--- a field behind the first of a line: one space, and its text
+-- a field after the first of a line: one space, and its text
 abbrev pub field : List ℕ → List ℕ
 field text = codes " " ++ text
 
@@ -16,12 +16,12 @@ o >>= f = option_and_then f o
 abbrev pub when : {A : Type 0} → Bool → A → Option A
 when test x = if test then Some x else None
 
--- what stands behind a space
+-- what comes after a space
 abbrev pub behind_space : List ℕ → Option (List ℕ)
 behind_space [] = None
 behind_space (b ∷ text) = when (b == 32) text
 
--- a value that a field begins with, and what stands behind it
+-- a value that a field begins with, and what comes after it
 abbrev pub with_rest : {A : Type 0} → (List ℕ → Option (A × List ℕ)) → List ℕ → Option (A × List ℕ)
 with_rest read text = do
   inside ← behind_space text
@@ -45,7 +45,7 @@ hex_digit_in b = when (is_digit 16 b) (digit_value b)
 unfoldable pub hex_digits_in : List ℕ → Option ℕ
 hex_digits_in text = when (list_all (is_digit 16) text) (digits_value 16 text)
 
--- a hexadecimal number of so many digits, and what stands behind it
+-- a hexadecimal number of so many digits, and what comes after it
 unfoldable pub hex_in : ℕ → List ℕ → Option (ℕ × List ℕ)
 hex_in count text = do
   digits ← when (nat_le count (length text)) (take count text)
@@ -54,12 +54,12 @@ hex_in count text = do
 
 -- ---- decimal numbers
 
--- a decimal digit, and what stands behind it
+-- a decimal digit, and what comes after it
 unfoldable pub decimal_digit_in : List ℕ → Option (ℕ × List ℕ)
 decimal_digit_in [] = None
 decimal_digit_in (b ∷ text) = when (nat_le 48 b && nat_le b 57) (b - 48, text)
 
--- a number up to 255, and behind it a digit where there is one
+-- a number up to 255, and after it a digit where there is one
 abbrev pub with_digit : ℕ → List ℕ → Option (ℕ × List ℕ) → Option (ℕ × List ℕ)
 with_digit n text None = Some (n, text)
 with_digit n text (Some digit) = when (nat_le (n * 10 + digit.0) 255) (n * 10 + digit.0, digit.1)
@@ -67,13 +67,13 @@ with_digit n text (Some digit) = when (nat_le (n * 10 + digit.0) 255) (n * 10 + 
 unfoldable pub with_next_digit : ℕ × List ℕ → Option (ℕ × List ℕ)
 with_next_digit n = with_digit n.0 n.1 (decimal_digit_in n.1)
 
--- a decimal number up to 255, without leading zeros, and what stands behind it
+-- a decimal number up to 255, without leading zeros, and what comes after it
 unfoldable pub decimal_in : List ℕ → Option (ℕ × List ℕ)
 decimal_in text = do
   first ← decimal_digit_in text
   if first.0 == 0 then Some first else with_next_digit first >>= with_next_digit
 
--- a decimal number in the last field, with nothing behind it
+-- a decimal number in the last field, with nothing after it
 unfoldable pub last_decimal_in : List ℕ → Option ℕ
 last_decimal_in text = do
   number ← with_rest decimal_in text

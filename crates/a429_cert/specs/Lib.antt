@@ -1,3 +1,4 @@
+pub mod Change
 pub mod Field
 pub mod Act
 pub mod States

@@ -1,9 +1,8 @@
 -- What a reader of lines has handed out, and what is still to come (profile).
-use Rattle.std.specs.Prelude.{ℕ, ◌+◌, ◌-◌, List, length, take, drop, Bool, nat_lt, if◌then◌else◌, Option, Some, None}
+use Rattle.std.specs.Prelude.{ℕ, ◌+◌, ◌-◌, List, length, take, drop, nat_lt, if◌then◌else◌, Option, Some, None}
 use Rattle.std.specs.Io.KnownBytes.{prepend_known}
 use Rattle.a429_word.specs.declared.tally.Tally.{Tally}
 use Rattle.a429_word.specs.Tally.{left_of, unread}
-use Rattle.a429_cert.specs.CutLines.{GivesLine}
 use Rattle.a429_cert.specs.declared.line_reader.LineReader.{LineReader}
 
 -- the bytes that were read and not yet handed out
@@ -21,7 +20,3 @@ to_come remaining s cert = prepend_known (bytes_ahead s) (unread remaining cert)
 -- how many bytes may still come
 abbrev pub room_left : {R : Type 0} → LineReader → Tally R → ℕ
 room_left s cert = left_of cert + length (bytes_ahead s)
-
--- the answer whether a line is handed out of the bytes still to come
-abbrev pub HandsOutLine : {R : Type 0} → (R → Option (List ℕ)) → LineReader → Tally R → LineReader → Tally R → Bool → Type 0
-HandsOutLine remaining old cert new new_cert found = GivesLine (to_come remaining old cert) (to_come remaining new new_cert) (held_line new) found

@@ -3,7 +3,7 @@ use Rattle.a429_cert.specs.declared.lines.TextLine.{TextLine}
 use Rattle.a429_cert.specs.declared.lines.TextLine.TheVariants.{Ended, Unended}
 use Rattle.std.specs.Prelude.{ℕ, List, [], ◌∷◌, ◌==◌, if◌then◌else◌, Option, Some, None, option_map}
 
--- a text of this byte and of what these lines are the lines of; behind its last line feed it is in a line that has no end
+-- a text of this byte and of what these lines are the lines of; after its last line feed it is in a line that has no end
 abbrev pub begun_with : ℕ → List (Option (List ℕ)) → List (Option (List ℕ))
 begun_with b [] = None ∷ []
 begun_with b (line ∷ lines) = option_map (λ text. b ∷ text) line ∷ lines

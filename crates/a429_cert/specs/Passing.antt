@@ -10,6 +10,7 @@ use Rattle.a429_link.specs.declared.fault.StepFault.{StepFault}
 use Rattle.a429_link.specs.declared.fault.StepFault.TheVariants as fault
 use Rattle.a429_link.specs.Step.{Can, after}
 use Rattle.a429_link.specs.State.{State}
+use Rattle.a429_cert.specs.Change.{Change}
 use Rattle.a429_cert.specs.declared.act.Act.{Act}
 use Rattle.a429_cert.specs.declared.act.Act.TheVariants as act
 use Rattle.a429_cert.specs.declared.listed.Listed.{Listed}
@@ -52,17 +53,17 @@ uses (Moved l) = uses_of l.act
 uses _ = 0
 
 -- with this next entry it is a step from a state to another, which it shows, and uses so many entries
-abbrev pub PassesLine : Contents → CertLine → Option Seen → State → State → ℕ → Type 0
-PassesLine p l next s t used = MakesStep p (step_of l next) s t × ShowsStates l t × (used ≡ uses l)
+abbrev pub PassesLine : Contents → CertLine → Option Seen → Change State → ℕ → Type 0
+PassesLine p l next state used = MakesStep p (step_of l next) state.old state.new × ShowsStates l state.new × (used ≡ uses l)
 
--- the fault of line n, where `next` is the next entry, number i
-abbrev pub IsFaultOfRead : Contents → State → Option Seen → ℕ → ℕ → CertLine → CertFault → Type 0
-IsFaultOfRead p s next n i l (of.Line m) = (m ≡ n) × (¬ IsOfAStep l)
-IsFaultOfRead p s next n i l f = IsOfAStep l × IsFaultOfStep p s next n i l f
+-- the fault of the line at this place
+abbrev pub IsFaultOfRead : Contents → State → At → CertLine → CertFault → Type 0
+IsFaultOfRead p s at l (of.Line m) = (m ≡ at.line) × (¬ IsOfAStep l)
+IsFaultOfRead p s at l f = IsOfAStep l × IsFaultOfStep p s at l f
 
--- it is refused for this fault, or for want of memory
+-- it is refused for this fault, or memory is refused
 abbrev pub RefusesLine : Contents → CertLine → At → State → CertFault → Type 0
-RefusesLine p l at s = UnlessMemory (IsFaultOfRead p s at.next at.line at.entry l)
+RefusesLine p l at s = UnlessMemory (IsFaultOfRead p s at l)
 
 -- the faults of line n by those of its link data unit and of its step, where entry i is next
 abbrev pub no_unit : LduFault → ℕ → CertFault
@@ -104,23 +105,23 @@ abbrev pub Lists : Contents → Option (List ℕ) → Listed → State → Type 
 Lists p text x s = (l : CertLine) × SaysLine text l × IsStepOfLine x l × IsReady p x s
 
 -- its line passes with this next entry, and uses so many entries
-abbrev pub PassesListed : Contents → Listed → Option Seen → State → State → ℕ → Type 0
-PassesListed p x next s t used = (l : CertLine) → IsStepOfLine x l → PassesLine p l next s t used
+abbrev pub PassesListed : Contents → Listed → Option Seen → Change State → ℕ → Type 0
+PassesListed p x next state used = (l : CertLine) → IsStepOfLine x l → PassesLine p l next state used
 
--- its line is refused for this fault, or for want of memory
+-- its line is refused for this fault, or memory is refused
 abbrev pub RefusesListed : Contents → Listed → At → State → CertFault → Type 0
 RefusesListed p x at s f = (l : CertLine) → IsStepOfLine x l → RefusesLine p l at s f
 
 -- ---- a line of the text
 
 -- it says a line that passes
-abbrev pub PassesText : Contents → Option (List ℕ) → Option Seen → State → State → ℕ → Type 0
-PassesText p text next s t used = (l : CertLine) × SaysLine text l × PassesLine p l next s t used
+abbrev pub PassesText : Contents → Option (List ℕ) → Option Seen → Change State → ℕ → Type 0
+PassesText p text next state used = (l : CertLine) × SaysLine text l × PassesLine p l next state used
 
--- it is refused for this fault, or for want of memory
+-- it is refused for this fault, or memory is refused
 abbrev pub RefusesText : Contents → Option (List ℕ) → At → State → CertFault → Type 0
-RefusesText p text at s = UnlessMemory (IsFaultOfLine p s at.next at.line at.entry text)
+RefusesText p text at s = UnlessMemory (IsFaultOfLine p s at text)
 
--- line n is refused for this fault whatever the next entry is, or for want of memory
+-- line n is refused for this fault whatever the next entry is, or memory is refused
 abbrev pub RefusesFirst : Contents → Option (List ℕ) → ℕ → State → CertFault → Type 0
 RefusesFirst p text n s f = (at : At) → at.line ≡ n → RefusesText p text at s f

@@ -11,7 +11,7 @@ use Rattle.a429_cert.specs.States.{states_in}
 
 -- ---- words
 
--- so many words, and nothing behind them
+-- so many words, and nothing after them
 unfoldable pub words_at : ℕ → List ℕ → Option (List ℕ)
 words_at zero text = when (length text == 0) []
 words_at (suc n) text = do
@@ -33,7 +33,7 @@ first_in text = do
   rest ← when (bytes_eq (take 5 text) (codes "first")) (drop 5 text)
   last_decimal_in rest
 
--- the line of a link data unit, behind its letter
+-- the line of a link data unit, after its letter
 unfoldable pub load_in : List ℕ → Option LoadLine
 load_in text = do
   gfi ← with_rest (hex_in 1) text
@@ -42,7 +42,7 @@ load_in text = do
   words ← unit_words_in check.1
   Some (record { gfi = gfi.0; flags = flags.0; check = check.0; words = words })
 
--- the line of a step, its letter and what stands behind it
+-- the line of a step, its letter and what comes after it
 unfoldable pub moved_in : ℕ → List ℕ → Option MovedLine
 moved_in letter text = do
   act ← act_in letter

@@ -21,7 +21,7 @@ use Rattle.a429_cert.specs.declared.stream_fault.StreamFault.{StreamFault}
 use Rattle.a429_cert.specs.declared.stream_fault.StreamFault.TheVariants as stream
 use Rattle.a429_cert.specs.Version.{step_lines}
 use Rattle.a429_cert.specs.Explained.{items_of, Leads, AreInSomeRun, AreInEveryRun}
-use Rattle.a429_cert.specs.Fault.{HasHead, IsFaultAt, IsFaultOfHead}
+use Rattle.a429_cert.specs.Fault.{HasHead, at_line, IsFaultAt, IsFaultOfHead}
 use Rattle.a429_cert.specs.Stream.{behind, sizes}
 use Rattle.a429_cert.specs.StreamExplained.{WhereTold, WantsNext, EndsAt}
 
@@ -97,7 +97,7 @@ pub record IsFaultInPart (old : SeriesValue) (f : CertFault) (text : List ℕ) (
   pub i : ℕ
   pub state : State
   pub before : LeadsInPart old text r k i state
-  pub fault : IsFaultAt old.profile state (slice_get (items_of r.entries) i) (k + 3) i (slice_get (step_lines before.head.version text) k) f
+  pub fault : IsFaultAt old.profile state (at_line (k + 3) i (slice_get (items_of r.entries) i)) (slice_get (step_lines before.head.version text) k) f
   pub ends : EndsAt r f
 
 -- the recording's fault comes next, where its entry is wanted

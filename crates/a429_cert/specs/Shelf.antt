@@ -1,8 +1,8 @@
--- What a shelf does with a file that is put, where it tells its files (profile).
+-- What a shelf does with a file that is put, where its files are known (profile).
 use Rattle.std.specs.Prelude.{◌≡◌, ℕ, List, [], ◌∷◌, ◌++◌, Option, Some, None, ⊤}
 use Rattle.a429_cert.specs.declared.shelf.PutFile.{PutFile}
 
--- it has this file behind those that it had
+-- it has this file after those that it had
 abbrev pub Gains : Option (List PutFile) → Option (List PutFile) → ℕ → ℕ → List ℕ → Type 0
 Gains None new index number bytes = ⊤
 Gains (Some files) None index number bytes = ⊥

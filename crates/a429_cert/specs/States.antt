@@ -72,7 +72,7 @@ sink_in (b ∷ rest) = if b == 66 then block_in (decimal_in rest) else sink_lett
 
 -- ---- both, and the words between them
 
--- the states in the next fields, and nothing behind them
+-- the states in the next fields, and nothing after them
 unfoldable pub states_in : List ℕ → Option States
 states_in text = do
   source ← with_rest source_in text
@@ -81,7 +81,7 @@ states_in text = do
   to_source ← last_decimal_in to_sink.1
   Some (record { source = source.0; sink = sink.0; to_sink = to_sink.0; to_source = to_source })
 
--- the text begins with these states, which a line may write, and this stands behind them
+-- the text begins with these states, which a line may write, and this comes after them
 pub record BeginsWithStates (text : List ℕ) (s : States) (rest : List ℕ) : Type 0 where
   pub source : IsSource s.source
   pub sink : IsSink s.sink

@@ -1,4 +1,4 @@
--- A certificate held against a recording, both read as they come (profile).
+-- A certificate held against a recording, both read streaming (profile).
 use Rattle.std.specs.Prelude.{◌≡◌, ◌≢◌, ◌⊎◌, Bool, true, ◌+◌, ℕ, zero, suc, List, [], ◌∷◌, ◌++◌, length, drop, map, Option, Some, None, slice_get, ⊤}
 use Rattle.a429_profile.specs.Profile.{Contents}
 use Rattle.a429_link.specs.declared.seen.Seen.{Seen}
@@ -16,6 +16,7 @@ use Rattle.a429_cert.specs.declared.stream_fault.StreamFault.{StreamFault}
 use Rattle.a429_cert.specs.declared.stream_fault.StreamFault.TheVariants as stream
 use Rattle.a429_word.specs.declared.trouble.Trouble.{Trouble}
 use Rattle.a429_word.specs.declared.trouble.Trouble.TheVariants as trouble
+use Rattle.a429_cert.specs.declared.at.At.{At}
 use Rattle.a429_cert.specs.declared.listed.Listed.{Listed}
 use Rattle.a429_cert.specs.declared.stream.Replay.{Replay}
 use Rattle.a429_cert.specs.declared.line.CertLine.{CertLine}
@@ -23,13 +24,14 @@ use Rattle.a429_cert.specs.declared.shelf.PutFile.{PutFile}
 use Rattle.a429_link.specs.declared.file.FileBytes.{FileBytes}
 use Rattle.a429_cert.specs.Explained.{items_of}
 use Rattle.a429_cert.specs.Version.{read_as}
-use Rattle.a429_cert.specs.Fault.{SaysLine, IsNamed, IsFaultOfLine}
-use Rattle.a429_cert.specs.Told.{Hearing, HearsListed, HearsText, told_listed, with_number}
+use Rattle.a429_cert.specs.Fault.{SaysLine, IsNamed, IsFaultOfLine, at_line}
+use Rattle.a429_cert.specs.Change.{Change, change}
+use Rattle.a429_cert.specs.Told.{Listening, Position, position, WhereKnown, HearsListed, HearsText, told_listed, with_number}
 use Rattle.a429_cert.specs.Passing.{uses, uses_listed, PassesListed, RefusesListed, PassesText}
 
--- ---- a recording that is read as it comes
+-- ---- a recording that is read streaming
 
--- what comes behind its first n entries
+-- what comes after its first n entries
 abbrev pub behind : ℕ → Recording → Recording
 behind n r = record { entries = drop n r.entries; fault = r.fault }
 
@@ -49,9 +51,9 @@ abbrev pub IsFaultNext : ℕ → Option Recording → ReadFault → Type 0
 IsFaultNext n None f = ⊤
 IsFaultNext n (Some r) f = (n ≡ 1) × Stops f r
 
--- ---- how many entries a reader has given
+-- ---- how many entries a reader has handed out
 
--- where this is the next entry, or none is: it is given only to a step that uses one
+-- where this is the next entry, or none is: it is handed out only to a step that uses one
 abbrev pub GivesFor : ℕ → Option Entry → ℕ → ℕ → Type 0
 GivesFor uses None old new = new ≡ old
 GivesFor uses (Some e) old new = (uses ≡ 1) × (new ≡ old + 1)
@@ -82,19 +84,27 @@ HasEnd r (of.WordDiffers n i) = next_of r ≡ None → r.fault ≡ None
 HasEnd r _ = ⊤
 
 -- what a line lists passes over the recording, and uses so many entries
-abbrev pub PassesNext : Contents → Listed → State → State → Option Recording → Option Recording → ℕ → Type 0
-PassesNext p x s t None new used = ⊤
-PassesNext p x s t (Some r) new used = PassesListed p x (next_of r) s t used × (new ≡ Some (behind used r))
+abbrev pub PassesNext : Contents → Listed → Change State → Change (Option Recording) → ℕ → Type 0
+PassesNext p x state rec used = WhereKnown rec.old (λ r. PassesListed p x (next_of r) state used × (rec.new ≡ Some (behind used r)))
 
--- why what line n lists is refused, where entry i is next: a fault of the recording comes where its entry is wanted
-abbrev pub RefusesNext : Contents → Listed → State → Option Recording → ℕ → ℕ → StreamFault → Type 0
-RefusesNext p x s None n i f = ⊤
-RefusesNext p x s (Some r) n i (stream.Cert f) = RefusesListed p x (record { line = n; entry = i; next = next_of r }) s f × HasEnd r f × (f ≢ of.OutOfMemory)
-RefusesNext p x s (Some r) n i (stream.Read f) = (uses_listed x ≡ 1) × Stops f r × (f ≢ read.OutOfMemory)
-RefusesNext p x s (Some r) n i stream.Device = ⊤
-RefusesNext p x s (Some r) n i stream.OutOfMemory = ⊤
+-- line n at this position of the recording
+abbrev pub line_at : Position → ℕ → Recording → At
+line_at at n r = at_line n at.entry (next_of r)
 
--- a listener is told nothing where the fault is one of the certificate or of the recording
+-- what holds of a fault of the certificate, and what of one of the recording
+abbrev pub ByFault : (CertFault → Type 0) → (ReadFault → Type 0) → StreamFault → Type 0
+ByFault OfCert OfRead (stream.Cert f) = OfCert f
+ByFault OfCert OfRead (stream.Read f) = OfRead f
+ByFault OfCert OfRead stream.Device = ⊤
+ByFault OfCert OfRead stream.OutOfMemory = ⊤
+
+-- why what line n lists is refused: a fault of the recording comes where its entry is wanted
+abbrev pub RefusesNext : Contents → Listed → Position → ℕ → StreamFault → Type 0
+RefusesNext p x at n f = WhereKnown at.recording (λ r. ByFault
+    (λ g. RefusesListed p x (line_at at n r) at.state g × HasEnd r g × (g ≢ of.OutOfMemory))
+    (λ g. (uses_listed x ≡ 1) × Stops g r × (g ≢ read.OutOfMemory)) f)
+
+-- nothing is reported to a listener where the fault is one of the certificate or of the recording
 abbrev pub IsUntold : {T : Type 0} → T → T → StreamFault → Type 0
 IsUntold old new (stream.Cert f) = new ≡ old
 IsUntold old new (stream.Read f) = new ≡ old
@@ -102,58 +112,59 @@ IsUntold old new stream.Device = ⊤
 IsUntold old new stream.OutOfMemory = ⊤
 
 -- a line of the text passes over the recording, and uses so many entries
-abbrev pub PassesOver : Contents → Option (List ℕ) → State → State → Option Recording → Option Recording → ℕ → Type 0
-PassesOver p text s t None new used = ⊤
-PassesOver p text s t (Some r) new used = PassesText p text (next_of r) s t used × (new ≡ Some (behind used r))
+abbrev pub PassesOver : Contents → Option (List ℕ) → Change State → Change (Option Recording) → ℕ → Type 0
+PassesOver p text state rec used = WhereKnown rec.old (λ r. PassesText p text (next_of r) state used × (rec.new ≡ Some (behind used r)))
 
 -- a line of the text wants an entry: a step of its name may be made with some
 abbrev pub WantsEntry : Contents → Option (List ℕ) → State → Type 0
 WantsEntry p text s = (l : CertLine) × SaysLine text l × (uses l ≡ 1) × IsNamed p l s
 
--- why line n of the text is refused, where entry i is next
-abbrev pub RefusesOver : Contents → Option (List ℕ) → State → Option Recording → ℕ → ℕ → StreamFault → Type 0
-RefusesOver p text s None n i f = ⊤
-RefusesOver p text s (Some r) n i (stream.Cert f) = IsFaultOfLine p s (next_of r) n i text f × HasEnd r f
-RefusesOver p text s (Some r) n i (stream.Read f) = WantsEntry p text s × Stops f r × (f ≢ read.OutOfMemory)
-RefusesOver p text s (Some r) n i stream.Device = ⊤
-RefusesOver p text s (Some r) n i stream.OutOfMemory = ⊤
+-- why line n of the text is refused
+abbrev pub RefusesOver : Contents → Option (List ℕ) → Position → ℕ → StreamFault → Type 0
+RefusesOver p text at n f = WhereKnown at.recording (λ r. ByFault
+    (λ g. IsFaultOfLine p at.state (line_at at n r) text g × HasEnd r g)
+    (λ g. WantsEntry p text at.state × Stops g r × (g ≢ read.OutOfMemory)) f)
 
 -- ---- a replay along the lines
 
 -- a walk passes over what the next line lists, and that uses so many entries of the recording
-abbrev pub ReplaysNext : Replay → Replay → Listed → Option Recording → Option Recording → ℕ → Type 0
-ReplaysNext old new x rec rest used = PassesNext old.link.profile x old.link.state new.link.state rec rest used
+abbrev pub ReplaysNext : Change Replay → Listed → Change (Option Recording) → ℕ → Type 0
+ReplaysNext replay x rec used = PassesNext replay.old.link.profile x (change replay.old.link.state replay.new.link.state) rec used
+
+-- where a replay is
+abbrev pub position_of : Replay → Option Recording → Position
+position_of replay rec = position replay.link.state rec replay.used
 
 -- why a walk ends at what the last line lists
 abbrev pub EndsNext : Replay → Listed → Option Recording → StreamFault → Type 0
-EndsNext replay x rec f = RefusesNext replay.link.profile x replay.link.state rec replay.lines replay.used f
+EndsNext replay x rec f = RefusesNext replay.link.profile x (position_of replay rec) replay.lines f
 
 -- why what the last line lists is not taken with this next entry: it is refused, or the listener has a fault
 abbrev pub IsNotTaken : Replay → Listed → Option Seen → StreamFault → Type 0
-IsNotTaken replay x next (stream.Cert f) = RefusesListed replay.link.profile x (record { line = replay.lines; entry = replay.used; next = next }) replay.link.state f × (f ≢ of.OutOfMemory)
+IsNotTaken replay x next (stream.Cert f) = RefusesListed replay.link.profile x (at_line replay.lines replay.used next) replay.link.state f × (f ≢ of.OutOfMemory)
 IsNotTaken replay x next (stream.Read f) = ⊥
 IsNotTaken replay x next stream.Device = ⊤
 IsNotTaken replay x next stream.OutOfMemory = ⊤
 
 -- a walk passes over the next line, as its version reads it, and that uses so many entries of the recording
-abbrev pub ReplaysLine : Replay → Replay → Option (List ℕ) → Option Recording → Option Recording → ℕ → Type 0
-ReplaysLine old new text rec rest used = PassesOver old.profile.now (read_as old.version text) old.link.state new.link.state rec rest used
+abbrev pub ReplaysLine : Change Replay → Option (List ℕ) → Change (Option Recording) → ℕ → Type 0
+ReplaysLine replay text rec used = PassesOver replay.old.profile.now (read_as replay.old.version text) (change replay.old.link.state replay.new.link.state) rec used
 
 -- why a walk ends at this line, which was handed out last
 abbrev pub EndsReplay : Replay → Option (List ℕ) → Option Recording → StreamFault → Type 0
-EndsReplay replay text rec f = RefusesOver replay.profile.now (read_as replay.version text) replay.link.state rec replay.lines replay.used f
+EndsReplay replay text rec f = RefusesOver replay.profile.now (read_as replay.version text) (position_of replay rec) replay.lines f
 
--- a listener is told of what the next line lists, with this entry, if it uses one
-abbrev pub TellsListed : {T : Type 0} → Hearing T → Replay → Listed → Option Entry → T → T → Type 0
-TellsListed hears replay x next old new = hears replay.profile.now old (told_listed replay.link.state.source.number x (with_number replay.used next)) new
+-- what the next line lists is reported to a listener, with this entry, if it uses one
+abbrev pub TellsListed : {T : Type 0} → Listening T → Replay → Listed → Option Entry → Type 0
+TellsListed l replay x next = l.hears replay.profile.now l.old (told_listed replay.link.state.source.number x (with_number replay.used next)) l.new
 
 -- with the entry that comes next, if it uses one
-abbrev pub HearsNext : {T : Type 0} → Hearing T → Replay → Listed → Option Recording → T → T → Type 0
-HearsNext hears replay x rec old new = HearsListed hears replay.profile.now x replay.link.state rec replay.used old new
+abbrev pub HearsNext : {T : Type 0} → Listening T → Replay → Listed → Option Recording → Type 0
+HearsNext l replay x rec = HearsListed l replay.profile.now x (position_of replay rec)
 
--- a listener is told of what this line lists, which was handed out last
-abbrev pub HearsLine : {T : Type 0} → Hearing T → Replay → Option (List ℕ) → Option Recording → T → T → Type 0
-HearsLine hears replay text rec old new = HearsText hears replay.profile.now (read_as replay.version text) replay.link.state rec replay.used old new
+-- what this line lists, which was handed out last, is reported to a listener
+abbrev pub HearsLine : {T : Type 0} → Listening T → Replay → Option (List ℕ) → Option Recording → Type 0
+HearsLine l replay text rec = HearsText l replay.profile.now (read_as replay.version text) (position_of replay rec)
 
 -- a walk hands out the files that its link has delivered: nothing else changes, but what was noted
 abbrev pub HandsFilesOut : Replay → Replay → Type 0
@@ -170,13 +181,13 @@ abbrev pub placed : ℕ → List FileBytes → List PutFile
 placed i [] = []
 placed i (f ∷ files) = record { index = i; file = f } ∷ placed (suc i) files
 
--- a shelf has these files behind those that it had, from this place on, where it tells its files
+-- a shelf has these files after those that it had, from this place on, where its files are known
 abbrev pub GainsAll : Option (List PutFile) → Option (List PutFile) → ℕ → List FileBytes → Type 0
 GainsAll None new i files = ⊤
 GainsAll (Some xs) None i files = ⊥
 GainsAll (Some xs) (Some ys) i files = ys ≡ xs ++ placed i files
 
--- it has the first of these files behind those that it had, and not all of them
+-- it has the first of these files after those that it had, and not all of them
 pub record GainsFront (old new : Option (List PutFile)) (i : ℕ) (files : List FileBytes) : Type 0 where
   pub front : List FileBytes
   pub next : FileBytes
@@ -184,7 +195,7 @@ pub record GainsFront (old new : Option (List PutFile)) (i : ℕ) (files : List 
   pub first : files ≡ front ++ next ∷ more
   pub gained : GainsAll old new i front
 
--- these files are put on a shelf, from the place behind those that were noted on
+-- these files are put on a shelf, from the place after those that were noted on
 abbrev pub PutsFiles : {S : Type 0} → (S → Option (List PutFile)) → S → S → List (ℕ × ℕ) → List FileBytes → Type 0
 PutsFiles shelved old new notes files = GainsAll (shelved old) (shelved new) (length notes + 1) files
 
@@ -198,32 +209,49 @@ sizes files = map (λ f. (f.number, length f.bytes)) files
 
 -- ---- a line, and the files that its step delivers
 
--- a walk passes over the next line, which uses so many entries, and all that its step delivers is put and noted
-pub record GoesOn {S : Type 0} (shelved : S → Option (List PutFile)) (old new : Replay) (text : Option (List ℕ)) (rec rest : Option Recording) (before after : S) (used : ℕ) : Type 0 where
+-- a line that a replay takes, with what is still to come of the recording and what is on the shelf, before and after
+pub record Taking (S : Type 0) : Type 0 where
+  pub replay : Replay
+  pub text : Option (List ℕ)
+  pub recording : Change EntriesLeft
+  pub shelf : Change S
+
+abbrev pub taking : {S : Type 0} → Replay → Option (List ℕ) → Change EntriesLeft → Change S → Taking S
+taking replay text recording shelf = record { replay = replay; text = text; recording = recording; shelf = shelf }
+
+-- its step leads to this state, and uses so many entries
+abbrev pub TakesStep : {S : Type 0} → Taking S → State → ℕ → Type 0
+TakesStep t state used = PassesOver t.replay.profile.now (read_as t.replay.version t.text) (change t.replay.link.state state) (change t.recording.old.to_come t.recording.new.to_come) used
+
+-- a walk passes over the line, which uses so many entries, and all that its step delivers is put and noted
+pub record GoesOn {S : Type 0} (shelved : S → Option (List PutFile)) (t : Taking S) (new : Replay) (used : ℕ) : Type 0 where
   pub state : State
-  pub passed : PassesOver old.profile.now (read_as old.version text) old.link.state state rec rest used
-  pub put : PutsFiles shelved before after old.files.items state.sink.received.files
-  pub noted : new.files.items ≡ old.files.items ++ sizes state.sink.received.files
+  pub passed : TakesStep t state used
+  pub put : PutsFiles shelved t.shelf.old t.shelf.new t.replay.files.items state.sink.received.files
+  pub noted : new.files.items ≡ t.replay.files.items ++ sizes state.sink.received.files
   pub given : new.link.state ≡ handed_out state
 
 -- it passes over the line, and not all that its step delivers is put: the shelf has failed, or memory was refused
-pub record PutsTooFew {S : Type 0} (shelved : S → Option (List PutFile)) (failed : S → Bool) (old : Replay) (text : Option (List ℕ)) (rec new_rec : EntriesLeft) (before after : S) (f : StreamFault) : Type 0 where
+pub record PutsTooFew {S : Type 0} (shelved : S → Option (List PutFile)) (failed : S → Bool) (t : Taking S) (f : StreamFault) : Type 0 where
   pub state : State
   pub used : ℕ
-  pub passed : PassesOver old.profile.now (read_as old.version text) old.link.state state rec.to_come new_rec.to_come used
-  pub given : new_rec.count ≡ rec.count + used
-  pub put : PutsFirstFiles shelved before after old.files.items state.sink.received.files
+  pub passed : TakesStep t state used
+  pub given : t.recording.new.count ≡ t.recording.old.count + used
+  pub put : PutsFirstFiles shelved t.shelf.old t.shelf.new t.replay.files.items state.sink.received.files
   pub fault : (f ≡ stream.Device) ⊎ (f ≡ stream.OutOfMemory)
-  pub device : f ≡ stream.Device → failed after ≡ true
+  pub device : f ≡ stream.Device → failed t.shelf.new ≡ true
+
+-- the line wants an entry of the recording
+abbrev pub TakesEntry : {S : Type 0} → Taking S → Type 0
+TakesEntry t = WantsEntry t.replay.profile.now (read_as t.replay.version t.text) t.replay.link.state
 
 -- the line is refused, or memory is, or the listener has failed: nothing is put
-pub record EndsAtLine {S : Type 0} (listener : Bool) (old : Replay) (text : Option (List ℕ)) (rec new_rec : EntriesLeft) (before after : S) (f : StreamFault) : Type 0 where
-  pub ends : EndsReplay old text rec.to_come f
-  pub given : GivesAtFault (WantsEntry old.profile.now (read_as old.version text) old.link.state) f rec.count new_rec.count
-  pub put : after ≡ before
+pub record EndsAtLine {S : Type 0} (listener : Bool) (t : Taking S) (f : StreamFault) : Type 0 where
+  pub ends : EndsReplay t.replay t.text t.recording.old.to_come f
+  pub given : GivesAtFault (TakesEntry t) f t.recording.old.count t.recording.new.count
+  pub put : t.shelf.new ≡ t.shelf.old
   pub device : f ≡ stream.Device → listener ≡ true
 
--- why a walk does not go on over the next line
-abbrev pub StopsAt : {S : Type 0} → (S → Option (List PutFile)) → (S → Bool) → Bool → Replay → Option (List ℕ) → EntriesLeft → EntriesLeft → S → S → StreamFault → Type 0
-StopsAt shelved failed listener old text rec new_rec before after f =
-    EndsAtLine listener old text rec new_rec before after f ⊎ PutsTooFew shelved failed old text rec new_rec before after f
+-- why a walk does not go on over the line
+abbrev pub StopsAt : {S : Type 0} → (S → Option (List PutFile)) → (S → Bool) → Bool → Taking S → StreamFault → Type 0
+StopsAt shelved failed listener t f = EndsAtLine listener t f ⊎ PutsTooFew shelved failed t f

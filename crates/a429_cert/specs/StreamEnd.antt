@@ -1,4 +1,4 @@
--- What comes behind the last line of a certificate that is read as it comes (profile).
+-- What comes after the last line of a certificate that is read streaming (profile).
 use Rattle.std.specs.Prelude.{◌≡◌, ◌⊎◌, ℕ, Option, Some, Ok, Err, ⊤}
 use Rattle.a429_record.specs.declared.entry.Entry.{Entry}
 use Rattle.a429_record.specs.declared.fault.ReadFault.{ReadFault}
@@ -14,7 +14,7 @@ abbrev pub EndsLate : ℕ → Option Recording → Option Recording → StreamFa
 EndsLate used old new f = ((item : Entry) × GivesNext old new (Ok (Some item)) × (f ≡ stream.Cert (of.Unfinished used)))
     ⊎ ((fault : ReadFault) × GivesNext old new (Err fault) × (f ≡ of_read fault))
 
--- no entry is given where it is the recording that has a fault
+-- no entry is handed out where it is the recording that has a fault
 abbrev pub GivesNone : StreamFault → ℕ → ℕ → Type 0
 GivesNone (stream.Cert f) old new = ⊤
 GivesNone _ old new = new ≡ old

@@ -1,6 +1,8 @@
--- What a certificate explains, and its first fault, where it and the recording are read as they come (profile).
+-- What a certificate explains, and its first fault, where it and the recording are read streaming (profile).
 use Rattle.std.specs.Prelude.{◌≡◌, ◌≢◌, ◌⊎◌, ◌≤◌, ℕ, List, [], length, take, Option, Some, None, slice_get, ⊤, Vec}
 use Rattle.std.specs.List.{FoldsTo}
+use Rattle.a429_word.specs.declared.tally.Tally.{Tally}
+use Rattle.a429_word.specs.Tally.{unread}
 use Rattle.a429_profile.specs.Profile.{Contents}
 use Rattle.a429_link.specs.declared.file.FileBytes.{FileBytes}
 use Rattle.a429_link.specs.State.{State}
@@ -8,6 +10,7 @@ use Rattle.a429_record.specs.declared.fault.ReadFault.{ReadFault}
 use Rattle.a429_record.specs.declared.fault.ReadFault.TheVariants as read
 use Rattle.a429_record.specs.Recording.{Recording}
 use Rattle.a429_record.specs.Rows.{Stops}
+use Rattle.a429_record.specs.Entries.{EntriesLeft}
 use Rattle.a429_cert.specs.declared.fault.CertFault.{CertFault}
 use Rattle.a429_cert.specs.declared.fault.CertFault.TheVariants as of
 use Rattle.a429_cert.specs.declared.shelf.PutFile.{PutFile}
@@ -17,14 +20,28 @@ use Rattle.a429_cert.specs.declared.explained.Head.{Head}
 use Rattle.a429_cert.specs.Version.{step_lines}
 use Rattle.a429_cert.specs.Explained.{items_of, Reaches, IsExplained, AreInEveryRun}
 use Rattle.a429_cert.specs.Fault.{HasHead, IsFaultOfHead, IsLaterFault, IsFirstCertFault}
-use Rattle.a429_cert.specs.Told.{Told, told_run, Hearing, IsHeard}
+use Rattle.a429_cert.specs.Change.{Change}
+use Rattle.a429_cert.specs.Told.{Told, told_run, Listening, IsHeard}
 use Rattle.a429_cert.specs.Stream.{behind, WantsEntry, GainsAll, sizes}
 
--- what holds of the certificate and the recording, where both are told
+-- what holds of the certificate and the recording, where both are known
 abbrev pub WhereTold : Option (List ℕ) → Option Recording → (List ℕ → Recording → Type 0) → Type 0
 WhereTold None rec Holds = ⊤
 WhereTold (Some text) None Holds = ⊤
 WhereTold (Some text) (Some r) Holds = Holds text r
+
+-- a certificate and a recording that are compared under a profile, where what their readers have to read is known
+pub record Compared : Type 0 where
+  pub profile : Contents
+  pub certificate : Option (List ℕ)
+  pub recording : Option Recording
+
+abbrev pub compared : Contents → Option (List ℕ) → Option Recording → Compared
+compared p known rec = record { profile = p; certificate = known; recording = rec }
+
+-- those that are still in two readers
+abbrev pub comparison : {C : Type 0} → Contents → (C → Option (List ℕ)) → Tally C → EntriesLeft → Compared
+comparison p remaining cert rec = compared p (unread remaining cert) rec.to_come
 
 -- ---- a yes
 
@@ -33,29 +50,38 @@ abbrev pub IsYes : Contents → List FileBytes → List ℕ → Recording → Ty
 IsYes p files text r = (r.fault ≡ None) × IsExplained p text (items_of r.entries) files × AreInEveryRun p (items_of r.entries) files
 
 -- such files are put, from place 1 on, and their numbers and lengths are the answer
-pub record Extracts (p : Contents) (known : Option (List ℕ)) (rec : Option Recording) (old new : Option (List PutFile)) (answer : List (ℕ × ℕ)) : Type 0 where
+pub record Extracts (c : Compared) (shelf : Change (Option (List PutFile))) (answer : List (ℕ × ℕ)) : Type 0 where
   pub files : List FileBytes
-  pub yes : WhereTold known rec (IsYes p files)
-  pub put : GainsAll old new 1 files
+  pub yes : WhereTold c.certificate c.recording (IsYes c.profile files)
+  pub put : GainsAll shelf.old shelf.new 1 files
   pub answered : answer ≡ sizes files
 
 -- the answer is those of such files
-abbrev pub SaysYes : {Z : Type 0} → Contents → Option (List ℕ) → Option Recording → Option (List PutFile) → Option (List PutFile) → Vec (ℕ × ℕ) Z → Type 0
-SaysYes p known rec old new answer = Extracts p known rec old new answer.items
+abbrev pub SaysYes : {Z : Type 0} → Compared → Change (Option (List PutFile)) → Vec (ℕ × ℕ) Z → Type 0
+SaysYes c shelf answer = Extracts c shelf answer.items
 
--- a listener has heard the run by which the certificate explains the recording, where both are told
-abbrev pub HearsRun : {T : Type 0} → Hearing T → Contents → Option (List ℕ) → Option Recording → T → T → Type 0
-HearsRun hears p known rec old new = WhereTold known rec (IsHeard hears p old new)
+-- a listener has heard the run by which the certificate explains the recording, where both are known
+abbrev pub HearsRun : {T : Type 0} → Listening T → Compared → Type 0
+HearsRun l c = WhereTold c.certificate c.recording (IsHeard l c.profile)
 
 -- ---- a fault
 
--- behind the first two lines, k lines are the steps of a run over the first i entries, and it delivers these files
-pub record Delivers (p : Contents) (text : List ℕ) (r : Recording) (k i : ℕ) (s : State) (files : List FileBytes) : Type 0 where
+-- how far a run is replayed: so many lines after the first two, so many entries, and the state that it has reached
+pub record Reached : Type 0 where
+  pub lines : ℕ
+  pub entries : ℕ
+  pub state : State
+
+abbrev pub reached : ℕ → ℕ → State → Reached
+reached k i s = record { lines = k; entries = i; state = s }
+
+-- so many lines after the first two are the steps of a run over so many entries, which reaches this state and delivers these files
+pub record Delivers (p : Contents) (text : List ℕ) (r : Recording) (at : Reached) (files : List FileBytes) : Type 0 where
   pub head : Head
   pub says : HasHead text head
-  pub inside : i ≤ length (items_of r.entries)
-  pub before : Reaches p head.first (take k (step_lines head.version text)) (take i (items_of r.entries)) s
-  pub gives : files ≡ s.sink.received.files
+  pub inside : at.entries ≤ length (items_of r.entries)
+  pub before : Reaches p head.first (take at.lines (step_lines head.version text)) (take at.entries (items_of r.entries)) at.state
+  pub gives : files ≡ at.state.sink.received.files
 
 -- a certificate's fault that says that no entry is left comes only where the recording has no fault there
 abbrev pub EndsAt : Recording → CertFault → Type 0
@@ -76,7 +102,7 @@ pub record IsWantedReadFault (p : Contents) (text : List ℕ) (r : Recording) (f
   pub k : ℕ
   pub i : ℕ
   pub state : State
-  pub before : Delivers p text r k i state files
+  pub before : Delivers p text r (reached k i state) files
   pub wants : WantsNext p (slice_get (step_lines before.head.version text) k) state
   pub fault : Stops f (behind i r)
   pub told : f ≢ read.OutOfMemory
@@ -86,7 +112,7 @@ pub record AreOfLines (p : Contents) (text : List ℕ) (r : Recording) (files : 
   pub k : ℕ
   pub i : ℕ
   pub state : State
-  pub before : Delivers p text r k i state files
+  pub before : Delivers p text r (reached k i state) files
 
 abbrev pub IsStreamFault : Contents → StreamFault → List FileBytes → List ℕ → Recording → Type 0
 IsStreamFault p (stream.Cert f) files text r = IsFirstCertFault p text (items_of r.entries) f × EndsAt r f × AreBeforeFault p text r f files
@@ -95,14 +121,14 @@ IsStreamFault p stream.Device files text r = (files ≡ []) ⊎ AreOfLines p tex
 IsStreamFault p stream.OutOfMemory files text r = (files ≡ []) ⊎ AreOfLines p text r files
 
 -- the fault comes first, and the files of the lines before it are put, from place 1 on
-pub record Refuses (p : Contents) (known : Option (List ℕ)) (rec : Option Recording) (old new : Option (List PutFile)) (f : StreamFault) : Type 0 where
+pub record Refuses (c : Compared) (shelf : Change (Option (List PutFile))) (f : StreamFault) : Type 0 where
   pub files : List FileBytes
-  pub fault : WhereTold known rec (IsStreamFault p f files)
-  pub put : GainsAll old new 1 files
+  pub fault : WhereTold c.certificate c.recording (IsStreamFault c.profile f files)
+  pub put : GainsAll shelf.old shelf.new 1 files
 
--- ---- what is told before a fault
+-- ---- what is reported before a fault
 
--- what is told of the lines before the fault, which comes first: of a run's first steps, in order, and of no other
+-- what is reported of the lines before the fault, which comes first: of a run's first steps, in order, and of no other
 abbrev pub IsToldBefore : Contents → StreamFault → List Told → List ℕ → Recording → Type 0
 IsToldBefore p (stream.Cert f) told text r = (IsFaultOfHead text f × (told ≡ [])) ⊎ ((h : IsLaterFault p text (items_of r.entries) f) × (told ≡ told_run p r.entries h.head.first h.before.steps))
 IsToldBefore p (stream.Read f) told text r = (files : List FileBytes) × (h : IsWantedReadFault p text r f files) × (told ≡ told_run p r.entries h.before.head.first h.before.before.steps)
@@ -110,14 +136,14 @@ IsToldBefore p stream.Device told text r = ⊤
 IsToldBefore p stream.OutOfMemory told text r = ⊤
 
 -- a listener has heard the steps of the lines before the fault, each once and in order, and nothing else
-pub record IsHeardBefore {T : Type 0} (hears : Hearing T) (p : Contents) (old new : T) (f : StreamFault) (text : List ℕ) (r : Recording) : Type 0 where
+pub record IsHeardBefore {T : Type 0} (l : Listening T) (p : Contents) (f : StreamFault) (text : List ℕ) (r : Recording) : Type 0 where
   pub told : List Told
   pub before : IsToldBefore p f told text r
-  pub heard : FoldsTo (hears p) old told new
+  pub heard : FoldsTo (l.hears p) l.old told l.new
 
--- it has, where both are told and the fault is one of the certificate or of the recording: another may be the listener's own
-abbrev pub HearsBefore : {T : Type 0} → Hearing T → Contents → Option (List ℕ) → Option Recording → T → T → StreamFault → Type 0
-HearsBefore hears p known rec old new (stream.Cert f) = WhereTold known rec (IsHeardBefore hears p old new (stream.Cert f))
-HearsBefore hears p known rec old new (stream.Read f) = WhereTold known rec (IsHeardBefore hears p old new (stream.Read f))
-HearsBefore hears p known rec old new stream.Device = ⊤
-HearsBefore hears p known rec old new stream.OutOfMemory = ⊤
+-- it has, where both are known and the fault is one of the certificate or of the recording: another may be the listener's own
+abbrev pub HearsBefore : {T : Type 0} → Listening T → Compared → StreamFault → Type 0
+HearsBefore l c (stream.Cert f) = WhereTold c.certificate c.recording (IsHeardBefore l c.profile (stream.Cert f))
+HearsBefore l c (stream.Read f) = WhereTold c.certificate c.recording (IsHeardBefore l c.profile (stream.Read f))
+HearsBefore l c stream.Device = ⊤
+HearsBefore l c stream.OutOfMemory = ⊤

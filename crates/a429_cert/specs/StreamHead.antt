@@ -1,28 +1,21 @@
--- The first two lines of a certificate that is read as it comes (profile).
+-- The first two lines of a certificate that is read streaming (profile).
 use Rattle.std.specs.Prelude.{◌≡◌, ℕ, List, drop, Option, Some, None, slice_get, ⊤}
-use Rattle.a429_word.specs.declared.tally.Tally.{Tally}
 use Rattle.a429_cert.specs.declared.fault.CertFault.{CertFault}
 use Rattle.a429_cert.specs.declared.fault.CertFault.TheVariants as of
 use Rattle.a429_cert.specs.declared.stream_fault.StreamFault.{StreamFault}
 use Rattle.a429_cert.specs.declared.stream_fault.StreamFault.TheVariants as stream
 use Rattle.a429_cert.specs.Lines.{certificate_lines}
 use Rattle.a429_cert.specs.declared.explained.Head.{Head}
-use Rattle.a429_cert.specs.declared.line_reader.LineReader.{LineReader}
 use Rattle.a429_cert.specs.Fault.{HasHead, IsVersioned, IsNoFirst}
-use Rattle.a429_cert.specs.LineReader.{to_come}
 use Rattle.a429_cert.specs.CutLines.{HasReadTo}
 
--- this text was the next line of what was to come, and what is behind it is still to come
+-- this text was the next line of what was to come, and what follows it is still to come
 abbrev pub TakesLine : Option (List ℕ) → Option (List ℕ) → List ℕ → Type 0
 TakesLine None new text = ⊤
 TakesLine (Some xs) None text = ⊥
 TakesLine (Some xs) (Some ys) text = (slice_get (certificate_lines xs) 0 ≡ Some (Some text)) × (certificate_lines ys ≡ drop 1 (certificate_lines xs))
 
--- a reader of a certificate's lines hands out this text as the next line
-abbrev pub ReadsLine : {R : Type 0} → (R → Option (List ℕ)) → LineReader → Tally R → LineReader → Tally R → List ℕ → Type 0
-ReadsLine remaining old cert new new_cert text = TakesLine (to_come remaining old cert) (to_come remaining new new_cert) text
-
--- what was to come begins with the two lines that begin a certificate, which say this, and what is behind them is still to come
+-- what was to come begins with the two lines that begin a certificate, which say this, and what follows them is still to come
 abbrev pub TakesHead : Option (List ℕ) → Option (List ℕ) → Head → Type 0
 TakesHead None new head = ⊤
 TakesHead (Some xs) None head = ⊥
@@ -36,7 +29,7 @@ RefusesHead Holds (Some xs) (stream.Cert f) = Holds xs f
 RefusesHead Holds old stream.Device = ⊤
 RefusesHead Holds old stream.OutOfMemory = ⊤
 
--- the next line names no version, or gives no number of the first file
+-- the next line names no version, or has no number of the first file
 abbrev pub IsNoVersion : List ℕ → CertFault → Type 0
 IsNoVersion xs f = (f ≡ of.Version) × (¬ IsVersioned xs)
 

@@ -1,4 +1,4 @@
--- What a listener is told of the steps of a certificate (profile).
+-- What is reported to a listener of the steps of a certificate (profile).
 use Rattle.std.specs.Prelude.{◌≡◌, ◌+◌, ℕ, zero, suc, List, [], ◌∷◌, length, Option, Some, None, option_map, slice_get, ⊤}
 use Rattle.std.specs.List.{FoldsTo}
 use Rattle.a429_profile.specs.Profile.{Contents}
@@ -20,10 +20,10 @@ use Rattle.a429_cert.specs.Explained.{items_of, Explains}
 use Rattle.a429_cert.specs.Fault.{SaysLine}
 use Rattle.a429_cert.specs.Passing.{uses_listed, IsStepOfLine}
 
--- ---- what is told of a step
+-- ---- what is reported of a step
 
 pub data Told : Type 0 where
-  -- the source is given this link data unit, which has this number
+  -- this link data unit is loaded at the source, under this number
   Loads : (number : UnitNumber) (unit : LduValue) → Told
   -- another step, by its name, and the entry that it records, if it records one, with its number, counted from 0
   Makes : (act : Act) (entry : Option (ℕ × Entry)) → Told
@@ -59,22 +59,31 @@ told_steps p es (a ∷ steps) s i = told es s i a ∷ told_steps p es steps (aft
 abbrev pub told_run : Contents → List Entry → ℕ → List Step → List Told
 told_run p es first steps = told_steps p es steps (start p first) 0
 
--- ---- who is told
+-- ---- to whom it is reported
 
--- how a listener changes by what it is told, under a profile
+-- how a listener changes by what is reported to it, under a profile
 abbrev pub Hearing : Type 0 → Type 1
 Hearing T = Contents → T → Told → T → Type 0
 
+-- a listener before and after
+pub record Listening (T : Type 0) : Type 1 where
+  pub hears : Hearing T
+  pub old : T
+  pub new : T
+
+abbrev pub listening : {T : Type 0} → Hearing T → T → T → Listening T
+listening hears old new = record { hears = hears; old = old; new = new }
+
 -- a listener has heard the steps of the run by which the certificate explains the recorded words, each once and in order
-pub record IsHeard {T : Type 0} (hears : Hearing T) (p : Contents) (old new : T) (text : List ℕ) (r : Recording) : Type 0 where
+pub record IsHeard {T : Type 0} (l : Listening T) (p : Contents) (text : List ℕ) (r : Recording) : Type 0 where
   pub first : ℕ
   pub steps : List Step
   pub explains : Explains p text (items_of r.entries) first steps
-  pub heard : FoldsTo (hears p) old (told_run p r.entries first steps) new
+  pub heard : FoldsTo (l.hears p) l.old (told_run p r.entries first steps) l.new
 
 -- ---- one line
 
--- what a line lists, told with the entry that it uses
+-- what a line lists, reported with the entry that it uses
 abbrev pub told_listed : UnitNumber → Listed → Option (ℕ × Entry) → Told
 told_listed number (listed.Load u) entry = Loads number u
 told_listed number (listed.Moved l) entry = Makes l.act entry
@@ -89,11 +98,24 @@ abbrev pub IsNextEntry : ℕ → Option Recording → Option Entry → Type 0
 IsNextEntry n None entry = ⊤
 IsNextEntry n (Some r) entry = entry ≡ entry_used n r.entries
 
--- a listener is told of what a line lists, where entry i comes next
-abbrev pub HearsListed : {T : Type 0} → Hearing T → Contents → Listed → State → Option Recording → ℕ → T → T → Type 0
-HearsListed hears p x s None i old new = ⊤
-HearsListed hears p x s (Some r) i old new = hears p old (told_listed s.source.number x (with_number i (entry_used (uses_listed x) r.entries))) new
+-- where a line is taken: the state before it, the recording that is still to come, where it is known, and the number of its first entry
+pub record Position : Type 0 where
+  pub state : State
+  pub recording : Option Recording
+  pub entry : ℕ
+
+abbrev pub position : State → Option Recording → ℕ → Position
+position s rec i = record { state = s; recording = rec; entry = i }
+
+-- what holds of the recording, where it is known
+abbrev pub WhereKnown : Option Recording → (Recording → Type 0) → Type 0
+WhereKnown None Holds = ⊤
+WhereKnown (Some r) Holds = Holds r
+
+-- what a line lists is reported to a listener, with the entry that comes next, if it uses one
+abbrev pub HearsListed : {T : Type 0} → Listening T → Contents → Listed → Position → Type 0
+HearsListed l p x at = WhereKnown at.recording (λ r. l.hears p l.old (told_listed at.state.source.number x (with_number at.entry (entry_used (uses_listed x) r.entries))) l.new)
 
 -- of what a line of the text lists
-abbrev pub HearsText : {T : Type 0} → Hearing T → Contents → Option (List ℕ) → State → Option Recording → ℕ → T → T → Type 0
-HearsText hears p text s rec i old new = (l : CertLine) × (x : Listed) × SaysLine text l × IsStepOfLine x l × HearsListed hears p x s rec i old new
+abbrev pub HearsText : {T : Type 0} → Listening T → Contents → Option (List ℕ) → Position → Type 0
+HearsText h p text at = (l : CertLine) × (x : Listed) × SaysLine text l × IsStepOfLine x l × HearsListed h p x at

@@ -11,7 +11,7 @@ abbrev pub version_line : Version → List ℕ
 version_line One = codes "arinc429-cert 1"
 version_line Two = codes "arinc429-cert 2"
 
--- a certificate of this version, with these lines behind its first
+-- a certificate of this version, with these lines after its first
 abbrev pub headed : Version → List ℕ → List ℕ
 headed v rest = version_line v ++ 10 ∷ rest
 
@@ -25,7 +25,7 @@ abbrev pub read_as : Version → Option (List ℕ) → Option (List ℕ)
 read_as One line = option_and_then without_x line
 read_as Two line = line
 
--- the lines of a certificate's steps, those behind the first two, as its version reads them
+-- the lines of a certificate's steps, those after the first two, as its version reads them
 abbrev pub step_lines : Version → List ℕ → List (Option (List ℕ))
 step_lines v certificate = map (read_as v) (drop 2 (certificate_lines certificate))
 
@@ -35,7 +35,7 @@ abbrev pub is_give_up : Step → Bool
 is_give_up GiveUp = true
 is_give_up _ = false
 
--- one of these steps gives a file up
+-- one of these steps abandons a file
 abbrev pub gives_up : List Step → Bool
 gives_up [] = false
 gives_up (a ∷ steps) = is_give_up a || gives_up steps

@@ -1,4 +1,4 @@
-//! Where a certificate and a recording stand.
+//! The place in a certificate and in a recording.
 
 use a429_link::Seen;
 

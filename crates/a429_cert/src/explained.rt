@@ -78,7 +78,7 @@ fn all_used(used: usize, entries: &[Entry]) -> Result<(), CertFault>
     Ok(())
 }
 
-// Takes the files out of a link that it has delivered, and puts them behind those that were taken.
+// Takes the files out of a link that it has delivered, and puts them after those that were taken.
 fn take_files(link: &mut Link<'_>, files: &mut Vec<FileBytes>) -> Result<(), OutOfMemory>
     ensures taken { OnOk result (files.new.items ≡ files.old.items ++ link.old.state.sink.received.files) }
     ensures rest { OnOk result (link.new ≡ record (link.old) { state = handed_out link.old.state }) }
@@ -114,7 +114,7 @@ fn begin(alloc: Global, lines: &mut Lines<'_>) -> Result<Head, CertFault>
     }
 }
 
-/// The number of the first file, which the second line of a certificate gives.
+/// The number of the first file, which the second line of a certificate has.
 pub fn first_of(alloc: Global, line: Option<TextLine<'_>>) -> Result<u8, CertFault>
     ensures ok { IfOk result (λ first. option_map line_bytes line.entry ≡ Some (Some (spelling (First first)))) }
     ensures err { IfErr result (UnlessMemory (IsNoFirst (option_map line_bytes line.entry))) }
@@ -128,7 +128,7 @@ pub fn first_of(alloc: Global, line: Option<TextLine<'_>>) -> Result<u8, CertFau
     }
 }
 
-// The number of the first file, where a line gives it.
+// The number of the first file, where a line has it.
 fn file_of(line: Option<CertLine>) -> Option<u8>
     ensures { result ≡ option_and_then file_in line }
 {

@@ -23,7 +23,7 @@ impl<T: Drop> From<AllocFailed<T>> for OutOfMemory {
 pub enum CertFault {
     /// The first line is not the version's.
     Version,
-    /// This line does not end, spells no line, or is none that may stand there.
+    /// This line does not end, spells no line, or is none that may come there.
     Line(usize),
     /// No step of this line's name may be made there.
     NotAllowed(usize),

@@ -7,7 +7,7 @@ ghost use Rattle.a429_cert.specs.Field.{last_decimal_in, decimal_in, with_next_d
 
 use a429_word::Word;
 
-/// What stands behind a space.
+/// What comes after a space.
 #[inline(always)]
 pub fn behind_space(text: &[u8]) -> Option<&[u8]>
     ensures { option_map (λ x. x.now) result ≡ behind_space text.now }
@@ -66,7 +66,7 @@ fn hex_word_of(digits: &[u8]) -> Option<Word>
     }
 }
 
-// The word that eight hexadecimal digits write, and what stands behind them.
+// The word that eight hexadecimal digits write, and what comes after them.
 #[inline(always)]
 #[tactic(auto, unfolding(crate::specs::Field::hex_in))]
 fn word_of(text: &[u8]) -> Option<(Word, &[u8])>
@@ -80,7 +80,7 @@ fn word_of(text: &[u8]) -> Option<(Word, &[u8])>
     Some((word, rest))
 }
 
-// A hexadecimal number of so many digits, at most eight, and what stands behind it.
+// A hexadecimal number of so many digits, at most eight, and what comes after it.
 #[tactic(auto, unfolding(crate::specs::Field::hex_in))]
 fn hex_of(text: &[u8], count: usize) -> Option<(u32, &[u8])>
     requires { count ≤ 8 }
@@ -95,7 +95,7 @@ fn hex_of(text: &[u8], count: usize) -> Option<(u32, &[u8])>
     Some((number, rest))
 }
 
-// A decimal digit, and what stands behind it.
+// A decimal digit, and what comes after it.
 #[inline(always)]
 #[tactic(auto, unfolding(crate::specs::Field::decimal_digit_in))]
 fn decimal_digit_of(text: &[u8]) -> Option<(u8, &[u8])>
@@ -107,7 +107,7 @@ fn decimal_digit_of(text: &[u8]) -> Option<(u8, &[u8])>
     }
 }
 
-// A number up to 255 with the digit that stands behind it, if there is one, and what stands behind that.
+// A number up to 255 with the digit that comes after it, if there is one, and what comes after that.
 #[inline(always)]
 #[tactic(auto, unfolding(crate::specs::Field::with_next_digit))]
 fn with_next_digit(number: u8, text: &[u8]) -> Option<(u8, &[u8])>
@@ -124,7 +124,7 @@ fn with_next_digit(number: u8, text: &[u8]) -> Option<(u8, &[u8])>
     }
 }
 
-/// A decimal number up to 255, without leading zeros, and what stands behind it.
+/// A decimal number up to 255, without leading zeros, and what comes after it.
 #[inline(always)]
 #[tactic(auto, unfolding(crate::specs::Field::decimal_in))]
 pub fn decimal_of(text: &[u8]) -> Option<(u8, &[u8])>
@@ -138,7 +138,7 @@ pub fn decimal_of(text: &[u8]) -> Option<(u8, &[u8])>
     with_next_digit(second, rest)
 }
 
-/// The decimal number in the next field, and what stands behind it.
+/// The decimal number in the next field, and what comes after it.
 #[inline(always)]
 pub fn decimal_at(text: &[u8]) -> Option<(u8, &[u8])>
     ensures { option_map (λ x. (x.0, x.1.now)) result ≡ with_rest decimal_in text.now }
@@ -146,7 +146,7 @@ pub fn decimal_at(text: &[u8]) -> Option<(u8, &[u8])>
     decimal_of(behind_space(text)?)
 }
 
-/// The decimal number in the next field, where nothing stands behind it.
+/// The decimal number in the next field, where nothing comes after it.
 #[inline(always)]
 #[tactic(auto, unfolding(crate::specs::Field::last_decimal_in))]
 pub fn last_decimal_at(text: &[u8]) -> Option<u8>
@@ -156,7 +156,7 @@ pub fn last_decimal_at(text: &[u8]) -> Option<u8>
     if rest.is_empty() { Some(number) } else { None }
 }
 
-// What stands behind the digits of this number, where the text begins with them.
+// What comes after the digits of this number, where the text begins with them.
 #[inline(always)]
 fn behind_decimal(text: &[u8], number: u8) -> Option<&[u8]>
     ensures { IfSome result (λ rest. text.now ≡ decimal number ++ rest.now) }
@@ -212,7 +212,7 @@ fn behind_three(text: &[u8], number: u8) -> Option<&[u8]>
     }
 }
 
-/// What stands behind the field of this number, where the text begins with it.
+/// What comes after the field of this number, where the text begins with it.
 #[inline(always)]
 pub fn behind_number(text: &[u8], number: u8) -> Option<&[u8]>
     ensures begins { IfSome result (λ rest. text.now ≡ field (decimal number) ++ rest.now) }
@@ -221,7 +221,7 @@ pub fn behind_number(text: &[u8], number: u8) -> Option<&[u8]>
     behind_decimal(behind_space(text)?, number)
 }
 
-/// What stands behind the field of this letter, where the text begins with it.
+/// What comes after the field of this letter, where the text begins with it.
 #[inline(always)]
 pub fn behind_letter(text: &[u8], letter: u8) -> Option<&[u8]>
     ensures { IfSome result (λ rest. text.now ≡ field (letter ∷ []) ++ rest.now) }
@@ -232,7 +232,7 @@ pub fn behind_letter(text: &[u8], letter: u8) -> Option<&[u8]>
     }
 }
 
-/// What stands behind the field of this letter with this number behind it, where the text begins with it.
+/// What comes after the field of this letter with this number after it, where the text begins with it.
 #[inline(always)]
 pub fn behind_counted(text: &[u8], letter: u8, number: u8) -> Option<&[u8]>
     ensures { IfSome result (λ rest. text.now ≡ field (letter ∷ decimal number) ++ rest.now) }
@@ -240,7 +240,7 @@ pub fn behind_counted(text: &[u8], letter: u8, number: u8) -> Option<&[u8]>
     behind_decimal(behind_letter(text, letter)?, number)
 }
 
-/// The hexadecimal number of so many digits in the next field, and what stands behind it.
+/// The hexadecimal number of so many digits in the next field, and what comes after it.
 pub fn hex_at(text: &[u8], count: usize) -> Option<(u32, &[u8])>
     requires { count ≤ 8 }
     ensures value { option_map (λ x. (x.0, x.1.now)) result ≡ with_rest (hex_in count) text.now }
@@ -249,7 +249,7 @@ pub fn hex_at(text: &[u8], count: usize) -> Option<(u32, &[u8])>
     hex_of(behind_space(text)?, count)
 }
 
-/// The word whose eight hexadecimal digits are the next field, and what stands behind it.
+/// The word whose eight hexadecimal digits are the next field, and what comes after it.
 #[inline(always)]
 pub fn word_at(text: &[u8]) -> Option<(Word, &[u8])>
     ensures { option_map (λ x. (x.0, x.1.now)) result ≡ with_rest (hex_in 8) text.now }

@@ -46,12 +46,12 @@ pub fn lines_are_not_cut()
     ensures line { (line : Option (List ℕ)) (l : CertLine) → SaysLine line l → cut line ≡ line }
 {}
 
-/// What explains a recording has no fault, so `verify` refuses it for want of memory alone.
+/// What explains a recording has no fault, so `verify` refuses it only when out of memory.
 pub fn what_explains_has_no_fault()
     ensures { (p : Contents) (text : List ℕ) (e : Explanation p text) (f : CertFault) → ¬ IsFirstCertFault p text e.items f }
 {}
 
-/// What a certificate of version 1 explains, it explains by a run that gives no file up, and the same lines under the
+/// What a certificate of version 1 explains, it explains by a run that abandons no file, and the same lines under the
 /// first line of version 2 explain it by that run.
 pub fn version_2_explains_what_version_1_does()
     ensures same { (p : Contents) (rest : List ℕ) (e : Explanation p (headed One rest)) → Explains p (headed Two rest) e.items e.first e.steps }

@@ -4,12 +4,12 @@ use crate::act::Act;
 use crate::words::Words;
 use a429_link::States;
 
-/// A line of a certificate behind its first, which only names the version (profile).
+/// A line of a certificate after its first, which only names the version (profile).
 #[derive(Debug, Drop)]
 pub enum CertLine {
     /// The number of the first file, 0 to 255.
     First(u8),
-    /// The source is given a link data unit to send.
+    /// A link data unit is loaded at the source.
     Load(LoadLine),
     /// A step that is no load, and what it leaves.
     Moved(MovedLine),
@@ -33,7 +33,7 @@ pub struct LoadLine {
 pub struct MovedLine {
     /// The step.
     pub act: Act,
-    /// Where source and sink stand after it. Of a block that is still on its way, the source has sent at
+    /// Where source and sink are after it. Of a block that is still on its way, the source has sent at
     /// most 254 words, and the sink has 1 to 254.
     pub states: States,
 }

@@ -1,11 +1,11 @@
-//! The lines of a certificate that is read as it comes, by a buffer of a fixed size.
+//! The lines of a certificate that is read streaming, by a buffer of a fixed size.
 
 ghost use Rattle.std.specs.Prelude.{◌≡◌, ◌⊎◌, ◌<◌, ◌≤◌, ◌∷◌, ◌++◌, [], Some, None, true, false, length, IsErr, IsSome, IfOk, IfSome, IfNone, OnOk, OnErr, Ok, ◌≢◌};
 ghost use Rattle.std.specs.Io.KnownBytes.{Keeps, IsAtEnd};
 ghost use Rattle.a429_word.specs.Tally.{left_of, has_failed, unread};
 ghost use Rattle.a429_cert.specs.Likely.{IsLikely, SaysAlways};
 ghost use Rattle.a429_cert.specs.Lines.{line_bytes};
-ghost use Rattle.a429_cert.specs.CutLines.{BeginsWith, HasNoLineFeed, cut};
+ghost use Rattle.a429_cert.specs.CutLines.{GivesLine, BeginsWith, HasNoLineFeed, cut};
 
 use crate::likely::LikelyLine;
 use crate::line::MovedLine;
@@ -38,7 +38,7 @@ pub(crate) struct NextLine {
 }
 
 impl LineReader {
-    ghost use Rattle.a429_cert.specs.LineReader.{bytes_ahead, held_line, to_come, room_left, HandsOutLine};
+    ghost use Rattle.a429_cert.specs.LineReader.{bytes_ahead, held_line, to_come, room_left};
 
     /// Nothing was read.
     pub fn new() -> LineReader
@@ -68,7 +68,8 @@ impl LineReader {
     /// where it is. Of a line without a line feed no more than 2,288 bytes are read.
     #[inline(always)]
     pub fn next_line<R: Read>(&mut self, cert: &mut Tally<R>) -> Result<bool, Device>
-        ensures given { IfOk result (HandsOutLine R.remaining self.old cert.old self.new cert.new) }
+        ensures given { IfOk result (GivesLine (to_come R.remaining self.old cert.old) (to_come R.remaining self.new cert.new)
+            (held_line self.new)) }
         ensures shorter { OnOk result (IsSome (held_line self.new) → room_left self.new cert.new < room_left self.old cert.old) }
         ensures room { IfOk result (λ found. found ≡ true → 0 < room_left self.old cert.old) }
         ensures kept { result ≢ Ok true → Keeps (to_come R.remaining self.old cert.old) (to_come R.remaining self.new cert.new) }
@@ -95,7 +96,8 @@ impl LineReader {
         likely: Option<LikelyLine<'_>>,
     ) -> Result<NextLine, Device>
         requires { IfSome likely (λ l. IsLikely l.text.now l.line) }
-        ensures given { IfOk result (λ n. HandsOutLine R.remaining self.old cert.old self.new cert.new n.found) }
+        ensures given { IfOk result (λ n. GivesLine (to_come R.remaining self.old cert.old) (to_come R.remaining self.new cert.new)
+            (held_line self.new) n.found) }
         ensures shorter { OnOk result (IsSome (held_line self.new) → room_left self.new cert.new < room_left self.old cert.old) }
         ensures room { IfOk result (λ n. n.found ≡ true → 0 < room_left self.old cert.old) }
         ensures known { IfOk result (λ n. IfSome n.known (SaysAlways (held_line self.new))) }
@@ -173,7 +175,7 @@ impl LineReader {
         }
     }
 
-    // Reads on behind what is ahead, and answers whether something came: at the certificate's end, and
+    // Reads on after what is ahead, and answers whether something came: at the certificate's end, and
     // where there is no room, nothing does.
     fn read_on<R: Read>(&mut self, cert: &mut Tally<R>) -> Result<bool, Device>
         ensures line { held_line self.new ≡ None }

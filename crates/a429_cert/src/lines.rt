@@ -15,7 +15,7 @@ pub enum TextLine<'a> {
     Unended,
 }
 
-/// The text behind the lines that were given.
+/// The text after the lines that were handed out.
 #[derive(Debug, Drop)]
 pub struct Lines<'a> {
     rest: &'a [u8],
@@ -60,7 +60,7 @@ impl<'a> Lines<'a> {
     }
 }
 
-// The bytes behind the first.
+// The bytes after the first.
 fn behind_first(text: &[u8]) -> &[u8]
     ensures { result.now ≡ drop 1 text.now }
 {

@@ -10,7 +10,7 @@ use a429_ldu::Ldu;
 /// The step that a line lists, without the entry that it uses.
 #[derive(Debug, Drop)]
 pub enum Listed {
-    /// The source is given this link data unit.
+    /// This link data unit is loaded at the source.
     Load(Ldu),
     /// A step that is no load, and what it leaves.
     Moved(MovedLine),

@@ -1,4 +1,4 @@
-//! Who is told of the steps of a certificate, one after the other.
+//! To whom the steps of a certificate are reported, one after the other.
 
 ghost use Rattle.std.specs.Prelude.{IsOk, false};
 
@@ -9,17 +9,17 @@ use a429_profile::Profile;
 use a429_record::Entry;
 use a429_word::{Failing, Trouble};
 
-/// What is told of each step that a certificate lists, once its line is accepted: what it has heard are the
+/// What is reported of each step that a certificate lists, once its line is accepted: what it has heard are the
 /// first steps of a run, and a whole run only where the whole certificate is accepted.
 pub trait Listener: Failing {
     ghost use Rattle.std.specs.Prelude.{◌≡◌, IsErrOf, OnOk, true};
     ghost use Rattle.a429_profile.specs.Profile.{Contents};
     ghost use Rattle.a429_cert.specs.Told.{Told, Loads, Makes};
 
-    // Relates the listener before it is told something, under a profile, and the listener after it.
+    // Relates the listener before something is reported to it, under a profile, and the listener after it.
     ghost hears: { Contents → Self → Told → Self → Type 0 };
 
-    /// The source is given a link data unit, which has this number.
+    /// A link data unit is loaded at the source, under this number.
     fn load(&mut self, profile: &Profile, number: UnitNumber, unit: &Ldu) -> Result<(), Trouble>
         ensures heard { OnOk result (hears profile.now self.old (Loads number unit.now) self.new) }
         ensures device { IsErrOf result Trouble.Device → Self.failed self.new ≡ true };

@@ -10,6 +10,7 @@ ghost use Rattle.a429_cert.specs.Line.{IsLine};
 ghost use Rattle.a429_cert.specs.Act.{step_with};
 ghost use Rattle.a429_cert.specs.Fault.{SaysLine};
 ghost use Rattle.a429_cert.specs.Passing.{IsNamedOf, IsReady, IsReadyOf, IsStepFault, IsStepOfLine, Lists, MakesStep, PassesLine, PassesListed, PassesText, RefusesFirst, RefusesLine, RefusesListed, RefusesText, no_step, no_unit};
+ghost use Rattle.a429_cert.specs.Change.{change};
 
 use crate::act::{Act, step_with, used_by};
 use crate::at::At;
@@ -22,7 +23,7 @@ use a429_link::{Link, Seen, States, Step, StepFault};
 use a429_profile::Profile;
 use std::alloc::Global;
 
-/// Takes the line of a certificate that stands there and says this: the link makes its step with the next
+/// Takes the line of a certificate at this place, which says this: the link makes its step with the next
 /// entry. Answers how many entries it uses, 0 or 1.
 #[inline(always)]
 pub fn replay_line(
@@ -34,7 +35,8 @@ pub fn replay_line(
 ) -> Result<usize, CertFault>
     requires sound { IsProfile profile.now }
     requires profile { link.old.profile ≡ profile.now }
-    ensures passed { IfOk result (PassesText profile.now (option_map (λ b. b.now) text.entry) at.next link.old.state link.new.state) }
+    ensures passed { IfOk result (PassesText profile.now (option_map (λ b. b.now) text.entry) at.next
+        (change link.old.state link.new.state)) }
     ensures refused { IfErr result (RefusesText profile.now (option_map (λ b. b.now) text.entry) at link.old.state) }
     ensures kept { link.new.profile ≡ profile.now }
 {
@@ -79,7 +81,7 @@ pub fn read_step(
 #[inline(always)]
 pub fn make_step(link: &mut Link<'_>, listed: Listed, at: At) -> Result<usize, CertFault>
     requires { IsReady link.old.profile listed link.old.state }
-    ensures passed { IfOk result (PassesListed link.old.profile listed at.next link.old.state link.new.state) }
+    ensures passed { IfOk result (PassesListed link.old.profile listed at.next (change link.old.state link.new.state)) }
     ensures refused { IfErr result (RefusesListed link.old.profile listed at link.old.state) }
     ensures kept { link.new.profile ≡ link.old.profile }
 {
@@ -95,7 +97,7 @@ pub fn make_step(link: &mut Link<'_>, listed: Listed, at: At) -> Result<usize, C
     }
 }
 
-// Reads the link data unit that line n lists behind its letter.
+// Reads the link data unit that line n lists after its letter.
 fn read_load(alloc: Global, profile: &Profile, text: &[u8], n: usize) -> Result<Listed, CertFault>
     requires { IsProfile profile.now }
     ensures listed { IfOk result (λ x. (s : State) → Lists profile.now (Some (76 ∷ text.now)) x s) }
@@ -133,7 +135,7 @@ fn read_unit(
     }
 }
 
-// Reads the other step that line n lists, by its letter and what stands behind it.
+// Reads the other step that line n lists, by its letter and what comes after it.
 #[inline(always)]
 fn read_moved(link: &Link<'_>, letter: u8, text: &[u8], n: usize) -> Result<Listed, CertFault>
     requires { letter ≢ 76 }
@@ -163,7 +165,7 @@ fn allow_line(link: &Link<'_>, line: MovedLine, n: usize) -> Result<Listed, Cert
 #[inline(always)]
 fn make_moved(link: &mut Link<'_>, line: MovedLine, at: At) -> Result<usize, CertFault>
     requires { IsReadyOf link.old.profile line.act link.old.state }
-    ensures passed { IfOk result (PassesLine link.old.profile (CertLine.Moved line) at.next link.old.state link.new.state) }
+    ensures passed { IfOk result (PassesLine link.old.profile (CertLine.Moved line) at.next (change link.old.state link.new.state)) }
     ensures refused { IfErr result (RefusesLine link.old.profile (CertLine.Moved line) at link.old.state) }
     ensures kept { link.new.profile ≡ link.old.profile }
 {
@@ -179,7 +181,7 @@ fn make_moved(link: &mut Link<'_>, line: MovedLine, at: At) -> Result<usize, Cer
     }
 }
 
-// Whether source and sink stand so.
+// Whether source and sink are in these states.
 #[inline(always)]
 fn stands(link: &Link<'_>, states: States) -> bool
     ensures yes { result ≡ true → states_of link.now.state ≡ states }

@@ -48,7 +48,7 @@ fn first_of(line: &[u8]) -> Option<u8>
     last_decimal_at(line.strip_prefix(b"first")?)
 }
 
-/// The line of a link data unit, behind its letter.
+/// The line of a link data unit, after its letter.
 #[tactic(auto, unfolding(crate::specs::Reading::load_in))]
 pub fn load_of(alloc: Global, text: &[u8]) -> Result<Option<LoadLine>, OutOfMemory>
     ensures { IfOk result (λ read. read ≡ load_in text.now) }
@@ -86,7 +86,7 @@ fn words_of(alloc: Global, text: &[u8]) -> Result<Option<Words>, OutOfMemory>
     }
 }
 
-// So many words, and nothing behind them.
+// So many words, and nothing after them.
 fn words_at(alloc: Global, count: usize, text: &[u8]) -> Result<Option<Words>, OutOfMemory>
     ensures { IfOk result (λ read. read ≡ words_at count text.now) }
 {
@@ -106,7 +106,7 @@ fn words_at(alloc: Global, count: usize, text: &[u8]) -> Result<Option<Words>, O
     }
 }
 
-/// The line of another step, its letter and what stands behind it.
+/// The line of another step, its letter and what comes after it.
 #[inline(always)]
 #[tactic(auto, unfolding(crate::specs::Reading::moved_in))]
 pub fn moved_of(letter: u8, text: &[u8]) -> Option<MovedLine>
@@ -117,7 +117,7 @@ pub fn moved_of(letter: u8, text: &[u8]) -> Option<MovedLine>
     Some(MovedLine { act, states })
 }
 
-/// The same, where the step stands here: the states after it are likely those that a step of its name mostly
+/// The same, where the step is at this place: the states after it are likely those that a step of its name mostly
 /// leads to.
 #[inline(always)]
 #[tactic(auto, unfolding(crate::specs::Reading::moved_in))]

@@ -21,7 +21,7 @@ pub struct PutFile {
 }
 
 /// What takes the files of a certificate. Contracts see it as the list of those that were put, where it
-/// tells them.
+/// makes them known.
 pub trait Shelf: Failing {
     ghost files: { Self → Option (List PutFile) };
 
@@ -34,7 +34,7 @@ pub trait Shelf: Failing {
         ensures stays { Self.failed self.old ≡ true → Self.failed self.new ≡ true };
 }
 
-/// A shelf that keeps the files in memory, and tells them.
+/// A shelf that keeps the files in memory, and makes them known.
 #[derive(Debug, Drop)]
 pub struct MemoryShelf {
     alloc: Global,

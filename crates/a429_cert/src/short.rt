@@ -113,7 +113,7 @@ impl ShortText {
         self.push_decimal(number);
     }
 
-    // Appends a field with a letter and a decimal number behind it.
+    // Appends a field with a letter and a decimal number after it.
     #[inline(always)]
     fn push_counted(&mut self, letter: u8, number: u8)
         requires { length self.old < 20 }

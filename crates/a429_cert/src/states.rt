@@ -10,7 +10,7 @@ use crate::field::{
 };
 use a429_link::{SinkState, SourceState, States};
 
-// The source's state, and what stands behind it.
+// The source's state, and what comes after it.
 #[inline(always)]
 fn source_of(field: &[u8]) -> Option<(SourceState, &[u8])>
     ensures { option_map (λ x. (x.0, x.1.now)) result ≡ source_in field.now }
@@ -37,7 +37,7 @@ fn sending_of(count: &[u8]) -> Option<(SourceState, &[u8])>
     }
 }
 
-// The sink's state, and what stands behind it.
+// The sink's state, and what comes after it.
 #[inline(always)]
 fn sink_of(field: &[u8]) -> Option<(SinkState, &[u8])>
     ensures { option_map (λ x. (x.0, x.1.now)) result ≡ sink_in field.now }
@@ -66,7 +66,7 @@ fn block_of(count: &[u8]) -> Option<(SinkState, &[u8])>
     }
 }
 
-// The source's state in the next field, and what stands behind it.
+// The source's state in the next field, and what comes after it.
 #[inline(always)]
 fn source_at(text: &[u8]) -> Option<(SourceState, &[u8])>
     ensures { option_map (λ x. (x.0, x.1.now)) result ≡ with_rest source_in text.now }
@@ -74,7 +74,7 @@ fn source_at(text: &[u8]) -> Option<(SourceState, &[u8])>
     source_of(behind_space(text)?)
 }
 
-// The sink's state in the next field, and what stands behind it.
+// The sink's state in the next field, and what comes after it.
 #[inline(always)]
 fn sink_at(text: &[u8]) -> Option<(SinkState, &[u8])>
     ensures { option_map (λ x. (x.0, x.1.now)) result ≡ with_rest sink_in text.now }
@@ -82,7 +82,7 @@ fn sink_at(text: &[u8]) -> Option<(SinkState, &[u8])>
     sink_of(behind_space(text)?)
 }
 
-/// The states in the next fields, where nothing stands behind them.
+/// The states in the next fields, where nothing comes after them.
 #[inline(never)]
 #[tactic(auto, unfolding(crate::specs::States::states_in))]
 pub fn states_at(text: &[u8]) -> Option<States>
@@ -123,7 +123,7 @@ fn spells(text: &[u8], states: States) -> bool
     }
 }
 
-// What stands behind these states, where the text begins with them.
+// What comes after these states, where the text begins with them.
 #[inline(always)]
 fn behind_states(text: &[u8], states: States) -> Option<&[u8]>
     ensures { IfSome result (λ rest. BeginsWithStates text.now states rest.now) }
@@ -134,7 +134,7 @@ fn behind_states(text: &[u8], states: States) -> Option<&[u8]>
     behind_number(rest, states.to_source)
 }
 
-// What stands behind this state of the source, where the text begins with it.
+// What comes after this state of the source, where the text begins with it.
 #[inline(always)]
 fn behind_source(text: &[u8], source: SourceState) -> Option<&[u8]>
     ensures { IfSome result (λ rest. (text.now ≡ field (source_text source) ++ rest.now) × IsSource source) }
@@ -148,7 +148,7 @@ fn behind_source(text: &[u8], source: SourceState) -> Option<&[u8]>
     }
 }
 
-// What stands behind this state of the sink, where the text begins with it.
+// What comes after this state of the sink, where the text begins with it.
 #[inline(always)]
 fn behind_sink(text: &[u8], sink: SinkState) -> Option<&[u8]>
     ensures { IfSome result (λ rest. (text.now ≡ field (sink_text sink) ++ rest.now) × IsSink sink) }

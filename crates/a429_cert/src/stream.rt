@@ -1,4 +1,4 @@
-//! A certificate, held against a recording, both read as they come.
+//! A certificate, held against a recording, both read streaming.
 
 ghost use Rattle.std.specs.Prelude.{◌≡◌, ◌≤◌, ◌⊎◌, ◌+◌, [], ◌∷◌, ◌++◌, true, false, Option, None, option_map, IfOk, IfErr, IfSome, IsSome, IsErrOf, OnOk, OnErr};
 ghost use Rattle.a429_profile.specs.Profile.{IsProfile};
@@ -11,13 +11,14 @@ ghost use Rattle.a429_cert.specs.Lines.{line_bytes};
 ghost use Rattle.a429_cert.specs.Shelf.{IsUnchanged};
 ghost use Rattle.a429_cert.specs.Version.{read_as};
 ghost use Rattle.a429_cert.specs.Passing.{IsReady, PassesListed, uses_listed};
-ghost use Rattle.a429_word.specs.Tally.{has_failed, unread};
+ghost use Rattle.a429_word.specs.Tally.{has_failed};
 ghost use Rattle.a429_cert.specs.Explained.{seen_of};
-ghost use Rattle.a429_cert.specs.StreamExplained.{SaysYes, HearsRun, HearsBefore, Refuses};
+ghost use Rattle.a429_cert.specs.StreamExplained.{comparison, SaysYes, HearsRun, HearsBefore, Refuses};
 ghost use Rattle.a429_cert.specs.BreakOff.{BreaksOff, readers, shelved};
-ghost use Rattle.a429_cert.specs.Told.{IsNextEntry, with_number};
-ghost use Rattle.a429_cert.specs.Stream.{IsFaultNext, TakesNext, ReplaysNext, EndsNext, TellsListed, HearsNext, IsNotTaken, IsUntold, ReplaysLine, EndsReplay, HearsLine, WantsEntry, GivesFor, GivesAtFault};
+ghost use Rattle.a429_cert.specs.Told.{listening, IsNextEntry, with_number};
+ghost use Rattle.a429_cert.specs.Stream.{taking, IsFaultNext, TakesNext, ReplaysNext, EndsNext, TellsListed, HearsNext, IsNotTaken, IsUntold, ReplaysLine, EndsReplay, HearsLine, WantsEntry, GivesFor, GivesAtFault};
 ghost use Rattle.a429_cert.specs.Stream.{OneFailed, HandsFilesOut, GoesOn, PutsFiles, PutsFirstFiles, StopsAt, sizes};
+ghost use Rattle.a429_cert.specs.Change.{change};
 
 use crate::at::At;
 use crate::entry::seen_in;
@@ -43,7 +44,7 @@ use a429_word::Tally;
 use std::alloc::Global;
 use std::io::Read;
 
-/// Holds a certificate against a recording, under a profile, both read as they come. Where
+/// Holds a certificate against a recording, under a profile, both read streaming. Where
 /// it explains the recording, the files that cross are put on the shelf, in order, and the answer is their
 /// numbers and lengths. Else the fault is the first one in the order of the lines, where a recording's comes
 /// where its entry is wanted, and the files that the lines before it deliver are put. Where a device fails or
@@ -55,8 +56,8 @@ pub fn verify_stream<R: Read, C: Read, S: Shelf>(
     cert: &mut Tally<C>,
     shelf: &mut S,
 ) -> Result<Vec<(u8, u32)>, StreamFault>
-    ensures ok { IfOk result (SaysYes profile.now (unread C.remaining cert.old) rec.old.to_come (S.files shelf.old) (S.files shelf.new)) }
-    ensures err { IfErr result (Refuses profile.now (unread C.remaining cert.old) rec.old.to_come (S.files shelf.old) (S.files shelf.new)) }
+    ensures ok { IfOk result (SaysYes (comparison profile.now C.remaining cert.old rec.old) (change (S.files shelf.old) (S.files shelf.new))) }
+    ensures err { IfErr result (Refuses (comparison profile.now C.remaining cert.old rec.old) (change (S.files shelf.old) (S.files shelf.new))) }
     ensures place { IfErr result (BreaksOff profile.now (readers C.remaining cert.old cert.new rec.old rec.new)
         (shelved S.files S.failed shelf.old shelf.new) false) }
     ensures device { IsErrOf result StreamFault.Device → (has_failed cert.new ≡ true) ⊎ (S.failed shelf.new ≡ true) }
@@ -65,7 +66,7 @@ pub fn verify_stream<R: Read, C: Read, S: Shelf>(
     replay_stream(alloc, profile, rec, cert, shelf, &mut NoListener)
 }
 
-/// The same, and a listener is told of each step once its line is accepted. Where the answer is a yes, it has
+/// The same, and each step is reported to a listener once its line is accepted. Where the answer is a yes, it has
 /// heard the steps of the run by which the certificate explains the recording, each once and in order; where it
 /// is a fault of the certificate or of the recording, those of the lines before the fault. Where it has not
 /// taken a step, that is the fault, and the files of the lines before are put.
@@ -77,12 +78,12 @@ pub fn replay_stream<R: Read, C: Read, S: Shelf, T: Listener>(
     shelf: &mut S,
     listener: &mut T,
 ) -> Result<Vec<(u8, u32)>, StreamFault>
-    ensures ok { IfOk result (SaysYes profile.now (unread C.remaining cert.old) rec.old.to_come (S.files shelf.old) (S.files shelf.new)) }
-    ensures heard { OnOk result (HearsRun T.hears profile.now (unread C.remaining cert.old) rec.old.to_come listener.old listener.new) }
-    ensures err { IfErr result (Refuses profile.now (unread C.remaining cert.old) rec.old.to_come (S.files shelf.old) (S.files shelf.new)) }
+    ensures ok { IfOk result (SaysYes (comparison profile.now C.remaining cert.old rec.old) (change (S.files shelf.old) (S.files shelf.new))) }
+    ensures heard { OnOk result (HearsRun (listening T.hears listener.old listener.new) (comparison profile.now C.remaining cert.old rec.old)) }
+    ensures err { IfErr result (Refuses (comparison profile.now C.remaining cert.old rec.old) (change (S.files shelf.old) (S.files shelf.new))) }
     ensures place { IfErr result (BreaksOff profile.now (readers C.remaining cert.old cert.new rec.old rec.new)
         (shelved S.files S.failed shelf.old shelf.new) (T.failed listener.new)) }
-    ensures told { IfErr result (HearsBefore T.hears profile.now (unread C.remaining cert.old) rec.old.to_come listener.old listener.new) }
+    ensures told { IfErr result (HearsBefore (listening T.hears listener.old listener.new) (comparison profile.now C.remaining cert.old rec.old)) }
     ensures device { IsErrOf result StreamFault.Device → OneFailed (has_failed cert.new) (S.failed shelf.new) (T.failed listener.new) }
     ensures read { IsErrOf result (StreamFault.Read read.Device) → rec.new.failed ≡ true }
 {
@@ -117,7 +118,7 @@ pub fn replay_stream<R: Read, C: Read, S: Shelf, T: Listener>(
     }
 }
 
-// Takes the last line that was handed out, over the next entry, if its step uses one, tells a listener where it is
+// Takes the last line that was handed out, over the next entry, if its step uses one, reports it to a listener where it is
 // accepted, and puts the files that the step delivers. Answers how many entries it uses, 0 or 1.
 #[inline(always)]
 pub fn replay_and_put<R: Read, S: Shelf, T: Listener>(
@@ -131,13 +132,14 @@ pub fn replay_and_put<R: Read, S: Shelf, T: Listener>(
     requires sound { IsProfile replay.old.profile.now }
     requires profile { replay.old.link.profile ≡ replay.old.profile.now }
     requires known { IfSome known (SaysAlways (line_bytes line)) }
-    ensures goes_on { IfOk result (GoesOn S.files replay.old replay.new (line_bytes line.entry) rec.old.to_come rec.new.to_come shelf.old shelf.new) }
-    ensures heard { OnOk result (HearsLine T.hears replay.old (line_bytes line.entry) rec.old.to_come listener.old listener.new) }
+    ensures goes_on { IfOk result (GoesOn S.files
+        (taking replay.old (line_bytes line.entry) (change rec.old rec.new) (change shelf.old shelf.new)) replay.new) }
+    ensures heard { OnOk result (HearsLine (listening T.hears listener.old listener.new) replay.old (line_bytes line.entry) rec.old.to_come) }
     ensures ended { OnOk result (IsSome (line_bytes line.entry)) }
     ensures few { IfOk result (λ used. used ≤ 1) }
     ensures counts { IfOk result (λ used. rec.new.count ≡ rec.old.count + used) }
-    ensures stopped { IfErr result (StopsAt S.files S.failed (T.failed listener.new) replay.old (line_bytes line.entry) rec.old rec.new
-        shelf.old shelf.new) }
+    ensures stopped { IfErr result (StopsAt S.files S.failed (T.failed listener.new)
+        (taking replay.old (line_bytes line.entry) (change rec.old rec.new) (change shelf.old shelf.new))) }
     ensures untold { IfErr result (IsUntold listener.old listener.new) }
     ensures device { IsErrOf result StreamFault.Device → (S.failed shelf.new ≡ true) ⊎ (T.failed listener.new ≡ true) }
     ensures read { IsErrOf result (StreamFault.Read read.Device) → rec.new.failed ≡ true }
@@ -223,7 +225,7 @@ fn numbered(number: usize, entry: Option<Entry>) -> Option<(usize, Entry)>
     Some((number, entry?))
 }
 
-// Takes the step that the last line lists, with the next entry, if it uses one, and tells a listener. Answers
+// Takes the step that the last line lists, with the next entry, if it uses one, and reports it to a listener. Answers
 // how many entries it uses, 0 or 1.
 #[inline(always)]
 fn step_and_report<R: Read, T: Listener>(
@@ -233,8 +235,8 @@ fn step_and_report<R: Read, T: Listener>(
     listener: &mut T,
 ) -> Result<usize, StreamFault>
     requires { IsReady replay.old.link.profile listed replay.old.link.state }
-    ensures passed { IfOk result (ReplaysNext replay.old replay.new listed rec.old.to_come rec.new.to_come) }
-    ensures heard { OnOk result (HearsNext T.hears replay.old listed rec.old.to_come listener.old listener.new) }
+    ensures passed { IfOk result (ReplaysNext (change replay.old replay.new) listed (change rec.old.to_come rec.new.to_come)) }
+    ensures heard { OnOk result (HearsNext (listening T.hears listener.old listener.new) replay.old listed rec.old.to_come) }
     ensures few { IfOk result (λ used. used ≤ 1) }
     ensures counts { IfOk result (λ used. rec.new.count ≡ rec.old.count + used) }
     ensures refused { IfErr result (EndsNext replay.old listed rec.old.to_come) }
@@ -255,7 +257,7 @@ fn step_and_report<R: Read, T: Listener>(
     }
 }
 
-// Loads the link data unit that the last line lists, where that may be, and tells a listener.
+// Loads the link data unit that the last line lists, where that may be, and reports it to a listener.
 #[inline(never)]
 fn load_and_report<T: Listener>(
     replay: &mut Replay<'_>,
@@ -264,8 +266,8 @@ fn load_and_report<T: Listener>(
 ) -> Result<usize, StreamFault>
     requires { IsLdu replay.old.link.profile unit }
     ensures passed { IfOk result (λ used. (next : Option Seen) → PassesListed replay.old.link.profile (Listed.Load unit) next
-        replay.old.link.state replay.new.link.state used) }
-    ensures heard { OnOk result (TellsListed T.hears replay.old (Listed.Load unit) None listener.old listener.new) }
+        (change replay.old.link.state replay.new.link.state) used) }
+    ensures heard { OnOk result (TellsListed (listening T.hears listener.old listener.new) replay.old (Listed.Load unit) None) }
     ensures refused { IfErr result (λ f. (next : Option Seen) → IsNotTaken replay.old (Listed.Load unit) next f) }
     ensures untold { IfErr result (IsUntold listener.old listener.new) }
     ensures device { IsErrOf result StreamFault.Device → T.failed listener.new ≡ true }
@@ -285,7 +287,7 @@ fn load_and_report<T: Listener>(
     }
 }
 
-// Takes another step, which the last line lists, with the entry that was read for it, and tells a listener.
+// Takes another step, which the last line lists, with the entry that was read for it, and reports it to a listener.
 #[inline(always)]
 fn move_and_report<T: Listener>(
     replay: &mut Replay<'_>,
@@ -294,9 +296,9 @@ fn move_and_report<T: Listener>(
     listener: &mut T,
 ) -> Result<usize, StreamFault>
     requires { IsReady replay.old.link.profile (Listed.Moved line) replay.old.link.state }
-    ensures passed { IfOk result (PassesListed replay.old.link.profile (Listed.Moved line) (option_map seen_of next) replay.old.link.state
-        replay.new.link.state) }
-    ensures heard { OnOk result (TellsListed T.hears replay.old (Listed.Moved line) next listener.old listener.new) }
+    ensures passed { IfOk result (PassesListed replay.old.link.profile (Listed.Moved line) (option_map seen_of next)
+        (change replay.old.link.state replay.new.link.state)) }
+    ensures heard { OnOk result (TellsListed (listening T.hears listener.old listener.new) replay.old (Listed.Moved line) next) }
     ensures refused { IfErr result (IsNotTaken replay.old (Listed.Moved line) (option_map seen_of next)) }
     ensures untold { IfErr result (IsUntold listener.old listener.new) }
     ensures device { IsErrOf result StreamFault.Device → T.failed listener.new ≡ true }
@@ -318,7 +320,7 @@ fn move_and_report<T: Listener>(
     }
 }
 
-// Takes the last line that was handed out, over the next entry, if its step uses one, and tells a listener
+// Takes the last line that was handed out, over the next entry, if its step uses one, and reports it to a listener
 // where it is accepted. Answers how many entries it uses, 0 or 1.
 #[inline(always)]
 pub fn replay_and_report<R: Read, T: Listener>(
@@ -331,8 +333,8 @@ pub fn replay_and_report<R: Read, T: Listener>(
     requires sound { IsProfile replay.old.profile.now }
     requires profile { replay.old.link.profile ≡ replay.old.profile.now }
     requires known { IfSome known (SaysAlways (line_bytes line)) }
-    ensures passed { IfOk result (ReplaysLine replay.old replay.new (line_bytes line.entry) rec.old.to_come rec.new.to_come) }
-    ensures heard { OnOk result (HearsLine T.hears replay.old (line_bytes line.entry) rec.old.to_come listener.old listener.new) }
+    ensures passed { IfOk result (ReplaysLine (change replay.old replay.new) (line_bytes line.entry) (change rec.old.to_come rec.new.to_come)) }
+    ensures heard { OnOk result (HearsLine (listening T.hears listener.old listener.new) replay.old (line_bytes line.entry) rec.old.to_come) }
     ensures ended { OnOk result (IsSome (line_bytes line.entry)) }
     ensures few { IfOk result (λ used. used ≤ 1) }
     ensures counts { IfOk result (λ used. rec.new.count ≡ rec.old.count + used) }
@@ -367,8 +369,8 @@ fn in_u32(number: usize) -> Option<u32>
     u32::try_from(number).ok()
 }
 
-// Puts a file behind those that were put, and notes its number and its length. A place or a length that
-// 32 bits do not hold, which no recording gives, would be told as want of memory.
+// Puts a file after those that were put, and notes its number and its length. A place or a length that
+// 32 bits do not hold, which no recording has, would be reported as out of memory.
 #[tactic(auto, using(crate::proofs::StreamFacts::gains_one))]
 fn put_file<S: Shelf>(
     files: &mut Vec<(u8, u32)>,

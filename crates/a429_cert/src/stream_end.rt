@@ -1,4 +1,4 @@
-//! What comes behind the last line of a certificate that is read as it comes.
+//! What comes after the last line of a certificate that is read streaming.
 
 ghost use Rattle.std.specs.Prelude.{◌≡◌, ◌≢◌, true, Option, None, Ok, Err, IfErr, IsErrOf, OnOk};
 ghost use Rattle.a429_record.specs.declared.fault.ReadFault.TheVariants as read;
@@ -10,7 +10,7 @@ use crate::stream_fault::{StreamFault, of_read};
 use a429_record::EntryReader;
 use std::io::Read;
 
-/// Asks for the entry behind those that the lines use, of which there are so many: none may come.
+/// Asks for the entry after those that the lines use, of which there are so many: none may come.
 pub fn none_left<R: Read>(rec: &mut EntryReader<R>, used: usize) -> Result<(), StreamFault>
     ensures ok { OnOk result (GivesNext rec.old.to_come rec.new.to_come (Ok None)) }
     ensures err { IfErr result (EndsLate used rec.old.to_come rec.new.to_come) }

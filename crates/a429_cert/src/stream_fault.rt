@@ -1,4 +1,4 @@
-//! Why a certificate that is read as it comes, or its recording, is refused.
+//! Why a certificate that is read streaming, or its recording, is refused.
 
 ghost use Rattle.std.specs.Prelude.{◌≡◌};
 ghost use Rattle.a429_cert.specs.Stream.{of_cert, of_read, of_trouble};
@@ -7,12 +7,12 @@ use crate::fault::CertFault;
 use a429_record::ReadFault;
 use a429_word::Trouble;
 
-/// Why a certificate and a recording that are read as they come are refused.
+/// Why a certificate and a recording that are read streaming are refused.
 #[derive(Clone, Copy, Debug, PartialEq, Eq)]
 pub enum StreamFault {
     /// The certificate's first fault. Lines are counted from 1, entries from 0.
     Cert(CertFault),
-    /// The recording's fault, where the entry that it stands for is wanted first.
+    /// The recording's fault, at the place of the first entry that is wanted of it.
     Read(ReadFault),
     /// The certificate's reader, the shelf or the listener has failed.
     Device,

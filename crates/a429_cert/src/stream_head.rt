@@ -1,4 +1,4 @@
-//! The first two lines of a certificate that is read as it comes.
+//! The first two lines of a certificate that is read streaming.
 
 ghost use Rattle.std.specs.Prelude.{◌≡◌, ◌+◌, ◌≤◌, true, IfOk, IfErr, IsErrOf, OnOk};
 ghost use Rattle.a429_word.specs.Tally.{has_failed, unread};
@@ -7,7 +7,7 @@ ghost use Rattle.a429_cert.specs.Line.{spelling};
 ghost use Rattle.a429_cert.specs.Version.{version_line};
 ghost use Rattle.a429_cert.specs.LineReader.{to_come, room_left};
 ghost use Rattle.a429_cert.specs.Fault.{IsFaultOfHead};
-ghost use Rattle.a429_cert.specs.StreamHead.{ReadsLine, ReadsAtMost, TakesHead, RefusesHead, IsNoVersion, GivesNoFirst};
+ghost use Rattle.a429_cert.specs.StreamHead.{TakesLine, ReadsAtMost, TakesHead, RefusesHead, IsNoVersion, GivesNoFirst};
 
 use crate::explained::{Head, first_of};
 use crate::fault::CertFault;
@@ -45,7 +45,7 @@ fn take_version<R: Read>(
     lines: &mut LineReader,
     cert: &mut Tally<R>,
 ) -> Result<Version, StreamFault>
-    ensures ok { IfOk result (λ v. ReadsLine R.remaining lines.old cert.old lines.new cert.new (version_line v)) }
+    ensures ok { IfOk result (λ v. TakesLine (to_come R.remaining lines.old cert.old) (to_come R.remaining lines.new cert.new) (version_line v)) }
     ensures room { OnOk result (room_left lines.new cert.new + 1 ≤ room_left lines.old cert.old) }
     ensures err { IfErr result (RefusesHead IsNoVersion (to_come R.remaining lines.old cert.old)) }
     ensures read { IfErr result (ReadsAtMost 1 (to_come R.remaining lines.old cert.old) (unread R.remaining cert.new)) }
@@ -62,13 +62,13 @@ fn take_version<R: Read>(
     named.ok_or(StreamFault::Cert(CertFault::Version))
 }
 
-// The number of the first file, which the next line gives.
+// The number of the first file, which the next line has.
 fn take_first<R: Read>(
     alloc: Global,
     lines: &mut LineReader,
     cert: &mut Tally<R>,
 ) -> Result<u8, StreamFault>
-    ensures ok { IfOk result (λ first. ReadsLine R.remaining lines.old cert.old lines.new cert.new (spelling (First first))) }
+    ensures ok { IfOk result (λ first. TakesLine (to_come R.remaining lines.old cert.old) (to_come R.remaining lines.new cert.new) (spelling (First first))) }
     ensures room { OnOk result (room_left lines.new cert.new + 1 ≤ room_left lines.old cert.old) }
     ensures err { IfErr result (RefusesHead GivesNoFirst (to_come R.remaining lines.old cert.old)) }
     ensures read { IfErr result (ReadsAtMost 1 (to_come R.remaining lines.old cert.old) (unread R.remaining cert.new)) }

@@ -35,7 +35,7 @@ impl Verified {
         self.files.as_slice()
     }
 
-    /// The files, given away.
+    /// The files, handed over.
     pub fn into_files(self) -> Vec<FileBytes>
         ensures { result.items ≡ self }
     {

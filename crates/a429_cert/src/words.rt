@@ -6,7 +6,7 @@ use a429_word::Word;
 use std::marker::Model;
 
 /// Words in their order, which contracts see as the list of their numbers. It is made from a `Vec`
-/// and gives it back, without memory.
+/// and hands it back, without memory.
 #[derive(Debug, Drop)]
 pub struct Words(Vec<Word>);
 
@@ -33,7 +33,7 @@ impl Words {
         self.0.as_slice()
     }
 
-    /// The words, given back.
+    /// The words, handed back.
     pub fn into_vec(self) -> Vec<Word>
         ensures { result.items ≡ self }
     {

@@ -32,7 +32,7 @@ pub fn write_line(line: &CertLine, out: &mut Vec<u8>) -> Result<(), OutOfMemory>
     }
 }
 
-// Appends the spelling of a line, or for want of memory a front of it.
+// Appends the spelling of a line, or, out of memory, a prefix of it.
 fn put_line(line: &CertLine, out: &mut Vec<u8>) -> Result<(), OutOfMemory>
     ensures appends { AppendsOrFront result out.old out.new (spelling line.now) }
     ensures held { OnOk result (IsHeld line.now) }
@@ -78,7 +78,7 @@ fn put_moved(line: MovedLine, out: &mut Vec<u8>) -> Result<(), OutOfMemory>
     put(moved_text(line).as_slice(), out)
 }
 
-// Appends text, or for want of memory nothing.
+// Appends text, or, out of memory, nothing.
 fn put(text: &[u8], out: &mut Vec<u8>) -> Result<(), OutOfMemory>
     ensures { AppendsOrFront result out.old out.new text.now }
 {

@@ -4,13 +4,14 @@ use Rattle.a429_profile.specs.Profile.{Contents}
 use Rattle.a429_record.specs.declared.fault.ReadFault.TheVariants as read
 use Rattle.a429_cert.specs.declared.stream_fault.StreamFault.{StreamFault}
 use Rattle.a429_cert.specs.declared.stream_fault.StreamFault.TheVariants as stream
-use Rattle.a429_cert.specs.StreamExplained.{Refuses, SaysYes}
+use Rattle.a429_cert.specs.StreamExplained.{compared, Refuses, SaysYes}
 use Rattle.a429_cert.specs.BreakOff.{BreaksOff}
 use Rattle.a429_check.specs.declared.fault.RunFault.{RunFault}
 use Rattle.a429_check.specs.declared.fault.RunFault.TheVariants as run
 use Rattle.a429_check.specs.Profile.{IsProfileFault, IsProfileOf}
 use Rattle.a429_check.specs.Verdict.{AnyFailed, HasFailed, of_stream}
 use Rattle.a429_check.specs.Extract.{IsAnsweredAt, IsUntouched, Leaves, Progress}
+use Rattle.a429_cert.specs.Change.{change}
 
 -- what has failed may be more
 pub left_more : (profile : List ℕ) (at : Progress) (Failed More : Type 0) (e : RunFault) → (Failed → More) → Leaves profile at Failed e → Leaves profile at More e
@@ -42,14 +43,14 @@ left_by_profile profile at Failed run.Usage e h = absurd e
 
 module _ (profile : List ℕ) (p : Contents) (at : Progress) (Failed : Type 0) (is : IsProfileOf profile p) where
   -- the stream has a fault
-  pub left_by_stream : (f : StreamFault) → Refuses p at.read.certificate at.read.recording at.shelf.before at.shelf.after f → BreaksOff p at.read at.shelf at.listener f
+  pub left_by_stream : (f : StreamFault) → Refuses (compared p at.read.certificate at.read.recording) (change at.shelf.before at.shelf.after) f → BreaksOff p at.read at.shelf at.listener f
       → (f ≡ stream.Device → Failed) → (f ≡ stream.Read read.Device → Failed) → Leaves profile at Failed (of_stream f)
   left_by_stream f here place a b = by f here place a b
     where
-      answered : (f : StreamFault) → Refuses p at.read.certificate at.read.recording at.shelf.before at.shelf.after f → BreaksOff p at.read at.shelf at.listener f → IsAnsweredAt profile at (Err f)
+      answered : (f : StreamFault) → Refuses (compared p at.read.certificate at.read.recording) (change at.shelf.before at.shelf.after) f → BreaksOff p at.read at.shelf at.listener f → IsAnsweredAt profile at (Err f)
       answered f here place = record { contents = p; is_profile = is; is = here; place = place }
 
-      by : (f : StreamFault) → Refuses p at.read.certificate at.read.recording at.shelf.before at.shelf.after f → BreaksOff p at.read at.shelf at.listener f → (f ≡ stream.Device → Failed) → (f ≡ stream.Read read.Device → Failed)
+      by : (f : StreamFault) → Refuses (compared p at.read.certificate at.read.recording) (change at.shelf.before at.shelf.after) f → BreaksOff p at.read at.shelf at.listener f → (f ≡ stream.Device → Failed) → (f ≡ stream.Read read.Device → Failed)
           → Leaves profile at Failed (of_stream f)
       by (stream.Cert f) here place a b = inr (stream.Cert f, refl, answered (stream.Cert f) here place)
       by (stream.Read read.Header) here place a b = (stream.Read read.Header, refl, answered (stream.Read read.Header) here place)
@@ -63,7 +64,7 @@ module _ (profile : List ℕ) (p : Contents) (at : Progress) (Failed : Type 0) (
       by stream.OutOfMemory here place a b = inr (stream.OutOfMemory, refl, answered stream.OutOfMemory here place)
 
   -- a device has failed, whatever was answered
-  pub left_by_device : (r : Result (Vec (ℕ × ℕ) Global) StreamFault) → IfOk r (SaysYes p at.read.certificate at.read.recording at.shelf.before at.shelf.after) → IfErr r (Refuses p at.read.certificate at.read.recording at.shelf.before at.shelf.after)
+  pub left_by_device : (r : Result (Vec (ℕ × ℕ) Global) StreamFault) → IfOk r (SaysYes (compared p at.read.certificate at.read.recording) (change at.shelf.before at.shelf.after)) → IfErr r (Refuses (compared p at.read.certificate at.read.recording) (change at.shelf.before at.shelf.after))
       → IfErr r (BreaksOff p at.read at.shelf at.listener) → Failed → Leaves profile at Failed run.Device
   left_by_device (Ok files) here there place failed = inl (failed, (Ok files.items, record { contents = p; is_profile = is; is = here; place = tt }))
   left_by_device (Err f) here there place failed = inl (failed, (Err f, record { contents = p; is_profile = is; is = there; place = place }))

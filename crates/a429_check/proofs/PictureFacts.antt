@@ -4,8 +4,8 @@ use Rattle.std.specs.Prelude.{IsTrue, ◌↔◌}
 use Rattle.std.proofs.lemmas.Bool.{ltb-true, ltb-false}
 use Rattle.a429_profile.specs.Profile.{Contents}
 use Rattle.a429_record.specs.Recording.{Recording}
-use Rattle.a429_cert.specs.StreamExplained.{Extracts, HearsRun, WhereTold}
-use Rattle.a429_cert.specs.Told.{IsHeard, told_run}
+use Rattle.a429_cert.specs.StreamExplained.{compared, Extracts, HearsRun, WhereTold}
+use Rattle.a429_cert.specs.Told.{listening, IsHeard, told_run}
 use Rattle.a429_view.specs.declared.mark.Span.{Span}
 use Rattle.a429_view.specs.declared.sketch.Sketch.{Sketch}
 use Rattle.a429_view.specs.Sketch.{most_steps, Hears, IsBlank, IsOf}
@@ -18,6 +18,7 @@ use Rattle.a429_check.specs.Output.{Output, HasFailedIn, IsCutShort}
 use Rattle.a429_check.specs.declared.engines.verdict.Judged.{Judged}
 use Rattle.a429_check.specs.Verdict.{AnyFailed, Input, IsVerifyFault, no_shelf}
 use Rattle.a429_check.specs.Picture.{ARun, DrawsRun, IsTooLongRun, IsPicture, IsPictureFault, IsSketchFault, IsSketched, IsSomePicture}
+use Rattle.a429_cert.specs.Change.{change}
 
 where_told : (known : Option (List ℕ)) (rec : Option Recording) (A B : List ℕ → Recording → Type 0) → ((text : List ℕ) (r : Recording) → A text r → B text r) → WhereTold known rec A → WhereTold known rec B
 where_told None rec A B f a = tt
@@ -25,20 +26,20 @@ where_told (Some text) None A B f a = tt
 where_told (Some text) (Some r) A B f a = f text r a
 
 -- the run that was heard
-abbrev heard_run : {p : Contents} {old new : Sketch} {text : List ℕ} {r : Recording} → IsHeard Hears p old new text r → ARun p text r
+abbrev heard_run : {p : Contents} {old new : Sketch} {text : List ℕ} {r : Recording} → IsHeard (listening Hears old new) p text r → ARun p text r
 heard_run h = record { first = h.first; steps = h.steps; explains = h.explains }
 
-heard_of : (p : Contents) (span : Span) (old new : Sketch) (text : List ℕ) (r : Recording) → IsBlank span old → (h : IsHeard Hears p old new text r) → IsOf p.codes span (told_run p r.entries h.first h.steps) new
+heard_of : (p : Contents) (span : Span) (old new : Sketch) (text : List ℕ) (r : Recording) → IsBlank span old → (h : IsHeard (listening Hears old new) p text r) → IsOf p.codes span (told_run p r.entries h.first h.steps) new
 heard_of p span old new text r b h = is_of p span (told_run p r.entries h.first h.steps) old new b h.heard
 
-draws : (p : Contents) (span : Span) (old new : Sketch) (text : List ℕ) (r : Recording) → IsBlank span old → new.steps ≤ most_steps → IsHeard Hears p old new text r → DrawsRun p span (svg_text p.codes new.rows.items) text r
+draws : (p : Contents) (span : Span) (old new : Sketch) (text : List ℕ) (r : Recording) → IsBlank span old → new.steps ≤ most_steps → IsHeard (listening Hears old new) p text r → DrawsRun p span (svg_text p.codes new.rows.items) text r
 draws p span old new text r b e h =
     let of = (heard_of p span old new text r b h).few e in
     record { run = heard_run h; few = of.1; drawn = ap (svg_text p.codes) of.0 }
 
 -- a picture of what was heard
 pub drawn : (i : Input) (span : Span) (old new : Sketch) (j : Judged) (files : List (ℕ × ℕ)) (text : List ℕ)
-    → IsProfileOf i.profile j.profile → Extracts j.profile i.certificate i.recording None None files → IsBlank span old → HearsRun Hears j.profile i.certificate i.recording old new → IsSketched j.profile.codes new text
+    → IsProfileOf i.profile j.profile → Extracts (compared j.profile i.certificate i.recording) (change None None) files → IsBlank span old → HearsRun (listening Hears old new) (compared j.profile i.certificate i.recording) → IsSketched j.profile.codes new text
     → IsPicture i span 0 text
 drawn i span old new j files text is here b h sketched =
     let p = j.profile in
@@ -49,13 +50,13 @@ drawn i span old new j files text is here b h sketched =
         is_profile = is;
         files = files;
         yes = here;
-        so = where_told i.certificate i.recording (IsHeard Hears p old new) (DrawsRun p span text) (λ t r g. subst (λ (drawing : List ℕ). DrawsRun p span drawing t r) (sym sketched.0) (draws p span old new t r b sketched.1 g)) h;
+        so = where_told i.certificate i.recording (IsHeard (listening Hears old new) p) (DrawsRun p span text) (λ t r g. subst (λ (drawing : List ℕ). DrawsRun p span drawing t r) (sym sketched.0) (draws p span old new t r b sketched.1 g)) h;
       },
     )
 
 -- too many steps
 too_long : (i : Input) (p : Contents) (span : Span) (Failed : Type 0) (old new : Sketch) (files : List (ℕ × ℕ))
-    → IsProfileOf i.profile p → Extracts p i.certificate i.recording None None files → IsBlank span old → HearsRun Hears p i.certificate i.recording old new → most_steps < new.steps
+    → IsProfileOf i.profile p → Extracts (compared p i.certificate i.recording) (change None None) files → IsBlank span old → HearsRun (listening Hears old new) (compared p i.certificate i.recording) → most_steps < new.steps
     → IsPictureFault i span Failed run.TooLong
 too_long i p span Failed old new files is here b h e =
     record {
@@ -63,7 +64,7 @@ too_long i p span Failed old new files is here b h e =
       is_profile = is;
       files = files;
       yes = here;
-      so = where_told i.certificate i.recording (IsHeard Hears p old new) (IsTooLongRun p span) (λ text r g. record { run = heard_run g; many = (heard_of p span old new text r b g).many e }) h;
+      so = where_told i.certificate i.recording (IsHeard (listening Hears old new) p) (IsTooLongRun p span) (λ text r g. record { run = heard_run g; many = (heard_of p span old new text r b g).many e }) h;
     }
 
 -- a fault of `a429 verify` is one of `picture`
@@ -79,7 +80,7 @@ as_verify i span Failed run.Usage h = absurd h
 
 -- what was sketched was not drawn
 pub not_drawn : (i : Input) (span : Span) (rec certificate out : Bool) (old new : Sketch) (p : Contents) (files : List (ℕ × ℕ)) (e : RunFault)
-    → IsProfileOf i.profile p → Extracts p i.certificate i.recording None None files → IsBlank span old → HearsRun Hears p i.certificate i.recording old new
+    → IsProfileOf i.profile p → Extracts (compared p i.certificate i.recording) (change None None) files → IsBlank span old → HearsRun (listening Hears old new) (compared p i.certificate i.recording)
     → IsSketchFault new.steps out e → IsPictureFault i span (AnyFailed rec certificate false out) e
 not_drawn i span rec certificate out old new p files run.TooLong is here b h many = too_long i p span (AnyFailed rec certificate false out) old new files is here b h many
 not_drawn i span rec certificate out old new p files run.Memory is here b h _ = (is.0, inl tt)
@@ -92,7 +93,7 @@ not_drawn i span rec certificate out old new p files run.Usage is here b h g = a
 
 -- how far the picture was written
 pub drawing_cut : {W : Type 0} (o : Output W) (i : Input) (span : Span) (Readers : Type 0) (old new : Sketch) (j : Judged) (files : List (ℕ × ℕ)) (e : RunFault)
-    → IsProfileOf i.profile j.profile → Extracts j.profile i.certificate i.recording None None files → IsBlank span old → HearsRun Hears j.profile i.certificate i.recording old new → (Readers → ⊥)
+    → IsProfileOf i.profile j.profile → Extracts (compared j.profile i.certificate i.recording) (change None None) files → IsBlank span old → HearsRun (listening Hears old new) (compared j.profile i.certificate i.recording) → (Readers → ⊥)
     → IsCutShort o ⊥ (IsSketched j.profile.codes new) e → IsCutShort o Readers (IsSomePicture i span) e
 drawing_cut o i span Readers old new j files e is here b h work (inl same) = inl same
 drawing_cut o i span Readers old new j files e is here b h work (inr cut) =

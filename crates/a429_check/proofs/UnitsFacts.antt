@@ -11,14 +11,14 @@ use Rattle.a429_record.specs.Recording.{Recording}
 use Rattle.a429_cert.specs.declared.fault.CertFault.{CertFault}
 use Rattle.a429_cert.specs.declared.stream_fault.StreamFault.TheVariants as stream
 use Rattle.a429_cert.specs.StreamExplained.{WhereTold, IsHeardBefore}
-use Rattle.a429_cert.specs.Told.{IsHeard, told_run}
+use Rattle.a429_cert.specs.Told.{listening, IsHeard, told_run}
 use Rattle.a429_view.specs.declared.units.rows.UnitRows.{UnitRows}
 use Rattle.a429_view.specs.Units.{units_text, ended_text}
 use Rattle.a429_view.specs.UnitSteps.{HearsRows, line_before, PutsAll}
 use Rattle.a429_view.proofs.UnitsFacts.{all_rows, ended_put}
 use Rattle.a429_check.specs.declared.engines.verdict.Judged.{Judged}
 use Rattle.a429_check.specs.Output.{output}
-use Rattle.a429_check.specs.Verdict.{HearsJudged, Input, IsJudged, listening, no_shelf, no_text, text_of_answer}
+use Rattle.a429_check.specs.Verdict.{HearsJudged, Input, IsJudged, no_shelf, no_text, text_of_answer}
 use Rattle.a429_check.specs.Units.{AreFresh, PutsUnits, PutsEnded, ReportsUnits}
 
 -- an empty page holds nothing back
@@ -29,7 +29,7 @@ from_empty (Some xs) (Some ys) text h = subst (λ (t : List ℕ). ys ≡ t ++ te
 
 module _ {W : Type 0} (contents : W → Option (List ℕ)) (p : Contents) (old mid : UnitRows W) (out : Tally W) where
   one : AreFresh old → Appends (paged contents mid.out mid.page) (contents (inner_of out)) (line_before mid.row)
-      → (text : List ℕ) (r : Recording) → IsHeard (HearsRows contents) p old mid text r → PutsUnits (output contents old.out out) p text r
+      → (text : List ℕ) (r : Recording) → IsHeard (listening (HearsRows contents) old mid) p text r → PutsUnits (output contents old.out out) p text r
   one fresh last text r h =
       let all = all_rows contents p old mid (told_run p r.entries h.first h.steps) (contents (inner_of out)) fresh.1 h.heard last in
       record {
@@ -40,7 +40,7 @@ module _ {W : Type 0} (contents : W → Option (List ℕ)) (p : Contents) (old m
             (subst (λ (page : List ℕ). Appends (paged contents old.out page) (contents (inner_of out)) (units_text p.codes (told_run p r.entries h.first h.steps))) fresh.0 all);
       }
 
-  units_put : (known : Option (List ℕ)) (rec : Option Recording) → AreFresh old → WhereTold known rec (IsHeard (HearsRows contents) p old mid)
+  units_put : (known : Option (List ℕ)) (rec : Option Recording) → AreFresh old → WhereTold known rec (IsHeard (listening (HearsRows contents) old mid) p)
       → Appends (paged contents mid.out mid.page) (contents (inner_of out)) (line_before mid.row) → WhereTold known rec (PutsUnits (output contents old.out out) p)
   units_put None rec fresh h last = tt
   units_put (Some text) None fresh h last = tt
@@ -48,7 +48,7 @@ module _ {W : Type 0} (contents : W → Option (List ℕ)) (p : Contents) (old m
 
 -- a yes whose rows are finished
 pub reports_yes : {W : Type 0} (contents : W → Option (List ℕ)) (i : Input) (old mid new : UnitRows W) (j : Judged) (files : Vec (ℕ × ℕ) Global)
-    → j.answer ≡ Ok files → AreFresh old → IsJudged i no_shelf j → HearsJudged (HearsRows contents) i (listening old mid) j
+    → j.answer ≡ Ok files → AreFresh old → IsJudged i no_shelf j → HearsJudged (listening (HearsRows contents) old mid) i j
     → PutsAll contents mid new (line_before mid.row) → ReportsUnits (output contents old.out new.out) i 0
 reports_yes contents i old mid new j files is fresh judged heard last =
     let p = j.profile in
@@ -69,14 +69,14 @@ reports_yes contents i old mid new j files is fresh judged heard last =
 
 module _ {W : Type 0} (contents : W → Option (List ℕ)) (p : Contents) (old mid : UnitRows W) (before out : Tally W) (f : CertFault) where
   before_one : AreFresh old → Appends (paged contents mid.out mid.page) (contents (inner_of before)) [] → Puts contents before out (no_text f)
-      → (text : List ℕ) (r : Recording) → IsHeardBefore (HearsRows contents) p old mid (stream.Cert f) text r → PutsEnded (output contents old.out out) p f text r
+      → (text : List ℕ) (r : Recording) → IsHeardBefore (listening (HearsRows contents) old mid) p (stream.Cert f) text r → PutsEnded (output contents old.out out) p f text r
   before_one fresh rest last text r h =
       let ended = ended_put contents p old mid h.told (contents (inner_of before)) fresh.1 h.heard rest in
       let first = from_empty (contents (inner_of old.out)) (contents (inner_of before)) (ended_text p.codes h.told)
       (subst (λ (page : List ℕ). Appends (paged contents old.out page) (contents (inner_of before)) (ended_text p.codes h.told)) fresh.0 ended) in
       record { told = h.told; before = h.before; puts = Appends-trans _ _ _ _ _ first last }
 
-  ended_before : (known : Option (List ℕ)) (rec : Option Recording) → AreFresh old → WhereTold known rec (IsHeardBefore (HearsRows contents) p old mid (stream.Cert f))
+  ended_before : (known : Option (List ℕ)) (rec : Option Recording) → AreFresh old → WhereTold known rec (IsHeardBefore (listening (HearsRows contents) old mid) p (stream.Cert f))
       → Appends (paged contents mid.out mid.page) (contents (inner_of before)) [] → Puts contents before out (no_text f) → WhereTold known rec (PutsEnded (output contents old.out out) p f)
   ended_before None rec fresh h rest last = tt
   ended_before (Some text) None fresh h rest last = tt
@@ -84,7 +84,7 @@ module _ {W : Type 0} (contents : W → Option (List ℕ)) (p : Contents) (old m
 
 -- a no whose line is put after all that waited
 pub reports_no : {W : Type 0} (contents : W → Option (List ℕ)) (i : Input) (old mid waited new : UnitRows W) (j : Judged) (f : CertFault)
-    → j.answer ≡ Err f → AreFresh old → IsJudged i no_shelf j → HearsJudged (HearsRows contents) i (listening old mid) j
+    → j.answer ≡ Err f → AreFresh old → IsJudged i no_shelf j → HearsJudged (listening (HearsRows contents) old mid) i j
     → PutsAll contents mid waited [] → Puts contents waited.out new.out (text_of_answer j.answer) → ReportsUnits (output contents old.out new.out) i 2
 reports_no contents i old mid waited new j f is fresh judged heard rest puts =
     let p = j.profile in

@@ -15,7 +15,7 @@ use Rattle.a429_cert.specs.declared.stream_fault.StreamFault.{StreamFault}
 use Rattle.a429_cert.specs.declared.stream_fault.StreamFault.TheVariants as stream
 use Rattle.a429_cert.specs.Shelf.{IsUnchanged}
 use Rattle.a429_cert.specs.BreakOff.{Shelved}
-use Rattle.a429_cert.specs.StreamExplained.{Refuses, SaysYes}
+use Rattle.a429_cert.specs.StreamExplained.{compared, Refuses, SaysYes}
 use Rattle.a429_cert.specs.declared.fault.CertFault.{CertFault}
 use Rattle.a429_cert.specs.declared.fault.CertFault.TheVariants as cert
 use Rattle.a429_profile.specs.declared.fault.ProfileFault.{ProfileFault}
@@ -25,6 +25,7 @@ use Rattle.a429_check.specs.declared.fault.RunFault.TheVariants as run
 use Rattle.a429_check.specs.Profile.{IsProfileOf, IsProfileFault}
 use Rattle.a429_check.specs.Output.{Output, HasFailedIn, IsCutShort}
 use Rattle.a429_check.specs.Verdict.{AllWork, AnyFailed, HasAnswer, HasFailed, Input, IsAnswered, IsJudged, IsSomeVerdict, IsVerdict, IsVerifyFault, Judges, Rejects, count_line, file_line, line_of_file, no, no_text, of_stream, status_of_answer, text_of_answer, yes, yes_text}
+use Rattle.a429_cert.specs.Change.{change}
 
 -- what is reported of files, by their lines
 pub yes_of_files : (files : List FileBytes) → yes_text (sizes files) ≡ count_line (length files) ++ flat_map line_of_file files
@@ -40,7 +41,7 @@ unchanged (Some files) = refl
 
 -- the answer of a stream is judged by its profile
 pub has_answer : (i : Input) (shelf : Shelved) (p : Contents) (r : Result (Vec (ℕ × ℕ) Global) StreamFault) → IsProfileOf i.profile p
-    → IfOk r (SaysYes p i.certificate i.recording shelf.before shelf.after) → IfErr r (Refuses p i.certificate i.recording shelf.before shelf.after) → HasAnswer i shelf
+    → IfOk r (SaysYes (compared p i.certificate i.recording) (change shelf.before shelf.after)) → IfErr r (Refuses (compared p i.certificate i.recording) (change shelf.before shelf.after)) → HasAnswer i shelf
 has_answer i shelf p (Ok files) is here _ = (Ok files.items, record { contents = p; is_profile = is; is = here })
 has_answer i shelf p (Err f) is _ here = (Err f, record { contents = p; is_profile = is; is = here })
 
@@ -52,7 +53,7 @@ pub judged : (i : Input) (shelf : Shelved) (j : Judged) → IsJudged i shelf j �
 judged i shelf j h = judged_answer i shelf j.profile j.answer h.0 h.1
 
 -- a certificate that is refused is a no
-pub rejects : (i : Input) (shelf : Shelved) (p : Contents) (f : CertFault) → IsProfileOf i.profile p → Refuses p i.certificate i.recording shelf.before shelf.after (stream.Cert f) × (f ≢ cert.OutOfMemory) → Rejects i shelf 2 (no_text f)
+pub rejects : (i : Input) (shelf : Shelved) (p : Contents) (f : CertFault) → IsProfileOf i.profile p → Refuses (compared p i.certificate i.recording) (change shelf.before shelf.after) (stream.Cert f) × (f ≢ cert.OutOfMemory) → Rejects i shelf 2 (no_text f)
 rejects i shelf p f is here = record { contents = p; is_profile = is; fault = f; refused = here.0; of_certificate = here.1; status_is = refl; text_is = refl }
 
 answered : (i : Input) (shelf : Shelved) (p : Contents) (a : Result (Vec (ℕ × ℕ) Global) CertFault) → IsProfileOf i.profile p → IsAnswered p i shelf a → IsVerdict i shelf (status_of_answer a) (text_of_answer a)
@@ -104,14 +105,14 @@ by_profile i shelf Failed run.BadWord same h = absurd h
 by_profile i shelf Failed run.Usage same h = absurd h
 
 -- a fault of a stream, as a command reports it
-pub by_stream : (i : Input) (shelf : Shelved) (p : Contents) (Failed : Type 0) (f : StreamFault) → IsProfileOf i.profile p → Refuses p i.certificate i.recording shelf.before shelf.after f
+pub by_stream : (i : Input) (shelf : Shelved) (p : Contents) (Failed : Type 0) (f : StreamFault) → IsProfileOf i.profile p → Refuses (compared p i.certificate i.recording) (change shelf.before shelf.after) f
     → (f ≡ stream.Device → Failed) → (f ≡ stream.Read read.Device → Failed) → IsVerifyFault i shelf Failed (of_stream f)
 by_stream i shelf p Failed f is here a b = by f here a b
   where
-    found : (f : StreamFault) → Refuses p i.certificate i.recording shelf.before shelf.after f → Judges i shelf (Err f)
+    found : (f : StreamFault) → Refuses (compared p i.certificate i.recording) (change shelf.before shelf.after) f → Judges i shelf (Err f)
     found f here = record { contents = p; is_profile = is; is = here }
 
-    by : (f : StreamFault) → Refuses p i.certificate i.recording shelf.before shelf.after f → (f ≡ stream.Device → Failed) → (f ≡ stream.Read read.Device → Failed) → IsVerifyFault i shelf Failed (of_stream f)
+    by : (f : StreamFault) → Refuses (compared p i.certificate i.recording) (change shelf.before shelf.after) f → (f ≡ stream.Device → Failed) → (f ≡ stream.Read read.Device → Failed) → IsVerifyFault i shelf Failed (of_stream f)
     by (stream.Cert f) here a b = (is.0, inr (Err (stream.Cert f), found (stream.Cert f) here))
     by (stream.Read read.Header) here a b = (refl, found (stream.Read read.Header) here)
     by (stream.Read (read.Row n)) here a b = (refl, found (stream.Read (read.Row n)) here)

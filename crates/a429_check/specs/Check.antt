@@ -54,9 +54,9 @@ verdict_status (Explained certificate files) = 0
 verdict_status (Impossible i reason) = 1
 verdict_status (Unexplained i doubt) = 2
 
--- ---- what it stands for
+-- ---- what it means
 
--- the verdict that the rule of a command gives: of `check` at the first test that fails; of `decide` the same, or an explanation
+-- the verdict by the rule of a command: of `check` at the first test that fails; of `decide` the same, or an explanation
 -- of words of which `check` has a doubt
 abbrev pub IsByRule : Rule → Contents → List Seen → Verdict → Type 0
 IsByRule rule.Check p items v = IsFirst p items v

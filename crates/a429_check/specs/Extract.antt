@@ -1,4 +1,4 @@
--- Which files are on the shelf where `a429 extract` gives no verdict (profile).
+-- Which files are on the shelf where `a429 extract` writes no verdict (profile).
 use Rattle.std.specs.Prelude.{◌≡◌, ◌⊎◌, ℕ, List, Bool, Err, IfErr}
 use Rattle.a429_profile.specs.Profile.{Contents}
 use Rattle.a429_cert.specs.declared.stream_fault.StreamFault.{StreamFault}

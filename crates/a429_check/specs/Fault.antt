@@ -1,4 +1,4 @@
--- Why a command gives no answer, and the exit status of a fault (profile).
+-- Why a command has no answer, and the exit status of a fault (profile).
 use Rattle.std.specs.Prelude.{ℕ}
 use Rattle.a429_profile.specs.declared.fault.ProfileFault.{ProfileFault}
 use Rattle.a429_ldu.specs.declared.fault.CutFault.{CutFault}

@@ -39,6 +39,6 @@ pub record TellsLabels (profile text : List ℕ) : Type 0 where
   pub is_profile : IsProfileOf profile contents
   pub lines : text ≡ label_lines (contents.labels)
 
--- why `labels` may fail: the profile's own fault, a writer that failed after the profile was read, or, of a text, want of memory
+-- why `labels` may fail: the profile's own fault, a writer that failed after the profile was read, or, of a text, out of memory
 abbrev pub IsLabelsFault : List ℕ → Bool → RunFault → Type 0
 IsLabelsFault bytes failed = ComesBy (record never { profile = HasFault bytes; device = IsSomeProfile bytes × (failed ≡ true); memory = IsUtf8 bytes })

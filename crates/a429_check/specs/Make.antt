@@ -77,7 +77,7 @@ IsUncut files k f = (first_refused 255 0 files ≡ Some (clean.Cut k f)) × (f �
 abbrev pub IsFilesFault : List (List ℕ) → RunFault → Type 0
 IsFilesFault files = ComesBy (record never { recording = λ f. (f ≡ read.TooMany) × AreTooMany files; file = IsUncut files })
 
--- why `make` may fail: the profile's own fault, then that of the files; a writer that failed, or want of memory, once the profile is known to be a text
+-- why `make` may fail: the profile's own fault, then that of the files; a writer that failed, or out of memory, once the profile is known to be a text
 abbrev pub IsMakeFault : List ℕ → List (List ℕ) → Bool → RunFault → Type 0
 IsMakeFault profile files failed = ComesBy (record never {
   profile = HasFault profile;
@@ -87,6 +87,6 @@ IsMakeFault profile files failed = ComesBy (record never {
   memory = IsUtf8 profile;
 })
 
--- a writer that failed, or want of memory
+-- a writer that failed, or out of memory
 abbrev pub IsPutFault : Bool → RunFault → Type 0
 IsPutFault failed = ComesBy (record never { device = failed ≡ true; memory = Unit {0} })

@@ -1,4 +1,4 @@
--- Which names a command may be given: none overwrites what it reads (profile).
+-- Which names a command may have: none overwrites what it reads (profile).
 use Rattle.std.specs.Prelude.{◌≢◌, ⊤}
 use Rattle.a429_check.specs.declared.command_line.commands.Claim.{Claim}
 use Rattle.a429_check.specs.declared.command_line.commands.Command.{Command}
@@ -8,7 +8,7 @@ use Rattle.a429_check.specs.declared.command_line.commands.Command.TheVariants a
 abbrev pub IsCertificateApart : Claim → Type 0
 IsCertificateApart c = (c.certificate.now ≢ c.profile.now) × (c.certificate.now ≢ c.recording.now)
 
--- where a command writes to a name that it is given, that is written like no name of what it reads
+-- where a command writes to a name of its arguments, that is written like no name of what it reads
 abbrev pub KeepsInputs : Command → Type 0
 KeepsInputs (command.Check c) = IsCertificateApart c
 KeepsInputs (command.Decide c) = IsCertificateApart c

@@ -7,13 +7,13 @@ use Rattle.a429_check.specs.declared.fault.RunFault.{RunFault}
 use Rattle.a429_check.specs.Fault.{ComesBy, never}
 use Rattle.a429_check.specs.Recording.{IsRecordingFault}
 
--- the bytes are the binary form of the entries that a recording's bytes stand for, where these are known
+-- the bytes are the binary form of the entries that a recording's bytes mean, where these are known
 pub record Packs (recording : Option (List ℕ)) (bytes : List ℕ) : Type 0 where
   pub entries : List Entry
   pub stand : IfSome recording (λ rec. stands_for rec ≡ whole entries)
   pub form : bytes ≡ binary_form entries
 
--- the recording's own fault, a reader or writer that failed, or want of memory
+-- the recording's own fault, a reader or writer that failed, or out of memory
 abbrev pub IsPackFault : Option (List ℕ) → Bool → Bool → RunFault → Type 0
 IsPackFault known rec_failed out_failed = ComesBy (record never {
   recording = IsRecordingFault known;

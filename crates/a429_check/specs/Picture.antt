@@ -4,7 +4,7 @@ use Rattle.a429_profile.specs.Profile.{Contents}
 use Rattle.a429_link.specs.declared.step.Step.{Step}
 use Rattle.a429_record.specs.Recording.{Recording}
 use Rattle.a429_cert.specs.Explained.{items_of, Explains}
-use Rattle.a429_cert.specs.StreamExplained.{Extracts, WhereTold}
+use Rattle.a429_cert.specs.StreamExplained.{compared, Extracts, WhereTold}
 use Rattle.a429_cert.specs.Told.{told_run}
 use Rattle.a429_view.specs.declared.mark.Span.{Span}
 use Rattle.a429_view.specs.Mark.{before_all, steps_within}
@@ -16,6 +16,7 @@ use Rattle.a429_check.specs.declared.fault.RunFault.{RunFault}
 use Rattle.a429_check.specs.Fault.{ComesBy, never}
 use Rattle.a429_check.specs.Profile.{IsProfileOf}
 use Rattle.a429_check.specs.Verdict.{Input, Rejects, no_shelf, verify_causes}
+use Rattle.a429_cert.specs.Change.{change}
 
 -- a run by which the certificate explains the recording
 pub record ARun (p : Contents) (certificate : List ℕ) (r : Recording) : Type 0 where
@@ -43,7 +44,7 @@ pub record IsAcceptedSo (i : Input) (IsSo : Contents → List ℕ → Recording 
   pub contents : Contents
   pub is_profile : IsProfileOf i.profile contents
   pub files : List (ℕ × ℕ)
-  pub yes : Extracts contents i.certificate i.recording None None files
+  pub yes : Extracts (compared contents i.certificate i.recording) (change None None) files
   pub so : WhereTold i.certificate i.recording (IsSo contents)
 
 -- what is answered: 0 and a picture, or the no of `a429 verify`

@@ -20,6 +20,6 @@ HasFault bytes f = ((¬ IsUtf8 bytes) × (f ≡ NotToml)) ⊎ (IsUtf8 bytes × A
 abbrev pub IsSomeProfile : List ℕ → Type 0
 IsSomeProfile bytes = (contents : Contents) × IsProfileOf bytes contents
 
--- why a profile could not be read: its own fault, or, of a text, want of memory
+-- why a profile could not be read: its own fault, or, of a text, out of memory
 abbrev pub IsProfileFault : List ℕ → RunFault → Type 0
 IsProfileFault bytes = ComesBy (record never { profile = HasFault bytes; memory = IsUtf8 bytes })

@@ -16,13 +16,13 @@ pub record SayInput (profile : List ℕ) (recording : Option (List ℕ)) : Type 
   pub is_profile : IsProfileOf profile contents
   pub stand : IfSome recording (λ bytes. stands_for bytes ≡ whole entries)
 
--- the first fault of a recording's bytes, where they are known; a failed reader, want of memory and a fault answered before are none
+-- the first fault of a recording's bytes, where they are known; a failed reader, out of memory and a fault answered before are none
 abbrev pub IsRecordingFault : Option (List ℕ) → ReadFault → Type 0
 IsRecordingFault known read.Device = ⊥
 IsRecordingFault known read.OutOfMemory = ⊥
 IsRecordingFault known read.Failed = ⊥
 IsRecordingFault known f = IfSome known (λ bytes. (stands_for bytes).fault ≡ Some f)
 
--- why a recording could not be read: its own fault, a reader that failed, or want of memory
+-- why a recording could not be read: its own fault, a reader that failed, or out of memory
 abbrev pub IsReadFault : Option (List ℕ) → Bool → RunFault → Type 0
 IsReadFault known failed = ComesBy (record never { recording = IsRecordingFault known; device = failed ≡ true; memory = Unit {0} })

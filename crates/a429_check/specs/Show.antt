@@ -74,11 +74,11 @@ IsShownText (shown.Bits e field is_test) text = text ≡ field_text e.now field 
 
 -- ---- the lines
 
--- the time, the bus and the word, each with a space behind it
+-- the time, the bus and the word, each with a space after it
 abbrev pub recorded_text : Entry → List ℕ
 recorded_text e = decimal e.time ++ codes " " ++ bus_text e.bus ++ codes " " ++ hex_text e.word ++ codes " "
 
--- the word's label, SDI and SSM, each with a space behind it
+-- the word's label, SDI and SSM, each with a space after it
 abbrev pub fields_text : ℕ → List ℕ
 fields_text w = octal_text (label_of w) ++ codes " " ++ decimal (sdi_of w) ++ codes " " ++ decimal (ssm_of w) ++ codes " "
 

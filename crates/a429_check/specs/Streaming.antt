@@ -10,7 +10,7 @@ use Rattle.a429_check.specs.declared.fault.RunFault.TheVariants as run
 use Rattle.a429_check.specs.Fault.{ComesBy, never}
 use Rattle.a429_check.specs.Profile.{IsProfileOf}
 
--- a profile's text, and what a reader of a recording has to give, say these contents and entries; what the reader gives need not be known
+-- a profile's text, and what is in a reader of a recording, say these contents and entries; what is in the reader need not be known
 pub record SayStream (profile : List ℕ) (rec : Option Recording) : Type 0 where
   pub contents : Contents
   pub entries : List Entry

@@ -9,13 +9,14 @@ use Rattle.a429_cert.specs.declared.fault.CertFault.{CertFault}
 use Rattle.a429_cert.specs.declared.fault.CertFault.TheVariants as cert
 use Rattle.a429_cert.specs.declared.stream_fault.StreamFault.TheVariants as stream
 use Rattle.a429_cert.specs.Explained.{items_of, Explains}
-use Rattle.a429_cert.specs.StreamExplained.{Extracts, Refuses, IsToldBefore, WhereTold}
+use Rattle.a429_cert.specs.StreamExplained.{compared, Extracts, Refuses, IsToldBefore, WhereTold}
 use Rattle.a429_cert.specs.Told.{Told, told_run}
 use Rattle.a429_view.specs.declared.units.rows.UnitRows.{UnitRows}
 use Rattle.a429_view.specs.Units.{units_text, ended_text}
 use Rattle.a429_check.specs.Output.{Output}
 use Rattle.a429_check.specs.Profile.{IsProfileOf}
 use Rattle.a429_check.specs.Verdict.{Input, no_text}
+use Rattle.a429_cert.specs.Change.{change}
 
 -- no row is begun, and none waits
 abbrev pub AreFresh : {W : Type 0} → UnitRows W → Type 0
@@ -33,7 +34,7 @@ pub record ListsUnits {W : Type 0} (o : Output W) (i : Input) : Type 0 where
   pub contents : Contents
   pub is_profile : IsProfileOf i.profile contents
   pub files : List (ℕ × ℕ)
-  pub yes : Extracts contents i.certificate i.recording None None files
+  pub yes : Extracts (compared contents i.certificate i.recording) (change None None) files
   pub rows : WhereTold i.certificate i.recording (PutsUnits o contents)
 
 -- an output has gained the rows of the units that ended in the lines before the fault, and after them the line of the no
@@ -47,7 +48,7 @@ pub record RefusesUnits {W : Type 0} (o : Output W) (i : Input) : Type 0 where
   pub contents : Contents
   pub is_profile : IsProfileOf i.profile contents
   pub fault : CertFault
-  pub refused : Refuses contents i.certificate i.recording None None (stream.Cert fault)
+  pub refused : Refuses (compared contents i.certificate i.recording) (change None None) (stream.Cert fault)
   pub of_certificate : fault ≢ cert.OutOfMemory
   pub before : Tally W
   pub puts : Puts o.contents before o.new (no_text fault)

@@ -47,7 +47,7 @@ upgrade_status None = 2
 abbrev pub OfKnown : Option (List ℕ) → (List ℕ → Type 0) → Type 0
 OfKnown known Holds = (bytes : List ℕ) × IfSome known (λ xs. xs ≡ bytes) × Holds bytes
 
--- this holds of the bytes that a reader has still to give; where it does not tell them, of some bytes
+-- this holds of the bytes that are still in a reader; where they are not known, of some bytes
 abbrev pub OfUnread : {R : Type 0} → (R → Option (List ℕ)) → Tally R → (List ℕ → Type 0) → Type 0
 OfUnread remaining rec Holds = OfKnown (unread remaining rec) Holds
 

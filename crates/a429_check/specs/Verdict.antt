@@ -18,13 +18,14 @@ use Rattle.a429_cert.specs.declared.stream_fault.StreamFault.{StreamFault}
 use Rattle.a429_cert.specs.declared.stream_fault.StreamFault.TheVariants as stream
 use Rattle.a429_cert.specs.Shelf.{IsUnchanged}
 use Rattle.a429_cert.specs.BreakOff.{Shelved}
-use Rattle.a429_cert.specs.StreamExplained.{Extracts, Refuses, HearsRun, HearsBefore}
-use Rattle.a429_cert.specs.Told.{Hearing}
+use Rattle.a429_cert.specs.StreamExplained.{compared, Extracts, Refuses, HearsRun, HearsBefore}
+use Rattle.a429_cert.specs.Told.{Listening}
 use Rattle.a429_check.specs.declared.fault.RunFault.{RunFault}
 use Rattle.a429_check.specs.declared.fault.RunFault.TheVariants as run
 use Rattle.a429_check.specs.Fault.{Causes, ComesBy, never}
 use Rattle.a429_check.specs.declared.engines.verdict.Judged.{Judged}
 use Rattle.a429_check.specs.Profile.{IsProfileOf, HasFault}
+use Rattle.a429_cert.specs.Change.{change}
 
 -- ---- the text
 
@@ -51,9 +52,9 @@ no_text (cert.WordDiffers n i) = codes "NO word differs " ++ decimal n ++ codes 
 no_text (cert.Unfinished i) = codes "NO unfinished " ++ decimal i ++ codes "\n"
 no_text cert.OutOfMemory = []
 
--- ---- what it stands for
+-- ---- what it means
 
--- what is judged: the bytes of a profile, and a certificate and a recording, where their readers say what they have to give
+-- what is judged: the bytes of a profile, and a certificate and a recording, where what their readers have to read is known
 pub record Input : Type 0 where
   pub profile : List ℕ
   pub certificate : Option (List ℕ)
@@ -71,14 +72,14 @@ pub record Rejects (i : Input) (shelf : Shelved) (status : ℕ) (text : List ℕ
   pub contents : Contents
   pub is_profile : IsProfileOf i.profile contents
   pub fault : CertFault
-  pub refused : Refuses contents i.certificate i.recording shelf.before shelf.after (stream.Cert fault)
+  pub refused : Refuses (compared contents i.certificate i.recording) (change shelf.before shelf.after) (stream.Cert fault)
   pub of_certificate : fault ≢ cert.OutOfMemory
   pub status_is : status ≡ 2
   pub text_is : text ≡ no_text fault
 
 -- a verdict on a certificate: a yes with the files that cross, which are on the shelf, and status 0; or a no
 pub data IsVerdict (i : Input) (shelf : Shelved) (status : ℕ) (text : List ℕ) : Type 0 where
-  yes : (contents : Contents) (is_profile : IsProfileOf i.profile contents) (files : List (ℕ × ℕ)) (extracts : Extracts contents i.certificate i.recording shelf.before shelf.after files) (status_is : status ≡ 0) (text_is : text ≡ yes_text files) → IsVerdict i shelf status text
+  yes : (contents : Contents) (is_profile : IsProfileOf i.profile contents) (files : List (ℕ × ℕ)) (extracts : Extracts (compared contents i.certificate i.recording) (change shelf.before shelf.after) files) (status_is : status ≡ 0) (text_is : text ≡ yes_text files) → IsVerdict i shelf status text
   no : (rejects : Rejects i shelf status text) → IsVerdict i shelf status text
 
 -- with one of the two statuses
@@ -96,8 +97,8 @@ abbrev pub Answer : Type 0
 Answer = Result (List (ℕ × ℕ)) StreamFault
 
 abbrev pub IsAnswer : Contents → Option (List ℕ) → Option Recording → Shelved → Answer → Type 0
-IsAnswer p certificate rec shelf (Ok files) = Extracts p certificate rec shelf.before shelf.after files
-IsAnswer p certificate rec shelf (Err f) = Refuses p certificate rec shelf.before shelf.after f
+IsAnswer p certificate rec shelf (Ok files) = Extracts (compared p certificate rec) (change shelf.before shelf.after) files
+IsAnswer p certificate rec shelf (Err f) = Refuses (compared p certificate rec) (change shelf.before shelf.after) f
 
 -- such an answer, by the profile whose text the bytes are
 pub record Judges (i : Input) (shelf : Shelved) (answer : Answer) : Type 0 where
@@ -144,28 +145,20 @@ IsVerifyFault i shelf Failed = ComesBy (verify_causes i shelf Failed)
 
 -- the files of a yes, or why it is refused, which is a verdict
 abbrev pub IsAnswered : {Z : Type 0} → Contents → Input → Shelved → Result (Vec (ℕ × ℕ) Z) CertFault → Type 0
-IsAnswered p i shelf (Ok files) = Extracts p i.certificate i.recording shelf.before shelf.after files.items
-IsAnswered p i shelf (Err f) = Refuses p i.certificate i.recording shelf.before shelf.after (stream.Cert f) × (f ≢ cert.OutOfMemory)
+IsAnswered p i shelf (Ok files) = Extracts (compared p i.certificate i.recording) (change shelf.before shelf.after) files.items
+IsAnswered p i shelf (Err f) = Refuses (compared p i.certificate i.recording) (change shelf.before shelf.after) (stream.Cert f) × (f ≢ cert.OutOfMemory)
 
 -- it is judged under the profile whose text the bytes are
 abbrev pub IsJudged : Input → Shelved → Judged → Type 0
 IsJudged i shelf j = IsProfileOf i.profile j.profile × IsAnswered j.profile i shelf j.answer
 
--- a listener before and after
-pub record Listening (T : Type 0) : Type 0 where
-  pub old : T
-  pub new : T
-
-abbrev pub listening : {T : Type 0} → T → T → Listening T
-listening old new = record { old = old; new = new }
-
 -- it has heard the whole run of a certificate that is accepted, and of one that is refused the steps before the fault
-abbrev pub HearsAnswer : {T Z : Type 0} → Hearing T → Contents → Input → Listening T → Result (Vec (ℕ × ℕ) Z) CertFault → Type 0
-HearsAnswer hears p i l (Ok files) = HearsRun hears p i.certificate i.recording l.old l.new
-HearsAnswer hears p i l (Err f) = HearsBefore hears p i.certificate i.recording l.old l.new (stream.Cert f)
+abbrev pub HearsAnswer : {T Z : Type 0} → Listening T → Contents → Input → Result (Vec (ℕ × ℕ) Z) CertFault → Type 0
+HearsAnswer l p i (Ok files) = HearsRun l (compared p i.certificate i.recording)
+HearsAnswer l p i (Err f) = HearsBefore l (compared p i.certificate i.recording) (stream.Cert f)
 
-abbrev pub HearsJudged : {T : Type 0} → Hearing T → Input → Listening T → Judged → Type 0
-HearsJudged hears i l j = HearsAnswer hears j.profile i l j.answer
+abbrev pub HearsJudged : {T : Type 0} → Listening T → Input → Judged → Type 0
+HearsJudged l i j = HearsAnswer l j.profile i j.answer
 
 -- the text and the status of what was judged
 abbrev pub status_of_answer : {Z : Type 0} → Result (Vec (ℕ × ℕ) Z) CertFault → ℕ

@@ -237,7 +237,7 @@ fn any_number<'a>(alloc: Global, name: &'a str) -> Arg<'a> {
         .action(ArgAction::Append)
 }
 
-// The words that were given, if any were.
+// The words of a list, if there are any.
 fn all_of<'a>(alloc: Global, given: Option<&[&'a str]>) -> Result<Vec<&'a str>, AllocError> {
     match given {
         Some(words) => Vec::from_slice(alloc, words),

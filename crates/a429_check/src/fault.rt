@@ -1,4 +1,4 @@
-//! Why a command gave no answer, how it is told, and the exit status.
+//! Why a command has no answer, how it is reported, and the exit status.
 
 ghost use Rattle.std.specs.Prelude.{◌≡◌};
 ghost use Rattle.a429_check.specs.Fault.{status_of};
@@ -68,7 +68,7 @@ impl From<AllocError> for RunFault {
 
 impl RunFault {
     /// The exit status that it ends the program with: 3 for input that is refused, 4 for a device or
-    /// want of memory, 5 for wrong usage.
+    /// out of memory, 5 for wrong usage.
     pub fn status(self) -> u8
         ensures { result ≡ status_of self }
     {
@@ -88,7 +88,7 @@ impl RunFault {
 pub fn report<W: Write>(fault: &RunFault, err: &mut Tally<W>) -> u8
     ensures { result ≡ status_of fault.now }
 {
-    // Where standard error fails too, the status alone is left to tell the fault.
+    // Where standard error fails too, only the status is left to report the fault.
     let _ = writeln!(err, "{fault}");
     fault.status()
 }

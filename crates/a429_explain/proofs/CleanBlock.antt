@@ -20,7 +20,7 @@ use Rattle.a429_link.specs.declared.seen.Seen.{Seen}
 use Rattle.a429_link.specs.Clean.{on_a, on_b, clean_block}
 use Rattle.a429_link.specs.declared.number.UnitNumber.{UnitNumber}
 use Rattle.a429_explain.specs.Matching.{is_word, passed_with, passing_as, passed_after, IsOfBlock}
-use Rattle.a429_explain.specs.Whole.{Recorded, nothing_yet, gathered_with, is_whole, unit_made, ended_by, first_whole, wanted, is_other, other_request}
+use Rattle.a429_explain.specs.Whole.{ends_with, Recorded, nothing_yet, gathered_with, is_whole, unit_made, ended_by, first_whole, wanted, is_other, other_request}
 
 -- ---- its words say what they are
 
@@ -128,7 +128,7 @@ whole_of p is count u h e =
     compared true e = rw e (eq-eqb _ _ (h.checked e))
     compared false e = rw e refl
 
-pub made_of : (p : Contents) → IsProfile p → (count : ℕ) (u : LduValue) → IsLdu p u → count_of u ≡ count → unit_made p count (Some u.gfi) u.words u.flags u.check ≡ Some u
+pub made_of : (p : Contents) → IsProfile p → (count : ℕ) (u : LduValue) → IsLdu p u → count_of u ≡ count → unit_made p count (ends_with (Some u.gfi) u.flags u.check) u.words ≡ Some u
 made_of p is count u h e = ap (λ (t : Bool). cond t (Some u) None) (whole_of p is count u h e)
 
 -- the search goes on behind a word of this form
@@ -143,7 +143,7 @@ whole_parts : (p : Contents) → IsProfile p → (place : UnitNumber) (u : LduVa
 whole_parts p is place u h s qs [] e a tail =
     let same : qs ≡ u.words = sym (append-nil qs) ∙ e in
     whole_word p (count_of u) (on_a (word_number p.codes (Eot u.flags u.check))) tail (record { start = Some u.gfi; words = qs }) (Some (Eot u.flags u.check)) s.end
-    ∙ ap (λ (o : Option LduValue). option_or o (first_whole p (count_of u) tail (record { start = Some u.gfi; words = qs }))) (ap (λ (ws : List ℕ). unit_made p (count_of u) (Some u.gfi) ws u.flags u.check) same ∙ made_of p is (count_of u) u h refl)
+    ∙ ap (λ (o : Option LduValue). option_or o (first_whole p (count_of u) tail (record { start = Some u.gfi; words = qs }))) (ap (λ (ws : List ℕ). unit_made p (count_of u) (ends_with (Some u.gfi) u.flags u.check) ws) same ∙ made_of p is (count_of u) u h refl)
 whole_parts p is place u h s qs (q ∷ ps) e a tail =
     whole_part p (count_of u) q (map on_a (ps ++ word_number p.codes (Eot u.flags u.check) ∷ []) ++ tail) (record { start = Some u.gfi; words = qs }) (form_of p.codes bus.A q) refl a.0
     ∙ whole_parts p is place u h s (qs ++ q ∷ []) ps (append_assoc qs (q ∷ []) ps ∙ e) a.1 tail

@@ -20,7 +20,7 @@ use Rattle.a429_explain.specs.Decoded.{forms_of, sight_at}
 use Rattle.a429_explain.specs.Block.{IsMatchedUnit, IsDoubtIn}
 use Rattle.a429_explain.specs.Groups.{group_length, group_from, group_start, start_of, first_started}
 use Rattle.a429_explain.specs.Plan.{give_ups_from}
-use Rattle.a429_explain.specs.Guess.{first_file_of, first_place, decoded, IsNoRequestFrom, IsFirstRequest, place_at_group, place_past, ArePlansBefore, ArePlansOf, ArePlansFrom, IsNextDoubt, IsGroupStop, IsStopFrom, IsFirstStop, HasNoDoubt}
+use Rattle.a429_explain.specs.Guess.{annotated, first_file_of, first_place, decoded, IsNoRequestFrom, IsFirstRequest, place_at_group, place_past, ArePlansBefore, ArePlansOf, ArePlansFrom, IsNextDoubt, IsGroupStop, IsStopFrom, IsFirstStop, HasNoDoubt}
 use Rattle.a429_explain.specs.Whole.{wanted}
 
 -- a group whose first request wants so many words
@@ -35,7 +35,7 @@ pub record HasCome (c : Codes) (items : List Seen) (place : UnitNumber) (at : �
 
 -- these plans are those of the groups before place `at`
 abbrev pub AreSearched : Contents → List Seen → List Role → UnitNumber → List Plan → UnitNumber → ℕ → Type 0
-AreSearched p items rs start done place at = ArePlansBefore (HasCome p.codes items place at) p items rs start 0 done
+AreSearched p items rs start done place at = ArePlansBefore (HasCome p.codes items place at) (annotated p items rs) start 0 done
 
 -- ---- the start word of a group
 
@@ -55,12 +55,12 @@ starts_later rs at to d l m e = starts_next rs at to d l m ∙ ap (λ (o : Optio
 
 -- ---- what comes behind them
 
-followed : (Comes Goes : UnitNumber → ℕ → Type 0) (p : Contents) (items : List Seen) (rs : List Role) (place : UnitNumber) (at : ℕ) (us vs : List Plan) → ((q : UnitNumber) (n : ℕ) → Comes q n → ArePlansBefore Goes p items rs q n vs) → ArePlansBefore Comes p items rs place at us → ArePlansBefore Goes p items rs place at (us ++ vs)
+followed : (Comes Goes : UnitNumber → ℕ → Type 0) (p : Contents) (items : List Seen) (rs : List Role) (place : UnitNumber) (at : ℕ) (us vs : List Plan) → ((q : UnitNumber) (n : ℕ) → Comes q n → ArePlansBefore Goes (annotated p items rs) q n vs) → ArePlansBefore Comes (annotated p items rs) place at us → ArePlansBefore Goes (annotated p items rs) place at (us ++ vs)
 followed Comes Goes p items rs place at [] vs on h = on place at h
 followed Comes Goes p items rs place at (u ∷ us) vs on h = (h.0, followed Comes Goes p items rs (place_past p.codes rs (group_from rs h.0.from) place u.unit) (group_from rs h.0.from).to us vs on h.1)
 
-ended : (Comes Goes : UnitNumber → ℕ → Type 0) (p : Contents) (items : List Seen) (rs : List Role) (place : UnitNumber) (at : ℕ) (us : List Plan) → ((q : UnitNumber) (n : ℕ) → Comes q n → Goes q n) → ArePlansBefore Comes p items rs place at us → ArePlansBefore Goes p items rs place at us
-ended Comes Goes p items rs place at us on h = subst (ArePlansBefore Goes p items rs place at) (append-nil us) (followed Comes Goes p items rs place at us [] on h)
+ended : (Comes Goes : UnitNumber → ℕ → Type 0) (p : Contents) (items : List Seen) (rs : List Role) (place : UnitNumber) (at : ℕ) (us : List Plan) → ((q : UnitNumber) (n : ℕ) → Comes q n → Goes q n) → ArePlansBefore Comes (annotated p items rs) place at us → ArePlansBefore Goes (annotated p items rs) place at us
+ended Comes Goes p items rs place at us on h = subst (ArePlansBefore Goes (annotated p items rs) place at) (append-nil us) (followed Comes Goes p items rs place at us [] on h)
 
 -- ---- the search
 
@@ -95,7 +95,7 @@ searched_group p items rs start place next done new at wants g plan from to w he
     same : g ≡ group_from rs at
     same = group_is rs at g from to
 
-    on : (q : UnitNumber) (n : ℕ) → HasCome p.codes items place at q n → ArePlansBefore (HasCome p.codes items next g.to) p items rs q n (plan ∷ [])
+    on : (q : UnitNumber) (n : ℕ) → HasCome p.codes items place at q n → ArePlansBefore (HasCome p.codes items next g.to) (annotated p items rs) q n (plan ∷ [])
     on q n c = (
       record {
         from = at;
@@ -115,7 +115,7 @@ searched_group p items rs start place next done new at wants g plan from to w he
 -- ---- its end
 
 -- no word is left
-pub searched_all : (p : Contents) (items : List Seen) (rs : List Role) (start place : UnitNumber) (done : List Plan) (at : ℕ) → length items ≤ at → AreSearched p items rs start done place at → ArePlansOf p items rs start 0 done
+pub searched_all : (p : Contents) (items : List Seen) (rs : List Role) (start place : UnitNumber) (done : List Plan) (at : ℕ) → length items ≤ at → AreSearched p items rs start done place at → ArePlansOf (annotated p items rs) start 0 done
 searched_all p items rs start place done at l h = ended _ (λ numbers n. IsNoRequestFrom p.codes items n) p items rs start 0 done on h
   where
     on : (q : UnitNumber) (n : ℕ) → HasCome p.codes items place at q n → IsNoRequestFrom p.codes items n
@@ -125,10 +125,10 @@ searched_all p items rs start place done at l h = ended _ (λ numbers n. IsNoReq
         past k o = ap (λ (s : Option Seen). wanted (sight_at p.codes s)) (slice_get_past items k o)
 
 -- the next group is doubted
-pub searched_doubt : (p : Contents) (items : List Seen) (rs : List Role) (start place : UnitNumber) (done : List Plan) (at wants i : ℕ) (doubt : Doubt) (g : Group) → g.from ≡ at → g.to ≡ at + group_length (drop at rs) → wanted (sight_at p.codes (slice_get items at)) ≡ Some wants → IsDoubtIn (decoded p items) (asked g wants) (place_at_group p.codes rs g place) i doubt → AreSearched p items rs start done place at → ArePlansBefore (IsNextDoubt p items rs i doubt) p items rs start 0 done
-searched_doubt p items rs start place done at wants i doubt g from to w is h = ended _ (IsNextDoubt p items rs i doubt) p items rs start 0 done on h
+pub searched_doubt : (p : Contents) (items : List Seen) (rs : List Role) (start place : UnitNumber) (done : List Plan) (at wants i : ℕ) (doubt : Doubt) (g : Group) → g.from ≡ at → g.to ≡ at + group_length (drop at rs) → wanted (sight_at p.codes (slice_get items at)) ≡ Some wants → IsDoubtIn (decoded p items) (asked g wants) (place_at_group p.codes rs g place) i doubt → AreSearched p items rs start done place at → ArePlansBefore (IsNextDoubt (annotated p items rs) i doubt) (annotated p items rs) start 0 done
+searched_doubt p items rs start place done at wants i doubt g from to w is h = ended _ (IsNextDoubt (annotated p items rs) i doubt) p items rs start 0 done on h
   where
-    on : (q : UnitNumber) (n : ℕ) → HasCome p.codes items place at q n → IsNextDoubt p items rs i doubt q n
+    on : (q : UnitNumber) (n : ℕ) → HasCome p.codes items place at q n → IsNextDoubt (annotated p items rs) i doubt q n
     on q n c = record {
       from = at;
       wants = wants;
@@ -137,7 +137,7 @@ searched_doubt p items rs start place done at wants i doubt g from to w is h = e
     }
 
 -- no group is doubted for its steps
-pub not_replayed : (p : Contents) (items : List Seen) (rs : List Role) (place : UnitNumber) (at i : ℕ) (us : List Plan) → ArePlansBefore (IsNextDoubt p items rs i NotReplayed) p items rs place at us → ⊥
+pub not_replayed : (p : Contents) (items : List Seen) (rs : List Role) (place : UnitNumber) (at i : ℕ) (us : List Plan) → ArePlansBefore (IsNextDoubt (annotated p items rs) i NotReplayed) (annotated p items rs) place at us → ⊥
 not_replayed p items rs place at i [] h = h.is
 not_replayed p items rs place at i (u ∷ us) h = not_replayed p items rs (place_past p.codes rs (group_from rs h.0.from) place u.unit) (group_from rs h.0.from).to i us h.1
 

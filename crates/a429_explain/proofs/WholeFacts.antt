@@ -22,7 +22,7 @@ use Rattle.a429_explain.specs.declared.verdict.Doubt.TheVariants.{NotOneBlock}
 use Rattle.a429_explain.specs.Stop.{IsDoubtOf, IsDoubtAt}
 use Rattle.a429_explain.specs.declared.decoded.DecodedWord.{DecodedWord}
 use Rattle.a429_explain.specs.Decoded.{sight_at, IsHeardAt}
-use Rattle.a429_explain.specs.Whole.{Recorded, gathered_with, is_whole, unit_made, ended_by, first_whole, wanted, is_other, other_request}
+use Rattle.a429_explain.specs.Whole.{ends_with, Recorded, gathered_with, is_whole, unit_made, ended_by, first_whole, wanted, is_other, other_request}
 use Rattle.a429_explain.proofs.CleanBlock.{made_of}
 
 -- ---- the next word
@@ -79,10 +79,10 @@ request_doubt c items n wants = by (sight_at c (slice_get items n))
 
 -- ---- the first whole attempt
 
-pub unit_is_made : (p : Contents) → IsProfile p → (count : ℕ) (start : Option ℕ) (gfi flags check : ℕ) (words : List ℕ) (u : LduValue) → start ≡ Some gfi → u ≡ record { gfi = gfi; flags = flags; check = check; words = words } → IsLdu p u → length words + 2 ≡ count → Some u ≡ unit_made p count start words flags check
+pub unit_is_made : (p : Contents) → IsProfile p → (count : ℕ) (start : Option ℕ) (gfi flags check : ℕ) (words : List ℕ) (u : LduValue) → start ≡ Some gfi → u ≡ record { gfi = gfi; flags = flags; check = check; words = words } → IsLdu p u → length words + 2 ≡ count → Some u ≡ unit_made p count (ends_with start flags check) words
 unit_is_made p is count start gfi flags check words u s e h n =
     let v : LduValue = record { gfi = gfi; flags = flags; check = check; words = words } in
-    ap (λ (x : LduValue). Some x) e ∙ sym (made_of p is count v (subst (IsLdu p) e h) n) ∙ ap (λ (o : Option ℕ). unit_made p count o words flags check) (sym s)
+    ap (λ (x : LduValue). Some x) e ∙ sym (made_of p is count v (subst (IsLdu p) e h) n) ∙ ap (λ (o : Option ℕ). unit_made p count (ends_with o flags check) words) (sym s)
 
 and_false : (a b : Bool) → b ≡ false → (a && b) ≡ false
 and_false true b e = e
@@ -101,10 +101,10 @@ not_whole p is count words check CheckWrong l n h =
     rw carried (rw h.3 (rw (ne_eqb _ _ h.4) (and_false _ _ refl)))
 not_whole p is count words check OutOfMemory l n h = absurd h
 
-pub unit_not_made : (p : Contents) → IsProfile p → (count : ℕ) (start : Option ℕ) (gfi flags check : ℕ) (words : List ℕ) (f : LduFault) → count ≤ 255 → start ≡ Some gfi → length words + 2 ≡ count → IsFirstLduFault p check words f → None ≡ unit_made p count start words flags check
+pub unit_not_made : (p : Contents) → IsProfile p → (count : ℕ) (start : Option ℕ) (gfi flags check : ℕ) (words : List ℕ) (f : LduFault) → count ≤ 255 → start ≡ Some gfi → length words + 2 ≡ count → IsFirstLduFault p check words f → None ≡ unit_made p count (ends_with start flags check) words
 unit_not_made p is count start gfi flags check words f l s n h =
     let v : LduValue = record { gfi = gfi; flags = flags; check = check; words = words } in
-    sym (ap (λ (o : Option ℕ). unit_made p count o words flags check) s ∙ ap (λ (t : Bool). cond t (Some v) None) (not_whole p is count words check f l n h))
+    sym (ap (λ (o : Option ℕ). unit_made p count (ends_with o flags check) words) s ∙ ap (λ (t : Bool). cond t (Some v) None) (not_whole p is count words check f l n h))
 
 -- the search goes on behind a word
 pub whole_next : (p : Contents) (count : ℕ) (items : List Seen) (at to : ℕ) (w : DecodedWord) (r : Recorded) → at < to → IsHeardAt p.codes items at w → first_whole p count (slice_range items at to) r ≡ option_or (ended_by p count w.form r) (first_whole p count (slice_range items (at + 1) to) (gathered_with w.form w.word r))

@@ -1,6 +1,6 @@
 -- The link data unit of a group whose first request asks for so many words (profile). The group has to pass three tests: all
 -- its requests ask for as many words, it makes a link data unit, and its words are some of the block of that.
-use Rattle.std.specs.Prelude.{◌≡◌, ◌⊎◌, ◌+◌, ◌<◌, ◌≤◌, ℕ, Option, Some, None}
+use Rattle.std.specs.Prelude.{◌≡◌, ◌⊎◌, ◌+◌, ◌<◌, ◌≤◌, ℕ, Option, Some, None, slice_range}
 use Rattle.a429_ldu.specs.Ldu.{LduValue, IsLdu, count_of}
 use Rattle.a429_link.specs.Clean.{without_free, clean_block}
 use Rattle.a429_explain.specs.declared.groups.Request.{Request}
@@ -46,15 +46,15 @@ IsWhyNoUnit h r OutOfMemory = other_for h r ≡ None
 -- first equal word there that is not yet passed, at each request from the start of the block on
 pub record IsMatchedUnit (h : HeardValue) (r : Request) (place : UnitNumber) (u : LduValue) : Type 0 where
   pub gives : IsUnitFor h r u
-  pub matched : AreMatched h.profile.codes u place h.items r.group.from r.group.to
+  pub matched : AreMatched h.profile.codes u place (slice_range h.items r.group.from r.group.to)
 
 -- word i is the first of the group that is matched with none
 pub record IsUnmatched (h : HeardValue) (r : Request) (place : UnitNumber) (i : ℕ) : Type 0 where
   pub unit : LduValue
   pub gives : IsUnitFor h r unit
   pub inside : i < r.group.to
-  pub before : AreMatched h.profile.codes unit place h.items r.group.from i
-  pub unmatched : ¬ AreMatched h.profile.codes unit place h.items r.group.from (i + 1)
+  pub before : AreMatched h.profile.codes unit place (slice_range h.items r.group.from i)
+  pub unmatched : ¬ AreMatched h.profile.codes unit place (slice_range h.items r.group.from (i + 1))
 
 -- the first test that the group fails, and the place where it does: a request of another count, the group's first request
 -- where there is no link data unit, or the first word that is matched with none

@@ -11,7 +11,7 @@ use Rattle.a429_ldu.specs.Carried.{semis_of_words, bytes_in}
 use Rattle.a429_ldu.specs.CheckWord.{check_of}
 use Rattle.a429_ldu.specs.Ldu.{LduValue}
 use Rattle.a429_link.specs.declared.seen.Seen.{Seen}
-use Rattle.a429_explain.specs.Whole.{nothing_yet, unit_made, first_whole}
+use Rattle.a429_explain.specs.Whole.{ends_with, nothing_yet, unit_made, first_whole}
 
 -- ---- what was recorded
 
@@ -76,7 +76,7 @@ filled_up c wants words = words ++ fillers c (are_odd c words) (wants - 2 - leng
 -- the link data unit of data words: flags 0 and the check word of their bytes. None where they carry none, or are not
 -- as many as such a block has
 abbrev pub unit_filled : Contents → ℕ → ℕ → List ℕ → Option LduValue
-unit_filled p wants gfi words = unit_made p wants (Some gfi) words 0 (check_of p.check (bytes_in p.codes words))
+unit_filled p wants gfi words = unit_made p wants (ends_with (Some gfi) 0 (check_of p.check (bytes_in p.codes words))) words
 
 -- that of a group whose requests ask for so many words; none where an end word was recorded
 abbrev pub filled : Contents → ℕ → List Seen → Option LduValue

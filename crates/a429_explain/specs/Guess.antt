@@ -73,48 +73,57 @@ place_at_group c rs g place = place_from c place (group_start rs g)
 abbrev pub place_past : Codes → List Role → Group → UnitNumber → LduValue → UnitNumber
 place_past c rs g place u = place_behind c (place_at_group c rs g place) u (is_settled rs g)
 
+-- a recording under a profile, with the roles of its entries
+pub record Annotated : Type 0 where
+  pub profile : Contents
+  pub items : List Seen
+  pub roles : List Role
+
+abbrev pub annotated : Contents → List Seen → List Role → Annotated
+annotated p items rs = record { profile = p; items = items; roles = rs }
+
 -- the plan of the first group from place `at` on: its first request, the files that are given up before it, and its link data
 -- unit
-pub record IsNextPlan (p : Contents) (items : List Seen) (rs : List Role) (place : UnitNumber) (at : ℕ) (plan : Plan) : Type 0 where
+pub record IsNextPlan (r : Annotated) (place : UnitNumber) (at : ℕ) (plan : Plan) : Type 0 where
   pub from : ℕ
   pub wants : ℕ
   pub at_is : plan.at ≡ from
-  pub first : IsFirstRequest p.codes items at from wants
-  pub give_ups : plan.give_ups ≡ give_ups_from place (group_start rs (group_from rs from))
-  pub is : IsMatchedUnit (decoded p items) (request_at rs from wants) (place_at_group p.codes rs (group_from rs from) place) plan.unit
+  pub first : IsFirstRequest r.profile.codes r.items at from wants
+  pub give_ups : plan.give_ups ≡ give_ups_from place (group_start r.roles (group_from r.roles from))
+  pub is : IsMatchedUnit (decoded r.profile r.items) (request_at r.roles from wants) (place_at_group r.profile.codes r.roles (group_from r.roles from) place) plan.unit
 
 -- the first groups from place `at` on, to the first of which the source comes with these numbers, have these plans; after
 -- them this comes, at the numbers and the place that follow
-abbrev pub ArePlansBefore : (UnitNumber → ℕ → Type 0) → Contents → List Seen → List Role → UnitNumber → ℕ → List Plan → Type 0
-ArePlansBefore Comes p items rs place at [] = Comes place at
-ArePlansBefore Comes p items rs place at (plan ∷ plans) =
-    (next : IsNextPlan p items rs place at plan)
-    × ArePlansBefore Comes p items rs (place_past p.codes rs (group_from rs next.from) place plan.unit) (group_from rs next.from).to plans
+abbrev pub ArePlansBefore : (UnitNumber → ℕ → Type 0) → Annotated → UnitNumber → ℕ → List Plan → Type 0
+ArePlansBefore Comes r place at [] = Comes place at
+ArePlansBefore Comes r place at (plan ∷ plans) =
+    (next : IsNextPlan r place at plan)
+    × ArePlansBefore Comes r (place_past r.profile.codes r.roles (group_from r.roles next.from) place plan.unit) (group_from r.roles next.from).to plans
 
 -- all groups from place `at` on have
-abbrev pub ArePlansOf : Contents → List Seen → List Role → UnitNumber → ℕ → List Plan → Type 0
-ArePlansOf p items rs place at plans = ArePlansBefore (λ numbers n. IsNoRequestFrom p.codes items n) p items rs place at plans
+abbrev pub ArePlansOf : Annotated → UnitNumber → ℕ → List Plan → Type 0
+ArePlansOf r place at plans = ArePlansBefore (λ numbers n. IsNoRequestFrom r.profile.codes r.items n) r place at plans
 
 -- all groups have, where the source begins with the first link data unit of this file
 abbrev pub ArePlansFrom : HeardValue → List Role → ℕ → List Plan → Type 0
-ArePlansFrom h rs first plans = ArePlansOf h.profile h.items rs (first_number h.profile.codes first) 0 plans
+ArePlansFrom h rs first plans = ArePlansOf (annotated h.profile h.items rs) (first_number h.profile.codes first) 0 plans
 
 -- ---- doubts
 
 -- the first group from place `at` on is doubted
-pub record IsNextDoubt (p : Contents) (items : List Seen) (rs : List Role) (i : ℕ) (doubt : Doubt) (place : UnitNumber) (at : ℕ) : Type 0 where
+pub record IsNextDoubt (r : Annotated) (i : ℕ) (doubt : Doubt) (place : UnitNumber) (at : ℕ) : Type 0 where
   pub from : ℕ
   pub wants : ℕ
-  pub first : IsFirstRequest p.codes items at from wants
-  pub is : IsDoubtIn (decoded p items) (request_at rs from wants) (place_at_group p.codes rs (group_from rs from) place) i doubt
+  pub first : IsFirstRequest r.profile.codes r.items at from wants
+  pub is : IsDoubtIn (decoded r.profile r.items) (request_at r.roles from wants) (place_at_group r.profile.codes r.roles (group_from r.roles from) place) i doubt
 
 -- the groups before it pass their tests, and this group does not
-pub record IsFirstDoubt (p : Contents) (items : List Seen) (rs : List Role) (place : UnitNumber) (i : ℕ) (doubt : Doubt) : Type 0 where
+pub record IsFirstDoubt (r : Annotated) (place : UnitNumber) (i : ℕ) (doubt : Doubt) : Type 0 where
   pub plans : List Plan
-  pub are : ArePlansBefore (IsNextDoubt p items rs i doubt) p items rs place 0 plans
+  pub are : ArePlansBefore (IsNextDoubt r i doubt) r place 0 plans
 
 abbrev pub IsGroupStop : Contents → List Seen → List Role → UnitNumber → Stop → Type 0
-IsGroupStop p items rs place (Unexplained i doubt) = IsFirstDoubt p items rs place i doubt
+IsGroupStop p items rs place (Unexplained i doubt) = IsFirstDoubt (annotated p items rs) place i doubt
 IsGroupStop p items rs place OutOfMemory = Unit {0}
 
 -- the same, where the source begins with the first link data unit of this file
@@ -124,12 +133,12 @@ IsStopFrom h rs first stop = IsGroupStop h.profile h.items rs (first_number h.pr
 -- ---- a recording
 
 abbrev pub HasFirstDoubt : Contents → List Seen → ℕ → Doubt → Type 0
-HasFirstDoubt p items = IsFirstDoubt p items (roles (forms_of p.codes items)) (first_place p items)
+HasFirstDoubt p items = IsFirstDoubt (annotated p items (roles (forms_of p.codes items))) (first_place p items)
 
 -- each group passes its tests
 pub record HasNoDoubt (p : Contents) (items : List Seen) : Type 0 where
   pub plans : List Plan
-  pub are : ArePlansOf p items (roles (forms_of p.codes items)) (first_place p items) 0 plans
+  pub are : ArePlansOf (annotated p items (roles (forms_of p.codes items))) (first_place p items) 0 plans
 
 -- the doubts of all groups come before those of the steps
 abbrev pub IsFirstStop : Contents → List Seen → Stop → Type 0

@@ -1,5 +1,5 @@
 -- The words of a group against the block of its link data unit (profile).
-use Rattle.std.specs.Prelude.{ℕ, zero, suc, ◌%◌, ◌==◌, nat_le, Bool, not, ◌&&◌, ◌||◌, if◌then◌else◌, Option, Some, None, slice_index, slice_range, ◌-◌, List, [], ◌∷◌, IsSome, option_and_then}
+use Rattle.std.specs.Prelude.{ℕ, zero, suc, ◌%◌, ◌==◌, nat_le, Bool, not, ◌&&◌, ◌||◌, if◌then◌else◌, Option, Some, None, slice_index, ◌-◌, List, [], ◌∷◌, IsSome, option_and_then}
 use Rattle.a429_profile.specs.declared.codes.Codes.{Codes}
 use Rattle.a429_ldu.specs.declared.forms.Form.{Form}
 use Rattle.a429_ldu.specs.declared.forms.Form.TheVariants.{Rts, Sot, Part, Eot}
@@ -26,21 +26,21 @@ passing_as (Some (Part semis)) matched passed = matched
 passing_as (Some (Eot flags check)) matched passed = matched
 passing_as _ matched passed = Some passed
 
--- with a word of this form and this number
-abbrev pub passing_with : Codes → LduValue → UnitNumber → Option Form → ℕ → ℕ → Option ℕ
-passing_with c u place form word passed = passing_as form (passed_with (is_word c u place word) passed (count_of u - passed)) passed
+-- with a word of this form, which is these words of a block of so many
+abbrev pub passing_with : (ℕ → Bool) → ℕ → Option Form → ℕ → Option ℕ
+passing_with is count form passed = passing_as form (passed_with is passed (count - passed)) passed
 
 abbrev pub passing : Codes → LduValue → UnitNumber → Seen → ℕ → Option ℕ
-passing c u place i passed = passing_with c u place (form_of c i.bus i.word) i.word passed
+passing c u place i passed = passing_with (is_word c u place i.word) (count_of u) (form_of c i.bus i.word) passed
 
 -- with these words in their order; none where one is not matched
 abbrev pub passed_after : Codes → LduValue → UnitNumber → List Seen → Option ℕ → Option ℕ
 passed_after c u place [] passed = passed
 passed_after c u place (i ∷ items) passed = passed_after c u place items (option_and_then (passing c u place i) passed)
 
--- all words of a group from place `from` to place `to` are matched
-abbrev pub AreMatched : Codes → LduValue → UnitNumber → List Seen → ℕ → ℕ → Type 0
-AreMatched c u place items from to = IsSome (passed_after c u place (slice_range items from to) (Some 0))
+-- all these words are matched
+abbrev pub AreMatched : Codes → LduValue → UnitNumber → List Seen → Type 0
+AreMatched c u place items = IsSome (passed_after c u place items (Some 0))
 
 -- a word of a block
 abbrev pub IsOfBlock : Option Form → Type 0

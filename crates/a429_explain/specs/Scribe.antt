@@ -12,6 +12,7 @@ use Rattle.a429_link.specs.Source.{IsIdle}
 use Rattle.a429_link.specs.State.{start}
 use Rattle.a429_link.specs.Run.{IsRun, end_of, trace}
 use Rattle.a429_link.specs.Link.{LinkValue}
+use Rattle.a429_cert.specs.Change.{Change}
 use Rattle.a429_cert.specs.declared.line.CertLine.TheVariants.{First}
 use Rattle.a429_cert.specs.Line.{spelling}
 use Rattle.a429_cert.specs.declared.version.Version.TheVariants.{One}
@@ -157,8 +158,8 @@ lossless_steps OfBlock i plan = sent i
 lossless_steps _ i plan = answered i
 
 -- where nothing is lost on the way, and these steps can be made, they are, unless memory is refused
-abbrev pub MakesLossless : {X : Type 0} → Role → Seen → Option Plan → LinkValue → LinkValue → Result X StepFault → Type 0
-MakesLossless role i plan l m r =
+abbrev pub MakesLossless : {X : Type 0} → Role → Seen → Option Plan → Change LinkValue → Result X StepFault → Type 0
+MakesLossless role i plan link r =
     IsLossless role plan
-    → CanMake (lossless_steps role i plan) l
-    → OnlyLacksMemory r × OnOk r (m ≡ link_after (lossless_steps role i plan) l)
+    → CanMake (lossless_steps role i plan) link.old
+    → OnlyLacksMemory r × OnOk r (link.new ≡ link_after (lossless_steps role i plan) link.old)

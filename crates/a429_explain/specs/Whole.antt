@@ -1,6 +1,6 @@
 -- Which link data unit a group carries (profile). A whole attempt has a start word, as many data words as its request
 -- asks for, that carry bytes, and an end word whose check word agrees.
-use Rattle.std.specs.Prelude.{◌≡◌, ◌<◌, ◌≤◌, ℕ, ◌+◌, ◌==◌, Bool, false, not, ◌&&◌, if◌then◌else◌, Option, Some, None, is_some, List, [], ◌∷◌, ◌++◌, length, slice_get}
+use Rattle.std.specs.Prelude.{◌≡◌, ◌<◌, ◌≤◌, ℕ, ◌+◌, ◌==◌, Bool, false, not, ◌&&◌, if◌then◌else◌, Option, Some, None, is_some, option_and_then, List, [], ◌∷◌, ◌++◌, length, slice_get}
 use Rattle.std.specs.Option.{option_or}
 use Rattle.a429_ldu.specs.CheckWord.{agrees}
 use Rattle.a429_profile.specs.declared.codes.Codes.{Codes}
@@ -15,6 +15,7 @@ use Rattle.a429_ldu.specs.Carried.{bytes_carried, bytes_in}
 use Rattle.a429_ldu.specs.Ldu.{LduValue}
 use Rattle.a429_link.specs.declared.seen.Seen.{Seen}
 use Rattle.a429_explain.specs.declared.groups.Request.{Request}
+use Rattle.a429_explain.specs.declared.whole.Ends.{Ends}
 use Rattle.a429_explain.specs.Groups.{words_of_group}
 use Rattle.a429_explain.specs.Decoded.{HeardValue, sight_at}
 
@@ -37,14 +38,17 @@ gathered_with _ word r = r
 abbrev pub is_whole : Contents → ℕ → List ℕ → ℕ → Bool
 is_whole p count words check = (length words + 2 == count) && (is_some (bytes_carried p.codes words) && agrees p.check (bytes_in p.codes words) check)
 
--- the link data unit that an end word makes of what was recorded before it
-abbrev pub unit_made : Contents → ℕ → Option ℕ → List ℕ → ℕ → ℕ → Option LduValue
-unit_made p count None words flags check = None
-unit_made p count (Some gfi) words flags check = if is_whole p count words check then Some (record { gfi = gfi; flags = flags; check = check; words = words }) else None
+-- what the words around the data words say, and the link data unit that they make
+abbrev pub ends_with : Option ℕ → ℕ → ℕ → Ends
+ends_with start flags check = record { start = start; flags = flags; check = check }
+
+abbrev pub unit_made : Contents → ℕ → Ends → List ℕ → Option LduValue
+unit_made p count ends words =
+    option_and_then (λ gfi. if is_whole p count words ends.check then Some (record { gfi = gfi; flags = ends.flags; check = ends.check; words = words }) else None) ends.start
 
 -- the same of a word of any form
 abbrev pub ended_by : Contents → ℕ → Option Form → Recorded → Option LduValue
-ended_by p count (Some (Eot flags check)) r = unit_made p count r.start r.words flags check
+ended_by p count (Some (Eot flags check)) r = unit_made p count (ends_with r.start flags check) r.words
 ended_by p count _ r = None
 
 -- that of the first whole attempt of these words, of which so much was recorded before them

@@ -97,10 +97,7 @@ fn last_data(alloc: Global, decoded: &Decoded, group: Group) -> Result<Vec<Word>
     let _profile = decoded.profile();
     let mut last = LastRecorded::new(alloc);
     for at in group.from..group.to {
-        match last.take(decoded.word(at)) {
-            Ok(()) => {}
-            Err(error) => return Err(error),
-        }
+        last.take(decoded.word(at))?;
     }
     Ok(last.into_words())
 }

@@ -1,6 +1,6 @@
 //! The words of a group, held against the block of its link data unit.
 
-ghost use Rattle.std.specs.Prelude.{◌≡◌, ◌<◌, ◌≤◌, ◌-◌, ◌+◌, None, IfSome, length};
+ghost use Rattle.std.specs.Prelude.{◌≡◌, ◌<◌, ◌≤◌, ◌-◌, ◌+◌, None, IfSome, length, slice_range};
 ghost use Rattle.a429_ldu.specs.Ldu.{count_of};
 ghost use Rattle.a429_explain.specs.Matching.{is_word, passed_with, passing_with, AreMatched, IsOfBlock};
 ghost use Rattle.a429_explain.specs.declared.verdict.Doubt.TheVariants as doubt;
@@ -25,9 +25,10 @@ pub(crate) fn first_unmatched(
     requires inside { group.to ≤ length decoded.now.items }
     ensures fits { IfSome result (λ i. IsDoubtAt decoded.now.profile.codes decoded.now.items i doubt.NotOneBlock) }
     ensures within { IfSome result (λ i. i < group.to) }
-    ensures none { result ≡ None → AreMatched decoded.now.profile.codes unit.now place decoded.now.items group.from group.to }
-    ensures before { IfSome result (λ i. AreMatched decoded.now.profile.codes unit.now place decoded.now.items group.from i) }
-    ensures unmatched { IfSome result (λ i. ¬ AreMatched decoded.now.profile.codes unit.now place decoded.now.items group.from (i + 1)) }
+    ensures none { result ≡ None → AreMatched decoded.now.profile.codes unit.now place (slice_range decoded.now.items group.from group.to) }
+    ensures before { IfSome result (λ i. AreMatched decoded.now.profile.codes unit.now place (slice_range decoded.now.items group.from i)) }
+    ensures unmatched { IfSome result (λ i. ¬ AreMatched decoded.now.profile.codes unit.now place
+        (slice_range decoded.now.items group.from (i + 1))) }
 {
     let profile = decoded.profile();
     let mut passed = 0;
@@ -50,7 +51,7 @@ fn passing(
     decoded: DecodedWord,
 ) -> Option<u8>
     requires { passed ≤ count_of unit.now }
-    ensures passed { result ≡ passing_with profile.now.codes unit.now place decoded.form decoded.word passed }
+    ensures passed { result ≡ passing_with (is_word profile.now.codes unit.now place decoded.word) (count_of unit.now) decoded.form passed }
     ensures inside { IfSome result (λ more. more ≤ count_of unit.now) }
     ensures fits { result ≡ None → IsOfBlock decoded.form }
 {

@@ -10,6 +10,7 @@ ghost use Rattle.a429_link.specs.State.{start};
 ghost use Rattle.a429_cert.specs.Line.{IsLine, IsHeld, spelling};
 ghost use Rattle.a429_explain.specs.Scribe.{in_version, Wrote, WritesNext, link_after, CanMake, OnlyLacksMemory, sent, answered, unheard, IsAtRest, CannotWrite, giving_up, begin_steps, IsClosing, ClosesOn, HasAsked, MakesLossless};
 ghost use Rattle.a429_cert.specs.Act.{letter_of};
+ghost use Rattle.a429_cert.specs.Change.{change};
 ghost use Rattle.a429_cert.specs.Version.{is_give_up};
 
 use crate::attempts::Role;
@@ -94,7 +95,7 @@ impl<'a> Scribe<'a> {
         requires { IfSome plan (λ q. IsLdu self.old.link.profile q.unit) }
         ensures profile { self.new.link.profile ≡ self.old.link.profile }
         ensures written { OnOk result (WritesNext (Some seen) self.old self.new) }
-        ensures lossless { MakesLossless role seen plan self.old.link self.new.link result }
+        ensures lossless { MakesLossless role seen plan (change self.old.link self.new.link) result }
         ensures asked { OnOk result (HasAsked role seen plan self.old.link self.new.link) }
         ensures refused { IfErr result (λ e. e ≢ StepFault.OutOfMemory → CannotWrite role seen plan self.old.link) }
     {
@@ -230,10 +231,7 @@ impl<'a> Scribe<'a> {
         ensures lost { is_taken ≡ false → CanMake (unheard seen) self.old.link → OnlyLacksMemory result }
         ensures reached { is_taken ≡ true → OnOk result (self.new.link ≡ link_after (answered seen) self.old.link) }
     {
-        match self.make(Step::Answered(seen)) {
-            Ok(()) => {}
-            Err(fault) => return Err(fault),
-        }
+        self.make(Step::Answered(seen))?;
         if is_taken {
             self.make(Step::TakeAnswer)
         } else {
@@ -268,10 +266,7 @@ impl<'a> Scribe<'a> {
         let mut left = files;
         while left > 0 {
             left -= 1;
-            match self.make(Step::GiveUp) {
-                Ok(()) => {}
-                Err(fault) => return Err(fault),
-            }
+            self.make(Step::GiveUp)?;
         }
         Ok(())
     }
@@ -293,10 +288,7 @@ impl<'a> Scribe<'a> {
             check: unit.check(),
             words: Words::new(words),
         });
-        match self.link.apply(Step::Load(unit)) {
-            Ok(()) => {}
-            Err(fault) => return Err(fault),
-        }
+        self.link.apply(Step::Load(unit))?;
         self.write(&line)
     }
 
@@ -315,10 +307,7 @@ impl<'a> Scribe<'a> {
             return Err(StepFault::OutOfMemory);
         };
         let gives_up = is_give_up(&step);
-        match self.link.apply(step) {
-            Ok(()) => {}
-            Err(fault) => return Err(fault),
-        }
+        self.link.apply(step)?;
         self.gave_up |= gives_up;
         let states = self.link.states();
         self.write(&CertLine::Moved(MovedLine { act, states }))

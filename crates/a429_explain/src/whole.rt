@@ -34,10 +34,7 @@ pub(crate) fn whole_unit(
             Ok(None) => {}
             Err(error) => return Err(error),
         }
-        match attempt.take(word) {
-            Ok(()) => {}
-            Err(error) => return Err(error),
-        }
+        attempt.take(word)?;
     }
     Ok(None)
 }
@@ -133,7 +130,7 @@ pub(crate) fn unit_with(
 ) -> Result<Option<Ldu>, AllocError>
     requires start { IfSome ends.start (λ gfi. gfi ≤ 15) }
     requires flags { ends.flags ≤ 15 }
-    ensures made { IfOk result (λ found. found ≡ unit_made profile.now count ends.start words.now ends.flags ends.check) }
+    ensures made { IfOk result (λ found. found ≡ unit_made profile.now count ends words.now) }
     ensures unit { IfOk result (λ found. IfSome found (λ u. IsLdu profile.now u)) }
     ensures count { IfOk result (λ found. IfSome found (λ u. count_of u ≡ count)) }
 {

@@ -50,8 +50,8 @@ abbrev pub semis_held : List ℕ → Option ℕ → List ℕ
 semis_held bytes low = semis_of_bytes bytes ++ option_to_list low
 
 -- each word is a data word of bus A, and with their semi-octets the bytes and the semi-octet that were held become these
-abbrev pub AddSemis : Codes → List ℕ → List ℕ → Option ℕ → List ℕ → Option ℕ → Type 0
-AddSemis c words bytes low more rest = joined_to (Some (semis_held bytes low)) (semis_of_words c words) ≡ Some (semis_held more rest)
+abbrev pub AddSemis : Codes → List ℕ → List ℕ → List ℕ → Type 0
+AddSemis c words old new = joined_to (Some old) (semis_of_words c words) ≡ Some new
 
 -- how many semi-octets that is
 abbrev pub semis_count : ℕ → Option ℕ → ℕ

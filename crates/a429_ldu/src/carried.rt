@@ -102,7 +102,7 @@ fn carry(
 ) -> Option<Option<u8>>
     requires low { IfSome low (λ digit. digit < 16) }
     requires room { semis_count (array_vec_len bytes.old) low + 5 * length words.now ≤ 1265 }
-    ensures semis { IfSome result (λ rest. AddSemis profile.now.codes words.now bytes.old.items low bytes.new.items rest) }
+    ensures semis { IfSome result (λ rest. AddSemis profile.now.codes words.now (semis_held bytes.old.items low) (semis_held bytes.new.items rest)) }
     ensures low { IfSome result (λ rest. IfSome rest (λ digit. digit < 16)) }
     ensures none { result ≡ None → semis_of_words profile.now.codes words.now ≡ None }
     ensures sound { IsProfile profile.now }

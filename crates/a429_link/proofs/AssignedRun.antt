@@ -20,7 +20,7 @@ use Rattle.a429_link.specs.Number.{first_number, is_number, number_after}
 use Rattle.a429_link.specs.Observer.{Allows, AllowsForm, AreAllowed, HasGrant, Observer, at_first, sees_form}
 use Rattle.a429_link.specs.Observer.{sees as observes}
 use Rattle.a429_link.specs.Run.{BeginsARun, IsRun, IsSubsequenceOf, end_of, trace, with_label}
-use Rattle.a429_link.specs.Sink.{Block, Granted, InBlock, Listens, MayAnswer, MayAnswerForm, Number, Owes, OwesAck, OwesClear, OwesNak, Quiet, Received, Sink, SinkPhase, accepts_owed, answers_form, at_end, at_part, at_start, is_good, takes_form}
+use Rattle.a429_link.specs.Sink.{end_word, Block, Granted, InBlock, Listens, MayAnswer, MayAnswerForm, Number, Owes, OwesAck, OwesClear, OwesNak, Quiet, Received, Sink, SinkPhase, accepts_owed, answers_form, at_end, at_part, at_start, is_good, takes_form}
 use Rattle.a429_link.specs.Source.{Source, acknowledged, after_word, next_word}
 use Rattle.a429_link.specs.State.{IsNonEmpty, State}
 use Rattle.a429_link.specs.Step.{Can, after, label}
@@ -280,7 +280,7 @@ some_attempts : (p : Contents) (a : Attempt) (items : List Seen) → IsNonEmpty 
 some_attempts p a [] = tt
 some_attempts p a (i ∷ items) = by (asks i.bus (form_of p.codes i.bus i.word)) (some_attempts p (grown i.bus i.word (form_of p.codes i.bus i.word) a) items)
   where
-    by : (o : Option ℕ) → IsNonEmpty (attempts_from p (grown i.bus i.word (form_of p.codes i.bus i.word) a) items) → IsNonEmpty (goes_on_to i.bus i.word (form_of p.codes i.bus i.word) a o (λ b. attempts_from p b items))
+    by : (o : Option ℕ) → IsNonEmpty (attempts_from p (grown i.bus i.word (form_of p.codes i.bus i.word) a) items) → IsNonEmpty (goes_on_to i (form_of p.codes i.bus i.word) a o (λ b. attempts_from p b items))
     by None h = h
     by (Some n) h = tt
 
@@ -296,7 +296,7 @@ count_assigned : (p : Contents) (t : Assigned) (a : Attempt) (items : List Seen)
 count_assigned p t a [] units h = h.0.0.asked
 count_assigned p t a (i ∷ items) units h = by (asks i.bus (form_of p.codes i.bus i.word)) (λ g. count_assigned p t (grown i.bus i.word (form_of p.codes i.bus i.word) a) items units g) h
   where
-    by : (o : Option ℕ) → (GoOnAssigned p (Some t) (attempts_from p (grown i.bus i.word (form_of p.codes i.bus i.word) a) items) units → (grown i.bus i.word (form_of p.codes i.bus i.word) a).count ≡ count_of t.unit) → GoOnAssigned p (Some t) (goes_on_to i.bus i.word (form_of p.codes i.bus i.word) a o (λ b. attempts_from p b items)) units → a.count ≡ count_of t.unit
+    by : (o : Option ℕ) → (GoOnAssigned p (Some t) (attempts_from p (grown i.bus i.word (form_of p.codes i.bus i.word) a) items) units → (grown i.bus i.word (form_of p.codes i.bus i.word) a).count ≡ count_of t.unit) → GoOnAssigned p (Some t) (goes_on_to i (form_of p.codes i.bus i.word) a o (λ b. attempts_from p b items)) units → a.count ≡ count_of t.unit
     by None rec h = sym (grown_count i.bus i.word (form_of p.codes i.bus i.word) a) ∙ rec h
     by (Some n) rec h = h.0.0.asked
 
@@ -483,7 +483,7 @@ end_sent p t a m last received count kp w (form.Eot f q) said i c h none b e sam
     owes true block = tt
     owes false block = tt
 
-    ended : (kp : SinkPhase) → InGrant kp → OwesBlock (at_end p last count f q kp)
+    ended : (kp : SinkPhase) → InGrant kp → OwesBlock (at_end p last count (end_word f q) kp)
     ended Granted i = tt
     ended (InBlock block) i = owes (is_good p last count block q) block
     ended _ i = absurd i
@@ -568,7 +568,7 @@ clear_part w OwesClear h = h
 clear_part w (OwesAck c f) h = tt
 clear_part w OwesNak h = tt
 
-clear_end : (p : Contents) (last : Option Number) (count flags check : ℕ) (kp : SinkPhase) → NotClear kp → NotClear (at_end p last count flags check kp)
+clear_end : (p : Contents) (last : Option Number) (count flags check : ℕ) (kp : SinkPhase) → NotClear kp → NotClear (at_end p last count (end_word flags check) kp)
 clear_end p last count flags check Granted h = tt
 clear_end p last count flags check (InBlock b) h = by (is_good p last count b check)
   where
@@ -608,7 +608,7 @@ rest_push p t words w (rest, h) = (w ∷ rest, subst (λ l. IsSubsequenceOf l (b
 rest_none : (p : Contents) (t : Assigned) (words : List ℕ) → IsSubsequenceOf words (block_of p.codes t.unit t.number.file t.number.ldu) → Rest p t words
 rest_none p t words h = ([], subst (λ l. IsSubsequenceOf l (block_of p.codes t.unit t.number.file t.number.ldu)) (sym (append-nil words)) h)
 
-rest_by : (p : Contents) (t : Assigned) (b : Bus) (w : ℕ) (x : Option Form) (items : List Seen) (o : Observer) (a : Attempt) (units : List Assigned) → ((x ≡ None) ⊎ AllowsForm o b x) → NotClear o.phase → ((c : Attempt) → NotClear (sees_form p b w x o).phase → GoOnAssigned p (Some t) (attempts_from p c items) units → Rest p t c.words) → GoOnAssigned p (Some t) (goes_on_to b w x a (asks b x) (λ c. attempts_from p c items)) units → Rest p t a.words
+rest_by : (p : Contents) (t : Assigned) (b : Bus) (w : ℕ) (x : Option Form) (items : List Seen) (o : Observer) (a : Attempt) (units : List Assigned) → ((x ≡ None) ⊎ AllowsForm o b x) → NotClear o.phase → ((c : Attempt) → NotClear (sees_form p b w x o).phase → GoOnAssigned p (Some t) (attempts_from p c items) units → Rest p t c.words) → GoOnAssigned p (Some t) (goes_on_to (on b w) x a (asks b x) (λ c. attempts_from p c items)) units → Rest p t a.words
 rest_by p t bus.A w (Some (form.Rts n)) items o a units al h rec goes = rest_none p t a.words goes.0.0.words
 rest_by p t bus.A w None items o a units al h rec goes = rec a (clear_seen p bus.A w None o refl h) goes
 rest_by p t bus.A w (Some (form.Cts n)) items o a units al h rec goes = rec a h goes
@@ -654,7 +654,7 @@ block_item p good w x items (Some t) a q vs k seen units e b n g al holds h goes
     let block = block_of p.codes t.unit t.number.file t.number.ldu in
     move_block p good w x items t a q vs k units rest.0 e b g holds (subst (λ l. IsSubsequenceOf l block) (append_assoc a.words (w ∷ []) rest.0) rest.1) h goes
 
-move_form : (p : Contents) → IsProfile p → IsRead p → (b : Bus) (w : ℕ) (x : Option Form) (items : List Seen) (now : Option Assigned) (a : Attempt) (q : Source) (vs : List ℕ) (k : Sink) (seen : List Message) (units : List Assigned) → form_of p.codes b w ≡ x → AllowsForm (seeing k seen) b x → AreAllowed p (observes p (on b w) (seeing k seen)) items → HoldsAt p (at q k vs) → Place p now a q vs k units → GoOnAssigned p now (goes_on_to b w x a (asks b x) (λ c. attempts_from p c items)) units → Move p (on b w) items (at q k vs) k
+move_form : (p : Contents) → IsProfile p → IsRead p → (b : Bus) (w : ℕ) (x : Option Form) (items : List Seen) (now : Option Assigned) (a : Attempt) (q : Source) (vs : List ℕ) (k : Sink) (seen : List Message) (units : List Assigned) → form_of p.codes b w ≡ x → AllowsForm (seeing k seen) b x → AreAllowed p (observes p (on b w) (seeing k seen)) items → HoldsAt p (at q k vs) → Place p now a q vs k units → GoOnAssigned p now (goes_on_to (on b w) x a (asks b x) (λ c. attempts_from p c items)) units → Move p (on b w) items (at q k vs) k
 move_form p is good b w None items now a q vs k seen units e m al holds h goes = absurd m
 move_form p is good bus.A w (Some (form.Rts n)) items now a q vs k seen units e m al holds h goes = move_request p is w n items now a q vs k units e h goes.1
 move_form p is good bus.A w (Some (form.Sot g f l)) items now a q vs k seen units e m al holds h goes = block_item p good w (form.Sot g f l) items now a q vs k seen units e tt refl m.0 al holds h goes
@@ -669,10 +669,10 @@ move_form p is good bus.B w (Some (form.Sot g f l)) items now a q vs k seen unit
 move_form p is good bus.B w (Some (form.Part s)) items now a q vs k seen units e m al holds h goes = absurd (no_part k.count k.phase s m)
 move_form p is good bus.B w (Some (form.Eot f c)) items now a q vs k seen units e m al holds h goes = absurd (may_answer k.count k.phase (Eot f c) m)
 
-free_goes : (p : Contents) (b : Bus) (w : ℕ) (x : Option Form) (items : List Seen) (now : Option Assigned) (a : Attempt) (units : List Assigned) → x ≡ None → GoOnAssigned p now (goes_on_to b w x a (asks b x) (λ c. attempts_from p c items)) units → GoOnAssigned p now (attempts_from p a items) units
-free_goes p b w x items now a units e goes = none b (subst (λ y. GoOnAssigned p now (goes_on_to b w y a (asks b y) (λ c. attempts_from p c items)) units) e goes)
+free_goes : (p : Contents) (b : Bus) (w : ℕ) (x : Option Form) (items : List Seen) (now : Option Assigned) (a : Attempt) (units : List Assigned) → x ≡ None → GoOnAssigned p now (goes_on_to (on b w) x a (asks b x) (λ c. attempts_from p c items)) units → GoOnAssigned p now (attempts_from p a items) units
+free_goes p b w x items now a units e goes = none b (subst (λ y. GoOnAssigned p now (goes_on_to (on b w) y a (asks b y) (λ c. attempts_from p c items)) units) e goes)
   where
-    none : (b : Bus) → GoOnAssigned p now (goes_on_to b w None a (asks b None) (λ c. attempts_from p c items)) units → GoOnAssigned p now (attempts_from p a items) units
+    none : (b : Bus) → GoOnAssigned p now (goes_on_to (on b w) None a (asks b None) (λ c. attempts_from p c items)) units → GoOnAssigned p now (attempts_from p a items) units
     none bus.A h = h
     none bus.B h = h
 

@@ -20,7 +20,7 @@ use Rattle.a429_link.specs.declared.state.SourceState.{SourceState}
 use Rattle.a429_link.specs.declared.state.SourceState.TheVariants.{Awaiting, Idle, Sending, Waiting}
 use Rattle.a429_link.specs.declared.step.Step.{Step}
 use Rattle.a429_link.specs.declared.step.Step.TheVariants.{Answered, FreeSeen, GiveUp, Load, LoseAnswer, Sent, SentLost, Silent, SinkTakes, TakeAnswer, TimeOut}
-use Rattle.a429_link.specs.WholeBlock.{ComesForm, ComesNext, EndsBad, EndsBadAt, EndsBadForm, EndsForm, EndsGoodAt, EndsWhole, GoodForm, GoodNext, NumberComesAt, makes_unit}
+use Rattle.a429_link.specs.WholeBlock.{ending, ComesForm, ComesNext, EndsBad, EndsBadAt, EndsBadForm, EndsForm, EndsGoodAt, EndsWhole, GoodForm, GoodNext, NumberComesAt, makes_unit}
 use Rattle.a429_link.specs.Number.{begins_file, files_past, first_number, is_number, next_number}
 use Rattle.a429_link.specs.Observer.{Observer, at_first, observed}
 use Rattle.a429_link.specs.Observer.{sees as observes}
@@ -294,7 +294,7 @@ numbers_come p good items i r = comes_at p items r.more sink_at_first [] i at_fi
 
 -- ---- a whole attempt is good
 
-good_end : (p : Contents) → IsProfile p → (last : Option Number) (count : ℕ) (kp : SinkPhase) (flags check : ℕ) → BlockComes p.codes last kp → ((v : LduValue) → EndsForm bus.A (Some (form.Eot flags check)) kp count v → IsLdu p v) → GoodForm p bus.A (Some (form.Eot flags check)) kp count last
+good_end : (p : Contents) → IsProfile p → (last : Option Number) (count : ℕ) (kp : SinkPhase) (flags check : ℕ) → BlockComes p.codes last kp → ((v : LduValue) → EndsForm bus.A (Some (form.Eot flags check)) kp count v → IsLdu p v) → GoodForm p bus.A (Some (form.Eot flags check)) (ending kp count last)
 good_end p is last count (InBlock b) flags check h whole =
     λ n.
     let unit = ldu_of b.gfi flags check b.words in
@@ -304,7 +304,7 @@ good_end p is last count (InBlock b) flags check h whole =
     good_where p last count b check ldu.bytes n carried ∙ and_from _ _ agreed h
 good_end p is last count _ flags check h whole = tt
 
-good_form : (p : Contents) → IsProfile p → (b : Bus) (w : ℕ) (o : Option Form) (k : Sink) → Comes p.codes b (message_in w o) k → ((v : LduValue) → EndsForm b o k.phase k.count v → IsLdu p v) → GoodForm p b o k.phase k.count k.last
+good_form : (p : Contents) → IsProfile p → (b : Bus) (w : ℕ) (o : Option Form) (k : Sink) → Comes p.codes b (message_in w o) k → ((v : LduValue) → EndsForm b o k.phase k.count v → IsLdu p v) → GoodForm p b o (ending k.phase k.count k.last)
 good_form p is bus.A w (Some (form.Eot flags check)) k h whole = good_end p is k.last k.count k.phase flags check h whole
 good_form p is bus.A w None k h whole = tt
 good_form p is bus.A w (Some (form.Rts n)) k h whole = tt
@@ -328,7 +328,7 @@ pub whole_is_good : (p : Contents) → IsProfile p → IsRead p → (items : Lis
 whole_is_good p is good items i r = good_at p is items r.more sink_at_first [] i at_first refl (begun_comes p good items i r) (λ u. whole_is_ldu p good items i u r)
 
 -- so no run ends a whole block that makes no link data unit
-good_or_bad : (p : Contents) (b : Bus) (x : Option Form) (kp : SinkPhase) (count : ℕ) (last : Option Number) → GoodForm p b x kp count last → EndsBadForm p b x kp count → ⊥
+good_or_bad : (p : Contents) (b : Bus) (x : Option Form) (kp : SinkPhase) (count : ℕ) (last : Option Number) → GoodForm p b x (ending kp count last) → EndsBadForm p b x kp count → ⊥
 good_or_bad p bus.A (Some (form.Eot flags check)) (InBlock b) count last good (n, bad) =
     let all = and_parts (eqb (length b.words + 2) count) _ (good n) in
     let bytes = and_parts (is_some (bytes_carried p.codes b.words)) _ all.1 in

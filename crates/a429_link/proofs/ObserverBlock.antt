@@ -6,6 +6,7 @@ use Rattle.a429_ldu.specs.declared.forms.Form.{Form}
 use Rattle.a429_ldu.specs.declared.forms.Form.TheVariants.{Rts, Cts, Ack, Nak, Sot, Part, Eot}
 use Rattle.a429_link.specs.Sink.{Number, Sink, SinkPhase, Quiet, OwesClear, Granted, InBlock, OwesAck, OwesNak, SinkSide, at_start, at_end, is_good, kept_words, takes, empty_block, Received}
 use Rattle.a429_link.specs.State.{rest}
+use Rattle.a429_link.specs.Sink.{end_word}
 use Rattle.a429_link.specs.Observer.{KeepsRecorded}
 
 start_keeps : (gfi file ldu : ℕ) (kp : SinkPhase) (n : ℕ) → length (kept_words kp) ≤ n → length (kept_words (at_start (empty_block gfi file ldu) kp)) ≤ n
@@ -16,7 +17,7 @@ start_keeps g f l (InBlock old) n h = omega arith
 start_keeps g f l (OwesAck old flags) n h = h
 start_keeps g f l OwesNak n h = h
 
-end_keeps : (p : Contents) (last : Option Number) (count flags check : ℕ) (kp : SinkPhase) (n : ℕ) → length (kept_words kp) ≤ n → length (kept_words (at_end p last count flags check kp)) ≤ n
+end_keeps : (p : Contents) (last : Option Number) (count flags check : ℕ) (kp : SinkPhase) (n : ℕ) → length (kept_words kp) ≤ n → length (kept_words (at_end p last count (end_word flags check) kp)) ≤ n
 end_keeps p last count flags check Quiet n h = h
 end_keeps p last count flags check OwesClear n h = h
 end_keeps p last count flags check Granted n h = h

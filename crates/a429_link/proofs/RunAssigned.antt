@@ -274,7 +274,7 @@ begins_next : (p : Contents) (now : Option Assigned) (a : Attempt) (t : Assigned
 begins_next p now a t n [] of sound next g = absurd g.are
 begins_next p now a t n (b ∷ l) of sound next g = record { units = t ∷ g.units; are = (of, (sound, next, g.are.0, g.are.1)) }
 
-item_assigned : (p : Contents) (now : Option Assigned) (a : Attempt) (i : Seen) (s : State) (items : List Seen) → IsOf p now a → (asked : Option ℕ) → AfterAsk p now a (grown i.bus i.word (form_of p.codes i.bus i.word) a) asked s.source s.to_sink s.to_source s.sink.phase → ((later : Option Assigned) (b : Attempt) → Assigns p later b s → GoesOn p later (attempts_from p b items)) → GoesOn p now (goes_on_to i.bus i.word (form_of p.codes i.bus i.word) a asked (λ b. attempts_from p b items))
+item_assigned : (p : Contents) (now : Option Assigned) (a : Attempt) (i : Seen) (s : State) (items : List Seen) → IsOf p now a → (asked : Option ℕ) → AfterAsk p now a (grown i.bus i.word (form_of p.codes i.bus i.word) a) asked s.source s.to_sink s.to_source s.sink.phase → ((later : Option Assigned) (b : Attempt) → Assigns p later b s → GoesOn p later (attempts_from p b items)) → GoesOn p now (goes_on_to i (form_of p.codes i.bus i.word) a asked (λ b. attempts_from p b items))
 item_assigned p now a i s items of None h next = next now (grown i.bus i.word (form_of p.codes i.bus i.word) a) h
 item_assigned p now a i s items of (Some n) (t, sound, count, is, stands) next = begins_next p now a t n (attempts_from p (fresh n) items) of sound is (next (Some t) (fresh n) stands)
 

@@ -6,7 +6,7 @@ use Rattle.a429_ldu.specs.Carried.{bytes_carried, bytes_in, semis_in_words}
 use Rattle.a429_ldu.specs.CheckWord.{agrees, check_of}
 use Rattle.a429_link.specs.declared.why.Why.{Why}
 use Rattle.a429_link.specs.declared.why.Why.TheVariants as why
-use Rattle.a429_link.specs.Sink.{Block, InBlock, Number, OwesAck, OwesNak, Sink, SinkPhase, at_end, in_phase, may_come, number_of, takes_end}
+use Rattle.a429_link.specs.Sink.{end_word, Block, InBlock, Number, OwesAck, OwesNak, Sink, SinkPhase, at_end, in_phase, may_come, number_of, takes_end}
 use Rattle.a429_link.specs.Why.{are_half, block_in, why_bad}
 use Rattle.a429_link.proofs.TraceReasons.{carries_where, none_where_good}
 
@@ -52,11 +52,11 @@ end_not false b flags e = refl
 -- a good block is owed its acknowledgement, and another a negative answer
 pub ends_good : (p : Contents) (k : Sink) (b : Block) (flags check : ℕ) → k.phase ≡ InBlock b → None ≡ why_bad p k.last k.count (block_in k.phase) check → takes_end p flags check k ≡ in_phase (OwesAck b flags) k
 ends_good p k b flags check at none =
-    let here = ap (λ (phase : SinkPhase). in_phase (at_end p k.last k.count flags check phase) k) at in
+    let here = ap (λ (phase : SinkPhase). in_phase (at_end p k.last k.count (end_word flags check) phase) k) at in
     here ∙ ap (λ (phase : SinkPhase). in_phase phase k) (end_of _ b flags ((none_where_good p k.last k.count b check).0 (sym (none ∙ ap (λ (phase : SinkPhase). why_bad p k.last k.count (block_in phase) check) at))))
 
 pub ends_bad : (p : Contents) (k : Sink) (b : Block) (flags check : ℕ) (reason : Why) → k.phase ≡ InBlock b → Some reason ≡ why_bad p k.last k.count (block_in k.phase) check → takes_end p flags check k ≡ in_phase OwesNak k
 ends_bad p k b flags check reason at some =
-    let here = ap (λ (phase : SinkPhase). in_phase (at_end p k.last k.count flags check phase) k) at in
+    let here = ap (λ (phase : SinkPhase). in_phase (at_end p k.last k.count (end_word flags check) phase) k) at in
     let why = some ∙ ap (λ (phase : SinkPhase). why_bad p k.last k.count (block_in phase) check) at in
     here ∙ ap (λ (phase : SinkPhase). in_phase phase k) (end_not _ b flags (λ good. let none = (none_where_good p k.last k.count b check).1 good in absurd (cc (why, none))))

@@ -5,7 +5,7 @@ use Rattle.a429_profile.specs.Profile.{Contents}
 use Rattle.a429_profile.specs.declared.codes.Codes.{Codes}
 use Rattle.a429_ldu.specs.Carried.{bytes_carried, bytes_in, if_some, paired, semis_in_words, semis_of_words}
 use Rattle.a429_ldu.specs.CheckWord.{agrees}
-use Rattle.a429_link.specs.Sink.{Block, Granted, InBlock, Number, OwesAck, OwesClear, OwesNak, Quiet, Sink, SinkPhase, at_end, is_good, may_come, number_of, takes_end}
+use Rattle.a429_link.specs.Sink.{end_word, Block, Granted, InBlock, Number, OwesAck, OwesClear, OwesNak, Quiet, Sink, SinkPhase, at_end, is_good, may_come, number_of, takes_end}
 use Rattle.a429_link.specs.Observer.{HasGrant}
 use Rattle.a429_link.specs.declared.why.Why.{Why}
 use Rattle.a429_link.specs.Why.{are_half, block_in, why_bad}
@@ -66,7 +66,7 @@ owed_where true (Some x) b flags e = absurd (cc (e.1 refl))
 owed_where false None b flags e = absurd (cc (e.0 refl))
 owed_where false (Some x) b flags e = (λ h. refl, λ h. refl)
 
-end_owes : (p : Contents) (last : Option Number) (count flags check : ℕ) (phase : SinkPhase) → HasGrant phase → (at_end p last count flags check phase ≡ OwesNak) ↔ IsSome (why_bad p last count (block_in phase) check)
+end_owes : (p : Contents) (last : Option Number) (count flags check : ℕ) (phase : SinkPhase) → HasGrant phase → (at_end p last count (end_word flags check) phase ≡ OwesNak) ↔ IsSome (why_bad p last count (block_in phase) check)
 end_owes p last count flags check Granted g = (λ h. refl, λ h. refl)
 end_owes p last count flags check (InBlock b) g = owed_where (is_good p last count b check) (why_bad p last count (Some b) check) b flags (none_where_good p last count b check)
 end_owes p last count flags check Quiet g = absurd g

@@ -9,7 +9,7 @@ use Rattle.a429_ldu.specs.declared.forms.Form.TheVariants as form
 use Rattle.a429_ldu.specs.Form.{IsInRange, bus_of, form_of, word_number}
 use Rattle.a429_ldu.proofs.FormFacts.{form_of-is, form_of-word_number}
 use Rattle.a429_link.specs.declared.seen.Seen.{Seen}
-use Rattle.a429_link.specs.Sink.{Granted, InBlock, MayAnswer, Number, OwesAck, OwesClear, OwesNak, Quiet, SinkPhase, at_end, at_part, at_start, empty_block, is_good}
+use Rattle.a429_link.specs.Sink.{end_word, Granted, InBlock, MayAnswer, Number, OwesAck, OwesClear, OwesNak, Quiet, SinkPhase, at_end, at_part, at_start, empty_block, is_good}
 use Rattle.a429_link.specs.Observer.{Allows, AllowsForm, Observer, at_first, observed, sees, sees_form}
 use Rattle.a429_link.specs.Allowed.{AllowsKind, AllowsWordOf, Kind, kind_of, kinds_allowed}
 use Rattle.a429_link.proofs.MessageRead.{is_read}
@@ -39,7 +39,7 @@ part_numbers w count OwesClear h = h
 part_numbers w count (OwesAck b fl) h = h
 part_numbers w count OwesNak h = h
 
-end_numbers : (p : Contents) (last : Option Number) (count flags check : ℕ) (phase : SinkPhase) → HasNumbers count phase → HasNumbers count (at_end p last count flags check phase)
+end_numbers : (p : Contents) (last : Option Number) (count flags check : ℕ) (phase : SinkPhase) → HasNumbers count phase → HasNumbers count (at_end p last count (end_word flags check) phase)
 end_numbers p last count flags check Granted h = h
 end_numbers p last count flags check (InBlock b) h = by (is_good p last count b check)
   where

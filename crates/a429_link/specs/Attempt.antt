@@ -41,13 +41,13 @@ grown _ w _ a = a
 -- ---- the attempts of a recording
 
 -- this attempt, and those that these items go on with
-abbrev pub goes_on_to : Bus → ℕ → Option Form → Attempt → Option ℕ → (Attempt → List Attempt) → List Attempt
-goes_on_to b w x a None more = more (grown b w x a)
-goes_on_to b w x a (Some n) more = a ∷ more (fresh n)
+abbrev pub goes_on_to : Seen → Option Form → Attempt → Option ℕ → (Attempt → List Attempt) → List Attempt
+goes_on_to i x a None more = more (grown i.bus i.word x a)
+goes_on_to i x a (Some n) more = a ∷ more (fresh n)
 
 abbrev pub attempts_from : Contents → Attempt → List Seen → List Attempt
 attempts_from p a [] = a ∷ []
-attempts_from p a (i ∷ items) = goes_on_to i.bus i.word (form_of p.codes i.bus i.word) a (asks i.bus (form_of p.codes i.bus i.word)) (λ b. attempts_from p b items)
+attempts_from p a (i ∷ items) = goes_on_to i (form_of p.codes i.bus i.word) a (asks i.bus (form_of p.codes i.bus i.word)) (λ b. attempts_from p b items)
 
 -- in the first no request is recorded, and so no word that is allowed either
 abbrev pub attempts : Contents → List Seen → List Attempt

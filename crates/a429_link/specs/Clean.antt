@@ -1,4 +1,4 @@
--- What a run without loss records, and the steps that give it (profile: each link data unit is asked for, cleared, sent
+-- What a run without loss records, and the steps that record it (profile: each link data unit is asked for, cleared, sent
 -- and acknowledged once).
 use Rattle.std.specs.Prelude.{◌≡◌, ℕ, ◌+◌, ◌*◌, ◌%◌, ◌≤◌, ◌==◌, nat_lt, if◌then◌else◌, Option, Some, None, List, [], ◌∷◌, ◌++◌, map, length}
 use Rattle.a429_word.specs.declared.bus.Bus.TheVariants as bus

@@ -7,6 +7,6 @@ pub record Lane : Type 0 where
   -- the words on their way to it, in order
   pub coming : List ℕ
 
--- a list, with so many of its words in front of the boundary
+-- a list, with so many of its words before the boundary
 abbrev pub lane_at : ℕ → List ℕ → Lane
 lane_at boundary words = record { taken = take boundary words; coming = drop boundary words }

@@ -1,5 +1,5 @@
--- The observer of a recording: a sink that takes each word of bus A, and gives each answer of bus B, at the
--- moment it is recorded (profile). It tells what a recording allows next.
+-- The observer of a recording: a sink that takes each word of bus A, and sends each answer of bus B, at the
+-- moment it is recorded (profile). It says what a recording allows next.
 use Rattle.std.specs.Prelude.{ℕ, ◌≡◌, suc, ◌+◌, ◌<◌, ◌≤◌, Bool, true, false, ◌⊎◌, List, [], ◌∷◌, take, Option, Some, None, slice_get, length}
 use Rattle.a429_word.specs.declared.bus.Bus.{Bus}
 use Rattle.a429_word.specs.declared.bus.Bus.TheVariants as bus

@@ -27,7 +27,7 @@ pub record Block : Type 0 where
 abbrev pub empty_block : ℕ → ℕ → ℕ → Block
 empty_block gfi file ldu = record { gfi = gfi; file = file; ldu = ldu; words = [] }
 
--- the number that its start word tells
+-- the number in its start word
 abbrev pub number_of : Block → UnitNumber
 number_of b = record { file = b.file; ldu = b.ldu }
 
@@ -35,7 +35,7 @@ pub data SinkPhase : Type 0 where
   Quiet : SinkPhase
   -- a request was taken
   OwesClear : SinkPhase
-  -- the clear answer was given
+  -- the clear answer was sent
   Granted : SinkPhase
   InBlock : (block : Block) → SinkPhase
   -- the block is good; these are the flags of its end word
@@ -111,10 +111,18 @@ abbrev pub at_part : ℕ → SinkPhase → SinkPhase
 at_part word (InBlock b) = InBlock (record b { words = b.words ++ word ∷ [] })
 at_part word phase = phase
 
-abbrev pub at_end : Contents → Option Number → ℕ → ℕ → ℕ → SinkPhase → SinkPhase
-at_end p last count flags check Granted = OwesNak
-at_end p last count flags check (InBlock b) = if is_good p last count b check then OwesAck b flags else OwesNak
-at_end p last count flags check phase = phase
+-- what an end word says: its flags and its check word
+pub record EndWord : Type 0 where
+  pub flags : ℕ
+  pub check : ℕ
+
+abbrev pub end_word : ℕ → ℕ → EndWord
+end_word flags check = record { flags = flags; check = check }
+
+abbrev pub at_end : Contents → Option Number → ℕ → EndWord → SinkPhase → SinkPhase
+at_end p last count e Granted = OwesNak
+at_end p last count e (InBlock b) = if is_good p last count b e.check then OwesAck b e.flags else OwesNak
+at_end p last count e phase = phase
 
 -- the sink in this phase, with all else as it was
 abbrev pub in_phase : SinkPhase → Sink → Sink
@@ -132,7 +140,7 @@ abbrev pub takes_part : ℕ → Sink → Sink
 takes_part word k = in_phase (at_part word k.phase) k
 
 abbrev pub takes_end : Contents → ℕ → ℕ → Sink → Sink
-takes_end p flags check k = in_phase (at_end p k.last k.count flags check k.phase) k
+takes_end p flags check k = in_phase (at_end p k.last k.count (end_word flags check) k.phase) k
 
 -- the sink after a word of this form
 abbrev pub takes : Contents → ℕ → Form → Sink → Sink
@@ -190,7 +198,7 @@ accepts_owed c phase k = k
 abbrev pub accepts_block : Codes → Sink → Sink
 accepts_block c k = accepts_owed c k.phase k
 
--- the sink after it has given an answer of this form: an acknowledgement accepts its block
+-- the sink after it has sent an answer of this form: an acknowledgement accepts its block
 abbrev pub answers : Codes → Form → Sink → Sink
 answers c (Cts n) k = in_phase Granted k
 answers c (Ack file ldu) k = in_phase Quiet (accepts_block c k)
@@ -201,7 +209,7 @@ abbrev pub answers_form : Codes → Option Form → Sink → Sink
 answers_form c None k = k
 answers_form c (Some x) k = answers c x k
 
--- the sink after it has given this word of bus B
+-- the sink after it has sent this word of bus B
 abbrev pub answers_word : Codes → ℕ → Sink → Sink
 answers_word c word k = answers_form c (form_of c bus.B word) k
 
@@ -217,7 +225,7 @@ unfiled old new = with_received old.received new
 abbrev pub without_files : Sink → Sink
 without_files k = with_received (record (k.received) { files = [] }) k
 
--- a sink in this phase, whose last request had this count, may give an answer of this form: the clear
+-- a sink in this phase, whose last request had this count, may send an answer of this form: the clear
 -- answer with that count; the acknowledgement with the block's numbers; a negative answer with any bits,
 -- in place of an acknowledgement too
 abbrev pub MayAnswer : ℕ → SinkPhase → Form → Type 0
@@ -237,7 +245,7 @@ abbrev pub IsAck : Option Form → Type 0
 IsAck (Some (Ack file ldu)) = Unit {0}
 IsAck _ = ⊥
 
--- ---- where it stands
+-- ---- where it is
 
 -- it takes words
 abbrev pub Listens : SinkPhase → Type 0

@@ -77,7 +77,7 @@ with_answer_first c (w ∷ ws) s = with_answer_form c (form_of c bus.B w) s
 abbrev pub given_up : Codes → Source → Source
 given_up c s = record s { number = first_number c ((s.number.file + 1) % 256); current = None; give_ups = suc s.give_ups }
 
--- ---- where it stands
+-- ---- where it is
 
 abbrev pub IsIdle : SourceState → Type 0
 IsIdle Idle = Unit {0}

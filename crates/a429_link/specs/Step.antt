@@ -57,7 +57,7 @@ after p LoseAnswer s = record s { to_source = rest s.to_source }
 after p SinkTakes s = record s { sink = takes_first p s.to_sink s.sink; to_sink = rest s.to_sink }
 -- the sink owes nothing
 after p Silent s = record s { sink = record (s.sink) { phase = Quiet } }
--- the sink has given its answer, and it is on its way
+-- the sink has answered, and it is on its way
 after p (Answered i) s = record s { sink = answers_word p.codes i.word s.sink; to_source = s.to_source ++ i.word ∷ [] }
 -- nothing changes
 after p (FreeSeen i) s = s

@@ -1,4 +1,4 @@
--- What a recording implies of its sink, which takes each word of bus A, and gives each answer of bus B, at the moment it is recorded.
+-- What a recording implies of its sink, which takes each word of bus A, and sends each answer of bus B, at the moment it is recorded.
 use Rattle.std.specs.Prelude.{ℕ, List, [], ◌∷◌, None}
 use Rattle.a429_word.specs.declared.bus.Bus.{Bus}
 use Rattle.a429_word.specs.declared.bus.Bus.TheVariants as bus

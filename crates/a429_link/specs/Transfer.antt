@@ -1,4 +1,4 @@
--- How a step is made or refused, a fault told from the step's name without a search for a word. For a link's states it is
+-- How a step is made or refused, a fault known from the step's name without a search for a word. For a link's states it is
 -- proved that this fault is the same.
 use Rattle.std.specs.Prelude.{◌≡◌, IsSome, Result, Ok, Err}
 use Rattle.a429_profile.specs.Profile.{Contents}

@@ -5,7 +5,7 @@ use Rattle.std.proofs.lemmas.List.{append-nil}
 use Rattle.std.proofs.KnownBytes.{Consumes-kept, prepend_known-nil}
 use Rattle.a429_record.specs.declared.format.Format.TheVariants as format
 use Rattle.a429_record.specs.Binary.{magic, is_binary}
-use Rattle.a429_record.specs.Handed.{Loses}
+use Rattle.a429_record.specs.Handed.{OfTaken, Loses}
 use Rattle.a429_record.specs.Lines.{Chooses, IsMagicFront}
 use Rattle.a429_record.proofs.BinaryFacts.{short_text, other_text}
 use Rattle.a429_record.proofs.Handed.{consumed}
@@ -44,7 +44,7 @@ all_eight (Some a) (Some b) filled none ahead e full front gone =
 
 -- the reader fails behind fewer
 pub magic_lost : (k k' k'' : Option (List ℕ)) (filled : ℕ) (none ahead : List ℕ) → none ≡ [] → filled < 8 → ahead ≡ take filled magic → Consumes k k' ahead → Keeps k' k''
-    → Loses IsMagicFront (prepend_known none k) k''
+    → Loses (OfTaken IsMagicFront) (prepend_known none k) k''
 magic_lost k k' k'' filled none ahead e few front gone kept =
     let all : Consumes (prepend_known none k) k'' ahead = rw (e, prepend_known-nil) (Consumes-kept k k' k'' ahead gone kept) in
-    consumed IsMagicFront (prepend_known none k) k'' ahead all (λ rest. (filled, few, front))
+    consumed (OfTaken IsMagicFront) (prepend_known none k) k'' ahead all (λ rest. (filled, few, front))

@@ -11,7 +11,7 @@ use Rattle.a429_record.specs.declared.fault.ReadFault.{ReadFault}
 use Rattle.a429_record.specs.Ends.{HasNoEnd}
 use Rattle.a429_record.specs.Row.{Row, is_header, entry_in, line_rows}
 use Rattle.a429_record.specs.Recording.{Recording, recording_lines, with_first, rows_of, row_stands_for, entries_stand_for, IsWithin}
-use Rattle.a429_record.specs.Handed.{onto_first, ended_lines, ended_rows, AreSound, Loses, HasNoTextFault, HasNoRow, IsOpen, IsLineHanded, IsEnded, AreLines, AreHeader, AreEntryOf, AreGiven}
+use Rattle.a429_record.specs.Handed.{OfTaken, onto_first, ended_lines, ended_rows, AreSound, Loses, HasNoTextFault, HasNoRow, IsLineHanded, IsEnded, AreLines, AreHeader, AreEntryOf, AreGiven}
 use Rattle.a429_record.proofs.LinesFacts.{lines_of-ended, lines_of-last, given}
 use Rattle.a429_record.proofs.WholeRecordings.{recordable-whole}
 
@@ -116,7 +116,7 @@ open-ended : (part : List ℕ) → HasNoEnd part → ended_lines part ≡ []
 open-ended [] h = refl
 open-ended (b ∷ bs) h = rw h.0 (ap (onto_first b) (open-ended bs h.1))
 
-pub open_no_row : (taken rest : List ℕ) → IsOpen taken rest → HasNoRow taken rest
+pub open_no_row : (taken rest : List ℕ) → HasNoEnd taken → HasNoRow taken
 open_no_row taken rest h = ap (flat_map line_rows) (open-ended taken h)
 
 -- ---- lines one behind the other
@@ -137,7 +137,7 @@ lines_both P Q R t u rest (inr end, p) (more, q) h =
     (inr last, rw (none, append-nil) (rw append-nil at joined))
 
 -- and then a text without a row
-pub lines_no_row : (P : List Row → Type 0) (t u rest : List ℕ) → AreLines P t (u ++ rest) → HasNoRow u rest → (more : List Row) × P (ended_rows (t ++ u) ++ more)
+pub lines_no_row : (P : List Row → Type 0) (t u rest : List ℕ) → AreLines P t (u ++ rest) → HasNoRow u → (more : List Row) × P (ended_rows (t ++ u) ++ more)
 lines_no_row P t u rest (inl end, p) none =
     let same : ended_rows (t ++ u) ++ [] ≡ rows_of t = append-nil (ended_rows (t ++ u)) ∙ ended_rows-behind t u end ∙ ap (λ (l : List Row). rows_of t ++ l) none ∙ append-nil (rows_of t) in
     ([], subst P (sym same) p)
@@ -150,7 +150,7 @@ no_rows : (xs ys : List Row) → xs ++ ys ≡ [] → xs ≡ []
 no_rows [] ys e = refl
 no_rows (x ∷ xs) ys e = cc e
 
-pub still_no_row : (t u rest : List ℕ) → AreLines (λ rows. rows ≡ []) t (u ++ rest) → HasNoRow u rest → HasNoRow (t ++ u) rest
+pub still_no_row : (t u rest : List ℕ) → AreLines (λ rows. rows ≡ []) t (u ++ rest) → HasNoRow u → HasNoRow (t ++ u)
 still_no_row t u rest p none = let (more, e) = lines_no_row (λ rows. rows ≡ []) t u rest p none in no_rows (ended_rows (t ++ u)) more e
 
 -- one line
@@ -190,7 +190,7 @@ given-sound most es (r ∷ rows) more h g =
     rw first (entries-front most 0 0 (map entry_in rows) (map entry_in more) (ap (λ (t : Recording). t.fault) holds))
 
 -- entries were given, and then there was no row
-pub sound : (most : ℕ) (es : List Entry) (t u rest : List ℕ) → IsWithin most es → AreLines (AreGiven es) t (u ++ rest) → HasNoRow u rest → HasNoTextFault most (t ++ u) rest
+pub sound : (most : ℕ) (es : List Entry) (t u rest : List ℕ) → IsWithin most es → AreLines (AreGiven es) t (u ++ rest) → HasNoRow u → HasNoTextFault most (t ++ u)
 sound most es t u rest h p none = let (more, g) = lines_no_row (AreGiven es) t u rest p none in given-sound most es (ended_rows (t ++ u)) more h g
 
 -- a row more
@@ -223,7 +223,7 @@ line_lost R a b c line p q so = lost_both _ _ _ a b c p q (λ t u rest before af
     lines_both (λ rows. rows ≡ []) (λ rows. rows ≡ line_rows line) R t u rest before (line_lines line u rest after) (λ x y ex ey. rw (ex, ey) so))
 
 -- the reader fails behind such lines
-pub failed_lost : (a b c : Option (List ℕ)) → Loses (AreLines (λ rows. rows ≡ [])) a b → Loses IsOpen b c → Loses HasNoRow a c
+pub failed_lost : (a b c : Option (List ℕ)) → Loses (AreLines (λ rows. rows ≡ [])) a b → Loses (OfTaken HasNoEnd) b c → Loses (OfTaken HasNoRow) a c
 failed_lost a b c p q = lost_both _ _ _ a b c p q (λ t u rest before after. still_no_row t u rest before (open_no_row u rest after))
 
 pub no_lines : (a : Option (List ℕ)) → Loses (AreLines (λ rows. rows ≡ [])) a a
@@ -260,17 +260,17 @@ given_next es more e a b c is p q =
     lines_both (AreGiven es) (AreEntryOf e) (AreGiven (es ++ (e ∷ []))) t u rest before after (given_row es e)))
 
 -- the reader fails before an entry
-pub failed_next : (most : ℕ) (es : List Entry) (a b c : Option (List ℕ)) → IsWithin most es → Loses (AreLines (AreGiven es)) a b → Loses HasNoRow b c → Loses (HasNoTextFault most) a c
+pub failed_next : (most : ℕ) (es : List Entry) (a b c : Option (List ℕ)) → IsWithin most es → Loses (AreLines (AreGiven es)) a b → Loses (OfTaken HasNoRow) b c → Loses (OfTaken (HasNoTextFault most)) a c
 failed_next most es a b c h p q = lost_both _ _ _ a b c p q (λ t u rest before after. sound most es t u rest h before after)
 
 -- ---- the header and the first entry
 
 -- the reader fails before the header
-pub failed_header : (most : ℕ) (a b : Option (List ℕ)) → Loses HasNoRow a b → Loses (HasNoTextFault most) a b
-failed_header most a b h = lost_so HasNoRow (HasNoTextFault most) a b h (λ t rest none. subst (AreSound most) (sym none) tt)
+pub failed_header : (most : ℕ) (a b : Option (List ℕ)) → Loses (OfTaken HasNoRow) a b → Loses (OfTaken (HasNoTextFault most)) a b
+failed_header most a b h = lost_so (OfTaken HasNoRow) (OfTaken (HasNoTextFault most)) a b h (λ t rest none. subst (AreSound most) (sym none) tt)
 
 -- it fails behind the header
-pub failed_first : (most : ℕ) (a b c : Option (List ℕ)) → Loses (AreLines AreHeader) a b → Loses HasNoRow b c → Loses (HasNoTextFault most) a c
+pub failed_first : (most : ℕ) (a b c : Option (List ℕ)) → Loses (AreLines AreHeader) a b → Loses (OfTaken HasNoRow) b c → Loses (OfTaken (HasNoTextFault most)) a c
 failed_first most a b c p q = failed_next most [] a b c (omega arith, tt) (given_header a b p) q
 
 -- the header comes, and then an entry, where the answer is one

@@ -14,7 +14,7 @@ use Rattle.a429_record.specs.Ends.{HasNoEnd}
 use Rattle.a429_record.specs.Binary.{magic, is_binary, piece_entries}
 use Rattle.a429_record.specs.Recording.{Recording, rows_of, entries_stand_for, all_rows_stand_for, stands_within, IsWithin}
 use Rattle.a429_record.specs.WholeRecordings.{AreBinary}
-use Rattle.a429_record.specs.Handed.{AreSound, Loses, HasNoFaultWithin, HasNoTextFault, HasNoRow, IsCut, IsCutAfter, IsCutBinary, AreLines, AreGiven, ArePieceOf}
+use Rattle.a429_record.specs.Handed.{OfTaken, AreSound, Loses, HasNoFaultWithin, HasNoTextFault, HasNoRow, IsCut, IsCutBinary, AreLines, AreGiven, ArePieceOf}
 use Rattle.a429_record.specs.Lines.{Chooses, IsMagicFront}
 use Rattle.a429_record.specs.Rows.{GivesNext, IfEntry, chosen_form}
 use Rattle.a429_record.specs.Reading.{AreFirstHanded, AreNextHanded, AreHandedAt, MakesNoFault, PassesAt, IsChosen, IsFormatAfter}
@@ -24,10 +24,10 @@ use Rattle.a429_record.proofs.Handed.{nothing_lost, lost_both, lost_so, open_no_
 -- ---- the first bytes
 
 -- nothing was read, and the reader has failed
-pub failed_begun : (most : ℕ) (k : Option (List ℕ)) (ahead : List ℕ) → ahead ≡ [] → Loses (HasNoFaultWithin most) (prepend_known ahead k) k
+pub failed_begun : (most : ℕ) (k : Option (List ℕ)) (ahead : List ℕ) → ahead ≡ [] → Loses (OfTaken (HasNoFaultWithin most)) (prepend_known ahead k) k
 failed_begun most k ahead none =
     let own : prepend_known ahead k ≡ k = rw none (prepend_known-nil k) in
-    subst (λ (o : Option (List ℕ)). Loses (HasNoFaultWithin most) o k) (sym own) (nothing_lost (HasNoFaultWithin most) k (λ rest. (λ e. cc e, λ e. tt)))
+    subst (λ (o : Option (List ℕ)). Loses (OfTaken (HasNoFaultWithin most)) o k) (sym own) (nothing_lost (OfTaken (HasNoFaultWithin most)) k (λ rest. (λ e. cc e, λ e. tt)))
 
 HasNoEnd-take : (n : ℕ) (xs : List ℕ) → HasNoEnd xs → HasNoEnd (take n xs)
 HasNoEnd-take zero xs h = tt
@@ -38,14 +38,14 @@ magic-end : HasNoEnd magic
 magic-end = search rules
 
 -- the reader fails among the eight bytes
-pub failed_magic : (most : ℕ) (a b : Option (List ℕ)) → Loses IsMagicFront a b → Loses (HasNoFaultWithin most) a b
-failed_magic most a b h = lost_so IsMagicFront (HasNoFaultWithin most) a b h (λ t rest w.
+pub failed_magic : (most : ℕ) (a b : Option (List ℕ)) → Loses (OfTaken IsMagicFront) a b → Loses (OfTaken (HasNoFaultWithin most)) a b
+failed_magic most a b h = lost_so (OfTaken IsMagicFront) (OfTaken (HasNoFaultWithin most)) a b h (λ t rest w.
     let few : length t < 8 = rw w.2 (subst (λ (n : ℕ). n < 8) (sym (length-take-le w.0 magic (omega (arith, w.1)))) w.1) in
-    let none : HasNoRow t rest = open_no_row t rest (rw w.2 (HasNoEnd-take w.0 magic magic-end)) in
+    let none : HasNoRow t = open_no_row t rest (rw w.2 (HasNoEnd-take w.0 magic magic-end)) in
     (λ binary. absurd (cc (sym (short_text t few) ∙ binary)), λ text. subst (AreSound most) (sym none) tt))
 
 -- it fails in a text
-pub failed_text : (most : ℕ) (a b c : Option (List ℕ)) → Chooses format.Text a b → Loses (HasNoTextFault most) b c → Loses (HasNoFaultWithin most) a c
+pub failed_text : (most : ℕ) (a b c : Option (List ℕ)) → Chooses format.Text a b → Loses (OfTaken (HasNoTextFault most)) b c → Loses (OfTaken (HasNoFaultWithin most)) a c
 failed_text most None b c p q = tt
 failed_text most (Some xs) None c p q = absurd p.0
 failed_text most (Some xs) (Some ys) None p q = absurd q
@@ -54,7 +54,7 @@ failed_text most (Some xs) (Some ys) (Some zs) p q =
     (q.0, all, (λ binary. absurd (cc (sym p.1 ∙ ap is_binary all ∙ still_binary q.0 zs binary)), λ text. q.2))
 
 -- it fails in a binary recording, before an entry was given
-pub failed_binary : (most : ℕ) (a b c : Option (List ℕ)) (count : ℕ) → count ≡ 0 → Chooses format.Binary a b → Loses (IsCutAfter most count) b c → Loses (HasNoFaultWithin most) a c
+pub failed_binary : (most : ℕ) (a b c : Option (List ℕ)) (count : ℕ) → count ≡ 0 → Chooses format.Binary a b → Loses (OfTaken (IsCut most count)) b c → Loses (OfTaken (HasNoFaultWithin most)) a c
 failed_binary most None b c count none p q = tt
 failed_binary most (Some xs) None c count none p q = absurd p
 failed_binary most (Some xs) (Some ys) None count none p q = absurd q
@@ -177,15 +177,15 @@ form_at stage.Failed old f es (Some xs) None p has stays = absurd p
 form_at stage.Failed old f es (Some xs) (Some ys) p has stays = absurd p.2
 
 -- the reader fails behind entries of a binary recording
-cut_binary : (most : ℕ) (es : List Entry) (count : ℕ) (t u rest : List ℕ) → IsWithin most es → length es ≡ count → AreBinary t es → IsCut most count u → HasNoFaultWithin most (t ++ u) rest
+cut_binary : (most : ℕ) (es : List Entry) (count : ℕ) (t u rest : List ℕ) → IsWithin most es → length es ≡ count → AreBinary t es → IsCut most count u → HasNoFaultWithin most (t ++ u)
 cut_binary most es count t u rest h size given cut =
     let short : IsCut most (length es) u = rw size cut in
     let sound : IsCutBinary most (t ++ u) = record { entries = es; front = t; cut = u; all = refl; whole = (given, h); short = short } in
     let binary : is_binary (t ++ u) ≡ true = rw given.all refl in
     (λ _. sound, λ text. absurd (cc (sym binary ∙ text)))
 
-failed_in : (most : ℕ) (f : Format) (es : List Entry) (count : ℕ) (a b c : Option (List ℕ)) → IsWithin most es → length es ≡ count → IsChosen a f → Loses (AreGivenIn f es) a b → Loses (MakesNoFault most f count) b c
-    → Loses (HasNoFaultWithin most) a c
+failed_in : (most : ℕ) (f : Format) (es : List Entry) (count : ℕ) (a b c : Option (List ℕ)) → IsWithin most es → length es ≡ count → IsChosen a f → Loses (AreGivenIn f es) a b → Loses (OfTaken (MakesNoFault most f count)) b c
+    → Loses (OfTaken (HasNoFaultWithin most)) a c
 failed_in most format.Text es count None b c h size chosen p q = tt
 failed_in most format.Text es count (Some xs) b c h size chosen p q =
     failed_text most (Some xs) (Some xs) c (refl, text_of xs chosen) (failed_next most es (Some xs) b c h p q)
@@ -199,9 +199,9 @@ failed_in most format.Binary es count a b c h size chosen p q = lost_both _ _ _ 
 
 -- it fails
 pub failed_at : (most : ℕ) (at : Stage) (f : Format) (es : List Entry) (count : ℕ) (a b c : Option (List ℕ)) → IsWithin most es → length es ≡ count → IsFormOf at a f → Loses (AreGivenAt at f es) a b
-    → Loses (PassesAt most at f count) b c → Loses (HasNoFaultWithin most) a c
+    → Loses (OfTaken (PassesAt most at f count)) b c → Loses (OfTaken (HasNoFaultWithin most)) a c
 failed_at most stage.Begins f es count a b c h size has p q = lost_both _ _ _ a b c p q (λ t u rest before after.
-    let There : List ℕ → Type 0 = λ l. HasNoFaultWithin most (l ++ u) rest in
+    let There : List ℕ → Type 0 = λ l. HasNoFaultWithin most (l ++ u) in
     subst There (sym before.1) after)
 failed_at most stage.Rows f es count a b c h size has p q = failed_in most f es count a b c h size has p q
 failed_at most stage.Ended f es count a b c h size has p q = lost_both _ _ _ a b c p q (λ t u rest before after. absurd before)

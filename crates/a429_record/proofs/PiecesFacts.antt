@@ -7,7 +7,7 @@ use Rattle.a429_record.specs.declared.fault.ReadFault.{ReadFault}
 use Rattle.a429_record.specs.declared.fault.ReadFault.TheVariants as fault
 use Rattle.a429_record.specs.Binary.{entry_bytes, piece_entry, piece_entries}
 use Rattle.a429_record.specs.Recording.{Recording, entries_stand_for}
-use Rattle.a429_record.specs.Handed.{Loses, IsCutAfter, ArePieceOf}
+use Rattle.a429_record.specs.Handed.{OfTaken, Loses, IsCut, ArePieceOf}
 use Rattle.a429_record.specs.Lines.{IsShort, IsNothing}
 use Rattle.a429_record.specs.Rows.{GivesNext, IfEntry}
 use Rattle.a429_record.proofs.BinaryFacts.{pieces-first, pieces-last, pieces-next, piece_size}
@@ -77,8 +77,8 @@ whole_piece part o (Ok (Some e)) P is h so = so (piece_size part e (sym (h ∙ i
 whole_piece part o (Err f) P is h so = tt
 
 -- the reader fails before a byte of it, or within it
-pub nothing_cut : (m n : ℕ) (a c : Option (List ℕ)) → Loses IsNothing a c → Loses (IsCutAfter m n) a c
-nothing_cut m n a c h = lost_so IsNothing (IsCutAfter m n) a c h (λ t rest none. (rw none (omega arith), λ full. none))
+pub nothing_cut : (m n : ℕ) (a c : Option (List ℕ)) → Loses (OfTaken IsNothing) a c → Loses (OfTaken (IsCut m n)) a c
+nothing_cut m n a c h = lost_so (OfTaken IsNothing) (OfTaken (IsCut m n)) a c h (λ t rest none. (rw none (omega arith), λ full. none))
 
-pub short_cut : (m n size : ℕ) (a b c : Option (List ℕ)) → size ≡ entry_bytes → (n ≡ m → ⊥) → Keeps a b → Loses (IsShort size) b c → Loses (IsCutAfter m n) a c
-short_cut m n size a b c is room p h = kept_lost (IsCutAfter m n) a b c p (lost_so (IsShort size) (IsCutAfter m n) b c h (λ t rest few. (rw is at few, λ full. absurd (room full))))
+pub short_cut : (m n size : ℕ) (a b c : Option (List ℕ)) → size ≡ entry_bytes → (n ≡ m → ⊥) → Keeps a b → Loses (OfTaken (IsShort size)) b c → Loses (OfTaken (IsCut m n)) a c
+short_cut m n size a b c is room p h = kept_lost (OfTaken (IsCut m n)) a b c p (lost_so (OfTaken (IsShort size)) (OfTaken (IsCut m n)) b c h (λ t rest few. (rw is at few, λ full. absurd (room full))))

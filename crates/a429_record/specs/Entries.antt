@@ -51,5 +51,5 @@ abbrev pub ComesNext : EntriesLeft → EntriesLeft → Entry → Type 0
 ComesNext old new e = (old.last ≤ e.time) × (new.last ≡ e.time) × (new.count ≡ old.count + 1) × (new.count ≤ new.most) × (new.most ≡ old.most) × (new.count < 2 ^ 64)
 
 -- what is handed out makes no fault, by the stage of a reader of entries
-abbrev pub PassesFrom : EntriesLeft → List ℕ → List ℕ → Type 0
-PassesFrom old taken rest = PassesAt old.most old.stage old.format old.count taken rest
+abbrev pub PassesFrom : EntriesLeft → List ℕ → Type 0
+PassesFrom old taken = PassesAt old.most old.stage old.format old.count taken

@@ -32,12 +32,13 @@ Loses P None new = ⊤
 Loses P (Some xs) None = ⊥
 Loses P (Some xs) (Some ys) = (taken : List ℕ) × (xs ≡ taken ++ ys) × P taken ys
 
+-- what is handed out is so, whatever is left
+abbrev pub OfTaken : (List ℕ → Type 0) → List ℕ → List ℕ → Type 0
+OfTaken P taken rest = P taken
+
 -- bytes may be a prefix of those of the next entry after so many: they are too few for it, and none where no further entry is allowed
 abbrev pub IsCut : ℕ → ℕ → List ℕ → Type 0
 IsCut most count bytes = (length bytes < entry_bytes) × (count ≡ most → bytes ≡ [])
-
-abbrev pub IsCutAfter : ℕ → ℕ → List ℕ → List ℕ → Type 0
-IsCutAfter most count taken rest = IsCut most count taken
 
 -- bytes are those of a binary recording, and then at most a prefix of an entry's
 pub record IsCutBinary (most : ℕ) (bytes : List ℕ) : Type 0 where
@@ -49,25 +50,21 @@ pub record IsCutBinary (most : ℕ) (bytes : List ℕ) : Type 0 where
   pub short : IsCut most (length entries) cut
 
 -- no line of a text that is handed out with its line feed makes a fault
-abbrev pub HasNoTextFault : ℕ → List ℕ → List ℕ → Type 0
-HasNoTextFault most taken rest = AreSound most (ended_rows taken)
+abbrev pub HasNoTextFault : ℕ → List ℕ → Type 0
+HasNoTextFault most taken = AreSound most (ended_rows taken)
 
 -- nothing that is handed out makes a fault, whatever comes after it: of a binary recording no whole entry and no byte after the last
 -- that is allowed, of a text no line with its line feed
-abbrev pub HasNoFaultWithin : ℕ → List ℕ → List ℕ → Type 0
-HasNoFaultWithin most taken rest = (is_binary taken ≡ true → IsCutBinary most taken) × (is_binary taken ≡ false → HasNoTextFault most taken rest)
+abbrev pub HasNoFaultWithin : ℕ → List ℕ → Type 0
+HasNoFaultWithin most taken = (is_binary taken ≡ true → IsCutBinary most taken) × (is_binary taken ≡ false → HasNoTextFault most taken)
 
 -- of a recording of at most `most_entries`
-abbrev pub HasNoFault : List ℕ → List ℕ → Type 0
-HasNoFault taken rest = HasNoFaultWithin most_entries taken rest
+abbrev pub HasNoFault : List ℕ → Type 0
+HasNoFault taken = HasNoFaultWithin most_entries taken
 
 -- no line that is handed out with its line feed has a row
-abbrev pub HasNoRow : List ℕ → List ℕ → Type 0
-HasNoRow taken rest = ended_rows taken ≡ []
-
--- a prefix of a line is handed out
-abbrev pub IsOpen : List ℕ → List ℕ → Type 0
-IsOpen taken rest = HasNoEnd taken
+abbrev pub HasNoRow : List ℕ → Type 0
+HasNoRow taken = ended_rows taken ≡ []
 
 -- this line is handed out, with its line feed, which the last of all may lack
 abbrev pub IsLineHanded : List ℕ → List ℕ → List ℕ → Type 0

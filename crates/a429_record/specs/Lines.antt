@@ -8,7 +8,7 @@ use Rattle.a429_record.specs.declared.format.Format.{Format}
 use Rattle.a429_record.specs.declared.format.Format.TheVariants as format
 use Rattle.a429_record.specs.Binary.{magic, is_binary}
 use Rattle.a429_record.specs.Row.{Row}
-use Rattle.a429_record.specs.Handed.{Loses, IsLineHanded, AreLines}
+use Rattle.a429_record.specs.Handed.{Loses, OfTaken, IsLineHanded, AreLines}
 
 -- the bytes that were read and not yet used
 abbrev pub ahead_of : Lines → List ℕ
@@ -22,25 +22,33 @@ pending_of remaining s rec = prepend_known (ahead_of s) (unread remaining rec)
 abbrev pub room_of : {R : Type 0} → Lines → Tally R → ℕ
 room_of s rec = left_of rec + length (ahead_of s)
 
+-- the bytes that are still to come before and after a call, where they are known
+pub record Pending : Type 0 where
+  pub old : Option (List ℕ)
+  pub new : Option (List ℕ)
+
+abbrev pub pending : {R : Type 0} → (R → Option (List ℕ)) → Lines → Tally R → Lines → Tally R → Pending
+pending remaining old rec new new_rec = record { old = pending_of remaining old rec; new = pending_of remaining new new_rec }
+
 -- these bytes are returned
-abbrev pub HandsBytes : {R : Type 0} → (R → Option (List ℕ)) → List ℕ → Lines → Tally R → Lines → Tally R → Type 0
-HandsBytes remaining bytes old rec new new_rec = Consumes (pending_of remaining old rec) (pending_of remaining new new_rec) bytes
+abbrev pub HandsBytes : List ℕ → Pending → Type 0
+HandsBytes bytes p = Consumes p.old p.new bytes
 
 -- lines are returned: what they take of the bytes, and what is then left, are so
-abbrev pub HandsOut : {R : Type 0} → (List ℕ → List ℕ → Type 0) → (R → Option (List ℕ)) → Lines → Tally R → Lines → Tally R → Type 0
-HandsOut P remaining old rec new new_rec = Loses P (pending_of remaining old rec) (pending_of remaining new new_rec)
+abbrev pub HandsOut : (List ℕ → List ℕ → Type 0) → Pending → Type 0
+HandsOut P p = Loses P p.old p.new
 
 -- this line is returned
-abbrev pub HandsLine : {R : Type 0} → (R → Option (List ℕ)) → List ℕ → Lines → Tally R → Lines → Tally R → Type 0
-HandsLine remaining line old rec new new_rec = HandsOut (IsLineHanded line) remaining old rec new new_rec
+abbrev pub HandsLine : List ℕ → Pending → Type 0
+HandsLine line p = HandsOut (IsLineHanded line) p
 
 -- whole lines are returned, and their rows are so
-abbrev pub HandsRows : {R : Type 0} → (List Row → Type 0) → (R → Option (List ℕ)) → Lines → Tally R → Lines → Tally R → Type 0
-HandsRows P remaining old rec new new_rec = HandsOut (AreLines P) remaining old rec new new_rec
+abbrev pub HandsRows : (List Row → Type 0) → Pending → Type 0
+HandsRows P p = HandsOut (AreLines P) p
 
--- the reader fails: what it has returned until then, with the bytes that were read ahead, and what it leaves, are so
-abbrev pub FailsAfter : {R : Type 0} → (List ℕ → List ℕ → Type 0) → (R → Option (List ℕ)) → Lines → Tally R → Tally R → Type 0
-FailsAfter P remaining old rec new_rec = Loses P (pending_of remaining old rec) (unread remaining new_rec)
+-- the reader fails: what it has returned until then, with the bytes that were read ahead, is so
+abbrev pub FailsAfter : {R : Type 0} → (List ℕ → Type 0) → (R → Option (List ℕ)) → Lines → Tally R → Tally R → Type 0
+FailsAfter P remaining old rec new_rec = Loses (OfTaken P) (pending_of remaining old rec) (unread remaining new_rec)
 
 -- known bytes choose a format: those of a binary recording lose the eight that it begins with, those of a text stay
 abbrev pub Chooses : Format → Option (List ℕ) → Option (List ℕ) → Type 0
@@ -48,13 +56,13 @@ Chooses format.Text old new = Keeps old new × IfSome old (λ bytes. is_binary b
 Chooses format.Binary old new = Consumes old new magic
 
 -- fewer of these eight are handed out
-abbrev pub IsMagicFront : List ℕ → List ℕ → Type 0
-IsMagicFront taken rest = (n : ℕ) × (n < 8) × (taken ≡ take n magic)
+abbrev pub IsMagicFront : List ℕ → Type 0
+IsMagicFront taken = (n : ℕ) × (n < 8) × (taken ≡ take n magic)
 
 -- fewer than n bytes are handed out
-abbrev pub IsShort : ℕ → List ℕ → List ℕ → Type 0
-IsShort n taken rest = length taken < n
+abbrev pub IsShort : ℕ → List ℕ → Type 0
+IsShort n taken = length taken < n
 
 -- nothing is handed out
-abbrev pub IsNothing : List ℕ → List ℕ → Type 0
-IsNothing taken rest = taken ≡ []
+abbrev pub IsNothing : List ℕ → Type 0
+IsNothing taken = taken ≡ []

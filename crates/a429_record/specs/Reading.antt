@@ -12,8 +12,8 @@ use Rattle.a429_record.specs.declared.stage.Stage.TheVariants as stage
 use Rattle.a429_record.specs.declared.rows.RowReader.{RowReader}
 use Rattle.a429_record.specs.Recording.{Recording, whole, stops}
 use Rattle.a429_record.specs.WholeRecordings.{AreBinary}
-use Rattle.a429_record.specs.Handed.{HasNoFaultWithin, HasNoRow, IsCutAfter, AreLines, AreGiven, AreEntryOf, ArePieceOf}
-use Rattle.a429_record.specs.Lines.{pending_of, HandsOut, FailsAfter}
+use Rattle.a429_record.specs.Handed.{HasNoFaultWithin, HasNoRow, IsCut, AreLines, AreGiven, AreEntryOf, ArePieceOf}
+use Rattle.a429_record.specs.Lines.{Pending, pending_of, HandsOut, FailsAfter}
 use Rattle.a429_record.specs.Rows.{all_left, recording_left, chosen_form, GivesNext}
 
 -- what is still to come, where the bytes are known: entries, and the fault that comes after them, if one does
@@ -42,20 +42,20 @@ AreHandedAt stage.Failed f e taken rest = ⊥
 
 -- what is handed out makes no fault after so many entries, in this format: the lines of a text that have their line feed are no row,
 -- and of a binary recording it is at most a prefix of an entry
-abbrev pub MakesNoFault : ℕ → Format → ℕ → List ℕ → List ℕ → Type 0
-MakesNoFault most format.Text count taken rest = HasNoRow taken rest
-MakesNoFault most format.Binary count taken rest = IsCutAfter most count taken rest
+abbrev pub MakesNoFault : ℕ → Format → ℕ → List ℕ → Type 0
+MakesNoFault most format.Text count taken = HasNoRow taken
+MakesNoFault most format.Binary count taken = IsCut most count taken
 
 -- a reader of rows fails before the next: what it has returned until then is so
 abbrev pub FailsNext : {R : Type 0} → (R → Option (List ℕ)) → RowReader → Tally R → Tally R → Type 0
 FailsNext remaining old rec new_rec = FailsAfter (MakesNoFault old.most old.format old.count) remaining old.lines rec new_rec
 
 -- by the stage of a reading: before all entries in either format
-abbrev pub PassesAt : ℕ → Stage → Format → ℕ → List ℕ → List ℕ → Type 0
-PassesAt most stage.Begins f count taken rest = HasNoFaultWithin most taken rest
-PassesAt most stage.Rows f count taken rest = MakesNoFault most f count taken rest
-PassesAt most stage.Ended f count taken rest = ⊥
-PassesAt most stage.Failed f count taken rest = ⊥
+abbrev pub PassesAt : ℕ → Stage → Format → ℕ → List ℕ → Type 0
+PassesAt most stage.Begins f count taken = HasNoFaultWithin most taken
+PassesAt most stage.Rows f count taken = MakesNoFault most f count taken
+PassesAt most stage.Ended f count taken = ⊥
+PassesAt most stage.Failed f count taken = ⊥
 
 -- known bytes choose this format
 abbrev pub IsChosen : Option (List ℕ) → Format → Type 0
@@ -68,13 +68,13 @@ IsFormatAfter stage.Rows old bytes new = new ≡ old
 IsFormatAfter stage.Ended old bytes new = new ≡ old
 IsFormatAfter stage.Failed old bytes new = new ≡ old
 
--- an answer is the next entry, the end or the fault of what is still to come, and after an entry the rest is
-abbrev pub AnswersNext : {R : Type 0} → (R → Option (List ℕ)) → Reading → Tally R → Reading → Tally R → Result (Option Entry) ReadFault → Type 0
-AnswersNext remaining old rec new new_rec r = GivesNext (still_to_come remaining old.stage old.rows rec) (still_to_come remaining new.stage new.rows new_rec) r
+-- what is still to come of a reading
+abbrev pub left_to_come : {R : Type 0} → (R → Option (List ℕ)) → Reading → Tally R → Option Recording
+left_to_come remaining reading rec = still_to_come remaining reading.stage reading.rows rec
 
 -- the bytes of an entry are passed
-abbrev pub HandsEntry : {R : Type 0} → (R → Option (List ℕ)) → Reading → Tally R → Reading → Tally R → Entry → Type 0
-HandsEntry remaining old rec new new_rec e = HandsOut (AreHandedAt old.stage new.rows.format e) remaining old.rows.lines rec new.rows.lines new_rec
+abbrev pub HandsEntry : Reading → Reading → Pending → Entry → Type 0
+HandsEntry old new p e = HandsOut (AreHandedAt old.stage new.rows.format e) p
 
 -- the reader fails: nothing that was returned until then makes a fault
 abbrev pub FailsBehind : {R : Type 0} → (R → Option (List ℕ)) → Reading → Tally R → Tally R → Type 0

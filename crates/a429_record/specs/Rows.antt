@@ -75,9 +75,9 @@ GivesNext (Some t) new (Ok (Some e)) = (u : Recording) × (new ≡ Some u) × (t
 GivesNext (Some t) new (Ok None) = t ≡ whole []
 GivesNext (Some t) new (Err f) = Stops f t
 
--- an answer is the first entry, the end or the fault of all rows of a text, the header's first, and after an entry the rest is left
-abbrev pub GivesFirst : {R : Type 0} → (R → Option (List ℕ)) → RowReader → Tally R → RowReader → Tally R → Result (Option Entry) ReadFault → Type 0
-GivesFirst remaining old rec new new_rec r = GivesNext (option_map (all_rows_stand_for old.most) (rows_left remaining old rec)) (text_left remaining new new_rec) r
+-- what all rows of a text mean, the header's first
+abbrev pub first_left : {R : Type 0} → (R → Option (List ℕ)) → RowReader → Tally R → Option Recording
+first_left remaining s rec = option_map (all_rows_stand_for s.most) (rows_left remaining s rec)
 
 -- an answer is that to a row with this entry, or with none, whatever rows come after it
 abbrev pub GivesRow : RowReader → Option Entry → RowReader → Result (Option Entry) ReadFault → Type 0

@@ -41,7 +41,7 @@ impl<R: Read> Failing for EntryReader<R> {
 
 impl<R: Read> EntryReader<R> {
     ghost use Rattle.a429_record.specs.Recording.{stands_for, stands_within};
-    ghost use Rattle.a429_record.specs.Handed.{Loses};
+    ghost use Rattle.a429_record.specs.Handed.{Loses, OfTaken};
     ghost use Rattle.a429_record.specs.Reading.{AreHandedAt, IsFormatAfter};
     ghost use Rattle.a429_record.specs.Stage.{may_go_on, stage_after, AnswersAt};
     ghost use Rattle.a429_record.specs.Rows.{GivesNext, IfEntry, entries_in};
@@ -90,7 +90,7 @@ impl<R: Read> EntryReader<R> {
         ensures counts { self.new.count ≡ self.old.count + entries_in result }
         ensures format { IfEntry result (λ _. IsFormatAfter self.old.stage self.old.format self.old.bytes self.new.format) }
         ensures lines { IfEntry result (λ e. Loses (AreHandedAt self.old.stage self.new.format e) self.old.bytes self.new.bytes) }
-        ensures before { IsErrOf result fault.Device → Loses (PassesFrom self.old) self.old.bytes self.new.unread }
+        ensures before { IsErrOf result fault.Device → Loses (OfTaken (PassesFrom self.old)) self.old.bytes self.new.unread }
         ensures room { IfEntry result (λ _. self.new.room < self.old.room) }
         ensures device { IsErrOf result fault.Device ↔ (may_go_on self.old.stage ≡ true) × (self.new.failed ≡ true) }
         ensures stays { may_go_on self.old.stage ≡ false → self.new ≡ self.old }

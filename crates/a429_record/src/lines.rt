@@ -4,7 +4,6 @@ ghost use Rattle.std.specs.Prelude.{◌≡◌, ◌↔◌, ◌⊎◌, ◌∷◌, 
 ghost use Rattle.std.specs.Io.KnownBytes.{Consumes, Keeps, IsAtEnd};
 ghost use Rattle.a429_word.specs.Tally.{left_of, has_failed, unread};
 ghost use Rattle.a429_record.specs.Ends.{HasNoEnd};
-ghost use Rattle.a429_record.specs.Handed.{IsOpen};
 
 use crate::binary::{MAGIC, begins_magic};
 use crate::fault::ReadFault;
@@ -25,7 +24,7 @@ pub struct Lines {
 }
 
 impl Lines {
-    ghost use Rattle.a429_record.specs.Lines.{ahead_of, pending_of, room_of, HandsBytes, HandsLine, FailsAfter, Chooses, IsMagicFront, IsShort, IsNothing};
+    ghost use Rattle.a429_record.specs.Lines.{ahead_of, pending, pending_of, room_of, HandsBytes, HandsLine, FailsAfter, Chooses, IsMagicFront, IsShort, IsNothing};
     ghost use Rattle.a429_record.specs.declared.fault.ReadFault.TheVariants as fault;
 
     /// An empty buffer.
@@ -115,7 +114,7 @@ impl Lines {
         requires { has_failed rec.old ≡ false }
         ensures size { length bytes.new ≡ length bytes.old }
         ensures most { IfOk result (λ n. n ≤ length bytes.new) }
-        ensures takes { IfOk result (λ n. HandsBytes R.remaining (take n bytes.new) self.old rec.old self.new rec.new) }
+        ensures takes { IfOk result (λ n. HandsBytes (take n bytes.new) (pending R.remaining self.old rec.old self.new rec.new)) }
         ensures end { IfOk result (λ n. n < length bytes.new → IsAtEnd (pending_of R.remaining self.new rec.new)) }
         ensures room { IfOk result (λ n. room_of self.new rec.new + n ≡ room_of self.old rec.old) }
         ensures err { IfErr result (λ f. f ≡ fault.Device) }
@@ -157,11 +156,11 @@ impl Lines {
         line: &mut Vec<u8>,
     ) -> Result<bool, ReadFault>
         requires { has_failed rec.old ≡ false }
-        ensures takes { IfOk result (λ found. found ≡ true → HandsLine R.remaining line.new.items self.old rec.old self.new rec.new) }
+        ensures takes { IfOk result (λ found. found ≡ true → HandsLine line.new.items (pending R.remaining self.old rec.old self.new rec.new)) }
         ensures end { IfOk result (λ found. found ≡ false → IsAtEnd (pending_of R.remaining self.old rec.old)) }
         ensures room { IfOk result (λ found. found ≡ true → room_of self.new rec.new < room_of self.old rec.old) }
         ensures err { IfErr result (λ f. (f ≡ fault.Device) ⊎ (f ≡ fault.OutOfMemory)) }
-        ensures before { IsErrOf result fault.Device → FailsAfter IsOpen R.remaining self.old rec.old rec.new }
+        ensures before { IsErrOf result fault.Device → FailsAfter HasNoEnd R.remaining self.old rec.old rec.new }
         ensures device { IsErrOf result fault.Device ↔ (has_failed rec.new ≡ true) }
     {
         line.clear();

@@ -22,10 +22,10 @@ pub struct Reading {
 }
 
 impl Reading {
-    ghost use Rattle.a429_record.specs.Lines.{room_of};
-    ghost use Rattle.a429_record.specs.Rows.{IfEntry, Follows, entries_in};
+    ghost use Rattle.a429_record.specs.Lines.{pending, room_of};
+    ghost use Rattle.a429_record.specs.Rows.{GivesNext, IfEntry, Follows, entries_in};
     ghost use Rattle.a429_record.specs.Stage.{may_go_on, stage_after, AnswersAt};
-    ghost use Rattle.a429_record.specs.Reading.{AnswersNext, HandsEntry, FailsBehind, KeepsFormat};
+    ghost use Rattle.a429_record.specs.Reading.{left_to_come, HandsEntry, FailsBehind, KeepsFormat};
     ghost use Rattle.a429_record.specs.declared.fault.ReadFault.TheVariants as fault;
 
     /// A reading in which nothing was read yet, of at most this many entries.
@@ -43,11 +43,11 @@ impl Reading {
     #[inline(always)]
     pub fn next<R: Read>(&mut self, rec: &mut Tally<R>) -> Result<Option<Entry>, ReadFault>
         requires { self.old.stage ≡ at.Rows → has_failed rec.old ≡ false }
-        ensures gives { AnswersNext R.remaining self.old rec.old self.new rec.new result }
+        ensures gives { GivesNext (left_to_come R.remaining self.old rec.old) (left_to_come R.remaining self.new rec.new) result }
         ensures answers { AnswersAt self.old.stage result }
         ensures stage { self.new.stage ≡ stage_after result }
         ensures format { IfEntry result (λ _. KeepsFormat R.remaining self.old rec.old self.new) }
-        ensures lines { IfEntry result (λ e. HandsEntry R.remaining self.old rec.old self.new rec.new e) }
+        ensures lines { IfEntry result (λ e. HandsEntry self.old self.new (pending R.remaining self.old.rows.lines rec.old self.new.rows.lines rec.new) e) }
         ensures before { IsErrOf result fault.Device → FailsBehind R.remaining self.old rec.old rec.new }
         ensures follows { IfEntry result (λ e. Follows self.old.rows self.new.rows e) }
         ensures counts { self.new.rows.count ≡ self.old.rows.count + entries_in result }

@@ -4,7 +4,7 @@ ghost use Rattle.std.specs.Prelude.{◌≡◌, ◌≢◌, ◌↔◌, true, IsErr
 ghost use Rattle.a429_word.specs.Tally.{has_failed, unread};
 ghost use Rattle.a429_record.specs.Recording.{stands_for, whole, IsRecordable};
 ghost use Rattle.a429_record.specs.Fault.{IsFirstReadFault};
-ghost use Rattle.a429_record.specs.Handed.{Loses, HasNoFault};
+ghost use Rattle.a429_record.specs.Handed.{Loses, OfTaken, HasNoFault};
 
 use crate::entry::{Entry, MOST_ENTRIES};
 use crate::fault::ReadFault;
@@ -21,7 +21,7 @@ pub fn read_entries<R: Read>(alloc: Global, rec: &mut Tally<R>) -> Result<Vec<En
     ensures recordable { IfOk result (λ v. IsRecordable v.items) }
     ensures err { IfErr result (λ f. IfSome (unread R.remaining rec.old) (λ bytes. IsFirstReadFault f bytes)) }
     ensures device { IsErrOf result ReadFault.Device ↔ (has_failed rec.new ≡ true) }
-    ensures before { IsErrOf result ReadFault.Device → Loses HasNoFault (unread R.remaining rec.old) (unread R.remaining rec.new) }
+    ensures before { IsErrOf result ReadFault.Device → Loses (OfTaken HasNoFault) (unread R.remaining rec.old) (unread R.remaining rec.new) }
     ensures no_failed { IfErr result (λ f. f ≢ ReadFault.Failed) }
 {
     let mut reading = Reading::new(alloc, MOST_ENTRIES);

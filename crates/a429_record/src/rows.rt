@@ -29,10 +29,10 @@ pub struct RowReader {
 }
 
 impl RowReader {
-    ghost use Rattle.a429_record.specs.Lines.{ahead_of, pending_of, room_of, HandsRows, HandsOut, FailsAfter, Chooses, IsMagicFront};
+    ghost use Rattle.a429_record.specs.Lines.{ahead_of, pending, pending_of, room_of, HandsRows, HandsOut, FailsAfter, Chooses, IsMagicFront};
     ghost use Rattle.a429_record.specs.Line.{GivesEntry};
-    ghost use Rattle.a429_record.specs.Handed.{HasNoRow, HasNoFaultWithin, HasNoTextFault, IsCutAfter, AreHeader, AreEntryOf, AreGiven, ArePieceOf};
-    ghost use Rattle.a429_record.specs.Rows.{IsFresh, IsUncounted, rows_left, text_left, binary_left, recording_left, all_left, TakesHeader, GivesNext, GivesFirst, GivesRow, IfEntry, Follows, entries_in};
+    ghost use Rattle.a429_record.specs.Handed.{HasNoRow, HasNoFaultWithin, HasNoTextFault, IsCut, AreHeader, AreEntryOf, AreGiven, ArePieceOf};
+    ghost use Rattle.a429_record.specs.Rows.{IsFresh, IsUncounted, rows_left, text_left, binary_left, recording_left, all_left, TakesHeader, GivesNext, first_left, GivesRow, IfEntry, Follows, entries_in};
     ghost use Rattle.a429_record.specs.Reading.{AreFirstHanded, AreNextHanded, FailsNext, IsChosen};
     ghost use Rattle.a429_record.specs.declared.fault.ReadFault.TheVariants as fault;
 
@@ -58,8 +58,8 @@ impl RowReader {
         requires { IsFresh self.old }
         ensures gives { GivesNext (all_left R.remaining self.old rec.old) (recording_left R.remaining self.new rec.new) result }
         ensures format { IfEntry result (λ _. IsChosen (pending_of R.remaining self.old.lines rec.old) self.new.format) }
-        ensures lines { IfEntry result (λ e. HandsOut (AreFirstHanded self.new.format e) R.remaining self.old.lines rec.old
-            self.new.lines rec.new) }
+        ensures lines { IfEntry result (λ e. HandsOut (AreFirstHanded self.new.format e)
+            (pending R.remaining self.old.lines rec.old self.new.lines rec.new)) }
         ensures before { IsErrOf result fault.Device → FailsAfter (HasNoFaultWithin self.old.most) R.remaining self.old.lines rec.old rec.new }
         ensures follows { IfEntry result (λ e. Follows self.old self.new e) }
         ensures counts { self.new.count ≡ self.old.count + entries_in result }
@@ -86,8 +86,8 @@ impl RowReader {
         requires { has_failed rec.old ≡ false }
         ensures gives { GivesNext (recording_left R.remaining self.old rec.old) (recording_left R.remaining self.new rec.new) result }
         ensures format { self.new.format ≡ self.old.format }
-        ensures lines { IfEntry result (λ e. HandsOut (AreNextHanded self.old.format e) R.remaining self.old.lines rec.old
-            self.new.lines rec.new) }
+        ensures lines { IfEntry result (λ e. HandsOut (AreNextHanded self.old.format e)
+            (pending R.remaining self.old.lines rec.old self.new.lines rec.new)) }
         ensures before { IsErrOf result fault.Device → FailsNext R.remaining self.old rec.old rec.new }
         ensures follows { IfEntry result (λ e. Follows self.old self.new e) }
         ensures counts { self.new.count ≡ self.old.count + entries_in result }
@@ -105,7 +105,7 @@ impl RowReader {
     fn header<R: Read>(&mut self, rec: &mut Tally<R>) -> Result<(), ReadFault>
         requires { has_failed rec.old ≡ false }
         ensures takes { TakesHeader self.old.most (rows_left R.remaining self.old rec.old) (rows_left R.remaining self.new rec.new) result }
-        ensures lines { OnOk result (HandsRows AreHeader R.remaining self.old.lines rec.old self.new.lines rec.new) }
+        ensures lines { OnOk result (HandsRows AreHeader (pending R.remaining self.old.lines rec.old self.new.lines rec.new)) }
         ensures before { IsErrOf result fault.Device → FailsAfter HasNoRow R.remaining self.old.lines rec.old rec.new }
         ensures format { self.new.format ≡ self.old.format }
         ensures most { self.new.most ≡ self.old.most }
@@ -139,9 +139,9 @@ impl RowReader {
     fn first_row<R: Read>(&mut self, rec: &mut Tally<R>) -> Result<Option<Entry>, ReadFault>
         requires fresh { IsUncounted self.old }
         requires works { has_failed rec.old ≡ false }
-        ensures gives { GivesFirst R.remaining self.old rec.old self.new rec.new result }
+        ensures gives { GivesNext (first_left R.remaining self.old rec.old) (text_left R.remaining self.new rec.new) result }
         ensures format { self.new.format ≡ self.old.format }
-        ensures lines { IfEntry result (λ e. HandsRows (AreGiven (e ∷ [])) R.remaining self.old.lines rec.old self.new.lines rec.new) }
+        ensures lines { IfEntry result (λ e. HandsRows (AreGiven (e ∷ [])) (pending R.remaining self.old.lines rec.old self.new.lines rec.new)) }
         ensures before { IsErrOf result fault.Device → FailsAfter (HasNoTextFault self.old.most) R.remaining self.old.lines rec.old rec.new }
         ensures follows { IfEntry result (λ e. Follows self.old self.new e) }
         ensures counts { self.new.count ≡ self.old.count + entries_in result }
@@ -162,7 +162,7 @@ impl RowReader {
         requires { has_failed rec.old ≡ false }
         ensures gives { GivesNext (text_left R.remaining self.old rec.old) (text_left R.remaining self.new rec.new) result }
         ensures format { self.new.format ≡ self.old.format }
-        ensures lines { IfEntry result (λ e. HandsRows (AreEntryOf e) R.remaining self.old.lines rec.old self.new.lines rec.new) }
+        ensures lines { IfEntry result (λ e. HandsRows (AreEntryOf e) (pending R.remaining self.old.lines rec.old self.new.lines rec.new)) }
         ensures before { IsErrOf result fault.Device → FailsAfter HasNoRow R.remaining self.old.lines rec.old rec.new }
         ensures follows { IfEntry result (λ e. Follows self.old self.new e) }
         ensures counts { self.new.count ≡ self.old.count + entries_in result }
@@ -209,8 +209,8 @@ impl RowReader {
         requires { has_failed rec.old ≡ false }
         ensures gives { GivesNext (binary_left R.remaining self.old rec.old) (binary_left R.remaining self.new rec.new) result }
         ensures format { self.new.format ≡ self.old.format }
-        ensures piece { IfEntry result (λ e. HandsOut (ArePieceOf e) R.remaining self.old.lines rec.old self.new.lines rec.new) }
-        ensures before { IsErrOf result fault.Device → FailsAfter (IsCutAfter self.old.most self.old.count) R.remaining self.old.lines rec.old rec.new }
+        ensures piece { IfEntry result (λ e. HandsOut (ArePieceOf e) (pending R.remaining self.old.lines rec.old self.new.lines rec.new)) }
+        ensures before { IsErrOf result fault.Device → FailsAfter (IsCut self.old.most self.old.count) R.remaining self.old.lines rec.old rec.new }
         ensures follows { IfEntry result (λ e. Follows self.old self.new e) }
         ensures counts { self.new.count ≡ self.old.count + entries_in result }
         ensures room { IfEntry result (λ _. room_of self.new.lines rec.new < room_of self.old.lines rec.old) }
@@ -231,8 +231,8 @@ impl RowReader {
         requires { has_failed rec.old ≡ false }
         ensures gives { GivesNext (binary_left R.remaining self.old rec.old) (binary_left R.remaining self.new rec.new) result }
         ensures format { self.new.format ≡ self.old.format }
-        ensures piece { IfEntry result (λ e. HandsOut (ArePieceOf e) R.remaining self.old.lines rec.old self.new.lines rec.new) }
-        ensures before { IsErrOf result fault.Device → FailsAfter (IsCutAfter self.old.most self.old.count) R.remaining self.old.lines rec.old rec.new }
+        ensures piece { IfEntry result (λ e. HandsOut (ArePieceOf e) (pending R.remaining self.old.lines rec.old self.new.lines rec.new)) }
+        ensures before { IsErrOf result fault.Device → FailsAfter (IsCut self.old.most self.old.count) R.remaining self.old.lines rec.old rec.new }
         ensures follows { IfEntry result (λ e. Follows self.old self.new e) }
         ensures counts { self.new.count ≡ self.old.count + entries_in result }
         ensures room { IfEntry result (λ _. room_of self.new.lines rec.new < room_of self.old.lines rec.old) }

@@ -1,4 +1,4 @@
--- What is told of a word: what it is to the file transfer (profile).
+-- What is written of a word: what it is to the file transfer (profile).
 use Rattle.std.specs.Prelude.{ℕ, List, [], ◌++◌, map, codes, Bool, true, false, Option, Some, None}
 use Rattle.std.specs.Fmt.{decimal, digit_glyph}
 use Rattle.a429_word.specs.Digits.{numeral}
@@ -19,7 +19,7 @@ freedom_text OtherLabel = codes "free label"
 freedom_text IgnoredType = codes "free type"
 freedom_text IgnoredCode = codes "free code"
 
--- behind an end word that ends its file
+-- after an end word that ends its file
 abbrev pub final_text : Bool → List ℕ
 final_text true = codes " final"
 final_text false = []

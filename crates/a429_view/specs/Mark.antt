@@ -14,13 +14,13 @@ use Rattle.a429_view.specs.declared.mark.Mark.TheVariants as mark
 use Rattle.a429_view.specs.declared.sketch.Place.{Place}
 use Rattle.a429_view.specs.Units.{is_ack_form}
 
--- ---- where the steps stand that were told
+-- ---- where the steps are that were reported
 
 -- the file that ends with a link data unit, where one does
 abbrev pub file_ended : Codes → UnitNumber → LduValue → Option ℕ
 file_ended c number unit = if is_final c unit.flags then Some number.file else None
 
--- a step that records an acknowledgement: of the link data unit that was loaded last, since no other is given
+-- a step that records an acknowledgement: of the link data unit that was loaded last, since no other can come
 abbrev pub acknowledges : Codes → Act → Entry → Bool
 acknowledges c act.Answered e = is_ack_form (form_of c e.bus e.word)
 acknowledges c _ e = false

@@ -36,7 +36,7 @@ abbrev pub crosses_text : Option ℕ → List ℕ
 crosses_text None = []
 crosses_text (Some file) = codes "<text x='632' y='5'>file " ++ decimal file ++ codes " crosses</text>"
 
--- an arrow or a tick, with what the word is to the transfer, as `a429 forms` tells it
+-- an arrow or a tick, with what the word is to the transfer, as `a429 forms` writes it
 abbrev pub word_text : Codes → Recorded → List ℕ
 word_text c r = arrow_text r.act r.entry.bus ++ what_text c r.entry.bus r.entry.word ++ codes "</text>"
 
@@ -53,7 +53,7 @@ unseen_text act.Silent = codes "<path class='lost' d='M614 0h12'/><text class='n
 unseen_text act.GiveUp = codes "<path class='lost' d='M294 0h12'/><text class='note' x='312' y='5'>file given up</text>"
 unseen_text _ = []
 
--- the source is given a link data unit
+-- a link data unit is loaded at the source
 abbrev pub load_text : UnitNumber → List ℕ
 load_text n = codes "<path d='M294 0h12'/><text x='312' y='5'>loads file " ++ decimal n.file ++ codes " unit " ++ decimal n.ldu ++ codes "</text>"
 
@@ -62,7 +62,7 @@ mark_text c (mark.Load n) = load_text n
 mark_text c (mark.Unseen a) = unseen_text a
 mark_text c (mark.Seen r) = seen_text c r
 
--- a row that stands at this height, counted from the top
+-- a row at this height, counted from the top
 abbrev pub row_text : Codes → ℕ → Mark → List ℕ
 row_text c y m = codes "<g transform='translate(0," ++ decimal y ++ codes ")'>" ++ mark_text c m ++ codes "</g>\n"
 
@@ -71,7 +71,7 @@ abbrev pub rows_text : Codes → ℕ → List Mark → List ℕ
 rows_text c i [] = []
 rows_text c i (m ∷ more) = row_text c (30 * i + 70) m ++ rows_text c (i + 1) more
 
--- ---- what stands around the rows
+-- ---- what is around the rows
 
 -- colours and pens, in light and dark
 abbrev pub style_text : List ℕ
@@ -88,7 +88,7 @@ frame_text height =
     codes "<rect class='page' width='880' height='" ++ decimal height ++ codes "'/>\n<path class='pale' d='M300 40V" ++ decimal height
     ++ codes "M620 40V" ++ decimal height ++ codes "'/>\n"
 
--- the point of an arrow, and what stands above the lines and at the left
+-- the point of an arrow, and what is above the lines and at the left
 abbrev pub names_text : List ℕ
 names_text =
     codes "<marker id='head' viewBox='0 0 8 8' refX='8' refY='4' markerWidth='8' markerHeight='8' orient='auto'><path class='head' d='M0 0 8 4 0 8z'/></marker>\n"

@@ -13,7 +13,7 @@ use Rattle.a429_view.specs.Mark.{before_all, past, mark_of, is_within, listed, m
 abbrev pub most_steps : ℕ
 most_steps = 2000
 
--- a step is noted, which has this row; behind it the steps stand there. Past the most nothing is noted
+-- a step is noted, which has this row; after it the steps are there. Past the most nothing is noted
 pub record Notes (old : Sketch) (row : Option Mark) (next : Place) (new : Sketch) : Type 0 where
   pub span : new.span ≡ old.span
   pub at : new.at ≡ next
@@ -21,11 +21,11 @@ pub record Notes (old : Sketch) (row : Option Mark) (next : Place) (new : Sketch
   pub rows : old.steps ≤ most_steps → new.rows.items ≡ old.rows.items ++ (if is_within old.span old.at.next then listed row else [])
   pub full : most_steps < old.steps → most_steps < new.steps
 
--- a step is told
+-- a step is reported
 abbrev pub Hears : Contents → Sketch → Told → Sketch → Type 0
 Hears p old t new = Notes old (mark_of p.codes old.at t) (past p.codes old.at t) new
 
--- nothing was told yet
+-- nothing was reported yet
 pub record IsBlank (of : Span) (s : Sketch) : Type 0 where
   pub span : s.span ≡ of
   pub at : s.at ≡ before_all

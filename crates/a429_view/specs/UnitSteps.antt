@@ -1,4 +1,4 @@
--- How the row of a link data unit grows by the steps that are told one after the other.
+-- How the row of a link data unit grows by the steps that are reported one after the other.
 use Rattle.std.specs.Prelude.{◌≡◌, ◌+◌, ℕ, List, Bool, true, false, ◌||◌, Option, Some, None, option_map}
 use Rattle.std.specs.Io.KnownBytes.{Appends}
 use Rattle.a429_word.specs.Tally.{inner_of}
@@ -38,7 +38,7 @@ recounted c t n = record {
 abbrev pub spanned : Codes → Told → UnitSpan → UnitSpan
 spanned c t s = record { first = either s.first (moment_of t); last = either (moment_of t) s.last; crossed = s.crossed || is_ack c t }
 
--- the row of a unit of which nothing is told yet
+-- the row of a unit of which nothing is reported yet
 abbrev pub no_counts : UnitCounts
 no_counts = record { requests = 0; lost = 0; unanswered = 0; unheard = 0; naks = 0; timeouts = 0 }
 
@@ -57,11 +57,11 @@ abbrev pub line_before : Option UnitRow → List ℕ
 line_before None = columns_text
 line_before (Some r) = unit_line r
 
--- rows that are told something: a load puts the row of the unit before, a step changes the row of the unit that was loaded last
+-- rows to which something is reported: a load puts the row of the unit before, a step changes the row of the unit that was loaded last
 abbrev pub HearsRows : {W : Type 0} → (W → Option (List ℕ)) → Contents → UnitRows W → Told → UnitRows W → Type 0
 HearsRows contents p old (Loads number unit) new = PutsOn contents old.out old.page new.out new.page (line_before old.row) × (new.row ≡ Some (begun p.codes number unit))
 HearsRows contents p old (Makes act entry) new = new ≡ record old { row = option_map (with_step p.codes (Makes act entry)) old.row }
 
--- all that waited to be put has gone out, and this text behind it
+-- all that waited to be put has gone out, and this text after it
 abbrev pub PutsAll : {W : Type 0} → (W → Option (List ℕ)) → UnitRows W → UnitRows W → List ℕ → Type 0
 PutsAll contents old new text = Appends (paged contents old.out old.page) (contents (inner_of new.out)) text

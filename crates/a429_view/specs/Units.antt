@@ -19,19 +19,19 @@ use Rattle.a429_view.specs.declared.units.row.UnitRow.{UnitRow}
 
 -- ---- the units
 
--- a link data unit that was loaded, its number, and what is told before the next one is loaded
+-- a link data unit that was loaded, its number, and what is reported before the next one is loaded
 pub record LoadedUnit : Type 0 where
   pub number : UnitNumber
   pub unit : LduValue
   pub steps : List Told
 
--- what is told before the next load
+-- what is reported before the next load
 abbrev pub before_load : List Told → List Told
 before_load [] = []
 before_load (Loads number unit ∷ told) = []
 before_load (Makes act entry ∷ told) = Makes act entry ∷ before_load told
 
--- what is told of a run, cut at each load: steps before the first belong to no unit
+-- what is reported of a run, cut at each load: steps before the first belong to no unit
 abbrev pub loaded_units : List Told → List LoadedUnit
 loaded_units [] = []
 loaded_units (Loads number unit ∷ told) = record { number = number; unit = unit; steps = before_load told } ∷ loaded_units told
@@ -77,7 +77,7 @@ abbrev pub is_unanswered : Told → Bool
 is_unanswered (Makes act.Silent entry) = true
 is_unanswered _ = false
 
--- an answer is lost behind the recorder
+-- an answer is lost after the recorder
 abbrev pub is_unheard : Told → Bool
 is_unheard (Makes act.LoseAnswer entry) = true
 is_unheard _ = false
@@ -137,7 +137,7 @@ row_of c u = record { number = u.number; size = size_of c u.unit; counts = count
 
 -- ---- the text
 
--- a number, and nothing where there is none, and the comma behind it
+-- a number, and nothing where there is none, and the comma after it
 abbrev pub cell : ℕ → List ℕ
 cell n = decimal n ++ codes ","
 
@@ -178,6 +178,6 @@ abbrev pub ended_unit_lines : Codes → List LoadedUnit → List ℕ
 ended_unit_lines c [] = []
 ended_unit_lines c (u ∷ units) = columns_text ++ flat_map (λ v. unit_line (row_of c v)) (ended_units (u ∷ units))
 
--- what is written of steps behind which the unit that was loaded last may go on
+-- what is written of steps after which the unit that was loaded last may go on
 abbrev pub ended_text : Codes → List Told → List ℕ
 ended_text c told = ended_unit_lines c (loaded_units told)

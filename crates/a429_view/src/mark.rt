@@ -24,10 +24,10 @@ pub struct Recorded {
     pub crosses: Option<u8>,
 }
 
-/// A row of a picture, which stands for a step.
+/// A row of a picture, which is for a step.
 #[derive(Clone, Copy, Debug, PartialEq, Eq)]
 pub enum Mark {
-    /// The source is given the link data unit of this number.
+    /// The link data unit of this number is loaded at the source.
     Load(UnitNumber),
     /// A step that records nothing.
     Unseen(Act),

@@ -41,7 +41,7 @@ fn put_svg<W: Write>(sheet: &mut Sheet<'_, W>, profile: &Profile, rows: &[Mark])
     sheet.put(b"</svg>\n");
 }
 
-// What stands around the rows of a picture that is so high.
+// What is around the rows of a picture that is so high.
 fn put_head<W: Write>(sheet: &mut Sheet<'_, W>, height: u64)
     ensures { Says W.contents sheet.old sheet.new (head_text height) }
 {
@@ -116,7 +116,7 @@ fn put_rows<W: Write>(sheet: &mut Sheet<'_, W>, profile: &Profile, rows: &[Mark]
     }
 }
 
-// A row that stands at this height.
+// A row at this height.
 fn put_row<W: Write>(sheet: &mut Sheet<'_, W>, profile: &Profile, y: u64, mark: Mark)
     ensures { Says W.contents sheet.old sheet.new (row_text profile.now.codes y mark) }
 {
@@ -137,7 +137,7 @@ fn put_mark<W: Write>(sheet: &mut Sheet<'_, W>, profile: &Profile, mark: Mark)
     }
 }
 
-// The source is given the link data unit of this number.
+// The link data unit of this number is loaded at the source.
 fn put_load<W: Write>(sheet: &mut Sheet<'_, W>, number: UnitNumber)
     ensures { Says W.contents sheet.old sheet.new (load_text number) }
 {

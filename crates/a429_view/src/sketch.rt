@@ -17,7 +17,7 @@ use std::alloc::Global;
 /// The most steps that a picture shows (profile).
 pub const MOST_STEPS: usize = 2000;
 
-/// Where the steps stand that were told.
+/// Where the steps are that were reported.
 #[derive(Clone, Copy, Debug, PartialEq, Eq)]
 pub struct Place {
     /// The number of the entry that comes next.
@@ -155,7 +155,7 @@ fn file_ended(profile: &Profile, number: UnitNumber, unit: &Ldu) -> Option<u8>
     }
 }
 
-// Where the steps stand behind the one that records this entry.
+// Where the steps are after the one that records this entry.
 fn behind(number: usize, due: Option<u8>) -> Place
     ensures { result ≡ record { next = number + 1; due = due } }
 {
@@ -182,7 +182,7 @@ fn crossing(acknowledged: bool, due: Option<u8>) -> Option<u8>
     if acknowledged { due } else { None }
 }
 
-// The file that is still to cross behind it.
+// The file that is still to cross after it.
 fn still_due(acknowledged: bool, due: Option<u8>) -> Option<u8>
     ensures { result ≡ still_due acknowledged due }
 {

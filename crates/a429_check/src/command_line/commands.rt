@@ -25,7 +25,7 @@ pub enum Command<'a> {
         profile: &'a str,
         recording: &'a str,
     },
-    /// `forms PROFILE REC`: tells what each word of a recording is to the transfer of a profile.
+    /// `forms PROFILE REC`: writes what each word of a recording is to the transfer of a profile.
     Forms {
         profile: &'a str,
         recording: &'a str,

@@ -9,7 +9,7 @@ use std::fs;
 use std::rt::Files;
 
 /// The program's shelf: a folder, in which each file is written at once, under its place in six digits.
-/// What it holds is not told to contracts.
+/// What it holds is not known to contracts.
 #[derive(Drop)]
 pub struct Folder<'a, F: Files> {
     rt: &'a F,

@@ -118,7 +118,7 @@ fn put_recorded<W: Write>(sheet: &mut Sheet<'_, W>, entry: &Entry)
     sheet.put(&fields(entry.word));
 }
 
-// The fields of a word, a space behind each.
+// The fields of a word, a space after each.
 fn fields(word: Word) -> [u8; 8]
     ensures { result ≡ fields_text word }
 {

@@ -61,7 +61,7 @@ fn is_version(line: &[u8]) -> bool
     line == b"arinc429-cert 1\n".as_slice() || line == b"arinc429-cert 2\n".as_slice()
 }
 
-// Writes the first line of version 2, and behind it what is still to come of a certificate.
+// Writes the first line of version 2, and after it what is still to come of a certificate.
 fn put_version_two<R: Read, C: Write>(
     cert: &mut Tally<R>,
     new_cert: &mut Tally<C>,

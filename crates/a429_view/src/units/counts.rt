@@ -20,7 +20,7 @@ pub struct UnitCounts {
     pub lost: u64,
     /// The sink left out an answer.
     pub unanswered: u64,
-    /// An answer was lost behind the recorder.
+    /// An answer was lost after the recorder.
     pub unheard: u64,
     /// A negative answer was recorded.
     pub naks: u64,
@@ -39,8 +39,8 @@ impl UnitCounts {
         timeouts: 0,
     };
 
-    /// Counts one more step. A count that 64 bits do not hold, which no certificate gives, would be told as
-    /// want of memory.
+    /// Counts one more step. A count that 64 bits do not hold, which no certificate has, would be reported as
+    /// out of memory.
     pub fn count(
         &mut self,
         profile: &Profile,

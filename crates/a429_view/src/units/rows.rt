@@ -1,4 +1,4 @@
-//! The rows of a certificate's link data units, written as its steps are told.
+//! The rows of a certificate's link data units, written as its steps are reported.
 
 ghost use Rattle.std.specs.Prelude.{◌≡◌, ◌↔◌, [], None, true, false, IsErr, IsErrOf, IfOk, OnOk};
 ghost use Rattle.a429_word.specs.Tally.{has_failed};
@@ -17,7 +17,7 @@ use a429_word::{Device, Failing, Page, Sheet, Tally, Trouble};
 use std::alloc::{AllocError, Global};
 use std::io::Write;
 
-/// An output for the rows of link data units. It is told of the steps of a certificate, and puts the row of a
+/// An output for the rows of link data units. The steps of a certificate are reported to it, and it puts the row of a
 /// unit once the next one is loaded; `finish` puts the last. The names of the columns come first.
 #[derive(Drop)]
 pub struct UnitRows<W> {
@@ -52,7 +52,7 @@ impl<W: Write> UnitRows<W> {
         self.put_waiting()
     }
 
-    /// Puts the rows that wait to be put, those of units behind which another was loaded, and nothing else.
+    /// Puts the rows that wait to be put, those of units after which another was loaded, and nothing else.
     pub fn put_waiting(&mut self) -> Result<(), Device>
         ensures ok { OnOk result (PutsAll W.contents self.old self.new []) }
         ensures device { IsErr result ↔ (has_failed self.new.out ≡ true) }

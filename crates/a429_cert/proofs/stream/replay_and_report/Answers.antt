@@ -7,12 +7,13 @@ use Rattle.a429_cert.specs.Stream.{RefusesNext, RefusesOver, GivesAtFault, Wants
 use Rattle.a429_cert.proofs.StreamFacts.{refused_text, refused_first, cert_given, line_given}
 use Rattle.a429_cert.proofs.ToldFacts.{hears_text}
 use Rattle.a429_cert.proofs.stream.replay_and_report.Goals as goal
+use Rattle.a429_cert.specs.Told.{position}
 
 pub returns-in-Ok-clause-refused : goal.returns-in-Ok-clause-refused
 returns-in-Ok-clause-refused g c =
     let p = c.args.replay.now.profile.now in
     let s = c.args.replay.now.link.state in
-    IfErr-weaker c.step_and_report.result (RefusesNext p c.in-Ok.listed s c.args.rec.now.to_come c.args.replay.now.lines c.args.replay.now.used) (RefusesOver p (read_as c.args.replay.now.version (line_bytes c.args.line)) s c.args.rec.now.to_come c.args.replay.now.lines c.args.replay.now.used)
+    IfErr-weaker c.step_and_report.result (RefusesNext p c.in-Ok.listed (position s c.args.rec.now.to_come c.args.replay.now.used) c.args.replay.now.lines) (RefusesOver p (read_as c.args.replay.now.version (line_bytes c.args.line)) (position s c.args.rec.now.to_come c.args.replay.now.used) c.args.replay.now.lines)
     (λ f h. refused_text p (read_as c.args.replay.now.version (line_bytes c.args.line)) c.in-Ok.listed s c.args.rec.now.to_come c.args.replay.now.lines c.args.replay.now.used f (rw c.read-text.ensures at c.in-Ok.ensures.listed) h)
     (rw c.requires.profile at c.step_and_report.ensures.refused)
 
@@ -27,7 +28,7 @@ pub returns-in-Err-clause-refused : goal.returns-in-Err-clause-refused
 returns-in-Err-clause-refused g c =
     let p = c.args.replay.now.profile.now in
     let s = c.args.replay.now.link.state in
-    subst (RefusesOver p (read_as c.args.replay.now.version (line_bytes c.args.line)) s c.args.rec.now.to_come c.args.replay.now.lines c.args.replay.now.used) (sym c.of_cert.ensures)
+    subst (RefusesOver p (read_as c.args.replay.now.version (line_bytes c.args.line)) (position s c.args.rec.now.to_come c.args.replay.now.used) c.args.replay.now.lines) (sym c.of_cert.ensures)
     (refused_first p (read_as c.args.replay.now.version (line_bytes c.args.line)) s c.args.rec.now.to_come c.args.replay.now.lines c.args.replay.now.used c.in-Err.fault (rw c.read-text.ensures at c.in-Err.ensures.refused))
 
 pub returns-in-Ok-clause-passed : goal.returns-in-Ok-clause-passed

@@ -13,13 +13,14 @@ use Rattle.a429_cert.proofs.StreamFacts.{gains_none, put_on, noted_on}
 use Rattle.a429_word.specs.Tally.{has_failed, unread}
 use Rattle.a429_cert.proofs.BreakOffFacts.{head_breaks, between_breaks, late_breaks, stop_breaks}
 use Rattle.a429_cert.proofs.StreamReplay.{told_init, told_on, told_yes, fresh}
-use Rattle.a429_cert.specs.Told.{HearsText}
+use Rattle.a429_cert.specs.Told.{listening, position, HearsText}
 use Rattle.a429_cert.proofs.ToldFacts.{hears_init, hears_on, hears_all}
 use Rattle.a429_cert.proofs.ToldRefused.{heard_head}
 use Rattle.a429_cert.specs.declared.stream_fault.StreamFault.TheVariants as stream
 use Rattle.a429_cert.proofs.LikelyFacts.{is_yes, is_no, nothing_read}
 use Rattle.a429_cert.proofs.StreamEndFacts.{told_late, heard_late}
 use Rattle.a429_cert.proofs.stream.replay_stream.Goals as goal
+use Rattle.a429_cert.specs.Change.{change}
 
 pub lines-init : goal.lines-init
 lines-init g c =
@@ -155,10 +156,10 @@ lines-preserved g c =
     let used : c.replay_and_put.new.replay.used + c.in-Ok-replay_and_put.used ≡ c.lines.replay.used + c.in-Ok-replay_and_put.used = ap (λ (w : Replay). w.used + c.in-Ok-replay_and_put.used) kept in
     let shorter = c.in-Ok-next_near.ensures.shorter (subst (λ (o : Option (List ℕ)). IsSome o) c.line.ensures c.in-Ok-replay_and_put.ensures.ended) in
     let given = subst (GivesLine left more held) found c.in-Ok-next_near.ensures.given in
-    let passed = subst (λ w. PassesOver p (read_as w (line_bytes c.line.result)) s t c.lines.rec.to_come c.replay_and_put.new.rec.to_come c.in-Ok-replay_and_put.used) v.version (subst (λ q. PassesOver q (read_as c.lines.replay.version (line_bytes c.line.result)) s t c.lines.rec.to_come c.replay_and_put.new.rec.to_come c.in-Ok-replay_and_put.used) v.profile on.passed) in
-    let held_passed = subst (λ (o : Option (List ℕ)). PassesOver p (read_as v.head.version o) s t c.lines.rec.to_come c.replay_and_put.new.rec.to_come c.in-Ok-replay_and_put.used) c.line.ensures passed in
-    let q = subst (λ w. HearsText g.T.Listener.hears p (read_as w (line_bytes c.line.result)) s c.lines.rec.to_come c.lines.replay.used c.lines.listener c.replay_and_put.new.listener) v.version (subst (λ q. HearsText g.T.Listener.hears q (read_as c.lines.replay.version (line_bytes c.line.result)) s c.lines.rec.to_come c.lines.replay.used c.lines.listener c.replay_and_put.new.listener) v.profile c.in-Ok-replay_and_put.ensures.heard) in
-    let held_heard = subst (λ (o : Option (List ℕ)). HearsText g.T.Listener.hears p (read_as v.head.version o) s c.lines.rec.to_come c.lines.replay.used c.lines.listener c.replay_and_put.new.listener) c.line.ensures q in
+    let passed = subst (λ w. PassesOver p (read_as w (line_bytes c.line.result)) (change s t) (change c.lines.rec.to_come c.replay_and_put.new.rec.to_come) c.in-Ok-replay_and_put.used) v.version (subst (λ q. PassesOver q (read_as c.lines.replay.version (line_bytes c.line.result)) (change s t) (change c.lines.rec.to_come c.replay_and_put.new.rec.to_come) c.in-Ok-replay_and_put.used) v.profile on.passed) in
+    let held_passed = subst (λ (o : Option (List ℕ)). PassesOver p (read_as v.head.version o) (change s t) (change c.lines.rec.to_come c.replay_and_put.new.rec.to_come) c.in-Ok-replay_and_put.used) c.line.ensures passed in
+    let q = subst (λ w. HearsText (listening g.T.Listener.hears c.lines.listener c.replay_and_put.new.listener) p (read_as w (line_bytes c.line.result)) (position s c.lines.rec.to_come c.lines.replay.used)) v.version (subst (λ q. HearsText (listening g.T.Listener.hears c.lines.listener c.replay_and_put.new.listener) q (read_as c.lines.replay.version (line_bytes c.line.result)) (position s c.lines.rec.to_come c.lines.replay.used)) v.profile c.in-Ok-replay_and_put.ensures.heard) in
+    let held_heard = subst (λ (o : Option (List ℕ)). HearsText (listening g.T.Listener.hears c.lines.listener c.replay_and_put.new.listener) p (read_as v.head.version o) (position s c.lines.rec.to_come c.lines.replay.used)) c.line.ensures q in
     let heard = hears_on g.T.Listener.hears p v.head v.k c.lines.replay.used c.in-Ok-replay_and_put.used v.taken s t held known left more c.args.rec.now.to_come c.lines.rec.to_come c.replay_and_put.new.rec.to_come c.args.listener.now c.lines.listener c.replay_and_put.new.listener given held_passed held_heard v.told v.heard in
     let told = told_on p v.head v.k c.lines.replay.used c.in-Ok-replay_and_put.used v.taken s t held known left more c.args.rec.now.to_come c.lines.rec.to_come c.replay_and_put.new.rec.to_come given held_passed v.told in
     record {

@@ -10,6 +10,7 @@ use Rattle.a429_cert.specs.Stream.{ReplaysNext, EndsNext, IsNotTaken, GivesAtFau
 use Rattle.a429_cert.proofs.StreamFacts.{passes_next, few_used, used_given, most_given, none_given, not_taken_given}
 use Rattle.a429_cert.proofs.ToldFacts.{ends_next, not_read}
 use Rattle.a429_cert.proofs.stream.step_and_report.Goals as goal
+use Rattle.a429_cert.specs.Change.{change}
 
 pub returns-in-Load-clause-passed : goal.returns-in-Load-clause-passed
 returns-in-Load-clause-passed g c =
@@ -17,10 +18,10 @@ returns-in-Load-clause-passed g c =
     let p = replay.link.profile in
     let t = c.load_and_report.new.replay.link.state in
     let next = option_map seen_of c.in-Ok.next in
-    IfOk-weaker c.load_and_report.result (λ used. (o : Option Seen) → PassesListed p (listed.Load c.in-Load.unit) o replay.link.state t used)
-    (ReplaysNext replay c.load_and_report.new.replay c.args.listed c.args.rec.now.to_come c.entry_for.new.rec.to_come)
+    IfOk-weaker c.load_and_report.result (λ used. (o : Option Seen) → PassesListed p (listed.Load c.in-Load.unit) o (change replay.link.state t) used)
+    (ReplaysNext (change replay c.load_and_report.new.replay) c.args.listed (change c.args.rec.now.to_come c.entry_for.new.rec.to_come))
     (λ used h. passes_next p c.args.listed replay.link.state t c.args.rec.now.to_come c.entry_for.new.rec.to_come next used c.in-Ok.ensures.taken
-    (subst (λ (x : Listed). PassesListed p x next replay.link.state t used) (sym c.in-Load.is) (h next)))
+    (subst (λ (x : Listed). PassesListed p x next (change replay.link.state t) used) (sym c.in-Load.is) (h next)))
     c.load_and_report.ensures.passed
 
 pub returns-in-Load-clause-few : goal.returns-in-Load-clause-few
@@ -29,7 +30,7 @@ returns-in-Load-clause-few g c =
     let p = replay.link.profile in
     let t = c.load_and_report.new.replay.link.state in
     let next = option_map seen_of c.in-Ok.next in
-    IfOk-weaker c.load_and_report.result (λ used. (o : Option Seen) → PassesListed p (listed.Load c.in-Load.unit) o replay.link.state t used) (λ used. used ≤ 1)
+    IfOk-weaker c.load_and_report.result (λ used. (o : Option Seen) → PassesListed p (listed.Load c.in-Load.unit) o (change replay.link.state t) used) (λ used. used ≤ 1)
     (λ used h. few_used p (listed.Load c.in-Load.unit) next replay.link.state t used (h next))
     c.load_and_report.ensures.passed
 
@@ -51,10 +52,10 @@ returns-in-Moved-clause-passed g c =
     let p = replay.link.profile in
     let t = c.move_and_report.new.replay.link.state in
     let next = option_map seen_of c.in-Ok.next in
-    IfOk-weaker c.move_and_report.result (PassesListed p (listed.Moved c.in-Moved.line) next replay.link.state t)
-    (ReplaysNext replay c.move_and_report.new.replay c.args.listed c.args.rec.now.to_come c.entry_for.new.rec.to_come)
+    IfOk-weaker c.move_and_report.result (PassesListed p (listed.Moved c.in-Moved.line) next (change replay.link.state t))
+    (ReplaysNext (change replay c.move_and_report.new.replay) c.args.listed (change c.args.rec.now.to_come c.entry_for.new.rec.to_come))
     (λ used h. passes_next p c.args.listed replay.link.state t c.args.rec.now.to_come c.entry_for.new.rec.to_come next used c.in-Ok.ensures.taken
-    (subst (λ (x : Listed). PassesListed p x next replay.link.state t used) (sym c.in-Moved.is) h))
+    (subst (λ (x : Listed). PassesListed p x next (change replay.link.state t) used) (sym c.in-Moved.is) h))
     c.move_and_report.ensures.passed
 
 pub returns-in-Moved-clause-few : goal.returns-in-Moved-clause-few
@@ -63,7 +64,7 @@ returns-in-Moved-clause-few g c =
     let p = replay.link.profile in
     let t = c.move_and_report.new.replay.link.state in
     let next = option_map seen_of c.in-Ok.next in
-    IfOk-weaker c.move_and_report.result (PassesListed p (listed.Moved c.in-Moved.line) next replay.link.state t) (λ used. used ≤ 1)
+    IfOk-weaker c.move_and_report.result (PassesListed p (listed.Moved c.in-Moved.line) next (change replay.link.state t)) (λ used. used ≤ 1)
     (few_used p (listed.Moved c.in-Moved.line) next replay.link.state t)
     c.move_and_report.ensures.passed
 
@@ -88,9 +89,9 @@ returns-in-Load-clause-counts g c =
     let p = replay.link.profile in
     let t = c.load_and_report.new.replay.link.state in
     let next = option_map seen_of c.in-Ok.next in
-    IfOk-weaker c.load_and_report.result (λ used. (o : Option Seen) → PassesListed p (listed.Load c.in-Load.unit) o replay.link.state t used) (λ used. c.entry_for.new.rec.count ≡ c.args.rec.now.count + used)
+    IfOk-weaker c.load_and_report.result (λ used. (o : Option Seen) → PassesListed p (listed.Load c.in-Load.unit) o (change replay.link.state t) used) (λ used. c.entry_for.new.rec.count ≡ c.args.rec.now.count + used)
     (λ used h. used_given p c.args.listed c.in-Ok.next replay.link.state t used c.args.rec.now.count c.entry_for.new.rec.count c.in-Ok.ensures.given
-    (subst (λ (x : Listed). PassesListed p x next replay.link.state t used) (sym c.in-Load.is) (h next)))
+    (subst (λ (x : Listed). PassesListed p x next (change replay.link.state t) used) (sym c.in-Load.is) (h next)))
     c.load_and_report.ensures.passed
 
 pub returns-in-Load-clause-given : goal.returns-in-Load-clause-given
@@ -109,9 +110,9 @@ returns-in-Moved-clause-counts g c =
     let p = replay.link.profile in
     let t = c.move_and_report.new.replay.link.state in
     let next = option_map seen_of c.in-Ok.next in
-    IfOk-weaker c.move_and_report.result (PassesListed p (listed.Moved c.in-Moved.line) next replay.link.state t) (λ used. c.entry_for.new.rec.count ≡ c.args.rec.now.count + used)
+    IfOk-weaker c.move_and_report.result (PassesListed p (listed.Moved c.in-Moved.line) next (change replay.link.state t)) (λ used. c.entry_for.new.rec.count ≡ c.args.rec.now.count + used)
     (λ used h. used_given p c.args.listed c.in-Ok.next replay.link.state t used c.args.rec.now.count c.entry_for.new.rec.count c.in-Ok.ensures.given
-    (subst (λ (x : Listed). PassesListed p x next replay.link.state t used) (sym c.in-Moved.is) h))
+    (subst (λ (x : Listed). PassesListed p x next (change replay.link.state t) used) (sym c.in-Moved.is) h))
     c.move_and_report.ensures.passed
 
 pub returns-in-Moved-clause-given : goal.returns-in-Moved-clause-given

@@ -12,4 +12,4 @@ returns-in-Ok-Some-clause-first c =
 pub loop-at-preserved : goal.loop-at-preserved
 loop-at-preserved c =
     let made = c.in-Ok-None.ensures.made ∙ ap (λ (p : Contents). ended_by p c.args.request.count c.word-word.result.form c.loop-at.attempt) c.profile-profile.ensures.is in
-    c.loop-at.invariant ∙ whole_on c.args.decoded.now.profile c.args.request.count c.args.decoded.now.items c.loop-at.at c.args.request.group.to c.word-word.result c.loop-at.attempt c.take.new.self c.loop-at-test.true c.word-word.ensures.is (sym c.in-Ok-None.field-0-is ∙ made) c.in-Ok.ensures
+    c.loop-at.invariant ∙ whole_on c.args.decoded.now.profile c.args.request.count c.args.decoded.now.items c.loop-at.at c.args.request.group.to c.word-word.result c.loop-at.attempt c.take.new.self c.loop-at-test.true c.word-word.ensures.is (sym c.in-Ok-None.field-0-is ∙ made) c.in_ok-take.ensures

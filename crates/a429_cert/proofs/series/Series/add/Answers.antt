@@ -4,6 +4,7 @@ use Rattle.a429_link.specs.Link.{LinkValue}
 use Rattle.a429_link.specs.State.{State}
 use Rattle.a429_cert.specs.declared.stream.Replay.{Replay}
 use Rattle.a429_cert.specs.declared.stream_fault.StreamFault.TheVariants as stream
+use Rattle.a429_cert.specs.Change.{change}
 use Rattle.a429_cert.specs.CutLines.{GivesLine}
 use Rattle.a429_cert.specs.LineReader.{bytes_ahead, held_line, to_come}
 use Rattle.a429_cert.specs.Lines.{line_bytes}
@@ -69,8 +70,8 @@ lines-preserved g c =
     let used : c.replay_and_put.new.replay.used + c.in-Ok-replay_and_put.used ≡ c.lines.replay.used + c.in-Ok-replay_and_put.used = ap (λ (w : Replay). w.used + c.in-Ok-replay_and_put.used) kept in
     let shorter = c.in-Ok-next_near.ensures.shorter (subst (λ (o : Option (List ℕ)). IsSome o) c.line.ensures c.in-Ok-replay_and_put.ensures.ended) in
     let given = subst (GivesLine left more held) found c.in-Ok-next_near.ensures.given in
-    let passed = subst (λ w. PassesOver p (read_as w (line_bytes c.line.result)) s t c.lines.rec.to_come c.replay_and_put.new.rec.to_come c.in-Ok-replay_and_put.used) v.version (subst (λ q. PassesOver q (read_as c.lines.replay.version (line_bytes c.line.result)) s t c.lines.rec.to_come c.replay_and_put.new.rec.to_come c.in-Ok-replay_and_put.used) v.profile on.passed) in
-    let held_passed = subst (λ (o : Option (List ℕ)). PassesOver p (read_as v.head.version o) s t c.lines.rec.to_come c.replay_and_put.new.rec.to_come c.in-Ok-replay_and_put.used) c.line.ensures passed in
+    let passed = subst (λ w. PassesOver p (read_as w (line_bytes c.line.result)) (change s t) (change c.lines.rec.to_come c.replay_and_put.new.rec.to_come) c.in-Ok-replay_and_put.used) v.version (subst (λ q. PassesOver q (read_as c.lines.replay.version (line_bytes c.line.result)) (change s t) (change c.lines.rec.to_come c.replay_and_put.new.rec.to_come) c.in-Ok-replay_and_put.used) v.profile on.passed) in
+    let held_passed = subst (λ (o : Option (List ℕ)). PassesOver p (read_as v.head.version o) (change s t) (change c.lines.rec.to_come c.replay_and_put.new.rec.to_come) c.in-Ok-replay_and_put.used) c.line.ensures passed in
     let told = part_on old v.head v.k c.lines.replay.used v.taken s known left more held c.args.rec.now.to_come c.lines.rec.to_come c.in-Ok-replay_and_put.used t c.replay_and_put.new.rec.to_come given held_passed v.told in
     record {
       head = v.head;

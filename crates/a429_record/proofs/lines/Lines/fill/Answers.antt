@@ -1,5 +1,6 @@
 -- the part that was taken stands behind the parts before it
 use borrow.Rule.Slice.PartMut.{put_mid}
+use Rattle.a429_record.specs.Handed.{OfTaken}
 use Rattle.std.proofs.Common.{◌≡◌, ◌<◌, ◌+◌, ◌-◌, ◌++◌, length, length-append, take, refl, ap, ◌∙◌, arith, rules}
 use Rattle.std.proofs.lemmas.Bool.Decides.{nat_tests}
 use Rattle.std.proofs.lemmas.List.{length-take-le}
@@ -20,7 +21,7 @@ returns-in-Err-clause-before g c =
     let size : length (line ++ part) ≡ c.parts.at + n = simp (length-append, length-take-le c.parts.at c.parts.bytes c.parts.invariant.most, length-take-le n c.take_bytes-at.new.bytes c.take_bytes-at.ensures.most) refl in
     let short : length (line ++ part) < length (put_mid c.parts.at (length c.parts.bytes - c.parts.at) c.parts.bytes c.take_bytes-at.new.bytes) = grind (arith, nat_tests, size, inside, c.if-at-bytes.false) in
     let less : n < length c.take_bytes-at.new.bytes = grind (arith, nat_tests) in
-    front_lost (IsShort _) (pending_of g.R.Read.remaining c.args.self.now c.args.rec.now) (g.R.Read.remaining (inner_of c.parts.rec)) (g.R.Read.remaining (inner_of c.refill.new.rec))
+    front_lost (OfTaken (IsShort _)) (pending_of g.R.Read.remaining c.args.self.now c.args.rec.now) (g.R.Read.remaining (inner_of c.parts.rec)) (g.R.Read.remaining (inner_of c.refill.new.rec))
     (ahead_of c.parts.self) part line c.parts.invariant.gone (rw (c.take_bytes-at.ensures.all less) at c.take_bytes-at.ensures.takes) (λ rest. short) c.in-Err.ensures.none
 
 pub returns-in-Ok-false-clause-takes : goal.returns-in-Ok-false-clause-takes

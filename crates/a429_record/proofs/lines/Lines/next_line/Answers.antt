@@ -6,7 +6,8 @@ use Rattle.std.proofs.KnownBytes.{Consumes-kept}
 use Rattle.a429_word.specs.Tally.{inner_of}
 use Rattle.a429_record.specs.Lines.{ahead_of, pending_of}
 use Rattle.a429_record.proofs.LinesFacts.{HasNoEnd-append, given, takes_ended, takes_last}
-use Rattle.a429_record.specs.Handed.{IsOpen}
+use Rattle.a429_record.specs.Handed.{OfTaken}
+use Rattle.a429_record.specs.Ends.{HasNoEnd}
 use Rattle.a429_record.proofs.Handed.{front_lost}
 use Rattle.a429_record.proofs.lines.Lines.next_line.Goals as goal
 
@@ -53,7 +54,7 @@ returns-in_default-refill-clause-before g c failed =
     let none = c.in-Ok.ensures.ahead c.if-ended.false in
     let before = pending_of g.R.Read.remaining c.args.self.now c.args.rec.now in
     let one = HasNoEnd-append _ _ c.parts.invariant.line part.1 in
-    front_lost IsOpen before (g.R.Read.remaining (inner_of c.parts.rec)) (g.R.Read.remaining (inner_of c.refill.new.rec)) (ahead_of c.parts.self) part.0 c.parts.line.items
+    front_lost (OfTaken HasNoEnd) before (g.R.Read.remaining (inner_of c.parts.rec)) (g.R.Read.remaining (inner_of c.refill.new.rec)) (ahead_of c.parts.self) part.0 c.parts.line.items
     c.parts.invariant.gone (rw none at cut) (λ rest. one) c.in_default-refill.ensures.none
 
 pub returns-in_default-clause-before : goal.returns-in_default-clause-before
