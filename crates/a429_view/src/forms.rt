@@ -35,8 +35,8 @@ fn put_form_if_any<W: Write>(sheet: &mut Sheet<'_, W>, profile: &Profile, entry:
     }
 }
 
-// Why the transfer passes over a word.
-fn freedom(why: Freedom) -> &'static [u8]
+/// Why the transfer passes over a word.
+pub(crate) fn freedom(why: Freedom) -> &'static [u8]
     ensures { result.now ≡ freedom_text why }
 {
     match why {
@@ -47,8 +47,8 @@ fn freedom(why: Freedom) -> &'static [u8]
     }
 }
 
-// A form with its numbers.
-fn put_form<W: Write>(sheet: &mut Sheet<'_, W>, profile: &Profile, form: Form)
+/// A form with its numbers.
+pub(crate) fn put_form<W: Write>(sheet: &mut Sheet<'_, W>, profile: &Profile, form: Form)
     ensures { Says W.contents sheet.old sheet.new (form_text profile.now.codes form) }
 {
     match form {
@@ -81,16 +81,16 @@ pub(crate) fn put_named<W: Write>(sheet: &mut Sheet<'_, W>, name: &[u8], number:
     sheet.put_number(u64::from(number));
 }
 
-// A name, and the number of a link data unit after it.
-fn put_unit<W: Write>(sheet: &mut Sheet<'_, W>, name: &[u8], file: u8, ldu: u8)
+/// A name, and the number of a link data unit after it.
+pub(crate) fn put_unit<W: Write>(sheet: &mut Sheet<'_, W>, name: &[u8], file: u8, ldu: u8)
     ensures { Says W.contents sheet.old sheet.new (name.now ++ decimal file ++ codes " " ++ decimal ldu) }
 {
     put_named(sheet, name, file);
     put_named(sheet, b" ", ldu);
 }
 
-// Sixteen bits in four hexadecimal digits.
-fn put_hex<W: Write>(sheet: &mut Sheet<'_, W>, bits: u16)
+/// Sixteen bits in four hexadecimal digits.
+pub(crate) fn put_hex<W: Write>(sheet: &mut Sheet<'_, W>, bits: u16)
     ensures { Says W.contents sheet.old sheet.new (numeral 16 4 bits) }
 {
     let hex = Word::from_u32(u32::from(bits)).hex();
