@@ -1,14 +1,13 @@
 -- What a sketch holds once it was told of steps.
-use Rattle.std.proofs.Common.{◌≡◌, ◌≤◌, ◌<◌, ◌+◌, ◌++◌, ◌∷◌, ◌∙◌, ◌⊎◌, ℕ, List, [], inl, inr, refl, sym, ap, subst, arith, append-nil, append_assoc}
+use Rattle.std.proofs.Common.{◌≡◌, ◌≤◌, ◌<◌, ◌+◌, ◌++◌, ◌∷◌, ◌∙◌, List, [], inl, inr, sym, ap, subst, arith, append-nil, append_assoc}
 use Rattle.std.specs.List.{FoldsTo}
 use Rattle.std.proofs.lemmas.Bool.{cases_lt}
 use Rattle.a429_profile.specs.Profile.{Contents}
 use Rattle.a429_cert.specs.Told.{Told}
 use Rattle.a429_view.specs.declared.mark.Mark.{Mark}
 use Rattle.a429_view.specs.declared.mark.Span.{Span}
-use Rattle.a429_view.specs.declared.sketch.Place.{Place}
 use Rattle.a429_view.specs.declared.sketch.Sketch.{Sketch}
-use Rattle.a429_view.specs.Mark.{past, marks, shown, step_within, steps_within, before_all}
+use Rattle.a429_view.specs.Mark.{past, marks, shown, steps_within, before_all}
 use Rattle.a429_view.specs.Sketch.{most_steps, Hears, IsBlank, IsOf}
 
 -- what it gains of steps that are told

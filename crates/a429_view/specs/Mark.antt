@@ -1,7 +1,6 @@
 -- What a picture shows of the steps that are told of a run (profile).
-use Rattle.std.specs.Prelude.{◌≡◌, ◌+◌, ◌≤◌, ◌<◌, ◌&&◌, ℕ, nat_le, List, [], ◌∷◌, ◌++◌, if◌then◌else◌, Bool, true, false, Option, Some, None}
+use Rattle.std.specs.Prelude.{◌+◌, ◌&&◌, ℕ, nat_le, List, [], ◌∷◌, ◌++◌, if◌then◌else◌, Bool, false, Option, Some, None}
 use Rattle.a429_profile.specs.declared.codes.Codes.{Codes}
-use Rattle.a429_profile.specs.Profile.{Contents}
 use Rattle.a429_ldu.specs.Form.{form_of}
 use Rattle.a429_ldu.specs.Ldu.{LduValue, is_final}
 use Rattle.a429_link.specs.declared.number.UnitNumber.{UnitNumber}

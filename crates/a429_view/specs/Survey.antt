@@ -1,5 +1,5 @@
 -- What a recording has, counted, and the lines that say it (profile).
-use Rattle.std.specs.Prelude.{◌≡◌, ℕ, zero, suc, ◌+◌, ◌%◌, ◌<◌, ◌==◌, not, List, [], ◌∷◌, ◌++◌, length, filter, flat_map, get_or, codes, Bool, true, false, Option, Some, None}
+use Rattle.std.specs.Prelude.{◌≡◌, ℕ, zero, suc, ◌%◌, ◌<◌, ◌==◌, not, List, [], ◌∷◌, ◌++◌, length, filter, flat_map, get_or, codes, Bool, true, false, Option, Some, None}
 use Rattle.std.specs.Fmt.{decimal}
 use Rattle.a429_word.specs.Word.{label_of, count_of_ones}
 use Rattle.a429_word.specs.Digits.{octal_text}

@@ -7,8 +7,8 @@ ghost use Rattle.a429_word.specs.Digits.{numeral};
 ghost use Rattle.a429_ldu.specs.Form.{form_of};
 ghost use Rattle.a429_view.specs.Forms.{freedom_text, final_text, form_text, reason_or_form_text, what_text};
 
-use a429_ldu::{Form, Freedom, Semis, form, why_free};
-use a429_link::is_final;
+use a429_ldu::{Form, Freedom, Semis, why_free};
+use a429_link::{form_of, is_final};
 use a429_profile::Profile;
 use a429_record::Entry;
 use a429_word::{Sheet, Word, hex_digit};
@@ -29,7 +29,18 @@ pub fn put_what<W: Write>(sheet: &mut Sheet<'_, W>, profile: &Profile, entry: &E
 fn put_form_if_any<W: Write>(sheet: &mut Sheet<'_, W>, profile: &Profile, entry: &Entry)
     ensures { Says W.contents sheet.old sheet.new (reason_or_form_text profile.now.codes None (form_of profile.now.codes entry.now.bus entry.now.word)) }
 {
-    match form(profile, entry.bus, entry.word).form() {
+    put_form_or_none(sheet, profile, form_of(profile, entry.bus, entry.word));
+}
+
+/// Puts the form of a word that is not free, or that it has none.
+pub(crate) fn put_form_or_none<W: Write>(
+    sheet: &mut Sheet<'_, W>,
+    profile: &Profile,
+    form: Option<Form>,
+)
+    ensures { Says W.contents sheet.old sheet.new (reason_or_form_text profile.now.codes None form) }
+{
+    match form {
         Some(form) => put_form(sheet, profile, form),
         None => sheet.put(b"no form"),
     }

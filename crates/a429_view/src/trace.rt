@@ -2,14 +2,15 @@
 
 ghost use Rattle.std.specs.Prelude.{◌≡◌, ◌++◌, [], IfErr, IfOk, OnOk, Some};
 ghost use Rattle.a429_word.specs.Sheet.{Says};
+ghost use Rattle.a429_ldu.specs.Sight.{form_in};
 ghost use Rattle.a429_link.specs.Observer.{AllowsForm};
 ghost use Rattle.a429_link.specs.Implied.{crossings_of, does, implies_form, observer_of};
-ghost use Rattle.a429_profile.specs.Profile.{Contents};
-ghost use Rattle.a429_view.specs.Trace.{GoesOn, IsTrace, IsTraceStop, has_line, line_of, stop_text};
+ghost use Rattle.a429_profile.specs.Profile.{Contents, IsProfile};
+ghost use Rattle.a429_view.specs.Trace.{GoesOn, IsTrace, IsTraceStop, has_line, head_text, line_of, refused_text, stop_text};
 
 pub(crate) mod text;
 
-use crate::trace::text::{Numbered, put_allowed, put_free, put_refused};
+use crate::trace::text::{put_allowed, put_free, put_head, put_refused};
 use a429_cert::seen;
 use a429_ldu::{Form, Sight, form};
 use a429_link::{Crossing, Doing, ImpliedSink};
@@ -76,6 +77,7 @@ impl Trace {
         ensures goes_on { OnOk result (GoesOn profile.now entry.now self.old self.new) }
         ensures line { OnOk result (Says W.contents sheet.old sheet.new (line_of profile.now self.old.entries self.old.sink entry.now)) }
         ensures stop { IfErr result (IsTraceStop profile.now self.old.sink entry.now) }
+        ensures sound { IsProfile profile.now }
         ensures stop_line { IfErr result (λ stop. Says W.contents sheet.old sheet.new (stop_text profile.now self.old.entries self.old.sink entry.now stop)) }
     {
         let number = self.entries;
@@ -83,25 +85,41 @@ impl Trace {
             self.entries = number.saturating_add(1);
             return Ok(());
         }
-        let line = Numbered {
-            number,
-            entry: *entry,
-        };
         match form(profile, entry.bus, entry.word) {
-            Sight::Free => put_free(sheet, profile, line),
-            Sight::Form(form) if self.sink.allows(entry.bus, &form) => {
+            Sight::Free => {
+                put_head(sheet, number, entry);
+                put_free(sheet, profile, entry);
+            }
+            Sight::Form(form) => {
+                if !self.sink.allows(entry.bus, &form) {
+                    return Err(self.refuse(sheet, profile, entry, Sight::Form(form)));
+                }
                 let Ok(doing) = self.take(alloc, profile, entry, &form) else {
                     return Err(TraceStop::OutOfMemory);
                 };
-                put_allowed(sheet, profile, line, form, doing);
+                put_head(sheet, number, entry);
+                put_allowed(sheet, profile, form, doing);
             }
-            sight => {
-                put_refused(sheet, profile, line, sight.form(), self.sink.next());
-                return Err(TraceStop::Refused(sight));
-            }
+            Sight::NoForm => return Err(self.refuse(sheet, profile, entry, Sight::NoForm)),
         }
         self.entries = number.saturating_add(1);
         Ok(())
+    }
+
+    // Puts the line of a word that is not free, and that no run records.
+    fn refuse<W: Write>(
+        &self,
+        sheet: &mut Sheet<'_, W>,
+        profile: &Profile,
+        entry: &Entry,
+        sight: Sight,
+    ) -> TraceStop
+        ensures stop { result ≡ TraceStop.Refused sight }
+        ensures line { Says W.contents sheet.old sheet.new (head_text self.now.entries entry.now ++ refused_text profile.now.codes (form_in sight) self.now.sink) }
+    {
+        put_head(sheet, self.entries, entry);
+        put_refused(sheet, profile, sight.form(), self.sink.next());
+        TraceStop::Refused(sight)
     }
 
     // Takes the word of an entry, which has this allowed form.
@@ -133,7 +151,8 @@ impl Trace {
 
 // The word has the transfer's label of its bus.
 fn has_line(profile: &Profile, entry: &Entry) -> bool
-    ensures { result ≡ has_line profile.now.codes entry.now }
+    ensures value { result ≡ has_line profile.now.codes entry.now }
+    ensures sound { IsProfile profile.now }
 {
     let codes = profile.codes();
     let label = match entry.bus {

@@ -6,89 +6,97 @@ ghost use Rattle.a429_word.specs.Sheet.{Says};
 ghost use Rattle.a429_ldu.specs.Freedom.{freedom_of};
 ghost use Rattle.a429_link.specs.Allowed.{kinds_of_next};
 ghost use Rattle.a429_view.specs.Forms.{form_text, reason_or_form_text};
-ghost use Rattle.a429_view.specs.Trace.{crossing_text, doing_text, else_form_text, else_text, free_text, head_text, kinds_text, unit_text, why_text, words_text};
+ghost use Rattle.a429_view.specs.Trace.{crossing_text, doing_text, else_form_text, else_text, free_text, head_text, kinds_text, turned_over, why_text, words_text};
 
-use crate::forms::{freedom, put_form, put_hex, put_named, put_unit};
-use a429_ldu::{Form, Freedom, form, why_free};
-use a429_link::{Crossing, Doing, Next, Why};
+use crate::forms::{freedom, put_form, put_form_or_none, put_hex, put_named, put_unit};
+use a429_ldu::{Form, Freedom, why_free};
+use a429_link::{Crossing, Doing, Next, Why, form_of};
 use a429_profile::Profile;
 use a429_record::{Entry, put_parts};
-use a429_word::{Sheet, Word};
+use a429_word::{Bus, Sheet, Word};
 use std::io::Write;
 
-/// An entry and its number in the recording, from 0.
-#[derive(Clone, Copy, Debug)]
-pub(crate) struct Numbered {
-    pub number: usize,
-    pub entry: Entry,
+/// How a line begins: the number of the entry, and what was recorded.
+pub(crate) fn put_head<W: Write>(sheet: &mut Sheet<'_, W>, number: usize, entry: &Entry)
+    ensures { Says W.contents sheet.old sheet.new (head_text number entry.now) }
+{
+    sheet.put_number(number as u64);
+    sheet.put(b" ");
+    put_parts(sheet, *entry, b' ', b' ');
 }
 
-/// The line of an entry whose word is free.
-pub(crate) fn put_free<W: Write>(sheet: &mut Sheet<'_, W>, profile: &Profile, line: Numbered)
-    ensures { Says W.contents sheet.old sheet.new (head_text line.number line.entry ++ free_text profile.now.codes line.entry.bus line.entry.word (freedom_of profile.now.codes line.entry.bus line.entry.word) ++ codes "\n") }
+/// How the line of a free word ends.
+pub(crate) fn put_free<W: Write>(sheet: &mut Sheet<'_, W>, profile: &Profile, entry: &Entry)
+    ensures { Says W.contents sheet.old sheet.new (free_text profile.now.codes entry.now.bus entry.now.word (freedom_of profile.now.codes entry.now.bus entry.now.word) ++ codes "\n") }
 {
-    put_head(sheet, line);
-    if let Some(why) = why_free(profile, line.entry.bus, line.entry.word) {
-        sheet.put(freedom(why));
-        put_else(sheet, profile, &line.entry, why);
-    }
+    put_freedom(sheet, profile, entry.bus, entry.word);
     sheet.put(b"\n");
 }
 
-/// The line of an entry whose word has this allowed form, after which the sink does this.
+/// How the line of a word ends that has this allowed form, after which the sink does this.
 pub(crate) fn put_allowed<W: Write>(
     sheet: &mut Sheet<'_, W>,
     profile: &Profile,
-    line: Numbered,
     form: Form,
     doing: Doing,
 )
-    ensures { Says W.contents sheet.old sheet.new (head_text line.number line.entry ++ form_text profile.now.codes form ++ codes " | " ++ doing_text doing ++ codes "\n") }
+    ensures { Says W.contents sheet.old sheet.new (form_text profile.now.codes form ++ (codes " | " ++ doing_text doing) ++ codes "\n") }
 {
-    put_head(sheet, line);
     put_form(sheet, profile, form);
     sheet.put(b" | ");
     put_doing(sheet, doing);
     sheet.put(b"\n");
 }
 
-/// The line of an entry whose word has this form, or none, and is not allowed; what follows is.
+/// How the line of a word ends that has this form, or none, and is not allowed; what would be is in it.
 pub(crate) fn put_refused<W: Write>(
     sheet: &mut Sheet<'_, W>,
     profile: &Profile,
-    line: Numbered,
     form: Option<Form>,
     next: Next,
 )
-    ensures { Says W.contents sheet.old sheet.new (head_text line.number line.entry ++ reason_or_form_text profile.now.codes None form ++ codes " | refused, allowed: " ++ kinds_text (kinds_of_next next) ++ codes "\n") }
+    ensures { Says W.contents sheet.old sheet.new (reason_or_form_text profile.now.codes None form ++ codes " | refused, allowed: " ++ kinds_text (kinds_of_next next) ++ codes "\n") }
 {
-    put_head(sheet, line);
-    match form {
-        Some(form) => put_form(sheet, profile, form),
-        None => sheet.put(b"no form"),
-    }
+    put_form_or_none(sheet, profile, form);
     sheet.put(b" | refused, allowed: ");
     put_next(sheet, next);
     sheet.put(b"\n");
 }
 
-// How a line begins.
-fn put_head<W: Write>(sheet: &mut Sheet<'_, W>, line: Numbered)
-    ensures { Says W.contents sheet.old sheet.new (head_text line.number line.entry) }
+// Why a word is free, and what it would be.
+fn put_freedom<W: Write>(sheet: &mut Sheet<'_, W>, profile: &Profile, bus: Bus, word: Word)
+    ensures { Says W.contents sheet.old sheet.new (free_text profile.now.codes bus word (freedom_of profile.now.codes bus word)) }
 {
-    sheet.put_number(line.number as u64);
-    sheet.put(b" ");
-    put_parts(sheet, line.entry, b' ', b' ');
+    if let Some(why) = why_free(profile, bus, word) {
+        sheet.put(freedom(why));
+        put_else(sheet, profile, bus, word, why);
+    }
 }
 
 // What a word of even parity would be with bit 32 turned over, where that is a form.
-fn put_else<W: Write>(sheet: &mut Sheet<'_, W>, profile: &Profile, entry: &Entry, why: Freedom)
-    ensures { Says W.contents sheet.old sheet.new (else_text profile.now.codes entry.now.bus entry.now.word why) }
+fn put_else<W: Write>(
+    sheet: &mut Sheet<'_, W>,
+    profile: &Profile,
+    bus: Bus,
+    word: Word,
+    why: Freedom,
+)
+    ensures { Says W.contents sheet.old sheet.new (else_text profile.now.codes bus word why) }
 {
-    if why == Freedom::BadParity {
-        let turned = Word::from_u32(entry.word.to_u32() ^ 1 << 31);
-        put_else_form(sheet, profile, form(profile, entry.bus, turned).form());
+    match why {
+        Freedom::BadParity => {
+            let turned = turned_over(word);
+            put_else_form(sheet, profile, form_of(profile, bus, turned));
+        }
+        Freedom::OtherLabel | Freedom::IgnoredType | Freedom::IgnoredCode => {}
     }
+}
+
+// A word with bit 32 turned over.
+fn turned_over(word: Word) -> Word
+    ensures { result ≡ turned_over word }
+{
+    Word::from_u32(word.to_u32() ^ 0x8000_0000)
 }
 
 fn put_else_form<W: Write>(sheet: &mut Sheet<'_, W>, profile: &Profile, form: Option<Form>)
@@ -140,7 +148,8 @@ fn put_words<W: Write>(sheet: &mut Sheet<'_, W>, taken: usize, asked: u8)
     ensures { Says W.contents sheet.old sheet.new (words_text taken asked) }
 {
     sheet.put_number(taken as u64);
-    put_named(sheet, b" of ", asked);
+    sheet.put(b" of ");
+    sheet.put_number(u64::from(asked));
     sheet.put(b" data words");
 }
 

@@ -1,4 +1,4 @@
-use Rattle.std.proofs.Common.{◌≡◌, arith, sym, subst}
+use Rattle.std.proofs.Common.{◌≡◌, arith, subst}
 use Rattle.a429_word.specs.Sheet.{Says}
 use Rattle.a429_word.proofs.SheetFacts.{◌▹◌, says_nothing}
 use Rattle.a429_view.specs.Survey.{label_lines, with_label}

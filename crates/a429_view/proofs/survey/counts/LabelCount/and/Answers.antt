@@ -1,4 +1,4 @@
-use Rattle.std.proofs.Common.{ap, true, false}
+use Rattle.std.proofs.Common.{ap}
 use Rattle.a429_record.specs.declared.entry.Entry.{Entry}
 use Rattle.a429_view.proofs.SurveyFacts.{label_more, even_where}
 use Rattle.a429_view.proofs.survey.counts.LabelCount.and.Goals as goal
