@@ -28,3 +28,4 @@ pub use crate::explanation::{Explanation, Refusal, explain_by};
 pub use crate::guess::Guess;
 pub use crate::plan::Plan;
 pub use crate::verdict::{Doubt, Reason, Verdict};
+pub use crate::walk::reason_of;

@@ -93,8 +93,8 @@ fn see_screened(
     observer.see(profile, seen)
 }
 
-// Why a word is refused that is not free and has this form, or none.
-fn reason_of(form: Option<Form>) -> Reason
+/// Why a word is refused that is not free and has this form, or none.
+pub fn reason_of(form: Option<Form>) -> Reason
     requires { IsRefusable (sight_in form) }
     ensures { FitsSight (sight_in form) result }
 {

@@ -9,7 +9,8 @@ use Rattle.a429_ldu.specs.Form.{form_of}
 use Rattle.a429_link.specs.declared.seen.Seen.{Seen}
 use Rattle.a429_link.specs.Attempt.{Attempt, asks, fresh, grown, latest, latest_from, under_way}
 use Rattle.a429_link.specs.Sink.{Sink}
-use Rattle.a429_link.proofs.ObserverRefuses.{sees_as, sees_on_as}
+use Rattle.a429_link.specs.Implied.{sink_sees_form}
+use Rattle.a429_link.proofs.ObserverRefuses.{sees_on_as}
 use Rattle.a429_link.proofs.SinkFromTrace.{sees}
 use Rattle.a429_link.proofs.StateConfigs.{acks_count}
 use Rattle.a429_link.specs.Trace.{sink_after, sink_at_first}
@@ -56,7 +57,7 @@ pub latest_words : (p : Contents) (items : List Seen) → (latest p items).words
 latest_words p items = latest_words_from p items (fresh 0)
 
 -- the count that the latest attempt asks for
-item_count : (p : Contents) (b : Bus) (w : ℕ) (o : Option Form) (a : Attempt) (k : Sink) → a.count ≡ k.count → (under_way (asks b o) (grown b w o a)).count ≡ (sees_as p b w o k).count
+item_count : (p : Contents) (b : Bus) (w : ℕ) (o : Option Form) (a : Attempt) (k : Sink) → a.count ≡ k.count → (under_way (asks b o) (grown b w o a)).count ≡ (sink_sees_form p b w o k).count
 item_count p bus.A w None a k e = e
 item_count p bus.A w (Some (form.Rts n)) a k e = refl
 item_count p bus.A w (Some (form.Cts n)) a k e = e

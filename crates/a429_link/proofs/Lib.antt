@@ -10,6 +10,7 @@ pub mod RunCrossing
 pub mod RunTraces
 pub mod ObserverRefuses
 pub mod TraceFiles
+pub mod ImpliedFacts
 pub mod TraceReasons
 pub mod TraceKinds
 pub mod TraceWords

@@ -15,6 +15,7 @@ use Rattle.a429_ldu.specs.declared.forms.Form.{Form}
 use Rattle.a429_ldu.specs.declared.forms.Form.TheVariants as form
 use Rattle.a429_profile.specs.declared.codes.Codes.{Codes}
 use Rattle.a429_link.proofs.StateConfigs.{InGrant, acks_count}
+use Rattle.a429_link.specs.Implied.{sink_sees_form}
 use Rattle.a429_link.specs.Trace.{sink_at_first, sink_sees}
 use Rattle.a429_link.proofs.RunTraces.{parts_in, see, see_item, AllowsMessage, Allowed, AllAllowed, trace_allowed}
 
@@ -40,11 +41,7 @@ sot_push [] g f l = refl
 sot_push (Part q ∷ seen) g f l = ap (λ n. suc n) (sot_push seen g f l)
 sot_push (_ ∷ seen) g f l = sot_push seen g f l
 
-abbrev pub sees_as : Contents → Bus → ℕ → Option Form → Sink → Sink
-sees_as p bus.A w o k = takes_form p w o k
-sees_as p bus.B w o k = answers_form p.codes o k
-
-pub sees_on_as : (p : Contents) (b : Bus) (w : ℕ) (k : Sink) → sink_sees p b w k ≡ sees_as p b w (form_of p.codes b w) k
+pub sees_on_as : (p : Contents) (b : Bus) (w : ℕ) (k : Sink) → sink_sees p b w k ≡ sink_sees_form p b w (form_of p.codes b w) k
 sees_on_as p bus.A w k = refl
 sees_on_as p bus.B w k = refl
 
@@ -79,7 +76,7 @@ answers_watched c (form.Sot g f l) k b m = refl
 answers_watched c (form.Part s) k b m = refl
 answers_watched c (form.Eot f ch) k b m = refl
 
-sees_form_same : (p : Contents) (b : Bus) (w : ℕ) (o : Option Form) (k : Sink) (seen : List Message) → sees_form p b w o (seeing k seen) ≡ seeing (sees_as p b w o k) (see b (message_in w o) seen)
+sees_form_same : (p : Contents) (b : Bus) (w : ℕ) (o : Option Form) (k : Sink) (seen : List Message) → sees_form p b w o (seeing k seen) ≡ seeing (sink_sees_form p b w o k) (see b (message_in w o) seen)
 sees_form_same p bus.A w None k seen = refl
 sees_form_same p bus.B w None k seen = refl
 sees_form_same p bus.A w (Some (form.Sot g f l)) k seen = rw (some_push seen (Sot g f l)) (rw (sot_push seen g f l) refl)

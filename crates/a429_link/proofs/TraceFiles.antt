@@ -24,7 +24,7 @@ observed_as p (i ∷ items) k seen o e = observed_as p items (sink_sees p i.bus 
 pub observed_sink : (p : Contents) (items : List Seen) → sink_of (observed p items at_first) ≡ with_received nothing_received (sink_after p items sink_at_first)
 observed_sink p items = observed_as p items sink_at_first [] at_first refl
 
-after_push : (p : Contents) (items : List Seen) (i : Seen) (k : Sink) → sink_after p (items ++ i ∷ []) k ≡ sink_sees p i.bus i.word (sink_after p items k)
+pub after_push : (p : Contents) (items : List Seen) (i : Seen) (k : Sink) → sink_after p (items ++ i ∷ []) k ≡ sink_sees p i.bus i.word (sink_after p items k)
 after_push p [] i k = refl
 after_push p (x ∷ items) i k = after_push p items i (sink_sees p x.bus x.word k)
 

@@ -1,5 +1,5 @@
 -- What a recording implies of its sink, word after word, and what the sink does then (profile).
-use Rattle.std.specs.Prelude.{ℕ, ◌-◌, Bool, false, if◌then◌else◌, List, [], ◌∷◌, length, Option, Some, None, unwrap_or}
+use Rattle.std.specs.Prelude.{ℕ, ◌-◌, Bool, false, if◌then◌else◌, List, [], ◌∷◌, length, map, Option, Some, None, unwrap_or}
 use Rattle.a429_word.specs.declared.bus.Bus.{Bus}
 use Rattle.a429_word.specs.declared.bus.Bus.TheVariants as bus
 use Rattle.a429_profile.specs.Profile.{Contents}
@@ -43,8 +43,10 @@ sink_sees_form p bus.B word x k = answers_form p.codes x k
 abbrev pub with_counts : Observer → Sink → Implied
 with_counts o k = record { sink = without_files k; begun = o.begun; parts = o.parts }
 
+-- a word without form changes nothing
 abbrev pub implies_form : Contents → Bus → ℕ → Option Form → Implied → Implied
-implies_form p b word x k = with_counts (sees_form p b word x (observer_of k)) (sink_sees_form p b word x k.sink)
+implies_form p b word None k = k
+implies_form p b word (Some x) k = with_counts (sees_form p b word (Some x) (observer_of k)) (sink_sees_form p b word (Some x) k.sink)
 
 -- what is implied after one more recorded word
 abbrev pub implies : Contents → Seen → Implied → Implied
@@ -56,10 +58,14 @@ implied p (i ∷ items) k = implied p items (implies p i k)
 
 -- ---- what it does
 
+-- a file by its number and its length
+abbrev pub size_of : FileBytes → Crossing
+size_of f = record { number = f.number; bytes = length f.bytes }
+
 -- the first of the files that cross
 abbrev pub crossing_in : List FileBytes → Option Crossing
 crossing_in [] = None
-crossing_in (f ∷ fs) = Some (record { number = f.number; bytes = length f.bytes })
+crossing_in (f ∷ fs) = Some (size_of f)
 
 -- why a word of this form ends a block that is not good
 abbrev pub why_at : Contents → Form → Sink → Option Why
@@ -90,3 +96,13 @@ doing_after p x old new = doing_in new.count (why_at p x old) new.phase
 -- what it does after a word of this form
 abbrev pub does : Contents → Bus → ℕ → Form → Sink → Doing
 does p b word x k = doing_after p x k (sink_sees_form p b word (Some x) k)
+
+-- ---- the files that cross
+
+abbrev pub sizes_of : List FileBytes → List Crossing
+sizes_of files = map size_of files
+
+-- what crosses by what a sink does
+abbrev pub crossings_of : Doing → List Crossing
+crossings_of (doing.Accepts file ldu (Some crossing)) = crossing ∷ []
+crossings_of _ = []

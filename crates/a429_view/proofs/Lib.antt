@@ -3,3 +3,4 @@ pub mod SketchFacts
 pub mod PictureFacts
 pub mod CrossingsFacts
 pub mod SurveyFacts
+pub mod TraceFacts

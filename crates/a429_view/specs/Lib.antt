@@ -6,3 +6,4 @@ pub mod Sketch
 pub mod Crossings
 pub mod Picture
 pub mod Survey
+pub mod Trace

@@ -7,8 +7,8 @@ ghost use Rattle.a429_word.specs.Digits.{numeral};
 ghost use Rattle.a429_ldu.specs.Form.{form_of};
 ghost use Rattle.a429_view.specs.Forms.{freedom_text, final_text, form_text, reason_or_form_text, what_text};
 
-use a429_ldu::{Form, Freedom, Semis, form, why_free};
-use a429_link::is_final;
+use a429_ldu::{Form, Freedom, Semis, why_free};
+use a429_link::{form_of, is_final};
 use a429_profile::Profile;
 use a429_record::Entry;
 use a429_word::{Sheet, Word, hex_digit};
@@ -29,14 +29,25 @@ pub fn put_what<W: Write>(sheet: &mut Sheet<'_, W>, profile: &Profile, entry: &E
 fn put_form_if_any<W: Write>(sheet: &mut Sheet<'_, W>, profile: &Profile, entry: &Entry)
     ensures { Says W.contents sheet.old sheet.new (reason_or_form_text profile.now.codes None (form_of profile.now.codes entry.now.bus entry.now.word)) }
 {
-    match form(profile, entry.bus, entry.word).form() {
+    put_form_or_none(sheet, profile, form_of(profile, entry.bus, entry.word));
+}
+
+/// Puts the form of a word that is not free, or that it has none.
+pub(crate) fn put_form_or_none<W: Write>(
+    sheet: &mut Sheet<'_, W>,
+    profile: &Profile,
+    form: Option<Form>,
+)
+    ensures { Says W.contents sheet.old sheet.new (reason_or_form_text profile.now.codes None form) }
+{
+    match form {
         Some(form) => put_form(sheet, profile, form),
         None => sheet.put(b"no form"),
     }
 }
 
-// Why the transfer passes over a word.
-fn freedom(why: Freedom) -> &'static [u8]
+/// Why the transfer passes over a word.
+pub(crate) fn freedom(why: Freedom) -> &'static [u8]
     ensures { result.now ≡ freedom_text why }
 {
     match why {
@@ -47,8 +58,8 @@ fn freedom(why: Freedom) -> &'static [u8]
     }
 }
 
-// A form with its numbers.
-fn put_form<W: Write>(sheet: &mut Sheet<'_, W>, profile: &Profile, form: Form)
+/// A form with its numbers.
+pub(crate) fn put_form<W: Write>(sheet: &mut Sheet<'_, W>, profile: &Profile, form: Form)
     ensures { Says W.contents sheet.old sheet.new (form_text profile.now.codes form) }
 {
     match form {
@@ -81,16 +92,16 @@ pub(crate) fn put_named<W: Write>(sheet: &mut Sheet<'_, W>, name: &[u8], number:
     sheet.put_number(u64::from(number));
 }
 
-// A name, and the number of a link data unit after it.
-fn put_unit<W: Write>(sheet: &mut Sheet<'_, W>, name: &[u8], file: u8, ldu: u8)
+/// A name, and the number of a link data unit after it.
+pub(crate) fn put_unit<W: Write>(sheet: &mut Sheet<'_, W>, name: &[u8], file: u8, ldu: u8)
     ensures { Says W.contents sheet.old sheet.new (name.now ++ decimal file ++ codes " " ++ decimal ldu) }
 {
     put_named(sheet, name, file);
     put_named(sheet, b" ", ldu);
 }
 
-// Sixteen bits in four hexadecimal digits.
-fn put_hex<W: Write>(sheet: &mut Sheet<'_, W>, bits: u16)
+/// Sixteen bits in four hexadecimal digits.
+pub(crate) fn put_hex<W: Write>(sheet: &mut Sheet<'_, W>, bits: u16)
     ensures { Says W.contents sheet.old sheet.new (numeral 16 4 bits) }
 {
     let hex = Word::from_u32(u32::from(bits)).hex();

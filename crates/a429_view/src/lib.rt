@@ -7,6 +7,7 @@ mod mark;
 mod picture;
 mod sketch;
 mod survey;
+mod trace;
 mod units;
 
 pub use crate::forms::put_what;
@@ -15,4 +16,5 @@ pub use crate::picture::put_picture;
 pub use crate::sketch::{MOST_STEPS, Place, Sketch};
 pub use crate::survey::Survey;
 pub use crate::survey::text::put_survey;
+pub use crate::trace::{Trace, TraceStop};
 pub use crate::units::rows::UnitRows;

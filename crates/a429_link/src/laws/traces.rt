@@ -7,6 +7,10 @@ ghost use Rattle.a429_link.specs.Run.{RunOf, trace, delivered_by};
 ghost use Rattle.a429_link.specs.Observer.{Observer, HasGrant, at_first, observed, sink_of};
 ghost use Rattle.a429_link.specs.Sink.{Block, Number, OwesNak, Sink, nothing_received, is_good, takes_end, with_received};
 ghost use Rattle.a429_link.specs.Trace.{files_of, sink_after, sink_at_first, sink_sees};
+ghost use Rattle.a429_ldu.specs.declared.forms.Form.{Form};
+ghost use Rattle.a429_ldu.specs.Form.{form_of};
+ghost use Rattle.a429_link.specs.Observer.{AllowsForm};
+ghost use Rattle.a429_link.specs.Implied.{crossings_of, does, implied, implied_at_first, sizes_of, with_counts};
 ghost use Rattle.a429_link.specs.Why.{block_in, why_bad};
 ghost use Rattle.a429_link.specs.Allowed.{AllowsKind, AllowsWordOf, Kind, kinds_allowed};
 
@@ -30,4 +34,13 @@ pub fn a_bad_block_has_a_reason()
 pub fn listed_is_what_is_allowed()
     ensures form { (o : Observer) (k : Kind) → Contains (kinds_allowed o) k ↔ AllowsKind o k }
     ensures word { (p : Contents) (items : List Seen) (k : Kind) → IsProfile p → Contains (kinds_allowed (observed p items at_first)) k ↔ AllowsWordOf p (observed p items at_first) k }
+{}
+
+/// What is implied word after word is that sink with its files handed out, and what an observer counts. A file crosses
+/// by a word exactly where the sink is said to accept a link data unit with it.
+pub fn what_is_implied_is_the_sink()
+    ensures sink { (p : Contents) (items : List Seen) → implied p items implied_at_first ≡ with_counts (observed p items at_first) (sink_after p items sink_at_first) }
+    ensures crosses { (p : Contents) (items : List Seen) (i : Seen) (x : Form) → form_of p.codes i.bus i.word ≡ Some x → AllowsForm (observed p items at_first) i.bus (Some x)
+        → sizes_of (files_of p (items ++ i ∷ [])) ≡ sizes_of (files_of p items) ++ crossings_of (does p i.bus i.word x (implied p items implied_at_first).sink) }
+    ensures stays { (p : Contents) (items : List Seen) (i : Seen) → form_of p.codes i.bus i.word ≡ None → files_of p (items ++ i ∷ []) ≡ files_of p items }
 {}
