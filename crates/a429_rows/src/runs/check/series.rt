@@ -27,7 +27,8 @@ fn is_right(
         let words = 3 + chance.below(10) as u8;
         let run = clean_run(alloc, profile, number, words, files.as_slice()).expect(rt, "a run");
         for file in files.iter() {
-            sizes.push((number, file.len() as u32))?;
+            let length = u32::try_from(file.len()).map_err(|_| "a long file")?;
+            sizes.push((number, length))?;
             number = number.wrapping_add(1);
         }
         let text = recording(alloc, run.as_slice())?;
