@@ -1,5 +1,5 @@
 -- The place at which a replay along a certificate's lines breaks off, where both are told.
-use Rattle.std.proofs.Common.{◌≡◌, ◌≢◌, ◌⊎◌, inl, inr, ◌≤◌, ◌+◌, ◌-◌, ◌∙◌, ◌++◌, ◌∷◌, arith, ℕ, suc, List, [], length, length-append, take, drop, Bool, true, false, Option, Some, None, slice_get, Ok, Err, refl, sym, ap, subst, append-nil}
+use Rattle.std.proofs.Common.{◌≡◌, ◌≢◌, ◌⊎◌, inl, inr, ◌≤◌, ◌+◌, ◌-◌, ◌∙◌, ◌++◌, ◌∷◌, arith, ℕ, suc, List, [], length, length-append, drop, Bool, true, false, Option, Some, None, slice_get, Err, refl, sym, ap, subst, append-nil}
 use Rattle.std.proofs.lemmas.List.{drop-drop}
 use Rattle.std.specs.Io.KnownBytes.{Keeps, prepend_known}
 use Rattle.a429_profile.specs.Profile.{Contents}
@@ -24,11 +24,11 @@ use Rattle.a429_cert.specs.Version.{read_as, step_lines}
 use Rattle.a429_cert.specs.Stream.{behind, next_of, of_read, sizes, GainsAll, GivesAtFault, PassesOver, RefusesOver, StopsAt, WantsEntry}
 use Rattle.a429_cert.specs.StreamEnd.{EndsLate, GivesNone}
 use Rattle.a429_cert.specs.StreamHead.{ReadsAtMost, RefusesHead}
-use Rattle.a429_cert.specs.StreamExplained.{WhereTold, WantsNext, Delivers, IsWantedReadFault}
-use Rattle.a429_cert.specs.BreakOff.{Readers, shelved, IsInHead, IsBetweenLines, IsAtLine, IsAtFile, IsAtEntry, IsPlace, BreaksOff}
+use Rattle.a429_cert.specs.StreamExplained.{WhereTold, WantsNext, Delivers}
+use Rattle.a429_cert.specs.BreakOff.{Readers, shelved, IsBetweenLines, IsAtLine, IsAtFile, IsAtEntry, IsPlace, BreaksOff}
 use Rattle.a429_cert.proofs.Options.{some_is}
 use Rattle.a429_cert.proofs.EarlierFiles.{given_out}
-use Rattle.a429_cert.proofs.StreamFacts.{put_on, gains_none}
+use Rattle.a429_cert.proofs.StreamFacts.{put_on}
 use Rattle.a429_cert.proofs.StreamStands.{AreBehind, Stands, lines_behind, goes_on}
 use Rattle.a429_cert.proofs.StreamRefused.{delivers, wants_line, wants_end, one_of}
 use Rattle.a429_cert.proofs.StreamReplay.{told_map}

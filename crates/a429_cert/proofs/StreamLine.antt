@@ -1,5 +1,5 @@
 -- What is told where a replay along a certificate's lines stops at one of them.
-use Rattle.std.proofs.Common.{◌≡◌, ◌⊎◌, ◌+◌, ◌++◌, inl, inr, ℕ, List, [], Bool, true, Option, ap, subst, sym}
+use Rattle.std.proofs.Common.{◌≡◌, ◌+◌, ◌++◌, inl, inr, ℕ, List, [], Bool, true, Option, subst}
 use Rattle.a429_profile.specs.Profile.{Contents}
 use Rattle.a429_link.specs.declared.file.FileBytes.{FileBytes}
 use Rattle.a429_link.specs.Link.{with_earlier}
@@ -12,7 +12,7 @@ use Rattle.a429_cert.specs.declared.stream_fault.StreamFault.{StreamFault}
 use Rattle.a429_cert.specs.CutLines.{GivesLine}
 use Rattle.a429_cert.specs.Version.{read_as, step_lines}
 use Rattle.a429_cert.specs.Stream.{EndsReplay, GainsAll, IsUntold, PassesOver, RefusesOver, StopsAt, sizes}
-use Rattle.a429_cert.specs.StreamExplained.{HearsBefore, IsStreamFault, Refuses, WhereTold}
+use Rattle.a429_cert.specs.StreamExplained.{HearsBefore, Refuses, WhereTold}
 use Rattle.a429_cert.specs.Told.{Hearing}
 use Rattle.a429_cert.proofs.StreamFacts.{put_on}
 use Rattle.a429_cert.proofs.StreamRefused.{told_refused, told_not_put}
