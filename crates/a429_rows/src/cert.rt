@@ -3,5 +3,6 @@
 mod line_reader;
 mod lines;
 mod replay;
+mod series;
 pub(crate) mod shelf;
 mod stream;

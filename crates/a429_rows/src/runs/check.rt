@@ -4,6 +4,7 @@ mod changed;
 mod files;
 mod outcome;
 mod repeated;
+mod series;
 mod steps;
 
 use crate::calls::sample;

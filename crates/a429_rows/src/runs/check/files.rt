@@ -9,8 +9,8 @@ use std::alloc::{AllocError, Global};
 use std::fmt::Write;
 use std::process::Abort;
 
-// One to three files of 1 to 30 bytes.
-fn small_files(alloc: Global, chance: &mut Chance) -> Result<Vec<Vec<u8>>, AllocError> {
+/// One to three files of 1 to 30 bytes.
+pub(super) fn small_files(alloc: Global, chance: &mut Chance) -> Result<Vec<Vec<u8>>, AllocError> {
     let mut files = Vec::new(alloc);
     for _ in 0..1 + chance.below(3) {
         let file = small_file(alloc, chance)?;
