@@ -1,12 +1,12 @@
 -- Free words change no state, so that a run goes on without them and with them.
-use Rattle.std.proofs.Common.{◌≡◌, ◌%◌, ℕ, Bool, true, false, ◌||◌, ◌&&◌, not, ◌==◌, if◌then◌else◌, List, [], ◌∷◌, map, Option, Some, None, refl, sym, ap, ◌∙◌, subst, inl, inr}
+use Rattle.std.proofs.Common.{◌≡◌, ◌%◌, Bool, true, false, ◌||◌, ◌&&◌, not, ◌==◌, if◌then◌else◌, List, [], ◌∷◌, Option, Some, None, refl, sym, ap, ◌∙◌, subst, inl, inr}
 use Rattle.std.specs.List.{list_any}
 use Rattle.a429_word.specs.Word.{count_of_ones, label_of, number_at}
 use Rattle.a429_word.specs.declared.bus.Bus.{Bus}
 use Rattle.a429_word.specs.declared.bus.Bus.TheVariants as bus
 use Rattle.a429_profile.specs.declared.codes.Codes.{Codes}
 use Rattle.a429_profile.specs.Profile.{Contents}
-use Rattle.a429_ldu.specs.Form.{is_free, address_of, form_of}
+use Rattle.a429_ldu.specs.Form.{is_free, address_of}
 use Rattle.a429_record.specs.declared.entry.Entry.{Entry}
 use Rattle.a429_cert.specs.Explained.{items_of}
 use Rattle.a429_link.specs.declared.seen.Seen.{Seen}

@@ -1,2 +1,5 @@
 pub mod KeptFacts
 pub mod KeepingFacts
+pub mod CuttingFacts
+pub mod FollowerFacts
+pub mod CutterFacts

@@ -8,7 +8,6 @@ use Rattle.a429_record.specs.declared.entry.Entry.{Entry}
 use Rattle.a429_link.specs.declared.file.FileBytes.{FileBytes}
 use Rattle.a429_link.specs.declared.seen.Seen.{Seen}
 use Rattle.a429_link.specs.Run.{RunOf, delivered_by, trace}
-use Rattle.a429_cert.specs.Explained.{items_of}
 
 -- the word has the label that the transfer has on its bus
 abbrev pub HasTransferLabel : Codes → Entry → Type 0

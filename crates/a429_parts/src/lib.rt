@@ -1,9 +1,14 @@
 //! Recordings of hours: what of them the transfer needs, and their parts.
 #![tactic(auto)]
 
+mod cutting;
+mod doubt;
+mod follower;
 mod keeping;
 mod kept;
 pub mod laws;
+mod watch;
 
+pub use crate::cutting::{Cutter, PartFault};
 pub use crate::keeping::put_kept;
 pub use crate::kept::is_kept;

@@ -11,6 +11,8 @@ mod cert;
 #[cfg(test)]
 mod commands;
 #[cfg(test)]
+mod cutting;
+#[cfg(test)]
 mod devices;
 #[cfg(test)]
 mod link;

@@ -1,8 +1,6 @@
-use Rattle.std.proofs.Common.{◌≡◌, ◌∙◌, ◌∷◌, ◌++◌, [], Some, None, Ok, Err, IfSome, false, true, refl, sym, subst, rules}
+use Rattle.std.proofs.Common.{◌∙◌, ◌∷◌, ◌++◌, []}
 use Rattle.std.proofs.lemmas.Result.{err_from_is_err_and}
 use Rattle.a429_word.proofs.SheetFacts.{◌▹◌, says_nothing}
-use Rattle.a429_word.specs.Sheet.{Says}
-use Rattle.a429_parts.specs.Keeping.{kept_text, kept_text_before}
 use Rattle.a429_parts.proofs.KeepingFacts.{before_is, gave_all, gave_first, gave_more, gave_these, gave_until, kept_text-push, less_left}
 use Rattle.a429_parts.proofs.keeping.put_kept.Goals as goal
 

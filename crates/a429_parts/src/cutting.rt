@@ -1,0 +1,147 @@
+//! The parts of a long recording.
+
+ghost use Rattle.std.specs.Prelude.{◌≡◌, ◌+◌, ◌<◌, ◌≤◌, ◌∷◌, ◌++◌, [], Some, None, Ok, IfOk, IfSome, OnOk, List, length, take};
+ghost use Rattle.a429_profile.specs.Profile.{Contents};
+ghost use Rattle.a429_record.specs.declared.entry.Entry.{Entry};
+ghost use Rattle.a429_link.specs.Observer.{at_first};
+ghost use Rattle.a429_parts.specs.Cutter.{Cuts, IsPart};
+
+use crate::watch::Watch;
+use a429_cert::seen;
+use a429_profile::Profile;
+use a429_record::Entry;
+use std::alloc::Global;
+use std::marker::Model;
+
+/// Why a recording has no more parts.
+#[derive(Clone, Copy, Debug, PartialEq, Eq)]
+pub enum PartFault {
+    /// There is no place to cut that is near enough.
+    TooMany,
+    OutOfMemory,
+}
+
+/// Cuts a recording into parts of at most so many entries, as they come: a part ends at the last place that is near
+/// enough. It remembers the entries that are in no part yet.
+#[derive(Debug, Drop)]
+pub struct Cutter {
+    most: usize,
+    watch: Watch,
+    // How many entries are in a part.
+    begin: usize,
+    // The last place, after so many entries.
+    place: usize,
+    waiting: Vec<Entry>,
+}
+
+impl Model for Cutter {
+    ghost use Rattle.a429_parts.specs.Cutter.{CutterState};
+
+    ghost Value = { CutterState };
+
+    ghost view = { λ c. record { most = c.most; watched = c.watch; begin = c.begin; place = c.place; waiting = c.waiting.items } };
+}
+
+impl Cutter {
+    /// No entry has come. A part has at most so many.
+    pub fn new(alloc: Global, most: usize) -> Cutter
+        ensures { result ≡ record { most = most; watched = record { count = 0; observer = Some at_first; doubt = None }; begin = 0; place = 0; waiting = [] } }
+    {
+        Cutter {
+            most,
+            watch: Watch::new(alloc),
+            begin: 0,
+            place: 0,
+            waiting: Vec::new(alloc),
+        }
+    }
+
+    /// The entries that are in no part yet.
+    pub fn waiting(&self) -> &[Entry]
+        ensures { result.now ≡ self.now.waiting }
+    {
+        self.waiting.as_slice()
+    }
+
+    /// Takes the next entry. It takes as many as a `usize` counts.
+    pub fn take(&mut self, profile: &Profile, entry: &Entry) -> Result<(), PartFault>
+        ensures counts { OnOk result (self.new.watched.count ≡ self.old.watched.count + 1) }
+        ensures most { self.new.most ≡ self.old.most }
+        ensures cuts { OnOk result ((parted : List Entry) (rest : List Entry) → Cuts profile.now parted (entry.now ∷ rest) self.old → Cuts profile.now parted rest self.new) }
+    {
+        if self.watch.count() == usize::MAX {
+            return Err(PartFault::TooMany);
+        }
+        if self.waiting.push(*entry).is_err() {
+            return Err(PartFault::OutOfMemory);
+        }
+        let word = seen(*entry);
+        match self.watch.take(profile, &word) {
+            Some(place) => {
+                self.place = place;
+                Ok(())
+            }
+            None => Ok(()),
+        }
+    }
+
+    /// How many of the entries that wait are a part, if it is complete. It is not where the next entries may still say
+    /// that there is a later place that is near enough.
+    pub fn part(&self) -> Result<Option<usize>, PartFault>
+        ensures some { IfOk result (λ o. IfSome o (IsPart self.now)) }
+    {
+        if self.waiting.len() <= self.most || self.may_end_in_doubt() {
+            return Ok(None);
+        }
+        self.last_part()
+    }
+
+    /// The same, where no entry comes any more: then the entries that wait are the last part where none is answered.
+    pub fn part_at_end(&self) -> Result<Option<usize>, PartFault>
+        ensures some { IfOk result (λ o. IfSome o (IsPart self.now)) }
+        ensures none { result ≡ Ok None → length self.now.waiting ≤ self.now.most }
+    {
+        if self.waiting.len() <= self.most {
+            return Ok(None);
+        }
+        self.last_part()
+    }
+
+    // The entries up to the last place.
+    fn last_part(&self) -> Result<Option<usize>, PartFault>
+        ensures some { IfOk result (λ o. IfSome o (IsPart self.now)) }
+        ensures never { IfOk result (λ o. o ≡ None → ⊥) }
+    {
+        if self.place <= self.begin {
+            return Err(PartFault::TooMany);
+        }
+        let size = self.place - self.begin;
+        if size > self.most || size > self.waiting.len() {
+            return Err(PartFault::TooMany);
+        }
+        Ok(Some(size))
+    }
+
+    // Whether the part may end at the place in doubt.
+    fn may_end_in_doubt(&self) -> bool {
+        match self.watch.place_in_doubt() {
+            Some(place) => {
+                let size = place.saturating_sub(self.begin);
+                0 < size
+                    && size <= self.most
+                    && self.waiting.len().saturating_sub(size) <= self.most
+            }
+            None => false,
+        }
+    }
+
+    /// Ends a part of so many of the entries that wait: they wait no longer.
+    pub fn end_part(&mut self, size: usize)
+        requires part { IsPart self.old size }
+        ensures cuts { (p : Contents) (parted : List Entry) (rest : List Entry) → Cuts p parted rest self.old → Cuts p (parted ++ take size self.old.waiting) rest self.new }
+        ensures most { (self.new.most ≡ self.old.most) × (self.new.watched ≡ self.old.watched) }
+    {
+        self.begin = self.place;
+        self.waiting.drain(..size);
+    }
+}
