@@ -33,6 +33,13 @@ pub enum Reason {
     NotGranted,
     /// An answer that is not owed.
     WrongAnswer,
+    /// The end word of a block that was recorded whole, and whose data words and check word are those of no link data
+    /// unit. `check` leaves this reason and the two after it out.
+    BadBlock,
+    /// A start word with a number that the source cannot have come to.
+    WrongNumber,
+    /// A word of a block that contradicts what was recorded of the same link data unit before.
+    OtherBlock,
 }
 
 /// Why a recording that may be that of a run is not explained.
