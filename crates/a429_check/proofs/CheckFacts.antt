@@ -5,22 +5,35 @@ use Rattle.a429_link.specs.declared.seen.Seen.{Seen}
 use Rattle.a429_profile.specs.Profile.{Contents}
 use Rattle.a429_cert.specs.declared.fault.OutOfMemory.{OutOfMemory}
 use Rattle.a429_explain.specs.declared.verdict.Verdict.{Verdict}
-use Rattle.a429_explain.specs.Verdict.{IsSoundVerdict, IsOfLeastVersion, IsImpossible, IsDoubted, HasNoForm, IsImpossibility, IsExplanation}
+use Rattle.a429_explain.specs.declared.verdict.Reason.{Reason}
+use Rattle.a429_search.specs.Deciding.{IsImpossibleBy, IsImpossibleUpTo, IsOfCheck, IsReasonAt}
+use Rattle.a429_explain.specs.Verdict.{IsFirst, IsSoundVerdict, IsOfLeastVersion, IsImpossible, IsDoubted, HasNoForm, IsImpossibility, IsExplanation}
 use Rattle.a429_explain.specs.WithoutLoss.{IsWithoutLoss}
 use Rattle.a429_check.specs.declared.fault.RunFault.{RunFault}
 use Rattle.a429_check.specs.declared.fault.RunFault.TheVariants as run
 use Rattle.a429_check.specs.Output.{Output, UsedWork}
 use Rattle.a429_check.specs.Recording.{SayInput}
 use Rattle.a429_check.specs.declared.engines.rule.Rule.{Rule}
+use Rattle.a429_check.specs.declared.engines.rule.Rule.TheVariants as rule
 use Rattle.a429_check.specs.Check.{EitherFailed, IsByRule, IsCheckFault, IsVerdictBy, IsVerdictOn, LeavesVerdict, ReportsVerdict}
 
 -- what the library's call says of its verdict, as one
 pub found : (by_rule : Rule) (p : Contents) (items : List Seen) (r : Result Verdict OutOfMemory)
-    → IfOk r (IsSoundVerdict p items) → IfOk r (IsOfLeastVersion p items) → IfOk r (IsImpossible p items) → IfOk r (IsDoubted p items) → IfOk r (IsByRule by_rule p items)
+    → IfOk r (IsSoundVerdict p items) → IfOk r (IsOfLeastVersion p items) → IfOk r (IsDoubted p items) → IfOk r (IsByRule by_rule p items)
     → (HasNoForm p.codes items → IfOk r IsImpossibility) → (IsWithoutLoss p items → IfOk r IsExplanation) → IfOk r (IsVerdictBy by_rule p items)
-found by_rule p items (Ok v) sound version impossible doubted first no_form without_loss =
-    record { sound = sound; version = version; impossible = impossible; doubted = doubted; first = first; no_form = no_form; without_loss = without_loss }
-found by_rule p items (Err e) sound version impossible doubted first no_form without_loss = tt
+found by_rule p items (Ok v) sound version doubted first no_form without_loss =
+    record { sound = sound; version = version; doubted = doubted; first = first; no_form = no_form; without_loss = without_loss }
+found by_rule p items (Err e) sound version doubted first no_form without_loss = tt
+
+-- by the rule of `check`, and by that of `decide`
+pub checked : (p : Contents) (items : List Seen) (r : Result Verdict OutOfMemory) → IfOk r (IsFirst p items) → IfOk r (IsImpossible p items) → IfOk r (IsByRule rule.Check p items)
+checked p items (Ok v) first impossible = (first, impossible)
+checked p items (Err e) first impossible = tt
+
+pub decided : (p : Contents) (items : List Seen) (r : Result Verdict OutOfMemory) → IfOk r (IsOfCheck p items) → IfOk r (IsImpossibleBy p items)
+    → ((i : ℕ) (reason : Reason) → IsReasonAt p items i reason → IfOk r (IsImpossibleUpTo i)) → IfOk r (IsByRule rule.Decide p items)
+decided p items (Ok v) of_check impossible first = record { of_check = of_check; impossible = impossible; first = first }
+decided p items (Err e) of_check impossible first = tt
 
 -- what was written of one verdict was written of one that is such
 pub reported : {C W : Type 0} (cert : Output C) (out : Output W) (v : Verdict) (IsSuch : Verdict → Type 0) (r : Result ℕ RunFault) → IsSuch v

@@ -7,10 +7,10 @@ use Rattle.a429_cert.specs.Explained.{items_of}
 use Rattle.a429_explain.specs.declared.verdict.Verdict.{Verdict}
 use Rattle.a429_explain.specs.declared.verdict.Verdict.TheVariants.{Explained, Impossible, Unexplained}
 use Rattle.a429_explain.specs.declared.verdict.Reason.{Reason}
-use Rattle.a429_explain.specs.declared.verdict.Reason.TheVariants.{NoForm, NotGranted, WrongAnswer}
+use Rattle.a429_explain.specs.declared.verdict.Reason.TheVariants.{NoForm, NotGranted, WrongAnswer, BadBlock, WrongNumber, OtherBlock}
 use Rattle.a429_explain.specs.declared.verdict.Doubt.{Doubt}
 use Rattle.a429_explain.specs.declared.verdict.Doubt.TheVariants.{NeverWhole, NotOneBlock, NotReplayed}
-use Rattle.a429_search.specs.Deciding.{IsOfCheck}
+use Rattle.a429_search.specs.Deciding.{IsImpossibleBy, IsImpossibleUpTo, IsOfCheck, IsReasonAt}
 use Rattle.a429_explain.specs.Verdict.{IsSoundVerdict, IsOfLeastVersion, IsImpossible, IsDoubted, IsFirst, HasNoForm, IsImpossibility, IsExplanation}
 use Rattle.a429_explain.specs.WithoutLoss.{IsWithoutLoss}
 use Rattle.std.specs.Str.{IsUtf8}
@@ -32,6 +32,9 @@ abbrev pub reason_text : Reason → List ℕ
 reason_text NoForm = codes " NoForm\n"
 reason_text NotGranted = codes " NotGranted\n"
 reason_text WrongAnswer = codes " WrongAnswer\n"
+reason_text BadBlock = codes " BadBlock\n"
+reason_text WrongNumber = codes " WrongNumber\n"
+reason_text OtherBlock = codes " OtherBlock\n"
 
 abbrev pub doubt_text : Doubt → List ℕ
 doubt_text NeverWhole = codes " NeverWhole\n"
@@ -56,17 +59,22 @@ verdict_status (Unexplained i doubt) = 2
 
 -- ---- what it means
 
--- the verdict by the rule of a command: of `check` at the first test that fails; of `decide` the same, or an explanation
--- of words of which `check` has a doubt
+-- the verdict of `decide`: an explanation or a doubt of `check`, or an explanation of words of which `check` has a doubt; and impossible
+-- from the first word on at which some reason holds
+pub record IsDecided (p : Contents) (items : List Seen) (v : Verdict) : Type 0 where
+  pub of_check : IsOfCheck p items v
+  pub impossible : IsImpossibleBy p items v
+  pub first : (i : ℕ) (reason : Reason) → IsReasonAt p items i reason → IsImpossibleUpTo i v
+
+-- the verdict that the rule of a command gives: of `check` at the first test that fails
 abbrev pub IsByRule : Rule → Contents → List Seen → Verdict → Type 0
-IsByRule rule.Check p items v = IsFirst p items v
-IsByRule rule.Decide p items v = IsOfCheck p items v
+IsByRule rule.Check p items v = IsFirst p items v × IsImpossible p items v
+IsByRule rule.Decide p items v = IsDecided p items v
 
 -- such a verdict on recorded words, under a profile
 pub record IsVerdictBy (by_rule : Rule) (p : Contents) (items : List Seen) (v : Verdict) : Type 0 where
   pub sound : IsSoundVerdict p items v
   pub version : IsOfLeastVersion p items v
-  pub impossible : IsImpossible p items v
   pub doubted : IsDoubted p items v
   pub first : IsByRule by_rule p items v
   pub no_form : HasNoForm p.codes items → IsImpossibility v

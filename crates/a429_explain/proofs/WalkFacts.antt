@@ -36,7 +36,8 @@ item_at es n e i l is same = by es n l ∙ ap (λ (x : Seen). Some x) (ap seen_o
     by (x ∷ es) zero l = refl
     by (x ∷ es) (suc n) l = by es n (omega arith)
 
-observed_more : (p : Contents) (items : List Seen) (n : ℕ) (i : Seen) (o : Observer) → slice_get items n ≡ Some i → observed p (take (suc n) items) o ≡ sees p i (observed p (take n items) o)
+-- what an observer has seen after one more word
+pub observed_more : (p : Contents) (items : List Seen) (n : ℕ) (i : Seen) (o : Observer) → slice_get items n ≡ Some i → observed p (take (suc n) items) o ≡ sees p i (observed p (take n items) o)
 observed_more p [] n i o at = absurd (cc at)
 observed_more p (x ∷ items) zero i o at = ap (λ (j : Seen). sees p j o) (cc at)
 observed_more p (x ∷ items) (suc n) i o at = observed_more p items n i (sees p x o) at

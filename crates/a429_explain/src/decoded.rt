@@ -1,12 +1,14 @@
 //! What each recorded word is.
 
-ghost use Rattle.std.specs.Prelude.{◌≡◌, ◌<◌, IfSome, length, slice_get};
+ghost use Rattle.std.specs.Prelude.{◌≡◌, ◌<◌, Some, IfSome, length, slice_get};
 ghost use Rattle.a429_profile.specs.Profile.{IsProfile};
 ghost use Rattle.a429_ldu.specs.Form.{IsInRange};
 ghost use Rattle.a429_cert.specs.Explained.{items_of};
 ghost use Rattle.a429_explain.specs.Decoded.{sights_of, sight_at, IsHeardAt};
 
+use a429_cert::seen;
 use a429_ldu::{Form, Sight};
+use a429_link::Seen;
 use a429_profile::Profile;
 use a429_record::Entry;
 use a429_word::Word;
@@ -75,6 +77,15 @@ impl<'a> Decoded<'a> {
         ensures { result ≡ sight_at self.now.profile.codes (slice_get self.now.items at) }
     {
         self.sights[at]
+    }
+
+    /// The word at this place, and its bus.
+    pub fn seen(&self, at: usize) -> Seen
+        requires { at < length self.now.items }
+        ensures { slice_get self.now.items at ≡ Some result }
+    {
+        let entries = self.entries;
+        seen(entries[at])
     }
 
     /// The word at this place, and its form.

@@ -33,6 +33,13 @@ pub enum Reason {
     NotGranted,
     /// It is an answer that the sink does not owe.
     WrongAnswer,
+    /// The end word of a block that was recorded whole, and whose data words and check word are those of no link data
+    /// unit. `check` leaves this reason and the two after it out.
+    BadBlock,
+    /// A start word with a number that the source cannot have come to.
+    WrongNumber,
+    /// A word of a block that contradicts what was recorded of the same link data unit before.
+    OtherBlock,
 }
 
 /// Why a recording is neither explained nor impossible: what the rule of `check` was missing (docs/CHECKER.md, Attempts

@@ -11,3 +11,7 @@ pub mod BoundedFacts
 pub mod DifferingFacts
 pub mod MergedFacts
 pub mod BlockFacts
+pub mod AttemptWordsFacts
+pub mod SoFarFacts
+pub mod ContradictionFacts
+pub mod DecidingFacts

@@ -7,3 +7,5 @@ pub mod Hypotheses
 pub mod Order
 pub mod Pair
 pub mod Deciding
+pub mod SoFar
+pub mod Contradiction

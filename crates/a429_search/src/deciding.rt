@@ -1,12 +1,16 @@
-//! The decision on a recording: the check, and where that has a doubt a search.
+//! The decision on a recording: the check, then what its words contradict, and where no certificate is known a search.
 
-ghost use Rattle.std.specs.Prelude.{IfOk, IfSome};
+ghost use Rattle.std.specs.Prelude.{◌≡◌, ℕ, Ok, None, IfOk, IfSome, length};
 ghost use Rattle.a429_cert.specs.Explained.{items_of, IsExplained, AreInEveryRun};
+ghost use Rattle.a429_explain.specs.declared.verdict.Reason.{Reason};
 ghost use Rattle.a429_explain.specs.Explanation.{HasNoFault, HasLeastVersion};
-ghost use Rattle.a429_explain.specs.Verdict.{IsSoundVerdict, IsAccepted, IsOfLeastVersion, IsImpossible, IsDoubted, HasNoForm, IsImpossibility, IsExplanation};
+ghost use Rattle.a429_explain.specs.Verdict.{IsSoundVerdict, IsAccepted, IsOfLeastVersion, IsDoubted, HasNoForm, IsImpossibility, IsExplanation};
+ghost use Rattle.a429_explain.specs.Walk.{AreAllowed};
 ghost use Rattle.a429_explain.specs.WithoutLoss.{IsWithoutLoss};
-ghost use Rattle.a429_search.specs.Deciding.{IsOfCheck};
+ghost use Rattle.a429_search.specs.Contradiction.{HasNoContradiction, IsFirstContradiction, HasNoRun};
+ghost use Rattle.a429_search.specs.Deciding.{IsImpossibleBy, IsImpossibleUpTo, IsOfCheck, IsReasonAt};
 
+use crate::contradiction::{Contradiction, first_contradiction, what_contradicts_has_no_run};
 use crate::searching::guess_of;
 use a429_cert::OutOfMemory;
 use a429_explain::walk::{Halt, walk};
@@ -15,29 +19,77 @@ use a429_profile::Profile;
 use a429_record::Entry;
 use std::alloc::Global;
 
-/// The verdict on a recording, under the profile of its bench: that of `check`, where it explains the recording or calls
-/// it impossible. Where `check` has a doubt a search follows; the certificate of a run that it finds explains the
-/// recording, and where it finds none the doubt stays.
+/// The verdict on a recording, under the profile of its bench: that of `check`, where it explains the recording. Else the
+/// recording is impossible from the first word on that those before it do not allow, or that contradicts them. Where
+/// there is no such word a search follows; the certificate of a run that it finds explains the recording, and where it
+/// finds none the doubt of `check` stays.
 pub fn decide(alloc: Global, profile: &Profile, entries: &[Entry]) -> Result<Verdict, OutOfMemory>
     ensures explained { IfOk result (λ v. IsSoundVerdict profile.now (items_of entries.now) v) }
     ensures accepted { IfOk result (λ v. IsAccepted profile.now (items_of entries.now) v) }
     ensures version { IfOk result (λ v. IsOfLeastVersion profile.now (items_of entries.now) v) }
-    ensures impossible { IfOk result (λ v. IsImpossible profile.now (items_of entries.now) v) }
+    ensures impossible { IfOk result (λ v. IsImpossibleBy profile.now (items_of entries.now) v) }
+    ensures first { (i : ℕ) (reason : Reason) → IsReasonAt profile.now (items_of entries.now) i reason → IfOk result (IsImpossibleUpTo i) }
     ensures doubted { IfOk result (λ v. IsDoubted profile.now (items_of entries.now) v) }
-    ensures first { IfOk result (λ v. IsOfCheck profile.now (items_of entries.now) v) }
+    ensures of_check { IfOk result (λ v. IsOfCheck profile.now (items_of entries.now) v) }
     ensures no_form { HasNoForm profile.now.codes (items_of entries.now) → IfOk result IsImpossibility }
     ensures without_loss { IsWithoutLoss profile.now (items_of entries.now) → IfOk result IsExplanation }
 {
+    what_contradicts_has_no_run();
+    // (for the proof: the profile is sound)
+    let _codes = profile.codes();
     match check(alloc, profile, entries) {
-        Ok(Verdict::Unexplained { entry, doubt }) => match found(alloc, profile, entries) {
-            Ok(Some(found)) => Ok(Verdict::Explained {
-                certificate: found.certificate,
-                files: found.files,
-            }),
-            Ok(None) => Ok(Verdict::Unexplained { entry, doubt }),
-            Err(OutOfMemory) => Err(OutOfMemory),
+        Ok(Verdict::Explained { certificate, files }) => {
+            Ok(Verdict::Explained { certificate, files })
+        }
+        Ok(Verdict::Impossible { entry, reason }) => {
+            match contradiction(alloc, profile, &entries[..entry]) {
+                Ok(Some(earlier)) => Ok(Verdict::Impossible {
+                    entry: earlier.entry,
+                    reason: earlier.reason,
+                }),
+                Ok(None) => Ok(Verdict::Impossible { entry, reason }),
+                Err(OutOfMemory) => Err(OutOfMemory),
+            }
+        }
+        Ok(Verdict::Unexplained { entry, doubt }) => {
+            match contradiction(alloc, profile, entries) {
+                Ok(Some(Contradiction { entry, reason })) => Ok(Verdict::Impossible {
+                    entry,
+                    reason,
+                }),
+                Ok(None) => match found(alloc, profile, entries) {
+                    Ok(Some(found)) => Ok(Verdict::Explained {
+                        certificate: found.certificate,
+                        files: found.files,
+                    }),
+                    Ok(None) => Ok(Verdict::Unexplained { entry, doubt }),
+                    Err(OutOfMemory) => Err(OutOfMemory),
+                },
+                Err(OutOfMemory) => Err(OutOfMemory),
+            }
+        }
+        Err(OutOfMemory) => Err(OutOfMemory),
+    }
+}
+
+// The first word that contradicts those before it, in a recording of which no word is refused.
+fn contradiction(
+    alloc: Global,
+    profile: &Profile,
+    entries: &[Entry],
+) -> Result<Option<Contradiction>, OutOfMemory>
+    requires { AreAllowed profile.now (items_of entries.now) (length (items_of entries.now)) }
+    ensures first { IfOk result (λ found. IfSome found (IsFirstContradiction profile.now (items_of entries.now))) }
+    ensures impossible { IfOk result (λ found. IfSome found (λ c. HasNoRun profile.now (items_of entries.now) c.entry)) }
+    ensures none { result ≡ Ok None → HasNoContradiction profile.now (items_of entries.now) (length (items_of entries.now)) }
+{
+    match walk(alloc, profile, entries) {
+        Ok(decoded) => match first_contradiction(alloc, &decoded) {
+            Ok(found) => Ok(found),
+            Err(_) => Err(OutOfMemory),
         },
-        answer => answer,
+        Err(Halt::Refused { .. }) => Ok(None),
+        Err(Halt::OutOfMemory) => Err(OutOfMemory),
     }
 }
 

@@ -1,11 +1,13 @@
 //! The data words of a link data unit of which each attempt was recorded with losses.
 #![tactic(auto)]
 
+mod attempt_words;
 mod attempts;
 mod block;
 mod bounded;
 mod budget;
 mod choice;
+mod contradiction;
 mod deciding;
 mod differing;
 mod fill;
@@ -19,12 +21,14 @@ mod order;
 mod pair;
 mod pieces;
 mod searching;
+mod so_far;
 mod subsequence;
 mod trail;
 
 pub use crate::block::unit_of_pieces;
 pub use crate::bounded::{MOST_NODES, search_words};
 pub use crate::budget::Budget;
+pub use crate::contradiction::{Contradiction, first_contradiction};
 pub use crate::deciding::decide;
 pub use crate::differing::MOST_ATTEMPTS;
 pub use crate::fill::{Wanted, completed};

@@ -1,5 +1,5 @@
 //! `a429 check PROFILE REC CERT`: finds a certificate for a recording, or says why there is none; and `a429 decide`,
-//! which does the same, and searches for a run where `check` has a doubt.
+//! which does the same, tests whether words contradict each other, and searches for a run where `check` has a doubt.
 
 ghost use Rattle.std.specs.Prelude.{◌≡◌, ◌≢◌, ◌↔◌, true, false, IsErr, IfOk, IfErr, OnOk};
 ghost use Rattle.std.specs.Fmt.{decimal};
@@ -44,7 +44,8 @@ pub fn run_check<R: Read, C: Write, W: Write>(
     run_by_rule(alloc, profile, rec, cert, out, Rule::Check)
 }
 
-/// Does what `run_check` does, with one difference: where `check` has a doubt it searches for a run, and where it finds
+/// Does what `run_check` does, with two differences. A recording is impossible, too, from the first word on that contradicts
+/// what was recorded before it. And where `check` has a doubt, and no word contradicts, it searches for a run; where it finds
 /// one the recording is explained.
 pub fn run_decide<R: Read, C: Write, W: Write>(
     alloc: Global,
@@ -201,6 +202,9 @@ fn name_of_reason(reason: Reason) -> &'static [u8]
         Reason::NoForm => b" NoForm\n",
         Reason::NotGranted => b" NotGranted\n",
         Reason::WrongAnswer => b" WrongAnswer\n",
+        Reason::BadBlock => b" BadBlock\n",
+        Reason::WrongNumber => b" WrongNumber\n",
+        Reason::OtherBlock => b" OtherBlock\n",
     }
 }
 

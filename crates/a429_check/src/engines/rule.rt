@@ -5,6 +5,6 @@
 pub enum Rule {
     /// `check`: the fixed rule alone.
     Check,
-    /// `decide`: that of `check`, and where it has a doubt a search.
+    /// `decide`: that of `check`; where it is no yes, contradictions, and where it has a doubt a search.
     Decide,
 }

@@ -1,4 +1,5 @@
-//! `decide` on small recordings: where `check` has no doubt, its verdict and its certificate.
+//! `decide` on small recordings: where `check` has no doubt, its verdict and its certificate; and a start word with a number that
+//! cannot come.
 
 use crate::calls::{MOST, YES, decide, is_told};
 use a429_sample::{CERTIFICATE, RECORDING};
@@ -6,11 +7,16 @@ use a429_word::Tally;
 use std::alloc::Global;
 
 // Recordings, what `decide` answers to each, and the certificate that it writes.
-const SMALL: [(&str, &str, &str); 3] = [
+const SMALL: [(&str, &str, &str); 4] = [
     (RECORDING, YES, CERTIFICATE),
     (
         "time,bus,word\n0,A,60010123\n",
         "1\nIMPOSSIBLE 0 NotGranted\n",
+        "",
+    ),
+    (
+        "time,bus,word\n0,A,41410323\n1,B,C24103A3\n2,A,60010223\n",
+        "1\nIMPOSSIBLE 2 WrongNumber\n",
         "",
     ),
     ("", "recording: header\n", ""),

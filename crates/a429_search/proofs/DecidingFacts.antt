@@ -1,0 +1,180 @@
+-- Verdicts that are given before a search.
+use Rattle.std.proofs.lemmas.Bool.{cases_order}
+use Rattle.std.proofs.lemmas.Option.{slice_get_past}
+use Rattle.std.proofs.Common.{◌≡◌, ◌⊎◌, ℕ, zero, suc, ◌+◌, ◌<◌, ◌≤◌, List, [], ◌∷◌, ◌++◌, length, take, drop, Option, None, slice_get, refl, sym, ap, ◌∙◌, subst, inl, inr, arith}
+use Rattle.a429_profile.specs.Profile.{Contents}
+use Rattle.a429_link.specs.declared.file.FileBytes.{FileBytes}
+use Rattle.a429_link.specs.declared.seen.Seen.{Seen}
+use Rattle.a429_link.specs.Contradiction.{IsOtherNext, IsWrongNext, so_far}
+use Rattle.a429_link.specs.Observer.{AllowsNext, at_first, observed}
+use Rattle.a429_link.specs.Run.{BeginsARun}
+use Rattle.a429_link.specs.WholeBlock.{ComesNext, EndsBad}
+use Rattle.a429_cert.specs.Explained.{IsExplained}
+use Rattle.a429_cert.proofs.ExplainedFacts.{in_some_run}
+use Rattle.a429_explain.specs.declared.verdict.Reason.{Reason}
+use Rattle.a429_explain.specs.declared.verdict.Reason.TheVariants.{NoForm, NotGranted, WrongAnswer, BadBlock, WrongNumber, OtherBlock}
+use Rattle.a429_explain.specs.Walk.{AreAllowed, FitsAt}
+use Rattle.a429_search.specs.declared.contradiction.Contradiction.{Contradiction}
+use Rattle.a429_search.specs.Contradiction.{ContradictsAt, HasNoContradiction, HasNoRun, IsFirstContradiction}
+use Rattle.a429_search.specs.Deciding.{IsReasonAt}
+
+-- ---- the first words of a recording
+
+take_first : {X : Type 0} (k n : ℕ) (xs : List X) → k ≤ n → take k (take n xs) ≡ take k xs
+take_first zero n xs l = refl
+take_first (suc k) zero xs l = absurd (omega arith)
+take_first (suc k) (suc n) [] l = refl
+take_first {X} (suc k) (suc n) (x ∷ xs) l = ap (λ (ys : List X). x ∷ ys) (take_first k n xs (omega arith))
+
+get_first : {X : Type 0} (k n : ℕ) (xs : List X) → k < n → slice_get (take n xs) k ≡ slice_get xs k
+get_first k zero xs l = absurd (omega arith)
+get_first k (suc n) [] l = refl
+get_first zero (suc n) (x ∷ xs) l = refl
+get_first (suc k) (suc n) (x ∷ xs) l = get_first k n xs (omega arith)
+
+-- what contradicts, by the items before and the item itself
+abbrev ContradictsNext : Contents → List Seen → Option Seen → Reason → Type 0
+ContradictsNext p before next BadBlock = EndsBad p (observed p before at_first) next
+ContradictsNext p before next WrongNumber = (¬ ComesNext p (observed p before at_first) next) ⊎ IsWrongNext p (so_far p before) next
+ContradictsNext p before next OtherBlock = IsOtherNext p (so_far p before) next
+ContradictsNext p before next reason = ⊥
+
+as_next : (p : Contents) (items : List Seen) (k : ℕ) (r : Reason) → ContradictsAt p items k r ≡ ContradictsNext p (take k items) (slice_get items k) r
+as_next p items k BadBlock = refl
+as_next p items k WrongNumber = refl
+as_next p items k OtherBlock = refl
+as_next p items k NoForm = refl
+as_next p items k NotGranted = refl
+as_next p items k WrongAnswer = refl
+
+-- the same of the first n words
+in_first : (p : Contents) (items : List Seen) (n k : ℕ) (r : Reason) → k < n → ContradictsAt p (take n items) k r ≡ ContradictsAt p items k r
+in_first p items n k r l =
+    as_next p (take n items) k r
+    ∙ ap (λ (xs : List Seen). ContradictsNext p xs (slice_get (take n items) k) r) (take_first k n items (omega arith))
+    ∙ ap (λ (o : Option Seen). ContradictsNext p (take k items) o r) (get_first k n items l)
+    ∙ sym (as_next p items k r)
+
+contradicts_none : (p : Contents) (before : List Seen) (r : Reason) → ¬ ContradictsNext p before None r
+contradicts_none p before BadBlock h = h
+contradicts_none p before WrongNumber (inl h) = h tt
+contradicts_none p before WrongNumber (inr h) = h
+contradicts_none p before OtherBlock h = h
+contradicts_none p before NoForm h = h
+contradicts_none p before NotGranted h = h
+contradicts_none p before WrongAnswer h = h
+
+-- a reason holds at some item
+contradicts_within : (p : Contents) (items : List Seen) (k : ℕ) (r : Reason) → ContradictsAt p items k r → k < length items
+contradicts_within p items k r h = elim (cases_order k (length items)) [
+  | inl e ↦ past (omega (arith, e))
+  | inr (inl l) ↦ l
+  | inr (inr g) ↦ past (omega (arith, g))
+]
+  where
+    past : length items ≤ k → k < length items
+    past l = absurd (contradicts_none p (take k items) r (subst (λ (o : Option Seen). ContradictsNext p (take k items) o r) (slice_get_past items k l) (subst (λ (T : Type 0). T) (as_next p items k r) h)))
+
+fits_within : (p : Contents) (items : List Seen) (k : ℕ) (r : Reason) → FitsAt p.codes (slice_get items k) r → k < length items
+fits_within p items k r h = elim (cases_order k (length items)) [
+  | inl e ↦ past (omega (arith, e))
+  | inr (inl l) ↦ l
+  | inr (inr g) ↦ past (omega (arith, g))
+]
+  where
+    past : length items ≤ k → k < length items
+    past l = absurd (subst (λ (o : Option Seen). FitsAt p.codes o r) (slice_get_past items k l) h)
+
+-- where each of the first n words is allowed, and none contradicts those before it, no reason holds
+pub no_reason : (p : Contents) (items : List Seen) (n : ℕ) → AreAllowed p items n → HasNoContradiction p items n → (k : ℕ) (r : Reason) → k < n → ¬ IsReasonAt p items k r
+no_reason p items n may none k r l (inl h) = h.0 (may k l)
+no_reason p items n may none k r l (inr h) = none k l r h
+
+pub reason_within : (p : Contents) (items : List Seen) (k : ℕ) (r : Reason) → IsReasonAt p items k r → k < length items
+reason_within p items k r (inl h) = fits_within p items k r h.1
+reason_within p items k r (inr h) = contradicts_within p items k r h
+
+pub at_least : (p : Contents) (items : List Seen) (n : ℕ) → AreAllowed p items n → HasNoContradiction p items n → (k : ℕ) (r : Reason) → IsReasonAt p items k r → n ≤ k
+at_least p items n may none k r h = elim (cases_order k n) [
+  | inl e ↦ omega (arith, e)
+  | inr (inl l) ↦ absurd (no_reason p items n may none k r l h)
+  | inr (inr g) ↦ omega (arith, g)
+]
+
+-- no word of the recording is refused, and none contradicts
+pub no_reason_at_all : (p : Contents) (items : List Seen) → AreAllowed p items (length items) → HasNoContradiction p items (length items) → (k : ℕ) (r : Reason) → ¬ IsReasonAt p items k r
+no_reason_at_all p items may none k r h = no_reason p items (length items) may none k r (reason_within p items k r h) h
+
+-- ---- in the first n words
+
+pub allowed_first : (p : Contents) (items : List Seen) (n : ℕ) → AreAllowed p items n → AreAllowed p (take n items) (length (take n items))
+allowed_first p items n may k l =
+    let m : k < n = omega (arith, l, take_short n items) in
+    subst (λ (xs : List Seen). AllowsNext p (observed p xs at_first) (slice_get (take n items) k)) (sym (take_first k n items (omega arith)))
+    (subst (λ (o : Option Seen). AllowsNext p (observed p (take k items) at_first) o) (sym (get_first k n items m)) (may k m))
+  where
+    take_short : (n : ℕ) (xs : List Seen) → length (take n xs) ≤ n
+    take_short zero xs = omega arith
+    take_short (suc n) [] = omega arith
+    take_short (suc n) (x ∷ xs) = omega (arith, take_short n xs)
+
+take_length : {X : Type 0} (n : ℕ) (xs : List X) → n ≤ length xs → length (take n xs) ≡ n
+take_length zero xs l = refl
+take_length (suc n) [] l = absurd (omega arith)
+take_length (suc n) (x ∷ xs) l = ap suc (take_length n xs (omega arith))
+
+pub none_first : (p : Contents) (items : List Seen) (n : ℕ) → n ≤ length items → HasNoContradiction p (take n items) (length (take n items)) → HasNoContradiction p items n
+none_first p items n m none k l r h =
+    none k (omega (arith, take_length n items m)) r (subst (λ (T : Type 0). T) (sym (in_first p items n k r l)) h)
+
+-- a contradiction in the first n words is one of the recording
+pub record IsContradiction (p : Contents) (items : List Seen) (n : ℕ) (c : Contradiction) : Type 0 where
+  pub inside : c.entry < length items
+  pub within : c.entry < n
+  pub holds : ContradictsAt p items c.entry c.reason
+  pub before : HasNoContradiction p items c.entry
+  pub no_run : HasNoRun p items c.entry
+
+pub found_first : (p : Contents) (items : List Seen) (n : ℕ) (c : Contradiction) → n ≤ length items → IsFirstContradiction p (take n items) c → HasNoRun p (take n items) c.entry → IsContradiction p items n c
+found_first p items n c m first none =
+    let l : c.entry < n = omega (arith, first.inside, take_length n items m) in
+    record {
+      inside = omega arith;
+      within = l;
+      holds = subst (λ (T : Type 0). T) (in_first p items n c.entry c.reason l) first.holds;
+      before = λ k j r h. first.before k j r (subst (λ (T : Type 0). T) (sym (in_first p items n k r (omega arith))) h);
+      no_run = λ run. none (subst (λ (xs : List Seen). BeginsARun p xs) (sym (take_first (c.entry + 1) n items (omega arith))) run);
+    }
+
+pub less_allowed : (p : Contents) (items : List Seen) (n k : ℕ) → k ≤ n → AreAllowed p items n → AreAllowed p items k
+less_allowed p items n k l may j m = may j (omega arith)
+
+-- ---- an explanation
+
+take_drop : {X : Type 0} (n : ℕ) (xs : List X) → take n xs ++ drop n xs ≡ xs
+take_drop zero xs = refl
+take_drop (suc n) [] = refl
+take_drop {X} (suc n) (x ∷ xs) = ap (λ (l : List X). x ∷ l) (take_drop n xs)
+
+begins_first : (p : Contents) (items : List Seen) (certificate : List ℕ) (files : List FileBytes) → IsExplained p certificate items files → (n : ℕ) → BeginsARun p (take n items)
+begins_first p items certificate files h n =
+    let r = in_some_run p certificate items files h in
+    record { first = r.first; byte = r.byte; steps = r.steps; run = r.run; more = drop n items; records = r.recorded ∙ sym (take_drop n items) }
+
+pub explained_none : (p : Contents) (items : List Seen) (certificate : List ℕ) (files : List FileBytes) → IsExplained p certificate items files → AreAllowed p items (length items)
+    → ((items : List Seen) (i : ℕ) (r : Reason) → ContradictsAt p items i r → HasNoRun p items i)
+    → (k : ℕ) (r : Reason) → ¬ IsReasonAt p items k r
+explained_none p items certificate files is may law k r (inl h) = h.0 (may k (fits_within p items k r h.1))
+explained_none p items certificate files is may law k r (inr h) = law items k r h (begins_first p items certificate files is (k + 1))
+
+-- ---- verdicts
+
+pub impossible_by : (p : Contents) (items : List Seen) (n : ℕ) (c : Contradiction) → IsContradiction p items n c → (c.entry < length items) × IsReasonAt p items c.entry c.reason × HasNoRun p items c.entry
+impossible_by p items n c h = (h.inside, inr h.holds, h.no_run)
+
+pub first_by : (p : Contents) (items : List Seen) (n : ℕ) (c : Contradiction) → AreAllowed p items n → IsContradiction p items n c → (k : ℕ) (r : Reason) → IsReasonAt p items k r → c.entry ≤ k
+first_by p items n c may h = at_least p items c.entry (less_allowed p items n c.entry (omega (arith, h.within)) may) h.before
+
+-- of a whole recording
+pub found_whole : (p : Contents) (items : List Seen) (c : Contradiction) → IsFirstContradiction p items c → HasNoRun p items c.entry → IsContradiction p items (length items) c
+found_whole p items c first none = record { inside = first.inside; within = first.inside; holds = first.holds; before = first.before; no_run = none }

@@ -1,0 +1,32 @@
+-- What a recording has shown so far of a link data unit, as it is kept (profile).
+use Rattle.std.specs.Prelude.{◌↔◌, ◌++◌, ◌∷◌, [], ℕ, List, Option, Some, None, drop}
+use Rattle.a429_link.specs.Contradiction.{SoFar, UnitSoFar, with_end}
+use Rattle.a429_link.specs.Run.{IsSubsequenceOf}
+use Rattle.a429_search.specs.declared.so_far.UnitKept.{UnitKept}
+
+-- the words of an attempt that are recorded so far, and the block of its link data unit, where that is known
+pub record WordsSoFar : Type 0 where
+  pub words : List ℕ
+  pub block : Option (List ℕ)
+
+-- so many words of the block are passed with these: more words are some of the block after them where they are some of the rest;
+-- none where these words are not some of the block, in order
+abbrev pub HasPassed : List ℕ → Option ℕ → List ℕ → Type 0
+HasPassed words None block = (more : List ℕ) → ¬ IsSubsequenceOf (words ++ more) block
+HasPassed words (Some n) block = (more : List ℕ) → IsSubsequenceOf (words ++ more) block ↔ IsSubsequenceOf more (drop n block)
+
+-- a link data unit with its block
+abbrev pub kept_with : Option (List ℕ) → UnitKept → UnitSoFar
+kept_with block u = record { number = u.number; start = u.start; count = u.count; ending = u.ending; block = block }
+
+abbrev pub unit_with : Option (List ℕ) → Option UnitKept → Option UnitSoFar
+unit_with block None = None
+unit_with block (Some u) = Some (kept_with block u)
+
+-- without the number that is acknowledged in the attempt
+abbrev pub unheard : SoFar → SoFar
+unheard s = record s { attempt = record (s.attempt) { acked = None } }
+
+-- after an end word
+abbrev pub with_end_word : ℕ → SoFar → SoFar
+with_end_word w s = record s { attempt = record (s.attempt) { words = s.attempt.words ++ w ∷ [] }; unit = with_end s.attempt w s.unit }
