@@ -35,7 +35,7 @@ abbrev pub is_give_up : Step → Bool
 is_give_up GiveUp = true
 is_give_up _ = false
 
--- one of these steps abandons a file
+-- one of these steps gives a file up
 abbrev pub gives_up : List Step → Bool
 gives_up [] = false
 gives_up (a ∷ steps) = is_give_up a || gives_up steps

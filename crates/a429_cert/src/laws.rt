@@ -51,7 +51,7 @@ pub fn what_explains_has_no_fault()
     ensures { (p : Contents) (text : List ℕ) (e : Explanation p text) (f : CertFault) → ¬ IsFirstCertFault p text e.items f }
 {}
 
-/// What a certificate of version 1 explains, it explains by a run that abandons no file, and the same lines under the
+/// What a certificate of version 1 explains, it explains by a run that gives no file up, and the same lines under the
 /// first line of version 2 explain it by that run.
 pub fn version_2_explains_what_version_1_does()
     ensures same { (p : Contents) (rest : List ℕ) (e : Explanation p (headed One rest)) → Explains p (headed Two rest) e.items e.first e.steps }
