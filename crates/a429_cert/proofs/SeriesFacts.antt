@@ -116,12 +116,12 @@ module _ (old : SeriesValue) (d : Head) where
     cert_part : (f : CertFault) (text : List ℕ) (r : Recording) → EndsAt r f
         → IsFaultAt old.profile (with_earlier taken s) (slice_get (items_of r.entries) i) (k + 3) i (slice_get (step_lines d.version text) k) f
         → IsIn k i taken s left rec text r → IsPartFault old (stream.Cert f) text r
-    cert_part f text r ends g h = inr (record { at = record { head = d; says = h.says; k = k; i = i; inside = h.inside; state = with_earlier taken s; leads = h.reached }; fault = g; ends = ends })
+    cert_part f text r ends g h = inr (record { k = k; i = i; state = with_earlier taken s; before = record { head = d; says = h.says; inside = h.inside; before = h.reached }; fault = g; ends = ends })
 
     read_part : (f : ReadFault) (text : List ℕ) (r : Recording) → WantsNext old.profile (slice_get (step_lines d.version text) k) (with_earlier taken s) → Stops f (behind i r) → f ≢ read.OutOfMemory
         → IsIn k i taken s left rec text r → IsPartFault old (stream.Read f) text r
     read_part f text r wants stops told h =
-        record { at = record { head = d; says = h.says; k = k; i = i; inside = h.inside; state = with_earlier taken s; leads = h.reached }; wants = wants; fault = stops; told = told }
+        record { k = k; i = i; state = with_earlier taken s; before = record { head = d; says = h.says; inside = h.inside; before = h.reached }; wants = wants; fault = stops; told = told }
 
     line_part : (f : StreamFault) (text : List ℕ) (r : Recording) → GivesLine left more held true → RefusesOver old.profile (read_as d.version held) s (Some (behind i r)) (k + 3) i f
         → IsIn k i taken s left rec text r → IsPartFault old f text r

@@ -85,26 +85,29 @@ pub record Joins (old : SeriesValue) (known : Option (List ℕ)) (rec : Option R
 -- ---- a part that does not fit
 
 -- after its first two lines, k lines are steps from where it begins, over its first i entries
-pub record LeadsInPart (old : SeriesValue) (text : List ℕ) (r : Recording) : Type 0 where
+pub record LeadsInPart (old : SeriesValue) (text : List ℕ) (r : Recording) (k i : ℕ) (s : State) : Type 0 where
   pub head : Head
   pub says : HasHead text head
-  pub k : ℕ
-  pub i : ℕ
   pub inside : i ≤ length (items_of r.entries)
-  pub state : State
-  pub leads : Leads old.profile (begun old.profile old.state head.first) (take k (step_lines head.version text)) (take i (items_of r.entries)) state
+  pub before : Leads old.profile (begun old.profile old.state head.first) (take k (step_lines head.version text)) (take i (items_of r.entries)) s
 
 -- the certificate's fault comes next; its lines are counted from 1, the entries of its recording from 0
 pub record IsFaultInPart (old : SeriesValue) (f : CertFault) (text : List ℕ) (r : Recording) : Type 0 where
-  pub at : LeadsInPart old text r
-  pub fault : IsFaultAt old.profile at.state (slice_get (items_of r.entries) at.i) (at.k + 3) at.i (slice_get (step_lines at.head.version text) at.k) f
+  pub k : ℕ
+  pub i : ℕ
+  pub state : State
+  pub before : LeadsInPart old text r k i state
+  pub fault : IsFaultAt old.profile state (slice_get (items_of r.entries) i) (k + 3) i (slice_get (step_lines before.head.version text) k) f
   pub ends : EndsAt r f
 
 -- the recording's fault comes next, where its entry is wanted
 pub record IsReadFaultInPart (old : SeriesValue) (f : ReadFault) (text : List ℕ) (r : Recording) : Type 0 where
-  pub at : LeadsInPart old text r
-  pub wants : WantsNext old.profile (slice_get (step_lines at.head.version text) at.k) at.state
-  pub fault : Stops f (behind at.i r)
+  pub k : ℕ
+  pub i : ℕ
+  pub state : State
+  pub before : LeadsInPart old text r k i state
+  pub wants : WantsNext old.profile (slice_get (step_lines before.head.version text) k) state
+  pub fault : Stops f (behind i r)
   pub told : f ≢ read.OutOfMemory
 
 abbrev pub IsPartFault : SeriesValue → StreamFault → List ℕ → Recording → Type 0
