@@ -69,8 +69,8 @@ pub fn block_bytes(profile: &Profile, words: &[Word]) -> Option<BlockBytes>
     }
 }
 
-// Adds the bytes that the words' semi-octets make. `low` is a semi-octet that still waits for the high one of its
-// byte; the one that waits at the end is returned, for the next words. `None` where a word is no data word of bus A.
+// Makes bytes of the words' semi-octets, behind those that there are. A low one that no high one has
+// followed is given back, and handed in with the next words. `None` where a word is no data word of bus A.
 fn carry(
     profile: &Profile,
     words: &[Word],
