@@ -4,7 +4,7 @@
 use a429_check::{
     Claim, Command, Folder, Rule, RunFault, Span, command, read_whole, report, run_by_rule,
     run_extract, run_forms, run_labels, run_make, run_pack, run_picture, run_show, run_survey,
-    run_units, run_upgrade, run_verify, run_version, run_word,
+    run_trace, run_units, run_upgrade, run_verify, run_version, run_word,
 };
 use a429_record::EntryReader;
 use a429_view::UnitRows;
@@ -73,6 +73,7 @@ fn answer<W: Write + Drop>(
         Command::Show { profile, recording } => show(rt, alloc, profile, recording, &mut out),
         Command::Forms { profile, recording } => forms(rt, alloc, profile, recording, &mut out),
         Command::Survey { profile, recording } => survey(rt, alloc, profile, recording, &mut out),
+        Command::Trace { profile, recording } => trace(rt, alloc, profile, recording, &mut out),
         Command::Make { profile, files } => make(rt, alloc, profile, files.as_slice(), &mut out),
         Command::Pack(recording) => pack(rt, alloc, recording, &mut out),
         Command::Check(claim) => find(rt, alloc, claim, Rule::Check, &mut out),
@@ -147,6 +148,18 @@ fn survey<W: Write>(
     let profile = bytes_of(rt, alloc, profile)?;
     let mut rec = opened_whole(rt, alloc, recording)?;
     run_survey(alloc, profile.as_slice(), &mut rec, out)
+}
+
+fn trace<W: Write>(
+    rt: &impl Files,
+    alloc: Global,
+    profile: &str,
+    recording: &str,
+    out: &mut Tally<W>,
+) -> Result<u8, RunFault> {
+    let profile = bytes_of(rt, alloc, profile)?;
+    let mut rec = opened_whole(rt, alloc, recording)?;
+    run_trace(alloc, profile.as_slice(), &mut rec, out)
 }
 
 fn make<W: Write>(

@@ -15,3 +15,4 @@ pub mod ExtractFacts
 pub mod CheckFacts
 pub mod StreamingFacts
 pub mod OutputFacts
+pub mod TraceLines

@@ -18,4 +18,5 @@ pub mod Units
 pub mod Picture
 pub mod Streaming
 pub mod Survey
+pub mod Trace
 pub mod Version

@@ -35,6 +35,11 @@ pub enum Command<'a> {
         profile: &'a str,
         recording: &'a str,
     },
+    /// `trace PROFILE REC`: says what a recording implies of its sink, word after word.
+    Trace {
+        profile: &'a str,
+        recording: &'a str,
+    },
     /// `check PROFILE REC CERT`: finds a certificate for a recording, and writes it to CERT.
     Check(Claim<'a>),
     /// `decide PROFILE REC CERT`: as `check`, and where that has a doubt a search for a run.
