@@ -4,7 +4,7 @@
 use a429_check::{
     Claim, Command, Folder, Rule, RunFault, Span, command, read_whole, report, run_by_rule,
     run_extract, run_forms, run_keep, run_labels, run_make, run_pack, run_picture, run_show,
-    run_survey, run_units, run_upgrade, run_verify, run_version, run_word,
+    run_survey, run_trace, run_units, run_upgrade, run_verify, run_version, run_word,
 };
 use a429_record::EntryReader;
 use a429_view::UnitRows;
@@ -74,6 +74,7 @@ fn answer<W: Write + Drop>(
         Command::Forms { profile, recording } => forms(rt, alloc, profile, recording, &mut out),
         Command::Survey { profile, recording } => survey(rt, alloc, profile, recording, &mut out),
         Command::Keep { profile, recording } => keep(rt, alloc, profile, recording, &mut out),
+        Command::Trace { profile, recording } => trace(rt, alloc, profile, recording, &mut out),
         Command::Make { profile, files } => make(rt, alloc, profile, files.as_slice(), &mut out),
         Command::Pack(recording) => pack(rt, alloc, recording, &mut out),
         Command::Check(claim) => find(rt, alloc, claim, Rule::Check, &mut out),
@@ -150,7 +151,6 @@ fn survey<W: Write>(
     run_survey(alloc, profile.as_slice(), &mut rec, out)
 }
 
-// The rows before a fault are written too: what waits to be written is flushed whatever the answer is.
 fn keep<W: Write>(
     rt: &impl Files,
     alloc: Global,
@@ -161,6 +161,24 @@ fn keep<W: Write>(
     let profile = bytes_of(rt, alloc, profile)?;
     let mut rec = opened_whole(rt, alloc, recording)?;
     let status = run_keep(alloc, profile.as_slice(), &mut rec, out);
+    written(status, out)
+}
+
+fn trace<W: Write>(
+    rt: &impl Files,
+    alloc: Global,
+    profile: &str,
+    recording: &str,
+    out: &mut Tally<W>,
+) -> Result<u8, RunFault> {
+    let profile = bytes_of(rt, alloc, profile)?;
+    let mut rec = opened_whole(rt, alloc, recording)?;
+    let status = run_trace(alloc, profile.as_slice(), &mut rec, out);
+    written(status, out)
+}
+
+// The answer of a command that writes as it reads: the lines before a fault are flushed too.
+fn written<W: Write>(status: Result<u8, RunFault>, out: &mut Tally<W>) -> Result<u8, RunFault> {
     out.flush().map_err(|_| RunFault::Device)?;
     status
 }

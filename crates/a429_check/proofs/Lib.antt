@@ -16,3 +16,4 @@ pub mod CheckFacts
 pub mod StreamingFacts
 pub mod OutputFacts
 pub mod KeepFacts
+pub mod TraceLines

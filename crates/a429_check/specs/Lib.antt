@@ -19,4 +19,5 @@ pub mod Picture
 pub mod Streaming
 pub mod Survey
 pub mod Keep
+pub mod Trace
 pub mod Version

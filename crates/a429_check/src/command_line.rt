@@ -89,6 +89,7 @@ fn of_recording<'a>(name: &str, given: &ArgMatches<'a>) -> Result<Command<'a>, R
         "forms" => return Ok(Command::Forms { profile, recording }),
         "survey" => return Ok(Command::Survey { profile, recording }),
         "keep" => return Ok(Command::Keep { profile, recording }),
+        "trace" => return Ok(Command::Trace { profile, recording }),
         _ => {}
     }
     let Some(certificate) = given.get_str("CERT") else {
@@ -170,6 +171,7 @@ fn parser<'a>(alloc: Global) -> Result<Parser<'a>, AllocError> {
     let all = with(all, with_recording(alloc, "forms"))?;
     let all = with(all, with_recording(alloc, "survey"))?;
     let all = with(all, with_recording(alloc, "keep"))?;
+    let all = with(all, with_recording(alloc, "trace"))?;
     let all = with(all, with_certificate(alloc, "check"))?;
     let all = with(all, with_certificate(alloc, "decide"))?;
     let all = with(all, with_certificate(alloc, "verify"))?;

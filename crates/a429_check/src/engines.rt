@@ -15,6 +15,7 @@ pub mod rule;
 pub mod show;
 mod streaming;
 pub mod survey;
+pub mod trace;
 pub mod units;
 pub mod upgrade;
 mod verdict;

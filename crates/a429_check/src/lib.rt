@@ -21,6 +21,7 @@ pub use crate::engines::picture::run_picture;
 pub use crate::engines::rule::Rule;
 pub use crate::engines::show::run_show;
 pub use crate::engines::survey::run_survey;
+pub use crate::engines::trace::run_trace;
 pub use crate::engines::units::run_units;
 pub use crate::engines::upgrade::run_upgrade;
 pub use crate::engines::verify::run_verify;

@@ -35,6 +35,11 @@ pub enum Command<'a> {
         profile: &'a str,
         recording: &'a str,
     },
+    /// `trace PROFILE REC`: says what a recording implies of its sink, word after word.
+    Trace {
+        profile: &'a str,
+        recording: &'a str,
+    },
     /// `keep PROFILE REC`: writes a recording without the entries that its transfer does not need.
     Keep {
         profile: &'a str,

@@ -179,7 +179,8 @@ fn put_verdict<W: Write>(sheet: &mut Sheet<'_, W>, verdict: &Verdict)
     }
 }
 
-fn put_impossible<W: Write>(sheet: &mut Sheet<'_, W>, entry: usize, reason: Reason)
+/// Puts that no run records an entry, and why.
+pub(crate) fn put_impossible<W: Write>(sheet: &mut Sheet<'_, W>, entry: usize, reason: Reason)
     ensures { Says W.contents sheet.old sheet.new (verdict_text (Verdict.Impossible entry reason)) }
 {
     sheet.put(b"IMPOSSIBLE ");

@@ -189,7 +189,8 @@ fn put_files<W: Write>(sheet: &mut Sheet<'_, W>, files: &[FileBytes])
     }
 }
 
-fn put_file<W: Write>(sheet: &mut Sheet<'_, W>, number: u8, len: u64)
+/// Puts the line of a file with this number and so many bytes.
+pub(crate) fn put_file<W: Write>(sheet: &mut Sheet<'_, W>, number: u8, len: u64)
     ensures { Says W.contents sheet.old sheet.new (file_line (number, len)) }
 {
     sheet.put(b"file ");

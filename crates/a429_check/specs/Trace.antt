@@ -1,0 +1,108 @@
+-- What `a429 trace` writes, and why it may fail (profile).
+use Rattle.std.specs.Prelude.{◌≡◌, ◌⊎◌, ◌++◌, ℕ, List, [], ◌∷◌, length, codes, Bool, true, Option, IfSome, Result, Ok, Err}
+use Rattle.std.specs.List.{flat_map}
+use Rattle.std.specs.Fmt.{decimal}
+use Rattle.a429_word.specs.declared.sheet.Sheet.{Sheet}
+use Rattle.a429_word.specs.Sheet.{Says}
+use Rattle.a429_word.specs.Tally.{has_failed, Puts, PutsFront}
+use Rattle.a429_profile.specs.Profile.{Contents}
+use Rattle.a429_ldu.specs.Sight.{sight_of}
+use Rattle.a429_link.specs.declared.doing.Crossing.{Crossing}
+use Rattle.a429_link.specs.declared.seen.Seen.{Seen}
+use Rattle.a429_link.specs.Implied.{implied, implied_at_first, sizes_of}
+use Rattle.a429_link.specs.Observer.{Allows, AreAllowed, at_first, observed}
+use Rattle.a429_link.specs.Run.{BeginsARun, RunOf, delivered_by, trace}
+use Rattle.a429_link.specs.Trace.{files_of}
+use Rattle.a429_record.specs.declared.entry.Entry.{Entry}
+use Rattle.a429_record.specs.Recording.{Recording, whole}
+use Rattle.a429_cert.specs.Explained.{items_of, seen_of}
+use Rattle.a429_explain.specs.declared.verdict.Reason.{Reason}
+use Rattle.a429_explain.specs.declared.verdict.Verdict.TheVariants as verdict
+use Rattle.a429_explain.specs.Walk.{FitsSight}
+use Rattle.a429_view.specs.Trace.{lines_of, refused_line}
+use Rattle.a429_check.specs.declared.fault.RunFault.{RunFault}
+use Rattle.a429_check.specs.declared.fault.RunFault.TheVariants as run
+use Rattle.a429_check.specs.Check.{verdict_text}
+use Rattle.a429_check.specs.Fault.{ComesBy, never}
+use Rattle.a429_check.specs.Output.{Output}
+use Rattle.a429_check.specs.Profile.{IsProfileOf}
+use Rattle.a429_check.specs.Streaming.{IsFaultToCome}
+use Rattle.a429_check.specs.Survey.{IsSurveyFault}
+use Rattle.a429_check.specs.Verdict.{file_line}
+
+-- ---- the text
+
+-- the line of a file
+abbrev pub size_line : Crossing → List ℕ
+size_line f = file_line (f.number, f.bytes)
+
+-- the files of every run that records these words
+abbrev pub only_text : List Crossing → List ℕ
+only_text files = codes "ONLY files " ++ decimal (length files) ++ codes "\n" ++ flat_map size_line files
+
+-- the lines of the first entries of a recording
+abbrev pub first_lines : Contents → List Entry → List ℕ
+first_lines p es = lines_of p 0 implied_at_first es
+
+-- each run that records these words delivers exactly these files
+abbrev pub AreDelivered : Contents → List Seen → List Crossing → Type 0
+AreDelivered p items files = (r : RunOf p) → trace r.steps ≡ items → sizes_of (delivered_by r) ≡ files
+
+-- these are the first entries of the recording, where it is known
+abbrev pub BeginsWith : Option Recording → List Entry → Type 0
+BeginsWith known es = IfSome known (λ r. (more : List Entry) × (r.entries ≡ es ++ more))
+
+-- no run records this word after those, which allow each other, and the reason fits it
+pub record IsRefusedAfter (p : Contents) (items : List Seen) (i : Seen) (reason : Reason) : Type 0 where
+  pub before : AreAllowed p at_first items
+  pub refused : Allows p (observed p items at_first) i → ⊥
+  pub fits : FitsSight (sight_of p.codes i.bus i.word) reason
+  pub impossible : BeginsARun p (items ++ i ∷ []) → ⊥
+
+-- the trace of a whole recording: the lines of its entries, each of which is allowed after those before it, and the files
+-- that are delivered; or of one up to the first entry that no run records, its line, and the reason
+pub data IsTraceOf (p : Contents) (known : Option Recording) (status : ℕ) (text : List ℕ) : Type 0 where
+  only : (es : List Entry) (all : IfSome known (λ r. r ≡ whole es)) (allowed : AreAllowed p at_first (items_of es)) (files : List Crossing) (delivered : AreDelivered p (items_of es) files) (status_is : status ≡ 0) (text_is : text ≡ first_lines p es ++ only_text files) → IsTraceOf p known status text
+  impossible : (es : List Entry) (e : Entry) (begins : BeginsWith known (es ++ e ∷ [])) (reason : Reason) (refused : IsRefusedAfter p (items_of es) (seen_of e) reason) (status_is : status ≡ 1) (text_is : text ≡ first_lines p es ++ (refused_line p (length es) (implied p (items_of es) implied_at_first) e ++ verdict_text (verdict.Impossible (length es) reason))) → IsTraceOf p known status text
+
+-- the same by the profile whose text the bytes are
+pub record Traces (profile : List ℕ) (known : Option Recording) (status : ℕ) (text : List ℕ) : Type 0 where
+  pub contents : Contents
+  pub is_profile : IsProfileOf profile contents
+  pub is_trace : IsTraceOf contents known status text
+
+-- ---- where it is cut off
+
+-- the text is the lines of the entries that came before a fault, each of which is allowed after those before it
+pub record IsCut (p : Contents) (known : Option Recording) (text : List ℕ) : Type 0 where
+  pub entries : List Entry
+  pub begins : BeginsWith known entries
+  pub allowed : AreAllowed p at_first (items_of entries)
+  pub text_is : text ≡ first_lines p entries
+
+-- the text that is put before a command answers this status or this fault
+abbrev pub IsPutBy : Contents → Option Recording → Result ℕ RunFault → List ℕ → Type 0
+IsPutBy p known (Ok status) text = IsTraceOf p known status text
+IsPutBy p known (Err f) text = IsCut p known text
+
+-- a sheet says some text that is such
+abbrev pub SaysText : {W : Type 0} → (W → Option (List ℕ)) → Sheet W → Sheet W → (List ℕ → Type 0) → Type 0
+SaysText contents old new IsSuch = (text : List ℕ) × IsSuch text × Says contents old new text
+
+-- what the output has after a fault of the recording: the lines of the entries before it; or, where the output has failed, a
+-- prefix of these or of a whole trace
+pub data LeavesLines {W : Type 0} (o : Output W) (p : Contents) (known : Option Recording) (e : RunFault) : Type 0 where
+  lines : (text : List ℕ) (cut : IsCut p known text) (put : Puts o.contents o.old o.new text) → LeavesLines o p known e
+  failed : (device : e ≡ run.Device) (failed : has_failed o.new ≡ true) (text : List ℕ) (of : IsCut p known text ⊎ ((status : ℕ) × IsTraceOf p known status text)) (prefix : PutsFront o.contents o.old o.new text) → LeavesLines o p known e
+
+-- what it has after any fault: what it had, or such lines by the profile whose text the bytes are
+abbrev pub LeavesTrace : {W : Type 0} → Output W → List ℕ → Option Recording → RunFault → Type 0
+LeavesTrace o profile known e = (o.new ≡ o.old) ⊎ ((p : Contents) × IsProfileOf profile p × LeavesLines o p known e)
+
+-- why no more lines are put, under a profile that was read: the recording has a fault, its reader or the output failed, or memory was refused
+abbrev pub IsLinesFault : Option Recording → Bool → Bool → RunFault → Type 0
+IsLinesFault known rec_failed out_failed = ComesBy (record never { recording = IsFaultToCome known; device = (rec_failed ≡ true) ⊎ (out_failed ≡ true); memory = Unit {0} })
+
+-- why `trace` fails: as `survey` does
+abbrev pub IsTraceFault : List ℕ → Option Recording → Bool → Bool → RunFault → Type 0
+IsTraceFault profile known rec_failed out_failed = IsSurveyFault profile known rec_failed out_failed

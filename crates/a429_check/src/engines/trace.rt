@@ -1,0 +1,117 @@
+//! `a429 trace PROFILE REC`: what a recording implies of its sink, word after word.
+
+ghost use Rattle.std.specs.Prelude.{◌≡◌, [], false, IfErr, IfOk, flat_map};
+ghost use Rattle.a429_word.specs.Sheet.{Says, sheet_failed};
+ghost use Rattle.a429_word.specs.Tally.{has_failed};
+ghost use Rattle.a429_check.specs.Output.{PutsText, output};
+ghost use Rattle.a429_check.specs.Trace.{IsLinesFault, IsPutBy, IsTraceFault, IsTraceOf, LeavesLines, LeavesTrace, SaysText, Traces, only_text, size_line};
+
+use crate::engines::check::put_impossible;
+use crate::engines::profile::profile_of;
+use crate::engines::streaming::next_entry;
+use crate::engines::verdict::put_file;
+use crate::fault::RunFault;
+use a429_explain::reason_of;
+use a429_link::Crossing;
+use a429_profile::Profile;
+use a429_record::EntryReader;
+use a429_view::{Trace, TraceStop};
+use a429_word::{Page, Sheet, Tally};
+use std::alloc::Global;
+use std::io::{Read, Write};
+
+/// Writes what a recording implies of its sink, whatever its source did: a line for each word with the transfer's label
+/// of its bus. Then, with status 0, the files that every run delivers which records these words; or, with status 1, the
+/// first word that no run records after those before it, which is the last that is read (ARINC 429 Part 3; the layout is
+/// the profile's). `profile` is the bytes of its text. The recording is read entry by entry. Kept are the number and the
+/// length of each file that has crossed, 16 bytes, and the bytes of the one that is not whole. Where the recording has a
+/// fault, or the reader fails, the lines of the entries before it are written.
+pub fn run_trace<R: Read, W: Write>(
+    alloc: Global,
+    profile: &[u8],
+    rec: &mut EntryReader<R>,
+    out: &mut Tally<W>,
+) -> Result<u8, RunFault>
+    ensures text { IfOk result (λ status. PutsText W.contents out.old out.new (Traces profile.now rec.old.to_come status)) }
+    ensures err { IfErr result (IsTraceFault profile.now rec.old.to_come rec.new.failed (has_failed out.new)) }
+    ensures cut { IfErr result (LeavesTrace (output W.contents out.old out.new) profile.now rec.old.to_come) }
+    ensures device { IfOk result (λ status. (has_failed out.new ≡ false) × (status ≡ 0 → rec.new.failed ≡ false)) }
+{
+    let profile = profile_of(alloc, profile)?;
+    let page = Page::new(alloc)?;
+    write_trace(alloc, page, &profile, rec, out)
+}
+
+// By an empty page.
+fn write_trace<R: Read, W: Write>(
+    alloc: Global,
+    page: Page,
+    profile: &Profile,
+    rec: &mut EntryReader<R>,
+    out: &mut Tally<W>,
+) -> Result<u8, RunFault>
+    requires { page ≡ [] }
+    ensures text { IfOk result (λ status. PutsText W.contents out.old out.new (IsTraceOf profile.now rec.old.to_come status)) }
+    ensures err { IfErr result (IsLinesFault rec.old.to_come rec.new.failed (has_failed out.new)) }
+    ensures cut { IfErr result (LeavesLines (output W.contents out.old out.new) profile.now rec.old.to_come) }
+    ensures device { IfOk result (λ status. (has_failed out.new ≡ false) × (status ≡ 0 → rec.new.failed ≡ false)) }
+{
+    let mut page = page;
+    let mut sheet = Sheet::new(out, &mut page);
+    let status = put_trace(alloc, &mut sheet, profile, rec);
+    sheet.finish()?;
+    status
+}
+
+// The lines of the entries that come, and how they end.
+fn put_trace<R: Read, W: Write>(
+    alloc: Global,
+    sheet: &mut Sheet<'_, W>,
+    profile: &Profile,
+    rec: &mut EntryReader<R>,
+) -> Result<u8, RunFault>
+    ensures text { SaysText W.contents sheet.old sheet.new (IsPutBy profile.now rec.old.to_come result) }
+    ensures err { IfErr result (IsLinesFault rec.old.to_come rec.new.failed (sheet_failed sheet.new)) }
+    ensures device { IfOk result (λ status. status ≡ 0 → rec.new.failed ≡ false) }
+{
+    let mut trace = Trace::new(alloc);
+    'entries: loop {
+        if sheet.failed() {
+            return Err(RunFault::Device);
+        }
+        let number = trace.entries();
+        match next_entry(rec) {
+            Ok(Some(entry)) => match trace.put_entry(alloc, sheet, profile, &entry) {
+                Ok(()) => {}
+                Err(TraceStop::OutOfMemory) => return Err(RunFault::Memory),
+                Err(TraceStop::Refused(sight)) => {
+                    put_impossible(sheet, number, reason_of(sight.form()));
+                    return Ok(1);
+                }
+            },
+            Ok(None) => {
+                put_only(sheet, trace.files());
+                return Ok(0);
+            }
+            Err(fault) => return Err(fault),
+        }
+    }
+}
+
+// How many files every run delivers that records these words, and a line for each.
+fn put_only<W: Write>(sheet: &mut Sheet<'_, W>, files: &[Crossing])
+    ensures { Says W.contents sheet.old sheet.new (only_text files.now) }
+{
+    sheet.put(b"ONLY files ");
+    sheet.put_number(files.len() as u64);
+    sheet.put(b"\n");
+    put_sizes(sheet, files);
+}
+
+fn put_sizes<W: Write>(sheet: &mut Sheet<'_, W>, files: &[Crossing])
+    ensures { Says W.contents sheet.old sheet.new (flat_map size_line files.now) }
+{
+    for file in files {
+        put_file(sheet, file.number, file.bytes as u64);
+    }
+}
