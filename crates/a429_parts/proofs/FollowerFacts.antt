@@ -13,13 +13,13 @@ use Rattle.a429_ldu.specs.declared.sight.Sight.TheVariants as sight
 use Rattle.a429_link.specs.declared.number.UnitNumber.{UnitNumber}
 use Rattle.a429_link.specs.declared.seen.Seen.{Seen}
 use Rattle.a429_link.specs.Observer.{Observer, Allows, AllowsForm, HasGrant, sees, sees_form}
-use Rattle.a429_link.specs.Sink.{MayAnswer, Number, SinkPhase, Quiet, OwesClear, Granted, InBlock, OwesAck, OwesNak, at_end, is_good}
+use Rattle.a429_link.specs.Sink.{MayAnswer, Number, SinkPhase, Quiet, OwesClear, Granted, InBlock, OwesAck, OwesNak, at_end, end_word, is_good}
 use Rattle.a429_parts.specs.Follower.{HasEnded, Remembers}
 
 free_none : (c : Codes) (b : Bus) (w : ℕ) → is_free c b w ≡ true → form_of c b w ≡ None
 free_none c b w free = sym (form_of-sight c b w) ∙ subst (λ (t : Bool). form_in (if t then sight.Free else sight_in (form_of c b w)) ≡ None) (sym free) refl
 
-ended : (p : Contents) (last : Option Number) (count flags check : ℕ) (phase : SinkPhase) → HasGrant phase → HasEnded flags (at_end p last count flags check phase)
+ended : (p : Contents) (last : Option Number) (count flags check : ℕ) (phase : SinkPhase) → HasGrant phase → HasEnded flags (at_end p last count (end_word flags check) phase)
 ended p last count flags check Granted grant = tt
 ended p last count flags check (InBlock b) grant = by_good (is_good p last count b check)
   where
