@@ -1,17 +1,17 @@
 -- The trace of entries that come one by one.
-use Rattle.std.proofs.Common.{◌≡◌, ℕ, zero, suc, ◌+◌, ◌-◌, ◌^◌, ◌<◌, ◌≤◌, min, Bool, true, List, [], ◌∷◌, ◌++◌, length, length-append, append_assoc, append-nil, map, take, ◌⊎◌, Option, Some, None, Result, Ok, Err, IfOk, IfErr, IfSome, slice_get, refl, sym, ap, ◌∙◌, subst, inl, inr, arith}
+use Rattle.std.proofs.Common.{◌≡◌, ℕ, suc, ◌+◌, ◌-◌, ◌^◌, ◌<◌, min, Bool, List, [], ◌∷◌, ◌++◌, length, length-append, append_assoc, append-nil, take, ◌⊎◌, Option, Some, None, Result, Ok, Err, IfOk, IfErr, IfSome, slice_get, refl, sym, ap, ◌∙◌, subst, inl, inr, arith}
 use Rattle.a429_profile.specs.Profile.{Contents, IsProfile}
 use Rattle.a429_ldu.specs.declared.forms.Form.{Form}
 use Rattle.a429_ldu.specs.declared.sight.Sight.{Sight}
-use Rattle.a429_ldu.specs.Form.{form_of, is_free}
-use Rattle.a429_ldu.specs.Sight.{sight_of, sight_in, form_in}
+use Rattle.a429_ldu.specs.Form.{form_of}
+use Rattle.a429_ldu.specs.Sight.{sight_in, form_in}
 use Rattle.a429_link.specs.declared.seen.Seen.{Seen}
 use Rattle.a429_link.specs.declared.doing.Crossing.{Crossing}
 use Rattle.a429_link.specs.Sink.{Number, Sink, SinkPhase}
 use Rattle.a429_link.specs.Observer.{Allows, AllowsForm, AllowsNext, AreAllowed, IsRefused, Observer, at_first, observed, sees}
 use Rattle.a429_link.specs.Run.{BeginsARun}
 use Rattle.a429_link.specs.Trace.{files_of, sink_after, sink_at_first}
-use Rattle.a429_link.specs.Implied.{Implied, implied, implied_at_first, implies, observer_of, sizes_of, with_counts}
+use Rattle.a429_link.specs.Implied.{Implied, implied, implied_at_first, implies, observer_of, sizes_of}
 use Rattle.a429_link.proofs.ImpliedFacts.{file_crosses, files_stay_without, implied_push, implied_sink}
 use Rattle.a429_link.proofs.TraceFiles.{observed_sink}
 use Rattle.a429_record.specs.declared.entry.Entry.{Entry}

@@ -12,7 +12,6 @@ use Rattle.a429_link.specs.declared.seen.Seen.{Seen}
 use Rattle.a429_link.specs.Implied.{implied, implied_at_first, sizes_of}
 use Rattle.a429_link.specs.Observer.{Allows, AreAllowed, at_first, observed}
 use Rattle.a429_link.specs.Run.{BeginsARun, RunOf, delivered_by, trace}
-use Rattle.a429_link.specs.Trace.{files_of}
 use Rattle.a429_record.specs.declared.entry.Entry.{Entry}
 use Rattle.a429_record.specs.Recording.{Recording, whole}
 use Rattle.a429_cert.specs.Explained.{items_of, seen_of}

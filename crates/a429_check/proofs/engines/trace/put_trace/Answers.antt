@@ -1,4 +1,4 @@
-use Rattle.std.proofs.Common.{◌++◌, ◌∷◌, [], length, length-append, append-nil, subst, arith}
+use Rattle.std.proofs.Common.{◌++◌, ◌∷◌, [], length-append, append-nil, subst, arith}
 use Rattle.a429_word.specs.Sheet.{Says}
 use Rattle.a429_word.proofs.SheetFacts.{◌▹◌, says_nothing}
 use Rattle.a429_check.specs.Trace.{first_lines}
