@@ -131,9 +131,11 @@ fn three_files(rt: HostRuntime) {
     assert!(rt; is_cut(alloc, &profile, entries, 11, "6 6 6 "));
     assert!(rt; is_cut(alloc, &profile, entries, 12, "12 6 "));
     assert!(rt; is_cut(alloc, &profile, entries, 18, "18 "));
-    let mut without = Vec::from_slice(alloc, &entries[..6]).expect(&rt, "room");
-    for entry in &entries[12..] {
-        without.push(*entry).expect(&rt, "room");
+    let mut without = Vec::new(alloc);
+    for i in 0..entries.len() {
+        if i < 6 || i >= 12 {
+            without.push(entries[i]).expect(&rt, "room");
+        }
     }
     assert!(rt; is_cut(alloc, &profile, without.as_slice(), 6, "6 6 "));
 }
