@@ -104,7 +104,7 @@ fn is_long_upgraded(alloc: Global, length: usize) -> Result<bool, AllocError> {
 
 // The first of these lengths of which that is not so.
 fn first_length_not_upgraded(alloc: Global) -> Option<usize> {
-    for length in [65_535, 65_536, 65_537, 140_000] {
+    for length in [65_535, 65_536, 65_537, 90_000] {
         if is_long_upgraded(alloc, length) != Ok(true) {
             return Some(length);
         }
