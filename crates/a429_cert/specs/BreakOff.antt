@@ -1,4 +1,4 @@
--- Where the check of a certificate that is read streaming breaks off: a device has failed, or memory was refused (profile).
+-- Where the check of a certificate that is read as a stream breaks off: a device has failed, or memory was refused (profile).
 use Rattle.std.specs.Prelude.{◌≡◌, ◌⊎◌, ◌+◌, ◌-◌, ℕ, List, [], ◌∷◌, ◌++◌, Bool, true, Option, slice_get, ⊤}
 use Rattle.a429_profile.specs.Profile.{Contents}
 use Rattle.a429_word.specs.declared.tally.Tally.{Tally}

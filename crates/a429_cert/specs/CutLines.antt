@@ -1,4 +1,4 @@
--- The lines of a certificate that is read streaming (profile).
+-- The lines of a certificate that is read as a stream (profile).
 use Rattle.std.specs.Prelude.{◌≡◌, ◌≤◌, ℕ, List, [], ◌∷◌, ◌++◌, length, drop, Bool, true, false, nat_le, if◌then◌else◌, Option, Some, None, option_and_then, option_map, slice_get, ⊤}
 use Rattle.memchr.specs.Find.{Nowhere, Passes, is_byte}
 use Rattle.a429_cert.specs.Lines.{certificate_lines}

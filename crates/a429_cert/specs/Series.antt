@@ -116,7 +116,7 @@ IsPartFault old (stream.Read f) text r = IsReadFaultInPart old f text r
 IsPartFault old stream.Device text r = ⊤
 IsPartFault old stream.OutOfMemory text r = ⊤
 
--- the fault is the part's first, where its certificate and its recording are told
+-- the fault is the part's first, where its certificate and its recording are known
 abbrev pub RefusesPart : SeriesValue → Option (List ℕ) → Option Recording → StreamFault → Type 0
 RefusesPart old known rec f = WhereTold known rec (IsPartFault old f)
 

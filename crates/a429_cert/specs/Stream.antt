@@ -1,4 +1,4 @@
--- A certificate held against a recording, both read streaming (profile).
+-- A certificate held against a recording, both read as a stream (profile).
 use Rattle.std.specs.Prelude.{◌≡◌, ◌≢◌, ◌⊎◌, Bool, true, ◌+◌, ℕ, zero, suc, List, [], ◌∷◌, ◌++◌, length, drop, map, Option, Some, None, slice_get, ⊤}
 use Rattle.a429_profile.specs.Profile.{Contents}
 use Rattle.a429_link.specs.declared.seen.Seen.{Seen}
@@ -29,7 +29,7 @@ use Rattle.a429_cert.specs.Change.{Change, change}
 use Rattle.a429_cert.specs.Told.{Listening, Position, position, WhereKnown, HearsListed, HearsText, told_listed, with_number}
 use Rattle.a429_cert.specs.Passing.{uses, uses_listed, PassesListed, RefusesListed, PassesText}
 
--- ---- a recording that is read streaming
+-- ---- a recording that is read as a stream
 
 -- what comes after its first n entries
 abbrev pub behind : ℕ → Recording → Recording

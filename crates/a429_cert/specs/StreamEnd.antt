@@ -1,4 +1,4 @@
--- What comes after the last line of a certificate that is read streaming (profile).
+-- What comes after the last line of a certificate that is read as a stream (profile).
 use Rattle.std.specs.Prelude.{◌≡◌, ◌⊎◌, ℕ, Option, Some, Ok, Err, ⊤}
 use Rattle.a429_record.specs.declared.entry.Entry.{Entry}
 use Rattle.a429_record.specs.declared.fault.ReadFault.{ReadFault}

@@ -1,4 +1,4 @@
--- What a certificate explains, and its first fault, where it and the recording are read streaming (profile).
+-- What a certificate explains, and its first fault, where it and the recording are read as a stream (profile).
 use Rattle.std.specs.Prelude.{◌≡◌, ◌≢◌, ◌⊎◌, ◌≤◌, ℕ, List, [], length, take, Option, Some, None, slice_get, ⊤, Vec}
 use Rattle.std.specs.List.{FoldsTo}
 use Rattle.a429_word.specs.declared.tally.Tally.{Tally}

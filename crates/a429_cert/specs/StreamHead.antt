@@ -1,4 +1,4 @@
--- The first two lines of a certificate that is read streaming (profile).
+-- The first two lines of a certificate that is read as a stream (profile).
 use Rattle.std.specs.Prelude.{◌≡◌, ℕ, List, drop, Option, Some, None, slice_get, ⊤}
 use Rattle.a429_cert.specs.declared.fault.CertFault.{CertFault}
 use Rattle.a429_cert.specs.declared.fault.CertFault.TheVariants as of

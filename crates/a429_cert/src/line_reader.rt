@@ -1,4 +1,4 @@
-//! The lines of a certificate that is read streaming, by a buffer of a fixed size.
+//! The lines of a certificate that is read as a stream, by a buffer of a fixed size.
 
 ghost use Rattle.std.specs.Prelude.{◌≡◌, ◌⊎◌, ◌<◌, ◌≤◌, ◌∷◌, ◌++◌, [], Some, None, true, false, length, IsErr, IsSome, IfOk, IfSome, IfNone, OnOk, OnErr, Ok, ◌≢◌};
 ghost use Rattle.std.specs.Io.KnownBytes.{Keeps, IsAtEnd};

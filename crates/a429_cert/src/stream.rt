@@ -1,4 +1,4 @@
-//! A certificate, held against a recording, both read streaming.
+//! A certificate, held against a recording, both read as a stream.
 
 ghost use Rattle.std.specs.Prelude.{◌≡◌, ◌≤◌, ◌⊎◌, ◌+◌, [], ◌∷◌, ◌++◌, true, false, Option, None, option_map, IfOk, IfErr, IfSome, IsSome, IsErrOf, OnOk, OnErr};
 ghost use Rattle.a429_profile.specs.Profile.{IsProfile};
@@ -44,7 +44,7 @@ use a429_word::Tally;
 use std::alloc::Global;
 use std::io::Read;
 
-/// Holds a certificate against a recording, under a profile, both read streaming. Where
+/// Holds a certificate against a recording, under a profile, both read as a stream. Where
 /// it explains the recording, the files that cross are put on the shelf, in order, and the answer is their
 /// numbers and lengths. Else the fault is the first one in the order of the lines, where a recording's comes
 /// where its entry is wanted, and the files that the lines before it deliver are put. Where a device fails or

@@ -1,4 +1,4 @@
-//! What comes after the last line of a certificate that is read streaming.
+//! What comes after the last line of a certificate that is read as a stream.
 
 ghost use Rattle.std.specs.Prelude.{◌≡◌, ◌≢◌, true, Option, None, Ok, Err, IfErr, IsErrOf, OnOk};
 ghost use Rattle.a429_record.specs.declared.fault.ReadFault.TheVariants as read;

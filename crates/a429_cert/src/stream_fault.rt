@@ -1,4 +1,4 @@
-//! Why a certificate that is read streaming, or its recording, is refused.
+//! Why a certificate that is read as a stream, or its recording, is refused.
 
 ghost use Rattle.std.specs.Prelude.{◌≡◌};
 ghost use Rattle.a429_cert.specs.Stream.{of_cert, of_read, of_trouble};
@@ -7,7 +7,7 @@ use crate::fault::CertFault;
 use a429_record::ReadFault;
 use a429_word::Trouble;
 
-/// Why a certificate and a recording that are read streaming are refused.
+/// Why a certificate and a recording that are read as a stream are refused.
 #[derive(Clone, Copy, Debug, PartialEq, Eq)]
 pub enum StreamFault {
     /// The certificate's first fault. Lines are counted from 1, entries from 0.

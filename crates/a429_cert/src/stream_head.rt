@@ -1,4 +1,4 @@
-//! The first two lines of a certificate that is read streaming.
+//! The first two lines of a certificate that is read as a stream.
 
 ghost use Rattle.std.specs.Prelude.{◌≡◌, ◌+◌, ◌≤◌, true, IfOk, IfErr, IsErrOf, OnOk};
 ghost use Rattle.a429_word.specs.Tally.{has_failed, unread};

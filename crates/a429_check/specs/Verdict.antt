@@ -92,7 +92,7 @@ AllWork rec certificate shelf out = (rec ≡ false) × (certificate ≡ false) �
 
 -- ---- why there is none
 
--- what a certificate that is read streaming is answered: its files, or a fault
+-- what a certificate that is read as a stream is answered: its files, or a fault
 abbrev pub Answer : Type 0
 Answer = Result (List (ℕ × ℕ)) StreamFault
 

@@ -18,7 +18,7 @@ use std::io::{Read, Write};
 
 /// Writes the rows of the link data units that a certificate loads, in order, after a line with the names of
 /// the columns, and answers its status: 0 where it explains the recording, and 2 where it is refused. `profile`
-/// is the bytes of its text. Recording and certificate are read streaming, and a row goes out once its unit
+/// is the bytes of its text. Recording and certificate are read as a stream, and a row goes out once its unit
 /// has ended: where the certificate is refused, the names of the columns, once a unit was loaded, and the rows of
 /// the units that ended in the lines before the fault are written, and the verdict after them.
 pub fn run_units<R: Read, C: Read, W: Write>(

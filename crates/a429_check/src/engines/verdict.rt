@@ -1,4 +1,4 @@
-//! Judges a certificate against a recording, both read streaming, and writes the verdict, as each command that
+//! Judges a certificate against a recording, both read as a stream, and writes the verdict, as each command that
 //! takes a certificate does.
 
 ghost use Rattle.std.specs.Prelude.{◌≡◌, ◌↔◌, ◌≢◌, true, false, codes, ◌++◌, IsErr, IfOk, IfErr, OnOk, Err};

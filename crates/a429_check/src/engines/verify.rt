@@ -15,7 +15,7 @@ use std::io::{Read, Write};
 
 /// Writes the verdict on a certificate, and answers its status: 0 where it explains the recording, so
 /// that each run that records the same words delivers the files that are listed, and 2 where it is
-/// refused. `profile` is the bytes of its text. Recording and certificate are read streaming, so that
+/// refused. `profile` is the bytes of its text. Recording and certificate are read as a stream, so that
 /// the fault that is met first is reported.
 pub fn run_verify<R: Read, C: Read, W: Write>(
     alloc: Global,
