@@ -344,7 +344,7 @@ fn opened_claim<F: Files>(
     })
 }
 
-// A file to read. One that cannot be opened is told as one that fails.
+// A file to read. One that cannot be opened is reported as one that fails.
 fn opened<F: Files>(rt: &F, path: &str, cap: u64) -> Result<Tally<F::File>, RunFault> {
     let file = fs::open(rt, path).map_err(|_| RunFault::Device)?;
     Ok(Tally::new(file, cap))

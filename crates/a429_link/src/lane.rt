@@ -7,7 +7,7 @@ use a429_word::Word;
 use arrayvec::ArrayVec;
 use std::marker::Model;
 
-/// The words that a sink has taken of its block, and behind them those on their way to it, in one array:
+/// The words that a sink has taken of its block, and after them those on their way to it, in one array:
 /// the sink takes a word by moving the boundary.
 #[derive(Debug, Drop)]
 pub(crate) struct Lane {

@@ -15,7 +15,7 @@ use std::alloc::Global;
 use std::marker::Model;
 
 /// A sink that takes each recorded word of bus A, and gives each recorded answer of bus B, at the moment
-/// it is recorded. It tells which words a recording can go on with. It keeps the block that it is in, and
+/// it is recorded. It says which words a recording can go on with. It keeps the block that it is in, and
 /// no files.
 #[derive(Debug, Drop)]
 pub struct Observer {

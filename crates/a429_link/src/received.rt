@@ -33,7 +33,7 @@ impl Received {
         }
     }
 
-    /// Puts the bytes of a link data unit behind those of its file. The final one closes the file, under
+    /// Puts the bytes of a link data unit after those of its file. The final one closes the file, under
     /// this number.
     pub(crate) fn put(
         &mut self,

@@ -21,7 +21,7 @@ pub enum PartFault {
     OutOfMemory,
 }
 
-/// Cuts a recording into parts of at most so many entries, as they come: a part ends at the last place that is near
+/// Cuts a recording into parts of at most so many entries, while it is read: a part ends at the last place that is near
 /// enough. It remembers the entries that are in no part yet.
 #[derive(Debug, Drop)]
 pub struct Cutter {

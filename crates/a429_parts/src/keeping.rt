@@ -1,4 +1,4 @@
-//! A recording, written as it comes, with the entries alone that its transfer needs.
+//! A recording, written while it is read: of its entries, those that the transfer needs.
 
 ghost use Rattle.std.specs.Prelude.{◌≡◌, ◌<◌, true, false, None, IfOk, IfErr, IsErrOf, OnOk};
 ghost use Rattle.a429_word.specs.Sheet.{Says, sheet_failed};

@@ -15,7 +15,7 @@ use std::{io, str};
 // How many bytes of a text are read at most.
 pub const MOST: u64 = 1_000_000;
 
-/// What is told of the sample recording and its certificate.
+/// What is printed for the sample recording and its certificate.
 pub const YES: &str = "0\nYES files 1\nfile 1 1\n";
 
 /// A file of so many bytes, all of them this one.
@@ -37,7 +37,7 @@ pub fn sample(rt: &(impl Abort + AllocGlobal)) -> Profile {
     read(rt, PROFILE)
 }
 
-/// A value as a test tells it.
+/// A value as a test prints it.
 pub fn debug<T: Debug>(alloc: Global, value: &T) -> Result<String, AllocError> {
     format!(in alloc; "{value:?}")
 }
@@ -56,7 +56,7 @@ pub fn told(alloc: Global, status: Result<u8, RunFault>, written: &[u8]) -> Opti
     }
 }
 
-/// Whether this is told.
+/// Whether this is printed.
 pub fn is_told(alloc: Global, status: Result<u8, RunFault>, written: &[u8], text: &str) -> bool {
     match told(alloc, status, written) {
         Some(found) => found.as_str() == text,
@@ -127,7 +127,7 @@ pub fn checked(alloc: Global, recording: &str) -> (Answered, Vec<u8>) {
     (Answered { status, verdict }, certificate)
 }
 
-/// Whether `check` tells this of the recording; and its certificate.
+/// Whether `check` says this of the recording; and its certificate.
 pub fn check_tells(alloc: Global, recording: &str, verdict: &str) -> (bool, Vec<u8>) {
     let (found, certificate) = checked(alloc, recording);
     let is_same = is_told(alloc, found.status, found.verdict.as_slice(), verdict);
@@ -144,7 +144,7 @@ pub fn verified(alloc: Global, recording: &str, certificate: &[u8]) -> Answered 
     Answered { status, verdict }
 }
 
-/// Whether `verify` tells this of the recording and a certificate.
+/// Whether `verify` says this of the recording and a certificate.
 pub fn verify_tells(alloc: Global, recording: &str, certificate: &[u8], verdict: &str) -> bool {
     let found = verified(alloc, recording, certificate);
     is_told(alloc, found.status, found.verdict.as_slice(), verdict)

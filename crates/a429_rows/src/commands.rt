@@ -1,4 +1,4 @@
-//! The commands: how their words are read, what each writes and answers, and how a fault is told.
+//! The commands: how their words are read, what each writes and answers, and how a fault is reported.
 
 mod certificates;
 mod check;

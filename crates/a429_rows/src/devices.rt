@@ -20,7 +20,7 @@ fn is_same(found: &Ran, whole: &Ran) -> bool {
 }
 
 // How many runs there are in which the device fails, at a later call each, until it fails no more; none where one of
-// them is told as another fault, or has written anything else.
+// them is reported as another fault, or has written anything else.
 fn failing_runs(alloc: Global, given: &Given, command: Command, device: Device) -> Option<u32> {
     let whole = run(alloc, given, command, Plan::NONE);
     for call in 1..100_000 {

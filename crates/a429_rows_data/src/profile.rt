@@ -1,7 +1,7 @@
 //! The sample profile, and the sample with changes: what is read of it, or what is wrong with it.
 //!
-//! Cases stand in tables, a case a line. Most begin with the words that tell what is wrong, or `good`; a test
-//! that fails writes the change and what was told of it.
+//! Cases are in tables, a case a line. Most begin with the words that say what is wrong, or `good`; a test
+//! that fails writes the change and what was reported for it.
 
 use a429_profile::{Profile, read_profile};
 use a429_sample::{PROFILE, joined, with};
@@ -41,7 +41,7 @@ fn told(alloc: Global, text: &str) -> Result<String, AllocError> {
     fault.to_string(alloc)
 }
 
-// A text is told these words, and the case has this name.
+// These words are reported for a text, and the case has this name.
 fn is_told(alloc: Global, text: &str, words: (&str, &str), name: &str) -> Result<(), Fail> {
     let found = told(alloc, text)?;
     if found.as_str().strip_prefix(words.0) == Some(words.1) {
@@ -51,7 +51,7 @@ fn is_told(alloc: Global, text: &str, words: (&str, &str), name: &str) -> Result
     }
 }
 
-// The text with these changes is told these words.
+// These words are reported for the text with these changes.
 fn tells(alloc: Global, text: &str, changes: &str, words: (&str, &str)) -> Result<(), Fail> {
     let text = with(alloc, text, changes)?;
     is_told(alloc, text.as_str(), words, changes)
@@ -81,7 +81,7 @@ fn values_tell(
     Ok(())
 }
 
-// A row `WORDS: CHANGES` or `WORDS: LINE: VALUES`: what is told of the text with the changes, or with each of the
+// A row `WORDS: CHANGES` or `WORDS: LINE: VALUES`: what is reported for the text with the changes, or with each of the
 // values in the line.
 fn answer(alloc: Global, text: &str, row: &str) -> Result<(), Fail> {
     let (words, rest) = row.split_once(": ").ok_or("no changes")?;

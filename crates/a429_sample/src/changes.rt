@@ -3,7 +3,7 @@
 use std::alloc::{AllocError, Global};
 use std::test::Fail;
 
-// Puts lines, with `; ` between them, behind a text.
+// Puts lines, with `; ` between them, after a text.
 fn push_lines(text: &mut String, lines: &str) -> Result<(), AllocError> {
     for (n, line) in lines.split("; ").enumerate() {
         if n > 0 {

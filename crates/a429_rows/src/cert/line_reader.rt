@@ -1,4 +1,4 @@
-//! The lines of a certificate that is read as it comes.
+//! The lines of a certificate that is read as a stream.
 
 use a429_cert::{LineReader, TextLine};
 use a429_word::{Device, Failing, Tally};

@@ -56,7 +56,7 @@ impl Shelf for Frail {
     }
 }
 
-/// What a file that was put tells of its place and number, where these are its bytes.
+/// What is noted of a file's place and number, where these are its bytes.
 pub(super) fn told(file: &PutFile, bytes: &[u8]) -> Option<(u32, u8)> {
     if file.file.bytes.as_slice() != bytes {
         return None;

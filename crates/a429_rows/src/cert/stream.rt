@@ -1,4 +1,4 @@
-//! A certificate of two files, held against their recording, both read as they come, also over devices that fail.
+//! A certificate of two files, held against their recording, both read as streams, also over devices that fail.
 
 use crate::calls::{checked, sample};
 use crate::cert::shelf::{Frail, told};
@@ -92,12 +92,12 @@ fn has_both(shelf: &Frail) -> bool {
     }
 }
 
-// The answer tells both files.
+// The answer lists both files.
 fn is_yes(answer: &Answer) -> bool {
     matches!(answer, Ok(sizes) if sizes.as_slice() == [(255, 1), (0, 1)].as_slice())
 }
 
-// Whether a stream over all puts both files and tells them.
+// Whether a stream over all puts both files and lists them.
 fn puts_both(alloc: Global, given: &Given) -> bool {
     let (answer, failed, shelf) = stream_over(alloc, given, given.recording.as_str(), (0, 0, 0));
     is_yes(&answer) && !failed && has_both(&shelf)
@@ -121,7 +121,7 @@ fn a_file_before_a_fault_stays(rt: HostRuntime) -> Result<(), Fail> {
     Ok(())
 }
 
-// Whether a shelf that fails at this put is told as a device that fails, and has file 255 alone then, or none.
+// Whether a shelf that fails at this put is reported as a device that fails, and has file 255 alone then, or none.
 fn fails_at_put(alloc: Global, given: &Given, put: u32, has_first: bool) -> bool {
     let (answer, _, shelf) = stream_over(alloc, given, given.recording.as_str(), (0, 0, put));
     let is_left = if has_first {
@@ -141,7 +141,7 @@ fn a_shelf_that_fails_at_a_put(rt: HostRuntime) -> Result<(), Fail> {
 }
 
 // How many runs end in a failure of the recording's reader, or else of the certificate's, one call later each, until
-// one does not fail; 0 where one of them is told as another fault.
+// one does not fail; 0 where one of them is reported as another fault.
 fn failing_runs(alloc: Global, given: &Given, is_recording: bool) -> u32 {
     let whole = given.recording.as_str();
     for call in 1..1_000 {

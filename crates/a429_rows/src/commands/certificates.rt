@@ -83,7 +83,7 @@ fn is_told(alloc: Global, case: &str) -> Result<bool, Fail> {
     Ok(is_explained(alloc, recording.as_str(), files, parts))
 }
 
-// Each case, a line each, is told. The first that is another is the failure.
+// Each case, a line each, holds. The first that is another is the failure.
 fn are_told(alloc: Global, cases: &str) -> Result<(), Fail> {
     for case in cases.split('\n') {
         if !is_told(alloc, case)? {
@@ -118,7 +118,7 @@ fn file_0_comes_after_file_255(rt: HostRuntime) -> Result<(), Fail> {
     are_told(rt.alloc(), cases)
 }
 
-// A file is given up inside a block, one behind a link data unit that does not end it, and one between two.
+// A file is given up inside a block, one after a link data unit that does not end it, and one between two.
 #[test]
 fn files_given_up(rt: HostRuntime) -> Result<(), Fail> {
     let cases = "\

@@ -111,7 +111,7 @@ fn recordings_in_doubt(rt: HostRuntime) -> Result<(), Fail> {
 }
 
 // A block that is cut off, one with a damaged word, and the files 255 and 0. Then files that are given up: those between
-// 255 and 1, and between 255 and 127; one behind an acknowledged link data unit that does not end it, and one inside a block.
+// 255 and 1, and between 255 and 127; one after an acknowledged link data unit that does not end it, and one inside a block.
 const FILES: [(&str, &str); 7] = [
     ("RTS CTS SOT", "0\nYES files 0\n"),
     ("RTS CTS 92004123", "0\nYES files 0\n"),
@@ -152,7 +152,7 @@ fn files_that_cross(rt: HostRuntime) -> Result<(), Fail> {
     all_say(rt.alloc(), &FILES)
 }
 
-// A refused block, and a transfer that begins anew behind its first words.
+// A refused block, and a transfer that begins anew after its first words.
 const ANEW: [(&str, &str); 7] = [
     ("RTS CTS SOT 92004123 EOT NAK RTS CTS SOT PART EOT ACK", YES),
     ("RTS RTS CTS SOT PART EOT ACK", YES),

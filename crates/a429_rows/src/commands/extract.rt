@@ -19,7 +19,7 @@ fn are_files(files: &[FileBytes], count: usize) -> bool {
     files.len() == count
 }
 
-// This is told of a certificate, and so many such files are taken out.
+// This is printed for a certificate, and so many such files are taken out.
 fn takes(alloc: Global, recording: &str, certificate: &str, text: &str, count: usize) -> bool {
     match extracted(alloc, recording, certificate.as_bytes()) {
         Ok((answer, files)) => {
@@ -45,7 +45,7 @@ fn none_without_a_verdict(rt: HostRuntime) {
     assert!(rt; takes(rt.alloc(), "", CERTIFICATE, "recording: header\n", 0));
 }
 
-// This is told of a certificate whose files go to this shelf.
+// This is printed for a certificate whose files go to this shelf.
 fn tells_onto<S: Shelf>(
     alloc: Global,
     recording: &str,
@@ -57,7 +57,7 @@ fn tells_onto<S: Shelf>(
     is_told(alloc, answer.status, answer.verdict.as_slice(), text)
 }
 
-// This is told of a certificate whose files go to a folder of this name.
+// This is printed for a certificate whose files go to a folder of this name.
 fn tells_into(
     rt: &(impl Files + AllocGlobal),
     dir: &str,

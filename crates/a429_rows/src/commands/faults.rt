@@ -1,4 +1,4 @@
-//! The lines that tell a fault.
+//! The lines that report a fault.
 
 use a429_check::{RunFault, report};
 use a429_ldu::CutFault;
@@ -13,7 +13,7 @@ fn reported<W: Write>(fault: &RunFault, out: &mut Tally<W>) -> u8 {
     report(fault, out)
 }
 
-// The fault is told by this line, and the program then ends with this status.
+// The fault is reported by this line, and the program then ends with this status.
 fn tells(alloc: Global, fault: RunFault, line: &str, status: u8) -> bool {
     let mut bytes = Vec::new(alloc);
     let found = reported(&fault, &mut Tally::new(&mut bytes, 0));

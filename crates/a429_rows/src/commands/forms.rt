@@ -16,7 +16,7 @@ fn forms<W: Write>(
     run_forms(alloc, PROFILE.as_bytes(), rec, out)
 }
 
-// This is told of a recording, or why it is not.
+// This is printed for a recording, or why it is not.
 fn tells(alloc: Global, recording: &str, text: &str) -> bool {
     let mut written = Vec::new(alloc);
     let mut rec = Tally::new(recording.as_bytes(), 1000);

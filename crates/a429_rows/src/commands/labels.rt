@@ -17,14 +17,14 @@ pub(crate) fn list<W: Write>(
     run_labels(alloc, profile, out)
 }
 
-// This is told of a profile.
+// This is printed for a profile.
 fn lists(alloc: Global, profile: &[u8], text: &str) -> bool {
     let mut bytes = Vec::new(alloc);
     let answer = list(alloc, profile, &mut Tally::new(&mut bytes, 0));
     is_told(alloc, answer, bytes.as_slice(), text)
 }
 
-// This is told of the sample profile with these changes.
+// This is printed for the sample profile with these changes.
 fn tells(alloc: Global, changes: &str, told: &str) -> Result<bool, Fail> {
     let profile = with(alloc, PROFILE, changes)?;
     Ok(lists(alloc, profile.as_bytes(), told))
@@ -39,7 +39,7 @@ fn a_line_for_each_entry(rt: HostRuntime) {
     assert!(rt; lists(rt.alloc(), sections().as_bytes(), "0\n"));
 }
 
-// Changes of the sample, and what is told: the table with an entry more and with other entries; or the fault. The last
+// Changes of the sample, and what is printed: the table with an entry more and with other entries; or the fault. The last
 // one adds a copy of the first label.
 const CHANGES: [(&str, &str); 13] = [
     (

@@ -33,7 +33,7 @@ pub(crate) fn files_of(
     Ok(files)
 }
 
-// What is told of such files.
+// What is printed for such files.
 fn made(alloc: Global, profile: &str, byte: u8, lengths: &[usize]) -> Option<String> {
     let files = files_of(alloc, byte, lengths).ok()?;
     let mut written = Vec::new(alloc);
@@ -41,7 +41,7 @@ fn made(alloc: Global, profile: &str, byte: u8, lengths: &[usize]) -> Option<Str
     told(alloc, answer, written.as_slice())
 }
 
-// This first line is told of files of so many bytes, and this is written.
+// This is the first line of the answer for files of so many bytes, and this is written.
 fn makes(alloc: Global, profile: &str, byte: u8, lengths: &[usize], told: (&str, &str)) -> bool {
     let (first, written) = told;
     match made(alloc, profile, byte, lengths) {
@@ -65,7 +65,7 @@ const ENTRIES: [(usize, &str); 6] = [
     (263, "263000,B,450102A3"),
 ];
 
-// Whether they stand there.
+// Whether they are there.
 fn has_entries(text: &str) -> bool {
     for (place, entry) in ENTRIES {
         if text.lines().skip(1).nth(place) != Some(entry) {
@@ -95,7 +95,7 @@ fn no_files(rt: HostRuntime) {
     assert!(rt; makes(rt.alloc(), PROFILE, 0, &[], ("0\n", "time,bus,word\n")));
 }
 
-// A profile, the lengths of files, and what is told of them. The profile's fault comes before that of a file.
+// A profile, the lengths of files, and what is printed for them. The profile's fault comes before that of a file.
 const REFUSED: [(&str, &[usize], &str); 4] = [
     (PROFILE, &[0], "file 1: empty\n"),
     (PROFILE, &[1, 0], "file 2: empty\n"),

@@ -20,7 +20,7 @@ fn picture<R: io::Read + Drop, C: io::Read, W: io::Write>(
     run_picture(alloc, PROFILE.as_bytes(), &mut rec, cert, span, out)
 }
 
-// What is told of the picture of the entries from one to another.
+// What is drawn of the entries from one to another.
 fn picture_told(alloc: Global, recording: &str, from: usize, to: usize) -> Option<String> {
     let mut written = Vec::new(alloc);
     let rec = Tally::new(recording.as_bytes(), 1000);
@@ -30,7 +30,7 @@ fn picture_told(alloc: Global, recording: &str, from: usize, to: usize) -> Optio
     told(alloc, answer, written.as_slice())
 }
 
-// The rows of a picture, with the answer in the place of what stands above them.
+// The rows of a picture, with the answer in the place of what is above them.
 fn rows_told(alloc: Global, from: usize, to: usize) -> Option<String> {
     let text = picture_told(alloc, RECORDING, from, to)?;
     let (status, picture) = text.split_once("\n")?;

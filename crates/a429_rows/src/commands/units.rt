@@ -22,7 +22,7 @@ pub(crate) fn units<R: Read + Drop, C: Read, W: Write + Drop>(
     run_units(alloc, PROFILE.as_bytes(), &mut rec, cert, &mut rows)
 }
 
-// This is told of a recording and a certificate.
+// This is printed for a recording and a certificate.
 fn tells(alloc: Global, recording: &str, certificate: &str, text: &str) -> bool {
     let mut written = Vec::new(alloc);
     let rec = Tally::new(recording.as_bytes(), 1000);

@@ -24,7 +24,7 @@ pub(crate) fn upgrade<R: Read, C: Write, W: Write>(
     run_upgrade(cert, new_cert, out)
 }
 
-// A certificate that is read so many bytes at a time: this is told, and this is written.
+// A certificate that is read so many bytes at a time: this is printed, and this is written.
 fn gives_by(alloc: Global, bytes: &[u8], piece: usize, text: &str, new: &[u8]) -> bool {
     let mut reader = Shaky {
         piece,
@@ -95,7 +95,7 @@ fn long(alloc: Global, line: &str, length: usize) -> Result<Vec<u8>, AllocError>
     Ok(bytes)
 }
 
-// Whether one with so many bytes behind its first line is upgraded.
+// Whether one with so many bytes after its first line is upgraded.
 fn is_long_upgraded(alloc: Global, length: usize) -> Result<bool, AllocError> {
     let one = long(alloc, "arinc429-cert 1\n", length)?;
     let two = long(alloc, "arinc429-cert 2\n", length)?;
@@ -144,7 +144,7 @@ fn no_version(rt: HostRuntime) {
     assert_eq!(rt; first_taken_for_a_version(rt.alloc()), None);
 }
 
-// Whether this is told of the certificate, of which so many bytes may be read.
+// Whether this is printed for the certificate, of which so many bytes may be read.
 fn tells_under(alloc: Global, cap: u64, text: &str) -> bool {
     let mut written = Vec::new(alloc);
     let mut lines = Vec::new(alloc);
@@ -155,7 +155,7 @@ fn tells_under(alloc: Global, cap: u64, text: &str) -> bool {
     is_told(alloc, status, lines.as_slice(), text)
 }
 
-// The end has to be seen, and behind another first line it has not.
+// The end has to be seen, and after another first line it has not been.
 #[test]
 fn too_long_a_one(rt: HostRuntime) {
     let length = CERTIFICATE.len() as u64;

@@ -134,7 +134,7 @@ fn changed_tells(
     Ok(verdict_is(alloc, recording.as_str(), certificate, verdict))
 }
 
-// Recording and certificate are read as they come: the fault that is met first is told.
+// Recording and certificate are read as streams: the fault that is met first is reported.
 #[test]
 fn the_fault_that_is_met_first(rt: HostRuntime) -> Result<(), Fail> {
     let cut = "450101A3 -> 45010";
@@ -145,7 +145,7 @@ fn the_fault_that_is_met_first(rt: HostRuntime) -> Result<(), Fail> {
     Ok(())
 }
 
-// This is told where the profile is none, or a device fails. No byte of a certificate may be read.
+// This is reported where the profile is none, or a device fails. No byte of a certificate may be read.
 fn fails(alloc: Global, profile: &str, recording: (&str, u64), fault: &str) -> bool {
     let (recording, most) = recording;
     let rec = Tally::new(recording.as_bytes(), most);

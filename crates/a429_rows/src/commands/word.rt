@@ -12,7 +12,7 @@ pub(crate) fn word<W: Write>(text: &str, out: &mut Tally<W>) -> Result<u8, RunFa
     run_word(text, out)
 }
 
-// This is told of a word.
+// This is printed for a word.
 fn says(alloc: Global, hex: &str, text: &str) -> bool {
     let mut bytes = Vec::new(alloc);
     let answer = word(hex, &mut Tally::new(&mut bytes, 0));

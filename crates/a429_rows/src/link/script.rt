@@ -1,4 +1,4 @@
-//! Scripts of a link: a line for each step, and behind a colon its answer where that is not `Ok(())`.
+//! Scripts of a link: a line for each step, and after a colon its answer where that is not `Ok(())`.
 
 ghost use Rattle.std.specs.Prelude.{◌≡◌, ◌≤◌, IfSome};
 ghost use Rattle.a429_profile.specs.Profile.{Contents};
@@ -77,7 +77,7 @@ impl<'a> Stage<'a> {
         }
     }
 
-    // Where source and sink stand, and how many words are on their way to each.
+    // What source and sink are doing, and how many words are on their way to each.
     fn states(&self) -> Result<String, AllocError> {
         let at = self.link.states();
         debug(self.alloc, &(at.source, at.sink, at.to_sink, at.to_source))
@@ -105,7 +105,7 @@ impl<'a> Stage<'a> {
         true
     }
 
-    // Whether as many files are given up, one behind the other, as may be.
+    // Whether as many files are given up, one after the other, as may be.
     fn gives_up_most(&mut self) -> bool {
         for _ in 0..127 {
             if !self.made(Step::GiveUp) {
@@ -154,7 +154,7 @@ fn with_odd_parity(number: u32) -> u32 {
     }
 }
 
-// The step of this text: its name, and behind it what it is made with.
+// The step of this text: its name, and after it what it is made with.
 fn step(alloc: Global, profile: &Profile, text: &str) -> Option<Step>
     ensures { IfSome result (λ s. LoadsLdu profile.now s) }
 {

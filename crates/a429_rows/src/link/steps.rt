@@ -104,7 +104,7 @@ SinkTakes
 Answered B C5FF01A3
 TakeAnswer";
 
-// File 0 is given up behind it, with the unit that was loaded.
+// File 0 is given up after it, with the unit that was loaded.
 const FILE_0_GIVEN_UP: &str = "\
 Load final
 GiveUp
@@ -123,7 +123,7 @@ const GIVEN_UP: [&str; 5] = [
     FILES_255_AND_1,
 ];
 
-// A source that waits gives nothing up, and an idle one at most 127 files behind one another.
+// A source that waits gives nothing up, and an idle one at most 127 files one after another.
 const MOST_GIVEN_UP: &str = "\
 127 files are given up: true
 GiveUp: Err(NotAllowed)";

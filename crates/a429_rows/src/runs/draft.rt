@@ -67,7 +67,7 @@ impl Draft {
         self.flags & 1 == 1
     }
 
-    // Its data words, and words of zeros behind them.
+    // Its data words, and words of zeros after them.
     fn all_words(self) -> [Word; 5] {
         let [a, b, c, d, e] = self.words;
         [
@@ -90,7 +90,7 @@ impl Draft {
     }
 }
 
-// Draws five semi-octets, makes a data word of the first of them, and puts these behind the register.
+// Draws five semi-octets, makes a data word of the first of them, and puts these after the register.
 fn drawn_word(chance: &mut Chance, count: u32, register: &mut u16) -> u32 {
     let mut semis = 0;
     for place in 0..5u32 {

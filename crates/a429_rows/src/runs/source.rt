@@ -1,4 +1,4 @@
-//! A source, as the table of steps tells it.
+//! A source, as the table of steps defines it.
 
 use crate::runs::draft::Draft;
 use crate::runs::words::{acknowledgement, clear, is_refusal, request};

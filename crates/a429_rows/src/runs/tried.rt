@@ -10,7 +10,7 @@ use a429_profile::Profile;
 use a429_word::Bus;
 use std::alloc::Global;
 
-/// A step that is tried, whether it may be made or not. A word stands with its bus.
+/// A step that is tried, whether it may be made or not. A word has its bus.
 #[derive(Clone, Copy)]
 pub(crate) enum Move {
     Load(Draft),

@@ -3,7 +3,7 @@
 use crate::runs::chance::Chance;
 use a429_word::Bus;
 
-/// The labels 304 and 305, octal, as they stand in bits 1 to 8.
+/// The labels 304 and 305, octal, as they are in bits 1 to 8.
 pub(crate) const TO_SINK: u32 = 0x23;
 
 pub(crate) const TO_SOURCE: u32 = 0xA3;
@@ -43,7 +43,7 @@ pub(crate) fn is_refusal(word: u32) -> bool {
     word == refusal(word >> 8 & 0xFFFF)
 }
 
-/// A data word of so many semi-octets, the first of them lowest. A full word has five; a partial word tells
+/// A data word of so many semi-octets, the first of them lowest. A full word has five; a partial word says
 /// how many.
 pub(crate) fn data_word(count: u32, semis: u32) -> u32 {
     if count == 5 {
@@ -63,7 +63,7 @@ pub(crate) fn is_free(label: u32, word: u32) -> bool {
         || kind == 4 && word >> 24 & 15 == 3
 }
 
-/// The register of a check word, at first 0xFFFF, behind one more semi-octet, its lowest bit first.
+/// The register of a check word, at first 0xFFFF, after one more semi-octet, its lowest bit first.
 pub(crate) fn behind(register: u16, semi: u32) -> u16 {
     let mut register = register;
     for place in 0..4u32 {

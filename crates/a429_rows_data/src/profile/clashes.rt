@@ -4,7 +4,7 @@ use super::answers;
 use a429_sample::PROFILE;
 use std::test::Fail;
 
-// Of two clashes the one further up the file is told. An entry without an SDI is for every SDI of its label.
+// Of two clashes the one further up the file is reported. An entry without an SDI is for every SDI of its label.
 const LABEL_CLASHES: &str = r#"label clash 304: octal = "203" -> octal = "304"
 label clash 305: octal = "203" -> octal = "305"
 label clash 304: octal = "270" -> octal = "304"
@@ -87,7 +87,7 @@ wrong kind types.protocol: protocol = 4 -> protocol = '4' | sot = 6 -> sot = 8
 out of range partial.codes: codes = [1, 2, 3, 4] -> codes = [] | poly = 0x1021
 "#;
 
-// An SDI is tested where it stands, before the name.
+// An SDI is tested in its place, before the name.
 const ORDER_OF_LABEL_KEYS: &str = r#"missing label 3 octal: octal = "270" | sdi = 1 -> sdi = 4
 missing label 0 name: name = "Altitude" | unit = "ft"
 missing label 0 unit: unit = "ft" | kind = "bnr"

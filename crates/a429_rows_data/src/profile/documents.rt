@@ -14,7 +14,7 @@ good: sdi = 1 -> sdi = 1; bits = 99; decimals = -1; note = [1, 'a']
 good: [{bit = 11, name = "gear"}, {bit = 12, name = "door"}] -> [{bit = 11, name = 'gear', colour = 1}, {name = 'door', bit = 12}]
 "#;
 
-// Each of these texts is told these words.
+// These words are reported for each of these texts.
 fn are_told(alloc: Global, texts: &[&str], words: &str) -> Result<(), Fail> {
     for text in texts {
         is_told(alloc, text, ("", words), text)?;
@@ -37,7 +37,7 @@ fn texts_without_a_key_of_a_profile(rt: HostRuntime) -> Result<(), Fail> {
     are_told(rt.alloc(), &empty, "missing transfer.to_sink")
 }
 
-// The fault is told also where the sections before it are good.
+// The fault is reported also where the sections before it are good.
 const BAD_LINES: &str =
     r#"not toml: flags = [{bit = 11, name = "gear"}, {bit = 12, name = "door"}] -> flags
 not toml: sot = 6 -> sot = 6; sot = 6

@@ -4,7 +4,7 @@ use super::{NO_INTEGERS, NO_TEXTS, answers, keys};
 use a429_sample::{PROFILE, sections};
 use std::test::Fail;
 
-// The sections of the sample, below a line, without its labels. An element that is no table is told before what
+// The sections of the sample, below a line, without its labels. An element that is no table is reported before what
 // is wrong in any table.
 #[test]
 fn the_label_array(rt: HostRuntime) -> Result<(), Fail> {

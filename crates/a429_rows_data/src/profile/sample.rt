@@ -171,7 +171,7 @@ LabelEntry { label: 1, sdi: None, name: Text { text: "One" }, unit: Text { text:
 001 3 One
 "#;
 
-// The sample as it stands, and sections of inline tables and dotted keys with its labels and with one of an inline
+// The sample as it is, and sections of inline tables and dotted keys with its labels and with one of an inline
 // table.
 #[test]
 fn other_forms_of_a_table(rt: HostRuntime) -> Result<(), Fail> {
@@ -214,7 +214,7 @@ fn nineteen_flags(rt: HostRuntime) -> Result<(), Fail> {
     Ok(())
 }
 
-// A twentieth has to share a bit; the number of flags is told first.
+// A twentieth has to share a bit; the number of flags is reported first.
 #[test]
 fn a_twentieth_flag(rt: HostRuntime) -> Result<(), Fail> {
     let text = with(rt.alloc(), PROFILE, NINETEEN_FLAGS)?;

@@ -35,7 +35,7 @@ partial.codes: codes = [1, 2, 3, 4]: [] | [1, 2, 3] | [1, 2, 3, 4, 5] | [1, 2, 3
 // Values that are no arrays of integers.
 const NO_ARRAYS: &str = "5 | '5' | {a = 5} | ['5'] | [5.0] | [[5]]";
 
-// An element of another kind is told before one out of range, wherever it stands.
+// An element of another kind is reported before one out of range, wherever it is.
 const TWO_FAULTS: &str =
     "wrong kind types.ignored: ignored = [5]: [5, 'a'] | [8, 'a'] | ['a', 8] | [-1, 5, true]
 wrong kind codes.ignored: ignored = [3]: [3, 'a'] | [16, 'a'] | ['a', 16] | [-1, 3, true]

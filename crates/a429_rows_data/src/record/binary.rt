@@ -142,7 +142,7 @@ fn readers_that_fail_at_each_call(rt: HostRuntime) {
     assert!(rt; count_shaken(rt.alloc(), 88) == Ok(6));
 }
 
-// What a reader answers that fails behind these bytes.
+// What a reader answers that fails after these bytes.
 fn fails_behind(alloc: Global, bytes: &[u8]) -> Result<usize, ReadFault> {
     count(alloc, &mut Tally::new(bytes, bytes.len() as u64))
 }

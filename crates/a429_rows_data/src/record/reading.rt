@@ -13,7 +13,7 @@ fn after_header(alloc: Global, rows: &[u8]) -> Result<Vec<u8>, AllocError> {
     Ok(text)
 }
 
-// How many entries stand in these rows behind the header, or their fault.
+// How many entries are in these rows after the header, or their fault.
 fn count_in_rows(alloc: Global, rows: &[u8]) -> Result<usize, ReadFault> {
     match after_header(alloc, rows) {
         Ok(text) => count_in(alloc, &text),
@@ -21,7 +21,7 @@ fn count_in_rows(alloc: Global, rows: &[u8]) -> Result<usize, ReadFault> {
     }
 }
 
-// Whether the rows behind the header are read as these entries.
+// Whether the rows after the header are read as these entries.
 fn are_read(alloc: Global, rows: &[u8], entries: &[Entry]) -> bool {
     match after_header(alloc, rows) {
         Ok(text) => stands_for(alloc, &text, entries),
@@ -270,7 +270,7 @@ fn pieces_and_failures(rt: HostRuntime) {
     assert_eq!(rt; first_not_met(rt.alloc()), None);
 }
 
-// Puts so many of a byte behind some bytes.
+// Puts so many of a byte after some bytes.
 fn push_many(bytes: &mut Vec<u8>, byte: u8, count: u32) -> Result<(), AllocError> {
     for _ in 0..count {
         bytes.push(byte)?;
@@ -287,7 +287,7 @@ fn long_rows(alloc: Global, digits: u32) -> Result<Vec<u8>, AllocError> {
     Ok(rows)
 }
 
-// Whether so many digits behind an entry's row are told as the fault of row 1, or the entry stands alone where
+// Whether so many digits after an entry's row are reported as the fault of row 1, or the entry is alone where
 // there are none.
 fn is_long_read(alloc: Global, digits: u32) -> bool {
     match long_rows(alloc, digits) {

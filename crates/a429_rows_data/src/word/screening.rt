@@ -4,7 +4,7 @@ use a429_word::{BAD_PARITY, OTHER_LABEL, THIS_LABEL, Word, screen};
 
 const LONGEST: usize = 70;
 
-// What is told of a word by itself.
+// What is answered for a word by itself.
 fn told(number: u32, label: u8) -> u8 {
     let word = Word::from_u32(number);
     if !word.parity_ok() {
@@ -16,7 +16,7 @@ fn told(number: u32, label: u8) -> u8 {
     }
 }
 
-// Whether each of these words, of which there are at most 70, is answered as it is told.
+// Whether each of these words, of which there are at most 70, is answered as it is by itself.
 fn are_answered(words: &[u32], label: u8) -> bool {
     let mut answers = [9; LONGEST];
     if words.len() > LONGEST {

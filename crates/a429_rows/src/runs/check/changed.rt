@@ -56,7 +56,7 @@ fn is_verified(alloc: Global, recording: &str, certificate: &[u8], verdict: &[u8
     is_yes(&answer, verdict)
 }
 
-// Its files are taken out with this verdict, which tells them.
+// Its files are taken out with this verdict, which lists them.
 fn is_extracted(
     alloc: Global,
     recording: &str,
@@ -68,7 +68,7 @@ fn is_extracted(
     Ok(is_yes(&answer, verdict) && text.as_bytes() == verdict)
 }
 
-// The certificate is accepted with this verdict and the files that it tells.
+// The certificate is accepted with this verdict and the files that it lists.
 fn is_accepted(
     alloc: Global,
     recording: &str,

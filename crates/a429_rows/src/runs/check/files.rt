@@ -79,7 +79,7 @@ fn push_files(text: &mut String, files: &[FileBytes]) -> Result<(), AllocError> 
     Ok(())
 }
 
-/// What is told of these files.
+/// What is printed for these files.
 pub(super) fn yes_text(alloc: Global, files: &[FileBytes]) -> Result<String, AllocError> {
     let count = files.len();
     let mut text = format!(in alloc; "YES files {count}\n")?;

@@ -21,7 +21,7 @@ fn first_request(run: &[Seen]) -> (&[Seen], &[Seen]) {
     run.split_at((asked + 3).min(run.len()))
 }
 
-// A word is recorded, sometimes behind one that is none of the transfer's.
+// A word is recorded, sometimes after one that is none of the transfer's.
 fn record(words: &mut Vec<Seen>, chance: &mut Chance, word: &Seen) -> Result<(), AllocError> {
     if chance.one_in(10) {
         words.push(seen(Bus::A, 0xE138_80C1))?;

@@ -20,7 +20,7 @@ use a429_word::Bus;
 use std::alloc::{AllocError, Global};
 use std::test::Fail;
 
-// What a run has come to, as far as the link does not tell it.
+// What a run has come to, as far as the link does not show it.
 #[derive(Drop)]
 struct Told {
     source: Source,
@@ -291,7 +291,7 @@ fn runs_by_chance(rt: HostRuntime) -> Result<(), Fail> {
     Ok(())
 }
 
-// The link data units of a file that does not end come to number 255, behind which there is none.
+// The link data units of a file that does not end come to number 255, after which there is none.
 #[test]
 fn a_file_of_all_its_units(rt: HostRuntime) -> Result<(), Fail> {
     let profile = sample(&rt);

@@ -1,4 +1,4 @@
-//! A source, a sink and the words between them, as the table of steps tells them.
+//! A source, a sink and the words between them, as the table of steps defines them.
 
 use crate::runs::link::sink::Sink;
 use crate::runs::source::Source;

@@ -67,7 +67,7 @@ fn waiting_or_free(chance: &mut Chance) -> Move {
     Move::FreeSeen(bus, word)
 }
 
-// Mostly this word on this bus; now and then it stands on the other bus, has two other bits, or is any
+// Mostly this word on this bus; now and then it is on the other bus, has two other bits, or is any
 // word.
 fn wanted(chance: &mut Chance, bus: Bus, word: Option<u32>) -> (Bus, u32) {
     let Some(word) = word else {

@@ -1,4 +1,4 @@
-//! A sink, as the table of steps tells it.
+//! A sink, as the table of steps defines it.
 
 use crate::runs::words::{acknowledgement, behind, check_of, clear, is_refusal, refusal};
 use a429_link::{Bytes, FileBytes, SinkState};
