@@ -48,7 +48,7 @@ fn above<T: Display>(alloc: Global, value: &T, text: &str) -> Result<String, All
 }
 
 /// The exit status, or the line of the fault, and below it what was written, where that is a text.
-pub fn told(alloc: Global, status: Result<u8, RunFault>, written: &[u8]) -> Option<String> {
+pub fn printed(alloc: Global, status: Result<u8, RunFault>, written: &[u8]) -> Option<String> {
     let text = str::from_utf8(written).ok()?;
     match status {
         Ok(status) => above(alloc, &status, text).ok(),
@@ -57,8 +57,8 @@ pub fn told(alloc: Global, status: Result<u8, RunFault>, written: &[u8]) -> Opti
 }
 
 /// Whether this is printed.
-pub fn is_told(alloc: Global, status: Result<u8, RunFault>, written: &[u8], text: &str) -> bool {
-    match told(alloc, status, written) {
+pub fn is_printed(alloc: Global, status: Result<u8, RunFault>, written: &[u8], text: &str) -> bool {
+    match printed(alloc, status, written) {
         Some(found) => found.as_str() == text,
         None => false,
     }
@@ -128,9 +128,9 @@ pub fn checked(alloc: Global, recording: &str) -> (Answered, Vec<u8>) {
 }
 
 /// Whether `check` says this of the recording; and its certificate.
-pub fn check_tells(alloc: Global, recording: &str, verdict: &str) -> (bool, Vec<u8>) {
+pub fn check_prints(alloc: Global, recording: &str, verdict: &str) -> (bool, Vec<u8>) {
     let (found, certificate) = checked(alloc, recording);
-    let is_same = is_told(alloc, found.status, found.verdict.as_slice(), verdict);
+    let is_same = is_printed(alloc, found.status, found.verdict.as_slice(), verdict);
     (is_same, certificate)
 }
 
@@ -145,9 +145,9 @@ pub fn verified(alloc: Global, recording: &str, certificate: &[u8]) -> Answered 
 }
 
 /// Whether `verify` says this of the recording and a certificate.
-pub fn verify_tells(alloc: Global, recording: &str, certificate: &[u8], verdict: &str) -> bool {
+pub fn verify_prints(alloc: Global, recording: &str, certificate: &[u8], verdict: &str) -> bool {
     let found = verified(alloc, recording, certificate);
-    is_told(alloc, found.status, found.verdict.as_slice(), verdict)
+    is_printed(alloc, found.status, found.verdict.as_slice(), verdict)
 }
 
 // A copy of a file.

@@ -34,7 +34,7 @@ pub(crate) fn sample_profile(rt: &(impl Abort + AllocGlobal)) -> Profile {
 }
 
 // What is wrong with a text.
-fn told(alloc: Global, text: &str) -> Result<String, AllocError> {
+fn reported(alloc: Global, text: &str) -> Result<String, AllocError> {
     let Err(fault) = read_profile(alloc, text) else {
         return String::from_str(alloc, "good");
     };
@@ -42,8 +42,8 @@ fn told(alloc: Global, text: &str) -> Result<String, AllocError> {
 }
 
 // These words are reported for a text, and the case has this name.
-fn is_told(alloc: Global, text: &str, words: (&str, &str), name: &str) -> Result<(), Fail> {
-    let found = told(alloc, text)?;
+fn is_reported(alloc: Global, text: &str, words: (&str, &str), name: &str) -> Result<(), Fail> {
+    let found = reported(alloc, text)?;
     if found.as_str().strip_prefix(words.0) == Some(words.1) {
         Ok(())
     } else {
@@ -52,9 +52,9 @@ fn is_told(alloc: Global, text: &str, words: (&str, &str), name: &str) -> Result
 }
 
 // These words are reported for the text with these changes.
-fn tells(alloc: Global, text: &str, changes: &str, words: (&str, &str)) -> Result<(), Fail> {
+fn reports(alloc: Global, text: &str, changes: &str, words: (&str, &str)) -> Result<(), Fail> {
     let text = with(alloc, text, changes)?;
-    is_told(alloc, text.as_str(), words, changes)
+    is_reported(alloc, text.as_str(), words, changes)
 }
 
 // The change of a line to one with this value.
@@ -67,7 +67,7 @@ fn change_to(alloc: Global, line: &str, value: &str) -> Result<String, AllocErro
 }
 
 // Each of some values, with ` | ` between them, in a line of the text.
-fn values_tell(
+fn values_report(
     alloc: Global,
     text: &str,
     line: &str,
@@ -76,7 +76,7 @@ fn values_tell(
 ) -> Result<(), Fail> {
     for value in values.split(" | ") {
         let change = change_to(alloc, line, value)?;
-        tells(alloc, text, change.as_str(), words)?;
+        reports(alloc, text, change.as_str(), words)?;
     }
     Ok(())
 }
@@ -86,8 +86,8 @@ fn values_tell(
 fn answer(alloc: Global, text: &str, row: &str) -> Result<(), Fail> {
     let (words, rest) = row.split_once(": ").ok_or("no changes")?;
     match rest.split_once(": ") {
-        Some((line, values)) => values_tell(alloc, text, line, values, ("", words)),
-        None => tells(alloc, text, rest, ("", words)),
+        Some((line, values)) => values_report(alloc, text, line, values, ("", words)),
+        None => reports(alloc, text, rest, ("", words)),
     }
 }
 
@@ -99,23 +99,23 @@ fn answers(alloc: Global, text: &str, rows: &str) -> Result<(), Fail> {
 }
 
 // The line of a key of the sample is needed, and may not have these values of other kinds, nor these out of range.
-fn key_tells(
+fn key_reports(
     alloc: Global,
     key: &str,
     line: &str,
     other_kinds: &str,
     values: &str,
 ) -> Result<(), Fail> {
-    tells(alloc, PROFILE, line, ("missing ", key))?;
-    values_tell(alloc, PROFILE, line, other_kinds, ("wrong kind ", key))?;
-    values_tell(alloc, PROFILE, line, values, ("out of range ", key))
+    reports(alloc, PROFILE, line, ("missing ", key))?;
+    values_report(alloc, PROFILE, line, other_kinds, ("wrong kind ", key))?;
+    values_report(alloc, PROFILE, line, values, ("out of range ", key))
 }
 
 // A row `KEY: LINE: VALUES` of a key of the sample: its values are out of the key's range.
 fn key(alloc: Global, row: &str, other_kinds: &str) -> Result<(), Fail> {
     let (key, rest) = row.split_once(": ").ok_or("no line")?;
     let (line, values) = rest.split_once(": ").ok_or("no values")?;
-    key_tells(alloc, key, line, other_kinds, values)
+    key_reports(alloc, key, line, other_kinds, values)
 }
 
 fn keys(alloc: Global, rows: &str, other_kinds: &str) -> Result<(), Fail> {

@@ -12,7 +12,7 @@ fn ended(lines: &LineReader) -> Option<&[u8]> {
 }
 
 // Passes over so many lines of a text. Whether this is the next one, none where it does not end.
-fn is_line_behind(lines: usize, text: &[u8], wanted: Option<&[u8]>) -> bool {
+fn is_line_after(lines: usize, text: &[u8], wanted: Option<&[u8]>) -> bool {
     let mut cert = Tally::new(text, 10);
     let mut reader = LineReader::new();
     for _ in 0..lines {
@@ -26,9 +26,9 @@ fn is_line_behind(lines: usize, text: &[u8], wanted: Option<&[u8]>) -> bool {
 #[test]
 fn lines_one_after_the_other(rt: HostRuntime) {
     let text = b"ab\n\nc".as_slice();
-    assert!(rt; is_line_behind(0, text, Some(b"ab")));
-    assert!(rt; is_line_behind(1, text, Some(b"")));
-    assert!(rt; is_line_behind(2, text, None));
+    assert!(rt; is_line_after(0, text, Some(b"ab")));
+    assert!(rt; is_line_after(1, text, Some(b"")));
+    assert!(rt; is_line_after(2, text, None));
 }
 
 // What two calls answer, one after the other, and whether the reader of a text of at most so many bytes has failed then.

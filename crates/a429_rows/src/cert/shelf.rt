@@ -57,7 +57,7 @@ impl Shelf for Frail {
 }
 
 /// What is noted of a file's place and number, where these are its bytes.
-pub(super) fn told(file: &PutFile, bytes: &[u8]) -> Option<(u32, u8)> {
+pub(super) fn noted(file: &PutFile, bytes: &[u8]) -> Option<(u32, u8)> {
     if file.file.bytes.as_slice() != bytes {
         return None;
     }
@@ -72,7 +72,7 @@ fn takes_two(shelf: &mut MemoryShelf) -> bool {
 // Whether these are they.
 fn are_the_two(files: &[PutFile]) -> bool {
     match files {
-        [first, second] => told(first, b"A") == Some((1, 255)) && told(second, b"") == Some((2, 0)),
+        [first, second] => noted(first, b"A") == Some((1, 255)) && noted(second, b"") == Some((2, 0)),
         _ => false,
     }
 }

@@ -1,7 +1,7 @@
 //! A certificate of two files, held against their recording, both read as streams, also over devices that fail.
 
 use crate::calls::{checked, sample};
-use crate::cert::shelf::{Frail, told};
+use crate::cert::shelf::{Frail, noted};
 use crate::recordings::recorded;
 use a429_cert::{Shelf, StreamFault, verify_stream};
 use a429_profile::Profile;
@@ -77,7 +77,7 @@ fn stream_over(
 // File 255, and no other, was put.
 fn has_first_alone(shelf: &Frail) -> bool {
     match shelf.files() {
-        [file] => told(file, b"A") == Some((1, 255)),
+        [file] => noted(file, b"A") == Some((1, 255)),
         _ => false,
     }
 }
@@ -86,7 +86,7 @@ fn has_first_alone(shelf: &Frail) -> bool {
 fn has_both(shelf: &Frail) -> bool {
     match shelf.files() {
         [first, second] => {
-            told(first, b"A") == Some((1, 255)) && told(second, b"A") == Some((2, 0))
+            noted(first, b"A") == Some((1, 255)) && noted(second, b"A") == Some((2, 0))
         }
         _ => false,
     }

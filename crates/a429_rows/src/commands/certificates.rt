@@ -1,6 +1,6 @@
 //! The certificates of recordings of the byte 41, whole and with words missing.
 
-use crate::calls::{checked, verify_tells};
+use crate::calls::{checked, verify_prints};
 use crate::recordings::recorded;
 use std::alloc::{AllocError, Global};
 use std::str;
@@ -76,7 +76,7 @@ fn is_explained(alloc: Global, recording: &str, files: &str, parts: &str) -> boo
 
 // The case is `FILES: PARTS: WORDS`: so many files cross where these words are recorded, and these are the parts of
 // the certificate.
-fn is_told(alloc: Global, case: &str) -> Result<bool, Fail> {
+fn is_printed(alloc: Global, case: &str) -> Result<bool, Fail> {
     let (files, rest) = case.split_once(": ").ok_or("no files")?;
     let (parts, words) = rest.split_once(": ").ok_or("no parts")?;
     let recording = recorded(alloc, words)?;
@@ -84,9 +84,9 @@ fn is_told(alloc: Global, case: &str) -> Result<bool, Fail> {
 }
 
 // Each case, a line each, holds. The first that is another is the failure.
-fn are_told(alloc: Global, cases: &str) -> Result<(), Fail> {
+fn are_printed(alloc: Global, cases: &str) -> Result<(), Fail> {
     for case in cases.split('\n') {
-        if !is_told(alloc, case)? {
+        if !is_printed(alloc, case)? {
             return Err(Fail::new(case));
         }
     }
@@ -99,7 +99,7 @@ fn answers_left_out_or_lost(rt: HostRuntime) -> Result<(), Fail> {
 1: HEAD LOAD ASK START REST DONE: RTS CTS SOT PART EOT ACK
 1: HEAD LOAD ASK UNANSWERED ASK START REST DONE: RTS RTS CTS SOT PART EOT ACK
 1: HEAD LOAD ASK START REST LOST ASK START REST DONE: RTS CTS SOT PART EOT ACK RTS CTS SOT PART EOT ACK";
-    are_told(rt.alloc(), cases)
+    are_printed(rt.alloc(), cases)
 }
 
 // A data word is damaged, and a block is cut off.
@@ -108,14 +108,14 @@ fn broken_blocks(rt: HostRuntime) -> Result<(), Fail> {
     let cases = "\
 1: HEAD LOAD ASK START REFUSED ASK START REST DONE: RTS CTS SOT 92004123 EOT NAK RTS CTS SOT PART EOT ACK
 0: HEAD FILLED ASK START: RTS CTS SOT";
-    are_told(rt.alloc(), cases)
+    are_printed(rt.alloc(), cases)
 }
 
 #[test]
 fn file_0_comes_after_file_255(rt: HostRuntime) -> Result<(), Fail> {
     let cases = "\
 2: HEAD255 LOAD ASK START REST DONE LOAD ASK START REST DONE: RTS CTS E0FF0123 PART EOT C5FF01A3 RTS CTS E0000123 PART EOT C50001A3";
-    are_told(rt.alloc(), cases)
+    are_printed(rt.alloc(), cases)
 }
 
 // A file is given up inside a block, one after a link data unit that does not end it, and one between two.
@@ -125,7 +125,7 @@ fn files_given_up(rt: HostRuntime) -> Result<(), Fail> {
 1: SECOND NOTFINAL ASK START BROKEN LOAD ANEW START REST DONE: RTS CTS SOT PART RTS CTS 60020123 PART EOT 450201A3
 1: SECOND NOTFINAL ASK START REST DONE GIVENUP LOAD ASK START REST DONE: RTS CTS SOT PART F0A3F523 ACK RTS CTS 60020123 PART EOT 450201A3
 2: SECOND255 LOAD ASK START REST DONE GIVENUP LOAD ASK START REST DONE: RTS CTS E0FF0123 PART EOT C5FF01A3 RTS CTS SOT PART EOT ACK";
-    are_told(rt.alloc(), cases)
+    are_printed(rt.alloc(), cases)
 }
 
 // Appends the certificate of the files 255 and 127.
@@ -162,7 +162,7 @@ fn most_files_given_up(rt: HostRuntime) -> Result<(), Fail> {
 fn verdict_is(alloc: Global, parts: &str, words: &str, verdict: &str) -> Result<bool, Fail> {
     let recording = recorded(alloc, words)?;
     let certificate = text_of(alloc, parts)?;
-    Ok(verify_tells(alloc, recording.as_str(), certificate.as_bytes(), verdict))
+    Ok(verify_prints(alloc, recording.as_str(), certificate.as_bytes(), verdict))
 }
 
 // No file is given up in a certificate of version 1.

@@ -1,6 +1,6 @@
 //! The verdicts on small recordings, and their certificates.
 
-use crate::calls::{YES, check, check_tells, is_told, verify_tells};
+use crate::calls::{YES, check, check_prints, is_printed, verify_prints};
 use crate::recordings::recorded;
 use a429_sample::{CERTIFICATE, PROFILE, RECORDING};
 use a429_word::{Failing, Tally};
@@ -9,7 +9,7 @@ use std::test::Fail;
 
 // This is the verdict on a recording, and this the certificate that is written.
 fn verdict_is(alloc: Global, recording: &str, verdict: &str, certificate: &str) -> bool {
-    let (is_same, written) = check_tells(alloc, recording, verdict);
+    let (is_same, written) = check_prints(alloc, recording, verdict);
     is_same && written.as_slice() == certificate.as_bytes()
 }
 
@@ -44,7 +44,7 @@ fn small_recordings(rt: HostRuntime) {
 // A yes has a certificate that is accepted with the same files, and else there is none.
 fn is_borne_out(alloc: Global, recording: &str, certificate: &[u8], verdict: &str) -> bool {
     if verdict.as_bytes().starts_with(b"0") {
-        verify_tells(alloc, recording, certificate, verdict)
+        verify_prints(alloc, recording, certificate, verdict)
     } else {
         certificate.is_empty()
     }
@@ -52,7 +52,7 @@ fn is_borne_out(alloc: Global, recording: &str, certificate: &[u8], verdict: &st
 
 // This is the verdict on a recording, and it is borne out.
 fn is_verdict(alloc: Global, recording: &str, verdict: &str) -> bool {
-    let (is_same, certificate) = check_tells(alloc, recording, verdict);
+    let (is_same, certificate) = check_prints(alloc, recording, verdict);
     is_same && is_borne_out(alloc, recording, certificate.as_slice(), verdict)
 }
 
@@ -187,7 +187,7 @@ fn fails(
     let has_failed = cert.failed();
     let is_filled = room != [0; 20];
     let is_right = has_failed == is_writer_short && is_filled == is_writer_short;
-    is_right && is_told(alloc, found, written.as_slice(), fault)
+    is_right && is_printed(alloc, found, written.as_slice(), fault)
 }
 
 // The second recording has as many bytes as may be read: its end is not seen.

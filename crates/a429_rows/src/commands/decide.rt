@@ -1,7 +1,7 @@
 //! `decide` on small recordings: where `check` has no doubt, its verdict and its certificate; and a start word with a number that
 //! cannot come.
 
-use crate::calls::{MOST, YES, decide, is_told};
+use crate::calls::{MOST, YES, decide, is_printed};
 use a429_sample::{CERTIFICATE, RECORDING};
 use a429_word::Tally;
 use std::alloc::Global;
@@ -30,7 +30,7 @@ fn decision_is(alloc: Global, recording: &str, verdict: &str, certificate: &str)
     let mut cert = Tally::new(&mut text, 0);
     let mut out = Tally::new(&mut written, 0);
     let status = decide(alloc, &mut rec, &mut cert, &mut out);
-    is_told(alloc, status, written.as_slice(), verdict) && text.as_slice() == certificate.as_bytes()
+    is_printed(alloc, status, written.as_slice(), verdict) && text.as_slice() == certificate.as_bytes()
 }
 
 // The first recording with another answer or certificate.

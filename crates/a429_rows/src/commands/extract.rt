@@ -1,6 +1,6 @@
 //! The files of a certificate.
 
-use crate::calls::{YES, extracted, extracted_onto, is_told};
+use crate::calls::{YES, extracted, extracted_onto, is_printed};
 use a429_cert::Shelf;
 use a429_check::Folder;
 use a429_link::FileBytes;
@@ -24,7 +24,7 @@ fn takes(alloc: Global, recording: &str, certificate: &str, text: &str, count: u
     match extracted(alloc, recording, certificate.as_bytes()) {
         Ok((answer, files)) => {
             are_files(&files, count)
-                && is_told(alloc, answer.status, answer.verdict.as_slice(), text)
+                && is_printed(alloc, answer.status, answer.verdict.as_slice(), text)
         }
         Err(_) => false,
     }
@@ -46,7 +46,7 @@ fn none_without_a_verdict(rt: HostRuntime) {
 }
 
 // This is printed for a certificate whose files go to this shelf.
-fn tells_onto<S: Shelf>(
+fn extracts_onto<S: Shelf>(
     alloc: Global,
     recording: &str,
     certificate: &str,
@@ -54,11 +54,11 @@ fn tells_onto<S: Shelf>(
     text: &str,
 ) -> bool {
     let answer = extracted_onto(alloc, recording, certificate.as_bytes(), shelf);
-    is_told(alloc, answer.status, answer.verdict.as_slice(), text)
+    is_printed(alloc, answer.status, answer.verdict.as_slice(), text)
 }
 
 // This is printed for a certificate whose files go to a folder of this name.
-fn tells_into(
+fn extracts_into(
     rt: &(impl Files + AllocGlobal),
     dir: &str,
     recording: &str,
@@ -68,7 +68,7 @@ fn tells_into(
     match Folder::new(rt, rt.alloc(), dir) {
         Ok(folder) => {
             let mut folder = folder;
-            tells_onto(rt.alloc(), recording, certificate, &mut folder, text)
+            extracts_onto(rt.alloc(), recording, certificate, &mut folder, text)
         }
         Err(_) => false,
     }
@@ -77,8 +77,8 @@ fn tells_into(
 // A folder of this name fails where there is a file, and is not asked where there is none.
 fn fails_for_a_file(rt: &(impl Files + AllocGlobal), dir: &str) -> bool {
     let none = "arinc429-cert 1\nfirst 0\n";
-    tells_into(rt, dir, RECORDING, CERTIFICATE, "device\n")
-        && tells_into(rt, dir, "time,bus,word\n", none, "0\nYES files 0\n")
+    extracts_into(rt, dir, RECORDING, CERTIFICATE, "device\n")
+        && extracts_into(rt, dir, "time,bus,word\n", none, "0\nYES files 0\n")
 }
 
 // One that is not there, and one that takes no file.

@@ -14,7 +14,7 @@ fn reported<W: Write>(fault: &RunFault, out: &mut Tally<W>) -> u8 {
 }
 
 // The fault is reported by this line, and the program then ends with this status.
-fn tells(alloc: Global, fault: RunFault, line: &str, status: u8) -> bool {
+fn prints(alloc: Global, fault: RunFault, line: &str, status: u8) -> bool {
     let mut bytes = Vec::new(alloc);
     let found = reported(&fault, &mut Tally::new(&mut bytes, 0));
     found == status && bytes.as_slice() == line.as_bytes()
@@ -31,7 +31,7 @@ fn first_that_differs(
 ) -> Option<&'static str> {
     for place in 0..cases.len() {
         let (fault, line, status) = cases[place];
-        if !tells(alloc, fault, line, status) {
+        if !prints(alloc, fault, line, status) {
             return Some(line);
         }
     }

@@ -1,6 +1,6 @@
 //! What the words of small recordings are to the transfer of the sample profile.
 
-use crate::calls::is_told;
+use crate::calls::is_printed;
 use a429_check::{RunFault, run_forms};
 use a429_sample::PROFILE;
 use a429_word::Tally;
@@ -17,12 +17,12 @@ fn forms<W: Write>(
 }
 
 // This is printed for a recording, or why it is not.
-fn tells(alloc: Global, recording: &str, text: &str) -> bool {
+fn prints(alloc: Global, recording: &str, text: &str) -> bool {
     let mut written = Vec::new(alloc);
     let mut rec = Tally::new(recording.as_bytes(), 1000);
     let mut out = Tally::new(&mut written, 0);
     let answer = forms(alloc, &mut rec, &mut out);
-    is_told(alloc, answer, written.as_slice(), text)
+    is_printed(alloc, answer, written.as_slice(), text)
 }
 
 const TRANSFER: (&str, &str) = (
@@ -87,7 +87,7 @@ const CASES: [(&str, &str); 5] = [
 // The first recording of which something else is said.
 fn first_that_differs(alloc: Global) -> Option<&'static str> {
     for (recording, text) in CASES {
-        if !tells(alloc, recording, text) {
+        if !prints(alloc, recording, text) {
             return Some(recording);
         }
     }

@@ -1,6 +1,6 @@
 //! What `keep` writes of small recordings, by the sample profile.
 
-use crate::calls::is_told;
+use crate::calls::is_printed;
 use a429_check::run_keep;
 use a429_record::EntryReader;
 use a429_sample::PROFILE;
@@ -8,13 +8,13 @@ use a429_word::Tally;
 use std::alloc::Global;
 
 // Whether `keep` writes this text for a recording, after its status or its error line.
-fn tells(alloc: Global, recording: &str, text: &str) -> bool {
+fn prints(alloc: Global, recording: &str, text: &str) -> bool {
     let mut written = Vec::new(alloc);
     let rec = Tally::new(recording.as_bytes(), u64::MAX);
     let mut rec = EntryReader::of_most(alloc, rec, usize::MAX);
     let mut out = Tally::new(&mut written, 0);
     let answer = run_keep(alloc, PROFILE.as_bytes(), &mut rec, &mut out);
-    is_told(alloc, answer, written.as_slice(), text)
+    is_printed(alloc, answer, written.as_slice(), text)
 }
 
 const KEPT: (&str, &str) = (
@@ -49,7 +49,7 @@ const FAULTY_AT_ONCE: (&str, &str) = ("time,bus,word\n0,A,4141032\n", "recording
 // The first recording for which it does otherwise.
 fn first_that_differs(alloc: Global) -> Option<&'static str> {
     for (recording, text) in [KEPT, EMPTY, FAULTY, FAULTY_AT_ONCE] {
-        if !tells(alloc, recording, text) {
+        if !prints(alloc, recording, text) {
             return Some(recording);
         }
     }

@@ -1,6 +1,6 @@
 //! The label table of the sample profile and of changes of it, and bytes that are no profile.
 
-use crate::calls::is_told;
+use crate::calls::is_printed;
 use a429_check::{RunFault, run_labels};
 use a429_sample::{PROFILE, sections, with};
 use a429_word::{Failing, Tally};
@@ -21,13 +21,13 @@ pub(crate) fn list<W: Write>(
 fn lists(alloc: Global, profile: &[u8], text: &str) -> bool {
     let mut bytes = Vec::new(alloc);
     let answer = list(alloc, profile, &mut Tally::new(&mut bytes, 0));
-    is_told(alloc, answer, bytes.as_slice(), text)
+    is_printed(alloc, answer, bytes.as_slice(), text)
 }
 
 // This is printed for the sample profile with these changes.
-fn tells(alloc: Global, changes: &str, told: &str) -> Result<bool, Fail> {
+fn prints(alloc: Global, changes: &str, printed: &str) -> Result<bool, Fail> {
     let profile = with(alloc, PROFILE, changes)?;
-    Ok(lists(alloc, profile.as_bytes(), told))
+    Ok(lists(alloc, profile.as_bytes(), printed))
 }
 
 // The sample as it is, and without labels.
@@ -89,8 +89,8 @@ const CHANGES: [(&str, &str); 13] = [
 
 #[test]
 fn changes_of_the_sample(rt: HostRuntime) -> Result<(), Fail> {
-    for (changes, told) in CHANGES {
-        if !tells(rt.alloc(), changes, told)? {
+    for (changes, printed) in CHANGES {
+        if !prints(rt.alloc(), changes, printed)? {
             return Err(Fail::new(changes));
         }
     }

@@ -1,6 +1,6 @@
 //! The recordings of small files, and files that are refused.
 
-use crate::calls::{check_tells, filled, told};
+use crate::calls::{check_prints, filled, printed};
 use a429_check::{RunFault, run_make};
 use a429_record::read_entries;
 use a429_sample::{PROFILE, RECORDING};
@@ -38,12 +38,12 @@ fn made(alloc: Global, profile: &str, byte: u8, lengths: &[usize]) -> Option<Str
     let files = files_of(alloc, byte, lengths).ok()?;
     let mut written = Vec::new(alloc);
     let answer = make(alloc, profile, &files, &mut Tally::new(&mut written, 0));
-    told(alloc, answer, written.as_slice())
+    printed(alloc, answer, written.as_slice())
 }
 
 // This is the first line of the answer for files of so many bytes, and this is written.
-fn makes(alloc: Global, profile: &str, byte: u8, lengths: &[usize], told: (&str, &str)) -> bool {
-    let (first, written) = told;
+fn makes(alloc: Global, profile: &str, byte: u8, lengths: &[usize], printed: (&str, &str)) -> bool {
+    let (first, written) = printed;
     match made(alloc, profile, byte, lengths) {
         Some(found) => found.as_str().strip_prefix(first) == Some(written),
         None => false,
@@ -86,7 +86,7 @@ fn a_file_of_633_bytes_takes_two_units(rt: HostRuntime) -> Result<(), Fail> {
     let found = made(rt.alloc(), PROFILE, 0, &[633]).ok_or("no text")?;
     let text = found.as_str().strip_prefix("0\n").ok_or("no recording")?;
     assert!(rt; has_entries(text) && count_entries(rt.alloc(), text) == Some(264));
-    assert!(rt; check_tells(rt.alloc(), text, "0\nYES files 1\nfile 1 633\n").0);
+    assert!(rt; check_prints(rt.alloc(), text, "0\nYES files 1\nfile 1 633\n").0);
     Ok(())
 }
 
@@ -122,8 +122,8 @@ fn refused_files(rt: HostRuntime) {
 #[test]
 fn files_of_too_many_words(rt: HostRuntime) {
     let lengths = [161_160; 16];
-    let told = ("recording: too many\n", "");
-    assert!(rt; makes(rt.alloc(), PROFILE, 0, &lengths, told));
+    let printed = ("recording: too many\n", "");
+    assert!(rt; makes(rt.alloc(), PROFILE, 0, &lengths, printed));
 }
 
 #[test]

@@ -1,6 +1,6 @@
 //! Pictures of the transfer of one byte, under the sample profile.
 
-use crate::calls::told;
+use crate::calls::printed;
 use a429_check::{RunFault, Span, run_picture};
 use a429_record::EntryReader;
 use a429_sample::{CERTIFICATE, PROFILE, RECORDING};
@@ -21,18 +21,18 @@ fn picture<R: io::Read + Drop, C: io::Read, W: io::Write>(
 }
 
 // What is drawn of the entries from one to another.
-fn picture_told(alloc: Global, recording: &str, from: usize, to: usize) -> Option<String> {
+fn picture_printed(alloc: Global, recording: &str, from: usize, to: usize) -> Option<String> {
     let mut written = Vec::new(alloc);
     let rec = Tally::new(recording.as_bytes(), 1000);
     let mut cert = Tally::new(CERTIFICATE.as_bytes(), 1000);
     let mut out = Tally::new(&mut written, 0);
     let answer = picture(alloc, rec, &mut cert, Span { from, to }, &mut out);
-    told(alloc, answer, written.as_slice())
+    printed(alloc, answer, written.as_slice())
 }
 
 // The rows of a picture, with the answer in the place of what is above them.
-fn rows_told(alloc: Global, from: usize, to: usize) -> Option<String> {
-    let text = picture_told(alloc, RECORDING, from, to)?;
+fn rows_printed(alloc: Global, from: usize, to: usize) -> Option<String> {
+    let text = picture_printed(alloc, RECORDING, from, to)?;
     let (status, picture) = text.split_once("\n")?;
     let (_, rows) = picture.split_once("sink</text>\n")?;
     format!(in alloc; "{status}\n{rows}").ok()
@@ -53,11 +53,11 @@ const LAST_ROW: &str = "0
 
 #[test]
 fn last_row(rt: HostRuntime) {
-    assert!(rt; is_text(rows_told(rt.alloc(), 5, 9), LAST_ROW));
+    assert!(rt; is_text(rows_printed(rt.alloc(), 5, 9), LAST_ROW));
 }
 
 #[test]
 fn refused(rt: HostRuntime) {
-    let other = picture_told(rt.alloc(), "time,bus,word\n", 0, 9);
+    let other = picture_printed(rt.alloc(), "time,bus,word\n", 0, 9);
     assert!(rt; is_text(other, "2\nNO word differs 4 0\n"));
 }

@@ -1,6 +1,6 @@
 //! Small recordings by the sample profile, and bytes that are no recording.
 
-use crate::calls::is_told;
+use crate::calls::is_printed;
 use a429_check::{RunFault, run_show};
 use a429_sample::PROFILE;
 use a429_word::Tally;
@@ -24,7 +24,7 @@ fn shows(alloc: Global, profile: &str, recording: &str, most: u64, text: &str) -
     let mut rec = Tally::new(recording.as_bytes(), most);
     let mut out = Tally::new(&mut written, 0);
     let answer = show(alloc, profile, &mut rec, &mut out);
-    is_told(alloc, answer, written.as_slice(), text)
+    is_printed(alloc, answer, written.as_slice(), text)
 }
 
 const BNR_WORDS: (&str, &str) = (

@@ -1,6 +1,6 @@
 //! What small recordings have, counted by the sample profile; and the version of the program.
 
-use crate::calls::is_told;
+use crate::calls::is_printed;
 use a429_check::{run_survey, run_version};
 use a429_record::EntryReader;
 use a429_sample::PROFILE;
@@ -8,13 +8,13 @@ use a429_word::Tally;
 use std::alloc::Global;
 
 // Whether `survey` writes this text for a recording, after its status, or ends with this error line.
-fn tells(alloc: Global, recording: &str, text: &str) -> bool {
+fn prints(alloc: Global, recording: &str, text: &str) -> bool {
     let mut written = Vec::new(alloc);
     let rec = Tally::new(recording.as_bytes(), u64::MAX);
     let mut rec = EntryReader::of_most(alloc, rec, usize::MAX);
     let mut out = Tally::new(&mut written, 0);
     let answer = run_survey(alloc, PROFILE.as_bytes(), &mut rec, &mut out);
-    is_told(alloc, answer, written.as_slice(), text)
+    is_printed(alloc, answer, written.as_slice(), text)
 }
 
 const COUNTED: (&str, &str) = (
@@ -58,7 +58,7 @@ const FAULTY: (&str, &str) = (
 // The first recording for which it does otherwise.
 fn first_that_differs(alloc: Global) -> Option<&'static str> {
     for (recording, text) in [COUNTED, EMPTY, FAULTY] {
-        if !tells(alloc, recording, text) {
+        if !prints(alloc, recording, text) {
             return Some(recording);
         }
     }
@@ -75,7 +75,7 @@ fn the_version(rt: HostRuntime) {
     let mut written = Vec::new(rt.alloc());
     let answer = run_version(&mut Tally::new(&mut written, 0));
     assert!(rt;
-        is_told(
+        is_printed(
             rt.alloc(),
             answer,
             written.as_slice(),

@@ -1,6 +1,6 @@
 //! The rows of a certificate's link data units.
 
-use crate::calls::is_told;
+use crate::calls::is_printed;
 use a429_check::{RunFault, run_units};
 use a429_record::EntryReader;
 use a429_sample::{CERTIFICATE, PROFILE, RECORDING, with};
@@ -23,12 +23,12 @@ pub(crate) fn units<R: Read + Drop, C: Read, W: Write + Drop>(
 }
 
 // This is printed for a recording and a certificate.
-fn tells(alloc: Global, recording: &str, certificate: &str, text: &str) -> bool {
+fn prints(alloc: Global, recording: &str, certificate: &str, text: &str) -> bool {
     let mut written = Vec::new(alloc);
     let rec = Tally::new(recording.as_bytes(), 1000);
     let mut cert = Tally::new(certificate.as_bytes(), 1000);
     let answer = units(alloc, rec, &mut cert, Tally::new(&mut written, 0));
-    is_told(alloc, answer, written.as_slice(), text)
+    is_printed(alloc, answer, written.as_slice(), text)
 }
 
 const ROWS: &str = "0
@@ -50,11 +50,11 @@ const CASES: [(&str, &str, &str); 3] = [
 #[test]
 fn rows_and_refusals(rt: HostRuntime) -> Result<(), Fail> {
     for (recording, certificate, text) in CASES {
-        if !tells(rt.alloc(), recording, certificate, text) {
+        if !prints(rt.alloc(), recording, certificate, text) {
             return Err(Fail::new(text));
         }
     }
     let other = with(rt.alloc(), CERTIFICATE, "a C Q 1 0 -> a S0 Q 1 0")?;
-    assert!(rt; tells(rt.alloc(), RECORDING, other.as_str(), REFUSED));
+    assert!(rt; prints(rt.alloc(), RECORDING, other.as_str(), REFUSED));
     Ok(())
 }

@@ -1,6 +1,6 @@
 //! Certificates as ones of version 2.
 
-use crate::calls::is_told;
+use crate::calls::is_printed;
 use a429_check::{RunFault, run_upgrade};
 use a429_sample::{CERTIFICATE, Shaky, with};
 use a429_word::Tally;
@@ -36,7 +36,7 @@ fn gives_by(alloc: Global, bytes: &[u8], piece: usize, text: &str, new: &[u8]) -
     let mut new_cert = Tally::new(&mut written, 0);
     let mut out = Tally::new(&mut lines, 0);
     let status = upgrade(&mut cert, &mut new_cert, &mut out);
-    is_told(alloc, status, lines.as_slice(), text) && written.as_slice() == new
+    is_printed(alloc, status, lines.as_slice(), text) && written.as_slice() == new
 }
 
 // The same of one that is read in small and in large pieces.
@@ -145,21 +145,21 @@ fn no_version(rt: HostRuntime) {
 }
 
 // Whether this is printed for the certificate, of which so many bytes may be read.
-fn tells_under(alloc: Global, cap: u64, text: &str) -> bool {
+fn prints_under(alloc: Global, cap: u64, text: &str) -> bool {
     let mut written = Vec::new(alloc);
     let mut lines = Vec::new(alloc);
     let mut cert = Tally::new(CERTIFICATE.as_bytes(), cap);
     let mut new_cert = Tally::new(&mut written, 0);
     let mut out = Tally::new(&mut lines, 0);
     let status = upgrade(&mut cert, &mut new_cert, &mut out);
-    is_told(alloc, status, lines.as_slice(), text)
+    is_printed(alloc, status, lines.as_slice(), text)
 }
 
 // The end has to be seen, and after another first line it has not been.
 #[test]
 fn too_long_a_one(rt: HostRuntime) {
     let length = CERTIFICATE.len() as u64;
-    assert!(rt; tells_under(rt.alloc(), length, "device\n"));
-    assert!(rt; tells_under(rt.alloc(), length + 1, UPGRADED));
-    assert!(rt; tells_under(rt.alloc(), 15, "device\n"));
+    assert!(rt; prints_under(rt.alloc(), length, "device\n"));
+    assert!(rt; prints_under(rt.alloc(), length + 1, UPGRADED));
+    assert!(rt; prints_under(rt.alloc(), 15, "device\n"));
 }

@@ -1,6 +1,6 @@
 //! The certificate of a file of one byte, and changes of it.
 
-use crate::calls::{YES, is_told, verify, verify_tells};
+use crate::calls::{YES, is_printed, verify, verify_prints};
 use a429_sample::{CERTIFICATE, PROFILE, RECORDING, with};
 use a429_word::Tally;
 use std::alloc::Global;
@@ -8,7 +8,7 @@ use std::test::Fail;
 
 // This is the verdict of a certificate on a recording.
 fn verdict_is(alloc: Global, recording: &str, certificate: &str, verdict: &str) -> bool {
-    verify_tells(alloc, recording, certificate.as_bytes(), verdict)
+    verify_prints(alloc, recording, certificate.as_bytes(), verdict)
 }
 
 // The sample, a recording of nothing, one that begins with another request, texts that are no recording, and no certificate.
@@ -124,7 +124,7 @@ fn cut_off(rt: HostRuntime) {
 }
 
 // This is the verdict of a certificate on the recording with changes.
-fn changed_tells(
+fn changed_prints(
     alloc: Global,
     changes: &str,
     certificate: &str,
@@ -138,10 +138,10 @@ fn changed_tells(
 #[test]
 fn the_fault_that_is_met_first(rt: HostRuntime) -> Result<(), Fail> {
     let cut = "450101A3 -> 45010";
-    assert!(rt; changed_tells(rt.alloc(), cut, CERTIFICATE, "recording: row 5\n")?);
+    assert!(rt; changed_prints(rt.alloc(), cut, CERTIFICATE, "recording: row 5\n")?);
     let other = with(rt.alloc(), CERTIFICATE, "a C Q 1 0 -> a S0 Q 1 0")?;
     let fault = "2\nNO state differs 4\n";
-    assert!(rt; changed_tells(rt.alloc(), cut, other.as_str(), fault)?);
+    assert!(rt; changed_prints(rt.alloc(), cut, other.as_str(), fault)?);
     Ok(())
 }
 
@@ -153,7 +153,7 @@ fn fails(alloc: Global, profile: &str, recording: (&str, u64), fault: &str) -> b
     let mut written = Vec::new(alloc);
     let mut out = Tally::new(&mut written, 0);
     let found = verify(alloc, profile, rec, &mut cert, &mut out);
-    is_told(alloc, found, written.as_slice(), fault)
+    is_printed(alloc, found, written.as_slice(), fault)
 }
 
 // The certificate has as many bytes as may be read, none: its end is not seen.

@@ -1,6 +1,6 @@
 //! The lines of words worked out by hand.
 
-use crate::calls::is_told;
+use crate::calls::is_printed;
 use a429_check::{RunFault, run_word};
 use a429_word::{Failing, Tally};
 use std::alloc::Global;
@@ -16,7 +16,7 @@ pub(crate) fn word<W: Write>(text: &str, out: &mut Tally<W>) -> Result<u8, RunFa
 fn says(alloc: Global, hex: &str, text: &str) -> bool {
     let mut bytes = Vec::new(alloc);
     let answer = word(hex, &mut Tally::new(&mut bytes, 0));
-    is_told(alloc, answer, bytes.as_slice(), text)
+    is_printed(alloc, answer, bytes.as_slice(), text)
 }
 
 const ALTITUDE: &str =

@@ -4,7 +4,7 @@ ghost use Rattle.std.specs.Prelude.{IfSome};
 ghost use Rattle.a429_ldu.specs.Ldu.{IsLdu};
 
 use crate::runs::chance::Chance;
-use crate::runs::words::{TO_SINK, behind, check_of, data_word, joined};
+use crate::runs::words::{TO_SINK, after, check_of, data_word, joined};
 use a429_ldu::Ldu;
 use a429_profile::Profile;
 use a429_word::Word;
@@ -97,7 +97,7 @@ fn drawn_word(chance: &mut Chance, count: u32, register: &mut u16) -> u32 {
         let semi = chance.below(16);
         if place < count {
             semis |= semi << (4 * place);
-            *register = behind(*register, semi);
+            *register = after(*register, semi);
         }
     }
     data_word(count, semis)

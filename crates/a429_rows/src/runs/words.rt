@@ -64,7 +64,7 @@ pub(crate) fn is_free(label: u32, word: u32) -> bool {
 }
 
 /// The register of a check word, at first 0xFFFF, after one more semi-octet, its lowest bit first.
-pub(crate) fn behind(register: u16, semi: u32) -> u16 {
+pub(crate) fn after(register: u16, semi: u32) -> u16 {
     let mut register = register;
     for place in 0..4u32 {
         let top = register >> 15;

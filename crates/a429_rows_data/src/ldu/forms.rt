@@ -54,7 +54,7 @@ fn first_that_differs(profile: &Profile) -> Option<u32> {
 }
 
 #[test]
-fn words_are_told_by_their_fields(rt: HostRuntime) {
+fn words_are_known_by_their_fields(rt: HostRuntime) {
     let profile = sample_profile(&rt);
     assert_eq!(rt; first_that_differs(&profile), None);
 }

@@ -1,6 +1,6 @@
 //! Documents with other keys, with none, without a section; texts that are no documents.
 
-use super::{answers, is_told};
+use super::{answers, is_reported};
 use a429_sample::PROFILE;
 use std::alloc::Global;
 use std::test::Fail;
@@ -15,9 +15,9 @@ good: [{bit = 11, name = "gear"}, {bit = 12, name = "door"}] -> [{bit = 11, name
 "#;
 
 // These words are reported for each of these texts.
-fn are_told(alloc: Global, texts: &[&str], words: &str) -> Result<(), Fail> {
+fn are_reported(alloc: Global, texts: &[&str], words: &str) -> Result<(), Fail> {
     for text in texts {
-        is_told(alloc, text, ("", words), text)?;
+        is_reported(alloc, text, ("", words), text)?;
     }
     Ok(())
 }
@@ -32,9 +32,9 @@ fn texts_without_a_key_of_a_profile(rt: HostRuntime) -> Result<(), Fail> {
         "a = 1\na = 2",
         "a = 'x",
     ];
-    are_told(rt.alloc(), &no_documents, "not toml")?;
+    are_reported(rt.alloc(), &no_documents, "not toml")?;
     let empty = ["", "\n", "# a remark\n", "[transfer]\n", "other = 1\n"];
-    are_told(rt.alloc(), &empty, "missing transfer.to_sink")
+    are_reported(rt.alloc(), &empty, "missing transfer.to_sink")
 }
 
 // The fault is reported also where the sections before it are good.

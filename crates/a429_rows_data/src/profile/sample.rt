@@ -1,6 +1,6 @@
 //! What is read of the sample, and of a document of other forms.
 
-use super::{read, tells};
+use super::{read, reports};
 use a429_profile::{Kind, Profile};
 use a429_sample::{PROFILE, joined, labels, sections, with};
 use std::alloc::{AllocError, Global};
@@ -219,7 +219,7 @@ fn nineteen_flags(rt: HostRuntime) -> Result<(), Fail> {
 fn a_twentieth_flag(rt: HostRuntime) -> Result<(), Fail> {
     let text = with(rt.alloc(), PROFILE, NINETEEN_FLAGS)?;
     let twentieth = "bit = 29}, ] -> bit = 29}, {name = 'f', bit = 11}]";
-    tells(
+    reports(
         rt.alloc(),
         text.as_str(),
         twentieth,

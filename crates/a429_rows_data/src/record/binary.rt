@@ -143,7 +143,7 @@ fn readers_that_fail_at_each_call(rt: HostRuntime) {
 }
 
 // What a reader answers that fails after these bytes.
-fn fails_behind(alloc: Global, bytes: &[u8]) -> Result<usize, ReadFault> {
+fn fails_after(alloc: Global, bytes: &[u8]) -> Result<usize, ReadFault> {
     count(alloc, &mut Tally::new(bytes, bytes.len() as u64))
 }
 
@@ -158,7 +158,7 @@ const BEFORE_FAILURE: [(&[u8], ReadFault); 5] = [
 // The length of the first of them with another fault.
 fn first_other_fault_before_failure(alloc: Global) -> Option<usize> {
     for (bytes, fault) in BEFORE_FAILURE {
-        if fails_behind(alloc, bytes) != Err(fault) {
+        if fails_after(alloc, bytes) != Err(fault) {
             return Some(bytes.len());
         }
     }

@@ -5,7 +5,7 @@ use a429_word::{BAD_PARITY, OTHER_LABEL, THIS_LABEL, Word, screen};
 const LONGEST: usize = 70;
 
 // What is answered for a word by itself.
-fn told(number: u32, label: u8) -> u8 {
+fn alone(number: u32, label: u8) -> u8 {
     let word = Word::from_u32(number);
     if !word.parity_ok() {
         BAD_PARITY
@@ -24,7 +24,7 @@ fn are_answered(words: &[u32], label: u8) -> bool {
     }
     screen(words, label, &mut answers[..words.len()]);
     for i in 0..words.len() {
-        if answers[i] != told(words[i], label) {
+        if answers[i] != alone(words[i], label) {
             return false;
         }
     }

@@ -66,13 +66,13 @@ fn record_bad(
     chance: &mut Chance,
     block: &[Seen],
 ) -> Result<(), AllocError> {
-    let Some((start, behind)) = block.split_first() else {
+    let Some((start, after)) = block.split_first() else {
         return Ok(());
     };
-    let Some((_, behind)) = behind.split_first() else {
+    let Some((_, after)) = after.split_first() else {
         return Ok(());
     };
-    let Some((end, data)) = behind.split_last() else {
+    let Some((end, data)) = after.split_last() else {
         return Ok(());
     };
     if chance.one_in(2) {
@@ -120,18 +120,18 @@ fn record_attempt(
     chance: &mut Chance,
     whole: &[Seen],
 ) -> Result<(), AllocError> {
-    let Some((request, behind)) = whole.split_first() else {
+    let Some((request, after)) = whole.split_first() else {
         return Ok(());
     };
     record(words, chance, request)?;
     if chance.one_in(5) {
         return Ok(());
     }
-    let Some((clear, behind)) = behind.split_first() else {
+    let Some((clear, after)) = after.split_first() else {
         return Ok(());
     };
     record(words, chance, clear)?;
-    let Some((acknowledgement, block)) = behind.split_last() else {
+    let Some((acknowledgement, block)) = after.split_last() else {
         return Ok(());
     };
     record_block(words, chance, block, acknowledgement)
@@ -157,9 +157,9 @@ fn with_loss(alloc: Global, chance: &mut Chance, run: &[Seen]) -> Result<Vec<See
         if rest.is_empty() {
             break;
         }
-        let (whole, behind) = first_request(rest);
+        let (whole, after) = first_request(rest);
         record_unit(&mut words, chance, whole)?;
-        rest = behind;
+        rest = after;
     }
     Ok(words)
 }

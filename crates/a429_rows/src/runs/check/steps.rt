@@ -35,7 +35,7 @@ struct Told {
 struct Run<'a> {
     profile: &'a Profile,
     link: Link<'a>,
-    told: Told,
+    printed: Told,
     is_open: bool,
     is_right: bool,
     ghost same: { link.profile ≡ profile.now },
@@ -153,12 +153,12 @@ impl<'a> Run<'a> {
                 let draft = some_draft(alloc, self.profile, chance, self.is_open)?;
                 Some((Move::Load(draft), true))
             }
-            2..=10 => match self.told.source.next() {
+            2..=10 => match self.printed.source.next() {
                 Some(word) => Some((Move::Sent(Bus::A, word), true)),
                 None => None,
             },
             11..=18 => Some((Move::SinkTakes, true)),
-            19..=22 => match self.told.owed(sink, chance) {
+            19..=22 => match self.printed.owed(sink, chance) {
                 Some(word) => Some(answering(chance, word)),
                 None => None,
             },
@@ -174,7 +174,7 @@ impl<'a> Run<'a> {
     // One step, or none where there is none of its name.
     fn go(&mut self, alloc: Global, chance: &mut Chance) -> Result<(), Fail> {
         let source = self.link.states().source;
-        self.told.source.state = source;
+        self.printed.source.state = source;
         let Some((chosen, fits)) = self.chosen(alloc, chance)? else {
             return Ok(());
         };
@@ -196,7 +196,7 @@ impl<'a> Run<'a> {
         answer: Result<(), StepFault>,
     ) -> Result<(), AllocError> {
         match answer {
-            Ok(()) if fits => self.told.note(chosen)?,
+            Ok(()) if fits => self.printed.note(chosen)?,
             Err(StepFault::WordDiffers) if !fits => {}
             Err(StepFault::NotAllowed) => {}
             _ => self.is_right = false,
@@ -209,7 +209,7 @@ impl<'a> Run<'a> {
         for _ in 0..tries {
             self.go(alloc, chance)?;
         }
-        let verdict = judged(alloc, self.told.recorded.as_slice(), self.link.delivered())?;
+        let verdict = judged(alloc, self.printed.recorded.as_slice(), self.link.delivered())?;
         Ok(if self.is_right {
             verdict
         } else {
@@ -251,7 +251,7 @@ fn trial(
     is_open: bool,
 ) -> Result<(Verdict, u16), Fail> {
     let file = chance.below(256) as u8;
-    let told = Told {
+    let printed = Told {
         source: Source::new(file, 1),
         answer: None,
         recorded: Vec::new(rt.alloc()),
@@ -259,12 +259,12 @@ fn trial(
     let mut run = Run {
         profile,
         link: Link::start(rt.alloc(), profile, file),
-        told,
+        printed,
         is_open,
         is_right: true,
     };
     let verdict = run.played(rt.alloc(), chance, tries)?;
-    Ok((verdict, run.told.source.ldu))
+    Ok((verdict, run.printed.source.ldu))
 }
 
 // Of how many of 10,000 runs the checker is wrong, and whether files have crossed in one.

@@ -1,6 +1,6 @@
 //! A sink, as the table of steps defines it.
 
-use crate::runs::words::{acknowledgement, behind, check_of, clear, is_refusal, refusal};
+use crate::runs::words::{acknowledgement, after, check_of, clear, is_refusal, refusal};
 use a429_link::{Bytes, FileBytes, SinkState};
 use std::alloc::{AllocError, Global};
 
@@ -108,7 +108,7 @@ impl Sink {
         }
         for place in 0..count.min(5) {
             let semi = semis >> (4 * place) & 15;
-            self.block.register = behind(self.block.register, semi);
+            self.block.register = after(self.block.register, semi);
             self.block.low = match self.block.low {
                 Some(low) => {
                     self.bytes.push(low | (semi as u8) << 4)?;
