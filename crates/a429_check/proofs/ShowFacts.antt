@@ -1,10 +1,6 @@
 -- The lines of a recording, entry by entry.
 use Rattle.std.proofs.Common.{◌≡◌, ℕ, ◌+◌, ◌<◌, List, [], ◌∷◌, ◌++◌, length, take, get_or, sym, ap, ◌∙◌, append-nil, append_assoc, refl, Bool, true, false, ◌≢◌, ◌⊎◌, inl, inr, codes, ◌-◌, Option, Result, Ok, Err}
-use Rattle.std.specs.Int.{bit_at}
-use Rattle.std.specs.Fmt.{decimal}
-use Rattle.std.proofs.lemmas.Fmt.{decimal_digit}
 use Rattle.std.proofs.lemmas.List.{take_more}
-use Rattle.a429_profile.specs.declared.entry.Flag.{Flag}
 use Rattle.a429_profile.specs.Profile.{Contents}
 use Rattle.a429_record.specs.declared.entry.Entry.{Entry}
 use Rattle.std.specs.Prelude.{◌==◌, ◌↔◌, IsErr, OnOk}
@@ -15,12 +11,7 @@ use Rattle.a429_word.specs.declared.tally.Tally.{Tally}
 use Rattle.a429_word.specs.Sheet.{IsWritten, sheet_failed, Says}
 use Rattle.a429_word.proofs.SheetFacts.{says_works, writes}
 use Rattle.a429_check.specs.Output.{PutsText}
-use Rattle.a429_check.specs.Show.{unit_text, flag_text, SaysSome, IsShowLine, AreShowLines, AreFirstShowLines}
-
--- a flag's text, of which the last two bytes are written at once
-pub flag_text-is : (field digit : ℕ) (f : Flag) → bit_at field (f.bit - 11) ≡ digit → digit < 10 → codes " " ++ f.name ++ (61 ∷ (48 + digit) ∷ []) ≡ flag_text field f
-flag_text-is field digit f e small =
-    ap (λ t. codes " " ++ f.name ++ (61 ∷ t)) (sym (decimal_digit digit small) ∙ ap decimal (sym e)) ∙ sym (append_assoc (codes " " ++ f.name) (codes "=") (decimal (bit_at field (f.bit - 11))))
+use Rattle.a429_check.specs.Show.{unit_text, SaysSome, IsShowLine, AreShowLines, AreFirstShowLines}
 
 -- the lines of some entries, and then those of more
 pub AreShowLines-join : (p : Contents) (es more : List Entry) (text rest : List ℕ) → AreShowLines p es text → AreShowLines p more rest → AreShowLines p (es ++ more) (text ++ rest)

@@ -14,3 +14,4 @@ pub mod ShownFits
 pub mod KeyRanges
 pub mod EntryRanges
 pub mod ProfileRanges
+pub mod FlagsFacts

@@ -3,6 +3,7 @@ pub mod Value
 pub mod Key
 pub mod Codes
 pub mod Labels
+pub mod Flags
 pub mod Entry
 pub mod Clash
 pub mod Profile

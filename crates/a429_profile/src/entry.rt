@@ -1,7 +1,11 @@
 //! An entry of the label table: how the words of one label are read.
 
-ghost use Rattle.std.specs.Prelude.{◌≡◌, string_bytes};
+ghost use Rattle.std.specs.Prelude.{◌≡◌, ◌++◌, codes, string_bytes, IfOk, OnOk};
+ghost use Rattle.std.specs.List.{flat_map};
+ghost use Rattle.a429_profile.specs.Flags.{both_texts};
 
+use std::alloc::{AllocError, Global};
+use std::fmt::{self, Debug, Formatter, Write};
 use std::marker::Model;
 
 /// A short text: printable characters of ASCII.
@@ -86,25 +90,39 @@ pub struct Flag {
 }
 
 /// The flags of a discrete word, in the order of the file.
-#[derive(Debug, Drop)]
+#[derive(Drop)]
 pub struct Flags {
     flags: Vec<Flag>,
+    // What is shown of each flag, where its bit is 0 and where it is 1.
+    texts: Vec<u8>,
 }
 
 impl Model for Flags {
-    ghost use Rattle.std.specs.Prelude.{List};
+    ghost use Rattle.std.specs.Prelude.{◌≡◌, List};
+    ghost use Rattle.std.specs.List.{flat_map};
     ghost use Rattle.a429_profile.specs.declared.entry.Flag.{Flag};
+    ghost use Rattle.a429_profile.specs.Flags.{both_texts};
 
     ghost Value = { List Flag };
 
     ghost view = { λ f. f.flags.items };
+
+    ghost invariant = { λ f. f.texts.items ≡ flat_map both_texts f.flags.items };
+}
+
+impl Debug for Flags {
+    fn fmt<W: Write>(&self, f: &mut Formatter<W>) -> fmt::Result {
+        f.debug_struct("Flags").field("flags", &self.flags).finish()
+    }
 }
 
 impl Flags {
-    pub fn new(flags: Vec<Flag>) -> Flags
-        ensures { result ≡ flags.items }
+    /// The same flags, owned, with the texts of each. The error is out of memory.
+    pub fn new(alloc: Global, flags: Vec<Flag>) -> Result<Flags, AllocError>
+        ensures { IfOk result (λ f. f ≡ flags.items) }
     {
-        Flags { flags }
+        let texts = texts_of(alloc, flags.as_slice())?;
+        Ok(Flags { flags, texts })
     }
 
     pub fn as_slice(&self) -> &[Flag]
@@ -113,13 +131,48 @@ impl Flags {
         self.flags.as_slice()
     }
 
+    /// What is shown of each flag, one after the other, ready to be written: ` name=0` and then ` name=1`.
+    pub fn texts(&self) -> &[u8]
+        ensures { result.now ≡ flat_map both_texts self.now }
+    {
+        self.texts.as_slice()
+    }
+
     /// The list that holds them, without taking memory.
     pub fn into_vec(self) -> Vec<Flag>
         ensures { result.items ≡ self }
     {
-        let Flags { flags } = self;
+        let Flags { flags, .. } = self;
         flags
     }
+}
+
+// The texts of flags.
+fn texts_of(alloc: Global, flags: &[Flag]) -> Result<Vec<u8>, AllocError>
+    ensures { IfOk result (λ v. v.items ≡ flat_map both_texts flags.now) }
+{
+    let mut texts = Vec::new(alloc);
+    for flag in flags {
+        push_both(&mut texts, flag)?;
+    }
+    Ok(texts)
+}
+
+// Adds both texts of a flag.
+fn push_both(texts: &mut Vec<u8>, flag: &Flag) -> Result<(), AllocError>
+    ensures { OnOk result (texts.new.items ≡ texts.old.items ++ both_texts flag.now) }
+{
+    push_text(texts, flag, b"=0")?;
+    push_text(texts, flag, b"=1")
+}
+
+// Adds a space, the name of a flag and some bytes.
+fn push_text(texts: &mut Vec<u8>, flag: &Flag, end: &[u8]) -> Result<(), AllocError>
+    ensures { OnOk result (texts.new.items ≡ texts.old.items ++ (codes " " ++ flag.now.name ++ end.now)) }
+{
+    texts.extend_from_slice(b" ")?;
+    texts.extend_from_slice(flag.name.as_str().as_bytes())?;
+    texts.extend_from_slice(end)
 }
 
 /// How the data field of a label's words is read (ARINC 429 Part 1).

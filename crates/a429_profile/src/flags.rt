@@ -30,7 +30,7 @@ pub(crate) fn flags(alloc: Global, value: &Value, key: Key) -> Result<Flags, Pro
         return Err(ProfileFault::OutOfRange(key));
     }
     match made_of(alloc, values) {
-        Ok(flags) => Ok(Flags::new(flags)),
+        Ok(flags) => Ok(flags),
         Err(_) => Err(ProfileFault::OutOfMemory),
     }
 }
@@ -111,15 +111,15 @@ fn has_name(table: &Table) -> bool
 }
 
 // The flags that tables describe.
-fn made_of(alloc: Global, values: &[Value]) -> Result<Vec<Flag>, AllocError>
+fn made_of(alloc: Global, values: &[Value]) -> Result<Flags, AllocError>
     requires { list_all (λ v. is_flag_in_range (view v)) values.now ≡ true }
-    ensures { IfOk result (λ v. v.items ≡ map (λ w. flag_of (view w)) values.now) }
+    ensures { IfOk result (λ f. f ≡ map (λ w. flag_of (view w)) values.now) }
 {
     let mut flags = Vec::new(alloc);
     for value in values {
         flags.push(flag(alloc, value)?)?;
     }
-    Ok(flags)
+    Flags::new(alloc, flags)
 }
 
 // The flag that a table describes; the rest of its keys are not looked at.

@@ -3,13 +3,10 @@ use Rattle.std.proofs.Common.{◌≡◌, ◌≢◌, ℕ, zero, suc, ◌+◌, ◌
 use Rattle.std.specs.Int.{bit_at, w128}
 use Rattle.std.specs.Int.Count.{count_trailing_zeros, trailing_of_zero}
 use Rattle.std.proofs.lemmas.Nat.Bits.{bit_at-trailing_zeros}
-use Rattle.std.proofs.lemmas.Nat.{mod-pow-add, div-add-mod', mul-pow, mul-le, div-mul-add}
+use Rattle.std.proofs.lemmas.Nat.{mod-pow-add, div-add-mod', mul-pow, mul-le, div-mul-add, mod_below}
 use Rattle.std.proofs.Math.Nat.{zero-mod, one-le-pow, pow-le-pow_right, mod-eq-sub-div-mul}
 
 -- ---- powers of five
-
-pub five_pos : (k : ℕ) → 0 < 5 ^ k
-five_pos k = one-le-pow k 5 (omega arith)
 
 tens_le : (k : ℕ) → k ≤ 18 → 10 ^ k ≤ 10 ^ 18
 tens_le k h = pow-le-pow_right (omega arith) h
@@ -66,6 +63,15 @@ guess_is n d q low high =
     let parts : n ≡ q * d + (n - q * d) = omega arith in
     let quotient : n / d ≡ q = ap (λ x. x / d) parts ∙ div-mul-add q d (n - q * d) high in
     (sym quotient, sym (mod-eq-sub-div-mul n d ∙ ap (λ x. n - x * d) quotient))
+
+-- a product over a number, from the quotient of one factor and what remains of it
+pub upper_parts : (a b m : ℕ) → 0 < m → a / m * b + a % m * b / m ≡ a * b / m
+upper_parts a b m some =
+    let r = a % m * b in
+    let rest : r / m * m + r % m ≡ r = div-add-mod' r m in
+    let whole : a / m * m + a % m ≡ a = div-add-mod' a m in
+    let both : a * b ≡ (a / m * b + r / m) * m + r % m = ap (λ x. x * b) (sym whole) ∙ grind (arith, rest) in
+    sym (ap (λ x. x / m) both ∙ div-mul-add (a / m * b + r / m) m (r % m) (mod_below r m some))
 
 pub product_fits : (a b : ℕ) → a < 2 ^ 64 → b < 2 ^ 64 → a * b < 2 ^ 128
 product_fits a b ha hb = let h = mul-le a b 18446744073709551615 18446744073709551615 (omega arith) (omega arith) in omega (arith, h)

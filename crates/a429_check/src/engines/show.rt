@@ -1,12 +1,13 @@
 //! `a429 show PROFILE REC`: the words of a recording, a line for each.
 
-ghost use Rattle.std.specs.Prelude.{◌≡◌, ◌↔◌, ◌≤◌, ◌++◌, [], ℕ, List, true, false, IsTrue, IsErr, IfOk, IfErr, OnOk, length};
+ghost use Rattle.std.specs.Prelude.{◌≡◌, ◌↔◌, ◌≤◌, ◌++◌, [], ℕ, List, true, false, IsTrue, IsErr, IfOk, IfErr, OnOk, length, take, drop};
 ghost use Rattle.a429_word.specs.Tally.{has_failed, unread};
 ghost use Rattle.a429_word.specs.Sheet.{Says, sheet_failed};
 ghost use Rattle.a429_word.specs.Word.{HasOddParity};
 ghost use Rattle.std.specs.List.{flat_map, AllByRecursion};
 ghost use Rattle.a429_profile.specs.Shown.{IsShown, HasItsRanges};
 ghost use Rattle.a429_profile.specs.Entry.{IsFlagBit, IsKindInRange};
+ghost use Rattle.a429_profile.specs.Flags.{both_texts};
 ghost use Rattle.a429_check.specs.Output.{output, IsCutShort, PutsText, PutsPrefixOf};
 ghost use Rattle.a429_check.specs.Show.{IsShowFault, status_text, bad_digit_text, unit_text, test_text, flag_text, IsValueText, field_text, IsShownText, recorded_text, fields_text, SaysSome, IsShowLine, AreShowLines, AreFirstShowLines, ShowsEntries, ShowsFirst};
 
@@ -212,27 +213,41 @@ fn put_bits<W: Write>(sheet: &mut Sheet<'_, W>, entry: &LabelEntry, field: u32, 
 {
     sheet.put(entry.name.as_str().as_bytes());
     if let Kind::Discrete { flags } = &entry.kind {
-        put_flags(sheet, field, flags.as_slice());
+        put_flags(sheet, field, flags.as_slice(), flags.texts());
     }
     put_test(sheet, is_test);
 }
 
-fn put_flags<W: Write>(sheet: &mut Sheet<'_, W>, field: u32, flags: &[Flag])
-    requires { AllByRecursion IsFlagBit flags.now }
+// Flags and their bits, of which these are the texts.
+fn put_flags<W: Write>(sheet: &mut Sheet<'_, W>, field: u32, flags: &[Flag], texts: &[u8])
+    requires bits { AllByRecursion IsFlagBit flags.now }
+    requires texts { texts.now ≡ flat_map both_texts flags.now }
     ensures { Says W.contents sheet.old sheet.new (flat_map (flag_text field) flags.now) }
 {
+    let mut rest = texts;
     for flag in flags {
-        put_flag(sheet, field, flag);
+        rest = put_flag(sheet, field, flag, rest);
     }
 }
 
-// A flag and its bit of the data field, of which bit 11 is the lowest.
-fn put_flag<W: Write>(sheet: &mut Sheet<'_, W>, field: u32, flag: &Flag)
-    requires { IsFlagBit flag.now }
-    ensures { Says W.contents sheet.old sheet.new (flag_text field flag.now) }
+// A flag and its bit of the data field, of which bit 11 is the lowest. Its texts are the first of these; the others are
+// returned.
+#[inline(always)]
+fn put_flag<'t, W: Write>(
+    sheet: &mut Sheet<'_, W>,
+    field: u32,
+    flag: &Flag,
+    texts: &'t [u8],
+) -> &'t [u8]
+    requires bit { IsFlagBit flag.now }
+    requires texts { take (length (both_texts flag.now)) texts.now ≡ both_texts flag.now }
+    ensures says { Says W.contents sheet.old sheet.new (flag_text field flag.now) }
+    ensures rest { result.now ≡ drop (length (both_texts flag.now)) texts.now }
 {
-    sheet.put(b" ");
-    sheet.put(flag.name.as_str().as_bytes());
+    let len = flag.name.as_str().len() + 3;
+    let (zero, more) = texts.split_at(len);
+    let (one, rest) = more.split_at(len);
     let is_set = field >> (flag.bit - 11) & 1 == 1;
-    sheet.put(if is_set { b"=1" } else { b"=0" });
+    sheet.put(if is_set { one } else { zero });
+    rest
 }

@@ -31,7 +31,7 @@ fn bits(alloc: Global) -> Result<[u8; 2], AllocError> {
         bit: 12,
         name: text(alloc, "door")?,
     })?;
-    match Flags::new(flags).into_vec().as_slice() {
+    match Flags::new(alloc, flags)?.into_vec().as_slice() {
         [one, two] => Ok([one.bit, two.bit]),
         _ => Ok([0, 0]),
     }

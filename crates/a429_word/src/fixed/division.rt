@@ -31,57 +31,58 @@ const POWERS_OF_FIVE: [u64; 25] = [
     59_604_644_775_390_625,
 ];
 
-// The number that times 5^count is 1 above a multiple of 2^64, for a count from 0 to 24. It only guesses
+// The number that times 5^count is 1 above a multiple of 2^128, for a count from 0 to 24. It only guesses
 // a quotient, which is tested.
-const INVERSES_OF_FIVE: [u64; 25] = [
+const INVERSES_OF_FIVE: [u128; 25] = [
     1,
-    14_757_395_258_967_641_293,
-    10_330_176_681_277_348_905,
-    2_066_035_336_255_469_781,
-    15_170_602_326_218_735_249,
-    6_723_469_279_985_657_373,
-    8_723_391_485_480_952_121,
-    16_502_073_556_063_831_717,
-    14_368_461_155_438_497_313,
-    10_252_389_860_571_520_109,
-    5_739_826_786_856_214_345,
-    1_147_965_357_371_242_869,
-    3_918_941_886_216_158_897,
-    11_851_834_821_468_962_749,
-    6_059_715_779_035_702_873,
-    8_590_640_785_290_961_221,
-    16_475_523_416_025_833_537,
-    14_363_151_127_430_897_677,
-    13_940_676_669_711_910_505,
-    2_788_135_333_942_382_101,
-    15_315_022_325_756_117_713,
-    10_441_702_094_635_044_189,
-    5_777_689_233_668_919_161,
-    15_912_933_105_701_425_125,
-    3_182_586_621_140_285_025,
+    272_225_893_536_750_770_770_699_685_945_414_569_165,
+    54_445_178_707_350_154_154_139_937_189_082_913_833,
+    147_001_982_509_845_416_216_177_830_410_523_867_349,
+    97_456_869_886_156_775_935_910_487_568_458_415_761,
+    291_717_267_513_982_125_957_881_783_459_106_252_317,
+    262_512_873_655_359_503_269_601_121_150_882_177_337,
+    256_671_994_883_634_978_731_944_988_689_237_362_341,
+    323_560_292_513_477_766_517_088_683_683_262_041_633,
+    200_825_005_271_070_938_688_767_579_709_359_692_909,
+    108_221_474_438_401_880_430_428_437_428_225_580_873,
+    157_757_241_656_055_761_471_435_530_458_352_400_757,
+    235_720_868_483_774_230_372_311_870_550_731_407_025,
+    47_144_173_696_754_846_074_462_374_110_146_281_405,
+    9_428_834_739_350_969_214_892_474_822_029_256_281,
+    274_111_660_484_620_964_613_678_180_909_820_420_421,
+    327_048_225_633_674_963_693_435_322_127_378_653_249,
+    133_466_118_510_922_685_431_361_985_911_829_372_941,
+    298_919_117_238_935_307_856_972_083_127_780_443_753,
+    195_896_770_216_162_446_956_744_259_598_263_373_333,
+    175_292_300_811_607_874_776_698_694_892_359_959_249,
+    103_114_933_546_509_267_648_014_660_464_825_634_141,
+    292_848_880_246_052_624_300_302_618_038_379_695_993,
+    194_682_722_817_585_910_245_410_366_580_383_223_781,
+    311_162_438_100_267_952_819_781_759_261_491_213_921,
 ];
 
-// 2^64 - 1 over 10^count, for a count from 0 to 18. It only guesses a quotient, which is tested.
+// 2^64 - 1 over 10^count, for a count from 0 to 18, times as large a power of two as leaves it below 2^64. It only
+// guesses a quotient, which is tested.
 const RECIPROCALS_OF_TEN: [u64; 19] = [
     18_446_744_073_709_551_615,
-    1_844_674_407_370_955_161,
-    184_467_440_737_095_516,
-    18_446_744_073_709_551,
-    1_844_674_407_370_955,
-    184_467_440_737_095,
-    18_446_744_073_709,
-    1_844_674_407_370,
-    184_467_440_737,
-    18_446_744_073,
-    1_844_674_407,
-    184_467_440,
-    18_446_744,
-    1_844_674,
-    184_467,
-    18_446,
-    1_844,
-    184,
-    18,
+    14_757_395_258_967_641_292,
+    11_805_916_207_174_113_034,
+    9_444_732_965_739_290_427,
+    15_111_572_745_182_864_683,
+    12_089_258_196_146_291_747,
+    9_671_406_556_917_033_397,
+    15_474_250_491_067_253_436,
+    12_379_400_392_853_802_748,
+    9_903_520_314_283_042_199,
+    15_845_632_502_852_867_518,
+    12_676_506_002_282_294_014,
+    10_141_204_801_825_835_211,
+    16_225_927_682_921_336_339,
+    12_980_742_146_337_069_071,
+    10_384_593_717_069_655_257,
+    16_615_349_947_311_448_411,
+    13_292_279_957_849_158_729,
+    10_633_823_966_279_326_983,
 ];
 
 /// `5^exponent`.
@@ -100,8 +101,8 @@ pub fn power_of_ten(exponent: u8) -> u64
     power_of_five(exponent) << exponent
 }
 
-/// A number over `5^count`, where it is a multiple of that. A number of 64 bits takes two multiplications,
-/// where a division would take ten times as long.
+/// A number over `5^count`, where it is a multiple of that: by a product with the inverse of `5^count`, since a division
+/// would take ten times as long.
 #[inline(always)]
 pub fn without_fives(number: u128, count: u8) -> Option<u128>
     requires { count ≤ 24 }
@@ -110,70 +111,44 @@ pub fn without_fives(number: u128, count: u8) -> Option<u128>
     if count == 0 {
         return Some(number);
     }
-    let five = power_of_five(count);
-    if number > u128::from(u64::MAX) {
-        return multiple_of(number, u128::from(five));
-    }
-    let small = number as u64;
-    let rest = small.wrapping_mul(INVERSES_OF_FIVE[usize::from(count)]);
-    if rest.checked_mul(five)? == small {
-        Some(u128::from(rest))
+    let five = u128::from(power_of_five(count));
+    let rest = number.wrapping_mul(INVERSES_OF_FIVE[usize::from(count)]);
+    if rest.checked_mul(five)? == number {
+        Some(rest)
     } else {
         None
     }
 }
 
-// How many times another a number is, where it is a multiple of that.
-fn multiple_of(number: u128, other: u128) -> Option<u128>
-    requires { 0 < other }
-    ensures { IfSome result (λ times. number ≡ times * other) }
-{
-    if number % other == 0 {
-        Some(number / other)
-    } else {
-        None
-    }
-}
-
-/// A number over `10^count`, and what remains.
+/// A number over `10^count`, and what remains. A product guesses the quotient. Where it guesses wrong, a division finds
+/// it, which takes ten times as long.
 #[inline(always)]
 pub fn over_power_of_ten(number: u128, count: u8) -> (u128, u64)
     requires { count ≤ 18 }
     ensures quotient { result.0 ≡ number / 10 ^ count }
     ensures remainder { result.1 ≡ number % 10 ^ count }
 {
-    divided(
-        number,
-        power_of_ten(count),
-        RECIPROCALS_OF_TEN[usize::from(count)],
-    )
-}
-
-/// A number over another, and what remains. The reciprocal, 2^64 over the divisor, guesses the quotient of
-/// a number of 64 bits. Where it guesses wrong, a division finds it, which takes ten times as long; one of
-/// 128 bits takes longer still.
-#[inline(always)]
-pub fn divided(number: u128, divisor: u64, reciprocal: u64) -> (u128, u64)
-    requires { 0 < divisor }
-    ensures quotient { result.0 ≡ number / divisor }
-    ensures remainder { result.1 ≡ number % divisor }
-{
+    let ten = power_of_ten(count);
+    let reciprocal = RECIPROCALS_OF_TEN[usize::from(count)];
+    // (10^count is at least this power of two)
+    let power = u32::from(count) * 53 / 16;
     if number <= u128::from(u64::MAX) {
-        let (quotient, rest) = divided_small(number as u64, divisor, reciprocal);
+        let small = number as u64;
+        let (quotient, rest) = divided(small, ten, upper_product(small, reciprocal) >> power);
         (u128::from(quotient), rest)
     } else {
-        let wide = u128::from(divisor);
-        (number / wide, (number % wide) as u64)
+        let guess = upper_product_wide(number, reciprocal) >> power;
+        divided_wide(number, ten, lowest(guess))
     }
 }
 
+// A number over another, and what remains. The guess may be the quotient.
 #[inline(always)]
-fn divided_small(number: u64, divisor: u64, reciprocal: u64) -> (u64, u64)
+fn divided(number: u64, divisor: u64, guess: u64) -> (u64, u64)
     requires { 0 < divisor }
     ensures quotient { result.0 ≡ number / divisor }
     ensures remainder { result.1 ≡ number % divisor }
 {
-    let guess = upper_product(number, reciprocal);
     if let Some(whole) = guess.checked_mul(divisor) {
         if whole <= number && number - whole < divisor {
             return (guess, number - whole);
@@ -182,10 +157,41 @@ fn divided_small(number: u64, divisor: u64, reciprocal: u64) -> (u64, u64)
     (number / divisor, number % divisor)
 }
 
+// The same of a number of 128 bits.
+#[inline(always)]
+fn divided_wide(number: u128, divisor: u64, guess: u64) -> (u128, u64)
+    requires { 0 < divisor }
+    ensures quotient { result.0 ≡ number / divisor }
+    ensures remainder { result.1 ≡ number % divisor }
+{
+    let wide = u128::from(divisor);
+    let whole = u128::from(guess) * wide;
+    if whole <= number && number - whole < wide {
+        return (u128::from(guess), (number - whole) as u64);
+    }
+    (number / wide, (number % wide) as u64)
+}
+
 // The upper 64 bits of a product.
 #[inline(always)]
 fn upper_product(a: u64, b: u64) -> u64
     ensures { result ≡ a * b / 2 ^ 64 }
 {
     ((u128::from(a) * u128::from(b)) >> 64) as u64
+}
+
+// The upper 128 bits of a product.
+#[inline(always)]
+fn upper_product_wide(a: u128, b: u64) -> u128
+    ensures { result ≡ a * b / 2 ^ 64 }
+{
+    (a >> 64) * u128::from(b) + u128::from(upper_product(lowest(a), b))
+}
+
+// The lowest 64 bits of a number.
+#[inline(always)]
+fn lowest(number: u128) -> u64
+    ensures { result ≡ number % 2 ^ 64 }
+{
+    (number & u128::from(u64::MAX)) as u64
 }

@@ -16,4 +16,4 @@ pub returns-in-Ok : goal.returns-in-Ok
 returns-in-Ok c =
     let fault = value_fault-flags c.args.key (view c.args.value.now) c.in-Some.values.now _ _ c.in-Some.ensures.variant c.in-Some.ensures.some
     (sym c.if-not-are_flags.false ∙ c.are_flags.ensures) (sym c.if-not-are_in_range.false ∙ c.are_in_range.ensures) in
-    (fault, ap (map flag_of) c.in-Some.ensures.some ∙ map-flag_of c.in-Some.values.now ∙ sym c.in-Ok.ensures ∙ sym c.new.ensures)
+    (fault, ap (map flag_of) c.in-Some.ensures.some ∙ map-flag_of c.in-Some.values.now ∙ sym c.in-Ok.ensures)
