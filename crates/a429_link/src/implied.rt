@@ -55,6 +55,7 @@ impl ImpliedSink {
     }
 
     /// Whether the words so far allow a word of this form on a bus. Where they do not, no run records it after those.
+    #[inline(always)]
     pub fn allows(&self, bus: Bus, form: &Form) -> bool
         ensures { IsTrue result ↔ AllowsForm (observer_of self.now) bus (Some form.now) }
     {
@@ -107,8 +108,7 @@ impl ImpliedSink {
     {
         match seen.bus {
             Bus::A => {
-                let why = self.why_at(profile, form);
-                self.take_word(profile, seen.word, form);
+                let why = self.take_word(profile, seen.word, form);
                 Ok(self.sink.doing(why))
             }
             Bus::B => self.take_answer(alloc, profile, form),
@@ -138,24 +138,17 @@ impl ImpliedSink {
         }
     }
 
-    // Why a word of this form ends a block that is not good; `None` where it ends none, or a good one.
-    fn why_at(&self, profile: &Profile, form: &Form) -> Option<Why>
-        ensures { result ≡ why_at profile.now form.now self.now.sink }
-    {
-        match *form {
-            Form::Eot { check, .. } => self.sink.why_bad(profile, check),
-            _ => None,
-        }
-    }
-
-    /// Takes a word of bus A that has this form.
-    pub(crate) fn take_word(&mut self, profile: &Profile, word: Word, form: &Form)
+    /// Takes a word of bus A that has this form, and answers why it ends a block that is not good; `None` where it ends
+    /// none, or a good one.
+    #[inline(always)]
+    pub(crate) fn take_word(&mut self, profile: &Profile, word: Word, form: &Form) -> Option<Why>
         requires { AllowsForm (observer_of self.old) Bus.A (Some form.now) }
-        ensures { self.new ≡ implies_form profile.now Bus.A word (Some form.now) self.old }
+        ensures taken { self.new ≡ implies_form profile.now Bus.A word (Some form.now) self.old }
+        ensures why { result ≡ why_at profile.now form.now self.old.sink }
     {
         let count = self.sink.count();
         self.sink.push(word);
-        self.sink.take(profile, form);
+        let why = self.sink.take(profile, form);
         match *form {
             Form::Sot { .. } => self.begun = true,
             Form::Part(_) => {
@@ -166,6 +159,7 @@ impl ImpliedSink {
             }
             _ => {}
         }
+        why
     }
 
     // Gives an answer of this form.
@@ -213,6 +207,7 @@ impl ImpliedSink {
     }
 
     /// Gives an answer of this form, and leaves the files as they are.
+    #[inline(always)]
     pub(crate) fn take_unfiled(&mut self, profile: &Profile, form: &Form)
         ensures { self.new ≡ with_counts (sees_form profile.now Bus.B 0 (Some form.now) (observer_of self.old)) (unfiled self.old.sink (answers profile.now.codes form.now self.old.sink)) }
     {

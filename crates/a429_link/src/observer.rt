@@ -87,7 +87,9 @@ impl Observer {
         ensures { self.new ≡ sees_form profile.now bus word (Some form.now) self.old }
     {
         match bus {
-            Bus::A => self.sink.take_word(profile, word, form),
+            Bus::A => {
+                self.sink.take_word(profile, word, form);
+            }
             Bus::B => self.sink.take_unfiled(profile, form),
         }
     }

@@ -8,6 +8,7 @@ ghost use Rattle.a429_link.specs.Sink as model;
 ghost use Rattle.a429_link.specs.Sink.{takes, takes_request, takes_start, takes_part, takes_end, in_phase, is_same, is_same_file, may_come, block_with, phase_of, kept_words, without_files, Listens, Owes, held_count, latest_number, HasRoom, nothing_received};
 ghost use Rattle.a429_link.specs.State.{sink_state_of, IsNonEmpty, rest, past_first};
 ghost use Rattle.a429_link.specs.Observer.{HasGrant};
+ghost use Rattle.a429_link.specs.Implied.{why_at};
 ghost use Rattle.a429_link.specs.Why.{block_in, why_bad};
 ghost use Rattle.a429_link.specs.WholeBlock.{EndsBadForm};
 
@@ -204,19 +205,22 @@ impl Sink {
         self.lane.drop_first();
     }
 
-    /// Takes the first word on its way, a word of bus A that has this form.
+    /// Takes the first word on its way, a word of bus A that has this form, and answers why it ends a block that is not
+    /// good; `None` where it ends none, or a good one.
     #[inline(always)]
-    pub(crate) fn take(&mut self, profile: &Profile, form: &Form)
+    pub(crate) fn take(&mut self, profile: &Profile, form: &Form) -> Option<Why>
         requires { IsNonEmpty self.old.to_sink }
-        ensures { self.new ≡ past_first self.old (takes profile.now (slice_index self.old.to_sink 0) form.now self.old.sink) }
+        ensures taken { self.new ≡ past_first self.old (takes profile.now (slice_index self.old.to_sink 0) form.now self.old.sink) }
+        ensures why { result ≡ why_at profile.now form.now self.old.sink }
     {
         match *form {
             Form::Rts { count } => self.take_request(count),
             Form::Sot { gfi, file, ldu } => self.start_block(StartWord { gfi, file, ldu }),
             Form::Part(_) => self.add_word(),
-            Form::Eot { flags, check } => self.end_block(profile, flags, check),
+            Form::Eot { flags, check } => return self.end_block(profile, flags, check),
             Form::Cts { .. } | Form::Ack { .. } | Form::Nak { .. } => self.pass(),
         }
+        None
     }
 
     fn take_request(&mut self, count: u8)
@@ -249,24 +253,27 @@ impl Sink {
         }
     }
 
-    fn end_block(&mut self, profile: &Profile, flags: u8, check: u16)
+    fn end_block(&mut self, profile: &Profile, flags: u8, check: u16) -> Option<Why>
         requires { IsNonEmpty self.old.to_sink }
-        ensures { self.new ≡ past_first self.old (takes_end profile.now flags check self.old.sink) }
+        ensures taken { self.new ≡ past_first self.old (takes_end profile.now flags check self.old.sink) }
+        ensures why { result ≡ why_bad profile.now self.old.sink.last self.old.sink.count (block_in self.old.sink.phase) check }
     {
         self.pass();
+        let why = self.why_bad(profile, check);
         match self.phase {
             Phase::Granted => self.enter(Phase::OwesNak),
-            Phase::InBlock(start) => match self.why_bad(profile, check) {
+            Phase::InBlock(start) => match why {
                 None => self.phase = Phase::OwesAck { start, flags },
                 Some(_) => self.enter(Phase::OwesNak),
             },
             Phase::Quiet | Phase::OwesClear | Phase::OwesAck { .. } | Phase::OwesNak => {}
         }
+        why
     }
 
-    /// Why the block that it is in is not good, ended by a word with this check word; `None` exactly where it is. There
-    /// is none where it is in no block.
-    pub(crate) fn why_bad(&self, profile: &Profile, check: u16) -> Option<Why>
+    // Why the block that it is in is not good, ended by a word with this check word; `None` exactly where it is. There
+    // is none where it is in no block.
+    fn why_bad(&self, profile: &Profile, check: u16) -> Option<Why>
         ensures { result ≡ why_bad profile.now self.now.sink.last self.now.sink.count (block_in self.now.sink.phase) check }
     {
         match self.phase {

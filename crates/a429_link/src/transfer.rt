@@ -203,7 +203,9 @@ impl Transfer {
             return Err(StepFault::NotAllowed);
         };
         match form_of(profile, Bus::A, word) {
-            Some(form) => self.sink.take(profile, &form),
+            Some(form) => {
+                self.sink.take(profile, &form);
+            }
             None => self.sink.pass(),
         }
         Ok(())

@@ -40,6 +40,7 @@ pub fn put_kept<R: Read, W: Write>(
 }
 
 // The next entry, or none at the recording's end.
+#[inline(always)]
 fn next_of<R: Read>(rec: &mut EntryReader<R>) -> Result<Option<Entry>, ReadFault>
     ensures gives { GivesNext rec.old.to_come rec.new.to_come result }
     ensures room { IfEntry result (λ _. rec.new.room < rec.old.room) }
@@ -53,6 +54,7 @@ fn next_of<R: Read>(rec: &mut EntryReader<R>) -> Result<Option<Entry>, ReadFault
 }
 
 // Puts the line of an entry that is kept.
+#[inline(always)]
 fn put_if_kept<W: Write>(profile: &Profile, entry: Entry, sheet: &mut Sheet<'_, W>)
     ensures { Says W.contents sheet.old sheet.new (kept_line profile.now.codes entry) }
 {

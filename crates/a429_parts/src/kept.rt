@@ -9,6 +9,7 @@ use a429_word::Bus;
 
 /// Whether an entry's word has the label that the profile's transfer has on its bus: `to_sink` on bus A,
 /// `to_source` on bus B (profile). A damaged or an ignored word with this label is kept.
+#[inline]
 pub fn is_kept(profile: &Profile, entry: &Entry) -> bool
     ensures { result ≡ true ↔ HasTransferLabel profile.now.codes entry.now }
 {

@@ -4,3 +4,4 @@ pub mod PictureFacts
 pub mod CrossingsFacts
 pub mod SurveyFacts
 pub mod TraceFacts
+pub mod LineFacts

@@ -1,17 +1,18 @@
 //! What a word is to the file transfer, as a text.
 
-ghost use Rattle.std.specs.Prelude.{◌≡◌, ◌++◌, codes, map, None, true};
+ghost use Rattle.std.specs.Prelude.{◌≡◌, ◌++◌, ◌+◌, ◌≤◌, codes, map, length, None, true};
 ghost use Rattle.std.specs.Fmt.{decimal, digit_glyph};
 ghost use Rattle.a429_word.specs.Sheet.{Says};
-ghost use Rattle.a429_word.specs.Digits.{numeral};
 ghost use Rattle.a429_ldu.specs.Form.{form_of};
 ghost use Rattle.a429_view.specs.Forms.{freedom_text, final_text, form_text, reason_or_form_text, what_text};
+ghost use Rattle.a429_view.specs.Line.{Adds, Fits};
 
+use crate::line::Line;
 use a429_ldu::{Form, Freedom, Semis, why_free};
 use a429_link::{form_of, is_final};
 use a429_profile::Profile;
 use a429_record::Entry;
-use a429_word::{Sheet, Word, hex_digit};
+use a429_word::{Sheet, hex_digit};
 use std::io::Write;
 
 /// Puts what a word is to the file transfer of a profile: its form with its numbers, why it is free, or that it
@@ -29,26 +30,26 @@ pub fn put_what<W: Write>(sheet: &mut Sheet<'_, W>, profile: &Profile, entry: &E
 fn put_form_if_any<W: Write>(sheet: &mut Sheet<'_, W>, profile: &Profile, entry: &Entry)
     ensures { Says W.contents sheet.old sheet.new (reason_or_form_text profile.now.codes None (form_of profile.now.codes entry.now.bus entry.now.word)) }
 {
-    put_form_or_none(sheet, profile, form_of(profile, entry.bus, entry.word));
+    let mut line = Line::new();
+    add_form_or_none(&mut line, profile, form_of(profile, entry.bus, entry.word));
+    sheet.put(line.as_slice());
 }
 
-/// Puts the form of a word that is not free, or that it has none.
-pub(crate) fn put_form_or_none<W: Write>(
-    sheet: &mut Sheet<'_, W>,
-    profile: &Profile,
-    form: Option<Form>,
-)
-    ensures { Says W.contents sheet.old sheet.new (reason_or_form_text profile.now.codes None form) }
+/// Adds the form of a word that is not free, or that it has none.
+pub(crate) fn add_form_or_none(line: &mut Line, profile: &Profile, form: Option<Form>)
+    requires { Fits line.old 31 }
+    ensures { Adds line.old line.new 30 (reason_or_form_text profile.now.codes None form) }
 {
     match form {
-        Some(form) => put_form(sheet, profile, form),
-        None => sheet.put(b"no form"),
+        Some(form) => add_form(line, profile, form),
+        None => line.put(b"no form"),
     }
 }
 
 /// Why the transfer passes over a word.
 pub(crate) fn freedom(why: Freedom) -> &'static [u8]
-    ensures { result.now ≡ freedom_text why }
+    ensures text { result.now ≡ freedom_text why }
+    ensures most { length result.now ≤ 11 }
 {
     match why {
         Freedom::BadParity => b"free parity",
@@ -58,29 +59,72 @@ pub(crate) fn freedom(why: Freedom) -> &'static [u8]
     }
 }
 
-/// A form with its numbers.
-pub(crate) fn put_form<W: Write>(sheet: &mut Sheet<'_, W>, profile: &Profile, form: Form)
-    ensures { Says W.contents sheet.old sheet.new (form_text profile.now.codes form) }
+/// Adds a form with its numbers.
+pub(crate) fn add_form(line: &mut Line, profile: &Profile, form: Form)
+    requires { Fits line.old 31 }
+    ensures { Adds line.old line.new 30 (form_text profile.now.codes form) }
 {
     match form {
-        Form::Rts { count } => put_named(sheet, b"rts ", count),
-        Form::Cts { count } => put_named(sheet, b"cts ", count),
-        Form::Ack { file, ldu } => put_unit(sheet, b"ack ", file, ldu),
+        Form::Rts { count } => add_named(line, b"rts ", count),
+        Form::Cts { count } => add_named(line, b"cts ", count),
+        Form::Ack { file, ldu } => add_unit(line, b"ack ", file, ldu),
         Form::Nak { bits } => {
-            sheet.put(b"nak ");
-            put_hex(sheet, bits)
+            line.put(b"nak ");
+            line.put_hex(bits)
         }
         Form::Sot { gfi, file, ldu } => {
-            put_unit(sheet, b"sot ", file, ldu);
-            put_named(sheet, b" gfi ", gfi)
+            add_unit(line, b"sot ", file, ldu);
+            add_named(line, b" gfi ", gfi)
         }
-        Form::Part(semis) => put_semis(sheet, semis),
+        Form::Part(semis) => add_semis(line, semis),
         Form::Eot { flags, check } => {
-            put_named(sheet, b"eot flags ", flags);
-            sheet.put(b" check ");
-            put_hex(sheet, check);
-            put_final(sheet, is_final(profile, flags))
+            add_named(line, b"eot flags ", flags);
+            line.put(b" check ");
+            line.put_hex(check);
+            add_final(line, is_final(profile, flags))
         }
+    }
+}
+
+/// Adds a name, and a number after it.
+#[inline(always)]
+pub(crate) fn add_named(line: &mut Line, name: &[u8], number: u8)
+    requires { Fits line.old (length name.now + 4) }
+    ensures { Adds line.old line.new (length name.now + 3) (name.now ++ decimal number) }
+{
+    line.put(name);
+    line.put_byte(number);
+}
+
+/// Adds a name, and the number of a link data unit after it.
+#[inline(always)]
+pub(crate) fn add_unit(line: &mut Line, name: &[u8], file: u8, ldu: u8)
+    requires { Fits line.old (length name.now + 8) }
+    ensures { Adds line.old line.new (length name.now + 7) (name.now ++ decimal file ++ codes " " ++ decimal ldu) }
+{
+    add_named(line, name, file);
+    add_named(line, b" ", ldu);
+}
+
+// The semi-octets of a data word in their order, a hexadecimal digit each.
+#[inline(always)]
+fn add_semis(line: &mut Line, semis: Semis)
+    requires { Fits line.old 10 }
+    ensures { Adds line.old line.new 10 (codes "data " ++ map (digit_glyph true) semis) }
+{
+    line.put(b"data ");
+    let semis = semis.as_slice();
+    for i in 0..semis.len() {
+        line.put(&[hex_digit(semis[i])]);
+    }
+}
+
+fn add_final(line: &mut Line, is_final: bool)
+    requires { Fits line.old 6 }
+    ensures { Adds line.old line.new 6 (final_text is_final) }
+{
+    if is_final {
+        line.put(b" final");
     }
 }
 
@@ -90,39 +134,4 @@ pub(crate) fn put_named<W: Write>(sheet: &mut Sheet<'_, W>, name: &[u8], number:
 {
     sheet.put(name);
     sheet.put_number(u64::from(number));
-}
-
-/// A name, and the number of a link data unit after it.
-pub(crate) fn put_unit<W: Write>(sheet: &mut Sheet<'_, W>, name: &[u8], file: u8, ldu: u8)
-    ensures { Says W.contents sheet.old sheet.new (name.now ++ decimal file ++ codes " " ++ decimal ldu) }
-{
-    put_named(sheet, name, file);
-    put_named(sheet, b" ", ldu);
-}
-
-/// Sixteen bits in four hexadecimal digits.
-pub(crate) fn put_hex<W: Write>(sheet: &mut Sheet<'_, W>, bits: u16)
-    ensures { Says W.contents sheet.old sheet.new (numeral 16 4 bits) }
-{
-    let hex = Word::from_u32(u32::from(bits)).hex();
-    sheet.put(&hex[4..]);
-}
-
-// The semi-octets of a data word in their order, a hexadecimal digit each.
-fn put_semis<W: Write>(sheet: &mut Sheet<'_, W>, semis: Semis)
-    ensures { Says W.contents sheet.old sheet.new (codes "data " ++ map (digit_glyph true) semis) }
-{
-    sheet.put(b"data ");
-    let semis = semis.as_slice();
-    for i in 0..semis.len() {
-        sheet.put(&[hex_digit(semis[i])]);
-    }
-}
-
-fn put_final<W: Write>(sheet: &mut Sheet<'_, W>, is_final: bool)
-    ensures { Says W.contents sheet.old sheet.new (final_text is_final) }
-{
-    if is_final {
-        sheet.put(b" final");
-    }
 }

@@ -3,6 +3,7 @@
 
 mod forms;
 pub mod laws;
+mod line;
 mod mark;
 mod picture;
 mod sketch;

@@ -10,7 +10,7 @@ ghost use Rattle.a429_view.specs.Trace.{GoesOn, IsTrace, IsTraceStop, has_line, 
 
 pub(crate) mod text;
 
-use crate::trace::text::{put_allowed, put_free, put_head, put_refused};
+use crate::trace::text::{put_allowed, put_free, put_refused};
 use a429_cert::seen;
 use a429_ldu::{Form, Sight, form};
 use a429_link::{Crossing, Doing, ImpliedSink};
@@ -86,10 +86,7 @@ impl Trace {
             return Ok(());
         }
         match form(profile, entry.bus, entry.word) {
-            Sight::Free => {
-                put_head(sheet, number, entry);
-                put_free(sheet, profile, entry);
-            }
+            Sight::Free => put_free(sheet, profile, number, entry),
             Sight::Form(form) => {
                 if !self.sink.allows(entry.bus, &form) {
                     return Err(self.refuse(sheet, profile, entry, Sight::Form(form)));
@@ -97,8 +94,7 @@ impl Trace {
                 let Ok(doing) = self.take(alloc, profile, entry, &form) else {
                     return Err(TraceStop::OutOfMemory);
                 };
-                put_head(sheet, number, entry);
-                put_allowed(sheet, profile, form, doing);
+                put_allowed(sheet, profile, number, entry, form, doing);
             }
             Sight::NoForm => return Err(self.refuse(sheet, profile, entry, Sight::NoForm)),
         }
@@ -117,8 +113,8 @@ impl Trace {
         ensures stop { result ≡ TraceStop.Refused sight }
         ensures line { Says W.contents sheet.old sheet.new (head_text self.now.entries entry.now ++ refused_text profile.now.codes (form_in sight) self.now.sink) }
     {
-        put_head(sheet, self.entries, entry);
-        put_refused(sheet, profile, sight.form(), self.sink.next());
+        let next = self.sink.next();
+        put_refused(sheet, profile, self.entries, entry, sight.form(), next);
         TraceStop::Refused(sight)
     }
 

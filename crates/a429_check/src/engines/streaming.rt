@@ -10,6 +10,7 @@ use a429_word::Failing;
 use std::io::Read;
 
 /// The next entry, or none at the recording's end.
+#[inline(always)]
 pub(crate) fn next_entry<R: Read>(rec: &mut EntryReader<R>) -> Result<Option<Entry>, RunFault>
     ensures gives { IfOk result (λ o. GivesNext rec.old.to_come rec.new.to_come (Ok o)) }
     ensures counts { IfOk result (λ o. IfSome o (λ _. (rec.new.count ≡ rec.old.count + 1) × (rec.new.count < 2 ^ 64))) }

@@ -5,88 +5,121 @@ ghost use Rattle.std.specs.Fmt.{decimal};
 ghost use Rattle.a429_word.specs.Sheet.{Says};
 ghost use Rattle.a429_ldu.specs.Freedom.{freedom_of};
 ghost use Rattle.a429_link.specs.Allowed.{kinds_of_next};
+ghost use Rattle.a429_record.specs.Writing.{entry_text};
 ghost use Rattle.a429_view.specs.Forms.{form_text, reason_or_form_text};
+ghost use Rattle.a429_view.specs.Line.{Adds, Fits};
 ghost use Rattle.a429_view.specs.Trace.{crossing_text, doing_text, else_form_text, else_text, free_text, head_text, kinds_text, turned_over, why_text, words_text};
 
-use crate::forms::{freedom, put_form, put_form_or_none, put_hex, put_named, put_unit};
+use crate::forms::{add_form, add_form_or_none, add_named, add_unit, freedom};
+use crate::line::Line;
 use a429_ldu::{Form, Freedom, why_free};
 use a429_link::{Crossing, Doing, Next, Why, form_of};
 use a429_profile::Profile;
-use a429_record::{Entry, put_parts};
+use a429_record::Entry;
 use a429_word::{Bus, Sheet, Word};
 use std::io::Write;
 
-/// How a line begins: the number of the entry, and what was recorded.
-pub(crate) fn put_head<W: Write>(sheet: &mut Sheet<'_, W>, number: usize, entry: &Entry)
-    ensures { Says W.contents sheet.old sheet.new (head_text number entry.now) }
+/// Puts the line of an entry, whose word is free.
+pub(crate) fn put_free<W: Write>(
+    sheet: &mut Sheet<'_, W>,
+    profile: &Profile,
+    number: usize,
+    entry: &Entry,
+)
+    ensures { Says W.contents sheet.old sheet.new (head_text number entry.now ++ (free_text profile.now.codes entry.now.bus entry.now.word (freedom_of profile.now.codes entry.now.bus entry.now.word) ++ codes "\n")) }
 {
-    sheet.put_number(number as u64);
-    sheet.put(b" ");
-    put_parts(sheet, *entry, b' ', b' ');
+    let mut line = Line::new();
+    add_head(&mut line, number, entry);
+    add_freedom(&mut line, profile, entry.bus, entry.word);
+    line.put(b"\n");
+    sheet.put(line.as_slice());
 }
 
-/// How the line of a free word ends.
-pub(crate) fn put_free<W: Write>(sheet: &mut Sheet<'_, W>, profile: &Profile, entry: &Entry)
-    ensures { Says W.contents sheet.old sheet.new (free_text profile.now.codes entry.now.bus entry.now.word (freedom_of profile.now.codes entry.now.bus entry.now.word) ++ codes "\n") }
-{
-    put_freedom(sheet, profile, entry.bus, entry.word);
-    sheet.put(b"\n");
-}
-
-/// How the line of a word ends that has this allowed form, after which the sink does this.
+/// Puts the line of an entry, whose word has this allowed form, after which the sink does this.
 pub(crate) fn put_allowed<W: Write>(
     sheet: &mut Sheet<'_, W>,
     profile: &Profile,
+    number: usize,
+    entry: &Entry,
     form: Form,
     doing: Doing,
 )
-    ensures { Says W.contents sheet.old sheet.new (form_text profile.now.codes form ++ (codes " | " ++ doing_text doing) ++ codes "\n") }
+    ensures { Says W.contents sheet.old sheet.new (head_text number entry.now ++ (form_text profile.now.codes form ++ (codes " | " ++ doing_text doing) ++ codes "\n")) }
 {
-    put_form(sheet, profile, form);
-    sheet.put(b" | ");
-    put_doing(sheet, doing);
-    sheet.put(b"\n");
+    let mut line = Line::new();
+    add_head(&mut line, number, entry);
+    add_form(&mut line, profile, form);
+    line.put(b" | ");
+    add_doing(&mut line, doing);
+    line.put(b"\n");
+    sheet.put(line.as_slice());
 }
 
-/// How the line of a word ends that has this form, or none, and is not allowed; what would be is in it.
+/// Puts the line of an entry, whose word has this form, or none, and is not allowed; what would be is in it.
 pub(crate) fn put_refused<W: Write>(
     sheet: &mut Sheet<'_, W>,
     profile: &Profile,
+    number: usize,
+    entry: &Entry,
     form: Option<Form>,
     next: Next,
 )
-    ensures { Says W.contents sheet.old sheet.new (reason_or_form_text profile.now.codes None form ++ codes " | refused, allowed: " ++ kinds_text (kinds_of_next next) ++ codes "\n") }
+    ensures { Says W.contents sheet.old sheet.new (head_text number entry.now ++ (reason_or_form_text profile.now.codes None form ++ codes " | refused, allowed: " ++ kinds_text (kinds_of_next next) ++ codes "\n")) }
 {
-    put_form_or_none(sheet, profile, form);
-    sheet.put(b" | refused, allowed: ");
-    put_next(sheet, next);
-    sheet.put(b"\n");
+    let mut line = Line::new();
+    add_head(&mut line, number, entry);
+    add_form_or_none(&mut line, profile, form);
+    line.put(b" | refused, allowed: ");
+    add_next(&mut line, next);
+    line.put(b"\n");
+    sheet.put(line.as_slice());
+}
+
+// How a line begins: the number of the entry, and what was recorded.
+#[inline(always)]
+fn add_head(line: &mut Line, number: usize, entry: &Entry)
+    requires { Fits line.old 53 }
+    ensures { Adds line.old line.new 53 (head_text number entry.now) }
+{
+    line.put_number(number as u64);
+    line.put(b" ");
+    add_entry(line, entry);
+}
+
+// What was recorded: the time, the bus and the word, a space after each.
+#[inline(always)]
+fn add_entry(line: &mut Line, entry: &Entry)
+    requires { Fits line.old 32 }
+    ensures { Adds line.old line.new 32 (entry_text 32 32 entry.now) }
+{
+    line.put_number(entry.time);
+    let letter = entry.bus.letter().as_bytes()[0];
+    let hex = entry.word.hex();
+    line.put(&[
+        b' ', letter, b' ', hex[0], hex[1], hex[2], hex[3], hex[4], hex[5], hex[6], hex[7], b' ',
+    ]);
 }
 
 // Why a word is free, and what it would be.
-fn put_freedom<W: Write>(sheet: &mut Sheet<'_, W>, profile: &Profile, bus: Bus, word: Word)
-    ensures { Says W.contents sheet.old sheet.new (free_text profile.now.codes bus word (freedom_of profile.now.codes bus word)) }
+fn add_freedom(line: &mut Line, profile: &Profile, bus: Bus, word: Word)
+    requires { Fits line.old 49 }
+    ensures { Adds line.old line.new 48 (free_text profile.now.codes bus word (freedom_of profile.now.codes bus word)) }
 {
     if let Some(why) = why_free(profile, bus, word) {
-        sheet.put(freedom(why));
-        put_else(sheet, profile, bus, word, why);
+        line.put(freedom(why));
+        add_else(line, profile, bus, word, why);
     }
 }
 
 // What a word of even parity would be with bit 32 turned over, where that is a form.
-fn put_else<W: Write>(
-    sheet: &mut Sheet<'_, W>,
-    profile: &Profile,
-    bus: Bus,
-    word: Word,
-    why: Freedom,
-)
-    ensures { Says W.contents sheet.old sheet.new (else_text profile.now.codes bus word why) }
+fn add_else(line: &mut Line, profile: &Profile, bus: Bus, word: Word, why: Freedom)
+    requires { Fits line.old 38 }
+    ensures { Adds line.old line.new 37 (else_text profile.now.codes bus word why) }
 {
     match why {
         Freedom::BadParity => {
             let turned = turned_over(word);
-            put_else_form(sheet, profile, form_of(profile, bus, turned));
+            add_else_form(line, profile, form_of(profile, bus, turned));
         }
         Freedom::OtherLabel | Freedom::IgnoredType | Freedom::IgnoredCode => {}
     }
@@ -99,102 +132,108 @@ fn turned_over(word: Word) -> Word
     Word::from_u32(word.to_u32() ^ 0x8000_0000)
 }
 
-fn put_else_form<W: Write>(sheet: &mut Sheet<'_, W>, profile: &Profile, form: Option<Form>)
-    ensures { Says W.contents sheet.old sheet.new (else_form_text profile.now.codes form) }
+fn add_else_form(line: &mut Line, profile: &Profile, form: Option<Form>)
+    requires { Fits line.old 38 }
+    ensures { Adds line.old line.new 37 (else_form_text profile.now.codes form) }
 {
     if let Some(form) = form {
-        sheet.put(b", else ");
-        put_form(sheet, profile, form);
+        line.put(b", else ");
+        add_form(line, profile, form);
     }
 }
 
 // What the sink does.
-fn put_doing<W: Write>(sheet: &mut Sheet<'_, W>, doing: Doing)
-    ensures { Says W.contents sheet.old sheet.new (doing_text doing) }
+fn add_doing(line: &mut Line, doing: Doing)
+    requires { Fits line.old 70 }
+    ensures { Adds line.old line.new 68 (doing_text doing) }
 {
     match doing {
-        Doing::Quiet => sheet.put(b"quiet"),
-        Doing::OwesClear(count) => put_named(sheet, b"owes cts ", count),
-        Doing::Granted(count) => put_named(sheet, b"granted ", count),
+        Doing::Quiet => line.put(b"quiet"),
+        Doing::OwesClear(count) => add_named(line, b"owes cts ", count),
+        Doing::Granted(count) => add_named(line, b"granted ", count),
         Doing::InBlock {
             file,
             ldu,
             taken,
             asked,
         } => {
-            put_unit(sheet, b"in block ", file, ldu);
-            sheet.put(b", ");
-            put_words(sheet, taken, asked);
+            add_unit(line, b"in block ", file, ldu);
+            line.put(b", ");
+            add_words(line, taken, asked);
         }
-        Doing::OwesAck { file, ldu } => put_unit(sheet, b"owes ack ", file, ldu),
+        Doing::OwesAck { file, ldu } => add_unit(line, b"owes ack ", file, ldu),
         Doing::OwesNak(why) => {
-            sheet.put(b"owes nak, ");
-            put_why(sheet, why);
+            line.put(b"owes nak, ");
+            add_why(line, why);
         }
         Doing::Accepts {
             file,
             ldu,
             crossing,
         } => {
-            put_unit(sheet, b"quiet, accepts ", file, ldu);
-            put_crossing(sheet, crossing);
+            add_unit(line, b"quiet, accepts ", file, ldu);
+            add_crossing(line, crossing);
         }
-        Doing::Again { file, ldu } => put_unit(sheet, b"quiet, again ", file, ldu),
+        Doing::Again { file, ldu } => add_unit(line, b"quiet, again ", file, ldu),
     }
 }
 
 // Data words of those that were asked for.
-fn put_words<W: Write>(sheet: &mut Sheet<'_, W>, taken: usize, asked: u8)
-    ensures { Says W.contents sheet.old sheet.new (words_text taken asked) }
+fn add_words(line: &mut Line, taken: usize, asked: u8)
+    requires { Fits line.old 39 }
+    ensures { Adds line.old line.new 38 (words_text taken asked) }
 {
-    sheet.put_number(taken as u64);
-    sheet.put(b" of ");
-    sheet.put_number(u64::from(asked));
-    sheet.put(b" data words");
+    line.put_number(taken as u64);
+    line.put(b" of ");
+    line.put_byte(asked);
+    line.put(b" data words");
 }
 
-fn put_why<W: Write>(sheet: &mut Sheet<'_, W>, why: Why)
-    ensures { Says W.contents sheet.old sheet.new (why_text why) }
+fn add_why(line: &mut Line, why: Why)
+    requires { Fits line.old 39 }
+    ensures { Adds line.old line.new 38 (why_text why) }
 {
     match why {
-        Why::NoStart => sheet.put(b"no start word"),
-        Why::OtherCount { words, asked } => put_words(sheet, words, asked),
+        Why::NoStart => line.put(b"no start word"),
+        Why::OtherCount { words, asked } => add_words(line, words, asked),
         Why::HalfBytes(semis) => {
-            sheet.put_number(semis as u64);
-            sheet.put(b" semi-octets");
+            line.put_number(semis as u64);
+            line.put(b" semi-octets");
         }
         Why::OtherCheck(check) => {
-            sheet.put(b"check word ");
-            put_hex(sheet, check);
+            line.put(b"check word ");
+            line.put_hex(check);
         }
-        Why::OutOfSequence => sheet.put(b"out of sequence"),
+        Why::OutOfSequence => line.put(b"out of sequence"),
     }
 }
 
-fn put_crossing<W: Write>(sheet: &mut Sheet<'_, W>, crossing: Option<Crossing>)
-    ensures { Says W.contents sheet.old sheet.new (crossing_text crossing) }
+fn add_crossing(line: &mut Line, crossing: Option<Crossing>)
+    requires { Fits line.old 47 }
+    ensures { Adds line.old line.new 46 (crossing_text crossing) }
 {
     if let Some(file) = crossing {
-        put_named(sheet, b", file ", file.number);
-        sheet.put(b" crosses, ");
-        sheet.put_number(file.bytes as u64);
-        sheet.put(b" bytes");
+        add_named(line, b", file ", file.number);
+        line.put(b" crosses, ");
+        line.put_number(file.bytes as u64);
+        line.put(b" bytes");
     }
 }
 
 // What may come next, a comma between one and the other.
-fn put_next<W: Write>(sheet: &mut Sheet<'_, W>, next: Next)
-    ensures { Says W.contents sheet.old sheet.new (kinds_text (kinds_of_next next)) }
+fn add_next(line: &mut Line, next: Next)
+    requires { Fits line.old 22 }
+    ensures { Adds line.old line.new 21 (kinds_text (kinds_of_next next)) }
 {
     match next {
-        Next::Request => sheet.put(b"rts"),
-        Next::Clear(count) => put_named(sheet, b"rts, cts ", count),
-        Next::Block { start, data: more } => sheet.put(block_kinds(start, more)),
+        Next::Request => line.put(b"rts"),
+        Next::Clear(count) => add_named(line, b"rts, cts ", count),
+        Next::Block { start, data: more } => line.put(block_kinds(start, more)),
         Next::Ack { file, ldu } => {
-            put_unit(sheet, b"rts, ack ", file, ldu);
-            sheet.put(b", nak");
+            add_unit(line, b"rts, ack ", file, ldu);
+            line.put(b", nak");
         }
-        Next::Nak => sheet.put(b"rts, nak"),
+        Next::Nak => line.put(b"rts, nak"),
     }
 }
 

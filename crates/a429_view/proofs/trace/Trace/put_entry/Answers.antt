@@ -1,6 +1,6 @@
 use Rattle.std.proofs.Common.{◌++◌, Option, Some, None, sym, ap, ◌∙◌, subst}
 use Rattle.a429_word.specs.Sheet.{Says}
-use Rattle.a429_word.proofs.SheetFacts.{◌▹◌, says_nothing}
+use Rattle.a429_word.proofs.SheetFacts.{says_nothing}
 use Rattle.a429_ldu.specs.declared.forms.Form.{Form}
 use Rattle.a429_ldu.specs.declared.sight.Sight.TheVariants as sight
 use Rattle.a429_view.specs.declared.trace.Trace.{Trace}
@@ -71,8 +71,8 @@ returns-clause-line g c =
     elim c.match-form.branch [
       | in-Free w ↦
           let known = knows p.codes e.bus e.word sight.Free (sym w.in-Free.is ∙ c.form.ensures.computed) in
-          rw (w.sheet-is, free_line p old.entries old.sink e line known.0) (w.put_head.ensures ▹ w.put_free.ensures)
+          rw (w.sheet-is, free_line p old.entries old.sink e line known.0) w.put_free.ensures
       | in-Form+else-not-allows+in-Ok w ↦
           let known = knows p.codes e.bus e.word (sight.Form w.in-Form.form) (sym w.in-Form.is ∙ c.form.ensures.computed) in
-          rw (w.sheet-is, allowed_line p old.entries old.sink e w.in-Form.form line known.1 known.2) (w.put_head-in-Form.ensures ▹ (rw w.in-Ok.ensures.does at w.put_allowed.ensures))
+          rw (w.sheet-is, allowed_line p old.entries old.sink e w.in-Form.form line known.1 known.2) (rw w.in-Ok.ensures.does at w.put_allowed.ensures)
     ]

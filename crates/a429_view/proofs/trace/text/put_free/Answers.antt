@@ -1,5 +1,9 @@
-use Rattle.a429_word.proofs.SheetFacts.{◌▹◌}
+use Rattle.std.proofs.Common.{◌++◌, ◌∙◌, codes, append_assoc, subst, sym}
+use Rattle.a429_word.specs.Sheet.{Says}
+use Rattle.a429_view.proofs.LineFacts.{◌▹◌}
 use Rattle.a429_view.proofs.trace.text.put_free.Goals as goal
 
 pub returns : goal.returns
-returns g c = c.put_freedom.ensures ▹ c.put.ensures
+returns g c =
+    let text = c.add_head.ensures ▹ (c.add_freedom.ensures ▹ c.put.ensures) in
+    rw (c.as_slice.ensures, text.added, c.new-line.ensures) at c.put-2.ensures
