@@ -24,6 +24,7 @@ mod stream;
 mod stream_end;
 mod stream_fault;
 mod stream_head;
+mod stream_next;
 mod verified;
 mod version;
 mod words;
