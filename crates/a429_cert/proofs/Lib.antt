@@ -26,6 +26,7 @@ pub mod StreamRefused
 pub mod ToldFacts
 pub mod ToldRefused
 pub mod StreamLine
+pub mod PairFacts
 pub mod StreamNextFacts
 pub mod StreamEndFacts
 pub mod BreakOffFacts

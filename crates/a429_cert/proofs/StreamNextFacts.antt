@@ -18,7 +18,7 @@ use Rattle.a429_cert.specs.Told.{Hearing, HearsText, listening, position}
 use Rattle.a429_cert.specs.Series.{SeriesValue, RefusesPart}
 use Rattle.a429_cert.specs.Stream.{GainsAll, PassesOver, sizes}
 use Rattle.a429_cert.specs.StreamExplained.{compared, HearsBefore, IsStreamFault, Refuses, WhereTold}
-use Rattle.a429_cert.specs.StreamNext.{Progress, Unread, TakesNone, TakesOne, Stops, at_next, progress}
+use Rattle.a429_cert.specs.StreamNext.{Progress, Unread, TakesNone, TakesOne, TakesSome, Stops, at_next, progress}
 use Rattle.a429_cert.proofs.BreakOffFacts.{IsPlaceOf, between_breaks, stop_breaks}
 use Rattle.a429_cert.proofs.SeriesFacts.{IsIn, part_on, part_stopped, part_stops}
 use Rattle.a429_cert.proofs.StreamFacts.{noted_on, put_on}
@@ -54,7 +54,7 @@ pub record Walks {S T : Type 0} (files : S → Option (List PutFile)) (hears : H
   pub version : w.replay.version ≡ d.version
 
 -- it goes on
-pub walks_one : {S T : Type 0} (files : S → Option (List PutFile)) (hears : Hearing T) (p : Contents) (from : Beginning S T) (d : Head) (old new : Progress S T)
+walks_one : {S T : Type 0} (files : S → Option (List PutFile)) (hears : Hearing T) (p : Contents) (from : Beginning S T) (d : Head) (old new : Progress S T)
     → Walks files hears p from d old → TakesOne files hears old new → Walks files hears p from d new
 walks_one files hears p from d old new v h =
     let s = old.replay.link.state in
@@ -85,6 +85,11 @@ walks_one files hears p from d old new v h =
       profile = ap (λ (w : Replay). w.profile.now) h.kept ∙ v.profile;
       version = ap (λ (w : Replay). w.version) h.kept ∙ v.version;
     }
+
+pub walks_some : {S T : Type 0} (files : S → Option (List PutFile)) (hears : Hearing T) (p : Contents) (from : Beginning S T) (d : Head) (old new : Progress S T)
+    → Walks files hears p from d old → TakesSome files hears old new → Walks files hears p from d new
+walks_some files hears p from d old new v (inl h) = walks_one files hears p from d old new v h
+walks_some files hears p from d old new v (inr h) = walks_one files hears p from d h.0 new (walks_one files hears p from d old h.0 v h.1) h.2
 
 -- no line is left
 pub ended_walks : {S T : Type 0} (files : S → Option (List PutFile)) (hears : Hearing T) (p : Contents) (from : Beginning S T) (d : Head) (old new : Progress S T)
@@ -146,7 +151,7 @@ pub record WalksPart (old : SeriesValue) (known : Option (List ℕ)) (first : Op
   pub profile : replay.profile.now ≡ old.profile
   pub version : replay.version ≡ d.version
 
-pub part_one : {S T : Type 0} (files : S → Option (List PutFile)) (hears : Hearing T) (old : SeriesValue) (known : Option (List ℕ)) (first : Option Recording) (d : Head) (before after : Progress S T)
+part_one : {S T : Type 0} (files : S → Option (List PutFile)) (hears : Hearing T) (old : SeriesValue) (known : Option (List ℕ)) (first : Option Recording) (d : Head) (before after : Progress S T)
     → WalksPart old known first d before.replay before.left before.recording → TakesOne files hears before after → WalksPart old known first d after.replay after.left after.recording
 part_one files hears old known first d before after v h =
     let p = old.profile in
@@ -169,6 +174,11 @@ part_one files hears old known first d before after v h =
       profile = ap (λ (w : Replay). w.profile.now) h.kept ∙ v.profile;
       version = ap (λ (w : Replay). w.version) h.kept ∙ v.version;
     }
+
+pub part_some : {S T : Type 0} (files : S → Option (List PutFile)) (hears : Hearing T) (old : SeriesValue) (known : Option (List ℕ)) (first : Option Recording) (d : Head) (before after : Progress S T)
+    → WalksPart old known first d before.replay before.left before.recording → TakesSome files hears before after → WalksPart old known first d after.replay after.left after.recording
+part_some files hears old known first d before after v (inl h) = part_one files hears old known first d before after v h
+part_some files hears old known first d before after v (inr h) = part_one files hears old known first d h.0 after (part_one files hears old known first d before h.0 v h.1) h.2
 
 -- no line is left
 pub ended_part : {S T : Type 0} (old : SeriesValue) (known : Option (List ℕ)) (first : Option Recording) (d : Head) (before after : Progress S T)

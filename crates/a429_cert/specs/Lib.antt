@@ -16,6 +16,7 @@ pub mod Shelf
 pub mod Stream
 pub mod StreamHead
 pub mod StreamNext
+pub mod Pair
 pub mod StreamEnd
 pub mod StreamExplained
 pub mod BreakOff

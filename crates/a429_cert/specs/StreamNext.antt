@@ -29,16 +29,20 @@ at_next replay = record replay { lines = replay.lines + 1 }
 -- ---- it goes on
 
 -- over the next line, whose step uses so many entries and is reported, and all that the step delivers is put
-pub record TakesOne {S T : Type 0} (shelved : S → Option (List PutFile)) (hears : Hearing T) (old new : Progress S T) : Type 0 where
+pub record TakesOne {S T : Type 0} (files : S → Option (List PutFile)) (hears : Hearing T) (old new : Progress S T) : Type 0 where
   pub line : Option (List ℕ)
   pub used : ℕ
   pub given : GivesLine old.left new.left line true
-  pub goes_on : GoesOn shelved (taking old.replay line (change old.recording new.recording) (change old.shelf new.shelf)) new.replay used
+  pub goes_on : GoesOn files (taking old.replay line (change old.recording new.recording) (change old.shelf new.shelf)) new.replay used
   pub heard : HearsLine (listening hears old.listener new.listener) old.replay line old.recording.to_come
   pub few : used ≤ 1
   pub counts : new.recording.count ≡ old.recording.count + used
   pub kept : new.replay ≡ record (old.replay) { link = new.replay.link; files = new.replay.files; lines = old.replay.lines + 1; used = old.replay.used + used }
   pub profile : new.replay.link.profile ≡ old.replay.profile.now
+
+-- or over the next two, one after the other
+abbrev pub TakesSome : {S T : Type 0} → (S → Option (List PutFile)) → Hearing T → Progress S T → Progress S T → Type 0
+TakesSome {S} {T} files hears old new = TakesOne files hears old new ⊎ ((mid : Progress S T) × TakesOne files hears old mid × TakesOne files hears mid new)
 
 -- ---- no line is left
 
@@ -72,13 +76,13 @@ pub record StopsInLine {S T : Type 0} (reader : Unread) (old new : Progress S T)
   pub shelf : new.shelf ≡ old.shelf
 
 -- at the next line, after which these bytes were read
-pub record StopsAtNext {S T : Type 0} (shelved : S → Option (List PutFile)) (failed : S → Bool) (broken : T → Bool) (reader : Unread) (old new : Progress S T) (f : StreamFault) : Type 0 where
+pub record StopsAtNext {S T : Type 0} (files : S → Option (List PutFile)) (failed : S → Bool) (broken : T → Bool) (reader : Unread) (old new : Progress S T) (f : StreamFault) : Type 0 where
   pub line : Option (List ℕ)
   pub ahead : List ℕ
   pub few : length ahead ≤ 2288
   pub given : GivesLine old.left (prepend_known ahead reader.bytes) line true
-  pub stopped : StopsAt shelved failed (broken new.listener) (taking (at_next old.replay) line (change old.recording new.recording) (change old.shelf new.shelf)) f
+  pub stopped : StopsAt files failed (broken new.listener) (taking (at_next old.replay) line (change old.recording new.recording) (change old.shelf new.shelf)) f
   pub untold : IsUntold old.listener new.listener f
 
 abbrev pub Stops : {S T : Type 0} → (S → Option (List PutFile)) → (S → Bool) → (T → Bool) → Unread → Progress S T → Progress S T → StreamFault → Type 0
-Stops shelved failed broken reader old new f = StopsInLine reader old new f ⊎ StopsAtNext shelved failed broken reader old new f
+Stops files failed broken reader old new f = StopsInLine reader old new f ⊎ StopsAtNext files failed broken reader old new f

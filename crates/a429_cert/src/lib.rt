@@ -14,6 +14,7 @@ mod line_reader;
 mod lines;
 mod listed;
 mod listener;
+mod pair;
 mod passing;
 mod reading;
 mod series;

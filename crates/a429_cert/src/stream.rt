@@ -101,15 +101,7 @@ pub fn replay_stream<R: Read, C: Read, S: Shelf, T: Listener>(
     };
     let mut replay = Replay::start(alloc, profile, head);
     'lines: loop {
-        let found = match take_next(
-            &mut replay,
-            &words,
-            &mut lines,
-            cert,
-            rec,
-            shelf,
-            listener,
-        ) {
+        let found = match take_next(&mut replay, &words, &mut lines, cert, rec, shelf, listener) {
             Ok(found) => found,
             Err(fault) => return Err(fault),
         };
@@ -224,7 +216,7 @@ impl<'a> Replay<'a> {
 }
 
 // An entry with its number.
-fn numbered(number: usize, entry: Option<Entry>) -> Option<(usize, Entry)>
+pub fn numbered(number: usize, entry: Option<Entry>) -> Option<(usize, Entry)>
     ensures { result ≡ with_number number entry }
 {
     Some((number, entry?))

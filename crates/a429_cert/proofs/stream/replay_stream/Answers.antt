@@ -1,6 +1,6 @@
 use Rattle.std.proofs.Common.{◌≡◌, ℕ, List, [], true, length, ap, refl, arith}
 use Rattle.a429_cert.specs.StreamNext.{progress, unread_of}
-use Rattle.a429_cert.proofs.StreamNextFacts.{ended_walks, stop_place, stop_refuses, stop_untold, walks_one}
+use Rattle.a429_cert.proofs.StreamNextFacts.{ended_walks, stop_place, stop_refuses, stop_untold, walks_some}
 use Rattle.a429_cert.proofs.StreamRefused.{told_head}
 use Rattle.a429_link.specs.State.{State, start}
 use Rattle.a429_link.specs.Link.{LinkValue}
@@ -129,7 +129,7 @@ lines-preserved g c =
     let found : c.in-Ok-take_next.found ≡ true = c.if-not-found.false in
     record {
       head = v.head;
-      walks = walks_one g.S.Shelf.files g.T.Listener.hears c.args.profile.now (record { known = known; recording = c.args.rec.now; shelf = c.args.shelf.now; listener = c.args.listener.now }) v.head
+      walks = walks_some g.S.Shelf.files g.T.Listener.hears c.args.profile.now (record { known = known; recording = c.args.rec.now; shelf = c.args.shelf.now; listener = c.args.listener.now }) v.head
           (progress c.lines.replay (to_come g.C.Read.remaining c.lines.lines c.lines.cert) c.lines.rec c.lines.shelf c.lines.listener) (progress c.take_next.new.replay (to_come g.C.Read.remaining c.take_next.new.lines c.take_next.new.cert) c.take_next.new.rec c.take_next.new.shelf c.take_next.new.listener) v.walks (c.in-Ok-take_next.ensures.goes_on found);
       room = omega (arith, c.in-Ok-take_next.ensures.room found, v.room);
     }
@@ -194,6 +194,6 @@ returns-clause-place g c =
     record {
       files = v.taken;
       place = late_breaks c.args.profile.now h.head v.k c.take_next.new.replay.used v.taken c.take_next.new.replay.link.state known old left (has_failed c.take_next.new.cert) (g.S.Failing.failed c.take_next.new.shelf) (g.T.Failing.failed c.take_next.new.listener)
-          (bytes_ahead c.take_next.new.lines) c.args.rec.now c.take_next.new.rec c.none_left.new.rec none.line c.none_left.new.rec.to_come c.in-Err-none_left.fault v.none_left c.take_next.ensures.ahead none.given none.kept v.counted c.in-Err-none_left.ensures.err c.in-Err-none_left.ensures.given v.told;
+          (bytes_ahead c.take_next.new.lines) c.args.rec.now c.take_next.new.rec c.none_left.new.rec none.line c.none_left.new.rec.to_come c.in-Err-none_left.fault v.none_left (c.in-Ok-take_next.ensures.ahead c.if-not-found.true) none.given none.kept v.counted c.in-Err-none_left.ensures.err c.in-Err-none_left.ensures.given v.told;
       put = v.put;
     }

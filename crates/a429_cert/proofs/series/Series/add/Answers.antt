@@ -6,7 +6,7 @@ use Rattle.a429_cert.specs.declared.stream_fault.StreamFault.TheVariants as stre
 use Rattle.a429_cert.specs.LineReader.{bytes_ahead, to_come}
 use Rattle.a429_cert.specs.Series.{SeriesValue, begun}
 use Rattle.a429_cert.proofs.SeriesFacts.{begun_no_files, part_init, part_late, part_fits, part_head, part_stopped}
-use Rattle.a429_cert.proofs.StreamNextFacts.{ended_part, part_at_next, part_one}
+use Rattle.a429_cert.proofs.StreamNextFacts.{ended_part, part_at_next, part_some}
 use Rattle.a429_cert.proofs.StreamReplay.{fresh}
 use Rattle.a429_cert.proofs.series.Series.add.Goals as goal
 
@@ -56,7 +56,7 @@ lines-preserved g c =
     let found : c.in-Ok-take_next.found ≡ true = c.if-not-found.false in
     record {
       head = v.head;
-      walks = part_one _ _ c.args.self (unread g.C.Read.remaining c.args.cert.now) c.args.rec.now.to_come v.head _ _ v.walks (c.in-Ok-take_next.ensures.goes_on found);
+      walks = part_some _ _ c.args.self (unread g.C.Read.remaining c.args.cert.now) c.args.rec.now.to_come v.head _ _ v.walks (c.in-Ok-take_next.ensures.goes_on found);
       room = omega (arith, c.in-Ok-take_next.ensures.room found, v.room);
     }
 
