@@ -186,7 +186,7 @@ module _ (p : Contents) (d : Head) (k i : ℕ) (taken : List FileBytes) (s : Sta
   abbrev IsThere : List ℕ → Recording → Type 0
   IsThere text r = Stands p text r d k i taken s old rec.to_come
 
-  abbrev IsPlaceOf : List FileBytes → StreamFault → List ℕ → Recording → Type 0
+  abbrev pub IsPlaceOf : List FileBytes → StreamFault → List ℕ → Recording → Type 0
   IsPlaceOf files f = IsPlace (halted p (reads known left failed first new) shelf listener files) f
 
   -- the certificate's reader has failed between lines

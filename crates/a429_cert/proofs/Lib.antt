@@ -26,6 +26,8 @@ pub mod StreamRefused
 pub mod ToldFacts
 pub mod ToldRefused
 pub mod StreamLine
+pub mod PairFacts
+pub mod StreamNextFacts
 pub mod StreamEndFacts
 pub mod BreakOffFacts
 pub mod EarlierFiles

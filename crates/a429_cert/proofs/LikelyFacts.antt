@@ -5,7 +5,7 @@ use Rattle.std.proofs.Math.Seq.{take-append_seam}
 use Rattle.std.proofs.lemmas.Bool.Decides.{Decides-eqb, nat_tests}
 use Rattle.std.proofs.lemmas.List.{length-append, get_or_append_left, get_or_push, drop_more}
 use Rattle.std.proofs.lemmas.Slice.Eq.{starts_is}
-use Rattle.a429_cert.proofs.LineReaderFacts.{held_now, ahead_now}
+use Rattle.a429_cert.proofs.LineReaderFacts.{held_now, ahead_now, ahead_past}
 use Rattle.a429_cert.specs.declared.line.MovedLine.{MovedLine}
 use Rattle.a429_cert.specs.declared.line.CertLine.TheVariants.{Moved}
 use Rattle.a429_cert.specs.Fault.{SaysLine}
@@ -37,21 +37,21 @@ ends_there : (text rest : List ℕ) → AllByRecursion IsVisible text → certif
 ends_there [] rest h = refl
 ends_there (b ∷ bs) rest h = rw (no_end b h.0, ends_there bs rest h.1) refl
 
-line_first : (l : CertLine) (text rest : List ℕ) → SpellsLine text l → certificate_lines (text ++ 10 ∷ rest) ≡ Some text ∷ certificate_lines rest
+pub line_first : (l : CertLine) (text rest : List ℕ) → SpellsLine text l → certificate_lines (text ++ 10 ∷ rest) ≡ Some text ∷ certificate_lines rest
 line_first l text rest s = ends_there text rest (subst (AllByRecursion IsVisible) (sym s.spelled) (line-visible l s.line s.held))
 
-sent_spells : (k : ℕ) → 1 ≤ k → k < 254 → SpellsLine (spelling (sent_line k)) (sent_line k)
+pub sent_spells : (k : ℕ) → 1 ≤ k → k < 254 → SpellsLine (spelling (sent_line k)) (sent_line k)
 sent_spells k least most = record { line = (omega arith, (least, omega arith)); held = (omega arith, omega arith); spelled = refl }
 
-taken_spells : (k : ℕ) → 1 ≤ k → k < 254 → SpellsLine (spelling (taken_line k)) (taken_line k)
+pub taken_spells : (k : ℕ) → 1 ≤ k → k < 254 → SpellsLine (spelling (taken_line k)) (taken_line k)
 taken_spells k least most = record { line = (omega arith, (omega arith, omega arith)); held = (omega arith, omega arith); spelled = refl }
 
 -- neither is read in another way by a version
-sent_read : (k : ℕ) (v : Version) → read_as v (Some (spelling (sent_line k))) ≡ Some (spelling (sent_line k))
+pub sent_read : (k : ℕ) (v : Version) → read_as v (Some (spelling (sent_line k))) ≡ Some (spelling (sent_line k))
 sent_read k One = refl
 sent_read k Two = refl
 
-taken_read : (k : ℕ) (v : Version) → read_as v (Some (spelling (taken_line k))) ≡ Some (spelling (taken_line k))
+pub taken_read : (k : ℕ) (v : Version) → read_as v (Some (spelling (taken_line k))) ≡ Some (spelling (taken_line k))
 taken_read k One = refl
 taken_read k Two = refl
 
@@ -112,6 +112,15 @@ pub text_held : (buffer text : List ℕ) (next filled : ℕ) (rest : List ℕ) �
 text_held buffer text next filled rest inside is =
     let longer : nat_lt next (next + (length text + 1)) ≡ true = grind (arith, nat_tests) in
     rw longer (ap Some (held_now buffer next filled (length text) inside ∙ ap (take (length text)) is ∙ take-append_seam text rest))
+
+-- the bytes that were read begin with the text
+pub text_first : (buffer text : List ℕ) (next filled : ℕ) (r : Bool) → r ≡ starts_with ◌==◌ (take (filled - next) (drop next buffer)) text → r ≡ true
+    → take (filled - next) (drop next buffer) ≡ text ++ take (filled - (next + length text)) (drop (next + length text) buffer)
+text_first buffer text next filled r e is =
+    let ahead = take (filled - next) (drop next buffer) in
+    let starts = (starts_is Decides-eqb ahead text r e).0 is in
+    let all : length ahead ≡ length text + length (drop (length text) ahead) = ap length starts ∙ length-append text (drop (length text) ahead) in
+    starts ∙ ap (λ l. text ++ l) (ahead_past buffer next filled (length text) (omega (arith, all)))
 
 -- ---- a line that is known
 

@@ -21,6 +21,15 @@ held_now buffer next filled len h =
     let same : next + (len + 1) - 1 - next ≡ len = omega arith in
     ap (λ k. take k all) same ∙ sym (take-take len (filled - next) all inside)
 
+-- what is ahead past so many bytes
+pub ahead_past : (buffer : List ℕ) (next filled len : ℕ) → len ≤ length (take (filled - next) (drop next buffer))
+    → drop len (take (filled - next) (drop next buffer)) ≡ take (filled - (next + len)) (drop (next + len) buffer)
+ahead_past buffer next filled len h =
+    let all = drop next buffer in
+    let some : len ≤ filled - next = omega (arith, h, length-take (filled - next) all) in
+    let both : filled - next ≡ len + (filled - (next + len)) = omega (arith, some) in
+    ap (λ k. drop len (take k all)) both ∙ drop-take len (filled - (next + len)) all ∙ ap (take (filled - (next + len))) (drop-drop len next buffer)
+
 -- what is then ahead
 pub ahead_now : (buffer : List ℕ) (next filled len : ℕ) → len < length (take (filled - next) (drop next buffer))
     → drop (suc len) (take (filled - next) (drop next buffer)) ≡ take (filled - (next + (len + 1))) (drop (next + (len + 1)) buffer)

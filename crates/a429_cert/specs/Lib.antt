@@ -15,6 +15,8 @@ pub mod LineReader
 pub mod Shelf
 pub mod Stream
 pub mod StreamHead
+pub mod StreamNext
+pub mod Pair
 pub mod StreamEnd
 pub mod StreamExplained
 pub mod BreakOff

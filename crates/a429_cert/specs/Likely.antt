@@ -34,6 +34,10 @@ sent_text k = spelling (sent_line k)
 abbrev pub taken_text : ℕ → List ℕ
 taken_text k = spelling (taken_line k)
 
+-- both, each with its line feed
+abbrev pub pair_text : ℕ → List ℕ
+pair_text k = sent_text k ++ 10 ∷ (taken_text k ++ 10 ∷ [])
+
 -- the texts of the numbers below n, in order
 abbrev pub texts_below : (ℕ → List ℕ) → ℕ → List (List ℕ)
 texts_below text zero = []

@@ -2,13 +2,13 @@
 
 ghost use Rattle.std.specs.Prelude.{◌≡◌, ◌<◌, ◌≤◌, IfSome};
 ghost use Rattle.a429_cert.specs.declared.line.CertLine.TheVariants.{Moved};
-ghost use Rattle.a429_cert.specs.Likely.{sent_line, sent_text, taken_line, taken_text, texts_below, IsLikely};
+ghost use Rattle.a429_cert.specs.Likely.{pair_text, sent_line, sent_text, taken_line, taken_text, texts_below, IsLikely};
 
 use crate::act::Act;
 use crate::fault::OutOfMemory;
 use crate::line::MovedLine;
 use crate::short::ShortText;
-use crate::writing::moved_text;
+use crate::writing::{moved_text, push_moved};
 use a429_link::{SinkState, SourceState, States};
 use std::alloc::Global;
 
@@ -27,21 +27,36 @@ pub struct LikelyLine<'a> {
 pub struct WordLines {
     sent: Vec<ShortText>,
     taken: Vec<ShortText>,
+    pairs: Vec<ShortText>,
     ghost sent_all: { sent.items ≡ texts_below sent_text 254 },
     ghost taken_all: { taken.items ≡ texts_below taken_text 254 },
+    ghost pairs_all: { pairs.items ≡ texts_below pair_text 254 },
 }
 
 impl WordLines {
-    ghost use Rattle.a429_cert.specs.Likely.{sent_text, taken_text, texts_below};
+    ghost use Rattle.a429_cert.specs.Likely.{pair_text, sent_text, taken_text, texts_below};
 
     pub fn new(alloc: Global) -> Result<WordLines, OutOfMemory> {
         let mut sent = Vec::with_capacity(alloc, WORDS)?;
         let mut taken = Vec::with_capacity(alloc, WORDS)?;
+        let mut pairs = Vec::with_capacity(alloc, WORDS)?;
         'words: for k in 0..WORDS {
             sent.push(moved_text(sent_line(k as u8)))?;
             taken.push(moved_text(taken_line(k as u8)))?;
+            pairs.push(both_lines(k as u8))?;
         }
-        Ok(WordLines { sent, taken })
+        Ok(WordLines { sent, taken, pairs })
+    }
+
+    /// Both lines of the word at this place of its block, one after the other, each with its line feed.
+    #[inline(always)]
+    pub fn pair(&self, place: u8) -> Option<&[u8]>
+        ensures { IfSome result (λ text. (text.now ≡ pair_text place) × (place < 254)) }
+    {
+        if place >= 254 {
+            return None;
+        }
+        Some(self.pairs[place as usize].as_slice())
     }
 
     /// The line that is likely the next in these states.
@@ -107,6 +122,19 @@ fn sent_line(k: u8) -> MovedLine
             to_source: 0,
         },
     }
+}
+
+// Both lines of word k, each with its line feed.
+fn both_lines(k: u8) -> ShortText
+    requires { k < 254 }
+    ensures { result ≡ pair_text k }
+{
+    let mut text = ShortText::new();
+    push_moved(&mut text, sent_line(k));
+    text.push(b'\n');
+    push_moved(&mut text, taken_line(k));
+    text.push(b'\n');
+    text
 }
 
 // The line of the same word, which is taken.

@@ -156,6 +156,22 @@ impl LineReader {
         }
     }
 
+    /// Hands out the next two lines, where they are this text, with their line feeds, and were read. Neither is held.
+    #[inline(always)]
+    pub(crate) fn take_both(&mut self, text: &[u8]) -> bool
+        ensures yes { result ≡ true → bytes_ahead self.old ≡ text.now ++ bytes_ahead self.new }
+        ensures few { length (bytes_ahead self.old) ≤ 2288 }
+        ensures no { result ≡ false → self.new ≡ self.old }
+    {
+        if self.buffer[self.next..self.filled].starts_with(text) {
+            self.next += text.len();
+            self.at = self.next;
+            true
+        } else {
+            false
+        }
+    }
+
     // Hands out the next line, where its line feed was read.
     #[inline(always)]
     fn take_line(&mut self) -> bool

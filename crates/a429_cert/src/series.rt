@@ -13,10 +13,11 @@ use crate::likely::WordLines;
 use crate::line_reader::LineReader;
 use crate::listener::NoListener;
 use crate::shelf::NoShelf;
-use crate::stream::{Replay, replay_and_put};
+use crate::stream::Replay;
 use crate::stream_end::none_left;
 use crate::stream_fault::StreamFault;
 use crate::stream_head::begin;
+use crate::stream_next::take_next;
 use a429_link::{Link, Step};
 use a429_profile::Profile;
 use a429_record::EntryReader;
@@ -90,23 +91,20 @@ impl<'a> Series<'a> {
         };
         let mut replay = self.begin_part(head);
         'lines: loop {
-            let Ok(next) = lines.next_near(cert, words.likely(replay.link.states())) else {
-                return Err(StreamFault::Device);
-            };
-            if !next.found {
-                break;
-            }
-            replay.lines += 1;
-            match replay_and_put(
+            let found = match take_next(
                 &mut replay,
-                lines.line(),
-                next.known,
+                &words,
+                &mut lines,
+                cert,
                 rec,
                 &mut NoShelf,
                 &mut NoListener,
             ) {
-                Ok(used) => replay.used += used,
+                Ok(found) => found,
                 Err(fault) => return Err(fault),
+            };
+            if !found {
+                break;
             }
         }
         match none_left(rec, replay.used) {

@@ -8,8 +8,8 @@ ghost use Rattle.a429_cert.specs.Field.{field};
 use a429_link::{SinkState, SourceState};
 use std::marker::Model;
 
-// More than the 19 bytes of the longest line of a step that is no load.
-const ROOM: usize = 24;
+// The bytes of two lines of steps that are no loads, 19 each at most, and of their line feeds.
+const ROOM: usize = 40;
 
 /// The bytes that were filled, from the first on.
 #[derive(Drop)]
@@ -25,7 +25,7 @@ impl Model for ShortText {
 
     ghost view = { λ t. take t.filled t.bytes };
 
-    ghost invariant = { λ t. t.filled ≤ 24 };
+    ghost invariant = { λ t. t.filled ≤ 40 };
 }
 
 impl ShortText {
@@ -51,7 +51,7 @@ impl ShortText {
     /// Appends a byte.
     #[inline(always)]
     pub fn push(&mut self, byte: u8)
-        requires { length self.old < 24 }
+        requires { length self.old < 40 }
         ensures text { self.new ≡ self.old ++ byte ∷ [] }
         ensures len { length self.new ≡ length self.old + 1 }
     {
@@ -62,7 +62,7 @@ impl ShortText {
     // Appends a field that begins with this letter.
     #[inline(always)]
     fn push_letter(&mut self, letter: u8)
-        requires { length self.old < 23 }
+        requires { length self.old < 39 }
         ensures text { self.new ≡ self.old ++ field (letter ∷ []) }
         ensures len { length self.new ≡ length self.old + 2 }
     {
@@ -73,7 +73,7 @@ impl ShortText {
     // Appends a number in decimal.
     #[inline(always)]
     fn push_decimal(&mut self, number: u8)
-        requires { length self.old < 22 }
+        requires { length self.old < 38 }
         ensures text { self.new ≡ self.old ++ decimal number }
         ensures len { length self.new ≤ length self.old + 3 }
     {
@@ -93,7 +93,7 @@ impl ShortText {
     // Appends a number below 100 in two digits.
     #[inline(always)]
     fn push_pair(&mut self, number: u8)
-        requires room { length self.old < 23 }
+        requires room { length self.old < 39 }
         requires small { number < 100 }
         ensures text { self.new ≡ self.old ++ (48 + number / 10) ∷ (48 + number % 10) ∷ [] }
         ensures len { length self.new ≡ length self.old + 2 }
@@ -105,7 +105,7 @@ impl ShortText {
     /// Appends a field with a decimal number.
     #[inline(always)]
     pub fn push_number(&mut self, number: u8)
-        requires { length self.old < 21 }
+        requires { length self.old < 37 }
         ensures text { self.new ≡ self.old ++ field (decimal number) }
         ensures len { length self.new ≤ length self.old + 4 }
     {
@@ -116,7 +116,7 @@ impl ShortText {
     // Appends a field with a letter and a decimal number after it.
     #[inline(always)]
     fn push_counted(&mut self, letter: u8, number: u8)
-        requires { length self.old < 20 }
+        requires { length self.old < 36 }
         ensures text { self.new ≡ self.old ++ field (letter ∷ decimal number) }
         ensures len { length self.new ≤ length self.old + 5 }
     {
@@ -127,7 +127,7 @@ impl ShortText {
     /// Appends the field of the source's state.
     #[inline(always)]
     pub fn push_source(&mut self, source: SourceState)
-        requires { length self.old < 20 }
+        requires { length self.old < 36 }
         ensures text { self.new ≡ self.old ++ field (source_text source) }
         ensures len { length self.new ≤ length self.old + 5 }
     {
@@ -142,7 +142,7 @@ impl ShortText {
     /// Appends the field of the sink's state.
     #[inline(always)]
     pub fn push_sink(&mut self, sink: SinkState)
-        requires { length self.old < 20 }
+        requires { length self.old < 36 }
         ensures text { self.new ≡ self.old ++ field (sink_text sink) }
         ensures len { length self.new ≤ length self.old + 5 }
     {

@@ -35,6 +35,7 @@ use crate::shelf::Shelf;
 use crate::stream_end::none_left;
 use crate::stream_fault::{StreamFault, of_cert, of_read, of_trouble};
 use crate::stream_head::begin;
+use crate::stream_next::take_next;
 use crate::version::Version;
 use a429_ldu::Ldu;
 use a429_link::{FileBytes, Link, Step};
@@ -100,16 +101,12 @@ pub fn replay_stream<R: Read, C: Read, S: Shelf, T: Listener>(
     };
     let mut replay = Replay::start(alloc, profile, head);
     'lines: loop {
-        let Ok(next) = lines.next_near(cert, words.likely(replay.link.states())) else {
-            return Err(StreamFault::Device);
-        };
-        if !next.found {
-            break;
-        }
-        replay.lines += 1;
-        match replay_and_put(&mut replay, lines.line(), next.known, rec, shelf, listener) {
-            Ok(used) => replay.used += used,
+        let found = match take_next(&mut replay, &words, &mut lines, cert, rec, shelf, listener) {
+            Ok(found) => found,
             Err(fault) => return Err(fault),
+        };
+        if !found {
+            break;
         }
     }
     match none_left(rec, replay.used) {
@@ -219,7 +216,7 @@ impl<'a> Replay<'a> {
 }
 
 // An entry with its number.
-fn numbered(number: usize, entry: Option<Entry>) -> Option<(usize, Entry)>
+pub fn numbered(number: usize, entry: Option<Entry>) -> Option<(usize, Entry)>
     ensures { result ≡ with_number number entry }
 {
     Some((number, entry?))

@@ -61,12 +61,22 @@ pub fn moved_text(line: MovedLine) -> ShortText
     ensures { result ≡ spelling (Moved line) }
 {
     let mut text = ShortText::new();
+    push_moved(&mut text, line);
+    text
+}
+
+/// Appends it to a text.
+#[inline(always)]
+pub fn push_moved(text: &mut ShortText, line: MovedLine)
+    requires { length text.old ≤ 20 }
+    ensures text { text.new ≡ text.old ++ spelling (Moved line) }
+    ensures len { length text.new ≤ length text.old + 19 }
+{
     text.push(act_letter(line.act));
     text.push_source(line.states.source);
     text.push_sink(line.states.sink);
     text.push_number(line.states.to_sink);
     text.push_number(line.states.to_source);
-    text
 }
 
 // Appends it.

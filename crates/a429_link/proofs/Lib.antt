@@ -20,6 +20,7 @@ pub mod SourceBlock
 pub mod SinkGoodBlock
 pub mod SinkBadBlock
 pub mod LinkKept
+pub mod CarryFacts
 pub mod LinkCalls
 pub mod ObserverBlock
 pub mod ObserverSight

@@ -4,6 +4,7 @@ pub mod Sink
 pub mod State
 pub mod Lane
 pub mod Step
+pub mod Carry
 pub mod GiveUps
 pub mod Transfer
 pub mod Run

@@ -1,6 +1,7 @@
 //! The source and the sink of a file transfer, and the words between them.
 #![tactic(auto)]
 
+mod carry;
 mod clean;
 mod doing;
 mod fault;
@@ -22,6 +23,7 @@ mod step;
 mod transfer;
 mod why;
 
+pub use crate::carry::NextWord;
 pub use crate::clean::clean_run;
 pub use crate::doing::{Crossing, Doing};
 pub use crate::fault::{CleanFault, StepFault};

@@ -1,14 +1,16 @@
 //! A link: one run of a source and a sink, step by step.
 
-ghost use Rattle.std.specs.Prelude.{◌≡◌, ◌↔◌, [], IsTrue, IfErr, OnOk, OnErr};
+ghost use Rattle.std.specs.Prelude.{◌≡◌, ◌↔◌, [], IsTrue, IfErr, IfSome, OnOk, OnErr};
 ghost use Rattle.a429_ldu.specs.Ldu.{IsLdu, LduValue};
 ghost use Rattle.a429_link.specs.declared.seen.Seen.{Seen};
+ghost use Rattle.a429_link.specs.Carry.{IsAtWord, after_both};
 ghost use Rattle.a429_link.specs.Step.{Can, after, LoadsLdu, IsFault, IsNamedStep};
 ghost use Rattle.a429_link.specs.State.{start, states_of};
 ghost use Rattle.a429_link.specs.Link.{handed_out};
 ghost use Rattle.a429_link.specs.GiveUps.{MayGiveUp};
 ghost use Rattle.a429_link.specs.Run.{IsBounded};
 
+use crate::carry::NextWord;
 use crate::fault::StepFault;
 use crate::file::FileBytes;
 use crate::number::UnitNumber;
@@ -65,6 +67,23 @@ impl<'a> Link<'a> {
         ensures bounds { IsBounded self.new.state }
     {
         self.transfer.apply(self.alloc, self.profile, step)
+    }
+
+    /// The data word of its block that the source sends next, where the sink has taken all words before it, and nothing is on its way.
+    #[inline(always)]
+    pub fn next_word(&self) -> Option<NextWord>
+        ensures { IfSome result (λ next. IsAtWord self.now.profile next self.now.state) }
+    {
+        self.transfer.next_word(self.profile)
+    }
+
+    /// Makes two steps at once: the source sends this word, and the sink takes it.
+    #[inline(always)]
+    pub fn carry(&mut self, next: NextWord)
+        requires { IsAtWord self.old.profile next self.old.state }
+        ensures { self.new ≡ record (self.old) { state = after_both self.old.profile next.word self.old.state } }
+    {
+        self.transfer.carry(self.profile, next);
     }
 
     /// There is a step that sends a word now, whatever the word is.

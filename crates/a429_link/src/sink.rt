@@ -4,6 +4,7 @@ ghost use Rattle.std.specs.Prelude.{ℕ, true, ◌≡◌, ◌≤◌, ◌+◌, �
 ghost use Rattle.a429_ldu.specs.Ldu.{most_data_words};
 ghost use Rattle.a429_ldu.specs.Carried.{bytes_carried, bytes_in};
 ghost use Rattle.a429_ldu.specs.CheckWord.{agrees};
+ghost use Rattle.a429_link.specs.Carry.{HasTaken};
 ghost use Rattle.a429_link.specs.Sink as model;
 ghost use Rattle.a429_link.specs.Sink.{takes, takes_request, takes_start, takes_part, takes_end, in_phase, is_same, is_same_file, may_come, block_with, phase_of, kept_words, without_files, Listens, Owes, held_count, latest_number, HasRoom, nothing_received};
 ghost use Rattle.a429_link.specs.State.{sink_state_of, IsNonEmpty, rest, past_first};
@@ -174,6 +175,19 @@ impl Sink {
         }
     }
 
+    /// It has taken so many words of a block, its start word among them, and no word is on its way to it.
+    #[inline(always)]
+    pub(crate) fn has_taken(&self, place: u8) -> bool
+        ensures { IsTrue result ↔ HasTaken self.now.sink.phase self.now.to_sink place }
+    {
+        match self.phase {
+            Phase::InBlock(_) => {
+                self.lane.first().is_none() && self.lane.taken().len() + 1 == usize::from(place)
+            }
+            _ => false,
+        }
+    }
+
     /// How many words are on their way to it.
     pub(crate) fn coming(&self) -> usize
         ensures { result ≡ length self.now.to_sink }
@@ -242,7 +256,9 @@ impl Sink {
         }
     }
 
-    fn add_word(&mut self)
+    /// Takes the first word on its way, which is a data word.
+    #[inline(always)]
+    pub(crate) fn add_word(&mut self)
         requires { IsNonEmpty self.old.to_sink }
         ensures { self.new ≡ past_first self.old (takes_part (slice_index self.old.to_sink 0) self.old.sink) }
     {

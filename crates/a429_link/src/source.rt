@@ -1,8 +1,9 @@
 //! The source of a file transfer.
 
-ghost use Rattle.std.specs.Prelude.{◌≡◌, ◌≤◌, ◌+◌, ◌↔◌, IsTrue, IsSome, None, Some};
+ghost use Rattle.std.specs.Prelude.{◌≡◌, ◌≤◌, ◌+◌, ◌↔◌, IsTrue, IsSome, IfSome, None, Some};
 ghost use Rattle.a429_profile.specs.Profile.{Contents};
 ghost use Rattle.a429_ldu.specs.Ldu.{IsLdu};
+ghost use Rattle.a429_link.specs.Carry.{SendsMore};
 ghost use Rattle.a429_link.specs.Source as model;
 ghost use Rattle.a429_link.specs.Source.{next_word, with_answer, IsIdle, Waits, with_word_sent, next_word_of, given_up};
 
@@ -123,6 +124,26 @@ impl Source {
             SourceState::Idle => true,
             SourceState::Sending(sent) => sent < unit.count(),
             SourceState::Awaiting | SourceState::Waiting => false,
+        }
+    }
+
+    /// The place in its block, counted from 0, of the word that it sends next, where one more comes after it.
+    #[inline(always)]
+    pub(crate) fn place(&self) -> Option<u8>
+        ensures { IfSome result (SendsMore self.now) }
+    {
+        let Some(unit) = &self.current else {
+            return None;
+        };
+        match self.state {
+            SourceState::Sending(sent) => {
+                if sent < unit.count() - 1 {
+                    Some(sent)
+                } else {
+                    None
+                }
+            }
+            SourceState::Idle | SourceState::Awaiting | SourceState::Waiting => None,
         }
     }
 

@@ -1,9 +1,10 @@
 //! The source, the sink, and the recorded words between them.
 
-ghost use Rattle.std.specs.Prelude.{◌≡◌, ◌≤◌, ◌↔◌, IsTrue, length};
+ghost use Rattle.std.specs.Prelude.{◌≡◌, ◌≤◌, ◌↔◌, IsTrue, IfSome, length};
 ghost use Rattle.a429_profile.specs.Profile.{Contents, IsProfile};
 ghost use Rattle.a429_ldu.specs.Ldu.{IsLdu, LduValue};
 ghost use Rattle.a429_link.specs.declared.step.Step.TheVariants as step;
+ghost use Rattle.a429_link.specs.Carry.{IsAtWord, IsNext, after_both};
 ghost use Rattle.a429_link.specs.Sink.{held_count};
 ghost use Rattle.a429_link.specs.Step.{LoadsLdu};
 ghost use Rattle.a429_link.specs.State.{start, sink_state_of};
@@ -13,6 +14,7 @@ ghost use Rattle.a429_link.specs.Run.{IsBounded};
 ghost use Rattle.a429_link.specs.declared.seen.Seen.{Seen};
 ghost use Rattle.a429_link.specs.Link.{handed_out};
 
+use crate::carry::NextWord;
 use crate::fault::StepFault;
 use crate::file::FileBytes;
 use crate::number::UnitNumber;
@@ -122,6 +124,35 @@ impl Transfer {
             Step::FreeSeen(seen) => self.free_seen(profile, seen),
             Step::GiveUp => self.give_up(profile),
         }
+    }
+
+    /// The word of its block that the source sends next, where one more comes after it, the sink has taken all words before
+    /// it, and nothing is on its way.
+    #[inline(always)]
+    pub(crate) fn next_word(&self, profile: &Profile) -> Option<NextWord>
+        ensures { IfSome result (λ next. IsNext profile.now next self.now) }
+    {
+        let Some(place) = self.source.place() else {
+            return None;
+        };
+        if self.to_source.is_some() || !self.sink.has_taken(place) {
+            return None;
+        }
+        match self.source.next(profile) {
+            Some(word) => Some(NextWord { place, word }),
+            None => None,
+        }
+    }
+
+    /// Such a word, which is a data word, is sent and taken.
+    #[inline(always)]
+    pub(crate) fn carry(&mut self, profile: &Profile, next: NextWord)
+        requires { IsAtWord profile.now next self.old }
+        ensures { self.new ≡ after_both profile.now next.word self.old }
+    {
+        self.sink.push(next.word);
+        self.sink.add_word();
+        self.source.go_on(profile);
     }
 
     fn load(&mut self, profile: &Profile, unit: Ldu) -> Result<(), StepFault>

@@ -1,0 +1,51 @@
+use Rattle.std.proofs.Common.{◌++◌, inl, inr, ℕ, List, true, Some, refl, sym, subst}
+use Rattle.std.specs.Io.KnownBytes.{prepend_known}
+use Rattle.a429_word.specs.Tally.{unread}
+use Rattle.a429_profile.specs.Profile.{Contents}
+use Rattle.a429_link.specs.Carry.{IsAtWord}
+use Rattle.a429_cert.specs.CutLines.{GivesLine}
+use Rattle.a429_cert.specs.Likely.{pair_text, sent_text}
+use Rattle.a429_cert.specs.LineReader.{bytes_ahead}
+use Rattle.a429_cert.specs.StreamNext.{progress, TakesSome}
+use Rattle.a429_cert.specs.declared.stream.Replay.{Replay}
+use Rattle.a429_cert.proofs.PairFacts.{ended, fewer, gives_sent, least_place, takes_both}
+use Rattle.a429_cert.proofs.stream_next.take_next.Goals as goal
+
+pub returns-in-Ok-clause-goes_on : goal.returns-in-Ok-clause-goes_on
+returns-in-Ok-clause-goes_on g c = λ _.
+    let w = c.args.replay.now in
+    let rest = unread g.C.Read.remaining c.args.cert.now in
+    let ahead = bytes_ahead c.next_pair.new.lines in
+    let next = c.in-Some.next in
+    let at = subst (λ (p : Contents). IsAtWord p next w.link.state) c.requires.profile c.in-Some.ensures.word.0 in
+    let both = takes_both g.S.Shelf.files g.T.Listener.hears next w ahead rest c.args.rec.now c.carry_and_report.new.rec c.args.shelf.now c.args.listener.now c.carry_and_report.new.listener c.requires.profile at c.in-Some.ensures.word.1
+    c.requires.none_left c.in-Ok.ensures.entry c.in-Ok.ensures.counts c.in-Ok.ensures.heard in
+    subst (λ (b : List ℕ). TakesSome g.S.Shelf.files g.T.Listener.hears (progress w (prepend_known b rest) c.args.rec.now c.args.shelf.now c.args.listener.now)
+    (progress c.carry_and_report.new.replay (prepend_known ahead rest) c.carry_and_report.new.rec c.args.shelf.now c.carry_and_report.new.listener)) (sym c.in-Some.ensures.lines)
+    (subst (λ (v : Replay). TakesSome g.S.Shelf.files g.T.Listener.hears (progress w (prepend_known (pair_text next.place ++ ahead) rest) c.args.rec.now c.args.shelf.now c.args.listener.now)
+    (progress v (prepend_known ahead rest) c.carry_and_report.new.rec c.args.shelf.now c.carry_and_report.new.listener)) (sym c.in-Ok.ensures.taken) both)
+
+pub returns-in-Err-clause-stopped : goal.returns-in-Err-clause-stopped
+returns-in-Err-clause-stopped g c =
+    let w = c.args.replay.now in
+    let rest = unread g.C.Read.remaining c.args.cert.now in
+    let ahead = bytes_ahead c.next_pair.new.lines in
+    let k = c.in-Some.next.place in
+    let most = c.in-Some.ensures.word.1 in
+    let least = least_place _ c.in-Some.next w.link.state c.in-Some.ensures.word.0 in
+    inr
+    (record {
+      line = Some (sent_text k);
+      ahead = ended k ++ ahead;
+      few = fewer (sent_text k) (ended k) ahead (bytes_ahead c.args.lines.now) 2288 c.in-Some.ensures.lines c.next_pair.ensures.few;
+      given = subst (λ (b : List ℕ). GivesLine (prepend_known b rest) (prepend_known (ended k ++ ahead) rest) (Some (sent_text k)) true) (sym c.in-Some.ensures.lines) (gives_sent k ahead rest least most);
+      stopped =
+          inl
+          (record {
+            ends = c.in-Err.ensures.refused;
+            given = c.in-Err.ensures.given;
+            put = refl;
+            device = λ e. c.in-Err.ensures.device (cc e);
+          });
+      untold = c.in-Err.ensures.untold;
+    })

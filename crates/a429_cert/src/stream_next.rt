@@ -1,0 +1,106 @@
+//! The next line of a certificate that is read as a stream.
+
+ghost use Rattle.std.specs.Prelude.{◌≡◌, ◌≤◌, ◌<◌, ◌+◌, ◌^◌, [], true, false, length, IfOk, IfErr, IsErrOf};
+ghost use Rattle.a429_profile.specs.Profile.{IsProfile};
+ghost use Rattle.a429_record.specs.declared.fault.ReadFault.TheVariants as read;
+ghost use Rattle.a429_word.specs.Tally.{has_failed, unread};
+ghost use Rattle.a429_cert.specs.LineReader.{bytes_ahead, room_left, to_come};
+ghost use Rattle.a429_cert.specs.Stream.{OneFailed};
+ghost use Rattle.a429_cert.specs.StreamNext.{progress, unread_of, Stops, TakesNone, TakesOne, TakesSome};
+
+use crate::likely::WordLines;
+use crate::line_reader::LineReader;
+use crate::listener::Listener;
+use crate::pair::{carry_and_report, next_pair};
+use crate::shelf::Shelf;
+use crate::stream::{Replay, replay_and_put};
+use crate::stream_fault::StreamFault;
+use a429_record::EntryReader;
+use a429_word::Tally;
+use std::io::Read;
+
+/// Takes the next line, or the next two where they list a data word that is sent and taken, over the next entry, if a step uses
+/// one, reports each step to a listener, and puts the files that it delivers. Answers whether a line was left.
+#[inline(always)]
+pub fn take_next<R: Read, C: Read, S: Shelf, T: Listener>(
+    replay: &mut Replay<'_>,
+    words: &WordLines,
+    lines: &mut LineReader,
+    cert: &mut Tally<C>,
+    rec: &mut EntryReader<R>,
+    shelf: &mut S,
+    listener: &mut T,
+) -> Result<bool, StreamFault>
+    requires sound { IsProfile replay.old.profile.now }
+    requires profile { replay.old.link.profile ≡ replay.old.profile.now }
+    requires none_left { replay.old.link.state.sink.received.files ≡ [] }
+    requires few { replay.old.used ≤ replay.old.lines }
+    requires room { replay.old.lines + room_left lines.old cert.old < 2 ^ 64 }
+    ensures goes_on { IfOk result (λ found. found ≡ true → TakesSome S.files T.hears
+        (progress replay.old (to_come C.remaining lines.old cert.old) rec.old shelf.old listener.old)
+        (progress replay.new (to_come C.remaining lines.new cert.new) rec.new shelf.new listener.new)) }
+    ensures ended { IfOk result (λ found. found ≡ false → TakesNone
+        (progress replay.old (to_come C.remaining lines.old cert.old) rec.old shelf.old listener.old)
+        (progress replay.new (to_come C.remaining lines.new cert.new) rec.new shelf.new listener.new)) }
+    ensures shorter { IfOk result (λ found. found ≡ true → room_left lines.new cert.new < room_left lines.old cert.old) }
+    ensures room { IfOk result (λ found. found ≡ true → replay.new.lines + room_left lines.new cert.new ≤ replay.old.lines + room_left lines.old cert.old) }
+    ensures stopped { IfErr result (Stops S.files S.failed T.failed (unread_of (unread C.remaining cert.new) (has_failed cert.new))
+        (progress replay.old (to_come C.remaining lines.old cert.old) rec.old shelf.old listener.old)
+        (progress replay.new (to_come C.remaining lines.new cert.new) rec.new shelf.new listener.new)) }
+    ensures ahead { IfOk result (λ found. found ≡ false → length (bytes_ahead lines.new) ≤ 2288) }
+    ensures device { IsErrOf result StreamFault.Device → OneFailed (has_failed cert.new) (S.failed shelf.new) (T.failed listener.new) }
+    ensures read { IsErrOf result (StreamFault.Read read.Device) → rec.new.failed ≡ true }
+{
+    let Some(next) = next_pair(&replay.link, words, lines) else {
+        return take_one(replay, words, lines, cert, rec, shelf, listener);
+    };
+    match carry_and_report(replay, next, rec, listener) {
+        Ok(()) => Ok(true),
+        Err(fault) => Err(fault),
+    }
+}
+
+// Takes the next line alone.
+fn take_one<R: Read, C: Read, S: Shelf, T: Listener>(
+    replay: &mut Replay<'_>,
+    words: &WordLines,
+    lines: &mut LineReader,
+    cert: &mut Tally<C>,
+    rec: &mut EntryReader<R>,
+    shelf: &mut S,
+    listener: &mut T,
+) -> Result<bool, StreamFault>
+    requires sound { IsProfile replay.old.profile.now }
+    requires profile { replay.old.link.profile ≡ replay.old.profile.now }
+    requires few { replay.old.used ≤ replay.old.lines }
+    requires room { replay.old.lines + room_left lines.old cert.old < 2 ^ 64 }
+    ensures goes_on { IfOk result (λ found. found ≡ true → TakesOne S.files T.hears
+        (progress replay.old (to_come C.remaining lines.old cert.old) rec.old shelf.old listener.old)
+        (progress replay.new (to_come C.remaining lines.new cert.new) rec.new shelf.new listener.new)) }
+    ensures ended { IfOk result (λ found. found ≡ false → TakesNone
+        (progress replay.old (to_come C.remaining lines.old cert.old) rec.old shelf.old listener.old)
+        (progress replay.new (to_come C.remaining lines.new cert.new) rec.new shelf.new listener.new)) }
+    ensures shorter { IfOk result (λ found. found ≡ true → room_left lines.new cert.new < room_left lines.old cert.old) }
+    ensures room { IfOk result (λ found. found ≡ true → replay.new.lines + room_left lines.new cert.new ≤ replay.old.lines + room_left lines.old cert.old) }
+    ensures stopped { IfErr result (Stops S.files S.failed T.failed (unread_of (unread C.remaining cert.new) (has_failed cert.new))
+        (progress replay.old (to_come C.remaining lines.old cert.old) rec.old shelf.old listener.old)
+        (progress replay.new (to_come C.remaining lines.new cert.new) rec.new shelf.new listener.new)) }
+    ensures ahead { length (bytes_ahead lines.new) ≤ 2288 }
+    ensures device { IsErrOf result StreamFault.Device → OneFailed (has_failed cert.new) (S.failed shelf.new) (T.failed listener.new) }
+    ensures read { IsErrOf result (StreamFault.Read read.Device) → rec.new.failed ≡ true }
+{
+    let Ok(next) = lines.next_near(cert, words.likely(replay.link.states())) else {
+        return Err(StreamFault::Device);
+    };
+    if !next.found {
+        return Ok(false);
+    }
+    replay.lines += 1;
+    match replay_and_put(replay, lines.line(), next.known, rec, shelf, listener) {
+        Ok(used) => {
+            replay.used += used;
+            Ok(true)
+        }
+        Err(fault) => Err(fault),
+    }
+}
