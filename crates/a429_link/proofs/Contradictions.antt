@@ -30,7 +30,7 @@ latest_push_from : (p : Contents) (items : List Seen) (i : Seen) (a : Attempt) �
 latest_push_from p [] i a = refl
 latest_push_from p (x ∷ items) i a = latest_push_from p items i (with_item p a x)
 
-latest_push : (p : Contents) (items : List Seen) (i : Seen) → latest p (items ++ i ∷ []) ≡ with_item p (latest p items) i
+pub latest_push : (p : Contents) (items : List Seen) (i : Seen) → latest p (items ++ i ∷ []) ≡ with_item p (latest p items) i
 latest_push p items i = latest_push_from p items i (fresh 0)
 
 acks_push : (p : Contents) (n : UnitNumber) (items : List Seen) (i : Seen) → AcksOnly p n items → AcksForm n i.bus (form_of p.codes i.bus i.word) → AcksOnly p n (items ++ i ∷ [])
@@ -229,6 +229,10 @@ stands_from p items (i ∷ more) s h =
 stands : (p : Contents) (items : List Seen) → Stands p items (so_far p items)
 stands p items = stands_from p [] items at_start (record { attempt = refl; unit = tt })
 
+-- the attempt that is under way is the latest one
+pub so_far_latest : (p : Contents) (items : List Seen) → (so_far p items).attempt ≡ latest p items
+so_far_latest p items = (stands p items).attempt
+
 -- ---- two attempts under one number
 
 -- both are attempts to send one link data unit
@@ -284,7 +288,7 @@ same_words p n now words h =
 
 -- ---- no run contradicts what it has recorded
 
-abbrev on : Bus → ℕ → Seen
+abbrev pub on : Bus → ℕ → Seen
 on b w = record { bus = b; word = w }
 
 no_other_start : (p : Contents) → IsRead p → (items : List Seen) (a : Attempt) (words : List ℕ) (n : UnitNumber) (w : ℕ) (o : Option UnitSoFar) → a.words ≡ words → IsStartOf n (form_of p.codes bus.A w) → latest p (items ++ on bus.A w ∷ []) ≡ record a { words = a.words ++ w ∷ [] } → IsKnownIf p items o → BeginsARun p (items ++ on bus.A w ∷ []) → IsOtherStart a words n w o → ⊥
@@ -339,7 +343,7 @@ no_other_form p sound good items bus.A w (Some (form.Eot f c)) s q e known run o
 no_other_form p sound good items _ w _ s q e known run other = absurd other
 
 -- the items up to one more
-next_item : {X : Type 0} (i : ℕ) (x : X) (xs : List X) → slice_get xs i ≡ Some x → take (suc i) xs ≡ take i xs ++ x ∷ []
+pub next_item : {X : Type 0} (i : ℕ) (x : X) (xs : List X) → slice_get xs i ≡ Some x → take (suc i) xs ≡ take i xs ++ x ∷ []
 next_item i x [] h = absurd (cc h)
 next_item {X} zero x (y ∷ xs) h = let e : y ≡ x = cc in ap (λ (z : X). z ∷ []) e
 next_item {X} (suc i) x (y ∷ xs) h = ap (λ (l : List X). y ∷ l) (next_item i x xs h)
