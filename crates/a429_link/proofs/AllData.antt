@@ -1,5 +1,5 @@
 -- As many data words as were asked for are all those of a link data unit, and carry bytes.
-use Rattle.std.proofs.Common.{◌≡◌, ◌⊎◌, ℕ, suc, ◌+◌, ◌≤◌, List, [], ◌∷◌, ◌++◌, length, take, Option, Some, None, is_some, slice_get, refl, sym, ap, ◌∙◌, subst, inl, inr, arith, append-nil}
+use Rattle.std.proofs.Common.{◌≡◌, ◌⊎◌, ℕ, suc, ◌≤◌, List, [], ◌∷◌, ◌++◌, length, take, Option, Some, None, is_some, slice_get, refl, sym, ap, ◌∙◌, subst, inl, inr, arith, append-nil}
 use Rattle.a429_word.specs.declared.bus.Bus.{Bus}
 use Rattle.a429_word.specs.declared.bus.Bus.TheVariants as bus
 use Rattle.a429_profile.specs.Profile.{Contents, IsProfile}
@@ -7,7 +7,7 @@ use Rattle.a429_profile.specs.declared.codes.Codes.{Codes}
 use Rattle.a429_ldu.specs.declared.forms.Form.{Form}
 use Rattle.a429_ldu.specs.declared.forms.Form.TheVariants as form
 use Rattle.a429_ldu.specs.Form.{form_of, word_number}
-use Rattle.a429_ldu.specs.Ldu.{LduValue, IsLdu, block_of, count_of}
+use Rattle.a429_ldu.specs.Ldu.{LduValue, IsLdu, block_of}
 use Rattle.a429_ldu.specs.Carried.{bytes_carried}
 use Rattle.a429_ldu.proofs.CarriedFacts.{carried_of}
 use Rattle.a429_link.specs.declared.number.UnitNumber.{UnitNumber}
@@ -18,7 +18,7 @@ use Rattle.a429_link.specs.Run.{BeginsARun, IsSubsequenceOf}
 use Rattle.a429_link.specs.WholeBlock.{AreHalf, IsHalfAt, IsHalfForm, IsHalfNext, data_first, data_words}
 use Rattle.a429_link.proofs.AssignedRun.{grown_count, open_assigned, some_attempts}
 use Rattle.a429_link.proofs.Contradictions.{latest_push, next_item, on}
-use Rattle.a429_link.proofs.Message.{AllParts, Eot, IsRead, Message, Part, Sot, end_message, message_in, message_of, word_of}
+use Rattle.a429_link.proofs.Message.{AllParts, Eot, IsRead, Part, Sot, end_message, message_in}
 use Rattle.a429_link.proofs.NumberKept.{sub_all}
 use Rattle.a429_link.proofs.RunAssigned.{run_assignable}
 

@@ -1,18 +1,18 @@
 -- What contradicts the recorded words of a link data unit, no run records.
-use Rattle.std.proofs.Common.{◌≡◌, ◌≢◌, ◌⊎◌, ℕ, zero, suc, ◌+◌, Bool, true, false, cond, eqb, List, [], ◌∷◌, ◌++◌, length, take, Option, Some, None, slice_get, refl, sym, ap, ◌∙◌, subst, inl, inr, arith, append_assoc, append-nil, eqb-true}
+use Rattle.std.proofs.Common.{◌≡◌, ℕ, zero, suc, Bool, true, false, cond, eqb, List, [], ◌∷◌, ◌++◌, length, take, Option, Some, None, slice_get, refl, sym, ap, ◌∙◌, subst, inl, inr, append_assoc, append-nil, eqb-true}
 use Rattle.std.proofs.lemmas.Bool.{and_parts}
 use Rattle.a429_word.specs.declared.bus.Bus.{Bus}
 use Rattle.a429_word.specs.declared.bus.Bus.TheVariants as bus
 use Rattle.a429_profile.specs.Profile.{Contents, IsProfile}
 use Rattle.a429_ldu.specs.declared.forms.Form.{Form}
 use Rattle.a429_ldu.specs.declared.forms.Form.TheVariants as form
-use Rattle.a429_ldu.specs.Form.{form_of, word_number}
-use Rattle.a429_ldu.specs.Ldu.{LduValue, IsLdu, block_of, count_of}
+use Rattle.a429_ldu.specs.Form.{form_of}
+use Rattle.a429_ldu.specs.Ldu.{LduValue, IsLdu, block_of}
 use Rattle.a429_link.specs.declared.number.UnitNumber.{UnitNumber}
 use Rattle.a429_link.specs.declared.seen.Seen.{Seen}
 use Rattle.a429_link.specs.Attempt.{Attempt, BeginsUnder, HasNumber, IsAttemptAt, IsStartOf, IsWhole, asks, fresh, grown, latest, latest_from, under_way}
 use Rattle.a429_link.specs.Contradiction.{AreOther, IsOtherAt, IsOtherEnd, IsOtherForm, IsOtherLast, IsOtherNext, IsOtherStart, IsOtherWord, IsWrongAt, IsWrongForm, IsWrongNext, IsWrongStart, SoFar, UnitSoFar, at_start, begun, ended, sends, so_far, so_far_after, so_far_from, started, unit_after, whole_block, with_ack, with_end, with_start}
-use Rattle.a429_link.specs.Group.{AcksForm, AcksOnly, IsFurther, IsGroup}
+use Rattle.a429_link.specs.Group.{AcksForm, AcksOnly}
 use Rattle.a429_link.specs.Number.{is_number}
 use Rattle.a429_link.specs.Run.{BeginsARun, IsSubsequenceOf}
 use Rattle.a429_link.proofs.Message.{IsRead}

@@ -40,13 +40,11 @@ impl DataWords {
         ensures { OnOk result (self.new ≡ data_after seen.bus seen.word (Some form.now) self.old) }
     {
         match (seen.bus, *form) {
-            (Bus::A, Form::Part(_)) => self.words.push(seen.word),
-            (Bus::A, Form::Rts { .. }) | (Bus::B, Form::Cts { .. }) => {
-                self.words.clear();
-                Ok(())
-            }
-            _ => Ok(()),
+            (Bus::A, Form::Part(_)) => self.words.push(seen.word)?,
+            (Bus::A, Form::Rts { .. }) | (Bus::B, Form::Cts { .. }) => self.words.clear(),
+            _ => {}
         }
+        Ok(())
     }
 
     /// They are as many as a block of so many words has, and carry no bytes.
@@ -56,6 +54,9 @@ impl DataWords {
         if self.words.len() + 2 != usize::from(count) {
             return false;
         }
-        block_bytes(profile, &self.words).is_none()
+        match block_bytes(profile, &self.words) {
+            Some(_) => false,
+            None => true,
+        }
     }
 }
