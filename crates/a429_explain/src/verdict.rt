@@ -33,8 +33,8 @@ pub enum Reason {
     NotGranted,
     /// It is an answer that the sink does not owe.
     WrongAnswer,
-    /// The end word of a block that was recorded whole, and whose data words and check word are those of no link data
-    /// unit. `check` leaves this reason and the two after it out.
+    /// The last data word of a block whose data words are all recorded and carry no bytes, or the end word of a block
+    /// that was recorded whole and whose check word is not theirs. `check` leaves this reason and the two after it out.
     BadBlock,
     /// A start word with a number that the source cannot have come to.
     WrongNumber,

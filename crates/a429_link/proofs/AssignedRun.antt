@@ -276,7 +276,7 @@ move_to p i items s k k' now a units q vs e w h g = record {
 
 -- ---- a request
 
-some_attempts : (p : Contents) (a : Attempt) (items : List Seen) → IsNonEmpty (attempts_from p a items)
+pub some_attempts : (p : Contents) (a : Attempt) (items : List Seen) → IsNonEmpty (attempts_from p a items)
 some_attempts p a [] = tt
 some_attempts p a (i ∷ items) = by (asks i.bus (form_of p.codes i.bus i.word)) (some_attempts p (grown i.bus i.word (form_of p.codes i.bus i.word) a) items)
   where
@@ -284,7 +284,7 @@ some_attempts p a (i ∷ items) = by (asks i.bus (form_of p.codes i.bus i.word))
     by None h = h
     by (Some n) h = tt
 
-grown_count : (b : Bus) (w : ℕ) (o : Option Form) (a : Attempt) → (grown b w o a).count ≡ a.count
+pub grown_count : (b : Bus) (w : ℕ) (o : Option Form) (a : Attempt) → (grown b w o a).count ≡ a.count
 grown_count bus.A w (Some (form.Sot g f l)) a = refl
 grown_count bus.A w (Some (form.Part s)) a = refl
 grown_count bus.A w (Some (form.Eot f c)) a = refl
@@ -300,15 +300,15 @@ count_assigned p t a (i ∷ items) units h = by (asks i.bus (form_of p.codes i.b
     by None rec h = sym (grown_count i.bus i.word (form_of p.codes i.bus i.word) a) ∙ rec h
     by (Some n) rec h = h.0.0.asked
 
-record Opened (p : Contents) (now : Option Assigned) (ok : Bool) (l : List Attempt) (units : List Assigned) : Type 0 where
-  assigned_as : Assigned
-  more : List Assigned
-  is : units ≡ assigned_as ∷ more
-  sound : IsSound p assigned_as
-  next : IsNext p.codes now ok assigned_as
-  goes : GoOnAssigned p (Some assigned_as) l more
+pub record Opened (p : Contents) (now : Option Assigned) (ok : Bool) (l : List Attempt) (units : List Assigned) : Type 0 where
+  pub assigned_as : Assigned
+  pub more : List Assigned
+  pub is : units ≡ assigned_as ∷ more
+  pub sound : IsSound p assigned_as
+  pub next : IsNext p.codes now ok assigned_as
+  pub goes : GoOnAssigned p (Some assigned_as) l more
 
-open_assigned : (p : Contents) (now : Option Assigned) (ok : Bool) (l : List Attempt) (units : List Assigned) → IsNonEmpty l → AreAssigned p now ok l units → Opened p now ok l units
+pub open_assigned : (p : Contents) (now : Option Assigned) (ok : Bool) (l : List Attempt) (units : List Assigned) → IsNonEmpty l → AreAssigned p now ok l units → Opened p now ok l units
 open_assigned p now ok [] units n h = absurd n
 open_assigned p now ok (a ∷ l) [] n h = absurd h
 open_assigned p now ok (a ∷ l) (t ∷ units) n h = record { assigned_as = t; more = units; is = refl; sound = h.0; next = h.1; goes = (h.2, h.3) }

@@ -1,18 +1,18 @@
 -- What contradicts the recorded words of a link data unit, no run records.
-use Rattle.std.proofs.Common.{◌≡◌, ◌≢◌, ◌⊎◌, ℕ, zero, suc, ◌+◌, Bool, true, false, cond, eqb, List, [], ◌∷◌, ◌++◌, length, take, Option, Some, None, slice_get, refl, sym, ap, ◌∙◌, subst, inl, inr, arith, append_assoc, append-nil, eqb-true}
+use Rattle.std.proofs.Common.{◌≡◌, ℕ, zero, suc, Bool, true, false, cond, eqb, List, [], ◌∷◌, ◌++◌, length, take, Option, Some, None, slice_get, refl, sym, ap, ◌∙◌, subst, inl, inr, append_assoc, append-nil, eqb-true}
 use Rattle.std.proofs.lemmas.Bool.{and_parts}
 use Rattle.a429_word.specs.declared.bus.Bus.{Bus}
 use Rattle.a429_word.specs.declared.bus.Bus.TheVariants as bus
 use Rattle.a429_profile.specs.Profile.{Contents, IsProfile}
 use Rattle.a429_ldu.specs.declared.forms.Form.{Form}
 use Rattle.a429_ldu.specs.declared.forms.Form.TheVariants as form
-use Rattle.a429_ldu.specs.Form.{form_of, word_number}
-use Rattle.a429_ldu.specs.Ldu.{LduValue, IsLdu, block_of, count_of}
+use Rattle.a429_ldu.specs.Form.{form_of}
+use Rattle.a429_ldu.specs.Ldu.{LduValue, IsLdu, block_of}
 use Rattle.a429_link.specs.declared.number.UnitNumber.{UnitNumber}
 use Rattle.a429_link.specs.declared.seen.Seen.{Seen}
 use Rattle.a429_link.specs.Attempt.{Attempt, BeginsUnder, HasNumber, IsAttemptAt, IsStartOf, IsWhole, asks, fresh, grown, latest, latest_from, under_way}
 use Rattle.a429_link.specs.Contradiction.{AreOther, IsOtherAt, IsOtherEnd, IsOtherForm, IsOtherLast, IsOtherNext, IsOtherStart, IsOtherWord, IsWrongAt, IsWrongForm, IsWrongNext, IsWrongStart, SoFar, UnitSoFar, at_start, begun, ended, sends, so_far, so_far_after, so_far_from, started, unit_after, whole_block, with_ack, with_end, with_start}
-use Rattle.a429_link.specs.Group.{AcksForm, AcksOnly, IsFurther, IsGroup}
+use Rattle.a429_link.specs.Group.{AcksForm, AcksOnly}
 use Rattle.a429_link.specs.Number.{is_number}
 use Rattle.a429_link.specs.Run.{BeginsARun, IsSubsequenceOf}
 use Rattle.a429_link.proofs.Message.{IsRead}
@@ -30,7 +30,7 @@ latest_push_from : (p : Contents) (items : List Seen) (i : Seen) (a : Attempt) �
 latest_push_from p [] i a = refl
 latest_push_from p (x ∷ items) i a = latest_push_from p items i (with_item p a x)
 
-latest_push : (p : Contents) (items : List Seen) (i : Seen) → latest p (items ++ i ∷ []) ≡ with_item p (latest p items) i
+pub latest_push : (p : Contents) (items : List Seen) (i : Seen) → latest p (items ++ i ∷ []) ≡ with_item p (latest p items) i
 latest_push p items i = latest_push_from p items i (fresh 0)
 
 acks_push : (p : Contents) (n : UnitNumber) (items : List Seen) (i : Seen) → AcksOnly p n items → AcksForm n i.bus (form_of p.codes i.bus i.word) → AcksOnly p n (items ++ i ∷ [])
@@ -229,6 +229,10 @@ stands_from p items (i ∷ more) s h =
 stands : (p : Contents) (items : List Seen) → Stands p items (so_far p items)
 stands p items = stands_from p [] items at_start (record { attempt = refl; unit = tt })
 
+-- the attempt that is under way is the latest one
+pub so_far_latest : (p : Contents) (items : List Seen) → (so_far p items).attempt ≡ latest p items
+so_far_latest p items = (stands p items).attempt
+
 -- ---- two attempts under one number
 
 -- both are attempts to send one link data unit
@@ -284,7 +288,7 @@ same_words p n now words h =
 
 -- ---- no run contradicts what it has recorded
 
-abbrev on : Bus → ℕ → Seen
+abbrev pub on : Bus → ℕ → Seen
 on b w = record { bus = b; word = w }
 
 no_other_start : (p : Contents) → IsRead p → (items : List Seen) (a : Attempt) (words : List ℕ) (n : UnitNumber) (w : ℕ) (o : Option UnitSoFar) → a.words ≡ words → IsStartOf n (form_of p.codes bus.A w) → latest p (items ++ on bus.A w ∷ []) ≡ record a { words = a.words ++ w ∷ [] } → IsKnownIf p items o → BeginsARun p (items ++ on bus.A w ∷ []) → IsOtherStart a words n w o → ⊥
@@ -339,7 +343,7 @@ no_other_form p sound good items bus.A w (Some (form.Eot f c)) s q e known run o
 no_other_form p sound good items _ w _ s q e known run other = absurd other
 
 -- the items up to one more
-next_item : {X : Type 0} (i : ℕ) (x : X) (xs : List X) → slice_get xs i ≡ Some x → take (suc i) xs ≡ take i xs ++ x ∷ []
+pub next_item : {X : Type 0} (i : ℕ) (x : X) (xs : List X) → slice_get xs i ≡ Some x → take (suc i) xs ≡ take i xs ++ x ∷ []
 next_item i x [] h = absurd (cc h)
 next_item {X} zero x (y ∷ xs) h = let e : y ≡ x = cc in ap (λ (z : X). z ∷ []) e
 next_item {X} (suc i) x (y ∷ xs) h = ap (λ (l : List X). y ∷ l) (next_item i x xs h)

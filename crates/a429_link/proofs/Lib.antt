@@ -35,4 +35,5 @@ pub mod BlockWords
 pub mod Contradictions
 pub mod RunAssigned
 pub mod AssignedRun
+pub mod AllData
 mod LaneFacts

@@ -1,13 +1,16 @@
 -- Why a block is not good, by what was made of its words.
-use Rattle.std.proofs.Common.{◌≡◌, ℕ, ◌+◌, Bool, true, false, cond, eqb, not, List, [], length, Option, Some, None, is_some, unwrap_or, option_map, refl, sym, ap, ◌∙◌, eq-eqb}
+use Rattle.std.proofs.Common.{◌≡◌, ◌↔◌, ℕ, ◌+◌, ◌-◌, Bool, true, false, cond, eqb, not, ◌&&◌, List, [], length, Option, Some, None, is_some, unwrap_or, option_map, refl, sym, ap, ◌∙◌, eq-eqb, eqb-true}
 use Rattle.arrayvec.specs.ArrayVec.{ArrayVec}
+use Rattle.a429_word.specs.declared.bus.Bus.TheVariants as bus
 use Rattle.a429_profile.specs.Profile.{Contents}
+use Rattle.a429_ldu.specs.declared.forms.Form.TheVariants as form
 use Rattle.a429_ldu.specs.Carried.{bytes_carried, bytes_in, semis_in_words}
 use Rattle.a429_ldu.specs.CheckWord.{agrees, check_of}
 use Rattle.a429_link.specs.declared.why.Why.{Why}
 use Rattle.a429_link.specs.declared.why.Why.TheVariants as why
 use Rattle.a429_link.specs.Sink.{end_word, Block, InBlock, Number, OwesAck, OwesNak, Sink, SinkPhase, at_end, in_phase, may_come, number_of, takes_end}
-use Rattle.a429_link.specs.Why.{are_half, block_in, why_bad}
+use Rattle.a429_link.specs.Why.{MakesNoUnit, are_half, block_in, why_bad}
+use Rattle.a429_link.specs.WholeBlock.{EndsBadForm}
 use Rattle.a429_link.proofs.TraceReasons.{carries_where, none_where_good}
 
 -- the reason of a block of the right count whose words carry these bytes
@@ -60,3 +63,20 @@ ends_bad p k b flags check reason at some =
     let here = ap (λ (phase : SinkPhase). in_phase (at_end p k.last k.count (end_word flags check) phase) k) at in
     let why = some ∙ ap (λ (phase : SinkPhase). why_bad p k.last k.count (block_in phase) check) at in
     here ∙ ap (λ (phase : SinkPhase). in_phase phase k) (end_not _ b flags (λ good. let none = (none_where_good p k.last k.count b check).1 good in absurd (cc (why, none))))
+
+-- ---- a block whose data words and check word make no link data unit
+
+of_words : (a m c d : Bool) (words asked semis check : ℕ) → MakesNoUnit (cond (not a) (Some (why.OtherCount words asked)) (cond m (Some (why.HalfBytes semis)) (cond (not c) (Some (why.OtherCheck check)) (cond (not d) (Some why.OutOfSequence) None)))) ↔ ((a ≡ true) × ((not m && c) ≡ false))
+of_words false m c d words asked semis check = (λ h. absurd h, λ h. cc h.0)
+of_words true true c d words asked semis check = (λ h. (refl, refl), λ h. tt)
+of_words true false false d words asked semis check = (λ h. (refl, refl), λ h. tt)
+of_words true false true false words asked semis check = (λ h. absurd h, λ h. cc h.1)
+of_words true false true true words asked semis check = (λ h. absurd h, λ h. cc h.1)
+
+pub ends_where : (p : Contents) (last : Option Number) (count : ℕ) (phase : SinkPhase) (flags check : ℕ) → MakesNoUnit (why_bad p last count (block_in phase) check) ↔ EndsBadForm p bus.A (Some (form.Eot flags check)) phase count
+ends_where p last count (InBlock b) flags check =
+    let agree = agrees p.check (bytes_in p.codes b.words) check in
+    let by = of_words (eqb (length b.words + 2) count) (are_half (semis_in_words p.codes b.words)) agree (may_come p.codes last (number_of b)) (length b.words) (count - 2) (semis_in_words p.codes b.words) (check_of p.check (bytes_in p.codes b.words)) in
+    let same = ap (λ (t : Bool). t && agree) (carries_where p.codes b.words) in
+    (λ h. let r = by.0 h in (eqb-true (length b.words + 2) count r.0, same ∙ r.1), λ h. by.1 (eq-eqb (length b.words + 2) count h.0, sym same ∙ h.1))
+ends_where p last count _ flags check = (λ h. absurd h, λ h. absurd h)

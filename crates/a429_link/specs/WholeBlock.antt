@@ -1,6 +1,6 @@
 -- What the words recorded under one grant say by themselves, and the number of a start word (ARINC 429 Part 3; which numbers may
 -- come: profile). The block is that of the observer: the words since the start word.
-use Rattle.std.specs.Prelude.{ℕ, ◌≡◌, ◌+◌, Bool, true, false, ◌&&◌, List, Option, Some, None, is_some, length, slice_get, take}
+use Rattle.std.specs.Prelude.{ℕ, ◌≡◌, ◌+◌, Bool, true, false, ◌&&◌, List, [], ◌∷◌, ◌++◌, Option, Some, None, is_some, length, slice_get, take}
 use Rattle.a429_word.specs.declared.bus.Bus.{Bus}
 use Rattle.a429_word.specs.declared.bus.Bus.TheVariants as bus
 use Rattle.a429_profile.specs.Profile.{Contents}
@@ -8,12 +8,13 @@ use Rattle.a429_profile.specs.declared.codes.Codes.{Codes}
 use Rattle.a429_ldu.specs.Carried.{bytes_carried, bytes_in}
 use Rattle.a429_ldu.specs.CheckWord.{agrees}
 use Rattle.a429_ldu.specs.declared.forms.Form.{Form}
-use Rattle.a429_ldu.specs.declared.forms.Form.TheVariants.{Sot, Eot}
+use Rattle.a429_ldu.specs.declared.forms.Form.TheVariants.{Sot, Part, Eot}
 use Rattle.a429_ldu.specs.Form.{form_of}
 use Rattle.a429_ldu.specs.Ldu.{LduValue, ldu_of}
 use Rattle.a429_link.specs.declared.seen.Seen.{Seen}
 use Rattle.a429_link.specs.Sink.{Block, SinkPhase, InBlock, Number, is_good, may_come}
 use Rattle.a429_link.specs.Observer.{Observer, at_first, observed}
+use Rattle.a429_link.specs.Attempt.{Attempt, latest}
 
 -- ---- a whole block
 
@@ -72,6 +73,35 @@ GoodNext p o (Some i) = GoodForm p i.bus (form_of p.codes i.bus i.word) (ending 
 
 abbrev pub EndsGoodAt : Contents → List Seen → ℕ → Type 0
 EndsGoodAt p items i = GoodNext p (observed p (take i items) at_first) (slice_get items i)
+
+-- ---- all data words
+
+-- the data words among these words
+abbrev pub data_first : ℕ → Option Form → List ℕ → List ℕ
+data_first w (Some (Part semis)) words = w ∷ words
+data_first w _ words = words
+
+abbrev pub data_words : Codes → List ℕ → List ℕ
+data_words c [] = []
+data_words c (w ∷ words) = data_first w (form_of c bus.A w) (data_words c words)
+
+-- as many data words as a block of so many words has, and they carry no bytes: their semi-octets are odd in number
+abbrev pub AreHalf : Codes → List ℕ → ℕ → Type 0
+AreHalf c words count = (length words + 2 ≡ count) × (bytes_carried c words ≡ None)
+
+-- a data word of bus A is the last one of its block, of which each data word is recorded under one grant, and they carry no bytes.
+-- The start word may be lost, and the end word is still to come
+abbrev pub IsHalfForm : Codes → Bus → ℕ → Option Form → Attempt → Type 0
+IsHalfForm c bus.A w (Some (Part semis)) a = AreHalf c (data_words c a.words ++ w ∷ []) a.count
+IsHalfForm c _ w _ a = ⊥
+
+abbrev pub IsHalfNext : Contents → Attempt → Option Seen → Type 0
+IsHalfNext p a None = ⊥
+IsHalfNext p a (Some i) = IsHalfForm p.codes i.bus i.word (form_of p.codes i.bus i.word) a
+
+-- item i is such a data word
+abbrev pub IsHalfAt : Contents → List Seen → ℕ → Type 0
+IsHalfAt p items i = IsHalfNext p (latest p (take i items)) (slice_get items i)
 
 -- ---- the number of a start word
 

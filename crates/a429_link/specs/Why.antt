@@ -1,5 +1,5 @@
 -- Why a block is not good.
-use Rattle.std.specs.Prelude.{ℕ, ◌+◌, ◌-◌, ◌%◌, Bool, not, ◌==◌, ◌||◌, nat_lt, if◌then◌else◌, List, length, Option, Some, None}
+use Rattle.std.specs.Prelude.{ℕ, ◌+◌, ◌-◌, ◌%◌, Bool, not, ◌==◌, ◌||◌, nat_lt, if◌then◌else◌, length, Option, Some, None}
 use Rattle.a429_profile.specs.Profile.{Contents}
 use Rattle.a429_ldu.specs.Carried.{bytes_in, semis_in_words}
 use Rattle.a429_ldu.specs.CheckWord.{agrees, check_of}
@@ -20,6 +20,12 @@ why_bad p last count (Some b) check =
     else (if not (agrees p.check (bytes_in p.codes b.words) check) then Some (OtherCheck (check_of p.check (bytes_in p.codes b.words)))
     else (if not (may_come p.codes last (number_of b)) then Some OutOfSequence
     else None)))
+
+-- its data words carry no bytes, or with another check word
+abbrev pub MakesNoUnit : Option Why → Type 0
+MakesNoUnit (Some (HalfBytes semis)) = Unit {0}
+MakesNoUnit (Some (OtherCheck check)) = Unit {0}
+MakesNoUnit _ = ⊥
 
 -- the block that the sink is in
 abbrev pub block_in : SinkPhase → Option Block

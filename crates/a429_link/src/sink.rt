@@ -1,16 +1,13 @@
 //! The sink of a file transfer.
 
 ghost use Rattle.std.specs.Prelude.{ℕ, true, ◌≡◌, ◌≤◌, ◌+◌, ◌&&◌, ◌↔◌, [], ◌∷◌, ◌++◌, length, slice_index, Some, None, is_some, option_map, IfSome, IsNone, IsTrue};
-ghost use Rattle.a429_ldu.specs.Ldu.{most_data_words};
-ghost use Rattle.a429_ldu.specs.Carried.{bytes_carried, bytes_in};
-ghost use Rattle.a429_ldu.specs.CheckWord.{agrees};
 ghost use Rattle.a429_link.specs.Carry.{HasTaken};
 ghost use Rattle.a429_link.specs.Sink as model;
 ghost use Rattle.a429_link.specs.Sink.{takes, takes_request, takes_start, takes_part, takes_end, in_phase, is_same, is_same_file, may_come, block_with, phase_of, kept_words, without_files, Listens, Owes, held_count, latest_number, HasRoom, nothing_received};
 ghost use Rattle.a429_link.specs.State.{sink_state_of, IsNonEmpty, rest, past_first};
 ghost use Rattle.a429_link.specs.Observer.{HasGrant};
 ghost use Rattle.a429_link.specs.Implied.{why_at};
-ghost use Rattle.a429_link.specs.Why.{block_in, why_bad};
+ghost use Rattle.a429_link.specs.Why.{MakesNoUnit, block_in, why_bad};
 ghost use Rattle.a429_link.specs.WholeBlock.{EndsBadForm};
 
 mod answers;
@@ -322,34 +319,11 @@ impl Sink {
         None
     }
 
-    // Its block has as many data words as the request asked for.
-    fn is_whole(&self) -> bool
-        ensures whole { IsTrue result ↔ (length (kept_words self.now.sink.phase) + 2 ≡ self.now.sink.count) }
-        ensures few { result ≡ true → length (kept_words self.now.sink.phase) ≤ most_data_words }
-    {
-        let count = self.count;
-        self.lane.taken().len() + 2 == usize::from(count)
-    }
-
-    // The data words of its block carry bytes that have this check word, where the profile compares check words.
-    fn makes_unit(&self, profile: &Profile, check: u16) -> bool
-        requires { length (kept_words self.now.sink.phase) ≤ most_data_words }
-        ensures { result ≡ (is_some (bytes_carried profile.now.codes (kept_words self.now.sink.phase)) && agrees profile.now.check (bytes_in profile.now.codes (kept_words self.now.sink.phase)) check) }
-    {
-        match block_bytes(profile, self.lane.taken()) {
-            Some(bytes) => agrees(profile.check(), bytes.as_slice(), check),
-            None => false,
-        }
-    }
-
     /// An end word with this check word ends a block that is whole, and makes no link data unit of it.
     pub(crate) fn ends_bad(&self, profile: &Profile, check: u16) -> bool
         ensures { (flags : ℕ) → IsTrue result ↔ EndsBadForm profile.now Bus.A (Some (Form.Eot flags check)) self.now.sink.phase self.now.sink.count }
     {
-        if !matches!(self.phase, Phase::InBlock(_)) || !self.is_whole() {
-            return false;
-        }
-        !self.makes_unit(profile, check)
+        makes_no_unit(self.why_bad(profile, check))
     }
 
     /// A block with this number comes again, or in sequence.
@@ -395,4 +369,11 @@ impl Sink {
     {
         self.received.take_files(alloc)
     }
+}
+
+// The data words of a block carry no bytes, or with another check word.
+fn makes_no_unit(why: Option<Why>) -> bool
+    ensures { IsTrue result ↔ MakesNoUnit why }
+{
+    matches!(why, Some(Why::HalfBytes(_) | Why::OtherCheck(_)))
 }

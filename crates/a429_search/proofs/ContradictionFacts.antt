@@ -1,10 +1,11 @@
 -- What contradicts the words before it.
 use Rattle.std.proofs.lemmas.Bool.{cases_order}
 use Rattle.std.proofs.lemmas.Option.{slice_get_within}
-use Rattle.std.proofs.Common.{◌≡◌, ◌⊎◌, ◌↔◌, ℕ, zero, suc, ◌+◌, ◌<◌, ◌≤◌, List, [], ◌∷◌, length, take, Option, Some, None, Result, Ok, Err, IsOk, OnOk, slice_get, refl, sym, ap, ◌∙◌, subst, inl, inr, arith}
+use Rattle.std.proofs.Common.{◌≡◌, ◌⊎◌, ◌↔◌, ℕ, zero, suc, ◌+◌, ◌<◌, ◌≤◌, List, [], ◌∷◌, ◌++◌, append-nil, length, take, Option, Some, None, Result, Ok, Err, IsOk, OnOk, slice_get, refl, sym, ap, ◌∙◌, subst, inl, inr, arith}
 use Rattle.a429_word.specs.declared.bus.Bus.{Bus}
 use Rattle.a429_word.specs.declared.bus.Bus.TheVariants as bus
 use Rattle.a429_profile.specs.Profile.{Contents}
+use Rattle.a429_profile.specs.declared.codes.Codes.{Codes}
 use Rattle.a429_ldu.specs.declared.forms.Form.{Form}
 use Rattle.a429_ldu.specs.declared.forms.Form.TheVariants.{Rts, Cts, Ack, Nak, Sot, Part, Eot}
 use Rattle.a429_ldu.specs.Form.{form_of}
@@ -14,14 +15,16 @@ use Rattle.a429_link.specs.Attempt.{Attempt}
 use Rattle.a429_link.specs.Contradiction.{SoFar, UnitSoFar, so_far, so_far_from, so_far_after, with_start, with_end, at_start, IsOtherForm, IsOtherStart, IsOtherWord, IsOtherLast, IsWrongForm, IsOtherAt, IsWrongAt}
 use Rattle.a429_link.specs.Observer.{Observer, Allows, AllowsNext, observed, sees, sees_form, at_first}
 use Rattle.a429_link.specs.Run.{BeginsARun}
-use Rattle.a429_link.specs.WholeBlock.{ComesForm, EndsBadAt, NumberComesAt}
+use Rattle.a429_link.specs.WholeBlock.{ComesForm, EndsBadAt, EndsBadForm, IsHalfAt, IsHalfForm, NumberComesAt, data_first, data_words}
 use Rattle.a429_explain.specs.declared.decoded.DecodedWord.{DecodedWord}
 use Rattle.a429_explain.specs.Decoded.{IsHeardAt}
 use Rattle.a429_explain.specs.Walk.{AreAllowed}
 use Rattle.a429_explain.specs.declared.verdict.Reason.{Reason}
 use Rattle.a429_explain.specs.declared.verdict.Reason.TheVariants.{NoForm, NotGranted, WrongAnswer, BadBlock, WrongNumber, OtherBlock}
 use Rattle.a429_explain.proofs.WalkFacts.{observed_more}
-use Rattle.a429_search.specs.SoFar.{unheard}
+use Rattle.a429_link.proofs.AllData.{data-append}
+use Rattle.a429_link.proofs.Contradictions.{so_far_latest}
+use Rattle.a429_search.specs.SoFar.{data_after, unheard}
 use Rattle.a429_search.specs.Contradiction.{Contradicts, ContradictsAt, HasNoContradiction}
 
 -- ---- what is acknowledged in an attempt does not matter
@@ -64,8 +67,12 @@ heard_wrong bus.A (Some (Nak q)) s = refl
 heard_wrong bus.A None s = refl
 heard_wrong bus.B x s = refl
 
+heard_half : (p : Contents) (b : Bus) (w : ℕ) (x : Option Form) (s : SoFar) → IsHalfForm p.codes b w x (unheard s).attempt ≡ IsHalfForm p.codes b w x s.attempt
+heard_half p bus.A w (Some (Part q)) s = refl
+heard_half p _ w _ s = refl
+
 heard_contradicts : (p : Contents) (o : Observer) (s : SoFar) (b : Bus) (w : ℕ) (x : Option Form) (r : Reason) → Contradicts p o (unheard s) b w x r ≡ Contradicts p o s b w x r
-heard_contradicts p o s b w x BadBlock = refl
+heard_contradicts p o s b w x BadBlock = ap (λ (T : Type 0). EndsBadForm p b x o.phase o.count ⊎ T) (heard_half p b w x s)
 heard_contradicts p o s b w x WrongNumber = ap (λ (T : Type 0). (¬ ComesForm p.codes b x o.last) ⊎ T) (heard_wrong b x s)
 heard_contradicts p o s b w x OtherBlock = heard_other b w x s
 heard_contradicts p o s b w x NoForm = refl
@@ -106,11 +113,13 @@ formless_same bus.A w s = refl
 formless_same bus.B w s = refl
 
 pub formless : (p : Contents) (o : Observer) (s : SoFar) (b : Bus) (w : ℕ) (r : Reason) → ¬ Contradicts p o s b w None r
-formless p o s bus.A w BadBlock h = h
+formless p o s bus.A w BadBlock (inl h) = h
+formless p o s bus.A w BadBlock (inr h) = h
 formless p o s bus.A w WrongNumber (inl h) = h tt
 formless p o s bus.A w WrongNumber (inr h) = h
 formless p o s bus.A w OtherBlock h = h
-formless p o s bus.B w BadBlock h = h
+formless p o s bus.B w BadBlock (inl h) = h
+formless p o s bus.B w BadBlock (inr h) = h
 formless p o s bus.B w WrongNumber (inl h) = h tt
 formless p o s bus.B w WrongNumber (inr h) = h
 formless p o s bus.B w OtherBlock h = h
@@ -125,10 +134,33 @@ so_far_more p [] n i s at = absurd (cc at)
 so_far_more p (x ∷ items) zero i s at = ap (λ (j : Seen). so_far_after j.bus j.word (form_of p.codes j.bus j.word) s) (cc at)
 so_far_more p (x ∷ items) (suc n) i s at = so_far_more p items n i (so_far_after x.bus x.word (form_of p.codes x.bus x.word) s) at
 
+-- the data words of the attempt after one more word
+added : (c : Codes) (w : ℕ) (o : Option Form) (words : List ℕ) → form_of c bus.A w ≡ o → data_words c (words ++ w ∷ []) ≡ data_words c words ++ data_first w o []
+added c w o words e = data-append c words (w ∷ []) ∙ ap (λ y. data_words c words ++ data_first w y []) e
+
+data_more : (c : Codes) (b : Bus) (w : ℕ) (x : Option Form) (s : SoFar) → form_of c b w ≡ x → data_after b w x (data_words c s.attempt.words) ≡ data_words c (so_far_after b w x s).attempt.words
+data_more c bus.A w (Some (Rts n)) s e = refl
+data_more c bus.A w (Some (Sot g f l)) s e = sym (added c w (Some (Sot g f l)) s.attempt.words e ∙ append-nil (data_words c s.attempt.words))
+data_more c bus.A w (Some (Part q)) s e = sym (added c w (Some (Part q)) s.attempt.words e)
+data_more c bus.A w (Some (Eot f k)) s e = sym (added c w (Some (Eot f k)) s.attempt.words e ∙ append-nil (data_words c s.attempt.words))
+data_more c bus.A w (Some (Cts n)) s e = refl
+data_more c bus.A w (Some (Ack f l)) s e = refl
+data_more c bus.A w (Some (Nak q)) s e = refl
+data_more c bus.A w None s e = refl
+data_more c bus.B w (Some (Rts n)) s e = refl
+data_more c bus.B w (Some (Sot g f l)) s e = refl
+data_more c bus.B w (Some (Part q)) s e = refl
+data_more c bus.B w (Some (Eot f k)) s e = refl
+data_more c bus.B w (Some (Cts n)) s e = refl
+data_more c bus.B w (Some (Ack f l)) s e = refl
+data_more c bus.B w (Some (Nak q)) s e = refl
+data_more c bus.B w None s e = refl
+
 -- what a witness of the first n words has seen
-pub record Witnesses (p : Contents) (items : List Seen) (n : ℕ) (o : Observer) (s : SoFar) : Type 0 where
+pub record Witnesses (p : Contents) (items : List Seen) (n : ℕ) (o : Observer) (s : SoFar) (parts : List ℕ) : Type 0 where
   pub observer : o ≡ observed p (take n items) at_first
   pub so_far : unheard s ≡ unheard (so_far p (take n items))
+  pub words : parts ≡ data_words p.codes s.attempt.words
   pub none : HasNoContradiction p items n
 
 -- the word at a place, and its form
@@ -142,15 +174,15 @@ is_at p items n i h at k =
     record { item = at; form_is = subst (λ (j : Seen). form_of p.codes j.bus j.word ≡ h.form) same k.form_is }
 
 contradicts_here : (p : Contents) (items : List Seen) (n : ℕ) (i : Seen) (r : Reason) → slice_get items n ≡ Some i → ContradictsAt p items n r ≡ Contradicts p (observed p (take n items) at_first) (so_far p (take n items)) i.bus i.word (form_of p.codes i.bus i.word) r
-contradicts_here p items n i BadBlock at = rw at refl
+contradicts_here p items n i BadBlock at = rw at (ap (λ (a : Attempt). EndsBadForm p i.bus (form_of p.codes i.bus i.word) (observed p (take n items) at_first).phase (observed p (take n items) at_first).count ⊎ IsHalfForm p.codes i.bus i.word (form_of p.codes i.bus i.word) a) (sym (so_far_latest p (take n items))))
 contradicts_here p items n i WrongNumber at = rw at refl
 contradicts_here p items n i OtherBlock at = rw at refl
 contradicts_here p items n i NoForm at = refl
 contradicts_here p items n i NotGranted at = refl
 contradicts_here p items n i WrongAnswer at = refl
 
-pub contradicts_at : (p : Contents) (items : List Seen) (n : ℕ) (i : Seen) (x : Option Form) (o : Observer) (s : SoFar) (r : Reason) → IsAt p items n i x → Witnesses p items n o s → ContradictsAt p items n r ≡ Contradicts p o s i.bus i.word x r
-contradicts_at p items n i x o s r at w =
+pub contradicts_at : (p : Contents) (items : List Seen) (n : ℕ) (i : Seen) (x : Option Form) (o : Observer) (s : SoFar) (parts : List ℕ) (r : Reason) → IsAt p items n i x → Witnesses p items n o s parts → ContradictsAt p items n r ≡ Contradicts p o s i.bus i.word x r
+contradicts_at p items n i x o s parts r at w =
     contradicts_here p items n i r at.item
     ∙ sym (heard_contradicts p (observed p (take n items) at_first) (so_far p (take n items)) i.bus i.word (form_of p.codes i.bus i.word) r)
     ∙ ap (λ (y : Option Form). Contradicts p (observed p (take n items) at_first) (unheard (so_far p (take n items))) i.bus i.word y r) at.form_is
@@ -161,19 +193,20 @@ contradicts_at p items n i x o s r at w =
 cases_le : (k n : ℕ) → k ≤ n → (k < n) ⊎ (k ≡ n)
 cases_le k n l = elim (cases_order k n) [ inl e ↦ inr e | inr (inl m) ↦ inl m | inr (inr g) ↦ absurd (omega (arith, l, g)) ]
 
-pub witnesses_more : (p : Contents) (items : List Seen) (n : ℕ) (i : Seen) (x : Option Form) (o q : Observer) (s t : SoFar) → IsAt p items n i x → Witnesses p items n o s → q ≡ sees p i o → unheard t ≡ unheard (so_far_after i.bus i.word x s) → ((r : Reason) → ¬ Contradicts p o s i.bus i.word x r) → Witnesses p items (n + 1) q t
-witnesses_more p items n i x o q s t at w seen shown none =
+pub witnesses_more : (p : Contents) (items : List Seen) (n : ℕ) (i : Seen) (x : Option Form) (o q : Observer) (s t : SoFar) (parts after : List ℕ) → IsAt p items n i x → Witnesses p items n o s parts → q ≡ sees p i o → unheard t ≡ unheard (so_far_after i.bus i.word x s) → after ≡ data_after i.bus i.word x parts → ((r : Reason) → ¬ Contradicts p o s i.bus i.word x r) → Witnesses p items (n + 1) q t after
+witnesses_more p items n i x o q s t parts after at w seen shown added none =
     let one : n + 1 ≡ suc n = omega arith in
     rw one (record {
       observer = seen ∙ ap (sees p i) w.observer ∙ sym (observed_more p items n i at_first at.item);
       so_far = shown ∙ sym (after_unheard i.bus i.word x s) ∙ ap (λ (z : SoFar). unheard (so_far_after i.bus i.word x z)) w.so_far ∙ after_unheard i.bus i.word x (so_far p (take n items)) ∙ ap (λ (y : Option Form). unheard (so_far_after i.bus i.word y (so_far p (take n items)))) (sym at.form_is) ∙ ap unheard (sym (so_far_more p items n i at_start at.item));
+      words = added ∙ ap (data_after i.bus i.word x) w.words ∙ data_more p.codes i.bus i.word x s at.form_is ∙ sym (ap (λ (z : SoFar). data_words p.codes z.attempt.words) shown);
       none = λ k l r. upto k r (omega (arith, l));
     })
   where
     upto : (k : ℕ) (r : Reason) → k ≤ n → ¬ ContradictsAt p items k r
     upto k r l h = elim (cases_le k n l) [
       | inl less ↦ w.none k less r h
-      | inr same ↦ none r (subst (λ (T : Type 0). T) (contradicts_at p items n i x o s r at w) (subst (λ (j : ℕ). ContradictsAt p items j r) same h))
+      | inr same ↦ none r (subst (λ (T : Type 0). T) (contradicts_at p items n i x o s parts r at w) (subst (λ (j : ℕ). ContradictsAt p items j r) same h))
     ]
 
 -- a word without form
@@ -188,28 +221,30 @@ pub shown_formless : (i : Seen) (s : SoFar) → unheard s ≡ unheard (so_far_af
 shown_formless i s = ap unheard (sym (formless_same i.bus i.word s))
 
 -- the word at a place is allowed
-pub allowed_at : (p : Contents) (items : List Seen) (n : ℕ) (i : Seen) (o : Observer) (s : SoFar) → slice_get items n ≡ Some i → AreAllowed p items (length items) → Witnesses p items n o s → Allows p o i
-allowed_at p items n i o s at may w =
+pub allowed_at : (p : Contents) (items : List Seen) (n : ℕ) (i : Seen) (o : Observer) (s : SoFar) (parts : List ℕ) → slice_get items n ≡ Some i → AreAllowed p items (length items) → Witnesses p items n o s parts → Allows p o i
+allowed_at p items n i o s parts at may w =
     let here : AllowsNext p (observed p (take n items) at_first) (Some i) = subst (AllowsNext p (observed p (take n items) at_first)) at (may n (slice_get_within items n i at)) in
     subst (λ (q : Observer). Allows p q i) (sym w.observer) here
 
-pub witnesses_first : (p : Contents) (items : List Seen) (o : Observer) (s : SoFar) → o ≡ at_first → s ≡ at_start → Witnesses p items 0 o s
-witnesses_first p items o s a b = record { observer = a; so_far = ap unheard b; none = λ k l r h. absurd (omega arith) }
+pub witnesses_first : (p : Contents) (items : List Seen) (o : Observer) (s : SoFar) (parts : List ℕ) → o ≡ at_first → s ≡ at_start → parts ≡ [] → Witnesses p items 0 o s parts
+witnesses_first p items o s parts a b c = record { observer = a; so_far = ap unheard b; words = c ∙ ap (λ (z : SoFar). data_words p.codes z.attempt.words) (sym b); none = λ k l r h. absurd (omega arith) }
 
 -- ---- no run
 
 pub no_run : (p : Contents) (items : List Seen) (n : ℕ) (r : Reason)
     → (EndsBadAt p items n → BeginsARun p (take (suc n) items) → ⊥)
+    → (IsHalfAt p items n → BeginsARun p (take (suc n) items) → ⊥)
     → (BeginsARun p (take (suc n) items) → NumberComesAt p items n)
     → (IsWrongAt p items n → BeginsARun p (take (suc n) items) → ⊥)
     → (IsOtherAt p items n → BeginsARun p (take (suc n) items) → ⊥)
     → ContradictsAt p items n r → BeginsARun p (take (n + 1) items) → ⊥
-no_run p items n r bad comes wrong other h run =
+no_run p items n r bad half comes wrong other h run =
     let one : n + 1 ≡ suc n = omega arith in
     by r h (subst (λ (k : ℕ). BeginsARun p (take k items)) one run)
   where
     by : (r : Reason) → ContradictsAt p items n r → BeginsARun p (take (suc n) items) → ⊥
-    by BadBlock h run = bad h run
+    by BadBlock (inl h) run = bad h run
+    by BadBlock (inr h) run = half h run
     by WrongNumber (inl h) run = h (comes run)
     by WrongNumber (inr h) run = wrong h run
     by OtherBlock h run = other h run

@@ -5,10 +5,11 @@ use Rattle.std.proofs.Common.{◌≡◌, ◌⊎◌, ℕ, zero, suc, ◌+◌, ◌
 use Rattle.a429_profile.specs.Profile.{Contents}
 use Rattle.a429_link.specs.declared.file.FileBytes.{FileBytes}
 use Rattle.a429_link.specs.declared.seen.Seen.{Seen}
+use Rattle.a429_link.specs.Attempt.{latest}
 use Rattle.a429_link.specs.Contradiction.{IsOtherNext, IsWrongNext, so_far}
 use Rattle.a429_link.specs.Observer.{AllowsNext, at_first, observed}
 use Rattle.a429_link.specs.Run.{BeginsARun}
-use Rattle.a429_link.specs.WholeBlock.{ComesNext, EndsBad}
+use Rattle.a429_link.specs.WholeBlock.{ComesNext, EndsBad, IsHalfNext}
 use Rattle.a429_cert.specs.Explained.{IsExplained}
 use Rattle.a429_cert.proofs.ExplainedFacts.{in_some_run}
 use Rattle.a429_explain.specs.declared.verdict.Reason.{Reason}
@@ -34,7 +35,7 @@ get_first (suc k) (suc n) (x ∷ xs) l = get_first k n xs (omega arith)
 
 -- what contradicts, by the items before and the item itself
 abbrev ContradictsNext : Contents → List Seen → Option Seen → Reason → Type 0
-ContradictsNext p before next BadBlock = EndsBad p (observed p before at_first) next
+ContradictsNext p before next BadBlock = EndsBad p (observed p before at_first) next ⊎ IsHalfNext p (latest p before) next
 ContradictsNext p before next WrongNumber = (¬ ComesNext p (observed p before at_first) next) ⊎ IsWrongNext p (so_far p before) next
 ContradictsNext p before next OtherBlock = IsOtherNext p (so_far p before) next
 ContradictsNext p before next reason = ⊥
@@ -56,7 +57,8 @@ in_first p items n k r l =
     ∙ sym (as_next p items k r)
 
 contradicts_none : (p : Contents) (before : List Seen) (r : Reason) → ¬ ContradictsNext p before None r
-contradicts_none p before BadBlock h = h
+contradicts_none p before BadBlock (inl h) = h
+contradicts_none p before BadBlock (inr h) = h
 contradicts_none p before WrongNumber (inl h) = h tt
 contradicts_none p before WrongNumber (inr h) = h
 contradicts_none p before OtherBlock h = h

@@ -1,5 +1,9 @@
 -- What a recording has shown so far of a link data unit, as it is kept (profile).
 use Rattle.std.specs.Prelude.{◌↔◌, ◌++◌, ◌∷◌, [], ℕ, List, Option, Some, None, drop}
+use Rattle.a429_word.specs.declared.bus.Bus.{Bus}
+use Rattle.a429_word.specs.declared.bus.Bus.TheVariants as bus
+use Rattle.a429_ldu.specs.declared.forms.Form.{Form}
+use Rattle.a429_ldu.specs.declared.forms.Form.TheVariants.{Rts, Cts, Part}
 use Rattle.a429_link.specs.Contradiction.{SoFar, UnitSoFar, with_end}
 use Rattle.a429_link.specs.Run.{IsSubsequenceOf}
 use Rattle.a429_search.specs.declared.so_far.UnitKept.{UnitKept}
@@ -30,3 +34,10 @@ unheard s = record s { attempt = record (s.attempt) { acked = None } }
 -- after an end word
 abbrev pub with_end_word : ℕ → SoFar → SoFar
 with_end_word w s = record s { attempt = record (s.attempt) { words = s.attempt.words ++ w ∷ [] }; unit = with_end s.attempt w s.unit }
+
+-- the data words since the last request or clear answer, after one more word
+abbrev pub data_after : Bus → ℕ → Option Form → List ℕ → List ℕ
+data_after bus.A w (Some (Rts n)) words = []
+data_after bus.A w (Some (Part semis)) words = words ++ w ∷ []
+data_after bus.B w (Some (Cts n)) words = []
+data_after _ w _ words = words

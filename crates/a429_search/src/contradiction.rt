@@ -1,6 +1,6 @@
 //! The first word of a recording that contradicts those before it.
 
-ghost use Rattle.std.specs.Prelude.{◌≡◌, ℕ, List, Ok, Some, None, IfOk, IfSome, OnOk, length};
+ghost use Rattle.std.specs.Prelude.{◌≡◌, ◌↔◌, ℕ, List, [], Ok, Some, None, IfOk, IfSome, IsTrue, OnOk, length};
 ghost use Rattle.a429_explain.specs.Walk.{AreAllowed};
 ghost use Rattle.a429_profile.specs.Profile.{Contents, IsProfile};
 ghost use Rattle.a429_ldu.specs.Form.{form_of};
@@ -8,17 +8,21 @@ ghost use Rattle.a429_link.specs.declared.seen.Seen.{Seen};
 ghost use Rattle.a429_link.specs.Observer.{at_first, sees, Allows};
 ghost use Rattle.a429_link.specs.Contradiction.{at_start, so_far_after};
 ghost use Rattle.a429_explain.specs.declared.verdict.Reason.{Reason};
-ghost use Rattle.a429_search.specs.SoFar.{unheard};
+ghost use Rattle.a429_link.specs.WholeBlock.{IsHalfForm, data_words};
+ghost use Rattle.a429_search.specs.SoFar.{data_after, unheard};
 ghost use Rattle.a429_search.specs.Contradiction.{Contradicts, ContradictsAt, HasNoContradiction, HasNoRun, IsFirstContradiction};
 
+use crate::data_words::DataWords;
 use crate::so_far::SoFar;
 use a429_explain::{Decoded, Reason};
 use a429_ldu::Form;
 use a429_link::laws::attempts::{
-    a_start_word_may_come, a_whole_block_is_a_unit, what_contradicts_is_impossible,
+    a_start_word_may_come, a_whole_block_is_a_unit, all_data_words_carry_bytes,
+    what_contradicts_is_impossible,
 };
 use a429_link::{Observer, Seen};
 use a429_profile::Profile;
+use a429_word::Bus;
 use std::alloc::{AllocError, Global};
 
 /// A word that contradicts those before it.
@@ -30,11 +34,13 @@ pub struct Contradiction {
     pub reason: Reason,
 }
 
-// What the words so far have shown: an observer that takes each of them, and the link data unit whose start word came last.
+// What the words so far have shown: an observer that takes each of them, the link data unit whose start word came last, and the
+// data words of the attempt.
 #[derive(Drop)]
 struct Witness {
     observer: Observer,
     so_far: SoFar,
+    parts: DataWords,
 }
 
 /// What contradicts the words before it, no run records after them.
@@ -42,6 +48,7 @@ pub fn what_contradicts_has_no_run()
     ensures { (p : Contents) (items : List Seen) (i : ℕ) (reason : Reason) → IsProfile p → ContradictsAt p items i reason → HasNoRun p items i }
 {
     a_whole_block_is_a_unit();
+    all_data_words_carry_bytes();
     a_start_word_may_come();
     what_contradicts_is_impossible();
 }
@@ -74,10 +81,12 @@ impl Witness {
     fn new(alloc: Global) -> Witness
         ensures observer { result.observer ≡ at_first }
         ensures so_far { result.so_far ≡ at_start }
+        ensures parts { result.parts ≡ [] }
     {
         Witness {
             observer: Observer::new(alloc),
             so_far: SoFar::new(alloc),
+            parts: DataWords::new(alloc),
         }
     }
 
@@ -88,15 +97,18 @@ impl Witness {
         seen: &Seen,
         form: Option<Form>,
     ) -> Result<Option<Reason>, AllocError>
-        requires { form ≡ form_of profile.now.codes seen.now.bus seen.now.word }
+        requires form { form ≡ form_of profile.now.codes seen.now.bus seen.now.word }
+        requires parts { self.old.parts ≡ data_words profile.now.codes self.old.so_far.attempt.words }
         ensures some { IfOk result (λ found. IfSome found (Contradicts profile.now self.old.observer self.old.so_far seen.now.bus seen.now.word form)) }
         ensures none { result ≡ Ok None → (reason : Reason) → ¬ Contradicts profile.now self.old.observer self.old.so_far seen.now.bus seen.now.word form reason }
         ensures observer { result ≡ Ok None → Allows profile.now self.old.observer seen.now → self.new.observer ≡ sees profile.now seen.now self.old.observer }
         ensures so_far { result ≡ Ok None → unheard self.new.so_far ≡ unheard (so_far_after seen.now.bus seen.now.word form self.old.so_far) }
+        ensures parts { result ≡ Ok None → self.new.parts ≡ data_after seen.now.bus seen.now.word form self.old.parts }
     {
         let Some(form) = form else {
             return Ok(None);
         };
+        self.parts.take(*seen, &form)?;
         if let Some(reason) = self.reason(profile, seen, &form) {
             return Ok(Some(reason));
         }
@@ -104,12 +116,13 @@ impl Witness {
         Ok(None)
     }
 
-    // Why a word of this form contradicts those before it.
+    // Why a word of this form, whose data words are taken with it, contradicts those before it.
     fn reason(&self, profile: &Profile, seen: &Seen, form: &Form) -> Option<Reason>
+        requires { self.now.parts ≡ data_after seen.now.bus seen.now.word (Some form.now) (data_words profile.now.codes self.now.so_far.attempt.words) }
         ensures some { IfSome result (Contradicts profile.now self.now.observer self.now.so_far seen.now.bus seen.now.word (Some form.now)) }
         ensures none { result ≡ None → (reason : Reason) → ¬ Contradicts profile.now self.now.observer self.now.so_far seen.now.bus seen.now.word (Some form.now) reason }
     {
-        if self.observer.ends_bad(profile, seen.bus, form) {
+        if self.observer.ends_bad(profile, seen.bus, form) || self.is_half(profile, seen, form) {
             return Some(Reason::BadBlock);
         }
         let comes = self.observer.number_comes(profile, seen.bus, form);
@@ -122,10 +135,22 @@ impl Witness {
         None
     }
 
+    // A word of this form is the last data word of a block, of which each data word is recorded, and they carry no bytes.
+    fn is_half(&self, profile: &Profile, seen: &Seen, form: &Form) -> bool
+        requires { self.now.parts ≡ data_after seen.now.bus seen.now.word (Some form.now) (data_words profile.now.codes self.now.so_far.attempt.words) }
+        ensures { IsTrue result ↔ IsHalfForm profile.now.codes seen.now.bus seen.now.word (Some form.now) self.now.so_far.attempt }
+    {
+        match (seen.bus, *form) {
+            (Bus::A, Form::Part(_)) => self.parts.are_half(profile, self.so_far.count()),
+            _ => false,
+        }
+    }
+
     // Takes the next word, which has this form.
     fn take(&mut self, profile: &Profile, seen: &Seen, form: &Form) -> Result<(), AllocError>
         ensures observer { OnOk result (Allows profile.now self.old.observer seen.now → self.new.observer ≡ sees profile.now seen.now self.old.observer) }
         ensures so_far { OnOk result (unheard self.new.so_far ≡ unheard (so_far_after seen.now.bus seen.now.word (Some form.now) self.old.so_far)) }
+        ensures parts { self.new.parts ≡ self.old.parts }
     {
         let _ = self.observer.see(profile, *seen);
         self.so_far.take(*seen, form)

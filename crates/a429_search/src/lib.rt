@@ -8,6 +8,7 @@ mod bounded;
 mod budget;
 mod choice;
 mod contradiction;
+mod data_words;
 mod deciding;
 mod differing;
 mod fill;

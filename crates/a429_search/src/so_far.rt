@@ -58,6 +58,13 @@ impl SoFar {
         }
     }
 
+    /// How many words the request of the attempt asks for.
+    pub(crate) fn count(&self) -> u8
+        ensures { result ≡ self.now.attempt.count }
+    {
+        self.count
+    }
+
     /// A start word of this form has a number that is neither that of the start word before it nor a further one.
     pub(crate) fn is_wrong(&self, bus: Bus, form: &Form) -> bool
         ensures { IsTrue result ↔ IsWrongForm bus (Some form.now) self.now }

@@ -7,7 +7,7 @@ ghost use Rattle.a429_link.specs.declared.number.UnitNumber.{UnitNumber};
 ghost use Rattle.a429_link.specs.declared.seen.Seen.{Seen};
 ghost use Rattle.a429_link.specs.Run.{BeginsARun};
 ghost use Rattle.a429_link.specs.Observer.{AreAllowed, at_first};
-ghost use Rattle.a429_link.specs.WholeBlock.{EndsWholeAt, EndsBadAt, NumberComesAt};
+ghost use Rattle.a429_link.specs.WholeBlock.{EndsWholeAt, EndsBadAt, IsHalfAt, NumberComesAt};
 ghost use Rattle.a429_link.specs.Attempt.{HasNumber, latest};
 ghost use Rattle.a429_link.specs.Assignment.{IsAssignable};
 ghost use Rattle.a429_link.specs.Contradiction.{IsOtherAt, IsWrongAt};
@@ -28,6 +28,13 @@ pub fn runs_record_what_can_be_assigned()
 pub fn a_whole_block_is_a_unit()
     ensures is { (p : Contents) (items : List Seen) (i : ℕ) (u : LduValue) → IsProfile p → BeginsARun p (take (suc i) items) → EndsWholeAt p items i u → IsLdu p u }
     ensures impossible { (p : Contents) (items : List Seen) (i : ℕ) → IsProfile p → EndsBadAt p items i → BeginsARun p (take (suc i) items) → ⊥ }
+{}
+
+/// Where a run records as many data words under one grant as were asked for, they are those of a link data unit, and carry
+/// bytes, whether or not its start word and its end word are recorded. So no run records them where their semi-octets
+/// are odd in number.
+pub fn all_data_words_carry_bytes()
+    ensures { (p : Contents) (items : List Seen) (i : ℕ) → IsProfile p → IsHalfAt p items i → BeginsARun p (take (suc i) items) → ⊥ }
 {}
 
 /// Each start word that a run records has the number of the link data unit accepted last before it, or a number

@@ -25,7 +25,7 @@ returns-in-Some-clause-first c =
     let found = subst (λ (z : Option Reason). IfSome z (Contradicts c.profile-profile.result.now o s i.bus i.word x)) c.in-Some.is c.in_ok-reason.ensures.some in
     record {
       inside = slice_get_within items c.loop-entry.entry i c.seen-seen.ensures;
-      holds = subst (λ (T : Type 0). T) (sym (contradicts_at p items c.loop-entry.entry i x o s r (word a) c.loop-entry.invariant)) (subst (λ (q : Contents). Contradicts q o s i.bus i.word x r) c.profile-profile.ensures.is found);
+      holds = subst (λ (T : Type 0). T) (sym (contradicts_at p items c.loop-entry.entry i x o s c.loop-entry.witness.parts r (word a) c.loop-entry.invariant)) (subst (λ (q : Contents). Contradicts q o s i.bus i.word x r) c.profile-profile.ensures.is found);
       before = c.loop-entry.invariant.none;
     }
 
@@ -43,8 +43,9 @@ loop-entry-preserved c =
     let s = c.loop-entry.witness.so_far in
     let x = c.word-form.result.form in
     let none = ap (λ (z : Option Reason). Ok z) c.in_default.is in
-    let may = allowed_at p items n i o s c.seen-seen.ensures c.requires c.loop-entry.invariant in
-    witnesses_more p items n i x o c.look.new.self.observer s c.look.new.self.so_far (word a) c.loop-entry.invariant
+    let may = allowed_at p items n i o s c.loop-entry.witness.parts c.seen-seen.ensures c.requires c.loop-entry.invariant in
+    witnesses_more p items n i x o c.look.new.self.observer s c.look.new.self.so_far c.loop-entry.witness.parts c.look.new.self.parts (word a) c.loop-entry.invariant
     (subst (λ (q : Contents). Allows q o i → c.look.new.self.observer ≡ sees q i o) c.profile-profile.ensures.is (c.in_ok-reason.ensures.observer none) may)
     (c.in_ok-reason.ensures.so_far none)
+    (c.in_ok-reason.ensures.parts none)
     (subst (λ (q : Contents). (r : Reason) → ¬ Contradicts q o s i.bus i.word x r) c.profile-profile.ensures.is (c.in_ok-reason.ensures.none none))
