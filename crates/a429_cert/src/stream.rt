@@ -6,6 +6,7 @@ ghost use Rattle.a429_ldu.specs.Ldu.{IsLdu};
 ghost use Rattle.a429_link.specs.declared.seen.Seen.{Seen};
 ghost use Rattle.a429_link.specs.State.{start};
 ghost use Rattle.a429_record.specs.declared.fault.ReadFault.TheVariants as read;
+ghost use Rattle.a429_record.specs.Rows.{GivesNext, entries_in};
 ghost use Rattle.a429_cert.specs.Likely.{SaysAlways};
 ghost use Rattle.a429_cert.specs.Lines.{line_bytes};
 ghost use Rattle.a429_cert.specs.Shelf.{IsUnchanged};
@@ -166,6 +167,16 @@ fn entry_for<R: Read>(rec: &mut EntryReader<R>, listed: &Listed) -> Result<Optio
     if listed.used() == 0 {
         return Ok(None);
     }
+    read_entry(rec)
+}
+
+// Reads the next entry by a call of its own, since lines are read slower where the reading of an entry is part of their loop.
+#[inline(never)]
+fn read_entry<R: Read>(rec: &mut EntryReader<R>) -> Result<Option<Entry>, ReadFault>
+    ensures gives { GivesNext rec.old.to_come rec.new.to_come result }
+    ensures counts { rec.new.count ≡ rec.old.count + entries_in result }
+    ensures device { IsErrOf result read.Device → rec.new.failed ≡ true }
+{
     rec.next()
 }
 

@@ -82,6 +82,7 @@ impl<R: Read> EntryReader<R> {
     /// Faults: `Device` where the reader has failed and the rows that it returned whole before have no fault;
     /// `OutOfMemory` where memory was refused; `Failed` at each call after a fault, and only there; any other is the
     /// recording's first fault.
+    #[inline(always)]
     pub fn next(&mut self) -> Result<Option<Entry>, ReadFault>
         ensures gives { GivesNext self.old.to_come self.new.to_come result }
         ensures answers { AnswersAt self.old.stage result }

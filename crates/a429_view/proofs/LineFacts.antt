@@ -1,5 +1,5 @@
 -- Texts on a line, one after the other.
-use Rattle.std.proofs.Common.{◌≡◌, ℕ, ◌+◌, ◌-◌, ◌≤◌, sym, ap, ◌∙◌, arith, List, [], ◌∷◌, ◌++◌, length, take, drop, length-append, append_assoc, append-nil}
+use Rattle.std.proofs.Common.{◌≡◌, ℕ, ◌+◌, ◌-◌, ◌≤◌, sym, ap, ◌∙◌, arith, List, [], ◌∷◌, ◌++◌, length, take, drop, length-append, append_assoc, get_or, refl}
 use Rattle.std.proofs.lemmas.List.{length-take-le, take-append-le, take-take}
 use Rattle.std.proofs.Math.Seq.{take-append-add, take-append_seam, take-length}
 use Rattle.a429_view.specs.Line.{Adds}
@@ -24,3 +24,13 @@ pub digits-copied : (start end room : ℕ) (text buffer rest : List ℕ) → sta
 digits-copied start end room text buffer rest e h is =
     let count : end - start ≡ length text = omega (arith, e) in
     take-take (end - start) room (drop start buffer) (omega arith) ∙ ap (λ k. take k (drop start buffer)) count ∙ ap (take (length text)) is ∙ take-append_seam text rest
+
+-- five numbers, one by one
+pub five : (xs : List ℕ) → length xs ≡ 5 → xs ≡ get_or xs 0 0 ∷ get_or xs 1 0 ∷ get_or xs 2 0 ∷ get_or xs 3 0 ∷ get_or xs 4 0 ∷ []
+five [] h = absurd (omega (arith, h))
+five (a ∷ []) h = absurd (omega (arith, h))
+five (a ∷ b ∷ []) h = absurd (omega (arith, h))
+five (a ∷ b ∷ c ∷ []) h = absurd (omega (arith, h))
+five (a ∷ b ∷ c ∷ d ∷ []) h = absurd (omega (arith, h))
+five (a ∷ b ∷ c ∷ d ∷ e ∷ []) h = refl
+five (a ∷ b ∷ c ∷ d ∷ e ∷ f ∷ xs) h = absurd (omega (arith, h))

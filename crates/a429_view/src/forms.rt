@@ -106,9 +106,33 @@ pub(crate) fn add_unit(line: &mut Line, name: &[u8], file: u8, ldu: u8)
     add_named(line, b" ", ldu);
 }
 
-// The semi-octets of a data word in their order, a hexadecimal digit each.
+// The semi-octets of a data word in their order, a hexadecimal digit each. The five of a full word are added at once.
 #[inline(always)]
 fn add_semis(line: &mut Line, semis: Semis)
+    requires { Fits line.old 10 }
+    ensures { Adds line.old line.new 10 (codes "data " ++ map (digit_glyph true) semis) }
+{
+    let digits = semis.as_slice();
+    if digits.len() == 5 {
+        line.put(&[
+            b'd',
+            b'a',
+            b't',
+            b'a',
+            b' ',
+            hex_digit(digits[0]),
+            hex_digit(digits[1]),
+            hex_digit(digits[2]),
+            hex_digit(digits[3]),
+            hex_digit(digits[4]),
+        ]);
+    } else {
+        add_each(line, semis);
+    }
+}
+
+// The same of any number, digit by digit.
+fn add_each(line: &mut Line, semis: Semis)
     requires { Fits line.old 10 }
     ensures { Adds line.old line.new 10 (codes "data " ++ map (digit_glyph true) semis) }
 {

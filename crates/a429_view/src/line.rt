@@ -83,6 +83,19 @@ impl Line {
         self.put_first(&digits[start..start + 4], 4 - start);
     }
 
+    /// Adds a count, in decimal. Most counts have eight bits.
+    #[inline(always)]
+    pub(crate) fn put_count(&mut self, count: usize)
+        requires { Fits self.old 20 }
+        ensures { Adds self.old self.new 20 (decimal count) }
+    {
+        if count < 256 {
+            self.put_byte(count as u8);
+        } else {
+            self.put_number(count as u64);
+        }
+    }
+
     /// Adds sixteen bits in four hexadecimal digits.
     #[inline(always)]
     pub(crate) fn put_hex(&mut self, bits: u16)

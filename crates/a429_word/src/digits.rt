@@ -35,6 +35,7 @@ const HEX_VALUES: [u32; 256] = [
 
 impl Word {
     /// The word that eight hexadecimal digits of either case write; `None` for any other text (profile).
+    #[inline(always)]
     pub fn parse_hex(text: &[u8]) -> Option<Word>
         ensures { ReadsHex text.now result }
     {

@@ -183,7 +183,7 @@ fn add_words(line: &mut Line, taken: usize, asked: u8)
     requires { Fits line.old 39 }
     ensures { Adds line.old line.new 38 (words_text taken asked) }
 {
-    line.put_number(taken as u64);
+    line.put_count(taken);
     line.put(b" of ");
     line.put_byte(asked);
     line.put(b" data words");

@@ -1,22 +1,12 @@
-use Rattle.std.proofs.Common.{◌++◌, ◌∷◌, [], ◌∙◌, ◌+◌, codes, map, take, get_or, length, true, append_assoc, subst, sym, ap, arith}
+use Rattle.std.proofs.Common.{◌≡◌, ◌∙◌, ◌++◌, ◌∷◌, [], ℕ, List, codes, map, length, get_or, true, arith, sym, ap, subst}
 use Rattle.std.specs.Fmt.{digit_glyph}
-use Rattle.std.proofs.lemmas.List.{map_more, take_all}
 use Rattle.a429_view.specs.Line.{Adds}
-use Rattle.a429_view.proofs.LineFacts.{◌▹◌, within}
+use Rattle.a429_view.proofs.LineFacts.{five}
 use Rattle.a429_view.proofs.forms.add_semis.Goals as goal
 
-pub loop-i-init : goal.loop-i-init
-loop-i-init c = within 5 c.put.ensures (omega arith)
-
-pub loop-i-preserved : goal.loop-i-preserved
-loop-i-preserved c =
-    let i = c.loop-i.i in
-    let semis = c.as_slice-semis.result.now in
-    let text = digit_glyph true in
-    let more = map_more text semis i 0 c.loop-i-test.true in
-    let digit = rw c.hex_digit.ensures at c.put-in-loop-i.ensures in
-    subst (Adds c.args.line.now c.put-in-loop-i.new.self (5 + (i + 1))) (append_assoc (codes "data ") (map text (take i semis)) (text (get_or semis i 0) ∷ []) ∙ ap (λ t. codes "data " ++ t) (sym more))
-    (within (5 + (i + 1)) (c.loop-i.invariant ▹ digit) (omega arith))
-
-pub returns : goal.returns
-returns c = within 10 (rw c.as_slice-semis.ensures.value at (rw (take_all c.loop-i.i c.as_slice-semis.result.now c.loop-i-test.false) at c.loop-i.invariant)) (omega (arith, c.as_slice-semis.ensures.sound.1, ap length c.as_slice-semis.ensures.value))
+pub returns-then-digits-eq5 : goal.returns-then-digits-eq5
+returns-then-digits-eq5 c =
+    let xs = c.as_slice-digits.result.now in
+    let all = five xs (omega arith) in
+    let each = rw (c.hex_digit.ensures, c.hex_digit-then-digits-eq5.ensures, c.hex_digit-then-digits-eq5-2.ensures, c.hex_digit-then-digits-eq5-3.ensures, c.hex_digit-then-digits-eq5-4.ensures) at c.put.ensures in
+    subst (λ (s : List ℕ). Adds c.args.line.now c.put.new.self 10 (codes "data " ++ map (digit_glyph true) s)) (sym all ∙ c.as_slice-digits.ensures.value) each
