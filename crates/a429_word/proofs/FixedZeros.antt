@@ -4,9 +4,9 @@ use Rattle.std.specs.Int.{bit_at, w128}
 use Rattle.std.specs.Int.Count.{count_trailing_zeros, trailing_of_zero}
 use Rattle.std.proofs.lemmas.Nat.Bits.{bit_at-trailing_zeros}
 use Rattle.std.proofs.lemmas.Nat.{mod-pow-add, div-add-mod', mul-pow, mul-le, div-mul-add, mod_below}
-use Rattle.std.proofs.Math.Nat.{zero-mod, one-le-pow, pow-le-pow_right, mod-eq-sub-div-mul}
+use Rattle.std.proofs.Math.Nat.{zero-mod, pow-le-pow_right, mod-eq-sub-div-mul}
 
--- ---- powers of five
+-- ---- powers of ten
 
 tens_le : (k : ℕ) → k ≤ 18 → 10 ^ k ≤ 10 ^ 18
 tens_le k h = pow-le-pow_right (omega arith) h

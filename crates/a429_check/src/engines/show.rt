@@ -219,6 +219,7 @@ fn put_bits<W: Write>(sheet: &mut Sheet<'_, W>, entry: &LabelEntry, field: u32, 
 }
 
 // Flags and their bits, of which these are the texts.
+#[inline(never)]
 fn put_flags<W: Write>(sheet: &mut Sheet<'_, W>, field: u32, flags: &[Flag], texts: &[u8])
     requires bits { AllByRecursion IsFlagBit flags.now }
     requires texts { texts.now ≡ flat_map both_texts flags.now }

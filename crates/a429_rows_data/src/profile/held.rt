@@ -20,8 +20,7 @@ fn are_given_back(alloc: Global) -> Result<bool, AllocError> {
     Ok(given.as_slice() == [5, 3].as_slice())
 }
 
-// The bits of the flags that are given back.
-fn bits(alloc: Global) -> Result<[u8; 2], AllocError> {
+fn two_flags(alloc: Global) -> Result<Flags, AllocError> {
     let mut flags = Vec::new(alloc);
     flags.push(Flag {
         bit: 11,
@@ -31,10 +30,20 @@ fn bits(alloc: Global) -> Result<[u8; 2], AllocError> {
         bit: 12,
         name: text(alloc, "door")?,
     })?;
-    match Flags::new(alloc, flags)?.into_vec().as_slice() {
+    Flags::new(alloc, flags)
+}
+
+// The bits of the flags that are given back.
+fn bits(alloc: Global) -> Result<[u8; 2], AllocError> {
+    match two_flags(alloc)?.into_vec().as_slice() {
         [one, two] => Ok([one.bit, two.bit]),
         _ => Ok([0, 0]),
     }
+}
+
+fn are_ready(alloc: Global) -> Result<bool, AllocError> {
+    let flags = two_flags(alloc)?;
+    Ok(flags.texts() == b" gear=0 gear=1 door=0 door=1".as_slice())
 }
 
 #[test]
@@ -42,4 +51,5 @@ fn what_was_put_in(rt: HostRuntime) {
     assert!(rt; is_given_back(rt.alloc(), "gear") == Ok(true));
     assert!(rt; are_given_back(rt.alloc()) == Ok(true));
     assert!(rt; bits(rt.alloc()) == Ok([11, 12]));
+    assert!(rt; are_ready(rt.alloc()) == Ok(true));
 }
