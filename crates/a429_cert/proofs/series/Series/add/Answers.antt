@@ -113,7 +113,7 @@ returns-in-Ok-none_left-clause-ok g c =
     record {
       files = v.taken;
       fits = part_fits c.args.self v.head v.k c.lines.replay.used v.taken c.lines.replay.link.state known left more held c.args.rec.now.to_come c.lines.rec.to_come c.none_left.new.rec.to_come c.past.result
-          v.none_left given c.in-Ok-none_left.ensures.ok (ap (λ (q : SeriesValue). q.state) c.past.ensures) v.told;
+          v.none_left given c.in-Ok-none_left.ensures.ok (ap (λ (q : SeriesValue). q.state) c.past.ensures) (ap (λ (q : SeriesValue). q.entries) c.past.ensures) v.told;
       more = ap (λ (q : SeriesValue). q.files) c.past.ensures ∙ v.noted;
       profile = ap (λ (q : SeriesValue). q.profile) c.past.ensures ∙ v.profile;
     }
