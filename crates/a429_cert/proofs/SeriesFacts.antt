@@ -1,7 +1,7 @@
 -- A part that is held against the run that goes through the parts before it.
 use Rattle.std.proofs.Common.{◌≡◌, ◌≢◌, ◌⊎◌, ◌≤◌, ◌+◌, ◌-◌, ◌%◌, ◌∙◌, ◌++◌, ◌∷◌, inl, inr, ℕ, zero, suc, List, [], length, take, drop, Bool, true, false, nat_le, if◌then◌else◌, Option, Some, None, option_map, slice_get, Ok, Err, refl, sym, ap, subst, arith}
 use Rattle.std.proofs.lemmas.Bool.{le-leb, leb-true}
-use Rattle.std.proofs.lemmas.List.{take_all}
+use Rattle.std.proofs.lemmas.List.{length-map, take_all}
 use Rattle.a429_profile.specs.Profile.{Contents}
 use Rattle.a429_link.specs.declared.file.FileBytes.{FileBytes}
 use Rattle.a429_link.specs.declared.state.SourceState.{SourceState}
@@ -30,7 +30,7 @@ use Rattle.a429_cert.specs.Told.{position}
 use Rattle.a429_cert.specs.Lines.{certificate_lines}
 use Rattle.a429_cert.specs.Version.{read_as, step_lines}
 use Rattle.a429_cert.specs.CutLines.{GivesLine}
-use Rattle.a429_cert.specs.Explained.{items_of, Leads}
+use Rattle.a429_cert.specs.Explained.{items_of, seen_of, Leads}
 use Rattle.a429_cert.specs.Fault.{at_line, IsFaultAt, IsFaultOfHead}
 use Rattle.a429_cert.specs.Stream.{taking, behind, next_of, PassesOver, RefusesOver, StopsAt, of_read}
 use Rattle.a429_cert.specs.StreamEnd.{EndsLate}
@@ -171,9 +171,9 @@ module _ (old : SeriesValue) (d : Head) where
         (late_read e.0 text r new g (subst (λ o. GivesNext o new (Err e.0)) h.rest e.1) h))
 
     -- all lines are passed, and all entries used
-    fits : (new : Option Recording) (joined : SeriesValue) (text : List ℕ) (r : Recording) → s.sink.received.files ≡ [] → GivesLine left more held false → GivesNext rec new (Ok None) → joined.state ≡ Some s
+    fits : (new : Option Recording) (joined : SeriesValue) (text : List ℕ) (r : Recording) → s.sink.received.files ≡ [] → GivesLine left more held false → GivesNext rec new (Ok None) → joined.state ≡ Some s → joined.entries ≡ i
         → IsIn k i taken s left rec text r → Fits old joined taken text r
-    fits new joined text r none g e is h =
+    fits new joined text r none g e is used h =
         let end : behind i r ≡ whole [] = subst (λ o. GivesNext o new (Ok None)) h.rest e in
         let items = items_of r.entries in
         let lines = step_lines d.version text in
@@ -188,6 +188,7 @@ module _ (old : SeriesValue) (d : Head) where
               (subst (λ (l : List _). Leads old.profile from l (take i items) (with_earlier taken s)) (take_all k lines past) h.reached);
           delivers = given_out taken s none;
           state = is ∙ ap (λ (q : State). Some q) (handed taken s none);
+          entries = omega (arith, used, all, h.inside, length-map r.entries seen_of);
         }
       where
         handed : (taken : List FileBytes) (s : State) → s.sink.received.files ≡ [] → s ≡ handed_out (with_earlier taken s)
@@ -196,10 +197,10 @@ module _ (old : SeriesValue) (d : Head) where
             with_files : State → List FileBytes → State
             with_files s l = record s { sink = record (s.sink) { received = record (s.sink.received) { files = l } } }
 
-    pub part_fits : (new : Option Recording) (joined : SeriesValue) → s.sink.received.files ≡ [] → GivesLine left more held false → GivesNext rec new (Ok None) → joined.state ≡ Some s
+    pub part_fits : (new : Option Recording) (joined : SeriesValue) → s.sink.received.files ≡ [] → GivesLine left more held false → GivesNext rec new (Ok None) → joined.state ≡ Some s → joined.entries ≡ i
         → WhereTold known first (IsIn k i taken s left rec) → WhereTold known first (Fits old joined taken)
-    part_fits new joined none g e is =
-        told_map known first (IsIn k i taken s left rec) (Fits old joined taken) (λ text r h. fits new joined text r none g e is h)
+    part_fits new joined none g e is used =
+        told_map known first (IsIn k i taken s left rec) (Fits old joined taken) (λ text r h. fits new joined text r none g e is used h)
 
 -- ---- the first two lines are refused
 

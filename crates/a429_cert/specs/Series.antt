@@ -27,15 +27,16 @@ use Rattle.a429_cert.specs.StreamExplained.{WhereTold, WantsNext, EndsAt}
 
 -- ---- a series
 
--- the state that the parts lead to, where there is one, its delivered files handed out; and the number and the length of each file that has crossed
+-- the state that the parts lead to, where there is one, its delivered files handed out; how many entries the last part has; and the number and the length of each file that has crossed
 pub record SeriesValue : Type 0 where
   pub profile : Contents
   pub state : Option State
+  pub entries : ℕ
   pub files : List (ℕ × ℕ)
 
 -- no part yet
 abbrev pub no_parts : Contents → SeriesValue
-no_parts p = record { profile = p; state = None; files = [] }
+no_parts p = record { profile = p; state = None; entries = 0; files = [] }
 
 -- between parts the link is under this profile, and its delivered files are handed out
 abbrev pub IsBetweenParts : Contents → Option LinkValue → Type 0
@@ -74,6 +75,7 @@ pub record Fits (old new : SeriesValue) (files : List FileBytes) (text : List �
   pub leads : Leads old.profile (begun old.profile old.state head.first) (step_lines head.version text) (items_of r.entries) last
   pub delivers : files ≡ last.sink.received.files
   pub state : new.state ≡ Some (handed_out last)
+  pub entries : new.entries ≡ length r.entries
 
 -- such files have crossed since
 pub record Joins (old : SeriesValue) (known : Option (List ℕ)) (rec : Option Recording) (new : SeriesValue) : Type 0 where

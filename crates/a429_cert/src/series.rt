@@ -34,6 +34,8 @@ pub struct Series<'a> {
     profile: &'a Profile,
     // where the parts lead; none before the first
     link: Option<Link<'a>>,
+    // of the last part
+    entries: usize,
     files: Vec<(u8, u32)>,
 }
 
@@ -46,6 +48,7 @@ impl<'a> Model for Series<'a> {
     ghost view = { λ s. record {
       profile = s.profile.now;
       state = option_map (λ l. l.state) s.link;
+      entries = s.entries;
       files = s.files.items;
     } };
 
@@ -61,6 +64,7 @@ impl<'a> Series<'a> {
             alloc,
             profile,
             link: None,
+            entries: 0,
             files: Vec::new(alloc),
         }
     }
@@ -113,6 +117,13 @@ impl<'a> Series<'a> {
         }
     }
 
+    /// How many entries the recording of the last part has; 0 before the first part.
+    pub fn entries(&self) -> usize
+        ensures { result ≡ self.now.entries }
+    {
+        self.entries
+    }
+
     /// The number and the length of each file that has crossed, in their order, lent.
     pub fn files(&self) -> &[(u8, u32)]
         ensures { result.now ≡ self.now.files }
@@ -143,6 +154,7 @@ impl<'a> Series<'a> {
             profile,
             link,
             files,
+            ..
         } = self;
         // (for the proof: the profile is sound)
         let _codes = profile.codes();
@@ -165,12 +177,13 @@ impl<'a> Series<'a> {
     fn past(replay: Replay<'a>) -> Series<'a>
         requires profile { replay.link.profile ≡ replay.profile.now }
         requires files { replay.link.state.sink.received.files ≡ [] }
-        ensures { result ≡ record { profile = replay.entry.profile.now; state = Some replay.entry.link.state; files = replay.entry.files.items } }
+        ensures { result ≡ record { profile = replay.entry.profile.now; state = Some replay.entry.link.state; entries = replay.entry.used; files = replay.entry.files.items } }
     {
         let Replay {
             alloc,
             profile,
             link,
+            used,
             files,
             ..
         } = replay;
@@ -178,6 +191,7 @@ impl<'a> Series<'a> {
             alloc,
             profile,
             link: Some(link),
+            entries: used,
             files,
         }
     }

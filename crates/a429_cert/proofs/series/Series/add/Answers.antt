@@ -76,7 +76,7 @@ returns-in-Ok-none_left-clause-ok g c =
     record {
       files = v.taken;
       fits = part_fits c.args.self h.head v.k c.take_next.new.replay.used v.taken c.take_next.new.replay.link.state known left more none.line c.args.rec.now.to_come c.take_next.new.rec.to_come c.none_left.new.rec.to_come c.past.result
-          v.none_left none.given c.in-Ok-none_left.ensures.ok (ap (λ (q : SeriesValue). q.state) c.past.ensures) v.told;
+          v.none_left none.given c.in-Ok-none_left.ensures.ok (ap (λ (q : SeriesValue). q.state) c.past.ensures) (ap (λ (q : SeriesValue). q.entries) c.past.ensures) v.told;
       more = ap (λ (q : SeriesValue). q.files) c.past.ensures ∙ v.noted;
       profile = ap (λ (q : SeriesValue). q.profile) c.past.ensures ∙ v.profile;
     }
