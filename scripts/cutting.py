@@ -7,17 +7,18 @@ from tracing import Sink, message_of
 
 
 def places(profile, entries):
-    """The numbers of entries after which a recording of these, each with a bus and a word, may be cut."""
+    """After how many entries a recording of these, each with a bus and a word, may be cut; with the entry of the start word that says so."""
     messages = [message_of(profile, bus, word) for bus, word in entries]
     starts = [(n, *message[2:]) for n, message in enumerate(messages) if message[0] == "sot"]
     requests = [n for n, message in enumerate(messages) if message[0] == "rts"]
-    found, crossings, refused = [], [], []
+    found, crossings, refused = {}, [], []
     sink = Sink(profile)
     for n, message in enumerate(messages):
         if sink is None:
-            if not begins_file(profile, n, starts, requests):
+            start = start_of_file(profile, n, starts, requests)
+            if start is None:
                 continue
-            found.append(n)
+            found[n] = start
             sink = Sink(profile)
         if isinstance(message, str) and message.startswith("free"):
             continue
@@ -32,27 +33,27 @@ def places(profile, entries):
     for n, *numbers in crossings:
         start = next((start for start in starts if start[0] >= n), None)
         if start and start[1:] != tuple(numbers) and not any(n <= word < start[0] for word in refused):
-            found.append(n)
-    return sorted(found)
+            found[n] = start[0]
+    return found
 
 
-def begins_file(profile, n, starts, requests):
-    """Whether entry n is a request whose start word, recorded before another request, begins a file."""
-    if n not in requests:
-        return False
+def start_of_file(profile, n, starts, requests):
+    """The start word of the request that entry n is, recorded before another request, if it begins a file."""
     start = next((start for start in starts if start[0] > n), None)
-    return start is not None and start[2] == profile.first_ldu and not any(n < other < start[0] for other in requests)
+    if n not in requests or start is None or start[2] != profile.first_ldu:
+        return None
+    return None if any(n < other < start[0] for other in requests) else start[0]
 
 
 def sizes_of(profile, entries, most):
     """How many entries each part has, and whether there is no place that is near enough for one more."""
-    sizes, begin, all_places = [], 0, places(profile, entries)
+    sizes, begin, found = [], 0, places(profile, entries)
     while len(entries) - begin > most:
-        near = [place for place in all_places if begin < place <= begin + most]
+        near = [place for place, start in found.items() if begin < place <= begin + most and start <= place + most]
         if not near:
             return sizes, True
-        sizes.append(near[-1] - begin)
-        begin = near[-1]
+        sizes.append(max(near) - begin)
+        begin = max(near)
     return [*sizes, len(entries) - begin], False
 
 

