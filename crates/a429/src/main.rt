@@ -2,13 +2,14 @@
 #![tactic(auto)]
 
 use a429_check::{
-    Claim, Command, Folder, Rule, RunFault, Span, command, read_whole, report, run_by_rule,
-    run_extract, run_forms, run_keep, run_labels, run_make, run_pack, run_picture, run_show,
-    run_survey, run_trace, run_units, run_upgrade, run_verify, run_version, run_word,
+    Claim, Command, Folder, PartFolder, Rule, RunFault, Span, command, read_whole, report,
+    run_by_rule, run_cut, run_extract, run_forms, run_keep, run_labels, run_make, run_pack,
+    run_picture, run_show, run_survey, run_trace, run_units, run_upgrade, run_verify, run_version,
+    run_word,
 };
 use a429_record::EntryReader;
 use a429_view::UnitRows;
-use a429_word::Tally;
+use a429_word::{Tally, Trouble};
 use std::alloc::Global;
 use std::io::{BufReader, BufWriter, ErrorKind, Read, Write};
 use std::process::ExitCode;
@@ -74,6 +75,12 @@ fn answer<W: Write + Drop>(
         Command::Forms { profile, recording } => forms(rt, alloc, profile, recording, &mut out),
         Command::Survey { profile, recording } => survey(rt, alloc, profile, recording, &mut out),
         Command::Keep { profile, recording } => keep(rt, alloc, profile, recording, &mut out),
+        Command::Cut {
+            profile,
+            recording,
+            folder,
+            most,
+        } => cut(rt, alloc, profile, recording, folder, most, &mut out),
         Command::Trace { profile, recording } => trace(rt, alloc, profile, recording, &mut out),
         Command::Make { profile, files } => make(rt, alloc, profile, files.as_slice(), &mut out),
         Command::Pack(recording) => pack(rt, alloc, recording, &mut out),
@@ -161,6 +168,25 @@ fn keep<W: Write>(
     let profile = bytes_of(rt, alloc, profile)?;
     let mut rec = opened_whole(rt, alloc, recording)?;
     let status = run_keep(alloc, profile.as_slice(), &mut rec, out);
+    written(status, out)
+}
+
+fn cut<W: Write>(
+    rt: &impl Files,
+    alloc: Global,
+    profile: &str,
+    recording: &str,
+    folder: &str,
+    most: usize,
+    out: &mut Tally<W>,
+) -> Result<u8, RunFault> {
+    let profile = bytes_of(rt, alloc, profile)?;
+    let mut rec = opened_whole(rt, alloc, recording)?;
+    let mut parts = PartFolder::open(rt, alloc, folder).map_err(|trouble| match trouble {
+        Trouble::Device => RunFault::Device,
+        Trouble::OutOfMemory => RunFault::Memory,
+    })?;
+    let status = run_cut(alloc, profile.as_slice(), most, &mut rec, &mut parts, out);
     written(status, out)
 }
 

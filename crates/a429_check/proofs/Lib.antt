@@ -16,4 +16,5 @@ pub mod CheckFacts
 pub mod StreamingFacts
 pub mod OutputFacts
 pub mod KeepFacts
+pub mod CutFacts
 pub mod TraceLines

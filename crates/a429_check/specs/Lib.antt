@@ -19,5 +19,6 @@ pub mod Picture
 pub mod Streaming
 pub mod Survey
 pub mod Keep
+pub mod Cut
 pub mod Trace
 pub mod Version

@@ -13,5 +13,6 @@ abbrev pub KeepsInputs : Command → Type 0
 KeepsInputs (command.Check c) = IsCertificateApart c
 KeepsInputs (command.Decide c) = IsCertificateApart c
 KeepsInputs (command.Extract c folder) = (folder.now ≢ c.profile.now) × (folder.now ≢ c.recording.now) × (folder.now ≢ c.certificate.now)
+KeepsInputs (command.Cut profile recording folder most) = (folder.now ≢ profile.now) × (folder.now ≢ recording.now)
 KeepsInputs (command.Upgrade cert new_cert) = new_cert.now ≢ cert.now
 KeepsInputs _ = ⊤

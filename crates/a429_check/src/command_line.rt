@@ -4,6 +4,7 @@ ghost use Rattle.std.specs.Prelude.{◌≡◌, ◌≢◌, ◌↔◌, ◌≤◌, 
 ghost use Rattle.a429_check.specs.Names.{IsCertificateApart, KeepsInputs};
 
 use crate::fault::RunFault;
+use a429_record::MOST_ENTRIES;
 use a429_view::Span;
 use clap::error::ErrorKind;
 use clap::{Arg, ArgAction, ArgMatches, Command as Parser};
@@ -58,6 +59,7 @@ fn command_of<'a>(alloc: Global, matches: &ArgMatches<'a>) -> Result<Command<'a>
             }),
             None => Err(RunFault::Usage),
         },
+        Some(("cut", given)) => cut_of(given),
         Some((name, given)) => of_recording(name, given),
         None => Err(RunFault::Usage),
     }
@@ -117,6 +119,44 @@ fn of_recording<'a>(name: &str, given: &ArgMatches<'a>) -> Result<Command<'a>, R
     }
 }
 
+// The command that cuts a recording into parts.
+fn cut_of<'a>(given: &ArgMatches<'a>) -> Result<Command<'a>, RunFault>
+    ensures apart { IfOk result KeepsInputs }
+    ensures err { IfErr result (λ e. e ≡ RunFault.Usage) }
+{
+    let words = (
+        given.get_str("PROFILE"),
+        given.get_str("REC"),
+        given.get_str("DIR"),
+    );
+    let (Some(profile), Some(recording), Some(folder)) = words else {
+        return Err(RunFault::Usage);
+    };
+    if !differ(folder, profile) || !differ(folder, recording) {
+        return Err(RunFault::Usage);
+    }
+    Ok(Command::Cut {
+        profile,
+        recording,
+        folder,
+        most: most_of(given.get_str("MOST"))?,
+    })
+}
+
+// The most entries of a part: 1 to 1,000,000, in decimal digits, and 1,000,000 where it is left out.
+fn most_of(text: Option<&str>) -> Result<usize, RunFault>
+    ensures most { IfOk result (λ most. (1 ≤ most) × (most ≤ 1000000)) }
+    ensures err { IfErr result (λ e. e ≡ RunFault.Usage) }
+{
+    let Some(text) = text else {
+        return Ok(MOST_ENTRIES);
+    };
+    match text.parse() {
+        Ok(most) if 1 <= most && most <= MOST_ENTRIES && !text.starts_with('+') => Ok(most),
+        _ => Err(RunFault::Usage),
+    }
+}
+
 // Whether the certificate, which is written, is not written like the profile or the recording.
 fn is_apart(claim: &Claim<'_>) -> bool
     ensures { IsTrue result ↔ IsCertificateApart claim.now }
@@ -172,6 +212,7 @@ fn parser<'a>(alloc: Global) -> Result<Parser<'a>, AllocError> {
     let all = with(all, with_recording(alloc, "survey"))?;
     let all = with(all, with_recording(alloc, "keep"))?;
     let all = with(all, with_recording(alloc, "trace"))?;
+    let all = with(all, with_parts(alloc, "cut"))?;
     let all = with(all, with_certificate(alloc, "check"))?;
     let all = with(all, with_certificate(alloc, "decide"))?;
     let all = with(all, with_certificate(alloc, "verify"))?;
@@ -214,6 +255,12 @@ fn with_folder<'a>(alloc: Global, name: &'a str) -> Result<Parser<'a>, AllocErro
 fn with_span<'a>(alloc: Global, name: &'a str) -> Result<Parser<'a>, AllocError> {
     let parser = with_certificate(alloc, name)?.arg(once(alloc, "FROM"))?;
     parser.arg(once(alloc, "TO"))
+}
+
+// A command that takes a profile, a recording, a folder, and perhaps the most entries of a part.
+fn with_parts<'a>(alloc: Global, name: &'a str) -> Result<Parser<'a>, AllocError> {
+    let parser = with_recording(alloc, name)?.arg(once(alloc, "DIR"))?;
+    parser.arg(Arg::new(alloc, "MOST").action(ArgAction::Set))
 }
 
 // A command that takes a certificate, and where to write another.

@@ -1,6 +1,7 @@
 //! What each command writes and answers, a file for each.
 
 pub mod check;
+pub mod cut;
 pub mod extract;
 pub mod folder;
 pub mod forms;
@@ -8,6 +9,7 @@ pub mod keep;
 pub mod labels;
 pub mod make;
 pub mod pack;
+pub mod part_folder;
 pub mod picture;
 mod profile;
 mod recording;

@@ -54,7 +54,7 @@ cuts_less p parted rest size old new part begin place watched waiting h = record
 }
   where
     taken : length (take size old.waiting) ≡ size
-    taken = length-take-le size old.waiting part.waits
+    taken = length-take-le size old.waiting (omega (arith, part.waits))
 
     joined : old.waiting ++ rest ≡ take size old.waiting ++ (new.waiting ++ rest)
     joined = ap (λ (xs : List Entry). xs ++ rest) (sym (take-append-drop size old.waiting)) ∙ (append_assoc (take size old.waiting) (drop size old.waiting) rest ∙ ap (λ (xs : List Entry). take size old.waiting ++ (xs ++ rest)) (sym waiting))

@@ -3,3 +3,4 @@ pub mod KeepingFacts
 pub mod CuttingFacts
 pub mod FollowerFacts
 pub mod CutterFacts
+pub mod PartsFacts

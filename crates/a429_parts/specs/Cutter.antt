@@ -21,9 +21,9 @@ pub record Cuts (p : Contents) (parted rest : List Entry) (c : CutterState) : Ty
   pub watches : Watches p (items_of (parted ++ (c.waiting ++ rest))) c.watched
   pub place : 0 < c.place → IsPlace p (items_of (parted ++ (c.waiting ++ rest))) c.place
 
--- so many of the entries that wait may be a part: they go to the last place
+-- so many of the entries that wait may be a part, and others come after it: they go to the last place
 pub record IsPart (c : CutterState) (size : ℕ) : Type 0 where
   pub some : 0 < size
   pub within : size ≤ c.most
-  pub waits : size ≤ length c.waiting
+  pub waits : size < length c.waiting
   pub place : c.begin + size ≡ c.place

@@ -4,3 +4,6 @@ pub mod Cutting
 pub mod Follower
 pub mod Watch
 pub mod Cutter
+pub mod Parts
+pub mod MemoryParts
+pub mod Parting

@@ -1,6 +1,6 @@
 //! The parts of a long recording.
 
-ghost use Rattle.std.specs.Prelude.{◌≡◌, ◌+◌, ◌<◌, ◌≤◌, ◌∷◌, ◌++◌, [], Some, None, Ok, IfOk, IfSome, OnOk, List, length, take};
+ghost use Rattle.std.specs.Prelude.{◌≡◌, ◌+◌, ◌<◌, ◌≤◌, ◌^◌, ◌∷◌, ◌++◌, [], Some, None, Ok, IfOk, IfSome, IsErr, IsErrOf, OnOk, List, length, take, drop};
 ghost use Rattle.a429_profile.specs.Profile.{Contents};
 ghost use Rattle.a429_record.specs.declared.entry.Entry.{Entry};
 ghost use Rattle.a429_link.specs.Observer.{at_first};
@@ -56,6 +56,13 @@ impl Cutter {
         }
     }
 
+    /// How many entries are in parts.
+    pub(crate) fn begin(&self) -> usize
+        ensures { result ≡ self.now.begin }
+    {
+        self.begin
+    }
+
     /// The entries that are in no part yet.
     pub fn waiting(&self) -> &[Entry]
         ensures { result.now ≡ self.now.waiting }
@@ -67,7 +74,9 @@ impl Cutter {
     pub fn take(&mut self, profile: &Profile, entry: &Entry) -> Result<(), PartFault>
         ensures counts { OnOk result (self.new.watched.count ≡ self.old.watched.count + 1) }
         ensures most { self.new.most ≡ self.old.most }
+        ensures waits { OnOk result (self.new.waiting ≡ self.old.waiting ++ entry.now ∷ []) }
         ensures cuts { OnOk result ((parted : List Entry) (rest : List Entry) → Cuts profile.now parted (entry.now ∷ rest) self.old → Cuts profile.now parted rest self.new) }
+        ensures many { IsErrOf result PartFault.TooMany → self.old.watched.count + 1 ≡ 2 ^ 64 }
     {
         if self.watch.count() == usize::MAX {
             return Err(PartFault::TooMany);
@@ -89,6 +98,7 @@ impl Cutter {
     /// that there is a later place that is near enough.
     pub fn part(&self) -> Result<Option<usize>, PartFault>
         ensures some { IfOk result (λ o. IfSome o (IsPart self.now)) }
+        ensures many { IsErr result → self.now.most < length self.now.waiting }
     {
         if self.waiting.len() <= self.most || self.may_end_in_doubt() {
             return Ok(None);
@@ -100,6 +110,7 @@ impl Cutter {
     pub fn part_at_end(&self) -> Result<Option<usize>, PartFault>
         ensures some { IfOk result (λ o. IfSome o (IsPart self.now)) }
         ensures none { result ≡ Ok None → length self.now.waiting ≤ self.now.most }
+        ensures many { IsErr result → self.now.most < length self.now.waiting }
     {
         if self.waiting.len() <= self.most {
             return Ok(None);
@@ -116,7 +127,7 @@ impl Cutter {
             return Err(PartFault::TooMany);
         }
         let size = self.place - self.begin;
-        if size > self.most || size > self.waiting.len() {
+        if size > self.most || size >= self.waiting.len() {
             return Err(PartFault::TooMany);
         }
         Ok(Some(size))
@@ -139,6 +150,7 @@ impl Cutter {
     pub fn end_part(&mut self, size: usize)
         requires part { IsPart self.old size }
         ensures cuts { (p : Contents) (parted : List Entry) (rest : List Entry) → Cuts p parted rest self.old → Cuts p (parted ++ take size self.old.waiting) rest self.new }
+        ensures waits { self.new.waiting ≡ drop size self.old.waiting }
         ensures most { (self.new.most ≡ self.old.most) × (self.new.watched ≡ self.old.watched) }
     {
         self.begin = self.place;

@@ -1,6 +1,6 @@
 //! A recording, written while it is read: of its entries, those that the transfer needs.
 
-ghost use Rattle.std.specs.Prelude.{◌≡◌, ◌<◌, true, false, None, IfOk, IfErr, IsErrOf, OnOk};
+ghost use Rattle.std.specs.Prelude.{◌≡◌, ◌+◌, ◌<◌, ◌^◌, true, false, None, IfOk, IfErr, IsErrOf, OnOk};
 ghost use Rattle.a429_word.specs.Sheet.{Says, sheet_failed};
 ghost use Rattle.a429_record.specs.Rows.{GivesNext, IfEntry};
 ghost use Rattle.a429_record.specs.declared.fault.ReadFault.TheVariants as read;
@@ -39,10 +39,11 @@ pub fn put_kept<R: Read, W: Write>(
     }
 }
 
-// The next entry, or none at the recording's end.
+/// The next entry, or none at the recording's end.
 #[inline(always)]
-fn next_of<R: Read>(rec: &mut EntryReader<R>) -> Result<Option<Entry>, ReadFault>
+pub(crate) fn next_of<R: Read>(rec: &mut EntryReader<R>) -> Result<Option<Entry>, ReadFault>
     ensures gives { GivesNext rec.old.to_come rec.new.to_come result }
+    ensures counts { IfEntry result (λ _. (rec.new.count ≡ rec.old.count + 1) × (rec.new.count < 2 ^ 64)) }
     ensures room { IfEntry result (λ _. rec.new.room < rec.old.room) }
     ensures works { IfOk result (λ o. o ≡ None → rec.new.failed ≡ false) }
     ensures device { IsErrOf result read.Device → rec.new.failed ≡ true }

@@ -7,8 +7,12 @@ mod follower;
 mod keeping;
 mod kept;
 pub mod laws;
+mod parting;
+mod parts;
 mod watch;
 
 pub use crate::cutting::{Cutter, PartFault};
 pub use crate::keeping::put_kept;
 pub use crate::kept::is_kept;
+pub use crate::parting::put_parts;
+pub use crate::parts::{MemoryParts, Part, Parts, write_part};

@@ -3,6 +3,7 @@
 mod certificates;
 mod check;
 mod command_line;
+mod cut;
 mod decide;
 mod extract;
 mod faults;

@@ -45,6 +45,14 @@ pub enum Command<'a> {
         profile: &'a str,
         recording: &'a str,
     },
+    /// `cut PROFILE REC DIR [MOST]`: writes the parts of a recording, with at most so many entries each, into the folder
+    /// DIR.
+    Cut {
+        profile: &'a str,
+        recording: &'a str,
+        folder: &'a str,
+        most: usize,
+    },
     /// `check PROFILE REC CERT`: finds a certificate for a recording, and writes it to CERT.
     Check(Claim<'a>),
     /// `decide PROFILE REC CERT`: as `check`, and where that has a doubt a search for a run.

@@ -1,0 +1,255 @@
+-- Parts, one more.
+use Rattle.std.proofs.Common.{◌≡◌, ◌+◌, ◌<◌, ◌≤◌, ◌⊎◌, ℕ, suc, List, [], ◌∷◌, ◌++◌, length, take, drop, Option, Some, None, Result, Ok, Err, append_assoc, append-nil, length-append, refl, sym, ap, ◌∙◌, subst, arith, inl, inr}
+use Rattle.std.specs.Prelude.{IfErr, IfOk, IfSome}
+use Rattle.std.proofs.lemmas.List.{length-take-le, take-append-drop}
+use Rattle.a429_word.specs.declared.sheet.Sheet.{Sheet}
+use Rattle.a429_word.specs.Sheet.{Says}
+use Rattle.a429_word.proofs.SheetFacts.{◌▹◌, says_nothing}
+use Rattle.a429_profile.specs.Profile.{Contents}
+use Rattle.a429_record.specs.declared.entry.Entry.{Entry}
+use Rattle.a429_record.specs.declared.fault.ReadFault.{ReadFault}
+use Rattle.a429_record.specs.declared.fault.ReadFault.TheVariants as read
+use Rattle.a429_record.specs.Recording.{Recording}
+use Rattle.a429_record.specs.Rows.{GivesNext, Stops}
+use Rattle.a429_link.specs.declared.seen.Seen.{Seen}
+use Rattle.a429_link.specs.Observer.{at_first}
+use Rattle.a429_cert.specs.Explained.{items_of}
+use Rattle.a429_parts.specs.Cutting.{Follows, IsPlace}
+use Rattle.a429_parts.specs.Cutter.{CutterState, Cuts, IsPart}
+use Rattle.a429_parts.specs.Parts.{AreFirstParts, AreParts, EndAtPlaces, GainsPart, GainsParts, HaveAtMost, IsSame, NumberedPart, PutParts, joined, list_text, numbered, part_line, part_lines, with_parts}
+use Rattle.a429_parts.specs.declared.parting.Parting.{Parting}
+use Rattle.a429_parts.specs.Keeping.{with_entries}
+use Rattle.a429_parts.specs.Parting.{ArePut, CannotGoOn, CutsAll, CutsUntil, Finished, Holds, Outputs, Progress, Stopped, outputs}
+use Rattle.a429_parts.proofs.KeepingFacts.{Came, came_whole}
+
+-- ---- lists of parts
+
+joined-push : (parts : List (List Entry)) (es : List Entry) → joined (parts ++ es ∷ []) ≡ joined parts ++ es
+joined-push [] es = append-nil es
+joined-push (x ∷ parts) es = ap (λ (l : List Entry). x ++ l) (joined-push parts es) ∙ sym (append_assoc x (joined parts) es)
+
+numbered-push : (k : ℕ) (parts : List (List Entry)) (es : List Entry) → numbered k (parts ++ es ∷ []) ≡ numbered k parts ++ record { number = k + length parts; entries = es } ∷ []
+numbered-push k [] es = ap (λ (n : ℕ). record { number = n; entries = es } ∷ []) (omega arith)
+numbered-push k (x ∷ parts) es =
+    ap (λ (l : List NumberedPart). record { number = k; entries = x } ∷ l)
+    (numbered-push (suc k) parts es ∙ ap (λ (n : ℕ). numbered (suc k) parts ++ record { number = n; entries = es } ∷ []) (omega arith))
+
+line_same : {a b c x y z : ℕ} → a ≡ x → b ≡ y → c ≡ z → part_line a b c ≡ part_line x y z
+line_same {a} {b} {c} {x} {y} {z} e1 e2 e3 = ap (λ (n : ℕ). part_line n b c) e1 ∙ (ap (λ (n : ℕ). part_line x n c) e2 ∙ ap (λ (n : ℕ). part_line x y n) e3)
+
+lines-push : (k from : ℕ) (parts : List (List Entry)) (es : List Entry) → part_lines k from (parts ++ es ∷ []) ≡ part_lines k from parts ++ part_line (k + length parts) (length es) (from + length (joined parts))
+lines-push k from [] es = append-nil (part_line k (length es) from) ∙ line_same (omega arith) refl (omega arith)
+lines-push k from (x ∷ parts) es =
+    ap (λ (l : List ℕ). part_line k (length x) from ++ l) (lines-push (suc k) (from + length x) parts es ∙ ap (λ (l : List ℕ). part_lines (suc k) (from + length x) parts ++ l) last)
+    ∙ sym (append_assoc (part_line k (length x) from) (part_lines (suc k) (from + length x) parts) (part_line (k + length (x ∷ parts)) (length es) (from + length (joined (x ∷ parts)))))
+  where
+    last : part_line (suc k + length parts) (length es) ((from + length x) + length (joined parts)) ≡ part_line (k + length (x ∷ parts)) (length es) (from + length (joined (x ∷ parts)))
+    last = line_same (omega arith) refl (omega (arith, length-append x (joined parts)))
+
+places-push : (p : Contents) (items : List Seen) (from : ℕ) (parts : List (List Entry)) (es : List Entry) → EndAtPlaces p items from parts → IsPlace p items (from + (length (joined parts) + length es)) → EndAtPlaces p items from (parts ++ es ∷ [])
+places-push p items from [] es h place = (subst (IsPlace p items) (omega arith) place, tt)
+places-push p items from (x ∷ parts) es (first, h) place = (first, places-push p items (from + length x) parts es h (subst (IsPlace p items) (omega (arith, length-append x (joined parts))) place))
+
+most-push : (most : ℕ) (parts : List (List Entry)) (es : List Entry) → HaveAtMost most parts → 0 < length es → length es ≤ most → HaveAtMost most (parts ++ es ∷ [])
+most-push most [] es h some within = (some, within, tt)
+most-push most (x ∷ parts) es (a, b, h) some within = (a, b, most-push most parts es h some within)
+
+-- ---- what takes parts
+
+pub same_parts : (a : Option PutParts) → IsSame a a
+same_parts None = tt
+same_parts (Some s) = refl
+
+gains_nothing : (a : Option PutParts) → GainsParts a a []
+gains_nothing None = tt
+gains_nothing (Some s) = ap (λ (l : List NumberedPart). record { parts = l; list = s.list }) (sym (append-nil s.parts))
+
+gains_more : (a b c : Option PutParts) (parts : List (List Entry)) (number : ℕ) (es : List Entry) → number ≡ suc (length parts) → GainsParts a b parts → GainsPart b c number es → GainsParts a c (parts ++ es ∷ [])
+gains_more None b c parts number es is h g = tt
+gains_more (Some s) None c parts number es is h g = absurd h
+gains_more (Some s) (Some t) None parts number es is h g = absurd g
+gains_more (Some s) (Some t) (Some u) parts number es is h g =
+    g ∙ ap (λ (x : PutParts). with_parts (record { number = number; entries = es } ∷ []) x) h
+    ∙ ap (λ (l : List NumberedPart). record { parts = l; list = s.list })
+    (append_assoc s.parts (numbered 1 parts) (record { number = number; entries = es } ∷ [])
+    ∙ ap (λ (l : List NumberedPart). s.parts ++ l) (ap (λ (n : ℕ). numbered 1 parts ++ record { number = n; entries = es } ∷ []) (is ∙ omega arith) ∙ sym (numbered-push 1 parts es)))
+
+gains_same : (a b c : Option PutParts) (parts : List (List Entry)) → GainsParts a b parts → IsSame b c → GainsParts a c parts
+gains_same None b c parts h g = tt
+gains_same (Some s) None c parts h g = absurd h
+gains_same (Some s) (Some t) None parts h g = absurd g
+gains_same (Some s) (Some t) (Some u) parts h g = g ∙ h
+
+-- as many of a list as it has are all of it
+pub all_of : (xs : List Entry) (n : ℕ) → n ≡ length xs → take n xs ≡ xs
+all_of xs n is = subst (λ (k : ℕ). take k xs ≡ xs) (sym is) (whole_of xs)
+  where
+    whole_of : (ys : List Entry) → take (length ys) ys ≡ ys
+    whole_of [] = refl
+    whole_of (y ∷ ys) = ap (λ (l : List Entry). y ∷ l) (whole_of ys)
+
+-- ---- what is held
+
+pub first_same : (p : Contents) (most : ℕ) {a b x y : List Entry} (parts : List (List Entry)) → a ≡ b → x ≡ y → AreFirstParts p most a parts x → AreFirstParts p most b parts y
+first_same p most {a} {b} {x} {y} parts same rest h = subst (λ (l : List Entry). AreFirstParts p most b parts l) rest (subst (λ (l : List Entry). AreFirstParts p most l parts x) same h)
+
+pub holds_first : (p : Contents) (most : ℕ) (s : Parting) → s.cutter ≡ record { most = most; watched = record { count = 0; observer = Some at_first; doubt = None }; begin = 0; place = 0; waiting = [] } → s.next ≡ 1 → s.list.items ≡ [] → Holds p most [] [] s
+holds_first p most s cutter next list = record {
+  are = λ rest. first_same p most [] refl (ap (λ (c : CutterState). c.waiting ++ rest) (sym cutter)) (record { joined = refl; places = tt; few = tt });
+  cuts = λ rest. subst (Cuts p [] rest) (sym cutter) (record { begin = refl; count = refl; watches = (Follows at_first None, refl, refl); place = λ some. absurd (omega (arith, some)) });
+  limit = ap (λ (c : CutterState). c.most) cutter;
+  next = next;
+  list = list;
+}
+
+-- as many words were watched as entries came
+pub held_count : (p : Contents) (most : ℕ) (parts : List (List Entry)) (es : List Entry) (s : Parting) → Holds p most parts es s → s.cutter.watched.count ≡ length es
+held_count p most parts es s h =
+    (h.cuts []).count ∙ (sym (length-append (joined parts) s.cutter.waiting)
+    ∙ ap length (ap (λ (l : List Entry). joined parts ++ l) (sym (append-nil s.cutter.waiting)) ∙ ((h.are []).joined ∙ append-nil es)))
+
+-- an entry more
+pub holds_more : (p : Contents) (most : ℕ) (parts : List (List Entry)) (es : List Entry) (e : Entry) (old new : Parting) → Holds p most parts es old → new.cutter.waiting ≡ old.cutter.waiting ++ e ∷ [] → new.cutter.most ≡ old.cutter.most → new.next ≡ old.next → new.list.items ≡ old.list.items → ((parted rest : List Entry) → Cuts p parted (e ∷ rest) old.cutter → Cuts p parted rest new.cutter) → Holds p most parts (es ++ e ∷ []) new
+holds_more p most parts es e old new h waiting same next list cuts = record {
+  are = λ rest. first_same p most parts (sym (append_assoc es (e ∷ []) rest)) (sym (append_assoc old.cutter.waiting (e ∷ []) rest) ∙ ap (λ (l : List Entry). l ++ rest) (sym waiting)) (h.are (e ∷ rest));
+  cuts = λ rest. cuts (joined parts) rest (h.cuts (e ∷ rest));
+  limit = same ∙ h.limit;
+  next = next ∙ h.next;
+  list = list ∙ h.list;
+}
+
+-- a part more
+pub holds_part : (p : Contents) (most : ℕ) (parts : List (List Entry)) (es : List Entry) (size : ℕ) (old new : Parting) → Holds p most parts es old → IsPart old.cutter size → new.cutter.waiting ≡ drop size old.cutter.waiting → new.cutter.most ≡ old.cutter.most → new.next ≡ old.next + 1 → new.list.items ≡ old.list.items ++ part_line old.next size old.cutter.begin
+    → ((parted rest : List Entry) → Cuts p parted rest old.cutter → Cuts p (parted ++ take size old.cutter.waiting) rest new.cutter) → Holds p most (parts ++ take size old.cutter.waiting ∷ []) es new
+holds_part p most parts es size old new h part waiting same next list cuts = record {
+  are = λ rest. record {
+    joined = all rest ∙ (h.are rest).joined;
+    places = places-push p (items_of (es ++ rest)) 0 parts piece (h.are rest).places (place rest);
+    few = most-push most parts piece (h.are rest).few (omega (arith, part.some, taken)) (omega (arith, part.within, taken, h.limit));
+  };
+  cuts = λ rest. subst (λ (l : List Entry). Cuts p l rest new.cutter) (sym (joined-push parts piece)) (cuts (joined parts) rest (h.cuts rest));
+  limit = same ∙ h.limit;
+  next = omega (arith, next, h.next, length-append parts (piece ∷ []));
+  list = list ∙ ap (λ (l : List ℕ). l ++ part_line old.next size old.cutter.begin) h.list ∙ ap (λ (l : List ℕ). list_text parts ++ l) line ∙ sym (lines-push 1 0 parts piece);
+}
+  where
+    piece : List Entry
+    piece = take size old.cutter.waiting
+
+    taken : length piece ≡ size
+    taken = length-take-le size old.cutter.waiting (omega (arith, part.waits))
+
+    all : (rest : List Entry) → joined (parts ++ piece ∷ []) ++ (new.cutter.waiting ++ rest) ≡ joined parts ++ (old.cutter.waiting ++ rest)
+    all rest =
+        ap (λ (l : List Entry). l ++ (new.cutter.waiting ++ rest)) (joined-push parts piece)
+        ∙ (append_assoc (joined parts) piece (new.cutter.waiting ++ rest)
+        ∙ ap (λ (l : List Entry). joined parts ++ l) (sym (append_assoc piece new.cutter.waiting rest) ∙ ap (λ (l : List Entry). l ++ rest) (ap (λ (l : List Entry). piece ++ l) waiting ∙ take-append-drop size old.cutter.waiting)))
+
+    place : (rest : List Entry) → IsPlace p (items_of (es ++ rest)) (0 + (length (joined parts) + length piece))
+    place rest =
+        subst (IsPlace p (items_of (es ++ rest))) (omega (arith, part.place, (h.cuts rest).begin, taken))
+        (subst (λ (l : List Entry). IsPlace p (items_of l) old.cutter.place) (h.are rest).joined ((h.cuts rest).place (omega (arith, part.place, part.some))))
+
+    line : part_line old.next size old.cutter.begin ≡ part_line (1 + length parts) (length piece) (0 + length (joined parts))
+    line = line_same (h.next ∙ omega arith) (sym taken) ((h.cuts []).begin ∙ omega arith)
+
+-- ---- and where it is
+
+module _ {W : Type 0} (contents : W → Option (List ℕ)) (p : Contents) (most : ℕ) (known : Option PutParts) (first : Sheet W) (es : List Entry) where
+  -- nothing is put where nothing came
+  pub puts_nothing : ArePut (outputs contents known known first first) []
+  puts_nothing = record { gains = gains_nothing known; says = says_nothing contents first }
+
+  pub puts_more : (b c : Option PutParts) (t u : Sheet W) (parts : List (List Entry)) (s : Parting) (piece : List Entry) → Holds p most parts es s → ArePut (outputs contents known b first t) parts → GainsPart b c s.next piece → Says contents t u (part_line s.next (length piece) s.cutter.begin) → ArePut (outputs contents known c first u) (parts ++ piece ∷ [])
+  puts_more b c t u parts s piece h puts gains says = record {
+    gains = gains_more known b c parts s.next piece h.next puts.gains gains;
+    says = subst (Says contents first u) (ap (λ (l : List ℕ). list_text parts ++ l) (line_same (h.next ∙ omega arith) refl ((h.cuts []).begin ∙ omega arith)) ∙ sym (lines-push 1 0 parts piece)) (puts.says ▹ says);
+  }
+
+  -- a part is put, and ended
+  pub progress_more : (b c : Option PutParts) (t u : Sheet W) (size : ℕ) (old new : Parting) → Progress p most (outputs contents known b first t) es old → IsPart old.cutter size → new.cutter.waiting ≡ drop size old.cutter.waiting → new.cutter.most ≡ old.cutter.most → new.next ≡ old.next + 1 → new.list.items ≡ old.list.items ++ part_line old.next size old.cutter.begin
+      → ((parted rest : List Entry) → Cuts p parted rest old.cutter → Cuts p (parted ++ take size old.cutter.waiting) rest new.cutter) → GainsPart b c old.next (take size old.cutter.waiting) → Says contents t u (part_line old.next size old.cutter.begin) → Progress p most (outputs contents known c first u) es new
+  progress_more b c t u size old new h part waiting same next list cuts gains says = record {
+    parts = h.parts ++ take size old.cutter.waiting ∷ [];
+    holds = holds_part p most h.parts es size old new h.holds part waiting same next list cuts;
+    puts = puts_more b c t u h.parts old (take size old.cutter.waiting) h.holds h.puts gains
+        (subst (λ (n : ℕ). Says contents t u (part_line old.next n old.cutter.begin)) (sym (length-take-le size old.cutter.waiting (omega (arith, part.waits)))) says);
+  }
+
+  -- no part is put any more
+  pub stopped : (b c : Option PutParts) (t u : Sheet W) (s : Parting) (fault : ReadFault) → Progress p most (outputs contents known b first t) es s → IsSame b c → Says contents t u [] → CannotGoOn most s.cutter.waiting fault → Stopped p most (outputs contents known c first u) es fault
+  stopped b c t u s fault h same nothing reason = record {
+    parts = h.parts;
+    rest = s.cutter.waiting;
+    are = first_same p most h.parts (append-nil es) (append-nil s.cutter.waiting) (h.holds.are []);
+    puts = record { gains = gains_same known b c h.parts h.puts.gains same; says = subst (Says contents first u) (append-nil (list_text h.parts)) (h.puts.says ▹ nothing) };
+    reason = reason;
+  }
+
+  -- the last part is put
+  pub finished : (b c : Option PutParts) (t u : Sheet W) (s : Parting) (list : List ℕ) → Progress p most (outputs contents known b first t) es s → length s.cutter.waiting ≤ s.cutter.most → GainsPart b c s.next s.cutter.waiting → Says contents t u (part_line s.next (length s.cutter.waiting) s.cutter.begin) → list ≡ s.list.items ++ part_line s.next (length s.cutter.waiting) s.cutter.begin → Finished p most (outputs contents known c first u) es list
+  finished b c t u s list h few gains says is = record {
+    parts = h.parts ++ s.cutter.waiting ∷ [];
+    are = record {
+      first = h.parts;
+      last = s.cutter.waiting;
+      all = refl;
+      begin = first_same p most h.parts (append-nil es) (append-nil s.cutter.waiting) (h.holds.are []);
+      few = omega (arith, few, h.holds.limit);
+    };
+    puts = puts_more b c t u h.parts s s.cutter.waiting h.holds h.puts gains says;
+    text = is ∙ ap (λ (l : List ℕ). l ++ part_line s.next (length s.cutter.waiting) s.cutter.begin) h.holds.list ∙ ap (λ (l : List ℕ). list_text h.parts ++ l) (line_same (h.holds.next ∙ omega arith) refl ((h.holds.cuts []).begin ∙ omega arith)) ∙ sym (lines-push 1 0 h.parts s.cutter.waiting);
+  }
+
+  -- so many of the entries that wait, which are all
+  pub finished_by : (b c : Option PutParts) (t u : Sheet W) (s : Parting) (list : List ℕ) (size : ℕ) → size ≡ length s.cutter.waiting → Progress p most (outputs contents known b first t) es s → length s.cutter.waiting ≤ s.cutter.most → GainsPart b c s.next (take size s.cutter.waiting) → Says contents t u (part_line s.next size s.cutter.begin) → list ≡ s.list.items ++ part_line s.next size s.cutter.begin → Finished p most (outputs contents known c first u) es list
+  finished_by b c t u s list size is h few gains says text = finished b c t u s list h few
+      (subst (λ (l : List Entry). GainsPart b c s.next l) (all_of s.cutter.waiting size is) gains)
+      (subst (λ (n : ℕ). Says contents t u (part_line s.next n s.cutter.begin)) is says)
+      (text ∙ ap (λ (n : ℕ). s.list.items ++ part_line s.next n s.cutter.begin) is)
+
+-- ---- why it ends
+
+pub trouble_reason : (most : ℕ) (rest : List Entry) (f : ReadFault) → (f ≡ read.Device) ⊎ (f ≡ read.OutOfMemory) → CannotGoOn most rest f
+trouble_reason most rest f (inl e) = subst (CannotGoOn most rest) (sym e) tt
+trouble_reason most rest f (inr e) = subst (CannotGoOn most rest) (sym e) tt
+
+pub part_reason : (most : ℕ) (rest : List Entry) (f : ReadFault) → (f ≡ read.TooMany) ⊎ (f ≡ read.OutOfMemory) → most < length rest → CannotGoOn most rest f
+part_reason most rest f (inl e) more = subst (CannotGoOn most rest) (sym e) more
+part_reason most rest f (inr e) more = subst (CannotGoOn most rest) (sym e) tt
+
+pub if_ok_map : {A E : Type 0} {P Q : A → Type 0} (r : Result A E) → IfOk r P → ((x : A) → P x → Q x) → IfOk r Q
+if_ok_map (Ok x) h f = f x h
+if_ok_map (Err e) h f = tt
+
+pub if_err_map : {A E : Type 0} {P Q : E → Type 0} (r : Result A E) → IfErr r P → ((e : E) → P e → Q e) → IfErr r Q
+if_err_map (Ok x) h f = tt
+if_err_map (Err e) h f = f e h
+
+-- all entries came
+pub cuts_all : {W : Type 0} (p : Contents) (most : ℕ) (o : Outputs W) (recording left new : Option Recording) (es : List Entry) (list : List ℕ) → Came recording es left → GivesNext left new (Ok None) → Finished p most o es list → CutsAll p most recording o list
+cuts_all p most o recording left new es list came gives h =
+    record { entries = es; parts = h.parts; all = came_whole recording left new es gives came; are = h.are; puts = h.puts; text = h.text }
+
+-- parts could not be put
+pub cuts_until : {W : Type 0} (p : Contents) (most : ℕ) (o : Outputs W) (recording left : Option Recording) (es : List Entry) (f : ReadFault) → Came recording es left → Stopped p most o es f → CutsUntil p most recording o f
+cuts_until {W} p most o recording left es f came h = record { entries = es; parts = h.parts; rest = h.rest; are = h.are; puts = h.puts; ends = ends recording came }
+  where
+    ends : (recording : Option Recording) → Came recording es left → IfSome recording (λ r. (later : Recording) × (r ≡ with_entries es later) × (Stops f later ⊎ CannotGoOn most h.rest f))
+    ends None c = tt
+    ends (Some r) (later, is, all) = (later, all, inr h.reason)
+
+-- the recording has a fault
+pub cuts_before : {W : Type 0} (p : Contents) (most : ℕ) (o : Outputs W) (recording left new : Option Recording) (es : List Entry) (s : Parting) (f : ReadFault) → Came recording es left → GivesNext left new (Err f) → Progress p most o es s → CutsUntil p most recording o f
+cuts_before {W} p most o recording left new es s f came gives h = record {
+  entries = es;
+  parts = h.parts;
+  rest = s.cutter.waiting;
+  are = first_same p most h.parts (append-nil es) (append-nil s.cutter.waiting) (h.holds.are []);
+  puts = h.puts;
+  ends = ends recording came;
+}
+  where
+    ends : (recording : Option Recording) → Came recording es left → IfSome recording (λ r. (later : Recording) × (r ≡ with_entries es later) × (Stops f later ⊎ CannotGoOn most s.cutter.waiting f))
+    ends None c = tt
+    ends (Some r) (later, is, all) = (later, all, inl (rw is at gives))

@@ -1,0 +1,7 @@
+use Rattle.std.proofs.Common.{refl}
+use Rattle.a429_parts.proofs.PartsFacts.{holds_more}
+use Rattle.a429_parts.proofs.parting.Parting.take.Goals as goal
+
+pub returns-in-Ok-clause-ok : goal.returns-in-Ok-clause-ok
+returns-in-Ok-clause-ok c most parts es h =
+    holds_more c.args.profile.now most parts es c.args.entry.now c.args.self.now _ h c.in-Ok.ensures.waits c.take.ensures.most refl refl c.in-Ok.ensures.cuts

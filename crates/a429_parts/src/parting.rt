@@ -1,0 +1,293 @@
+//! A recording, written in parts as it is read.
+
+ghost use Rattle.std.specs.Fmt.{decimal};
+ghost use Rattle.std.specs.Prelude.{◌≡◌, ◌⊎◌, ◌+◌, ◌<◌, ◌≤◌, ◌^◌, ◌∷◌, ◌++◌, [], ℕ, List, Option, length, take, true, false, Some, None, Ok, IfOk, IfErr, IfSome, IsErr, IsErrOf, OnOk, OnErr};
+ghost use Rattle.a429_word.specs.Sheet.{Says, sheet_failed};
+ghost use Rattle.a429_word.specs.declared.sheet.Sheet.{Sheet};
+ghost use Rattle.a429_profile.specs.Profile.{Contents};
+ghost use Rattle.a429_record.specs.declared.entry.Entry.{Entry};
+ghost use Rattle.a429_record.specs.declared.fault.ReadFault.{ReadFault};
+ghost use Rattle.a429_record.specs.declared.fault.ReadFault.TheVariants as read;
+ghost use Rattle.a429_parts.specs.declared.cutting.PartFault.TheVariants as part;
+ghost use Rattle.a429_parts.specs.Cutter.{IsPart};
+ghost use Rattle.a429_parts.specs.Parts.{GainsPart, IsSame, PutParts, part_line};
+ghost use Rattle.a429_parts.specs.Parting.{CannotGoOn, CutsAll, CutsUntil, Finished, Holds, Progress, Stopped, outputs};
+
+use crate::cutting::{Cutter, PartFault};
+use crate::keeping::next_of;
+use crate::parts::Parts;
+use a429_profile::Profile;
+use a429_record::{Entry, EntryReader, ReadFault};
+use a429_word::{Failing, Sheet, Trouble};
+use itoa::Buffer;
+use std::alloc::{AllocError, Global};
+use std::io::{Read, Write};
+
+/// A recording that is being cut.
+#[derive(Debug, Drop)]
+pub(crate) struct Parting {
+    cutter: Cutter,
+    // The number of the next part.
+    next: usize,
+    // The lines of the parts that were put.
+    list: Vec<u8>,
+}
+
+/// Puts the parts of a recording as it is read, and their lines on a sheet, and answers the list of them. A part ends
+/// at the last place where the recording may be cut that is at most `most` entries after its beginning, or at the end
+/// of the recording where that is as near. A recording without entries is one part. The fault is `TooMany` also where
+/// no place is near enough. After a fault the parts before it are there.
+pub fn put_parts<R: Read, P: Parts, W: Write>(
+    alloc: Global,
+    profile: &Profile,
+    most: usize,
+    rec: &mut EntryReader<R>,
+    parts: &mut P,
+    sheet: &mut Sheet<'_, W>,
+) -> Result<Vec<u8>, ReadFault>
+    ensures all { IfOk result (λ list. CutsAll profile.now most rec.old.to_come (outputs W.contents (P.known parts.old) (P.known parts.new) sheet.old sheet.new) list.items) }
+    ensures until { IfErr result (CutsUntil profile.now most rec.old.to_come (outputs W.contents (P.known parts.old) (P.known parts.new) sheet.old sheet.new)) }
+    ensures device { IsErrOf result read.Device → (rec.new.failed ≡ true) ⊎ ((P.failed parts.new ≡ true) ⊎ (sheet_failed sheet.new ≡ true)) }
+    ensures works { OnOk result ((rec.new.failed ≡ false) × (P.failed parts.new ≡ false)) }
+{
+    let mut parting = Parting::new(alloc, most);
+    'entries: loop {
+        let next = match next_of(rec) {
+            Ok(next) => next,
+            Err(fault) => return Err(fault),
+        };
+        let Some(entry) = next else {
+            return parting.finish(parts, sheet);
+        };
+        match parting.add(profile, &entry, parts, sheet) {
+            Ok(()) => {}
+            Err(fault) => return Err(fault),
+        }
+    }
+}
+
+impl Parting {
+    // Nothing has come. A part has at most so many entries.
+    fn new(alloc: Global, most: usize) -> Parting
+        ensures { (p : Contents) → Holds p most [] [] result }
+    {
+        Parting {
+            cutter: Cutter::new(alloc, most),
+            next: 1,
+            list: Vec::new(alloc),
+        }
+    }
+
+    // Takes the next entry, and puts the parts that are complete then.
+    fn add<P: Parts, W: Write>(
+        &mut self,
+        profile: &Profile,
+        entry: &Entry,
+        parts: &mut P,
+        sheet: &mut Sheet<'_, W>,
+    ) -> Result<(), ReadFault>
+        requires room { self.old.cutter.watched.count + 1 < 2 ^ 64 }
+        ensures ok { OnOk result ((most : ℕ) (known : Option PutParts) (first : Sheet W) (es : List Entry)
+            → Progress profile.now most (outputs W.contents known (P.known parts.old) first sheet.old) es self.old
+            → Progress profile.now most (outputs W.contents known (P.known parts.new) first sheet.new) (es ++ entry.now ∷ []) self.new) }
+        ensures err { IfErr result (λ fault. (most : ℕ) (known : Option PutParts) (first : Sheet W) (es : List Entry)
+            → Progress profile.now most (outputs W.contents known (P.known parts.old) first sheet.old) es self.old
+            → Stopped profile.now most (outputs W.contents known (P.known parts.new) first sheet.new) (es ++ entry.now ∷ []) fault) }
+        ensures device { IsErrOf result read.Device → (P.failed parts.new ≡ true) ⊎ (sheet_failed sheet.new ≡ true) }
+    {
+        match self.take(profile, entry) {
+            Ok(()) => {}
+            Err(fault) => return Err(fault),
+        }
+        match self.put_complete(false, parts, sheet) {
+            Ok(()) => {}
+            Err(fault) => return Err(fault),
+        }
+        if sheet.failed() {
+            return Err(ReadFault::Device);
+        }
+        Ok(())
+    }
+
+    // Takes the next entry.
+    fn take(&mut self, profile: &Profile, entry: &Entry) -> Result<(), ReadFault>
+        requires room { self.old.cutter.watched.count + 1 < 2 ^ 64 }
+        ensures ok { OnOk result ((most : ℕ) (parts : List (List Entry)) (es : List Entry) → Holds profile.now most parts es self.old → Holds profile.now most parts (es ++ entry.now ∷ []) self.new) }
+        ensures err { IfErr result (λ fault. fault ≡ read.OutOfMemory) }
+    {
+        match self.cutter.take(profile, entry) {
+            Ok(()) => Ok(()),
+            Err(fault) => Err(fault_of(fault)),
+        }
+    }
+
+    // Puts the parts that are complete; where no entry comes any more, all but the last.
+    fn put_complete<P: Parts, W: Write>(
+        &mut self,
+        at_end: bool,
+        parts: &mut P,
+        sheet: &mut Sheet<'_, W>,
+    ) -> Result<(), ReadFault>
+        ensures ok { OnOk result ((p : Contents) (most : ℕ) (known : Option PutParts) (first : Sheet W) (es : List Entry)
+            → Progress p most (outputs W.contents known (P.known parts.old) first sheet.old) es self.old
+            → Progress p most (outputs W.contents known (P.known parts.new) first sheet.new) es self.new) }
+        ensures err { IfErr result (λ fault. (p : Contents) (most : ℕ) (known : Option PutParts) (first : Sheet W) (es : List Entry)
+            → Progress p most (outputs W.contents known (P.known parts.old) first sheet.old) es self.old
+            → Stopped p most (outputs W.contents known (P.known parts.new) first sheet.new) es fault) }
+        ensures last { OnOk result (at_end ≡ true → length self.new.cutter.waiting ≤ self.new.cutter.most) }
+        ensures device { IsErrOf result read.Device → P.failed parts.new ≡ true }
+    {
+        'parts: loop {
+            match self.size(at_end) {
+                Ok(Some(size)) => match self.put_and_end(size, parts, sheet) {
+                    Ok(()) => {}
+                    Err(trouble) => return Err(fault_by(trouble)),
+                },
+                Ok(None) => return Ok(()),
+                Err(fault) => return Err(fault_of(fault)),
+            }
+        }
+    }
+
+    // How many of the entries that wait are the next part.
+    fn size(&self, at_end: bool) -> Result<Option<usize>, PartFault>
+        ensures some { IfOk result (λ o. IfSome o (IsPart self.now.cutter)) }
+        ensures none { at_end ≡ true → result ≡ Ok None → length self.now.cutter.waiting ≤ self.now.cutter.most }
+        ensures many { IsErr result → self.now.cutter.most < length self.now.cutter.waiting }
+    {
+        if at_end {
+            self.cutter.part_at_end()
+        } else {
+            self.cutter.part()
+        }
+    }
+
+    // Puts so many of the entries that wait as the next part, and ends it.
+    fn put_and_end<P: Parts, W: Write>(
+        &mut self,
+        size: usize,
+        parts: &mut P,
+        sheet: &mut Sheet<'_, W>,
+    ) -> Result<(), Trouble>
+        requires part { IsPart self.old.cutter size }
+        ensures ok { OnOk result ((p : Contents) (most : ℕ) (known : Option PutParts) (first : Sheet W) (es : List Entry)
+            → Progress p most (outputs W.contents known (P.known parts.old) first sheet.old) es self.old
+            → Progress p most (outputs W.contents known (P.known parts.new) first sheet.new) es self.new) }
+        ensures err { OnErr result ((p : Contents) (most : ℕ) (known : Option PutParts) (first : Sheet W) (es : List Entry) (fault : ReadFault) → CannotGoOn most self.old.cutter.waiting fault
+            → Progress p most (outputs W.contents known (P.known parts.old) first sheet.old) es self.old
+            → Stopped p most (outputs W.contents known (P.known parts.new) first sheet.new) es fault) }
+        ensures waits { OnOk result (length self.new.cutter.waiting < length self.old.cutter.waiting) }
+        ensures device { IsErrOf result Trouble.Device → P.failed parts.new ≡ true }
+    {
+        let Some(next) = self.next.checked_add(1) else {
+            return Err(Trouble::OutOfMemory);
+        };
+        match self.put(size, parts, sheet) {
+            Ok(()) => {
+                self.cutter.end_part(size);
+                self.next = next;
+                Ok(())
+            }
+            Err(trouble) => Err(trouble),
+        }
+    }
+
+    // Puts so many of the entries that wait as the next part, and its line on the sheet and on the list.
+    fn put<P: Parts, W: Write>(
+        &mut self,
+        size: usize,
+        parts: &mut P,
+        sheet: &mut Sheet<'_, W>,
+    ) -> Result<(), Trouble>
+        requires waits { size ≤ length self.old.cutter.waiting }
+        ensures same { (self.new.cutter ≡ self.old.cutter) × (self.new.next ≡ self.old.next) }
+        ensures ok { OnOk result (GainsPart (P.known parts.old) (P.known parts.new) self.old.next (take size self.old.cutter.waiting)
+            × Says W.contents sheet.old sheet.new (part_line self.old.next size self.old.cutter.begin)
+            × (self.new.list.items ≡ self.old.list.items ++ part_line self.old.next size self.old.cutter.begin)) }
+        ensures err { OnErr result (IsSame (P.known parts.old) (P.known parts.new) × Says W.contents sheet.old sheet.new []) }
+        ensures device { IsErrOf result Trouble.Device → P.failed parts.new ≡ true }
+        ensures works { OnOk result (P.failed parts.new ≡ false) }
+    {
+        let start = self.list.len();
+        if put_line(&mut self.list, self.next, size, self.cutter.begin()).is_err() {
+            return Err(Trouble::OutOfMemory);
+        }
+        match parts.put(self.next, &self.cutter.waiting()[..size]) {
+            Ok(()) => {
+                sheet.put(&self.list[start..]);
+                Ok(())
+            }
+            Err(trouble) => Err(trouble),
+        }
+    }
+
+    // Puts the parts that are left, and answers the list of all.
+    fn finish<P: Parts, W: Write>(
+        self,
+        parts: &mut P,
+        sheet: &mut Sheet<'_, W>,
+    ) -> Result<Vec<u8>, ReadFault>
+        ensures ok { IfOk result (λ list. (p : Contents) (most : ℕ) (known : Option PutParts) (first : Sheet W) (es : List Entry)
+            → Progress p most (outputs W.contents known (P.known parts.old) first sheet.old) es self
+            → Finished p most (outputs W.contents known (P.known parts.new) first sheet.new) es list.items) }
+        ensures err { IfErr result (λ fault. (p : Contents) (most : ℕ) (known : Option PutParts) (first : Sheet W) (es : List Entry)
+            → Progress p most (outputs W.contents known (P.known parts.old) first sheet.old) es self
+            → Stopped p most (outputs W.contents known (P.known parts.new) first sheet.new) es fault) }
+        ensures device { IsErrOf result read.Device → P.failed parts.new ≡ true }
+        ensures works { OnOk result (P.failed parts.new ≡ false) }
+    {
+        let mut parting = self;
+        match parting.put_complete(true, parts, sheet) {
+            Ok(()) => {}
+            Err(fault) => return Err(fault),
+        }
+        let size = parting.cutter.waiting().len();
+        match parting.put(size, parts, sheet) {
+            Ok(()) => Ok(parting.list),
+            Err(trouble) => Err(fault_by(trouble)),
+        }
+    }
+}
+
+// Why a recording has no more parts.
+fn fault_of(fault: PartFault) -> ReadFault
+    ensures many { result ≡ read.TooMany → fault ≡ part.TooMany }
+    ensures either { (result ≡ read.TooMany) ⊎ (result ≡ read.OutOfMemory) }
+{
+    match fault {
+        PartFault::TooMany => ReadFault::TooMany,
+        PartFault::OutOfMemory => ReadFault::OutOfMemory,
+    }
+}
+
+// Why no part was put.
+fn fault_by(trouble: Trouble) -> ReadFault
+    ensures device { result ≡ read.Device → trouble ≡ Trouble.Device }
+    ensures either { (result ≡ read.Device) ⊎ (result ≡ read.OutOfMemory) }
+{
+    match trouble {
+        Trouble::Device => ReadFault::Device,
+        Trouble::OutOfMemory => ReadFault::OutOfMemory,
+    }
+}
+
+// Appends the line of a part: its number, how many entries it has, and which of the recording is its first.
+fn put_line(list: &mut Vec<u8>, number: usize, size: usize, from: usize) -> Result<(), AllocError>
+    ensures { OnOk result (list.new.items ≡ list.old.items ++ part_line number size from) }
+{
+    list.extend_from_slice(b"part ")?;
+    put_number(list, number)?;
+    list.extend_from_slice(b" entries ")?;
+    put_number(list, size)?;
+    list.extend_from_slice(b" from ")?;
+    put_number(list, from)?;
+    list.extend_from_slice(b"\n")
+}
+
+// Appends a number, in decimal.
+fn put_number(list: &mut Vec<u8>, number: usize) -> Result<(), AllocError>
+    ensures { OnOk result (list.new.items ≡ list.old.items ++ decimal number) }
+{
+    let mut buffer = Buffer::new();
+    list.extend_from_slice(buffer.format(number).as_bytes())
+}

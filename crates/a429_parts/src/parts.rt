@@ -1,0 +1,167 @@
+//! Where the parts of a recording are put, and in the end their list.
+
+ghost use Rattle.std.specs.Prelude.{◌≡◌, ◌↔◌, [], ◌++◌, List, Option, Some, None, option_map, IsErr, IsErrOf, OnOk, OnErr, true, false};
+ghost use Rattle.std.specs.List.{flat_map};
+ghost use Rattle.a429_word.specs.Sheet.{Says, Writes};
+ghost use Rattle.a429_word.specs.Tally.{has_failed, Puts, PutsFront};
+ghost use Rattle.a429_record.specs.Writing.{line_text, written_form};
+ghost use Rattle.a429_parts.specs.Parts.{GainsList, GainsPart, IsSame, PutParts};
+
+use a429_record::{Entry, put_header, put_line};
+use a429_word::{Device, Failing, Page, Sheet, Tally, Trouble};
+use std::alloc::Global;
+use std::io::Write;
+use std::marker::Model;
+
+/// What takes the parts of a recording. Contracts see the parts that were put and the list, where it makes them
+/// known.
+pub trait Parts: Failing {
+    ghost known: { Self → Option PutParts };
+
+    /// Puts a part: its number, from 1, and its entries. A part that is refused is not there.
+    fn put(&mut self, number: usize, entries: &[Entry]) -> Result<(), Trouble>
+        ensures ok { OnOk result (GainsPart (known self.old) (known self.new) number entries.now) }
+        ensures err { OnErr result (IsSame (known self.old) (known self.new)) }
+        ensures device { IsErrOf result Trouble.Device → Self.failed self.new ≡ true }
+        ensures works { OnOk result (Self.failed self.new ≡ false) };
+
+    /// Puts the list of the parts, once all are there. A list that is refused is not there.
+    fn put_list(&mut self, text: &[u8]) -> Result<(), Trouble>
+        ensures ok { OnOk result (GainsList (known self.old) (known self.new) text.now) }
+        ensures err { OnErr result (IsSame (known self.old) (known self.new)) }
+        ensures device { IsErrOf result Trouble.Device → Self.failed self.new ≡ true }
+        ensures works { OnOk result (Self.failed self.new ≡ false) };
+}
+
+/// A part that was put.
+#[derive(Debug, Drop)]
+pub struct Part {
+    /// Its number, from 1.
+    pub number: usize,
+    pub entries: Vec<Entry>,
+}
+
+/// Keeps parts in memory, and makes them known.
+#[derive(Debug, Drop)]
+pub struct MemoryParts {
+    alloc: Global,
+    parts: Vec<Part>,
+    list: Option<Vec<u8>>,
+}
+
+impl Model for MemoryParts {
+    ghost use Rattle.std.specs.Prelude.{map, option_map};
+    ghost use Rattle.a429_parts.specs.Parts.{PutParts};
+    ghost use Rattle.a429_parts.specs.MemoryParts.{bytes_in, part_in};
+
+    ghost Value = { PutParts };
+
+    ghost view = { λ s. record { parts = map part_in s.parts.items; list = option_map bytes_in s.list } };
+}
+
+impl MemoryParts {
+    /// Without parts and list.
+    pub fn new(alloc: Global) -> MemoryParts
+        ensures { result ≡ record { parts = []; list = None } }
+    {
+        MemoryParts {
+            alloc,
+            parts: Vec::new(alloc),
+            list: None,
+        }
+    }
+
+    /// The parts that were put, lent.
+    pub fn parts(&self) -> &[Part] {
+        self.parts.as_slice()
+    }
+
+    /// The list, if it was put, lent.
+    pub fn list(&self) -> Option<&[u8]> {
+        match &self.list {
+            Some(text) => Some(text.as_slice()),
+            None => None,
+        }
+    }
+}
+
+impl Failing for MemoryParts {
+    ghost failed = { λ s. false };
+
+    fn failed(&self) -> bool {
+        false
+    }
+}
+
+impl Parts for MemoryParts {
+    ghost known = { λ s. Some s };
+
+    fn put(&mut self, number: usize, entries: &[Entry]) -> Result<(), Trouble> {
+        let mut kept = Vec::new(self.alloc);
+        if kept.extend_from_slice(entries).is_err() {
+            return Err(Trouble::OutOfMemory);
+        }
+        let part = Part {
+            number,
+            entries: kept,
+        };
+        if self.parts.push(part).is_err() {
+            return Err(Trouble::OutOfMemory);
+        }
+        Ok(())
+    }
+
+    fn put_list(&mut self, text: &[u8]) -> Result<(), Trouble> {
+        let mut kept = Vec::new(self.alloc);
+        if kept.extend_from_slice(text).is_err() {
+            return Err(Trouble::OutOfMemory);
+        }
+        self.list = Some(kept);
+        Ok(())
+    }
+}
+
+/// Writes a part as a text recording: the header, and a line for each entry. If memory runs out, nothing is written; after
+/// `Device` a prefix has been.
+pub fn write_part<W: Write>(
+    alloc: Global,
+    out: &mut Tally<W>,
+    entries: &[Entry],
+) -> Result<(), Trouble>
+    ensures ok { OnOk result (Puts W.contents out.old out.new (written_form entries.now)) }
+    ensures device { IsErrOf result Trouble.Device ↔ (has_failed out.new ≡ true) }
+    ensures prefix { PutsFront W.contents out.old out.new (written_form entries.now) }
+    ensures memory { IsErrOf result Trouble.OutOfMemory → out.new ≡ out.old }
+{
+    if out.failed() {
+        return Err(Trouble::Device);
+    }
+    let page = Page::new(alloc)?;
+    put_entries(page, out, entries)?;
+    Ok(())
+}
+
+// Writes the entries, on a page that is empty.
+fn put_entries<W: Write>(page: Page, out: &mut Tally<W>, entries: &[Entry]) -> Result<(), Device>
+    requires { page ≡ [] }
+    ensures written { Writes W.contents out.old out.new (written_form entries.now) }
+    ensures device { IsErr result ↔ (has_failed out.new ≡ true) }
+{
+    let mut page = page;
+    let mut sheet = Sheet::new(out, &mut page);
+    put_header(&mut sheet);
+    put_lines(&mut sheet, entries);
+    sheet.finish()
+}
+
+// A line for each entry.
+fn put_lines<W: Write>(sheet: &mut Sheet<'_, W>, entries: &[Entry])
+    ensures { Says W.contents sheet.old sheet.new (flat_map line_text entries.now) }
+{
+    for entry in entries {
+        if sheet.failed() {
+            return;
+        }
+        put_line(sheet, *entry);
+    }
+}
