@@ -14,7 +14,7 @@ use Rattle.a429_view.specs.declared.survey.Survey.{Survey}
 use Rattle.a429_view.specs.Survey.{IsSurvey}
 use Rattle.a429_check.specs.Survey.{IsSomeSurvey, IsSurveyFault}
 use Rattle.a429_check.specs.Profile.{IsProfileOf}
-use Rattle.a429_check.specs.Streaming.{Came, IsFaultToCome, IsNextFault}
+use Rattle.a429_check.specs.Streaming.{AreAllBefore, Came, IsFaultToCome, IsNextFault, reported}
 
 pub came_first : (first : Option Recording) → Came first [] first
 came_first None = tt
@@ -33,6 +33,33 @@ came_whole None left new es gives h = tt
 came_whole (Some r) left new es gives h =
     let end = rw h.1 at gives in
     h.2 ∙ ap (λ (q : Recording). record { entries = es ++ q.entries; fault = q.fault }) end ∙ ap whole (append-nil es)
+
+-- no entry comes before the fault that is the answer
+pub none_before : (old new : Option Recording) (f : ReadFault) → GivesNext old new (Err f) → AreAllBefore (reported f) old []
+none_before old new read.Device h = tt
+none_before old new read.OutOfMemory h = tt
+none_before None new read.Header h = tt
+none_before None new (read.Row i) h = tt
+none_before None new (read.TimeBack i) h = tt
+none_before None new read.TooMany h = tt
+none_before None new read.Failed h = tt
+none_before (Some r) new read.Header h = ap (λ (q : Recording). q.entries) h
+none_before (Some r) new (read.Row i) h = ap (λ (q : Recording). q.entries) h
+none_before (Some r) new (read.TimeBack i) h = ap (λ (q : Recording). q.entries) h
+none_before (Some r) new read.TooMany h = ap (λ (q : Recording). q.entries) h
+none_before (Some r) new read.Failed h = ap (λ (q : Recording). q.entries) h
+
+-- so those that came are all before it
+pub all_before : (first left : Option Recording) (es : List Entry) (e : RunFault) → Came first es left → AreAllBefore e left [] → AreAllBefore e first es
+all_before None left es (run.Read f) h none = tt
+all_before (Some r) left es (run.Read f) h none = let rest = rw h.1 at none in ap (λ (q : Recording). q.entries) h.2 ∙ ap (λ (l : List Entry). es ++ l) rest ∙ append-nil es
+all_before first left es (run.Profile f) h none = tt
+all_before first left es (run.Cut k f) h none = tt
+all_before first left es run.TooLong h none = tt
+all_before first left es run.Device h none = tt
+all_before first left es run.Memory h none = tt
+all_before first left es run.BadWord h none = tt
+all_before first left es run.Usage h none = tt
 
 earlier : (first left : Option Recording) (es : List Entry) (f : ReadFault) → Came first es left → IfSome left (λ r. r.fault ≡ Some f) → IfSome first (λ r. r.fault ≡ Some f)
 earlier None left es f h is = tt

@@ -30,7 +30,8 @@ use Rattle.a429_view.proofs.TraceFacts.{free_none}
 use Rattle.a429_check.specs.declared.fault.RunFault.{RunFault}
 use Rattle.a429_check.specs.declared.fault.RunFault.TheVariants as run
 use Rattle.a429_check.specs.Profile.{IsProfileOf}
-use Rattle.a429_check.specs.Streaming.{Came, IsNextFault}
+use Rattle.a429_check.specs.Streaming.{AreAllBefore, Came, IsNextFault}
+use Rattle.a429_check.proofs.StreamingFacts.{all_before}
 use Rattle.a429_check.specs.Trace.{AreDelivered, BeginsWith, IsCut, IsLinesFault, IsRefusedAfter, IsPutBy, IsTraceFault, IsTraceOf, LeavesLines, SaysText, first_lines, impossible, lines, only, only_text}
 use Rattle.a429_check.specs.Check.{verdict_text}
 use Rattle.a429_check.specs.Output.{output}
@@ -163,8 +164,12 @@ pub begins_with : (first left : Option Recording) (es : List Entry) → Came fir
 begins_with None left es h = tt
 begins_with (Some r) left es h = (h.0.entries, ap (λ (q : Recording). q.entries) h.2)
 
-pub cut_here : (p : Contents) (t : Trace) (es : List Entry) (first left : Option Recording) → Traced p t es → Came first es left → IsCut p first (first_lines p es)
-cut_here p t es first left h came = record { entries = es; begins = begins_with first left es came; allowed = h.allowed; text_is = refl }
+pub cut_here : (p : Contents) (t : Trace) (es : List Entry) (first left : Option Recording) (f : RunFault) → Traced p t es → Came first es left → AreAllBefore f left [] → IsCut p first f (first_lines p es)
+cut_here p t es first left f h came none = record { entries = es; begins = begins_with first left es came; all = all_before first left es f came none; allowed = h.allowed; text_is = refl }
+
+-- the same of a failed output, by less
+device_cut : (p : Contents) (known : Option Recording) (f : RunFault) (text : List ℕ) → IsCut p known f text → IsCut p known run.Device text
+device_cut p known f text cut = record { entries = cut.entries; begins = cut.begins; all = tt; allowed = cut.allowed; text_is = cut.text_is }
 
 pub put_fault : (known : Option Recording) (rec out : Bool) (e : RunFault) → IsNextFault known rec e → IsLinesFault known rec out e
 put_fault known rec out (run.Read f) h = h
@@ -204,9 +209,9 @@ pub err_written : {W : Type 0} (contents : W → Option (List ℕ)) (old new : T
 err_written contents old new p known (Ok status) text is put = tt
 err_written contents old new p known (Err f) text is put = lines text is put
 
-pub either_text : (p : Contents) (known : Option Recording) (r : Result ℕ RunFault) (text : List ℕ) → IsPutBy p known r text → IsCut p known text ⊎ ((status : ℕ) × IsTraceOf p known status text)
+pub either_text : (p : Contents) (known : Option Recording) (r : Result ℕ RunFault) (text : List ℕ) → IsPutBy p known r text → IsCut p known run.Device text ⊎ ((status : ℕ) × IsTraceOf p known status text)
 either_text p known (Ok status) text is = inr (status, is)
-either_text p known (Err f) text is = inl is
+either_text p known (Err f) text is = inl (device_cut p known f text is)
 
 -- ---- what a sheet says
 
@@ -225,5 +230,5 @@ says_impossible contents a b c d p known t es e n r at begins h refused before l
     let there = subst (λ (m : ℕ). Says contents c d (verdict_text (verdict.Impossible m r))) (at ∙ h.is.entries) last in
     (_, impossible es e begins r refused refl refl, before ▹ (here ▹ there))
 
-pub says_cut : {W : Type 0} (contents : W → Option (List ℕ)) (a b : Sheet W) (p : Contents) (known left : Option Recording) (t : Trace) (es : List Entry) (f : RunFault) → Traced p t es → Came known es left → Says contents a b (first_lines p es) → SaysText contents a b (IsPutBy p known (Err f))
-says_cut contents a b p known left t es f h came says = (_, cut_here p t es known left h came, says)
+pub says_cut : {W : Type 0} (contents : W → Option (List ℕ)) (a b : Sheet W) (p : Contents) (known left : Option Recording) (t : Trace) (es : List Entry) (f : RunFault) → Traced p t es → Came known es left → AreAllBefore f left [] → Says contents a b (first_lines p es) → SaysText contents a b (IsPutBy p known (Err f))
+says_cut contents a b p known left t es f h came none says = (_, cut_here p t es known left f h came none, says)

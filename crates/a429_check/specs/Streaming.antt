@@ -33,6 +33,11 @@ reported f = run.Read f
 abbrev pub IsNextFault : Option Recording → Bool → RunFault → Type 0
 IsNextFault known failed = ComesBy (record never { recording = IsFaultToCome known; device = failed ≡ true; memory = Unit {0} })
 
+-- where the recording has the fault, these are all the entries before it
+abbrev pub AreAllBefore : RunFault → Option Recording → List Entry → Type 0
+AreAllBefore (run.Read f) known es = IfSome known (λ r. r.entries ≡ es)
+AreAllBefore e known es = Unit {0}
+
 -- these entries came, and the rest has still to come
 abbrev pub Came : Option Recording → List Entry → Option Recording → Type 0
 Came first es left = IfSome first (λ r. (rest : Recording) × (left ≡ Some rest) × (r ≡ record { entries = es ++ rest.entries; fault = rest.fault }))

@@ -25,7 +25,7 @@ use Rattle.a429_check.specs.Check.{verdict_text}
 use Rattle.a429_check.specs.Fault.{ComesBy, never}
 use Rattle.a429_check.specs.Output.{Output}
 use Rattle.a429_check.specs.Profile.{IsProfileOf}
-use Rattle.a429_check.specs.Streaming.{IsFaultToCome}
+use Rattle.a429_check.specs.Streaming.{AreAllBefore, IsFaultToCome}
 use Rattle.a429_check.specs.Survey.{IsSurveyFault}
 use Rattle.a429_check.specs.Verdict.{file_line}
 
@@ -72,17 +72,19 @@ pub record Traces (profile : List ℕ) (known : Option Recording) (status : ℕ)
 
 -- ---- where it is cut off
 
--- the text is the lines of the entries that came before a fault, each of which is allowed after those before it
-pub record IsCut (p : Contents) (known : Option Recording) (text : List ℕ) : Type 0 where
+-- the text is the lines of the entries that came before a fault, each of which is allowed after those before it; where the fault is the
+-- recording's, of all entries before it
+pub record IsCut (p : Contents) (known : Option Recording) (e : RunFault) (text : List ℕ) : Type 0 where
   pub entries : List Entry
   pub begins : BeginsWith known entries
+  pub all : AreAllBefore e known entries
   pub allowed : AreAllowed p at_first (items_of entries)
   pub text_is : text ≡ first_lines p entries
 
 -- the text that is put before a command answers this status or this fault
 abbrev pub IsPutBy : Contents → Option Recording → Result ℕ RunFault → List ℕ → Type 0
 IsPutBy p known (Ok status) text = IsTraceOf p known status text
-IsPutBy p known (Err f) text = IsCut p known text
+IsPutBy p known (Err f) text = IsCut p known f text
 
 -- a sheet says some text that is such
 abbrev pub SaysText : {W : Type 0} → (W → Option (List ℕ)) → Sheet W → Sheet W → (List ℕ → Type 0) → Type 0
@@ -91,8 +93,8 @@ SaysText contents old new IsSuch = (text : List ℕ) × IsSuch text × Says cont
 -- what the output has after a fault of the recording: the lines of the entries before it; or, where the output has failed, a
 -- prefix of these or of a whole trace
 pub data LeavesLines {W : Type 0} (o : Output W) (p : Contents) (known : Option Recording) (e : RunFault) : Type 0 where
-  lines : (text : List ℕ) (cut : IsCut p known text) (put : Puts o.contents o.old o.new text) → LeavesLines o p known e
-  failed : (device : e ≡ run.Device) (failed : has_failed o.new ≡ true) (text : List ℕ) (of : IsCut p known text ⊎ ((status : ℕ) × IsTraceOf p known status text)) (prefix : PutsFront o.contents o.old o.new text) → LeavesLines o p known e
+  lines : (text : List ℕ) (cut : IsCut p known e text) (put : Puts o.contents o.old o.new text) → LeavesLines o p known e
+  failed : (device : e ≡ run.Device) (failed : has_failed o.new ≡ true) (text : List ℕ) (of : IsCut p known e text ⊎ ((status : ℕ) × IsTraceOf p known status text)) (prefix : PutsFront o.contents o.old o.new text) → LeavesLines o p known e
 
 -- what it has after any fault: what it had, or such lines by the profile whose text the bytes are
 abbrev pub LeavesTrace : {W : Type 0} → Output W → List ℕ → Option Recording → RunFault → Type 0

@@ -1,8 +1,8 @@
 //! Reads a recording entry by entry, as the commands do that keep none of it.
 
-ghost use Rattle.std.specs.Prelude.{◌≡◌, ◌+◌, ◌<◌, ◌^◌, false, None, Ok, IfOk, IfErr, IfSome};
+ghost use Rattle.std.specs.Prelude.{◌≡◌, ◌+◌, ◌<◌, ◌^◌, [], false, None, Ok, IfOk, IfErr, IfSome};
 ghost use Rattle.a429_record.specs.Rows.{GivesNext};
-ghost use Rattle.a429_check.specs.Streaming.{IsNextFault, reported};
+ghost use Rattle.a429_check.specs.Streaming.{AreAllBefore, IsNextFault, reported};
 
 use crate::fault::RunFault;
 use a429_record::{Entry, EntryReader, ReadFault};
@@ -17,6 +17,7 @@ pub(crate) fn next_entry<R: Read>(rec: &mut EntryReader<R>) -> Result<Option<Ent
     ensures room { IfOk result (λ o. IfSome o (λ _. rec.new.room < rec.old.room)) }
     ensures works { IfOk result (λ o. o ≡ None → rec.new.failed ≡ false) }
     ensures err { IfErr result (IsNextFault rec.old.to_come rec.new.failed) }
+    ensures none_before { IfErr result (λ e. AreAllBefore e rec.old.to_come []) }
 {
     match rec.next() {
         Ok(Some(entry)) => Ok(Some(entry)),

@@ -24,12 +24,22 @@ entries-preserved g c =
       says_more g.W.Write.contents c.args.sheet.now c.entries.sheet c.put_entry.new.sheet c.args.profile.now c.entries.trace so_far.0 e so_far.1 so_far.4 c.in-Ok.ensures.line,
     )
 
+pub returns-then-failed-clause-text : goal.returns-then-failed-clause-text
+returns-then-failed-clause-text g c =
+    let so_far = c.entries.invariant in
+    says_cut g.W.Write.contents c.args.sheet.now c.entries.sheet c.args.profile.now _ _ c.entries.trace so_far.0 run.Device so_far.1 so_far.2 tt so_far.4
+
+pub returns-in-Err-clause-text : goal.returns-in-Err-clause-text
+returns-in-Err-clause-text g c =
+    let so_far = c.entries.invariant in
+    says_cut g.W.Write.contents c.args.sheet.now c.entries.sheet c.args.profile.now _ _ c.entries.trace so_far.0 c.in-Err.fault so_far.1 so_far.2 c.in-Err.ensures.none_before so_far.4
+
 pub returns-in-Err-OutOfMemory-clause-text : goal.returns-in-Err-OutOfMemory-clause-text
 returns-in-Err-OutOfMemory-clause-text g c =
     let so_far = c.entries.invariant in
     let nothing = rw c.in-Err-OutOfMemory.field-0-is at c.in-Err-OutOfMemory.ensures.stop_line in
     let says = subst (Says g.W.Write.contents c.args.sheet.now c.put_entry.new.sheet) (append-nil (first_lines c.args.profile.now so_far.0)) (so_far.4 ▹ nothing) in
-    says_cut g.W.Write.contents c.args.sheet.now c.put_entry.new.sheet c.args.profile.now _ _ c.entries.trace so_far.0 run.Memory so_far.1 so_far.2 says
+    says_cut g.W.Write.contents c.args.sheet.now c.put_entry.new.sheet c.args.profile.now _ _ c.entries.trace so_far.0 run.Memory so_far.1 so_far.2 tt says
 
 pub reason_of-requires : goal.reason_of-requires
 reason_of-requires g c =
