@@ -102,7 +102,9 @@ fn certificate_of_sample(alloc: Global, profile: &Profile) -> Option<Vec<u8>> {
     let entries = entries_of_sample(alloc).ok()?;
     let mut text = Vec::new(alloc);
     match check(alloc, profile, &entries) {
-        Ok(Verdict::Explained { certificate, .. }) => certificate.write(&mut Tally::new(&mut text, 0)).ok()?,
+        Ok(Verdict::Explained { certificate, .. }) => certificate
+            .write(&mut Tally::new(&mut text, 0))
+            .ok()?,
         _ => return None,
     }
     Some(text)
