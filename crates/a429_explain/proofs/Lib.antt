@@ -3,6 +3,7 @@ pub mod DecodedFacts
 pub mod ScreeningFacts
 pub mod AttemptsFacts
 pub mod MatchingFacts
+pub mod NoteFacts
 pub mod ScribeFacts
 pub mod ScribeWithoutLoss
 pub mod WithoutLoss

@@ -45,7 +45,8 @@ use Rattle.a429_explain.specs.declared.attempts.Role.{Role}
 use Rattle.a429_explain.specs.declared.attempts.Role.TheVariants.{Request}
 use Rattle.a429_explain.specs.declared.plan.Plan.{Plan}
 use Rattle.a429_explain.specs.declared.scribe.Scribe.{Scribe}
-use Rattle.a429_explain.specs.Scribe.{OnlyLacksMemory, CannotWrite, IsLossless, lossless_steps, lines_text, in_version, HasWritten, with_next, WritesNext, link_after, CanMake, giving_up, begin_steps, sent, IsAtRest, IsClosing, Closes, ClosesOn, HasAsked}
+use Rattle.a429_explain.specs.Note.{in_version, line_after, line_of}
+use Rattle.a429_explain.specs.Scribe.{OnlyLacksMemory, CannotWrite, IsLossless, lossless_steps, lines_text, HasWritten, with_next, WritesNext, link_after, CanMake, giving_up, begin_steps, sent, IsAtRest, IsClosing, Closes, ClosesOn, HasAsked}
 
 -- ---- the lines of a text
 
@@ -62,13 +63,24 @@ AreVisible (line ∷ lines) = AllByRecursion IsVisible line × AreVisible lines
 abbrev ended : List (List ℕ) → List (Option (List ℕ))
 ended lines = map (λ line. Some line) lines
 
-lines_of_text : (lines : List (List ℕ)) → AreVisible lines → certificate_lines (lines_text lines) ≡ ended lines
-lines_of_text [] h = refl
-lines_of_text (line ∷ lines) h = line_feed line (lines_text lines) h.0 ∙ ap (λ (l : List (Option (List ℕ))). Some line ∷ l) (lines_of_text lines h.1)
+-- ---- lines, each with a line feed after it
 
-text_push : (lines : List (List ℕ)) (line : List ℕ) → lines_text (lines ++ line ∷ []) ≡ lines_text lines ++ (line ++ 10 ∷ [])
-text_push [] line = refl
-text_push (l ∷ lines) line = ap (λ (t : List ℕ). l ++ 10 ∷ t) (text_push lines line) ∙ sym (append_assoc l (10 ∷ lines_text lines) (line ++ 10 ∷ []))
+abbrev ended_text : List (List ℕ) → List ℕ
+ended_text [] = []
+ended_text (line ∷ lines) = line ++ 10 ∷ ended_text lines
+
+lines_of_text : (lines : List (List ℕ)) → AreVisible lines → certificate_lines (ended_text lines) ≡ ended lines
+lines_of_text [] h = refl
+lines_of_text (line ∷ lines) h = line_feed line (ended_text lines) h.0 ∙ ap (λ (l : List (Option (List ℕ))). Some line ∷ l) (lines_of_text lines h.1)
+
+-- the same text, where each has one before it but the first
+all_ended : (line : List ℕ) (lines : List (List ℕ)) → line ++ (lines_text lines ++ 10 ∷ []) ≡ ended_text (line ∷ lines)
+all_ended line [] = refl
+all_ended line (l ∷ lines) = ap (λ (t : List ℕ). line ++ 10 ∷ t) (append_assoc l (lines_text lines) (10 ∷ []) ∙ all_ended l lines)
+
+text_push : (lines : List (List ℕ)) (line : List ℕ) → lines_text (lines ++ line ∷ []) ≡ lines_text lines ++ 10 ∷ line
+text_push [] line = ap (λ (t : List ℕ). 10 ∷ t) (append-nil line)
+text_push (l ∷ lines) line = ap (λ (t : List ℕ). 10 ∷ (l ++ t)) (text_push lines line) ∙ ap (λ (t : List ℕ). 10 ∷ t) (sym (append_assoc l (lines_text lines) (10 ∷ line)))
 
 ended_push : (lines : List (List ℕ)) (line : List ℕ) → ended (lines ++ line ∷ []) ≡ ended lines ++ Some line ∷ []
 ended_push [] line = refl
@@ -88,8 +100,8 @@ version_visible Two = omega arith
 -- ---- what is written
 
 -- the first two lines
-pub written_first : (first : ℕ) (p : Contents) (text : List ℕ) (l : LinkValue) → first ≤ 255 → text ≡ lines_text (version_line One ∷ spelling (First first) ∷ []) → l ≡ record { profile = p; state = start p first } → HasWritten first [] text false l
-written_first first p text l byte e same = rw same (record { byte = byte; lines = []; steps = []; text_is = e; lists = tt; used = refl; ends = refl; gave_up_is = refl })
+pub written_first : (first : ℕ) (p : Contents) (text : List ℕ) (l : LinkValue) → first ≤ 255 → text ≡ line_after (First first) → l ≡ record { profile = p; state = start p first } → HasWritten first [] text false l
+written_first first p text l byte e same = rw same (record { byte = byte; lines = []; steps = []; text_is = e ∙ ap (λ (t : List ℕ). 10 ∷ t) (sym (append-nil (spelling (First first)))); lists = tt; used = refl; ends = refl; gave_up_is = refl })
 
 with_trace : (a : Step) (items : List Seen) → items ++ trace (a ∷ []) ≡ with_next (label a) items
 with_trace a items = by (label a)
@@ -111,7 +123,7 @@ gives_up-push [] a = or-false (is_give_up a)
 gives_up-push (b ∷ steps) a = ap (λ (t : Bool). is_give_up b || t) (gives_up-push steps a) ∙ or-assoc (is_give_up b) (gives_up steps) (is_give_up a)
 
 -- one more line
-pub written_on : (items : List Seen) (first : ℕ) (text more : List ℕ) (gave gives : Bool) (l m : LinkValue) (a : Step) (line : CertLine) (next : Option Seen) → HasWritten first items text gave l → gives ≡ (gave || is_give_up a) → m ≡ link_after (a ∷ []) l → more ≡ text ++ (spelling line ++ 10 ∷ []) → IsLine line → IsHeld line → step_of line next ≡ Some a → Can l.profile a l.state → ShowsStates line (after l.profile a l.state) → HasWritten first (with_next (label a) items) more gives m
+pub written_on : (items : List Seen) (first : ℕ) (text more : List ℕ) (gave gives : Bool) (l m : LinkValue) (a : Step) (line : CertLine) (next : Option Seen) → HasWritten first items text gave l → gives ≡ (gave || is_give_up a) → m ≡ link_after (a ∷ []) l → more ≡ text ++ line_after line → IsLine line → IsHeld line → step_of line next ≡ Some a → Can l.profile a l.state → ShowsStates line (after l.profile a l.state) → HasWritten first (with_next (label a) items) more gives m
 written_on items first text more gave gives l m a line next h given same e is held of can shows =
     let p = l.profile in
     let s = start p first in
@@ -119,7 +131,7 @@ written_on items first text more gave gives l m a line next h given same e is he
       byte = h.byte;
       lines = h.lines ++ spelling line ∷ [];
       steps = h.steps ++ a ∷ [];
-      text_is = e ∙ ap (λ (t : List ℕ). t ++ (spelling line ++ 10 ∷ [])) h.text_is ∙ sym (text_push (version_line One ∷ spelling (First first) ∷ h.lines) (spelling line));
+      text_is = e ∙ ap (λ (t : List ℕ). t ++ line_after line) h.text_is ∙ sym (text_push (spelling (First first) ∷ h.lines) (spelling line));
       lists = subst (λ t. ListsSteps p t (h.steps ++ a ∷ []) s) (sym (ended_push h.lines (spelling line))) (lists_push p (ended h.lines) h.steps s (spelling line) a h.lists (record {
         line = line;
         spelled = record { line = is; held = held; spelled = refl };
@@ -133,21 +145,12 @@ written_on items first text more gave gives l m a line next h given same e is he
       gave_up_is = given ∙ ap (λ (t : Bool). t || is_give_up a) h.gave_up_is ∙ sym (gives_up-push h.steps a);
     })
 
--- the text has its first line
-pub written_long : (items : List Seen) (first : ℕ) (text : List ℕ) (gave : Bool) (l : LinkValue) → HasWritten first items text gave l → 14 < length text
-written_long items first text gave l h = rw h.text_is (omega arith)
-
--- under the first line of its version
-named : (b : Bool) (lines : List (List ℕ)) → in_version b (lines_text (version_line One ∷ lines)) ≡ lines_text (version_line (if b then Two else One) ∷ lines)
-named true lines = refl
-named false lines = refl
-
 explains : (items : List Seen) (first : ℕ) (text : List ℕ) (gave : Bool) (l : LinkValue) → (h : HasWritten first items text gave l) → Explains l.profile (in_version gave text) items first h.steps
 explains items first text gave l h =
     let p = l.profile in
     let v = least_version h.steps in
     let visible = listed_visible p h.lines h.steps (start p first) h.lists in
-    let text_is : in_version gave text ≡ lines_text (version_line v ∷ spelling (First first) ∷ h.lines) = ap (λ (b : Bool). in_version b text) h.gave_up_is ∙ ap (in_version (gives_up h.steps)) h.text_is ∙ named (gives_up h.steps) (spelling (First first) ∷ h.lines) in
+    let text_is : in_version gave text ≡ ended_text (version_line v ∷ spelling (First first) ∷ h.lines) = ap (λ (b : Bool). in_version b text) h.gave_up_is ∙ ap (in_version (gives_up h.steps)) h.text_is ∙ all_ended (version_line v) (spelling (First first) ∷ h.lines) in
     record {
       version = v;
       lines = ended h.lines;
@@ -244,24 +247,20 @@ line_is x s b = (source_is s.source.phase b.sent, sink_is s.sink.phase b.took)
     sink_is OwesNak h = tt
 
 -- a step is made, and its line is written
-pub make_written : {X E : Type 0} (r : Result X E) (s t : Scribe) (m : LinkValue) (a : Step) (x : Act) (line : CertLine) → letter_of a ≡ Some x → Can s.link.profile a s.link.state → m ≡ link_after (a ∷ []) s.link → t.link ≡ m → t.gave_up ≡ (s.gave_up || is_give_up a) → line ≡ line_at x m.state → IsBounded m.state → OnOk r (t.text.items ≡ s.text.items ++ (spelling line ++ 10 ∷ [])) → OnOk r (IsHeld line) → OnOk r (WritesNext (label a) s t)
+pub make_written : {X E : Type 0} (r : Result X E) (s t : Scribe) (m : LinkValue) (a : Step) (x : Act) (line : CertLine) → letter_of a ≡ Some x → Can s.link.profile a s.link.state → m ≡ link_after (a ∷ []) s.link → t.link ≡ m → t.gave_up ≡ (s.gave_up || is_give_up a) → line ≡ line_at x m.state → IsBounded m.state → OnOk r (t.lines ≡ s.lines ++ line_after line) → IsHeld line → OnOk r (WritesNext (label a) s t)
 make_written (Err e) s t m a x line letter can made same gives is bounds w h = tt
 make_written (Ok z) s t m a x line letter can made same gives is bounds w h =
     let named = lettered a x letter in
-    λ first items k. written_on items first s.text.items t.text.items s.gave_up t.gave_up s.link t.link a line named.0 k gives (same ∙ made) w (subst IsLine (sym is) (line_is x m.state bounds)) h
+    λ first items k. written_on items first s.lines t.lines s.gave_up t.gave_up s.link t.link a line named.0 k gives (same ∙ made) w (subst IsLine (sym is) (line_is x m.state bounds)) h
     (ap (λ (y : CertLine). step_of y named.0) is ∙ named.1)
     can
     (subst (λ y. ShowsStates y (after s.link.profile a s.link.state)) (sym is) (ap {A = LinkValue} (λ q. states_of q.state) (sym made)))
 
--- the line of a link data unit
-abbrev pub line_of : LduValue → LoadLine
-line_of u = record { gfi = u.gfi; flags = u.flags; check = u.check; words = u.words }
-
 -- a link data unit is loaded, and its line is written
-pub load_written : {X E : Type 0} (r : Result X E) (s t : Scribe) (m : LinkValue) (u v : LduValue) → u ≡ v → IsLdu s.link.profile u → Can s.link.profile (step.Load u) s.link.state → m ≡ link_after (step.Load u ∷ []) s.link → t.link ≡ m → t.gave_up ≡ s.gave_up → OnOk r (t.text.items ≡ s.text.items ++ (spelling (Load (line_of v)) ++ 10 ∷ [])) → OnOk r (IsHeld (Load (line_of v))) → OnOk r (WritesNext None s t)
-load_written (Err e) s t m u v eu is can made same gives w h = tt
-load_written (Ok z) s t m u v eu is can made same gives w h =
-    λ first items k. written_on items first s.text.items t.text.items s.gave_up t.gave_up s.link t.link (step.Load u) (Load (line_of v)) None k (gives ∙ sym (or-false s.gave_up)) (same ∙ made) w (subst (λ (x : LduValue). IsLine (Load (line_of x))) eu (is.gfi, is.flags, is.length.0, is.length.1)) h (ap (λ (x : LduValue). Some (step.Load x)) (sym eu)) can tt
+pub load_written : {X E : Type 0} (r : Result X E) (s t : Scribe) (u : LduValue) → IsLdu s.link.profile u → OnOk r (Can s.link.profile (step.Load u) s.link.state) → OnOk r (t.link ≡ link_after (step.Load u ∷ []) s.link) → t.gave_up ≡ s.gave_up → t.lines ≡ s.lines ++ line_after (Load (line_of u)) → IsHeld (Load (line_of u)) → OnOk r (WritesNext None s t)
+load_written (Err e) s t u is can made gives w h = tt
+load_written (Ok z) s t u is can made gives w h =
+    λ first items k. written_on items first s.lines t.lines s.gave_up t.gave_up s.link t.link (step.Load u) (Load (line_of u)) None k (gives ∙ sym (or-false s.gave_up)) made w (is.gfi, is.flags, is.length.0, is.length.1) h refl can tt
 
 -- ---- files given up
 

@@ -8,6 +8,8 @@ pub mod Verdict
 pub mod Groups
 pub mod Matching
 pub mod Plan
+pub mod Next
+pub mod Note
 pub mod Scribe
 pub mod WithoutLoss
 pub mod Whole

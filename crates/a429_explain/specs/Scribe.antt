@@ -1,6 +1,6 @@
 -- What the scribe writes: the text of a certificate, line by line, and the steps of each entry where nothing is lost on
 -- the way (profile).
-use Rattle.std.specs.Prelude.{◌≡◌, ◌≤◌, ℕ, Bool, true, List, [], ◌∷◌, ◌++◌, if◌then◌else◌, map, replicate, slice_set, Option, Some, None, Result, IfErr, IsSome, OnOk}
+use Rattle.std.specs.Prelude.{◌≡◌, ◌≤◌, ℕ, Bool, true, List, [], ◌∷◌, ◌++◌, if◌then◌else◌, map, replicate, Option, Some, None, Result, IfErr, IsSome, OnOk}
 use Rattle.std.specs.List.{AllByRecursion}
 use Rattle.a429_link.specs.declared.seen.Seen.{Seen}
 use Rattle.a429_link.specs.declared.step.Step.{Step}
@@ -15,8 +15,7 @@ use Rattle.a429_link.specs.Link.{LinkValue}
 use Rattle.a429_cert.specs.Change.{Change}
 use Rattle.a429_cert.specs.declared.line.CertLine.TheVariants.{First}
 use Rattle.a429_cert.specs.Line.{spelling}
-use Rattle.a429_cert.specs.declared.version.Version.TheVariants.{One}
-use Rattle.a429_cert.specs.Version.{version_line, gives_up}
+use Rattle.a429_cert.specs.Version.{gives_up}
 use Rattle.a429_cert.specs.Explained.{ListsSteps}
 use Rattle.a429_explain.specs.declared.attempts.Role.{Role}
 use Rattle.a429_explain.specs.declared.attempts.Role.TheVariants.{Free, Request, Clear, OfBlock, Acknowledged, Refused}
@@ -25,22 +24,18 @@ use Rattle.a429_explain.specs.declared.scribe.Scribe.{Scribe}
 
 -- ---- the text
 
--- the text of these lines, each with a line feed after it
+-- the text of these lines, each with a line feed before it
 abbrev pub lines_text : List (List ℕ) → List ℕ
 lines_text [] = []
-lines_text (line ∷ lines) = line ++ 10 ∷ lines_text lines
+lines_text (line ∷ lines) = 10 ∷ (line ++ lines_text lines)
 
--- a text that begins with the first line of version 1, and with that of version 2 where a file is given up
-abbrev pub in_version : Bool → List ℕ → List ℕ
-in_version gave_up text = if gave_up then slice_set text 14 50 else text
-
--- the text is a certificate of a run that records these words and leads to the link's state, except that its first line is
--- that of version 1, and `gave_up` says whether it gives a file up
+-- the text is that of a certificate of a run that records these words and leads to the link's state, after its first line, and
+-- `gave_up` says whether the run gives a file up
 pub record HasWritten (first : ℕ) (items : List Seen) (text : List ℕ) (gave_up : Bool) (l : LinkValue) : Type 0 where
   pub byte : first ≤ 255
   pub lines : List (List ℕ)
   pub steps : List Step
-  pub text_is : text ≡ lines_text (version_line One ∷ spelling (First first) ∷ lines)
+  pub text_is : text ≡ lines_text (spelling (First first) ∷ lines)
   pub lists : ListsSteps l.profile (map (λ line. Some line) lines) steps (start l.profile first)
   pub used : trace steps ≡ items
   pub ends : l.state ≡ end_of l.profile steps (start l.profile first)
@@ -53,7 +48,7 @@ with_next (Some i) items = items ++ i ∷ []
 
 -- a scribe has written a certificate of these words
 abbrev pub Wrote : ℕ → List Seen → Scribe → Type 0
-Wrote first items s = HasWritten first items s.text.items s.gave_up s.link
+Wrote first items s = HasWritten first items s.lines s.gave_up s.link
 
 -- where some words were written, one more is now where there is one
 abbrev pub WritesNext : Option Seen → Scribe → Scribe → Type 0

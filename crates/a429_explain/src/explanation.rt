@@ -15,9 +15,6 @@ use a429_profile::Profile;
 use a429_record::Entry;
 use std::alloc::Global;
 
-// The lines of an entry take about so many bytes where no word is lost: a certificate begins with this room for each.
-const BYTES_OF_AN_ENTRY: usize = 40;
-
 /// A certificate that explains a recording, and the files that are delivered in every run that records its words.
 #[derive(Debug, Drop)]
 pub struct Explanation {
@@ -56,10 +53,7 @@ pub fn explain_by(
         roles,
         mut plans,
     } = guess;
-    let room = entries.len().saturating_mul(BYTES_OF_AN_ENTRY);
-    let Ok(mut scribe) = Scribe::new(alloc, profile, first_file, room) else {
-        return Err(Refusal::OutOfMemory);
-    };
+    let mut scribe = Scribe::new(alloc, profile, first_file);
     for at in 0..entries.len() {
         let role = roles[at];
         let plan = take_plan(&mut plans, role, at);
@@ -68,9 +62,9 @@ pub fn explain_by(
             Err(fault) => return Err(refused_at(at, fault)),
         }
     }
-    let (text, files) = scribe.into_parts();
+    let (certificate, files) = scribe.into_parts();
     Ok(Explanation {
-        certificate: Certificate::new(text),
+        certificate,
         files: Verified::new(files),
     })
 }

@@ -1,86 +1,64 @@
 //! The lines of a certificate, each written as a link makes its step.
 
-ghost use Rattle.std.specs.Prelude.{◌≡◌, ◌≢◌, ◌<◌, List, length, ◌++◌, ◌∷◌, [], Ok, None, Some, true, IfOk, IfErr, IfSome, IsSome, OnOk, false};
+ghost use Rattle.std.specs.Prelude.{◌≡◌, ◌≢◌, ◌++◌, ◌∷◌, [], Ok, None, Some, true, IfErr, IfSome, IsSome, OnOk, false};
 ghost use Rattle.a429_ldu.specs.Ldu.{IsLdu};
 ghost use Rattle.a429_link.specs.declared.step.Step.TheVariants as step;
 ghost use Rattle.a429_link.specs.Sink.{Listens};
 ghost use Rattle.a429_link.specs.Source.{IsIdle};
 ghost use Rattle.a429_link.specs.Step.{Can, LoadsLdu, label};
 ghost use Rattle.a429_link.specs.State.{start};
-ghost use Rattle.a429_cert.specs.Line.{IsLine, IsHeld, spelling};
-ghost use Rattle.a429_explain.specs.Scribe.{in_version, Wrote, WritesNext, link_after, CanMake, OnlyLacksMemory, sent, answered, unheard, IsAtRest, CannotWrite, giving_up, begin_steps, IsClosing, ClosesOn, HasAsked, MakesLossless};
+ghost use Rattle.a429_cert.specs.declared.line.CertLine.TheVariants.{Moved};
+ghost use Rattle.a429_cert.specs.Line.{IsHeld};
+ghost use Rattle.a429_explain.specs.Note.{in_version, line_after};
+ghost use Rattle.a429_explain.specs.Scribe.{Wrote, WritesNext, link_after, CanMake, OnlyLacksMemory, sent, answered, unheard, IsAtRest, CannotWrite, giving_up, begin_steps, IsClosing, ClosesOn, HasAsked, MakesLossless};
 ghost use Rattle.a429_cert.specs.Act.{letter_of};
 ghost use Rattle.a429_cert.specs.Change.{change};
 ghost use Rattle.a429_cert.specs.Version.{is_give_up};
 
 use crate::attempts::Role;
+use crate::certificate::Certificate;
+use crate::lines::Lines;
 use crate::plan::Plan;
-use a429_cert::{CertLine, LoadLine, MovedLine, Words, letter_of, write_line};
+use a429_cert::{MovedLine, OutOfMemory, letter_of};
 use a429_ldu::Ldu;
 use a429_link::{FileBytes, Link, Seen, SinkState, SourceState, Step, StepFault};
 use a429_profile::Profile;
-use std::alloc::{AllocError, Global};
-
-// Where the first line has the digit of its version.
-const VERSION_AT: usize = 14;
+use std::alloc::Global;
 
 /// A certificate that is being written, and the link on which its lines' steps are made.
 #[derive(Drop)]
 pub(crate) struct Scribe<'a> {
-    alloc: Global,
     link: Link<'a>,
-    text: Vec<u8>,
+    lines: Lines,
     // The source has given a file up.
     gave_up: bool,
 }
 
 impl<'a> Scribe<'a> {
-    /// A certificate of two lines, the second with the number of the first file, and with room for so many bytes at
-    /// first.
-    pub(crate) fn new(
-        alloc: Global,
-        profile: &'a Profile,
-        first_file: u8,
-        room: usize,
-    ) -> Result<Scribe<'a>, StepFault>
-        ensures start { IfOk result (λ s. s.link ≡ record { profile = profile.now; state = start profile.now first_file }) }
-        ensures written { IfOk result (λ s. Wrote first_file [] s) }
+    /// A certificate of two lines, the second with the number of the first file.
+    pub(crate) fn new(alloc: Global, profile: &'a Profile, first_file: u8) -> Scribe<'a>
+        ensures start { result.link ≡ record { profile = profile.now; state = start profile.now first_file } }
+        ensures written { Wrote first_file [] result }
     {
-        let Ok(mut text) = Vec::with_capacity(alloc, room) else {
-            return Err(StepFault::OutOfMemory);
-        };
-        match text.extend_from_slice(b"arinc429-cert 1\n") {
-            Ok(()) => {}
-            Err(_) => return Err(StepFault::OutOfMemory),
-        }
-        let mut scribe = Scribe {
-            alloc,
+        Scribe {
             link: Link::start(alloc, profile, first_file),
-            text,
+            lines: Lines::new(alloc, first_file),
             gave_up: false,
-        };
-        scribe.write(&CertLine::First(first_file))?;
-        Ok(scribe)
+        }
     }
 
-    /// The text of the lines, under the first line of the version that they need, and the files that the link
-    /// has delivered.
-    pub(crate) fn into_parts(self) -> (Vec<u8>, Vec<FileBytes>)
-        requires { VERSION_AT < length self.text.items }
-        ensures text { result.0.items ≡ in_version self.entry.gave_up self.entry.text.items }
+    /// The certificate of the lines, of the version that they need, and the files that the link has delivered.
+    pub(crate) fn into_parts(self) -> (Certificate, Vec<FileBytes>)
+        ensures text { result.0 ≡ in_version self.entry.gave_up self.entry.lines }
         ensures files { result.1.items ≡ self.entry.link.state.sink.received.files }
     {
         let Scribe {
-            mut text,
             mut link,
+            lines,
             gave_up,
-            ..
         } = self;
-        if gave_up {
-            text[VERSION_AT] = b'2';
-        }
         let files = link.take_delivered();
-        (text, files)
+        (Certificate::new(gave_up, lines), files)
     }
 
     /// Writes the lines of the next entry. Before a request that begins a group the source does what the plan says; at
@@ -279,17 +257,10 @@ impl<'a> Scribe<'a> {
         ensures lossless { Can self.old.link.profile (step.Load unit) self.old.link.state → OnlyLacksMemory result }
         ensures reached { OnOk result (self.new.link ≡ link_after (step.Load unit ∷ []) self.old.link) }
     {
-        let Ok(words) = Vec::from_slice(self.alloc, unit.words()) else {
-            return Err(StepFault::OutOfMemory);
-        };
-        let line = CertLine::Load(LoadLine {
-            gfi: unit.gfi(),
-            flags: unit.flags(),
-            check: unit.check(),
-            words: Words::new(words),
-        });
-        self.link.apply(Step::Load(unit))?;
-        self.write(&line)
+        match self.lines.put_load(&unit) {
+            Ok(()) => self.link.apply(Step::Load(unit)),
+            Err(OutOfMemory) => Err(StepFault::OutOfMemory),
+        }
     }
 
     // Makes a step, and writes its line with the state that it leads to.
@@ -310,22 +281,21 @@ impl<'a> Scribe<'a> {
         self.link.apply(step)?;
         self.gave_up |= gives_up;
         let states = self.link.states();
-        self.write(&CertLine::Moved(MovedLine { act, states }))
+        self.write(MovedLine { act, states })
     }
 
-    // Writes a line and its line feed.
-    fn write(&mut self, line: &CertLine) -> Result<(), StepFault>
-        requires { IsLine line.now }
+    // Writes the line of a step that is no load.
+    fn write(&mut self, line: MovedLine) -> Result<(), StepFault>
         ensures link { self.new.link ≡ self.old.link }
         ensures gave_up { self.new.gave_up ≡ self.old.gave_up }
-        ensures ok { OnOk result (self.new.text.items ≡ self.old.text.items ++ (spelling line.now ++ 10 ∷ [])) }
-        ensures held { OnOk result (IsHeld line.now) }
+        ensures ok { OnOk result (self.new.lines ≡ self.old.lines ++ line_after (Moved line)) }
+        ensures held { IsHeld (Moved line) }
         ensures err { IfErr result (λ e. e ≡ StepFault.OutOfMemory) }
     {
-        if write_line(line, &mut self.text).is_err() || self.text.push(b'\n').is_err() {
-            return Err(StepFault::OutOfMemory);
+        match self.lines.put_move(line) {
+            Ok(()) => Ok(()),
+            Err(OutOfMemory) => Err(StepFault::OutOfMemory),
         }
-        Ok(())
     }
 }
 

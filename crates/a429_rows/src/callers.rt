@@ -6,6 +6,7 @@ ghost use Rattle.a429_ldu.specs.Ldu.{IsLdu};
 use crate::calls::sample;
 use crate::recordings::seen;
 use a429_cert::{CertFault, CertLine, OutOfMemory, read_line, verify, write_line};
+use a429_explain::{Verdict, check};
 use a429_ldu::Ldu;
 use a429_link::{Link, Seen, Step, StepFault};
 use a429_profile::Profile;
@@ -94,4 +95,24 @@ fn crossed_in_sample(alloc: Global, profile: &Profile) -> Option<usize> {
 fn one_file_has_crossed(rt: HostRuntime) {
     let profile = sample(&rt);
     assert!(rt; crossed_in_sample(rt.alloc(), &profile) == Some(1));
+}
+
+// The text of the certificate that is found for it, in memory.
+fn certificate_of_sample(alloc: Global, profile: &Profile) -> Option<Vec<u8>> {
+    let entries = entries_of_sample(alloc).ok()?;
+    let mut text = Vec::new(alloc);
+    match check(alloc, profile, &entries) {
+        Ok(Verdict::Explained { certificate, .. }) => certificate
+            .write(&mut Tally::new(&mut text, 0))
+            .ok()?,
+        _ => return None,
+    }
+    Some(text)
+}
+
+#[test]
+fn certificate_in_memory(rt: HostRuntime) {
+    let profile = sample(&rt);
+    let text = certificate_of_sample(rt.alloc(), &profile).expect(&rt, "a certificate");
+    assert!(rt; text.as_slice() == CERTIFICATE.as_bytes());
 }

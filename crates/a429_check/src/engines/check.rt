@@ -1,7 +1,7 @@
 //! `a429 check PROFILE REC CERT`: finds a certificate for a recording, or says why there is none; and `a429 decide`,
 //! which does the same, tests whether words contradict each other, and searches for a run where `check` has a doubt.
 
-ghost use Rattle.std.specs.Prelude.{◌≡◌, ◌≢◌, ◌↔◌, true, false, IsErr, IfOk, IfErr, OnOk};
+ghost use Rattle.std.specs.Prelude.{◌≡◌, ◌≢◌, ◌↔◌, [], true, false, IsErr, IfOk, IfErr, OnOk};
 ghost use Rattle.std.specs.Fmt.{decimal};
 ghost use Rattle.a429_word.specs.Tally.{has_failed, unread, Puts};
 ghost use Rattle.a429_word.specs.Sheet.{Says, Writes};
@@ -16,7 +16,7 @@ use crate::engines::rule::Rule;
 use crate::engines::verdict::put_explained;
 use crate::fault::RunFault;
 use a429_cert::OutOfMemory;
-use a429_explain::{Doubt, Reason, Verdict, check};
+use a429_explain::{Certificate, Doubt, Reason, Verdict, check};
 use a429_profile::Profile;
 use a429_record::Entry;
 use a429_search::decide;
@@ -81,21 +81,24 @@ pub fn run_by_rule<R: Read, C: Write, W: Write>(
         (has_failed rec.new ≡ true) (IsVerdictOn rule profile.now (unread R.remaining rec.old))) }
 {
     let verdict = verdict_on(alloc, profile, rec, rule)?;
-    write_both(cert, out, &verdict)
+    let page = Page::new(alloc)?;
+    write_both(page, cert, out, &verdict)
 }
 
-// Writes the certificate of a verdict and then the verdict, and answers its status.
+// Writes the certificate of a verdict, by an empty page, and then the verdict, and answers its status.
 fn write_both<C: Write, W: Write>(
+    page: Page,
     cert: &mut Tally<C>,
     out: &mut Tally<W>,
     verdict: &Verdict,
 ) -> Result<u8, RunFault>
+    requires { page ≡ [] }
     ensures verdict { IfOk result (ReportsVerdict (output C.contents cert.old cert.new) (output W.contents out.old out.new) (λ v. v ≡ verdict.now)) }
     ensures device { IfOk result (UsedWork false (has_failed cert.new) (has_failed out.new)) }
     ensures err { IfErr result (λ e. (e ≡ RunFault.Device) × EitherFailed (has_failed cert.new) (has_failed out.new)) }
     ensures cut { IfErr result (LeavesVerdict (output C.contents cert.old cert.new) (output W.contents out.old out.new) ⊥ (λ v. v ≡ verdict.now)) }
 {
-    write_certificate(cert, verdict)?;
+    write_certificate(page, cert, verdict)?;
     write_verdict(out, verdict)?;
     Ok(status_of(verdict))
 }
@@ -144,8 +147,13 @@ fn status_of(verdict: &Verdict) -> u8
     }
 }
 
-// Writes the certificate of a verdict, where there is one.
-fn write_certificate<W: Write>(out: &mut Tally<W>, verdict: &Verdict) -> Result<(), Device>
+// Writes the certificate of a verdict, where there is one, by an empty page.
+fn write_certificate<W: Write>(
+    page: Page,
+    out: &mut Tally<W>,
+    verdict: &Verdict,
+) -> Result<(), Device>
+    requires { page ≡ [] }
     ensures written { Writes W.contents out.old out.new (certificate_text verdict.now) }
     ensures none { verdict_status verdict.now ≢ 0 → out.new ≡ out.old }
     ensures explained { verdict_status verdict.now ≡ 0 → (IsErr result ↔ (has_failed out.new ≡ true)) }
@@ -153,9 +161,25 @@ fn write_certificate<W: Write>(out: &mut Tally<W>, verdict: &Verdict) -> Result<
     ensures whole { OnOk result (Puts W.contents out.old out.new (certificate_text verdict.now)) }
 {
     match verdict {
-        Verdict::Explained { certificate, .. } => out.put(certificate.as_slice()),
+        Verdict::Explained { certificate, .. } => write_text(page, out, certificate),
         Verdict::Impossible { .. } | Verdict::Unexplained { .. } => Ok(()),
     }
+}
+
+// Writes the text of a certificate, by an empty page.
+fn write_text<W: Write>(
+    page: Page,
+    out: &mut Tally<W>,
+    certificate: &Certificate,
+) -> Result<(), Device>
+    requires { page ≡ [] }
+    ensures written { Writes W.contents out.old out.new certificate.now }
+    ensures device { IsErr result ↔ (has_failed out.new ≡ true) }
+{
+    let mut page = page;
+    let mut sheet = Sheet::new(out, &mut page);
+    certificate.put_on(&mut sheet);
+    sheet.finish()
 }
 
 // Writes the text of a verdict.

@@ -2,10 +2,9 @@
 
 use crate::calls::debug;
 use a429_cert::{CertLine, LoadLine, OutOfMemory, Words, read_line, write_line};
-use a429_explain::Certificate;
 use a429_sample::CERTIFICATE;
 use a429_word::Word;
-use std::alloc::{AllocError, Global};
+use std::alloc::Global;
 use std::test::Fail;
 
 // The ends of the ranges.
@@ -176,17 +175,4 @@ fn words_of_a_load(rt: HostRuntime) -> Result<(), Fail> {
     let line = line_of(rt.alloc(), "L 2 1 A3F5 12004123").ok_or("a line")?;
     assert!(rt; is_load(line, (2, 1, 0xA3F5), 0x1200_4123));
     Ok(())
-}
-
-// A certificate of this text lends it, and gives it away.
-fn is_given_away(alloc: Global, text: &str) -> Result<bool, AllocError> {
-    let certificate = Certificate::new(Vec::from_slice(alloc, text.as_bytes())?);
-    let is_lent = certificate.as_slice() == text.as_bytes();
-    let given = certificate.into_vec();
-    Ok(is_lent && given.as_slice() == text.as_bytes())
-}
-
-#[test]
-fn text_of_a_certificate(rt: HostRuntime) {
-    assert!(rt; is_given_away(rt.alloc(), CERTIFICATE) == Ok(true));
 }

@@ -14,13 +14,14 @@ use Rattle.a429_explain.specs.declared.plan.Plan.{Plan}
 use Rattle.a429_explain.specs.Explanation.{HasLeastVersion, IsRefusedAt}
 use Rattle.a429_explain.specs.Guess.{decoded, IsOfCrossing}
 use Rattle.a429_explain.specs.Plan.{ArePlans, plan_for, plans_left}
-use Rattle.a429_explain.specs.Scribe.{in_version, Wrote}
+use Rattle.a429_explain.specs.Note.{in_version}
+use Rattle.a429_explain.specs.Scribe.{Wrote}
 use Rattle.a429_explain.proofs.MatchingFacts.{length-items_of}
 use Rattle.a429_explain.proofs.PlanFacts.{plan_fits, left_fit, after_more}
-use Rattle.a429_explain.proofs.ScribeFacts.{certificate_written, version_written, written_long, run_begun, why_refused, refused_next}
+use Rattle.a429_explain.proofs.ScribeFacts.{certificate_written, version_written, run_begun, why_refused, refused_next}
 use Rattle.a429_explain.proofs.ScribeWithoutLoss.{Goes, entries_next, entry_next, goes_run, goes_lossless, plan_kept, plan_starts}
 use Rattle.a429_explain.proofs.explanation.explain_by.Goals as goal
-use Rattle.a429_explain.proofs.explanation.explain_by.Goals.{After-seen, After-into_parts-text}
+use Rattle.a429_explain.proofs.explanation.explain_by.Goals.{After-seen, After-into_parts-certificate}
 
 -- of a recording without loss the next entry is on plan
 goes : (a : After-seen) → IsOfCrossing (decoded a.args.profile.now (items_of a.args.entries.now)) a.args.guess → Goes a.args.profile.now a.seen.result (drop (a.loop-at.at + 1) (items_of a.args.entries.now)) a.loop-at.at a.index-role.result.now a.loop-at.plans.items a.loop-at.scribe.link
@@ -28,11 +29,11 @@ goes a h = entry_next a.args.profile.now a.args.entries.now a.loop-at.at a.index
 
 pub loop-at-init : goal.loop-at-init
 loop-at-init c = record {
-  profile = ap {A = LinkValue} (λ l. l.profile) c.in-Ok.ensures.start;
+  profile = ap {A = LinkValue} (λ l. l.profile) c.new-scribe.ensures.start;
   plans = c.requires.plans;
-  written = c.in-Ok.ensures.written;
+  written = c.new-scribe.ensures.written;
   left = refl;
-  plan = λ h. plan_starts c.args.profile.now c.codes-codes.ensures.sound (items_of c.args.entries.now) c.args.guess c.in-Ok.scribe.link c.in-Ok.ensures.written.byte h c.in-Ok.ensures.start;
+  plan = λ h. plan_starts c.args.profile.now c.codes-codes.ensures.sound (items_of c.args.entries.now) c.args.guess c.new-scribe.result.link c.new-scribe.ensures.written.byte h c.new-scribe.ensures.start;
 }
 
 pub write_entry-requires : goal.write_entry-requires
@@ -46,13 +47,13 @@ returns-in-Err-clause-refused c =
     let items = items_of c.args.entries.now in
     let s = c.loop-at.scribe in
     let inside : c.loop-at.at < length items = omega (arith, c.loop-at-test.true, length-items_of c.args.entries.now) in
-    let begun = subst (λ q. BeginsARun q (take c.loop-at.at items)) c.loop-at.invariant.profile (run_begun (take c.loop-at.at items) c.args.guess.first_file s.text.items s.gave_up s.link c.loop-at.invariant.written) in
+    let begun = subst (λ q. BeginsARun q (take c.loop-at.at items)) c.loop-at.invariant.profile (run_begun (take c.loop-at.at items) c.args.guess.first_file s.lines s.gave_up s.link c.loop-at.invariant.written) in
     let here : slice_get items c.loop-at.at ≡ Some c.seen.result = slice_get-map seen_of c.args.entries.now c.loop-at.at ∙ ap (option_map seen_of) (slice_get_read c.args.entries.now (length c.args.entries.now) c.loop-at.at c.index-entries-at.result refl c.loop-at-test.true c.index-entries-at.is) ∙ ap Some (sym c.seen.ensures) in
     let role : slice_get c.args.guess.roles.items c.loop-at.at ≡ Some c.index-role.result.now = slice_get_read c.args.guess.roles.items (length c.args.guess.roles.items) c.loop-at.at c.index-role.result.now refl (omega (arith, inside, c.requires.many)) c.index-role.ensures in
     let plan = c.take_plan-plan.ensures.taken ∙ ap (plan_for c.index-role.result.now c.loop-at.at) c.loop-at.invariant.left in
     why_refused c.args.profile.now items c.args.guess c.loop-at.at c.in-Err.fault c.refused_at.result c.refused_at.ensures.memory c.refused_at.ensures.step inside begun
     (λ other. subst (λ q. IsRefusedAt q items c.args.guess c.loop-at.at) c.loop-at.invariant.profile
-    (refused_next items c.args.guess c.loop-at.at c.seen.result c.index-role.result.now c.take_plan-plan.result s.text.items s.gave_up s.link here role plan c.loop-at.invariant.written (c.in-Err.ensures.refused other)))
+    (refused_next items c.args.guess c.loop-at.at c.seen.result c.index-role.result.now c.take_plan-plan.result s.lines s.gave_up s.link here role plan c.loop-at.invariant.written (c.in-Err.ensures.refused other)))
 
 pub returns-in-Err-clause-without_loss : goal.returns-in-Err-clause-without_loss
 returns-in-Err-clause-without_loss c = λ h.
@@ -67,54 +68,51 @@ loop-at-preserved c =
     let es = c.args.entries.now in
     let p = c.args.profile.now in
     record {
-      profile = c.in-Ok-write_entry.ensures.profile ∙ c.loop-at.invariant.profile;
+      profile = c.in-Ok.ensures.profile ∙ c.loop-at.invariant.profile;
       plans = subst (ArePlans p) (sym c.take_plan-plan.ensures.left) (left_fit p c.index-role.result.now c.loop-at.at c.loop-at.plans.items c.loop-at.invariant.plans);
-      written = subst (λ (items : List Seen). Wrote c.args.guess.first_file items c.write_entry.new.self) (ap (λ (i : Seen). take c.loop-at.at (items_of es) ++ i ∷ []) c.seen.ensures ∙ entries_next es c.loop-at.at c.index-entries-at.result c.loop-at-test.true c.index-entries-at.is) (c.in-Ok-write_entry.ensures.written c.args.guess.first_file (take c.loop-at.at (items_of es)) c.loop-at.invariant.written);
+      written = subst (λ (items : List Seen). Wrote c.args.guess.first_file items c.write_entry.new.self) (ap (λ (i : Seen). take c.loop-at.at (items_of es) ++ i ∷ []) c.seen.ensures ∙ entries_next es c.loop-at.at c.index-entries-at.result c.loop-at-test.true c.index-entries-at.is) (c.in-Ok.ensures.written c.args.guess.first_file (take c.loop-at.at (items_of es)) c.loop-at.invariant.written);
       left = c.take_plan-plan.ensures.left ∙ ap (plans_left c.index-role.result.now c.loop-at.at) c.loop-at.invariant.left ∙ sym (after_more c.args.guess.roles.items c.loop-at.at c.index-role.result.now c.args.guess.plans.items (omega (arith, c.loop-at-test.true, c.requires.many, length-items_of es)) c.index-role.ensures);
       plan = λ h.
           let k = goes (goal.at.loop-at-preserved c).After-seen h in
           let more = drop (c.loop-at.at + 1) (items_of es) in
           let plain = goes_lossless p c.seen.result more c.loop-at.at c.index-role.result.now c.take_plan-plan.result c.loop-at.plans.items c.loop-at.scribe.link c.take_plan-plan.ensures.taken k in
           let run = goes_run p c.seen.result more c.loop-at.at c.index-role.result.now c.take_plan-plan.result c.loop-at.plans.items c.loop-at.scribe.link c.loop-at.invariant.profile c.take_plan-plan.ensures.taken k in
-          plan_kept p c.seen.result more c.loop-at.at c.index-role.result.now c.take_plan-plan.result c.loop-at.plans.items c.take_plan-plan.new.plans.items c.loop-at.scribe.link c.write_entry.new.self.link k c.take_plan-plan.ensures.taken c.take_plan-plan.ensures.left (c.in-Ok-write_entry.ensures.lossless plain run).1;
+          plan_kept p c.seen.result more c.loop-at.at c.index-role.result.now c.take_plan-plan.result c.loop-at.plans.items c.take_plan-plan.new.plans.items c.loop-at.scribe.link c.write_entry.new.self.link k c.take_plan-plan.ensures.taken c.take_plan-plan.ensures.left (c.in-Ok.ensures.lossless plain run).1;
     }
 
 -- all entries are written
-all_written : (a : After-into_parts-text) → Wrote a.args.guess.first_file (items_of a.args.entries.now) a.loop-at.scribe
+all_written : (a : After-into_parts-certificate) → Wrote a.args.guess.first_file (items_of a.args.entries.now) a.loop-at.scribe
 all_written a =
     let items = items_of a.args.entries.now in
     let all : take a.loop-at.at items ≡ items = take_all a.loop-at.at items (omega (arith, a.loop-at-test.false, length-items_of a.args.entries.now)) in
     subst (λ (xs : List Seen). Wrote a.args.guess.first_file xs a.loop-at.scribe) all a.loop-at.invariant.written
 
-explained : (a : After-into_parts-text) → IsExplained a.args.profile.now a.into_parts-text.result.0.items (items_of a.args.entries.now) a.into_parts-text.result.1.items
+explained : (a : After-into_parts-certificate) → IsExplained a.args.profile.now a.into_parts-certificate.result.0 (items_of a.args.entries.now) a.into_parts-certificate.result.1.items
 explained a =
     let items = items_of a.args.entries.now in
     let s = a.loop-at.scribe in
-    let here = subst (λ q. IsExplained q (in_version s.gave_up s.text.items) items s.link.state.sink.received.files) a.loop-at.invariant.profile (certificate_written items a.args.guess.first_file s.text.items s.gave_up s.link (all_written a)) in
-    rw (a.into_parts-text.ensures.text, a.into_parts-text.ensures.files) here
-
-pub into_parts-text-requires : goal.into_parts-text-requires
-into_parts-text-requires c = written_long (take c.loop-at.at (items_of c.args.entries.now)) c.args.guess.first_file c.loop-at.scribe.text.items c.loop-at.scribe.gave_up c.loop-at.scribe.link c.loop-at.invariant.written
+    let here = subst (λ q. IsExplained q (in_version s.gave_up s.lines) items s.link.state.sink.received.files) a.loop-at.invariant.profile (certificate_written items a.args.guess.first_file s.lines s.gave_up s.link (all_written a)) in
+    rw (a.into_parts-certificate.ensures.text, a.into_parts-certificate.ensures.files) here
 
 pub returns-clause-explained : goal.returns-clause-explained
-returns-clause-explained c = rw (c.new-2.ensures, c.new-3.ensures) (explained (goal.at.returns-clause-explained c).After-into_parts-text)
+returns-clause-explained c = rw (c.new.ensures) (explained (goal.at.returns-clause-explained c).After-into_parts-certificate)
 
 pub returns-clause-every : goal.returns-clause-every
 returns-clause-every c =
     let items = items_of c.args.entries.now in
-    let r = c.into_parts-text.result in
-    subst (AreInEveryRun c.args.profile.now items) (sym c.new-3.ensures) (in_every_run c.args.profile.now c.codes-codes.ensures.sound r.0.items items r.1.items (explained (goal.at.returns-clause-every c).After-into_parts-text))
+    let r = c.into_parts-certificate.result in
+    subst (AreInEveryRun c.args.profile.now items) (sym c.new.ensures) (in_every_run c.args.profile.now c.codes-codes.ensures.sound r.0 items r.1.items (explained (goal.at.returns-clause-every c).After-into_parts-certificate))
 
 pub returns-clause-accepted : goal.returns-clause-accepted
 returns-clause-accepted c = λ f h.
     let items = items_of c.args.entries.now in
-    let here = explained (goal.at.returns-clause-accepted c).After-into_parts-text in
-    no_fault c.args.profile.now c.into_parts-text.result.0.items items here.first here.steps f here.explains (subst (λ (text : List ℕ). IsFirstCertFault c.args.profile.now text items f) c.new-2.ensures h)
+    let here = explained (goal.at.returns-clause-accepted c).After-into_parts-certificate in
+    no_fault c.args.profile.now c.into_parts-certificate.result.0 items here.first here.steps f here.explains h
 
 pub returns-clause-version : goal.returns-clause-version
 returns-clause-version c =
     let items = items_of c.args.entries.now in
     let s = c.loop-at.scribe in
-    let all = all_written (goal.at.returns-clause-version c).After-into_parts-text in
-    let here = subst (λ q. HasLeastVersion q (in_version s.gave_up s.text.items) items) c.loop-at.invariant.profile (version_written items c.args.guess.first_file s.text.items s.gave_up s.link all) in
-    rw (c.new-2.ensures ∙ c.into_parts-text.ensures.text) here
+    let all = all_written (goal.at.returns-clause-version c).After-into_parts-certificate in
+    let here = subst (λ q. HasLeastVersion q (in_version s.gave_up s.lines) items) c.loop-at.invariant.profile (version_written items c.args.guess.first_file s.lines s.gave_up s.link all) in
+    rw (c.into_parts-certificate.ensures.text) here

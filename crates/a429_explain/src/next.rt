@@ -1,0 +1,128 @@
+//! The line of a certificate that is likely after another.
+
+ghost use Rattle.std.specs.Prelude.{◌≡◌, true};
+ghost use Rattle.a429_explain.specs.Next.{moves, sends, hears, takes, after_taking, after_loss, next_after, next_line};
+
+use a429_cert::{Act, MovedLine};
+use a429_link::{SinkState, SourceState, States};
+
+/// The line that is likely after this one: what comes next where no word is lost, and the words before it were those of
+/// a long block. Another one may come.
+pub(crate) fn next_line(line: MovedLine) -> MovedLine
+    ensures { result ≡ next_line line }
+{
+    let States { source, sink, .. } = line.states;
+    match line.act {
+        Act::Sent => moves(Act::SinkTakes, source, takes(source, sink), 0, 0),
+        Act::SinkTakes => after_taking(source, sink),
+        Act::Answered => moves(Act::TakeAnswer, hears(source), sink, 0, 0),
+        Act::TakeAnswer | Act::TimeOut => moves(Act::Sent, sends(source), sink, 1, 0),
+        Act::SentLost => after_loss(source, sink),
+        Act::LoseAnswer | Act::Silent => moves(Act::TimeOut, SourceState::Idle, sink, 0, 0),
+        Act::FreeSeen | Act::GiveUp => line,
+    }
+}
+
+// The line of this step, with these states after it.
+fn moves(act: Act, source: SourceState, sink: SinkState, to_sink: u8, to_source: u8) -> MovedLine
+    ensures { result ≡ moves act source sink to_sink to_source }
+{
+    let states = States {
+        source,
+        sink,
+        to_sink,
+        to_source,
+    };
+    MovedLine { act, states }
+}
+
+// The source, once it has sent one word more.
+fn sends(source: SourceState) -> SourceState
+    ensures { result ≡ sends source }
+{
+    match source {
+        SourceState::Idle | SourceState::Awaiting => SourceState::Awaiting,
+        SourceState::Sending(sent) if sent < 254 => SourceState::Sending(sent + 1),
+        SourceState::Sending(_) | SourceState::Waiting => SourceState::Waiting,
+    }
+}
+
+// The source, once it has taken the answer that it waits for.
+fn hears(source: SourceState) -> SourceState
+    ensures { result ≡ hears source }
+{
+    match source {
+        SourceState::Awaiting => SourceState::Sending(0),
+        SourceState::Idle | SourceState::Sending(_) | SourceState::Waiting => SourceState::Idle,
+    }
+}
+
+// The sink, once it has taken the word that the source sent last.
+fn takes(source: SourceState, sink: SinkState) -> SinkState
+    ensures { result ≡ takes source sink }
+{
+    match (source, sink) {
+        (SourceState::Awaiting, _) => SinkState::OwesClear,
+        (SourceState::Waiting, _) => SinkState::OwesAck,
+        (_, SinkState::InBlock(taken)) if taken < 254 => SinkState::InBlock(taken + 1),
+        _ => SinkState::InBlock(1),
+    }
+}
+
+// What comes after a word that the sink has taken: its answer, or the next word.
+fn after_taking(source: SourceState, sink: SinkState) -> MovedLine
+    ensures { result ≡ after_taking source sink }
+{
+    match sink {
+        SinkState::OwesClear => moves(Act::Answered, source, SinkState::Granted, 0, 1),
+        SinkState::OwesAck | SinkState::OwesNak => moves(
+            Act::Answered,
+            source,
+            SinkState::Quiet,
+            0,
+            1,
+        ),
+        SinkState::Quiet | SinkState::Granted | SinkState::InBlock(_) => moves(
+            Act::Sent,
+            sends(source),
+            sink,
+            1,
+            0,
+        ),
+    }
+}
+
+// What comes after a word that is lost: the next one is lost too, and after the last the source waits no longer.
+fn after_loss(source: SourceState, sink: SinkState) -> MovedLine
+    ensures { result ≡ after_loss source sink }
+{
+    match source {
+        SourceState::Waiting => moves(Act::TimeOut, SourceState::Idle, sink, 0, 0),
+        SourceState::Idle | SourceState::Awaiting | SourceState::Sending(_) => moves(
+            Act::SentLost,
+            sends(source),
+            sink,
+            0,
+            0,
+        ),
+    }
+}
+
+/// Whether two lines are the same. A no is no promise.
+pub(crate) fn is_same(one: MovedLine, other: MovedLine) -> bool
+    ensures { result ≡ true → one ≡ other }
+{
+    is_act(one.act, other.act) && are_states(one.states, other.states)
+}
+
+fn is_act(one: Act, other: Act) -> bool
+    ensures { result ≡ true → one ≡ other }
+{
+    one == other
+}
+
+fn are_states(one: States, other: States) -> bool
+    ensures { result ≡ true → one ≡ other }
+{
+    one == other
+}

@@ -1,0 +1,144 @@
+//! Pieces of a certificate, kept short.
+
+ghost use Rattle.std.specs.Prelude.{◌≡◌, ◌≤◌, ◌++◌, IfSome};
+ghost use Rattle.a429_word.specs.Digits.{hex_text, numeral};
+ghost use Rattle.a429_word.specs.Sheet.{Says};
+ghost use Rattle.a429_cert.specs.Field.{field};
+ghost use Rattle.a429_cert.specs.declared.line.CertLine.TheVariants as cert;
+ghost use Rattle.a429_cert.specs.declared.line.MovedLine.{MovedLine};
+ghost use Rattle.a429_explain.specs.Note.{line_after, same_fields, likely_lines, load_head, note_text, EndsWith};
+
+use crate::next::next_line;
+use a429_cert::{MovedLine, moved_text};
+use a429_word::{Sheet, Word};
+use std::io::Write;
+
+/// Some lines of a certificate, or a part of one. Each line begins with the line feed that ends the line before it.
+#[derive(Clone, Copy, Debug)]
+pub(crate) enum Note {
+    /// The line with the number of the first file.
+    First(u8),
+    /// The line of a link data unit, up to its data words.
+    Load { gfi: u8, flags: u8, check: u16 },
+    /// A data word of that line, so many times.
+    Words { word: Word, times: u8 },
+    /// Two data words of that line.
+    Pair { first: Word, second: Word },
+    /// The line of a step that is no load, and so many lines after it, each the one that is likely after the last.
+    Moves { first: MovedLine, more: u16 },
+}
+
+/// The note with one data word more, where it has room for that.
+pub(crate) fn with_word(note: Note, word: Word) -> Option<Note>
+    ensures text { IfSome result (λ n. note_text n ≡ note_text note ++ field (hex_text word)) }
+    ensures ends { IfSome result (λ n. (last : MovedLine) → EndsWith n last) }
+{
+    match note {
+        Note::Words { word: last, times } => with_word_after(last, times, word),
+        _ => None,
+    }
+}
+
+// The note of a word that comes so many times, and then of another one.
+#[tactic(auto, using(crate::proofs::NoteFacts::words_more, crate::proofs::NoteFacts::word_after))]
+fn with_word_after(last: Word, times: u8, word: Word) -> Option<Note>
+    ensures text { IfSome result (λ n. note_text n ≡ same_fields last times ++ field (hex_text word)) }
+    ensures ends { IfSome result (λ n. (last : MovedLine) → EndsWith n last) }
+{
+    if last == word && times < u8::MAX {
+        let times = times + 1;
+        return Some(Note::Words { word, times });
+    }
+    if times == 1 {
+        return Some(Note::Pair {
+            first: last,
+            second: word,
+        });
+    }
+    None
+}
+
+/// Puts the text of a note.
+pub(crate) fn put_note<W: Write>(sheet: &mut Sheet<'_, W>, note: Note)
+    ensures { Says W.contents sheet.old sheet.new (note_text note) }
+{
+    match note {
+        Note::First(file) => put_first(sheet, file),
+        Note::Load { gfi, flags, check } => put_load(sheet, gfi, flags, check),
+        Note::Words { word, times } => put_words(sheet, word, times),
+        Note::Pair { first, second } => {
+            put_word(sheet, first);
+            put_word(sheet, second);
+        }
+        Note::Moves { first, more } => {
+            put_move(sheet, first);
+            put_likely(sheet, first, more);
+        }
+    }
+}
+
+fn put_first<W: Write>(sheet: &mut Sheet<'_, W>, file: u8)
+    ensures { Says W.contents sheet.old sheet.new (line_after (cert.First file)) }
+{
+    sheet.put(b"\nfirst ");
+    sheet.put_number(u64::from(file));
+}
+
+fn put_load<W: Write>(sheet: &mut Sheet<'_, W>, gfi: u8, flags: u8, check: u16)
+    ensures { Says W.contents sheet.old sheet.new (load_head gfi flags check) }
+{
+    sheet.put(b"\nL");
+    put_hex(sheet, u32::from(gfi), 1);
+    put_hex(sheet, u32::from(flags), 1);
+    put_hex(sheet, u32::from(check), 4);
+}
+
+// Puts a field with the last digits of a number in hexadecimal, at most eight.
+fn put_hex<W: Write>(sheet: &mut Sheet<'_, W>, number: u32, digits: usize)
+    requires { digits ≤ 8 }
+    ensures { Says W.contents sheet.old sheet.new (field (numeral 16 digits number)) }
+{
+    let hex = Word::from_u32(number).hex();
+    sheet.put(b" ");
+    sheet.put(&hex[8 - digits..]);
+}
+
+// Puts the field of a word so many times.
+fn put_words<W: Write>(sheet: &mut Sheet<'_, W>, word: Word, times: u8)
+    ensures { Says W.contents sheet.old sheet.new (same_fields word times) }
+{
+    let mut left = times;
+    while left > 0 {
+        left -= 1;
+        put_word(sheet, word);
+    }
+}
+
+// Puts the field of a word.
+fn put_word<W: Write>(sheet: &mut Sheet<'_, W>, word: Word)
+    ensures { Says W.contents sheet.old sheet.new (field (hex_text word)) }
+{
+    sheet.put(b" ");
+    sheet.put(&word.hex());
+}
+
+// Puts so many lines after this one, each the one that is likely after the last.
+fn put_likely<W: Write>(sheet: &mut Sheet<'_, W>, first: MovedLine, more: u16)
+    ensures { Says W.contents sheet.old sheet.new (likely_lines first more) }
+{
+    let mut line = first;
+    let mut left = more;
+    while left > 0 {
+        left -= 1;
+        line = next_line(line);
+        put_move(sheet, line);
+    }
+}
+
+fn put_move<W: Write>(sheet: &mut Sheet<'_, W>, line: MovedLine)
+    ensures { Says W.contents sheet.old sheet.new (line_after (cert.Moved line)) }
+{
+    let text = moved_text(line);
+    sheet.put(b"\n");
+    sheet.put(text.as_slice());
+}
