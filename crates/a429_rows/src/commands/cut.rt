@@ -25,7 +25,14 @@ fn holds(alloc: Global, case: Case) -> bool {
     let rec = Tally::new(case.recording.as_bytes(), u64::MAX);
     let mut rec = EntryReader::of_most(alloc, rec, usize::MAX);
     let mut out = Tally::new(&mut written, 0);
-    let answer = run_cut(alloc, PROFILE.as_bytes(), case.most, &mut rec, &mut parts, &mut out);
+    let answer = run_cut(
+        alloc,
+        PROFILE.as_bytes(),
+        case.most,
+        &mut rec,
+        &mut parts,
+        &mut out,
+    );
     let is_listed = match parts.list() {
         Some(list) => answer.is_ok() && list == written.as_slice(),
         None => answer.is_err(),
