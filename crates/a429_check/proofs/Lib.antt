@@ -8,6 +8,8 @@ pub mod MakeCrossed
 pub mod MakeBytes
 pub mod ShowOneLine
 pub mod VerdictFacts
+pub mod PartListFacts
+pub mod SeriesVerdictFacts
 pub mod UnitsFacts
 pub mod UpgradeFacts
 pub mod PictureFacts

@@ -11,6 +11,8 @@ pub mod Forms
 pub mod Make
 pub mod Verdict
 pub mod Extract
+pub mod PartList
+pub mod Series
 pub mod Check
 pub mod Pack
 pub mod Upgrade

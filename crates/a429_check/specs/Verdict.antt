@@ -43,14 +43,17 @@ abbrev pub yes_text : List (ℕ × ℕ) → List ℕ
 yes_text files = count_line (length files) ++ flat_map file_line files
 
 -- out of memory is no verdict
+abbrev pub fault_text : CertFault → List ℕ
+fault_text cert.Version = codes "version\n"
+fault_text (cert.Line n) = codes "line " ++ decimal n ++ codes "\n"
+fault_text (cert.NotAllowed n) = codes "not allowed " ++ decimal n ++ codes "\n"
+fault_text (cert.StateDiffers n) = codes "state differs " ++ decimal n ++ codes "\n"
+fault_text (cert.WordDiffers n i) = codes "word differs " ++ decimal n ++ codes " " ++ decimal i ++ codes "\n"
+fault_text (cert.Unfinished i) = codes "unfinished " ++ decimal i ++ codes "\n"
+fault_text cert.OutOfMemory = []
+
 abbrev pub no_text : CertFault → List ℕ
-no_text cert.Version = codes "NO version\n"
-no_text (cert.Line n) = codes "NO line " ++ decimal n ++ codes "\n"
-no_text (cert.NotAllowed n) = codes "NO not allowed " ++ decimal n ++ codes "\n"
-no_text (cert.StateDiffers n) = codes "NO state differs " ++ decimal n ++ codes "\n"
-no_text (cert.WordDiffers n i) = codes "NO word differs " ++ decimal n ++ codes " " ++ decimal i ++ codes "\n"
-no_text (cert.Unfinished i) = codes "NO unfinished " ++ decimal i ++ codes "\n"
-no_text cert.OutOfMemory = []
+no_text f = codes "NO " ++ fault_text f
 
 -- ---- what it means
 

@@ -10,7 +10,7 @@ ghost use Rattle.a429_profile.specs.declared.fault.ProfileFault.{ProfileFault};
 ghost use Rattle.a429_cert.specs.Stream.{sizes};
 ghost use Rattle.a429_cert.specs.BreakOff.{readers, shelved};
 ghost use Rattle.a429_check.specs.Extract.{progress, Leaves};
-ghost use Rattle.a429_check.specs.Verdict.{count_line, file_line, line_of_file, yes_text, no_text, text_of_answer, status_of_answer, of_stream, input, AllWork, AnyFailed, HearsJudged, IsJudged, IsVerifyFault};
+ghost use Rattle.a429_check.specs.Verdict.{count_line, file_line, line_of_file, yes_text, fault_text, no_text, text_of_answer, status_of_answer, of_stream, input, AllWork, AnyFailed, HearsJudged, IsJudged, IsVerifyFault};
 ghost use Rattle.a429_cert.specs.Told.{listening};
 
 use crate::engines::profile::profile_of;
@@ -87,8 +87,8 @@ fn any_failed<R: Read, C: Read, S: Shelf, T: Listener>(
     rec.failed() || cert.failed() || shelf.failed() || listener.failed()
 }
 
-// The fault, where it is one of the certificate.
-fn of_certificate(fault: StreamFault) -> Result<CertFault, RunFault>
+/// The fault, where it is one of the certificate.
+pub(crate) fn of_certificate(fault: StreamFault) -> Result<CertFault, RunFault>
     ensures ok { IfOk result (λ f. (fault ≡ StreamFault.Cert f) × (f ≢ CertFault.OutOfMemory)) }
     ensures err { IfErr result (λ e. e ≡ of_stream fault) }
 {
@@ -144,8 +144,8 @@ fn put_answer<W: Write>(sheet: &mut Sheet<'_, W>, answer: &Answer)
     }
 }
 
-// That the certificate is accepted, with the number and the length of each of its files.
-fn put_yes<W: Write>(sheet: &mut Sheet<'_, W>, files: &[(u8, u32)])
+/// Puts that a certificate is accepted, with the number and the length of each of its files.
+pub(crate) fn put_yes<W: Write>(sheet: &mut Sheet<'_, W>, files: &[(u8, u32)])
     ensures { Says W.contents sheet.old sheet.new (yes_text files.now) }
 {
     put_count(sheet, files.len());
@@ -204,21 +204,29 @@ pub(crate) fn put_file<W: Write>(sheet: &mut Sheet<'_, W>, number: u8, len: u64)
 fn put_no<W: Write>(sheet: &mut Sheet<'_, W>, fault: CertFault)
     ensures { Says W.contents sheet.old sheet.new (no_text fault) }
 {
+    sheet.put(b"NO ");
+    put_fault(sheet, fault);
+}
+
+/// Puts the fault of a certificate.
+pub(crate) fn put_fault<W: Write>(sheet: &mut Sheet<'_, W>, fault: CertFault)
+    ensures { Says W.contents sheet.old sheet.new (fault_text fault) }
+{
     match fault {
-        CertFault::Version => sheet.put(b"NO version\n"),
-        CertFault::Line(n) => put_reason(sheet, b"NO line ", n),
-        CertFault::NotAllowed(n) => put_reason(sheet, b"NO not allowed ", n),
-        CertFault::StateDiffers(n) => put_reason(sheet, b"NO state differs ", n),
+        CertFault::Version => sheet.put(b"version\n"),
+        CertFault::Line(n) => put_reason(sheet, b"line ", n),
+        CertFault::NotAllowed(n) => put_reason(sheet, b"not allowed ", n),
+        CertFault::StateDiffers(n) => put_reason(sheet, b"state differs ", n),
         CertFault::WordDiffers { line, entry } => put_word_differs(sheet, line, entry),
-        CertFault::Unfinished(i) => put_reason(sheet, b"NO unfinished ", i),
+        CertFault::Unfinished(i) => put_reason(sheet, b"unfinished ", i),
         CertFault::OutOfMemory => {}
     }
 }
 
 fn put_word_differs<W: Write>(sheet: &mut Sheet<'_, W>, line: usize, entry: usize)
-    ensures { Says W.contents sheet.old sheet.new (no_text (CertFault.WordDiffers line entry)) }
+    ensures { Says W.contents sheet.old sheet.new (fault_text (CertFault.WordDiffers line entry)) }
 {
-    sheet.put(b"NO word differs ");
+    sheet.put(b"word differs ");
     sheet.put_number(line as u64);
     sheet.put(b" ");
     sheet.put_number(entry as u64);

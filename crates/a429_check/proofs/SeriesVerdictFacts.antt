@@ -1,0 +1,197 @@
+-- What is answered of the parts of a recording, part after part.
+use Rattle.std.proofs.Common.{◌≡◌, ◌≢◌, ◌∙◌, ◌<◌, ◌+◌, ◌++◌, ◌∷◌, ℕ, zero, suc, List, [], length, take, map, get_or, slice_get, Bool, true, false, Option, Some, None, refl, sym, ap, subst, arith, inl, inr, ◌⊎◌, Vec, Global}
+use Rattle.std.specs.Prelude.{codes, IfSome, IfOk, IfErr, OnOk, Result, Ok, Err}
+use Rattle.a429_check.specs.declared.engines.series.SeriesAnswer.{SeriesAnswer}
+use Rattle.std.proofs.lemmas.List.{map-append, take_all, take_more}
+use Rattle.a429_profile.specs.Profile.{Contents, IsProfile}
+use Rattle.a429_record.specs.declared.fault.ReadFault.{ReadFault}
+use Rattle.a429_record.specs.declared.fault.ReadFault.TheVariants as read
+use Rattle.a429_record.specs.Recording.{Recording}
+use Rattle.a429_cert.specs.declared.fault.CertFault.{CertFault}
+use Rattle.a429_cert.specs.declared.fault.CertFault.TheVariants as cert
+use Rattle.a429_cert.specs.declared.stream_fault.StreamFault.{StreamFault}
+use Rattle.a429_cert.specs.declared.stream_fault.StreamFault.TheVariants as stream
+use Rattle.a429_cert.specs.Series.{AreAdded, IsOneRun, IsPartFault, Joins, Part, RefusesPart, SeriesValue, joined, no_parts}
+use Rattle.a429_check.specs.declared.fault.RunFault.{RunFault}
+use Rattle.a429_check.specs.declared.fault.RunFault.TheVariants as run
+use Rattle.a429_check.specs.Profile.{IsProfileOf, IsProfileFault}
+use Rattle.a429_check.specs.PartList.{ListsParts}
+use Rattle.a429_check.specs.Verdict.{of_stream}
+use Rattle.a429_check.specs.Output.{Output, IsCutShort}
+use Rattle.a429_word.specs.Sheet.{Writes}
+use Rattle.a429_word.specs.Tally.{has_failed}
+use Rattle.a429_check.specs.Series.{AreOneRun, FitAs, Holds, IsMiscounted, IsPartsFault, IsRefusal, IsRefusedAt, IsSeriesAnswer, IsSeriesFault, SeriesInput, FailsIn, IsSeriesVerdict, IsSomeSeriesVerdict, entries_of, first_parts, judged, not_listed, status_of_series, text_of_series, with_part}
+
+-- ---- what the readers of a part have to read
+
+pub joins_known : (o : Option Part) (known : Option (List ℕ)) (rec : Option Recording) (old new : SeriesValue)
+    → IfSome o (λ q. Holds q known rec) → Joins old known rec new → IfSome o (λ q. Joins old (Some q.certificate) (Some q.recording) new)
+joins_known None known rec old new h j = tt
+joins_known (Some q) known rec old new h j = subst (λ k. Joins old k (Some q.recording) new) h.0 (subst (λ r. Joins old known r new) h.1 j)
+
+pub refuses_known : (o : Option Part) (known : Option (List ℕ)) (rec : Option Recording) (old : SeriesValue) (f : StreamFault)
+    → IfSome o (λ q. Holds q known rec) → RefusesPart old known rec f → IfSome o (λ q. IsPartFault old f q.certificate q.recording)
+refuses_known None known rec old f h j = tt
+refuses_known (Some q) known rec old f h j = subst (λ k. RefusesPart old k (Some q.recording) f) h.0 (subst (λ r. RefusesPart old known r f) h.1 j)
+
+-- a device that has failed, or memory that was refused, is a fault of any part
+pub stopped_known : (o : Option Part) (old : SeriesValue) (f : StreamFault) → (f ≡ stream.Device) ⊎ (f ≡ stream.OutOfMemory) → IfSome o (λ q. IsPartFault old f q.certificate q.recording)
+stopped_known None old f h = tt
+stopped_known (Some q) old f (inl e) = subst (λ (o : StreamFault). IsPartFault old o q.certificate q.recording) (sym e) tt
+stopped_known (Some q) old f (inr e) = subst (λ (o : StreamFault). IsPartFault old o q.certificate q.recording) (sym e) tt
+
+pub all_known : (o : Option Part) (known : Option (List ℕ)) (rec : Option Recording) (old : SeriesValue) (r : Result SeriesValue StreamFault)
+    → IfSome o (λ q. Holds q known rec) → IfOk r (Joins old known rec) → IfOk r (λ new. IfSome o (λ q. Joins old (Some q.certificate) (Some q.recording) new))
+all_known o known rec old (Ok new) h j = joins_known o known rec old new h j
+all_known o known rec old (Err f) h j = tt
+
+pub none_known : (o : Option Part) (known : Option (List ℕ)) (rec : Option Recording) (old : SeriesValue) (r : Result SeriesValue StreamFault)
+    → IfSome o (λ q. Holds q known rec) → IfErr r (RefusesPart old known rec) → IfErr r (λ f. IfSome o (λ q. IsPartFault old f q.certificate q.recording))
+none_known o known rec old (Ok new) h j = tt
+none_known o known rec old (Err f) h j = refuses_known o known rec old f h j
+
+-- ---- one part more
+
+added_more : (s t u : SeriesValue) (parts : List Part) (q : Part) → AreAdded s parts t → Joins t (Some q.certificate) (Some q.recording) u → AreAdded s (parts ++ (q ∷ [])) u
+added_more s t u [] q a j = (u, subst (λ old. Joins old (Some q.certificate) (Some q.recording) u) a j, refl)
+added_more s t u (first ∷ parts) q a j = (a.0, a.1, added_more a.0 t u parts q a.2 j)
+
+fit_more : (p : Contents) (counts : List ℕ) (s new : SeriesValue) (before : Option (List Part)) (last : Option Part)
+    → IfSome before (λ parts. FitAs p parts counts s) → IfSome last (λ q. Joins s (Some q.certificate) (Some q.recording) new)
+    → IfSome (with_part before last) (λ parts. FitAs p parts (counts ++ (new.entries ∷ [])) new)
+fit_more p counts s new None last h j = tt
+fit_more p counts s new (Some parts) None h j = tt
+fit_more p counts s new (Some parts) (Some q) h j =
+    record {
+      added = added_more (no_parts p) s new parts q h.added j;
+      counted = map-append entries_of parts (q ∷ []) ∙ rw (h.counted, j.fits.entries) refl;
+    }
+
+pub refusal_works : (r : Result SeriesAnswer RunFault) (place : ℕ) (f : StreamFault) (Works : Type 0) → IfOk r (IsRefusal place f) → ((g : CertFault) → f ≡ stream.Cert g → Works) → OnOk r Works
+refusal_works (Ok a) place f Works h works = works h.0 h.2
+refusal_works (Err e) place f Works h works = tt
+
+-- what is at the next place
+pub at_next : (part other : ℕ → Option Part) (place i : ℕ) (Q : Part → Type 0) → other ≡ part → place ≡ i → IfSome (other (place + 1)) Q → IfSome (part (suc i)) Q
+at_next part other place i Q e f h = let next : place + 1 ≡ suc i = omega (arith, f) in subst (λ (k : ℕ). IfSome (part k) Q) next (subst (λ (g : ℕ → Option Part). IfSome (g (place + 1)) Q) e h)
+
+slice_here : (xs : List ℕ) (i : ℕ) → i < length xs → slice_get xs i ≡ Some (get_or xs i 0)
+slice_here [] i h = absurd (omega (arith, h))
+slice_here (x ∷ xs) zero h = refl
+slice_here (x ∷ xs) (suc i) h = slice_here xs i (omega (arith, h))
+
+some_is : {x y : ℕ} → Some x ≡ Some y → x ≡ y
+some_is e = cc e
+
+module _ (p : Contents) (part : ℕ → Option Part) (counts : List ℕ) where
+  -- so many parts fit
+  abbrev pub SoFar : ℕ → SeriesValue → Type 0
+  SoFar i s = IfSome (first_parts part i) (λ parts. FitAs p parts (take i counts) s)
+
+  pub none_yet : SoFar 0 (no_parts p)
+  none_yet = record { added = refl; counted = refl }
+
+  pub one_more : (i : ℕ) (s new : SeriesValue) → SoFar i s → IfSome (part (suc i)) (λ q. Joins s (Some q.certificate) (Some q.recording) new)
+      → IfSome (first_parts part (suc i)) (λ parts. FitAs p parts (take i counts ++ (new.entries ∷ [])) new)
+  one_more i s new h j = fit_more p (take i counts) s new (first_parts part i) (part (suc i)) h j
+
+  pub goes_on : (i : ℕ) (s new : SeriesValue) → i < length counts → new.entries ≡ get_or counts i 0 → SoFar i s → IfSome (part (suc i)) (λ q. Joins s (Some q.certificate) (Some q.recording) new) → SoFar (i + 1) new
+  goes_on i s new inside same h j =
+      let next : i + 1 ≡ suc i = omega arith in
+      let more : take (suc i) counts ≡ take i counts ++ (get_or counts i 0 ∷ []) = subst (λ (k : ℕ). take k counts ≡ take i counts ++ (get_or counts i 0 ∷ [])) next (take_more counts i 0 inside) in
+      subst (λ (k : ℕ). SoFar k new) (sym next) (subst (λ (l : List ℕ). IfSome (first_parts part (suc i)) (λ parts. FitAs p parts l new)) (ap (λ n. take i counts ++ (n ∷ [])) same ∙ sym more) (one_more i s new h j))
+
+  pub miscounted : (i : ℕ) (s new : SeriesValue) → i < length counts → slice_get counts i ≢ Some new.entries → SoFar i s → IfSome (part (suc i)) (λ q. Joins s (Some q.certificate) (Some q.recording) new) → IsMiscounted p part counts (suc i) new.entries
+  miscounted i s new inside other h j = record { before = i; next = refl; listed = inside; other = other; fit = fitting (first_parts part (suc i)) (one_more i s new h j) }
+    where
+      fitting : (o : Option (List Part)) → IfSome o (λ parts. FitAs p parts (take i counts ++ (new.entries ∷ [])) new) → IfSome o (λ parts. (t : SeriesValue) × FitAs p parts (take i counts ++ (new.entries ∷ [])) t)
+      fitting None h = tt
+      fitting (Some parts) h = (new, h)
+
+  pub refused_here : (i : ℕ) (s : SeriesValue) (f : StreamFault) → i < length counts → SoFar i s → IfSome (part (suc i)) (λ q. IsPartFault s f q.certificate q.recording) → IsRefusedAt p part counts (suc i) f
+  refused_here i s f inside h j = record { before = i; next = refl; listed = inside; refused = both (first_parts part i) (part (suc i)) h j }
+    where
+      both : (before : Option (List Part)) (last : Option Part) → IfSome before (λ parts. FitAs p parts (take i counts) s) → IfSome last (λ q. IsPartFault s f q.certificate q.recording)
+          → IfSome before (λ parts. IfSome last (λ q. (t : SeriesValue) × FitAs p parts (take i counts) t × IsPartFault t f q.certificate q.recording))
+      both None last h j = tt
+      both (Some parts) None h j = tt
+      both (Some parts) (Some q) h j = (s, h, j)
+
+  pub refused_at : (place i : ℕ) (s : SeriesValue) (f : StreamFault) → place ≡ i → i < length counts → SoFar i s → IfSome (part (suc i)) (λ q. IsPartFault s f q.certificate q.recording) → IsRefusedAt p part counts (place + 1) f
+  refused_at place i s f e inside h j = let next : place + 1 ≡ suc i = omega (arith, e) in subst (λ (k : ℕ). IsRefusedAt p part counts k f) (sym next) (refused_here i s f inside h j)
+
+  pub miscounted_at : (place i n : ℕ) (s new : SeriesValue) → place ≡ i → n ≡ new.entries → i < length counts → (n ≡ get_or counts i 0 → ⊥) → SoFar i s → IfSome (part (suc i)) (λ q. Joins s (Some q.certificate) (Some q.recording) new)
+      → IsMiscounted p part counts (place + 1) n
+  miscounted_at place i n s new e same inside other h j =
+      let next : place + 1 ≡ suc i = omega (arith, e) in
+      let here = miscounted i s new inside (λ g. other (same ∙ some_is (sym g ∙ slice_here counts i inside))) h j in
+      subst (λ (k : ℕ). IsMiscounted p part counts k n) (sym next) (subst (λ (m : ℕ). IsMiscounted p part counts (suc i) m) (sym same) here)
+
+  -- the answer where a part is refused
+  pub refusal_answers : (r : Result SeriesAnswer RunFault) (place : ℕ) (f : StreamFault) → IfOk r (IsRefusal place f) → IsRefusedAt p part counts place f → IfOk r (IsSeriesAnswer p part counts)
+  refusal_answers (Ok a) place f h here = subst (IsSeriesAnswer p part counts) (sym h.1) (subst (IsRefusedAt p part counts place) h.2 here, h.3)
+  refusal_answers (Err e) place f h here = tt
+
+  pub refusal_faults : (Failed : Type 0) (r : Result SeriesAnswer RunFault) (f : StreamFault) → IfErr r (λ e. e ≡ of_stream f) → IsPartsFault p part counts Failed (of_stream f) → IfErr r (IsPartsFault p part counts Failed)
+  refusal_faults Failed (Ok a) f h here = tt
+  refusal_faults Failed (Err e) f h here = subst (IsPartsFault p part counts Failed) (sym h) here
+
+  pub all_fit : (s : SeriesValue) → ((parts : List Part) (t : SeriesValue) → AreAdded (no_parts p) parts t → IsOneRun p (joined parts) t.files) → SoFar (length counts) s → AreOneRun p part counts s.files
+  all_fit s law h = by (first_parts part (length counts)) h
+    where
+      by : (o : Option (List Part)) → IfSome o (λ parts. FitAs p parts (take (length counts) counts) s) → IfSome o (λ parts. IsOneRun p (joined parts) s.files × (map entries_of parts ≡ counts))
+      by None h = tt
+      by (Some parts) h = (law parts s h.added, h.counted ∙ take_all (length counts) counts (omega arith))
+
+  -- ---- a fault, as a command reports it
+
+  pub by_part : (Failed : Type 0) (place : ℕ) (f : StreamFault) → IsRefusedAt p part counts place f → (f ≡ stream.Device → Failed) → (f ≡ stream.Read read.Device → Failed) → IsPartsFault p part counts Failed (of_stream f)
+  by_part Failed place f here a b = by f here a b
+    where
+      by : (f : StreamFault) → IsRefusedAt p part counts place f → (f ≡ stream.Device → Failed) → (f ≡ stream.Read read.Device → Failed) → IsPartsFault p part counts Failed (of_stream f)
+      by (stream.Cert f) here a b = tt
+      by (stream.Read read.Header) here a b = (refl, (place, here))
+      by (stream.Read (read.Row n)) here a b = (refl, (place, here))
+      by (stream.Read (read.TimeBack n)) here a b = (refl, (place, here))
+      by (stream.Read read.TooMany) here a b = (refl, (place, here))
+      by (stream.Read read.Failed) here a b = (refl, (place, here))
+      by (stream.Read read.Device) here a b = b refl
+      by (stream.Read read.OutOfMemory) here a b = tt
+      by stream.Device here a b = a refl
+      by stream.OutOfMemory here a b = tt
+
+-- ---- why there is no verdict
+
+pub by_profile : (i : SeriesInput) (Failed : Type 0) (e : RunFault) → IsProfileFault i.profile e → IsSeriesFault i Failed e
+by_profile i Failed (run.Profile f) h = h
+by_profile i Failed run.Memory h = h
+by_profile i Failed (run.Read f) h = absurd h
+by_profile i Failed run.Device h = absurd h
+by_profile i Failed (run.Cut k f) h = absurd h
+by_profile i Failed run.TooLong h = absurd h
+by_profile i Failed run.BadWord h = absurd h
+by_profile i Failed run.Usage h = absurd h
+
+pub by_parts : (i : SeriesInput) (Failed More : Type 0) (p : Contents) (counts : List ℕ) (e : RunFault) → IsProfileOf i.profile p → ListsParts i.list counts → (Failed → More) → IsPartsFault p i.part counts Failed e → IsSeriesFault i More e
+by_parts i Failed More p counts (run.Profile f) is listed more h = absurd h
+by_parts i Failed More p counts run.Memory is listed more h = is.0
+by_parts i Failed More p counts (run.Read f) is listed more h = (h.0, (p, counts, h.1.0, is, listed, h.1.1))
+by_parts i Failed More p counts run.Device is listed more h = more h
+by_parts i Failed More p counts (run.Cut k f) is listed more h = absurd h
+by_parts i Failed More p counts run.TooLong is listed more h = absurd h
+by_parts i Failed More p counts run.BadWord is listed more h = absurd h
+by_parts i Failed More p counts run.Usage is listed more h = absurd h
+
+-- ---- a verdict
+
+pub verdict_of : (i : SeriesInput) (p : Contents) (counts : List ℕ) (a : SeriesAnswer) → IsProfileOf i.profile p → ListsParts i.list counts → IsSeriesAnswer p i.part counts a → IsSeriesVerdict i (status_of_series a) (text_of_series a)
+verdict_of i p counts a is listed here = judged p is counts listed a here refl refl
+
+pub verdict_of_none : (i : SeriesInput) (p : Contents) → IsProfileOf i.profile p → ((counts : List ℕ) → ListsParts i.list counts → ⊥) → IsSeriesVerdict i 2 (codes "NO parts\n")
+verdict_of_none i p is none = not_listed p is none refl refl
+
+-- the output alone has failed, in the text of a verdict
+pub cut_in_verdict : {W : Type 0} (o : Output W) (i : SeriesInput) (before after : Bool) (status : ℕ) (text : List ℕ) → (before ≡ false → after ≡ false) → IsSeriesVerdict i status text
+    → Writes o.contents o.old o.new text → has_failed o.new ≡ true → IsCutShort o (FailsIn before after) (IsSomeSeriesVerdict i) run.Device
+cut_in_verdict o i before after status text works is writes failed =
+    inr (record { device = refl; failed = failed; alone = λ h. absurd (cc (works h.0, h.1)); prefix = (text, (status, is), writes.prefix) })

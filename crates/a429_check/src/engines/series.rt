@@ -1,0 +1,201 @@
+//! `a429 series PROFILE DIR`: whether the certificates of a recording's parts explain all of it.
+
+ghost use Rattle.std.specs.Prelude.{◌≡◌, ◌≢◌, ◌↔◌, ◌⊎◌, ◌<◌, ◌++◌, codes, length, true, false, Err, IsErr, IsErrOf, IfOk, IfErr, IfSome, OnOk};
+ghost use Rattle.std.specs.Fmt.{decimal};
+ghost use Rattle.a429_word.specs.Tally.{has_failed};
+ghost use Rattle.a429_word.specs.Sheet.{Says, Writes};
+ghost use Rattle.a429_profile.specs.Profile.{IsProfile};
+ghost use Rattle.a429_record.specs.declared.fault.ReadFault.TheVariants as read;
+ghost use Rattle.a429_cert.specs.Series.{IsPartFault, Joins};
+ghost use Rattle.a429_cert.specs.declared.fault.CertFault.{CertFault};
+ghost use Rattle.a429_check.specs.Output.{output, IsCutShort, PutsText};
+ghost use Rattle.a429_check.specs.Verdict.{fault_text, of_stream};
+ghost use Rattle.a429_check.specs.Series.{part_text, series_input, status_of_series, text_of_series, FailsIn, IsPartsFault, IsRefusal, IsSeriesAnswer, IsSeriesFault, IsSeriesVerdict, IsSomeSeriesVerdict};
+
+use crate::engines::part_list::read_parts;
+use crate::engines::parts::Parts;
+use crate::engines::profile::profile_of;
+use crate::engines::verdict::{of_certificate, put_fault, put_yes};
+use crate::fault::RunFault;
+use a429_cert::{CertFault, OutOfMemory, Series, StreamFault};
+use a429_profile::Profile;
+use a429_word::{Device, Failing, Page, Sheet, Tally, Trouble};
+use std::alloc::Global;
+use std::io::{Read, Write};
+
+/// What is answered of parts that are listed.
+#[derive(Drop)]
+pub(crate) enum SeriesAnswer {
+    /// They are one run, which delivers files of these numbers and lengths.
+    Files(Vec<(u8, u32)>),
+    /// The part at this place has this fault.
+    Refused(u64, CertFault),
+    /// The part at this place has so many entries, and another number is listed.
+    Miscounted(u64, u64),
+}
+
+/// Writes the verdict on the parts of a recording, and answers its status: 0 where their certificates explain them as
+/// one run, so that each run that records the same words delivers the files that are listed, and 2 where a part is
+/// refused, has another number of entries than the list says, or there is no list. `profile` and `list` are bytes of
+/// texts. The parts are opened one after the other, and each is read as a stream.
+pub fn run_series<R: Read + Drop, C: Read + Drop, P: Parts<R, C>, W: Write>(
+    alloc: Global,
+    profile: &[u8],
+    list: &[u8],
+    parts: &mut P,
+    out: &mut Tally<W>,
+) -> Result<u8, RunFault>
+    ensures verdict { IfOk result (λ status. PutsText W.contents out.old out.new
+        (IsSeriesVerdict (series_input profile.now list.now (P.part parts.old)) status)) }
+    ensures works { OnOk result ((P.failed parts.old ≡ false → P.failed parts.new ≡ false) × (has_failed out.new ≡ false)) }
+    ensures err { IfErr result (IsSeriesFault (series_input profile.now list.now (P.part parts.old))
+        ((P.failed parts.new ≡ true) ⊎ (has_failed out.new ≡ true))) }
+    ensures cut { IfErr result (IsCutShort (output W.contents out.old out.new) (FailsIn (P.failed parts.old) (P.failed parts.new))
+        (IsSomeSeriesVerdict (series_input profile.now list.now (P.part parts.old)))) }
+{
+    let profile = profile_of(alloc, profile)?;
+    match read_parts(alloc, list) {
+        Ok(Some(counts)) => {
+            let answer = judge_parts(alloc, &profile, counts.as_slice(), parts)?;
+            Ok(write_series(out, &answer)?)
+        }
+        Ok(None) => Ok(write_not_listed(out)?),
+        Err(OutOfMemory) => Err(RunFault::Memory),
+    }
+}
+
+// Judges the parts, which are to have so many entries.
+fn judge_parts<R: Read + Drop, C: Read + Drop, P: Parts<R, C>>(
+    alloc: Global,
+    profile: &Profile,
+    counts: &[u64],
+    parts: &mut P,
+) -> Result<SeriesAnswer, RunFault>
+    ensures judged { IfOk result (IsSeriesAnswer profile.now (P.part parts.old) counts.now) }
+    ensures works { OnOk result (P.failed parts.old ≡ false → P.failed parts.new ≡ false) }
+    ensures err { IfErr result (IsPartsFault profile.now (P.part parts.old) counts.now (P.failed parts.new ≡ true)) }
+{
+    // (for the proof: the profile is sound)
+    let _codes = profile.codes();
+    let mut series = Series::new(alloc, profile);
+    let mut place: u64 = 0;
+    'parts: for count in counts {
+        place += 1;
+        series = match add_part(series, parts, place) {
+            Ok(series) => series,
+            Err(fault) => return refused(place, fault),
+        };
+        let entries = series.entries() as u64;
+        if entries != *count {
+            return Ok(SeriesAnswer::Miscounted(place, entries));
+        }
+    }
+    Ok(SeriesAnswer::Files(series.into_files()))
+}
+
+// Adds the part at this place.
+fn add_part<'a, R: Read + Drop, C: Read + Drop, P: Parts<R, C>>(
+    series: Series<'a>,
+    parts: &mut P,
+    place: u64,
+) -> Result<Series<'a>, StreamFault>
+    ensures ok { IfOk result (λ new. IfSome (P.part parts.old place) (λ q. Joins series.entry (Some q.certificate) (Some q.recording) new)) }
+    ensures err { IfErr result (λ f. IfSome (P.part parts.old place) (λ q. IsPartFault series.entry f q.certificate q.recording)) }
+    ensures works { OnOk result (P.failed parts.new ≡ false) }
+    ensures refused { IfErr result (λ f. (g : CertFault) → f ≡ StreamFault.Cert g → P.failed parts.new ≡ false) }
+    ensures device { IsErrOf result StreamFault.Device → P.failed parts.new ≡ true }
+    ensures read { IsErrOf result (StreamFault.Read read.Device) → P.failed parts.new ≡ true }
+    ensures same { P.part parts.new ≡ P.part parts.old }
+{
+    let mut part = match parts.open(place) {
+        Ok(part) => part,
+        Err(Trouble::Device) => return Err(StreamFault::Device),
+        Err(Trouble::OutOfMemory) => return Err(StreamFault::OutOfMemory),
+    };
+    let added = series.add(&mut part.rec, &mut part.cert);
+    parts.note(part.rec.failed() || part.cert.failed());
+    if parts.failed() {
+        return Err(StreamFault::Device);
+    }
+    added
+}
+
+// The answer where the part at this place is refused.
+fn refused(place: u64, fault: StreamFault) -> Result<SeriesAnswer, RunFault>
+    ensures ok { IfOk result (IsRefusal place fault) }
+    ensures err { IfErr result (λ e. e ≡ of_stream fault) }
+{
+    match of_certificate(fault) {
+        Ok(fault) => Ok(SeriesAnswer::Refused(place, fault)),
+        Err(fault) => Err(fault),
+    }
+}
+
+// Writes the verdict on parts that are listed, and answers its status.
+fn write_series<W: Write>(out: &mut Tally<W>, answer: &SeriesAnswer) -> Result<u8, Device>
+    ensures status { IfOk result (λ status. status ≡ status_of_series answer.now) }
+    ensures written { Writes W.contents out.old out.new (text_of_series answer.now) }
+    ensures device { IsErr result ↔ (has_failed out.new ≡ true) }
+{
+    let mut page = Page::without_room();
+    let mut sheet = Sheet::new(out, &mut page);
+    put_series(&mut sheet, answer);
+    sheet.finish()?;
+    Ok(status_of(answer))
+}
+
+fn status_of(answer: &SeriesAnswer) -> u8
+    ensures { result ≡ status_of_series answer.now }
+{
+    match answer {
+        SeriesAnswer::Files(_) => 0,
+        SeriesAnswer::Refused(..) | SeriesAnswer::Miscounted(..) => 2,
+    }
+}
+
+fn put_series<W: Write>(sheet: &mut Sheet<'_, W>, answer: &SeriesAnswer)
+    ensures { Says W.contents sheet.old sheet.new (text_of_series answer.now) }
+{
+    match answer {
+        SeriesAnswer::Files(files) => put_yes(sheet, files.as_slice()),
+        SeriesAnswer::Refused(place, fault) => put_refused(sheet, *place, *fault),
+        SeriesAnswer::Miscounted(place, entries) => put_miscounted(sheet, *place, *entries),
+    }
+}
+
+fn put_refused<W: Write>(sheet: &mut Sheet<'_, W>, place: u64, fault: CertFault)
+    ensures { Says W.contents sheet.old sheet.new (part_text place ++ codes " " ++ fault_text fault) }
+{
+    put_part(sheet, place);
+    sheet.put(b" ");
+    put_fault(sheet, fault);
+}
+
+fn put_miscounted<W: Write>(sheet: &mut Sheet<'_, W>, place: u64, entries: u64)
+    ensures { Says W.contents sheet.old sheet.new (part_text place ++ codes " entries " ++ decimal entries ++ codes "\n") }
+{
+    put_part(sheet, place);
+    sheet.put(b" entries ");
+    sheet.put_number(entries);
+    sheet.put(b"\n");
+}
+
+fn put_part<W: Write>(sheet: &mut Sheet<'_, W>, place: u64)
+    ensures { Says W.contents sheet.old sheet.new (part_text place) }
+{
+    sheet.put(b"NO part ");
+    sheet.put_number(place);
+}
+
+// Writes that the parts are not listed, and answers the status.
+fn write_not_listed<W: Write>(out: &mut Tally<W>) -> Result<u8, Device>
+    ensures status { IfOk result (λ status. status ≡ 2) }
+    ensures written { Writes W.contents out.old out.new (codes "NO parts\n") }
+    ensures device { IsErr result ↔ (has_failed out.new ≡ true) }
+{
+    let mut page = Page::without_room();
+    let mut sheet = Sheet::new(out, &mut page);
+    sheet.put(b"NO parts\n");
+    sheet.finish()?;
+    Ok(2)
+}
