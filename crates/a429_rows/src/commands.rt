@@ -13,6 +13,7 @@ pub(crate) mod make;
 pub(crate) mod pack;
 mod picture;
 pub(crate) mod show;
+mod series;
 mod survey;
 pub(crate) mod units;
 pub(crate) mod upgrade;
