@@ -4,17 +4,20 @@
 use a429_check::{
     Claim, Command, Folder, PartFolder, Rule, RunFault, Span, command, read_whole, report,
     run_by_rule, run_cut, run_extract, run_forms, run_keep, run_labels, run_make, run_pack,
-    run_picture, run_show, run_survey, run_trace, run_units, run_upgrade, run_verify, run_version,
-    run_word,
+    run_picture, run_series, run_show, run_survey, run_trace, run_units, run_upgrade, run_verify,
+    run_version, run_word,
 };
 use a429_record::EntryReader;
 use a429_view::UnitRows;
 use a429_word::{Tally, Trouble};
+use part_files::PartFiles;
 use std::alloc::Global;
 use std::io::{BufReader, BufWriter, ErrorKind, Read, Write};
 use std::process::ExitCode;
 use std::rt::{Env, Files};
 use std::{env, fs, io};
+
+mod part_files;
 
 // How many bytes of a profile, of a recording or of a file to send are read at most.
 const CAP: u64 = 67_108_864;
@@ -87,6 +90,7 @@ fn answer<W: Write + Drop>(
         Command::Check(claim) => find(rt, alloc, claim, Rule::Check, &mut out),
         Command::Decide(claim) => find(rt, alloc, claim, Rule::Decide, &mut out),
         Command::Verify(claim) => verify(rt, alloc, claim, &mut out),
+        Command::Series { profile, folder } => series(rt, alloc, profile, folder, &mut out),
         Command::Units(claim) => return units(rt, alloc, claim, out),
         Command::Picture { claim, span } => picture(rt, alloc, claim, span, &mut out),
         Command::Extract { claim, folder } => extract(rt, alloc, claim, folder, &mut out),
@@ -254,6 +258,19 @@ fn verify<W: Write>(
         &mut case.cert,
         out,
     )
+}
+
+fn series<W: Write>(
+    rt: &impl Files,
+    alloc: Global,
+    profile: &str,
+    folder: &str,
+    out: &mut Tally<W>,
+) -> Result<u8, RunFault> {
+    let profile = bytes_of(rt, alloc, profile)?;
+    let mut parts = PartFiles::new(rt, alloc, folder);
+    let list = parts.list()?;
+    run_series(alloc, profile.as_slice(), list.as_slice(), &mut parts, out)
 }
 
 // The rows have the output to themselves: what waits to be written is flushed here.

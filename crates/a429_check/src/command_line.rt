@@ -52,6 +52,10 @@ fn command_of<'a>(alloc: Global, matches: &ArgMatches<'a>) -> Result<Command<'a>
             }),
             _ => Err(RunFault::Usage),
         },
+        Some(("series", given)) => match (given.get_str("PROFILE"), given.get_str("DIR")) {
+            (Some(profile), Some(folder)) => Ok(Command::Series { profile, folder }),
+            _ => Err(RunFault::Usage),
+        },
         Some(("make", given)) => match given.get_str("PROFILE") {
             Some(profile) => Ok(Command::Make {
                 profile,
@@ -220,6 +224,7 @@ fn parser<'a>(alloc: Global) -> Result<Parser<'a>, AllocError> {
     let all = with(all, with_folder(alloc, "extract"))?;
     let all = with(all, with_span(alloc, "picture"))?;
     let all = with(all, with_output(alloc, "upgrade"))?;
+    let all = with(all, with_parts(alloc, "series"))?;
     with(all, with_files(alloc, "make"))
 }
 
@@ -267,6 +272,11 @@ fn with_parts<'a>(alloc: Global, name: &'a str) -> Result<Parser<'a>, AllocError
 fn with_output<'a>(alloc: Global, name: &'a str) -> Result<Parser<'a>, AllocError> {
     let parser = Parser::new(alloc, name).arg(once(alloc, "CERT"))?;
     parser.arg(once(alloc, "OUT"))
+}
+
+// A command that takes a profile and the folder of a recording's parts.
+fn with_parts<'a>(alloc: Global, name: &'a str) -> Result<Parser<'a>, AllocError> {
+    with_profile(alloc, name)?.arg(once(alloc, "DIR"))
 }
 
 // A command that takes a profile and any number of files.

@@ -11,7 +11,7 @@ pub mod make;
 pub mod pack;
 pub mod part_folder;
 mod part_list;
-pub mod parts;
+pub mod part_source;
 pub mod picture;
 mod profile;
 mod recording;

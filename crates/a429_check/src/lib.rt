@@ -19,7 +19,7 @@ pub use crate::engines::labels::run_labels;
 pub use crate::engines::make::run_make;
 pub use crate::engines::pack::run_pack;
 pub use crate::engines::part_folder::PartFolder;
-pub use crate::engines::parts::{OpenPart, Parts};
+pub use crate::engines::part_source::{OpenPart, PartSource};
 pub use crate::engines::picture::run_picture;
 pub use crate::engines::rule::Rule;
 pub use crate::engines::series::run_series;

@@ -14,6 +14,7 @@ pub(crate) mod make;
 pub(crate) mod pack;
 mod picture;
 pub(crate) mod show;
+mod series;
 mod survey;
 pub(crate) mod units;
 pub(crate) mod upgrade;

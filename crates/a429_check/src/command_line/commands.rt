@@ -64,6 +64,11 @@ pub enum Command<'a> {
     },
     /// `verify PROFILE REC CERT`: holds a certificate against a recording.
     Verify(Claim<'a>),
+    /// `series PROFILE DIR`: holds the certificates of a recording's parts against them, as one run.
+    Series {
+        profile: &'a str,
+        folder: &'a str,
+    },
     /// `units PROFILE REC CERT`: lists the link data units that a certificate loads, a row for each.
     Units(Claim<'a>),
     /// `picture PROFILE REC CERT FROM TO`: draws the steps of the entries FROM to TO.

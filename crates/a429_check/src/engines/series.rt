@@ -13,7 +13,7 @@ ghost use Rattle.a429_check.specs.Verdict.{fault_text, of_stream};
 ghost use Rattle.a429_check.specs.Series.{part_text, series_input, status_of_series, text_of_series, FailsIn, IsPartsFault, IsRefusal, IsSeriesAnswer, IsSeriesFault, IsSeriesVerdict, IsSomeSeriesVerdict};
 
 use crate::engines::part_list::read_parts;
-use crate::engines::parts::Parts;
+use crate::engines::part_source::PartSource;
 use crate::engines::profile::profile_of;
 use crate::engines::verdict::{of_certificate, put_fault, put_yes};
 use crate::fault::RunFault;
@@ -38,7 +38,7 @@ pub(crate) enum SeriesAnswer {
 /// one run, so that each run that records the same words delivers the files that are listed, and 2 where a part is
 /// refused, has another number of entries than the list says, or there is no list. `profile` and `list` are bytes of
 /// texts. The parts are opened one after the other, and each is read as a stream.
-pub fn run_series<R: Read + Drop, C: Read + Drop, P: Parts<R, C>, W: Write>(
+pub fn run_series<R: Read + Drop, C: Read + Drop, P: PartSource<R, C>, W: Write>(
     alloc: Global,
     profile: &[u8],
     list: &[u8],
@@ -65,7 +65,7 @@ pub fn run_series<R: Read + Drop, C: Read + Drop, P: Parts<R, C>, W: Write>(
 }
 
 // Judges the parts, which are to have so many entries.
-fn judge_parts<R: Read + Drop, C: Read + Drop, P: Parts<R, C>>(
+fn judge_parts<R: Read + Drop, C: Read + Drop, P: PartSource<R, C>>(
     alloc: Global,
     profile: &Profile,
     counts: &[u64],
@@ -94,7 +94,7 @@ fn judge_parts<R: Read + Drop, C: Read + Drop, P: Parts<R, C>>(
 }
 
 // Adds the part at this place.
-fn add_part<'a, R: Read + Drop, C: Read + Drop, P: Parts<R, C>>(
+fn add_part<'a, R: Read + Drop, C: Read + Drop, P: PartSource<R, C>>(
     series: Series<'a>,
     parts: &mut P,
     place: u64,

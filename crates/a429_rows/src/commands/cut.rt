@@ -1,6 +1,6 @@
 //! What `cut` puts and writes of small recordings, by the sample profile.
 
-use crate::calls::is_told;
+use crate::calls::is_printed;
 use a429_check::run_cut;
 use a429_parts::MemoryParts;
 use a429_record::EntryReader;
@@ -39,7 +39,7 @@ fn holds(alloc: Global, case: Case) -> bool {
     };
     is_listed
         && parts.parts().len() == case.count
-        && is_told(alloc, answer, written.as_slice(), case.text)
+        && is_printed(alloc, answer, written.as_slice(), case.text)
 }
 
 // Files 254 and 255, of one byte each.

@@ -10,7 +10,7 @@ use Rattle.a429_check.proofs.engines.series.run_series.Goals as goal
 
 pub returns-in_err-answer-in-Ok-Some-clause-err : goal.returns-in_err-answer-in-Ok-Some-clause-err
 returns-in_err-answer-in-Ok-Some-clause-err g c =
-    let i = series_input c.args.profile.now c.args.list.now (g.P.Parts.part c.args.parts.now) in
+    let i = series_input c.args.profile.now c.args.list.now (g.P.PartSource.part c.args.parts.now) in
     let read : ListsParts c.args.list.now c.in-Ok-Some.counts.items = rw c.in-Ok-Some.field-0-is at c.in-Ok-Some.ensures.some in
     let listed : ListsParts c.args.list.now c.as_slice.result.now = subst (ListsParts c.args.list.now) (sym c.as_slice.ensures.value) read in
     let p = err_from_is_err_and c.from_residual-in_err-answer-in-Ok-Some.result c.from_residual-in_err-answer-in-Ok-Some.ensures.1 in
@@ -19,7 +19,7 @@ returns-in_err-answer-in-Ok-Some-clause-err g c =
 pub returns-in_err-write_series-in-Ok-Some-clause-cut :
     goal.returns-in_err-write_series-in-Ok-Some-clause-cut
 returns-in_err-write_series-in-Ok-Some-clause-cut g c =
-    let i = series_input c.args.profile.now c.args.list.now (g.P.Parts.part c.args.parts.now) in
+    let i = series_input c.args.profile.now c.args.list.now (g.P.PartSource.part c.args.parts.now) in
     let read : ListsParts c.args.list.now c.in-Ok-Some.counts.items = rw c.in-Ok-Some.field-0-is at c.in-Ok-Some.ensures.some in
     let listed : ListsParts c.args.list.now c.as_slice.result.now = subst (ListsParts c.args.list.now) (sym c.as_slice.ensures.value) read in
     let a = c.in_ok-answer-in-Ok-Some.answer in
@@ -31,7 +31,7 @@ returns-in_err-write_series-in-Ok-Some-clause-cut g c =
 
 pub returns-in-Ok-Some-clause-verdict : goal.returns-in-Ok-Some-clause-verdict
 returns-in-Ok-Some-clause-verdict g c =
-    let i = series_input c.args.profile.now c.args.list.now (g.P.Parts.part c.args.parts.now) in
+    let i = series_input c.args.profile.now c.args.list.now (g.P.PartSource.part c.args.parts.now) in
     let read : ListsParts c.args.list.now c.in-Ok-Some.counts.items = rw c.in-Ok-Some.field-0-is at c.in-Ok-Some.ensures.some in
     let listed : ListsParts c.args.list.now c.as_slice.result.now = subst (ListsParts c.args.list.now) (sym c.as_slice.ensures.value) read in
     let a = c.in_ok-answer-in-Ok-Some.answer in
@@ -42,7 +42,7 @@ returns-in-Ok-Some-clause-verdict g c =
 pub returns-in_err-write_not_listed-in-Ok-None-clause-cut :
     goal.returns-in_err-write_not_listed-in-Ok-None-clause-cut
 returns-in_err-write_not_listed-in-Ok-None-clause-cut g c =
-    let i = series_input c.args.profile.now c.args.list.now (g.P.Parts.part c.args.parts.now) in
+    let i = series_input c.args.profile.now c.args.list.now (g.P.PartSource.part c.args.parts.now) in
     let failed = g.P.Failing.failed c.args.parts.now in
     let none = rw c.in-Ok-None.field-0-is at c.in-Ok-None.ensures.none in
     let p = err_from_is_err_and c.from_residual-in_err-write_not_listed-in-Ok-None.result c.from_residual-in_err-write_not_listed-in-Ok-None.ensures.1 in
@@ -52,7 +52,7 @@ returns-in_err-write_not_listed-in-Ok-None-clause-cut g c =
 
 pub returns-in-Ok-None-clause-verdict : goal.returns-in-Ok-None-clause-verdict
 returns-in-Ok-None-clause-verdict g c =
-    let i = series_input c.args.profile.now c.args.list.now (g.P.Parts.part c.args.parts.now) in
+    let i = series_input c.args.profile.now c.args.list.now (g.P.PartSource.part c.args.parts.now) in
     let none = rw c.in-Ok-None.field-0-is at c.in-Ok-None.ensures.none in
     let works = false_from_ne_true _ (λ failed. absurd (cc (c.in_ok-write_not_listed-in-Ok-None.ensures.device.1 failed))) in
     rw c.in_ok-write_not_listed-in-Ok-None.ensures.status

@@ -18,7 +18,7 @@ pub struct OpenPart<R: Read, C: Read> {
 
 /// The parts of a recording, each with its certificate. Contracts see the part at each place, from 1 on, where what
 /// its readers have to read is known.
-pub trait Parts<R: Read, C: Read>: Failing {
+pub trait PartSource<R: Read, C: Read>: Failing {
     ghost part: { Self → ℕ → Option Part };
 
     /// Opens the part at this place, from 1 on.
