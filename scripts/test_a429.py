@@ -50,27 +50,6 @@ class Builds(unittest.TestCase):
             self.assertEqual(self.start("word").communicate()[0], "word\n")
             self.assertEqual(self.calls(), calls)
 
-    def test_a_crate_is_proved_after_those_that_it_uses(self):
-        (self.root / "crates.txt").write_text("low: std\nside: low\nother: low\nunused: low\na429: low side other\n")
-        for it in ("low", "side", "other", "unused"):
-            (self.root / "crates" / it).mkdir()
-        (self.root / "bin/rt").write_text(RT.replace("called", '"begun ${PWD##*/}"') + 'echo "done ${PWD##*/}" >>"$CALLS"\n')
-        self.assertEqual(self.start("word").communicate()[0], "word\n")
-        calls = (self.root / "calls").read_text().splitlines()
-        self.assertEqual(calls[:2], ["begun low", "done low"])
-        self.assertEqual(sorted(calls[2:4]), ["begun other", "begun side"])
-        self.assertEqual(sorted(calls[4:6]), ["done other", "done side"])
-        self.assertEqual(calls[6:], ["begun a429", "done a429"])
-
-    def test_where_a_crate_is_not_proved_none_above_it_is_tried(self):
-        (self.root / "crates.txt").write_text("low:\na429: low\n")
-        (self.root / "crates/low").mkdir()
-        (self.root / "bin/rt").write_text('#!/bin/sh\necho called >>"$CALLS"\necho "a goal is open"\nexit 1\n')
-        call = self.start("word")
-        self.assertIn("a goal is open\na429: the program is not built", call.communicate()[1])
-        self.assertEqual(call.returncode, 125)
-        self.assertEqual(self.calls(), 1)
-
     def test_without_rt_the_status_is_125(self):
         call = self.start("word", path="none")
         self.assertIn("'rt', the toolchain's command, is not on the path", call.communicate()[1])
