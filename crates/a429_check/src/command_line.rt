@@ -224,7 +224,7 @@ fn parser<'a>(alloc: Global) -> Result<Parser<'a>, AllocError> {
     let all = with(all, with_folder(alloc, "extract"))?;
     let all = with(all, with_span(alloc, "picture"))?;
     let all = with(all, with_output(alloc, "upgrade"))?;
-    let all = with(all, with_parts(alloc, "series"))?;
+    let all = with(all, with_part_folder(alloc, "series"))?;
     with(all, with_files(alloc, "make"))
 }
 
@@ -275,7 +275,7 @@ fn with_output<'a>(alloc: Global, name: &'a str) -> Result<Parser<'a>, AllocErro
 }
 
 // A command that takes a profile and the folder of a recording's parts.
-fn with_parts<'a>(alloc: Global, name: &'a str) -> Result<Parser<'a>, AllocError> {
+fn with_part_folder<'a>(alloc: Global, name: &'a str) -> Result<Parser<'a>, AllocError> {
     with_profile(alloc, name)?.arg(once(alloc, "DIR"))
 }
 
