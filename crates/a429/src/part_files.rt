@@ -42,10 +42,7 @@ impl<'a, F: Files> PartFiles<'a, F> {
     }
 
     // The readers of the part at this place.
-    fn readers(
-        &self,
-        place: u64,
-    ) -> Result<OpenPart<F::File, BufReader<F::File>>, RunFault> {
+    fn readers(&self, place: u64) -> Result<OpenPart<F::File, BufReader<F::File>>, RunFault> {
         let rec = self.path(place, "csv")?;
         let rec = opened(self.rt, rec.as_str(), CAP)?;
         let cert = self.path(place, "cert")?;

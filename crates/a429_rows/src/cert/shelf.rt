@@ -72,7 +72,8 @@ fn takes_two(shelf: &mut MemoryShelf) -> bool {
 // Whether these are they.
 fn are_the_two(files: &[PutFile]) -> bool {
     match files {
-        [first, second] => noted(first, b"A") == Some((1, 255)) && noted(second, b"") == Some((2, 0)),
+        [first, second] => noted(first, b"A") == Some((1, 255))
+            && noted(second, b"") == Some((2, 0)),
         _ => false,
     }
 }

@@ -30,7 +30,8 @@ fn decision_is(alloc: Global, recording: &str, verdict: &str, certificate: &str)
     let mut cert = Tally::new(&mut text, 0);
     let mut out = Tally::new(&mut written, 0);
     let status = decide(alloc, &mut rec, &mut cert, &mut out);
-    is_printed(alloc, status, written.as_slice(), verdict) && text.as_slice() == certificate.as_bytes()
+    is_printed(alloc, status, written.as_slice(), verdict)
+        && text.as_slice() == certificate.as_bytes()
 }
 
 // The first recording with another answer or certificate.

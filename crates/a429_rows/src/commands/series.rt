@@ -63,7 +63,7 @@ const FILE_2: &str = "RTS CTS 60020123 PART EOT 450201A3";
 const FILE_3: &str = "RTS CTS E0030123 PART EOT C50301A3";
 
 // The recordings of these words, each with its certificate.
-fn given(alloc: Global, words: &[&str]) -> Result<Vec<Given>, Fail> {
+fn parts_of(alloc: Global, words: &[&str]) -> Result<Vec<Given>, Fail> {
     let mut parts = Vec::new(alloc);
     for words in words {
         let recording = recorded(alloc, words)?;
@@ -78,7 +78,7 @@ fn given(alloc: Global, words: &[&str]) -> Result<Vec<Given>, Fail> {
 
 // Whether `series` writes this text of parts with this list, after its status or its error line.
 fn prints(alloc: Global, words: &[&str], list: &str, text: &str) -> Result<bool, Fail> {
-    let given = given(alloc, words)?;
+    let given = parts_of(alloc, words)?;
     let mut parts = GivenParts {
         alloc,
         parts: given.as_slice(),
@@ -86,7 +86,13 @@ fn prints(alloc: Global, words: &[&str], list: &str, text: &str) -> Result<bool,
     };
     let mut written = Vec::new(alloc);
     let mut out = Tally::new(&mut written, 0);
-    let answer = run_series(alloc, PROFILE.as_bytes(), list.as_bytes(), &mut parts, &mut out);
+    let answer = run_series(
+        alloc,
+        PROFILE.as_bytes(),
+        list.as_bytes(),
+        &mut parts,
+        &mut out,
+    );
     Ok(is_printed(alloc, answer, written.as_slice(), text))
 }
 
@@ -101,14 +107,28 @@ fn parts_of_one_run(rt: HostRuntime) -> Result<(), Fail> {
     let alloc = rt.alloc();
     let all = "0\nYES files 3\nfile 1 1\nfile 2 1\nfile 3 1\n";
     assert!(rt; prints(alloc, &[FILE_1, FILE_2, FILE_3], THREE, all)?);
-    assert!(rt; prints(alloc, &[FILE_1, FILE_3], TWO, "0\nYES files 2\nfile 1 1\nfile 3 1\n")?);
+    assert!(rt;
+        prints(
+            alloc,
+            &[FILE_1, FILE_3],
+            TWO,
+            "0\nYES files 2\nfile 1 1\nfile 3 1\n"
+        )?
+    );
     Ok(())
 }
 
 #[test]
 fn parts_that_are_refused(rt: HostRuntime) -> Result<(), Fail> {
     let alloc = rt.alloc();
-    assert!(rt; prints(alloc, &[FILE_1, FILE_1], TWO, "2\nNO part 2 word differs 8 2\n")?);
+    assert!(rt;
+        prints(
+            alloc,
+            &[FILE_1, FILE_1],
+            TWO,
+            "2\nNO part 2 word differs 8 2\n"
+        )?
+    );
     assert!(rt; prints(alloc, &[FILE_1, FILE_2], OTHER, "2\nNO part 2 entries 6\n")?);
     assert!(rt; prints(alloc, &[FILE_1, FILE_2], "", "2\nNO parts\n")?);
     assert!(rt; prints(alloc, &[FILE_1], TWO, "device\n")?);

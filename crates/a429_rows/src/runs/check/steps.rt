@@ -209,7 +209,11 @@ impl<'a> Run<'a> {
         for _ in 0..tries {
             self.go(alloc, chance)?;
         }
-        let verdict = judged(alloc, self.printed.recorded.as_slice(), self.link.delivered())?;
+        let verdict = judged(
+            alloc,
+            self.printed.recorded.as_slice(),
+            self.link.delivered(),
+        )?;
         Ok(if self.is_right {
             verdict
         } else {
