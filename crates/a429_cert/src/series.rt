@@ -69,7 +69,7 @@ impl<'a> Series<'a> {
         }
     }
 
-    /// Adds the next part: its recording, and the certificate of it, both read as they come. The run goes on with the certificate's steps.
+    /// Adds the next part: its recording, and the certificate of it, both read as streams. The run goes on with the certificate's steps.
     /// Where the part's first file is past the source's, an idle source gives up the files between before, if it may (profile); the
     /// certificate's steps say whether the part fits. Else the fault is the part's first, as `verify_stream` has it, and the series ends.
     pub fn add<R: Read, C: Read>(
