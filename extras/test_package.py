@@ -56,9 +56,10 @@ class Package(unittest.TestCase):
         self.assertEqual(sorted(os.listdir(self.room / "one")), ["SHA256SUMS", "a429", f"{name}.deb", f"{name}.txt"])
 
     def test_the_version(self):
-        unreleased, released = re.findall(r"^## \[(.+)\]", (ROOT / "CHANGELOG.md").read_text(), re.MULTILINE)[:2]
+        _, unreleased, changes, released, *_ = re.split(r"^## \[(.+?)\]", (ROOT / "CHANGELOG.md").read_text(), flags=re.MULTILINE)
         self.assertEqual(unreleased, "Unreleased")
-        self.assertRegex(self.version, rf"^{re.escape(released)}(\+[0-9]{{8}}\.{self.commit[:8]})?$")
+        suffix = rf"\+[0-9]{{8}}\.{self.commit[:8]}" if re.search(r"^[^#\n]", changes, re.MULTILINE) else ""
+        self.assertRegex(self.version, rf"^{re.escape(released)}{suffix}$")
 
     def test_the_same_bytes_each_time(self):
         self.assertEqual(package(self.room / "two", self.gate).returncode, 0)
