@@ -32,5 +32,6 @@ pub mod StreamEndFacts
 pub mod BreakOffFacts
 pub mod EarlierFiles
 pub mod LikelyFacts
+pub mod BlockTextFacts
 pub mod SeriesFacts
 pub mod SeriesRun

@@ -22,7 +22,7 @@ use Rattle.a429_cert.specs.declared.line.CertLine.{CertLine}
 use Rattle.a429_cert.specs.declared.version.Version.{Version}
 use Rattle.a429_cert.specs.declared.version.Version.TheVariants.{One, Two}
 use Rattle.a429_cert.specs.declared.act.Act.TheVariants.{Sent, SinkTakes}
-use Rattle.a429_cert.specs.Likely.{sent_states, taken_states, sent_line, taken_line, texts_below, IsLikely}
+use Rattle.a429_cert.specs.Likely.{sent_states, taken_states, sent_line, taken_line, values_below, IsLikely}
 use Rattle.a429_cert.specs.StreamHead.{ReadsAtMost}
 use Rattle.a429_cert.specs.declared.stream_fault.StreamFault.TheVariants as stream
 use Rattle.a429_cert.proofs.LineShape.{IsVisible, line-visible}
@@ -76,23 +76,23 @@ taken_likely k text m least most = likely (record { act = SinkTakes; states = ta
 
 -- ---- the table
 
-pub one_more : (f : ℕ → List ℕ) (old new : List (List ℕ)) (n : ℕ) (text : List ℕ) → old ≡ texts_below f n → new ≡ old ++ text ∷ [] → text ≡ f n → new ≡ texts_below f (n + 1)
+pub one_more : {A : Type 0} (f : ℕ → A) (old new : List A) (n : ℕ) (text : A) → old ≡ values_below f n → new ≡ old ++ text ∷ [] → text ≡ f n → new ≡ values_below f (n + 1)
 one_more f old new n text e g h = rw (add-one, g, e, h) refl
 
-length-below : (f : ℕ → List ℕ) (n : ℕ) → length (texts_below f n) ≡ n
+length-below : {A : Type 0} (f : ℕ → A) (n : ℕ) → length (values_below f n) ≡ n
 length-below f zero = refl
-length-below f (suc n) = omega (arith, length-append (texts_below f n) (f n ∷ []), length-below f n)
+length-below f (suc n) = omega (arith, length-append (values_below f n) (f n ∷ []), length-below f n)
 
--- the text of a number below
-pub get-below : (f : ℕ → List ℕ) (n k : ℕ) (d : List ℕ) → k < n → get_or (texts_below f n) k d ≡ f k
+-- what a number below gives
+pub get-below : {A : Type 0} (f : ℕ → A) (n k : ℕ) (d : A) → k < n → get_or (values_below f n) k d ≡ f k
 get-below f zero k d h = absurd (omega arith)
 get-below f (suc n) k d h = by (get-below f n k d) (nat_lt k n) refl
   where
-    by : (k < n → get_or (texts_below f n) k d ≡ f k) → (b : Bool) → nat_lt k n ≡ b → get_or (texts_below f n ++ f n ∷ []) k d ≡ f k
-    by before true e = let less : k < n = grind (arith, nat_tests) in get_or_append_left (texts_below f n) (f n ∷ []) d k (omega (arith, length-below f n)) ∙ before less
+    by : (k < n → get_or (values_below f n) k d ≡ f k) → (b : Bool) → nat_lt k n ≡ b → get_or (values_below f n ++ f n ∷ []) k d ≡ f k
+    by before true e = let less : k < n = grind (arith, nat_tests) in get_or_append_left (values_below f n) (f n ∷ []) d k (omega (arith, length-below f n)) ∙ before less
     by before false e =
         let same : k ≡ n = grind (arith, nat_tests) in
-        rw same (get_or_push (texts_below f n) (f n) d n (length-below f n))
+        rw same (get_or_push (values_below f n) (f n) d n (length-below f n))
 
 -- ---- a line that was held against a text
 

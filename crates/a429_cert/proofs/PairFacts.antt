@@ -82,10 +82,10 @@ least_place p next s h = omega (arith, h.taken)
 apart : (a b : ℕ) → a < b → a ≢ b
 apart a b h e = omega (arith, h, e)
 
-sent_shows : (p : Contents) (next : NextWord) (s : State) → IsAtWord p next s → states_of (after_sent p next.word s) ≡ sent_states next.place
+pub sent_shows : (p : Contents) (next : NextWord) (s : State) → IsAtWord p next s → states_of (after_sent p next.word s) ≡ sent_states next.place
 sent_shows p next s h = rw (h.current, h.sending, ne_eqb _ _ (apart _ _ h.more), h.taking, h.taken, h.to_sink, h.to_source) refl
 
-taken_shows : (p : Contents) (next : NextWord) (s : State) → IsAtWord p next s → states_of (after_both p next.word s) ≡ taken_states next.place
+pub taken_shows : (p : Contents) (next : NextWord) (s : State) → IsAtWord p next s → states_of (after_both p next.word s) ≡ taken_states next.place
 taken_shows p next s h =
     let size : length (h.block.words ++ next.word ∷ []) + 1 ≡ suc next.place = omega (arith, h.taken, length-append h.block.words (next.word ∷ [])) in
     ap states_of (both_made p next s h) ∙ rw (h.current, h.sending, ne_eqb _ _ (apart _ _ h.more), h.taking, size, h.to_source) refl

@@ -22,4 +22,5 @@ pub mod StreamExplained
 pub mod BreakOff
 pub mod Told
 pub mod Likely
+pub mod BlockText
 pub mod Series

@@ -38,10 +38,10 @@ taken_text k = spelling (taken_line k)
 abbrev pub pair_text : ℕ → List ℕ
 pair_text k = sent_text k ++ 10 ∷ (taken_text k ++ 10 ∷ [])
 
--- the texts of the numbers below n, in order
-abbrev pub texts_below : (ℕ → List ℕ) → ℕ → List (List ℕ)
-texts_below text zero = []
-texts_below text (suc n) = texts_below text n ++ text n ∷ []
+-- what the numbers below n give, in order
+abbrev pub values_below : {A : Type 0} → (ℕ → A) → ℕ → List A
+values_below of zero = []
+values_below of (suc n) = values_below of n ++ of n ∷ []
 
 -- the text says this line, in each version
 abbrev pub SaysAlways : Option (List ℕ) → MovedLine → Type 0

@@ -3,6 +3,7 @@
 
 mod act;
 mod at;
+mod block_text;
 mod entry;
 mod explained;
 mod fault;
@@ -32,6 +33,7 @@ mod words;
 mod writing;
 
 pub use crate::act::{Act, letter_of};
+pub use crate::block_text::BlockText;
 pub use crate::entry::seen;
 pub use crate::explained::verify;
 pub use crate::fault::{CertFault, OutOfMemory};
@@ -48,4 +50,4 @@ pub use crate::stream_fault::StreamFault;
 pub use crate::verified::Verified;
 pub use crate::version::Version;
 pub use crate::words::Words;
-pub use crate::writing::{moved_text, write_line};
+pub use crate::writing::{moved_text, word_field, write_line};

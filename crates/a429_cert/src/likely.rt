@@ -2,7 +2,7 @@
 
 ghost use Rattle.std.specs.Prelude.{◌≡◌, ◌<◌, ◌≤◌, IfSome};
 ghost use Rattle.a429_cert.specs.declared.line.CertLine.TheVariants.{Moved};
-ghost use Rattle.a429_cert.specs.Likely.{pair_text, sent_line, sent_text, taken_line, taken_text, texts_below, IsLikely};
+ghost use Rattle.a429_cert.specs.Likely.{pair_text, sent_line, sent_text, taken_line, taken_text, values_below, IsLikely};
 
 use crate::act::Act;
 use crate::fault::OutOfMemory;
@@ -28,13 +28,13 @@ pub struct WordLines {
     sent: Vec<ShortText>,
     taken: Vec<ShortText>,
     pairs: Vec<ShortText>,
-    ghost sent_all: { sent.items ≡ texts_below sent_text 254 },
-    ghost taken_all: { taken.items ≡ texts_below taken_text 254 },
-    ghost pairs_all: { pairs.items ≡ texts_below pair_text 254 },
+    ghost sent_all: { sent.items ≡ values_below sent_text 254 },
+    ghost taken_all: { taken.items ≡ values_below taken_text 254 },
+    ghost pairs_all: { pairs.items ≡ values_below pair_text 254 },
 }
 
 impl WordLines {
-    ghost use Rattle.a429_cert.specs.Likely.{pair_text, sent_text, taken_text, texts_below};
+    ghost use Rattle.a429_cert.specs.Likely.{pair_text, sent_text, taken_text, values_below};
 
     pub fn new(alloc: Global) -> Result<WordLines, OutOfMemory> {
         let mut sent = Vec::with_capacity(alloc, WORDS)?;
@@ -109,7 +109,7 @@ impl WordLines {
 }
 
 // The line of word k, counted from 0, that is sent.
-fn sent_line(k: u8) -> MovedLine
+pub(crate) fn sent_line(k: u8) -> MovedLine
     requires { k < 254 }
     ensures { Moved result ≡ sent_line k }
 {
@@ -138,7 +138,7 @@ fn both_lines(k: u8) -> ShortText
 }
 
 // The line of the same word, which is taken.
-fn taken_line(k: u8) -> MovedLine
+pub(crate) fn taken_line(k: u8) -> MovedLine
     requires { k < 254 }
     ensures { Moved result ≡ taken_line k }
 {

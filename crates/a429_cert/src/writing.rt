@@ -132,9 +132,9 @@ fn put_word(number: u32, out: &mut Vec<u8>) -> Result<(), OutOfMemory>
     put(&word_field(number), out)
 }
 
-// The field of a word.
+/// The field of a word: a space, and its eight digits.
 #[inline(always)]
-fn word_field(number: u32) -> [u8; 9]
+pub fn word_field(number: u32) -> [u8; 9]
     ensures { result ≡ field (hex_text number) }
 {
     let hex = Word::from_u32(number).hex();

@@ -1,5 +1,5 @@
 -- What `cut` puts and writes, and what it leaves after a fault.
-use Rattle.std.proofs.Common.{◌≡◌, ◌⊎◌, ◌∙◌, ◌++◌, ℕ, List, [], append-nil, Bool, true, false, Option, Some, None, refl, sym, ap, inl, inr}
+use Rattle.std.proofs.Common.{◌≡◌, ◌⊎◌, ◌∙◌, ◌++◌, ℕ, List, length, [], append-nil, Bool, true, false, Option, Some, None, refl, sym, ap, inl, inr}
 use Rattle.std.specs.Prelude.{IfSome}
 use Rattle.a429_word.specs.declared.sheet.Sheet.{Sheet}
 use Rattle.a429_word.specs.declared.tally.Tally.{Tally}
@@ -14,7 +14,7 @@ use Rattle.a429_record.specs.declared.fault.ReadFault.TheVariants as read
 use Rattle.a429_record.specs.Recording.{Recording, whole}
 use Rattle.a429_record.specs.Rows.{Stops}
 use Rattle.a429_parts.specs.Keeping.{BeginsWith, with_entries}
-use Rattle.a429_parts.specs.Parts.{GainsAll, GainsList, GainsParts, IsSame, PutParts, list_text, numbered, with_list}
+use Rattle.a429_parts.specs.Parts.{GainsAll, GainsList, GainsParts, IsSame, PutParts, joined, list_text, numbered, with_list}
 use Rattle.a429_parts.specs.Parting.{CannotGoOn, CutsAll, CutsUntil, outputs}
 use Rattle.a429_check.specs.declared.fault.RunFault.{RunFault}
 use Rattle.a429_check.specs.declared.fault.RunFault.TheVariants as run
@@ -23,12 +23,12 @@ use Rattle.a429_check.specs.Streaming.{reported}
 use Rattle.a429_check.specs.Cut.{AnyOf, CutsInto, IsCutFault, IsFaultOfCut, LeavesFirst, Outlets, PutsAllParts, PutsFirstParts, PutsSomeParts, StopsBy, Task, outlets, task, troubled}
 
 -- entries, and then the rest of a recording, with a fault or by one of `cut`
-abbrev pub Ends : Option Recording → ℕ → List Entry → List Entry → ReadFault → Type 0
-Ends rec most entries rest f = IfSome rec (λ r. (later : Recording) × (r ≡ with_entries entries later) × (Stops f later ⊎ CannotGoOn most rest f))
+abbrev pub Ends : Contents → Option Recording → ℕ → List Entry → ℕ → List Entry → ReadFault → Type 0
+Ends p rec most entries from rest f = IfSome rec (λ r. (later : Recording) × (r ≡ with_entries entries later) × (Stops f later ⊎ CannotGoOn p most (entries ++ later.entries) from rest f))
 
-begins : (rec : Option Recording) (most : ℕ) (es rest : List Entry) (f : ReadFault) → Ends rec most es rest f → BeginsWith rec es
-begins None most es rest f h = tt
-begins (Some r) most es rest f (later, is, why) = (later, is)
+begins : (p : Contents) (rec : Option Recording) (most : ℕ) (es : List Entry) (from : ℕ) (rest : List Entry) (f : ReadFault) → Ends p rec most es from rest f → BeginsWith rec es
+begins p None most es from rest f h = tt
+begins p (Some r) most es from rest f (later, is, why) = (later, is)
 
 begins_all : (rec : Option Recording) (es : List Entry) → IfSome rec (λ r. r ≡ whole es) → BeginsWith rec es
 begins_all None es h = tt
@@ -39,37 +39,37 @@ begins_all (Some r) es h = (whole [], h ∙ ap whole (sym (append-nil es)))
 fault_is : (r later : Recording) (es : List Entry) (f : ReadFault) → r ≡ with_entries es later → later ≡ record { entries = []; fault = Some f } → r.fault ≡ Some f
 fault_is r later es f is stops = ap (λ (q : Recording). q.fault) is ∙ ap (λ (q : Recording). q.fault) stops
 
-fault_of_cut : (rec : Option Recording) (most : ℕ) (es rest : List Entry) (f : ReadFault) → Ends rec most es rest f → (f ≡ read.Device → ⊥) → (f ≡ read.OutOfMemory → ⊥) → IsFaultOfCut rec f
-fault_of_cut rec most es rest read.Device h a b = absurd (a refl)
-fault_of_cut rec most es rest read.OutOfMemory h a b = absurd (b refl)
-fault_of_cut rec most es rest read.TooMany h a b = inr refl
-fault_of_cut None most es rest read.Header h a b = inl tt
-fault_of_cut None most es rest (read.Row i) h a b = inl tt
-fault_of_cut None most es rest (read.TimeBack i) h a b = inl tt
-fault_of_cut None most es rest read.Failed h a b = inl tt
-fault_of_cut (Some r) most es rest read.Header (later, is, inl stops) a b = inl (fault_is r later es read.Header is stops)
-fault_of_cut (Some r) most es rest (read.Row i) (later, is, inl stops) a b = inl (fault_is r later es (read.Row i) is stops)
-fault_of_cut (Some r) most es rest (read.TimeBack i) (later, is, inl stops) a b = inl (fault_is r later es (read.TimeBack i) is stops)
-fault_of_cut (Some r) most es rest read.Failed (later, is, inl stops) a b = inl (fault_is r later es read.Failed is stops)
-fault_of_cut (Some r) most es rest read.Header (later, is, inr none) a b = absurd none
-fault_of_cut (Some r) most es rest (read.Row i) (later, is, inr none) a b = absurd none
-fault_of_cut (Some r) most es rest (read.TimeBack i) (later, is, inr none) a b = absurd none
-fault_of_cut (Some r) most es rest read.Failed (later, is, inr none) a b = absurd none
+fault_of_cut : (p : Contents) (rec : Option Recording) (most : ℕ) (es : List Entry) (from : ℕ) (rest : List Entry) (f : ReadFault) → Ends p rec most es from rest f → (f ≡ read.Device → ⊥) → (f ≡ read.OutOfMemory → ⊥) → IsFaultOfCut rec f
+fault_of_cut p rec most es from rest read.Device h a b = absurd (a refl)
+fault_of_cut p rec most es from rest read.OutOfMemory h a b = absurd (b refl)
+fault_of_cut p rec most es from rest read.TooMany h a b = inr refl
+fault_of_cut p None most es from rest read.Header h a b = inl tt
+fault_of_cut p None most es from rest (read.Row i) h a b = inl tt
+fault_of_cut p None most es from rest (read.TimeBack i) h a b = inl tt
+fault_of_cut p None most es from rest read.Failed h a b = inl tt
+fault_of_cut p (Some r) most es from rest read.Header (later, is, inl stops) a b = inl (fault_is r later es read.Header is stops)
+fault_of_cut p (Some r) most es from rest (read.Row i) (later, is, inl stops) a b = inl (fault_is r later es (read.Row i) is stops)
+fault_of_cut p (Some r) most es from rest (read.TimeBack i) (later, is, inl stops) a b = inl (fault_is r later es (read.TimeBack i) is stops)
+fault_of_cut p (Some r) most es from rest read.Failed (later, is, inl stops) a b = inl (fault_is r later es read.Failed is stops)
+fault_of_cut p (Some r) most es from rest read.Header (later, is, inr none) a b = absurd none
+fault_of_cut p (Some r) most es from rest (read.Row i) (later, is, inr none) a b = absurd none
+fault_of_cut p (Some r) most es from rest (read.TimeBack i) (later, is, inr none) a b = absurd none
+fault_of_cut p (Some r) most es from rest read.Failed (later, is, inr none) a b = absurd none
 
-ends : (rec : Option Recording) (most : ℕ) (es rest : List Entry) (f : ReadFault) (Failed : Type 0) → Ends rec most es rest f → (f ≡ read.Device → Failed) → StopsBy rec Failed (reported f)
-ends rec most es rest read.Device Failed h failed = failed refl
-ends rec most es rest read.OutOfMemory Failed h failed = tt
-ends rec most es rest read.Header Failed h failed = fault_of_cut rec most es rest read.Header h (λ e. absurd (cc e)) (λ e. absurd (cc e))
-ends rec most es rest (read.Row i) Failed h failed = fault_of_cut rec most es rest (read.Row i) h (λ e. absurd (cc e)) (λ e. absurd (cc e))
-ends rec most es rest (read.TimeBack i) Failed h failed = fault_of_cut rec most es rest (read.TimeBack i) h (λ e. absurd (cc e)) (λ e. absurd (cc e))
-ends rec most es rest read.TooMany Failed h failed = fault_of_cut rec most es rest read.TooMany h (λ e. absurd (cc e)) (λ e. absurd (cc e))
-ends rec most es rest read.Failed Failed h failed = fault_of_cut rec most es rest read.Failed h (λ e. absurd (cc e)) (λ e. absurd (cc e))
+ends : (p : Contents) (rec : Option Recording) (most : ℕ) (es : List Entry) (from : ℕ) (rest : List Entry) (f : ReadFault) (Failed : Type 0) → Ends p rec most es from rest f → (f ≡ read.Device → Failed) → StopsBy rec Failed (reported f)
+ends p rec most es from rest read.Device Failed h failed = failed refl
+ends p rec most es from rest read.OutOfMemory Failed h failed = tt
+ends p rec most es from rest read.Header Failed h failed = fault_of_cut p rec most es from rest read.Header h (λ e. absurd (cc e)) (λ e. absurd (cc e))
+ends p rec most es from rest (read.Row i) Failed h failed = fault_of_cut p rec most es from rest (read.Row i) h (λ e. absurd (cc e)) (λ e. absurd (cc e))
+ends p rec most es from rest (read.TimeBack i) Failed h failed = fault_of_cut p rec most es from rest (read.TimeBack i) h (λ e. absurd (cc e)) (λ e. absurd (cc e))
+ends p rec most es from rest read.TooMany Failed h failed = fault_of_cut p rec most es from rest read.TooMany h (λ e. absurd (cc e)) (λ e. absurd (cc e))
+ends p rec most es from rest read.Failed Failed h failed = fault_of_cut p rec most es from rest read.Failed h (λ e. absurd (cc e)) (λ e. absurd (cc e))
 
 -- ---- what is left
 
 module _ {W : Type 0} (contents : W → Option (List ℕ)) (p : Contents) (most : ℕ) (rec : Option Recording) {s t : Sheet W} (old new : Tally W) (a b : Option PutParts) where
   pub ends_by : (f : ReadFault) (Failed : Type 0) → CutsUntil p most rec (outputs contents a b s t) f → (f ≡ read.Device → Failed) → StopsBy rec Failed (reported f)
-  ends_by f Failed h failed = ends rec most h.entries h.rest f Failed h.ends failed
+  ends_by f Failed h failed = ends p rec most h.entries (length (joined h.parts)) h.rest f Failed h.ends failed
 
   pub cuts_into : (list : List ℕ) (all : CutsAll p most rec (outputs contents a b s t) list) → Writes contents old new (list_text all.parts) → CutsInto (task most rec) (outlets contents old new a b) p list
   cuts_into list all written = record { entries = all.entries; parts = all.parts; all = all.all; are = all.are; gains = all.puts.gains; text = all.text; writes = written }
@@ -78,7 +78,7 @@ module _ {W : Type 0} (contents : W → Option (List ℕ)) (p : Contents) (most 
   leaves_all list all written = record { entries = all.entries; parts = all.parts; first = begins_all rec all.entries all.all; are = inl all.are; gains = all.puts.gains; writes = written }
 
   pub leaves_some : (f : ReadFault) (until : CutsUntil p most rec (outputs contents a b s t) f) → Writes contents old new (list_text until.parts) → PutsSomeParts (task most rec) (outlets contents old new a b) p
-  leaves_some f h written = record { entries = h.entries; parts = h.parts; first = begins rec most h.entries h.rest f h.ends; are = inr (h.rest, h.are); gains = h.puts.gains; writes = written }
+  leaves_some f h written = record { entries = h.entries; parts = h.parts; first = begins p rec most h.entries (length (joined h.parts)) h.rest f h.ends; are = inr (h.rest, h.are); gains = h.puts.gains; writes = written }
 
   leaves_first : (f : ReadFault) (until : CutsUntil p most rec (outputs contents a b s t) f) → Writes contents old new (list_text until.parts) → has_failed new ≡ false → PutsFirstParts (task most rec) (outlets contents old new a b) f p
   leaves_first f h written works = record { entries = h.entries; parts = h.parts; rest = h.rest; are = h.are; ends = h.ends; gains = h.puts.gains; puts = written.all works }

@@ -1,10 +1,10 @@
 -- Entries that come one by one.
-use Rattle.std.proofs.Common.{◌≡◌, List, [], ◌∷◌, ◌++◌, append_assoc, append-nil, Bool, Option, Some, None, Ok, Err, refl, sym, ap, ◌∙◌, ℕ, inl}
+use Rattle.std.proofs.Common.{◌≡◌, List, [], ◌++◌, append-nil, Bool, Option, Some, None, Err, ap, ◌∙◌, ℕ, inl}
 use Rattle.std.specs.Prelude.{IfSome}
 use Rattle.a429_record.specs.declared.entry.Entry.{Entry}
 use Rattle.a429_record.specs.declared.fault.ReadFault.{ReadFault}
 use Rattle.a429_record.specs.declared.fault.ReadFault.TheVariants as read
-use Rattle.a429_record.specs.Recording.{Recording, whole}
+use Rattle.a429_record.specs.Recording.{Recording}
 use Rattle.a429_record.specs.Rows.{GivesNext}
 use Rattle.a429_check.specs.declared.fault.RunFault.{RunFault}
 use Rattle.a429_check.specs.declared.fault.RunFault.TheVariants as run
@@ -14,25 +14,8 @@ use Rattle.a429_view.specs.declared.survey.Survey.{Survey}
 use Rattle.a429_view.specs.Survey.{IsSurvey}
 use Rattle.a429_check.specs.Survey.{IsSomeSurvey, IsSurveyFault}
 use Rattle.a429_check.specs.Profile.{IsProfileOf}
-use Rattle.a429_check.specs.Streaming.{AreAllBefore, Came, IsFaultToCome, IsNextFault, reported}
-
-pub came_first : (first : Option Recording) → Came first [] first
-came_first None = tt
-came_first (Some r) = (r, refl, refl)
-
-pub came_more : (first left new : Option Recording) (es : List Entry) (e : Entry) → GivesNext left new (Ok (Some e)) → Came first es left → Came first (es ++ e ∷ []) new
-came_more None left new es e gives h = tt
-came_more (Some r) left new es e gives h =
-    let next = rw h.1 at gives in
-    let rest = next.0 in
-    let all = ap (λ (q : Recording). record { entries = es ++ q.entries; fault = q.fault }) next.2 in
-    (rest, next.1, h.2 ∙ all ∙ ap (λ (l : List Entry). record { entries = l; fault = rest.fault }) (sym (append_assoc es (e ∷ []) rest.entries)))
-
-pub came_whole : (first left new : Option Recording) (es : List Entry) → GivesNext left new (Ok None) → Came first es left → IfSome first (λ r. r ≡ whole es)
-came_whole None left new es gives h = tt
-came_whole (Some r) left new es gives h =
-    let end = rw h.1 at gives in
-    h.2 ∙ ap (λ (q : Recording). record { entries = es ++ q.entries; fault = q.fault }) end ∙ ap whole (append-nil es)
+use Rattle.a429_parts.proofs.KeepingFacts.{Came}
+use Rattle.a429_check.specs.Streaming.{AreAllBefore, IsFaultToCome, IsNextFault, reported}
 
 -- no entry comes before the fault that is the answer
 pub none_before : (old new : Option Recording) (f : ReadFault) → GivesNext old new (Err f) → AreAllBefore (reported f) old []

@@ -7,7 +7,7 @@ use Rattle.a429_cert.specs.Explained.{items_of}
 use Rattle.a429_explain.specs.declared.verdict.Verdict.{Verdict}
 use Rattle.a429_explain.specs.declared.verdict.Verdict.TheVariants.{Explained, Impossible, Unexplained}
 use Rattle.a429_explain.specs.declared.verdict.Reason.{Reason}
-use Rattle.a429_explain.specs.declared.verdict.Reason.TheVariants.{NoForm, NotGranted, WrongAnswer, BadBlock, WrongNumber, OtherBlock}
+use Rattle.a429_explain.specs.declared.verdict.Reason.TheVariants.{NoForm, NotGranted, WrongAnswer, BadBlock, WrongNumber, OtherBlock, NoRun}
 use Rattle.a429_explain.specs.declared.verdict.Doubt.{Doubt}
 use Rattle.a429_explain.specs.declared.verdict.Doubt.TheVariants.{NeverWhole, NotOneBlock, NotReplayed}
 use Rattle.a429_search.specs.Deciding.{IsImpossibleBy, IsImpossibleUpTo, IsOfCheck, IsReasonAt}
@@ -35,6 +35,7 @@ reason_text WrongAnswer = codes " WrongAnswer\n"
 reason_text BadBlock = codes " BadBlock\n"
 reason_text WrongNumber = codes " WrongNumber\n"
 reason_text OtherBlock = codes " OtherBlock\n"
+reason_text NoRun = codes " NoRun\n"
 
 abbrev pub doubt_text : Doubt → List ℕ
 doubt_text NeverWhole = codes " NeverWhole\n"
@@ -60,7 +61,7 @@ verdict_status (Unexplained i doubt) = 2
 -- ---- what it means
 
 -- the verdict of `decide`: an explanation or a doubt of `check`, or an explanation of words of which `check` has a doubt; and impossible
--- from the first word on at which some reason holds
+-- where no run has the words up to the entry: from the first word on at which some reason holds, or by `NoRun`
 pub record IsDecided (p : Contents) (items : List Seen) (v : Verdict) : Type 0 where
   pub of_check : IsOfCheck p items v
   pub impossible : IsImpossibleBy p items v

@@ -1,5 +1,5 @@
 -- What `a429 cut` puts and writes, and what it leaves after a fault (profile).
-use Rattle.std.specs.Prelude.{◌≡◌, ◌⊎◌, ℕ, List, Bool, true, Option, IfSome}
+use Rattle.std.specs.Prelude.{◌≡◌, ◌⊎◌, ◌++◌, ℕ, List, length, Bool, true, Option, IfSome}
 use Rattle.std.specs.Str.{IsUtf8}
 use Rattle.a429_word.specs.declared.tally.Tally.{Tally}
 use Rattle.a429_word.specs.declared.trouble.Trouble.{Trouble}
@@ -13,7 +13,7 @@ use Rattle.a429_record.specs.declared.fault.ReadFault.TheVariants as read
 use Rattle.a429_record.specs.Recording.{Recording, whole}
 use Rattle.a429_record.specs.Rows.{Stops}
 use Rattle.a429_parts.specs.Keeping.{BeginsWith, with_entries}
-use Rattle.a429_parts.specs.Parts.{AreFirstParts, AreParts, AreSomeParts, GainsAll, GainsParts, IsSame, PutParts, list_text}
+use Rattle.a429_parts.specs.Parts.{AreFirstParts, AreParts, AreSomeParts, GainsAll, GainsParts, IsSame, PutParts, joined, list_text}
 use Rattle.a429_parts.specs.Parting.{CannotGoOn}
 use Rattle.a429_check.specs.declared.fault.RunFault.{RunFault}
 use Rattle.a429_check.specs.declared.fault.RunFault.TheVariants as run
@@ -62,13 +62,13 @@ pub record PutsAllParts {W : Type 0} (t : Task) (o : Outlets W) (p : Contents) :
   pub gains : GainsAll o.old o.new parts
   pub puts : Puts o.out.contents o.out.old o.out.new (list_text parts)
 
--- the parts before this fault were put, and no list: it is the recording's, or more entries wait than a part may have
+-- the parts before this fault were put, and no list: it is the recording's, or more entries wait than a part may have, and no place is near enough
 pub record PutsFirstParts {W : Type 0} (t : Task) (o : Outlets W) (fault : ReadFault) (p : Contents) : Type 0 where
   pub entries : List Entry
   pub parts : List (List Entry)
   pub rest : List Entry
   pub are : AreFirstParts p t.most entries parts rest
-  pub ends : IfSome t.recording (λ r. (later : Recording) × (r ≡ with_entries entries later) × (Stops fault later ⊎ CannotGoOn t.most rest fault))
+  pub ends : IfSome t.recording (λ r. (later : Recording) × (r ≡ with_entries entries later) × (Stops fault later ⊎ CannotGoOn p t.most (entries ++ later.entries) (length (joined parts)) rest fault))
   pub gains : GainsParts o.old o.new parts
   pub puts : Puts o.out.contents o.out.old o.out.new (list_text parts)
 

@@ -1,5 +1,5 @@
 -- What a recording says that is read entry by entry, or what is wrong with it (profile).
-use Rattle.std.specs.Prelude.{◌≡◌, ℕ, List, [], ◌∷◌, ◌++◌, Bool, true, Option, Some, IfSome}
+use Rattle.std.specs.Prelude.{◌≡◌, ℕ, List, Bool, true, Option, Some, IfSome}
 use Rattle.a429_profile.specs.Profile.{Contents}
 use Rattle.a429_record.specs.declared.entry.Entry.{Entry}
 use Rattle.a429_record.specs.declared.fault.ReadFault.{ReadFault}
@@ -37,7 +37,3 @@ IsNextFault known failed = ComesBy (record never { recording = IsFaultToCome kno
 abbrev pub AreAllBefore : RunFault → Option Recording → List Entry → Type 0
 AreAllBefore (run.Read f) known es = IfSome known (λ r. r.entries ≡ es)
 AreAllBefore e known es = Unit {0}
-
--- these entries came, and the rest has still to come
-abbrev pub Came : Option Recording → List Entry → Option Recording → Type 0
-Came first es left = IfSome first (λ r. (rest : Recording) × (left ≡ Some rest) × (r ≡ record { entries = es ++ rest.entries; fault = rest.fault }))

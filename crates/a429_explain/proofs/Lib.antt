@@ -4,6 +4,7 @@ pub mod ScreeningFacts
 pub mod AttemptsFacts
 pub mod MatchingFacts
 pub mod NoteFacts
+pub mod NextFacts
 pub mod ScribeFacts
 pub mod ScribeWithoutLoss
 pub mod WithoutLoss

@@ -5,7 +5,6 @@ use Rattle.std.specs.List.{flat_map}
 use Rattle.std.proofs.lemmas.Grind.{flat_map-append}
 use Rattle.a429_word.specs.Digits.{numeral, hex_text}
 use Rattle.a429_cert.specs.Field.{field}
-use Rattle.a429_cert.specs.Line.{spelling}
 use Rattle.a429_cert.specs.declared.line.CertLine.TheVariants.{Load, Moved}
 use Rattle.a429_cert.specs.declared.line.MovedLine.{MovedLine}
 use Rattle.a429_ldu.specs.Ldu.{LduValue}

@@ -1,5 +1,5 @@
 -- What the scribe has written: its text is one of lines, and each line lists a step of a run.
-use Rattle.std.proofs.Common.{◌≡◌, ◌≢◌, ℕ, zero, suc, ◌≤◌, ◌<◌, ◌==◌, length, if◌then◌else◌, Bool, true, false, ◌||◌, List, [], ◌∷◌, ◌++◌, map, take, slice_get, Option, Some, None, Result, Ok, Err, OnOk, IfErr, refl, sym, ap, ◌∙◌, subst, arith, append_assoc, append-nil}
+use Rattle.std.proofs.Common.{◌≡◌, ◌≢◌, ℕ, zero, suc, ◌≤◌, ◌<◌, ◌==◌, length, Bool, true, false, ◌||◌, List, [], ◌∷◌, ◌++◌, map, take, slice_get, Option, Some, None, Result, Ok, Err, OnOk, IfErr, refl, sym, ap, ◌∙◌, subst, arith, append_assoc, append-nil}
 use Rattle.std.specs.List.{AllByRecursion}
 use Rattle.std.proofs.lemmas.Bool.{ne_eqb}
 use Rattle.a429_profile.specs.Profile.{Contents}
@@ -18,12 +18,14 @@ use Rattle.a429_link.specs.Sink.{Sink, Listens, SinkPhase, Quiet, OwesClear, Gra
 use Rattle.a429_link.specs.Step.{Can, after, label}
 use Rattle.a429_link.specs.State.{start, State, sink_state_of, states_of}
 use Rattle.a429_link.specs.declared.number.UnitNumber.{UnitNumber}
+use Rattle.a429_link.specs.declared.carry.NextWord.{NextWord}
+use Rattle.a429_link.specs.Carry.{on_a}
+use Rattle.a429_link.proofs.CarryFacts.{can_send, can_take}
 use Rattle.a429_link.proofs.LinkKept.{end_push}
 use Rattle.a429_link.proofs.CleanRuns.{run_split}
 use Rattle.a429_cert.specs.declared.act.Act.{Act}
 use Rattle.a429_cert.specs.declared.act.Act.TheVariants as act
 use Rattle.a429_cert.specs.declared.line.CertLine.{CertLine}
-use Rattle.a429_cert.specs.declared.line.LoadLine.{LoadLine}
 use Rattle.a429_cert.specs.declared.line.CertLine.TheVariants.{First, Load, Moved}
 use Rattle.a429_cert.specs.Line.{spelling, IsLine, IsHeld}
 use Rattle.a429_cert.specs.States.{IsSink, IsSource}
@@ -31,6 +33,10 @@ use Rattle.a429_cert.specs.declared.version.Version.{Version}
 use Rattle.a429_cert.specs.declared.version.Version.TheVariants.{One, Two}
 use Rattle.a429_cert.specs.Version.{version_line, is_give_up, gives_up, least_version}
 use Rattle.a429_cert.specs.Lines.{certificate_lines, begun_with}
+use Rattle.a429_cert.specs.Likely.{sent_line, taken_line}
+use Rattle.a429_cert.specs.BlockText.{word_lines}
+use Rattle.a429_cert.proofs.LikelyFacts.{sent_spells, taken_spells}
+use Rattle.a429_cert.proofs.PairFacts.{least_place, sent_shows, taken_shows}
 use Rattle.a429_cert.proofs.VersionFacts.{least_lists}
 use Rattle.a429_explain.specs.Explanation.{HasLeastVersion, IsRefusedAt, IsWhyNotWritten}
 use Rattle.a429_explain.specs.declared.guess.Guess.{Guess}
@@ -46,7 +52,7 @@ use Rattle.a429_explain.specs.declared.attempts.Role.TheVariants.{Request}
 use Rattle.a429_explain.specs.declared.plan.Plan.{Plan}
 use Rattle.a429_explain.specs.declared.scribe.Scribe.{Scribe}
 use Rattle.a429_explain.specs.Note.{in_version, line_after, line_of}
-use Rattle.a429_explain.specs.Scribe.{OnlyLacksMemory, CannotWrite, IsLossless, lossless_steps, lines_text, HasWritten, with_next, WritesNext, link_after, CanMake, giving_up, begin_steps, sent, IsAtRest, IsClosing, Closes, ClosesOn, HasAsked}
+use Rattle.a429_explain.specs.Scribe.{OnlyLacksMemory, CannotWrite, IsLossless, lossless_steps, lines_text, HasWritten, with_next, WritesNext, link_after, CanMake, giving_up, begin_steps, sent, IsAtRest, IsClosing, Closes, ClosesOn, HasAsked, IsReadyWord}
 
 -- ---- the lines of a text
 
@@ -255,6 +261,20 @@ make_written (Ok z) s t m a x line letter can made same gives is bounds w h =
     (ap (λ (y : CertLine). step_of y named.0) is ∙ named.1)
     can
     (subst (λ y. ShowsStates y (after s.link.profile a s.link.state)) (sym is) (ap {A = LinkValue} (λ q. states_of q.state) (sym made)))
+
+-- a data word is sent and taken, and both lines are written
+pub carry_written : (s t : Scribe) (next : NextWord) → IsReadyWord s.link next → t.link ≡ link_after (sent (on_a next.word)) s.link → t.gave_up ≡ s.gave_up → t.lines ≡ s.lines ++ word_lines next.place → WritesNext (Some (on_a next.word)) s t
+carry_written s t next h made gives w first items k =
+    let p = s.link.profile in
+    let i = on_a next.word in
+    let place = next.place in
+    let least = least_place p next s.link.state h.0 in
+    let mid = link_after (step.Sent i ∷ []) s.link in
+    let sends = sent_spells place least h.1 in
+    let takes = taken_spells place least h.1 in
+    let one = written_on items first s.lines (s.lines ++ line_after (sent_line place)) s.gave_up s.gave_up s.link mid (step.Sent i) (sent_line place) (Some i) k (sym (or-false s.gave_up)) refl refl sends.line sends.held refl (can_send p next s.link.state h.0) (sent_shows p next s.link.state h.0) in
+    let text = w ∙ sym (append_assoc s.lines (line_after (sent_line place)) (line_after (taken_line place))) in
+    written_on (items ++ i ∷ []) first (s.lines ++ line_after (sent_line place)) t.lines s.gave_up t.gave_up mid t.link step.SinkTakes (taken_line place) None one (gives ∙ sym (or-false s.gave_up)) made text takes.line takes.held refl (can_take p next s.link.state h.0) (taken_shows p next s.link.state h.0)
 
 -- a link data unit is loaded, and its line is written
 pub load_written : {X E : Type 0} (r : Result X E) (s t : Scribe) (u : LduValue) → IsLdu s.link.profile u → OnOk r (Can s.link.profile (step.Load u) s.link.state) → OnOk r (t.link ≡ link_after (step.Load u ∷ []) s.link) → t.gave_up ≡ s.gave_up → t.lines ≡ s.lines ++ line_after (Load (line_of u)) → IsHeld (Load (line_of u)) → OnOk r (WritesNext None s t)

@@ -1,13 +1,13 @@
 -- The line of a certificate that is likely after another: a short form of a certificate leaves such lines out (profile).
-use Rattle.std.specs.Prelude.{ℕ, ◌+◌, nat_lt, if◌then◌else◌}
+use Rattle.std.specs.Prelude.{◌≡◌, ◌≤◌, ◌<◌, ℕ, ◌+◌, nat_lt, if◌then◌else◌}
 use Rattle.a429_link.specs.declared.state.SourceState.{SourceState}
 use Rattle.a429_link.specs.declared.state.SourceState.TheVariants.{Idle, Awaiting, Sending, Waiting}
 use Rattle.a429_link.specs.declared.state.SinkState.{SinkState}
 use Rattle.a429_link.specs.declared.state.SinkState.TheVariants.{Quiet, OwesClear, Granted, InBlock, OwesAck, OwesNak}
-use Rattle.a429_link.specs.declared.state.States.{States}
 use Rattle.a429_cert.specs.declared.act.Act.{Act}
 use Rattle.a429_cert.specs.declared.act.Act.TheVariants.{Sent, SentLost, TimeOut, TakeAnswer, LoseAnswer, SinkTakes, Silent, Answered, FreeSeen, GiveUp}
 use Rattle.a429_cert.specs.declared.line.MovedLine.{MovedLine}
+use Rattle.a429_explain.specs.declared.next.BlockWords.{BlockWords}
 
 -- the line of this step, with these states after it
 abbrev pub moves : Act → SourceState → SinkState → ℕ → ℕ → MovedLine
@@ -74,3 +74,20 @@ next_after GiveUp source sink line = line
 
 abbrev pub next_line : MovedLine → MovedLine
 next_line line = next_after line.act line.states.source line.states.sink line
+
+-- ---- words of a block, each sent and then taken, with nothing else on its way
+
+-- the line with which word k is sent, counted from 0
+abbrev pub sending : ℕ → MovedLine
+sending k = moves Sent (Sending (k + 1)) (InBlock k) 1 0
+
+-- the line with which the last of the first k words is taken
+abbrev pub carried : ℕ → MovedLine
+carried k = moves SinkTakes (Sending k) (InBlock k) 0 0
+
+-- these words are likely sent and taken in the next `left` lines after this one
+pub record BeginWords (line : MovedLine) (words : BlockWords) (left : ℕ) : Type 0 where
+  pub before : line ≡ carried words.place
+  pub some : 0 < words.count
+  pub inside : words.place + words.count ≤ 254
+  pub few : words.count + words.count ≤ left

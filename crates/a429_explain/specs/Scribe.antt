@@ -1,12 +1,14 @@
 -- What the scribe writes: the text of a certificate, line by line, and the steps of each entry where nothing is lost on
 -- the way (profile).
-use Rattle.std.specs.Prelude.{◌≡◌, ◌≤◌, ℕ, Bool, true, List, [], ◌∷◌, ◌++◌, if◌then◌else◌, map, replicate, Option, Some, None, Result, IfErr, IsSome, OnOk}
+use Rattle.std.specs.Prelude.{◌≡◌, ◌≤◌, ◌<◌, ℕ, Bool, true, List, [], ◌∷◌, ◌++◌, if◌then◌else◌, map, replicate, Option, Some, None, Result, IfErr, IsSome, OnOk}
 use Rattle.std.specs.List.{AllByRecursion}
 use Rattle.a429_link.specs.declared.seen.Seen.{Seen}
 use Rattle.a429_link.specs.declared.step.Step.{Step}
 use Rattle.a429_link.specs.declared.step.Step.TheVariants as step
 use Rattle.a429_link.specs.declared.fault.StepFault.{StepFault}
 use Rattle.a429_link.specs.declared.fault.StepFault.TheVariants.{OutOfMemory}
+use Rattle.a429_link.specs.declared.carry.NextWord.{NextWord}
+use Rattle.a429_link.specs.Carry.{IsAtWord}
 use Rattle.a429_link.specs.Sink.{Listens}
 use Rattle.a429_link.specs.Source.{IsIdle}
 use Rattle.a429_link.specs.State.{start}
@@ -73,6 +75,10 @@ sent i = step.Sent i ∷ (step.SinkTakes ∷ [])
 -- an answer of the sink is recorded, and the source takes it
 abbrev pub answered : Seen → List Step
 answered i = step.Answered i ∷ (step.TakeAnswer ∷ [])
+
+-- the source sends this data word of a block next, with nothing else on its way
+abbrev pub IsReadyWord : LinkValue → NextWord → Type 0
+IsReadyWord l next = IsAtWord l.profile next l.state × (next.place < 254)
 
 -- the source is idle, and the sink owes no answer
 abbrev pub IsAtRest : LinkValue → Type 0

@@ -1,6 +1,6 @@
 //! The text of a certificate.
 
-ghost use Rattle.std.specs.Prelude.{◌≡◌, ◌↔◌, IsErr, true, if◌then◌else◌};
+ghost use Rattle.std.specs.Prelude.{◌≡◌, ◌↔◌, IsErr, IfOk, true, if◌then◌else◌};
 ghost use Rattle.a429_word.specs.Sheet.{Says, Writes};
 ghost use Rattle.a429_word.specs.Tally.{has_failed};
 ghost use Rattle.a429_cert.specs.declared.version.Version.TheVariants.{One, Two};
@@ -8,7 +8,9 @@ ghost use Rattle.a429_cert.specs.Version.{version_line};
 ghost use Rattle.a429_explain.specs.Note.{in_version};
 
 use crate::lines::Lines;
+use a429_cert::OutOfMemory;
 use a429_word::{Device, Page, Sheet, Tally};
+use std::alloc::Global;
 use std::io::Write;
 use std::marker::Model;
 
@@ -46,8 +48,8 @@ impl Certificate {
         sheet.put(b"\n");
     }
 
-    /// Writes the text, each piece at once: to a list of bytes, or to a writer that gathers what is written. It takes no
-    /// memory. After `Device` a prefix of the text has been written.
+    /// Writes the text, each piece at once: to a writer that gathers what is written. It takes no memory. After `Device` a
+    /// prefix of the text has been written.
     pub fn write<W: Write>(&self, out: &mut Tally<W>) -> Result<(), Device>
         ensures written { Writes W.contents out.old out.new self.now }
         ensures device { IsErr result ↔ (has_failed out.new ≡ true) }
@@ -56,6 +58,17 @@ impl Certificate {
         let mut sheet = Sheet::new(out, &mut page);
         self.put_on(&mut sheet);
         sheet.finish()
+    }
+
+    /// The text, spelled out into a list of bytes.
+    pub fn into_vec(self, alloc: Global) -> Result<Vec<u8>, OutOfMemory>
+        ensures { IfOk result (λ text. text.items ≡ self) }
+    {
+        let mut out = Tally::new(Vec::new(alloc), 0);
+        match self.write(&mut out) {
+            Ok(()) => Ok(out.into_inner()),
+            Err(Device) => Err(OutOfMemory),
+        }
     }
 }
 

@@ -9,7 +9,7 @@ use crate::certificate::Certificate;
 use crate::guess::Guess;
 use crate::plan::take_plan;
 use crate::scribe::Scribe;
-use a429_cert::{Verified, seen};
+use a429_cert::{BlockText, Verified, seen};
 use a429_link::StepFault;
 use a429_profile::Profile;
 use a429_record::Entry;
@@ -53,7 +53,10 @@ pub fn explain_by(
         roles,
         mut plans,
     } = guess;
-    let mut scribe = Scribe::new(alloc, profile, first_file);
+    let Ok(block) = BlockText::new(alloc) else {
+        return Err(Refusal::OutOfMemory);
+    };
+    let mut scribe = Scribe::new(alloc, profile, block, first_file);
     for at in 0..entries.len() {
         let role = roles[at];
         let plan = take_plan(&mut plans, role, at);

@@ -12,7 +12,7 @@ ghost use Rattle.a429_explain.specs.Filled.{filled, unit_filled, fillers, zeros,
 use crate::decoded::{Decoded, DecodedWord};
 use crate::groups::{Group, Request};
 use crate::whole::{Ends, unit_with};
-use a429_ldu::{Form, Ldu, Semis, bytes_of, check_word, word_of};
+use a429_ldu::{Form, Ldu, Semis, bytes_of, check_word_by, word_of};
 use a429_profile::Profile;
 use a429_word::Word;
 use std::alloc::{AllocError, Global};
@@ -209,7 +209,7 @@ fn unit_filled(
     let ends = Ends {
         start: Some(gfi),
         flags: 0,
-        check: check_word(profile.check(), bytes.as_slice()),
+        check: check_word_by(profile.check_tables(), bytes.as_slice()),
     };
     unit_with(alloc, profile, ends, words, count)
 }

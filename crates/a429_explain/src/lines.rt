@@ -4,14 +4,15 @@ ghost use Rattle.std.specs.Prelude.{◌≡◌, ◌<◌, ◌^◌, ◌++◌, OnOk}
 ghost use Rattle.std.specs.List.{flat_map};
 ghost use Rattle.a429_word.specs.Digits.{hex_text};
 ghost use Rattle.a429_word.specs.Sheet.{Says};
+ghost use Rattle.a429_cert.specs.BlockText.{word_lines};
 ghost use Rattle.a429_cert.specs.Field.{field};
 ghost use Rattle.a429_cert.specs.Line.{AreHeld, IsHeld};
 ghost use Rattle.a429_cert.specs.declared.line.CertLine.TheVariants.{First, Load, Moved};
 ghost use Rattle.a429_explain.specs.Note.{line_after, line_of, load_head, note_text, word_fields};
 
-use crate::next::{is_same, next_line};
+use crate::next::{carried, is_same, next_line, sending};
 use crate::note::{Note, put_note, with_word};
-use a429_cert::{Act, MovedLine, OutOfMemory};
+use a429_cert::{Act, BlockText, MovedLine, OutOfMemory};
 use a429_ldu::Ldu;
 use a429_link::{SinkState, SourceState, States};
 use a429_word::{Sheet, Word};
@@ -39,6 +40,8 @@ pub(crate) struct Lines {
     note: Note,
     // The last line of that note, where it is one of steps.
     last: MovedLine,
+    // What is put in place of the words of a block.
+    block: BlockText,
 }
 
 impl Model for Lines {
@@ -55,17 +58,19 @@ impl Model for Lines {
 
 impl Lines {
     /// The line with the number of the first file.
-    pub(crate) fn new(alloc: Global, first_file: u8) -> Lines
+    pub(crate) fn new(alloc: Global, block: BlockText, first_file: u8) -> Lines
         ensures { result ≡ line_after (First first_file) }
     {
         Lines {
             notes: Vec::new(alloc),
             note: Note::First(first_file),
             last: START,
+            block,
         }
     }
 
     /// Adds the line of a step that is no load.
+    #[inline(always)]
     pub(crate) fn put_move(&mut self, line: MovedLine) -> Result<(), OutOfMemory>
         ensures ok { OnOk result (self.new ≡ self.old ++ line_after (Moved line)) }
         ensures held { IsHeld (Moved line) }
@@ -85,6 +90,23 @@ impl Lines {
         };
         self.last = line;
         Ok(())
+    }
+
+    /// Adds both lines of a word of a block, counted from 0, that is sent and then taken, with nothing else on its way.
+    pub(crate) fn put_word_lines(&mut self, place: u8) -> Result<(), OutOfMemory>
+        requires { place < 254 }
+        ensures { OnOk result (self.new ≡ self.old ++ word_lines place) }
+    {
+        if let Note::Moves { first, more } = self.note {
+            if more < u16::MAX - 1 && is_same(self.last, carried(place)) {
+                let more = more + 2;
+                self.note = Note::Moves { first, more };
+                self.last = carried(place + 1);
+                return Ok(());
+            }
+        }
+        self.put_move(sending(place))?;
+        self.put_move(carried(place + 1))
     }
 
     /// Adds the line of a link data unit.
@@ -137,18 +159,18 @@ impl Lines {
     pub(crate) fn put_on<W: Write>(&self, sheet: &mut Sheet<'_, W>)
         ensures { Says W.contents sheet.old sheet.new self.now }
     {
-        put_notes(sheet, self.notes.as_slice());
-        put_note(sheet, self.note);
+        put_notes(sheet, &self.block, self.notes.as_slice());
+        put_note(sheet, &self.block, self.note);
     }
 }
 
-fn put_notes<W: Write>(sheet: &mut Sheet<'_, W>, notes: &[Note])
+fn put_notes<W: Write>(sheet: &mut Sheet<'_, W>, block: &BlockText, notes: &[Note])
     ensures { Says W.contents sheet.old sheet.new (flat_map note_text notes.now) }
 {
     for note in notes {
         if sheet.failed() {
             return;
         }
-        put_note(sheet, *note);
+        put_note(sheet, block, *note);
     }
 }

@@ -1,13 +1,14 @@
 //! The line of a certificate that is likely after another.
 
-ghost use Rattle.std.specs.Prelude.{◌≡◌, true};
-ghost use Rattle.a429_explain.specs.Next.{moves, sends, hears, takes, after_taking, after_loss, next_after, next_line};
+ghost use Rattle.std.specs.Prelude.{◌≡◌, ◌<◌, ◌≤◌, true, IfSome};
+ghost use Rattle.a429_explain.specs.Next.{carried, sending, moves, sends, hears, takes, after_taking, after_loss, next_after, next_line, BeginWords};
 
 use a429_cert::{Act, MovedLine};
 use a429_link::{SinkState, SourceState, States};
 
 /// The line that is likely after this one: what comes next where no word is lost, and the words before it were those of
 /// a long block. Another one may come.
+#[inline(always)]
 pub(crate) fn next_line(line: MovedLine) -> MovedLine
     ensures { result ≡ next_line line }
 {
@@ -106,6 +107,63 @@ fn after_loss(source: SourceState, sink: SinkState) -> MovedLine
             0,
         ),
     }
+}
+
+/// The line with which word `place` of a block is sent, counted from 0, with nothing else on its way.
+pub(crate) fn sending(place: u8) -> MovedLine
+    requires { place < 254 }
+    ensures { result ≡ sending place }
+{
+    moves(
+        Act::Sent,
+        SourceState::Sending(place + 1),
+        SinkState::InBlock(place),
+        1,
+        0,
+    )
+}
+
+/// The line with which the sink takes the last of the first `words` words of a block, with nothing else on its way.
+pub(crate) fn carried(words: u8) -> MovedLine
+    ensures { result ≡ carried words }
+{
+    moves(
+        Act::SinkTakes,
+        SourceState::Sending(words),
+        SinkState::InBlock(words),
+        0,
+        0,
+    )
+}
+
+/// Words of a block, each sent and then taken: so many from this place on, counted from 0.
+#[derive(Clone, Copy, Debug)]
+pub(crate) struct BlockWords {
+    pub place: u8,
+    pub count: u8,
+}
+
+/// The words of a block that are likely sent and taken in the next `left` lines after this one.
+pub(crate) fn words_after(line: MovedLine, left: u16) -> Option<BlockWords>
+    ensures { IfSome result (λ words. BeginWords line words left) }
+{
+    if !is_act(line.act, Act::SinkTakes) {
+        return None;
+    }
+    let SinkState::InBlock(place) = line.states.sink else {
+        return None;
+    };
+    if place >= 254 || left < 2 || !is_same(line, carried(place)) {
+        return None;
+    }
+    let room = 254 - place;
+    let pairs = left / 2;
+    let count = if pairs < u16::from(room) {
+        pairs as u8
+    } else {
+        room
+    };
+    Some(BlockWords { place, count })
 }
 
 /// Whether two lines are the same. A no is no promise.

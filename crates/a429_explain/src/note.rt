@@ -1,15 +1,15 @@
 //! Pieces of a certificate, kept short.
 
-ghost use Rattle.std.specs.Prelude.{◌≡◌, ◌≤◌, ◌++◌, IfSome};
+ghost use Rattle.std.specs.Prelude.{◌≡◌, ◌<◌, ◌≤◌, ◌++◌, IfSome};
 ghost use Rattle.a429_word.specs.Digits.{hex_text, numeral};
 ghost use Rattle.a429_word.specs.Sheet.{Says};
 ghost use Rattle.a429_cert.specs.Field.{field};
 ghost use Rattle.a429_cert.specs.declared.line.CertLine.TheVariants as cert;
 ghost use Rattle.a429_cert.specs.declared.line.MovedLine.{MovedLine};
-ghost use Rattle.a429_explain.specs.Note.{line_after, same_fields, likely_lines, load_head, note_text, EndsWith};
+ghost use Rattle.a429_explain.specs.Note.{line_after, same_fields, likely_lines, last_line, load_head, note_text, EndsWith};
 
-use crate::next::next_line;
-use a429_cert::{MovedLine, moved_text};
+use crate::next::{carried, next_line, words_after};
+use a429_cert::{BlockText, MovedLine, moved_text, word_field};
 use a429_word::{Sheet, Word};
 use std::io::Write;
 
@@ -59,7 +59,7 @@ fn with_word_after(last: Word, times: u8, word: Word) -> Option<Note>
 }
 
 /// Puts the text of a note.
-pub(crate) fn put_note<W: Write>(sheet: &mut Sheet<'_, W>, note: Note)
+pub(crate) fn put_note<W: Write>(sheet: &mut Sheet<'_, W>, block: &BlockText, note: Note)
     ensures { Says W.contents sheet.old sheet.new (note_text note) }
 {
     match note {
@@ -72,7 +72,7 @@ pub(crate) fn put_note<W: Write>(sheet: &mut Sheet<'_, W>, note: Note)
         }
         Note::Moves { first, more } => {
             put_move(sheet, first);
-            put_likely(sheet, first, more);
+            put_likely(sheet, block, first, more);
         }
     }
 }
@@ -118,21 +118,54 @@ fn put_words<W: Write>(sheet: &mut Sheet<'_, W>, word: Word, times: u8)
 fn put_word<W: Write>(sheet: &mut Sheet<'_, W>, word: Word)
     ensures { Says W.contents sheet.old sheet.new (field (hex_text word)) }
 {
-    sheet.put(b" ");
-    sheet.put(&word.hex());
+    sheet.put(&word_field(word.to_u32()));
 }
 
 // Puts so many lines after this one, each the one that is likely after the last.
-fn put_likely<W: Write>(sheet: &mut Sheet<'_, W>, first: MovedLine, more: u16)
+fn put_likely<W: Write>(sheet: &mut Sheet<'_, W>, block: &BlockText, first: MovedLine, more: u16)
     ensures { Says W.contents sheet.old sheet.new (likely_lines first more) }
 {
     let mut line = first;
     let mut left = more;
     while left > 0 {
-        left -= 1;
-        line = next_line(line);
-        put_move(sheet, line);
+        let put = put_some(sheet, block, line, left);
+        line = put.last;
+        left -= put.lines;
     }
+}
+
+// So many lines were put, of which this is the last.
+#[derive(Clone, Copy, Debug)]
+struct Put {
+    lines: u16,
+    last: MovedLine,
+}
+
+// Puts some of so many lines after this one, each the one that is likely after the last: those of words of a block at once,
+// or else the first.
+#[inline(always)]
+fn put_some<W: Write>(
+    sheet: &mut Sheet<'_, W>,
+    block: &BlockText,
+    line: MovedLine,
+    left: u16,
+) -> Put
+    requires { 0 < left }
+    ensures text { Says W.contents sheet.old sheet.new (likely_lines line result.lines) }
+    ensures last { result.last ≡ last_line line result.lines }
+    ensures some { 0 < result.lines }
+    ensures few { result.lines ≤ left }
+{
+    if let Some(words) = words_after(line, left) {
+        sheet.put(block.lines(words.place, words.count));
+        return Put {
+            lines: 2 * u16::from(words.count),
+            last: carried(words.place + words.count),
+        };
+    }
+    let last = next_line(line);
+    put_move(sheet, last);
+    Put { lines: 1, last }
 }
 
 fn put_move<W: Write>(sheet: &mut Sheet<'_, W>, line: MovedLine)

@@ -2,6 +2,7 @@
 
 ghost use Rattle.std.specs.Prelude.{◌≡◌, ◌≢◌, ◌++◌, ◌∷◌, [], Ok, None, Some, true, IfErr, IfSome, IsSome, OnOk, false};
 ghost use Rattle.a429_ldu.specs.Ldu.{IsLdu};
+ghost use Rattle.a429_link.specs.Carry.{on_a};
 ghost use Rattle.a429_link.specs.declared.step.Step.TheVariants as step;
 ghost use Rattle.a429_link.specs.Sink.{Listens};
 ghost use Rattle.a429_link.specs.Source.{IsIdle};
@@ -10,7 +11,7 @@ ghost use Rattle.a429_link.specs.State.{start};
 ghost use Rattle.a429_cert.specs.declared.line.CertLine.TheVariants.{Moved};
 ghost use Rattle.a429_cert.specs.Line.{IsHeld};
 ghost use Rattle.a429_explain.specs.Note.{in_version, line_after};
-ghost use Rattle.a429_explain.specs.Scribe.{Wrote, WritesNext, link_after, CanMake, OnlyLacksMemory, sent, answered, unheard, IsAtRest, CannotWrite, giving_up, begin_steps, IsClosing, ClosesOn, HasAsked, MakesLossless};
+ghost use Rattle.a429_explain.specs.Scribe.{Wrote, WritesNext, link_after, CanMake, OnlyLacksMemory, sent, answered, unheard, IsAtRest, CannotWrite, giving_up, begin_steps, IsClosing, ClosesOn, HasAsked, IsReadyWord, MakesLossless};
 ghost use Rattle.a429_cert.specs.Act.{letter_of};
 ghost use Rattle.a429_cert.specs.Change.{change};
 ghost use Rattle.a429_cert.specs.Version.{is_give_up};
@@ -19,10 +20,11 @@ use crate::attempts::Role;
 use crate::certificate::Certificate;
 use crate::lines::Lines;
 use crate::plan::Plan;
-use a429_cert::{MovedLine, OutOfMemory, letter_of};
+use a429_cert::{BlockText, MovedLine, OutOfMemory, letter_of};
 use a429_ldu::Ldu;
-use a429_link::{FileBytes, Link, Seen, SinkState, SourceState, Step, StepFault};
+use a429_link::{FileBytes, Link, NextWord, Seen, SinkState, SourceState, Step, StepFault};
 use a429_profile::Profile;
+use a429_word::Bus;
 use std::alloc::Global;
 
 /// A certificate that is being written, and the link on which its lines' steps are made.
@@ -36,13 +38,18 @@ pub(crate) struct Scribe<'a> {
 
 impl<'a> Scribe<'a> {
     /// A certificate of two lines, the second with the number of the first file.
-    pub(crate) fn new(alloc: Global, profile: &'a Profile, first_file: u8) -> Scribe<'a>
+    pub(crate) fn new(
+        alloc: Global,
+        profile: &'a Profile,
+        block: BlockText,
+        first_file: u8,
+    ) -> Scribe<'a>
         ensures start { result.link ≡ record { profile = profile.now; state = start profile.now first_file } }
         ensures written { Wrote first_file [] result }
     {
         Scribe {
             link: Link::start(alloc, profile, first_file),
-            lines: Lines::new(alloc, first_file),
+            lines: Lines::new(alloc, block, first_file),
             gave_up: false,
         }
     }
@@ -169,6 +176,50 @@ impl<'a> Scribe<'a> {
 
     // A word of a block is recorded, and the sink takes it. The words of the block before it are lost.
     fn send_of_block(&mut self, seen: Seen) -> Result<(), StepFault>
+        ensures profile { self.new.link.profile ≡ self.old.link.profile }
+        ensures written { OnOk result (WritesNext (Some seen) self.old self.new) }
+        ensures lossless { CanMake (sent seen) self.old.link → OnlyLacksMemory result }
+        ensures reached { CanMake (sent seen) self.old.link → OnOk result (self.new.link ≡ link_after (sent seen) self.old.link) }
+    {
+        let bus = seen.bus;
+        let word = seen.word;
+        match self.next_word(Seen { bus, word }) {
+            Some(next) => self.carry(next),
+            None => self.send_some(seen),
+        }
+    }
+
+    // The data word that the source sends next, where the sink has taken all words before it, nothing is on its way, and
+    // this one is recorded.
+    fn next_word(&self, seen: Seen) -> Option<NextWord>
+        ensures { IfSome result (λ next. IsReadyWord self.now.link next × (seen ≡ on_a next.word)) }
+    {
+        let next = self.link.next_word()?;
+        if next.place < 254 && seen.bus == Bus::A && seen.word == next.word {
+            Some(next)
+        } else {
+            None
+        }
+    }
+
+    // This data word is sent, and the sink takes it.
+    fn carry(&mut self, next: NextWord) -> Result<(), StepFault>
+        requires { IsReadyWord self.old.link next }
+        ensures profile { self.new.link.profile ≡ self.old.link.profile }
+        ensures written { OnOk result (WritesNext (Some (on_a next.word)) self.old self.new) }
+        ensures lossless { OnlyLacksMemory result }
+        ensures reached { self.new.link ≡ link_after (sent (on_a next.word)) self.old.link }
+    {
+        let place = next.place;
+        self.link.carry(next);
+        match self.lines.put_word_lines(place) {
+            Ok(()) => Ok(()),
+            Err(OutOfMemory) => Err(StepFault::OutOfMemory),
+        }
+    }
+
+    // A word of a block is recorded, and the sink takes it, one step after the other. The words of the block before it are lost.
+    fn send_some(&mut self, seen: Seen) -> Result<(), StepFault>
         ensures profile { self.new.link.profile ≡ self.old.link.profile }
         ensures written { OnOk result (WritesNext (Some seen) self.old self.new) }
         ensures lossless { CanMake (sent seen) self.old.link → OnlyLacksMemory result }

@@ -40,6 +40,9 @@ pub enum Reason {
     WrongNumber,
     /// A word of a block that contradicts what was recorded of the same link data unit before.
     OtherBlock,
+    /// No run records the words up to it, and none of the other reasons holds: attempts to send one link data unit have
+    /// words that no unit has.
+    NoRun,
 }
 
 /// Why a recording is neither explained nor impossible: what the rule of `check` was missing (docs/CHECKER.md, Attempts

@@ -1,5 +1,5 @@
 -- The bytes that data words carry, word by word.
-use Rattle.std.proofs.Common.{◌≡◌, ◌⊎◌, inl, inr, ℕ, zero, suc, ◌+◌, ◌*◌, ◌/◌, ◌%◌, ◌^◌, ◌<◌, ◌≤◌, true, false, List, [], ◌∷◌, ◌++◌, length, take, get_or, Option, Some, None, is_some, unwrap_or, refl, sym, ap, ◌∙◌, arith, subst, append_assoc, append-nil, bit_or, length-append}
+use Rattle.std.proofs.Common.{◌≡◌, ◌⊎◌, inl, inr, ℕ, zero, suc, ◌+◌, ◌*◌, ◌/◌, ◌%◌, ◌^◌, ◌<◌, ◌≤◌, true, false, List, [], ◌∷◌, ◌++◌, length, take, drop, take-append-drop, get_or, Option, Some, None, is_some, unwrap_or, refl, sym, ap, ◌∙◌, arith, subst, append_assoc, append-nil, bit_or, length-append}
 use Rattle.std.specs.List.{AllByRecursion, concat}
 use Rattle.std.specs.Option.{option_to_list, option_map, option_and_then}
 use Rattle.std.proofs.lemmas.List.{take_more}
@@ -180,6 +180,28 @@ semis_counted c ws (b ∷ bs) made rest e h = absurd (cc)
 
 pub none_counted : (c : Codes) (ws : List ℕ) → semis_of_words c ws ≡ None → 0 ≡ semis_in_words c ws
 none_counted c ws e = sym (ap (λ o. length (unwrap_or o [])) e)
+
+-- ---- words read in two parts
+
+-- an even number of semi-octets leaves none that waits
+pub none_waits : (rest : Option ℕ) (a b : ℕ) → 2 * a + length (option_to_list rest) ≡ 2 * b → rest ≡ None
+none_waits None a b e = refl
+none_waits (Some d) a b e = absurd (omega arith)
+
+pub parts_read : (c : Codes) (ws rest : List ℕ) (n : ℕ) (start read total : List ℕ) → rest ≡ drop n ws → joined_to (Some start) (semis_of_words c (take n ws)) ≡ Some read → joined_to (Some read) (semis_of_words c rest) ≡ Some total → joined_to (Some start) (semis_of_words c ws) ≡ Some total
+parts_read c ws rest n start read total is first second =
+    ap (λ vs. joined_to (Some start) (semis_of_words c vs)) (sym (take-append-drop n ws)) ∙ ap (joined_to (Some start)) (words-append c (take n ws) (drop n ws))
+    ∙ sym (joined_assoc (Some start) (semis_of_words c (take n ws)) (semis_of_words c (drop n ws)))
+    ∙ ap (λ o. joined_to o (semis_of_words c (drop n ws))) first ∙ ap (λ vs. joined_to (Some read) (semis_of_words c vs)) (sym is) ∙ second
+
+pub none_in_part : (c : Codes) (ws rest : List ℕ) (n : ℕ) → rest ≡ drop n ws → semis_of_words c rest ≡ None → semis_of_words c ws ≡ None
+none_in_part c ws rest n is none =
+    ap (semis_of_words c) (sym (take-append-drop n ws)) ∙ words-append c (take n ws) (drop n ws)
+    ∙ ap (joined_to (semis_of_words c (take n ws))) (ap (semis_of_words c) (sym is) ∙ none) ∙ nothing (semis_of_words c (take n ws))
+  where
+    nothing : (o : Option (List ℕ)) → joined_to o None ≡ None
+    nothing (Some xs) = refl
+    nothing None = refl
 
 -- ---- words read piece by piece
 

@@ -1,11 +1,13 @@
--- A register whose bits stand in the other order, and a table for eight bits.
-use Rattle.std.proofs.lemmas.Bool.{cases_lt}
-use Rattle.std.proofs.Common.{◌≡◌, ℕ, get_or, inl, inr, ◌-◌, zero, suc, ◌+◌, ◌*◌, ◌/◌, ◌%◌, ◌^◌, ◌<◌, cond, eqb, refl, sym, ap, ◌∙◌, arith, bit_and, bit_xor, fold, replicate, List, [], ◌∷◌, true, false, Bool, pow-suc}
+-- A register whose bits stand in the other order, and what bytes make of it by tables.
+use Rattle.std.proofs.Common.{◌≡◌, ℕ, get_or, length, ◌++◌, zero, suc, ◌+◌, ◌*◌, ◌/◌, ◌%◌, ◌^◌, ◌<◌, cond, eqb, refl, sym, ap, ◌∙◌, arith, bit_and, bit_xor, fold, replicate, List, [], ◌∷◌, true, false, Bool, pow-suc}
 use Rattle.std.specs.Int.{bit_at, reverse_bits_onto}
+use Rattle.std.specs.List.{flat_map, AllByRecursion}
+use Rattle.std.proofs.lemmas.Grind.{fold-append}
 use Rattle.std.proofs.lemmas.Nat.{xor_mod, xor_lt, and_le_r, xor_shr, xor_block, xor_comm, and_mask, mod-pow-add}
 use Rattle.std.specs.Int.Bits.{xor_assoc, xor_self, xor_zero_r, xor_shifted}
 use Rattle.std.proofs.lemmas.Nat.Bits.{bit_at_xor, bit_at-suc}
-use Rattle.a429_ldu.specs.CheckWord.{fed_bits, fed, fed_down, IsTable}
+use Rattle.a429_profile.specs.CheckTables.{turned, fed_down, after_zeros}
+use Rattle.a429_ldu.specs.CheckWord.{fed_bits, fed}
 
 by_tests : (s t a b p : ℕ) → s < 2 → t < 2 → cond (eqb ((s + t) % 2) 1) (bit_xor (bit_xor a b) p) (bit_xor a b) ≡ bit_xor (cond (eqb s 1) (bit_xor a p) a) (cond (eqb t 1) (bit_xor b p) b)
 by_tests zero zero a b p h k = refl
@@ -61,24 +63,6 @@ zeros-xor : (k p a b : ℕ) → fold (fed_down p) (bit_xor a b) (replicate k 0) 
 zeros-xor zero p a b = refl
 zeros-xor (suc k) p a b = ap (λ s. fold (fed_down p) s (replicate k 0)) (fed_down-xor p a b 0 0 0 refl) ∙ zeros-xor k p (fed_down p a 0) (fed_down p b 0)
 
--- an entry of a table by two shorter ones
-pub entry : (p h i : ℕ) → i < 16 → fold (fed_down p) (16 * h + i) (replicate 8 0) ≡ bit_xor (fold (fed_down p) i (replicate 8 0)) (fold (fed_down p) h (replicate 4 0))
-entry p h i less =
-    let apart : 16 * h + i ≡ bit_xor (h * 2 ^ 4) i = omega arith ∙ sym (xor_shifted h 4 i less) in
-    ap (λ s. fold (fed_down p) s (replicate 8 0)) apart ∙ ap (λ s. fold (fed_down p) s (replicate 4 0)) (moves 4 p h i) ∙ zeros-xor 4 p (fold (fed_down p) i (replicate 4 0)) h
-
--- sixteen entries more
-pub row_more : (p h : ℕ) (low old new : List ℕ) (v : ℕ) → IsTable 16 p low → v ≡ fold (fed_down p) h (replicate 4 0) → ((i : ℕ) → i < 16 → get_or new (16 * h + i) 0 ≡ bit_xor (get_or low i 0) v) → ((i : ℕ) → i < 16 * h → get_or new i 0 ≡ get_or old i 0) →
-    IsTable (16 * h) p old → IsTable (16 * (h + 1)) p new
-row_more p h low old new v table ev filled kept before = λ i less. elim (cases_lt i (16 * h)) [
-  | inl below ↦ kept i below ∙ before i below
-  | inr above ↦
-      let j = i - 16 * h in
-      let small : j < 16 = omega arith in
-      let place : 16 * h + j ≡ i = omega arith in
-      ap (λ m. get_or new m 0) (sym place) ∙ filled j small ∙ ap (λ m. bit_xor m v) (table j small) ∙ ap (bit_xor (fold (fed_down p) j (replicate 8 0))) ev ∙ sym (entry p h j small) ∙ ap (λ m. fold (fed_down p) m (replicate 8 0)) place
-]
-
 low_bits-8 : (n : ℕ) → low_bits 8 n ≡ fed_bits true n
 low_bits-8 n =
     let e1 : bit_at (n / 2) 0 ≡ bit_at n 1 = omega arith in
@@ -90,23 +74,116 @@ low_bits-8 n =
     let e7 : bit_at (n / 2 / 2 / 2 / 2 / 2 / 2 / 2) 0 ≡ bit_at n 7 = omega arith in
     rw (e1, e2, e3, e4, e5, e6, e7) refl
 
--- the table's place
+-- the register after bytes, the lowest bit of each first
+abbrev after_all : ℕ → ℕ → List ℕ → ℕ
+after_all p r bytes = fold (fed_down p) r (flat_map (fed_bits true) bytes)
+
+-- a byte is fed as bits 0 are, once it is in the register
+pub byte_in : (p r v : ℕ) → v < 256 → fold (fed_down p) r (fed_bits true v) ≡ after_zeros p 1 (bit_xor r v)
+byte_in p r v h = ap (fold (fed_down p) r) (sym (low_bits-8 v)) ∙ fed_into 8 p r v h
+
+-- a byte's place in a table
 pub place_below : (r v i : ℕ) → v < 256 → i ≡ bit_xor (bit_and r 255) v → i < 256
 place_below r v i h e = let small = and_le_r r 255 in rw e (xor_lt 8 (bit_and r 255) v (omega arith) h)
 
--- eight steps, by the table
-pub by_table : (p r v i e : ℕ) → v < 256 → i ≡ bit_xor (bit_and r 255) v → e ≡ fold (fed_down p) i (replicate 8 0) → bit_xor e (r / 256) ≡ fold (fed_down p) r (fed_bits true v)
+-- the low half of a register, and the high one
+halves : (r : ℕ) → r ≡ bit_xor (r / 256 * 2 ^ 8) (bit_and r 255)
+halves r = omega arith ∙ sym (xor_shifted (r / 256) 8 (r % 256) (omega arith)) ∙ ap (bit_xor (r / 256 * 2 ^ 8)) (sym (and_mask r 8))
+
+-- of what was in the register, eight bits 0 move the high half down
+half_moves : (p r : ℕ) → after_zeros p 1 r ≡ bit_xor (after_zeros p 1 (bit_and r 255)) (r / 256)
+half_moves p r = ap (after_zeros p 1) (halves r) ∙ moves 8 p (r / 256) (bit_and r 255)
+
+-- a byte, by a table
+pub by_table : (p r v i e : ℕ) → v < 256 → i ≡ bit_xor (bit_and r 255) v → e ≡ after_zeros p 1 i → bit_xor e (r / 256) ≡ fold (fed_down p) r (fed_bits true v)
 by_table p r v i e h ei ee =
-    let s = bit_xor r v in
-    let small : v % 256 ≡ v = omega arith in
-    let none : v / 256 ≡ 0 = omega arith in
-    let low : s % 256 ≡ bit_xor (bit_and r 255) v = xor_mod r v 8 ∙ ap (bit_xor (r % 256)) small ∙ ap (λ y. bit_xor y v) (sym (and_mask r 8)) in
-    let high : s / 256 ≡ r / 256 = xor_shr r v 8 ∙ ap (bit_xor (r / 256)) none ∙ xor_zero_r (r / 256) in
-    let parts : s ≡ bit_xor (s / 256 * 2 ^ 8) (s % 256) = omega arith ∙ sym (xor_shifted (s / 256) 8 (s % 256) (omega arith)) in
-    sym (ap (fold (fed_down p) r) (sym (low_bits-8 v)) ∙ fed_into 8 p r v h
-    ∙ ap (λ y. fold (fed_down p) y (replicate 8 0)) parts ∙ moves 8 p (s / 256) (s % 256)
-    ∙ ap (λ y. bit_xor (fold (fed_down p) y (replicate 8 0)) (s / 256)) low ∙ ap (bit_xor (fold (fed_down p) (bit_xor (bit_and r 255) v) (replicate 8 0))) high
-    ∙ ap (λ y. bit_xor y (r / 256)) (ap (λ y. fold (fed_down p) y (replicate 8 0)) (sym ei) ∙ sym ee))
+    let a = after_zeros p 1 (bit_and r 255) in
+    let b = after_zeros p 1 v in
+    sym (byte_in p r v h ∙ zeros-xor 8 p r v ∙ ap (λ y. bit_xor y b) (half_moves p r) ∙ xor_assoc a (r / 256) b ∙ ap (bit_xor a) (xor_comm (r / 256) b) ∙ sym (xor_assoc a b (r / 256))
+    ∙ ap (λ y. bit_xor y (r / 256)) (sym (zeros-xor 8 p (bit_and r 255) v) ∙ ap (after_zeros p 1) (sym ei) ∙ sym ee))
+
+-- ---- several bytes
+
+bytes-xor : (n p a b : ℕ) → after_zeros p n (bit_xor a b) ≡ bit_xor (after_zeros p n a) (after_zeros p n b)
+bytes-xor zero p a b = refl
+bytes-xor (suc n) p a b = ap (after_zeros p 1) (bytes-xor n p a b) ∙ zeros-xor 8 p (after_zeros p n a) (after_zeros p n b)
+
+first_byte : (n p r : ℕ) → after_zeros p n (after_zeros p 1 r) ≡ after_zeros p (suc n) r
+first_byte zero p r = refl
+first_byte (suc n) p r = ap (after_zeros p 1) (first_byte n p r)
+
+-- what each byte makes, all exclusive-ored, onto a number
+abbrev summed : ℕ → ℕ → List ℕ → ℕ
+summed p a [] = a
+summed p a (b ∷ bs) = summed p (bit_xor a (after_zeros p (suc (length bs)) b)) bs
+
+summed-xor : (p a b : ℕ) (bs : List ℕ) → summed p (bit_xor a b) bs ≡ bit_xor a (summed p b bs)
+summed-xor p a b [] = refl
+summed-xor p a b (v ∷ bs) =
+    let e = after_zeros p (suc (length bs)) v in
+    ap (λ y. summed p y bs) (xor_assoc a b e) ∙ summed-xor p a (bit_xor b e) bs
+
+-- what was in the register moves as if bytes 0 were fed
+all-summed : (p r : ℕ) (bs : List ℕ) → AllByRecursion (λ b. b < 256) bs → after_all p r bs ≡ summed p (after_zeros p (length bs) r) bs
+all-summed p r [] h = refl
+all-summed p r (b ∷ bs) h =
+    let n = length bs in
+    fold-append (fed_down p) r (fed_bits true b) (flat_map (fed_bits true) bs)
+    ∙ ap (λ s. after_all p s bs) (byte_in p r b h.0)
+    ∙ all-summed p (after_zeros p 1 (bit_xor r b)) bs h.1
+    ∙ ap (λ y. summed p y bs) (first_byte n p (bit_xor r b) ∙ bytes-xor (suc n) p r b)
+
+-- two bytes and more: the first two are put together with the halves of the register
+pub by_tables : (p r v w i j : ℕ) (bs : List ℕ) → AllByRecursion (λ b. b < 256) (v ∷ w ∷ bs) → i ≡ bit_xor (bit_and r 255) v → j ≡ bit_xor (r / 256) w →
+    summed p (bit_xor (after_zeros p (suc (suc (length bs))) i) (after_zeros p (suc (length bs)) j)) bs ≡ after_all p r (v ∷ w ∷ bs)
+by_tables p r v w i j bs h ei ej =
+    let n = length bs in
+    let low = bit_and r 255 in
+    let high = r / 256 in
+    let z = after_zeros p (suc (suc n)) in
+    let y = after_zeros p (suc n) in
+    let parts : z r ≡ bit_xor (z low) (y high) = sym (first_byte (suc n) p r) ∙ ap y (half_moves p r) ∙ bytes-xor (suc n) p (after_zeros p 1 low) high ∙ ap (λ x. bit_xor x (y high)) (first_byte (suc n) p low) in
+    let both : bit_xor (bit_xor (z r) (z v)) (y w) ≡ bit_xor (z i) (y j) =
+    ap (λ x. bit_xor (bit_xor x (z v)) (y w)) parts
+    ∙ ap (λ x. bit_xor x (y w)) (xor_assoc (z low) (y high) (z v) ∙ ap (bit_xor (z low)) (xor_comm (y high) (z v)) ∙ sym (xor_assoc (z low) (z v) (y high)))
+    ∙ xor_assoc (bit_xor (z low) (z v)) (y high) (y w)
+    ∙ ap (λ x. bit_xor x (bit_xor (y high) (y w))) (sym (bytes-xor (suc (suc n)) p low v) ∙ ap z (sym ei))
+    ∙ ap (bit_xor (z i)) (sym (bytes-xor (suc n) p high w) ∙ ap y (sym ej)) in
+    sym (all-summed p r (v ∷ w ∷ bs) h ∙ ap (λ x. summed p x bs) both)
+
+-- ---- eight bytes
+
+abbrev firsts : List ℕ → List ℕ
+firsts xs = get_or xs 0 0 ∷ get_or xs 1 0 ∷ get_or xs 2 0 ∷ get_or xs 3 0 ∷ get_or xs 4 0 ∷ get_or xs 5 0 ∷ get_or xs 6 0 ∷ get_or xs 7 0 ∷ []
+
+eight_of : (xs : List ℕ) → length xs ≡ 8 → firsts xs ≡ xs
+eight_of [] h = absurd (omega arith)
+eight_of (a ∷ []) h = absurd (omega arith)
+eight_of (a ∷ b ∷ []) h = absurd (omega arith)
+eight_of (a ∷ b ∷ c ∷ []) h = absurd (omega arith)
+eight_of (a ∷ b ∷ c ∷ d ∷ []) h = absurd (omega arith)
+eight_of (a ∷ b ∷ c ∷ d ∷ e ∷ []) h = absurd (omega arith)
+eight_of (a ∷ b ∷ c ∷ d ∷ e ∷ f ∷ []) h = absurd (omega arith)
+eight_of (a ∷ b ∷ c ∷ d ∷ e ∷ f ∷ g ∷ []) h = absurd (omega arith)
+eight_of (a ∷ b ∷ c ∷ d ∷ e ∷ f ∷ g ∷ i ∷ []) h = refl
+eight_of (a ∷ b ∷ c ∷ d ∷ e ∷ f ∷ g ∷ i ∷ j ∷ xs) h = absurd (omega arith)
+
+-- the table entries of eight bytes
+pub by_eight : (p r i j : ℕ) (xs : List ℕ) (e1 e2 e3 e4 e5 e6 e7 e8 : ℕ) → length xs ≡ 8 → AllByRecursion (λ b. b < 256) (firsts xs) → i ≡ bit_xor (bit_and r 255) (get_or xs 0 0) → j ≡ bit_xor (r / 256) (get_or xs 1 0)
+    → e1 ≡ after_zeros p 8 i → e2 ≡ after_zeros p 7 j → e3 ≡ after_zeros p 6 (get_or xs 2 0) → e4 ≡ after_zeros p 5 (get_or xs 3 0)
+    → e5 ≡ after_zeros p 4 (get_or xs 4 0) → e6 ≡ after_zeros p 3 (get_or xs 5 0) → e7 ≡ after_zeros p 2 (get_or xs 6 0) → e8 ≡ after_zeros p 1 (get_or xs 7 0)
+    → bit_xor (bit_xor (bit_xor (bit_xor (bit_xor (bit_xor (bit_xor e1 e2) e3) e4) e5) e6) e7) e8 ≡ fold (fed_down p) r (flat_map (fed_bits true) xs)
+by_eight p r i j xs e1 e2 e3 e4 e5 e6 e7 e8 size all ei ej h1 h2 h3 h4 h5 h6 h7 h8 =
+    rw (h1, h2, h3, h4, h5, h6, h7, h8)
+    (by_tables p r (get_or xs 0 0) (get_or xs 1 0) i j (get_or xs 2 0 ∷ get_or xs 3 0 ∷ get_or xs 4 0 ∷ get_or xs 5 0 ∷ get_or xs 6 0 ∷ get_or xs 7 0 ∷ []) all ei ej
+    ∙ ap (after_all p r) (eight_of xs size))
+
+-- eight bytes, each with the bits of another
+pub eight_same : (f g : ℕ → List ℕ) (xs : List ℕ) (o1 o2 o3 o4 o5 o6 o7 o8 : ℕ) → length xs ≡ 8 → f o1 ≡ g (get_or xs 0 0) → f o2 ≡ g (get_or xs 1 0) → f o3 ≡ g (get_or xs 2 0) → f o4 ≡ g (get_or xs 3 0)
+    → f o5 ≡ g (get_or xs 4 0) → f o6 ≡ g (get_or xs 5 0) → f o7 ≡ g (get_or xs 6 0) → f o8 ≡ g (get_or xs 7 0) → flat_map f (o1 ∷ o2 ∷ o3 ∷ o4 ∷ o5 ∷ o6 ∷ o7 ∷ o8 ∷ []) ≡ flat_map g xs
+eight_same f g xs o1 o2 o3 o4 o5 o6 o7 o8 size h1 h2 h3 h4 h5 h6 h7 h8 =
+    let made : f o1 ++ (f o2 ++ (f o3 ++ (f o4 ++ (f o5 ++ (f o6 ++ (f o7 ++ (f o8 ++ []))))))) ≡ flat_map g (firsts xs) = rw (h1, h2, h3, h4, h5, h6, h7, h8) refl in
+    made ∙ ap (flat_map g) (eight_of xs size)
 
 -- ---- the other order of bits
 
@@ -150,9 +227,6 @@ turned-twice (suc k) n a =
     ap (λ m. reverse_bits_onto k (m / 2) (a * 2 + m % 2)) (turned-last k n 0)
     ∙ ap (λ m. reverse_bits_onto k m (a * 2 + (r * 2 + b) % 2)) half ∙ ap (λ m. reverse_bits_onto k r (a * 2 + m)) rest
     ∙ turned-twice k n (a * 2 + b) ∙ rw (whole, twice) (omega arith)
-
-abbrev pub turned : ℕ → ℕ
-turned n = reverse_bits_onto 16 n 0
 
 turned-doubled : (r : ℕ) → reverse_bits_onto 16 (r * 2) 0 ≡ reverse_bits_onto 15 r 0
 unfolding reverse_bits_onto

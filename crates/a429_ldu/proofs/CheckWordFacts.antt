@@ -8,9 +8,10 @@ use Rattle.std.proofs.lemmas.Grind.{fold-append, flat_map-append}
 use Rattle.std.proofs.lemmas.Nat.{mod-pow-add, pow-add, xor_lt}
 use Rattle.std.proofs.lemmas.Nat.Bits.{bit_at-lt}
 use Rattle.a429_profile.specs.declared.codes.Check.{Check}
-use Rattle.a429_ldu.specs.CheckWord.{top_bits, fed_bits, remainder_number, check_of, fed, fed_down, register_after, check_by_register}
+use Rattle.a429_profile.specs.CheckTables.{turned, fed_down}
+use Rattle.a429_ldu.specs.CheckWord.{top_bits, fed_bits, remainder_number, check_of, fed, register_after, check_by_register}
 use Rattle.a429_ldu.proofs.CheckWordDivision.{AreBits, AreBits-append, register-divides}
-use Rattle.a429_ldu.proofs.CheckWordDown.{turned, turned-fold, turned_back}
+use Rattle.a429_ldu.proofs.CheckWordDown.{turned-fold, turned_back}
 
 AreBits-top_bits : (k n : ℕ) → AreBits (top_bits k n)
 AreBits-top_bits zero n = tt

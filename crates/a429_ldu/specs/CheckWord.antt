@@ -1,5 +1,5 @@
 -- The check word of bytes, by the division of polynomials over two elements (ARINC 429 Part 3; polynomial, start, end and the order of bits are the profile's).
-use Rattle.std.specs.Prelude.{ℕ, zero, suc, ◌+◌, ◌*◌, ◌/◌, ◌%◌, ◌<◌, ◌≡◌, ◌==◌, if◌then◌else◌, Bool, not, ◌||◌, List, [], ◌∷◌, ◌++◌, length, reverse, replicate, bit_xor, fold, slice_index}
+use Rattle.std.specs.Prelude.{ℕ, zero, suc, ◌+◌, ◌*◌, ◌%◌, ◌==◌, if◌then◌else◌, Bool, not, ◌||◌, List, [], ◌∷◌, ◌++◌, length, reverse, replicate, bit_xor, fold}
 use Rattle.std.specs.Int.{bit_at, reverse_bits_onto}
 use Rattle.std.specs.Int.Digits.{number_from_digits}
 use Rattle.std.specs.List.{flat_map}
@@ -55,11 +55,3 @@ register_after k bytes = fold (fed k.poly) k.init (flat_map (fed_bits k.low_firs
 -- at the end it is reversed where low bits come first, and then exclusive-ored
 abbrev pub check_by_register : Check → List ℕ → ℕ
 check_by_register k bytes = bit_xor (if k.low_first then reverse_bits_onto 16 (register_after k bytes) 0 else register_after k bytes) k.xor
-
--- one bit more of a register whose bits are in the other order, as are those of the polynomial: it moves down one place
-abbrev pub fed_down : ℕ → ℕ → ℕ → ℕ
-fed_down poly register b = if (register + b) % 2 == 1 then bit_xor (register / 2) poly else register / 2
-
--- what eight bits 0 make of each register below a number
-abbrev pub IsTable : ℕ → ℕ → List ℕ → Type 0
-IsTable count poly table = (i : ℕ) → i < count → slice_index table i ≡ fold (fed_down poly) i (replicate 8 0)

@@ -1,6 +1,6 @@
 //! The bytes that data words carry.
 
-ghost use Rattle.std.specs.Prelude.{◌≡◌, ◌≤◌, ◌<◌, ◌+◌, ◌*◌, ◌^◌, ◌++◌, [], ◌∷◌, List, ℕ, Ok, Some, None, IfOk, IfSome, option_map, length, true, false};
+ghost use Rattle.std.specs.Prelude.{◌≡◌, ◌≤◌, ◌<◌, ◌+◌, ◌*◌, ◌^◌, ◌++◌, [], ◌∷◌, List, ℕ, Ok, Some, None, IfOk, IfSome, option_map, length, take, true, false};
 ghost use Rattle.arrayvec.specs.ArrayVec.{array_vec_len};
 ghost use Rattle.a429_word.specs.Word.{label_of, HasOddParity};
 ghost use Rattle.a429_word.specs.declared.bus.Bus.TheVariants as bus;
@@ -61,7 +61,8 @@ pub fn block_bytes(profile: &Profile, words: &[Word]) -> Option<BlockBytes>
     ensures computed { option_map (λ bytes. bytes.items) result ≡ bytes_carried profile.now.codes words.now }
 {
     let mut bytes = BlockBytes::new();
-    let low = carry(profile, words, None, &mut bytes)?;
+    let paired = carry_pairs(profile, words, &mut bytes);
+    let low = carry(profile, &words[paired..], None, &mut bytes)?;
     if are_whole(&bytes, low) {
         Some(bytes)
     } else {
@@ -90,6 +91,31 @@ fn count_held(bytes: &[u8], low: Option<u8>) -> usize
         Some(_) => 2 * bytes.len() + 1,
         None => 2 * bytes.len(),
     }
+}
+
+// Adds the bytes of full data words of bus A, five for each two, up to the first pair in which one is another word.
+// Returns how many words these are.
+#[inline(never)]
+fn carry_pairs(profile: &Profile, words: &[Word], bytes: &mut BlockBytes) -> usize
+    requires room { 2 * array_vec_len bytes.old + 5 * length words.now ≤ 1265 }
+    ensures within { result ≤ length words.now }
+    ensures room { 2 * array_vec_len bytes.new ≤ 2 * array_vec_len bytes.old + 5 * result }
+    ensures semis { AddSemis profile.now.codes (take result words.now) (semis_held bytes.old.items None) (semis_held bytes.new.items None) }
+{
+    let codes = profile.codes();
+    let mut at = 0;
+    'pairs: while at + 1 < words.len() {
+        let Some(first) = full_number(codes, words[at]) else {
+            return at;
+        };
+        let Some(second) = full_number(codes, words[at + 1]) else {
+            return at;
+        };
+        let low = push_full(bytes, None, first);
+        push_full(bytes, low, second);
+        at += 2;
+    }
+    at
 }
 
 // Adds the bytes that the words' semi-octets make. `low` is a semi-octet that still waits for the high one of its

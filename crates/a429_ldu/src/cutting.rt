@@ -6,7 +6,7 @@ ghost use Rattle.a429_profile.specs.Profile.{IsProfile};
 ghost use Rattle.a429_ldu.specs.Ldu.{most_unit_bytes, count_of, bytes_of, IsLdu};
 ghost use Rattle.a429_ldu.specs.Cut.{most_units, room, pieces, unit_of, units_in, units_of, final_flag, OnlyLastIsFinal};
 
-use crate::check_words::check_word;
+use crate::check_words::check_word_by;
 use crate::fault::CutFault;
 use crate::filling::data_words;
 use crate::ldu::Ldu;
@@ -81,7 +81,7 @@ fn unit(alloc: Global, profile: &Profile, bytes: &[u8], flags: u8) -> Result<Ldu
     ensures { IfOk result (λ u. u ≡ unit_of profile.now bytes.now flags) }
 {
     let words = data_words(alloc, profile, bytes)?;
-    Ok(Ldu::of_parts(flags, check_word(profile.check(), bytes), words))
+    Ok(Ldu::of_parts(flags, check_word_by(profile.check_tables(), bytes), words))
 }
 
 // The flag of a file's last link data unit.

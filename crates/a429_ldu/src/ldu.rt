@@ -64,7 +64,7 @@ impl Ldu {
         let Some(bytes) = block_bytes(profile, words) else {
             return Err(LduFault::NotBytes);
         };
-        if !agrees(profile.check(), &bytes, check) {
+        if !agrees(profile.check_tables(), &bytes, check) {
             return Err(LduFault::CheckWrong);
         }
         match Vec::from_slice(alloc, words) {

@@ -15,7 +15,7 @@ mod semis;
 mod sight;
 
 pub use crate::carried::{BlockBytes, block_bytes, bytes_of, count_semis};
-pub use crate::check_words::{agrees, check_word};
+pub use crate::check_words::{agrees, check_word, check_word_by};
 pub use crate::cutting::{MOST_UNITS, cut};
 pub use crate::fault::{CutFault, LduFault};
 pub use crate::forms::Form;

@@ -1,6 +1,6 @@
 //! The observer of a recording.
 
-ghost use Rattle.std.specs.Prelude.{◌≡◌, ◌↔◌, Some, IsTrue, IsOk, IfOk, IfErr, OnOk, OnErr};
+ghost use Rattle.std.specs.Prelude.{◌≡◌, ◌↔◌, false, Some, IsTrue, IsOk, IfOk, IfErr, OnOk, OnErr};
 ghost use Rattle.a429_ldu.specs.Sight.{sight_of};
 ghost use Rattle.a429_link.specs.Observer as model;
 ghost use Rattle.a429_link.specs.Observer.{at_first, sees, sees_form, Allows, AllowsForm};
@@ -59,13 +59,28 @@ impl Observer {
             Sight::Free => Ok(sight),
             Sight::NoForm => Err(sight),
             Sight::Form(form) => {
-                if !self.sink.allows(seen.bus, form) {
-                    return Err(sight);
+                if self.see_form(profile, seen.bus, seen.word, form) {
+                    Ok(sight)
+                } else {
+                    Err(sight)
                 }
-                self.take(profile, seen.bus, seen.word, form);
-                Ok(sight)
             }
         }
+    }
+
+    /// Takes the next recorded word, of which the caller knows that it is not free and has this form, where the words
+    /// before it allow it. It answers whether they do; where they do not, the observer is unchanged.
+    #[inline]
+    pub fn see_form(&mut self, profile: &Profile, bus: Bus, word: Word, form: &Form) -> bool
+        ensures allowed { IsTrue result ↔ AllowsForm self.old bus (Some form.now) }
+        ensures taken { IsTrue result → self.new ≡ sees_form profile.now bus word (Some form.now) self.old }
+        ensures unchanged { result ≡ false → self.new ≡ self.old }
+    {
+        if !self.sink.allows(bus, form) {
+            return false;
+        }
+        self.take(profile, bus, word, form);
+        true
     }
 
     /// A word of this form ends a block that was recorded whole, and makes no link data unit of it.
@@ -82,6 +97,7 @@ impl Observer {
         self.sink.number_comes(profile, bus, form)
     }
 
+    #[inline(always)]
     fn take(&mut self, profile: &Profile, bus: Bus, word: Word, form: &Form)
         requires { AllowsForm self.old bus (Some form.now) }
         ensures { self.new ≡ sees_form profile.now bus word (Some form.now) self.old }

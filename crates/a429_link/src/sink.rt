@@ -19,7 +19,7 @@ use crate::number::UnitNumber;
 use crate::received::Received;
 use crate::state::SinkState;
 use crate::why::Why;
-use a429_ldu::{Form, agrees, block_bytes, check_word, count_semis};
+use a429_ldu::{Form, agrees, block_bytes, check_word_by, count_semis};
 use a429_profile::Profile;
 use a429_word::{Bus, Word};
 use std::alloc::Global;
@@ -310,8 +310,8 @@ impl Sink {
         let Some(bytes) = block_bytes(profile, words) else {
             return Some(Why::HalfBytes(count_semis(profile, words)));
         };
-        if !agrees(profile.check(), bytes.as_slice(), check) {
-            return Some(Why::OtherCheck(check_word(profile.check(), bytes.as_slice())));
+        if !agrees(profile.check_tables(), bytes.as_slice(), check) {
+            return Some(Why::OtherCheck(check_word_by(profile.check_tables(), bytes.as_slice())));
         }
         if !may_come(profile, &self.last, start.number()) {
             return Some(Why::OutOfSequence);

@@ -1,5 +1,5 @@
 -- What an observer's last end word was.
-use Rattle.std.proofs.Common.{◌≡◌, ℕ, Bool, true, false, if◌then◌else◌, Option, Some, None, option_map, refl, sym, ◌∙◌, subst, inl, inr}
+use Rattle.std.proofs.Common.{◌≡◌, ℕ, Bool, true, false, if◌then◌else◌, Option, Some, None, option_map, refl, sym, ◌∙◌, subst}
 use Rattle.a429_word.specs.declared.bus.Bus.{Bus}
 use Rattle.a429_word.specs.declared.bus.Bus.TheVariants as bus
 use Rattle.a429_profile.specs.declared.codes.Codes.{Codes}
@@ -11,12 +11,12 @@ use Rattle.a429_ldu.specs.declared.forms.Form.{Form}
 use Rattle.a429_ldu.specs.declared.forms.Form.TheVariants.{Eot}
 use Rattle.a429_ldu.specs.declared.sight.Sight.TheVariants as sight
 use Rattle.a429_link.specs.declared.number.UnitNumber.{UnitNumber}
-use Rattle.a429_link.specs.declared.seen.Seen.{Seen}
-use Rattle.a429_link.specs.Observer.{Observer, Allows, AllowsForm, HasGrant, sees, sees_form}
+use Rattle.a429_link.specs.Observer.{Observer, AllowsForm, HasGrant, sees_form}
 use Rattle.a429_link.specs.Sink.{MayAnswer, Number, SinkPhase, Quiet, OwesClear, Granted, InBlock, OwesAck, OwesNak, at_end, end_word, is_good}
 use Rattle.a429_parts.specs.Follower.{HasEnded, Remembers}
 
-free_none : (c : Codes) (b : Bus) (w : ℕ) → is_free c b w ≡ true → form_of c b w ≡ None
+-- a free word has no form
+pub free_none : (c : Codes) (b : Bus) (w : ℕ) → is_free c b w ≡ true → form_of c b w ≡ None
 free_none c b w free = sym (form_of-sight c b w) ∙ subst (λ (t : Bool). form_in (if t then sight.Free else sight_in (form_of c b w)) ≡ None) (sym free) refl
 
 ended : (p : Contents) (last : Option Number) (count flags check : ℕ) (phase : SinkPhase) → HasGrant phase → HasEnded flags (at_end p last count (end_word flags check) phase)
@@ -43,7 +43,6 @@ end_seen : (p : Contents) (o : Observer) (b : Bus) (w flags check : ℕ) (last :
 end_seen p o bus.A w flags check last allows same = (same, ended p o.last o.count flags check o.phase allows)
 end_seen p o bus.B w flags check last allows same = absurd (no_answer o.count flags check o.phase allows)
 
-pub end_remembered : (p : Contents) (o : Observer) (i : Seen) (flags check : ℕ) (last : Option UnitNumber) → form_of p.codes i.bus i.word ≡ Some (Eot flags check) → Allows p o i → last ≡ option_map (λ n. n.number) o.last → Remembers last flags (sees p i o)
-end_remembered p o i flags check last is (inl free) same = let none = free_none p.codes i.bus i.word free in absurd (cc (none, is))
-end_remembered p o i flags check last is (inr allows) same =
-    subst (λ (f : Option Form). Remembers last flags (sees_form p i.bus i.word f o)) (sym is) (end_seen p o i.bus i.word flags check last (subst (AllowsForm o i.bus) is allows) same)
+pub end_remembered : (p : Contents) (o : Observer) (b : Bus) (w : ℕ) (f : Form) (flags check : ℕ) (last : Option UnitNumber) → f ≡ Eot flags check → AllowsForm o b (Some f) → last ≡ option_map (λ n. n.number) o.last → Remembers last flags (sees_form p b w (Some f) o)
+end_remembered p o b w f flags check last is allows same =
+    subst (λ (x : Form). Remembers last flags (sees_form p b w (Some x) o)) (sym is) (end_seen p o b w flags check last (subst (λ (x : Form). AllowsForm o b (Some x)) is allows) same)

@@ -3,6 +3,7 @@ pub mod Keeping
 pub mod Cutting
 pub mod Follower
 pub mod Watch
+pub mod Near
 pub mod Cutter
 pub mod Parts
 pub mod MemoryParts

@@ -1,5 +1,5 @@
 -- How far a recording is cut, and where it ends (profile).
-use Rattle.std.specs.Prelude.{◌≡◌, ◌≤◌, ◌<◌, ◌⊎◌, ℕ, suc, List, [], ◌∷◌, ◌++◌, length, Option, IfSome, ⊤}
+use Rattle.std.specs.Prelude.{◌≡◌, ◌<◌, ◌⊎◌, ℕ, suc, Bool, true, false, List, [], ◌++◌, length, Option, IfSome, ⊤}
 use Rattle.a429_word.specs.declared.sheet.Sheet.{Sheet}
 use Rattle.a429_word.specs.Sheet.{Says}
 use Rattle.a429_profile.specs.Profile.{Contents}
@@ -9,7 +9,8 @@ use Rattle.a429_record.specs.declared.fault.ReadFault.TheVariants as read
 use Rattle.a429_record.specs.Recording.{Recording, whole}
 use Rattle.a429_record.specs.Rows.{Stops}
 use Rattle.a429_parts.specs.declared.parting.Parting.{Parting}
-use Rattle.a429_parts.specs.Cutter.{Cuts}
+use Rattle.a429_parts.specs.Cutter.{Cuts, CutterState, EndsLast, EndsNowhere, IsInReach}
+use Rattle.a429_parts.specs.Near.{HasNoneNear}
 use Rattle.a429_parts.specs.Keeping.{with_entries}
 use Rattle.a429_parts.specs.Parts.{AreFirstParts, AreParts, GainsParts, PutParts, joined, list_text}
 
@@ -39,12 +40,12 @@ pub record CutsAll {W : Type 0} (p : Contents) (most : ℕ) (recording : Option 
   pub puts : ArePut o parts
   pub text : list ≡ list_text parts
 
--- no more parts are put of a recording of which these entries are in no part: they are more than a part may have; or a device failed, or memory was refused
-abbrev pub CannotGoOn : ℕ → List Entry → ReadFault → Type 0
-CannotGoOn most rest read.TooMany = most < length rest
-CannotGoOn most rest read.Device = ⊤
-CannotGoOn most rest read.OutOfMemory = ⊤
-CannotGoOn most rest fault = ⊥
+-- no more parts are put of a recording of these entries, the first `from` of which are in parts, and these came after them: they are more than a part may have, and no place is near enough; or a device failed, or memory was refused
+abbrev pub CannotGoOn : Contents → ℕ → List Entry → ℕ → List Entry → ReadFault → Type 0
+CannotGoOn p most entries from rest read.TooMany = (most < length rest) × HasNoneNear p most entries from
+CannotGoOn p most entries from rest read.Device = ⊤
+CannotGoOn p most entries from rest read.OutOfMemory = ⊤
+CannotGoOn p most entries from rest fault = ⊥
 
 -- the first parts of a recording were put, up to a fault: its own, which comes after these entries, or another
 pub record CutsUntil {W : Type 0} (p : Contents) (most : ℕ) (recording : Option Recording) (o : Outputs W) (fault : ReadFault) : Type 0 where
@@ -53,31 +54,45 @@ pub record CutsUntil {W : Type 0} (p : Contents) (most : ℕ) (recording : Optio
   pub rest : List Entry
   pub are : AreFirstParts p most entries parts rest
   pub puts : ArePut o parts
-  pub ends : IfSome recording (λ r. (later : Recording) × (r ≡ with_entries entries later) × (Stops fault later ⊎ CannotGoOn most rest fault))
+  pub ends : IfSome recording (λ r. (later : Recording) × (r ≡ with_entries entries later) × (Stops fault later ⊎ CannotGoOn p most (entries ++ later.entries) (length (joined parts)) rest fault))
 
 -- ---- while it is cut
 
--- of these entries, which are the first of a recording, these parts are put, and the others wait
-pub record Holds (p : Contents) (most : ℕ) (parts : List (List Entry)) (es : List Entry) (s : Parting) : Type 0 where
-  pub are : (rest : List Entry) → AreFirstParts p most (es ++ rest) parts (s.cutter.waiting ++ rest)
+-- these entries are still to come: none at the end
+abbrev pub IsLeft : Bool → List Entry → Type 0
+IsLeft true rest = rest ≡ []
+IsLeft false rest = Unit {0}
+
+-- a part of so many of the entries that wait, which are more than a part may have, ends at the last place that is near enough
+abbrev pub EndsFor : Bool → CutterState → ℕ → Type 0
+EndsFor at_end c size = ((rest : List Entry) → IsLeft at_end rest → EndsLast c size rest) × (c.most < length c.waiting)
+
+-- no place is near enough
+abbrev pub EndsNowhereFor : Bool → CutterState → Type 0
+EndsNowhereFor at_end c = (rest : List Entry) → IsLeft at_end rest → EndsNowhere c rest
+
+-- of these entries, which are the first of a recording, or all, these parts are put, and the others wait
+pub record Holds (p : Contents) (most : ℕ) (at_end : Bool) (parts : List (List Entry)) (es : List Entry) (s : Parting) : Type 0 where
+  pub are : (rest : List Entry) → IsLeft at_end rest → AreFirstParts p most (es ++ rest) parts (s.cutter.waiting ++ rest)
   pub cuts : (rest : List Entry) → Cuts p (joined parts) rest s.cutter
+  pub reach : IsInReach s.cutter
   pub limit : s.cutter.most ≡ most
   pub next : s.next ≡ suc (length parts)
   pub list : s.list.items ≡ list_text parts
 
 -- and they are where they belong
-pub record Progress {W : Type 0} (p : Contents) (most : ℕ) (o : Outputs W) (es : List Entry) (s : Parting) : Type 0 where
+pub record Progress {W : Type 0} (p : Contents) (most : ℕ) (at_end : Bool) (o : Outputs W) (es : List Entry) (s : Parting) : Type 0 where
   pub parts : List (List Entry)
-  pub holds : Holds p most parts es s
+  pub holds : Holds p most at_end parts es s
   pub puts : ArePut o parts
 
 -- no more parts of these entries are put, by this fault
-pub record Stopped {W : Type 0} (p : Contents) (most : ℕ) (o : Outputs W) (es : List Entry) (fault : ReadFault) : Type 0 where
+pub record Stopped {W : Type 0} (p : Contents) (most : ℕ) (at_end : Bool) (o : Outputs W) (es : List Entry) (fault : ReadFault) : Type 0 where
   pub parts : List (List Entry)
   pub rest : List Entry
   pub are : AreFirstParts p most es parts rest
   pub puts : ArePut o parts
-  pub reason : CannotGoOn most rest fault
+  pub reason : (more : List Entry) → IsLeft at_end more → CannotGoOn p most (es ++ more) (length (joined parts)) rest fault
 
 -- all parts of these entries are put, and this is their list
 pub record Finished {W : Type 0} (p : Contents) (most : ℕ) (o : Outputs W) (es : List Entry) (list : List ℕ) : Type 0 where

@@ -3,9 +3,9 @@ use Rattle.std.specs.Prelude.{◌≡◌, ◌≤◌, ◌<◌, ◌+◌, ◌⊎◌,
 use Rattle.std.specs.Fmt.{decimal}
 use Rattle.a429_profile.specs.Profile.{Contents}
 use Rattle.a429_record.specs.declared.entry.Entry.{Entry}
-use Rattle.a429_link.specs.declared.seen.Seen.{Seen}
 use Rattle.a429_cert.specs.Explained.{items_of}
 use Rattle.a429_parts.specs.Cutting.{IsPlace}
+use Rattle.a429_parts.specs.Near.{IsLastNear}
 
 -- ---- the parts of a recording
 
@@ -14,10 +14,11 @@ abbrev pub joined : List (List Entry) → List Entry
 joined [] = []
 joined (es ∷ parts) = es ++ joined parts
 
--- each of these parts, the first of which begins after so many words, ends where the recording may be cut
-abbrev pub EndAtPlaces : Contents → List Seen → ℕ → List (List Entry) → Type 0
-EndAtPlaces p items from [] = Unit {0}
-EndAtPlaces p items from (es ∷ parts) = IsPlace p items (from + length es) × EndAtPlaces p items (from + length es) parts
+-- each of these parts, the first of which begins after so many of these entries, ends where the recording may be cut, at the last such place that is near enough; the end of the recording is not
+abbrev pub EndAtPlaces : Contents → ℕ → List Entry → ℕ → List (List Entry) → Type 0
+EndAtPlaces p most entries from [] = Unit {0}
+EndAtPlaces p most entries from (es ∷ parts) =
+    (from + most < length entries) × IsPlace p (items_of entries) (from + length es) × IsLastNear p most entries from (from + length es) × EndAtPlaces p most entries (from + length es) parts
 
 -- each has an entry, and at most so many
 abbrev pub HaveAtMost : ℕ → List (List Entry) → Type 0
@@ -27,7 +28,7 @@ HaveAtMost most (es ∷ parts) = (0 < length es) × (length es ≤ most) × Have
 -- the first parts of a recording of these entries, and the entries after them
 pub record AreFirstParts (p : Contents) (most : ℕ) (entries : List Entry) (parts : List (List Entry)) (rest : List Entry) : Type 0 where
   pub joined : joined parts ++ rest ≡ entries
-  pub places : EndAtPlaces p (items_of entries) 0 parts
+  pub places : EndAtPlaces p most entries 0 parts
   pub few : HaveAtMost most parts
 
 -- all parts of a recording of these entries: the last one ends with the recording

@@ -1,10 +1,11 @@
 //! The parts of a long recording.
 
-ghost use Rattle.std.specs.Prelude.{◌≡◌, ◌+◌, ◌<◌, ◌≤◌, ◌^◌, ◌∷◌, ◌++◌, [], Some, None, Ok, IfOk, IfSome, IsErr, IsErrOf, OnOk, List, length, take, drop};
+ghost use Rattle.std.specs.Prelude.{◌≡◌, true, false, ◌+◌, ◌<◌, ◌≤◌, ◌^◌, ◌∷◌, ◌++◌, [], Some, None, Ok, IfOk, IfSome, IsErr, IsErrOf, OnOk, List, length, take, drop};
 ghost use Rattle.a429_profile.specs.Profile.{Contents};
 ghost use Rattle.a429_record.specs.declared.entry.Entry.{Entry};
 ghost use Rattle.a429_link.specs.Observer.{at_first};
-ghost use Rattle.a429_parts.specs.Cutter.{Cuts, IsPart};
+ghost use Rattle.a429_parts.specs.Cutter.{Cuts, HasNoNextPart, HasNoNextPartAtEnd, HasNoPart, IsCurrent, IsInReach, IsNextPart, IsNextPartAtEnd, IsPart, IsPastDoubt};
+ghost use Rattle.a429_parts.specs.Watch.{place_of};
 
 use crate::watch::Watch;
 use a429_cert::seen;
@@ -72,11 +73,11 @@ impl Cutter {
 
     /// Takes the next entry. It takes as many as a `usize` counts.
     pub fn take(&mut self, profile: &Profile, entry: &Entry) -> Result<(), PartFault>
-        ensures counts { OnOk result (self.new.watched.count ≡ self.old.watched.count + 1) }
-        ensures most { self.new.most ≡ self.old.most }
+        ensures most { (self.new.most ≡ self.old.most) × OnOk result (self.new.watched.count ≡ self.old.watched.count + 1) }
         ensures waits { OnOk result (self.new.waiting ≡ self.old.waiting ++ entry.now ∷ []) }
         ensures cuts { OnOk result ((parted : List Entry) (rest : List Entry) → Cuts profile.now parted (entry.now ∷ rest) self.old → Cuts profile.now parted rest self.new) }
         ensures many { IsErrOf result PartFault.TooMany → self.old.watched.count + 1 ≡ 2 ^ 64 }
+        ensures reach { OnOk result ((parted : List Entry) (rest : List Entry) → Cuts profile.now parted (entry.now ∷ rest) self.old → IsCurrent self.old → IsInReach self.new) }
     {
         if self.watch.count() == usize::MAX {
             return Err(PartFault::TooMany);
@@ -97,8 +98,9 @@ impl Cutter {
     /// How many of the entries that wait are a part, if it is complete. It is not where the next entries may still say
     /// that there is a later place that is near enough.
     pub fn part(&self) -> Result<Option<usize>, PartFault>
-        ensures some { IfOk result (λ o. IfSome o (IsPart self.now)) }
-        ensures many { IsErr result → self.now.most < length self.now.waiting }
+        ensures some { IfOk result (λ o. IfSome o (IsNextPart self.now)) }
+        ensures none { result ≡ Ok None → IsInReach self.now → IsCurrent self.now }
+        ensures many { IsErr result → HasNoNextPart self.now }
     {
         if self.waiting.len() <= self.most || self.may_end_in_doubt() {
             return Ok(None);
@@ -108,9 +110,9 @@ impl Cutter {
 
     /// The same, where no entry comes any more: then the entries that wait are the last part where none is answered.
     pub fn part_at_end(&self) -> Result<Option<usize>, PartFault>
-        ensures some { IfOk result (λ o. IfSome o (IsPart self.now)) }
+        ensures some { IfOk result (λ o. IfSome o (IsNextPartAtEnd self.now)) }
         ensures none { result ≡ Ok None → length self.now.waiting ≤ self.now.most }
-        ensures many { IsErr result → self.now.most < length self.now.waiting }
+        ensures many { IsErr result → HasNoNextPartAtEnd self.now }
     {
         if self.waiting.len() <= self.most {
             return Ok(None);
@@ -122,6 +124,7 @@ impl Cutter {
     fn last_part(&self) -> Result<Option<usize>, PartFault>
         ensures some { IfOk result (λ o. IfSome o (IsPart self.now)) }
         ensures never { IfOk result (λ o. o ≡ None → ⊥) }
+        ensures none { IsErr result → HasNoPart self.now }
     {
         if self.place <= self.begin {
             return Err(PartFault::TooMany);
@@ -134,7 +137,10 @@ impl Cutter {
     }
 
     // Whether the part may end at the place in doubt.
-    fn may_end_in_doubt(&self) -> bool {
+    fn may_end_in_doubt(&self) -> bool
+        ensures yes { result ≡ true → IfSome self.now.watched.doubt (λ doubt. place_of doubt ≤ self.now.begin + self.now.most) }
+        ensures no { result ≡ false → IsPastDoubt self.now }
+    {
         match self.watch.place_in_doubt() {
             Some(place) => {
                 let size = place.saturating_sub(self.begin);
@@ -152,6 +158,7 @@ impl Cutter {
         ensures cuts { (p : Contents) (parted : List Entry) (rest : List Entry) → Cuts p parted rest self.old → Cuts p (parted ++ take size self.old.waiting) rest self.new }
         ensures waits { self.new.waiting ≡ drop size self.old.waiting }
         ensures most { (self.new.most ≡ self.old.most) × (self.new.watched ≡ self.old.watched) }
+        ensures reach { IsInReach self.new }
     {
         self.begin = self.place;
         self.waiting.drain(..size);

@@ -42,27 +42,27 @@ impl Doubt {
     }
 
     /// What a word of this form says of it.
-    pub(crate) fn outcome(&self, profile: &Profile, form: &Option<Form>) -> Outcome
-        ensures open { result ≡ Outcome.Open → Leaves form.now (Some self.now) }
-        ensures place { result ≡ Outcome.IsPlace → MakesCertain profile.now.codes self.now form.now }
-        ensures none { result ≡ Outcome.IsNone → RulesOut profile.now.codes self.now form.now }
+    pub(crate) fn outcome(&self, profile: &Profile, form: &Form) -> Outcome
+        ensures open { result ≡ Outcome.Open → Leaves (Some form.now) (Some self.now) }
+        ensures place { result ≡ Outcome.IsPlace → MakesCertain profile.now.codes self.now (Some form.now) }
+        ensures none { result ≡ Outcome.IsNone → RulesOut profile.now.codes self.now (Some form.now) }
     {
         match (*self, *form) {
-            (Doubt::AfterUnit { unit, .. }, Some(Form::Sot { file, ldu, .. })) => {
+            (Doubt::AfterUnit { unit, .. }, Form::Sot { file, ldu, .. }) => {
                 if unit == number(file, ldu) {
                     Outcome::IsNone
                 } else {
                     Outcome::IsPlace
                 }
             }
-            (Doubt::Anew { .. }, Some(Form::Sot { ldu, .. })) => {
+            (Doubt::Anew { .. }, Form::Sot { ldu, .. }) => {
                 if ldu == profile.codes().first_ldu {
                     Outcome::IsPlace
                 } else {
                     Outcome::IsNone
                 }
             }
-            (Doubt::Anew { .. }, Some(Form::Rts { .. })) => Outcome::IsNone,
+            (Doubt::Anew { .. }, Form::Rts { .. }) => Outcome::IsNone,
             _ => Outcome::Open,
         }
     }

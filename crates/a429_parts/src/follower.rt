@@ -1,6 +1,6 @@
 //! An observer that also says by which acknowledgement a file crosses.
 
-ghost use Rattle.std.specs.Prelude.{◌≡◌, ◌↔◌, IsOk, IfOk, OnOk, OnErr, None};
+ghost use Rattle.std.specs.Prelude.{◌≡◌, ◌↔◌, IsOk, IfOk, OnOk, OnErr, Some, None};
 ghost use Rattle.a429_ldu.specs.Form.{form_of};
 ghost use Rattle.a429_link.specs.Observer.{Allows, at_first, sees};
 ghost use Rattle.a429_parts.specs.Cutting.{crossing};
@@ -48,28 +48,29 @@ impl Follower {
         }
     }
 
-    /// Takes the next recorded word, which has this form or none, where the words before it allow it, and answers the
-    /// number of an acknowledgement by which a file crosses.
+    /// Takes the next recorded word, which has this form, where the words before it allow it, and answers the number of an
+    /// acknowledgement by which a file crosses.
+    #[inline]
     pub(crate) fn see(
         &mut self,
         profile: &Profile,
         seen: &Seen,
-        form: Option<Form>,
+        form: &Form,
     ) -> Result<Option<UnitNumber>, Refused>
-        requires { form ≡ form_of profile.now.codes seen.now.bus seen.now.word }
+        requires form { form_of profile.now.codes seen.now.bus seen.now.word ≡ Some form.now }
         ensures allowed { IsOk result ↔ Allows profile.now self.old seen.now }
         ensures taken { OnOk result (self.new ≡ sees profile.now seen.now self.old) }
         ensures crossed { IfOk result (λ n. n ≡ crossing profile.now self.old seen.now) }
     {
-        if self.observer.see(profile, *seen).is_err() {
+        if !self.observer.see_form(profile, seen.bus, seen.word, form) {
             return Err(Refused);
         }
-        match form {
-            Some(Form::Eot { flags, .. }) => {
+        match *form {
+            Form::Eot { flags, .. } => {
                 self.flags = flags;
                 Ok(None)
             }
-            Some(Form::Ack { file, ldu }) => {
+            Form::Ack { file, ldu } => {
                 let number = UnitNumber {
                     file,
                     ldu: u16::from(ldu),

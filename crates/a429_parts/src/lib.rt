@@ -15,4 +15,4 @@ pub use crate::cutting::{Cutter, PartFault};
 pub use crate::keeping::put_kept;
 pub use crate::kept::is_kept;
 pub use crate::parting::put_parts;
-pub use crate::parts::{MemoryParts, Part, Parts, write_part};
+pub use crate::parts::{MemoryParts, Part, Parts};

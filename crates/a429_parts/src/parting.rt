@@ -1,7 +1,7 @@
 //! A recording, written in parts as it is read.
 
 ghost use Rattle.std.specs.Fmt.{decimal};
-ghost use Rattle.std.specs.Prelude.{◌≡◌, ◌⊎◌, ◌+◌, ◌<◌, ◌≤◌, ◌^◌, ◌∷◌, ◌++◌, [], ℕ, List, Option, length, take, true, false, Some, None, Ok, IfOk, IfErr, IfSome, IsErr, IsErrOf, OnOk, OnErr};
+ghost use Rattle.std.specs.Prelude.{◌≡◌, Bool, ◌⊎◌, ◌+◌, ◌<◌, ◌≤◌, ◌^◌, ◌∷◌, ◌++◌, [], ℕ, List, Option, length, take, true, false, Some, None, Ok, IfOk, IfErr, IfSome, IsErr, IsErrOf, OnOk, OnErr};
 ghost use Rattle.a429_word.specs.Sheet.{Says, sheet_failed};
 ghost use Rattle.a429_word.specs.declared.sheet.Sheet.{Sheet};
 ghost use Rattle.a429_profile.specs.Profile.{Contents};
@@ -9,9 +9,9 @@ ghost use Rattle.a429_record.specs.declared.entry.Entry.{Entry};
 ghost use Rattle.a429_record.specs.declared.fault.ReadFault.{ReadFault};
 ghost use Rattle.a429_record.specs.declared.fault.ReadFault.TheVariants as read;
 ghost use Rattle.a429_parts.specs.declared.cutting.PartFault.TheVariants as part;
-ghost use Rattle.a429_parts.specs.Cutter.{IsPart};
+ghost use Rattle.a429_parts.specs.Cutter.{IsCurrent, IsInReach, IsPart};
 ghost use Rattle.a429_parts.specs.Parts.{GainsPart, IsSame, PutParts, part_line};
-ghost use Rattle.a429_parts.specs.Parting.{CannotGoOn, CutsAll, CutsUntil, Finished, Holds, Progress, Stopped, outputs};
+ghost use Rattle.a429_parts.specs.Parting.{CannotGoOn, CutsAll, CutsUntil, EndsFor, EndsNowhereFor, Finished, Holds, Progress, Stopped, outputs};
 
 use crate::cutting::{Cutter, PartFault};
 use crate::keeping::next_of;
@@ -69,7 +69,8 @@ pub fn put_parts<R: Read, P: Parts, W: Write>(
 impl Parting {
     // Nothing has come. A part has at most so many entries.
     fn new(alloc: Global, most: usize) -> Parting
-        ensures { (p : Contents) → Holds p most [] [] result }
+        ensures holds { (p : Contents) → Holds p most false [] [] result }
+        ensures current { IsCurrent result.cutter }
     {
         Parting {
             cutter: Cutter::new(alloc, most),
@@ -88,11 +89,11 @@ impl Parting {
     ) -> Result<(), ReadFault>
         requires room { self.old.cutter.watched.count + 1 < 2 ^ 64 }
         ensures ok { OnOk result ((most : ℕ) (known : Option PutParts) (first : Sheet W) (es : List Entry)
-            → Progress profile.now most (outputs W.contents known (P.known parts.old) first sheet.old) es self.old
-            → Progress profile.now most (outputs W.contents known (P.known parts.new) first sheet.new) (es ++ entry.now ∷ []) self.new) }
+            → Progress profile.now most false (outputs W.contents known (P.known parts.old) first sheet.old) es self.old → IsCurrent self.old.cutter
+            → Progress profile.now most false (outputs W.contents known (P.known parts.new) first sheet.new) (es ++ entry.now ∷ []) self.new × IsCurrent self.new.cutter) }
         ensures err { IfErr result (λ fault. (most : ℕ) (known : Option PutParts) (first : Sheet W) (es : List Entry)
-            → Progress profile.now most (outputs W.contents known (P.known parts.old) first sheet.old) es self.old
-            → Stopped profile.now most (outputs W.contents known (P.known parts.new) first sheet.new) (es ++ entry.now ∷ []) fault) }
+            → Progress profile.now most false (outputs W.contents known (P.known parts.old) first sheet.old) es self.old → IsCurrent self.old.cutter
+            → Stopped profile.now most false (outputs W.contents known (P.known parts.new) first sheet.new) (es ++ entry.now ∷ []) fault) }
         ensures device { IsErrOf result read.Device → (P.failed parts.new ≡ true) ⊎ (sheet_failed sheet.new ≡ true) }
     {
         match self.take(profile, entry) {
@@ -112,7 +113,7 @@ impl Parting {
     // Takes the next entry.
     fn take(&mut self, profile: &Profile, entry: &Entry) -> Result<(), ReadFault>
         requires room { self.old.cutter.watched.count + 1 < 2 ^ 64 }
-        ensures ok { OnOk result ((most : ℕ) (parts : List (List Entry)) (es : List Entry) → Holds profile.now most parts es self.old → Holds profile.now most parts (es ++ entry.now ∷ []) self.new) }
+        ensures ok { OnOk result ((most : ℕ) (parts : List (List Entry)) (es : List Entry) → Holds profile.now most false parts es self.old → IsCurrent self.old.cutter → Holds profile.now most false parts (es ++ entry.now ∷ []) self.new) }
         ensures err { IfErr result (λ fault. fault ≡ read.OutOfMemory) }
     {
         match self.cutter.take(profile, entry) {
@@ -129,12 +130,13 @@ impl Parting {
         sheet: &mut Sheet<'_, W>,
     ) -> Result<(), ReadFault>
         ensures ok { OnOk result ((p : Contents) (most : ℕ) (known : Option PutParts) (first : Sheet W) (es : List Entry)
-            → Progress p most (outputs W.contents known (P.known parts.old) first sheet.old) es self.old
-            → Progress p most (outputs W.contents known (P.known parts.new) first sheet.new) es self.new) }
+            → Progress p most at_end (outputs W.contents known (P.known parts.old) first sheet.old) es self.old
+            → Progress p most at_end (outputs W.contents known (P.known parts.new) first sheet.new) es self.new) }
         ensures err { IfErr result (λ fault. (p : Contents) (most : ℕ) (known : Option PutParts) (first : Sheet W) (es : List Entry)
-            → Progress p most (outputs W.contents known (P.known parts.old) first sheet.old) es self.old
-            → Stopped p most (outputs W.contents known (P.known parts.new) first sheet.new) es fault) }
+            → Progress p most at_end (outputs W.contents known (P.known parts.old) first sheet.old) es self.old
+            → Stopped p most at_end (outputs W.contents known (P.known parts.new) first sheet.new) es fault) }
         ensures last { OnOk result (at_end ≡ true → length self.new.cutter.waiting ≤ self.new.cutter.most) }
+        ensures current { OnOk result (at_end ≡ false → IsInReach self.old.cutter → IsCurrent self.new.cutter) }
         ensures device { IsErrOf result read.Device → P.failed parts.new ≡ true }
     {
         'parts: loop {
@@ -151,9 +153,10 @@ impl Parting {
 
     // How many of the entries that wait are the next part.
     fn size(&self, at_end: bool) -> Result<Option<usize>, PartFault>
-        ensures some { IfOk result (λ o. IfSome o (IsPart self.now.cutter)) }
+        ensures some { IfOk result (λ o. IfSome o (λ size. IsPart self.now.cutter size × EndsFor at_end self.now.cutter size)) }
+        ensures current { at_end ≡ false → result ≡ Ok None → IsInReach self.now.cutter → IsCurrent self.now.cutter }
         ensures none { at_end ≡ true → result ≡ Ok None → length self.now.cutter.waiting ≤ self.now.cutter.most }
-        ensures many { IsErr result → self.now.cutter.most < length self.now.cutter.waiting }
+        ensures many { IsErr result → (self.now.cutter.most < length self.now.cutter.waiting) × (IsInReach self.now.cutter → EndsNowhereFor at_end self.now.cutter) }
     {
         if at_end {
             self.cutter.part_at_end()
@@ -170,12 +173,13 @@ impl Parting {
         sheet: &mut Sheet<'_, W>,
     ) -> Result<(), Trouble>
         requires part { IsPart self.old.cutter size }
-        ensures ok { OnOk result ((p : Contents) (most : ℕ) (known : Option PutParts) (first : Sheet W) (es : List Entry)
-            → Progress p most (outputs W.contents known (P.known parts.old) first sheet.old) es self.old
-            → Progress p most (outputs W.contents known (P.known parts.new) first sheet.new) es self.new) }
-        ensures err { OnErr result ((p : Contents) (most : ℕ) (known : Option PutParts) (first : Sheet W) (es : List Entry) (fault : ReadFault) → CannotGoOn most self.old.cutter.waiting fault
-            → Progress p most (outputs W.contents known (P.known parts.old) first sheet.old) es self.old
-            → Stopped p most (outputs W.contents known (P.known parts.new) first sheet.new) es fault) }
+        ensures ok { OnOk result ((p : Contents) (most : ℕ) (at_end : Bool) (known : Option PutParts) (first : Sheet W) (es : List Entry) → EndsFor at_end self.old.cutter size
+            → Progress p most at_end (outputs W.contents known (P.known parts.old) first sheet.old) es self.old
+            → Progress p most at_end (outputs W.contents known (P.known parts.new) first sheet.new) es self.new) }
+        ensures err { OnErr result ((p : Contents) (most : ℕ) (at_end : Bool) (known : Option PutParts) (first : Sheet W) (es : List Entry) (fault : ReadFault) → ((entries : List Entry) (from : ℕ) → CannotGoOn p most entries from self.old.cutter.waiting fault)
+            → Progress p most at_end (outputs W.contents known (P.known parts.old) first sheet.old) es self.old
+            → Stopped p most at_end (outputs W.contents known (P.known parts.new) first sheet.new) es fault) }
+        ensures reach { OnOk result (IsInReach self.new.cutter) }
         ensures waits { OnOk result (length self.new.cutter.waiting < length self.old.cutter.waiting) }
         ensures device { IsErrOf result Trouble.Device → P.failed parts.new ≡ true }
     {
@@ -228,11 +232,11 @@ impl Parting {
         sheet: &mut Sheet<'_, W>,
     ) -> Result<Vec<u8>, ReadFault>
         ensures ok { IfOk result (λ list. (p : Contents) (most : ℕ) (known : Option PutParts) (first : Sheet W) (es : List Entry)
-            → Progress p most (outputs W.contents known (P.known parts.old) first sheet.old) es self
+            → Progress p most false (outputs W.contents known (P.known parts.old) first sheet.old) es self
             → Finished p most (outputs W.contents known (P.known parts.new) first sheet.new) es list.items) }
         ensures err { IfErr result (λ fault. (p : Contents) (most : ℕ) (known : Option PutParts) (first : Sheet W) (es : List Entry)
-            → Progress p most (outputs W.contents known (P.known parts.old) first sheet.old) es self
-            → Stopped p most (outputs W.contents known (P.known parts.new) first sheet.new) es fault) }
+            → Progress p most false (outputs W.contents known (P.known parts.old) first sheet.old) es self
+            → Stopped p most true (outputs W.contents known (P.known parts.new) first sheet.new) es fault) }
         ensures device { IsErrOf result read.Device → P.failed parts.new ≡ true }
         ensures works { OnOk result (P.failed parts.new ≡ false) }
     {

@@ -1,16 +1,11 @@
 //! Where the parts of a recording are put, and in the end their list.
 
-ghost use Rattle.std.specs.Prelude.{◌≡◌, ◌↔◌, [], ◌++◌, List, Option, Some, None, option_map, IsErr, IsErrOf, OnOk, OnErr, true, false};
-ghost use Rattle.std.specs.List.{flat_map};
-ghost use Rattle.a429_word.specs.Sheet.{Says, Writes};
-ghost use Rattle.a429_word.specs.Tally.{has_failed, Puts, PutsFront};
-ghost use Rattle.a429_record.specs.Writing.{line_text, written_form};
+ghost use Rattle.std.specs.Prelude.{◌≡◌, [], List, Option, Some, None, IsErrOf, OnOk, OnErr, true, false};
 ghost use Rattle.a429_parts.specs.Parts.{GainsList, GainsPart, IsSame, PutParts};
 
-use a429_record::{Entry, put_header, put_line};
-use a429_word::{Device, Failing, Page, Sheet, Tally, Trouble};
+use a429_record::Entry;
+use a429_word::{Failing, Trouble};
 use std::alloc::Global;
-use std::io::Write;
 use std::marker::Model;
 
 /// What takes the parts of a recording. Contracts see the parts that were put and the list, where it makes them
@@ -118,50 +113,5 @@ impl Parts for MemoryParts {
         }
         self.list = Some(kept);
         Ok(())
-    }
-}
-
-/// Writes a part as a text recording: the header, and a line for each entry. If memory runs out, nothing is written; after
-/// `Device` a prefix has been.
-pub fn write_part<W: Write>(
-    alloc: Global,
-    out: &mut Tally<W>,
-    entries: &[Entry],
-) -> Result<(), Trouble>
-    ensures ok { OnOk result (Puts W.contents out.old out.new (written_form entries.now)) }
-    ensures device { IsErrOf result Trouble.Device ↔ (has_failed out.new ≡ true) }
-    ensures prefix { PutsFront W.contents out.old out.new (written_form entries.now) }
-    ensures memory { IsErrOf result Trouble.OutOfMemory → out.new ≡ out.old }
-{
-    if out.failed() {
-        return Err(Trouble::Device);
-    }
-    let page = Page::new(alloc)?;
-    put_entries(page, out, entries)?;
-    Ok(())
-}
-
-// Writes the entries, on a page that is empty.
-fn put_entries<W: Write>(page: Page, out: &mut Tally<W>, entries: &[Entry]) -> Result<(), Device>
-    requires { page ≡ [] }
-    ensures written { Writes W.contents out.old out.new (written_form entries.now) }
-    ensures device { IsErr result ↔ (has_failed out.new ≡ true) }
-{
-    let mut page = page;
-    let mut sheet = Sheet::new(out, &mut page);
-    put_header(&mut sheet);
-    put_lines(&mut sheet, entries);
-    sheet.finish()
-}
-
-// A line for each entry.
-fn put_lines<W: Write>(sheet: &mut Sheet<'_, W>, entries: &[Entry])
-    ensures { Says W.contents sheet.old sheet.new (flat_map line_text entries.now) }
-{
-    for entry in entries {
-        if sheet.failed() {
-            return;
-        }
-        put_line(sheet, *entry);
     }
 }

@@ -1,16 +1,15 @@
 //! Where a recording may be cut, found word by word.
 
-ghost use Rattle.std.specs.Prelude.{◌≡◌, ◌↔◌, ◌+◌, ◌<◌, ◌^◌, IsTrue, Some, None, IfSome, List, slice_get, suc};
+ghost use Rattle.std.specs.Prelude.{◌≡◌, ◌↔◌, ◌+◌, ◌<◌, ◌^◌, IsTrue, Some, None, option_map};
 ghost use Rattle.a429_ldu.specs.Form.{form_of};
-ghost use Rattle.a429_link.specs.declared.seen.Seen.{Seen};
 ghost use Rattle.a429_link.specs.Observer.{at_first};
-ghost use Rattle.a429_parts.specs.Cutting.{IsPlace, IsRequest};
-ghost use Rattle.a429_parts.specs.Watch.{KnowsFirst, Leaves, Watches, doubt_crossed, doubt_lost};
+ghost use Rattle.a429_parts.specs.Cutting.{IsRequest};
+ghost use Rattle.a429_parts.specs.Watch.{FollowsWord, SeesWord, Settles, TakesWord, doubt_crossed, doubt_lost, doubt_refused, place_of};
 
 use crate::doubt::{Doubt, Outcome};
 use crate::follower::{Follower, Refused};
-use a429_ldu::Form;
-use a429_link::{Seen, UnitNumber, form_of};
+use a429_ldu::{Form, Sight, form};
+use a429_link::{Seen, UnitNumber};
 use a429_profile::Profile;
 use a429_word::Bus;
 use std::alloc::Global;
@@ -58,7 +57,9 @@ impl Watch {
     }
 
     /// The place, after so many words, that depends on the words that come.
-    pub(crate) fn place_in_doubt(&self) -> Option<usize> {
+    pub(crate) fn place_in_doubt(&self) -> Option<usize>
+        ensures { result ≡ option_map place_of self.now.doubt }
+    {
         match self.doubt {
             Some(doubt) => Some(doubt.place()),
             None => None,
@@ -66,25 +67,51 @@ impl Watch {
     }
 
     /// Takes the next word, and answers the place to cut, after so many words, that it makes certain.
+    #[inline]
     pub(crate) fn take(&mut self, profile: &Profile, seen: &Seen) -> Option<usize>
         requires room { self.old.count + 1 < 2 ^ 64 }
         ensures counts { self.new.count ≡ self.old.count + 1 }
-        ensures watches { (items : List Seen) → slice_get items self.old.count ≡ Some seen.now → Watches profile.now items self.old → Watches profile.now items self.new }
-        ensures place { IfSome result (λ place. (items : List Seen) → slice_get items self.old.count ≡ Some seen.now → Watches profile.now items self.old → IsPlace profile.now items place) }
+        ensures takes { TakesWord profile.now seen.now self.old self.new result }
     {
-        let form = form_seen(profile, seen);
-        let place = self.settle(profile, &form);
-        self.follow(profile, seen, &form);
+        let place = self.see(profile, seen);
         self.count += 1;
         place
     }
 
-    // The place in doubt that a word of this form makes certain. A place that it rules out is forgotten.
-    fn settle(&mut self, profile: &Profile, form: &Option<Form>) -> Option<usize>
+    // The same, and the word is not counted yet. It is read once.
+    #[inline(always)]
+    fn see(&mut self, profile: &Profile, seen: &Seen) -> Option<usize>
+        requires room { self.old.count + 1 < 2 ^ 64 }
         ensures counts { self.new.count ≡ self.old.count }
-        ensures leaves { Leaves form.now self.new.doubt }
-        ensures watches { (items : List Seen) (i : Seen) → slice_get items self.old.count ≡ Some i → form_of profile.now.codes i.bus i.word ≡ form.now → Watches profile.now items self.old → Watches profile.now items self.new }
-        ensures place { IfSome result (λ place. (items : List Seen) (i : Seen) → slice_get items self.old.count ≡ Some i → form_of profile.now.codes i.bus i.word ≡ form.now → Watches profile.now items self.old → IsPlace profile.now items place) }
+        ensures sees { SeesWord profile.now seen.now self.old self.new result }
+    {
+        match form(profile, seen.bus, seen.word) {
+            Sight::Free => None,
+            Sight::NoForm => {
+                self.refuse();
+                None
+            }
+            Sight::Form(form) => {
+                let place = self.settle(profile, &form);
+                self.follow(profile, seen, &form);
+                place
+            }
+        }
+    }
+
+    // A word that no run records comes.
+    fn refuse(&mut self)
+        ensures { self.new ≡ record { count = self.old.count; observer = None; doubt = doubt_refused self.old.observer self.old.doubt } }
+    {
+        if !self.is_lost {
+            self.lose();
+        }
+    }
+
+    // The place in doubt that a word of this form makes certain. A place that it rules out is forgotten.
+    fn settle(&mut self, profile: &Profile, form: &Form) -> Option<usize>
+        ensures counts { self.new.count ≡ self.old.count }
+        ensures settles { Settles profile.now.codes (Some form.now) self.old self.new result }
     {
         let Some(doubt) = self.doubt else {
             return None;
@@ -106,19 +133,18 @@ impl Watch {
         }
     }
 
-    // Follows the next word, which has this form or none, and leaves the doubt as it is.
-    fn follow(&mut self, profile: &Profile, seen: &Seen, form: &Option<Form>)
-        requires form { form.now ≡ form_of profile.now.codes seen.now.bus seen.now.word }
-        requires leaves { Leaves form.now self.old.doubt }
+    // Follows the next word, which has this form.
+    fn follow(&mut self, profile: &Profile, seen: &Seen, form: &Form)
+        requires form { form_of profile.now.codes seen.now.bus seen.now.word ≡ Some form.now }
         requires room { self.old.count + 1 < 2 ^ 64 }
         ensures counts { self.new.count ≡ self.old.count }
-        ensures watches { (items : List Seen) → slice_get items self.old.count ≡ Some seen.now → Watches profile.now items self.old → KnowsFirst profile.now items (suc self.old.count) self.new }
+        ensures follows { FollowsWord profile.now seen.now self.old self.new }
     {
         if self.is_lost {
             self.begin(profile, seen, form);
             return;
         }
-        match self.follower.see(profile, seen, *form) {
+        match self.follower.see(profile, seen, form) {
             Ok(Some(unit)) => self.cross(unit),
             Ok(None) => {}
             Err(Refused) => self.lose(),
@@ -148,32 +174,24 @@ impl Watch {
     }
 
     // A request may begin the sink anew.
-    fn begin(&mut self, profile: &Profile, seen: &Seen, form: &Option<Form>)
-        requires form { form.now ≡ form_of profile.now.codes seen.now.bus seen.now.word }
-        requires leaves { Leaves form.now self.old.doubt }
+    fn begin(&mut self, profile: &Profile, seen: &Seen, form: &Form)
+        requires form { form_of profile.now.codes seen.now.bus seen.now.word ≡ Some form.now }
         requires lost { self.old.observer ≡ None }
         ensures counts { self.new.count ≡ self.old.count }
-        ensures watches { (items : List Seen) → slice_get items self.old.count ≡ Some seen.now → Watches profile.now items self.old → KnowsFirst profile.now items (suc self.old.count) self.new }
+        ensures follows { FollowsWord profile.now seen.now self.old self.new }
     {
         if is_request(seen, form) {
             self.follower = Follower::new(self.alloc);
-            let _ = self.follower.see(profile, seen, *form);
+            let _ = self.follower.see(profile, seen, form);
             self.is_lost = false;
             self.doubt = Some(Doubt::Anew { place: self.count });
         }
     }
 }
 
-// The form of a word, if it has one.
-fn form_seen(profile: &Profile, seen: &Seen) -> Option<Form>
-    ensures { result ≡ form_of profile.now.codes seen.now.bus seen.now.word }
-{
-    form_of(profile, seen.bus, seen.word)
-}
-
 // Whether a word of this form is a request.
-fn is_request(seen: &Seen, form: &Option<Form>) -> bool
-    ensures { IsTrue result ↔ IsRequest seen.now.bus form.now }
+fn is_request(seen: &Seen, form: &Form) -> bool
+    ensures { IsTrue result ↔ IsRequest seen.now.bus (Some form.now) }
 {
-    seen.bus == Bus::A && matches!(form, Some(Form::Rts { .. }))
+    seen.bus == Bus::A && matches!(form, Form::Rts { .. })
 }

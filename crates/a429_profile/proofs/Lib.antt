@@ -1,6 +1,7 @@
 pub mod ValueArrays
 pub mod Turns
 pub mod LabelsArray
+pub mod CheckTablesFacts
 pub mod ProfileFaults
 pub mod Apart
 pub mod ProfileLookup

@@ -2,6 +2,7 @@ pub mod Fault
 pub mod Value
 pub mod Key
 pub mod Codes
+pub mod CheckTables
 pub mod Labels
 pub mod Flags
 pub mod Entry

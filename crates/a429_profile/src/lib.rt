@@ -1,6 +1,7 @@
 //! A bench's profile: the numbers of its file transfer, how check words are made, and its table of labels.
 #![tactic(auto)]
 
+mod check_tables;
 mod clash;
 mod codes;
 mod entry;
@@ -14,6 +15,7 @@ mod profile;
 mod shown;
 mod value;
 
+pub use crate::check_tables::{CheckTables, after_zero_byte};
 pub use crate::codes::{Check, Codes};
 pub use crate::entry::{Flag, Flags, Kind, LabelEntry, Numbers, Text};
 pub use crate::fault::ProfileFault;

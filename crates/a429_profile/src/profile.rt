@@ -9,6 +9,7 @@ ghost use Rattle.a429_profile.specs.Profile.{Answers, IsProfile, contents_of, fa
 ghost use Rattle.a429_profile.specs.Entry.{IsKindInRange};
 ghost use Rattle.a429_profile.specs.Places.{IsPlace};
 
+use crate::check_tables::CheckTables;
 use crate::clash::first_clash;
 use crate::codes::{Check, Codes, read_check, read_codes};
 use crate::entry::LabelEntry;
@@ -24,7 +25,7 @@ use toml::Table;
 #[derive(Debug, Drop)]
 pub struct Profile {
     codes: Codes,
-    check: Check,
+    tables: CheckTables,
     labels: IndexMap<(u8, Option<u8>), LabelEntry>,
     // Of each label and SDI, the place of its entry in `labels`.
     places: Vec<Option<usize>>,
@@ -36,10 +37,10 @@ impl Model for Profile {
 
     ghost Value = { Contents };
 
-    ghost view = { λ p. record { codes = p.codes; check = p.check; labels = entries_of p.labels.entries } };
+    ghost view = { λ p. record { codes = p.codes; check = p.tables; labels = entries_of p.labels.entries } };
 
     ghost invariant = { λ p. AreKeyed p.labels.entries
-        × IsProfile (record { codes = p.codes; check = p.check; labels = entries_of p.labels.entries })
+        × IsProfile (record { codes = p.codes; check = p.tables; labels = entries_of p.labels.entries })
         × ArePlaces (entries_of p.labels.entries) p.places.items };
 }
 
@@ -78,10 +79,13 @@ fn read_document(alloc: Global, doc: &Table) -> Result<Profile, ProfileFault>
     let Ok(labels) = keyed(alloc, entries) else {
         return Err(ProfileFault::OutOfMemory);
     };
-    match places_of(alloc, &labels) {
-        Ok(places) => Ok(Profile {
+    let Ok(places) = places_of(alloc, &labels) else {
+        return Err(ProfileFault::OutOfMemory);
+    };
+    match CheckTables::new(alloc, check) {
+        Ok(tables) => Ok(Profile {
             codes,
-            check,
+            tables,
             labels,
             places,
         }),
@@ -132,7 +136,14 @@ impl Profile {
     pub fn check(&self) -> &Check
         ensures { result.now ≡ self.now.check }
     {
-        &self.check
+        &self.tables.rule
+    }
+
+    /// The same, with tables by which a check word is made faster.
+    pub fn check_tables(&self) -> &CheckTables
+        ensures { result.now ≡ self.now.check }
+    {
+        &self.tables
     }
 
     /// How many entries the label table has.

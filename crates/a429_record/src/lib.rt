@@ -26,4 +26,4 @@ pub use crate::fault::ReadFault;
 pub use crate::packing::write_binary;
 pub use crate::recording::read_entries;
 pub use crate::screening::{SCREENED, screen_entries};
-pub use crate::writing::{WriteFault, put_header, put_line, put_parts, write_entries};
+pub use crate::writing::{WriteFault, put_header, put_line, put_parts, write_entries, write_text};

@@ -23,14 +23,28 @@ const LONGEST_TIME: usize = 20;
 /// Why a recording was not written.
 pub type WriteFault = Trouble;
 
-/// Writes entries, at most 1,000,000 whose times never fall, as a text recording: the header, and a
-/// line for each. If memory runs out, nothing is written; after `Device` a prefix has been.
+/// Writes entries, at most 1,000,000 whose times never fall, as a text recording: so it is read back. Else as `write_text`.
 pub fn write_entries<W: Write>(
     alloc: Global,
     out: &mut Tally<W>,
     entries: &[Entry],
 ) -> Result<(), WriteFault>
     requires { IsRecordable entries.now }
+    ensures ok { OnOk result (Puts W.contents out.old out.new (written_form entries.now)) }
+    ensures device { IsErrOf result fault.Device ↔ (has_failed out.new ≡ true) }
+    ensures prefix { PutsFront W.contents out.old out.new (written_form entries.now) }
+    ensures memory { IsErrOf result fault.OutOfMemory → out.new ≡ out.old }
+{
+    write_text(alloc, out, entries)
+}
+
+/// Writes entries, however many and at whatever times, as a text: the header of a recording, and a line for each. If
+/// memory runs out, nothing is written; after `Device` a prefix has been.
+pub fn write_text<W: Write>(
+    alloc: Global,
+    out: &mut Tally<W>,
+    entries: &[Entry],
+) -> Result<(), WriteFault>
     ensures ok { OnOk result (Puts W.contents out.old out.new (written_form entries.now)) }
     ensures device { IsErrOf result fault.Device ↔ (has_failed out.new ≡ true) }
     ensures prefix { PutsFront W.contents out.old out.new (written_form entries.now) }

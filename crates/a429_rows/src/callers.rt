@@ -3,16 +3,15 @@
 ghost use Rattle.std.specs.Prelude.{IfSome};
 ghost use Rattle.a429_ldu.specs.Ldu.{IsLdu};
 
-use crate::calls::sample;
+use crate::calls::{certificate_of, entries_of, sample};
 use crate::recordings::seen;
 use a429_cert::{CertFault, CertLine, OutOfMemory, read_line, verify, write_line};
-use a429_explain::{Verdict, check};
 use a429_ldu::Ldu;
 use a429_link::{Link, Seen, Step, StepFault};
 use a429_profile::Profile;
-use a429_record::{Entry, ReadFault, read_entries};
+use a429_record::Entry;
 use a429_sample::{CERTIFICATE, PART, RECORDING, RTS};
-use a429_word::{Bus, Tally, Word};
+use a429_word::{Bus, Word};
 use std::alloc::Global;
 
 /// The source loads a link data unit, and its request is recorded and taken.
@@ -78,17 +77,10 @@ fn crossed(
     Ok(verified.files().len())
 }
 
-// The entries of the sample recording.
-fn entries_of_sample(alloc: Global) -> Result<Vec<Entry>, ReadFault> {
-    read_entries(alloc, &mut Tally::new(RECORDING.as_bytes(), 1_000))
-}
-
-// How many files crossed in it by its certificate.
+// How many files crossed in the sample recording by its certificate.
 fn crossed_in_sample(alloc: Global, profile: &Profile) -> Option<usize> {
-    match entries_of_sample(alloc) {
-        Ok(entries) => crossed(alloc, profile, &entries, CERTIFICATE.as_bytes()).ok(),
-        Err(_) => None,
-    }
+    let entries = entries_of(alloc, RECORDING)?;
+    crossed(alloc, profile, &entries, CERTIFICATE.as_bytes()).ok()
 }
 
 #[test]
@@ -97,22 +89,9 @@ fn one_file_has_crossed(rt: HostRuntime) {
     assert!(rt; crossed_in_sample(rt.alloc(), &profile) == Some(1));
 }
 
-// The text of the certificate that is found for it, in memory.
-fn certificate_of_sample(alloc: Global, profile: &Profile) -> Option<Vec<u8>> {
-    let entries = entries_of_sample(alloc).ok()?;
-    let mut text = Vec::new(alloc);
-    match check(alloc, profile, &entries) {
-        Ok(Verdict::Explained { certificate, .. }) => certificate
-            .write(&mut Tally::new(&mut text, 0))
-            .ok()?,
-        _ => return None,
-    }
-    Some(text)
-}
-
 #[test]
 fn certificate_in_memory(rt: HostRuntime) {
     let profile = sample(&rt);
-    let text = certificate_of_sample(rt.alloc(), &profile).expect(&rt, "a certificate");
+    let text = certificate_of(rt.alloc(), &profile, RECORDING).expect(&rt, "a certificate");
     assert!(rt; text.as_slice() == CERTIFICATE.as_bytes());
 }

@@ -1,5 +1,4 @@
-//! Rows of known answers, worked out by hand, of links, certificates, recordings and what is said of them; and runs
-//! that are drawn at random.
+//! Rows of known answers, worked out by hand, of links, certificates and the search; and runs that are drawn at random.
 #![tactic(auto)]
 
 #[cfg(test)]
@@ -9,11 +8,7 @@ mod calls;
 #[cfg(test)]
 mod cert;
 #[cfg(test)]
-mod commands;
-#[cfg(test)]
 mod cutting;
-#[cfg(test)]
-mod devices;
 #[cfg(test)]
 mod link;
 #[cfg(test)]

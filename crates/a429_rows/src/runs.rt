@@ -1,10 +1,8 @@
 //! The link and the checker on runs that are drawn at random, the same each time.
 
-mod chance;
 mod check;
 mod draft;
 mod link;
-mod rows;
 mod source;
 mod tried;
 mod words;

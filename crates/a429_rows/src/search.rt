@@ -50,46 +50,61 @@ fn words_of(alloc: Global, profile: &Profile, bytes: &[u8]) -> Result<Vec<Word>,
     Ok(words)
 }
 
-// Whether a link data unit of so many words is found of which each attempt recorded the words of these bytes, and
-// an end word had this check word, where there is one.
-fn is_found(
+// How many words a unit has, the check word of an end word, if there is one, the bytes of the words that each attempt recorded, and
+// whether such a unit is found.
+type Case = (u8, Option<u16>, &'static [&'static str], bool);
+
+// 906E is the check word of 123456789. In the last case but four each word was recorded once, and one order of 126 has the check
+// word. A shortest sequence that has both abcbdab and bdcaba has nine words.
+const CASES: [Case; 8] = [
+    (11, Some(0x906E), &["12789", "123456789"], true),
+    (11, Some(0x906F), &["123456789"], false),
+    (11, Some(0x906E), &["12345679"], true),
+    (11, Some(0x906E), &["13579", "2468"], true),
+    (5, None, &["ab", "bc", "ac"], true),
+    (4, None, &["ab", "bc", "ac"], false),
+    (11, None, &["abcbdab", "bdcaba"], true),
+    (10, None, &["abcbdab", "bdcaba"], false),
+];
+
+// The words that each attempt recorded.
+fn recorded(
     alloc: Global,
     profile: &Profile,
-    count: u8,
-    check: Option<u16>,
     attempts: &[&str],
-) -> Result<bool, AllocError>
-    requires { 3 ≤ count }
-{
+) -> Result<Vec<Vec<Word>>, AllocError> {
     let mut recorded = Vec::new(alloc);
     for bytes in attempts {
-        recorded.push(words_of(alloc, profile, bytes.as_bytes())?)?;
+        let words = words_of(alloc, profile, bytes.as_bytes())?;
+        recorded.push(words)?;
     }
-    Ok(unit_with(alloc, profile, count, check, recorded)?.is_some())
+    Ok(recorded)
+}
+
+// Whether a unit is found where the case says so.
+fn holds(alloc: Global, profile: &Profile, case: Case) -> Result<bool, AllocError> {
+    let (count, check, attempts, is_found) = case;
+    if count < 3 {
+        return Ok(false);
+    }
+    let attempts = recorded(alloc, profile, attempts)?;
+    let unit = unit_with(alloc, profile, count, check, attempts)?;
+    Ok(unit.is_some() == is_found)
+}
+
+// The place of the first case that does not hold.
+fn first_that_differs(alloc: Global, profile: &Profile) -> Result<Option<usize>, AllocError> {
+    for place in 0..CASES.len() {
+        if !holds(alloc, profile, CASES[place])? {
+            return Ok(Some(place));
+        }
+    }
+    Ok(None)
 }
 
 #[test]
-fn a_check_word_with_words_lost(rt: HostRuntime) -> Result<(), Fail> {
+fn attempts_with_words_lost(rt: HostRuntime) -> Result<(), Fail> {
     let profile = sample(&rt);
-    let alloc = rt.alloc();
-    // The check word of 123456789.
-    let check = Some(0x906E);
-    assert!(rt; is_found(alloc, &profile, 11, check, &["12789", "123456789"])?);
-    assert!(rt; !is_found(alloc, &profile, 11, Some(0x906F), &["123456789"])?);
-    assert!(rt; is_found(alloc, &profile, 11, check, &["12345679"])?);
-    // Each word was recorded once, and one order of 126 has the check word.
-    assert!(rt; is_found(alloc, &profile, 11, check, &["13579", "2468"])?);
-    Ok(())
-}
-
-#[test]
-fn merged_attempts(rt: HostRuntime) -> Result<(), Fail> {
-    let profile = sample(&rt);
-    let alloc = rt.alloc();
-    assert!(rt; is_found(alloc, &profile, 5, None, &["ab", "bc", "ac"])?);
-    assert!(rt; !is_found(alloc, &profile, 4, None, &["ab", "bc", "ac"])?);
-    // A shortest sequence that has both has nine words.
-    assert!(rt; is_found(alloc, &profile, 11, None, &["abcbdab", "bdcaba"])?);
-    assert!(rt; !is_found(alloc, &profile, 10, None, &["abcbdab", "bdcaba"])?);
+    assert_eq!(rt; first_that_differs(rt.alloc(), &profile)?, None);
     Ok(())
 }

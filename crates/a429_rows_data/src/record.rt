@@ -2,6 +2,7 @@
 
 ghost use Rattle.std.specs.Prelude.{◌≡◌};
 
+mod as_csv;
 mod binary;
 mod entries;
 mod reading;

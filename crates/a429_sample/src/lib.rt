@@ -2,9 +2,11 @@
 //! writers that fail.
 #![tactic(auto)]
 
+mod chance;
 mod changes;
 mod fakes;
 
+pub use crate::chance::Chance;
 pub use crate::changes::{joined, with};
 pub use crate::fakes::{Endless, Narrow, Shaky};
 

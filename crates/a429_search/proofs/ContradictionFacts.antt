@@ -20,7 +20,7 @@ use Rattle.a429_explain.specs.declared.decoded.DecodedWord.{DecodedWord}
 use Rattle.a429_explain.specs.Decoded.{IsHeardAt}
 use Rattle.a429_explain.specs.Walk.{AreAllowed}
 use Rattle.a429_explain.specs.declared.verdict.Reason.{Reason}
-use Rattle.a429_explain.specs.declared.verdict.Reason.TheVariants.{NoForm, NotGranted, WrongAnswer, BadBlock, WrongNumber, OtherBlock}
+use Rattle.a429_explain.specs.declared.verdict.Reason.TheVariants.{NoForm, NotGranted, WrongAnswer, BadBlock, WrongNumber, OtherBlock, NoRun}
 use Rattle.a429_explain.proofs.WalkFacts.{observed_more}
 use Rattle.a429_link.proofs.AllData.{data-append}
 use Rattle.a429_link.proofs.Contradictions.{so_far_latest}
@@ -78,6 +78,7 @@ heard_contradicts p o s b w x OtherBlock = heard_other b w x s
 heard_contradicts p o s b w x NoForm = refl
 heard_contradicts p o s b w x NotGranted = refl
 heard_contradicts p o s b w x WrongAnswer = refl
+heard_contradicts p o s b w x NoRun = refl
 
 start_unheard : (a : Attempt) (words : List ℕ) (n : UnitNumber) (w : ℕ) (o : Option UnitSoFar) → with_start (plain a) words n w o ≡ with_start a words n w o
 start_unheard a [] n w None = refl
@@ -126,6 +127,7 @@ formless p o s bus.B w OtherBlock h = h
 formless p o s b w NoForm h = h
 formless p o s b w NotGranted h = h
 formless p o s b w WrongAnswer h = h
+formless p o s b w NoRun h = h
 
 -- ---- at a place of a recording
 
@@ -180,6 +182,7 @@ contradicts_here p items n i OtherBlock at = rw at refl
 contradicts_here p items n i NoForm at = refl
 contradicts_here p items n i NotGranted at = refl
 contradicts_here p items n i WrongAnswer at = refl
+contradicts_here p items n i NoRun at = refl
 
 pub contradicts_at : (p : Contents) (items : List Seen) (n : ℕ) (i : Seen) (x : Option Form) (o : Observer) (s : SoFar) (parts : List ℕ) (r : Reason) → IsAt p items n i x → Witnesses p items n o s parts → ContradictsAt p items n r ≡ Contradicts p o s i.bus i.word x r
 contradicts_at p items n i x o s parts r at w =
@@ -251,6 +254,7 @@ no_run p items n r bad half comes wrong other h run =
     by NoForm h run = h
     by NotGranted h run = h
     by WrongAnswer h run = h
+    by NoRun h run = h
 
 -- ---- results
 

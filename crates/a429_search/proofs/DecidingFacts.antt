@@ -13,7 +13,7 @@ use Rattle.a429_link.specs.WholeBlock.{ComesNext, EndsBad, IsHalfNext}
 use Rattle.a429_cert.specs.Explained.{IsExplained}
 use Rattle.a429_cert.proofs.ExplainedFacts.{in_some_run}
 use Rattle.a429_explain.specs.declared.verdict.Reason.{Reason}
-use Rattle.a429_explain.specs.declared.verdict.Reason.TheVariants.{NoForm, NotGranted, WrongAnswer, BadBlock, WrongNumber, OtherBlock}
+use Rattle.a429_explain.specs.declared.verdict.Reason.TheVariants.{NoForm, NotGranted, WrongAnswer, BadBlock, WrongNumber, OtherBlock, NoRun}
 use Rattle.a429_explain.specs.Walk.{AreAllowed, FitsAt}
 use Rattle.a429_search.specs.declared.contradiction.Contradiction.{Contradiction}
 use Rattle.a429_search.specs.Contradiction.{ContradictsAt, HasNoContradiction, HasNoRun, IsFirstContradiction}
@@ -47,6 +47,7 @@ as_next p items k OtherBlock = refl
 as_next p items k NoForm = refl
 as_next p items k NotGranted = refl
 as_next p items k WrongAnswer = refl
+as_next p items k NoRun = refl
 
 -- the same of the first n words
 in_first : (p : Contents) (items : List Seen) (n k : ℕ) (r : Reason) → k < n → ContradictsAt p (take n items) k r ≡ ContradictsAt p items k r
@@ -65,6 +66,7 @@ contradicts_none p before OtherBlock h = h
 contradicts_none p before NoForm h = h
 contradicts_none p before NotGranted h = h
 contradicts_none p before WrongAnswer h = h
+contradicts_none p before NoRun h = h
 
 -- a reason holds at some item
 contradicts_within : (p : Contents) (items : List Seen) (k : ℕ) (r : Reason) → ContradictsAt p items k r → k < length items
@@ -171,8 +173,8 @@ explained_none p items certificate files is may law k r (inr h) = law items k r 
 
 -- ---- verdicts
 
-pub impossible_by : (p : Contents) (items : List Seen) (n : ℕ) (c : Contradiction) → IsContradiction p items n c → (c.entry < length items) × IsReasonAt p items c.entry c.reason × HasNoRun p items c.entry
-impossible_by p items n c h = (h.inside, inr h.holds, h.no_run)
+pub impossible_by : (p : Contents) (items : List Seen) (n : ℕ) (c : Contradiction) → IsContradiction p items n c → (c.entry < length items) × (IsReasonAt p items c.entry c.reason ⊎ (c.reason ≡ NoRun)) × HasNoRun p items c.entry
+impossible_by p items n c h = (h.inside, inl (inr h.holds), h.no_run)
 
 pub first_by : (p : Contents) (items : List Seen) (n : ℕ) (c : Contradiction) → AreAllowed p items n → IsContradiction p items n c → (k : ℕ) (r : Reason) → IsReasonAt p items k r → c.entry ≤ k
 first_by p items n c may h = at_least p items c.entry (less_allowed p items n c.entry (omega (arith, h.within)) may) h.before

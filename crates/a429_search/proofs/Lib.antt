@@ -15,3 +15,4 @@ pub mod AttemptWordsFacts
 pub mod SoFarFacts
 pub mod ContradictionFacts
 pub mod DecidingFacts
+pub mod ApartFacts

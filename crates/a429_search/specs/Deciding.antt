@@ -1,9 +1,10 @@
 -- Which verdict `decide` gives (profile).
-use Rattle.std.specs.Prelude.{◌≤◌, ◌<◌, ◌⊎◌, ℕ, List, length, slice_get}
+use Rattle.std.specs.Prelude.{◌≡◌, ◌≤◌, ◌<◌, ◌⊎◌, ℕ, List, length, slice_get}
 use Rattle.a429_profile.specs.Profile.{Contents}
 use Rattle.a429_link.specs.declared.seen.Seen.{Seen}
 use Rattle.a429_link.specs.Observer.{IsRefused}
 use Rattle.a429_explain.specs.declared.verdict.Reason.{Reason}
+use Rattle.a429_explain.specs.declared.verdict.Reason.TheVariants.{NoRun}
 use Rattle.a429_explain.specs.declared.verdict.Verdict.{Verdict}
 use Rattle.a429_explain.specs.declared.verdict.Verdict.TheVariants.{Explained, Impossible, Unexplained}
 use Rattle.a429_explain.specs.declared.verdict.Doubt.{Doubt}
@@ -15,9 +16,9 @@ use Rattle.a429_search.specs.Contradiction.{ContradictsAt, HasNoRun}
 abbrev pub IsReasonAt : Contents → List Seen → ℕ → Reason → Type 0
 IsReasonAt p items i reason = (IsRefused p items i × FitsAt p.codes (slice_get items i) reason) ⊎ ContradictsAt p items i reason
 
--- no run's trace begins with the words up to this one, and there the reason holds
+-- no run's trace begins with the words up to this one; there the reason holds, or it is `NoRun`, which says no more
 abbrev pub IsImpossibleBy : Contents → List Seen → Verdict → Type 0
-IsImpossibleBy p items (Impossible i reason) = (i < length items) × IsReasonAt p items i reason × HasNoRun p items i
+IsImpossibleBy p items (Impossible i reason) = (i < length items) × (IsReasonAt p items i reason ⊎ (reason ≡ NoRun)) × HasNoRun p items i
 IsImpossibleBy p items _ = Unit {0}
 
 -- the verdict says that no run's trace begins with the words up to item i, or with fewer

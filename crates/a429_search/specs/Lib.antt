@@ -9,3 +9,4 @@ pub mod Pair
 pub mod Deciding
 pub mod SoFar
 pub mod Contradiction
+pub mod Apart

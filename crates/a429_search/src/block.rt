@@ -15,7 +15,7 @@ use crate::merged::completed_merge;
 use crate::one_by_one::merge_one_by_one;
 use crate::order::merge_in_one_order;
 use crate::pieces::{EndWord, GroupPieces};
-use a429_ldu::{Ldu, LduFault, bytes_of, check_word};
+use a429_ldu::{Ldu, LduFault, bytes_of, check_word_by};
 use a429_profile::Profile;
 use a429_word::Word;
 use std::alloc::{AllocError, Global};
@@ -165,6 +165,6 @@ fn end_word(
     let Some(bytes) = bytes_of(alloc, profile, words)? else {
         return Ok(None);
     };
-    let check = check_word(profile.check(), &bytes);
+    let check = check_word_by(profile.check_tables(), &bytes);
     Ok(Some(EndWord { flags: 0, check }))
 }

@@ -1,8 +1,8 @@
-//! The decision on a recording: the check, then what its words contradict, and where no certificate is known a search.
+//! The decision on a recording: the check, then what its words contradict, and where no certificate is known a search, and then
+//! attempts that no link data unit has both of.
 
-ghost use Rattle.std.specs.Prelude.{◌≡◌, ℕ, Ok, None, IfOk, IfSome, length};
+ghost use Rattle.std.specs.Prelude.{◌≡◌, ◌<◌, ℕ, Ok, None, IfOk, IfSome, length};
 ghost use Rattle.a429_cert.specs.Explained.{items_of, IsExplained, AreInEveryRun};
-ghost use Rattle.a429_explain.specs.declared.verdict.Reason.{Reason};
 ghost use Rattle.a429_explain.specs.Explanation.{HasNoFault, HasLeastVersion};
 ghost use Rattle.a429_explain.specs.Verdict.{IsSoundVerdict, IsAccepted, IsOfLeastVersion, IsDoubted, HasNoForm, IsImpossibility, IsExplanation};
 ghost use Rattle.a429_explain.specs.Walk.{AreAllowed};
@@ -10,19 +10,21 @@ ghost use Rattle.a429_explain.specs.WithoutLoss.{IsWithoutLoss};
 ghost use Rattle.a429_search.specs.Contradiction.{HasNoContradiction, IsFirstContradiction, HasNoRun};
 ghost use Rattle.a429_search.specs.Deciding.{IsImpossibleBy, IsImpossibleUpTo, IsOfCheck, IsReasonAt};
 
+use crate::apart::first_apart;
 use crate::contradiction::{Contradiction, first_contradiction, what_contradicts_has_no_run};
 use crate::searching::guess_of;
 use a429_cert::OutOfMemory;
 use a429_explain::walk::{Halt, walk};
-use a429_explain::{Explanation, Refusal, Verdict, check, explain_by};
+use a429_explain::{Explanation, Reason, Refusal, Verdict, check, explain_by};
 use a429_profile::Profile;
 use a429_record::Entry;
 use std::alloc::Global;
 
 /// The verdict on a recording, under the profile of its bench: that of `check`, where it explains the recording. Else the
 /// recording is impossible from the first word on that those before it do not allow, or that contradicts them. Where
-/// there is no such word a search follows; the certificate of a run that it finds explains the recording, and where it
-/// finds none the doubt of `check` stays.
+/// there is no such word a search follows; the certificate of a run that it finds explains the recording. Where it finds
+/// none the recording is impossible, by `NoRun`, where attempts to send one link data unit are found to have words that no
+/// unit has; else the doubt of `check` stays.
 pub fn decide(alloc: Global, profile: &Profile, entries: &[Entry]) -> Result<Verdict, OutOfMemory>
     ensures explained { IfOk result (λ v. IsSoundVerdict profile.now (items_of entries.now) v) }
     ensures accepted { IfOk result (λ v. IsAccepted profile.now (items_of entries.now) v) }
@@ -62,7 +64,14 @@ pub fn decide(alloc: Global, profile: &Profile, entries: &[Entry]) -> Result<Ver
                         certificate: found.certificate,
                         files: found.files,
                     }),
-                    Ok(None) => Ok(Verdict::Unexplained { entry, doubt }),
+                    Ok(None) => match apart(alloc, profile, entries) {
+                        Ok(Some(entry)) => Ok(Verdict::Impossible {
+                            entry,
+                            reason: Reason::NoRun,
+                        }),
+                        Ok(None) => Ok(Verdict::Unexplained { entry, doubt }),
+                        Err(OutOfMemory) => Err(OutOfMemory),
+                    },
                     Err(OutOfMemory) => Err(OutOfMemory),
                 },
                 Err(OutOfMemory) => Err(OutOfMemory),
@@ -85,6 +94,21 @@ fn contradiction(
 {
     match walk(alloc, profile, entries) {
         Ok(decoded) => match first_contradiction(alloc, &decoded) {
+            Ok(found) => Ok(found),
+            Err(_) => Err(OutOfMemory),
+        },
+        Err(Halt::Refused { .. }) => Ok(None),
+        Err(Halt::OutOfMemory) => Err(OutOfMemory),
+    }
+}
+
+// The first word with which attempts to send one link data unit are found to have words that no unit has.
+fn apart(alloc: Global, profile: &Profile, entries: &[Entry]) -> Result<Option<usize>, OutOfMemory>
+    ensures inside { IfOk result (λ found. IfSome found (λ n. n < length entries.now)) }
+    ensures impossible { IfOk result (λ found. IfSome found (λ n. HasNoRun profile.now (items_of entries.now) n)) }
+{
+    match walk(alloc, profile, entries) {
+        Ok(decoded) => match first_apart(alloc, &decoded) {
             Ok(found) => Ok(found),
             Err(_) => Err(OutOfMemory),
         },

@@ -5,7 +5,7 @@ ghost use Rattle.a429_ldu.specs.Semis.{AreSemis};
 ghost use Rattle.a429_search.specs.Fill.{Fits, IsFilled, HasNoFreeWord, semis_of_number, data_word, filler, rest_filled};
 
 use crate::free_bits::bits_for_check_word;
-use a429_ldu::{Form, Semis, bytes_of, check_word, word_of};
+use a429_ldu::{Form, Semis, bytes_of, check_word_by, word_of};
 use a429_profile::Profile;
 use a429_word::Word;
 use std::alloc::{AllocError, Global};
@@ -54,7 +54,7 @@ fn fits(
         return Ok(false);
     };
     match wanted {
-        Some(check) => Ok(check == check_word(profile.check(), &bytes)),
+        Some(check) => Ok(check == check_word_by(profile.check_tables(), &bytes)),
         None => Ok(true),
     }
 }
@@ -154,7 +154,7 @@ fn free_word_of(
     let Some(check) = wanted else {
         return Ok(Some(zeros));
     };
-    match bits_for_check_word(alloc, profile.check(), &bytes, 4 * size, check)? {
+    match bits_for_check_word(alloc, profile.check_tables(), &bytes, 4 * size, check)? {
         Some(bits) => Ok(Some(numbered_word(profile, size, bits))),
         None => Ok(None),
     }

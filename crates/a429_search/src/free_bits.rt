@@ -5,15 +5,15 @@ ghost use Rattle.a429_ldu.specs.CheckWord.{check_of};
 ghost use Rattle.a429_search.specs.FreeBits.{with_bits};
 
 use crate::choice::choose_columns;
-use a429_ldu::check_word;
-use a429_profile::Check;
+use a429_ldu::check_word_by;
+use a429_profile::CheckTables;
 use std::alloc::{AllocError, Global};
 
 /// So many bits, at most 32: exclusive-ored into the first bytes, the lowest bit first, they give the bytes
 /// the wanted check word. `None` where no such bits do.
 pub fn bits_for_check_word(
     alloc: Global,
-    rule: &Check,
+    rule: &CheckTables,
     bytes: &[u8],
     count: usize,
     wanted: u16,
@@ -23,12 +23,13 @@ pub fn bits_for_check_word(
     ensures within { IfOk result (λ bits. IfSome bits (λ m. m < 2 ^ count)) }
     ensures none { IfOk result (λ bits. IfNone bits ((m : ℕ) → m < 2 ^ count → check_of rule.now (with_bits m bytes.now) ≢ wanted)) }
 {
-    let _bits = (rule.poly, rule.init);
-    let start = check_word(rule, bytes);
+    // (for the proof: polynomial and start have 16 bits)
+    let _numbers = rule.rule();
+    let start = check_word_by(rule, bytes);
     let mut columns = Vec::new(alloc);
     for k in 0..count {
         let changed = with_bits(alloc, bytes, 1 << k)?;
-        columns.push(check_word(rule, &changed) ^ start)?;
+        columns.push(check_word_by(rule, &changed) ^ start)?;
     }
     choose_columns(alloc, &columns, start ^ wanted)
 }

@@ -1,6 +1,7 @@
 //! The data words of a link data unit of which each attempt was recorded with losses.
 #![tactic(auto)]
 
+mod apart;
 mod attempt_words;
 mod attempts;
 mod block;
@@ -25,7 +26,9 @@ mod searching;
 mod so_far;
 mod subsequence;
 mod trail;
+mod trials;
 
+pub use crate::apart::first_apart;
 pub use crate::block::unit_of_pieces;
 pub use crate::bounded::{MOST_NODES, search_words};
 pub use crate::budget::Budget;

@@ -4,4 +4,5 @@ pub mod PictureFacts
 pub mod CrossingsFacts
 pub mod SurveyFacts
 pub mod TraceFacts
+pub mod DigitCounts
 pub mod LineFacts

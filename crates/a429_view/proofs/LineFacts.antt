@@ -1,7 +1,7 @@
 -- Texts on a line, one after the other.
-use Rattle.std.proofs.Common.{◌≡◌, ℕ, ◌+◌, ◌-◌, ◌≤◌, sym, ap, ◌∙◌, arith, List, [], ◌∷◌, ◌++◌, length, take, drop, length-append, append_assoc, get_or, refl}
-use Rattle.std.proofs.lemmas.List.{length-take-le, take-append-le, take-take}
-use Rattle.std.proofs.Math.Seq.{take-append-add, take-append_seam, take-length}
+use Rattle.std.proofs.Common.{◌≡◌, ℕ, ◌+◌, ◌≤◌, sym, ap, ◌∙◌, arith, List, [], ◌∷◌, ◌++◌, length, take, drop, append_assoc, get_or, refl}
+use Rattle.std.proofs.lemmas.List.{length-take-le, take-append-le}
+use Rattle.std.proofs.Math.Seq.{take-add, take-append-add, take-append_seam}
 use Rattle.a429_view.specs.Line.{Adds}
 
 -- a proof reads as the text does: name ▹ space ▹ number
@@ -19,11 +19,18 @@ take-copied a count xs ys rest h k =
     ap (λ m. take (m + count) (take a xs ++ (ys ++ rest))) (sym (length-take-le a xs h)) ∙ take-append-add (take a xs) (ys ++ rest) count
     ∙ ap (λ t. take a xs ++ t) (take-append-le count ys rest k)
 
--- the first digits of a buffer, from where they start, and some bytes behind them
-pub digits-copied : (start end room : ℕ) (text buffer rest : List ℕ) → start + length text ≡ end → end ≤ start + room → drop start buffer ≡ text ++ rest → take (end - start) (take room (drop start buffer)) ≡ text
-digits-copied start end room text buffer rest e h is =
-    let count : end - start ≡ length text = omega (arith, e) in
-    take-take (end - start) room (drop start buffer) (omega arith) ∙ ap (λ k. take k (drop start buffer)) count ∙ ap (take (length text)) is ∙ take-append_seam text rest
+-- digits written behind the first bytes of a buffer
+pub digits-written : (at count start : ℕ) (text old new : List ℕ) → count ≡ length text → start + length text ≡ at + count → drop start new ≡ text ++ drop (at + count) old → take start new ≡ take start old
+    → take (at + count) new ≡ take at old ++ text
+digits-written at count start text old new e from written before =
+    let same : start ≡ at = omega (arith, e) in
+    let front : take at new ≡ take at old = ap (λ k. take k new) (sym same) ∙ before ∙ ap (λ k. take k old) same in
+    let rest : drop at new ≡ text ++ drop (at + count) old = ap (λ k. drop k new) (sym same) ∙ written in
+    take-add at count new
+    ∙ ap (λ t. t ++ take count (drop at new)) front
+    ∙ ap (λ t. take at old ++ take count t) rest
+    ∙ ap (λ k. take at old ++ take k (text ++ drop (at + count) old)) e
+    ∙ ap (λ t. take at old ++ t) (take-append_seam text (drop (at + count) old))
 
 -- five numbers, one by one
 pub five : (xs : List ℕ) → length xs ≡ 5 → xs ≡ get_or xs 0 0 ∷ get_or xs 1 0 ∷ get_or xs 2 0 ∷ get_or xs 3 0 ∷ get_or xs 4 0 ∷ []

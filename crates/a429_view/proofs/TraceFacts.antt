@@ -1,6 +1,7 @@
 -- Lines of a trace, and what a word is.
 use Rattle.std.proofs.Common.{◌≡◌, ◌≢◌, ℕ, ◌+◌, ◌-◌, ◌^◌, ◌%◌, min, Bool, true, false, cond, not, ◌||◌, ◌==◌, List, [], ◌∷◌, ◌++◌, get_or, append_assoc, append-nil, Option, Some, None, codes, refl, sym, ap, ◌∙◌, subst, inl, inr}
 use Rattle.std.proofs.lemmas.Bool.{cases_Bool}
+use Rattle.std.specs.Fmt.{decimal}
 use Rattle.a429_word.specs.Word.{label_of, count_of_ones}
 use Rattle.a429_word.specs.Bus.{bus_text}
 use Rattle.a429_word.specs.Digits.{hex_text, numeral}
@@ -18,11 +19,13 @@ use Rattle.a429_ldu.specs.Sight.{form_in, sight_in, sight_of}
 use Rattle.a429_ldu.proofs.FormFree.{is_free-decides}
 use Rattle.a429_ldu.proofs.FreedomFacts.{some_where_free}
 use Rattle.a429_ldu.proofs.SightFacts.{form_of-sight}
+use Rattle.a429_link.specs.declared.doing.Doing.TheVariants as doing
 use Rattle.a429_link.specs.Observer.{Allows, AllowsForm}
 use Rattle.a429_link.specs.Implied.{Implied, crossings_of, does, implies_form, observer_of}
 use Rattle.a429_cert.specs.Explained.{seen_of}
 use Rattle.a429_view.specs.declared.trace.Trace.{Trace}
 use Rattle.a429_record.specs.declared.entry.Entry.{Entry}
+use Rattle.a429_view.specs.Block.{block_end, block_start}
 use Rattle.a429_view.specs.Forms.{form_text, freedom_text, reason_or_form_text}
 use Rattle.a429_view.specs.Trace.{GoesOn, after_text, crossings_by, doing_text, else_text, free_text, has_line, head_text, line_of}
 
@@ -72,6 +75,11 @@ free_none c b w free = sym (form_of-sight c b w) ∙ ap form_in (ap (λ t. cond 
 -- the same text, by its first part and the rest
 three : (h f d n : List ℕ) → h ++ f ++ d ++ n ≡ h ++ (f ++ d ++ n)
 three h f d n = ap (λ (t : List ℕ). t ++ n) (append_assoc h f d) ∙ append_assoc h (f ++ d) n
+
+-- a block's text, in which so many words are taken of those that were asked for
+pub block_text : (file ldu taken asked : ℕ) → block_start file ldu ++ decimal taken ++ block_end asked ≡ codes " | " ++ doing_text (doing.InBlock file ldu taken asked)
+block_text file ldu taken asked =
+    append_assoc (block_start file ldu) (decimal taken) (block_end asked) ∙ ap (λ t. block_start file ldu ++ t) (sym (three (decimal taken) (codes " of ") (decimal asked) (codes " data words")))
 
 where_true : (t : Bool) (x : List ℕ) → t ≡ true → cond t x [] ≡ x
 where_true true x e = refl

@@ -24,13 +24,17 @@ abbrev pub final_text : Bool → List ℕ
 final_text true = codes " final"
 final_text false = []
 
+-- the numbers of a link data unit
+abbrev pub ldu_text : ℕ → ℕ → List ℕ
+ldu_text file ldu = decimal file ++ codes " " ++ decimal ldu
+
 -- a form with its numbers; semi-octets in their order, a hexadecimal digit each
 abbrev pub form_text : Codes → Form → List ℕ
 form_text c (Rts count) = codes "rts " ++ decimal count
 form_text c (Cts count) = codes "cts " ++ decimal count
-form_text c (Ack file ldu) = codes "ack " ++ decimal file ++ codes " " ++ decimal ldu
+form_text c (Ack file ldu) = codes "ack " ++ ldu_text file ldu
 form_text c (Nak bits) = codes "nak " ++ numeral 16 4 bits
-form_text c (Sot gfi file ldu) = codes "sot " ++ decimal file ++ codes " " ++ decimal ldu ++ codes " gfi " ++ decimal gfi
+form_text c (Sot gfi file ldu) = codes "sot " ++ ldu_text file ldu ++ codes " gfi " ++ decimal gfi
 form_text c (Part semis) = codes "data " ++ map (digit_glyph true) semis
 form_text c (Eot flags check) = codes "eot flags " ++ decimal flags ++ codes " check " ++ numeral 16 4 check ++ final_text (is_final c flags)
 

@@ -1,6 +1,7 @@
 pub mod Units
 pub mod UnitSteps
 pub mod Forms
+pub mod Block
 pub mod Line
 pub mod Mark
 pub mod Sketch

@@ -27,7 +27,7 @@ use Rattle.a429_cert.specs.Explained.{items_of, seen_of}
 use Rattle.a429_view.specs.declared.trace.Trace.{Trace}
 use Rattle.a429_view.specs.declared.trace.TraceStop.{TraceStop}
 use Rattle.a429_view.specs.declared.trace.TraceStop.TheVariants as stop
-use Rattle.a429_view.specs.Forms.{form_text, freedom_text, reason_or_form_text, what_text}
+use Rattle.a429_view.specs.Forms.{form_text, freedom_text, ldu_text, reason_or_form_text, what_text}
 
 -- ---- what the sink does
 
@@ -42,10 +42,6 @@ why_text (why.HalfBytes semis) = decimal semis ++ codes " semi-octets"
 why_text (why.OtherCheck check) = codes "check word " ++ numeral 16 4 check
 why_text why.OutOfSequence = codes "out of sequence"
 
--- the numbers of a link data unit
-abbrev pub unit_text : ℕ → ℕ → List ℕ
-unit_text file ldu = decimal file ++ codes " " ++ decimal ldu
-
 abbrev pub crossing_text : Option Crossing → List ℕ
 crossing_text None = []
 crossing_text (Some f) = codes ", file " ++ decimal f.number ++ codes " crosses, " ++ decimal f.bytes ++ codes " bytes"
@@ -54,11 +50,11 @@ abbrev pub doing_text : Doing → List ℕ
 doing_text doing.Quiet = codes "quiet"
 doing_text (doing.OwesClear n) = codes "owes cts " ++ decimal n
 doing_text (doing.Granted n) = codes "granted " ++ decimal n
-doing_text (doing.InBlock file ldu taken asked) = codes "in block " ++ unit_text file ldu ++ codes ", " ++ words_text taken asked
-doing_text (doing.OwesAck file ldu) = codes "owes ack " ++ unit_text file ldu
+doing_text (doing.InBlock file ldu taken asked) = codes "in block " ++ ldu_text file ldu ++ codes ", " ++ words_text taken asked
+doing_text (doing.OwesAck file ldu) = codes "owes ack " ++ ldu_text file ldu
 doing_text (doing.OwesNak reason) = codes "owes nak, " ++ why_text reason
-doing_text (doing.Accepts file ldu crossing) = codes "quiet, accepts " ++ unit_text file ldu ++ crossing_text crossing
-doing_text (doing.Again file ldu) = codes "quiet, again " ++ unit_text file ldu
+doing_text (doing.Accepts file ldu crossing) = codes "quiet, accepts " ++ ldu_text file ldu ++ crossing_text crossing
+doing_text (doing.Again file ldu) = codes "quiet, again " ++ ldu_text file ldu
 
 -- ---- what is allowed
 
@@ -68,7 +64,7 @@ kind_text AnySot = codes "sot"
 kind_text AnyData = codes "data"
 kind_text AnyEot = codes "eot"
 kind_text (CtsOf n) = codes "cts " ++ decimal n
-kind_text (AckOf file ldu) = codes "ack " ++ unit_text file ldu
+kind_text (AckOf file ldu) = codes "ack " ++ ldu_text file ldu
 kind_text AnyNak = codes "nak"
 
 -- kinds, a comma between them

@@ -4,7 +4,7 @@ ghost use Rattle.std.specs.Prelude.{◌≡◌, ◌++◌, ◌+◌, ◌≤◌, cod
 ghost use Rattle.std.specs.Fmt.{decimal, digit_glyph};
 ghost use Rattle.a429_word.specs.Sheet.{Says};
 ghost use Rattle.a429_ldu.specs.Form.{form_of};
-ghost use Rattle.a429_view.specs.Forms.{freedom_text, final_text, form_text, reason_or_form_text, what_text};
+ghost use Rattle.a429_view.specs.Forms.{freedom_text, final_text, form_text, ldu_text, reason_or_form_text, what_text};
 ghost use Rattle.a429_view.specs.Line.{Adds, Fits};
 
 use crate::line::Line;
@@ -86,6 +86,18 @@ pub(crate) fn add_form(line: &mut Line, profile: &Profile, form: Form)
     }
 }
 
+/// Adds a form with its numbers. Most words are data words: these are added in place.
+#[inline(always)]
+pub(crate) fn add_likely_form(line: &mut Line, profile: &Profile, form: &Form)
+    requires { Fits line.old 31 }
+    ensures { Adds line.old line.new 30 (form_text profile.now.codes form.now) }
+{
+    match *form {
+        Form::Part(semis) => add_semis(line, semis),
+        _ => add_form(line, profile, *form),
+    }
+}
+
 /// Adds a name, and a number after it.
 #[inline(always)]
 pub(crate) fn add_named(line: &mut Line, name: &[u8], number: u8)
@@ -100,7 +112,7 @@ pub(crate) fn add_named(line: &mut Line, name: &[u8], number: u8)
 #[inline(always)]
 pub(crate) fn add_unit(line: &mut Line, name: &[u8], file: u8, ldu: u8)
     requires { Fits line.old (length name.now + 8) }
-    ensures { Adds line.old line.new (length name.now + 7) (name.now ++ decimal file ++ codes " " ++ decimal ldu) }
+    ensures { Adds line.old line.new (length name.now + 7) (name.now ++ ldu_text file ldu) }
 {
     add_named(line, name, file);
     add_named(line, b" ", ldu);

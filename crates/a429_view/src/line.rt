@@ -1,6 +1,6 @@
 //! A line that is put together before it is put on a sheet, without taking memory.
 
-ghost use Rattle.std.specs.Prelude.{◌≡◌, ◌≤◌, [], length, take};
+ghost use Rattle.std.specs.Prelude.{◌≡◌, ◌≤◌, ◌<◌, ◌-◌, ◌++◌, [], ◌∷◌, length, take};
 ghost use Rattle.std.specs.Fmt.{decimal};
 ghost use Rattle.a429_word.specs.Digits.{numeral};
 ghost use Rattle.a429_view.specs.Line.{Adds, Fits};
@@ -12,11 +12,11 @@ use std::marker::Model;
 // More bytes than the longest line of a trace has.
 const ROOM: usize = 192;
 
-// How many digits the longest number has.
-const LONGEST: usize = 20;
+// The most bytes of a line that `put_short` adds.
+const SHORT: usize = 24;
 
 /// The first `len` bytes.
-#[derive(Drop)]
+#[derive(Debug, Drop)]
 pub(crate) struct Line {
     bytes: [u8; ROOM],
     len: usize,
@@ -43,6 +43,14 @@ impl Line {
         }
     }
 
+    /// Drops all bytes.
+    #[inline(always)]
+    pub(crate) fn clear(&mut self)
+        ensures { self.new ≡ [] }
+    {
+        self.len = 0;
+    }
+
     /// The whole line.
     pub(crate) fn as_slice(&self) -> &[u8]
         ensures { result.now ≡ self.now }
@@ -61,26 +69,54 @@ impl Line {
         self.len = end;
     }
 
+    /// Adds a line of at most 24 bytes. All 24 are copied, so that a few take as long as one.
+    #[inline(always)]
+    pub(crate) fn put_short(&mut self, line: &Line)
+        requires short { length line.now ≤ 24 }
+        requires room { Fits self.old 24 }
+        ensures { Adds self.old self.new 24 line.now }
+    {
+        self.put_first(&line.bytes[..SHORT], line.len);
+    }
+
+    /// Puts this byte in the place of the last one.
+    #[inline(always)]
+    pub(crate) fn set_last(&mut self, byte: u8)
+        requires { 0 < length self.old }
+        ensures { self.new ≡ take (length self.old - 1) self.old ++ byte ∷ [] }
+    {
+        self.len -= 1;
+        self.put(&[byte]);
+    }
+
     /// Adds a number, in decimal.
     #[inline(always)]
     pub(crate) fn put_number(&mut self, number: u64)
         requires { Fits self.old 20 }
         ensures { Adds self.old self.new 20 (decimal number) }
     {
-        let mut digits = [0; 2 * LONGEST];
-        let start = write_digits(number, &mut digits, LONGEST);
-        self.put_first(&digits[start..start + LONGEST], LONGEST - start);
+        let end = self.len + digit_count(number);
+        write_digits(number, &mut self.bytes, end);
+        self.len = end;
     }
 
     /// Adds a number of eight bits, in decimal.
     #[inline(always)]
     pub(crate) fn put_byte(&mut self, number: u8)
-        requires { Fits self.old 4 }
+        requires { Fits self.old 3 }
         ensures { Adds self.old self.new 3 (decimal number) }
     {
-        let mut digits = [0; 8];
-        let start = write_digits(u64::from(number), &mut digits, 4);
-        self.put_first(&digits[start..start + 4], 4 - start);
+        if number < 10 {
+            self.put(&[b'0' + number]);
+        } else if number < 100 {
+            self.put(&[b'0' + number / 10, b'0' + number % 10]);
+        } else if number < 200 {
+            let rest = number - 100;
+            self.put(&[b'1', b'0' + rest / 10, b'0' + rest % 10]);
+        } else {
+            let rest = number - 200;
+            self.put(&[b'2', b'0' + rest / 10, b'0' + rest % 10]);
+        }
     }
 
     /// Adds a count, in decimal. Most counts have eight bits.
@@ -116,5 +152,51 @@ impl Line {
         let end = self.len + bytes.len();
         self.bytes[self.len..end].copy_from_slice(bytes);
         self.len += count;
+    }
+}
+
+// How many decimal digits a number has.
+#[inline(always)]
+fn digit_count(number: u64) -> usize
+    ensures { result ≡ length (decimal number) }
+{
+    if number < 100_000_000 {
+        short_digit_count(number)
+    } else if number < 10_000_000_000_000_000 {
+        short_digit_count(number / 100_000_000) + 8
+    } else {
+        short_digit_count(number / 10_000_000_000_000_000) + 16
+    }
+}
+
+// The same of a number of at most eight digits.
+#[inline(always)]
+fn short_digit_count(number: u64) -> usize
+    requires { number < 100000000 }
+    ensures value { result ≡ length (decimal number) }
+    ensures most { result ≤ 8 }
+{
+    if number < 10_000 {
+        shortest_digit_count(number)
+    } else {
+        shortest_digit_count(number / 10_000) + 4
+    }
+}
+
+// The same of a number of at most four digits.
+#[inline(always)]
+fn shortest_digit_count(number: u64) -> usize
+    requires { number < 10000 }
+    ensures value { result ≡ length (decimal number) }
+    ensures most { result ≤ 4 }
+{
+    if number < 10 {
+        1
+    } else if number < 100 {
+        2
+    } else if number < 1000 {
+        3
+    } else {
+        4
     }
 }

@@ -8,8 +8,13 @@ ghost use Rattle.a429_link.specs.Implied.{crossings_of, does, implies_form, obse
 ghost use Rattle.a429_profile.specs.Profile.{Contents, IsProfile};
 ghost use Rattle.a429_view.specs.Trace.{GoesOn, IsTrace, IsTraceStop, has_line, head_text, line_of, refused_text, stop_text};
 
+mod block;
+mod count;
 pub(crate) mod text;
 
+use crate::line::Line;
+use crate::trace::block::InBlockText;
+use crate::trace::count::EntryCount;
 use crate::trace::text::{put_allowed, put_free, put_refused};
 use a429_cert::seen;
 use a429_ldu::{Form, Sight, form};
@@ -35,7 +40,11 @@ pub enum TraceStop {
 pub struct Trace {
     sink: ImpliedSink,
     files: Vec<Crossing>,
-    entries: usize,
+    entries: EntryCount,
+    // made anew where the sink is in another block
+    block: InBlockText,
+    // where a line is put together
+    line: Line,
 }
 
 impl Trace {
@@ -46,7 +55,9 @@ impl Trace {
         Trace {
             sink: ImpliedSink::new(alloc),
             files: Vec::new(alloc),
-            entries: 0,
+            entries: EntryCount::new(),
+            block: InBlockText::of(0, 0, 0),
+            line: Line::new(),
         }
     }
 
@@ -54,7 +65,7 @@ impl Trace {
     pub fn entries(&self) -> usize
         ensures { result ≡ self.now.entries }
     {
-        self.entries
+        self.entries.count()
     }
 
     /// The files that have crossed, in order.
@@ -80,13 +91,12 @@ impl Trace {
         ensures sound { IsProfile profile.now }
         ensures stop_line { IfErr result (λ stop. Says W.contents sheet.old sheet.new (stop_text profile.now self.old.entries self.old.sink entry.now stop)) }
     {
-        let number = self.entries;
         if !has_line(profile, entry) {
-            self.entries = number.saturating_add(1);
+            self.entries.add_one();
             return Ok(());
         }
         match form(profile, entry.bus, entry.word) {
-            Sight::Free => put_free(sheet, profile, number, entry),
+            Sight::Free => put_free(sheet, profile, &self.entries, entry),
             Sight::Form(form) => {
                 if !self.sink.allows(entry.bus, &form) {
                     return Err(self.refuse(sheet, profile, entry, Sight::Form(form)));
@@ -94,11 +104,20 @@ impl Trace {
                 let Ok(doing) = self.take(alloc, profile, entry, &form) else {
                     return Err(TraceStop::OutOfMemory);
                 };
-                put_allowed(sheet, profile, number, entry, form, doing);
+                put_allowed(
+                    sheet,
+                    profile,
+                    &self.entries,
+                    &mut self.block,
+                    &mut self.line,
+                    entry,
+                    &form,
+                    &doing,
+                );
             }
             Sight::NoForm => return Err(self.refuse(sheet, profile, entry, Sight::NoForm)),
         }
-        self.entries = number.saturating_add(1);
+        self.entries.add_one();
         Ok(())
     }
 
@@ -114,7 +133,7 @@ impl Trace {
         ensures line { Says W.contents sheet.old sheet.new (head_text self.now.entries entry.now ++ refused_text profile.now.codes (form_in sight) self.now.sink) }
     {
         let next = self.sink.next();
-        put_refused(sheet, profile, self.entries, entry, sight.form(), next);
+        put_refused(sheet, profile, &self.entries, entry, sight.form(), next);
         TraceStop::Refused(sight)
     }
 
@@ -132,14 +151,13 @@ impl Trace {
         ensures does { IfOk result (λ doing. doing ≡ does profile.now entry.now.bus entry.now.word form.now self.old.sink.sink) }
         ensures files { OnOk result (self.new.files.items ≡ self.old.files.items ++ crossings_of (does profile.now entry.now.bus entry.now.word form.now self.old.sink.sink)) }
     {
-        self.files.try_reserve(1)?;
         let doing = self.sink.take(alloc, profile, seen(*entry), form)?;
         if let Doing::Accepts {
             crossing: Some(file),
             ..
         } = doing
         {
-            self.files.push_reserved(file);
+            self.files.push(file)?;
         }
         Ok(doing)
     }

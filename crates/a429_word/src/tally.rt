@@ -58,6 +58,13 @@ impl<T> Tally<T> {
         }
     }
 
+    /// The reader or writer underneath.
+    pub fn into_inner(self) -> T
+        ensures { result ≡ inner_of self }
+    {
+        self.inner
+    }
+
     /// How many bytes reads may still return.
     pub fn left(&self) -> u64
         ensures { result ≡ left_of self.now }

@@ -4,7 +4,7 @@ use a429_view::Span;
 
 /// The words of a command on a certificate: the paths of a profile, of a recording, and of the certificate that
 /// explains it.
-#[derive(Clone, Copy, Debug, PartialEq, Eq)]
+#[derive(Clone, Copy)]
 pub struct Claim<'a> {
     pub profile: &'a str,
     pub recording: &'a str,
@@ -12,7 +12,7 @@ pub struct Claim<'a> {
 }
 
 /// A command of the program, with its words.
-#[derive(Debug, PartialEq, Eq, Drop)]
+#[derive(Drop)]
 pub enum Command<'a> {
     /// `version`: names the version of the program, and those of the certificates that it reads.
     Version,

@@ -230,6 +230,7 @@ fn name_of_reason(reason: Reason) -> &'static [u8]
         Reason::BadBlock => b" BadBlock\n",
         Reason::WrongNumber => b" WrongNumber\n",
         Reason::OtherBlock => b" OtherBlock\n",
+        Reason::NoRun => b" NoRun\n",
     }
 }
 

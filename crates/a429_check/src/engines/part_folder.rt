@@ -2,8 +2,8 @@
 
 ghost use Rattle.std.specs.Prelude.{◌≡◌, None, false, IfOk};
 
-use a429_parts::{Parts, write_part};
-use a429_record::Entry;
+use a429_parts::Parts;
+use a429_record::{Entry, write_text};
 use a429_word::{Failing, Tally, Trouble};
 use std::alloc::Global;
 use std::fs;
@@ -44,7 +44,7 @@ impl<'a, F: Files> PartFolder<'a, F> {
     // Writes a part.
     fn write(&self, path: &str, entries: &[Entry]) -> Result<(), Trouble> {
         match fs::create(self.rt, path) {
-            Ok(file) => write_part(self.alloc, &mut Tally::new(file, 0), entries),
+            Ok(file) => write_text(self.alloc, &mut Tally::new(file, 0), entries),
             Err(_) => Err(Trouble::Device),
         }
     }

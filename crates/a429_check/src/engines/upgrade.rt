@@ -10,7 +10,7 @@ use a429_word::{Device, Failing, Tally};
 use std::io::{Read, Write};
 
 // How many bytes are copied at a time.
-const ROOM: usize = 65_536;
+const ROOM: usize = 262_144;
 
 /// Writes a certificate to `new_cert` as one of version 2, says so on `out`, and answers status 0: its first line
 /// is that of version 2, and all other bytes are as they were. Where its first line is that of neither version, or

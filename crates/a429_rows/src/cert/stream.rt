@@ -1,6 +1,6 @@
 //! A certificate of two files, held against their recording, both read as streams, also over devices that fail.
 
-use crate::calls::{checked, sample};
+use crate::calls::{certificate_of, sample};
 use crate::cert::shelf::{Frail, noted};
 use crate::recordings::recorded;
 use a429_cert::{Shelf, StreamFault, verify_stream};
@@ -47,12 +47,13 @@ struct Given {
 }
 
 fn two_files(rt: &(impl Abort + AllocGlobal)) -> Result<Given, Fail> {
+    let profile = sample(rt);
     let recording = recorded(rt.alloc(), WORDS)?;
-    let (_, certificate) = checked(rt.alloc(), recording.as_str());
+    let text = certificate_of(rt.alloc(), &profile, recording.as_str());
     Ok(Given {
-        profile: sample(rt),
+        profile,
         recording,
-        certificate,
+        certificate: text.ok_or("no certificate")?,
     })
 }
 

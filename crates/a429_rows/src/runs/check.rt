@@ -8,9 +8,9 @@ mod series;
 mod steps;
 
 use crate::calls::sample;
-use crate::runs::chance::Chance;
 use crate::runs::check::files::some_transfer;
 use a429_profile::Profile;
+use a429_sample::Chance;
 use std::process::Abort;
 use std::test::Fail;
 
@@ -32,8 +32,8 @@ fn is_right(
 ) -> Result<bool, Fail> {
     let sent = some_transfer(rt, profile, chance)?;
     match way {
-        Way::Changed => changed::is_right(rt.alloc(), chance, &sent),
-        Way::WithLoss => repeated::is_right(rt.alloc(), chance, &sent),
+        Way::Changed => changed::is_right(rt.alloc(), profile, chance, &sent),
+        Way::WithLoss => repeated::is_right(rt.alloc(), profile, chance, &sent),
     }
 }
 

@@ -3,10 +3,10 @@
 ghost use Rattle.std.specs.Prelude.{IfSome};
 ghost use Rattle.a429_ldu.specs.Ldu.{IsLdu};
 
-use crate::runs::chance::Chance;
 use crate::runs::words::{TO_SINK, after, check_of, data_word, joined};
 use a429_ldu::Ldu;
 use a429_profile::Profile;
+use a429_sample::Chance;
 use a429_word::Word;
 use std::alloc::Global;
 

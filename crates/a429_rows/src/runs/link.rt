@@ -7,14 +7,13 @@ mod moves;
 mod sink;
 
 use crate::calls::{read, sample};
-use crate::runs::chance::Chance;
 use crate::runs::link::model::Model;
 use crate::runs::link::moves::{Plan, drawn};
 use crate::runs::same_files;
 use crate::runs::tried::Move;
 use a429_link::{FileBytes, Link, Observer, StepFault};
 use a429_profile::Profile;
-use a429_sample::{PROFILE, with};
+use a429_sample::{Chance, PROFILE, with};
 use std::alloc::Global;
 use std::process::Abort;
 use std::test::Fail;

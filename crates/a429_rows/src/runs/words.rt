@@ -1,6 +1,6 @@
 //! The words of the sample profile, as its numbers make them.
 
-use crate::runs::chance::Chance;
+use a429_sample::Chance;
 use a429_word::Bus;
 
 /// The labels 304 and 305, octal, as they are in bits 1 to 8.

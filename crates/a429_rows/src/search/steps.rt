@@ -5,7 +5,7 @@ ghost use Rattle.std.specs.Prelude.{◌≤◌};
 use super::plain::{has_each, has_none_twice, is_chosen, list_at};
 use crate::calls::sample;
 use a429_ldu::{Form, Semis, bytes_of, check_word, word_of};
-use a429_profile::{Check, Profile};
+use a429_profile::{Check, CheckTables, Profile};
 use a429_search::{
     Budget, Wanted, bits_for_check_word, completed, is_subsequence, merge_in_one_order,
     merge_shortest, search_words,
@@ -245,17 +245,24 @@ const RULES: [Check; 3] = [
 ];
 
 // So many bits, at most eight, exclusive-ored into the first byte, give three bytes the check word.
-fn have_check_word(rule: &Check, count: u32, wanted: u16) -> bool {
+fn have_check_word(rule: &CheckTables, count: u32, wanted: u16) -> bool {
     for bits in 0..256_u16 {
         let byte = (bits % 256) as u8;
-        if u32::from(bits) < count && check_word(rule, &[0x31 ^ byte, 0x32, 0x33]) == wanted {
+        if u32::from(bits) < count
+            && check_word(&rule.rule(), &[0x31 ^ byte, 0x32, 0x33]) == wanted
+        {
             return true;
         }
     }
     false
 }
 
-fn bits_differ(alloc: Global, rule: &Check, count: usize, wanted: u16) -> Result<bool, AllocError> {
+fn bits_differ(
+    alloc: Global,
+    rule: &CheckTables,
+    count: usize,
+    wanted: u16,
+) -> Result<bool, AllocError> {
     if count > 8 {
         return Ok(true);
     }
@@ -264,9 +271,10 @@ fn bits_differ(alloc: Global, rule: &Check, count: usize, wanted: u16) -> Result
 }
 
 fn first_bits(alloc: Global) -> Result<Option<(usize, u16)>, AllocError> {
-    for rule in RULES {
+    for numbers in RULES {
+        let rule = CheckTables::new(alloc, numbers)?;
         for byte in 0..=u8::MAX {
-            let wanted = check_word(&rule, &[byte, 0x32, 0x33]);
+            let wanted = check_word(&numbers, &[byte, 0x32, 0x33]);
             for count in 0..9 {
                 if bits_differ(alloc, &rule, count, wanted)? {
                     return Ok(Some((count, wanted)));

@@ -3,14 +3,21 @@
 ghost use Rattle.std.specs.Prelude.{◌≤◌, length};
 
 use crate::profile::sample_profile;
-use a429_ldu::{CutFault, Ldu, LduFault, block_bytes, bytes_of, check_word, cut};
-use a429_profile::{Check, Profile};
+use a429_ldu::{CutFault, Ldu, LduFault, block_bytes, bytes_of, check_word, check_word_by, cut};
+use a429_profile::{Check, CheckTables, Profile};
 use a429_sample::{EOT, PART, RTS, SOT};
 use a429_word::Word;
-use std::alloc::Global;
+use std::alloc::{AllocError, Global};
+use std::test::Fail;
+
+// Whether check words that are made so give this one, bit by bit and by tables.
+fn give(alloc: Global, rule: Check, wanted: u16) -> Result<bool, AllocError> {
+    let tables = CheckTables::new(alloc, rule)?;
+    Ok(check_word(&rule, b"123456789") == wanted && check_word_by(&tables, b"123456789") == wanted)
+}
 
 #[test]
-fn known_check_words(rt: HostRuntime) {
+fn known_check_words(rt: HostRuntime) -> Result<(), Fail> {
     let low = Check {
         poly: 0x1021,
         init: 0xFFFF,
@@ -25,8 +32,9 @@ fn known_check_words(rt: HostRuntime) {
         low_first: false,
         compare: true,
     };
-    assert!(rt; check_word(&low, b"123456789") == 0x906E);
-    assert!(rt; check_word(&high, b"123456789") == 0x29B1);
+    assert!(rt; give(rt.alloc(), low, 0x906E)?);
+    assert!(rt; give(rt.alloc(), high, 0x29B1)?);
+    Ok(())
 }
 
 // Whether these bytes are made, or none.

@@ -10,8 +10,10 @@ ghost use Rattle.a429_view.specs.Forms.{form_text, reason_or_form_text};
 ghost use Rattle.a429_view.specs.Line.{Adds, Fits};
 ghost use Rattle.a429_view.specs.Trace.{crossing_text, doing_text, else_form_text, else_text, free_text, head_text, kinds_text, turned_over, why_text, words_text};
 
-use crate::forms::{add_form, add_form_or_none, add_named, add_unit, freedom};
+use crate::forms::{add_form, add_form_or_none, add_likely_form, add_named, add_unit, freedom};
 use crate::line::Line;
+use crate::trace::block::InBlockText;
+use crate::trace::count::EntryCount;
 use a429_ldu::{Form, Freedom, why_free};
 use a429_link::{Crossing, Doing, Next, Why, form_of};
 use a429_profile::Profile;
@@ -20,54 +22,58 @@ use a429_word::{Bus, Sheet, Word};
 use std::io::Write;
 
 /// Puts the line of an entry, whose word is free.
+#[inline(never)]
 pub(crate) fn put_free<W: Write>(
     sheet: &mut Sheet<'_, W>,
     profile: &Profile,
-    number: usize,
+    count: &EntryCount,
     entry: &Entry,
 )
-    ensures { Says W.contents sheet.old sheet.new (head_text number entry.now ++ (free_text profile.now.codes entry.now.bus entry.now.word (freedom_of profile.now.codes entry.now.bus entry.now.word) ++ codes "\n")) }
+    ensures { Says W.contents sheet.old sheet.new (head_text count.now entry.now ++ (free_text profile.now.codes entry.now.bus entry.now.word (freedom_of profile.now.codes entry.now.bus entry.now.word) ++ codes "\n")) }
 {
     let mut line = Line::new();
-    add_head(&mut line, number, entry);
+    add_head(&mut line, count, entry);
     add_freedom(&mut line, profile, entry.bus, entry.word);
     line.put(b"\n");
     sheet.put(line.as_slice());
 }
 
-/// Puts the line of an entry, whose word has this allowed form, after which the sink does this.
+/// Puts the line of an entry, whose word has this allowed form, after which the sink does this. It is put together
+/// on the line that is given.
 pub(crate) fn put_allowed<W: Write>(
     sheet: &mut Sheet<'_, W>,
     profile: &Profile,
-    number: usize,
+    count: &EntryCount,
+    block: &mut InBlockText,
+    line: &mut Line,
     entry: &Entry,
-    form: Form,
-    doing: Doing,
+    form: &Form,
+    doing: &Doing,
 )
-    ensures { Says W.contents sheet.old sheet.new (head_text number entry.now ++ (form_text profile.now.codes form ++ (codes " | " ++ doing_text doing) ++ codes "\n")) }
+    ensures { Says W.contents sheet.old sheet.new (head_text count.now entry.now ++ (form_text profile.now.codes form.now ++ (codes " | " ++ doing_text doing.now) ++ codes "\n")) }
 {
-    let mut line = Line::new();
-    add_head(&mut line, number, entry);
-    add_form(&mut line, profile, form);
-    line.put(b" | ");
-    add_doing(&mut line, doing);
+    line.clear();
+    add_head(line, count, entry);
+    add_likely_form(line, profile, form);
+    add_doing(line, block, doing);
     line.put(b"\n");
     sheet.put(line.as_slice());
 }
 
 /// Puts the line of an entry, whose word has this form, or none, and is not allowed; what would be is in it.
+#[inline(never)]
 pub(crate) fn put_refused<W: Write>(
     sheet: &mut Sheet<'_, W>,
     profile: &Profile,
-    number: usize,
+    count: &EntryCount,
     entry: &Entry,
     form: Option<Form>,
     next: Next,
 )
-    ensures { Says W.contents sheet.old sheet.new (head_text number entry.now ++ (reason_or_form_text profile.now.codes None form ++ codes " | refused, allowed: " ++ kinds_text (kinds_of_next next) ++ codes "\n")) }
+    ensures { Says W.contents sheet.old sheet.new (head_text count.now entry.now ++ (reason_or_form_text profile.now.codes None form ++ codes " | refused, allowed: " ++ kinds_text (kinds_of_next next) ++ codes "\n")) }
 {
     let mut line = Line::new();
-    add_head(&mut line, number, entry);
+    add_head(&mut line, count, entry);
     add_form_or_none(&mut line, profile, form);
     line.put(b" | refused, allowed: ");
     add_next(&mut line, next);
@@ -77,11 +83,11 @@ pub(crate) fn put_refused<W: Write>(
 
 // How a line begins: the number of the entry, and what was recorded.
 #[inline(always)]
-fn add_head(line: &mut Line, number: usize, entry: &Entry)
-    requires { Fits line.old 53 }
-    ensures { Adds line.old line.new 53 (head_text number entry.now) }
+fn add_head(line: &mut Line, count: &EntryCount, entry: &Entry)
+    requires { Fits line.old 57 }
+    ensures { Adds line.old line.new 57 (head_text count.now entry.now) }
 {
-    line.put_number(number as u64);
+    line.put_short(count.digits());
     line.put(b" ");
     add_entry(line, entry);
 }
@@ -142,28 +148,24 @@ fn add_else_form(line: &mut Line, profile: &Profile, form: Option<Form>)
     }
 }
 
-// What the sink does.
-fn add_doing(line: &mut Line, doing: Doing)
-    requires { Fits line.old 70 }
-    ensures { Adds line.old line.new 68 (doing_text doing) }
+// What the sink does, after a bar.
+fn add_doing(line: &mut Line, block: &mut InBlockText, doing: &Doing)
+    requires { Fits line.old 72 }
+    ensures { Adds line.old line.new 71 (codes " | " ++ doing_text doing.now) }
 {
-    match doing {
-        Doing::Quiet => line.put(b"quiet"),
-        Doing::OwesClear(count) => add_named(line, b"owes cts ", count),
-        Doing::Granted(count) => add_named(line, b"granted ", count),
+    match *doing {
+        Doing::Quiet => line.put(b" | quiet"),
+        Doing::OwesClear(count) => add_named(line, b" | owes cts ", count),
+        Doing::Granted(count) => add_named(line, b" | granted ", count),
         Doing::InBlock {
             file,
             ldu,
             taken,
             asked,
-        } => {
-            add_unit(line, b"in block ", file, ldu);
-            line.put(b", ");
-            add_words(line, taken, asked);
-        }
-        Doing::OwesAck { file, ldu } => add_unit(line, b"owes ack ", file, ldu),
+        } => block.add_to(line, file, ldu, taken, asked),
+        Doing::OwesAck { file, ldu } => add_unit(line, b" | owes ack ", file, ldu),
         Doing::OwesNak(why) => {
-            line.put(b"owes nak, ");
+            line.put(b" | owes nak, ");
             add_why(line, why);
         }
         Doing::Accepts {
@@ -171,10 +173,10 @@ fn add_doing(line: &mut Line, doing: Doing)
             ldu,
             crossing,
         } => {
-            add_unit(line, b"quiet, accepts ", file, ldu);
+            add_unit(line, b" | quiet, accepts ", file, ldu);
             add_crossing(line, crossing);
         }
-        Doing::Again { file, ldu } => add_unit(line, b"quiet, again ", file, ldu),
+        Doing::Again { file, ldu } => add_unit(line, b" | quiet, again ", file, ldu),
     }
 }
 

@@ -1,4 +1,4 @@
-use Rattle.std.proofs.Common.{◌≡◌, ◌<◌, ℕ, List, [], ◌∷◌, ◌++◌, ◌+◌, Option, Some, slice_get, option_map, refl, sym, take, drop, length, take_all, ap, subst, ◌∙◌, arith}
+use Rattle.std.proofs.Common.{◌≡◌, ◌<◌, List, [], ◌∷◌, ◌++◌, ◌+◌, Option, Some, slice_get, option_map, refl, sym, take, drop, length, take_all, ap, subst, ◌∙◌, arith}
 use Rattle.std.specs.Option.{IfSome}
 use Rattle.std.proofs.lemmas.Option.{slice_get-map, slice_get_read}
 use Rattle.a429_cert.specs.Explained.{seen_of}
@@ -7,7 +7,6 @@ use Rattle.a429_link.specs.declared.seen.Seen.{Seen}
 use Rattle.a429_link.specs.Link.{LinkValue}
 use Rattle.a429_link.specs.Run.{BeginsARun}
 use Rattle.a429_cert.specs.Explained.{items_of, IsExplained, AreInEveryRun}
-use Rattle.a429_cert.specs.Fault.{IsFirstCertFault}
 use Rattle.a429_cert.proofs.NoFault.{no_fault}
 use Rattle.a429_cert.proofs.ExplainedFacts.{in_every_run}
 use Rattle.a429_explain.specs.declared.plan.Plan.{Plan}
@@ -68,16 +67,16 @@ loop-at-preserved c =
     let es = c.args.entries.now in
     let p = c.args.profile.now in
     record {
-      profile = c.in-Ok.ensures.profile ∙ c.loop-at.invariant.profile;
+      profile = c.in-Ok-write_entry.ensures.profile ∙ c.loop-at.invariant.profile;
       plans = subst (ArePlans p) (sym c.take_plan-plan.ensures.left) (left_fit p c.index-role.result.now c.loop-at.at c.loop-at.plans.items c.loop-at.invariant.plans);
-      written = subst (λ (items : List Seen). Wrote c.args.guess.first_file items c.write_entry.new.self) (ap (λ (i : Seen). take c.loop-at.at (items_of es) ++ i ∷ []) c.seen.ensures ∙ entries_next es c.loop-at.at c.index-entries-at.result c.loop-at-test.true c.index-entries-at.is) (c.in-Ok.ensures.written c.args.guess.first_file (take c.loop-at.at (items_of es)) c.loop-at.invariant.written);
+      written = subst (λ (items : List Seen). Wrote c.args.guess.first_file items c.write_entry.new.self) (ap (λ (i : Seen). take c.loop-at.at (items_of es) ++ i ∷ []) c.seen.ensures ∙ entries_next es c.loop-at.at c.index-entries-at.result c.loop-at-test.true c.index-entries-at.is) (c.in-Ok-write_entry.ensures.written c.args.guess.first_file (take c.loop-at.at (items_of es)) c.loop-at.invariant.written);
       left = c.take_plan-plan.ensures.left ∙ ap (plans_left c.index-role.result.now c.loop-at.at) c.loop-at.invariant.left ∙ sym (after_more c.args.guess.roles.items c.loop-at.at c.index-role.result.now c.args.guess.plans.items (omega (arith, c.loop-at-test.true, c.requires.many, length-items_of es)) c.index-role.ensures);
       plan = λ h.
           let k = goes (goal.at.loop-at-preserved c).After-seen h in
           let more = drop (c.loop-at.at + 1) (items_of es) in
           let plain = goes_lossless p c.seen.result more c.loop-at.at c.index-role.result.now c.take_plan-plan.result c.loop-at.plans.items c.loop-at.scribe.link c.take_plan-plan.ensures.taken k in
           let run = goes_run p c.seen.result more c.loop-at.at c.index-role.result.now c.take_plan-plan.result c.loop-at.plans.items c.loop-at.scribe.link c.loop-at.invariant.profile c.take_plan-plan.ensures.taken k in
-          plan_kept p c.seen.result more c.loop-at.at c.index-role.result.now c.take_plan-plan.result c.loop-at.plans.items c.take_plan-plan.new.plans.items c.loop-at.scribe.link c.write_entry.new.self.link k c.take_plan-plan.ensures.taken c.take_plan-plan.ensures.left (c.in-Ok.ensures.lossless plain run).1;
+          plan_kept p c.seen.result more c.loop-at.at c.index-role.result.now c.take_plan-plan.result c.loop-at.plans.items c.take_plan-plan.new.plans.items c.loop-at.scribe.link c.write_entry.new.self.link k c.take_plan-plan.ensures.taken c.take_plan-plan.ensures.left (c.in-Ok-write_entry.ensures.lossless plain run).1;
     }
 
 -- all entries are written
@@ -95,13 +94,13 @@ explained a =
     rw (a.into_parts-certificate.ensures.text, a.into_parts-certificate.ensures.files) here
 
 pub returns-clause-explained : goal.returns-clause-explained
-returns-clause-explained c = rw (c.new.ensures) (explained (goal.at.returns-clause-explained c).After-into_parts-certificate)
+returns-clause-explained c = rw (c.new-2.ensures) (explained (goal.at.returns-clause-explained c).After-into_parts-certificate)
 
 pub returns-clause-every : goal.returns-clause-every
 returns-clause-every c =
     let items = items_of c.args.entries.now in
     let r = c.into_parts-certificate.result in
-    subst (AreInEveryRun c.args.profile.now items) (sym c.new.ensures) (in_every_run c.args.profile.now c.codes-codes.ensures.sound r.0 items r.1.items (explained (goal.at.returns-clause-every c).After-into_parts-certificate))
+    subst (AreInEveryRun c.args.profile.now items) (sym c.new-2.ensures) (in_every_run c.args.profile.now c.codes-codes.ensures.sound r.0 items r.1.items (explained (goal.at.returns-clause-every c).After-into_parts-certificate))
 
 pub returns-clause-accepted : goal.returns-clause-accepted
 returns-clause-accepted c = λ f h.

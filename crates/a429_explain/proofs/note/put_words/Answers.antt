@@ -1,4 +1,4 @@
-use Rattle.std.proofs.Common.{◌≡◌, ◌++◌, [], sym, ◌∙◌, refl, ap, append-nil, arith}
+use Rattle.std.proofs.Common.{◌≡◌, ◌++◌, [], sym, ◌∙◌, refl, append-nil, arith}
 use Rattle.a429_word.specs.Digits.{hex_text}
 use Rattle.a429_word.proofs.SheetFacts.{◌▹◌, says_nothing}
 use Rattle.a429_cert.specs.Field.{field}

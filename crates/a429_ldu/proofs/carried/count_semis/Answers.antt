@@ -1,5 +1,3 @@
-use Rattle.std.proofs.Common.{◌∙◌, ap}
-use Rattle.a429_ldu.specs.Carried.{semis_count}
 use Rattle.a429_ldu.proofs.CarriedFacts.{none_counted, semis_counted}
 use Rattle.a429_ldu.proofs.carried.count_semis.Goals as goal
 

@@ -1,5 +1,6 @@
-use Rattle.std.proofs.Common.{◌≤◌, List, length}
+use Rattle.std.proofs.Common.{◌≤◌, false, List, length}
 use Rattle.a429_record.specs.declared.entry.Entry.{Entry}
+use Rattle.a429_parts.specs.Cutter.{IsCurrent}
 use Rattle.a429_parts.specs.Parting.{Progress, outputs}
 use Rattle.a429_parts.proofs.KeepingFacts.{Came}
 use Rattle.a429_parts.proofs.parting.put_parts.Given as goal
@@ -7,8 +8,9 @@ use Rattle.a429_parts.proofs.parting.put_parts.Given as goal
 abbrev pub invariant-entries : goal.invariant-entries
 invariant-entries g l = record {
   entries : List Entry;
-  progress : Progress l.profile l.most (outputs g.W.Write.contents (g.P.Parts.known l.fn.parts) (g.P.Parts.known l.parts) l.fn.sheet l.sheet) entries l.parting;
+  progress : Progress l.profile l.most false (outputs g.W.Write.contents (g.P.Parts.known l.fn.parts) (g.P.Parts.known l.parts) l.fn.sheet l.sheet) entries l.parting;
   came : Came l.fn.rec.to_come entries l.rec.to_come;
+  current : IsCurrent l.parting.cutter;
   count : length entries ≤ l.rec.count;
 }
 

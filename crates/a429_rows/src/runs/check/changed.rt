@@ -1,12 +1,13 @@
-//! Recordings with words removed, doubled, damaged and turned into others: what the checker answers to
-//! them, its certificate bears out.
+//! Recordings with words removed, doubled, damaged and turned into others: where the checker explains them, its certificate bears
+//! that out.
 
 ghost use Rattle.std.specs.Prelude.{◌<◌};
 
-use crate::calls::{Answered, checked, extracted, verified};
-use crate::runs::chance::Chance;
-use crate::runs::check::files::{Transfer, damaged, recording, yes_text};
+use crate::runs::check::files::{Transfer, damaged};
+use crate::runs::check::outcome::{Outcome, outcome_of};
 use a429_link::Seen;
+use a429_profile::Profile;
+use a429_sample::Chance;
 use std::alloc::{AllocError, Global};
 use std::test::Fail;
 
@@ -45,57 +46,14 @@ fn change(
     Ok(())
 }
 
-// It is a yes with this verdict.
-fn is_yes(answer: &Answered, verdict: &[u8]) -> bool {
-    answer.status == Ok(0) && answer.verdict.as_slice() == verdict
-}
-
-// The certificate is accepted with this verdict.
-fn is_verified(alloc: Global, recording: &str, certificate: &[u8], verdict: &[u8]) -> bool {
-    let answer = verified(alloc, recording, certificate);
-    is_yes(&answer, verdict)
-}
-
-// Its files are taken out with this verdict, which lists them.
-fn is_extracted(
-    alloc: Global,
-    recording: &str,
-    certificate: &[u8],
-    verdict: &[u8],
-) -> Result<bool, AllocError> {
-    let (answer, files) = extracted(alloc, recording, certificate)?;
-    let text = yes_text(alloc, files.as_slice())?;
-    Ok(is_yes(&answer, verdict) && text.as_bytes() == verdict)
-}
-
-// The certificate is accepted with this verdict and the files that it lists.
-fn is_accepted(
-    alloc: Global,
-    recording: &str,
-    certificate: &[u8],
-    verdict: &[u8],
-) -> Result<bool, AllocError> {
-    if is_verified(alloc, recording, certificate, verdict) {
-        is_extracted(alloc, recording, certificate, verdict)
-    } else {
-        Ok(false)
-    }
-}
-
-// Where the recording is explained, the certificate is accepted with the same files; else there is none.
-fn is_borne_out(alloc: Global, recording: &str) -> Result<bool, AllocError> {
-    let (found, certificate) = checked(alloc, recording);
-    let lines = certificate.as_slice();
-    match found.status {
-        Ok(0) => is_accepted(alloc, recording, lines, found.verdict.as_slice()),
-        Ok(1 | 2) => Ok(lines.is_empty()),
-        _ => Ok(false),
-    }
-}
-
 /// Records a transfer with changes. Whether what the checker answers is borne out.
-pub(super) fn is_right(alloc: Global, chance: &mut Chance, sent: &Transfer) -> Result<bool, Fail> {
+pub(super) fn is_right(
+    alloc: Global,
+    profile: &Profile,
+    chance: &mut Chance,
+    sent: &Transfer,
+) -> Result<bool, Fail> {
     let words = changed(alloc, chance, sent.run.as_slice())?;
-    let text = recording(alloc, words.as_slice())?;
-    Ok(is_borne_out(alloc, text.as_str())?)
+    let outcome = outcome_of(alloc, profile, words.as_slice())?;
+    Ok(!matches!(outcome, Outcome::Wrong))
 }

@@ -1,12 +1,11 @@
 //! Small files, and the recordings of runs that carry them.
 
 use crate::recordings::{push_row, seen};
-use crate::runs::chance::Chance;
 use a429_link::{FileBytes, Seen, clean_run};
 use a429_profile::Profile;
+use a429_sample::Chance;
 use a429_word::Bus;
 use std::alloc::{AllocError, Global};
-use std::fmt::Write;
 use std::process::Abort;
 
 /// One to three files of 1 to 30 bytes.
@@ -65,26 +64,6 @@ pub(super) fn recording(alloc: Global, words: &[Seen]) -> Result<String, AllocEr
 pub(super) fn damaged(word: Seen, chance: &mut Chance) -> Seen {
     let bit = 1 << chance.below(32);
     seen(word.bus, word.word.to_u32() ^ bit)
-}
-
-// The line of a file.
-fn push_file(text: &mut String, number: u8, length: usize) -> Result<(), AllocError> {
-    writeln!(text, "file {number} {length}")
-}
-
-fn push_files(text: &mut String, files: &[FileBytes]) -> Result<(), AllocError> {
-    for file in files {
-        push_file(text, file.number, file.bytes.as_slice().len())?;
-    }
-    Ok(())
-}
-
-/// What is printed for these files.
-pub(super) fn yes_text(alloc: Global, files: &[FileBytes]) -> Result<String, AllocError> {
-    let count = files.len();
-    let mut text = format!(in alloc; "YES files {count}\n")?;
-    push_files(&mut text, files)?;
-    Ok(text)
 }
 
 /// The files that crossed are the first of those that were sent.

@@ -2,11 +2,11 @@
 //! that were sent.
 
 use crate::recordings::seen;
-use crate::runs::chance::Chance;
 use crate::runs::check::files::{Transfer, begins, damaged};
 use crate::runs::check::outcome::{Outcome, outcome_of};
 use a429_link::Seen;
-use a429_sample::NAK;
+use a429_profile::Profile;
+use a429_sample::{Chance, NAK};
 use a429_word::Bus;
 use std::alloc::{AllocError, Global};
 use std::test::Fail;
@@ -165,29 +165,33 @@ fn with_loss(alloc: Global, chance: &mut Chance, run: &[Seen]) -> Result<Vec<See
 }
 
 // The recording is explained, and all that was sent has crossed.
-fn has_crossed(alloc: Global, words: &[Seen], sent: &Transfer) -> Result<bool, AllocError> {
-    match outcome_of(alloc, words)? {
-        Outcome::Crossed(files) => {
-            Ok(files.len() == sent.files.len() && begins(files.as_slice(), sent))
-        }
-        _ => Ok(false),
+fn has_crossed(outcome: &Outcome, sent: &Transfer) -> bool {
+    match outcome {
+        Outcome::Crossed(files) => files.len() == sent.files.len() && begins(files, sent),
+        _ => false,
     }
 }
 
 // The recording breaks off: some run records it, and if it is explained, what has crossed is the first of
 // what was sent.
-fn has_begun(alloc: Global, words: &[Seen], sent: &Transfer) -> Result<bool, AllocError> {
-    match outcome_of(alloc, words)? {
-        Outcome::Crossed(files) => Ok(begins(files.as_slice(), sent)),
-        Outcome::Unexplained => Ok(true),
-        Outcome::Wrong => Ok(false),
+fn has_begun(outcome: &Outcome, sent: &Transfer) -> bool {
+    match outcome {
+        Outcome::Crossed(files) => begins(files, sent),
+        Outcome::Unexplained => true,
+        _ => false,
     }
 }
 
 /// Records a transfer with loss, and breaks the recording off. Whether the checker is right of both.
-pub(super) fn is_right(alloc: Global, chance: &mut Chance, sent: &Transfer) -> Result<bool, Fail> {
+pub(super) fn is_right(
+    alloc: Global,
+    profile: &Profile,
+    chance: &mut Chance,
+    sent: &Transfer,
+) -> Result<bool, Fail> {
     let words = with_loss(alloc, chance, sent.run.as_slice())?;
     let begun = (chance.below(1000) as usize).min(words.len());
-    let front = &words.as_slice()[..begun];
-    Ok(has_crossed(alloc, words.as_slice(), sent)? && has_begun(alloc, front, sent)?)
+    let whole = outcome_of(alloc, profile, words.as_slice())?;
+    let front = outcome_of(alloc, profile, &words.as_slice()[..begun])?;
+    Ok(has_crossed(&whole, sent) && has_begun(&front, sent))
 }

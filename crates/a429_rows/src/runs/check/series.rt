@@ -1,43 +1,77 @@
 //! Parts that carry small files, made by chance: a series of them has exactly these files.
 
-use crate::calls::{MOST, checked, sample};
-use crate::runs::chance::Chance;
+ghost use Rattle.std.specs.Prelude.{◌≤◌};
+
+use crate::calls::{MOST, certificate_of, sample};
 use crate::runs::check::files::{recording, small_files};
 use a429_cert::Series;
 use a429_link::clean_run;
 use a429_profile::Profile;
 use a429_record::EntryReader;
+use a429_sample::Chance;
 use a429_word::Tally;
-use std::process::Abort;
+use std::alloc::{AllocError, Global};
 use std::test::Fail;
 
-// One to six parts, before each of which none to two files are given up. Whether each is taken, and the files are theirs.
-fn is_right(
-    rt: &(impl Abort + AllocGlobal),
+// A part: its recording and its certificate.
+#[derive(Drop)]
+struct Part {
+    recording: String,
+    certificate: Vec<u8>,
+}
+
+// The part that carries these files in blocks of so many words, the first with this number.
+fn part_of(
+    alloc: Global,
     profile: &Profile,
-    chance: &mut Chance,
-) -> Result<bool, Fail> {
-    let alloc = rt.alloc();
+    number: u8,
+    words: u8,
+    files: &[Vec<u8>],
+) -> Result<Part, Fail>
+    requires { 3 ≤ words }
+{
+    let run = clean_run(alloc, profile, number, words, files)
+        .ok()
+        .ok_or("a run")?;
+    let text = recording(alloc, run.as_slice())?;
+    let certificate = certificate_of(alloc, profile, text.as_str()).ok_or("no certificate")?;
+    Ok(Part {
+        recording: text,
+        certificate,
+    })
+}
+
+// The series with this part more.
+fn with_part<'a>(alloc: Global, series: Series<'a>, part: &Part) -> Option<Series<'a>> {
+    let mut rec = EntryReader::new(alloc, Tally::new(part.recording.as_bytes(), MOST));
+    let mut cert = Tally::new(part.certificate.as_slice(), MOST);
+    series.add(&mut rec, &mut cert).ok()
+}
+
+// Notes the number and the length of each file, the first with this number. The number after them.
+fn note(sizes: &mut Vec<(u8, u32)>, number: u8, files: &[Vec<u8>]) -> Result<u8, AllocError> {
+    let mut next = number;
+    for file in files {
+        sizes.push((next, file.len().min(1_000) as u32))?;
+        next = next.wrapping_add(1);
+    }
+    Ok(next)
+}
+
+// One to six parts, before each of which none to two files are given up. Whether each is taken, and the files are theirs.
+fn is_right(alloc: Global, profile: &Profile, chance: &mut Chance) -> Result<bool, Fail> {
     let mut number = chance.below(256) as u8;
     let mut sizes = Vec::new(alloc);
     let mut series = Series::new(alloc, profile);
     for _ in 0..1 + chance.below(6) {
-        number = number.wrapping_add(chance.below(3) as u8);
+        let first = number.wrapping_add(chance.below(3) as u8);
         let files = small_files(alloc, chance)?;
         let words = 3 + chance.below(10) as u8;
-        let run = clean_run(alloc, profile, number, words, files.as_slice()).expect(rt, "a run");
-        for file in files.iter() {
-            let length = u32::try_from(file.len()).map_err(|_| "a long file")?;
-            sizes.push((number, length))?;
-            number = number.wrapping_add(1);
-        }
-        let text = recording(alloc, run.as_slice())?;
-        let (_, certificate) = checked(alloc, text.as_str());
-        let mut rec = EntryReader::new(alloc, Tally::new(text.as_bytes(), MOST));
-        let mut cert = Tally::new(certificate.as_slice(), MOST);
-        series = match series.add(&mut rec, &mut cert) {
-            Ok(more) => more,
-            Err(_) => return Ok(false),
+        let part = part_of(alloc, profile, first, words, &files)?;
+        number = note(&mut sizes, first, &files)?;
+        series = match with_part(alloc, series, &part) {
+            Some(more) => more,
+            None => return Ok(false),
         };
     }
     Ok(series.files() == sizes.as_slice())
@@ -49,7 +83,7 @@ fn parts_of_runs(rt: HostRuntime) -> Result<(), Fail> {
     let mut chance = Chance::new(5);
     let mut right = 0u32;
     for _ in 0..100 {
-        if is_right(&rt, &profile, &mut chance)? {
+        if is_right(rt.alloc(), &profile, &mut chance)? {
             right = right.saturating_add(1);
         }
     }

@@ -4,7 +4,6 @@
 ghost use Rattle.std.specs.Prelude.{◌≡◌};
 
 use crate::calls::sample;
-use crate::runs::chance::Chance;
 use crate::runs::check::outcome::{Outcome, outcome_of};
 use crate::runs::draft::Draft;
 use crate::runs::same_files;
@@ -16,6 +15,7 @@ use crate::runs::words::{
 use a429_ldu::{Ldu, cut};
 use a429_link::{FileBytes, Link, Seen, SinkState, StepFault};
 use a429_profile::Profile;
+use a429_sample::Chance;
 use a429_word::Bus;
 use std::alloc::{AllocError, Global};
 use std::test::Fail;
@@ -211,6 +211,7 @@ impl<'a> Run<'a> {
         }
         let verdict = judged(
             alloc,
+            self.profile,
             self.printed.recorded.as_slice(),
             self.link.delivered(),
         )?;
@@ -234,10 +235,11 @@ enum Verdict {
 
 fn judged(
     alloc: Global,
+    profile: &Profile,
     recorded: &[Seen],
     delivered: &[FileBytes],
 ) -> Result<Verdict, AllocError> {
-    Ok(match outcome_of(alloc, recorded)? {
+    Ok(match outcome_of(alloc, profile, recorded)? {
         Outcome::Crossed(files) if same_files(files.as_slice(), delivered) => {
             Verdict::Explained(delivered.len())
         }

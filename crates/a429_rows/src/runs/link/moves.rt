@@ -1,10 +1,10 @@
 //! Steps drawn at random.
 
-use crate::runs::chance::Chance;
 use crate::runs::draft::Draft;
 use crate::runs::link::model::Model;
 use crate::runs::tried::Move;
 use crate::runs::words::{any_bus, any_word, refusal};
+use a429_sample::Chance;
 use a429_word::Bus;
 
 /// How steps are drawn, and under which profile.

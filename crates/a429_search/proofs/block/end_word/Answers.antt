@@ -14,5 +14,5 @@ returns-clause-check c =
     let words = c.args.words.now in
     let bytes = c.in-Some.bytes.items in
     let carried : bytes_carried p.codes words ≡ Some bytes = sym c.in_ok-bytes.ensures.computed ∙ ap (option_map (λ (v : Vec ℕ Global). v.items)) c.in-Some.is in
-    let same : c.check_word-check.result ≡ check_of p.check bytes = c.check_word-check.ensures ∙ ap (λ (r : Check). check_of r c.deref.result.now) c.check.ensures ∙ ap (check_of p.check) c.deref.ensures.value in
-    made p c.codes-codes.ensures.sound words bytes c.check_word-check.result carried same
+    let same : c.check_word_by-check.result ≡ check_of p.check bytes = c.check_word_by-check.ensures ∙ ap (λ (r : Check). check_of r c.deref.result.now) c.check_tables.ensures ∙ ap (check_of p.check) c.deref.ensures.value in
+    made p c.codes-codes.ensures.sound words bytes c.check_word_by-check.result carried same

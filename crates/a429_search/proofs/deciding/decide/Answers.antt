@@ -63,7 +63,7 @@ returns-in-Ok-None-clause-impossible c =
     let items = items_of c.args.entries.now in
     let refused = subst (λ (v : Verdict). IsFirst p items v) c.in-Ok-Impossible.field-0-is c.in-Ok-Impossible.ensures.first in
     let is = subst (λ (v : Verdict). IsImpossible p items v) c.in-Ok-Impossible.field-0-is c.in-Ok-Impossible.ensures.impossible in
-    (is.0, inl (refused.refused, is.1), is.2)
+    (is.0, inl (inl (refused.refused, is.1)), is.2)
 
 pub returns-in-Ok-None-clause-first : goal.returns-in-Ok-None-clause-first
 returns-in-Ok-None-clause-first c =
@@ -87,8 +87,8 @@ pub returns-in-Ok-Some-found-clause-of_check : goal.returns-in-Ok-Some-found-cla
 returns-in-Ok-Some-found-clause-of_check c =
     inr (record { entry = c.in-Ok-Unexplained.entry; doubt = c.in-Ok-Unexplained.doubt; is = subst (λ (v : Verdict). IsFirst c.args.profile.now (items_of c.args.entries.now) v) c.in-Ok-Unexplained.field-0-is c.in-Ok-Unexplained.ensures.first })
 
-pub returns-in-Ok-None-found-clause-first : goal.returns-in-Ok-None-found-clause-first
-returns-in-Ok-None-found-clause-first c =
+pub returns-in-Ok-None-apart-clause-first : goal.returns-in-Ok-None-apart-clause-first
+returns-in-Ok-None-apart-clause-first c =
     let p = c.args.profile.now in
     let items = items_of c.args.entries.now in
     let doubt = subst (λ (v : Verdict). IsFirst p items v) c.in-Ok-Unexplained.field-0-is c.in-Ok-Unexplained.ensures.first in

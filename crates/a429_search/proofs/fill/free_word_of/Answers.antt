@@ -31,8 +31,8 @@ returns-in-Some-2-clause-some c =
     let a = (goal.at.returns-in-Some-2-clause-some c).After-bytes_of in
     let carried = sym (ap (bytes_carried p.codes) (words a)) ∙ sym c.in_ok-bytes.ensures.computed ∙ ap (option_map (λ (v : Vec ℕ Global). v.items)) c.in-Some.is in
     let within : m < 2 ^ (4 * size) = subst (λ (o : Option ℕ). IfSome o (λ m. m < 2 ^ (4 * size))) c.in-Some-2.is c.in_ok-bits.ensures.within in
-    let found : check_of c.check.result.now (with_bits m c.deref-2.result.now) ≡ k = subst (λ (o : Option ℕ). IfSome o (λ m. check_of c.check.result.now (with_bits m c.deref-2.result.now) ≡ k)) c.in-Some-2.is c.in_ok-bits.ensures.found in
-    let made = sym (ap (λ (r : Check). check_of r (with_bits m c.deref-2.result.now)) c.check.ensures ∙ ap (λ (bs : List ℕ). check_of p.check (with_bits m bs)) c.deref-2.ensures.value) ∙ found in
+    let found : check_of c.check_tables.result.now (with_bits m c.deref-2.result.now) ≡ k = subst (λ (o : Option ℕ). IfSome o (λ m. check_of c.check_tables.result.now (with_bits m c.deref-2.result.now) ≡ k)) c.in-Some-2.is c.in_ok-bits.ensures.found in
+    let made = sym (ap (λ (r : Check). check_of r (with_bits m c.deref-2.result.now)) c.check_tables.ensures ∙ ap (λ (bs : List ℕ). check_of p.check (with_bits m bs)) c.deref-2.ensures.value) ∙ found in
     subst (λ (o : Option ℕ). Fits p o (c.numbered_word.result ∷ rest)) (sym c.in-Some-wanted.is)
     (subst (λ (w : ℕ). Fits p (Some k) (w ∷ rest)) (sym c.numbered_word.ensures) (bits_fit p c.codes-codes.ensures.sound rest size c.requires.some c.requires.most bytes k m carried within made))
 
@@ -45,7 +45,7 @@ returns-clause-none c s are long fits =
     let k = c.in-Some-wanted.check in
     let a = (goal.at.returns-clause-none c).After-bytes_of in
     let carried = sym (ap (bytes_carried p.codes) (words a)) ∙ sym c.in_ok-bytes.ensures.computed ∙ ap (option_map (λ (v : Vec ℕ Global). v.items)) c.in-Some.is in
-    let none : (m : ℕ) → m < 2 ^ (4 * size) → check_of c.check.result.now (with_bits m c.deref-2.result.now) ≢ k = subst (λ (o : Option ℕ). IfNone o ((m : ℕ) → m < 2 ^ (4 * size) → check_of c.check.result.now (with_bits m c.deref-2.result.now) ≢ k)) c.in-None.is c.in_ok-bits.ensures.none in
-    let none_made : (m : ℕ) → m < 2 ^ (4 * size) → ¬ (check_of p.check (with_bits m bytes) ≡ k) = λ m h e. none m h (ap (λ (r : Check). check_of r (with_bits m c.deref-2.result.now)) c.check.ensures ∙ ap (λ (bs : List ℕ). check_of p.check (with_bits m bs)) c.deref-2.ensures.value ∙ e) in
+    let none : (m : ℕ) → m < 2 ^ (4 * size) → check_of c.check_tables.result.now (with_bits m c.deref-2.result.now) ≢ k = subst (λ (o : Option ℕ). IfNone o ((m : ℕ) → m < 2 ^ (4 * size) → check_of c.check_tables.result.now (with_bits m c.deref-2.result.now) ≢ k)) c.in-None.is c.in_ok-bits.ensures.none in
+    let none_made : (m : ℕ) → m < 2 ^ (4 * size) → ¬ (check_of p.check (with_bits m bytes) ≡ k) = λ m h e. none m h (ap (λ (r : Check). check_of r (with_bits m c.deref-2.result.now)) c.check_tables.ensures ∙ ap (λ (bs : List ℕ). check_of p.check (with_bits m bs)) c.deref-2.ensures.value ∙ e) in
     no_bits_fit p c.codes-codes.ensures.sound rest size c.requires.some c.requires.most bytes k carried none_made s are long
     (subst (λ (o : Option ℕ). Fits p o (data_word p.codes s ∷ rest)) c.in-Some-wanted.is fits)

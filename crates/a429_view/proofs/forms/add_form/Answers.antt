@@ -1,5 +1,6 @@
 use Rattle.std.proofs.Common.{◌++◌, codes, append_assoc, subst, sym, arith}
 use Rattle.std.specs.Fmt.{decimal}
+use Rattle.a429_view.specs.Forms.{ldu_text}
 use Rattle.a429_view.specs.Line.{Adds}
 use Rattle.a429_view.proofs.LineFacts.{◌▹◌, within}
 use Rattle.a429_view.proofs.forms.add_form.Goals as goal
@@ -18,7 +19,7 @@ returns-in-Nak c = rw c.in-Nak.is (within 30 (c.put.ensures ▹ c.put_hex.ensure
 
 pub returns-in-Sot : goal.returns-in-Sot
 returns-in-Sot c =
-    let unit = codes "sot " ++ decimal c.in-Sot.file ++ codes " " ++ decimal c.in-Sot.ldu in
+    let unit = codes "sot " ++ ldu_text c.in-Sot.file c.in-Sot.ldu in
     rw c.in-Sot.is
     (subst (Adds c.args.line.now c.add_named-in-Sot.new.line 30) (sym (append_assoc unit (codes " gfi ") (decimal c.in-Sot.gfi)))
     (within 30 (c.add_unit-in-Sot.ensures ▹ c.add_named-in-Sot.ensures) (omega arith)))

@@ -1,4 +1,4 @@
-use Rattle.std.proofs.Common.{◌≡◌, ◌∙◌, ◌++◌, ◌∷◌, [], ℕ, List, codes, map, length, get_or, true, arith, sym, ap, subst}
+use Rattle.std.proofs.Common.{◌∙◌, ◌++◌, ℕ, List, codes, map, true, arith, sym, subst}
 use Rattle.std.specs.Fmt.{digit_glyph}
 use Rattle.a429_view.specs.Line.{Adds}
 use Rattle.a429_view.proofs.LineFacts.{five}

@@ -1,5 +1,6 @@
 use Rattle.std.proofs.Common.{◌++◌, ◌∷◌, [], length, length-append, arith}
-use Rattle.a429_check.proofs.StreamingFacts.{came_first, came_more, came_whole, next_earlier}
+use Rattle.a429_parts.proofs.KeepingFacts.{came_first, came_more, came_whole}
+use Rattle.a429_check.proofs.StreamingFacts.{next_earlier}
 use Rattle.a429_check.proofs.engines.survey.survey_of.Goals as goal
 
 pub entries-init : goal.entries-init

@@ -1,7 +1,7 @@
 use Rattle.std.proofs.Common.{◌≤◌, List, length}
 use Rattle.a429_record.specs.declared.entry.Entry.{Entry}
 use Rattle.a429_view.specs.Survey.{IsSurvey}
-use Rattle.a429_check.specs.Streaming.{Came}
+use Rattle.a429_parts.proofs.KeepingFacts.{Came}
 use Rattle.a429_check.proofs.engines.survey.survey_of.Given as goal
 
 abbrev pub invariant-entries : goal.invariant-entries

@@ -3,7 +3,7 @@ use Rattle.a429_word.specs.Sheet.{Says}
 use Rattle.a429_word.proofs.SheetFacts.{◌▹◌, says_nothing}
 use Rattle.a429_check.specs.Trace.{first_lines}
 use Rattle.a429_check.specs.declared.fault.RunFault.TheVariants as run
-use Rattle.a429_check.proofs.StreamingFacts.{came_first, came_more, came_whole}
+use Rattle.a429_parts.proofs.KeepingFacts.{came_first, came_more, came_whole}
 use Rattle.a429_check.proofs.TraceLines.{begins_with, may_name, refused_after, says_cut, says_impossible, says_more, says_only, traced_more}
 use Rattle.a429_check.proofs.engines.trace.put_trace.Goals as goal
 

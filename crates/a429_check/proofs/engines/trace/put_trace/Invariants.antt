@@ -1,7 +1,7 @@
 use Rattle.std.proofs.Common.{◌≤◌, List, length}
 use Rattle.a429_word.specs.Sheet.{Says}
 use Rattle.a429_record.specs.declared.entry.Entry.{Entry}
-use Rattle.a429_check.specs.Streaming.{Came}
+use Rattle.a429_parts.proofs.KeepingFacts.{Came}
 use Rattle.a429_check.specs.Trace.{first_lines}
 use Rattle.a429_check.proofs.TraceLines.{Traced}
 use Rattle.a429_check.proofs.engines.trace.put_trace.Given as goal

@@ -2,7 +2,6 @@ use Rattle.std.proofs.Common.{◌≡◌, List, ℕ, ◌++◌, ◌∙◌, sym, ap
 use Rattle.std.specs.List.{flat_map}
 use Rattle.a429_cert.specs.declared.line.CertLine.TheVariants.{Moved}
 use Rattle.a429_explain.specs.declared.note.Note.{Note}
-use Rattle.a429_explain.specs.Next.{next_line}
 use Rattle.a429_explain.specs.Note.{line_after, last_line, note_text, EndsWith}
 use Rattle.a429_explain.proofs.NoteFacts.{last_more, moves_more}
 use Rattle.a429_explain.proofs.lines.Lines.put_move.Goals as goal

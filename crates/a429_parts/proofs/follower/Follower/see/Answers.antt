@@ -1,17 +1,12 @@
-use Rattle.std.proofs.Common.{◌≡◌, Some, rules, sym, subst}
-use Rattle.a429_ldu.specs.declared.forms.Form.TheVariants.{Eot}
-use Rattle.a429_ldu.specs.Form.{form_of}
-use Rattle.a429_link.specs.Observer.{Observer, Allows, sees}
+use Rattle.std.proofs.Common.{sym, subst}
+use Rattle.a429_link.specs.Observer.{Observer}
 use Rattle.a429_parts.specs.Follower.{Remembers}
 use Rattle.a429_parts.proofs.FollowerFacts.{end_remembered}
 use Rattle.a429_parts.proofs.follower.Follower.see.Goals as goal
 
-pub invariant_of-self-in-Eot-1 : goal.invariant_of-self-in-Eot-1
-invariant_of-self-in-Eot-1 c =
-    let p = c.args.profile.now in
+pub invariant_of-self-in-Eot : goal.invariant_of-self-in-Eot
+invariant_of-self-in-Eot c =
     let i = c.args.seen.now in
-    let o = c.self.inside.observer in
-    let taken : c.see.new.self ≡ sees p i o = search rules in
-    let allows : Allows p o i = search rules in
-    let is : form_of p.codes i.bus i.word ≡ Some (Eot c.in-Some-Eot.flags c.in-Some-Eot.field-0-1) = search rules in
-    subst (λ (x : Observer). Remembers c.self.inside.last c.in-Some-Eot.flags x) (sym taken) (end_remembered p o i c.in-Some-Eot.flags c.in-Some-Eot.field-0-1 c.self.inside.last is allows c.self.invariant.0)
+    let ok = c.if-not-see_form.false in
+    subst (λ (x : Observer). Remembers c.self.inside.last c.in-Eot.flags x) (sym (c.see_form.ensures.taken ok))
+    (end_remembered c.args.profile.now c.self.inside.observer i.bus i.word c.args.form.now c.in-Eot.flags c.in-Eot.check c.self.inside.last c.in-Eot.is (c.see_form.ensures.allowed.0 ok) c.self.invariant.0)

@@ -1,18 +1,18 @@
-use Rattle.std.proofs.Common.{◌≤◌, ◌+◌, ◌-◌, arith, length}
-use Rattle.std.specs.Fmt.{decimal}
-use Rattle.std.proofs.lemmas.Fmt.{length-decimal-le}
-use Rattle.a429_view.proofs.LineFacts.{digits-copied, within}
+use Rattle.std.proofs.Common.{arith}
+use Rattle.std.proofs.lemmas.Fmt.{decimal_digit}
+use Rattle.itoa.proofs.Decimal.{decimal_two}
+use Rattle.a429_view.proofs.DigitCounts.{decimal_three}
+use Rattle.a429_view.proofs.LineFacts.{within}
 use Rattle.a429_view.proofs.line.Line.put_byte.Goals as goal
 
-pub write_digits-start-requires : goal.write_digits-start-requires
-write_digits-start-requires c =
-    let short : length (decimal c.from.result) ≤ 4 = length-decimal-le 4 c.from.result (omega arith) (omega (arith, c.from.ensures)) (omega (arith, c.from.ensures)) in
-    (short, omega arith)
+pub returns-then-number-lt10 : goal.returns-then-number-lt10
+returns-then-number-lt10 c = rw (decimal_digit c.args.number c.if-number-lt10.true) (within 3 c.put.ensures (omega arith))
 
-pub returns : goal.returns
-returns c =
-    let start = c.write_digits-start.result in
-    let digits = c.write_digits-start.ensures in
-    let short : length (decimal c.from.result) ≤ 3 = length-decimal-le 3 c.from.result (omega arith) (omega (arith, c.from.ensures)) (omega (arith, c.from.ensures)) in
-    let text = digits-copied start 4 (start + 4 - start) (decimal c.from.result) c.write_digits-start.new.buf _ digits.start (omega arith) digits.written in
-    within 3 (rw c.from.ensures at (rw text at c.put_first.ensures)) (omega (arith, digits.start))
+pub returns-then-number-lt100 : goal.returns-then-number-lt100
+returns-then-number-lt100 c = rw (decimal_two c.args.number c.if-number-lt10.false c.if-number-lt100.true) (within 3 c.put-then-number-lt100.ensures (omega arith))
+
+pub returns-then-number-lt200 : goal.returns-then-number-lt200
+returns-then-number-lt200 c = rw (decimal_three c.args.number 1 c.if-number-lt100.false c.if-number-lt200.true (omega arith) (omega arith)) c.put-then-number-lt200.ensures
+
+pub returns-else-number-lt200 : goal.returns-else-number-lt200
+returns-else-number-lt200 c = rw (decimal_three c.args.number 2 c.if-number-lt200.false (omega arith) (omega arith) (omega arith)) c.put-else-number-lt200.ensures

@@ -1,4 +1,4 @@
-use Rattle.std.proofs.Common.{◌++◌, Option, Some, None, sym, ap, ◌∙◌, subst}
+use Rattle.std.proofs.Common.{◌+◌, ◌-◌, ◌^◌, min, ◌++◌, Option, Some, None, sym, ap, ◌∙◌, subst}
 use Rattle.a429_word.specs.Sheet.{Says}
 use Rattle.a429_word.proofs.SheetFacts.{says_nothing}
 use Rattle.a429_ldu.specs.declared.forms.Form.{Form}
@@ -56,10 +56,10 @@ returns-clause-goes_on g c =
     elim c.match-form.branch [
       | in-Free w ↦
           let known = knows p.codes e.bus e.word sight.Free (sym w.in-Free.is ∙ c.form.ensures.computed) in
-          goes_free p e old _ known.0 c.saturating_add-self-2.ensures (ap (λ (t : Trace). t.sink) w.self-is) (ap (λ (t : Trace). t.files.items) w.self-is)
+          goes_free p e old _ known.0 (c.add_one-2.ensures ∙ ap (λ (t : Trace). min (t.entries + 1) (2 ^ 64 - 1)) w.self-is) (ap (λ (t : Trace). t.sink) w.self-is) (ap (λ (t : Trace). t.files.items) w.self-is)
       | in-Form+else-not-allows+in-Ok w ↦
           let known = knows p.codes e.bus e.word (sight.Form w.in-Form.form) (sym w.in-Form.is ∙ c.form.ensures.computed) in
-          goes_form p e w.in-Form.form old _ known.2 (w.allows.ensures.0 w.if-not-allows.false) c.saturating_add-self-2.ensures (ap (λ (t : Trace). t.sink) w.self-is ∙ w.in-Ok.ensures.sink) (ap (λ (t : Trace). t.files.items) w.self-is ∙ w.in-Ok.ensures.files)
+          goes_form p e w.in-Form.form old _ known.2 (w.allows.ensures.0 w.if-not-allows.false) (c.add_one-2.ensures ∙ ap (λ (t : Trace). min (t.entries + 1) (2 ^ 64 - 1)) w.self-is ∙ ap (λ n. min (n + 1) (2 ^ 64 - 1)) w.in-Ok.ensures.entries) (ap (λ (t : Trace). t.sink) w.self-is ∙ w.in-Ok.ensures.sink) (ap (λ (t : Trace). t.files.items) w.self-is ∙ w.in-Ok.ensures.files)
     ]
 
 pub returns-clause-line : goal.returns-clause-line
@@ -74,5 +74,5 @@ returns-clause-line g c =
           rw (w.sheet-is, free_line p old.entries old.sink e line known.0) w.put_free.ensures
       | in-Form+else-not-allows+in-Ok w ↦
           let known = knows p.codes e.bus e.word (sight.Form w.in-Form.form) (sym w.in-Form.is ∙ c.form.ensures.computed) in
-          rw (w.sheet-is, allowed_line p old.entries old.sink e w.in-Form.form line known.1 known.2) (rw w.in-Ok.ensures.does at w.put_allowed.ensures)
+          rw (w.sheet-is, allowed_line p old.entries old.sink e w.in-Form.form line known.1 known.2) (rw (w.in-Ok.ensures.does, w.in-Ok.ensures.entries) at w.put_allowed.ensures)
     ]

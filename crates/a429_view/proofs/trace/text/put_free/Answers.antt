@@ -1,5 +1,3 @@
-use Rattle.std.proofs.Common.{◌++◌, ◌∙◌, codes, append_assoc, subst, sym}
-use Rattle.a429_word.specs.Sheet.{Says}
 use Rattle.a429_view.proofs.LineFacts.{◌▹◌}
 use Rattle.a429_view.proofs.trace.text.put_free.Goals as goal
 
