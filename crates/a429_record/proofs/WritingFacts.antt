@@ -1,17 +1,18 @@
 -- The text of a record of `csv`, where its fields are plain.
-use Rattle.std.proofs.Common.{◌≡◌, ◌++◌, ◌∷◌, [], ◌≤◌, ◌<◌, ◌/◌, ◌%◌, ◌^◌, ℕ, zero, suc, List, arith, refl, true, append_assoc}
+use Rattle.std.proofs.Common.{◌≡◌, ◌∙◌, ◌+◌, ◌-◌, ◌++◌, ◌∷◌, [], ◌≤◌, ◌<◌, ◌/◌, ◌%◌, ◌^◌, ℕ, zero, suc, List, arith, refl, sym, ap, true, length, take, drop, length-append, append_assoc}
 use Rattle.std.specs.Prelude.{codes}
 use Rattle.std.specs.Fmt.{decimal, digit_glyph}
 use Rattle.std.proofs.lemmas.Fmt.{decimal_is_IsNumeral}
 use Rattle.std.proofs.lemmas.Bool.Decides.{nat_tests}
-use Rattle.std.proofs.lemmas.List.{append-nil}
+use Rattle.std.proofs.lemmas.List.{append-nil, take-take}
+use Rattle.std.proofs.Math.Seq.{drop-append_seam, take-append_seam}
 use Rattle.csv.specs.Writing.{default_writer, row_text, fields_text, is_blank}
 use Rattle.a429_word.specs.declared.bus.Bus.{Bus}
 use Rattle.a429_word.specs.declared.bus.Bus.TheVariants.{A, B}
 use Rattle.a429_word.specs.Digits.{numeral, hex_text}
 use Rattle.a429_word.specs.Bus.{bus_text}
 use Rattle.a429_record.specs.declared.entry.Entry.{Entry}
-use Rattle.a429_record.specs.Writing.{header_fields, entry_fields, header_text, line_text}
+use Rattle.a429_record.specs.Writing.{header_fields, entry_fields, header_text, line_text, entry_text}
 use Rattle.a429_record.proofs.RowDigits.{all_digits-from}
 use Rattle.a429_record.proofs.LinePlain.{AllHigh, plain, digits_high}
 
@@ -45,3 +46,22 @@ entry_line e small = plain_row (decimal e.time) (bus_text e.bus) (hex_text e.wor
 pub header_line : row_text default_writer header_fields ≡ header_text
 unfolding fields_text is_blank
 header_line = refl
+
+-- ---- an entry, put as the first of 32 bytes
+
+-- digits that end where twelve bytes begin, and these: the first of the 32 bytes from the first digit on
+pub entry_written : (start : ℕ) (digits zeros parts rest old new : List ℕ) → start + length digits ≡ 20 → length zeros ≡ 20 → length parts ≡ 12
+    → old ≡ zeros ++ (parts ++ rest) → drop start new ≡ digits ++ drop 20 old
+    → take (32 - start) (take (start + 32 - start) (drop start new)) ≡ digits ++ parts
+entry_written start digits zeros parts rest old new ends size twelve was written =
+    let all : 32 - start ≡ length (digits ++ parts) = omega (arith, ends, twelve, length-append digits parts) in
+    let text : drop start new ≡ (digits ++ parts) ++ rest =
+    written ∙ ap (λ t. digits ++ drop 20 t) was
+    ∙ ap (λ k. digits ++ drop k (zeros ++ (parts ++ rest))) (sym size) ∙ ap (λ t. digits ++ t) (drop-append_seam zeros (parts ++ rest))
+    ∙ sym (append_assoc digits parts rest) in
+    take-take (32 - start) (start + 32 - start) (drop start new) (omega arith)
+    ∙ ap (take (32 - start)) text ∙ ap (λ k. take k ((digits ++ parts) ++ rest)) all ∙ take-append_seam (digits ++ parts) rest
+
+-- the text of an entry, its time apart
+pub entry_parts : (between after : ℕ) (e : Entry) → decimal e.time ++ (between ∷ (bus_text e.bus ++ (between ∷ (hex_text e.word ++ (after ∷ []))))) ≡ entry_text between after e
+entry_parts between after e = simp append_assoc

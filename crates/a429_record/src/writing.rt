@@ -20,6 +20,9 @@ use std::io::Write;
 // How many digits the longest time has.
 const LONGEST_TIME: usize = 20;
 
+// How many bytes the longest entry has, with one byte after it.
+const LONGEST: usize = LONGEST_TIME + 12;
+
 /// Why a recording was not written.
 pub type WriteFault = Trouble;
 
@@ -102,10 +105,12 @@ pub fn put_line<W: Write>(sheet: &mut Sheet<'_, W>, entry: Entry)
 pub fn put_parts<W: Write>(sheet: &mut Sheet<'_, W>, entry: Entry, between: u8, after: u8)
     ensures { Says W.contents sheet.old sheet.new (entry_text between after entry) }
 {
-    let mut text = [0; LONGEST_TIME + 12];
-    text[LONGEST_TIME..].copy_from_slice(&bus_and_word(entry.bus, entry.word, between, after));
+    // (room for 32 bytes from the first digit on)
+    let mut text = [0; LONGEST_TIME + 32];
+    let fields = bus_and_word(entry.bus, entry.word, between, after);
+    text[LONGEST_TIME..LONGEST].copy_from_slice(&fields);
     let start = write_digits(entry.time, &mut text, LONGEST_TIME);
-    sheet.put(&text[start..]);
+    sheet.put_first(&text[start..start + 32], LONGEST - start);
 }
 
 // A bus and a word, one byte before each and one after them.

@@ -18,6 +18,16 @@ take-refilled a n len xs ys rest tail room h size =
     let long : a + n ≤ length (take a xs ++ (ys ++ rest)) = omega (arith, size, length-take-le a xs h, length-append (take a xs) (ys ++ rest), length-append ys rest) in
     take-take (a + n) len ((take a xs ++ (ys ++ rest)) ++ tail) room ∙ take-append-le (a + n) (take a xs ++ (ys ++ rest)) tail long ∙ take-written a n xs ys rest h size
 
+-- the same, of the first of what is written
+pub take-begun : (a count n len : ℕ) (xs ys rest tail : List ℕ) → count ≤ n → a + n ≤ len → a ≤ length xs → length ys ≡ n
+    → take (a + count) (take len ((take a xs ++ (ys ++ rest)) ++ tail)) ≡ take a xs ++ take count ys
+take-begun a count n len xs ys rest tail few room h size =
+    let whole = take len ((take a xs ++ (ys ++ rest)) ++ tail) in
+    sym (take-take (a + count) (a + n) whole (omega (arith, few)))
+    ∙ ap (take (a + count)) (take-refilled a n len xs ys rest tail room h size)
+    ∙ ap (λ m. take (m + count) (take a xs ++ ys)) (sym (length-take-le a xs h))
+    ∙ take-append-add (take a xs) ys count
+
 -- a front of what follows the whole page
 pub AppendsPrefix-behind : (a b c : Option (List ℕ)) (page bytes : List ℕ) → Keeps (append_known a page) b → AppendsPrefix b c bytes → AppendsPrefix a c (page ++ bytes)
 AppendsPrefix-behind a b c page bytes put front = (length page + front.0, omega (arith, length-append page bytes, front.1), rw (take-append-add page bytes front.0) (joined a b c page (take front.0 bytes) put front.2))

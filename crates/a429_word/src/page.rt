@@ -1,6 +1,6 @@
 //! A page of output: pieces that are gathered and written at once.
 
-ghost use Rattle.std.specs.Prelude.{◌≡◌, ◌↔◌, ◌++◌, List, ℕ, [], codes, true, length, IsErr, IfOk, OnOk, OnErr};
+ghost use Rattle.std.specs.Prelude.{◌≡◌, ◌≤◌, ◌↔◌, ◌++◌, List, ℕ, [], codes, true, length, take, IsErr, IfOk, OnOk, OnErr};
 ghost use Rattle.std.specs.Fmt.{decimal};
 ghost use Rattle.std.specs.Io.KnownBytes.{Keeps};
 ghost use Rattle.a429_word.specs.Tally.{inner_of, has_failed, Puts, PutsFront};
@@ -17,6 +17,9 @@ const ROOM: usize = 16384;
 
 // How many digits the longest number has.
 const LONGEST: usize = 20;
+
+// How many bytes `put_first` copies.
+const FEW: usize = 32;
 
 /// Bytes that wait to be written, 16,384 at most, so that a writer is called once for many pieces. A `Sheet` fills it.
 #[derive(Drop)]
@@ -76,6 +79,33 @@ impl Page {
                 Ok(())
             }
             _ => self.put_past(out, bytes),
+        }
+    }
+
+    /// Adds the first `count` of 32 bytes. Where there is room all 32 are copied, so that a few take as long as one.
+    #[inline(always)]
+    pub(crate) fn put_first<W: Write>(
+        &mut self,
+        out: &mut Tally<W>,
+        bytes: &[u8],
+        count: usize,
+    ) -> Result<(), Device>
+        requires bytes { length bytes.now ≡ 32 }
+        requires count { count ≤ 32 }
+        ensures ok { OnOk result (PutsOn W.contents out.old self.old out.new self.new (take count bytes.now)) }
+        ensures prefix { PutsFront W.contents out.old out.new (self.old ++ take count bytes.now) }
+        ensures device { IsErr result → has_failed out.new ≡ true }
+        ensures works { OnOk result (has_failed out.new ≡ has_failed out.old) }
+        ensures stays { has_failed out.old ≡ true → out.new ≡ out.old }
+    {
+        match &mut self.room {
+            Some(room) if room.len() - self.filled >= FEW => {
+                let end = self.filled + FEW;
+                room[self.filled..end].copy_from_slice(bytes);
+                self.filled += count;
+                Ok(())
+            }
+            _ => self.put_past(out, &bytes[..count]),
         }
     }
 

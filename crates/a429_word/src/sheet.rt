@@ -1,6 +1,6 @@
 //! A sheet of output: pieces on their way to a writer, with the failure remembered.
 
-ghost use Rattle.std.specs.Prelude.{◌≡◌, ◌↔◌, [], true, false, IsErr};
+ghost use Rattle.std.specs.Prelude.{◌≡◌, ◌≤◌, ◌↔◌, [], true, false, length, take, IsErr};
 ghost use Rattle.std.specs.Fmt.{decimal};
 ghost use Rattle.a429_word.specs.Sheet.{sheet_failed, IsWritten, Says};
 
@@ -34,6 +34,16 @@ impl<'a, W: Write> Sheet<'a, W> {
         ensures { Says W.contents self.old self.new bytes.now }
     {
         let _ = self.page.put(self.out, bytes);
+    }
+
+    /// Adds the first `count` of 32 bytes, 32 at most. Where there is room all 32 are copied, so that a few take as long as one.
+    #[inline(always)]
+    pub fn put_first(&mut self, bytes: &[u8], count: usize)
+        requires bytes { length bytes.now ≡ 32 }
+        requires count { count ≤ 32 }
+        ensures { Says W.contents self.old self.new (take count bytes.now) }
+    {
+        let _ = self.page.put_first(self.out, bytes, count);
     }
 
     /// Adds a number, in decimal.

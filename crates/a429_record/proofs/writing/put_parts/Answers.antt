@@ -1,6 +1,18 @@
-use Rattle.std.proofs.Common.{arith, rules}
+use Rattle.std.proofs.Common.{◌∙◌, ◌++◌, List, ℕ, arith, rules, refl, ap, subst, replicate}
 use Rattle.std.proofs.lemmas.Fmt.{length-decimal-le}
+use Rattle.std.specs.Fmt.{decimal}
+use Rattle.a429_word.specs.Sheet.{Says}
+use Rattle.a429_record.proofs.WritingFacts.{entry_parts, entry_written}
 use Rattle.a429_record.proofs.writing.put_parts.Goals as goal
 
 pub write_digits-start-requires : goal.write_digits-start-requires
 write_digits-start-requires g c = (search (rules, length-decimal-le 20), omega arith)
+
+pub returns : goal.returns
+returns g c =
+    let written = c.write_digits-start.ensures in
+    subst (λ (text : List ℕ). Says g.W.Write.contents c.args.sheet.now c.put_first.new.self text)
+    (entry_written _ (decimal c.args.entry.time) (replicate 20 0) c.bus_and_word-fields.result (replicate 20 0) _ _ written.start refl (omega arith)
+    (ap (λ t. replicate 20 0 ++ (t ++ replicate 20 0)) c.copy_from_slice.ensures.after) written.written
+    ∙ ap (λ t. decimal c.args.entry.time ++ t) c.bus_and_word-fields.ensures ∙ entry_parts c.args.between c.args.after c.args.entry)
+    c.put_first.ensures
