@@ -29,6 +29,32 @@ fn pieces_come_out_in_their_order(rt: HostRuntime) {
     assert!(rt; is_put == Ok(true) && are_pieces(written.as_slice()));
 }
 
+// Puts the first byte of 32 so many times, twice as many as the page has room for, and answers whether all was written.
+fn put_first_bytes(alloc: Global, out: &mut Tally<&mut Vec<u8>>) -> Result<bool, AllocError> {
+    let mut page = Page::new(alloc)?;
+    let mut sheet = Sheet::new(out, &mut page);
+    for _ in 0..32_768 {
+        sheet.put_first(b"0123456789abcdefghijklmnopqrstuv", 1);
+    }
+    sheet.put_first(b"0123456789abcdefghijklmnopqrstuv", 32);
+    sheet.put_first(b"0123456789abcdefghijklmnopqrstuv", 0);
+    Ok(sheet.finish().is_ok())
+}
+
+// Whether they are what was written.
+fn are_first_bytes(written: &[u8]) -> bool {
+    written.len() == 32_768 + 32
+        && written[..32_768].iter().all(|byte| *byte == b'0')
+        && written.ends_with(b"0123456789abcdefghijklmnopqrstuv")
+}
+
+#[test]
+fn the_first_of_32_bytes_come_out(rt: HostRuntime) {
+    let mut written = Vec::new(rt.alloc());
+    let is_put = put_first_bytes(rt.alloc(), &mut Tally::new(&mut written, 0));
+    assert!(rt; is_put == Ok(true) && are_first_bytes(written.as_slice()));
+}
+
 // What a sheet of three bytes answers over room for two: whether it has failed as they are put, whether it is written
 // at two attempts, and whether it has failed then.
 fn answers_over_two_bytes(alloc: Global) -> Result<[bool; 4], AllocError> {
