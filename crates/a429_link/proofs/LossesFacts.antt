@@ -93,6 +93,14 @@ rest_lost p s = by s.source.current s.source.phase refl refl
     by (Some u) Waiting e f = none_lost p s Waiting f
     by None q e f = none_lost p s q f
 
+-- a source that has words of a block left sends one of them
+pub sends_word : (s : State) (k n : ℕ) → s.source.phase ≡ Sending k → n ≡ words_left s.source → 0 < n → (u : LduValue) × SendsWord s u k × (k + n ≡ count_of u)
+sends_word s k n phase count some = by s.source.current refl (count ∙ ap (left_of s.source.current) phase)
+  where
+    by : (o : Option LduValue) → s.source.current ≡ o → n ≡ left_of o (Sending k) → (u : LduValue) × SendsWord s u k × (k + n ≡ count_of u)
+    by None e left = absurd (omega (arith, left, some))
+    by (Some u) e left = (u, record { current = e; sending = phase; inside = omega (arith, left, some) }, omega (arith, left, some))
+
 -- ---- a link
 
 pub kept_run : (p : Contents) (steps : List Step) (s : State) → IsKept p s → IsRun p steps s → IsKept p (end_of p steps s) × StaysBounded p steps s

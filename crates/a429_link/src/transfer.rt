@@ -193,7 +193,7 @@ impl Transfer {
     fn sent_lost(&mut self, profile: &Profile) -> Result<(), StepFault>
         ensures { Applies profile.now step.SentLost self.old self.new result }
     {
-        if self.source.next(profile).is_none() {
+        if !self.source.sends() {
             return Err(StepFault::NotAllowed);
         }
         self.source.go_on(profile);
