@@ -6,6 +6,7 @@ pub mod MatchingFacts
 pub mod NoteFacts
 pub mod NextFacts
 pub mod ScribeFacts
+pub mod LossesFacts
 pub mod ScribeWithoutLoss
 pub mod WithoutLoss
 pub mod Thinned

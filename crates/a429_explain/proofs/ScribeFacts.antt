@@ -116,7 +116,7 @@ with_trace a items = by (label a)
     by None = append-nil items
     by (Some i) = refl
 
-or-false : (b : Bool) → (b || false) ≡ b
+pub or-false : (b : Bool) → (b || false) ≡ b
 or-false true = refl
 or-false false = refl
 
@@ -235,7 +235,7 @@ lettered (step.FreeSeen i) x e = let same : act.FreeSeen ≡ x = cc in subst (λ
 abbrev pub line_at : Act → State → CertLine
 line_at x s = Moved (record { act = x; states = states_of s })
 
-line_is : (x : Act) (s : State) → IsBounded s → IsLine (line_at x s)
+pub line_is : (x : Act) (s : State) → IsBounded s → IsLine (line_at x s)
 line_is x s b = (source_is s.source.phase b.sent, sink_is s.sink.phase b.took)
   where
     source_is : (q : SourceState) → SentFew q → IsSource q
@@ -293,7 +293,7 @@ sink_stays : (p : Contents) (n : ℕ) (u : LduValue) (s : State) → (end_of p (
 sink_stays p zero u s = refl
 sink_stays p (suc n) u s = sink_stays p n u (after p step.GiveUp s)
 
-end_both : (p : Contents) (xs ys : List Step) (s : State) → end_of p (xs ++ ys) s ≡ end_of p ys (end_of p xs s)
+pub end_both : (p : Contents) (xs ys : List Step) (s : State) → end_of p (xs ++ ys) s ≡ end_of p ys (end_of p xs s)
 end_both p [] ys s = refl
 end_both p (x ∷ xs) ys s = end_both p xs ys (after p x s)
 

@@ -4,6 +4,7 @@ use Rattle.a429_link.specs.declared.state.SourceState.{SourceState}
 use Rattle.a429_link.specs.declared.state.SourceState.TheVariants.{Idle, Awaiting, Sending, Waiting}
 use Rattle.a429_link.specs.declared.state.SinkState.{SinkState}
 use Rattle.a429_link.specs.declared.state.SinkState.TheVariants.{Quiet, OwesClear, Granted, InBlock, OwesAck, OwesNak}
+use Rattle.a429_link.specs.declared.state.States.{States}
 use Rattle.a429_cert.specs.declared.act.Act.{Act}
 use Rattle.a429_cert.specs.declared.act.Act.TheVariants.{Sent, SentLost, TimeOut, TakeAnswer, LoseAnswer, SinkTakes, Silent, Answered, FreeSeen, GiveUp}
 use Rattle.a429_cert.specs.declared.line.MovedLine.{MovedLine}
@@ -58,6 +59,10 @@ after_loss Waiting sink = moves TimeOut Idle sink 0 0
 after_loss Idle sink = moves SentLost Awaiting sink 0 0
 after_loss Awaiting sink = moves SentLost Awaiting sink 0 0
 after_loss (Sending sent) sink = moves SentLost (sends (Sending sent)) sink 0 0
+
+-- the line of a word of a block that is lost, after which the source is in this phase; the sink and the ways are as in these states
+abbrev pub lost : States → SourceState → MovedLine
+lost at source = record { act = SentLost; states = record at { source = source } }
 
 -- what comes after a step, where no word is lost and the block is a long one
 abbrev pub next_after : Act → SourceState → SinkState → MovedLine → MovedLine

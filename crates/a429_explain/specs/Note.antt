@@ -1,10 +1,13 @@
 -- The short form of a certificate: notes, each of which is some lines, or a part of one (profile).
-use Rattle.std.specs.Prelude.{◌≡◌, ℕ, zero, suc, Bool, if◌then◌else◌, List, [], ◌∷◌, ◌++◌, codes}
+use Rattle.std.specs.Prelude.{◌≡◌, ℕ, zero, suc, ◌-◌, Bool, if◌then◌else◌, List, [], ◌∷◌, ◌++◌, codes}
 use Rattle.std.specs.List.{flat_map}
 use Rattle.a429_word.specs.Digits.{numeral, hex_text}
 use Rattle.a429_ldu.specs.Ldu.{LduValue}
+use Rattle.a429_link.specs.declared.state.SourceState.TheVariants.{Sending, Waiting}
+use Rattle.a429_link.specs.declared.state.States.{States}
 use Rattle.a429_cert.specs.Field.{field}
 use Rattle.a429_cert.specs.Line.{spelling}
+use Rattle.a429_cert.specs.States.{source_text}
 use Rattle.a429_cert.specs.declared.line.CertLine.{CertLine}
 use Rattle.a429_cert.specs.declared.line.CertLine.TheVariants as cert
 use Rattle.a429_cert.specs.declared.line.LoadLine.{LoadLine}
@@ -12,8 +15,8 @@ use Rattle.a429_cert.specs.declared.line.MovedLine.{MovedLine}
 use Rattle.a429_cert.specs.declared.version.Version.TheVariants.{One, Two}
 use Rattle.a429_cert.specs.Version.{version_line}
 use Rattle.a429_explain.specs.declared.note.Note.{Note}
-use Rattle.a429_explain.specs.declared.note.Note.TheVariants.{First, Load, Words, Pair, Moves}
-use Rattle.a429_explain.specs.Next.{next_line}
+use Rattle.a429_explain.specs.declared.note.Note.TheVariants.{First, Load, Words, Pair, Moves, Losses}
+use Rattle.a429_explain.specs.Next.{lost, next_line}
 
 -- ---- lines
 
@@ -46,6 +49,16 @@ abbrev pub last_line : MovedLine → ℕ → MovedLine
 last_line m zero = m
 last_line m (suc n) = last_line (next_line m) n
 
+-- the lines of the last words of a block, which are lost: so many, with the k-th as the first, and the very last, after which the source
+-- waits; the sink and the ways are as in these states
+abbrev pub rest_lines : States → ℕ → ℕ → List ℕ
+rest_lines at k zero = line_after (cert.Moved (lost at Waiting))
+rest_lines at k (suc n) = line_after (cert.Moved (lost at (Sending k))) ++ rest_lines at (suc k) n
+
+-- the line of a lost word, up to the number of words that are sent after it
+abbrev pub lost_head : ℕ → List ℕ
+lost_head k = 10 ∷ (codes "l" ++ field (source_text (Sending k)))
+
 -- the line of a link data unit, up to its words
 abbrev pub load_head : ℕ → ℕ → ℕ → List ℕ
 load_head gfi flags check = 10 ∷ (codes "L" ++ field (numeral 16 1 gfi) ++ field (numeral 16 1 flags) ++ field (numeral 16 4 check))
@@ -56,6 +69,7 @@ note_text (Load gfi flags check) = load_head gfi flags check
 note_text (Words word times) = same_fields word times
 note_text (Pair first second) = field (hex_text first) ++ field (hex_text second)
 note_text (Moves first more) = line_after (cert.Moved first) ++ likely_lines first more
+note_text (Losses at first end) = rest_lines at first (end - first)
 
 -- where the note is one of steps, this is the last of its lines
 abbrev pub EndsWith : Note → MovedLine → Type 0
@@ -64,6 +78,7 @@ EndsWith (First file) last = Unit {0}
 EndsWith (Load gfi flags check) last = Unit {0}
 EndsWith (Words word times) last = Unit {0}
 EndsWith (Pair first second) last = Unit {0}
+EndsWith (Losses at first end) last = Unit {0}
 
 -- ---- the certificate
 

@@ -1,6 +1,6 @@
 //! The lines of a certificate after its first, kept short as they are made.
 
-ghost use Rattle.std.specs.Prelude.{◌≡◌, ◌<◌, ◌^◌, ◌++◌, OnOk};
+ghost use Rattle.std.specs.Prelude.{◌≡◌, ◌<◌, ◌^◌, ◌-◌, ◌++◌, OnOk};
 ghost use Rattle.std.specs.List.{flat_map};
 ghost use Rattle.a429_word.specs.Digits.{hex_text};
 ghost use Rattle.a429_word.specs.Sheet.{Says};
@@ -8,7 +8,9 @@ ghost use Rattle.a429_cert.specs.BlockText.{word_lines};
 ghost use Rattle.a429_cert.specs.Field.{field};
 ghost use Rattle.a429_cert.specs.Line.{AreHeld, IsHeld};
 ghost use Rattle.a429_cert.specs.declared.line.CertLine.TheVariants.{First, Load, Moved};
-ghost use Rattle.a429_explain.specs.Note.{line_after, line_of, load_head, note_text, word_fields};
+ghost use Rattle.a429_link.specs.declared.state.SourceState.TheVariants.{Waiting};
+ghost use Rattle.a429_explain.specs.Next.{lost};
+ghost use Rattle.a429_explain.specs.Note.{line_after, line_of, load_head, note_text, rest_lines, word_fields};
 
 use crate::next::{carried, is_same, next_line, sending};
 use crate::note::{Note, put_note, with_word};
@@ -107,6 +109,18 @@ impl Lines {
         }
         self.put_move(sending(place))?;
         self.put_move(carried(place + 1))
+    }
+
+    /// Adds the lines of the last words of a block, which are lost: those after which so many words are sent, from `first` on and below
+    /// `end`, and the very last. The sink and the words on their way are as in these states.
+    #[tactic(auto, using(crate::proofs::NoteFacts::notes_more))]
+    pub(crate) fn put_losses(&mut self, at: States, first: u8, end: u8) -> Result<(), OutOfMemory>
+        ensures ok { OnOk result (self.new ≡ self.old ++ rest_lines at first (end - first)) }
+        ensures held { IsHeld (Moved (lost at Waiting)) }
+    {
+        self.notes.push(self.note)?;
+        self.note = Note::Losses { at, first, end };
+        Ok(())
     }
 
     /// Adds the line of a link data unit.

@@ -1,7 +1,7 @@
 //! The line of a certificate that is likely after another.
 
 ghost use Rattle.std.specs.Prelude.{◌≡◌, ◌<◌, ◌≤◌, true, IfSome};
-ghost use Rattle.a429_explain.specs.Next.{carried, sending, moves, sends, hears, takes, after_taking, after_loss, next_after, next_line, BeginWords};
+ghost use Rattle.a429_explain.specs.Next.{carried, sending, moves, sends, hears, takes, after_taking, after_loss, lost, next_after, next_line, BeginWords};
 
 use a429_cert::{Act, MovedLine};
 use a429_link::{SinkState, SourceState, States};
@@ -107,6 +107,14 @@ fn after_loss(source: SourceState, sink: SinkState) -> MovedLine
             0,
         ),
     }
+}
+
+/// The line of a word of a block that is lost, after which the source is in this state. The sink and the words on their way are as in
+/// these states.
+pub(crate) fn lost(at: States, source: SourceState) -> MovedLine
+    ensures { result ≡ lost at source }
+{
+    moves(Act::SentLost, source, at.sink, at.to_sink, at.to_source)
 }
 
 /// The line with which word `place` of a block is sent, counted from 0, with nothing else on its way.

@@ -1,15 +1,18 @@
 //! Pieces of a certificate, kept short.
 
-ghost use Rattle.std.specs.Prelude.{◌≡◌, ◌<◌, ◌≤◌, ◌++◌, IfSome};
+ghost use Rattle.std.specs.Prelude.{◌≡◌, ◌<◌, ◌≤◌, ◌-◌, ◌++◌, IfSome};
+ghost use Rattle.std.specs.Fmt.{decimal};
 ghost use Rattle.a429_word.specs.Digits.{hex_text, numeral};
 ghost use Rattle.a429_word.specs.Sheet.{Says};
 ghost use Rattle.a429_cert.specs.Field.{field};
+ghost use Rattle.a429_cert.specs.States.{sink_text};
 ghost use Rattle.a429_cert.specs.declared.line.CertLine.TheVariants as cert;
 ghost use Rattle.a429_cert.specs.declared.line.MovedLine.{MovedLine};
-ghost use Rattle.a429_explain.specs.Note.{line_after, same_fields, likely_lines, last_line, load_head, note_text, EndsWith};
+ghost use Rattle.a429_explain.specs.Note.{line_after, same_fields, likely_lines, last_line, load_head, note_text, lost_head, rest_lines, EndsWith};
 
-use crate::next::{carried, next_line, words_after};
-use a429_cert::{BlockText, MovedLine, moved_text, word_field};
+use crate::next::{carried, lost, next_line, words_after};
+use a429_cert::{BlockText, MovedLine, ShortText, moved_text, word_field};
+use a429_link::{SourceState, States};
 use a429_word::{Sheet, Word};
 use std::io::Write;
 
@@ -26,6 +29,9 @@ pub(crate) enum Note {
     Pair { first: Word, second: Word },
     /// The line of a step that is no load, and so many lines after it, each the one that is likely after the last.
     Moves { first: MovedLine, more: u16 },
+    /// The lines of the last words of a block, which are lost: those after which so many words are sent, from `first` on and below `end`,
+    /// and the very last. The sink and the words on their way are as in these states.
+    Losses { at: States, first: u8, end: u8 },
 }
 
 /// The note with one data word more, where it has room for that.
@@ -74,6 +80,7 @@ pub(crate) fn put_note<W: Write>(sheet: &mut Sheet<'_, W>, block: &BlockText, no
             put_move(sheet, first);
             put_likely(sheet, block, first, more);
         }
+        Note::Losses { at, first, end } => put_losses(sheet, at, first, end),
     }
 }
 
@@ -132,6 +139,43 @@ fn put_likely<W: Write>(sheet: &mut Sheet<'_, W>, block: &BlockText, first: Move
         line = put.last;
         left -= put.lines;
     }
+}
+
+// Puts the lines of the last words of a block, which are lost.
+fn put_losses<W: Write>(sheet: &mut Sheet<'_, W>, at: States, first: u8, end: u8)
+    ensures { Says W.contents sheet.old sheet.new (rest_lines at first (end - first)) }
+{
+    let ways = ways_text(at);
+    let mut sent = first;
+    while sent < end {
+        put_lost(sheet, sent, ways.as_slice());
+        sent += 1;
+    }
+    put_move(sheet, lost(at, SourceState::Waiting));
+}
+
+// Puts the line of a lost word, after which so many words are sent, with what comes after that number.
+#[inline(always)]
+fn put_lost<W: Write>(sheet: &mut Sheet<'_, W>, sent: u8, ways: &[u8])
+    ensures { Says W.contents sheet.old sheet.new (lost_head sent ++ ways.now) }
+{
+    let mut head = ShortText::new();
+    head.push(b'\n');
+    head.push(b'l');
+    head.push_source(SourceState::Sending(sent));
+    sheet.put(head.as_slice());
+    sheet.put(ways);
+}
+
+// The end of a line: the sink, and how many words are on their way.
+fn ways_text(at: States) -> ShortText
+    ensures { result ≡ field (sink_text at.sink) ++ field (decimal at.to_sink) ++ field (decimal at.to_source) }
+{
+    let mut text = ShortText::new();
+    text.push_sink(at.sink);
+    text.push_number(at.to_sink);
+    text.push_number(at.to_source);
+    text
 }
 
 // So many lines were put, of which this is the last.

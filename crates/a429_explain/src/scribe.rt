@@ -152,13 +152,18 @@ impl<'a> Scribe<'a> {
         ensures written { OnOk result (WritesNext None self.old self.new) }
         ensures closed { OnOk result (ClosesOn self.old.link self.new.link) }
     {
-        for _ in 0..=u8::MAX {
-            if !self.is_sending() {
-                return Ok(());
-            }
-            self.make(Step::SentLost)?;
+        let before = self.link.states();
+        let SourceState::Sending(sent) = before.source else {
+            return Ok(());
+        };
+        let words = self.link.lose_rest();
+        if words == 0 {
+            return Ok(());
         }
-        Err(StepFault::NotAllowed)
+        match self.lines.put_losses(before, sent + 1, sent + words) {
+            Ok(()) => Ok(()),
+            Err(OutOfMemory) => Err(StepFault::OutOfMemory),
+        }
     }
 
     // A word of the source is recorded, and the sink takes it.

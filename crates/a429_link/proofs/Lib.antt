@@ -21,6 +21,7 @@ pub mod SinkGoodBlock
 pub mod SinkBadBlock
 pub mod LinkKept
 pub mod CarryFacts
+pub mod LossesFacts
 pub mod LinkCalls
 pub mod ObserverBlock
 pub mod ObserverSight

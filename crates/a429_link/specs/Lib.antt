@@ -8,6 +8,7 @@ pub mod Carry
 pub mod GiveUps
 pub mod Transfer
 pub mod Run
+pub mod Losses
 pub mod Observer
 pub mod Trace
 pub mod Why

@@ -8,7 +8,8 @@ ghost use Rattle.a429_link.specs.Step.{Can, after, LoadsLdu, IsFault, IsNamedSte
 ghost use Rattle.a429_link.specs.State.{start, states_of};
 ghost use Rattle.a429_link.specs.Link.{handed_out};
 ghost use Rattle.a429_link.specs.GiveUps.{MayGiveUp};
-ghost use Rattle.a429_link.specs.Run.{IsBounded};
+ghost use Rattle.a429_link.specs.Run.{IsBounded, IsRun, end_of};
+ghost use Rattle.a429_link.specs.Losses.{words_left, losses, StaysBounded};
 
 use crate::carry::NextWord;
 use crate::fault::StepFault;
@@ -84,6 +85,17 @@ impl<'a> Link<'a> {
         ensures { self.new ≡ record (self.old) { state = after_both self.old.profile next.word self.old.state } }
     {
         self.transfer.carry(self.profile, next);
+    }
+
+    /// Makes many steps at once: each word of its block that the source has still to send is lost. Answers how many, 0 to 255: 0 where
+    /// it sends no block.
+    pub fn lose_rest(&mut self) -> u8
+        ensures count { result ≡ words_left self.old.state.source }
+        ensures allowed { IsRun self.old.profile (losses result) self.old.state }
+        ensures done { self.new ≡ record (self.old) { state = end_of self.old.profile (losses result) self.old.state } }
+        ensures bounds { StaysBounded self.old.profile (losses result) self.old.state }
+    {
+        self.transfer.lose_rest()
     }
 
     /// There is a step that sends a word now, whatever the word is.

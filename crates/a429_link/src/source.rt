@@ -4,6 +4,7 @@ ghost use Rattle.std.specs.Prelude.{◌≡◌, ◌≤◌, ◌+◌, ◌↔◌, Is
 ghost use Rattle.a429_profile.specs.Profile.{Contents};
 ghost use Rattle.a429_ldu.specs.Ldu.{IsLdu};
 ghost use Rattle.a429_link.specs.Carry.{SendsMore};
+ghost use Rattle.a429_link.specs.Losses.{words_left, with_rest_lost};
 ghost use Rattle.a429_link.specs.Source as model;
 ghost use Rattle.a429_link.specs.Source.{next_word, with_answer, IsIdle, Waits, with_word_sent, next_word_of, given_up};
 
@@ -190,6 +191,25 @@ impl Source {
             }
             SourceState::Awaiting | SourceState::Waiting => {}
         }
+    }
+
+    /// Goes on after all words of its block, and answers how many it had still to send.
+    pub(crate) fn pass_rest(&mut self) -> u8
+        ensures count { result ≡ words_left self.old }
+        ensures rest { self.new ≡ with_rest_lost self.old }
+    {
+        let Some(unit) = &self.current else {
+            return 0;
+        };
+        let SourceState::Sending(sent) = self.state else {
+            return 0;
+        };
+        let count = unit.count();
+        if sent >= count {
+            return 0;
+        }
+        self.state = SourceState::Waiting;
+        count - sent
     }
 
     /// It no longer waits, and keeps its link data unit.

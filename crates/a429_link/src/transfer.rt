@@ -5,6 +5,7 @@ ghost use Rattle.a429_profile.specs.Profile.{Contents, IsProfile};
 ghost use Rattle.a429_ldu.specs.Ldu.{IsLdu, LduValue};
 ghost use Rattle.a429_link.specs.declared.step.Step.TheVariants as step;
 ghost use Rattle.a429_link.specs.Carry.{IsAtWord, IsNext, after_both};
+ghost use Rattle.a429_link.specs.Losses.{words_left, with_rest_lost};
 ghost use Rattle.a429_link.specs.Sink.{held_count};
 ghost use Rattle.a429_link.specs.Step.{LoadsLdu};
 ghost use Rattle.a429_link.specs.State.{start, sink_state_of};
@@ -155,6 +156,14 @@ impl Transfer {
         self.source.go_on(profile);
     }
 
+    /// The words of its block that the source has still to send are lost. Answers how many.
+    pub(crate) fn lose_rest(&mut self) -> u8
+        ensures count { result ≡ words_left self.old.source }
+        ensures lost { self.new ≡ record (self.old) { source = with_rest_lost self.old.source } }
+    {
+        self.source.pass_rest()
+    }
+
     fn load(&mut self, profile: &Profile, unit: Ldu) -> Result<(), StepFault>
         requires { IsLdu profile.now unit }
         ensures { Applies profile.now (step.Load unit) self.old self.new result }
@@ -184,7 +193,7 @@ impl Transfer {
     fn sent_lost(&mut self, profile: &Profile) -> Result<(), StepFault>
         ensures { Applies profile.now step.SentLost self.old self.new result }
     {
-        if self.source.next(profile).is_none() {
+        if !self.source.sends() {
             return Err(StepFault::NotAllowed);
         }
         self.source.go_on(profile);
