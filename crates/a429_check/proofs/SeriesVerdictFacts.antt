@@ -2,6 +2,7 @@
 use Rattle.std.proofs.Common.{◌≡◌, ◌≢◌, ◌∙◌, ◌<◌, ◌+◌, ◌++◌, ◌∷◌, ℕ, zero, suc, List, [], length, take, map, get_or, slice_get, Bool, true, false, Option, Some, None, refl, sym, ap, subst, arith, inl, inr, ◌⊎◌, Vec, Global}
 use Rattle.std.specs.Prelude.{codes, IfSome, IfOk, IfErr, OnOk, Result, Ok, Err}
 use Rattle.a429_check.specs.declared.engines.series.SeriesAnswer.{SeriesAnswer}
+use Rattle.a429_check.specs.declared.engines.series.SeriesAnswer.TheVariants as answer
 use Rattle.std.proofs.lemmas.List.{map-append, take_all, take_more}
 use Rattle.a429_profile.specs.Profile.{Contents, IsProfile}
 use Rattle.a429_record.specs.declared.fault.ReadFault.{ReadFault}
@@ -20,7 +21,7 @@ use Rattle.a429_check.specs.Verdict.{of_stream}
 use Rattle.a429_check.specs.Output.{Output, IsCutShort}
 use Rattle.a429_word.specs.Sheet.{Writes}
 use Rattle.a429_word.specs.Tally.{has_failed}
-use Rattle.a429_check.specs.Series.{AreOneRun, FitAs, Holds, IsMiscounted, IsPartsFault, IsRefusal, IsRefusedAt, IsSeriesAnswer, IsSeriesFault, SeriesInput, FailsIn, IsSeriesVerdict, IsSomeSeriesVerdict, entries_of, first_parts, judged, not_listed, status_of_series, text_of_series, with_part}
+use Rattle.a429_check.specs.Series.{AnswersSeries, AreOneRun, FitAs, Holds, IsListFault, IsMiscounted, IsPartsAnswer, IsPartsFault, IsRefusal, IsRefusedAt, IsSeriesAnswer, IsSeriesFault, SeriesInput, FailsIn, IsSeriesVerdict, IsSomeSeriesVerdict, entries_of, first_parts, status_of_series, text_of_series, with_part}
 
 -- ---- what the readers of a part have to read
 
@@ -128,8 +129,8 @@ module _ (p : Contents) (part : ℕ → Option Part) (counts : List ℕ) where
       subst (λ (k : ℕ). IsMiscounted p part counts k n) (sym next) (subst (λ (m : ℕ). IsMiscounted p part counts (suc i) m) (sym same) here)
 
   -- the answer where a part is refused
-  pub refusal_answers : (r : Result SeriesAnswer RunFault) (place : ℕ) (f : StreamFault) → IfOk r (IsRefusal place f) → IsRefusedAt p part counts place f → IfOk r (IsSeriesAnswer p part counts)
-  refusal_answers (Ok a) place f h here = subst (IsSeriesAnswer p part counts) (sym h.1) (subst (IsRefusedAt p part counts place) h.2 here, h.3)
+  pub refusal_answers : (r : Result SeriesAnswer RunFault) (place : ℕ) (f : StreamFault) → IfOk r (IsRefusal place f) → IsRefusedAt p part counts place f → IfOk r (IsPartsAnswer p part counts)
+  refusal_answers (Ok a) place f h here = subst (IsPartsAnswer p part counts) (sym h.1) (subst (IsRefusedAt p part counts place) h.2 here, h.3)
   refusal_answers (Err e) place f h here = tt
 
   pub refusal_faults : (Failed : Type 0) (r : Result SeriesAnswer RunFault) (f : StreamFault) → IfErr r (λ e. e ≡ of_stream f) → IsPartsFault p part counts Failed (of_stream f) → IfErr r (IsPartsFault p part counts Failed)
@@ -160,6 +161,22 @@ module _ (p : Contents) (part : ℕ → Option Part) (counts : List ℕ) where
       by stream.Device here a b = a refl
       by stream.OutOfMemory here a b = tt
 
+-- ---- parts that a list names
+
+listed_answer : (p : Contents) (list : List ℕ) (part : ℕ → Option Part) (counts : List ℕ) (a : SeriesAnswer) → ListsParts list counts → IsPartsAnswer p part counts a → IsSeriesAnswer p list part a
+listed_answer p list part counts (answer.Files files) listed h = (counts, listed, h)
+listed_answer p list part counts (answer.Refused place f) listed h = (counts, listed, h)
+listed_answer p list part counts (answer.Miscounted place n) listed h = (counts, listed, h)
+listed_answer p list part counts answer.NotListed listed h = absurd h
+
+pub answer_of_list : (p : Contents) (list : List ℕ) (part : ℕ → Option Part) (counts : List ℕ) (r : Result SeriesAnswer RunFault) → ListsParts list counts → IfOk r (IsPartsAnswer p part counts) → IfOk r (IsSeriesAnswer p list part)
+answer_of_list p list part counts (Ok a) listed h = listed_answer p list part counts a listed h
+answer_of_list p list part counts (Err e) listed h = tt
+
+pub fault_of_list : (p : Contents) (list : List ℕ) (part : ℕ → Option Part) (counts : List ℕ) (Failed : Type 0) (r : Result SeriesAnswer RunFault) → ListsParts list counts → IfErr r (IsPartsFault p part counts Failed) → IfErr r (IsListFault p list part Failed)
+fault_of_list p list part counts Failed (Ok a) listed h = tt
+fault_of_list p list part counts Failed (Err e) listed h = inr (counts, listed, h)
+
 -- ---- why there is no verdict
 
 pub by_profile : (i : SeriesInput) (Failed : Type 0) (e : RunFault) → IsProfileFault i.profile e → IsSeriesFault i Failed e
@@ -172,23 +189,43 @@ by_profile i Failed run.TooLong h = absurd h
 by_profile i Failed run.BadWord h = absurd h
 by_profile i Failed run.Usage h = absurd h
 
-pub by_parts : (i : SeriesInput) (Failed More : Type 0) (p : Contents) (counts : List ℕ) (e : RunFault) → IsProfileOf i.profile p → ListsParts i.list counts → (Failed → More) → IsPartsFault p i.part counts Failed e → IsSeriesFault i More e
-by_parts i Failed More p counts (run.Profile f) is listed more h = absurd h
-by_parts i Failed More p counts run.Memory is listed more h = is.0
-by_parts i Failed More p counts (run.Read f) is listed more h = (h.0, (p, counts, h.1.0, is, listed, h.1.1))
-by_parts i Failed More p counts run.Device is listed more h = more h
-by_parts i Failed More p counts (run.Cut k f) is listed more h = absurd h
-by_parts i Failed More p counts run.TooLong is listed more h = absurd h
-by_parts i Failed More p counts run.BadWord is listed more h = absurd h
-by_parts i Failed More p counts run.Usage is listed more h = absurd h
+by_parts : (i : SeriesInput) (Failed : Type 0) (p : Contents) (counts : List ℕ) (e : RunFault) → IsProfileOf i.profile p → ListsParts i.list counts → IsPartsFault p i.part counts Failed e → IsSeriesFault i Failed e
+by_parts i Failed p counts (run.Profile f) is listed h = absurd h
+by_parts i Failed p counts run.Memory is listed h = is.0
+by_parts i Failed p counts (run.Read f) is listed h = (h.0, (p, counts, h.1.0, is, listed, h.1.1))
+by_parts i Failed p counts run.Device is listed h = h
+by_parts i Failed p counts (run.Cut k f) is listed h = absurd h
+by_parts i Failed p counts run.TooLong is listed h = absurd h
+by_parts i Failed p counts run.BadWord is listed h = absurd h
+by_parts i Failed p counts run.Usage is listed h = absurd h
+
+by_list : (i : SeriesInput) (Failed : Type 0) (p : Contents) (e : RunFault) → IsProfileOf i.profile p → IsListFault p i.list i.part Failed e → IsSeriesFault i Failed e
+by_list i Failed p e is (inl memory) = subst (IsSeriesFault i Failed) (sym memory) is.0
+by_list i Failed p e is (inr h) = by_parts i Failed p h.0 e is h.1 h.2
+
+pub answer_of_profile : (i : SeriesInput) (p : Contents) (r : Result SeriesAnswer RunFault) → IsProfileOf i.profile p → IfOk r (IsSeriesAnswer p i.list i.part) → IfOk r (AnswersSeries i)
+answer_of_profile i p (Ok a) is h = (p, is, h)
+answer_of_profile i p (Err e) is h = tt
+
+pub fault_of_profile : (i : SeriesInput) (p : Contents) (Failed : Type 0) (r : Result SeriesAnswer RunFault) → IsProfileOf i.profile p → IfErr r (IsListFault p i.list i.part Failed) → IfErr r (IsSeriesFault i Failed)
+fault_of_profile i p Failed (Ok a) is h = tt
+fault_of_profile i p Failed (Err e) is h = by_list i Failed p e is h
+
+-- one more may have failed
+pub more_series : (i : SeriesInput) (Failed More : Type 0) (e : RunFault) → (Failed → More) → IsSeriesFault i Failed e → IsSeriesFault i More e
+more_series i Failed More (run.Profile f) more h = h
+more_series i Failed More run.Memory more h = h
+more_series i Failed More (run.Read f) more h = h
+more_series i Failed More run.Device more h = more h
+more_series i Failed More (run.Cut k f) more h = absurd h
+more_series i Failed More run.TooLong more h = absurd h
+more_series i Failed More run.BadWord more h = absurd h
+more_series i Failed More run.Usage more h = absurd h
 
 -- ---- a verdict
 
-pub verdict_of : (i : SeriesInput) (p : Contents) (counts : List ℕ) (a : SeriesAnswer) → IsProfileOf i.profile p → ListsParts i.list counts → IsSeriesAnswer p i.part counts a → IsSeriesVerdict i (status_of_series a) (text_of_series a)
-verdict_of i p counts a is listed here = judged p is counts listed a here refl refl
-
-pub verdict_of_none : (i : SeriesInput) (p : Contents) → IsProfileOf i.profile p → ((counts : List ℕ) → ListsParts i.list counts → ⊥) → IsSeriesVerdict i 2 (codes "NO parts\n")
-verdict_of_none i p is none = not_listed p is none refl refl
+pub verdict_of : (i : SeriesInput) (a : SeriesAnswer) → AnswersSeries i a → IsSeriesVerdict i (status_of_series a) (text_of_series a)
+verdict_of i a here = record { answer = a; is = here; status_is = refl; text_is = refl }
 
 -- the output alone has failed, in the text of a verdict
 pub cut_in_verdict : {W : Type 0} (o : Output W) (i : SeriesInput) (before after : Bool) (status : ℕ) (text : List ℕ) → (before ≡ false → after ≡ false) → IsSeriesVerdict i status text

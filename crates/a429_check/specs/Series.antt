@@ -1,5 +1,5 @@
 -- The verdict on a recording in parts, each with a certificate of its own (profile).
-use Rattle.std.specs.Prelude.{◌≡◌, ◌≢◌, ◌<◌, ◌++◌, ℕ, zero, suc, List, [], ◌∷◌, length, take, map, slice_get, codes, Bool, true, false, Option, Some, None, IfSome, ⊤}
+use Rattle.std.specs.Prelude.{◌≡◌, ◌≢◌, ◌⊎◌, ◌<◌, ◌++◌, ℕ, zero, suc, List, [], ◌∷◌, length, take, map, slice_get, codes, Bool, true, false, Option, Some, None, IfSome, ⊤}
 use Rattle.std.specs.Fmt.{decimal}
 use Rattle.std.specs.Str.{IsUtf8}
 use Rattle.a429_profile.specs.Profile.{Contents}
@@ -12,6 +12,7 @@ use Rattle.a429_cert.specs.Series.{AreAdded, IsOneRun, IsPartFault, Part, Series
 use Rattle.a429_check.specs.declared.engines.series.SeriesAnswer.{SeriesAnswer}
 use Rattle.a429_check.specs.declared.engines.series.SeriesAnswer.TheVariants as answer
 use Rattle.a429_check.specs.declared.fault.RunFault.{RunFault}
+use Rattle.a429_check.specs.declared.fault.RunFault.TheVariants as run
 use Rattle.a429_check.specs.Fault.{Causes, ComesBy, never}
 use Rattle.a429_check.specs.PartList.{ListsParts}
 use Rattle.a429_check.specs.Profile.{IsProfileOf, HasFault}
@@ -72,10 +73,21 @@ pub record IsMiscounted (p : Contents) (part : ℕ → Option Part) (counts : Li
   pub other : slice_get counts before ≢ Some n
   pub fit : IfSome (first_parts part place) (λ parts. (s : SeriesValue) × FitAs p parts (take before counts ++ (n ∷ [])) s)
 
-abbrev pub IsSeriesAnswer : Contents → (ℕ → Option Part) → List ℕ → SeriesAnswer → Type 0
-IsSeriesAnswer p part counts (answer.Files files) = AreOneRun p part counts files.items
-IsSeriesAnswer p part counts (answer.Refused place f) = IsRefusedAt p part counts place (stream.Cert f) × (f ≢ cert.OutOfMemory)
-IsSeriesAnswer p part counts (answer.Miscounted place n) = IsMiscounted p part counts place n
+-- an answer for parts that are listed, with so many entries
+abbrev pub IsPartsAnswer : Contents → (ℕ → Option Part) → List ℕ → SeriesAnswer → Type 0
+IsPartsAnswer p part counts (answer.Files files) = AreOneRun p part counts files.items
+IsPartsAnswer p part counts (answer.Refused place f) = IsRefusedAt p part counts place (stream.Cert f) × (f ≢ cert.OutOfMemory)
+IsPartsAnswer p part counts (answer.Miscounted place n) = IsMiscounted p part counts place n
+IsPartsAnswer p part counts answer.NotListed = ⊥
+
+-- an answer: for the parts that are listed, or that none are
+abbrev pub IsSeriesAnswer : Contents → List ℕ → (ℕ → Option Part) → SeriesAnswer → Type 0
+IsSeriesAnswer p list part answer.NotListed = (counts : List ℕ) → ListsParts list counts → ⊥
+IsSeriesAnswer p list part a = (counts : List ℕ) × ListsParts list counts × IsPartsAnswer p part counts a
+
+-- the same under the profile whose text the bytes are
+abbrev pub AnswersSeries : SeriesInput → SeriesAnswer → Type 0
+AnswersSeries i a = (contents : Contents) × IsProfileOf i.profile contents × IsSeriesAnswer contents i.list i.part a
 
 -- the part at this place is refused by this fault of its certificate
 abbrev pub IsRefusal : ℕ → StreamFault → SeriesAnswer → Type 0
@@ -87,6 +99,7 @@ abbrev pub status_of_series : SeriesAnswer → ℕ
 status_of_series (answer.Files files) = 0
 status_of_series (answer.Refused place f) = 2
 status_of_series (answer.Miscounted place n) = 2
+status_of_series answer.NotListed = 2
 
 abbrev pub part_text : ℕ → List ℕ
 part_text place = codes "NO part " ++ decimal place
@@ -95,11 +108,14 @@ abbrev pub text_of_series : SeriesAnswer → List ℕ
 text_of_series (answer.Files files) = yes_text files.items
 text_of_series (answer.Refused place f) = part_text place ++ codes " " ++ fault_text f
 text_of_series (answer.Miscounted place n) = part_text place ++ codes " entries " ++ decimal n ++ codes "\n"
+text_of_series answer.NotListed = codes "NO parts\n"
 
--- a verdict: an answer for the parts that are listed, or that they are not listed
-pub data IsSeriesVerdict (i : SeriesInput) (status : ℕ) (text : List ℕ) : Type 0 where
-  judged : (contents : Contents) (is_profile : IsProfileOf i.profile contents) (counts : List ℕ) (listed : ListsParts i.list counts) (answer : SeriesAnswer) (is : IsSeriesAnswer contents i.part counts answer) (status_is : status ≡ status_of_series answer) (text_is : text ≡ text_of_series answer) → IsSeriesVerdict i status text
-  not_listed : (contents : Contents) (is_profile : IsProfileOf i.profile contents) (none : (counts : List ℕ) → ListsParts i.list counts → ⊥) (status_is : status ≡ 2) (text_is : text ≡ codes "NO parts\n") → IsSeriesVerdict i status text
+-- a verdict: an answer, with its status and its text
+pub record IsSeriesVerdict (i : SeriesInput) (status : ℕ) (text : List ℕ) : Type 0 where
+  pub answer : SeriesAnswer
+  pub is : AnswersSeries i answer
+  pub status_is : status ≡ status_of_series answer
+  pub text_is : text ≡ text_of_series answer
 
 abbrev pub IsSomeSeriesVerdict : SeriesInput → List ℕ → Type 0
 IsSomeSeriesVerdict i text = (status : ℕ) × IsSeriesVerdict i status text
@@ -120,6 +136,10 @@ part_causes p part counts Failed = record never {
 
 abbrev pub IsPartsFault : Contents → (ℕ → Option Part) → List ℕ → Type 0 → RunFault → Type 0
 IsPartsFault p part counts Failed = ComesBy (part_causes p part counts Failed)
+
+-- out of memory, or a fault of the parts that are listed
+abbrev pub IsListFault : Contents → List ℕ → (ℕ → Option Part) → Type 0 → RunFault → Type 0
+IsListFault p list part Failed e = (e ≡ run.Memory) ⊎ ((counts : List ℕ) × ListsParts list counts × IsPartsFault p part counts Failed e)
 
 -- the profile's own fault; those of parts that are listed; a device that has failed; out of memory, once the profile is known to be a text
 abbrev pub series_causes : SeriesInput → Type 0 → Causes

@@ -10,7 +10,7 @@ ghost use Rattle.a429_cert.specs.Series.{IsPartFault, Joins};
 ghost use Rattle.a429_cert.specs.declared.fault.CertFault.{CertFault};
 ghost use Rattle.a429_check.specs.Output.{output, IsCutShort, PutsText};
 ghost use Rattle.a429_check.specs.Verdict.{fault_text, of_stream};
-ghost use Rattle.a429_check.specs.Series.{part_text, series_input, status_of_series, text_of_series, FailsIn, IsPartsFault, IsRefusal, IsSeriesAnswer, IsSeriesFault, IsSeriesVerdict, IsSomeSeriesVerdict};
+ghost use Rattle.a429_check.specs.Series.{part_text, series_input, status_of_series, text_of_series, AnswersSeries, FailsIn, IsListFault, IsPartsAnswer, IsPartsFault, IsRefusal, IsSeriesAnswer, IsSeriesFault, IsSeriesVerdict, IsSomeSeriesVerdict};
 
 use crate::engines::part_list::read_parts;
 use crate::engines::part_source::PartSource;
@@ -23,7 +23,7 @@ use a429_word::{Device, Failing, Page, Sheet, Tally, Trouble};
 use std::alloc::Global;
 use std::io::{Read, Write};
 
-/// What is answered of parts that are listed.
+/// What is answered of a recording's parts.
 #[derive(Drop)]
 pub(crate) enum SeriesAnswer {
     /// They are one run, which delivers files of these numbers and lengths.
@@ -32,6 +32,8 @@ pub(crate) enum SeriesAnswer {
     Refused(u64, CertFault),
     /// The part at this place has so many entries, and another number is listed.
     Miscounted(u64, u64),
+    /// There is no list of parts.
+    NotListed,
 }
 
 /// Writes the verdict on the parts of a recording, and answers its status: 0 where their certificates explain them as
@@ -53,13 +55,39 @@ pub fn run_series<R: Read + Drop, C: Read + Drop, P: PartSource<R, C>, W: Write>
     ensures cut { IfErr result (IsCutShort (output W.contents out.old out.new) (FailsIn (P.failed parts.old) (P.failed parts.new))
         (IsSomeSeriesVerdict (series_input profile.now list.now (P.part parts.old)))) }
 {
+    let answer = judge_series(alloc, profile, list, parts)?;
+    Ok(write_series(out, &answer)?)
+}
+
+// Judges the parts, under the profile whose text the bytes are.
+fn judge_series<R: Read + Drop, C: Read + Drop, P: PartSource<R, C>>(
+    alloc: Global,
+    profile: &[u8],
+    list: &[u8],
+    parts: &mut P,
+) -> Result<SeriesAnswer, RunFault>
+    ensures judged { IfOk result (AnswersSeries (series_input profile.now list.now (P.part parts.old))) }
+    ensures works { OnOk result (P.failed parts.old ≡ false → P.failed parts.new ≡ false) }
+    ensures err { IfErr result (IsSeriesFault (series_input profile.now list.now (P.part parts.old)) (P.failed parts.new ≡ true)) }
+{
     let profile = profile_of(alloc, profile)?;
+    judge_list(alloc, &profile, list, parts)
+}
+
+// Judges the parts that a list names, if it is a list.
+fn judge_list<R: Read + Drop, C: Read + Drop, P: PartSource<R, C>>(
+    alloc: Global,
+    profile: &Profile,
+    list: &[u8],
+    parts: &mut P,
+) -> Result<SeriesAnswer, RunFault>
+    ensures judged { IfOk result (IsSeriesAnswer profile.now list.now (P.part parts.old)) }
+    ensures works { OnOk result (P.failed parts.old ≡ false → P.failed parts.new ≡ false) }
+    ensures err { IfErr result (IsListFault profile.now list.now (P.part parts.old) (P.failed parts.new ≡ true)) }
+{
     match read_parts(alloc, list) {
-        Ok(Some(counts)) => {
-            let answer = judge_parts(alloc, &profile, counts.as_slice(), parts)?;
-            Ok(write_series(out, &answer)?)
-        }
-        Ok(None) => Ok(write_not_listed(out)?),
+        Ok(Some(counts)) => judge_parts(alloc, profile, counts.as_slice(), parts),
+        Ok(None) => Ok(SeriesAnswer::NotListed),
         Err(OutOfMemory) => Err(RunFault::Memory),
     }
 }
@@ -71,7 +99,7 @@ fn judge_parts<R: Read + Drop, C: Read + Drop, P: PartSource<R, C>>(
     counts: &[u64],
     parts: &mut P,
 ) -> Result<SeriesAnswer, RunFault>
-    ensures judged { IfOk result (IsSeriesAnswer profile.now (P.part parts.old) counts.now) }
+    ensures judged { IfOk result (IsPartsAnswer profile.now (P.part parts.old) counts.now) }
     ensures works { OnOk result (P.failed parts.old ≡ false → P.failed parts.new ≡ false) }
     ensures err { IfErr result (IsPartsFault profile.now (P.part parts.old) counts.now (P.failed parts.new ≡ true)) }
 {
@@ -131,7 +159,7 @@ fn refused(place: u64, fault: StreamFault) -> Result<SeriesAnswer, RunFault>
     }
 }
 
-// Writes the verdict on parts that are listed, and answers its status.
+// Writes the verdict on the parts, and answers its status.
 fn write_series<W: Write>(out: &mut Tally<W>, answer: &SeriesAnswer) -> Result<u8, Device>
     ensures status { IfOk result (λ status. status ≡ status_of_series answer.now) }
     ensures written { Writes W.contents out.old out.new (text_of_series answer.now) }
@@ -149,7 +177,7 @@ fn status_of(answer: &SeriesAnswer) -> u8
 {
     match answer {
         SeriesAnswer::Files(_) => 0,
-        SeriesAnswer::Refused(..) | SeriesAnswer::Miscounted(..) => 2,
+        SeriesAnswer::Refused(..) | SeriesAnswer::Miscounted(..) | SeriesAnswer::NotListed => 2,
     }
 }
 
@@ -160,6 +188,7 @@ fn put_series<W: Write>(sheet: &mut Sheet<'_, W>, answer: &SeriesAnswer)
         SeriesAnswer::Files(files) => put_yes(sheet, files.as_slice()),
         SeriesAnswer::Refused(place, fault) => put_refused(sheet, *place, *fault),
         SeriesAnswer::Miscounted(place, entries) => put_miscounted(sheet, *place, *entries),
+        SeriesAnswer::NotListed => sheet.put(b"NO parts\n"),
     }
 }
 
@@ -185,17 +214,4 @@ fn put_part<W: Write>(sheet: &mut Sheet<'_, W>, place: u64)
 {
     sheet.put(b"NO part ");
     sheet.put_number(place);
-}
-
-// Writes that the parts are not listed, and answers the status.
-fn write_not_listed<W: Write>(out: &mut Tally<W>) -> Result<u8, Device>
-    ensures status { IfOk result (λ status. status ≡ 2) }
-    ensures written { Writes W.contents out.old out.new (codes "NO parts\n") }
-    ensures device { IsErr result ↔ (has_failed out.new ≡ true) }
-{
-    let mut page = Page::without_room();
-    let mut sheet = Sheet::new(out, &mut page);
-    sheet.put(b"NO parts\n");
-    sheet.finish()?;
-    Ok(2)
 }
