@@ -18,7 +18,6 @@ use Rattle.a429_explain.specs.Whole.{nothing_yet, first_whole, wanted, other_req
 use Rattle.a429_explain.specs.Filled.{filled, group_unit}
 use Rattle.a429_explain.specs.Block.{HasCrossed}
 use Rattle.a429_explain.specs.Guess.{decoded}
-use Rattle.a429_explain.proofs.GroupsFacts.{asked}
 use Rattle.a429_explain.proofs.Thinned.{first_whole-thin, passed_after-thin, other_request-thin, free_sight}
 use Rattle.a429_explain.proofs.CleanBlock.{HasForms, has_forms, formed_sight, block_others, block_whole, block_passed}
 use Rattle.a429_explain.proofs.WholeFacts.{has_item, range_next}
@@ -67,7 +66,7 @@ pub record GivesUnit (p : Contents) (items : List Seen) (from to count : ℕ) (p
   pub is : group_unit p count (slice_range items from to) ≡ Some u
   pub matched : (i : ℕ) → i < to → IsSome (passed_after p.codes u place (slice_range items from (i + 1)) (Some 0))
 
-pub crossed_gives : (p : Contents) → IsProfile p → (items : List Seen) (from to count : ℕ) (place : UnitNumber) (u : LduValue) → from < to → to ≤ length items → wanted (sight_at p.codes (slice_get items from)) ≡ Some count → HasCrossed (decoded p items) (asked (record { from = from; to = to }) count) place u → GivesUnit p items from to count place u
+pub crossed_gives : (p : Contents) → IsProfile p → (items : List Seen) (from to count : ℕ) (place : UnitNumber) (u : LduValue) → from < to → to ≤ length items → wanted (sight_at p.codes (slice_get items from)) ≡ Some count → HasCrossed (decoded p items) (record { group = record { from = from; to = to }; count = count }) place u → GivesUnit p items from to count place u
 crossed_gives p is items from to count place u l m w h =
     let group = slice_range items from to in
     let forms : HasForms p place u = has_forms p is place u h.unit h.file h.ldu in

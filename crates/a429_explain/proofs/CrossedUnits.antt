@@ -8,7 +8,7 @@ use Rattle.a429_profile.proofs.ProfileRanges.{in_range}
 use Rattle.a429_ldu.specs.declared.forms.Form.TheVariants.{Rts}
 use Rattle.a429_ldu.specs.Form.{is_free, word_number}
 use Rattle.a429_ldu.specs.Sight.{sight_of}
-use Rattle.a429_ldu.specs.Ldu.{LduValue, IsLdu, count_of}
+use Rattle.a429_ldu.specs.Ldu.{LduValue, count_of}
 use Rattle.a429_link.specs.declared.seen.Seen.{Seen}
 use Rattle.a429_link.specs.Clean.{on_a, clean_blocks, AllFit, without_free}
 use Rattle.a429_link.specs.Number.{number_after, first_number}
@@ -16,17 +16,14 @@ use Rattle.a429_explain.specs.declared.attempts.Role.{Role}
 use Rattle.a429_explain.specs.declared.groups.Group.{Group}
 use Rattle.a429_explain.specs.declared.groups.Request.{Request}
 use Rattle.a429_link.specs.declared.number.UnitNumber.{UnitNumber}
-use Rattle.a429_explain.specs.declared.stop.Stop.{Stop}
-use Rattle.a429_explain.specs.declared.stop.Stop.TheVariants.{Unexplained, OutOfMemory}
 use Rattle.a429_explain.specs.Attempts.{roles}
 use Rattle.a429_explain.specs.Decoded.{forms_of, sight_at}
 use Rattle.a429_explain.specs.Groups.{group_length, first_started, group_start, ends_its_group, is_settled}
 use Rattle.a429_explain.specs.declared.plan.Plan.{Plan}
-use Rattle.a429_explain.specs.Plan.{place_from, give_ups_from, place_behind, ArePlans, plain}
-use Rattle.a429_explain.specs.Block.{IsMatchedUnit, HasCrossed, IsStopIn}
-use Rattle.a429_explain.specs.Guess.{decoded, place_at_group, place_past, plain_plans, ArePlansFrom, IsStopFrom, HaveCrossed}
+use Rattle.a429_explain.specs.Plan.{place_from, give_ups_from, place_behind, plain}
+use Rattle.a429_explain.specs.Block.{HasCrossed}
+use Rattle.a429_explain.specs.Guess.{decoded, request_at, place_at_group, place_past, plain_plans, HaveCrossed}
 use Rattle.a429_explain.specs.Whole.{wanted}
-use Rattle.a429_explain.proofs.GroupsFacts.{asked, AreSearched, searched_none, searched_free, searched_group, searched_all, searched_doubt}
 use Rattle.a429_explain.proofs.CleanBlock.{formed_sight}
 use Rattle.a429_explain.proofs.CleanGroups.{unit_has_forms, unit_parts}
 use Rattle.a429_explain.proofs.PlainPlans.{plain_past, plain_end, plain_group}
@@ -34,33 +31,17 @@ use Rattle.a429_explain.proofs.WholeFacts.{has_item, drop_next}
 use Rattle.a429_explain.proofs.CrossedUnit.{request_kept}
 use Rattle.a429_link.proofs.NumberFacts.{next_byte}
 
--- ---- where the walk has come to
+-- ---- where the planner has come to
 
--- the link data units that are still to be found behind these
-pub record IsLeft (p : Contents) (items : List Seen) (done : List Plan) (us : List LduValue) (place : UnitNumber) (at : ℕ) : Type 0 where
+-- the link data units that are still to cross from this entry on, the first of them with these numbers
+pub record IsLeft (p : Contents) (items : List Seen) (place : UnitNumber) (at : ℕ) : Type 0 where
   pub rest : List LduValue
-  pub all : plain_plans p.codes 0 us items ≡ done ++ plain_plans p.codes at rest (drop at items)
   pub file : place.file ≤ 255
   pub words : without_free p.codes (drop at items) ≡ clean_blocks p.codes place rest
   pub fit : AllFit p place rest
 
-pub record Finds (p : Contents) (items : List Seen) (rs : List Role) (first : ℕ) (done : List Plan) (place : UnitNumber) (at : ℕ) : Type 0 where
-  pub units : ArePlans p done
-  pub groups : AreSearched p items rs (first_number p.codes first) done place at
-  pub left : (us : List LduValue) → HaveCrossed (decoded p items) first us → IsLeft p items done us place at
-
-pub finds_none : (p : Contents) (items : List Seen) (rs : List Role) (first : ℕ) (done : List Plan) (place : UnitNumber) → first ≤ 255 → done ≡ [] → place ≡ first_number p.codes first → Finds p items rs first done place 0
-finds_none p items rs first done place f none same = record {
-  units = subst (ArePlans p) (sym none) tt;
-  groups = searched_none p items rs _ _ done none same;
-  left = λ us h. record {
-    rest = us;
-    all = ap (λ (xs : List Plan). xs ++ plain_plans p.codes 0 us items) (sym none);
-    file = subst (λ (n : UnitNumber). n.file ≤ 255) (sym same) f;
-    words = h.words ∙ ap (λ (n : UnitNumber). clean_blocks p.codes n us) (sym same);
-    fit = subst (λ (n : UnitNumber). AllFit p n us) (sym same) h.fit;
-  };
-}
+abbrev pub left_all : (p : Contents) (items : List Seen) (first : ℕ) (us : List LduValue) → first ≤ 255 → HaveCrossed (decoded p items) first us → IsLeft p items (first_number p.codes first) 0
+left_all p items first us f h = record { rest = us; file = f; words = h.words; fit = h.fit }
 
 -- ---- a word that is no request
 
@@ -74,28 +55,30 @@ first_wants p is place f (u ∷ us) h i xs w e =
     let asks : wanted (sight_of p.codes i.bus i.word) ≡ Some (count_of u) = ap (λ (x : Seen). wanted (sight_of p.codes x.bus x.word)) same ∙ ap wanted (formed_sight p.codes bus.A (word_number p.codes (Rts (count_of u))) (Rts (count_of u)) said.request) in
     cc (w, asks)
 
-passed_free : (p : Contents) → IsProfile p → (place : UnitNumber) → place.file ≤ 255 → (rest : List LduValue) → AllFit p place rest → (i : Seen) (xs : List Seen) → wanted (sight_of p.codes i.bus i.word) ≡ None → without_free p.codes (i ∷ xs) ≡ clean_blocks p.codes place rest → without_free p.codes xs ≡ clean_blocks p.codes place rest
+pub passed_free : (p : Contents) → IsProfile p → (place : UnitNumber) → place.file ≤ 255 → (rest : List LduValue) → AllFit p place rest → (i : Seen) (xs : List Seen) → wanted (sight_of p.codes i.bus i.word) ≡ None → without_free p.codes (i ∷ xs) ≡ clean_blocks p.codes place rest → without_free p.codes xs ≡ clean_blocks p.codes place rest
 passed_free p is place f rest h i xs w e = by (is_free p.codes i.bus i.word) e
   where
     by : (t : Bool) → cond t (without_free p.codes xs) (i ∷ without_free p.codes xs) ≡ clean_blocks p.codes place rest → without_free p.codes xs ≡ clean_blocks p.codes place rest
     by true e = e
     by false e = absurd (first_wants p is place f rest h i (without_free p.codes xs) w e)
 
-pub finds_free : (p : Contents) → IsProfile p → (items : List Seen) (rs : List Role) (first : ℕ) (done : List Plan) (place : UnitNumber) (at : ℕ) → at < length items → None ≡ wanted (sight_at p.codes (slice_get items at)) → Finds p items rs first done place at → Finds p items rs first done place (at + 1)
-finds_free p is items rs first done place at l w h =
+abbrev pub left_free : (p : Contents) → IsProfile p → (items : List Seen) (place : UnitNumber) (at : ℕ) → at < length items → wanted (sight_at p.codes (slice_get items at)) ≡ None → IsLeft p items place at → IsLeft p items place (at + 1)
+left_free p is items place at l w h =
     let here = has_item items at l in
-    let none : wanted (sight_of p.codes here.item.bus here.item.word) ≡ None = ap (λ (o : Option Seen). wanted (sight_at p.codes o)) (sym here.is) ∙ sym w in
+    let none : wanted (sight_of p.codes here.item.bus here.item.word) ≡ None = ap (λ (o : Option Seen). wanted (sight_at p.codes o)) (sym here.is) ∙ w in
     record {
-      units = h.units;
-      groups = searched_free p items rs _ place done at (sym w) h.groups;
-      left = λ us crossed. let old = h.left us crossed in record {
-        rest = old.rest;
-        all = old.all ∙ ap (λ (xs : List Plan). done ++ xs) (ap (plain_plans p.codes at old.rest) (drop_next items at here.item here.is) ∙ plain_past p.codes at old.rest here.item (drop (at + 1) items) none);
-        file = old.file;
-        words = passed_free p is place old.file old.rest old.fit here.item (drop (at + 1) items) none (ap (without_free p.codes) (sym (drop_next items at here.item here.is)) ∙ old.words);
-        fit = old.fit;
-      };
+      rest = h.rest;
+      file = h.file;
+      words = passed_free p is place h.file h.rest h.fit here.item (drop (at + 1) items) none (ap (without_free p.codes) (sym (drop_next items at here.item here.is)) ∙ h.words);
+      fit = h.fit;
     }
+
+-- no plan is for that word
+pub plans_free : (c : Codes) (items : List Seen) (us : List LduValue) (at : ℕ) → at < length items → wanted (sight_at c (slice_get items at)) ≡ None → plain_plans c at us (drop at items) ≡ plain_plans c (at + 1) us (drop (at + 1) items)
+plans_free c items us at l w =
+    let here = has_item items at l in
+    let none : wanted (sight_of c here.item.bus here.item.word) ≡ None = ap (λ (o : Option Seen). wanted (sight_at c o)) (sym here.is) ∙ w in
+    ap (plain_plans c at us) (drop_next items at here.item here.is) ∙ plain_past c at us here.item (drop (at + 1) items) none
 
 -- ---- a group
 
@@ -110,10 +93,10 @@ get_dropped [] (suc n) k = refl
 get_dropped (r ∷ rs) (suc n) k = let one : suc n + k ≡ suc (n + k) = omega arith in ap (λ (m : ℕ). slice_get (r ∷ rs) m) one ∙ get_dropped rs n k
 
 -- the group is that of the next link data unit
-pub record IsNext (p : Contents) (items : List Seen) (rs : List Role) (done : List Plan) (us : List LduValue) (place : UnitNumber) (r : Request) : Type 0 where
+pub record IsNext (p : Contents) (items : List Seen) (rs : List Role) (rest : List LduValue) (place : UnitNumber) (r : Request) : Type 0 where
   pub unit : LduValue
   pub more : List LduValue
-  pub all : plain_plans p.codes 0 us items ≡ done ++ plain r.group.from unit ∷ plain_plans p.codes r.group.to more (drop r.group.to items)
+  pub plans : plain_plans p.codes r.group.from rest (drop r.group.from items) ≡ plain r.group.from unit ∷ plain_plans p.codes r.group.to more (drop r.group.to items)
   pub file : place.file ≤ 255
   pub crossed : HasCrossed (decoded p items) r place unit
   pub start : group_start rs r.group ≡ Some place
@@ -121,9 +104,9 @@ pub record IsNext (p : Contents) (items : List Seen) (rs : List Role) (done : Li
   pub words : without_free p.codes (drop r.group.to items) ≡ clean_blocks p.codes (number_after p.codes place unit) more
   pub fit : AllFit p (number_after p.codes place unit) more
 
-next_is : (p : Contents) → IsProfile p → (items : List Seen) (done : List Plan) (us : List LduValue) (place : UnitNumber) (at to count : ℕ) (rest : List LduValue) (i : Seen) (xs : List Seen) → to ≡ at + group_length (roles (forms_of p.codes (i ∷ xs))) → place.file ≤ 255 → plain_plans p.codes 0 us items ≡ done ++ plain_plans p.codes at rest (drop at items) → AllFit p place rest → drop at items ≡ i ∷ xs → is_free p.codes i.bus i.word ≡ false → wanted (sight_of p.codes i.bus i.word) ≡ Some count → without_free p.codes (i ∷ xs) ≡ clean_blocks p.codes place rest → IsNext p items (roles (forms_of p.codes items)) done us place (asked (record { from = at; to = to }) count)
-next_is p is items done us place at to count [] i xs t f all h list kept w e = absurd (let none : i ∷ without_free p.codes xs ≡ [] = sym (ap (λ (b : Bool). cond b (without_free p.codes xs) (i ∷ without_free p.codes xs)) kept) ∙ e in cc none)
-next_is p is items done us place at to count (u ∷ more) i xs t f all h list kept w e =
+next_is : (p : Contents) → IsProfile p → (items : List Seen) (place : UnitNumber) (at to count : ℕ) (rest : List LduValue) (i : Seen) (xs : List Seen) → to ≡ at + group_length (roles (forms_of p.codes (i ∷ xs))) → place.file ≤ 255 → AllFit p place rest → drop at items ≡ i ∷ xs → is_free p.codes i.bus i.word ≡ false → wanted (sight_of p.codes i.bus i.word) ≡ Some count → without_free p.codes (i ∷ xs) ≡ clean_blocks p.codes place rest → IsNext p items (roles (forms_of p.codes items)) rest place (record { group = record { from = at; to = to }; count = count })
+next_is p is items place at to count [] i xs t f h list kept w e = absurd (let none : i ∷ without_free p.codes xs ≡ [] = sym (ap (λ (b : Bool). cond b (without_free p.codes xs) (i ∷ without_free p.codes xs)) kept) ∙ e in cc none)
+next_is p is items place at to count (u ∷ more) i xs t f h list kept w e =
     let n = group_length (roles (forms_of p.codes (i ∷ xs))) in
     let found = unit_parts p is place u more i xs f h kept e in
     let parts = found.parts in
@@ -140,7 +123,7 @@ next_is p is items done us place at to count (u ∷ more) i xs t f all h list ke
     record {
       unit = u;
       more = more;
-      all = all ∙ ap (λ (ps : List Plan). done ++ ps) (ap (plain_plans p.codes at (u ∷ more)) list ∙ plans ∙ ap (λ (m : ℕ). plain at u ∷ plain_plans p.codes m more (drop (n - 1) xs)) ends ∙ ap (λ (ys : List Seen). plain at u ∷ plain_plans p.codes to more ys) behind);
+      plans = ap (plain_plans p.codes at (u ∷ more)) list ∙ plans ∙ ap (λ (m : ℕ). plain at u ∷ plain_plans p.codes m more (drop (n - 1) xs)) ends ∙ ap (λ (ys : List Seen). plain at u ∷ plain_plans p.codes to more ys) behind;
       file = f;
       crossed = record {
         unit = h.0;
@@ -154,16 +137,14 @@ next_is p is items done us place at to count (u ∷ more) i xs t f all h list ke
       fit = h.2;
     }
 
-pub finds_group : (p : Contents) → IsProfile p → (items : List Seen) (rs : List Role) (first : ℕ) (done : List Plan) (place : UnitNumber) (at from to count : ℕ) → rs ≡ roles (forms_of p.codes items) → at < length items → from ≡ at → to ≡ at + group_length (drop at rs) → Some count ≡ wanted (sight_at p.codes (slice_get items at)) → Finds p items rs first done place at → (us : List LduValue) → HaveCrossed (decoded p items) first us → IsNext p items rs done us place (asked (record { from = from; to = to }) count)
-finds_group p is items rs first done place at from to count r l same t w h us crossed =
-    let old = h.left us crossed in
+pub next_group : (p : Contents) → IsProfile p → (items : List Seen) (place : UnitNumber) (at count : ℕ) → at < length items → wanted (sight_at p.codes (slice_get items at)) ≡ Some count → (h : IsLeft p items place at) → IsNext p items (roles (forms_of p.codes items)) h.rest place (request_at (roles (forms_of p.codes items)) at count)
+next_group p is items place at count l w h =
     let here = has_item items at l in
-    let asks : wanted (sight_of p.codes here.item.bus here.item.word) ≡ Some count = ap (λ (o : Option Seen). wanted (sight_at p.codes o)) (sym here.is) ∙ sym w in
+    let asks : wanted (sight_of p.codes here.item.bus here.item.word) ≡ Some count = ap (λ (o : Option Seen). wanted (sight_at p.codes o)) (sym here.is) ∙ w in
     let kept = request_kept p.codes here.item count asks in
     let list : drop at items ≡ here.item ∷ drop (at + 1) items = drop_next items at here.item here.is in
-    let goes : group_length (drop at rs) ≡ group_length (roles (forms_of p.codes (here.item ∷ drop (at + 1) items))) = ap (λ (xs : List Role). group_length (drop at xs)) r ∙ ap group_length (roles-drop p.codes items at) ∙ ap (λ (ys : List Seen). group_length (roles (forms_of p.codes ys))) list in
-    let next = next_is p is items done us place at to count old.rest here.item (drop (at + 1) items) (t ∙ ap (λ (n : ℕ). at + n) goes) old.file old.all old.fit list kept asks (ap (without_free p.codes) (sym list) ∙ old.words) in
-    subst (λ (n : ℕ). IsNext p items rs done us place (asked (record { from = n; to = to }) count)) (sym same) (subst (λ (xs : List Role). IsNext p items xs done us place (asked (record { from = at; to = to }) count)) (sym r) next)
+    let goes : group_length (drop at (roles (forms_of p.codes items))) ≡ group_length (roles (forms_of p.codes (here.item ∷ drop (at + 1) items))) = ap group_length (roles-drop p.codes items at) ∙ ap (λ (ys : List Seen). group_length (roles (forms_of p.codes ys))) list in
+    next_is p is items place at (at + group_length (drop at (roles (forms_of p.codes items)))) count h.rest here.item (drop (at + 1) items) (ap (λ (n : ℕ). at + n) goes) h.file h.fit list kept asks (ap (without_free p.codes) (sym list) ∙ h.words)
 
 -- a group without loss begins and ends under the numbers that the source comes to it with, and no file is given up
 no_more : (place : UnitNumber) → place.file ≤ 255 → give_ups_from place (Some place) ≡ 0
@@ -172,56 +153,26 @@ no_more place l = omega arith
 same_place : (c : Codes) (place : UnitNumber) → place_from c place (Some place) ≡ place
 same_place c place = ap (λ (b : Bool). cond b place (first_number c place.file)) (eq-eqb place.file place.file refl)
 
-pub next_place : (p : Contents) (items : List Seen) (rs : List Role) (done : List Plan) (us : List LduValue) (place : UnitNumber) (r : Request) → IsNext p items rs done us place r → place_at_group p.codes rs r.group place ≡ place
-next_place p items rs done us place r h = ap (place_from p.codes place) h.start ∙ same_place p.codes place
+pub next_place : (p : Contents) (items : List Seen) (rs : List Role) (rest : List LduValue) (place : UnitNumber) (r : Request) → IsNext p items rs rest place r → place_at_group p.codes rs r.group place ≡ place
+next_place p items rs rest place r h = ap (place_from p.codes place) h.start ∙ same_place p.codes place
 
-next_plan : (p : Contents) (items : List Seen) (rs : List Role) (done : List Plan) (us : List LduValue) (place : UnitNumber) (r : Request) (plan : Plan) (h : IsNext p items rs done us place r) → plan.at ≡ r.group.from → plan.give_ups ≡ give_ups_from place (group_start rs r.group) → plan.unit ≡ h.unit → plan ≡ plain r.group.from h.unit
-next_plan p items rs done us place r plan h here gives same = ap (λ (n : ℕ). planned n plan.give_ups plan.unit) here ∙ ap (λ (n : ℕ). planned r.group.from n plan.unit) (gives ∙ ap (give_ups_from place) h.start ∙ no_more place h.file) ∙ ap (planned r.group.from 0) same
+pub next_plan : (p : Contents) (items : List Seen) (rs : List Role) (rest : List LduValue) (place : UnitNumber) (r : Request) (plan : Plan) (h : IsNext p items rs rest place r) → plan.at ≡ r.group.from → plan.give_ups ≡ give_ups_from place (group_start rs r.group) → plan.unit ≡ h.unit → plan ≡ plain r.group.from h.unit
+next_plan p items rs rest place r plan h here gives same = ap (λ (n : ℕ). planned n plan.give_ups plan.unit) here ∙ ap (λ (n : ℕ). planned r.group.from n plan.unit) (gives ∙ ap (give_ups_from place) h.start ∙ no_more place h.file) ∙ ap (planned r.group.from 0) same
   where
     planned : ℕ → ℕ → LduValue → Plan
     planned at n u = record { at = at; give_ups = n; unit = u }
 
-next_number_is : (p : Contents) (items : List Seen) (rs : List Role) (done : List Plan) (us : List LduValue) (place : UnitNumber) (r : Request) (u : LduValue) (h : IsNext p items rs done us place r) → u ≡ h.unit → place_past p.codes rs r.group place u ≡ number_after p.codes place h.unit
-next_number_is p items rs done us place r u h same =
+pub next_number_is : (p : Contents) (items : List Seen) (rs : List Role) (rest : List LduValue) (place : UnitNumber) (r : Request) (u : LduValue) (h : IsNext p items rs rest place r) → u ≡ h.unit → place_past p.codes rs r.group place u ≡ number_after p.codes place h.unit
+next_number_is p items rs rest place r u h same =
     ap (place_behind p.codes (place_at_group p.codes rs r.group place) u) h.settled
-    ∙ ap (λ (n : UnitNumber). number_after p.codes n u) (next_place p items rs done us place r h)
+    ∙ ap (λ (n : UnitNumber). number_after p.codes n u) (next_place p items rs rest place r h)
     ∙ ap (number_after p.codes place) same
 
-units_push : (p : Contents) (plans : List Plan) (plan : Plan) → ArePlans p plans → IsLdu p plan.unit → ArePlans p (plans ++ plan ∷ [])
-units_push p [] plan h k = (k, tt)
-units_push p (v ∷ plans) plan h k = (h.0, units_push p plans plan h.1 k)
-
--- the plan that is found is the next one, and the walk goes on behind its group
-pub finds_next : (p : Contents) (items : List Seen) (rs : List Role) (first : ℕ) (done new : List Plan) (place next : UnitNumber) (at wants : ℕ) (g : Group) (plan : Plan) → g.from ≡ at → g.to ≡ at + group_length (drop at rs) → wanted (sight_at p.codes (slice_get items at)) ≡ Some wants → plan.at ≡ at → plan.give_ups ≡ give_ups_from place (group_start rs g) → IsMatchedUnit (decoded p items) (asked g wants) (place_at_group p.codes rs g place) plan.unit → new ≡ done ++ plan ∷ [] → next ≡ place_past p.codes rs g place plan.unit → ((u : LduValue) → HasCrossed (decoded p items) (asked g wants) (place_at_group p.codes rs g place) u → plan.unit ≡ u) → ((us : List LduValue) → HaveCrossed (decoded p items) first us → IsNext p items rs done us place (asked g wants)) → Finds p items rs first done place at → Finds p items rs first new next g.to
-finds_next p items rs first done new place next at wants g plan from to asks here gives unit_is pushed number found group h = record {
-  units = subst (ArePlans p) (sym pushed) (units_push p done plan h.units unit_is.gives.unit);
-  groups = searched_group p items rs _ place next done new at wants g plan from to asks here gives unit_is pushed number h.groups;
-  left = λ us crossed.
-      let k = group us crossed in
-      let same : plan.unit ≡ k.unit = found k.unit (subst (λ (n : UnitNumber). HasCrossed (decoded p items) (asked g wants) n k.unit) (sym (next_place p items rs done us place (asked g wants) k)) k.crossed) in
-      let more = plain_plans p.codes g.to k.more (drop g.to items) in
-      let after : next ≡ number_after p.codes place k.unit = number ∙ next_number_is p items rs done us place (asked g wants) plan.unit k same in
-      record {
-        rest = k.more;
-        all = k.all ∙ sym (append_assoc done (plain g.from k.unit ∷ []) more) ∙ ap (λ (xs : List Plan). xs ++ more) (sym (pushed ∙ ap (λ (x : Plan). done ++ x ∷ []) (next_plan p items rs done us place (asked g wants) plan k (here ∙ sym from) gives same)));
-        file = subst (λ (n : UnitNumber). n.file ≤ 255) (sym after) (next_byte p.codes place _ k.file);
-        words = k.words ∙ ap (λ (n : UnitNumber). clean_blocks p.codes n k.more) (sym after);
-        fit = subst (λ (n : UnitNumber). AllFit p n k.more) (sym after) k.fit;
-      };
+-- the link data units after it are left
+abbrev pub left_group : (p : Contents) (items : List Seen) (rs : List Role) (rest : List LduValue) (place next : UnitNumber) (r : Request) (h : IsNext p items rs rest place r) → next ≡ number_after p.codes place h.unit → IsLeft p items next r.group.to
+left_group p items rs rest place next r h after = record {
+  rest = h.more;
+  file = subst (λ (n : UnitNumber). n.file ≤ 255) (sym after) (next_byte p.codes place _ h.file);
+  words = h.words ∙ ap (λ (n : UnitNumber). clean_blocks p.codes n h.more) (sym after);
+  fit = subst (λ (n : UnitNumber). AllFit p n h.more) (sym after) h.fit;
 }
-
--- ---- the end
-
-pub finds_all : (p : Contents) (items : List Seen) (rs : List Role) (first : ℕ) (done : List Plan) (place : UnitNumber) (at : ℕ) → length items ≤ at → Finds p items rs first done place at → (us : List LduValue) → HaveCrossed (decoded p items) first us → done ≡ plain_plans p.codes 0 us items
-finds_all p items rs first done place at l h us crossed =
-    let old = h.left us crossed in
-    sym (old.all ∙ ap (λ (xs : List Plan). done ++ xs) (ap (plain_plans p.codes at old.rest) (drop_all at items l) ∙ plain_end p.codes at old.rest) ∙ append-nil done)
-
--- those that are found are those of the groups
-pub finds_groups : (p : Contents) (items : List Seen) (rs : List Role) (first : ℕ) (done : List Plan) (place : UnitNumber) (at : ℕ) → length items ≤ at → Finds p items rs first done place at → ArePlansFrom (decoded p items) rs first done
-finds_groups p items rs first done place at l h = searched_all p items rs _ place done at l h.groups
-
--- or a group is doubted
-pub finds_doubt : (p : Contents) (items : List Seen) (rs : List Role) (first : ℕ) (done : List Plan) (place : UnitNumber) (at wants : ℕ) (g : Group) (stop : Stop) → g.from ≡ at → g.to ≡ at + group_length (drop at rs) → wanted (sight_at p.codes (slice_get items at)) ≡ Some wants → IsStopIn (decoded p items) (asked g wants) (place_at_group p.codes rs g place) stop → Finds p items rs first done place at → IsStopFrom (decoded p items) rs first stop
-finds_doubt p items rs first done place at wants g (Unexplained i doubt) from to asks is h = record { plans = done; are = searched_doubt p items rs _ place done at wants i doubt g from to asks is h.groups }
-finds_doubt p items rs first done place at wants g OutOfMemory from to asks is h = tt

@@ -19,3 +19,5 @@ pub mod GroupsFacts
 pub mod FilledFacts
 pub mod CrossedUnit
 pub mod CrossedUnits
+pub mod PlannerFacts
+pub mod LeftUnits

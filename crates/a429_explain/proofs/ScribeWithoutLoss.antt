@@ -23,10 +23,9 @@ use Rattle.a429_cert.specs.Explained.{seen_of, items_of}
 use Rattle.a429_link.specs.declared.number.UnitNumber.{UnitNumber}
 use Rattle.a429_explain.specs.declared.attempts.Role.{Role}
 use Rattle.a429_explain.specs.declared.attempts.Role.TheVariants as role
-use Rattle.a429_explain.specs.declared.guess.Guess.{Guess}
 use Rattle.a429_explain.specs.declared.plan.Plan.{Plan}
 use Rattle.a429_explain.specs.Plan.{plain, plan_for, plans_left}
-use Rattle.a429_explain.specs.Guess.{decoded, plain_plans, IsOfCrossing}
+use Rattle.a429_explain.specs.Guess.{decoded, plain_plans, HaveCrossed}
 use Rattle.a429_explain.specs.Whole.{wanted}
 use Rattle.a429_explain.specs.Attempts.{attempt_start, sends_block as sends_words, are_numbers, role_of, roles}
 use Rattle.a429_explain.specs.Decoded.{forms_of}
@@ -238,21 +237,20 @@ planned_clean p is (u ∷ us) place f h =
 -- ---- the whole recording
 
 -- a recording without loss is on plan at its start
-pub plan_starts : (p : Contents) → IsProfile p → (items : List Seen) (g : Guess) (l : LinkValue) → g.first_file ≤ 255 → IsOfCrossing (decoded p items) g → l ≡ record { profile = p; state = start p g.first_file } → OnPlan p items 0 g.plans.items l
-plan_starts p is items g l f h same =
-    let us = h.units in
-    let place = first_number p.codes g.first_file in
+pub plan_starts : (p : Contents) → IsProfile p → (items : List Seen) (first : ℕ) (us : List LduValue) (l : LinkValue) → first ≤ 255 → HaveCrossed (decoded p items) first us → l ≡ record { profile = p; state = start p first } → OnPlan p items 0 (plain_plans p.codes 0 us items) l
+plan_starts p is items first us l f h same =
+    let place = first_number p.codes first in
     rw same (record {
       profile = refl;
       units = us;
-      plans_are = h.plans_are;
+      plans_are = refl;
       groups = clean_steps p.codes place us;
-      run = (clean_is_run p g.first_file us items is f h.crossed.fit h.crossed.words).run;
-      planned = subst (λ (xs : List Seen). AreLosslessSteps p.codes xs (clean_steps p.codes place us) us) (sym h.crossed.words) (planned_clean p is us place f h.crossed.fit);
+      run = (clean_is_run p first us items is f h.fit h.words).run;
+      planned = subst (λ (xs : List Seen). AreLosslessSteps p.codes xs (clean_steps p.codes place us) us) (sym h.words) (planned_clean p is us place f h.fit);
     })
 
 -- the role of an entry
-role_at : (c : Codes) (items : List Seen) (n : ℕ) (i : Seen) (r : Role) → n < length items → get_or (roles (forms_of c items)) n r ≡ role_in c (get_or items n i) (drop (suc n) items)
+pub role_at : (c : Codes) (items : List Seen) (n : ℕ) (i : Seen) (r : Role) → n < length items → get_or (roles (forms_of c items)) n r ≡ role_in c (get_or items n i) (drop (suc n) items)
 role_at c [] n i r l = absurd (omega arith)
 role_at c (x ∷ items) zero i r l = refl
 role_at c (x ∷ items) (suc n) i r l = role_at c items n i r (omega arith)

@@ -6,13 +6,14 @@ use Rattle.a429_link.specs.declared.step.Step.{Step}
 use Rattle.a429_link.specs.State.{start}
 use Rattle.a429_link.specs.Run.{IsRun, end_of, trace, BeginsARun}
 use Rattle.a429_cert.specs.Version.{least_version}
-use Rattle.a429_cert.specs.Explained.{Explains}
+use Rattle.a429_cert.specs.Explained.{Explains, IsExplained, AreInEveryRun}
 use Rattle.a429_cert.specs.declared.fault.CertFault.{CertFault}
 use Rattle.a429_cert.specs.Fault.{IsFirstCertFault}
 use Rattle.a429_explain.specs.declared.attempts.Role.{Role}
 use Rattle.a429_explain.specs.declared.guess.Guess.{Guess}
 use Rattle.a429_explain.specs.Plan.{plan_for, plans_after}
 use Rattle.a429_explain.specs.Scribe.{CannotWrite}
+use Rattle.a429_explain.specs.declared.explanation.Explanation.{Explanation}
 use Rattle.a429_explain.specs.declared.explanation.Refusal.{Refusal}
 use Rattle.a429_explain.specs.declared.explanation.Refusal.TheVariants.{NotReplayed, OutOfMemory}
 
@@ -26,6 +27,14 @@ pub record HasLeastVersion (p : Contents) (certificate : List ℕ) (items : List
   pub steps : List Step
   pub explains : Explains p certificate items first steps
   pub least : explains.version ≡ least_version steps
+
+-- a certificate that lists a run of these words, without a fault and of the least version, and the files that every run that
+-- records them delivers
+pub record IsExplanationOf (p : Contents) (items : List Seen) (e : Explanation) : Type 0 where
+  pub explained : IsExplained p e.certificate items e.files
+  pub every : AreInEveryRun p items e.files
+  pub accepted : HasNoFault p e.certificate items
+  pub version : HasLeastVersion p e.certificate items
 
 -- a run from the guess's first file records the entries before this one, and from where it leads this entry, in the role and
 -- with the plan that the guess has for it, cannot be written

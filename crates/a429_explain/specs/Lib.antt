@@ -16,3 +16,4 @@ pub mod Whole
 pub mod Filled
 pub mod Block
 pub mod Guess
+pub mod Planner

@@ -1,9 +1,12 @@
 //! The certificate of a run that is guessed.
 
-ghost use Rattle.std.specs.Prelude.{◌≡◌, ◌≢◌, IfOk, IfErr};
+ghost use Rattle.std.specs.Prelude.{◌≡◌, ◌≢◌, ℕ, List, IfOk, IfErr};
+ghost use Rattle.a429_profile.specs.Profile.{IsProfile};
+ghost use Rattle.a429_link.specs.declared.seen.Seen.{Seen};
 ghost use Rattle.a429_cert.specs.Explained.{items_of, IsExplained, AreInEveryRun};
-ghost use Rattle.a429_explain.specs.Explanation.{HasNoFault, HasLeastVersion, IsWhyNotWritten};
+ghost use Rattle.a429_explain.specs.Explanation.{HasNoFault, HasLeastVersion, IsExplanationOf, IsWhyNotWritten};
 ghost use Rattle.a429_explain.specs.Guess.{decoded, IsGuess, IsOfCrossing};
+ghost use Rattle.a429_explain.specs.Scribe.{Wrote};
 
 use crate::certificate::Certificate;
 use crate::guess::Guess;
@@ -65,15 +68,22 @@ pub fn explain_by(
             Err(fault) => return Err(refused_at(at, fault)),
         }
     }
-    let (certificate, files) = scribe.into_parts();
-    Ok(Explanation {
-        certificate,
-        files: Verified::new(files),
-    })
+    Ok(explanation_of(scribe))
 }
 
-// Why the steps of an entry are not made.
-fn refused_at(entry: usize, fault: StepFault) -> Refusal
+/// What a scribe has written, where it has written each entry.
+pub(crate) fn explanation_of(scribe: Scribe<'_>) -> Explanation
+    ensures { (first : ℕ) (items : List Seen) → IsProfile scribe.entry.link.profile → Wrote first items scribe.entry → IsExplanationOf scribe.entry.link.profile items result }
+{
+    let (certificate, files) = scribe.into_parts();
+    Explanation {
+        certificate,
+        files: Verified::new(files),
+    }
+}
+
+/// Why the steps of an entry are not made.
+pub(crate) fn refused_at(entry: usize, fault: StepFault) -> Refusal
     ensures memory { fault ≡ StepFault.OutOfMemory → result ≡ Refusal.OutOfMemory }
     ensures step { fault ≢ StepFault.OutOfMemory → result ≡ Refusal.NotReplayed entry }
 {

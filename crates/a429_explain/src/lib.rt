@@ -16,6 +16,7 @@ mod matching;
 mod next;
 mod note;
 mod plan;
+mod planner;
 mod screening;
 mod scribe;
 mod stop;

@@ -6,21 +6,19 @@ use Rattle.a429_ldu.specs.Ldu.{IsLdu}
 use Rattle.a429_link.specs.declared.seen.Seen.{Seen}
 use Rattle.a429_link.specs.Link.{LinkValue}
 use Rattle.a429_link.specs.Run.{BeginsARun}
-use Rattle.a429_cert.specs.Explained.{items_of, IsExplained, AreInEveryRun}
-use Rattle.a429_cert.proofs.NoFault.{no_fault}
-use Rattle.a429_cert.proofs.ExplainedFacts.{in_every_run}
+use Rattle.a429_cert.specs.Explained.{items_of}
+use Rattle.a429_profile.specs.Profile.{Contents, IsProfile}
 use Rattle.a429_explain.specs.declared.plan.Plan.{Plan}
-use Rattle.a429_explain.specs.Explanation.{HasLeastVersion, IsRefusedAt}
+use Rattle.a429_explain.specs.Explanation.{IsExplanationOf, IsRefusedAt}
 use Rattle.a429_explain.specs.Guess.{decoded, IsOfCrossing}
 use Rattle.a429_explain.specs.Plan.{ArePlans, plan_for, plans_left}
-use Rattle.a429_explain.specs.Note.{in_version}
 use Rattle.a429_explain.specs.Scribe.{Wrote}
 use Rattle.a429_explain.proofs.MatchingFacts.{length-items_of}
 use Rattle.a429_explain.proofs.PlanFacts.{plan_fits, left_fit, after_more}
-use Rattle.a429_explain.proofs.ScribeFacts.{certificate_written, version_written, run_begun, why_refused, refused_next}
-use Rattle.a429_explain.proofs.ScribeWithoutLoss.{Goes, entries_next, entry_next, goes_run, goes_lossless, plan_kept, plan_starts}
+use Rattle.a429_explain.proofs.ScribeFacts.{run_begun, why_refused, refused_next}
+use Rattle.a429_explain.proofs.ScribeWithoutLoss.{OnPlan, Goes, entries_next, entry_next, goes_run, goes_lossless, plan_kept, plan_starts}
 use Rattle.a429_explain.proofs.explanation.explain_by.Goals as goal
-use Rattle.a429_explain.proofs.explanation.explain_by.Goals.{After-seen, After-into_parts-certificate}
+use Rattle.a429_explain.proofs.explanation.explain_by.Goals.{After-seen, After-explanation_of}
 
 -- of a recording without loss the next entry is on plan
 goes : (a : After-seen) → IsOfCrossing (decoded a.args.profile.now (items_of a.args.entries.now)) a.args.guess → Goes a.args.profile.now a.seen.result (drop (a.loop-at.at + 1) (items_of a.args.entries.now)) a.loop-at.at a.index-role.result.now a.loop-at.plans.items a.loop-at.scribe.link
@@ -32,7 +30,7 @@ loop-at-init c = record {
   plans = c.requires.plans;
   written = c.new-scribe.ensures.written;
   left = refl;
-  plan = λ h. plan_starts c.args.profile.now c.codes-codes.ensures.sound (items_of c.args.entries.now) c.args.guess c.new-scribe.result.link c.new-scribe.ensures.written.byte h c.new-scribe.ensures.start;
+  plan = λ h. subst (λ (ps : List Plan). OnPlan c.args.profile.now (items_of c.args.entries.now) 0 ps c.new-scribe.result.link) (sym h.plans_are) (plan_starts c.args.profile.now c.codes-codes.ensures.sound (items_of c.args.entries.now) c.args.guess.first_file h.units c.new-scribe.result.link c.new-scribe.ensures.written.byte h.crossed c.new-scribe.ensures.start);
 }
 
 pub write_entry-requires : goal.write_entry-requires
@@ -80,38 +78,26 @@ loop-at-preserved c =
     }
 
 -- all entries are written
-all_written : (a : After-into_parts-certificate) → Wrote a.args.guess.first_file (items_of a.args.entries.now) a.loop-at.scribe
+all_written : (a : After-explanation_of) → Wrote a.args.guess.first_file (items_of a.args.entries.now) a.loop-at.scribe
 all_written a =
     let items = items_of a.args.entries.now in
     let all : take a.loop-at.at items ≡ items = take_all a.loop-at.at items (omega (arith, a.loop-at-test.false, length-items_of a.args.entries.now)) in
     subst (λ (xs : List Seen). Wrote a.args.guess.first_file xs a.loop-at.scribe) all a.loop-at.invariant.written
 
-explained : (a : After-into_parts-certificate) → IsExplained a.args.profile.now a.into_parts-certificate.result.0 (items_of a.args.entries.now) a.into_parts-certificate.result.1.items
+-- what the scribe has written is of all entries
+explained : (a : After-explanation_of) → IsExplanationOf a.args.profile.now (items_of a.args.entries.now) a.explanation_of.result
 explained a =
-    let items = items_of a.args.entries.now in
-    let s = a.loop-at.scribe in
-    let here = subst (λ q. IsExplained q (in_version s.gave_up s.lines) items s.link.state.sink.received.files) a.loop-at.invariant.profile (certificate_written items a.args.guess.first_file s.lines s.gave_up s.link (all_written a)) in
-    rw (a.into_parts-certificate.ensures.text, a.into_parts-certificate.ensures.files) here
+    let same = a.loop-at.invariant.profile in
+    subst (λ (q : Contents). IsExplanationOf q (items_of a.args.entries.now) a.explanation_of.result) same (a.explanation_of.ensures a.args.guess.first_file (items_of a.args.entries.now) (subst IsProfile (sym same) a.codes-codes.ensures.sound) (all_written a))
 
 pub returns-clause-explained : goal.returns-clause-explained
-returns-clause-explained c = rw (c.new-2.ensures) (explained (goal.at.returns-clause-explained c).After-into_parts-certificate)
+returns-clause-explained c = (explained (goal.at.returns-clause-explained c).After-explanation_of).explained
 
 pub returns-clause-every : goal.returns-clause-every
-returns-clause-every c =
-    let items = items_of c.args.entries.now in
-    let r = c.into_parts-certificate.result in
-    subst (AreInEveryRun c.args.profile.now items) (sym c.new-2.ensures) (in_every_run c.args.profile.now c.codes-codes.ensures.sound r.0 items r.1.items (explained (goal.at.returns-clause-every c).After-into_parts-certificate))
+returns-clause-every c = (explained (goal.at.returns-clause-every c).After-explanation_of).every
 
 pub returns-clause-accepted : goal.returns-clause-accepted
-returns-clause-accepted c = λ f h.
-    let items = items_of c.args.entries.now in
-    let here = explained (goal.at.returns-clause-accepted c).After-into_parts-certificate in
-    no_fault c.args.profile.now c.into_parts-certificate.result.0 items here.first here.steps f here.explains h
+returns-clause-accepted c = (explained (goal.at.returns-clause-accepted c).After-explanation_of).accepted
 
 pub returns-clause-version : goal.returns-clause-version
-returns-clause-version c =
-    let items = items_of c.args.entries.now in
-    let s = c.loop-at.scribe in
-    let all = all_written (goal.at.returns-clause-version c).After-into_parts-certificate in
-    let here = subst (λ q. HasLeastVersion q (in_version s.gave_up s.lines) items) c.loop-at.invariant.profile (version_written items c.args.guess.first_file s.lines s.gave_up s.link all) in
-    rw (c.into_parts-certificate.ensures.text) here
+returns-clause-version c = (explained (goal.at.returns-clause-version c).After-explanation_of).version
