@@ -1,5 +1,5 @@
 -- The lines of the last words of a block, which are lost.
-use Rattle.std.proofs.Common.{◌≡◌, ◌<◌, ◌≤◌, ◌+◌, ◌-◌, ◌^◌, ℕ, zero, suc, Bool, List, [], ◌∷◌, ◌++◌, None, refl, sym, ap, ◌∙◌, subst, arith, append_assoc}
+use Rattle.std.proofs.Common.{◌≡◌, ◌<◌, ◌≤◌, ◌+◌, ◌-◌, ℕ, zero, suc, Bool, List, [], ◌∷◌, ◌++◌, None, refl, sym, ap, ◌∙◌, subst, arith, append_assoc}
 use Rattle.std.specs.Fmt.{decimal}
 use Rattle.std.specs.List.{AllByRecursion}
 use Rattle.a429_profile.specs.Profile.{Contents}
@@ -24,7 +24,7 @@ use Rattle.a429_cert.specs.States.{sink_text, source_text}
 use Rattle.a429_explain.specs.declared.scribe.Scribe.{Scribe}
 use Rattle.a429_explain.specs.Next.{lost}
 use Rattle.a429_explain.specs.Note.{line_after, lost_head, rest_lines}
-use Rattle.a429_explain.specs.Scribe.{HasWritten, WritesNext, link_after, IsClosing, Closes, ClosesOn}
+use Rattle.a429_explain.specs.Scribe.{HasWritten, WritesNext, link_after, IsClosing, ClosesOn}
 use Rattle.a429_explain.proofs.ScribeFacts.{written_on, line_at, line_is, or-false, end_both}
 
 -- ---- their text

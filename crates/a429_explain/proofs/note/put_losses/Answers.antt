@@ -1,4 +1,4 @@
-use Rattle.std.proofs.Common.{◌≡◌, ◌++◌, ◌≤◌, ◌-◌, ◌∙◌, ℕ, List, [], refl, ap, arith}
+use Rattle.std.proofs.Common.{◌++◌, ◌≤◌, ◌-◌, ◌∙◌, ℕ, List, [], refl, ap, arith}
 use Rattle.a429_link.specs.declared.state.SourceState.TheVariants.{Sending}
 use Rattle.a429_word.proofs.SheetFacts.{◌▹◌, says_nothing}
 use Rattle.a429_cert.specs.declared.line.CertLine.TheVariants.{Moved}
