@@ -1,5 +1,5 @@
 -- What `keep` writes, and what it leaves after a fault.
-use Rattle.std.proofs.Common.{◌≡◌, ℕ, List, [], ◌∷◌, true, false, Option, Some, None, inl}
+use Rattle.std.proofs.Common.{◌≡◌, ℕ, List, [], ◌∷◌, true, false, Option, Some, None, inl, inr}
 use Rattle.std.specs.Prelude.{IfSome}
 use Rattle.a429_word.specs.declared.sheet.Sheet.{Sheet}
 use Rattle.a429_word.specs.declared.tally.Tally.{Tally}
@@ -15,7 +15,11 @@ use Rattle.a429_record.specs.Rows.{Stops}
 use Rattle.a429_parts.specs.Keeping.{BeginsWith, KeepsAll, KeepsUntil, kept_text, kept_text_before, with_entries}
 use Rattle.a429_check.specs.Output.{Output, output}
 use Rattle.a429_check.specs.Streaming.{reported}
-use Rattle.a429_check.specs.Keep.{FailsKept, GainsUntil, PutsKept, PutsKeptUntil}
+use Rattle.a429_profile.specs.Profile.{Contents}
+use Rattle.a429_check.specs.declared.fault.RunFault.{RunFault}
+use Rattle.a429_check.specs.declared.fault.RunFault.TheVariants as run
+use Rattle.a429_check.specs.Profile.{IsProfileOf}
+use Rattle.a429_check.specs.Keep.{FailsKept, GainsBegun, GainsUntil, LeavesKept, PutsKept, PutsKeptUntil}
 
 -- these entries come before this fault
 abbrev pub ComesAfter : Option Recording → List Entry → ReadFault → Type 0
@@ -53,3 +57,22 @@ fails_until c rec fault until written failed = record { failed = failed; entries
 -- the sheet's output, by its last value
 pub gains_rows : {W : Type 0} (contents : W → Option (List ℕ)) {a b : Sheet W} (old new : Tally W) (c : Codes) (rec : Option Recording) (fault : ReadFault) (until : KeepsUntil contents c rec a b fault) → Writes contents old new (kept_text_before c until.entries) → has_failed new ≡ false → GainsUntil (output contents old new) rec (reported fault) c
 gains_rows contents old new c rec fault until written works = rows_until (output contents old new) rec c fault (record { entries = until.entries; stops = until.stops; puts = written.all works })
+
+-- what is left, by the profile whose text the bytes are
+pub leaves_kept : {W : Type 0} (profile : List ℕ) (p : Contents) (o : Output W) (rec : Option Recording) (e : RunFault) → IsProfileOf profile p → GainsBegun o rec e p.codes → LeavesKept o profile rec e
+leaves_kept profile p o rec (run.Read f) is (inl h) = absurd (cc h.0)
+leaves_kept profile p o rec (run.Read f) is (inr h) = (p, is, h)
+leaves_kept profile p o rec run.Device is (inl h) = absurd (cc h.0)
+leaves_kept profile p o rec run.Device is (inr h) = (p, is, h)
+leaves_kept profile p o rec run.Memory is (inl h) = inl h.1
+leaves_kept profile p o rec run.Memory is (inr h) = inr (p, is, h)
+leaves_kept profile p o rec (run.Profile f) is (inl h) = h.1
+leaves_kept profile p o rec (run.Profile f) is (inr h) = absurd h
+leaves_kept profile p o rec (run.Cut k f) is (inl h) = absurd (cc h.0)
+leaves_kept profile p o rec (run.Cut k f) is (inr h) = absurd h
+leaves_kept profile p o rec run.TooLong is (inl h) = absurd (cc h.0)
+leaves_kept profile p o rec run.TooLong is (inr h) = absurd h
+leaves_kept profile p o rec run.BadWord is (inl h) = absurd (cc h.0)
+leaves_kept profile p o rec run.BadWord is (inr h) = absurd h
+leaves_kept profile p o rec run.Usage is (inl h) = absurd (cc h.0)
+leaves_kept profile p o rec run.Usage is (inr h) = absurd h

@@ -92,6 +92,10 @@ LeavesFirst t o e p = ⊥
 abbrev pub IsAsBefore : {W : Type 0} → Outlets W → Type 0
 IsAsBefore o = (o.out.new ≡ o.out.old) × IsSame o.old o.new
 
+-- what is left of any fault after that: nothing where memory was refused before an entry was read
+abbrev pub LeavesBegun : {W : Type 0} → Task → Outlets W → RunFault → Contents → Type 0
+LeavesBegun t o e p = ((e ≡ run.Memory) × IsAsBefore o) ⊎ LeavesFirst t o e p
+
 -- what `cut` leaves after a fault: nothing where the profile has it, or where memory was refused before an entry was read
 abbrev pub LeavesParts : {W : Type 0} → List ℕ → Task → Outlets W → RunFault → Type 0
 LeavesParts profile t o (run.Profile f) = IsAsBefore o

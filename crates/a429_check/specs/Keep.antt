@@ -44,6 +44,10 @@ GainsUntil o rec run.Memory c = PutsKeptUntil o.contents o.old o.new rec c read.
 GainsUntil o rec run.Device c = PutsKeptUntil o.contents o.old o.new rec c read.Device ⊎ FailsKept o.contents o.old o.new rec c
 GainsUntil o rec e c = ⊥
 
+-- the same, or nothing where memory was refused before an entry was read
+abbrev pub GainsBegun : {W : Type 0} → Output W → Option Recording → RunFault → Codes → Type 0
+GainsBegun o rec e c = ((e ≡ run.Memory) × (o.new ≡ o.old)) ⊎ GainsUntil o rec e c
+
 -- the bytes are the text of a profile, and something holds of its codes
 abbrev pub WithCodes : List ℕ → (Codes → Type 0) → Type 0
 WithCodes profile P = (contents : Contents) × IsProfileOf profile contents × P contents.codes

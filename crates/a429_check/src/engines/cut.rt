@@ -2,7 +2,7 @@
 
 ghost use Rattle.std.specs.Prelude.{◌≡◌, [], false, IfOk, IfErr, OnOk};
 ghost use Rattle.a429_word.specs.Tally.{has_failed};
-ghost use Rattle.a429_check.specs.Cut.{AnyOf, CutsInto, StopsBy, IsCutFault, LeavesFirst, LeavesParts, PutsAllParts, WithContents, outlets, task, troubled};
+ghost use Rattle.a429_check.specs.Cut.{AnyOf, CutsInto, StopsBy, IsCutFault, LeavesBegun, LeavesFirst, LeavesParts, PutsAllParts, WithContents, outlets, task, troubled};
 
 use crate::engines::profile::profile_of;
 use crate::engines::streaming::fault_of;
@@ -33,8 +33,26 @@ pub fn run_cut<R: Read, P: Parts, W: Write>(
     ensures device { OnOk result ((rec.new.failed ≡ false) × (P.failed parts.new ≡ false) × (has_failed out.new ≡ false)) }
 {
     let profile = profile_of(alloc, profile)?;
+    cut_by(alloc, &profile, most, rec, parts, out)
+}
+
+// Does the same by a profile that was read.
+fn cut_by<R: Read, P: Parts, W: Write>(
+    alloc: Global,
+    profile: &Profile,
+    most: usize,
+    rec: &mut EntryReader<R>,
+    parts: &mut P,
+    out: &mut Tally<W>,
+) -> Result<u8, RunFault>
+    ensures ok { IfOk result (λ status. status ≡ 0) }
+    ensures cut { OnOk result (PutsAllParts (task most rec.old.to_come) (outlets W.contents out.old out.new (P.known parts.old) (P.known parts.new)) profile.now) }
+    ensures err { IfErr result (StopsBy rec.old.to_come (AnyOf rec.new.failed (P.failed parts.new) (has_failed out.new))) }
+    ensures left { IfErr result (λ e. LeavesBegun (task most rec.old.to_come) (outlets W.contents out.old out.new (P.known parts.old) (P.known parts.new)) e profile.now) }
+    ensures device { OnOk result ((rec.new.failed ≡ false) × (P.failed parts.new ≡ false) × (has_failed out.new ≡ false)) }
+{
     let page = Page::new(alloc)?;
-    put_all(alloc, page, &profile, most, rec, parts, out)?;
+    put_all(alloc, page, profile, most, rec, parts, out)?;
     Ok(0)
 }
 

@@ -3,7 +3,7 @@
 ghost use Rattle.std.specs.Prelude.{◌≡◌, ◌⊎◌, [], true, false, IfOk, IfErr, OnOk};
 ghost use Rattle.a429_word.specs.Tally.{has_failed};
 ghost use Rattle.a429_check.specs.Output.{output};
-ghost use Rattle.a429_check.specs.Keep.{EndsBy, GainsUntil, IsKeepFault, LeavesKept, PutsKept, WithCodes};
+ghost use Rattle.a429_check.specs.Keep.{EndsBy, GainsBegun, GainsUntil, IsKeepFault, LeavesKept, PutsKept, WithCodes};
 
 use crate::engines::profile::profile_of;
 use crate::engines::streaming::fault_of;
@@ -33,8 +33,24 @@ pub fn run_keep<R: Read, W: Write>(
     ensures device { OnOk result ((rec.new.failed ≡ false) × (has_failed out.new ≡ false)) }
 {
     let profile = profile_of(alloc, profile)?;
+    keep_by(alloc, &profile, rec, out)
+}
+
+// Does the same by a profile that was read.
+fn keep_by<R: Read, W: Write>(
+    alloc: Global,
+    profile: &Profile,
+    rec: &mut EntryReader<R>,
+    out: &mut Tally<W>,
+) -> Result<u8, RunFault>
+    ensures ok { IfOk result (λ status. status ≡ 0) }
+    ensures kept { OnOk result (PutsKept W.contents out.old out.new rec.old.to_come profile.now.codes) }
+    ensures err { IfErr result (EndsBy rec.old.to_come ((rec.new.failed ≡ true) ⊎ (has_failed out.new ≡ true))) }
+    ensures left { IfErr result (λ e. GainsBegun (output W.contents out.old out.new) rec.old.to_come e profile.now.codes) }
+    ensures works { OnOk result ((rec.new.failed ≡ false) × (has_failed out.new ≡ false)) }
+{
     let page = Page::new(alloc)?;
-    write_kept(page, &profile, rec, out)?;
+    write_kept(page, profile, rec, out)?;
     Ok(0)
 }
 

@@ -1,15 +1,15 @@
-use Rattle.std.proofs.Common.{inl, refl}
-use Rattle.std.proofs.lemmas.Result.{err_from_is_err_and}
-use Rattle.a429_parts.proofs.PartsFacts.{same_parts}
-use Rattle.a429_check.proofs.CutFacts.{cut_fault}
+use Rattle.std.proofs.lemmas.Result.{on_ok_weaker}
+use Rattle.a429_check.proofs.CutFacts.{cut_fault, leaves_begun}
+use Rattle.a429_check.proofs.TraceLines.{if_err_map}
 use Rattle.a429_check.proofs.engines.cut.run_cut.Goals as goal
 
-pub returns-in_err-page-clause-left : goal.returns-in_err-page-clause-left
-returns-in_err-page-clause-left g c =
-    let p = err_from_is_err_and c.from_residual-in_err-page.result c.from_residual-in_err-page.ensures.1 in
-    rw (p.1, p.2) (inl (refl, same_parts (g.P.Parts.known c.args.parts.now)))
+pub returns-clause-cut : goal.returns-clause-cut
+returns-clause-cut g c = on_ok_weaker c.cut_by.result (λ h. (c.in_ok-profile.profile, c.in_ok-profile.ensures.ok, h)) c.cut_by.ensures.cut
 
-pub returns-in_err-put_all-clause-err : goal.returns-in_err-put_all-clause-err
-returns-in_err-put_all-clause-err g c =
-    let p = err_from_is_err_and c.from_residual-in_err-put_all.result c.from_residual-in_err-put_all.ensures.1 in
-    rw (p.1, p.2) (cut_fault c.args.profile.now c.in_ok-profile.profile c.args.rec.now.to_come _ _ c.in_ok-profile.ensures.ok c.in_err-put_all.ensures.err)
+pub returns-clause-err : goal.returns-clause-err
+returns-clause-err g c =
+    if_err_map c.cut_by.result c.cut_by.ensures.err (λ e h. cut_fault c.args.profile.now c.in_ok-profile.profile c.args.rec.now.to_come _ e c.in_ok-profile.ensures.ok h)
+
+pub returns-clause-left : goal.returns-clause-left
+returns-clause-left g c =
+    if_err_map c.cut_by.result c.cut_by.ensures.left (λ e h. leaves_begun c.args.profile.now c.in_ok-profile.profile _ _ e c.in_ok-profile.ensures.ok h)
