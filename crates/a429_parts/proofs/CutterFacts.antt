@@ -12,10 +12,10 @@ use Rattle.a429_link.specs.Observer.{Observer}
 use Rattle.a429_cert.specs.Explained.{items_of, seen_of}
 use Rattle.a429_parts.specs.declared.doubt.Doubt.{Doubt}
 use Rattle.a429_parts.specs.declared.doubt.Doubt.TheVariants.{AfterUnit, Anew}
-use Rattle.a429_parts.specs.Cutter.{Cuts, CutsAlways, CutterState, EndsLast, EndsNowhere, HasNoPart, IsCurrent, IsInReach, IsNextPart, IsNextPartAtEnd, IsPart, IsPastDoubt}
+use Rattle.a429_parts.specs.Cutter.{AwaitsPlace, Cuts, CutsAlways, CutterState, EndsLast, EndsNowhere, HasNoPart, IsCurrent, IsInReach, IsNextPart, IsNextPartAtEnd, IsPart, IsPastDoubt}
 use Rattle.a429_parts.specs.Cutting.{CourseAfter, IsPlace, Lost}
 use Rattle.a429_parts.specs.Near.{IsNearEnough}
-use Rattle.a429_parts.specs.Watch.{Finds, IsInDoubt, IsKnownIn, TakesWord, Watched, Watches, place_of}
+use Rattle.a429_parts.specs.Watch.{Finds, IsInDoubt, IsKnownIn, TakesWord, Watched, Watches}
 use Rattle.a429_parts.proofs.PlacesFacts.{place_append}
 use Rattle.a429_parts.proofs.WatchFacts.{takes_finds, takes_found, takes_place, takes_until, takes_watches}
 
@@ -69,9 +69,9 @@ module _ (p : Contents) (parted rest : List Entry) (e : Entry) (old new : Cutter
       by_found None few = current.0
       by_found (Some k) few = few
 
-      by : (length old.waiting ≤ old.most) ⊎ IfSome old.watched.doubt (λ doubt. place_of doubt ≤ old.begin + old.most) → IsInReach new
+      by : (length old.waiting ≤ old.most) ⊎ AwaitsPlace old → IsInReach new
       by (inl few) = omega (arith, begin, most, place, until, few, h.count, h.begin)
-      by (inr near) = omega (arith, begin, most, place, by_found found (takes_found p (seen_of e) old.watched new.watched found takes (old.begin + old.most) near))
+      by (inr near) = omega (arith, begin, most, place, by_found found (takes_found p (seen_of e) old.watched new.watched found takes (old.begin + old.most) near.0))
 
 -- by the word and the watch as the code has them
 pub takes_same : (p : Contents) (e : Entry) (watch old new : Watched) (word : Seen) (found : Option ℕ) → watch ≡ old → word ≡ seen_of e → TakesWord p word watch new found → TakesWord p (seen_of e) old new found

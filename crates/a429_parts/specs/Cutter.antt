@@ -49,9 +49,13 @@ EndsNowhere c rest = (p : Contents) (parted : List Entry) → CutsAlways p parte
 abbrev pub IsInReach : CutterState → Type 0
 IsInReach c = c.place ≤ c.begin + c.most
 
--- each part that was complete has been ended: nor is the place in doubt too far, where more entries wait than a part may have
+-- a place in doubt is not too far, and at most twice as many entries wait as a part may have
+abbrev pub AwaitsPlace : CutterState → Type 0
+AwaitsPlace c = IfSome c.watched.doubt (λ doubt. place_of doubt ≤ c.begin + c.most) × (length c.waiting ≤ c.most + c.most)
+
+-- each part that was complete has been ended: where more entries wait than a part may have, a place in doubt is awaited
 abbrev pub IsCurrent : CutterState → Type 0
-IsCurrent c = IsInReach c × ((length c.waiting ≤ c.most) ⊎ IfSome c.watched.doubt (λ doubt. place_of doubt ≤ c.begin + c.most))
+IsCurrent c = IsInReach c × ((length c.waiting ≤ c.most) ⊎ AwaitsPlace c)
 
 -- so many of the entries that wait, which are more than a part may have, are the next part: it ends at the last place that is near enough
 abbrev pub IsNextPart : CutterState → ℕ → Type 0

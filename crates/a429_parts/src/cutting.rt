@@ -4,8 +4,7 @@ ghost use Rattle.std.specs.Prelude.{◌≡◌, true, false, ◌+◌, ◌<◌, �
 ghost use Rattle.a429_profile.specs.Profile.{Contents};
 ghost use Rattle.a429_record.specs.declared.entry.Entry.{Entry};
 ghost use Rattle.a429_link.specs.Observer.{at_first};
-ghost use Rattle.a429_parts.specs.Cutter.{Cuts, HasNoNextPart, HasNoNextPartAtEnd, HasNoPart, IsCurrent, IsInReach, IsNextPart, IsNextPartAtEnd, IsPart, IsPastDoubt};
-ghost use Rattle.a429_parts.specs.Watch.{place_of};
+ghost use Rattle.a429_parts.specs.Cutter.{AwaitsPlace, Cuts, HasNoNextPart, HasNoNextPartAtEnd, HasNoPart, IsCurrent, IsInReach, IsNextPart, IsNextPartAtEnd, IsPart, IsPastDoubt};
 
 use crate::watch::Watch;
 use a429_cert::seen;
@@ -138,7 +137,7 @@ impl Cutter {
 
     // Whether the part may end at the place in doubt.
     fn may_end_in_doubt(&self) -> bool
-        ensures yes { result ≡ true → IfSome self.now.watched.doubt (λ doubt. place_of doubt ≤ self.now.begin + self.now.most) }
+        ensures yes { result ≡ true → AwaitsPlace self.now }
         ensures no { result ≡ false → IsPastDoubt self.now }
     {
         match self.watch.place_in_doubt() {
