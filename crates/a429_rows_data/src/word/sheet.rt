@@ -44,8 +44,8 @@ fn put_first_bytes(alloc: Global, out: &mut Tally<&mut Vec<u8>>) -> Result<bool,
 // Whether they are what was written.
 fn are_first_bytes(written: &[u8]) -> bool {
     written.len() == 32_768 + 32
-        && written[..32_768].iter().all(|byte| *byte == b'0')
-        && written.ends_with(b"0123456789abcdefghijklmnopqrstuv")
+        && written.starts_with(b"00000000")
+        && written.ends_with(b"000000000123456789abcdefghijklmnopqrstuv")
 }
 
 #[test]
