@@ -72,7 +72,8 @@ impl Planner {
         }
     }
 
-    // The plan of this group, or its first doubt. Apart from `plan_at`, whose locals are few: it is called at each entry.
+    // The plan of this group, or its first doubt. Never inlined: `plan_at` is called at each entry, and has few locals without it.
+    #[inline(never)]
     fn plan_group(
         &mut self,
         alloc: Global,
