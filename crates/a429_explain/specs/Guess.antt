@@ -104,10 +104,6 @@ ArePlansBefore Comes r place at (plan ∷ plans) =
 abbrev pub ArePlansOf : Annotated → UnitNumber → ℕ → List Plan → Type 0
 ArePlansOf r place at plans = ArePlansBefore (λ numbers n. IsNoRequestFrom r.profile.codes r.items n) r place at plans
 
--- all groups have, where the source begins with the first link data unit of this file
-abbrev pub ArePlansFrom : HeardValue → List Role → ℕ → List Plan → Type 0
-ArePlansFrom h rs first plans = ArePlansOf (annotated h.profile h.items rs) (first_number h.profile.codes first) 0 plans
-
 -- ---- doubts
 
 -- the first group from place `at` on is doubted
@@ -121,14 +117,6 @@ pub record IsNextDoubt (r : Annotated) (i : ℕ) (doubt : Doubt) (place : UnitNu
 pub record IsFirstDoubt (r : Annotated) (place : UnitNumber) (i : ℕ) (doubt : Doubt) : Type 0 where
   pub plans : List Plan
   pub are : ArePlansBefore (IsNextDoubt r i doubt) r place 0 plans
-
-abbrev pub IsGroupStop : Contents → List Seen → List Role → UnitNumber → Stop → Type 0
-IsGroupStop p items rs place (Unexplained i doubt) = IsFirstDoubt (annotated p items rs) place i doubt
-IsGroupStop p items rs place OutOfMemory = Unit {0}
-
--- the same, where the source begins with the first link data unit of this file
-abbrev pub IsStopFrom : HeardValue → List Role → ℕ → Stop → Type 0
-IsStopFrom h rs first stop = IsGroupStop h.profile h.items rs (first_number h.profile.codes first) stop
 
 -- ---- a recording
 

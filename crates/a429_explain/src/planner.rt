@@ -1,12 +1,14 @@
 //! The plans of a recording's groups, each made where its group begins.
 
-ghost use Rattle.std.specs.Prelude.{◌≡◌, ◌<◌, IfOk, IfErr, OnOk, length};
+ghost use Rattle.std.specs.Prelude.{◌≡◌, ◌<◌, ◌≤◌, IfOk, IfErr, OnOk, length};
 ghost use Rattle.a429_link.specs.Number.{first_number};
 ghost use Rattle.a429_cert.specs.Change.{change};
 ghost use Rattle.a429_explain.specs.Attempts.{roles as roles_of};
 ghost use Rattle.a429_explain.specs.Decoded.{forms_of};
-ghost use Rattle.a429_explain.specs.Planner.{with_roles, PlansAt, StopsAt};
+ghost use Rattle.a429_explain.specs.Groups.{group_from};
+ghost use Rattle.a429_explain.specs.Planner.{with_roles, PlansAt, PlansGroup, StopsAt};
 ghost use Rattle.a429_explain.specs.Stop.{IsStop};
+ghost use Rattle.a429_explain.specs.Whole.{IsRequestOf};
 
 use crate::attempts::Role;
 use crate::block::matched_unit;
@@ -63,9 +65,33 @@ impl Planner {
             self.next = at + 1;
             return Ok(None);
         };
-        let profile = decoded.profile();
         let group = group_at(roles, at);
-        let request = Request { group, count };
+        match self.plan_group(alloc, decoded, roles, Request { group, count }) {
+            Ok(plan) => Ok(Some(plan)),
+            Err(stop) => Err(stop),
+        }
+    }
+
+    // The plan of this group, or its first doubt. Never inlined: `plan_at` is called at each entry, and has few locals without it.
+    #[inline(never)]
+    fn plan_group(
+        &mut self,
+        alloc: Global,
+        decoded: &Decoded,
+        roles: &[Role],
+        request: Request,
+    ) -> Result<Plan, Stop>
+        requires roles { roles.now ≡ roles_of (forms_of decoded.now.profile.codes decoded.now.items) }
+        requires request { IsRequestOf decoded.now request }
+        requires group { request.group ≡ group_from roles.now request.group.from }
+        requires behind { self.old.next ≤ request.group.from }
+        ensures planned { IfOk result (λ plan. PlansGroup (with_roles decoded.now) request.group.from plan (change self.old self.new)) }
+        ensures next { OnOk result (self.new.next ≡ request.group.to) }
+        ensures stopped { IfErr result (StopsAt (with_roles decoded.now) request.group.from self.old) }
+        ensures fits { IfErr result (IsStop decoded.now.profile.codes decoded.now.items) }
+    {
+        let profile = decoded.profile();
+        let group = request.group;
         let start = group_start(roles, group);
         let give_ups = give_ups_from(self.place, start);
         let numbers = place_from(profile, self.place, start);
@@ -75,6 +101,10 @@ impl Planner {
         };
         self.place = place_behind(profile, numbers, &unit, is_settled(roles, group));
         self.next = group.to;
-        Ok(Some(Plan { at, give_ups, unit }))
+        Ok(Plan {
+            at: group.from,
+            give_ups,
+            unit,
+        })
     }
 }

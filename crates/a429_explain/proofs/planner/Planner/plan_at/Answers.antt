@@ -1,21 +1,11 @@
-use Rattle.std.proofs.Common.{rules, ◌≡◌, ◌<◌, List, ap, subst, sym, ◌∙◌, refl, arith}
-use Rattle.a429_profile.specs.Profile.{Contents}
+use Rattle.std.proofs.Common.{rules, ◌≡◌, ap, subst, sym, ◌∙◌, arith}
 use Rattle.a429_cert.specs.Change.{change}
-use Rattle.a429_explain.specs.declared.attempts.Role.{Role}
-use Rattle.a429_explain.specs.declared.plan.Plan.{Plan}
-use Rattle.a429_explain.specs.declared.planner.Planner.{Planner}
-use Rattle.a429_explain.specs.Decoded.{sight_at}
-use Rattle.a429_explain.specs.Groups.{group_start}
-use Rattle.a429_explain.specs.Guess.{annotated, place_at_group}
-use Rattle.a429_explain.specs.Plan.{place_from, give_ups_from, place_behind}
-use Rattle.a429_explain.specs.Planner.{wanted_at, PlansGroup, StopsAt}
+use Rattle.a429_explain.specs.Groups.{group_from}
+use Rattle.a429_explain.specs.Planner.{with_roles, PlansGroup, StopsAt}
 use Rattle.a429_explain.specs.Whole.{wanted}
-use Rattle.a429_link.specs.declared.number.UnitNumber.{UnitNumber}
 use Rattle.a429_explain.proofs.AttemptsFacts.{roles_long}
 use Rattle.a429_explain.proofs.GroupsFacts.{group_is}
-use Rattle.a429_explain.proofs.PlannerFacts.{IsGroupAt, looking, stops_at, plans_group}
 use Rattle.a429_explain.proofs.planner.Planner.plan_at.Goals as goal
-use Rattle.a429_explain.proofs.planner.Planner.plan_at.Goals.{After-place_from-numbers}
 
 pub overflow_add-self : goal.overflow_add-self
 overflow_add-self c = omega (arith, c.requires.inside, c.len-length.ensures, c.len-length.type_inv)
@@ -25,48 +15,37 @@ group_at-group-requires c =
     let long = roles_long c.args.decoded.now.profile.codes c.args.decoded.now.items c.args.roles.now c.requires.roles in
     omega (arith, long, c.requires.inside)
 
-pub matched_unit-requires : goal.matched_unit-requires
-matched_unit-requires c =
+pub plan_group-requires : goal.plan_group-requires
+plan_group-requires c =
     let long = roles_long c.args.decoded.now.profile.codes c.args.decoded.now.items c.args.roles.now c.requires.roles in
+    let g = c.group_at-group.result in
+    let from = c.group_at-group.ensures.from in
+    let is = group_is c.args.roles.now c.args.at g from c.group_at-group.ensures.to in
     record {
-      some = rw c.group_at-group.ensures.from c.group_at-group.ensures.some;
-      inside = omega (arith, long, c.group_at-group.ensures.inside);
-      wants = rw c.group_at-group.ensures.from (sym (c.wanted.ensures ∙ ap wanted c.sight.ensures) ∙ c.in-Some.is);
+      roles = c.requires.roles;
+      request = record {
+        some = rw from c.group_at-group.ensures.some;
+        inside = omega (arith, long, c.group_at-group.ensures.inside);
+        wants = rw from (sym (c.wanted.ensures ∙ ap wanted c.sight.ensures) ∙ c.in-Some.is);
+      };
+      group = is ∙ ap (λ n. group_from c.args.roles.now n) (sym from);
+      behind = rw from c.if-at-self.false;
     }
 
--- the group that is found
-found : (a : After-place_from-numbers) → IsGroupAt (annotated a.args.decoded.now.profile a.args.decoded.now.items a.args.roles.now) a.args.self.now a.args.at a.in-Some.count a.group_at-group.result a.place_from-numbers.result
-found a = record {
-  behind = a.if-at-self.false;
-  request = sym (a.wanted.ensures ∙ ap wanted a.sight.ensures) ∙ a.in-Some.is;
-  group_is = group_is a.args.roles.now a.args.at a.group_at-group.result a.group_at-group.ensures.from a.group_at-group.ensures.to;
-  numbers_is = a.place_from-numbers.ensures ∙ ap (λ (q : Contents). place_from q.codes a.args.self.now.place a.group_start-start.result) a.profile-profile.ensures.is ∙ ap (place_from a.args.decoded.now.profile.codes a.args.self.now.place) a.group_start-start.ensures;
+pub returns-in-Ok : goal.returns-in-Ok
+returns-in-Ok c =
+    let from = c.group_at-group.ensures.from in
+    record {
+      planned = subst (λ n. PlansGroup (with_roles c.args.decoded.now) n c.in-Ok.plan (change c.args.self.now c.plan_group.new.self)) from c.in-Ok.ensures.planned;
+      past = rw (c.in-Ok.ensures.next) c.group_at-group.ensures.some;
+      stopped = tt;
+      fits = tt;
+    }
+
+pub returns-in-Err : goal.returns-in-Err
+returns-in-Err c = record {
+  planned = tt;
+  past = tt;
+  stopped = subst (λ n. StopsAt (with_roles c.args.decoded.now) n c.args.self.now c.in-Err.stop) c.group_at-group.ensures.from c.in-Err.ensures.stopped;
+  fits = c.in-Err.ensures.fits;
 }
-
-pub returns-in-Err-clause-stopped : goal.returns-in-Err-clause-stopped
-returns-in-Err-clause-stopped c =
-    let d = c.args.decoded.now in
-    let k = found (goal.at.returns-in-Err-clause-stopped c).After-place_from-numbers in
-    let stops = stops_at (annotated d.profile d.items c.args.roles.now) c.args.self.now c.args.at c.in-Some.count c.group_at-group.result c.place_from-numbers.result c.in-Err.stop k c.in-Err.ensures.first c.in-Err.ensures.crossed_err in
-    subst (λ (rs : List Role). StopsAt (annotated d.profile d.items rs) c.args.at c.args.self.now c.in-Err.stop) c.requires.roles stops
-
-pub returns-clause-planned : goal.returns-clause-planned
-returns-clause-planned c =
-    let d = c.args.decoded.now in
-    let codes = d.profile.codes in
-    let rs = c.args.roles.now in
-    let s = c.args.self.now in
-    let g = c.group_at-group.result in
-    let unit = c.in-Ok.unit in
-    let numbers = c.place_from-numbers.result in
-    let plan : Plan = record { at = c.args.at; give_ups = c.give_ups_from-give_ups.result; unit = unit } in
-    let t : Planner = record { place = c.place_behind-self.result; next = g.to } in
-    let k = found (goal.at.returns-clause-planned c).After-place_from-numbers in
-    let gives = c.give_ups_from-give_ups.ensures ∙ ap (give_ups_from s.place) c.group_start-start.ensures in
-    let behind =
-    c.place_behind-self.ensures
-    ∙ ap (λ (q : Contents). place_behind q.codes numbers unit c.is_settled.result) c.profile-profile.ensures.is
-    ∙ ap (λ (n : UnitNumber). place_behind codes n unit c.is_settled.result) k.numbers_is
-    ∙ ap (place_behind codes (place_at_group codes rs g s.place) unit) c.is_settled.ensures in
-    let goes = ap (λ (n : UnitNumber). looking n g.to) behind in
-    subst (λ (q : List Role). PlansGroup (annotated d.profile d.items q) c.args.at plan (change s t)) c.requires.roles (plans_group (annotated d.profile d.items rs) s t c.args.at c.in-Some.count g numbers plan k refl gives c.in-Ok.ensures.unit c.in-Ok.ensures.crossed goes)
