@@ -42,7 +42,6 @@ impl Planner {
 
     /// What the source does before this entry, if a group begins there, or the first doubt of that group. It is called at each entry,
     /// in their order. Of a recording without loss the source gives nothing up, and loads the link data units that crossed.
-    #[inline(always)]
     pub(crate) fn plan_at(
         &mut self,
         alloc: Global,
