@@ -130,7 +130,7 @@ pub record Passed (p : Contents) (from : State) (lines : List (Option (List ℕ)
   pub inside : i ≤ length items
   pub step : Step
   pub is : o ≡ Some step
-  pub behind : reached.steps ≡ before ++ step ∷ []
+  pub left_after : reached.steps ≡ before ++ step ∷ []
 
 passed : (p : Contents) (from : State) (lines : List (Option (List ℕ))) (items : List Seen) (k i : ℕ) (text : List ℕ) (l : CertLine) (s t : State)
     → slice_get lines k ≡ Some (Some text) → SpellsLine text l → i ≤ length items → (h : Leads p from (take k lines) (take i items) s)
@@ -150,7 +150,7 @@ passed p from lines items k i text l s t g is inside h (Some a) e m q =
       inside = line_inside l a items i e inside;
       step = a;
       is = e;
-      behind = refl;
+      left_after = refl;
     }
 
 pub passes_from : (p : Contents) (from : State) (lines : List (Option (List ℕ))) (items : List Seen) (k i used : ℕ) (line : Option (List ℕ)) (s t : State)

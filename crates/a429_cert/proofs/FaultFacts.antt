@@ -35,8 +35,8 @@ first_err f q x text l None r e g reads is same = rw same (λ h. (refl, λ first
 
 -- ---- the first two lines
 
-pub begun : (text certificate : List ℕ) (h : Head) (behind : List ℕ) → text ≡ certificate → Begins text h behind → Begins certificate h behind
-begun text certificate h behind e b = subst (λ (l : List ℕ). Begins l h behind) e b
+pub begun : (text certificate : List ℕ) (h : Head) (left_after : List ℕ) → text ≡ certificate → Begins text h left_after → Begins certificate h left_after
+begun text certificate h left_after e b = subst (λ (l : List ℕ). Begins l h left_after) e b
 
 is_some_of : {V W : Type 0} (f : V → W) (r : Option V) (x : W) → option_map f r ≡ Some x → IsSome r
 is_some_of f None x e = absurd (cc e)
@@ -45,11 +45,11 @@ is_some_of f (Some v) x e = refl
 pub second_is : {V : Type 0} (f : V → Option (List ℕ)) (text mid : List ℕ) (r : Option V) → option_map f r ≡ slice_get (certificate_lines mid) 0 → certificate_lines mid ≡ drop 1 (certificate_lines text) → option_map f r ≡ slice_get (certificate_lines text) 1
 second_is f text mid r g e = g ∙ ap (λ (l : List (Option (List ℕ))). slice_get l 0) e ∙ drop_get (certificate_lines text) 1
 
-pub head : {V : Type 0} (f : V → Option (List ℕ)) (text mid behind : List ℕ) (r q : Option V) (v : Version) (first : ℕ) → first ≤ 255
+pub head : {V : Type 0} (f : V → Option (List ℕ)) (text mid left_after : List ℕ) (r q : Option V) (v : Version) (first : ℕ) → first ≤ 255
     → option_map f r ≡ slice_get (certificate_lines text) 0 → certificate_lines mid ≡ drop 1 (certificate_lines text) → (IsSome r → length mid < length text) → option_map f r ≡ Some (Some (version_line v))
-    → option_map f q ≡ slice_get (certificate_lines mid) 0 → certificate_lines behind ≡ drop 1 (certificate_lines mid) → (IsSome q → length behind < length mid) → option_map f q ≡ Some (Some (spelling (First first)))
-    → Begins text (record { version = v; first = first }) behind
-head f text mid behind r q v first byte g e l named g' e' l' w =
+    → option_map f q ≡ slice_get (certificate_lines mid) 0 → certificate_lines left_after ≡ drop 1 (certificate_lines mid) → (IsSome q → length left_after < length mid) → option_map f q ≡ Some (Some (spelling (First first)))
+    → Begins text (record { version = v; first = first }) left_after
+head f text mid left_after r q v first byte g e l named g' e' l' w =
     let one = l (is_some_of f r (Some (version_line v)) named) in
     let two = l' (is_some_of f q (Some (spelling (First first))) w) in
     record {

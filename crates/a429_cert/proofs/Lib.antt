@@ -23,8 +23,8 @@ pub mod StreamHeadFacts
 pub mod StreamStands
 pub mod StreamReplay
 pub mod StreamRefused
-pub mod ToldFacts
-pub mod ToldRefused
+pub mod ReportFacts
+pub mod ReportsOfRefused
 pub mod StreamLine
 pub mod PairFacts
 pub mod StreamNextFacts

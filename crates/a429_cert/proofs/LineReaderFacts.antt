@@ -7,7 +7,7 @@ use Rattle.a429_word.proofs.TallySlices.{take-put_mid_within}
 use Rattle.std.specs.Io.KnownBytes.{Consumes, Keeps, IsAtEnd, prepend_known}
 use Rattle.memchr.specs.Find.{is_byte, IsFirstByte}
 use Rattle.a429_cert.specs.Lines.{certificate_lines, begun_with}
-use Rattle.a429_cert.specs.CutLines.{BeginsWith, HasNoLineFeed, GivesLine, IsFirstLine, StandsBehind, cut}
+use Rattle.a429_cert.specs.CutLines.{BeginsWith, HasNoLineFeed, GivesLine, IsFirstLine, IsLeftAfter, cut}
 use Rattle.a429_cert.proofs.LinesFacts.{first_line, no_line, not_true}
 use Rattle.a429_cert.proofs.Options.{some_is}
 
@@ -88,9 +88,9 @@ none_grown got new ahead before n none e f =
 
 -- ---- lines that are handed out
 
-behind : (line : Option (List ℕ)) (old new : List ℕ) → IsSome line → certificate_lines old ≡ line ∷ certificate_lines new → StandsBehind line old new
-behind (Some text) old new some e = sym (ap (drop 1) e)
-behind None old new some e = absurd (cc some)
+left_after : (line : Option (List ℕ)) (old new : List ℕ) → IsSome line → certificate_lines old ≡ line ∷ certificate_lines new → IsLeftAfter line old new
+left_after (Some text) old new some e = sym (ap (drop 1) e)
+left_after None old new some e = absurd (cc some)
 
 -- the first line of known bytes
 pub ended_given : (a k : Option (List ℕ)) (ahead left : List ℕ) (line : Option (List ℕ)) → Keeps a (prepend_known ahead k)
@@ -99,7 +99,7 @@ ended_given None k ahead left line h f some short = tt
 ended_given (Some x) None ahead left line h f some short = absurd h
 ended_given (Some x) (Some z) ahead left line h f some short =
     let e : certificate_lines x ≡ line ∷ certificate_lines (left ++ z) = ap certificate_lines (sym h) ∙ f z in
-    (rw e (ap Some short), behind line x (left ++ z) some e)
+    (rw e (ap Some short), left_after line x (left ++ z) some e)
 
 -- ---- lines whose line feed was not read
 

@@ -44,7 +44,7 @@ use Rattle.a429_cert.specs.Passing.{IsFaultOfRead, IsStepOfLine, Lists, PassesTe
 use Rattle.a429_cert.specs.Pair.{HearsBoth, IsEntry, replay_sent, replay_taken}
 use Rattle.a429_cert.specs.Stream.{next_of, of_read, of_trouble, GainsAll, GivesAtFault, IsFaultNext, PassesOver, RefusesOver, TakesNext, WantsEntry, sizes}
 use Rattle.a429_cert.specs.StreamNext.{progress, TakesSome}
-use Rattle.a429_cert.specs.Told.{Hearing, WhereKnown, listening, position}
+use Rattle.a429_cert.specs.Report.{Hearing, WhereKnown, listening, position}
 use Rattle.a429_cert.specs.Version.{read_as}
 use Rattle.a429_cert.proofs.CutFacts.{says-uncut}
 use Rattle.a429_cert.proofs.LikelyFacts.{line_first, sent_read, sent_spells, taken_read, taken_spells}

@@ -26,23 +26,23 @@ use Rattle.a429_cert.specs.declared.stream.Replay.{Replay}
 use Rattle.a429_cert.specs.declared.stream_fault.StreamFault.{StreamFault}
 use Rattle.a429_cert.specs.declared.stream_fault.StreamFault.TheVariants as stream
 use Rattle.a429_cert.specs.Change.{change}
-use Rattle.a429_cert.specs.Told.{position}
+use Rattle.a429_cert.specs.Report.{position}
 use Rattle.a429_cert.specs.Lines.{certificate_lines}
 use Rattle.a429_cert.specs.Version.{read_as, step_lines}
 use Rattle.a429_cert.specs.CutLines.{GivesLine}
 use Rattle.a429_cert.specs.Explained.{items_of, seen_of, Leads}
 use Rattle.a429_cert.specs.Fault.{at_line, IsFaultAt, IsFaultOfHead}
-use Rattle.a429_cert.specs.Stream.{taking, behind, next_of, PassesOver, RefusesOver, StopsAt, of_read}
+use Rattle.a429_cert.specs.Stream.{taking, left_after, next_of, PassesOver, RefusesOver, StopsAt, of_read}
 use Rattle.a429_cert.specs.StreamEnd.{EndsLate}
 use Rattle.a429_cert.specs.StreamHead.{RefusesHead, TakesHead}
-use Rattle.a429_cert.specs.StreamExplained.{WhereTold, WantsNext, EndsAt}
+use Rattle.a429_cert.specs.StreamExplained.{WhereBothKnown, WantsNext, EndsAt}
 use Rattle.a429_cert.specs.Series.{SeriesValue, IsBetweenParts, begun, allowed, gap, give_ups, Fits, IsPartFault, RefusesPart}
 use Rattle.a429_cert.proofs.ExplainedFacts.{begins_at, none_past, none_read}
 use Rattle.a429_cert.proofs.EarlierFiles.{given_out}
 use Rattle.a429_cert.proofs.StreamStands.{StandsFrom, goes_from, hands_from, next_at}
 use Rattle.a429_cert.proofs.StreamRefused.{fault_from, left_from, ends_at, wants_line, wants_end}
 use Rattle.a429_cert.proofs.StreamLine.{refused_here}
-use Rattle.a429_cert.proofs.StreamReplay.{told_map, none_next}
+use Rattle.a429_cert.proofs.StreamReplay.{both_known_map, none_next}
 
 -- ---- files that are given up
 
@@ -97,7 +97,7 @@ module _ (old : SeriesValue) (d : Head) where
   abbrev pub IsIn : ℕ → ℕ → List FileBytes → State → Option (List ℕ) → Option Recording → List ℕ → Recording → Type 0
   IsIn k i taken s left rec text r = StandsFrom old.profile from text r d k i taken s left rec
 
-  pub part_init : (s : State) (known before left : Option (List ℕ)) (rec : Option Recording) → before ≡ known → TakesHead before left d → s ≡ from → WhereTold known rec (IsIn 0 0 [] s left rec)
+  pub part_init : (s : State) (known before left : Option (List ℕ)) (rec : Option Recording) → before ≡ known → TakesHead before left d → s ≡ from → WhereBothKnown known rec (IsIn 0 0 [] s left rec)
   part_init s None before left rec e h z = tt
   part_init s (Some text) before left None e h z = tt
   part_init s (Some text) before left (Some r) e h z = by left (subst (λ o. TakesHead o left d) e h)
@@ -108,9 +108,9 @@ module _ (old : SeriesValue) (d : Head) where
 
   module _ (k i : ℕ) (taken : List FileBytes) (s : State) (known left more held : Option (List ℕ)) (first rec : Option Recording) where
     pub part_on : (used : ℕ) (t : State) (new : Option Recording) → GivesLine left more held true → PassesOver old.profile (read_as d.version held) (change s t) (change rec new) used
-        → WhereTold known first (IsIn k i taken s left rec) → WhereTold known first (IsIn (suc k) (i + used) (taken ++ t.sink.received.files) (handed_out t) more new)
+        → WhereBothKnown known first (IsIn k i taken s left rec) → WhereBothKnown known first (IsIn (suc k) (i + used) (taken ++ t.sink.received.files) (handed_out t) more new)
     part_on used t new g m =
-        told_map known first (IsIn k i taken s left rec) (IsIn (suc k) (i + used) (taken ++ t.sink.received.files) (handed_out t) more new)
+        both_known_map known first (IsIn k i taken s left rec) (IsIn (suc k) (i + used) (taken ++ t.sink.received.files) (handed_out t) more new)
         (λ text r h. hands_from old.profile from text r d (suc k) (i + used) taken t more new (goes_from old.profile from text r d k i used taken s t held left more rec new h g m))
 
     -- ---- a line that is refused
@@ -120,12 +120,12 @@ module _ (old : SeriesValue) (d : Head) where
         → IsIn k i taken s left rec text r → IsPartFault old (stream.Cert f) text r
     cert_part f text r ends g h = inr (record { k = k; i = i; state = with_earlier taken s; before = record { head = d; says = h.says; inside = h.inside; before = h.reached }; fault = g; ends = ends })
 
-    read_part : (f : ReadFault) (text : List ℕ) (r : Recording) → WantsNext old.profile (slice_get (step_lines d.version text) k) (with_earlier taken s) → Stops f (behind i r) → f ≢ read.OutOfMemory
+    read_part : (f : ReadFault) (text : List ℕ) (r : Recording) → WantsNext old.profile (slice_get (step_lines d.version text) k) (with_earlier taken s) → Stops f (left_after i r) → f ≢ read.OutOfMemory
         → IsIn k i taken s left rec text r → IsPartFault old (stream.Read f) text r
-    read_part f text r wants stops told h =
-        record { k = k; i = i; state = with_earlier taken s; before = record { head = d; says = h.says; inside = h.inside; before = h.reached }; wants = wants; fault = stops; told = told }
+    read_part f text r wants stops reports h =
+        record { k = k; i = i; state = with_earlier taken s; before = record { head = d; says = h.says; inside = h.inside; before = h.reached }; wants = wants; fault = stops; reports = reports }
 
-    line_part : (f : StreamFault) (text : List ℕ) (r : Recording) → GivesLine left more held true → RefusesOver old.profile (read_as d.version held) (position s (Some (behind i r)) i) (k + 3) f
+    line_part : (f : StreamFault) (text : List ℕ) (r : Recording) → GivesLine left more held true → RefusesOver old.profile (read_as d.version held) (position s (Some (left_after i r)) i) (k + 3) f
         → IsIn k i taken s left rec text r → IsPartFault old f text r
     line_part (stream.Cert f) text r g m h =
         cert_part f text r (ends_at old.profile s r (k + 3) i (read_as d.version held) f m.0 m.1) (fault_from old.profile from d k i taken s held left more rec f text r g m.0 h) h
@@ -135,20 +135,20 @@ module _ (old : SeriesValue) (d : Head) where
     line_part stream.OutOfMemory text r g m h = tt
 
     pub part_refused : (n : ℕ) (f : StreamFault) → n ≡ k + 3 → GivesLine left more held true → RefusesOver old.profile (read_as d.version held) (position s rec i) n f
-        → WhereTold known first (IsIn k i taken s left rec) → RefusesPart old known first f
+        → WhereBothKnown known first (IsIn k i taken s left rec) → RefusesPart old known first f
     part_refused n f e g m =
-        told_map known first (IsIn k i taken s left rec) (IsPartFault old f)
-        (λ text r h. line_part f text r g (subst (λ (j : ℕ). RefusesOver old.profile (read_as d.version held) (position s (Some (behind i r)) i) j f) e (subst (λ o. RefusesOver old.profile (read_as d.version held) (position s o i) n f) h.rest m)) h)
+        both_known_map known first (IsIn k i taken s left rec) (IsPartFault old f)
+        (λ text r h. line_part f text r g (subst (λ (j : ℕ). RefusesOver old.profile (read_as d.version held) (position s (Some (left_after i r)) i) j f) e (subst (λ o. RefusesOver old.profile (read_as d.version held) (position s o i) n f) h.rest m)) h)
 
     -- ---- after the last line
 
-    late_read : (f : ReadFault) (text : List ℕ) (r : Recording) (new : Option Recording) → GivesLine left more held false → Stops f (behind i r) → IsIn k i taken s left rec text r → IsPartFault old (of_read f) text r
+    late_read : (f : ReadFault) (text : List ℕ) (r : Recording) (new : Option Recording) → GivesLine left more held false → Stops f (left_after i r) → IsIn k i taken s left rec text r → IsPartFault old (of_read f) text r
     late_read f text r new g stops h = by f stops
       where
         wants : WantsNext old.profile (slice_get (step_lines d.version text) k) (with_earlier taken s)
         wants = wants_end old.profile d.version k taken s held left more (drop 2 (certificate_lines text)) g h.lines
 
-        by : (f : ReadFault) → Stops f (behind i r) → IsPartFault old (of_read f) text r
+        by : (f : ReadFault) → Stops f (left_after i r) → IsPartFault old (of_read f) text r
         by read.Header stops = read_part read.Header text r wants stops (λ z. cc) h
         by (read.Row n) stops = read_part (read.Row n) text r wants stops (λ z. cc) h
         by (read.TimeBack n) stops = read_part (read.TimeBack n) text r wants stops (λ z. cc) h
@@ -157,15 +157,15 @@ module _ (old : SeriesValue) (d : Head) where
         by read.OutOfMemory stops = tt
         by read.Failed stops = read_part read.Failed text r wants stops (λ z. cc) h
 
-    pub part_late : (new : Option Recording) (f : StreamFault) → GivesLine left more held false → EndsLate i rec new f → WhereTold known first (IsIn k i taken s left rec) → RefusesPart old known first f
+    pub part_late : (new : Option Recording) (f : StreamFault) → GivesLine left more held false → EndsLate i rec new f → WhereBothKnown known first (IsIn k i taken s left rec) → RefusesPart old known first f
     part_late new f g (inl e) =
-        told_map known first (IsIn k i taken s left rec) (IsPartFault old f)
+        both_known_map known first (IsIn k i taken s left rec) (IsPartFault old f)
         (λ text r h.
         let next = subst (λ o. GivesNext o new (Ok (Some e.0))) h.rest e.1 in
         subst (λ (o : StreamFault). IsPartFault old o text r) (sym e.2)
         (cert_part (of.Unfinished i) text r tt (left_from old.profile from d k i taken s held left more rec e.0 new text r g next h) h))
     part_late new f g (inr e) =
-        told_map known first (IsIn k i taken s left rec) (IsPartFault old f)
+        both_known_map known first (IsIn k i taken s left rec) (IsPartFault old f)
         (λ text r h.
         subst (λ (o : StreamFault). IsPartFault old o text r) (sym e.2)
         (late_read e.0 text r new g (subst (λ o. GivesNext o new (Err e.0)) h.rest e.1) h))
@@ -174,7 +174,7 @@ module _ (old : SeriesValue) (d : Head) where
     fits : (new : Option Recording) (joined : SeriesValue) (text : List ℕ) (r : Recording) → s.sink.received.files ≡ [] → GivesLine left more held false → GivesNext rec new (Ok None) → joined.state ≡ Some s → joined.entries ≡ i
         → IsIn k i taken s left rec text r → Fits old joined taken text r
     fits new joined text r none g e is used h =
-        let end : behind i r ≡ whole [] = subst (λ o. GivesNext o new (Ok None)) h.rest e in
+        let end : left_after i r ≡ whole [] = subst (λ o. GivesNext o new (Ok None)) h.rest e in
         let items = items_of r.entries in
         let lines = step_lines d.version text in
         let all : length items ≤ i = none_past items i (sym (next_at r.entries i) ∙ ap next_of end) in
@@ -198,9 +198,9 @@ module _ (old : SeriesValue) (d : Head) where
             with_files s l = record s { sink = record (s.sink) { received = record (s.sink.received) { files = l } } }
 
     pub part_fits : (new : Option Recording) (joined : SeriesValue) → s.sink.received.files ≡ [] → GivesLine left more held false → GivesNext rec new (Ok None) → joined.state ≡ Some s → joined.entries ≡ i
-        → WhereTold known first (IsIn k i taken s left rec) → WhereTold known first (Fits old joined taken)
+        → WhereBothKnown known first (IsIn k i taken s left rec) → WhereBothKnown known first (Fits old joined taken)
     part_fits new joined none g e is used =
-        told_map known first (IsIn k i taken s left rec) (Fits old joined taken) (λ text r h. fits new joined text r none g e is used h)
+        both_known_map known first (IsIn k i taken s left rec) (Fits old joined taken) (λ text r h. fits new joined text r none g e is used h)
 
 -- ---- the first two lines are refused
 
@@ -229,7 +229,7 @@ part_stopped old (Some text) (Some r) (stream.Read f) (inr e) = absurd (cc e)
 -- a line is not gone on from
 pub part_stops : {S : Type 0} {shelved : S → Option (List PutFile)} {failed : S → Bool} {listener : Bool} {before after : S} (old : SeriesValue) (replay : Replay) (d : Head) (k : ℕ) (taken : List FileBytes) (known left more held text : Option (List ℕ)) (first : Option Recording) (rec new : EntriesLeft) (f : StreamFault)
     → replay.profile.now ≡ old.profile → replay.version ≡ d.version → replay.lines ≡ k + 3 → text ≡ held → GivesLine left more held true
-    → WhereTold known first (IsIn old d k replay.used taken replay.link.state left rec.to_come) → StopsAt shelved failed listener (taking replay text (change rec new) (change before after)) f → RefusesPart old known first f
-part_stops old replay d k taken known left more held text first rec new f profile version n same given told (inl h) =
-    part_refused old d k replay.used taken replay.link.state known left more held first rec.to_come replay.lines f n given (refused_here old.profile replay d held text rec.to_come f profile version same h.ends) told
-part_stops old replay d k taken known left more held text first rec new f profile version n same given told (inr h) = part_stopped old known first f h.fault
+    → WhereBothKnown known first (IsIn old d k replay.used taken replay.link.state left rec.to_come) → StopsAt shelved failed listener (taking replay text (change rec new) (change before after)) f → RefusesPart old known first f
+part_stops old replay d k taken known left more held text first rec new f profile version n same given reports (inl h) =
+    part_refused old d k replay.used taken replay.link.state known left more held first rec.to_come replay.lines f n given (refused_here old.profile replay d held text rec.to_come f profile version same h.ends) reports
+part_stops old replay d k taken known left more held text first rec new f profile version n same given reports (inr h) = part_stopped old known first f h.fault

@@ -31,7 +31,7 @@ use Rattle.a429_cert.specs.Shelf.{Gains, IsUnchanged}
 use Rattle.a429_cert.specs.Stream.{next_of, TakesNext, PassesNext, RefusesNext, HasEnd, of_cert, of_read, RefusesOver, WantsEntry, GivesFor, GivesAtFault, IsNotTaken, placed, GainsAll, GainsFront, sizes}
 use Rattle.a429_cert.proofs.PassingText.{fault-listed}
 use Rattle.a429_cert.specs.Change.{change}
-use Rattle.a429_cert.specs.Told.{position}
+use Rattle.a429_cert.specs.Report.{position}
 
 -- ---- the line of a step, and the entries that it uses
 

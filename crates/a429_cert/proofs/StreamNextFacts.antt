@@ -14,19 +14,19 @@ use Rattle.a429_cert.specs.declared.stream_fault.StreamFault.{StreamFault}
 use Rattle.a429_cert.specs.BreakOff.{BreaksOff, shelved}
 use Rattle.a429_cert.specs.Change.{change}
 use Rattle.a429_cert.specs.Version.{read_as, step_lines}
-use Rattle.a429_cert.specs.Told.{Hearing, HearsText, listening, position}
+use Rattle.a429_cert.specs.Report.{Hearing, HearsText, listening, position}
 use Rattle.a429_cert.specs.Series.{SeriesValue, RefusesPart}
 use Rattle.a429_cert.specs.Stream.{GainsAll, PassesOver, sizes}
-use Rattle.a429_cert.specs.StreamExplained.{compared, HearsBefore, IsStreamFault, Refuses, WhereTold}
+use Rattle.a429_cert.specs.StreamExplained.{compared, HearsBefore, IsStreamFault, Refuses, WhereBothKnown}
 use Rattle.a429_cert.specs.StreamNext.{Progress, Unread, TakesNone, TakesOne, TakesSome, Stops, at_next, progress}
 use Rattle.a429_cert.proofs.BreakOffFacts.{IsPlaceOf, between_breaks, stop_breaks}
 use Rattle.a429_cert.proofs.SeriesFacts.{IsIn, part_on, part_stopped, part_stops}
 use Rattle.a429_cert.proofs.StreamFacts.{noted_on, put_on}
-use Rattle.a429_cert.proofs.StreamLine.{line_stops, line_untold}
-use Rattle.a429_cert.proofs.StreamRefused.{told_device}
-use Rattle.a429_cert.proofs.StreamReplay.{told_on}
+use Rattle.a429_cert.proofs.StreamLine.{line_stops, line_unreported}
+use Rattle.a429_cert.proofs.StreamRefused.{device_both_known}
+use Rattle.a429_cert.proofs.StreamReplay.{on_both_known}
 use Rattle.a429_cert.proofs.StreamStands.{Stands}
-use Rattle.a429_cert.proofs.ToldFacts.{Hears, hears_on}
+use Rattle.a429_cert.proofs.ReportFacts.{Hears, hears_on}
 
 -- ---- a certificate's check, from its third line on
 
@@ -42,8 +42,8 @@ pub record Walks {S T : Type 0} (files : S → Option (List PutFile)) (hears : H
   pub k : ℕ
   pub taken : List FileBytes
   pub number : w.replay.lines ≡ k + 2
-  pub told : WhereTold from.known from.recording.to_come (λ text r. Stands p text r d k w.replay.used taken w.replay.link.state w.left w.recording.to_come)
-  pub heard : WhereTold from.known from.recording.to_come (λ text r. Hears hears p d.first (step_lines d.version text) r k w.replay.used (with_earlier taken w.replay.link.state) from.listener w.listener)
+  pub reports : WhereBothKnown from.known from.recording.to_come (λ text r. Stands p text r d k w.replay.used taken w.replay.link.state w.left w.recording.to_come)
+  pub heard : WhereBothKnown from.known from.recording.to_come (λ text r. Hears hears p d.first (step_lines d.version text) r k w.replay.used (with_earlier taken w.replay.link.state) from.listener w.listener)
   pub none_left : w.replay.link.state.sink.received.files ≡ []
   pub put : GainsAll (files from.shelf) (files w.shelf) 1 taken
   pub noted : w.replay.files.items ≡ sizes taken
@@ -71,11 +71,11 @@ walks_one files hears p from d old new v h =
       k = suc v.k;
       taken = v.taken ++ t.sink.received.files;
       number = omega (arith, lines, v.number);
-      told =
-          rw (used, on.given) (told_on p d v.k old.replay.used h.used v.taken s t h.line from.known old.left new.left from.recording.to_come old.recording.to_come new.recording.to_come h.given passed v.told);
+      reports =
+          rw (used, on.given) (on_both_known p d v.k old.replay.used h.used v.taken s t h.line from.known old.left new.left from.recording.to_come old.recording.to_come new.recording.to_come h.given passed v.reports);
       heard =
           rw (used, on.given) (hears_on hears p d v.k old.replay.used h.used v.taken s t h.line from.known old.left new.left from.recording.to_come old.recording.to_come new.recording.to_come
-          from.listener old.listener new.listener h.given passed heard v.told v.heard);
+          from.listener old.listener new.listener h.given passed heard v.reports v.heard);
       none_left = ap (λ (q : State). q.sink.received.files) on.given;
       put = put_on (files from.shelf) (files old.shelf) (files new.shelf) [] old.replay.files.items v.taken t.sink.received.files v.put v.noted on.put;
       noted = noted_on [] old.replay.files.items new.replay.files.items v.taken t.sink.received.files v.noted on.noted;
@@ -105,20 +105,20 @@ module _ {S T : Type 0} (files : S → Option (List PutFile)) (hears : Hearing T
       record {
         files = v.taken;
         fault =
-            subst (λ (g : StreamFault). WhereTold from.known from.recording.to_come (IsStreamFault p g v.taken)) (sym h.fault)
-            (told_device p d v.k old.replay.used v.taken old.replay.link.state from.known old.left from.recording.to_come old.recording.to_come v.none_left v.told);
+            subst (λ (g : StreamFault). WhereBothKnown from.known from.recording.to_come (IsStreamFault p g v.taken)) (sym h.fault)
+            (device_both_known p d v.k old.replay.used v.taken old.replay.link.state from.known old.left from.recording.to_come old.recording.to_come v.none_left v.reports);
         put = rw h.shelf v.put;
       }
   stop_refuses v (inr h) =
       line_stops files failed (broken new.listener) p (at_next old.replay) d v.k v.taken h.line from.known old.left (prepend_known h.ahead reader.bytes) from.recording.to_come old.recording new.recording h.line
-      from.shelf old.shelf new.shelf f v.profile v.version v.noted (omega (arith, v.number)) v.none_left refl h.given v.put v.told h.stopped
+      from.shelf old.shelf new.shelf f v.profile v.version v.noted (omega (arith, v.number)) v.none_left refl h.given v.put v.reports h.stopped
 
   -- the listener has heard the lines before it
-  pub stop_untold : Walks files hears p from d old → Stops files failed broken reader old new f → HearsBefore (listening hears from.listener new.listener) (compared p from.known from.recording.to_come) f
-  stop_untold v (inl h) = subst (λ (g : StreamFault). HearsBefore (listening hears from.listener new.listener) (compared p from.known from.recording.to_come) g) (sym h.fault) tt
-  stop_untold v (inr h) =
-      line_untold hears files failed (broken new.listener) p (at_next old.replay) d v.k v.taken h.line from.known old.left (prepend_known h.ahead reader.bytes) from.recording.to_come old.recording new.recording h.line
-      old.shelf new.shelf f from.listener old.listener new.listener v.profile v.version (omega (arith, v.number)) v.none_left refl h.given v.told v.heard h.untold h.stopped
+  pub stop_unreported : Walks files hears p from d old → Stops files failed broken reader old new f → HearsBefore (listening hears from.listener new.listener) (compared p from.known from.recording.to_come) f
+  stop_unreported v (inl h) = subst (λ (g : StreamFault). HearsBefore (listening hears from.listener new.listener) (compared p from.known from.recording.to_come) g) (sym h.fault) tt
+  stop_unreported v (inr h) =
+      line_unreported hears files failed (broken new.listener) p (at_next old.replay) d v.k v.taken h.line from.known old.left (prepend_known h.ahead reader.bytes) from.recording.to_come old.recording new.recording h.line
+      old.shelf new.shelf f from.listener old.listener new.listener v.profile v.version (omega (arith, v.number)) v.none_left refl h.given v.reports v.heard h.unreported h.stopped
 
   -- the place at which it breaks off
   pub stop_place : Walks files hears p from d old → Stops files failed broken reader old new f
@@ -128,14 +128,14 @@ module _ {S T : Type 0} (files : S → Option (List PutFile)) (hears : Hearing T
       record {
         files = v.taken;
         place =
-            subst (λ (g : StreamFault). WhereTold from.known from.recording.to_come (IsPlaceOf p d v.k old.replay.used v.taken old.replay.link.state from.known old.left reader.bytes reader.failed (failed new.shelf) (broken new.listener) h.ahead from.recording old.recording new.recording v.taken g)) (sym h.fault)
+            subst (λ (g : StreamFault). WhereBothKnown from.known from.recording.to_come (IsPlaceOf p d v.k old.replay.used v.taken old.replay.link.state from.known old.left reader.bytes reader.failed (failed new.shelf) (broken new.listener) h.ahead from.recording old.recording new.recording v.taken g)) (sym h.fault)
             (between_breaks p d v.k old.replay.used v.taken old.replay.link.state from.known old.left reader.bytes reader.failed (failed new.shelf) (broken new.listener) h.ahead from.recording old.recording new.recording
-            v.none_left h.part h.kept v.counted (ap (λ (e : EntriesLeft). e.count) h.recording) h.failed v.told);
+            v.none_left h.part h.kept v.counted (ap (λ (e : EntriesLeft). e.count) h.recording) h.failed v.reports);
         put = rw h.shelf v.put;
       }
   stop_place v (inr h) =
       stop_breaks files failed (broken new.listener) reader.failed p (at_next old.replay) d v.k v.taken h.line from.known old.left reader.bytes h.line h.ahead from.recording old.recording new.recording
-      from.shelf old.shelf new.shelf f v.profile v.version v.noted v.none_left refl h.few h.given v.counted v.put v.told h.stopped
+      from.shelf old.shelf new.shelf f v.profile v.version v.noted v.none_left refl h.few h.given v.counted v.put v.reports h.stopped
 
 -- ---- a part's check, from the third line of its certificate on
 
@@ -143,7 +143,7 @@ pub record WalksPart (old : SeriesValue) (known : Option (List ℕ)) (first : Op
   pub k : ℕ
   pub taken : List FileBytes
   pub number : replay.lines ≡ k + 2
-  pub told : WhereTold known first (IsIn old d k replay.used taken replay.link.state left rec.to_come)
+  pub reports : WhereBothKnown known first (IsIn old d k replay.used taken replay.link.state left rec.to_come)
   pub none_left : replay.link.state.sink.received.files ≡ []
   pub noted : replay.files.items ≡ old.files ++ sizes taken
   pub few : replay.used ≤ replay.lines
@@ -166,7 +166,7 @@ part_one files hears old known first d before after v h =
       k = suc v.k;
       taken = v.taken ++ t.sink.received.files;
       number = omega (arith, lines, v.number);
-      told = rw (used, on.given) (part_on old d v.k before.replay.used v.taken s known before.left after.left h.line first before.recording.to_come h.used t after.recording.to_come h.given passed v.told);
+      reports = rw (used, on.given) (part_on old d v.k before.replay.used v.taken s known before.left after.left h.line first before.recording.to_come h.used t after.recording.to_come h.given passed v.reports);
       none_left = ap (λ (q : State). q.sink.received.files) on.given;
       noted = noted_on old.files before.replay.files.items after.replay.files.items v.taken t.sink.received.files v.noted on.noted;
       few = omega (arith, lines, used, v.few, h.few);
@@ -190,4 +190,4 @@ pub part_at_next : {S T : Type 0} (files : S → Option (List PutFile)) (failed 
     → WalksPart old known first d before.replay before.left before.recording → Stops files failed broken reader before after f → RefusesPart old known first f
 part_at_next files failed broken old known first d reader before after f v (inl h) = part_stopped old known first f (inl h.fault)
 part_at_next files failed broken old known first d reader before after f v (inr h) =
-    part_stops old (at_next before.replay) d v.k v.taken known before.left (prepend_known h.ahead reader.bytes) h.line h.line first before.recording after.recording f v.profile v.version (omega (arith, v.number)) refl h.given v.told h.stopped
+    part_stops old (at_next before.replay) d v.k v.taken known before.left (prepend_known h.ahead reader.bytes) h.line h.line first before.recording after.recording f v.profile v.version (omega (arith, v.number)) refl h.given v.reports h.stopped

@@ -8,7 +8,7 @@ use Rattle.a429_cert.specs.StreamExplained.{IsYes}
 use Rattle.a429_cert.specs.Stream.{next_of}
 use Rattle.a429_cert.proofs.Options.{some_is}
 use Rattle.a429_cert.proofs.ExplainedFacts.{drop_get, none_past, none_read, explained, in_every_run}
-use Rattle.a429_cert.proofs.StreamStands.{AreBehind, next_at}
+use Rattle.a429_cert.proofs.StreamStands.{AreLeftAfter, next_at}
 use Rattle.std.specs.Io.KnownBytes.{prepend_known}
 use Rattle.a429_profile.specs.Profile.{Contents}
 use Rattle.a429_link.specs.declared.file.FileBytes.{FileBytes}
@@ -22,36 +22,36 @@ use Rattle.a429_cert.specs.declared.explained.Head.{Head}
 use Rattle.a429_cert.specs.Lines.{certificate_lines}
 use Rattle.a429_cert.specs.Version.{read_as}
 use Rattle.a429_cert.specs.CutLines.{GivesLine}
-use Rattle.a429_cert.specs.Stream.{behind, PassesOver, of_read}
+use Rattle.a429_cert.specs.Stream.{left_after, PassesOver, of_read}
 use Rattle.a429_cert.specs.StreamHead.{TakesHead}
-use Rattle.a429_cert.specs.StreamExplained.{WhereTold}
+use Rattle.a429_cert.specs.StreamExplained.{WhereBothKnown}
 use Rattle.a429_cert.proofs.ExplainedFacts.{begins}
 use Rattle.a429_cert.proofs.StreamStands.{Stands, goes_on, hands_out}
 use Rattle.a429_cert.specs.Change.{change}
 
 -- ---- where both are told
 
-pub told_map : (known : Option (List ℕ)) (rec : Option Recording) (A B : List ℕ → Recording → Type 0) → ((text : List ℕ) (r : Recording) → A text r → B text r) → WhereTold known rec A → WhereTold known rec B
-told_map None rec A B f h = tt
-told_map (Some text) None A B f h = tt
-told_map (Some text) (Some r) A B f h = f text r h
+pub both_known_map : (known : Option (List ℕ)) (rec : Option Recording) (A B : List ℕ → Recording → Type 0) → ((text : List ℕ) (r : Recording) → A text r → B text r) → WhereBothKnown known rec A → WhereBothKnown known rec B
+both_known_map None rec A B f h = tt
+both_known_map (Some text) None A B f h = tt
+both_known_map (Some text) (Some r) A B f h = f text r h
 
-pub told_init : (p : Contents) (d : Head) (s : State) (known old left : Option (List ℕ)) (rec : Option Recording)
-    → old ≡ known → TakesHead old left d → s ≡ start p d.first → WhereTold known rec (λ text r. Stands p text r d 0 0 [] s left rec)
-told_init p d s None old left rec e h z = tt
-told_init p d s (Some text) old left None e h z = tt
-told_init p d s (Some text) old left (Some r) e h z = by left (subst (λ o. TakesHead o left d) e h)
+pub init_both_known : (p : Contents) (d : Head) (s : State) (known old left : Option (List ℕ)) (rec : Option Recording)
+    → old ≡ known → TakesHead old left d → s ≡ start p d.first → WhereBothKnown known rec (λ text r. Stands p text r d 0 0 [] s left rec)
+init_both_known p d s None old left rec e h z = tt
+init_both_known p d s (Some text) old left None e h z = tt
+init_both_known p d s (Some text) old left (Some r) e h z = by left (subst (λ o. TakesHead o left d) e h)
   where
     by : (left : Option (List ℕ)) → TakesHead (Some text) left d → Stands p text r d 0 0 [] s left (Some r)
     by None h = absurd h
     by (Some ys) h = record { says = h.0; lines = (ys, refl, h.1); inside = omega arith; reached = begins p d.first (with_earlier [] s) z; rest = refl }
 
-pub told_on : (p : Contents) (d : Head) (k i used : ℕ) (taken : List FileBytes) (s t : State) (line known left more : Option (List ℕ)) (start_rec rec new : Option Recording)
+pub on_both_known : (p : Contents) (d : Head) (k i used : ℕ) (taken : List FileBytes) (s t : State) (line known left more : Option (List ℕ)) (start_rec rec new : Option Recording)
     → GivesLine left more line true → PassesOver p (read_as d.version line) (change s t) (change rec new) used
-    → WhereTold known start_rec (λ text r. Stands p text r d k i taken s left rec)
-    → WhereTold known start_rec (λ text r. Stands p text r d (suc k) (i + used) (taken ++ t.sink.received.files) (handed_out t) more new)
-told_on p d k i used taken s t line known left more start_rec rec new g m =
-    told_map known start_rec (λ text r. Stands p text r d k i taken s left rec) (λ text r. Stands p text r d (suc k) (i + used) (taken ++ t.sink.received.files) (handed_out t) more new)
+    → WhereBothKnown known start_rec (λ text r. Stands p text r d k i taken s left rec)
+    → WhereBothKnown known start_rec (λ text r. Stands p text r d (suc k) (i + used) (taken ++ t.sink.received.files) (handed_out t) more new)
+on_both_known p d k i used taken s t line known left more start_rec rec new g m =
+    both_known_map known start_rec (λ text r. Stands p text r d k i taken s left rec) (λ text r. Stands p text r d (suc k) (i + used) (taken ++ t.sink.received.files) (handed_out t) more new)
     (λ text r h. hands_out p text r d (suc k) (i + used) taken t more new (goes_on p text r d k i used taken s t line left more rec new h g m))
 
 -- ---- faults of a recording
@@ -83,7 +83,7 @@ fresh ahead (Some xs) e = rw e refl
 
 -- ---- the end
 
-pub none_next : (lines : List (Option (List ℕ))) (k : ℕ) (old new line : Option (List ℕ)) → AreBehind lines k old → GivesLine old new line false → slice_get lines k ≡ None
+pub none_next : (lines : List (Option (List ℕ))) (k : ℕ) (old new line : Option (List ℕ)) → AreLeftAfter lines k old → GivesLine old new line false → slice_get lines k ≡ None
 none_next lines k None new line h g = absurd (cc h.1)
 none_next lines k (Some xs) None line h g = absurd g
 none_next lines k (Some xs) (Some ys) line h g =
@@ -93,7 +93,7 @@ none_next lines k (Some xs) (Some ys) line h g =
 yes : (p : Contents) (d : Head) (k i : ℕ) (taken : List FileBytes) (s : State) (held left more : Option (List ℕ)) (rec new : Option Recording) (text : List ℕ) (r : Recording)
     → IsProfile p → s.sink.received.files ≡ [] → GivesLine left more held false → GivesNext rec new (Ok None) → Stands p text r d k i taken s left rec → IsYes p taken text r
 yes p d k i taken s held left more rec new text r is none g e h =
-    let end : behind i r ≡ whole [] = subst (λ o. GivesNext o new (Ok None)) h.rest e in
+    let end : left_after i r ≡ whole [] = subst (λ o. GivesNext o new (Ok None)) h.rest e in
     let items = items_of r.entries in
     let all : length items ≤ i = none_past items i (sym (next_at r.entries i) ∙ ap next_of end) in
     let files : (with_earlier taken s).sink.received.files ≡ taken = ap (λ (l : List FileBytes). taken ++ l) none ∙ append-nil taken in
@@ -101,8 +101,8 @@ yes p d k i taken s held left more rec new text r is none g e h =
     (explained p text items d k i (with_earlier taken s) h.says (none_read d.version (drop 2 (certificate_lines text)) k (none_next (drop 2 (certificate_lines text)) k left more held h.lines g)) all h.reached) in
     (ap (λ (q : Recording). q.fault) end, here, in_every_run p is text items taken here)
 
-pub told_yes : (p : Contents) (d : Head) (k i : ℕ) (taken : List FileBytes) (s : State) (held left more known : Option (List ℕ)) (start_rec rec new : Option Recording)
+pub yes_both_known : (p : Contents) (d : Head) (k i : ℕ) (taken : List FileBytes) (s : State) (held left more known : Option (List ℕ)) (start_rec rec new : Option Recording)
     → IsProfile p → s.sink.received.files ≡ [] → GivesLine left more held false → GivesNext rec new (Ok None)
-    → WhereTold known start_rec (λ text r. Stands p text r d k i taken s left rec) → WhereTold known start_rec (IsYes p taken)
-told_yes p d k i taken s held left more known start_rec rec new is none g e =
-    told_map known start_rec (λ text r. Stands p text r d k i taken s left rec) (IsYes p taken) (λ text r h. yes p d k i taken s held left more rec new text r is none g e h)
+    → WhereBothKnown known start_rec (λ text r. Stands p text r d k i taken s left rec) → WhereBothKnown known start_rec (IsYes p taken)
+yes_both_known p d k i taken s held left more known start_rec rec new is none g e =
+    both_known_map known start_rec (λ text r. Stands p text r d k i taken s left rec) (IsYes p taken) (λ text r h. yes p d k i taken s held left more rec new text r is none g e h)

@@ -19,7 +19,7 @@ use Rattle.a429_cert.specs.declared.explained.Head.{Head}
 use Rattle.a429_cert.specs.Version.{without_x, read_as, step_lines}
 use Rattle.a429_cert.specs.Fault.{HasHead, SaysLine}
 use Rattle.a429_cert.specs.Passing.{PassesText}
-use Rattle.a429_cert.specs.Stream.{behind, PassesOver}
+use Rattle.a429_cert.specs.Stream.{left_after, PassesOver}
 use Rattle.a429_cert.proofs.Options.{some_is}
 use Rattle.a429_cert.proofs.ExplainedFacts.{drop_get, line_read, passes_from}
 use Rattle.a429_cert.proofs.EarlierFiles.{text_earlier}
@@ -36,17 +36,17 @@ says_back (Some text) l s = by (nat_le (length text) 2287) s
     by false s = absurd s
 
 -- the bytes still to come are those of the lines behind the first k, where they are known
-abbrev pub AreBehind : List (Option (List ℕ)) → ℕ → Option (List ℕ) → Type 0
-AreBehind lines k known = (bytes : List ℕ) × (known ≡ Some bytes) × (certificate_lines bytes ≡ drop k lines)
+abbrev pub AreLeftAfter : List (Option (List ℕ)) → ℕ → Option (List ℕ) → Type 0
+AreLeftAfter lines k known = (bytes : List ℕ) × (known ≡ Some bytes) × (certificate_lines bytes ≡ drop k lines)
 
-pub line_next : (lines : List (Option (List ℕ))) (k : ℕ) (old new line : Option (List ℕ)) → AreBehind lines k old → GivesLine old new line true → option_map cut (slice_get lines k) ≡ Some line
+pub line_next : (lines : List (Option (List ℕ))) (k : ℕ) (old new line : Option (List ℕ)) → AreLeftAfter lines k old → GivesLine old new line true → option_map cut (slice_get lines k) ≡ Some line
 line_next lines k None new line h g = absurd (cc h.1)
 line_next lines k (Some xs) None line h g = absurd g
 line_next lines k (Some xs) (Some ys) line h g =
     let same : certificate_lines xs ≡ drop k lines = ap certificate_lines (some_is xs h.0 h.1) ∙ h.2 in
     ap (option_map cut) (sym (drop_get lines k) ∙ ap (λ (l : List (Option (List ℕ))). slice_get l 0) (sym same)) ∙ g.0
 
-pub lines_behind : (lines : List (Option (List ℕ))) (k : ℕ) (old new : Option (List ℕ)) (text : List ℕ) → AreBehind lines k old → GivesLine old new (Some text) true → AreBehind lines (suc k) new
+pub lines_behind : (lines : List (Option (List ℕ))) (k : ℕ) (old new : Option (List ℕ)) (text : List ℕ) → AreLeftAfter lines k old → GivesLine old new (Some text) true → AreLeftAfter lines (suc k) new
 lines_behind lines k None new text h g = absurd (cc h.1)
 lines_behind lines k (Some xs) None text h g = absurd g
 lines_behind lines k (Some xs) (Some ys) text h g =
@@ -60,8 +60,8 @@ next_at [] (suc i) = refl
 next_at (e ∷ entries) zero = refl
 next_at (e ∷ entries) (suc i) = next_at entries i
 
-rest_behind : (r : Recording) (used i : ℕ) → behind used (behind i r) ≡ behind (i + used) r
-rest_behind r used i = ap (λ (l : List Entry). left l) (drop-drop used i r.entries)
+rest_left_after : (r : Recording) (used i : ℕ) → left_after used (left_after i r) ≡ left_after (i + used) r
+rest_left_after r used i = ap (λ (l : List Entry). left l) (drop-drop used i r.entries)
   where
     left : List Entry → Recording
     left l = record { entries = l; fault = r.fault }
@@ -71,10 +71,10 @@ rest_behind r used i = ap (λ (l : List Entry). left l) (drop-drop used i r.entr
 -- k lines behind the first two were passed over the first i entries, and these files were handed out
 pub record StandsFrom (p : Contents) (from : State) (text : List ℕ) (r : Recording) (d : Head) (k i : ℕ) (taken : List FileBytes) (s : State) (left : Option (List ℕ)) (rec : Option Recording) : Type 0 where
   pub says : HasHead text d
-  pub lines : AreBehind (drop 2 (certificate_lines text)) k left
+  pub lines : AreLeftAfter (drop 2 (certificate_lines text)) k left
   pub inside : i ≤ length (items_of r.entries)
   pub reached : Leads p from (take k (step_lines d.version text)) (take i (items_of r.entries)) (with_earlier taken s)
-  pub rest : rec ≡ Some (behind i r)
+  pub rest : rec ≡ Some (left_after i r)
 
 -- of a run from its start
 abbrev pub Stands : Contents → List ℕ → Recording → Head → ℕ → ℕ → List FileBytes → State → Option (List ℕ) → Option Recording → Type 0
@@ -102,7 +102,7 @@ nothing_read One = refl
 nothing_read Two = refl
 
 -- the next line, as the version reads it; what was handed out of it may be cut
-pub line_cut : (v : Version) (lines : List (Option (List ℕ))) (k : ℕ) (left more line : Option (List ℕ)) → AreBehind lines k left → GivesLine left more line true
+pub line_cut : (v : Version) (lines : List (Option (List ℕ))) (k : ℕ) (left more line : Option (List ℕ)) → AreLeftAfter lines k left → GivesLine left more line true
     → (raw : Option (List ℕ)) × (slice_get (map (read_as v) lines) k ≡ Some raw) × (cut raw ≡ read_as v line)
 line_cut v lines k left more line h g =
     let raw = cut_of (slice_get lines k) line (line_next lines k left more line h g) in
@@ -113,7 +113,7 @@ text_back p raw line next s t used e h = (h.0, says_back raw h.0 (subst (λ o. S
 
 pub goes_from : (p : Contents) (from : State) (text : List ℕ) (r : Recording) (d : Head) (k i used : ℕ) (taken : List FileBytes) (s t : State) (line left more : Option (List ℕ)) (rec new : Option Recording)
     → StandsFrom p from text r d k i taken s left rec → GivesLine left more line true → PassesOver p (read_as d.version line) (change s t) (change rec new) used → StandsFrom p from text r d (suc k) (i + used) taken t more new
-goes_from p from text r d k i used taken s t None left more rec new h g m = absurd ((subst (λ q. PassesOver p q (change s t) (change (Some (behind i r)) new) used) (nothing_read d.version) (subst (λ o. PassesOver p (read_as d.version None) (change s t) (change o new) used) h.rest m)).0.1)
+goes_from p from text r d k i used taken s t None left more rec new h g m = absurd ((subst (λ q. PassesOver p q (change s t) (change (Some (left_after i r)) new) used) (nothing_read d.version) (subst (λ o. PassesOver p (read_as d.version None) (change s t) (change o new) used) h.rest m)).0.1)
 goes_from p from text r d k i used taken s t (Some said) left more rec new h g m =
     let lines = drop 2 (certificate_lines text) in
     let items = items_of r.entries in
@@ -128,7 +128,7 @@ goes_from p from text r d k i used taken s t (Some said) left more rec new h g m
       lines = lines_behind lines k left more said h.lines g;
       inside = on.inside;
       reached = on.reached;
-      rest = here.1 ∙ ap (λ (q : Recording). Some q) (rest_behind r used i);
+      rest = here.1 ∙ ap (λ (q : Recording). Some q) (rest_left_after r used i);
     }
 
 pub goes_on : (p : Contents) (text : List ℕ) (r : Recording) (d : Head) (k i used : ℕ) (taken : List FileBytes) (s t : State) (line left more : Option (List ℕ)) (rec new : Option Recording)

@@ -128,13 +128,13 @@ upgraded p rest items first steps h = by h.version h.header h.lists
     by : (v : Version) → Some (version_line One) ∷ certificate_lines rest ≡ Some (version_line v) ∷ (Some (spelling (First first)) ∷ h.lines) → ListsSteps p (map (read_as v) h.lines) steps (start p first)
         → Explains p (version_line Two ++ 10 ∷ rest) items first steps × (gives_up steps ≡ false)
     by One e lists =
-        let behind : certificate_lines rest ≡ Some (spelling (First first)) ∷ h.lines = ap (drop 1) e in
+        let left_after : certificate_lines rest ≡ Some (spelling (First first)) ∷ h.lines = ap (drop 1) e in
         let kept = lists_kept p h.lines steps (start p first) lists in (
           record {
             version = Two;
             lines = h.lines;
             byte = h.byte;
-            header = ap (λ (l : List (Option (List ℕ))). Some (version_line Two) ∷ l) behind;
+            header = ap (λ (l : List (Option (List ℕ))). Some (version_line Two) ∷ l) left_after;
             lists = subst (λ (l : List (Option (List ℕ))). ListsSteps p l steps (start p first)) (sym (all_read h.lines)) kept.0;
             used = h.used;
           },

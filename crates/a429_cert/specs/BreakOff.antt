@@ -14,7 +14,7 @@ use Rattle.a429_cert.specs.declared.stream_fault.StreamFault.TheVariants as stre
 use Rattle.a429_cert.specs.Version.{step_lines}
 use Rattle.a429_cert.specs.CutLines.{HasNoLineFeed, HasRead, HasReadTo}
 use Rattle.a429_cert.specs.Stream.{GainsAll}
-use Rattle.a429_cert.specs.StreamExplained.{WhereTold, WantsNext, Delivers, IsWantedReadFault, reached}
+use Rattle.a429_cert.specs.StreamExplained.{WhereBothKnown, WantsNext, Delivers, IsWantedReadFault, reached}
 
 -- ---- what was read and put until then
 
@@ -111,5 +111,5 @@ IsPlace h stream.OutOfMemory text r = IsInHead text h.read h.files ⊎ (IsAtFile
 -- the files that are put are those of the place, from place 1 on
 pub record BreaksOff (p : Contents) (read : Readers) (shelf : Shelved) (listener : Bool) (f : StreamFault) : Type 0 where
   pub files : List FileBytes
-  pub place : WhereTold read.certificate read.recording (IsPlace (halted p read shelf.failed listener files) f)
+  pub place : WhereBothKnown read.certificate read.recording (IsPlace (halted p read shelf.failed listener files) f)
   pub put : GainsAll shelf.before shelf.after 1 files

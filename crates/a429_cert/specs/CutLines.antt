@@ -9,7 +9,7 @@ HasNoLineFeed text = Nowhere (Passes (is_byte 10) text) 0 (length text)
 
 -- bytes begin with this line and its line feed, and these come after it, whatever follows both
 abbrev pub BeginsWith : List ℕ → Option (List ℕ) → List ℕ → Type 0
-BeginsWith bytes line behind = (more : List ℕ) → certificate_lines (bytes ++ more) ≡ line ∷ certificate_lines (behind ++ more)
+BeginsWith bytes line left_after = (more : List ℕ) → certificate_lines (bytes ++ more) ≡ line ∷ certificate_lines (left_after ++ more)
 
 -- a text of at most 2,287 bytes, and none for a longer one (profile)
 abbrev pub when_short : List ℕ → Option (List ℕ)
@@ -20,13 +20,13 @@ abbrev pub cut : Option (List ℕ) → Option (List ℕ)
 cut line = option_and_then when_short line
 
 -- what is still to come after a line that was handed out: an unended one stays where it is
-abbrev pub StandsBehind : Option (List ℕ) → List ℕ → List ℕ → Type 0
-StandsBehind (Some line) old new = certificate_lines new ≡ drop 1 (certificate_lines old)
-StandsBehind None old new = new ≡ old
+abbrev pub IsLeftAfter : Option (List ℕ) → List ℕ → List ℕ → Type 0
+IsLeftAfter (Some line) old new = certificate_lines new ≡ drop 1 (certificate_lines old)
+IsLeftAfter None old new = new ≡ old
 
 -- the answer whether a line was handed out: it is the first of those to come, and there was none where nothing was to come
 abbrev pub IsFirstLine : Bool → List ℕ → List ℕ → Option (List ℕ) → Type 0
-IsFirstLine true old new line = (option_map cut (slice_get (certificate_lines old) 0) ≡ Some line) × StandsBehind line old new
+IsFirstLine true old new line = (option_map cut (slice_get (certificate_lines old) 0) ≡ Some line) × IsLeftAfter line old new
 IsFirstLine false old new line = certificate_lines old ≡ []
 
 -- the same of the bytes still to come, where they are known

@@ -37,10 +37,10 @@ abbrev pub HasHead : List ℕ → Head → Type 0
 HasHead certificate h = HasVersion certificate h.version × HasFirst certificate h.first
 
 -- the text begins with them, they say this, and this comes after them
-pub record Begins (text : List ℕ) (head : Head) (behind : List ℕ) : Type 0 where
+pub record Begins (text : List ℕ) (head : Head) (left_after : List ℕ) : Type 0 where
   pub says : HasHead text head
-  pub lines : certificate_lines behind ≡ drop 2 (certificate_lines text)
-  pub shorter : length behind + 2 ≤ length text
+  pub lines : certificate_lines left_after ≡ drop 2 (certificate_lines text)
+  pub shorter : length left_after + 2 ≤ length text
 
 -- the number of the first file, where the line has it
 abbrev pub file_in : CertLine → Option ℕ

@@ -17,14 +17,14 @@ abbrev pub when : {A : Type 0} → Bool → A → Option A
 when test x = if test then Some x else None
 
 -- what comes after a space
-abbrev pub behind_space : List ℕ → Option (List ℕ)
-behind_space [] = None
-behind_space (b ∷ text) = when (b == 32) text
+abbrev pub after_space : List ℕ → Option (List ℕ)
+after_space [] = None
+after_space (b ∷ text) = when (b == 32) text
 
 -- a value that a field begins with, and what comes after it
 abbrev pub with_rest : {A : Type 0} → (List ℕ → Option (A × List ℕ)) → List ℕ → Option (A × List ℕ)
 with_rest read text = do
-  inside ← behind_space text
+  inside ← after_space text
   read inside
 
 -- ---- hexadecimal numbers

@@ -20,7 +20,7 @@ pub mod Pair
 pub mod StreamEnd
 pub mod StreamExplained
 pub mod BreakOff
-pub mod Told
+pub mod Report
 pub mod Likely
 pub mod BlockText
 pub mod Series

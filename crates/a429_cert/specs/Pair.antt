@@ -6,12 +6,12 @@ use Rattle.a429_record.specs.declared.entry.Entry.{Entry}
 use Rattle.a429_record.specs.Recording.{Recording}
 use Rattle.a429_cert.specs.declared.act.Act.TheVariants.{Sent, SinkTakes}
 use Rattle.a429_cert.specs.declared.stream.Replay.{Replay}
-use Rattle.a429_cert.specs.Stream.{behind, next_of}
-use Rattle.a429_cert.specs.Told.{Listening, WhereKnown, Makes, with_number}
+use Rattle.a429_cert.specs.Stream.{left_after, next_of}
+use Rattle.a429_cert.specs.Report.{Listening, WhereKnown, Makes, with_number}
 
 -- the entry that comes next is this word on bus A, and it is taken
 abbrev pub IsEntry : ℕ → Option Recording → Option Recording → Type 0
-IsEntry word old new = WhereKnown old (λ r. (next_of r ≡ Some (on_a word)) × (new ≡ Some (behind 1 r)))
+IsEntry word old new = WhereKnown old (λ r. (next_of r ≡ Some (on_a word)) × (new ≡ Some (left_after 1 r)))
 
 -- a listener hears of both steps, of the first with the entry that comes next, which has this number
 pub record HearsBoth {T : Type 0} (l : Listening T) (p : Contents) (i : ℕ) (rec : Option Recording) : Type 0 where

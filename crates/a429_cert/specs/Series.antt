@@ -22,8 +22,8 @@ use Rattle.a429_cert.specs.declared.stream_fault.StreamFault.TheVariants as stre
 use Rattle.a429_cert.specs.Version.{step_lines}
 use Rattle.a429_cert.specs.Explained.{items_of, Leads, AreInSomeRun, AreInEveryRun}
 use Rattle.a429_cert.specs.Fault.{HasHead, at_line, IsFaultAt, IsFaultOfHead}
-use Rattle.a429_cert.specs.Stream.{behind, sizes}
-use Rattle.a429_cert.specs.StreamExplained.{WhereTold, WantsNext, EndsAt}
+use Rattle.a429_cert.specs.Stream.{left_after, sizes}
+use Rattle.a429_cert.specs.StreamExplained.{WhereBothKnown, WantsNext, EndsAt}
 
 -- ---- a series
 
@@ -80,7 +80,7 @@ pub record Fits (old new : SeriesValue) (files : List FileBytes) (text : List �
 -- such files have crossed since
 pub record Joins (old : SeriesValue) (known : Option (List ℕ)) (rec : Option Recording) (new : SeriesValue) : Type 0 where
   pub files : List FileBytes
-  pub fits : WhereTold known rec (Fits old new files)
+  pub fits : WhereBothKnown known rec (Fits old new files)
   pub more : new.files ≡ old.files ++ sizes files
   pub profile : new.profile ≡ old.profile
 
@@ -109,8 +109,8 @@ pub record IsReadFaultInPart (old : SeriesValue) (f : ReadFault) (text : List �
   pub state : State
   pub before : LeadsInPart old text r k i state
   pub wants : WantsNext old.profile (slice_get (step_lines before.head.version text) k) state
-  pub fault : Stops f (behind i r)
-  pub told : f ≢ read.OutOfMemory
+  pub fault : Stops f (left_after i r)
+  pub reports : f ≢ read.OutOfMemory
 
 abbrev pub IsPartFault : SeriesValue → StreamFault → List ℕ → Recording → Type 0
 IsPartFault old (stream.Cert f) text r = IsFaultOfHead text f ⊎ IsFaultInPart old f text r
@@ -120,7 +120,7 @@ IsPartFault old stream.OutOfMemory text r = ⊤
 
 -- the fault is the part's first, where its certificate and its recording are known
 abbrev pub RefusesPart : SeriesValue → Option (List ℕ) → Option Recording → StreamFault → Type 0
-RefusesPart old known rec f = WhereTold known rec (IsPartFault old f)
+RefusesPart old known rec f = WhereBothKnown known rec (IsPartFault old f)
 
 -- ---- parts that were added one after the other
 

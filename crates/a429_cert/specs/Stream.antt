@@ -26,14 +26,14 @@ use Rattle.a429_cert.specs.Explained.{items_of}
 use Rattle.a429_cert.specs.Version.{read_as}
 use Rattle.a429_cert.specs.Fault.{SaysLine, IsNamed, IsFaultOfLine, at_line}
 use Rattle.a429_cert.specs.Change.{Change, change}
-use Rattle.a429_cert.specs.Told.{Listening, Position, position, WhereKnown, HearsListed, HearsText, told_listed, with_number}
+use Rattle.a429_cert.specs.Report.{Listening, Position, position, WhereKnown, HearsListed, HearsText, report_of_listed, with_number}
 use Rattle.a429_cert.specs.Passing.{uses, uses_listed, PassesListed, RefusesListed, PassesText}
 
 -- ---- a recording that is read as a stream
 
 -- what comes after its first n entries
-abbrev pub behind : ℕ → Recording → Recording
-behind n r = record { entries = drop n r.entries; fault = r.fault }
+abbrev pub left_after : ℕ → Recording → Recording
+left_after n r = record { entries = drop n r.entries; fault = r.fault }
 
 -- what a run records of the entry that comes next, if one does
 abbrev pub next_of : Recording → Option Seen
@@ -43,7 +43,7 @@ next_of r = slice_get (items_of r.entries) 0
 abbrev pub TakesNext : ℕ → Option Recording → Option Recording → Option Seen → Type 0
 TakesNext n None new next = ⊤
 TakesNext zero (Some r) new next = new ≡ Some r
-TakesNext (suc n) (Some r) new (Some item) = (next_of r ≡ Some item) × (new ≡ Some (behind 1 r))
+TakesNext (suc n) (Some r) new (Some item) = (next_of r ≡ Some item) × (new ≡ Some (left_after 1 r))
 TakesNext (suc n) (Some r) new None = r ≡ whole []
 
 -- a fault of what was to come is all of it, where a step uses an entry
@@ -85,7 +85,7 @@ HasEnd r _ = ⊤
 
 -- what a line lists passes over the recording, and uses so many entries
 abbrev pub PassesNext : Contents → Listed → Change State → Change (Option Recording) → ℕ → Type 0
-PassesNext p x state rec used = WhereKnown rec.old (λ r. PassesListed p x (next_of r) state used × (rec.new ≡ Some (behind used r)))
+PassesNext p x state rec used = WhereKnown rec.old (λ r. PassesListed p x (next_of r) state used × (rec.new ≡ Some (left_after used r)))
 
 -- line n at this position of the recording
 abbrev pub line_at : Position → ℕ → Recording → At
@@ -105,15 +105,15 @@ RefusesNext p x at n f = WhereKnown at.recording (λ r. ByFault
     (λ g. (uses_listed x ≡ 1) × Stops g r × (g ≢ read.OutOfMemory)) f)
 
 -- nothing is reported to a listener where the fault is one of the certificate or of the recording
-abbrev pub IsUntold : {T : Type 0} → T → T → StreamFault → Type 0
-IsUntold old new (stream.Cert f) = new ≡ old
-IsUntold old new (stream.Read f) = new ≡ old
-IsUntold old new stream.Device = ⊤
-IsUntold old new stream.OutOfMemory = ⊤
+abbrev pub IsUnreported : {T : Type 0} → T → T → StreamFault → Type 0
+IsUnreported old new (stream.Cert f) = new ≡ old
+IsUnreported old new (stream.Read f) = new ≡ old
+IsUnreported old new stream.Device = ⊤
+IsUnreported old new stream.OutOfMemory = ⊤
 
 -- a line of the text passes over the recording, and uses so many entries
 abbrev pub PassesOver : Contents → Option (List ℕ) → Change State → Change (Option Recording) → ℕ → Type 0
-PassesOver p text state rec used = WhereKnown rec.old (λ r. PassesText p text (next_of r) state used × (rec.new ≡ Some (behind used r)))
+PassesOver p text state rec used = WhereKnown rec.old (λ r. PassesText p text (next_of r) state used × (rec.new ≡ Some (left_after used r)))
 
 -- a line of the text wants an entry: a step of its name may be made with some
 abbrev pub WantsEntry : Contents → Option (List ℕ) → State → Type 0
@@ -156,7 +156,7 @@ EndsReplay replay text rec f = RefusesOver replay.profile.now (read_as replay.ve
 
 -- what the next line lists is reported to a listener, with this entry, if it uses one
 abbrev pub TellsListed : {T : Type 0} → Listening T → Replay → Listed → Option Entry → Type 0
-TellsListed l replay x next = l.hears replay.profile.now l.old (told_listed replay.link.state.source.number x (with_number replay.used next)) l.new
+TellsListed l replay x next = l.hears replay.profile.now l.old (report_of_listed replay.link.state.source.number x (with_number replay.used next)) l.new
 
 -- with the entry that comes next, if it uses one
 abbrev pub HearsNext : {T : Type 0} → Listening T → Replay → Listed → Option Recording → Type 0

@@ -21,14 +21,14 @@ use Rattle.a429_cert.specs.Version.{step_lines}
 use Rattle.a429_cert.specs.Explained.{items_of, Reaches, IsExplained, AreInEveryRun}
 use Rattle.a429_cert.specs.Fault.{HasHead, IsFaultOfHead, IsLaterFault, IsFirstCertFault}
 use Rattle.a429_cert.specs.Change.{Change}
-use Rattle.a429_cert.specs.Told.{Told, told_run, Listening, IsHeard}
-use Rattle.a429_cert.specs.Stream.{behind, WantsEntry, GainsAll, sizes}
+use Rattle.a429_cert.specs.Report.{Report, reports_of_run, Listening, IsHeard}
+use Rattle.a429_cert.specs.Stream.{left_after, WantsEntry, GainsAll, sizes}
 
 -- what holds of the certificate and the recording, where both are known
-abbrev pub WhereTold : Option (List ℕ) → Option Recording → (List ℕ → Recording → Type 0) → Type 0
-WhereTold None rec Holds = ⊤
-WhereTold (Some text) None Holds = ⊤
-WhereTold (Some text) (Some r) Holds = Holds text r
+abbrev pub WhereBothKnown : Option (List ℕ) → Option Recording → (List ℕ → Recording → Type 0) → Type 0
+WhereBothKnown None rec Holds = ⊤
+WhereBothKnown (Some text) None Holds = ⊤
+WhereBothKnown (Some text) (Some r) Holds = Holds text r
 
 -- a certificate and a recording that are compared under a profile, where what their readers have to read is known
 pub record Compared : Type 0 where
@@ -52,7 +52,7 @@ IsYes p files text r = (r.fault ≡ None) × IsExplained p text (items_of r.entr
 -- such files are put, from place 1 on, and their numbers and lengths are the answer
 pub record Extracts (c : Compared) (shelf : Change (Option (List PutFile))) (answer : List (ℕ × ℕ)) : Type 0 where
   pub files : List FileBytes
-  pub yes : WhereTold c.certificate c.recording (IsYes c.profile files)
+  pub yes : WhereBothKnown c.certificate c.recording (IsYes c.profile files)
   pub put : GainsAll shelf.old shelf.new 1 files
   pub answered : answer ≡ sizes files
 
@@ -62,7 +62,7 @@ SaysYes c shelf answer = Extracts c shelf answer.items
 
 -- a listener has heard the run by which the certificate explains the recording, where both are known
 abbrev pub HearsRun : {T : Type 0} → Listening T → Compared → Type 0
-HearsRun l c = WhereTold c.certificate c.recording (IsHeard l c.profile)
+HearsRun l c = WhereBothKnown c.certificate c.recording (IsHeard l c.profile)
 
 -- ---- a fault
 
@@ -104,8 +104,8 @@ pub record IsWantedReadFault (p : Contents) (text : List ℕ) (r : Recording) (f
   pub state : State
   pub before : Delivers p text r (reached k i state) files
   pub wants : WantsNext p (slice_get (step_lines before.head.version text) k) state
-  pub fault : Stops f (behind i r)
-  pub told : f ≢ read.OutOfMemory
+  pub fault : Stops f (left_after i r)
+  pub reports : f ≢ read.OutOfMemory
 
 -- some lines deliver these files, and no others
 pub record AreOfLines (p : Contents) (text : List ℕ) (r : Recording) (files : List FileBytes) : Type 0 where
@@ -123,27 +123,27 @@ IsStreamFault p stream.OutOfMemory files text r = (files ≡ []) ⊎ AreOfLines 
 -- the fault comes first, and the files of the lines before it are put, from place 1 on
 pub record Refuses (c : Compared) (shelf : Change (Option (List PutFile))) (f : StreamFault) : Type 0 where
   pub files : List FileBytes
-  pub fault : WhereTold c.certificate c.recording (IsStreamFault c.profile f files)
+  pub fault : WhereBothKnown c.certificate c.recording (IsStreamFault c.profile f files)
   pub put : GainsAll shelf.old shelf.new 1 files
 
 -- ---- what is reported before a fault
 
 -- what is reported of the lines before the fault, which comes first: of a run's first steps, in order, and of no other
-abbrev pub IsToldBefore : Contents → StreamFault → List Told → List ℕ → Recording → Type 0
-IsToldBefore p (stream.Cert f) told text r = (IsFaultOfHead text f × (told ≡ [])) ⊎ ((h : IsLaterFault p text (items_of r.entries) f) × (told ≡ told_run p r.entries h.head.first h.before.steps))
-IsToldBefore p (stream.Read f) told text r = (files : List FileBytes) × (h : IsWantedReadFault p text r f files) × (told ≡ told_run p r.entries h.before.head.first h.before.before.steps)
-IsToldBefore p stream.Device told text r = ⊤
-IsToldBefore p stream.OutOfMemory told text r = ⊤
+abbrev pub AreReportedBefore : Contents → StreamFault → List Report → List ℕ → Recording → Type 0
+AreReportedBefore p (stream.Cert f) reports text r = (IsFaultOfHead text f × (reports ≡ [])) ⊎ ((h : IsLaterFault p text (items_of r.entries) f) × (reports ≡ reports_of_run p r.entries h.head.first h.before.steps))
+AreReportedBefore p (stream.Read f) reports text r = (files : List FileBytes) × (h : IsWantedReadFault p text r f files) × (reports ≡ reports_of_run p r.entries h.before.head.first h.before.before.steps)
+AreReportedBefore p stream.Device reports text r = ⊤
+AreReportedBefore p stream.OutOfMemory reports text r = ⊤
 
 -- a listener has heard the steps of the lines before the fault, each once and in order, and nothing else
 pub record IsHeardBefore {T : Type 0} (l : Listening T) (p : Contents) (f : StreamFault) (text : List ℕ) (r : Recording) : Type 0 where
-  pub told : List Told
-  pub before : IsToldBefore p f told text r
-  pub heard : FoldsTo (l.hears p) l.old told l.new
+  pub reports : List Report
+  pub before : AreReportedBefore p f reports text r
+  pub heard : FoldsTo (l.hears p) l.old reports l.new
 
 -- it has, where both are known and the fault is one of the certificate or of the recording: another may be the listener's own
 abbrev pub HearsBefore : {T : Type 0} → Listening T → Compared → StreamFault → Type 0
-HearsBefore l c (stream.Cert f) = WhereTold c.certificate c.recording (IsHeardBefore l c.profile (stream.Cert f))
-HearsBefore l c (stream.Read f) = WhereTold c.certificate c.recording (IsHeardBefore l c.profile (stream.Read f))
+HearsBefore l c (stream.Cert f) = WhereBothKnown c.certificate c.recording (IsHeardBefore l c.profile (stream.Cert f))
+HearsBefore l c (stream.Read f) = WhereBothKnown c.certificate c.recording (IsHeardBefore l c.profile (stream.Read f))
 HearsBefore l c stream.Device = ⊤
 HearsBefore l c stream.OutOfMemory = ⊤

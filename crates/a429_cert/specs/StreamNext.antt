@@ -8,8 +8,8 @@ use Rattle.a429_cert.specs.declared.stream_fault.StreamFault.{StreamFault}
 use Rattle.a429_cert.specs.declared.stream_fault.StreamFault.TheVariants as stream
 use Rattle.a429_cert.specs.Change.{change}
 use Rattle.a429_cert.specs.CutLines.{GivesLine, HasNoLineFeed}
-use Rattle.a429_cert.specs.Told.{Hearing, listening}
-use Rattle.a429_cert.specs.Stream.{taking, GoesOn, HearsLine, IsUntold, StopsAt}
+use Rattle.a429_cert.specs.Report.{Hearing, listening}
+use Rattle.a429_cert.specs.Stream.{taking, GoesOn, HearsLine, IsUnreported, StopsAt}
 
 -- how far a check has come: its replay, what is still to come of the certificate, where that is known, and of the recording, the shelf and the listener
 pub record Progress (S T : Type 0) : Type 0 where
@@ -82,7 +82,7 @@ pub record StopsAtNext {S T : Type 0} (files : S → Option (List PutFile)) (fai
   pub few : length ahead ≤ 2288
   pub given : GivesLine old.left (prepend_known ahead reader.bytes) line true
   pub stopped : StopsAt files failed (broken new.listener) (taking (at_next old.replay) line (change old.recording new.recording) (change old.shelf new.shelf)) f
-  pub untold : IsUntold old.listener new.listener f
+  pub unreported : IsUnreported old.listener new.listener f
 
 abbrev pub Stops : {S T : Type 0} → (S → Option (List PutFile)) → (S → Bool) → (T → Bool) → Unread → Progress S T → Progress S T → StreamFault → Type 0
 Stops files failed broken reader old new f = StopsInLine reader old new f ⊎ StopsAtNext files failed broken reader old new f

@@ -3,14 +3,14 @@
 ghost use Rattle.std.specs.Prelude.{◌≡◌, ◌<◌, ◌≤◌, ◌^◌, [], ◌∷◌, ◌++◌, length, IfSome, option_map};
 ghost use Rattle.std.specs.Fmt.{decimal};
 ghost use Rattle.std.specs.List.{list_all};
-ghost use Rattle.a429_cert.specs.Field.{last_decimal_in, decimal_in, with_next_digit, decimal_digit_in, hex_in, hex_digits_in, hex_digit_in, is_not_lower, with_rest, behind_space, field};
+ghost use Rattle.a429_cert.specs.Field.{last_decimal_in, decimal_in, with_next_digit, decimal_digit_in, hex_in, hex_digits_in, hex_digit_in, is_not_lower, with_rest, after_space, field};
 
 use a429_word::Word;
 
 /// What comes after a space.
 #[inline(always)]
-pub fn behind_space(text: &[u8]) -> Option<&[u8]>
-    ensures { option_map (λ x. x.now) result ≡ behind_space text.now }
+pub fn after_space(text: &[u8]) -> Option<&[u8]>
+    ensures { option_map (λ x. x.now) result ≡ after_space text.now }
 {
     match text {
         [b' ', field @ ..] => Some(field),
@@ -143,7 +143,7 @@ pub fn decimal_of(text: &[u8]) -> Option<(u8, &[u8])>
 pub fn decimal_at(text: &[u8]) -> Option<(u8, &[u8])>
     ensures { option_map (λ x. (x.0, x.1.now)) result ≡ with_rest decimal_in text.now }
 {
-    decimal_of(behind_space(text)?)
+    decimal_of(after_space(text)?)
 }
 
 /// The decimal number in the next field, where nothing comes after it.
@@ -158,20 +158,20 @@ pub fn last_decimal_at(text: &[u8]) -> Option<u8>
 
 // What comes after the digits of this number, where the text begins with them.
 #[inline(always)]
-fn behind_decimal(text: &[u8], number: u8) -> Option<&[u8]>
+fn after_decimal(text: &[u8], number: u8) -> Option<&[u8]>
     ensures { IfSome result (λ rest. text.now ≡ decimal number ++ rest.now) }
 {
     if number < 10 {
-        behind_one(text, number)
+        after_one(text, number)
     } else if number < 100 {
-        behind_two(text, number)
+        after_two(text, number)
     } else {
-        behind_three(text, number)
+        after_three(text, number)
     }
 }
 
 #[inline(always)]
-fn behind_one(text: &[u8], number: u8) -> Option<&[u8]>
+fn after_one(text: &[u8], number: u8) -> Option<&[u8]>
     requires { number < 10 }
     ensures { IfSome result (λ rest. text.now ≡ decimal number ++ rest.now) }
 {
@@ -182,7 +182,7 @@ fn behind_one(text: &[u8], number: u8) -> Option<&[u8]>
 }
 
 #[inline(always)]
-fn behind_two(text: &[u8], number: u8) -> Option<&[u8]>
+fn after_two(text: &[u8], number: u8) -> Option<&[u8]>
     requires least { 10 ≤ number }
     requires most { number < 100 }
     ensures { IfSome result (λ rest. text.now ≡ decimal number ++ rest.now) }
@@ -195,7 +195,7 @@ fn behind_two(text: &[u8], number: u8) -> Option<&[u8]>
 }
 
 #[inline(always)]
-fn behind_three(text: &[u8], number: u8) -> Option<&[u8]>
+fn after_three(text: &[u8], number: u8) -> Option<&[u8]>
     requires { 100 ≤ number }
     ensures { IfSome result (λ rest. text.now ≡ decimal number ++ rest.now) }
 {
@@ -214,16 +214,16 @@ fn behind_three(text: &[u8], number: u8) -> Option<&[u8]>
 
 /// What comes after the field of this number, where the text begins with it.
 #[inline(always)]
-pub fn behind_number(text: &[u8], number: u8) -> Option<&[u8]>
+pub fn after_number(text: &[u8], number: u8) -> Option<&[u8]>
     ensures begins { IfSome result (λ rest. text.now ≡ field (decimal number) ++ rest.now) }
     ensures byte { number < 256 }
 {
-    behind_decimal(behind_space(text)?, number)
+    after_decimal(after_space(text)?, number)
 }
 
 /// What comes after the field of this letter, where the text begins with it.
 #[inline(always)]
-pub fn behind_letter(text: &[u8], letter: u8) -> Option<&[u8]>
+pub fn after_letter(text: &[u8], letter: u8) -> Option<&[u8]>
     ensures { IfSome result (λ rest. text.now ≡ field (letter ∷ []) ++ rest.now) }
 {
     match text {
@@ -234,10 +234,10 @@ pub fn behind_letter(text: &[u8], letter: u8) -> Option<&[u8]>
 
 /// What comes after the field of this letter with this number after it, where the text begins with it.
 #[inline(always)]
-pub fn behind_counted(text: &[u8], letter: u8, number: u8) -> Option<&[u8]>
+pub fn after_counted(text: &[u8], letter: u8, number: u8) -> Option<&[u8]>
     ensures { IfSome result (λ rest. text.now ≡ field (letter ∷ decimal number) ++ rest.now) }
 {
-    behind_decimal(behind_letter(text, letter)?, number)
+    after_decimal(after_letter(text, letter)?, number)
 }
 
 /// The hexadecimal number of so many digits in the next field, and what comes after it.
@@ -246,7 +246,7 @@ pub fn hex_at(text: &[u8], count: usize) -> Option<(u32, &[u8])>
     ensures value { option_map (λ x. (x.0, x.1.now)) result ≡ with_rest (hex_in count) text.now }
     ensures small { IfSome result (λ x. x.0 < 16 ^ count) }
 {
-    hex_of(behind_space(text)?, count)
+    hex_of(after_space(text)?, count)
 }
 
 /// The word whose eight hexadecimal digits are the next field, and what comes after it.
@@ -254,5 +254,5 @@ pub fn hex_at(text: &[u8], count: usize) -> Option<(u32, &[u8])>
 pub fn word_at(text: &[u8]) -> Option<(Word, &[u8])>
     ensures { option_map (λ x. (x.0, x.1.now)) result ≡ with_rest (hex_in 8) text.now }
 {
-    word_of(behind_space(text)?)
+    word_of(after_space(text)?)
 }

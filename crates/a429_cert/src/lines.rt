@@ -49,7 +49,7 @@ impl<'a> Lines<'a> {
         match memchr(b'\n', self.rest) {
             Some(end) => {
                 let (line, rest) = self.rest.split_at(end);
-                self.rest = behind_first(rest);
+                self.rest = after_first(rest);
                 Some(TextLine::Ended(line))
             }
             None => {
@@ -61,11 +61,11 @@ impl<'a> Lines<'a> {
 }
 
 // The bytes after the first.
-fn behind_first(text: &[u8]) -> &[u8]
+fn after_first(text: &[u8]) -> &[u8]
     ensures { result.now ≡ drop 1 text.now }
 {
     match text {
-        [_, behind @ ..] => behind,
+        [_, rest @ ..] => rest,
         [] => text,
     }
 }

@@ -14,10 +14,10 @@ use a429_word::{Failing, Trouble};
 pub trait Listener: Failing {
     ghost use Rattle.std.specs.Prelude.{◌≡◌, IsErrOf, OnOk, true};
     ghost use Rattle.a429_profile.specs.Profile.{Contents};
-    ghost use Rattle.a429_cert.specs.Told.{Told, Loads, Makes};
+    ghost use Rattle.a429_cert.specs.Report.{Report, Loads, Makes};
 
     // Relates the listener before something is reported to it, under a profile, and the listener after it.
-    ghost hears: { Contents → Self → Told → Self → Type 0 };
+    ghost hears: { Contents → Self → Report → Self → Type 0 };
 
     /// A link data unit is loaded at the source, under this number.
     fn load(&mut self, profile: &Profile, number: UnitNumber, unit: &Ldu) -> Result<(), Trouble>
@@ -53,13 +53,13 @@ impl Listener for NoListener {
     ghost hears = { λ _ _ _ _. ⊤ };
 
     fn load(&mut self, _: &Profile, _: UnitNumber, _: &Ldu) -> Result<(), Trouble>
-        ensures told { IsOk result }
+        ensures reports { IsOk result }
     {
         Ok(())
     }
 
     fn make(&mut self, _: &Profile, _: Act, _: Option<(usize, Entry)>) -> Result<(), Trouble>
-        ensures told { IsOk result }
+        ensures reports { IsOk result }
     {
         Ok(())
     }

@@ -8,9 +8,9 @@ ghost use Rattle.a429_cert.specs.Explained.{seen_of};
 ghost use Rattle.a429_cert.specs.LineReader.{bytes_ahead};
 ghost use Rattle.a429_cert.specs.Likely.{pair_text, sent_text};
 ghost use Rattle.a429_cert.specs.Pair.{HearsBoth, HearsMade, IsEntry, replay_taken};
-ghost use Rattle.a429_cert.specs.Stream.{EndsReplay, GivesAtFault, GivesFor, IsFaultNext, IsUntold, TakesNext, WantsEntry};
+ghost use Rattle.a429_cert.specs.Stream.{EndsReplay, GivesAtFault, GivesFor, IsFaultNext, IsUnreported, TakesNext, WantsEntry};
 ghost use Rattle.a429_cert.specs.StreamNext.{at_next};
-ghost use Rattle.a429_cert.specs.Told.{listening, IsNextEntry};
+ghost use Rattle.a429_cert.specs.Report.{listening, IsNextEntry};
 ghost use Rattle.a429_cert.specs.Version.{read_as};
 
 use crate::act::Act;
@@ -63,7 +63,7 @@ pub fn carry_and_report<R: Read, T: Listener>(
     ensures given { IfErr result (λ f. GivesAtFault
         (WantsEntry replay.old.profile.now (read_as replay.old.version (Some (sent_text next.place))) replay.old.link.state) f
         rec.old.count rec.new.count) }
-    ensures untold { IfErr result (IsUntold listener.old listener.new) }
+    ensures unreported { IfErr result (IsUnreported listener.old listener.new) }
     ensures device { IsErrOf result StreamFault.Device → T.failed listener.new ≡ true }
     ensures read { IsErrOf result (StreamFault.Read read.Device) → rec.new.failed ≡ true }
 {

@@ -5,8 +5,7 @@ ghost use Rattle.a429_cert.specs.States.{sending_in, source_in, block_in, sink_i
 ghost use Rattle.a429_cert.specs.Field.{decimal_in, field, with_rest};
 
 use crate::field::{
-    behind_counted, behind_letter, behind_number, behind_space, decimal_at, decimal_of,
-    last_decimal_at,
+    after_counted, after_letter, after_number, after_space, decimal_at, decimal_of, last_decimal_at,
 };
 use a429_link::{SinkState, SourceState, States};
 
@@ -71,7 +70,7 @@ fn block_of(count: &[u8]) -> Option<(SinkState, &[u8])>
 fn source_at(text: &[u8]) -> Option<(SourceState, &[u8])>
     ensures { option_map (λ x. (x.0, x.1.now)) result ≡ with_rest source_in text.now }
 {
-    source_of(behind_space(text)?)
+    source_of(after_space(text)?)
 }
 
 // The sink's state in the next field, and what comes after it.
@@ -79,7 +78,7 @@ fn source_at(text: &[u8]) -> Option<(SourceState, &[u8])>
 fn sink_at(text: &[u8]) -> Option<(SinkState, &[u8])>
     ensures { option_map (λ x. (x.0, x.1.now)) result ≡ with_rest sink_in text.now }
 {
-    sink_of(behind_space(text)?)
+    sink_of(after_space(text)?)
 }
 
 /// The states in the next fields, where nothing comes after them.
@@ -117,7 +116,7 @@ pub fn states_near(text: &[u8], likely: States) -> Option<States>
 fn spells(text: &[u8], states: States) -> bool
     ensures { result ≡ true → states_in text.now ≡ Some states }
 {
-    match behind_states(text, states) {
+    match after_states(text, states) {
         Some(rest) => rest.is_empty(),
         None => false,
     }
@@ -125,43 +124,41 @@ fn spells(text: &[u8], states: States) -> bool
 
 // What comes after these states, where the text begins with them.
 #[inline(always)]
-fn behind_states(text: &[u8], states: States) -> Option<&[u8]>
+fn after_states(text: &[u8], states: States) -> Option<&[u8]>
     ensures { IfSome result (λ rest. BeginsWithStates text.now states rest.now) }
 {
-    let rest = behind_source(text, states.source)?;
-    let rest = behind_sink(rest, states.sink)?;
-    let rest = behind_number(rest, states.to_sink)?;
-    behind_number(rest, states.to_source)
+    let rest = after_source(text, states.source)?;
+    let rest = after_sink(rest, states.sink)?;
+    let rest = after_number(rest, states.to_sink)?;
+    after_number(rest, states.to_source)
 }
 
 // What comes after this state of the source, where the text begins with it.
 #[inline(always)]
-fn behind_source(text: &[u8], source: SourceState) -> Option<&[u8]>
+fn after_source(text: &[u8], source: SourceState) -> Option<&[u8]>
     ensures { IfSome result (λ rest. (text.now ≡ field (source_text source) ++ rest.now) × IsSource source) }
 {
     match source {
-        SourceState::Idle => behind_letter(text, b'I'),
-        SourceState::Awaiting => behind_letter(text, b'C'),
-        SourceState::Waiting => behind_letter(text, b'W'),
-        SourceState::Sending(sent) if sent <= 254 => behind_counted(text, b'S', sent),
+        SourceState::Idle => after_letter(text, b'I'),
+        SourceState::Awaiting => after_letter(text, b'C'),
+        SourceState::Waiting => after_letter(text, b'W'),
+        SourceState::Sending(sent) if sent <= 254 => after_counted(text, b'S', sent),
         SourceState::Sending(_) => None,
     }
 }
 
 // What comes after this state of the sink, where the text begins with it.
 #[inline(always)]
-fn behind_sink(text: &[u8], sink: SinkState) -> Option<&[u8]>
+fn after_sink(text: &[u8], sink: SinkState) -> Option<&[u8]>
     ensures { IfSome result (λ rest. (text.now ≡ field (sink_text sink) ++ rest.now) × IsSink sink) }
 {
     match sink {
-        SinkState::Quiet => behind_letter(text, b'Q'),
-        SinkState::OwesClear => behind_letter(text, b'c'),
-        SinkState::Granted => behind_letter(text, b'G'),
-        SinkState::OwesAck => behind_letter(text, b'A'),
-        SinkState::OwesNak => behind_letter(text, b'N'),
-        SinkState::InBlock(taken) if 1 <= taken && taken <= 254 => behind_counted(
-            text, b'B', taken,
-        ),
+        SinkState::Quiet => after_letter(text, b'Q'),
+        SinkState::OwesClear => after_letter(text, b'c'),
+        SinkState::Granted => after_letter(text, b'G'),
+        SinkState::OwesAck => after_letter(text, b'A'),
+        SinkState::OwesNak => after_letter(text, b'N'),
+        SinkState::InBlock(taken) if 1 <= taken && taken <= 254 => after_counted(text, b'B', taken),
         SinkState::InBlock(_) => None,
     }
 }

@@ -16,8 +16,8 @@ ghost use Rattle.a429_word.specs.Tally.{has_failed};
 ghost use Rattle.a429_cert.specs.Explained.{seen_of};
 ghost use Rattle.a429_cert.specs.StreamExplained.{comparison, SaysYes, HearsRun, HearsBefore, Refuses};
 ghost use Rattle.a429_cert.specs.BreakOff.{BreaksOff, readers, shelved};
-ghost use Rattle.a429_cert.specs.Told.{listening, IsNextEntry, with_number};
-ghost use Rattle.a429_cert.specs.Stream.{taking, IsFaultNext, TakesNext, ReplaysNext, EndsNext, TellsListed, HearsNext, IsNotTaken, IsUntold, ReplaysLine, EndsReplay, HearsLine, WantsEntry, GivesFor, GivesAtFault};
+ghost use Rattle.a429_cert.specs.Report.{listening, IsNextEntry, with_number};
+ghost use Rattle.a429_cert.specs.Stream.{taking, IsFaultNext, TakesNext, ReplaysNext, EndsNext, TellsListed, HearsNext, IsNotTaken, IsUnreported, ReplaysLine, EndsReplay, HearsLine, WantsEntry, GivesFor, GivesAtFault};
 ghost use Rattle.a429_cert.specs.Stream.{OneFailed, HandsFilesOut, GoesOn, PutsFiles, PutsFirstFiles, StopsAt, sizes};
 ghost use Rattle.a429_cert.specs.Change.{change};
 
@@ -85,7 +85,7 @@ pub fn replay_stream<R: Read, C: Read, S: Shelf, T: Listener>(
     ensures err { IfErr result (Refuses (comparison profile.now C.remaining cert.old rec.old) (change (S.files shelf.old) (S.files shelf.new))) }
     ensures place { IfErr result (BreaksOff profile.now (readers C.remaining cert.old cert.new rec.old rec.new)
         (shelved S.files S.failed shelf.old shelf.new) (T.failed listener.new)) }
-    ensures told { IfErr result (HearsBefore (listening T.hears listener.old listener.new) (comparison profile.now C.remaining cert.old rec.old)) }
+    ensures reports { IfErr result (HearsBefore (listening T.hears listener.old listener.new) (comparison profile.now C.remaining cert.old rec.old)) }
     ensures device { IsErrOf result StreamFault.Device → OneFailed (has_failed cert.new) (S.failed shelf.new) (T.failed listener.new) }
     ensures read { IsErrOf result (StreamFault.Read read.Device) → rec.new.failed ≡ true }
 {
@@ -138,7 +138,7 @@ pub fn replay_and_put<R: Read, S: Shelf, T: Listener>(
     ensures counts { IfOk result (λ used. rec.new.count ≡ rec.old.count + used) }
     ensures stopped { IfErr result (StopsAt S.files S.failed (T.failed listener.new)
         (taking replay.old (line_bytes line.entry) (change rec.old rec.new) (change shelf.old shelf.new))) }
-    ensures untold { IfErr result (IsUntold listener.old listener.new) }
+    ensures unreported { IfErr result (IsUnreported listener.old listener.new) }
     ensures device { IsErrOf result StreamFault.Device → (S.failed shelf.new ≡ true) ⊎ (T.failed listener.new ≡ true) }
     ensures read { IsErrOf result (StreamFault.Read read.Device) → rec.new.failed ≡ true }
     ensures kept { replay.new ≡ record (replay.old) { link = replay.new.link; files = replay.new.files } }
@@ -249,7 +249,7 @@ fn step_and_report<R: Read, T: Listener>(
     ensures counts { IfOk result (λ used. rec.new.count ≡ rec.old.count + used) }
     ensures refused { IfErr result (EndsNext replay.old listed rec.old.to_come) }
     ensures given { IfErr result (λ f. GivesAtFault (uses_listed listed ≡ 1) f rec.old.count rec.new.count) }
-    ensures untold { IfErr result (IsUntold listener.old listener.new) }
+    ensures unreported { IfErr result (IsUnreported listener.old listener.new) }
     ensures device { IsErrOf result StreamFault.Device → T.failed listener.new ≡ true }
     ensures read { IsErrOf result (StreamFault.Read read.Device) → rec.new.failed ≡ true }
     ensures kept { replay.new ≡ record (replay.old) { link = replay.new.link } }
@@ -277,7 +277,7 @@ fn load_and_report<T: Listener>(
         (change replay.old.link.state replay.new.link.state) used) }
     ensures heard { OnOk result (TellsListed (listening T.hears listener.old listener.new) replay.old (Listed.Load unit) None) }
     ensures refused { IfErr result (λ f. (next : Option Seen) → IsNotTaken replay.old (Listed.Load unit) next f) }
-    ensures untold { IfErr result (IsUntold listener.old listener.new) }
+    ensures unreported { IfErr result (IsUnreported listener.old listener.new) }
     ensures device { IsErrOf result StreamFault.Device → T.failed listener.new ≡ true }
     ensures kept { replay.new ≡ record (replay.old) { link = replay.new.link } }
     ensures profile { replay.new.link.profile ≡ replay.old.link.profile }
@@ -308,7 +308,7 @@ fn move_and_report<T: Listener>(
         (change replay.old.link.state replay.new.link.state)) }
     ensures heard { OnOk result (TellsListed (listening T.hears listener.old listener.new) replay.old (Listed.Moved line) next) }
     ensures refused { IfErr result (IsNotTaken replay.old (Listed.Moved line) (option_map seen_of next)) }
-    ensures untold { IfErr result (IsUntold listener.old listener.new) }
+    ensures unreported { IfErr result (IsUnreported listener.old listener.new) }
     ensures device { IsErrOf result StreamFault.Device → T.failed listener.new ≡ true }
     ensures kept { replay.new ≡ record (replay.old) { link = replay.new.link } }
     ensures profile { replay.new.link.profile ≡ replay.old.link.profile }
@@ -350,7 +350,7 @@ pub fn replay_and_report<R: Read, T: Listener>(
     ensures given { IfErr result (λ f. GivesAtFault
         (WantsEntry replay.old.profile.now (read_as replay.old.version (line_bytes line.entry)) replay.old.link.state) f
         rec.old.count rec.new.count) }
-    ensures untold { IfErr result (IsUntold listener.old listener.new) }
+    ensures unreported { IfErr result (IsUnreported listener.old listener.new) }
     ensures device { IsErrOf result StreamFault.Device → T.failed listener.new ≡ true }
     ensures read { IsErrOf result (StreamFault.Read read.Device) → rec.new.failed ≡ true }
     ensures kept { replay.new ≡ record (replay.old) { link = replay.new.link } }

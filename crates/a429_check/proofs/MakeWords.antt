@@ -19,15 +19,15 @@ use Rattle.a429_link.specs.Number.{first_number}
 
 -- the words so far are so many of all words, and with those of the files still to come they are all
 pub record AreMade (p : Contents) (files : List (List ℕ)) (k number n : ℕ) : Type 0 where
-  pub told : take n (words_made p files) ++ clean_words p 255 number (drop k files) ≡ words_made p files
+  pub reports : take n (words_made p files) ++ clean_words p 255 number (drop k files) ≡ words_made p files
   pub most : n ≤ length (words_made p files)
 
 pub made_start : (p : Contents) (files : List (List ℕ)) → AreMade p files 0 1 0
-made_start p files = record { told = refl; most = omega arith }
+made_start p files = record { reports = refl; most = omega arith }
 
 pub made_end : (p : Contents) (files : List (List ℕ)) (k number n : ℕ) → length files ≤ k → AreMade p files k number n → take n (words_made p files) ≡ words_made p files
 made_end p files k number n l h =
-    sym (append-nil (take n (words_made p files))) ∙ ap (λ fs. take n (words_made p files) ++ clean_words p 255 number fs) (sym (drop_all k files l)) ∙ h.told
+    sym (append-nil (take n (words_made p files))) ∙ ap (λ fs. take n (words_made p files) ++ clean_words p 255 number fs) (sym (drop_all k files l)) ∙ h.reports
 
 -- these words are next, and so are their lines
 pub record AreNext (p : Contents) (files : List (List ℕ)) (k number n : ℕ) (new : List Seen) : Type 0 where
@@ -42,7 +42,7 @@ file_first p is number f files =
 
 made_more : (p : Contents) → IsProfile p → (files : List (List ℕ)) (k number n : ℕ) (f : List ℕ) (new : List Seen) → k < length files → f ≡ get_or files k f → new ≡ clean_words p 255 number (f ∷ []) → AreMade p files k number n → AreNext p files k number n new
 made_more p is files k number n f new l ef en h = record {
-  made = record { told = ap (λ front. front ++ later) taken ∙ told; most = omega (arith, short, sizes) };
+  made = record { reports = ap (λ front. front ++ later) taken ∙ reports; most = omega (arith, short, sizes) };
   lines = ap (λ items. flat_map line_text (timed 0 items)) taken ∙ lines-append done new n (sym size);
 }
   where
@@ -58,22 +58,22 @@ made_more p is files k number n f new l ef en h = record {
     size : length done ≡ n
     size = length-take-le n all h.most
 
-    told : (done ++ new) ++ later ≡ all
-    told =
+    reports : (done ++ new) ++ later ≡ all
+    reports =
         append_assoc done new later
         ∙ ap (λ items. done ++ (items ++ later)) en
         ∙ ap (λ items. done ++ items) (sym (file_first p is number f (drop (k + 1) files)))
         ∙ ap (λ fs. done ++ clean_words p 255 number fs) (sym (next_file_at files k f l ef))
-        ∙ h.told
+        ∙ h.reports
 
     short : length (done ++ new) ≡ n + length new
     short = length-append done new ∙ ap (λ m. m + length new) size
 
     sizes : length (done ++ new) + length later ≡ length all
-    sizes = sym (length-append (done ++ new) later) ∙ ap length told
+    sizes = sym (length-append (done ++ new) later) ∙ ap length reports
 
     taken : take (n + length new) all ≡ done ++ new
-    taken = ap (λ m. take m all) (sym short) ∙ ap (take (length (done ++ new))) (sym told) ∙ take-append_seam (done ++ new) later
+    taken = ap (λ m. take m all) (sym short) ∙ ap (take (length (done ++ new))) (sym reports) ∙ take-append_seam (done ++ new) later
 
 -- as a body meets them
 pub next_words : (p : Contents) → IsProfile p → (files : List (Vec ℕ Global)) (k number n : ℕ) (file : Vec ℕ Global) (one : List (Vec ℕ Global)) (new : List Seen) → k < length files → file ≡ get_or files k file → one ≡ file ∷ [] → new ≡ clean_words p 255 number (map (λ f. f.items) one) → AreMade p (map (λ f. f.items) files) k number n → AreNext p (map (λ f. f.items) files) k number n new

@@ -4,8 +4,8 @@ use Rattle.std.specs.Prelude.{IsTrue, ◌↔◌}
 use Rattle.std.proofs.lemmas.Bool.{ltb-true, ltb-false}
 use Rattle.a429_profile.specs.Profile.{Contents}
 use Rattle.a429_record.specs.Recording.{Recording}
-use Rattle.a429_cert.specs.StreamExplained.{compared, Extracts, HearsRun, WhereTold}
-use Rattle.a429_cert.specs.Told.{listening, IsHeard, told_run}
+use Rattle.a429_cert.specs.StreamExplained.{compared, Extracts, HearsRun, WhereBothKnown}
+use Rattle.a429_cert.specs.Report.{listening, IsHeard, reports_of_run}
 use Rattle.a429_view.specs.declared.mark.Span.{Span}
 use Rattle.a429_view.specs.declared.sketch.Sketch.{Sketch}
 use Rattle.a429_view.specs.Sketch.{most_steps, Hears, IsBlank, IsOf}
@@ -20,17 +20,17 @@ use Rattle.a429_check.specs.Verdict.{AnyFailed, Input, IsVerifyFault, no_shelf}
 use Rattle.a429_check.specs.Picture.{ARun, DrawsRun, IsTooLongRun, IsPicture, IsPictureFault, IsSketchFault, IsSketched, IsSomePicture}
 use Rattle.a429_cert.specs.Change.{change}
 
-where_told : (known : Option (List ℕ)) (rec : Option Recording) (A B : List ℕ → Recording → Type 0) → ((text : List ℕ) (r : Recording) → A text r → B text r) → WhereTold known rec A → WhereTold known rec B
-where_told None rec A B f a = tt
-where_told (Some text) None A B f a = tt
-where_told (Some text) (Some r) A B f a = f text r a
+where_both_known : (known : Option (List ℕ)) (rec : Option Recording) (A B : List ℕ → Recording → Type 0) → ((text : List ℕ) (r : Recording) → A text r → B text r) → WhereBothKnown known rec A → WhereBothKnown known rec B
+where_both_known None rec A B f a = tt
+where_both_known (Some text) None A B f a = tt
+where_both_known (Some text) (Some r) A B f a = f text r a
 
 -- the run that was heard
 abbrev heard_run : {p : Contents} {old new : Sketch} {text : List ℕ} {r : Recording} → IsHeard (listening Hears old new) p text r → ARun p text r
 heard_run h = record { first = h.first; steps = h.steps; explains = h.explains }
 
-heard_of : (p : Contents) (span : Span) (old new : Sketch) (text : List ℕ) (r : Recording) → IsBlank span old → (h : IsHeard (listening Hears old new) p text r) → IsOf p.codes span (told_run p r.entries h.first h.steps) new
-heard_of p span old new text r b h = is_of p span (told_run p r.entries h.first h.steps) old new b h.heard
+heard_of : (p : Contents) (span : Span) (old new : Sketch) (text : List ℕ) (r : Recording) → IsBlank span old → (h : IsHeard (listening Hears old new) p text r) → IsOf p.codes span (reports_of_run p r.entries h.first h.steps) new
+heard_of p span old new text r b h = is_of p span (reports_of_run p r.entries h.first h.steps) old new b h.heard
 
 draws : (p : Contents) (span : Span) (old new : Sketch) (text : List ℕ) (r : Recording) → IsBlank span old → new.steps ≤ most_steps → IsHeard (listening Hears old new) p text r → DrawsRun p span (svg_text p.codes new.rows.items) text r
 draws p span old new text r b e h =
@@ -50,7 +50,7 @@ drawn i span old new j files text is here b h sketched =
         is_profile = is;
         files = files;
         yes = here;
-        so = where_told i.certificate i.recording (IsHeard (listening Hears old new) p) (DrawsRun p span text) (λ t r g. subst (λ (drawing : List ℕ). DrawsRun p span drawing t r) (sym sketched.0) (draws p span old new t r b sketched.1 g)) h;
+        so = where_both_known i.certificate i.recording (IsHeard (listening Hears old new) p) (DrawsRun p span text) (λ t r g. subst (λ (drawing : List ℕ). DrawsRun p span drawing t r) (sym sketched.0) (draws p span old new t r b sketched.1 g)) h;
       },
     )
 
@@ -64,7 +64,7 @@ too_long i p span Failed old new files is here b h e =
       is_profile = is;
       files = files;
       yes = here;
-      so = where_told i.certificate i.recording (IsHeard (listening Hears old new) p) (IsTooLongRun p span) (λ text r g. record { run = heard_run g; many = (heard_of p span old new text r b g).many e }) h;
+      so = where_both_known i.certificate i.recording (IsHeard (listening Hears old new) p) (IsTooLongRun p span) (λ text r g. record { run = heard_run g; many = (heard_of p span old new text r b g).many e }) h;
     }
 
 -- a fault of `a429 verify` is one of `picture`

@@ -10,8 +10,8 @@ use Rattle.a429_profile.specs.Profile.{Contents}
 use Rattle.a429_record.specs.Recording.{Recording}
 use Rattle.a429_cert.specs.declared.fault.CertFault.{CertFault}
 use Rattle.a429_cert.specs.declared.stream_fault.StreamFault.TheVariants as stream
-use Rattle.a429_cert.specs.StreamExplained.{WhereTold, IsHeardBefore}
-use Rattle.a429_cert.specs.Told.{listening, IsHeard, told_run}
+use Rattle.a429_cert.specs.StreamExplained.{WhereBothKnown, IsHeardBefore}
+use Rattle.a429_cert.specs.Report.{listening, IsHeard, reports_of_run}
 use Rattle.a429_view.specs.declared.units.rows.UnitRows.{UnitRows}
 use Rattle.a429_view.specs.Units.{units_text, ended_text}
 use Rattle.a429_view.specs.UnitSteps.{HearsRows, line_before, PutsAll}
@@ -31,17 +31,17 @@ module _ {W : Type 0} (contents : W → Option (List ℕ)) (p : Contents) (old m
   one : AreFresh old → Appends (paged contents mid.out mid.page) (contents (inner_of out)) (line_before mid.row)
       → (text : List ℕ) (r : Recording) → IsHeard (listening (HearsRows contents) old mid) p text r → PutsUnits (output contents old.out out) p text r
   one fresh last text r h =
-      let all = all_rows contents p old mid (told_run p r.entries h.first h.steps) (contents (inner_of out)) fresh.1 h.heard last in
+      let all = all_rows contents p old mid (reports_of_run p r.entries h.first h.steps) (contents (inner_of out)) fresh.1 h.heard last in
       record {
         first = h.first;
         steps = h.steps;
         explains = h.explains;
-        puts = from_empty (contents (inner_of old.out)) (contents (inner_of out)) (units_text p.codes (told_run p r.entries h.first h.steps))
-            (subst (λ (page : List ℕ). Appends (paged contents old.out page) (contents (inner_of out)) (units_text p.codes (told_run p r.entries h.first h.steps))) fresh.0 all);
+        puts = from_empty (contents (inner_of old.out)) (contents (inner_of out)) (units_text p.codes (reports_of_run p r.entries h.first h.steps))
+            (subst (λ (page : List ℕ). Appends (paged contents old.out page) (contents (inner_of out)) (units_text p.codes (reports_of_run p r.entries h.first h.steps))) fresh.0 all);
       }
 
-  units_put : (known : Option (List ℕ)) (rec : Option Recording) → AreFresh old → WhereTold known rec (IsHeard (listening (HearsRows contents) old mid) p)
-      → Appends (paged contents mid.out mid.page) (contents (inner_of out)) (line_before mid.row) → WhereTold known rec (PutsUnits (output contents old.out out) p)
+  units_put : (known : Option (List ℕ)) (rec : Option Recording) → AreFresh old → WhereBothKnown known rec (IsHeard (listening (HearsRows contents) old mid) p)
+      → Appends (paged contents mid.out mid.page) (contents (inner_of out)) (line_before mid.row) → WhereBothKnown known rec (PutsUnits (output contents old.out out) p)
   units_put None rec fresh h last = tt
   units_put (Some text) None fresh h last = tt
   units_put (Some text) (Some r) fresh h last = one fresh last text r h
@@ -53,7 +53,7 @@ pub reports_yes : {W : Type 0} (contents : W → Option (List ℕ)) (i : Input) 
 reports_yes contents i old mid new j files is fresh judged heard last =
     let p = j.profile in
     let yes = rw is at judged.1 in
-    let told = rw is at heard in
+    let reports = rw is at heard in
     inl (
       refl,
       record {
@@ -61,7 +61,7 @@ reports_yes contents i old mid new j files is fresh judged heard last =
         is_profile = judged.0;
         files = files.items;
         yes = yes;
-        rows = units_put contents p old mid new.out i.certificate i.recording fresh told last;
+        rows = units_put contents p old mid new.out i.certificate i.recording fresh reports last;
       },
     )
 
@@ -71,13 +71,13 @@ module _ {W : Type 0} (contents : W → Option (List ℕ)) (p : Contents) (old m
   before_one : AreFresh old → Appends (paged contents mid.out mid.page) (contents (inner_of before)) [] → Puts contents before out (no_text f)
       → (text : List ℕ) (r : Recording) → IsHeardBefore (listening (HearsRows contents) old mid) p (stream.Cert f) text r → PutsEnded (output contents old.out out) p f text r
   before_one fresh rest last text r h =
-      let ended = ended_put contents p old mid h.told (contents (inner_of before)) fresh.1 h.heard rest in
-      let first = from_empty (contents (inner_of old.out)) (contents (inner_of before)) (ended_text p.codes h.told)
-      (subst (λ (page : List ℕ). Appends (paged contents old.out page) (contents (inner_of before)) (ended_text p.codes h.told)) fresh.0 ended) in
-      record { told = h.told; before = h.before; puts = Appends-trans _ _ _ _ _ first last }
+      let ended = ended_put contents p old mid h.reports (contents (inner_of before)) fresh.1 h.heard rest in
+      let first = from_empty (contents (inner_of old.out)) (contents (inner_of before)) (ended_text p.codes h.reports)
+      (subst (λ (page : List ℕ). Appends (paged contents old.out page) (contents (inner_of before)) (ended_text p.codes h.reports)) fresh.0 ended) in
+      record { reports = h.reports; before = h.before; puts = Appends-trans _ _ _ _ _ first last }
 
-  ended_before : (known : Option (List ℕ)) (rec : Option Recording) → AreFresh old → WhereTold known rec (IsHeardBefore (listening (HearsRows contents) old mid) p (stream.Cert f))
-      → Appends (paged contents mid.out mid.page) (contents (inner_of before)) [] → Puts contents before out (no_text f) → WhereTold known rec (PutsEnded (output contents old.out out) p f)
+  ended_before : (known : Option (List ℕ)) (rec : Option Recording) → AreFresh old → WhereBothKnown known rec (IsHeardBefore (listening (HearsRows contents) old mid) p (stream.Cert f))
+      → Appends (paged contents mid.out mid.page) (contents (inner_of before)) [] → Puts contents before out (no_text f) → WhereBothKnown known rec (PutsEnded (output contents old.out out) p f)
   ended_before None rec fresh h rest last = tt
   ended_before (Some text) None fresh h rest last = tt
   ended_before (Some text) (Some r) fresh h rest last = before_one fresh rest last text r h
@@ -89,7 +89,7 @@ pub reports_no : {W : Type 0} (contents : W → Option (List ℕ)) (i : Input) (
 reports_no contents i old mid waited new j f is fresh judged heard rest puts =
     let p = j.profile in
     let no = rw is at judged.1 in
-    let told = rw is at heard in
+    let reports = rw is at heard in
     let line = rw is at puts in
     inr (
       refl,
@@ -101,6 +101,6 @@ reports_no contents i old mid waited new j f is fresh judged heard rest puts =
         of_certificate = no.1;
         before = waited.out;
         puts = line;
-        rows = ended_before contents p old mid waited.out new.out f i.certificate i.recording fresh told rest line;
+        rows = ended_before contents p old mid waited.out new.out f i.certificate i.recording fresh reports rest line;
       },
     )

@@ -12,8 +12,8 @@ use Rattle.a429_check.specs.Upgrade.{version_two_line, is_version_line, upgraded
 line_alone : (line rest : List ℕ) → length line ≡ 16 → take 16 (line ++ rest) ≡ line
 line_alone line rest len = ap (λ n. take n (line ++ rest)) (sym len) ∙ take-append_seam line rest
 
-pub upgraded_behind : (line rest : List ℕ) → is_version_line line ≡ true → length line ≡ 16 → upgraded (line ++ rest) ≡ Some (version_two_line ++ rest)
-upgraded_behind line rest first len =
+pub upgraded_after : (line rest : List ℕ) → is_version_line line ≡ true → length line ≡ 16 → upgraded (line ++ rest) ≡ Some (version_two_line ++ rest)
+upgraded_after line rest first len =
     let behind : drop 16 (line ++ rest) ≡ rest = ap (λ n. drop n (line ++ rest)) (sym len) ∙ drop-append_seam line rest in
     ap (λ t. if is_version_line t then Some (version_two_line ++ drop 16 (line ++ rest)) else None) (line_alone line rest len)
     ∙ ap (λ b. if b then Some (version_two_line ++ drop 16 (line ++ rest)) else None) first
@@ -40,10 +40,10 @@ unread_from (Some xs) None front read = absurd read
 unread_from (Some xs) (Some ys) front read = (ys, read)
 
 -- what was read, and then what is still to come
-unread_behind : (old new : Option (List ℕ)) (front rest : List ℕ) → Consumes old new front → IfSome new (λ xs. xs ≡ rest) → IfSome old (λ xs. xs ≡ front ++ rest)
-unread_behind None new front rest read are = tt
-unread_behind (Some xs) None front rest read are = absurd read
-unread_behind (Some xs) (Some ys) front rest read are = read ∙ ap (λ l. front ++ l) are
+unread_after : (old new : Option (List ℕ)) (front rest : List ℕ) → Consumes old new front → IfSome new (λ xs. xs ≡ rest) → IfSome old (λ xs. xs ≡ front ++ rest)
+unread_after None new front rest read are = tt
+unread_after (Some xs) None front rest read are = absurd read
+unread_after (Some xs) (Some ys) front rest read are = read ∙ ap (λ l. front ++ l) are
 
 -- what holds of any bytes holds of these
 pub of_any : (known : Option (List ℕ)) (P : List ℕ → Type 0) → ((bytes : List ℕ) → P bytes) → OfKnown known P
@@ -54,7 +54,7 @@ of_any (Some xs) P all = (xs, refl, all xs)
 pub of_upgraded : (old new : Option (List ℕ)) (found : Bool) (P Q : List ℕ → Type 0) → found ≡ true → TakesVersion old new found → OfKnown new P
     → ((bytes rest : List ℕ) → upgraded bytes ≡ Some (version_two_line ++ rest) → P rest → Q bytes) → OfKnown old Q
 of_upgraded old new true P Q _ (line, first, len, read) (rest, are, holds) so =
-    (line ++ rest, unread_behind old new line rest read are, so (line ++ rest) rest (upgraded_behind line rest first len) holds)
+    (line ++ rest, unread_after old new line rest read are, so (line ++ rest) rest (upgraded_after line rest first len) holds)
 of_upgraded old new false P Q is taken behind so = cc
 
 -- no such line was read
@@ -76,8 +76,8 @@ pub front_within : (a b : Option (List ℕ)) (xs more : List ℕ) → AppendsPre
 front_within a b xs more (n, few, grown) =
     (n, omega (arith, few, length-append xs more), subst (Appends a b) (sym (take-append-le n xs more few)) grown)
 
-pub front_behind : (a b c : Option (List ℕ)) (xs ys : List ℕ) → Appends a b xs → AppendsPrefix b c ys → AppendsPrefix a c (xs ++ ys)
-front_behind a b c xs ys first (n, few, grown) =
+pub front_after : (a b c : Option (List ℕ)) (xs ys : List ℕ) → Appends a b xs → AppendsPrefix b c ys → AppendsPrefix a c (xs ++ ys)
+front_after a b c xs ys first (n, few, grown) =
     (length xs + n, omega (arith, few, length-append xs ys), subst (Appends a c) (sym (take-append-add xs ys n)) (Appends-trans a b c xs (take n ys) first grown))
 
 -- what was read was written up to some place, and more may be to come

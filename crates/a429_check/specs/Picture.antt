@@ -4,8 +4,8 @@ use Rattle.a429_profile.specs.Profile.{Contents}
 use Rattle.a429_link.specs.declared.step.Step.{Step}
 use Rattle.a429_record.specs.Recording.{Recording}
 use Rattle.a429_cert.specs.Explained.{items_of, Explains}
-use Rattle.a429_cert.specs.StreamExplained.{compared, Extracts, WhereTold}
-use Rattle.a429_cert.specs.Told.{told_run}
+use Rattle.a429_cert.specs.StreamExplained.{compared, Extracts, WhereBothKnown}
+use Rattle.a429_cert.specs.Report.{reports_of_run}
 use Rattle.a429_view.specs.declared.mark.Span.{Span}
 use Rattle.a429_view.specs.Mark.{before_all, steps_within}
 use Rattle.a429_view.specs.Picture.{picture_text, svg_text}
@@ -26,13 +26,13 @@ pub record ARun (p : Contents) (certificate : List ℕ) (r : Recording) : Type 0
 
 -- how many of its steps lie in a span
 abbrev pub steps_of_run : {p : Contents} {certificate : List ℕ} {r : Recording} → Span → ARun p certificate r → ℕ
-steps_of_run {p} {certificate} {r} span run = steps_within p.codes span before_all (told_run p r.entries run.first run.steps)
+steps_of_run {p} {certificate} {r} span run = steps_within p.codes span before_all (reports_of_run p r.entries run.first run.steps)
 
 -- the text is the picture of a span of such a run, which has at most 2,000 steps there
 pub record DrawsRun (p : Contents) (span : Span) (text : List ℕ) (certificate : List ℕ) (r : Recording) : Type 0 where
   pub run : ARun p certificate r
   pub few : steps_of_run span run ≤ most_steps
-  pub drawn : text ≡ picture_text p.codes span (told_run p r.entries run.first run.steps)
+  pub drawn : text ≡ picture_text p.codes span (reports_of_run p r.entries run.first run.steps)
 
 -- it has more of them
 pub record IsTooLongRun (p : Contents) (span : Span) (certificate : List ℕ) (r : Recording) : Type 0 where
@@ -45,7 +45,7 @@ pub record IsAcceptedSo (i : Input) (IsSo : Contents → List ℕ → Recording 
   pub is_profile : IsProfileOf i.profile contents
   pub files : List (ℕ × ℕ)
   pub yes : Extracts (compared contents i.certificate i.recording) (change None None) files
-  pub so : WhereTold i.certificate i.recording (IsSo contents)
+  pub so : WhereBothKnown i.certificate i.recording (IsSo contents)
 
 -- what is answered: 0 and a picture, or the no of `a429 verify`
 abbrev pub IsPicture : Input → Span → ℕ → List ℕ → Type 0

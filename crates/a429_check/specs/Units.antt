@@ -9,8 +9,8 @@ use Rattle.a429_cert.specs.declared.fault.CertFault.{CertFault}
 use Rattle.a429_cert.specs.declared.fault.CertFault.TheVariants as cert
 use Rattle.a429_cert.specs.declared.stream_fault.StreamFault.TheVariants as stream
 use Rattle.a429_cert.specs.Explained.{items_of, Explains}
-use Rattle.a429_cert.specs.StreamExplained.{compared, Extracts, Refuses, IsToldBefore, WhereTold}
-use Rattle.a429_cert.specs.Told.{Told, told_run}
+use Rattle.a429_cert.specs.StreamExplained.{compared, Extracts, Refuses, AreReportedBefore, WhereBothKnown}
+use Rattle.a429_cert.specs.Report.{Report, reports_of_run}
 use Rattle.a429_view.specs.declared.units.rows.UnitRows.{UnitRows}
 use Rattle.a429_view.specs.Units.{units_text, ended_text}
 use Rattle.a429_check.specs.Output.{Output}
@@ -27,7 +27,7 @@ pub record PutsUnits {W : Type 0} (o : Output W) (p : Contents) (text : List ℕ
   pub first : ℕ
   pub steps : List Step
   pub explains : Explains p text (items_of r.entries) first steps
-  pub puts : Puts o.contents o.old o.new (units_text p.codes (told_run p r.entries first steps))
+  pub puts : Puts o.contents o.old o.new (units_text p.codes (reports_of_run p r.entries first steps))
 
 -- a yes, reported by such rows
 pub record ListsUnits {W : Type 0} (o : Output W) (i : Input) : Type 0 where
@@ -35,13 +35,13 @@ pub record ListsUnits {W : Type 0} (o : Output W) (i : Input) : Type 0 where
   pub is_profile : IsProfileOf i.profile contents
   pub files : List (ℕ × ℕ)
   pub yes : Extracts (compared contents i.certificate i.recording) (change None None) files
-  pub rows : WhereTold i.certificate i.recording (PutsUnits o contents)
+  pub rows : WhereBothKnown i.certificate i.recording (PutsUnits o contents)
 
 -- an output has gained the rows of the units that ended in the lines before the fault, and after them the line of the no
 pub record PutsEnded {W : Type 0} (o : Output W) (p : Contents) (f : CertFault) (text : List ℕ) (r : Recording) : Type 0 where
-  pub told : List Told
-  pub before : IsToldBefore p (stream.Cert f) told text r
-  pub puts : Puts o.contents o.old o.new (ended_text p.codes told ++ no_text f)
+  pub reports : List Report
+  pub before : AreReportedBefore p (stream.Cert f) reports text r
+  pub puts : Puts o.contents o.old o.new (ended_text p.codes reports ++ no_text f)
 
 -- a no: its line comes last, after the rows of units that had ended before, and nothing else
 pub record RefusesUnits {W : Type 0} (o : Output W) (i : Input) : Type 0 where
@@ -52,7 +52,7 @@ pub record RefusesUnits {W : Type 0} (o : Output W) (i : Input) : Type 0 where
   pub of_certificate : fault ≢ cert.OutOfMemory
   pub before : Tally W
   pub puts : Puts o.contents before o.new (no_text fault)
-  pub rows : WhereTold i.certificate i.recording (PutsEnded o contents fault)
+  pub rows : WhereBothKnown i.certificate i.recording (PutsEnded o contents fault)
 
 -- a verdict: 0 and the rows, or 2 and a no
 abbrev pub ReportsUnits : {W : Type 0} → Output W → Input → ℕ → Type 0

@@ -19,7 +19,7 @@ use Rattle.a429_cert.specs.declared.stream_fault.StreamFault.TheVariants as stre
 use Rattle.a429_cert.specs.Shelf.{IsUnchanged}
 use Rattle.a429_cert.specs.BreakOff.{Shelved}
 use Rattle.a429_cert.specs.StreamExplained.{compared, Extracts, Refuses, HearsRun, HearsBefore}
-use Rattle.a429_cert.specs.Told.{Listening}
+use Rattle.a429_cert.specs.Report.{Listening}
 use Rattle.a429_check.specs.declared.fault.RunFault.{RunFault}
 use Rattle.a429_check.specs.declared.fault.RunFault.TheVariants as run
 use Rattle.a429_check.specs.Fault.{Causes, ComesBy, never}

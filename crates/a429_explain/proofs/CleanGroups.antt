@@ -161,10 +161,10 @@ are_inner p place u s = (subst IsInner (sym s.clear) tt, words_inner p.codes (bl
 pub first_start : (p : Contents) (place : UnitNumber) (u : LduValue) (rest : List Seen) → HasForms p place u → next_start (forms_of p.codes (clean_block p.codes place u ++ rest)) ≡ Some place
 first_start p place u rest s =
     let c = p.codes in
-    let behind = forms_of c ((map on_a (u.words ++ word_number c (Eot u.flags u.check) ∷ []) ++ on_b (word_number c (Ack place.file place.ldu)) ∷ []) ++ rest) in
-    ap (λ (o : Option Form). next_start (o ∷ (form_of c bus.B (word_number c (Cts (count_of u))) ∷ (form_of c bus.A (word_number c (Sot u.gfi place.file place.ldu)) ∷ behind)))) s.request
-    ∙ ap (λ (o : Option Form). next_start (o ∷ (form_of c bus.A (word_number c (Sot u.gfi place.file place.ldu)) ∷ behind))) s.clear
-    ∙ ap (λ (o : Option Form). next_start (o ∷ behind)) s.start
+    let follows = forms_of c ((map on_a (u.words ++ word_number c (Eot u.flags u.check) ∷ []) ++ on_b (word_number c (Ack place.file place.ldu)) ∷ []) ++ rest) in
+    ap (λ (o : Option Form). next_start (o ∷ (form_of c bus.B (word_number c (Cts (count_of u))) ∷ (form_of c bus.A (word_number c (Sot u.gfi place.file place.ldu)) ∷ follows)))) s.request
+    ∙ ap (λ (o : Option Form). next_start (o ∷ (form_of c bus.A (word_number c (Sot u.gfi place.file place.ldu)) ∷ follows))) s.clear
+    ∙ ap (λ (o : Option Form). next_start (o ∷ follows)) s.start
 
 -- those of a unit do that may be loaded under this number
 pub unit_has_forms : (p : Contents) → IsProfile p → (place : UnitNumber) (u : LduValue) → place.file ≤ 255 → place.ldu ≤ p.codes.first_ldu + 254 → IsLdu p u → HasForms p place u
@@ -185,10 +185,10 @@ next_start_other p is place u (v ∷ us) f l h =
     ∙ others_start p.codes place _ (omega arith)
 
 -- the start word of its attempt has its numbers
-pub attempt_start_is : (p : Contents) (place : UnitNumber) (u : LduValue) (behind : List Seen) → HasForms p place u → attempt_start (forms_of p.codes (on_b (word_number p.codes (Cts (count_of u))) ∷ (map on_a (block_of p.codes u place.file place.ldu) ++ behind))) ≡ Some place
-attempt_start_is p place u behind s =
+pub attempt_start_is : (p : Contents) (place : UnitNumber) (u : LduValue) (follows : List Seen) → HasForms p place u → attempt_start (forms_of p.codes (on_b (word_number p.codes (Cts (count_of u))) ∷ (map on_a (block_of p.codes u place.file place.ldu) ++ follows))) ≡ Some place
+attempt_start_is p place u follows s =
     let c = p.codes in
-    let more = forms_of c (map on_a (u.words ++ word_number c (Eot u.flags u.check) ∷ []) ++ behind) in
+    let more = forms_of c (map on_a (u.words ++ word_number c (Eot u.flags u.check) ∷ []) ++ follows) in
     ap (λ (o : Option Form). attempt_start (o ∷ (form_of c bus.A (word_number c (Sot u.gfi place.file place.ldu)) ∷ more))) s.clear
     ∙ ap (λ (o : Option Form). attempt_start (o ∷ more)) s.start
 

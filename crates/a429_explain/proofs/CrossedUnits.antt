@@ -20,7 +20,7 @@ use Rattle.a429_explain.specs.Attempts.{roles}
 use Rattle.a429_explain.specs.Decoded.{forms_of, sight_at}
 use Rattle.a429_explain.specs.Groups.{group_length, first_started, group_start, ends_its_group, is_settled}
 use Rattle.a429_explain.specs.declared.plan.Plan.{Plan}
-use Rattle.a429_explain.specs.Plan.{place_from, give_ups_from, place_behind, plain}
+use Rattle.a429_explain.specs.Plan.{place_from, give_ups_from, place_after, plain}
 use Rattle.a429_explain.specs.Block.{HasCrossed}
 use Rattle.a429_explain.specs.Guess.{decoded, request_at, place_at_group, place_past, plain_plans, HaveCrossed}
 use Rattle.a429_explain.specs.Whole.{wanted}
@@ -116,14 +116,14 @@ next_is p is items place at to count (u ∷ more) i xs t f h list kept w e =
     let long : to - at ≡ n = omega arith in
     let last : to - 1 ≡ at + (n - 1) = omega arith in
     let one : suc (n - 1) ≡ n = omega arith in
-    let behind : drop (n - 1) xs ≡ drop to items = ap (λ (m : ℕ). drop m (i ∷ xs)) one ∙ ap (drop n) (sym list) ∙ drop-drop n at items ∙ ap (λ (m : ℕ). drop m items) (sym t) in
+    let follows : drop (n - 1) xs ≡ drop to items = ap (λ (m : ℕ). drop m (i ∷ xs)) one ∙ ap (drop n) (sym list) ∙ drop-drop n at items ∙ ap (λ (m : ℕ). drop m items) (sym t) in
     let plans = plain_group p place u more at (n - 1) count i xs (unit_has_forms p is place u f h.1 h.0) kept w (ap (λ (m : ℕ). without_free p.codes (take m (i ∷ xs))) one ∙ parts.group_is) in
     let ends : at + suc (n - 1) ≡ to = ap (λ (m : ℕ). at + m) one ∙ sym t in
     let said : drop at (roles (forms_of p.codes items)) ≡ roles (forms_of p.codes (i ∷ xs)) = roles-drop p.codes items at ∙ ap (λ (ys : List Seen). roles (forms_of p.codes ys)) list in
     record {
       unit = u;
       more = more;
-      plans = ap (plain_plans p.codes at (u ∷ more)) list ∙ plans ∙ ap (λ (m : ℕ). plain at u ∷ plain_plans p.codes m more (drop (n - 1) xs)) ends ∙ ap (λ (ys : List Seen). plain at u ∷ plain_plans p.codes to more ys) behind;
+      plans = ap (plain_plans p.codes at (u ∷ more)) list ∙ plans ∙ ap (λ (m : ℕ). plain at u ∷ plain_plans p.codes m more (drop (n - 1) xs)) ends ∙ ap (λ (ys : List Seen). plain at u ∷ plain_plans p.codes to more ys) follows;
       file = f;
       crossed = record {
         unit = h.0;
@@ -164,7 +164,7 @@ next_plan p items rs rest place r plan h here gives same = ap (λ (n : ℕ). pla
 
 pub next_number_is : (p : Contents) (items : List Seen) (rs : List Role) (rest : List LduValue) (place : UnitNumber) (r : Request) (u : LduValue) (h : IsNext p items rs rest place r) → u ≡ h.unit → place_past p.codes rs r.group place u ≡ number_after p.codes place h.unit
 next_number_is p items rs rest place r u h same =
-    ap (place_behind p.codes (place_at_group p.codes rs r.group place) u) h.settled
+    ap (place_after p.codes (place_at_group p.codes rs r.group place) u) h.settled
     ∙ ap (λ (n : UnitNumber). number_after p.codes n u) (next_place p items rs rest place r h)
     ∙ ap (number_after p.codes place) same
 

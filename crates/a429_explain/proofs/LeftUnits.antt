@@ -132,10 +132,10 @@ goes_on p is items i r at None s t here role near (inl k) h =
     let plans = left_plans p items s.place s.next h in
     subst (GoesOn p items r at None plans) (sym k.1) (record { left = h; its = no_plan r at plans (begins_later p.codes at s.next h.rest (drop s.next items) k.0) })
 goes_on p is items i r at None s t here role near (inr k) h =
-    let same : s.next ≡ at = let behind = k.0 in omega (arith, near, behind) in
+    let same : s.next ≡ at = let follows = k.0 in omega (arith, near, follows) in
     subst (GoesOn p items r at None (left_plans p items s.place s.next h)) (sym k.2) (at_entry p items r at None s (record { place = s.place; next = at + 1 }) same (goes_free p is items r at s.place (slice_get_within items at i here) k.1) h)
 goes_on p is items i r at (Some plan) s t here role near k h =
-    let same : s.next ≡ at = let behind = k.begins.behind in omega (arith, near, behind) in
+    let same : s.next ≡ at = let follows = k.begins.follows in omega (arith, near, follows) in
     at_entry p items r at (Some plan) s t same (goes_group p is items i r at plan s t here role k) h
 
 -- ---- a recording without loss
@@ -172,7 +172,7 @@ on_plan_next p is items i r at plan s t l here its near k same h =
 -- no group of it fails a test
 pub on_plan_stop : (p : Contents) → IsProfile p → (items : List Seen) (at : ℕ) (s : Planner) (stop : Stop) → at < length items → at ≤ s.next → StopsAt (with_roles (decoded p items)) at s stop → IsLeft p items s.place s.next → stop ≡ OutOfMemory
 on_plan_stop p is items at s stop inside near k h =
-    let same : s.next ≡ at = let behind = k.begins.behind in omega (arith, near, behind) in
+    let same : s.next ≡ at = let follows = k.begins.follows in omega (arith, near, follows) in
     by (subst (IsLeft p items s.place) same h)
   where
     by : IsLeft p items s.place at → stop ≡ OutOfMemory

@@ -38,7 +38,7 @@ abbrev pub looking : UnitNumber → ℕ → Planner
 looking place next = record { place = place; next = next }
 
 pub planned_none : (r : Annotated) (start : UnitNumber) → IsPlannedTo r start (record { place = start; next = 0 })
-planned_none r start = record { plans = []; are = record { same = refl; behind = omega arith; none = λ k l m. absurd (omega arith) } }
+planned_none r start = record { plans = []; are = record { same = refl; follows = omega arith; none = λ k l m. absurd (omega arith) } }
 
 -- past an entry that is no request
 planned_free : (r : Annotated) (start place : UnitNumber) (at : ℕ) → wanted_at r at ≡ None → IsPlannedTo r start (looking place at) → IsPlannedTo r start (looking place (at + 1))
@@ -47,20 +47,20 @@ planned_free r start place at w h = record { plans = h.plans; are = ended (HasCo
     on : (q : UnitNumber) (n : ℕ) → HasCome r (looking place at) q n → HasCome r (looking place (at + 1)) q n
     on q n c = record {
       same = c.same;
-      behind = omega (arith, c.behind);
+      follows = omega (arith, c.follows);
       none = λ k l m. elim (cases_order k at) [ inl e ↦ subst (λ (j : ℕ). wanted_at r j ≡ None) (sym e) w | inr (inl n) ↦ c.none k l n | inr (inr n) ↦ absurd (omega arith) ];
     }
 
 -- the request that the planner has come to is the next one
 next_request : (r : Annotated) (s : Planner) (numbers : UnitNumber) (at from wants : ℕ) → s.next ≡ at → wanted_at r at ≡ Some wants → HasCome r s numbers from → IsFirstRequest r.profile.codes r.items from at wants
-next_request r s numbers at from wants here w h = let behind = h.behind in record { behind = omega (arith, here, behind); request = w; none = λ k l m. h.none k l (omega (arith, here)) }
+next_request r s numbers at from wants here w h = let follows = h.follows in record { follows = omega (arith, here, follows); request = w; none = λ k l m. h.none k l (omega (arith, here)) }
 
 -- past a group
 planned_group : (r : Annotated) (start : UnitNumber) (at : ℕ) (plan : Plan) (s t : Planner) → at ≤ s.next → PlansGroup r at plan (change s t) → IsPlannedTo r start s → IsPlannedTo r start t
 planned_group r start at plan s t near h k = record { plans = k.plans ++ plan ∷ []; are = followed (HasCome r s) (HasCome r t) r start 0 k.plans (plan ∷ []) on k.are }
   where
     here : s.next ≡ at
-    here = let behind = h.begins.behind in omega (arith, near, behind)
+    here = let follows = h.begins.follows in omega (arith, near, follows)
 
     on : (q : UnitNumber) (n : ℕ) → HasCome r s q n → ArePlansBefore (HasCome r t) r q n (plan ∷ [])
     on q n c = (
@@ -74,7 +74,7 @@ planned_group r start at plan s t near h k = record { plans = k.plans ++ plan �
       },
       subst (λ (m : Planner). HasCome r m (place_past r.profile.codes r.roles (group_from r.roles at) q plan.unit) (group_from r.roles at).to) (sym h.goes_on) (record {
         same = ap (λ (m : UnitNumber). place_past r.profile.codes r.roles (group_from r.roles at) m plan.unit) c.same;
-        behind = omega arith;
+        follows = omega arith;
         none = λ k l m. absurd (omega arith);
       }),
     )
@@ -83,7 +83,7 @@ planned_group r start at plan s t near h k = record { plans = k.plans ++ plan �
 pub planned_on : (r : Annotated) (start : UnitNumber) (at : ℕ) (plan : Option Plan) (s t : Planner) → at ≤ s.next → PlansAt r at plan (change s t) → IsPlannedTo r start s → IsPlannedTo r start t
 planned_on r start at None s t near (inl h) k = subst (IsPlannedTo r start) (sym h.1) k
 planned_on r start at None s t near (inr h) k =
-    let same : s.next ≡ at = let behind = h.0 in omega (arith, near, behind) in
+    let same : s.next ≡ at = let follows = h.0 in omega (arith, near, follows) in
     subst (IsPlannedTo r start) (sym h.2) (planned_free r start s.place at h.1 (subst (λ (n : ℕ). IsPlannedTo r start (looking s.place n)) same k))
 planned_on r start at (Some plan) s t near h k = planned_group r start at plan s t near h k
 
@@ -110,7 +110,7 @@ planned_stop h at s stop near k planned = by stop k.is
     r = with_roles h
 
     here : s.next ≡ at
-    here = let behind = k.begins.behind in omega (arith, near, behind)
+    here = let follows = k.begins.follows in omega (arith, near, follows)
 
     doubted : (i : ℕ) (doubt : Doubt) → IsDoubtIn (decoded h.profile h.items) (request_at r.roles at k.wants) (place_at_group h.profile.codes r.roles (group_from r.roles at) s.place) i doubt → ArePlansBefore (IsNextDoubt r i doubt) r (first_place h.profile h.items) 0 planned.plans
     doubted i doubt is = ended (HasCome r s) (IsNextDoubt r i doubt) r (first_place h.profile h.items) 0 planned.plans on planned.are
@@ -141,7 +141,7 @@ moved F wants g h m n same numbers x = subst (F (record { group = h; count = wan
 
 -- what is found of it
 pub record IsGroupAt (r : Annotated) (s : Planner) (at wants : ℕ) (g : Group) (numbers : UnitNumber) : Type 0 where
-  pub behind : s.next ≤ at
+  pub follows : s.next ≤ at
   pub request : wanted_at r at ≡ Some wants
   pub group_is : g ≡ group_from r.roles at
   pub numbers_is : numbers ≡ place_at_group r.profile.codes r.roles g s.place
@@ -156,7 +156,7 @@ not_moved r s at wants g numbers u h = moved (λ q n. HasCrossed (decoded r.prof
 pub stops_at : (r : Annotated) (s : Planner) (at wants : ℕ) (g : Group) (numbers : UnitNumber) (stop : Stop) → IsGroupAt r s at wants g numbers → IsStopIn (decoded r.profile r.items) (record { group = g; count = wants }) numbers stop → ((u : LduValue) → HasCrossed (decoded r.profile r.items) (record { group = g; count = wants }) numbers u → stop ≡ OutOfMemory) → StopsAt r at s stop
 stops_at r s at wants g numbers stop h is crossed = record {
   wants = wants;
-  begins = record { behind = h.behind; request = h.request };
+  begins = record { follows = h.follows; request = h.request };
   is = moved (λ q n. IsStopIn (decoded r.profile r.items) q n stop) wants g (group_from r.roles at) numbers (numbers_at r s at) h.group_is (numbers_are r s at wants g numbers h) is;
   crossed = λ u k. crossed u (not_moved r s at wants g numbers u h k);
 }
@@ -164,7 +164,7 @@ stops_at r s at wants g numbers stop h is crossed = record {
 pub plans_group : (r : Annotated) (s t : Planner) (at wants : ℕ) (g : Group) (numbers : UnitNumber) (plan : Plan) → IsGroupAt r s at wants g numbers → plan.at ≡ at → plan.give_ups ≡ give_ups_from s.place (group_start r.roles g) → IsMatchedUnit (decoded r.profile r.items) (record { group = g; count = wants }) numbers plan.unit → ((u : LduValue) → HasCrossed (decoded r.profile r.items) (record { group = g; count = wants }) numbers u → plan.unit ≡ u) → t ≡ record { place = place_past r.profile.codes r.roles g s.place plan.unit; next = g.to } → PlansGroup r at plan (change s t)
 plans_group r s t at wants g numbers plan h here gives is crossed goes_on = record {
   wants = wants;
-  begins = record { behind = h.behind; request = h.request };
+  begins = record { follows = h.follows; request = h.request };
   at_is = here;
   give_ups = gives ∙ ap (λ (x : Group). give_ups_from s.place (group_start r.roles x)) h.group_is;
   unit = moved (λ q n. IsMatchedUnit (decoded r.profile r.items) q n plan.unit) wants g (group_from r.roles at) numbers (numbers_at r s at) h.group_is (numbers_are r s at wants g numbers h) is;

@@ -33,15 +33,15 @@ length-window es from n few inside = simp (length-take, length-drop) (omega (ari
 -- the answer for one of those that are screened together
 pub answer_at : (label : ℕ) (es : List Entry) (answers : List ℕ) (from at : ℕ) → from ≤ at → at - from < 256 → at < length es → AreAnswers label (window_at es from) answers
     → IfSome (slice_get es at) (λ e. get_or answers (at - from) 0 ≡ screened label e.word)
-answer_at label es answers from at behind near inside are = elim (slice_get_cases es at).1 [
+answer_at label es answers from at follows near inside are = elim (slice_get_cases es at).1 [
   | inl (x, _, found, same) ↦ subst (λ (o : Option Entry). IfSome o (λ e. get_or answers (at - from) 0 ≡ screened label e.word)) (sym found) (by x same)
   | inr (past, _) ↦ absurd (omega (arith, past, inside))
 ]
   where
     by : (x : Entry) → get_or es at x ≡ x → get_or answers (at - from) 0 ≡ screened label x.word
     by x same =
-        let few : at - from < length (window_at es from) = length-window es from (at - from) near (omega (arith, behind, inside)) in
-        let here : from + (at - from) ≡ at = omega (arith, behind) in
+        let few : at - from < length (window_at es from) = length-window es from (at - from) near (omega (arith, follows, inside)) in
+        let here : from + (at - from) ≡ at = omega (arith, follows) in
         sym (get_or-take (length (window_at es from)) answers (at - from) 0 few)
         ∙ ap (λ (xs : List ℕ). get_or xs (at - from) 0) are
         ∙ get_or-map (λ e. screened label e.word) (window_at es from) (at - from) x 0 few

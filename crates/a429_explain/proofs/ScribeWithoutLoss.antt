@@ -227,12 +227,12 @@ planned_clean p is (u ∷ us) place f h =
     let acked : AreLosslessSteps c (on_b last ∷ xs) (replies last ∷ gs) us = planned_cons c (on_b last) xs (replies last) gs us (role.Acknowledged true) (rw k.settled (ap (λ (b : Bool). role.Acknowledged (not b)) (next_start_other p is place u us f h.1 h.2))) refl refl more in
     let words = planned_block c block (on_b last ∷ xs) (replies last ∷ gs) us (block_has_forms p place u k) acked in
     let words : AreLosslessSteps c ((map on_a block ++ on_b last ∷ []) ++ xs) ((map sends_word block ++ replies last ∷ []) ++ gs) us = planned_apart c (map on_a block) (on_b last ∷ []) xs (map sends_word block) (replies last ∷ []) gs us words in
-    let behind = (map on_a block ++ on_b last ∷ []) ++ xs in
+    let follows = (map on_a block ++ on_b last ∷ []) ++ xs in
     let more_steps = (map sends_word block ++ replies last ∷ []) ++ gs in
     let cts = word_number c (Cts (count_of u)) in
-    let cleared = planned_cons c (on_b cts) behind (replies cts) more_steps us (role.Clear true) (rw k.clear (rw k.start refl)) refl refl words in
-    let begun : attempt_start (forms_of c (on_b cts ∷ behind)) ≡ Some place = ap (λ (ys : List Seen). attempt_start (forms_of c (on_b cts ∷ ys))) (append_assoc (map on_a block) (on_b last ∷ []) xs) ∙ attempt_start_is p place u (on_b last ∷ xs) k in
-    planned_cons c (on_a (word_number c (Rts (count_of u)))) (on_b cts ∷ behind) (asks c u) (replies cts ∷ more_steps) (u ∷ us) (role.Request (count_of u) (Some place)) (rw k.request (ap (λ (o : Option UnitNumber). role.Request (count_of u) o) begun)) refl refl cleared
+    let cleared = planned_cons c (on_b cts) follows (replies cts) more_steps us (role.Clear true) (rw k.clear (rw k.start refl)) refl refl words in
+    let begun : attempt_start (forms_of c (on_b cts ∷ follows)) ≡ Some place = ap (λ (ys : List Seen). attempt_start (forms_of c (on_b cts ∷ ys))) (append_assoc (map on_a block) (on_b last ∷ []) xs) ∙ attempt_start_is p place u (on_b last ∷ xs) k in
+    planned_cons c (on_a (word_number c (Rts (count_of u)))) (on_b cts ∷ follows) (asks c u) (replies cts ∷ more_steps) (u ∷ us) (role.Request (count_of u) (Some place)) (rw k.request (ap (λ (o : Option UnitNumber). role.Request (count_of u) o) begun)) refl refl cleared
 
 -- ---- the whole recording
 

@@ -23,7 +23,7 @@ use Rattle.a429_explain.specs.Groups.{group_from, group_start, is_settled}
 use Rattle.a429_explain.specs.Decoded.{HeardValue, sight_at, forms_of}
 use Rattle.a429_link.specs.Number.{first_number}
 use Rattle.a429_explain.specs.declared.plan.Plan.{Plan}
-use Rattle.a429_explain.specs.Plan.{place_from, give_ups_from, place_behind, ArePlans, plain}
+use Rattle.a429_explain.specs.Plan.{place_from, give_ups_from, place_after, ArePlans, plain}
 use Rattle.a429_explain.specs.Whole.{wanted}
 
 -- ---- the first numbers
@@ -49,7 +49,7 @@ first_place p items = first_number p.codes (first_file_of (forms_of p.codes item
 
 -- the first request from place `at` on is here
 pub record IsFirstRequest (c : Codes) (items : List Seen) (at from wants : ℕ) : Type 0 where
-  pub behind : at ≤ from
+  pub follows : at ≤ from
   pub request : wanted (sight_at c (slice_get items from)) ≡ Some wants
   pub none : (k : ℕ) → at ≤ k → k < from → wanted (sight_at c (slice_get items k)) ≡ None
 
@@ -71,7 +71,7 @@ place_at_group c rs g place = place_from c place (group_start rs g)
 
 -- those with which it leaves the group, where this is its link data unit
 abbrev pub place_past : Codes → List Role → Group → UnitNumber → LduValue → UnitNumber
-place_past c rs g place u = place_behind c (place_at_group c rs g place) u (is_settled rs g)
+place_past c rs g place u = place_after c (place_at_group c rs g place) u (is_settled rs g)
 
 -- a recording under a profile, with the roles of its entries
 pub record Annotated : Type 0 where

@@ -22,11 +22,11 @@ sends (Sending sent) = if nat_lt sent 254 then Sending (sent + 1) else Waiting
 sends Waiting = Waiting
 
 -- the source, once it has taken the answer that it waits for
-abbrev pub hears : SourceState → SourceState
-hears Idle = Idle
-hears Awaiting = Sending 0
-hears (Sending sent) = Idle
-hears Waiting = Idle
+abbrev pub after_answer : SourceState → SourceState
+after_answer Idle = Idle
+after_answer Awaiting = Sending 0
+after_answer (Sending sent) = Idle
+after_answer Waiting = Idle
 
 -- the sink, once it has taken the word of a block that the source sent last
 abbrev pub takes_word : SinkState → SinkState
@@ -68,7 +68,7 @@ lost at source = record { act = SentLost; states = record at { source = source }
 abbrev pub next_after : Act → SourceState → SinkState → MovedLine → MovedLine
 next_after Sent source sink line = moves SinkTakes source (takes source sink) 0 0
 next_after SinkTakes source sink line = after_taking source sink
-next_after Answered source sink line = moves TakeAnswer (hears source) sink 0 0
+next_after Answered source sink line = moves TakeAnswer (after_answer source) sink 0 0
 next_after TakeAnswer source sink line = moves Sent (sends source) sink 1 0
 next_after TimeOut source sink line = moves Sent (sends source) sink 1 0
 next_after SentLost source sink line = after_loss source sink

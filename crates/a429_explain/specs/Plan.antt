@@ -24,8 +24,8 @@ give_ups_from place None = 0
 give_ups_from place (Some start) = files_past start.file place.file
 
 -- those with which it leaves the group: the next ones, where its link data unit was acknowledged
-abbrev pub place_behind : Codes → UnitNumber → LduValue → Bool → UnitNumber
-place_behind c place u settled = if settled then number_after c place u else place
+abbrev pub place_after : Codes → UnitNumber → LduValue → Bool → UnitNumber
+place_after c place u settled = if settled then number_after c place u else place
 
 -- ---- plans
 

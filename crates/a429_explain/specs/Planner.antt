@@ -33,7 +33,7 @@ CrossesAt r s at wants u = HasCrossed (decoded r.profile r.items) (request_at r.
 
 -- a group begins at this entry, and its first request asks for so many words
 pub record BeginsGroup (r : Annotated) (s : Planner) (at wants : ℕ) : Type 0 where
-  pub behind : s.next ≤ at
+  pub follows : s.next ≤ at
   pub request : wanted_at r at ≡ Some wants
 
 -- this is its plan, and the next group is looked for from its end on
@@ -68,7 +68,7 @@ pub record StopsAt (r : Annotated) (at : ℕ) (s : Planner) (stop : Stop) : Type
 -- after the last group come these numbers and this entry; from there to where the planner looks on there is no request
 pub record HasCome (r : Annotated) (s : Planner) (numbers : UnitNumber) (from : ℕ) : Type 0 where
   pub same : numbers ≡ s.place
-  pub behind : from ≤ s.next
+  pub follows : from ≤ s.next
   pub none : (k : ℕ) → from ≤ k → k < s.next → wanted_at r k ≡ None
 
 -- where the source begins with the first numbers, the groups before the planner's next entry have plans

@@ -1,7 +1,7 @@
 //! The line of a certificate that is likely after another.
 
 ghost use Rattle.std.specs.Prelude.{◌≡◌, ◌<◌, ◌≤◌, true, IfSome};
-ghost use Rattle.a429_explain.specs.Next.{carried, sending, moves, sends, hears, takes, after_taking, after_loss, lost, next_after, next_line, BeginWords};
+ghost use Rattle.a429_explain.specs.Next.{carried, sending, moves, sends, after_answer, takes, after_taking, after_loss, lost, next_after, next_line, BeginWords};
 
 use a429_cert::{Act, MovedLine};
 use a429_link::{SinkState, SourceState, States};
@@ -16,7 +16,7 @@ pub(crate) fn next_line(line: MovedLine) -> MovedLine
     match line.act {
         Act::Sent => moves(Act::SinkTakes, source, takes(source, sink), 0, 0),
         Act::SinkTakes => after_taking(source, sink),
-        Act::Answered => moves(Act::TakeAnswer, hears(source), sink, 0, 0),
+        Act::Answered => moves(Act::TakeAnswer, after_answer(source), sink, 0, 0),
         Act::TakeAnswer | Act::TimeOut => moves(Act::Sent, sends(source), sink, 1, 0),
         Act::SentLost => after_loss(source, sink),
         Act::LoseAnswer | Act::Silent => moves(Act::TimeOut, SourceState::Idle, sink, 0, 0),
@@ -49,8 +49,8 @@ fn sends(source: SourceState) -> SourceState
 }
 
 // The source, once it has taken the answer that it waits for.
-fn hears(source: SourceState) -> SourceState
-    ensures { result ≡ hears source }
+fn after_answer(source: SourceState) -> SourceState
+    ensures { result ≡ after_answer source }
 {
     match source {
         SourceState::Awaiting => SourceState::Sending(0),

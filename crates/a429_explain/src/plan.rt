@@ -1,7 +1,7 @@
 //! What the source does before a group of attempts.
 
 ghost use Rattle.std.specs.Prelude.{◌≡◌};
-ghost use Rattle.a429_explain.specs.Plan.{place_from, give_ups_from, place_behind, begins_at, plan_for, plans_left};
+ghost use Rattle.a429_explain.specs.Plan.{place_from, give_ups_from, place_after, begins_at, plan_for, plans_left};
 
 use crate::attempts::Role;
 use a429_ldu::Ldu;
@@ -66,13 +66,13 @@ pub(crate) fn give_ups_from(place: UnitNumber, start: Option<UnitNumber>) -> u8
 }
 
 /// The numbers with which the source leaves a group of this link data unit.
-pub(crate) fn place_behind(
+pub(crate) fn place_after(
     profile: &Profile,
     place: UnitNumber,
     unit: &Ldu,
     is_settled: bool,
 ) -> UnitNumber
-    ensures { result ≡ place_behind profile.now.codes place unit.now is_settled }
+    ensures { result ≡ place_after profile.now.codes place unit.now is_settled }
 {
     if is_settled {
         place.after(profile, unit)

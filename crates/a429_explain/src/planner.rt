@@ -14,7 +14,7 @@ use crate::attempts::Role;
 use crate::block::matched_unit;
 use crate::decoded::Decoded;
 use crate::groups::{Request, group_at, group_start, is_settled, wanted};
-use crate::plan::{Plan, give_ups_from, place_behind, place_from};
+use crate::plan::{Plan, give_ups_from, place_after, place_from};
 use crate::stop::Stop;
 use a429_link::UnitNumber;
 use a429_profile::Profile;
@@ -84,7 +84,7 @@ impl Planner {
         requires roles { roles.now ≡ roles_of (forms_of decoded.now.profile.codes decoded.now.items) }
         requires request { IsRequestOf decoded.now request }
         requires group { request.group ≡ group_from roles.now request.group.from }
-        requires behind { self.old.next ≤ request.group.from }
+        requires follows { self.old.next ≤ request.group.from }
         ensures planned { IfOk result (λ plan. PlansGroup (with_roles decoded.now) request.group.from plan (change self.old self.new)) }
         ensures next { OnOk result (self.new.next ≡ request.group.to) }
         ensures stopped { IfErr result (StopsAt (with_roles decoded.now) request.group.from self.old) }
@@ -99,7 +99,7 @@ impl Planner {
             Ok(unit) => unit,
             Err(stop) => return Err(stop),
         };
-        self.place = place_behind(profile, numbers, &unit, is_settled(roles, group));
+        self.place = place_after(profile, numbers, &unit, is_settled(roles, group));
         self.next = group.to;
         Ok(Plan {
             at: group.from,

@@ -8,7 +8,7 @@ use Rattle.a429_record.specs.declared.fault.ReadFault.TheVariants as fault
 use Rattle.a429_record.specs.Row.{Row, is_header, entry_in}
 use Rattle.a429_record.specs.Binary.{is_binary, piece_entries}
 use Rattle.a429_record.specs.Recording.{Recording, most_entries, row_stands_for, entries_stand_for, all_rows_stand_for, stands_for, rows_of, whole, stops, NeverFalls}
-use Rattle.a429_record.specs.FaultyRecordings.{stops_after, EndsAbove, IsRefusedRow, IsRefusedAmong, IsRefusedBehind, HasNoHeader, IsFaultyText, IsFaultyBinary}
+use Rattle.a429_record.specs.FaultyRecordings.{stops_after, EndsAbove, IsRefusedRow, IsRefusedAmong, IsRefusedAfter, HasNoHeader, IsFaultyText, IsFaultyBinary}
 use Rattle.a429_record.proofs.BinaryFacts.{magic-split}
 use Rattle.a429_record.proofs.RecordingTimes.{last_time, last_time-push}
 use Rattle.a429_record.proofs.WholeRecordings.{text-stands, binary-stands}
@@ -22,17 +22,17 @@ Refuses n last row _ = ⊥
 
 -- ---- from the rows
 
-refused-stops : (n last : ℕ) (row : Option Entry) (behind : List (Option Entry)) (f : ReadFault) → Refuses n last row f → entries_stand_for most_entries n last (row ∷ behind) ≡ stops f
-refused-stops n last row behind fault.Header h = absurd h
-refused-stops n last row behind fault.Device h = absurd h
-refused-stops n last row behind fault.OutOfMemory h = absurd h
-refused-stops n last row behind fault.Failed h = absurd h
-refused-stops n last row behind fault.TooMany h =
+refused-stops : (n last : ℕ) (row : Option Entry) (following : List (Option Entry)) (f : ReadFault) → Refuses n last row f → entries_stand_for most_entries n last (row ∷ following) ≡ stops f
+refused-stops n last row following fault.Header h = absurd h
+refused-stops n last row following fault.Device h = absurd h
+refused-stops n last row following fault.OutOfMemory h = absurd h
+refused-stops n last row following fault.Failed h = absurd h
+refused-stops n last row following fault.TooMany h =
     let full : (n == most_entries) ≡ true = grind (arith, nat_tests) in rw full refl
-refused-stops n last row behind (fault.Row i) h =
+refused-stops n last row following (fault.Row i) h =
     let room : (n == most_entries) ≡ false = grind (arith, nat_tests) in
     rw (room, h.2) (ap (λ k. stops (fault.Row k)) (sym h.0))
-refused-stops n last row behind (fault.TimeBack i) h =
+refused-stops n last row following (fault.TimeBack i) h =
     let room : (n == most_entries) ≡ false = grind (arith, nat_tests) in
     let back : nat_lt h.2.0.time last ≡ true = grind (arith, nat_tests) in
     rw (room, h.2.1, back) (ap (λ k. stops (fault.TimeBack k)) (sym h.0))
@@ -64,11 +64,11 @@ refuses es row (fault.TimeBack i) h =
 refused-stands : (rows : List (Option Entry)) (es : List Entry) (f : ReadFault) → IsRefusedAmong rows es f → entries_stand_for most_entries 0 0 rows ≡ stops_after es f
 refused-stands rows es f w =
     let c = w.comes in
-    let stop = refused-stops (0 + length es) (last_time 0 es) w.entry c.behind f (refuses es w.entry f w.refused) in
-    ap (entries_stand_for most_entries 0 0) c.all ∙ entries-after 0 0 (w.entry ∷ c.behind) es f (omega (arith, c.recordable.0)) c.recordable.1 stop
+    let stop = refused-stops (0 + length es) (last_time 0 es) w.entry c.following f (refuses es w.entry f w.refused) in
+    ap (entries_stand_for most_entries 0 0) c.all ∙ entries-after 0 0 (w.entry ∷ c.following) es f (omega (arith, c.recordable.0)) c.recordable.1 stop
 
-behind-stands : (rows : List Row) (es : List Entry) (f : ReadFault) → IsRefusedBehind rows es f → all_rows_stand_for most_entries rows ≡ stops_after es f
-behind-stands rows es f w = ap (all_rows_stand_for most_entries) w.all ∙ rw w.first (refused-stands (map entry_in w.more) es f w.among)
+following-stands : (rows : List Row) (es : List Entry) (f : ReadFault) → IsRefusedAfter rows es f → all_rows_stand_for most_entries rows ≡ stops_after es f
+following-stands rows es f w = ap (all_rows_stand_for most_entries) w.all ∙ rw w.first (refused-stands (map entry_in w.more) es f w.among)
 
 headless : (rows : List Row) → HasNoHeader rows → all_rows_stand_for most_entries rows ≡ stops fault.Header
 headless [] h = refl
@@ -76,26 +76,26 @@ headless (r ∷ rows) h = rw h refl
 
 text-faulty : (bytes : List ℕ) (es : List Entry) (f : ReadFault) → IsFaultyText bytes es f → all_rows_stand_for most_entries (rows_of bytes) ≡ stops_after es f
 text-faulty bytes es fault.Header h = headless (rows_of bytes) h.1 ∙ ap (λ (l : List Entry). stops_after l fault.Header) (sym h.0)
-text-faulty bytes es (fault.Row i) h = behind-stands (rows_of bytes) es (fault.Row i) h
-text-faulty bytes es (fault.TimeBack i) h = behind-stands (rows_of bytes) es (fault.TimeBack i) h
-text-faulty bytes es fault.TooMany h = behind-stands (rows_of bytes) es fault.TooMany h
-text-faulty bytes es fault.Device h = behind-stands (rows_of bytes) es fault.Device h
-text-faulty bytes es fault.OutOfMemory h = behind-stands (rows_of bytes) es fault.OutOfMemory h
-text-faulty bytes es fault.Failed h = behind-stands (rows_of bytes) es fault.Failed h
+text-faulty bytes es (fault.Row i) h = following-stands (rows_of bytes) es (fault.Row i) h
+text-faulty bytes es (fault.TimeBack i) h = following-stands (rows_of bytes) es (fault.TimeBack i) h
+text-faulty bytes es fault.TooMany h = following-stands (rows_of bytes) es fault.TooMany h
+text-faulty bytes es fault.Device h = following-stands (rows_of bytes) es fault.Device h
+text-faulty bytes es fault.OutOfMemory h = following-stands (rows_of bytes) es fault.OutOfMemory h
+text-faulty bytes es fault.Failed h = following-stands (rows_of bytes) es fault.Failed h
 
 pub faulty_text-stands : (bytes : List ℕ) (es : List Entry) (f : ReadFault) → is_binary bytes ≡ false → IsFaultyText bytes es f → stands_for bytes ≡ stops_after es f
 faulty_text-stands bytes es f text h = text-stands bytes text ∙ text-faulty bytes es f h
 
 pub faulty_binary-stands : (bytes : List ℕ) (es : List Entry) (f : ReadFault) → IsFaultyBinary bytes es f → stands_for bytes ≡ stops_after es f
-faulty_binary-stands bytes es f w = rw w.all (refused-stands (piece_entries w.behind) es f w.among)
+faulty_binary-stands bytes es f w = rw w.all (refused-stands (piece_entries w.following) es f w.among)
 
 -- ---- and back
 
 -- the row at which a fault stops rows
 record StopsAt (n last : ℕ) (rows : List (Option Entry)) (es : List Entry) (f : ReadFault) : Type 0 where
   row : Option Entry
-  behind : List (Option Entry)
-  all : rows ≡ map Some es ++ (row ∷ behind)
+  following : List (Option Entry)
+  all : rows ≡ map Some es ++ (row ∷ following)
   few : n + length es ≤ most_entries
   up : NeverFalls last es
   refuses : Refuses (n + length es) (last_time last es) row f
@@ -109,17 +109,17 @@ stops_here n last r rows es f g few e h =
     let zero : n ≡ n + length {A = Entry} [] = omega arith in
     let moved : Refuses (n + length {A = Entry} []) last r g = subst (λ (k : ℕ). Refuses k last r g) zero h in
     let There : List Entry → Type 0 = λ l. StopsAt n last (r ∷ rows) l f in
-    subst There none (record { row = r; behind = rows; all = refl; few = omega arith; up = tt; refuses = subst (λ (x : ReadFault). Refuses (n + length {A = Entry} []) last r x) same moved })
+    subst There none (record { row = r; following = rows; all = refl; few = omega arith; up = tt; refuses = subst (λ (x : ReadFault). Refuses (n + length {A = Entry} []) last r x) same moved })
 
 -- after an entry
 stops_later : (n last : ℕ) (r : Option Entry) (x : Entry) (rows : List (Option Entry)) (es : List Entry) (f : ReadFault) → r ≡ Some x → last ≤ x.time
     → StopsAt (n + 1) x.time rows es f → StopsAt n last (r ∷ rows) (x ∷ es) f
 stops_later n last r x rows es f here least s =
     let count : n + 1 + length es ≡ n + length (x ∷ es) = omega arith in
-    let all : r ∷ rows ≡ Some x ∷ (map Some es ++ (s.row ∷ s.behind)) = rw (here, s.all) refl in
+    let all : r ∷ rows ≡ Some x ∷ (map Some es ++ (s.row ∷ s.following)) = rw (here, s.all) refl in
     record {
       row = s.row;
-      behind = s.behind;
+      following = s.following;
       all = all;
       few = omega (arith, s.few);
       up = (least, s.up);
@@ -198,24 +198,24 @@ refused es row (fault.TimeBack i) h = (omega (arith, h.0), h.1, (h.2.0, h.2.1, e
 refused_among : (rows : List (Option Entry)) (es : List Entry) (f : ReadFault) → StopsAt 0 0 rows es f → IsRefusedAmong rows es f
 refused_among rows es f s = record {
   entry = s.row;
-  comes = record { behind = s.behind; all = s.all; recordable = (omega (arith, s.few), s.up) };
+  comes = record { following = s.following; all = s.all; recordable = (omega (arith, s.few), s.up) };
   refused = refused es s.row f s.refuses;
 }
 
 refused_behind : (header : Row) (rows all : List Row) (es : List Entry) (f : ReadFault) → all ≡ header ∷ rows → is_header header ≡ true → StopsAt 0 0 (map entry_in rows) es f
-    → IsRefusedBehind all es f
+    → IsRefusedAfter all es f
 refused_behind header rows all es f is first s = record { header = header; more = rows; all = is; first = first; among = refused_among (map entry_in rows) es f s }
 
 -- what stops behind the header is no fault of the header, of the device or of memory
-behind_header : (bytes : List ℕ) (header : Row) (rows : List Row) (es : List Entry) (f : ReadFault) → rows_of bytes ≡ header ∷ rows → is_header header ≡ true
+after_header : (bytes : List ℕ) (header : Row) (rows : List Row) (es : List Entry) (f : ReadFault) → rows_of bytes ≡ header ∷ rows → is_header header ≡ true
     → StopsAt 0 0 (map entry_in rows) es f → IsFaultyText bytes es f
-behind_header bytes header rows es fault.Header is first s = absurd s.refuses
-behind_header bytes header rows es fault.Device is first s = refused_behind header rows (rows_of bytes) es fault.Device is first s
-behind_header bytes header rows es fault.OutOfMemory is first s = refused_behind header rows (rows_of bytes) es fault.OutOfMemory is first s
-behind_header bytes header rows es fault.Failed is first s = refused_behind header rows (rows_of bytes) es fault.Failed is first s
-behind_header bytes header rows es fault.TooMany is first s = refused_behind header rows (rows_of bytes) es fault.TooMany is first s
-behind_header bytes header rows es (fault.Row i) is first s = refused_behind header rows (rows_of bytes) es (fault.Row i) is first s
-behind_header bytes header rows es (fault.TimeBack i) is first s = refused_behind header rows (rows_of bytes) es (fault.TimeBack i) is first s
+after_header bytes header rows es fault.Header is first s = absurd s.refuses
+after_header bytes header rows es fault.Device is first s = refused_behind header rows (rows_of bytes) es fault.Device is first s
+after_header bytes header rows es fault.OutOfMemory is first s = refused_behind header rows (rows_of bytes) es fault.OutOfMemory is first s
+after_header bytes header rows es fault.Failed is first s = refused_behind header rows (rows_of bytes) es fault.Failed is first s
+after_header bytes header rows es fault.TooMany is first s = refused_behind header rows (rows_of bytes) es fault.TooMany is first s
+after_header bytes header rows es (fault.Row i) is first s = refused_behind header rows (rows_of bytes) es (fault.Row i) is first s
+after_header bytes header rows es (fault.TimeBack i) is first s = refused_behind header rows (rows_of bytes) es (fault.TimeBack i) is first s
 
 no_header : (bytes : List ℕ) (rows : List Row) (es : List Entry) (f : ReadFault) → rows_of bytes ≡ rows → HasNoHeader rows → stops fault.Header ≡ stops_after es f → IsFaultyText bytes es f
 no_header bytes rows es f is none e =
@@ -228,7 +228,7 @@ stands-faulty bytes es f e = from_rows (rows_of bytes) refl e where
   from_rows : (rows : List Row) → rows_of bytes ≡ rows → all_rows_stand_for most_entries rows ≡ stops_after es f → IsFaultyText bytes es f
   from_rows [] is e = no_header bytes [] es f is tt e
   from_rows (r ∷ rows) is e = elim (cases_Bool (is_header r)) [
-    | inl first ↦ behind_header bytes r rows es f is first (rows-stop 0 0 (map entry_in rows) es f (omega arith) (rw first at e))
+    | inl first ↦ after_header bytes r rows es f is first (rows-stop 0 0 (map entry_in rows) es f (omega arith) (rw first at e))
     | inr other ↦ no_header bytes (r ∷ rows) es f is other (rw other at e)
   ]
 
@@ -237,7 +237,7 @@ fault-faulty_text bytes es f text e = stands-faulty bytes es f (sym (text-stands
 
 pub fault-faulty_binary : (bytes : List ℕ) (es : List Entry) (f : ReadFault) → is_binary bytes ≡ true → stands_for bytes ≡ stops_after es f → IsFaultyBinary bytes es f
 fault-faulty_binary bytes es f binary e = record {
-  behind = drop 8 bytes;
+  following = drop 8 bytes;
   all = magic-split bytes binary;
   among = refused_among (piece_entries (drop 8 bytes)) es f (rows-stop 0 0 (piece_entries (drop 8 bytes)) es f (omega arith) (sym (binary-stands bytes binary) ∙ e));
 }

@@ -60,7 +60,7 @@ failed_binary most (Some xs) None c count none p q = absurd p
 failed_binary most (Some xs) (Some ys) None count none p q = absurd q
 failed_binary most (Some xs) (Some ys) (Some zs) count none p q =
     let short : IsCut most 0 q.0 = rw none at q.2 in
-    let sound : IsCutBinary most (magic ++ q.0) = record { entries = []; front = magic; cut = q.0; all = refl; whole = (record { behind = []; all = refl; entries = refl }, (omega arith, tt)); short = short } in
+    let sound : IsCutBinary most (magic ++ q.0) = record { entries = []; front = magic; cut = q.0; all = refl; whole = (record { following = []; all = refl; entries = refl }, (omega arith, tt)); short = short } in
     (magic ++ q.0, p ∙ ap (λ (l : List ℕ). magic ++ l) q.1 ∙ sym (append_assoc magic q.0 zs), (λ binary. sound, λ text. cc text))
 
 -- ---- the first answer
@@ -107,16 +107,16 @@ pub lines_first : (a b c : Option (List ℕ)) (r : Result (Option Entry) ReadFau
     → IfEntry r (λ e. Loses (AreFirstHanded format.Text e) a c)
 lines_first a b c r p h = if_entry r (λ e. Loses (AreLines (AreGiven (e ∷ []))) b c) (λ e. Loses (AreFirstHanded format.Text e) a c) (λ e. kept_lost (AreLines (AreGiven (e ∷ []))) a b c p.0) h
 
-behind_magic : (e : Entry) (a b c : Option (List ℕ)) → Chooses format.Binary a b → Loses (ArePieceOf e) b c → Loses (AreFirstHanded format.Binary e) a c
-behind_magic e None b c p q = tt
-behind_magic e (Some xs) None c p q = absurd p
-behind_magic e (Some xs) (Some ys) None p q = absurd q
-behind_magic e (Some xs) (Some ys) (Some zs) p q =
-    (magic ++ q.0, p ∙ ap (λ (l : List ℕ). magic ++ l) q.1 ∙ sym (append_assoc magic q.0 zs), record { behind = q.0; all = refl; entries = piece_alone q.0 e q.2 })
+after_magic : (e : Entry) (a b c : Option (List ℕ)) → Chooses format.Binary a b → Loses (ArePieceOf e) b c → Loses (AreFirstHanded format.Binary e) a c
+after_magic e None b c p q = tt
+after_magic e (Some xs) None c p q = absurd p
+after_magic e (Some xs) (Some ys) None p q = absurd q
+after_magic e (Some xs) (Some ys) (Some zs) p q =
+    (magic ++ q.0, p ∙ ap (λ (l : List ℕ). magic ++ l) q.1 ∙ sym (append_assoc magic q.0 zs), record { following = q.0; all = refl; entries = piece_alone q.0 e q.2 })
 
 pub piece_first : (a b c : Option (List ℕ)) (r : Result (Option Entry) ReadFault) → Chooses format.Binary a b → IfEntry r (λ e. Loses (ArePieceOf e) b c)
     → IfEntry r (λ e. Loses (AreFirstHanded format.Binary e) a c)
-piece_first a b c r p h = if_entry r (λ e. Loses (ArePieceOf e) b c) (λ e. Loses (AreFirstHanded format.Binary e) a c) (λ e. behind_magic e a b c p) h
+piece_first a b c r p h = if_entry r (λ e. Loses (ArePieceOf e) b c) (λ e. Loses (AreFirstHanded format.Binary e) a c) (λ e. after_magic e a b c p) h
 
 -- ---- the answers of a reading
 
@@ -138,9 +138,9 @@ first_in format.Binary es e taken rest none h = rw none h
 next_in : (f : Format) (es : List Entry) (e : Entry) (a b c : Option (List ℕ)) → Loses (AreGivenIn f es) a b → Loses (AreNextHanded f e) b c → Loses (AreGivenIn f (es ++ (e ∷ []))) a c
 next_in format.Text es e a b c p q = given_next es (es ++ (e ∷ [])) e a b c refl p q
 next_in format.Binary es e a b c p q = lost_both _ _ _ a b c p q (λ t u rest before after. record {
-  behind = before.behind ++ u;
-  all = ap (λ (l : List ℕ). l ++ u) before.all ∙ append_assoc magic before.behind u;
-  entries = piece_behind before.behind u es e before.entries after;
+  following = before.following ++ u;
+  all = ap (λ (l : List ℕ). l ++ u) before.all ∙ append_assoc magic before.following u;
+  entries = piece_behind before.following u es e before.entries after;
 })
 
 -- an entry more

@@ -91,8 +91,8 @@ ahead_taken buffer at filled n part rest ordered inside few is =
     let size : length part ≡ n = ap length is ∙ length-take-le n (take (filled - at) (drop at buffer)) (omega (arith, here)) in
     let front : take n (part ++ rest) ≡ part = subst (λ (k : ℕ). take k (part ++ rest) ≡ part) size (take-append_seam part rest) in
     let first : part ≡ take n all = is ∙ ap (take n) (ahead_slice buffer at filled ordered) in
-    let behind : drop (at + n) (take filled buffer) ≡ drop n all = sym (drop-drop n at (take filled buffer)) in
-    rw (front, behind) (first_rest part all n first)
+    let following : drop (at + n) (take filled buffer) ≡ drop n all = sym (drop-drop n at (take filled buffer)) in
+    rw (front, following) (first_rest part all n first)
   where
     first_rest : (part all : List ℕ) (n : ℕ) → part ≡ take n all → all ≡ part ++ drop n all
     first_rest part all n e = sym (ap (λ (l : List ℕ). l ++ drop n all) e ∙ take-append-drop n all)

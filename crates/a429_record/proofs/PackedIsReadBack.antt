@@ -30,4 +30,4 @@ pieces-back (e ∷ es) h =
 
 pub packed-back : (es : List Entry) → AreEntries es → IsRecordable es → stands_for (binary_form es) ≡ whole es
 packed-back es fit recordable =
-    binary-whole (binary_form es) es (record { behind = flat_map entry_piece es; all = refl; entries = pieces-back es fit }, recordable)
+    binary-whole (binary_form es) es (record { following = flat_map entry_piece es; all = refl; entries = pieces-back es fit }, recordable)

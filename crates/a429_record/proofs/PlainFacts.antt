@@ -27,11 +27,11 @@ eight (a ∷ b ∷ c ∷ d ∷ e ∷ f ∷ []) long = absurd (omega arith)
 eight (a ∷ b ∷ c ∷ d ∷ e ∷ f ∷ g ∷ []) long = absurd (omega arith)
 
 -- a bus and a word, each after a comma, at the front of some bytes
-pub behind : (r : List ℕ) → 11 ≤ length r → get_or r 0 0 ≡ 44 → get_or r 2 0 ≡ 44 → take 11 r ≡ 44 ∷ (take 1 (drop 1 r) ++ (44 ∷ take 8 (drop 3 r)))
-behind (x ∷ y ∷ z ∷ r) long a b = rw (a, b) refl
-behind [] long a b = absurd (omega arith)
-behind (x ∷ []) long a b = absurd (omega arith)
-behind (x ∷ y ∷ []) long a b = absurd (omega arith)
+pub following : (r : List ℕ) → 11 ≤ length r → get_or r 0 0 ≡ 44 → get_or r 2 0 ≡ 44 → take 11 r ≡ 44 ∷ (take 1 (drop 1 r) ++ (44 ∷ take 8 (drop 3 r)))
+following (x ∷ y ∷ z ∷ r) long a b = rw (a, b) refl
+following [] long a b = absurd (omega arith)
+following (x ∷ []) long a b = absurd (omega arith)
+following (x ∷ y ∷ []) long a b = absurd (omega arith)
 
 -- the fields of a row, where each of them is one
 pub is_row : (bytes : List ℕ) (n : ℕ) (time : ℕ) (bus : Bus) (word : ℕ) → 1 ≤ n → n ≤ 19 → n + 11 ≤ length bytes
@@ -49,7 +49,7 @@ is_row bytes n time bus word least most inside digits number small first second 
       time = take n bytes;
       bus = take 1 (drop 1 rest);
       word = take 8 (drop 3 rest);
-      layout = take-add n 11 bytes ∙ ap (λ (r : List ℕ). take n bytes ++ r) (behind rest long first second);
+      layout = take-add n 11 bytes ∙ ap (λ (r : List ℕ). take n bytes ++ r) (following rest long first second);
       says = rw (← t, ← letter, ← w) refl;
     }
 

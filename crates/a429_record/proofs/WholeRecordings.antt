@@ -37,7 +37,7 @@ pub text-whole : (bytes : List ℕ) (es : List Entry) → is_binary bytes ≡ fa
 text-whole bytes es text w = text-stands bytes text ∙ ap (all_rows_stand_for most_entries) w.all ∙ rw w.first (recordable-whole most_entries (map entry_in w.rows) es w.entries w.recordable)
 
 pub binary-whole : (bytes : List ℕ) (es : List Entry) → IsWholeBinary bytes es → stands_for bytes ≡ whole es
-binary-whole bytes es w = rw w.0.all (recordable-whole most_entries (piece_entries w.0.behind) es w.0.entries w.1)
+binary-whole bytes es w = rw w.0.all (recordable-whole most_entries (piece_entries w.0.following) es w.0.entries w.1)
 
 -- ---- and back
 
@@ -100,4 +100,4 @@ whole-text bytes es text e = from_rows (rows_of bytes) refl (sym (text-stands by
 pub whole-binary : (bytes : List ℕ) (es : List Entry) → is_binary bytes ≡ true → stands_for bytes ≡ whole es → IsWholeBinary bytes es
 whole-binary bytes es binary e =
     let t = entries-of 0 0 (piece_entries (drop 8 bytes)) es (omega arith) (sym (binary-stands bytes binary) ∙ e) in
-    (record { behind = drop 8 bytes; all = magic-split bytes binary; entries = t.0 }, (omega (arith, t.1), t.2))
+    (record { following = drop 8 bytes; all = magic-split bytes binary; entries = t.0 }, (omega (arith, t.1), t.2))

@@ -17,8 +17,8 @@ StopAfter bytes es f = stands_for bytes ≡ stops_after es f
 
 -- rows begin with these entries, which a recording may hold, and then comes one with this entry, or with none
 pub record ComesAfter (es : List Entry) (entry : Option Entry) (rows : List (Option Entry)) : Type 0 where
-  pub behind : List (Option Entry)
-  pub all : rows ≡ map Some es ++ (entry ∷ behind)
+  pub following : List (Option Entry)
+  pub all : rows ≡ map Some es ++ (entry ∷ following)
   pub recordable : IsRecordable es
 
 -- the last of these entries has a time above t
@@ -47,7 +47,7 @@ HasNoHeader [] = ⊤
 HasNoHeader (row ∷ rows) = is_header row ≡ false
 
 -- rows of a text are the header's, and after it one makes a fault after these entries
-pub record IsRefusedBehind (rows : List Row) (es : List Entry) (f : ReadFault) : Type 0 where
+pub record IsRefusedAfter (rows : List Row) (es : List Entry) (f : ReadFault) : Type 0 where
   pub header : Row
   pub more : List Row
   pub all : rows ≡ header ∷ more
@@ -57,10 +57,10 @@ pub record IsRefusedBehind (rows : List Row) (es : List Entry) (f : ReadFault) :
 -- the bytes of a text are entries, and then a fault
 abbrev pub IsFaultyText : List ℕ → List Entry → ReadFault → Type 0
 IsFaultyText bytes es fault.Header = (es ≡ []) × HasNoHeader (rows_of bytes)
-IsFaultyText bytes es f = IsRefusedBehind (rows_of bytes) es f
+IsFaultyText bytes es f = IsRefusedAfter (rows_of bytes) es f
 
 -- bytes are the eight of a binary recording, and after them a piece makes a fault after these entries
 pub record IsFaultyBinary (bytes : List ℕ) (es : List Entry) (f : ReadFault) : Type 0 where
-  pub behind : List ℕ
-  pub all : bytes ≡ magic ++ behind
-  pub among : IsRefusedAmong (piece_entries behind) es f
+  pub following : List ℕ
+  pub all : bytes ≡ magic ++ following
+  pub among : IsRefusedAmong (piece_entries following) es f

@@ -77,8 +77,8 @@ abbrev pub HandsEntry : Reading → Reading → Pending → Entry → Type 0
 HandsEntry old new p e = HandsOut (AreHandedAt old.stage new.rows.format e) p
 
 -- the reader fails: nothing that was returned until then makes a fault
-abbrev pub FailsBehind : {R : Type 0} → (R → Option (List ℕ)) → Reading → Tally R → Tally R → Type 0
-FailsBehind remaining old rec new_rec = FailsAfter (PassesAt old.rows.most old.stage old.rows.format old.rows.count) remaining old.rows.lines rec new_rec
+abbrev pub FailsAfterRows : {R : Type 0} → (R → Option (List ℕ)) → Reading → Tally R → Tally R → Type 0
+FailsAfterRows remaining old rec new_rec = FailsAfter (PassesAt old.rows.most old.stage old.rows.format old.rows.count) remaining old.rows.lines rec new_rec
 
 -- the format of what comes is chosen, or stays
 abbrev pub KeepsFormat : {R : Type 0} → (R → Option (List ℕ)) → Reading → Tally R → Reading → Type 0

@@ -16,9 +16,9 @@ pub record IsWholeText (bytes : List ℕ) (es : List Entry) : Type 0 where
 
 -- bytes are the eight of a binary recording, and then a piece for each of these entries
 pub record AreBinary (bytes : List ℕ) (es : List Entry) : Type 0 where
-  pub behind : List ℕ
-  pub all : bytes ≡ magic ++ behind
-  pub entries : piece_entries behind ≡ map Some es
+  pub following : List ℕ
+  pub all : bytes ≡ magic ++ following
+  pub entries : piece_entries following ≡ map Some es
 
 -- and a recording may hold them
 abbrev pub IsWholeBinary : List ℕ → List Entry → Type 0

@@ -19,7 +19,7 @@ header_text = codes "time,bus,word\n"
 
 -- the time, the bus and the word of an entry, with one byte between them and one after them
 abbrev pub entry_text : ℕ → ℕ → Entry → List ℕ
-entry_text between behind e = decimal e.time ++ between ∷ [] ++ bus_text e.bus ++ between ∷ [] ++ hex_text e.word ++ behind ∷ []
+entry_text between following e = decimal e.time ++ between ∷ [] ++ bus_text e.bus ++ between ∷ [] ++ hex_text e.word ++ following ∷ []
 
 -- the line of an entry
 abbrev pub line_text : Entry → List ℕ

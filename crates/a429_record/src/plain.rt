@@ -13,7 +13,7 @@ use a429_word::Word;
 const SURE_DIGITS: usize = 19;
 
 // How many bytes come after the time: a bus and a word, each after a comma.
-const BEHIND: usize = 11;
+const AFTER_TIME: usize = 11;
 
 /// The row that bytes begin with.
 #[derive(Clone, Copy, Drop)]
@@ -38,18 +38,18 @@ pub fn plain_row(bytes: &[u8]) -> Option<PlainRow>
 {
     let time = leading_number(bytes);
     let rest = &bytes[time.len..];
-    if time.len == 0 || rest.len() < BEHIND || rest[0] != b',' || rest[2] != b',' {
+    if time.len == 0 || rest.len() < AFTER_TIME || rest[0] != b',' || rest[2] != b',' {
         return None;
     }
     let bus = bus_of(&rest[1..2])?;
-    let word = Word::parse_hex(&rest[3..BEHIND])?;
+    let word = Word::parse_hex(&rest[3..AFTER_TIME])?;
     Some(PlainRow {
         entry: Entry {
             time: time.number,
             bus,
             word,
         },
-        len: time.len + BEHIND,
+        len: time.len + AFTER_TIME,
     })
 }
 

@@ -25,7 +25,7 @@ impl Reading {
     ghost use Rattle.a429_record.specs.Lines.{pending, room_of};
     ghost use Rattle.a429_record.specs.Rows.{GivesNext, IfEntry, Follows, entries_in};
     ghost use Rattle.a429_record.specs.Stage.{may_go_on, stage_after, AnswersAt};
-    ghost use Rattle.a429_record.specs.Reading.{left_to_come, HandsEntry, FailsBehind, KeepsFormat};
+    ghost use Rattle.a429_record.specs.Reading.{left_to_come, HandsEntry, FailsAfterRows, KeepsFormat};
     ghost use Rattle.a429_record.specs.declared.fault.ReadFault.TheVariants as fault;
 
     /// A reading in which nothing was read yet, of at most this many entries.
@@ -48,7 +48,7 @@ impl Reading {
         ensures stage { self.new.stage ≡ stage_after result }
         ensures format { IfEntry result (λ _. KeepsFormat R.remaining self.old rec.old self.new) }
         ensures lines { IfEntry result (λ e. HandsEntry self.old self.new (pending R.remaining self.old.rows.lines rec.old self.new.rows.lines rec.new) e) }
-        ensures before { IsErrOf result fault.Device → FailsBehind R.remaining self.old rec.old rec.new }
+        ensures before { IsErrOf result fault.Device → FailsAfterRows R.remaining self.old rec.old rec.new }
         ensures follows { IfEntry result (λ e. Follows self.old.rows self.new.rows e) }
         ensures counts { self.new.rows.count ≡ self.old.rows.count + entries_in result }
         ensures room { IfEntry result (λ _. room_of self.new.rows.lines rec.new < room_of self.old.rows.lines rec.old) }

@@ -115,13 +115,13 @@ pub fn put_parts<W: Write>(sheet: &mut Sheet<'_, W>, entry: Entry, between: u8, 
 
 // A bus and a word, one byte before each and one after them.
 #[inline(always)]
-fn bus_and_word(bus: Bus, word: Word, before: u8, behind: u8) -> [u8; 12]
-    ensures { result ≡ before ∷ (bus_text bus ++ (before ∷ (hex_text word ++ behind ∷ []))) }
+fn bus_and_word(bus: Bus, word: Word, before: u8, following: u8) -> [u8; 12]
+    ensures { result ≡ before ∷ (bus_text bus ++ (before ∷ (hex_text word ++ following ∷ []))) }
 {
     let letter = bus.letter().as_bytes()[0];
     let hex = word.hex();
     [
         before, letter, before, hex[0], hex[1], hex[2], hex[3], hex[4], hex[5], hex[6], hex[7],
-        behind,
+        following,
     ]
 }

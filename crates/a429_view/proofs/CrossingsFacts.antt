@@ -38,7 +38,7 @@ use Rattle.a429_cert.specs.declared.act.Act.{Act}
 use Rattle.a429_cert.specs.declared.act.Act.TheVariants as act
 use Rattle.a429_cert.specs.Explained.{items_of, seen_of}
 use Rattle.a429_cert.specs.Version.{read_as}
-use Rattle.a429_cert.specs.Told.{Told, Loads, Makes, entry_numbered, told, told_steps, with_number}
+use Rattle.a429_cert.specs.Report.{Report, Loads, Makes, entry_numbered, report_of, reports_of_steps, with_number}
 use Rattle.a429_cert.proofs.ExplainedFacts.{in_every_run, lists_run}
 use Rattle.a429_view.specs.declared.mark.Mark.{Mark}
 use Rattle.a429_view.specs.declared.mark.Mark.TheVariants as mark
@@ -87,8 +87,8 @@ DueBy p source last due = DueAt p source.number source.current last due
 load_due : (p : Contents) (s : State) (u : LduValue) (o : Received) (fs : List FileBytes)
     → s.source.current ≡ None → Books p s o fs → DueAt p s.source.number (Some u) s.sink.last (file_ended p.codes s.source.number u)
 load_due p s u o fs n b =
-    let behind = subst (λ x. Stand p s.source.number s.source.give_ups x s.sink.last s.sink.received o fs) n b.crosses.stand in
-    let new = past_new s.sink.last s.source.number s.source.give_ups b.crosses.few behind.past in
+    let place_after = subst (λ x. Stand p s.source.number s.source.give_ups x s.sink.last s.sink.received o fs) n b.crosses.stand in
+    let new = past_new s.sink.last s.source.number s.source.give_ups b.crosses.few place_after.past in
     sym (ap (λ (t : Bool). cond t None (file_ended p.codes s.source.number u)) new)
 
 -- an answer that the source takes leaves its unit, or ends it
@@ -218,7 +218,7 @@ inside_span span es next i all e l =
     grind (arith, nat_tests, from, to, e, l)
 
 -- the place goes on, and the row of the step names the file that the step delivers
-record Goes (p : Contents) (span : Span) (a : Step) (s : State) (i : ℕ) (at : Place) (t : Told) : Type 0 where
+record Goes (p : Contents) (span : Span) (a : Step) (s : State) (i : ℕ) (at : Place) (t : Report) : Type 0 where
   next : (past p.codes at t).next ≡ i + length (trace (a ∷ []))
   due : DueBy p (after p a s).source (after p a s).sink.last (past p.codes at t).due
   gives : numbers (after p a s).sink.received.files ≡ numbers s.sink.received.files ++ crossings (shown p.codes span at t)
@@ -250,7 +250,7 @@ seen_goes p es span a s item i at x n z h none d f =
 
 answered_goes : (p : Contents) (es : List Entry) (span : Span) (s : State) (item : Seen) (i : ℕ) (at : Place) (o : Received) (fs : List FileBytes)
     → HasAll span es → Can p (Answered item) s → Books p s o fs → at.next ≡ i → NextEntry es i item → DueBy p s.source s.sink.last at.due
-    → Goes p span (Answered item) s i at (told es s i (Answered item))
+    → Goes p span (Answered item) s i at (report_of es s i (Answered item))
 answered_goes p es span s item i at o fs all can b n h d =
     let x = form_of p.codes bus.B item.word in
     let a = answers_so p s.source b.holds.xs b.holds.ys s.sink at.due x can.1 b.holds.fits d in
@@ -269,7 +269,7 @@ answered_goes p es span s item i at o fs all can b n h d =
     })
 
 step_goes : (p : Contents) (es : List Entry) (span : Span) (a : Step) (s : State) (i : ℕ) (at : Place) (o : Received) (fs : List FileBytes)
-    → HasAll span es → Can p a s → Books p s o fs → at.next ≡ i → IsNext es i (label a) → DueBy p s.source s.sink.last at.due → Goes p span a s i at (told es s i a)
+    → HasAll span es → Can p a s → Books p s o fs → at.next ≡ i → IsNext es i (label a) → DueBy p s.source s.sink.last at.due → Goes p span a s i at (report_of es s i a)
 step_goes p es span (Load u) s i at o fs all can b n h d =
     record { next = omega (arith, n); due = load_due p s u o fs can.1 b; gives = no_number s.sink.received.files (shown p.codes span at (Loads s.source.number u)) (load_says (is_within span at.next) s.source.number) }
 step_goes p es span (Sent item) s i at o fs all can b n h d = seen_goes p es span (Sent item) s item i at act.Sent n refl h (λ e. refl) d refl
@@ -294,18 +294,18 @@ label_push (Some i) items = refl
 run_goes : (p : Contents) → IsRead p → (es : List Entry) (span : Span) → HasAll span es
     → (steps : List Step) (s : State) (o : Received) (fs : List FileBytes) (before later : List Seen) (at : Place) (i : ℕ)
     → i ≡ length before → IsRun p steps s → Books p s o fs → items_of es ≡ before ++ (trace steps ++ later) → at.next ≡ i → DueBy p s.source s.sink.last at.due
-    → numbers (end_of p steps s).sink.received.files ≡ numbers s.sink.received.files ++ crossings (marks p.codes span at (told_steps p es steps s i))
+    → numbers (end_of p steps s).sink.received.files ≡ numbers s.sink.received.files ++ crossings (marks p.codes span at (reports_of_steps p es steps s i))
 run_goes p good es span all [] s o fs before later at i z h b e n d = sym (append-nil (numbers s.sink.received.files))
 run_goes p good es span all (a ∷ steps) s o fs before later at i z h b e n d =
     let one = trace (a ∷ []) in
-    let t = told es s i a in
+    let t = report_of es s i a in
     let files = numbers s.sink.received.files in
     let g = step_goes p es span a s i at o fs all h.0 b n (subst (λ (k : ℕ). IsNext es k (label a)) (sym z) (next_is es before (label a) (trace steps) later e)) d in
     let books : Books p (after p a s) (offers p a s o) (settles p a s o fs) = record { holds = step_holds p good a s h.0 b.holds; crosses = step_crosses p good a s o fs h.0 b.holds b.crosses } in
     let on : items_of es ≡ (before ++ one) ++ (trace steps ++ later) =
     e ∙ ap (λ (l : List Seen). before ++ (l ++ later)) (label_push (label a) (trace steps)) ∙ ap (λ (l : List Seen). before ++ l) (append_assoc one (trace steps) later) ∙ sym (append_assoc before one (trace steps ++ later)) in
     let place : i + length one ≡ length (before ++ one) = omega (arith, z, length-append before one) in
-    let rows = marks p.codes span (past p.codes at t) (told_steps p es steps (after p a s) (i + length one)) in
+    let rows = marks p.codes span (past p.codes at t) (reports_of_steps p es steps (after p a s) (i + length one)) in
     run_goes p good es span all steps (after p a s) (offers p a s o) (settles p a s o fs) (before ++ one) later (past p.codes at t) (i + length one) place h.1 books on g.next g.due
     ∙ ap (λ (l : List ℕ). l ++ crossings rows) g.gives
     ∙ append_assoc files (crossings (shown p.codes span at t)) (crossings rows)

@@ -8,7 +8,7 @@ use Rattle.a429_link.specs.declared.step.Step.{Step}
 use Rattle.a429_link.specs.Run.{RunOf, trace, delivered_by}
 use Rattle.a429_record.specs.declared.entry.Entry.{Entry}
 use Rattle.a429_cert.specs.Explained.{items_of, Explains, IsExplained}
-use Rattle.a429_cert.specs.Told.{told_run}
+use Rattle.a429_cert.specs.Report.{reports_of_run}
 use Rattle.a429_view.specs.declared.mark.Span.{Span}
 use Rattle.a429_view.specs.declared.mark.Mark.{Mark}
 use Rattle.a429_view.specs.declared.mark.Mark.TheVariants as mark
@@ -50,10 +50,10 @@ HasAll span entries = (span.from ≡ 0) × (length entries ≤ span.to + 1)
 
 -- the rows of a picture of these runs
 abbrev pub rows_over : {p : Contents} {entries : List Entry} → Span → RunOver p entries → List Mark
-rows_over {p} {entries} span r = marks p.codes span before_all (told_run p entries r.run.first r.run.steps)
+rows_over {p} {entries} span r = marks p.codes span before_all (reports_of_run p entries r.run.first r.run.steps)
 
 abbrev pub rows_explained : {p : Contents} {entries : List Entry} → Span → ExplainedRun p entries → List Mark
-rows_explained {p} {entries} span e = marks p.codes span before_all (told_run p entries e.first e.steps)
+rows_explained {p} {entries} span e = marks p.codes span before_all (reports_of_run p entries e.first e.steps)
 
 -- the files that a run delivers
 abbrev pub delivered_over : {p : Contents} {entries : List Entry} → RunOver p entries → List FileBytes

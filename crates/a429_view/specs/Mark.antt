@@ -7,7 +7,7 @@ use Rattle.a429_link.specs.declared.number.UnitNumber.{UnitNumber}
 use Rattle.a429_record.specs.declared.entry.Entry.{Entry}
 use Rattle.a429_cert.specs.declared.act.Act.{Act}
 use Rattle.a429_cert.specs.declared.act.Act.TheVariants as act
-use Rattle.a429_cert.specs.Told.{Told, Loads, Makes}
+use Rattle.a429_cert.specs.Report.{Report, Loads, Makes}
 use Rattle.a429_view.specs.declared.mark.Span.{Span}
 use Rattle.a429_view.specs.declared.mark.Mark.{Mark}
 use Rattle.a429_view.specs.declared.mark.Mark.TheVariants as mark
@@ -36,7 +36,7 @@ still_due acknowledged due = if acknowledged then None else due
 abbrev pub before_all : Place
 before_all = record { next = 0; due = None }
 
-abbrev pub past : Codes → Place → Told → Place
+abbrev pub past : Codes → Place → Report → Place
 past c at (Loads number unit) = record at { due = file_ended c number unit }
 past c at (Makes a None) = at
 past c at (Makes a (Some e)) = record { next = e.0 + 1; due = still_due (acknowledges c a e.1) at.due }
@@ -49,7 +49,7 @@ unseen act.SinkTakes = None
 unseen act.TakeAnswer = None
 unseen a = Some (mark.Unseen a)
 
-abbrev pub mark_of : Codes → Place → Told → Option Mark
+abbrev pub mark_of : Codes → Place → Report → Option Mark
 mark_of c at (Loads number unit) = Some (mark.Load number)
 mark_of c at (Makes a None) = unseen a
 mark_of c at (Makes a (Some e)) = Some (mark.Seen (record { act = a; number = e.0; entry = e.1; crosses = crossing (acknowledges c a e.1) at.due }))
@@ -63,11 +63,11 @@ listed None = []
 listed (Some m) = m ∷ []
 
 -- the rows of one step
-abbrev pub shown : Codes → Span → Place → Told → List Mark
+abbrev pub shown : Codes → Span → Place → Report → List Mark
 shown c span at t = if is_within span at.next then listed (mark_of c at t) else []
 
 -- the rows of steps, in their order
-abbrev pub marks : Codes → Span → Place → List Told → List Mark
+abbrev pub marks : Codes → Span → Place → List Report → List Mark
 marks c span at [] = []
 marks c span at (t ∷ more) = shown c span at t ++ marks c span (past c at t) more
 
@@ -77,6 +77,6 @@ abbrev pub step_within : Span → Place → ℕ
 step_within span at = if is_within span at.next then 1 else 0
 
 -- how many steps of the span there are, shown or not
-abbrev pub steps_within : Codes → Span → Place → List Told → ℕ
+abbrev pub steps_within : Codes → Span → Place → List Report → ℕ
 steps_within c span at [] = 0
 steps_within c span at (t ∷ more) = step_within span at + steps_within c span (past c at t) more

@@ -7,7 +7,7 @@ use Rattle.a429_profile.specs.declared.codes.Codes.{Codes}
 use Rattle.a429_link.specs.declared.number.UnitNumber.{UnitNumber}
 use Rattle.a429_cert.specs.declared.act.Act.{Act}
 use Rattle.a429_cert.specs.declared.act.Act.TheVariants as act
-use Rattle.a429_cert.specs.Told.{Told}
+use Rattle.a429_cert.specs.Report.{Report}
 use Rattle.a429_view.specs.declared.mark.Span.{Span}
 use Rattle.a429_view.specs.declared.mark.Recorded.{Recorded}
 use Rattle.a429_view.specs.declared.mark.Mark.{Mark}
@@ -109,5 +109,5 @@ abbrev pub svg_text : Codes → List Mark → List ℕ
 svg_text c rows = head_text (30 * length rows + 90) ++ rows_text c 0 rows ++ codes "</svg>\n"
 
 -- of the steps of a span
-abbrev pub picture_text : Codes → Span → List Told → List ℕ
-picture_text c span told = svg_text c (marks c span before_all told)
+abbrev pub picture_text : Codes → Span → List Report → List ℕ
+picture_text c span reports = svg_text c (marks c span before_all reports)

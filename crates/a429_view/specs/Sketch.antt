@@ -2,7 +2,7 @@
 use Rattle.std.specs.Prelude.{◌≡◌, ◌+◌, ◌≤◌, ◌<◌, ◌++◌, ℕ, List, [], if◌then◌else◌, Option}
 use Rattle.a429_profile.specs.declared.codes.Codes.{Codes}
 use Rattle.a429_profile.specs.Profile.{Contents}
-use Rattle.a429_cert.specs.Told.{Told}
+use Rattle.a429_cert.specs.Report.{Report}
 use Rattle.a429_view.specs.declared.mark.Span.{Span}
 use Rattle.a429_view.specs.declared.mark.Mark.{Mark}
 use Rattle.a429_view.specs.declared.sketch.Place.{Place}
@@ -22,7 +22,7 @@ pub record Notes (old : Sketch) (row : Option Mark) (next : Place) (new : Sketch
   pub full : most_steps < old.steps → most_steps < new.steps
 
 -- a step is reported
-abbrev pub Hears : Contents → Sketch → Told → Sketch → Type 0
+abbrev pub Hears : Contents → Sketch → Report → Sketch → Type 0
 Hears p old t new = Notes old (mark_of p.codes old.at t) (past p.codes old.at t) new
 
 -- nothing was reported yet
@@ -33,6 +33,6 @@ pub record IsBlank (of : Span) (s : Sketch) : Type 0 where
   pub rows : s.rows.items ≡ []
 
 -- the rows of a span of these steps, unless there are too many of them
-pub record IsOf (c : Codes) (span : Span) (told : List Told) (s : Sketch) : Type 0 where
-  pub few : s.steps ≤ most_steps → (s.rows.items ≡ marks c span before_all told) × (steps_within c span before_all told ≤ most_steps)
-  pub many : most_steps < s.steps → most_steps < steps_within c span before_all told
+pub record IsOf (c : Codes) (span : Span) (reports : List Report) (s : Sketch) : Type 0 where
+  pub few : s.steps ≤ most_steps → (s.rows.items ≡ marks c span before_all reports) × (steps_within c span before_all reports ≤ most_steps)
+  pub many : most_steps < s.steps → most_steps < steps_within c span before_all reports

@@ -7,7 +7,7 @@ use Rattle.a429_profile.specs.declared.codes.Codes.{Codes}
 use Rattle.a429_profile.specs.Profile.{Contents}
 use Rattle.a429_ldu.specs.Ldu.{LduValue}
 use Rattle.a429_link.specs.declared.number.UnitNumber.{UnitNumber}
-use Rattle.a429_cert.specs.Told.{Told, Loads, Makes}
+use Rattle.a429_cert.specs.Report.{Report, Loads, Makes}
 use Rattle.a429_view.specs.declared.units.counts.UnitCounts.{UnitCounts}
 use Rattle.a429_view.specs.declared.units.span.Moment.{Moment}
 use Rattle.a429_view.specs.declared.units.span.UnitSpan.{UnitSpan}
@@ -25,7 +25,7 @@ abbrev pub either : Option Moment → Option Moment → Option Moment
 either None m = m
 either (Some a) m = Some a
 
-abbrev pub recounted : Codes → Told → UnitCounts → UnitCounts
+abbrev pub recounted : Codes → Report → UnitCounts → UnitCounts
 recounted c t n = record {
   requests = more (is_request c t) n.requests;
   lost = more (is_lost t) n.lost;
@@ -35,7 +35,7 @@ recounted c t n = record {
   timeouts = more (is_time_out t) n.timeouts;
 }
 
-abbrev pub spanned : Codes → Told → UnitSpan → UnitSpan
+abbrev pub spanned : Codes → Report → UnitSpan → UnitSpan
 spanned c t s = record { first = either s.first (moment_of t); last = either (moment_of t) s.last; crossed = s.crossed || is_ack c t }
 
 -- the row of a unit of which nothing is reported yet
@@ -49,7 +49,7 @@ abbrev pub begun : Codes → UnitNumber → LduValue → UnitRow
 begun c number u = record { number = number; size = size_of c u; counts = no_counts; span = no_span }
 
 -- a row after one more step
-abbrev pub with_step : Codes → Told → UnitRow → UnitRow
+abbrev pub with_step : Codes → Report → UnitRow → UnitRow
 with_step c t r = record { number = r.number; size = r.size; counts = recounted c t r.counts; span = spanned c t r.span }
 
 -- what goes out before the next row is begun: the row of the last unit, and before the first the names of the columns
@@ -58,7 +58,7 @@ line_before None = columns_text
 line_before (Some r) = unit_line r
 
 -- rows to which something is reported: a load puts the row of the unit before, a step changes the row of the unit that was loaded last
-abbrev pub HearsRows : {W : Type 0} → (W → Option (List ℕ)) → Contents → UnitRows W → Told → UnitRows W → Type 0
+abbrev pub HearsRows : {W : Type 0} → (W → Option (List ℕ)) → Contents → UnitRows W → Report → UnitRows W → Type 0
 HearsRows contents p old (Loads number unit) new = PutsOn contents old.out old.page new.out new.page (line_before old.row) × (new.row ≡ Some (begun p.codes number unit))
 HearsRows contents p old (Makes act entry) new = new ≡ record old { row = option_map (with_step p.codes (Makes act entry)) old.row }
 

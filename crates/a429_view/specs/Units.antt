@@ -10,7 +10,7 @@ use Rattle.a429_ldu.specs.Ldu.{LduValue, count_of, bytes_of, is_final}
 use Rattle.a429_link.specs.declared.number.UnitNumber.{UnitNumber}
 use Rattle.a429_record.specs.declared.entry.Entry.{Entry}
 use Rattle.a429_cert.specs.declared.act.Act.TheVariants as act
-use Rattle.a429_cert.specs.Told.{Told, Loads, Makes}
+use Rattle.a429_cert.specs.Report.{Report, Loads, Makes}
 use Rattle.a429_view.specs.declared.units.size.UnitSize.{UnitSize}
 use Rattle.a429_view.specs.declared.units.counts.UnitCounts.{UnitCounts}
 use Rattle.a429_view.specs.declared.units.span.Moment.{Moment}
@@ -23,19 +23,19 @@ use Rattle.a429_view.specs.declared.units.row.UnitRow.{UnitRow}
 pub record LoadedUnit : Type 0 where
   pub number : UnitNumber
   pub unit : LduValue
-  pub steps : List Told
+  pub steps : List Report
 
 -- what is reported before the next load
-abbrev pub before_load : List Told → List Told
+abbrev pub before_load : List Report → List Report
 before_load [] = []
-before_load (Loads number unit ∷ told) = []
-before_load (Makes act entry ∷ told) = Makes act entry ∷ before_load told
+before_load (Loads number unit ∷ reports) = []
+before_load (Makes act entry ∷ reports) = Makes act entry ∷ before_load reports
 
 -- what is reported of a run, cut at each load: steps before the first belong to no unit
-abbrev pub loaded_units : List Told → List LoadedUnit
+abbrev pub loaded_units : List Report → List LoadedUnit
 loaded_units [] = []
-loaded_units (Loads number unit ∷ told) = record { number = number; unit = unit; steps = before_load told } ∷ loaded_units told
-loaded_units (Makes act entry ∷ told) = loaded_units told
+loaded_units (Loads number unit ∷ reports) = record { number = number; unit = unit; steps = before_load reports } ∷ loaded_units reports
+loaded_units (Makes act entry ∷ reports) = loaded_units reports
 
 -- of units in their order those that have ended: all but the last
 abbrev pub ended_units : List LoadedUnit → List LoadedUnit
@@ -63,37 +63,37 @@ is_ack_form (Some (Ack file ldu)) = true
 is_ack_form _ = false
 
 -- a request is recorded
-abbrev pub is_request : Codes → Told → Bool
+abbrev pub is_request : Codes → Report → Bool
 is_request c (Makes act.Sent entry) = is_rts (form_at c entry)
 is_request c _ = false
 
 -- a word is lost before the recorder
-abbrev pub is_lost : Told → Bool
+abbrev pub is_lost : Report → Bool
 is_lost (Makes act.SentLost entry) = true
 is_lost _ = false
 
 -- an answer is left out
-abbrev pub is_unanswered : Told → Bool
+abbrev pub is_unanswered : Report → Bool
 is_unanswered (Makes act.Silent entry) = true
 is_unanswered _ = false
 
 -- an answer is lost after the recorder
-abbrev pub is_unheard : Told → Bool
+abbrev pub is_unheard : Report → Bool
 is_unheard (Makes act.LoseAnswer entry) = true
 is_unheard _ = false
 
 -- the source waits no longer
-abbrev pub is_time_out : Told → Bool
+abbrev pub is_time_out : Report → Bool
 is_time_out (Makes act.TimeOut entry) = true
 is_time_out _ = false
 
 -- a negative answer is recorded
-abbrev pub is_nak : Codes → Told → Bool
+abbrev pub is_nak : Codes → Report → Bool
 is_nak c (Makes act.Answered entry) = is_nak_form (form_at c entry)
 is_nak c _ = false
 
 -- an acknowledgement is recorded
-abbrev pub is_ack : Codes → Told → Bool
+abbrev pub is_ack : Codes → Report → Bool
 is_ack c (Makes act.Answered entry) = is_ack_form (form_at c entry)
 is_ack c _ = false
 
@@ -102,7 +102,7 @@ abbrev pub moment_at : ℕ × Entry → Moment
 moment_at x = record { entry = x.0; time = x.1.time }
 
 -- that of a recorded word of the transfer: a free word is none
-abbrev pub moment_of : Told → Option Moment
+abbrev pub moment_of : Report → Option Moment
 moment_of (Makes act.Sent entry) = option_map moment_at entry
 moment_of (Makes act.Answered entry) = option_map moment_at entry
 moment_of _ = None
@@ -114,7 +114,7 @@ abbrev pub size_of : Codes → LduValue → UnitSize
 size_of c u = record { words = count_of u; bytes = length (bytes_of c u); is_final = is_final c u.flags }
 
 -- how many of the steps are so
-abbrev pub counts_of : Codes → List Told → UnitCounts
+abbrev pub counts_of : Codes → List Report → UnitCounts
 counts_of c steps = record {
   requests = count_by (is_request c) steps;
   lost = count_by is_lost steps;
@@ -125,7 +125,7 @@ counts_of c steps = record {
 }
 
 -- the first and the last recorded word, and whether an acknowledgement is among them
-abbrev pub span_of : Codes → List Told → UnitSpan
+abbrev pub span_of : Codes → List Report → UnitSpan
 span_of c steps = record {
   first = slice_get (filter_map moment_of steps) 0;
   last = last_or None (filter_map moment_of steps);
@@ -170,8 +170,8 @@ abbrev pub columns_text : List ℕ
 columns_text = codes "file,ldu,words,bytes,final,requests,lost,unanswered,unheard,naks,timeouts,first_entry,last_entry,first_time,last_time,crossed\n"
 
 -- the rows of the units of a run
-abbrev pub units_text : Codes → List Told → List ℕ
-units_text c told = columns_text ++ flat_map (λ u. unit_line (row_of c u)) (loaded_units told)
+abbrev pub units_text : Codes → List Report → List ℕ
+units_text c reports = columns_text ++ flat_map (λ u. unit_line (row_of c u)) (loaded_units reports)
 
 -- before the first load nothing; then the names of the columns, and the rows of the units that have ended
 abbrev pub ended_unit_lines : Codes → List LoadedUnit → List ℕ
@@ -179,5 +179,5 @@ ended_unit_lines c [] = []
 ended_unit_lines c (u ∷ units) = columns_text ++ flat_map (λ v. unit_line (row_of c v)) (ended_units (u ∷ units))
 
 -- what is written of steps after which the unit that was loaded last may go on
-abbrev pub ended_text : Codes → List Told → List ℕ
-ended_text c told = ended_unit_lines c (loaded_units told)
+abbrev pub ended_text : Codes → List Report → List ℕ
+ended_text c reports = ended_unit_lines c (loaded_units reports)

@@ -39,7 +39,7 @@ pub struct Sketch {
 
 impl Sketch {
     ghost use Rattle.std.specs.Prelude.{◌≡◌, ◌↔◌, ◌<◌, ◌≤◌, IfErr, IsTrue, OnOk};
-    ghost use Rattle.a429_cert.specs.Told.{Makes};
+    ghost use Rattle.a429_cert.specs.Report.{Makes};
     ghost use Rattle.a429_view.specs.Sketch.{most_steps, Hears, IsBlank, Notes};
 
     /// One on which nothing is noted.
@@ -82,7 +82,7 @@ impl Sketch {
         let due = self.at.due;
         let acknowledged = acknowledges(profile, act, &entry);
         let row = seen(act, number, entry, crossing(acknowledged, due));
-        let next = behind(number, still_due(acknowledged, due));
+        let next = place_after(number, still_due(acknowledged, due));
         self.note(row, next)
     }
 
@@ -156,7 +156,7 @@ fn file_ended(profile: &Profile, number: UnitNumber, unit: &Ldu) -> Option<u8>
 }
 
 // Where the steps are after the one that records this entry.
-fn behind(number: usize, due: Option<u8>) -> Place
+fn place_after(number: usize, due: Option<u8>) -> Place
     ensures { result ≡ record { next = number + 1; due = due } }
 {
     Place {

@@ -11,7 +11,7 @@ ghost use Rattle.a429_cert.specs.Stream.{sizes};
 ghost use Rattle.a429_cert.specs.BreakOff.{readers, shelved};
 ghost use Rattle.a429_check.specs.Extract.{progress, Leaves};
 ghost use Rattle.a429_check.specs.Verdict.{count_line, file_line, line_of_file, yes_text, fault_text, no_text, text_of_answer, status_of_answer, of_stream, input, AllWork, AnyFailed, HearsJudged, IsJudged, IsVerifyFault};
-ghost use Rattle.a429_cert.specs.Told.{listening};
+ghost use Rattle.a429_cert.specs.Report.{listening};
 
 use crate::engines::profile::profile_of;
 use crate::fault::RunFault;

@@ -2,7 +2,7 @@
 
 ghost use Rattle.std.specs.Prelude.{◌≡◌, OnOk};
 ghost use Rattle.a429_ldu.specs.Form.{form_of};
-ghost use Rattle.a429_cert.specs.Told.{Makes};
+ghost use Rattle.a429_cert.specs.Report.{Makes};
 ghost use Rattle.a429_view.specs.Units.{form_at, is_rts, is_nak_form};
 ghost use Rattle.a429_view.specs.UnitSteps.{more, recounted, no_counts};
 

@@ -1,7 +1,7 @@
 //! The row of a link data unit.
 
 ghost use Rattle.std.specs.Prelude.{◌≡◌, OnOk};
-ghost use Rattle.a429_cert.specs.Told.{Makes};
+ghost use Rattle.a429_cert.specs.Report.{Makes};
 ghost use Rattle.a429_view.specs.UnitSteps.{begun, with_step};
 
 use crate::units::counts::UnitCounts;

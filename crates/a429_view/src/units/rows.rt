@@ -3,7 +3,7 @@
 ghost use Rattle.std.specs.Prelude.{◌≡◌, ◌↔◌, [], None, true, false, IsErr, IsErrOf, IfOk, OnOk};
 ghost use Rattle.a429_word.specs.Tally.{has_failed};
 ghost use Rattle.a429_word.specs.Page.{PutsOn};
-ghost use Rattle.a429_cert.specs.Told.{Makes};
+ghost use Rattle.a429_cert.specs.Report.{Makes};
 ghost use Rattle.a429_view.specs.UnitSteps.{line_before, PutsAll};
 
 use crate::units::row::UnitRow;
@@ -86,7 +86,7 @@ impl<W> Failing for UnitRows<W> {
 impl<W: Write> Listener for UnitRows<W> {
     ghost use Rattle.a429_view.specs.UnitSteps.{HearsRows};
 
-    ghost hears = { λ p old told new. HearsRows W.contents p old told new };
+    ghost hears = { λ p old reports new. HearsRows W.contents p old reports new };
 
     fn load(&mut self, profile: &Profile, number: UnitNumber, unit: &Ldu) -> Result<(), Trouble> {
         if self.put_last().is_err() {

@@ -1,7 +1,7 @@
 //! Which entries of a recording are those of a link data unit.
 
 ghost use Rattle.std.specs.Prelude.{◌≡◌, option_map};
-ghost use Rattle.a429_cert.specs.Told.{Makes};
+ghost use Rattle.a429_cert.specs.Report.{Makes};
 ghost use Rattle.a429_view.specs.Units.{is_ack, is_ack_form, moment_of, moment_at};
 ghost use Rattle.a429_view.specs.UnitSteps.{spanned};
 

@@ -2,7 +2,7 @@ use Rattle.std.proofs.Common.{◌≡◌, ℕ, sym, subst}
 use Rattle.a429_cert.specs.Explained.{seen_of}
 use Rattle.a429_cert.specs.Likely.{sent_text}
 use Rattle.a429_cert.specs.Stream.{GivesAtFault, RefusesOver}
-use Rattle.a429_cert.specs.Told.{position}
+use Rattle.a429_cert.specs.Report.{position}
 use Rattle.a429_cert.specs.Version.{read_as}
 use Rattle.a429_cert.specs.declared.stream_fault.StreamFault.TheVariants as stream
 use Rattle.a429_cert.specs.declared.fault.CertFault.TheVariants as of

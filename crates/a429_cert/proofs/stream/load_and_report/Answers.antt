@@ -1,5 +1,5 @@
 use Rattle.std.proofs.Common.{rules}
-use Rattle.a429_cert.proofs.ToldFacts.{not_loaded}
+use Rattle.a429_cert.proofs.ReportFacts.{not_loaded}
 use Rattle.a429_cert.proofs.stream.load_and_report.Goals as goal
 
 pub returns-then-not-may_load-clause-refused : goal.returns-then-not-may_load-clause-refused
@@ -9,5 +9,5 @@ returns-then-not-may_load-clause-refused g c = λ next.
 pub returns-clause-heard : goal.returns-clause-heard
 returns-clause-heard g c = search rules
 
-pub returns-then-not-may_load-clause-untold : goal.returns-then-not-may_load-clause-untold
-returns-then-not-may_load-clause-untold g c = search rules
+pub returns-then-not-may_load-clause-unreported : goal.returns-then-not-may_load-clause-unreported
+returns-then-not-may_load-clause-unreported g c = search rules

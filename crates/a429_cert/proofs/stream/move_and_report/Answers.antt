@@ -1,5 +1,5 @@
 use Rattle.std.proofs.Common.{rules}
 use Rattle.a429_cert.proofs.stream.move_and_report.Goals as goal
 
-pub returns-in-Ok-make-clause-untold : goal.returns-in-Ok-make-clause-untold
-returns-in-Ok-make-clause-untold g c = search rules
+pub returns-in-Ok-make-clause-unreported : goal.returns-in-Ok-make-clause-unreported
+returns-in-Ok-make-clause-unreported g c = search rules

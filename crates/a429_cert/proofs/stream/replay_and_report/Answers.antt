@@ -5,9 +5,9 @@ use Rattle.a429_cert.specs.Version.{read_as}
 use Rattle.a429_cert.specs.Passing.{uses_listed}
 use Rattle.a429_cert.specs.Stream.{RefusesNext, RefusesOver, GivesAtFault, WantsEntry}
 use Rattle.a429_cert.proofs.StreamFacts.{refused_text, refused_first, cert_given, line_given}
-use Rattle.a429_cert.proofs.ToldFacts.{hears_text}
+use Rattle.a429_cert.proofs.ReportFacts.{hears_text}
 use Rattle.a429_cert.proofs.stream.replay_and_report.Goals as goal
-use Rattle.a429_cert.specs.Told.{position}
+use Rattle.a429_cert.specs.Report.{position}
 
 pub returns-in-Ok-clause-refused : goal.returns-in-Ok-clause-refused
 returns-in-Ok-clause-refused g c =

@@ -1,19 +1,19 @@
 use Rattle.std.proofs.Common.{◌≡◌, ℕ, List, [], true, length, ap, refl, arith}
 use Rattle.a429_cert.specs.StreamNext.{progress, unread_of}
-use Rattle.a429_cert.proofs.StreamNextFacts.{ended_walks, stop_place, stop_refuses, stop_untold, walks_some}
-use Rattle.a429_cert.proofs.StreamRefused.{told_head}
+use Rattle.a429_cert.proofs.StreamNextFacts.{ended_walks, stop_place, stop_refuses, stop_unreported, walks_some}
+use Rattle.a429_cert.proofs.StreamRefused.{head_both_known}
 use Rattle.a429_link.specs.State.{State, start}
 use Rattle.a429_link.specs.Link.{LinkValue}
 use Rattle.a429_cert.specs.LineReader.{bytes_ahead, to_come}
 use Rattle.a429_cert.proofs.StreamFacts.{gains_none}
 use Rattle.a429_word.specs.Tally.{has_failed, unread}
 use Rattle.a429_cert.proofs.BreakOffFacts.{head_breaks, late_breaks}
-use Rattle.a429_cert.proofs.StreamReplay.{told_init, told_yes, fresh}
-use Rattle.a429_cert.proofs.ToldFacts.{hears_init, hears_all}
-use Rattle.a429_cert.proofs.ToldRefused.{heard_head}
+use Rattle.a429_cert.proofs.StreamReplay.{init_both_known, yes_both_known, fresh}
+use Rattle.a429_cert.proofs.ReportFacts.{hears_init, hears_all}
+use Rattle.a429_cert.proofs.ReportsOfRefused.{heard_head}
 use Rattle.a429_cert.specs.declared.stream_fault.StreamFault.TheVariants as stream
 use Rattle.a429_cert.proofs.LikelyFacts.{nothing_read}
-use Rattle.a429_cert.proofs.StreamEndFacts.{told_late, heard_late}
+use Rattle.a429_cert.proofs.StreamEndFacts.{late_both_known, heard_late}
 use Rattle.a429_cert.proofs.stream.replay_stream.Goals as goal
 
 pub lines-init : goal.lines-init
@@ -30,8 +30,8 @@ lines-init g c =
         k = 0;
         taken = [];
         number = lines;
-        told = rw used
-            (told_init c.args.profile.now c.in-Ok-begin.head c.start-replay.result.link.state known old (to_come g.C.Read.remaining c.begin.new.lines c.begin.new.cert) c.args.rec.now.to_come
+        reports = rw used
+            (init_both_known c.args.profile.now c.in-Ok-begin.head c.start-replay.result.link.state known old (to_come g.C.Read.remaining c.begin.new.lines c.begin.new.cert) c.args.rec.now.to_come
             (fresh (bytes_ahead c.new-lines.result) known c.new-lines.ensures) c.in-Ok-begin.ensures.ok state);
         heard = rw used (hears_init g.T.Listener.hears c.args.profile.now c.in-Ok-begin.head c.start-replay.result.link.state c.args.listener.now known c.args.rec.now.to_come state);
         none_left = ap (λ (t : State). t.sink.received.files) state;
@@ -51,7 +51,7 @@ returns-in-Err-clause-err g c =
     let known = unread g.C.Read.remaining c.args.cert.now in
     record {
       files = [];
-      fault = told_head c.args.profile.now known known c.args.rec.now.to_come stream.OutOfMemory refl tt;
+      fault = head_both_known c.args.profile.now known known c.args.rec.now.to_come stream.OutOfMemory refl tt;
       put = gains_none (g.S.Shelf.files c.args.shelf.now) 1;
     }
 
@@ -76,7 +76,7 @@ returns-in-Err-begin-clause-err g c =
     let old = to_come g.C.Read.remaining c.new-lines.result c.args.cert.now in
     record {
       files = [];
-      fault = told_head c.args.profile.now known old c.args.rec.now.to_come c.in-Err-begin.fault (fresh (bytes_ahead c.new-lines.result) known c.new-lines.ensures) c.in-Err-begin.ensures.err;
+      fault = head_both_known c.args.profile.now known old c.args.rec.now.to_come c.in-Err-begin.fault (fresh (bytes_ahead c.new-lines.result) known c.new-lines.ensures) c.in-Err-begin.ensures.err;
       put = gains_none (g.S.Shelf.files c.args.shelf.now) 1;
     }
 
@@ -112,7 +112,7 @@ pub returns-in-Err-take_next-clause-told : goal.returns-in-Err-take_next-clause-
 returns-in-Err-take_next-clause-told g c =
     let v = c.lines.invariant in
     let known = unread g.C.Read.remaining c.args.cert.now in
-    stop_untold g.S.Shelf.files g.T.Listener.hears g.S.Failing.failed g.T.Failing.failed c.args.profile.now (record { known = known; recording = c.args.rec.now; shelf = c.args.shelf.now; listener = c.args.listener.now }) v.head (unread_of (unread g.C.Read.remaining c.take_next.new.cert) (has_failed c.take_next.new.cert))
+    stop_unreported g.S.Shelf.files g.T.Listener.hears g.S.Failing.failed g.T.Failing.failed c.args.profile.now (record { known = known; recording = c.args.rec.now; shelf = c.args.shelf.now; listener = c.args.listener.now }) v.head (unread_of (unread g.C.Read.remaining c.take_next.new.cert) (has_failed c.take_next.new.cert))
     (progress c.lines.replay (to_come g.C.Read.remaining c.lines.lines c.lines.cert) c.lines.rec c.lines.shelf c.lines.listener) (progress c.take_next.new.replay (to_come g.C.Read.remaining c.take_next.new.lines c.take_next.new.cert) c.take_next.new.rec c.take_next.new.shelf c.take_next.new.listener) c.in-Err-take_next.fault v.walks c.in-Err-take_next.ensures.stopped
 
 pub returns-in-Err-take_next-clause-place : goal.returns-in-Err-take_next-clause-place
@@ -144,7 +144,7 @@ returns-in-Ok-none_left-clause-ok g c =
     let v = ended_walks g.S.Shelf.files g.T.Listener.hears c.args.profile.now (record { known = known; recording = c.args.rec.now; shelf = c.args.shelf.now; listener = c.args.listener.now }) h.head (progress c.lines.replay (to_come g.C.Read.remaining c.lines.lines c.lines.cert) c.lines.rec c.lines.shelf c.lines.listener) (progress c.take_next.new.replay (to_come g.C.Read.remaining c.take_next.new.lines c.take_next.new.cert) c.take_next.new.rec c.take_next.new.shelf c.take_next.new.listener) h.walks none in
     record {
       files = v.taken;
-      yes = told_yes c.args.profile.now h.head v.k c.take_next.new.replay.used v.taken c.take_next.new.replay.link.state none.line left more known c.args.rec.now.to_come c.take_next.new.rec.to_come c.none_left.new.rec.to_come c.start-replay.ensures.sound v.none_left none.given c.in-Ok-none_left.ensures.ok v.told;
+      yes = yes_both_known c.args.profile.now h.head v.k c.take_next.new.replay.used v.taken c.take_next.new.replay.link.state none.line left more known c.args.rec.now.to_come c.take_next.new.rec.to_come c.none_left.new.rec.to_come c.start-replay.ensures.sound v.none_left none.given c.in-Ok-none_left.ensures.ok v.reports;
       put = v.put;
       answered = v.noted;
     }
@@ -157,7 +157,7 @@ returns-in-Ok-none_left-clause-heard g c =
     let more = to_come g.C.Read.remaining c.take_next.new.lines c.take_next.new.cert in
     let none = c.in-Ok-take_next.ensures.ended c.if-not-found.true in
     let v = ended_walks g.S.Shelf.files g.T.Listener.hears c.args.profile.now (record { known = known; recording = c.args.rec.now; shelf = c.args.shelf.now; listener = c.args.listener.now }) h.head (progress c.lines.replay (to_come g.C.Read.remaining c.lines.lines c.lines.cert) c.lines.rec c.lines.shelf c.lines.listener) (progress c.take_next.new.replay (to_come g.C.Read.remaining c.take_next.new.lines c.take_next.new.cert) c.take_next.new.rec c.take_next.new.shelf c.take_next.new.listener) h.walks none in
-    hears_all g.T.Listener.hears c.args.profile.now h.head v.k c.take_next.new.replay.used v.taken c.take_next.new.replay.link.state none.line known left more c.args.rec.now.to_come c.take_next.new.rec.to_come c.none_left.new.rec.to_come c.args.listener.now c.take_next.new.listener none.given c.in-Ok-none_left.ensures.ok v.told v.heard
+    hears_all g.T.Listener.hears c.args.profile.now h.head v.k c.take_next.new.replay.used v.taken c.take_next.new.replay.link.state none.line known left more c.args.rec.now.to_come c.take_next.new.rec.to_come c.none_left.new.rec.to_come c.args.listener.now c.take_next.new.listener none.given c.in-Ok-none_left.ensures.ok v.reports v.heard
 
 pub returns-clause-err : goal.returns-clause-err
 returns-clause-err g c =
@@ -169,7 +169,7 @@ returns-clause-err g c =
     let v = ended_walks g.S.Shelf.files g.T.Listener.hears c.args.profile.now (record { known = known; recording = c.args.rec.now; shelf = c.args.shelf.now; listener = c.args.listener.now }) h.head (progress c.lines.replay (to_come g.C.Read.remaining c.lines.lines c.lines.cert) c.lines.rec c.lines.shelf c.lines.listener) (progress c.take_next.new.replay (to_come g.C.Read.remaining c.take_next.new.lines c.take_next.new.cert) c.take_next.new.rec c.take_next.new.shelf c.take_next.new.listener) h.walks none in
     record {
       files = v.taken;
-      fault = told_late c.args.profile.now h.head v.k c.take_next.new.replay.used v.taken c.take_next.new.replay.link.state none.line known left more c.args.rec.now.to_come c.take_next.new.rec.to_come c.none_left.new.rec.to_come c.in-Err-none_left.fault v.none_left none.given c.in-Err-none_left.ensures.err v.told;
+      fault = late_both_known c.args.profile.now h.head v.k c.take_next.new.replay.used v.taken c.take_next.new.replay.link.state none.line known left more c.args.rec.now.to_come c.take_next.new.rec.to_come c.none_left.new.rec.to_come c.in-Err-none_left.fault v.none_left none.given c.in-Err-none_left.ensures.err v.reports;
       put = v.put;
     }
 
@@ -181,7 +181,7 @@ returns-clause-told g c =
     let more = to_come g.C.Read.remaining c.take_next.new.lines c.take_next.new.cert in
     let none = c.in-Ok-take_next.ensures.ended c.if-not-found.true in
     let v = ended_walks g.S.Shelf.files g.T.Listener.hears c.args.profile.now (record { known = known; recording = c.args.rec.now; shelf = c.args.shelf.now; listener = c.args.listener.now }) h.head (progress c.lines.replay (to_come g.C.Read.remaining c.lines.lines c.lines.cert) c.lines.rec c.lines.shelf c.lines.listener) (progress c.take_next.new.replay (to_come g.C.Read.remaining c.take_next.new.lines c.take_next.new.cert) c.take_next.new.rec c.take_next.new.shelf c.take_next.new.listener) h.walks none in
-    heard_late c.args.profile.now h.head v.k c.take_next.new.replay.used v.taken c.take_next.new.replay.link.state none.line known left more c.args.rec.now.to_come c.take_next.new.rec.to_come c.none_left.new.rec.to_come c.in-Err-none_left.fault g.T.Listener.hears c.args.listener.now c.take_next.new.listener v.none_left none.given c.in-Err-none_left.ensures.err v.told v.heard
+    heard_late c.args.profile.now h.head v.k c.take_next.new.replay.used v.taken c.take_next.new.replay.link.state none.line known left more c.args.rec.now.to_come c.take_next.new.rec.to_come c.none_left.new.rec.to_come c.in-Err-none_left.fault g.T.Listener.hears c.args.listener.now c.take_next.new.listener v.none_left none.given c.in-Err-none_left.ensures.err v.reports v.heard
 
 pub returns-clause-place : goal.returns-clause-place
 returns-clause-place g c =
@@ -194,6 +194,6 @@ returns-clause-place g c =
     record {
       files = v.taken;
       place = late_breaks c.args.profile.now h.head v.k c.take_next.new.replay.used v.taken c.take_next.new.replay.link.state known old left (has_failed c.take_next.new.cert) (g.S.Failing.failed c.take_next.new.shelf) (g.T.Failing.failed c.take_next.new.listener)
-          (bytes_ahead c.take_next.new.lines) c.args.rec.now c.take_next.new.rec c.none_left.new.rec none.line c.none_left.new.rec.to_come c.in-Err-none_left.fault v.none_left (c.in-Ok-take_next.ensures.ahead c.if-not-found.true) none.given none.kept v.counted c.in-Err-none_left.ensures.err c.in-Err-none_left.ensures.given v.told;
+          (bytes_ahead c.take_next.new.lines) c.args.rec.now c.take_next.new.rec c.none_left.new.rec none.line c.none_left.new.rec.to_come c.in-Err-none_left.fault v.none_left (c.in-Ok-take_next.ensures.ahead c.if-not-found.true) none.given none.kept v.counted c.in-Err-none_left.ensures.err c.in-Err-none_left.ensures.given v.reports;
       put = v.put;
     }

@@ -8,7 +8,7 @@ use Rattle.a429_cert.specs.Explained.{seen_of}
 use Rattle.a429_cert.specs.Passing.{PassesListed, uses_listed}
 use Rattle.a429_cert.specs.Stream.{ReplaysNext, EndsNext, IsNotTaken, GivesAtFault}
 use Rattle.a429_cert.proofs.StreamFacts.{passes_next, few_used, used_given, most_given, none_given, not_taken_given}
-use Rattle.a429_cert.proofs.ToldFacts.{ends_next, not_read}
+use Rattle.a429_cert.proofs.ReportFacts.{ends_next, not_read}
 use Rattle.a429_cert.proofs.stream.step_and_report.Goals as goal
 use Rattle.a429_cert.specs.Change.{change}
 

@@ -47,5 +47,5 @@ returns-in-Err-clause-stopped g c =
             put = refl;
             device = λ e. c.in-Err.ensures.device (cc e);
           });
-      untold = c.in-Err.ensures.untold;
+      unreported = c.in-Err.ensures.unreported;
     })

@@ -84,5 +84,5 @@ returns-in-Err-clause-stopped g c =
       few = c.next_near.ensures.few;
       given = subst (λ (o : Option (List ℕ)). GivesLine left more o true) (sym c.line.ensures) (subst (GivesLine left more (held_line c.next_near.new.self)) found c.in-Ok.ensures.given);
       stopped = c.in-Err.ensures.stopped;
-      untold = c.in-Err.ensures.untold;
+      unreported = c.in-Err.ensures.unreported;
     })

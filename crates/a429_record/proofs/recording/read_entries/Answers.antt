@@ -22,10 +22,10 @@ entries-preserved g c =
     let left = still_to_come g.R.Read.remaining c.entries.reading.stage c.entries.reading.rows c.entries.rec in
     let rest = still_to_come g.R.Read.remaining c.next.new.self.stage c.next.new.self.rows c.next.new.rec in
     let ahead = pending_of g.R.Read.remaining c.entries.reading.rows.lines c.entries.rec in
-    let behind = pending_of g.R.Read.remaining c.next.new.self.rows.lines c.next.new.rec in
+    let following = pending_of g.R.Read.remaining c.next.new.self.rows.lines c.next.new.rec in
     record {
       given = given_more bytes left rest before c.push.new.self.items e items gives c.entries.invariant.given;
-      lines = rw at_rows (given_more_at c.entries.reading.stage c.entries.reading.rows.format c.next.new.self.rows.format before c.push.new.self.items e bytes ahead behind items format c.entries.invariant.lines lines);
+      lines = rw at_rows (given_more_at c.entries.reading.stage c.entries.reading.rows.format c.next.new.self.rows.format before c.push.new.self.items e bytes ahead following items format c.entries.invariant.lines lines);
       format = rw at_rows (form_at c.entries.reading.stage c.entries.reading.rows.format c.next.new.self.rows.format before bytes ahead c.entries.invariant.lines c.entries.invariant.format format);
       most = rw follows.3 c.entries.invariant.most;
       times = rw items (NeverFalls-push 0 before e c.entries.invariant.times late);

@@ -22,7 +22,7 @@ use std::test::Fail;
 
 // What a run has come to, as far as the link does not show it.
 #[derive(Drop)]
-struct Told {
+struct Report {
     source: Source,
     // The answer that is on its way.
     answer: Option<u32>,
@@ -35,7 +35,7 @@ struct Told {
 struct Run<'a> {
     profile: &'a Profile,
     link: Link<'a>,
-    printed: Told,
+    printed: Report,
     is_open: bool,
     is_right: bool,
     ghost same: { link.profile ≡ profile.now },
@@ -105,7 +105,7 @@ fn answering(chance: &mut Chance, owed: u32) -> Chosen {
     (Move::Answered(Bus::B, word), is_refusal(word))
 }
 
-impl Told {
+impl Report {
     // An answer that the sink may give, if it owes one.
     fn owed(&self, sink: SinkState, chance: &mut Chance) -> Option<u32> {
         let count = self.source.draft?.count;
@@ -257,7 +257,7 @@ fn trial(
     is_open: bool,
 ) -> Result<(Verdict, u16), Fail> {
     let file = chance.below(256) as u8;
-    let printed = Told {
+    let printed = Report {
         source: Source::new(file, 1),
         answer: None,
         recorded: Vec::new(rt.alloc()),

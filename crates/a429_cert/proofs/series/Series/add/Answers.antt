@@ -34,7 +34,7 @@ lines-init g c =
         k = 0;
         taken = [];
         number = e.lines;
-        told = rw e.used
+        reports = rw e.used
             (part_init old head c.begin_part-replay.result.link.state known before (to_come g.C.Read.remaining c.begin.new.lines c.begin.new.cert) c.args.rec.now.to_come
             (fresh (bytes_ahead c.new-lines.result) known c.new-lines.ensures) c.in-Ok-begin.ensures.ok state);
         none_left = ap (λ (t : State). t.sink.received.files) state ∙ delivered;
@@ -76,7 +76,7 @@ returns-in-Ok-none_left-clause-ok g c =
     record {
       files = v.taken;
       fits = part_fits c.args.self h.head v.k c.take_next.new.replay.used v.taken c.take_next.new.replay.link.state known left more none.line c.args.rec.now.to_come c.take_next.new.rec.to_come c.none_left.new.rec.to_come c.past.result
-          v.none_left none.given c.in-Ok-none_left.ensures.ok (ap (λ (q : SeriesValue). q.state) c.past.ensures) (ap (λ (q : SeriesValue). q.entries) c.past.ensures) v.told;
+          v.none_left none.given c.in-Ok-none_left.ensures.ok (ap (λ (q : SeriesValue). q.state) c.past.ensures) (ap (λ (q : SeriesValue). q.entries) c.past.ensures) v.reports;
       more = ap (λ (q : SeriesValue). q.files) c.past.ensures ∙ v.noted;
       profile = ap (λ (q : SeriesValue). q.profile) c.past.ensures ∙ v.profile;
     }
@@ -90,4 +90,4 @@ returns-clause-err g c =
     let none = c.in-Ok-take_next.ensures.ended c.if-not-found.true in
     let v = ended_part c.args.self known c.args.rec.now.to_come h.head _ _ h.walks none in
     part_late c.args.self h.head v.k c.take_next.new.replay.used v.taken c.take_next.new.replay.link.state known left more none.line c.args.rec.now.to_come c.take_next.new.rec.to_come c.none_left.new.rec.to_come c.in-Err-none_left.fault
-    none.given c.in-Err-none_left.ensures.err v.told
+    none.given c.in-Err-none_left.ensures.err v.reports

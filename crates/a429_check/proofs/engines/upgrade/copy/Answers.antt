@@ -1,7 +1,7 @@
 use Rattle.std.proofs.Common.{◌++◌, take, rules}
 use Rattle.std.proofs.KnownBytes.{Consumes-trans, Appends-trans}
 use Rattle.a429_cert.proofs.Options.{on_err}
-use Rattle.a429_check.proofs.UpgradeFacts.{front_whole, front_behind, front_copied}
+use Rattle.a429_check.proofs.UpgradeFacts.{front_whole, front_after, front_copied}
 use Rattle.a429_check.proofs.engines.upgrade.copy.Goals as goal
 
 pub returns-in_err-n-clause-err : goal.returns-in_err-n-clause-err
@@ -26,4 +26,4 @@ returns-in_err-put-clause-err g c =
     let piece = take c.in_ok-n.n c.pull.new.buf in
     on_err c.from_residual-in_err-put.result
     (front_copied _ _ _ _ (before.moved ++ piece) (Consumes-trans _ _ _ before.moved piece before.read c.in_ok-n.ensures.bytes.0)
-    (front_behind _ _ _ before.moved piece before.written c.in_err-put.ensures.err))
+    (front_after _ _ _ before.moved piece before.written c.in_err-put.ensures.err))

@@ -2,7 +2,7 @@ use Rattle.std.proofs.lemmas.Result.{on_ok_weaker, on_err_weaker}
 use Rattle.std.proofs.KnownBytes.{Appends-trans}
 use Rattle.a429_check.specs.Upgrade.{version_two_line}
 use Rattle.a429_cert.proofs.Options.{on_err}
-use Rattle.a429_check.proofs.UpgradeFacts.{of_any, front_within, front_behind}
+use Rattle.a429_check.proofs.UpgradeFacts.{of_any, front_within, front_after}
 use Rattle.a429_check.proofs.engines.upgrade.put_version_two.Goals as goal
 
 pub returns-in_err-put-clause-err : goal.returns-in_err-put-clause-err
@@ -14,4 +14,4 @@ returns-clause-ok g c =
 
 pub returns-clause-err : goal.returns-clause-err
 returns-clause-err g c =
-    on_err_weaker c.copy.result (λ (rest, are, front). (rest, are, front_behind _ _ _ version_two_line rest c.in_ok-put.ensures.ok front)) c.copy.ensures.err
+    on_err_weaker c.copy.result (λ (rest, are, front). (rest, are, front_after _ _ _ version_two_line rest c.in_ok-put.ensures.ok front)) c.copy.ensures.err

@@ -29,7 +29,7 @@ plan_group-requires c =
         wants = rw from (sym (c.wanted.ensures ∙ ap wanted c.sight.ensures) ∙ c.in-Some.is);
       };
       group = is ∙ ap (λ n. group_from c.args.roles.now n) (sym from);
-      behind = rw from c.if-at-self.false;
+      follows = rw from c.if-at-self.false;
     }
 
 pub returns-in-Ok : goal.returns-in-Ok

@@ -7,7 +7,7 @@ use Rattle.a429_explain.specs.declared.planner.Planner.{Planner}
 use Rattle.a429_explain.specs.Decoded.{sight_at}
 use Rattle.a429_explain.specs.Groups.{group_start}
 use Rattle.a429_explain.specs.Guess.{annotated, place_at_group}
-use Rattle.a429_explain.specs.Plan.{place_from, give_ups_from, place_behind}
+use Rattle.a429_explain.specs.Plan.{place_from, give_ups_from, place_after}
 use Rattle.a429_explain.specs.Planner.{wanted_at, PlansGroup, StopsAt}
 use Rattle.a429_explain.specs.Whole.{wanted}
 use Rattle.a429_link.specs.declared.number.UnitNumber.{UnitNumber}
@@ -20,7 +20,7 @@ use Rattle.a429_explain.proofs.planner.Planner.plan_group.Goals.{After-place_fro
 -- the group that is found
 found : (a : After-place_from-numbers) → IsGroupAt (annotated a.args.decoded.now.profile a.args.decoded.now.items a.args.roles.now) a.args.self.now a.args.request.group.from a.args.request.count a.args.request.group a.place_from-numbers.result
 found a = record {
-  behind = a.requires.behind;
+  follows = a.requires.follows;
   request = a.requires.request.wants;
   group_is = a.requires.group;
   numbers_is = a.place_from-numbers.ensures ∙ ap (λ (q : Contents). place_from q.codes a.args.self.now.place a.group_start-start.result) a.profile-profile.ensures.is ∙ ap (place_from a.args.decoded.now.profile.codes a.args.self.now.place) a.group_start-start.ensures;
@@ -53,13 +53,13 @@ returns-clause-planned c =
     let unit = c.in-Ok.unit in
     let numbers = c.place_from-numbers.result in
     let plan : Plan = record { at = g.from; give_ups = c.give_ups_from-give_ups.result; unit = unit } in
-    let t : Planner = record { place = c.place_behind-self.result; next = g.to } in
+    let t : Planner = record { place = c.place_after-self.result; next = g.to } in
     let k = found (goal.at.returns-clause-planned c).After-place_from-numbers in
     let gives = c.give_ups_from-give_ups.ensures ∙ ap (give_ups_from s.place) c.group_start-start.ensures in
-    let behind =
-    c.place_behind-self.ensures
-    ∙ ap (λ (q : Contents). place_behind q.codes numbers unit c.is_settled.result) c.profile-profile.ensures.is
-    ∙ ap (λ (n : UnitNumber). place_behind codes n unit c.is_settled.result) k.numbers_is
-    ∙ ap (place_behind codes (place_at_group codes rs g s.place) unit) c.is_settled.ensures in
-    let goes = ap (λ (n : UnitNumber). looking n g.to) behind in
+    let follows =
+    c.place_after-self.ensures
+    ∙ ap (λ (q : Contents). place_after q.codes numbers unit c.is_settled.result) c.profile-profile.ensures.is
+    ∙ ap (λ (n : UnitNumber). place_after codes n unit c.is_settled.result) k.numbers_is
+    ∙ ap (place_after codes (place_at_group codes rs g s.place) unit) c.is_settled.ensures in
+    let goes = ap (λ (n : UnitNumber). looking n g.to) follows in
     subst (λ (q : List Role). PlansGroup (annotated d.profile d.items q) c.args.request.group.from plan (change s t)) c.requires.roles (plans_group (annotated d.profile d.items rs) s t c.args.request.group.from c.args.request.count g numbers plan k refl gives c.in-Ok.ensures.unit c.in-Ok.ensures.crossed goes)

@@ -22,11 +22,11 @@ use Rattle.a429_cert.specs.Passing.{uses_listed, IsStepOfLine}
 
 -- ---- what is reported of a step
 
-pub data Told : Type 0 where
+pub data Report : Type 0 where
   -- this link data unit is loaded at the source, under this number
-  Loads : (number : UnitNumber) (unit : LduValue) → Told
+  Loads : (number : UnitNumber) (unit : LduValue) → Report
   -- another step, by its name, and the entry that it records, if it records one, with its number, counted from 0
-  Makes : (act : Act) (entry : Option (ℕ × Entry)) → Told
+  Makes : (act : Act) (entry : Option (ℕ × Entry)) → Report
 
 -- an entry with this number
 abbrev pub with_number : ℕ → Option Entry → Option (ℕ × Entry)
@@ -37,33 +37,33 @@ abbrev pub entry_numbered : List Entry → ℕ → Option (ℕ × Entry)
 entry_numbered entries i = with_number i (slice_get entries i)
 
 -- of a step that is made in this state, where entry i comes next
-abbrev pub told : List Entry → State → ℕ → Step → Told
-told es s i (step.Load u) = Loads s.source.number u
-told es s i (step.Sent item) = Makes act.Sent (entry_numbered es i)
-told es s i step.SentLost = Makes act.SentLost None
-told es s i step.TimeOut = Makes act.TimeOut None
-told es s i step.TakeAnswer = Makes act.TakeAnswer None
-told es s i step.LoseAnswer = Makes act.LoseAnswer None
-told es s i step.SinkTakes = Makes act.SinkTakes None
-told es s i step.Silent = Makes act.Silent None
-told es s i (step.Answered item) = Makes act.Answered (entry_numbered es i)
-told es s i (step.FreeSeen item) = Makes act.FreeSeen (entry_numbered es i)
-told es s i step.GiveUp = Makes act.GiveUp None
+abbrev pub report_of : List Entry → State → ℕ → Step → Report
+report_of es s i (step.Load u) = Loads s.source.number u
+report_of es s i (step.Sent item) = Makes act.Sent (entry_numbered es i)
+report_of es s i step.SentLost = Makes act.SentLost None
+report_of es s i step.TimeOut = Makes act.TimeOut None
+report_of es s i step.TakeAnswer = Makes act.TakeAnswer None
+report_of es s i step.LoseAnswer = Makes act.LoseAnswer None
+report_of es s i step.SinkTakes = Makes act.SinkTakes None
+report_of es s i step.Silent = Makes act.Silent None
+report_of es s i (step.Answered item) = Makes act.Answered (entry_numbered es i)
+report_of es s i (step.FreeSeen item) = Makes act.FreeSeen (entry_numbered es i)
+report_of es s i step.GiveUp = Makes act.GiveUp None
 
 -- of steps, one after the other, from this state on, where entry i comes next
-abbrev pub told_steps : Contents → List Entry → List Step → State → ℕ → List Told
-told_steps p es [] s i = []
-told_steps p es (a ∷ steps) s i = told es s i a ∷ told_steps p es steps (after p a s) (i + length (trace (a ∷ [])))
+abbrev pub reports_of_steps : Contents → List Entry → List Step → State → ℕ → List Report
+reports_of_steps p es [] s i = []
+reports_of_steps p es (a ∷ steps) s i = report_of es s i a ∷ reports_of_steps p es steps (after p a s) (i + length (trace (a ∷ [])))
 
 -- of a run from its start
-abbrev pub told_run : Contents → List Entry → ℕ → List Step → List Told
-told_run p es first steps = told_steps p es steps (start p first) 0
+abbrev pub reports_of_run : Contents → List Entry → ℕ → List Step → List Report
+reports_of_run p es first steps = reports_of_steps p es steps (start p first) 0
 
 -- ---- to whom it is reported
 
 -- how a listener changes by what is reported to it, under a profile
 abbrev pub Hearing : Type 0 → Type 1
-Hearing T = Contents → T → Told → T → Type 0
+Hearing T = Contents → T → Report → T → Type 0
 
 -- a listener before and after
 pub record Listening (T : Type 0) : Type 1 where
@@ -79,14 +79,14 @@ pub record IsHeard {T : Type 0} (l : Listening T) (p : Contents) (text : List �
   pub first : ℕ
   pub steps : List Step
   pub explains : Explains p text (items_of r.entries) first steps
-  pub heard : FoldsTo (l.hears p) l.old (told_run p r.entries first steps) l.new
+  pub heard : FoldsTo (l.hears p) l.old (reports_of_run p r.entries first steps) l.new
 
 -- ---- one line
 
 -- what a line lists, reported with the entry that it uses
-abbrev pub told_listed : UnitNumber → Listed → Option (ℕ × Entry) → Told
-told_listed number (listed.Load u) entry = Loads number u
-told_listed number (listed.Moved l) entry = Makes l.act entry
+abbrev pub report_of_listed : UnitNumber → Listed → Option (ℕ × Entry) → Report
+report_of_listed number (listed.Load u) entry = Loads number u
+report_of_listed number (listed.Moved l) entry = Makes l.act entry
 
 -- of the entries that come next the first, where one is used
 abbrev pub entry_used : ℕ → List Entry → Option Entry
@@ -114,7 +114,7 @@ WhereKnown (Some r) Holds = Holds r
 
 -- what a line lists is reported to a listener, with the entry that comes next, if it uses one
 abbrev pub HearsListed : {T : Type 0} → Listening T → Contents → Listed → Position → Type 0
-HearsListed l p x at = WhereKnown at.recording (λ r. l.hears p l.old (told_listed at.state.source.number x (with_number at.entry (entry_used (uses_listed x) r.entries))) l.new)
+HearsListed l p x at = WhereKnown at.recording (λ r. l.hears p l.old (report_of_listed at.state.source.number x (with_number at.entry (entry_used (uses_listed x) r.entries))) l.new)
 
 -- of what a line of the text lists
 abbrev pub HearsText : {T : Type 0} → Listening T → Contents → Option (List ℕ) → Position → Type 0
