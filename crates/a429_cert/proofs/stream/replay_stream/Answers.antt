@@ -55,8 +55,8 @@ returns-in-Err-clause-err g c =
       put = gains_none (g.S.Shelf.files c.args.shelf.now) 1;
     }
 
-pub returns-in-Err-clause-told : goal.returns-in-Err-clause-told
-returns-in-Err-clause-told g c =
+pub returns-in-Err-clause-reports : goal.returns-in-Err-clause-reports
+returns-in-Err-clause-reports g c =
     let known = unread g.C.Read.remaining c.args.cert.now in
     heard_head g.T.Listener.hears c.args.profile.now known known c.args.rec.now.to_come stream.OutOfMemory c.args.listener.now refl tt
 
@@ -80,8 +80,8 @@ returns-in-Err-begin-clause-err g c =
       put = gains_none (g.S.Shelf.files c.args.shelf.now) 1;
     }
 
-pub returns-in-Err-begin-clause-told : goal.returns-in-Err-begin-clause-told
-returns-in-Err-begin-clause-told g c =
+pub returns-in-Err-begin-clause-reports : goal.returns-in-Err-begin-clause-reports
+returns-in-Err-begin-clause-reports g c =
     let known = unread g.C.Read.remaining c.args.cert.now in
     let old = to_come g.C.Read.remaining c.new-lines.result c.args.cert.now in
     heard_head g.T.Listener.hears c.args.profile.now known old c.args.rec.now.to_come c.in-Err-begin.fault c.args.listener.now (fresh (bytes_ahead c.new-lines.result) known c.new-lines.ensures) c.in-Err-begin.ensures.err
@@ -108,8 +108,8 @@ returns-in-Err-take_next-clause-err g c =
     stop_refuses g.S.Shelf.files g.T.Listener.hears g.S.Failing.failed g.T.Failing.failed c.args.profile.now (record { known = known; recording = c.args.rec.now; shelf = c.args.shelf.now; listener = c.args.listener.now }) v.head (unread_of (unread g.C.Read.remaining c.take_next.new.cert) (has_failed c.take_next.new.cert))
     (progress c.lines.replay (to_come g.C.Read.remaining c.lines.lines c.lines.cert) c.lines.rec c.lines.shelf c.lines.listener) (progress c.take_next.new.replay (to_come g.C.Read.remaining c.take_next.new.lines c.take_next.new.cert) c.take_next.new.rec c.take_next.new.shelf c.take_next.new.listener) c.in-Err-take_next.fault v.walks c.in-Err-take_next.ensures.stopped
 
-pub returns-in-Err-take_next-clause-told : goal.returns-in-Err-take_next-clause-told
-returns-in-Err-take_next-clause-told g c =
+pub returns-in-Err-take_next-clause-reports : goal.returns-in-Err-take_next-clause-reports
+returns-in-Err-take_next-clause-reports g c =
     let v = c.lines.invariant in
     let known = unread g.C.Read.remaining c.args.cert.now in
     stop_unreported g.S.Shelf.files g.T.Listener.hears g.S.Failing.failed g.T.Failing.failed c.args.profile.now (record { known = known; recording = c.args.rec.now; shelf = c.args.shelf.now; listener = c.args.listener.now }) v.head (unread_of (unread g.C.Read.remaining c.take_next.new.cert) (has_failed c.take_next.new.cert))
@@ -173,8 +173,8 @@ returns-clause-err g c =
       put = v.put;
     }
 
-pub returns-clause-told : goal.returns-clause-told
-returns-clause-told g c =
+pub returns-clause-reports : goal.returns-clause-reports
+returns-clause-reports g c =
     let h = c.lines.invariant in
     let known = unread g.C.Read.remaining c.args.cert.now in
     let left = to_come g.C.Read.remaining c.lines.lines c.lines.cert in
