@@ -1,9 +1,9 @@
 -- Lines that are written before they are needed.
-use Rattle.std.proofs.Common.{◌≡◌, ◌∙◌, ◌<◌, ◌≤◌, ◌+◌, ◌-◌, ◌==◌, ℕ, zero, suc, List, [], ◌∷◌, ◌++◌, length, get_or, take, drop, Bool, true, false, not, nat_lt, if◌then◌else◌, Option, Some, None, refl, sym, ap, subst, arith, add-one}
+use Rattle.std.proofs.Common.{◌≡◌, ◌≢◌, ◌∙◌, ◌<◌, ◌≤◌, ◌+◌, ◌-◌, ◌==◌, ℕ, zero, suc, List, [], ◌∷◌, ◌++◌, length, get_or, take, drop, Bool, true, false, not, nat_lt, if◌then◌else◌, Option, Some, None, refl, sym, ap, subst, arith, add-one}
 use Rattle.std.specs.List.{AllByRecursion, starts_with}
 use Rattle.std.proofs.Math.Seq.{take-append_seam}
 use Rattle.std.proofs.lemmas.Bool.Decides.{Decides-eqb, nat_tests}
-use Rattle.std.proofs.lemmas.List.{length-append, get_or_append_left, get_or_push, drop_more}
+use Rattle.std.proofs.lemmas.List.{append_assoc, length-append, get_or_append_left, get_or_push, drop_more}
 use Rattle.std.proofs.lemmas.Slice.Eq.{starts_is}
 use Rattle.a429_cert.proofs.LineReaderFacts.{held_now, ahead_now, ahead_past}
 use Rattle.a429_cert.specs.declared.line.MovedLine.{MovedLine}
@@ -21,8 +21,15 @@ use Rattle.a429_cert.specs.Version.{read_as}
 use Rattle.a429_cert.specs.declared.line.CertLine.{CertLine}
 use Rattle.a429_cert.specs.declared.version.Version.{Version}
 use Rattle.a429_cert.specs.declared.version.Version.TheVariants.{One, Two}
-use Rattle.a429_cert.specs.declared.act.Act.TheVariants.{Sent, SinkTakes}
-use Rattle.a429_cert.specs.Likely.{sent_states, taken_states, sent_line, taken_line, values_below, IsLikely}
+use Rattle.a429_cert.specs.declared.act.Act.{Act}
+use Rattle.a429_cert.specs.declared.act.Act.TheVariants.{Sent, SentLost, TimeOut, TakeAnswer, LoseAnswer, SinkTakes, Silent, Answered, FreeSeen, GiveUp}
+use Rattle.a429_cert.specs.Act.{act_text}
+use Rattle.std.specs.Fmt.{decimal}
+use Rattle.a429_cert.specs.Field.{field}
+use Rattle.a429_cert.specs.States.{sink_text, IsSink}
+use Rattle.a429_link.specs.declared.state.SourceState.TheVariants.{Sending}
+use Rattle.a429_link.specs.declared.state.SinkState.{SinkState}
+use Rattle.a429_cert.specs.Likely.{sent_line, taken_line, sink_after, sending_field, ways_fields, values_below, IsLikely}
 use Rattle.a429_cert.specs.StreamHead.{ReadsAtMost}
 use Rattle.a429_cert.specs.declared.stream_fault.StreamFault.TheVariants as stream
 use Rattle.a429_cert.proofs.LineShape.{IsVisible, line-visible}
@@ -68,11 +75,45 @@ likely n text m spells read e is =
       ends = λ rest. line_first (Moved n) (spelling (Moved n)) rest spells;
     })
 
-pub sent_likely : (k : ℕ) (text : List ℕ) (m : MovedLine) → 1 ≤ k → k < 254 → text ≡ spelling (sent_line k) → Moved m ≡ sent_line k → IsLikely text m
-sent_likely k text m least most = likely (record { act = Sent; states = sent_states k }) text m (sent_spells k least most) (sent_read k)
+-- ---- a line inside a block, by its pieces
 
-pub taken_likely : (k : ℕ) (text : List ℕ) (m : MovedLine) → 1 ≤ k → k < 254 → text ≡ spelling (taken_line k) → Moved m ≡ taken_line k → IsLikely text m
-taken_likely k text m least most = likely (record { act = SinkTakes; states = taken_states k }) text m (taken_spells k least most) (taken_read k)
+abbrev inside : Act → ℕ → ℕ → ℕ → MovedLine
+inside a sent taken to_sink = record { act = a; states = record { source = Sending sent; sink = sink_after taken; to_sink = to_sink; to_source = 0 } }
+
+sink_held : (taken : ℕ) → taken ≤ 254 → IsSink (sink_after taken)
+sink_held zero h = tt
+sink_held (suc k) h = (omega arith, h)
+
+inside_spells : (a : Act) (sent taken to_sink : ℕ) → sent ≤ 254 → taken ≤ 254 → to_sink ≤ 1 → SpellsLine (spelling (Moved (inside a sent taken to_sink))) (Moved (inside a sent taken to_sink))
+inside_spells a sent taken to_sink few some one = record { line = (few, sink_held taken some); held = (omega arith, omega arith); spelled = refl }
+
+-- only a line of a file that is given up is read in another way by a version
+inside_read : (a : Act) (sent taken to_sink : ℕ) → a ≢ GiveUp → (v : Version) → read_as v (Some (spelling (Moved (inside a sent taken to_sink)))) ≡ Some (spelling (Moved (inside a sent taken to_sink)))
+inside_read a sent taken to_sink goes Two = refl
+inside_read Sent sent taken to_sink goes One = refl
+inside_read SentLost sent taken to_sink goes One = refl
+inside_read TimeOut sent taken to_sink goes One = refl
+inside_read TakeAnswer sent taken to_sink goes One = refl
+inside_read LoseAnswer sent taken to_sink goes One = refl
+inside_read SinkTakes sent taken to_sink goes One = refl
+inside_read Silent sent taken to_sink goes One = refl
+inside_read Answered sent taken to_sink goes One = refl
+inside_read FreeSeen sent taken to_sink goes One = refl
+inside_read GiveUp sent taken to_sink goes One = absurd (goes refl)
+
+regroup : (a b c d e : List ℕ) → a ++ (b ++ ((c ++ d) ++ e)) ≡ (((a ++ b) ++ c) ++ d) ++ e
+regroup a b c d e =
+    ap (λ l. a ++ (b ++ l)) (append_assoc c d e) ∙ sym (append_assoc ((a ++ b) ++ c) d e ∙ append_assoc (a ++ b) c (d ++ e) ∙ append_assoc a b (c ++ (d ++ e)))
+
+pub inside_likely : (a : Act) (letter sent taken to_sink : ℕ) (source ways : List ℕ) (sink : SinkState) → a ≢ GiveUp → sent ≤ 254 → taken ≤ 254 → to_sink ≤ 1
+    → letter ∷ [] ≡ act_text a → source ≡ sending_field sent → ways ≡ ways_fields to_sink taken → sink ≡ sink_after taken
+    → IsLikely (letter ∷ (source ++ ways)) (record { act = a; states = record { source = Sending sent; sink = sink; to_sink = to_sink; to_source = 0 } })
+inside_likely a letter sent taken to_sink source ways sink goes few some one is is' is'' sink_is =
+    let m = inside a sent taken to_sink in
+    likely m (letter ∷ (source ++ ways)) _ (inside_spells a sent taken to_sink few some one) (inside_read a sent taken to_sink goes)
+    (rw (is', is'') (ap (λ (l : List ℕ). l ++ (sending_field sent ++ ways_fields to_sink taken)) is
+    ∙ regroup (act_text a) (sending_field sent) (field (sink_text (sink_after taken))) (field (decimal to_sink)) (field (decimal 0))))
+    (ap (λ (s : SinkState). Moved (record { act = a; states = record { source = Sending sent; sink = s; to_sink = to_sink; to_source = 0 } })) sink_is)
 
 -- ---- the table
 
@@ -97,21 +138,38 @@ get-below f (suc n) k d h = by (get-below f n k d) (nat_lt k n) refl
 -- ---- a line that was held against a text
 
 -- the bytes that were read begin with the text and a line feed
-pub text_ahead : (buffer text : List ℕ) (next filled : ℕ) (r : Bool) → r ≡ starts_with ◌==◌ (take (filled - next) (drop next buffer)) text → r ≡ true
-    → length text < length (take (filled - next) (drop next buffer)) → get_or (take (filled - next) (drop next buffer)) (length text) 0 ≡ 10
-    → take (filled - next) (drop next buffer) ≡ text ++ 10 ∷ take (filled - (next + (length text + 1))) (drop (next + (length text + 1)) buffer)
-text_ahead buffer text next filled r e is inside feed =
-    let ahead = take (filled - next) (drop next buffer) in
-    let starts = (starts_is Decides-eqb ahead text r e).0 is in
-    let rest = drop_more ahead (length text) 0 inside in
-    let one : length text + 1 ≡ suc (length text) = omega arith in
-    starts ∙ ap (λ l. text ++ l) (rest ∙ rw (feed, one) refl ∙ ap (λ l. 10 ∷ l) (ahead_now buffer next filled (length text) inside))
+pub text_ahead : (buffer text : List ℕ) (next filled len : ℕ) → len < length (take (filled - next) (drop next buffer))
+    → take (filled - next) (drop next buffer) ≡ text ++ 10 ∷ drop (len + 1) (take (filled - next) (drop next buffer))
+    → take (filled - next) (drop next buffer) ≡ text ++ 10 ∷ take (filled - (next + (len + 1))) (drop (next + (len + 1)) buffer)
+text_ahead buffer text next filled len inside is =
+    let one : len + 1 ≡ suc len = omega arith in
+    is ∙ ap (λ l. text ++ 10 ∷ l) (ap (λ n. drop n (take (filled - next) (drop next buffer))) one ∙ ahead_now buffer next filled len inside)
 
-pub text_held : (buffer text : List ℕ) (next filled : ℕ) (rest : List ℕ) → length text < length (take (filled - next) (drop next buffer)) → take (filled - next) (drop next buffer) ≡ text ++ rest
-    → (if nat_lt next (next + (length text + 1)) then Some (take (next + (length text + 1) - 1 - next) (drop next buffer)) else None) ≡ Some text
-text_held buffer text next filled rest inside is =
-    let longer : nat_lt next (next + (length text + 1)) ≡ true = grind (arith, nat_tests) in
-    rw longer (ap Some (held_now buffer next filled (length text) inside ∙ ap (take (length text)) is ∙ take-append_seam text rest))
+pub text_held : (buffer text : List ℕ) (next filled len : ℕ) (rest : List ℕ) → len < length (take (filled - next) (drop next buffer)) → len ≡ length text → take (filled - next) (drop next buffer) ≡ text ++ rest
+    → (if nat_lt next (next + (len + 1)) then Some (take (next + (len + 1) - 1 - next) (drop next buffer)) else None) ≡ Some text
+text_held buffer text next filled len rest inside same is =
+    let longer : nat_lt next (next + (len + 1)) ≡ true = grind (arith, nat_tests) in
+    rw longer (ap Some (held_now buffer next filled len inside ∙ ap (λ n. take n (take (filled - next) (drop next buffer))) same ∙ ap (take (length text)) is ∙ take-append_seam text rest))
+
+-- a line that is ahead, by its pieces
+pub line_pieces : (bytes ways rest source ending : List ℕ) (letter : ℕ) → 0 < length bytes → get_or bytes 0 0 ≡ letter → drop 1 bytes ≡ source ++ ways → ways ≡ ending ++ rest
+    → 0 < length rest → get_or rest 0 0 ≡ 10
+    → bytes ≡ (letter ∷ (source ++ ending)) ++ 10 ∷ drop (length bytes - length rest + 1) bytes
+line_pieces bytes ways rest source ending letter some first is is' more feed =
+    let text = letter ∷ (source ++ ending) in
+    let left : rest ≡ 10 ∷ drop 1 rest = drop_more rest 0 0 more ∙ ap (λ b. b ∷ drop 1 rest) feed in
+    let joined : drop 1 bytes ≡ (source ++ ending) ++ rest = is ∙ ap (λ l. source ++ l) is' ∙ sym (append_assoc source ending rest) in
+    let all : bytes ≡ text ++ rest = drop_more bytes 0 0 some ∙ rw (first, joined) refl in
+    let long : length bytes ≡ length text + length rest = ap length all ∙ length-append text rest in
+    let len : length bytes - length rest + 1 ≡ length text + 1 = omega (arith, long) in
+    let past : drop (length bytes - length rest + 1) bytes ≡ drop 1 rest = ap (λ n. drop n bytes) len ∙ ap (drop (length text + 1)) all ∙ drop_past text rest in
+    all ∙ ap (λ l. text ++ l) (left ∙ ap (λ l. 10 ∷ l) (sym past))
+  where
+    drop_past : (front more : List ℕ) → drop (length front + 1) (front ++ more) ≡ drop 1 more
+    drop_past [] more = refl
+    drop_past (b ∷ front) more =
+        let one : suc (length front) + 1 ≡ suc (length front + 1) = omega arith in
+        ap (λ n. drop n (b ∷ (front ++ more))) one ∙ drop_past front more
 
 -- the bytes that were read begin with the text
 pub text_first : (buffer text : List ℕ) (next filled : ℕ) (r : Bool) → r ≡ starts_with ◌==◌ (take (filled - next) (drop next buffer)) text → r ≡ true

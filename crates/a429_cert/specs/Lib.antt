@@ -22,5 +22,6 @@ pub mod StreamExplained
 pub mod BreakOff
 pub mod Report
 pub mod Likely
+pub mod LikelyLine
 pub mod BlockText
 pub mod Series

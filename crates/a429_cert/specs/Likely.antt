@@ -1,14 +1,18 @@
 -- Lines that are written before they are needed: those of a data word that is sent and then taken, with nothing else on
--- its way (profile).
+-- its way; and the pieces of those inside a block (profile).
 use Rattle.std.specs.Prelude.{◌≡◌, ℕ, zero, suc, List, [], ◌∷◌, ◌++◌, Option, Some}
+use Rattle.std.specs.Fmt.{decimal}
 use Rattle.a429_link.specs.declared.state.SourceState.TheVariants.{Sending}
-use Rattle.a429_link.specs.declared.state.SinkState.TheVariants.{InBlock}
+use Rattle.a429_link.specs.declared.state.SinkState.{SinkState}
+use Rattle.a429_link.specs.declared.state.SinkState.TheVariants.{Granted, InBlock}
 use Rattle.a429_link.specs.declared.state.States.{States}
 use Rattle.a429_cert.specs.declared.act.Act.TheVariants.{Sent, SinkTakes}
 use Rattle.a429_cert.specs.declared.line.MovedLine.{MovedLine}
 use Rattle.a429_cert.specs.declared.line.CertLine.{CertLine}
 use Rattle.a429_cert.specs.declared.line.CertLine.TheVariants.{Moved}
 use Rattle.a429_cert.specs.declared.version.Version.{Version}
+use Rattle.a429_cert.specs.Field.{field}
+use Rattle.a429_cert.specs.States.{source_text, sink_text}
 use Rattle.a429_cert.specs.Line.{spelling, SpellsLine}
 use Rattle.a429_cert.specs.Lines.{certificate_lines}
 use Rattle.a429_cert.specs.Version.{read_as}
@@ -37,6 +41,18 @@ taken_text k = spelling (taken_line k)
 -- both, each with its line feed
 abbrev pub pair_text : ℕ → List ℕ
 pair_text k = sent_text k ++ 10 ∷ (taken_text k ++ 10 ∷ [])
+
+-- the sink that has granted a block, and taken so many of its words
+abbrev pub sink_after : ℕ → SinkState
+sink_after zero = Granted
+sink_after (suc k) = InBlock (suc k)
+
+-- a line ends with the states after its step: inside a block so many words are sent; so many are taken, and so many are on their way to the sink
+abbrev pub sending_field : ℕ → List ℕ
+sending_field sent = field (source_text (Sending sent))
+
+abbrev pub ways_fields : ℕ → ℕ → List ℕ
+ways_fields to_sink taken = field (sink_text (sink_after taken)) ++ field (decimal to_sink) ++ field (decimal 0)
 
 -- what the numbers below n give, in order
 abbrev pub values_below : {A : Type 0} → (ℕ → A) → ℕ → List A

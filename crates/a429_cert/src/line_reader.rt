@@ -1,9 +1,10 @@
 //! The lines of a certificate that is read as a stream, by a buffer of a fixed size.
 
-ghost use Rattle.std.specs.Prelude.{◌≡◌, ◌⊎◌, ◌<◌, ◌≤◌, ◌∷◌, ◌++◌, [], Some, None, true, false, length, IsErr, IsSome, IfOk, IfSome, IfNone, OnOk, OnErr, Ok, ◌≢◌};
+ghost use Rattle.std.specs.Prelude.{◌≡◌, ◌+◌, ◌⊎◌, ℕ, List, MatchOption, ◌<◌, ◌≤◌, ◌∷◌, ◌++◌, [], Some, None, true, false, length, drop, slice_get, IsErr, IsSome, IfOk, IfSome, IfNone, OnOk, OnErr, Ok, ◌≢◌};
 ghost use Rattle.std.specs.Io.KnownBytes.{Keeps, IsAtEnd};
 ghost use Rattle.a429_word.specs.Tally.{left_of, has_failed, unread};
-ghost use Rattle.a429_cert.specs.Likely.{IsLikely, SaysAlways};
+ghost use Rattle.a429_cert.specs.Likely.{SaysAlways};
+ghost use Rattle.a429_cert.specs.LikelyLine.{text_in, IsLikelyLine};
 ghost use Rattle.a429_cert.specs.Lines.{line_bytes};
 ghost use Rattle.a429_cert.specs.CutLines.{GivesLine, BeginsWith, HasNoLineFeed, cut};
 
@@ -95,7 +96,7 @@ impl LineReader {
         cert: &mut Tally<R>,
         likely: Option<LikelyLine<'_>>,
     ) -> Result<NextLine, Device>
-        requires { IfSome likely (λ l. IsLikely l.text.now l.line) }
+        requires { IfSome likely IsLikelyLine }
         ensures given { IfOk result (λ n. GivesLine (to_come R.remaining self.old cert.old) (to_come R.remaining self.new cert.new)
             (held_line self.new) n.found) }
         ensures shorter { OnOk result (IsSome (held_line self.new) → room_left self.new cert.new < room_left self.old cert.old) }
@@ -120,39 +121,47 @@ impl LineReader {
         })
     }
 
+    /// The first byte of what was read and not yet handed out.
+    #[inline(always)]
+    pub(crate) fn first_byte(&self) -> Option<u8>
+        ensures { result ≡ slice_get (bytes_ahead self.now) 0 }
+    {
+        match &self.buffer[self.next..self.filled] {
+            [first, ..] => Some(*first),
+            [] => None,
+        }
+    }
+
     // Hands out the next line, where it is this one.
     #[inline(always)]
     fn take_likely(&mut self, likely: Option<LikelyLine<'_>>) -> Option<MovedLine>
-        requires { IfSome likely (λ l. IsLikely l.text.now l.line) }
+        requires { IfSome likely IsLikelyLine }
         ensures yes { IsSome result → BeginsWith (bytes_ahead self.old) (held_line self.new) (bytes_ahead self.new) }
         ensures line { IsSome result → IsSome (held_line self.new) × (cut (held_line self.new) ≡ held_line self.new) }
         ensures short { IsSome result → length (bytes_ahead self.new) < length (bytes_ahead self.old) }
         ensures known { IfSome result (SaysAlways (held_line self.new)) }
         ensures no { IfNone result (self.new ≡ self.old) }
     {
-        let likely = likely?;
-        if self.take_text(likely.text) {
-            Some(likely.line)
-        } else {
-            None
+        match likely {
+            Some(likely) if self.take_text(likely) => Some(likely.line),
+            _ => None,
         }
     }
 
-    // Hands out the next line, where it is this text and was read.
+    // Hands out the next line, where it is the text of this one and was read.
     #[inline(always)]
-    fn take_text(&mut self, text: &[u8]) -> bool
-        ensures yes { result ≡ true → bytes_ahead self.old ≡ text.now ++ 10 ∷ bytes_ahead self.new }
-        ensures line { result ≡ true → held_line self.new ≡ Some text.now }
+    fn take_text(&mut self, likely: LikelyLine<'_>) -> bool
+        ensures yes { result ≡ true → bytes_ahead self.old ≡ text_in likely.entry ++ 10 ∷ bytes_ahead self.new }
+        ensures line { result ≡ true → held_line self.new ≡ Some (text_in likely.entry) }
         ensures no { result ≡ false → self.new ≡ self.old }
     {
-        let len = text.len();
-        let ahead = &self.buffer[self.next..self.filled];
-        if len < ahead.len() && ahead[len] == b'\n' && ahead.starts_with(text) {
-            self.at = self.next;
-            self.next += len + 1;
-            true
-        } else {
-            false
+        match line_ahead(&self.buffer[self.next..self.filled], likely) {
+            Some(len) => {
+                self.at = self.next;
+                self.next += len + 1;
+                true
+            }
+            None => false,
         }
     }
 
@@ -225,4 +234,30 @@ impl LineReader {
         self.at = 0;
         self.next = 0;
     }
+}
+
+// How long the line is, without its line feed, that bytes begin with, where it is the text of this one.
+#[inline(always)]
+fn line_ahead(bytes: &[u8], likely: LikelyLine<'_>) -> Option<usize>
+    ensures text { IfSome result (λ len. bytes.now ≡ text_in likely.entry ++ 10 ∷ drop (len + 1) bytes.now) }
+    ensures len { IfSome result (λ len. len ≡ length (text_in likely.entry)) }
+    ensures inside { IfSome result (λ len. len < length bytes.now) }
+{
+    if bytes.is_empty() || bytes[0] != likely.letter {
+        return None;
+    }
+    let ways = after(&bytes[1..], likely.source)?;
+    let rest = after(ways, likely.ways)?;
+    if rest.is_empty() || rest[0] != b'\n' {
+        return None;
+    }
+    Some(bytes.len() - rest.len())
+}
+
+// What comes after these bytes, where a text begins with them.
+#[inline(always)]
+fn after<'t>(text: &'t [u8], front: &[u8]) -> Option<&'t [u8]>
+    ensures { MatchOption result ((rest : List ℕ) → text.now ≢ front.now ++ rest) (λ rest. text.now ≡ front.now ++ rest.now) }
+{
+    text.strip_prefix(front)
 }

@@ -1,20 +1,22 @@
 //! The next line of a certificate that is read as a stream.
 
-ghost use Rattle.std.specs.Prelude.{◌≡◌, ◌≤◌, ◌<◌, ◌+◌, ◌^◌, [], true, false, length, IfOk, IfErr, IsErrOf};
+ghost use Rattle.std.specs.Prelude.{◌≡◌, ◌≤◌, ◌<◌, ◌+◌, ◌^◌, [], true, false, length, IfOk, IfErr, IfSome, IsErrOf};
 ghost use Rattle.a429_profile.specs.Profile.{IsProfile};
 ghost use Rattle.a429_record.specs.declared.fault.ReadFault.TheVariants as read;
 ghost use Rattle.a429_word.specs.Tally.{has_failed, unread};
+ghost use Rattle.a429_cert.specs.LikelyLine.{IsLikelyLine};
 ghost use Rattle.a429_cert.specs.LineReader.{bytes_ahead, room_left, to_come};
 ghost use Rattle.a429_cert.specs.Stream.{OneFailed};
 ghost use Rattle.a429_cert.specs.StreamNext.{progress, unread_of, Stops, TakesNone, TakesOne, TakesSome};
 
-use crate::likely::WordLines;
+use crate::likely::{LikelyLine, WordLines};
 use crate::line_reader::LineReader;
 use crate::listener::Listener;
 use crate::pair::{carry_and_report, next_pair};
 use crate::shelf::Shelf;
 use crate::stream::{Replay, replay_and_put};
 use crate::stream_fault::StreamFault;
+use a429_link::Link;
 use a429_record::EntryReader;
 use a429_word::Tally;
 use std::io::Read;
@@ -89,7 +91,8 @@ fn take_one<R: Read, C: Read, S: Shelf, T: Listener>(
     ensures device { IsErrOf result StreamFault.Device → OneFailed (has_failed cert.new) (S.failed shelf.new) (T.failed listener.new) }
     ensures read { IsErrOf result (StreamFault.Read read.Device) → rec.new.failed ≡ true }
 {
-    let Ok(next) = lines.next_near(cert, words.likely(replay.link.states())) else {
+    let likely = likely_line(&replay.link, words, lines);
+    let Ok(next) = lines.next_near(cert, likely) else {
         return Err(StreamFault::Device);
     };
     if !next.found {
@@ -103,4 +106,16 @@ fn take_one<R: Read, C: Read, S: Shelf, T: Listener>(
         }
         Err(fault) => Err(fault),
     }
+}
+
+// The line that is likely the next, where it begins as what was read.
+#[inline(always)]
+fn likely_line<'w>(
+    link: &Link<'_>,
+    words: &'w WordLines,
+    lines: &LineReader,
+) -> Option<LikelyLine<'w>>
+    ensures { IfSome result IsLikelyLine }
+{
+    words.likely(link.states(), lines.first_byte()?)
 }

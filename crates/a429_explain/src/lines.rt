@@ -13,7 +13,7 @@ ghost use Rattle.a429_explain.specs.Next.{lost};
 ghost use Rattle.a429_explain.specs.Note.{line_after, line_of, load_head, note_text, rest_lines, word_fields};
 
 use crate::next::{carried, is_same, next_line, sending};
-use crate::note::{Note, put_note, with_word};
+use crate::note::{Note, ShortWord, put_note, with_word};
 use a429_cert::{Act, BlockText, MovedLine, OutOfMemory};
 use a429_ldu::Ldu;
 use a429_link::{SinkState, SourceState, States};
@@ -78,7 +78,7 @@ impl Lines {
         ensures held { IsHeld (Moved line) }
     {
         if let Note::Moves { first, more } = self.note {
-            if more < u16::MAX && is_same(next_line(self.last), line) {
+            if more < u8::MAX && is_same(next_line(self.last), line) {
                 let more = more + 1;
                 self.note = Note::Moves { first, more };
                 self.last = line;
@@ -100,7 +100,7 @@ impl Lines {
         ensures { OnOk result (self.new ≡ self.old ++ word_lines place) }
     {
         if let Note::Moves { first, more } = self.note {
-            if more < u16::MAX - 1 && is_same(self.last, carried(place)) {
+            if more < u8::MAX - 1 && is_same(self.last, carried(place)) {
                 let more = more + 2;
                 self.note = Note::Moves { first, more };
                 self.last = carried(place + 1);
@@ -139,7 +139,11 @@ impl Lines {
         ensures held { check < 2 ^ 16 }
     {
         self.notes.push(self.note)?;
-        self.note = Note::Load { gfi, flags, check };
+        self.note = Note::Load {
+            gfi,
+            flags,
+            check: ShortWord::new(u32::from(check)),
+        };
         Ok(())
     }
 
@@ -159,7 +163,7 @@ impl Lines {
     fn put_word(&mut self, number: u32) -> Result<(), OutOfMemory>
         ensures { OnOk result (self.new ≡ self.old ++ field (hex_text number)) }
     {
-        let word = Word::from_u32(number);
+        let word = ShortWord::new(number);
         if let Some(note) = with_word(self.note, word) {
             self.note = note;
             return Ok(());

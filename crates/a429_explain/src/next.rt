@@ -152,7 +152,7 @@ pub(crate) struct BlockWords {
 }
 
 /// The words of a block that are likely sent and taken in the next `left` lines after this one.
-pub(crate) fn words_after(line: MovedLine, left: u16) -> Option<BlockWords>
+pub(crate) fn words_after(line: MovedLine, left: u8) -> Option<BlockWords>
     ensures { IfSome result (λ words. BeginWords line words left) }
 {
     if !is_act(line.act, Act::SinkTakes) {
@@ -166,11 +166,7 @@ pub(crate) fn words_after(line: MovedLine, left: u16) -> Option<BlockWords>
     }
     let room = 254 - place;
     let pairs = left / 2;
-    let count = if pairs < u16::from(room) {
-        pairs as u8
-    } else {
-        room
-    };
+    let count = if pairs < room { pairs } else { room };
     Some(BlockWords { place, count })
 }
 

@@ -15,6 +15,7 @@ use a429_cert::{BlockText, MovedLine, ShortText, moved_text, word_field};
 use a429_link::{SourceState, States};
 use a429_word::{Sheet, Word};
 use std::io::Write;
+use std::marker::Model;
 
 /// Some lines of a certificate, or a part of one. Each line begins with the line feed that ends the line before it.
 #[derive(Clone, Copy, Debug)]
@@ -22,20 +23,58 @@ pub(crate) enum Note {
     /// The line with the number of the first file.
     First(u8),
     /// The line of a link data unit, up to its data words.
-    Load { gfi: u8, flags: u8, check: u16 },
+    Load {
+        gfi: u8,
+        flags: u8,
+        check: ShortWord,
+    },
     /// A data word of that line, so many times.
-    Words { word: Word, times: u8 },
+    Words { word: ShortWord, times: u8 },
     /// Two data words of that line.
-    Pair { first: Word, second: Word },
+    Pair {
+        first: ShortWord,
+        second: ShortWord,
+    },
     /// The line of a step that is no load, and so many lines after it, each the one that is likely after the last.
-    Moves { first: MovedLine, more: u16 },
+    Moves { first: MovedLine, more: u8 },
     /// The lines of the last words of a block, which are lost: those after which so many words are sent, from `first` on and below `end`,
     /// and the very last. The sink and the words on their way are as in these states.
     Losses { at: States, first: u8, end: u8 },
 }
 
+/// A number of 32 bits as four bytes, the lowest first: so a note takes 9 bytes.
+#[derive(Clone, Copy, Debug)]
+pub(crate) struct ShortWord {
+    bytes: [u8; 4],
+}
+
+impl Model for ShortWord {
+    ghost use Rattle.std.specs.Prelude.{ℕ};
+    ghost use Rattle.std.specs.Int.{w32, from_le_bytes};
+
+    ghost Value = { ℕ };
+
+    ghost view = { λ w. from_le_bytes w32 w.bytes };
+}
+
+impl ShortWord {
+    pub(crate) fn new(number: u32) -> ShortWord
+        ensures { result ≡ number }
+    {
+        ShortWord {
+            bytes: number.to_le_bytes(),
+        }
+    }
+
+    pub(crate) fn number(self) -> u32
+        ensures { result ≡ self }
+    {
+        u32::from_le_bytes(self.bytes)
+    }
+}
+
 /// The note with one data word more, where it has room for that.
-pub(crate) fn with_word(note: Note, word: Word) -> Option<Note>
+pub(crate) fn with_word(note: Note, word: ShortWord) -> Option<Note>
     ensures text { IfSome result (λ n. note_text n ≡ note_text note ++ field (hex_text word)) }
     ensures ends { IfSome result (λ n. (last : MovedLine) → EndsWith n last) }
 {
@@ -47,11 +86,11 @@ pub(crate) fn with_word(note: Note, word: Word) -> Option<Note>
 
 // The note of a word that comes so many times, and then of another one.
 #[tactic(auto, using(crate::proofs::NoteFacts::words_more, crate::proofs::NoteFacts::word_after))]
-fn with_word_after(last: Word, times: u8, word: Word) -> Option<Note>
+fn with_word_after(last: ShortWord, times: u8, word: ShortWord) -> Option<Note>
     ensures text { IfSome result (λ n. note_text n ≡ same_fields last times ++ field (hex_text word)) }
     ensures ends { IfSome result (λ n. (last : MovedLine) → EndsWith n last) }
 {
-    if last == word && times < u8::MAX {
+    if last.number() == word.number() && times < u8::MAX {
         let times = times + 1;
         return Some(Note::Words { word, times });
     }
@@ -70,11 +109,11 @@ pub(crate) fn put_note<W: Write>(sheet: &mut Sheet<'_, W>, block: &BlockText, no
 {
     match note {
         Note::First(file) => put_first(sheet, file),
-        Note::Load { gfi, flags, check } => put_load(sheet, gfi, flags, check),
-        Note::Words { word, times } => put_words(sheet, word, times),
+        Note::Load { gfi, flags, check } => put_load(sheet, gfi, flags, check.number()),
+        Note::Words { word, times } => put_words(sheet, word.number(), times),
         Note::Pair { first, second } => {
-            put_word(sheet, first);
-            put_word(sheet, second);
+            put_word(sheet, first.number());
+            put_word(sheet, second.number());
         }
         Note::Moves { first, more } => {
             put_move(sheet, first);
@@ -91,13 +130,13 @@ fn put_first<W: Write>(sheet: &mut Sheet<'_, W>, file: u8)
     sheet.put_number(u64::from(file));
 }
 
-fn put_load<W: Write>(sheet: &mut Sheet<'_, W>, gfi: u8, flags: u8, check: u16)
+fn put_load<W: Write>(sheet: &mut Sheet<'_, W>, gfi: u8, flags: u8, check: u32)
     ensures { Says W.contents sheet.old sheet.new (load_head gfi flags check) }
 {
     sheet.put(b"\nL");
     put_hex(sheet, u32::from(gfi), 1);
     put_hex(sheet, u32::from(flags), 1);
-    put_hex(sheet, u32::from(check), 4);
+    put_hex(sheet, check, 4);
 }
 
 // Puts a field with the last digits of a number in hexadecimal, at most eight.
@@ -111,7 +150,7 @@ fn put_hex<W: Write>(sheet: &mut Sheet<'_, W>, number: u32, digits: usize)
 }
 
 // Puts the field of a word so many times.
-fn put_words<W: Write>(sheet: &mut Sheet<'_, W>, word: Word, times: u8)
+fn put_words<W: Write>(sheet: &mut Sheet<'_, W>, word: u32, times: u8)
     ensures { Says W.contents sheet.old sheet.new (same_fields word times) }
 {
     let mut left = times;
@@ -122,14 +161,14 @@ fn put_words<W: Write>(sheet: &mut Sheet<'_, W>, word: Word, times: u8)
 }
 
 // Puts the field of a word.
-fn put_word<W: Write>(sheet: &mut Sheet<'_, W>, word: Word)
+fn put_word<W: Write>(sheet: &mut Sheet<'_, W>, word: u32)
     ensures { Says W.contents sheet.old sheet.new (field (hex_text word)) }
 {
-    sheet.put(&word_field(word.to_u32()));
+    sheet.put(&word_field(word));
 }
 
 // Puts so many lines after this one, each the one that is likely after the last.
-fn put_likely<W: Write>(sheet: &mut Sheet<'_, W>, block: &BlockText, first: MovedLine, more: u16)
+fn put_likely<W: Write>(sheet: &mut Sheet<'_, W>, block: &BlockText, first: MovedLine, more: u8)
     ensures { Says W.contents sheet.old sheet.new (likely_lines first more) }
 {
     let mut line = first;
@@ -181,7 +220,7 @@ fn ways_text(at: States) -> ShortText
 // So many lines were put, of which this is the last.
 #[derive(Clone, Copy, Debug)]
 struct Put {
-    lines: u16,
+    lines: u8,
     last: MovedLine,
 }
 
@@ -192,7 +231,7 @@ fn put_some<W: Write>(
     sheet: &mut Sheet<'_, W>,
     block: &BlockText,
     line: MovedLine,
-    left: u16,
+    left: u8,
 ) -> Put
     requires { 0 < left }
     ensures text { Says W.contents sheet.old sheet.new (likely_lines line result.lines) }
@@ -203,7 +242,7 @@ fn put_some<W: Write>(
     if let Some(words) = words_after(line, left) {
         sheet.put(block.lines(words.place, words.count));
         return Put {
-            lines: 2 * u16::from(words.count),
+            lines: 2 * words.count,
             last: carried(words.place + words.count),
         };
     }
