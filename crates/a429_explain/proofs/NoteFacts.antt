@@ -1,5 +1,5 @@
 -- What notes say, one line after the other.
-use Rattle.std.proofs.Common.{◌≡◌, ◌<◌, ℕ, zero, suc, ◌+◌, ◌-◌, List, [], ◌∷◌, ◌++◌, sym, ap, refl, ◌∙◌, arith, append_assoc, append-nil}
+use Rattle.std.proofs.Common.{◌≡◌, ◌<◌, ℕ, zero, suc, ◌+◌, ◌-◌, List, [], ◌∷◌, ◌++◌, sym, ap, refl, ◌∙◌, arith, append_assoc, append-nil, length, get_or}
 use Rattle.std.specs.Prelude.{codes}
 use Rattle.std.specs.List.{flat_map}
 use Rattle.std.proofs.lemmas.Grind.{flat_map-append}
@@ -11,7 +11,8 @@ use Rattle.a429_ldu.specs.Ldu.{LduValue}
 use Rattle.a429_explain.specs.declared.note.Note.{Note}
 use Rattle.a429_explain.specs.declared.note.Note.TheVariants as note
 use Rattle.a429_explain.specs.Next.{next_line}
-use Rattle.a429_explain.specs.Note.{line_after, line_of, word_fields, same_fields, likely_lines, last_line, load_head, note_text}
+use Rattle.a429_explain.specs.declared.note.ShortWord.{ShortWord}
+use Rattle.a429_explain.specs.Note.{number_in, line_after, line_of, word_fields, same_fields, likely_lines, last_line, load_head, note_text}
 
 -- ---- notes
 
@@ -22,6 +23,12 @@ note_grows front now more last new is grows = ap (λ (t : List ℕ). front ++ t)
 -- one note more
 pub notes_more : (notes : List Note) (last more : Note) → flat_map note_text (notes ++ last ∷ []) ++ note_text more ≡ (flat_map note_text notes ++ note_text last) ++ note_text more
 notes_more notes last more = ap (λ (t : List ℕ). t ++ note_text more) (flat_map-append note_text notes (last ∷ []) ∙ ap (λ (t : List ℕ). flat_map note_text notes ++ t) (append-nil (note_text last)))
+
+-- the note at a place, whatever would be there past the last
+pub item_is : (notes : List Note) (i : ℕ) (other : Note) → i < length notes → get_or notes i other ≡ get_or notes i (get_or notes i other)
+item_is [] i other h = absurd (omega arith)
+item_is (note ∷ notes) zero other h = refl
+item_is (note ∷ notes) (suc i) other h = item_is notes i other (omega (arith, h))
 
 -- ---- steps
 
@@ -77,18 +84,18 @@ same_suc : (w n : ℕ) → same_fields w (suc n) ≡ same_fields w n ++ field (h
 same_suc w zero = append-nil (field (hex_text w))
 same_suc w (suc n) = ap (λ (t : List ℕ). field (hex_text w) ++ t) (same_suc w n) ∙ sym (append_assoc (field (hex_text w)) (same_fields w n) (field (hex_text w)))
 
-pub words_more : (last w n : ℕ) → last ≡ w → note_text (note.Words w (n + 1)) ≡ same_fields last n ++ field (hex_text w)
+pub words_more : (last w : ShortWord) (n : ℕ) → number_in last ≡ number_in w → note_text (note.Words w (n + 1)) ≡ same_fields (number_in last) n ++ field (hex_text (number_in w))
 words_more last w n same =
     let one : n + 1 ≡ suc n = omega arith in
-    rw (one, same) (same_suc w n)
+    rw (one, same) (same_suc (number_in w) n)
 
 -- and another word after one
-pub word_after : (w v n : ℕ) → n ≡ 1 → note_text (note.Pair w v) ≡ same_fields w n ++ field (hex_text v)
-word_after w v n one = rw one (ap (λ (t : List ℕ). t ++ field (hex_text v)) (sym (append-nil (field (hex_text w)))))
+pub word_after : (w v : ShortWord) (n : ℕ) → n ≡ 1 → note_text (note.Pair w v) ≡ same_fields (number_in w) n ++ field (hex_text (number_in v))
+word_after w v n one = rw one (ap (λ (t : List ℕ). t ++ field (hex_text (number_in v))) (sym (append-nil (field (hex_text (number_in w))))))
 
 -- a word alone
-pub one_word : (w : ℕ) → note_text (note.Words w 1) ≡ field (hex_text w)
-one_word w = append-nil (field (hex_text w))
+pub one_word : (w : ShortWord) → note_text (note.Words w 1) ≡ field (hex_text (number_in w))
+one_word w = append-nil (field (hex_text (number_in w)))
 
 joined : (a b c d e : List ℕ) → (a ++ (b ++ (c ++ d))) ++ e ≡ a ++ (b ++ (c ++ (d ++ e)))
 joined a b c d e = append_assoc a (b ++ (c ++ d)) e ∙ ap (λ (t : List ℕ). a ++ t) (append_assoc b (c ++ d) e ∙ ap (λ (t : List ℕ). b ++ t) (append_assoc c d e))

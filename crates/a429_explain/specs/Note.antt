@@ -14,6 +14,8 @@ use Rattle.a429_cert.specs.declared.line.LoadLine.{LoadLine}
 use Rattle.a429_cert.specs.declared.line.MovedLine.{MovedLine}
 use Rattle.a429_cert.specs.declared.version.Version.TheVariants.{One, Two}
 use Rattle.a429_cert.specs.Version.{version_line}
+use Rattle.std.specs.Int.{w32, from_le_bytes}
+use Rattle.a429_explain.specs.declared.note.ShortWord.{ShortWord}
 use Rattle.a429_explain.specs.declared.note.Note.{Note}
 use Rattle.a429_explain.specs.declared.note.Note.TheVariants.{First, Load, Words, Pair, Moves, Losses}
 use Rattle.a429_explain.specs.Next.{lost, next_line}
@@ -63,11 +65,15 @@ lost_head k = 10 ∷ (codes "l" ++ field (source_text (Sending k)))
 abbrev pub load_head : ℕ → ℕ → ℕ → List ℕ
 load_head gfi flags check = 10 ∷ (codes "L" ++ field (numeral 16 1 gfi) ++ field (numeral 16 1 flags) ++ field (numeral 16 4 check))
 
+-- the number of which a note has the four bytes
+unfoldable pub number_in : ShortWord → ℕ
+number_in w = from_le_bytes w32 w.bytes
+
 abbrev pub note_text : Note → List ℕ
 note_text (First file) = line_after (cert.First file)
-note_text (Load gfi flags check) = load_head gfi flags check
-note_text (Words word times) = same_fields word times
-note_text (Pair first second) = field (hex_text first) ++ field (hex_text second)
+note_text (Load gfi flags check) = load_head gfi flags (number_in check)
+note_text (Words word times) = same_fields (number_in word) times
+note_text (Pair first second) = field (hex_text (number_in first)) ++ field (hex_text (number_in second))
 note_text (Moves first more) = line_after (cert.Moved first) ++ likely_lines first more
 note_text (Losses at first end) = rest_lines at first (end - first)
 

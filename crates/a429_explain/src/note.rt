@@ -8,14 +8,13 @@ ghost use Rattle.a429_cert.specs.Field.{field};
 ghost use Rattle.a429_cert.specs.States.{sink_text};
 ghost use Rattle.a429_cert.specs.declared.line.CertLine.TheVariants as cert;
 ghost use Rattle.a429_cert.specs.declared.line.MovedLine.{MovedLine};
-ghost use Rattle.a429_explain.specs.Note.{line_after, same_fields, likely_lines, last_line, load_head, note_text, lost_head, rest_lines, EndsWith};
+ghost use Rattle.a429_explain.specs.Note.{line_after, same_fields, likely_lines, last_line, load_head, note_text, number_in, lost_head, rest_lines, EndsWith};
 
 use crate::next::{carried, lost, next_line, words_after};
 use a429_cert::{BlockText, MovedLine, ShortText, moved_text, word_field};
 use a429_link::{SourceState, States};
 use a429_word::{Sheet, Word};
 use std::io::Write;
-use std::marker::Model;
 
 /// Some lines of a certificate, or a part of one. Each line begins with the line feed that ends the line before it.
 #[derive(Clone, Copy, Debug)]
@@ -29,37 +28,41 @@ pub(crate) enum Note {
         check: ShortWord,
     },
     /// A data word of that line, so many times.
-    Words { word: ShortWord, times: u8 },
+    Words {
+        word: ShortWord,
+        times: u8,
+    },
     /// Two data words of that line.
     Pair {
         first: ShortWord,
         second: ShortWord,
     },
     /// The line of a step that is no load, and so many lines after it, each the one that is likely after the last.
-    Moves { first: MovedLine, more: u8 },
+    Moves {
+        first: MovedLine,
+        more: u8,
+    },
     /// The lines of the last words of a block, which are lost: those after which so many words are sent, from `first` on and below `end`,
     /// and the very last. The sink and the words on their way are as in these states.
-    Losses { at: States, first: u8, end: u8 },
+    Losses {
+        at: States,
+        first: u8,
+        end: u8,
+    },
 }
 
 /// A number of 32 bits as four bytes, the lowest first: so a note takes 9 bytes.
 #[derive(Clone, Copy, Debug)]
 pub(crate) struct ShortWord {
-    bytes: [u8; 4],
-}
-
-impl Model for ShortWord {
-    ghost use Rattle.std.specs.Prelude.{ℕ};
-    ghost use Rattle.std.specs.Int.{w32, from_le_bytes};
-
-    ghost Value = { ℕ };
-
-    ghost view = { λ w. from_le_bytes w32 w.bytes };
+    pub bytes: [u8; 4],
 }
 
 impl ShortWord {
+    ghost use Rattle.std.specs.Prelude.{◌≡◌};
+    ghost use Rattle.a429_explain.specs.Note.{number_in};
+
     pub(crate) fn new(number: u32) -> ShortWord
-        ensures { result ≡ number }
+        ensures { number_in result ≡ number }
     {
         ShortWord {
             bytes: number.to_le_bytes(),
@@ -67,7 +70,7 @@ impl ShortWord {
     }
 
     pub(crate) fn number(self) -> u32
-        ensures { result ≡ self }
+        ensures { result ≡ number_in self }
     {
         u32::from_le_bytes(self.bytes)
     }
@@ -75,7 +78,7 @@ impl ShortWord {
 
 /// The note with one data word more, where it has room for that.
 pub(crate) fn with_word(note: Note, word: ShortWord) -> Option<Note>
-    ensures text { IfSome result (λ n. note_text n ≡ note_text note ++ field (hex_text word)) }
+    ensures text { IfSome result (λ n. note_text n ≡ note_text note ++ field (hex_text (number_in word))) }
     ensures ends { IfSome result (λ n. (last : MovedLine) → EndsWith n last) }
 {
     match note {
@@ -87,7 +90,7 @@ pub(crate) fn with_word(note: Note, word: ShortWord) -> Option<Note>
 // The note of a word that comes so many times, and then of another one.
 #[tactic(auto, using(crate::proofs::NoteFacts::words_more, crate::proofs::NoteFacts::word_after))]
 fn with_word_after(last: ShortWord, times: u8, word: ShortWord) -> Option<Note>
-    ensures text { IfSome result (λ n. note_text n ≡ same_fields last times ++ field (hex_text word)) }
+    ensures text { IfSome result (λ n. note_text n ≡ same_fields (number_in last) times ++ field (hex_text (number_in word))) }
     ensures ends { IfSome result (λ n. (last : MovedLine) → EndsWith n last) }
 {
     if last.number() == word.number() && times < u8::MAX {
@@ -227,12 +230,7 @@ struct Put {
 // Puts some of so many lines after this one, each the one that is likely after the last: those of words of a block at once,
 // or else the first.
 #[inline(always)]
-fn put_some<W: Write>(
-    sheet: &mut Sheet<'_, W>,
-    block: &BlockText,
-    line: MovedLine,
-    left: u8,
-) -> Put
+fn put_some<W: Write>(sheet: &mut Sheet<'_, W>, block: &BlockText, line: MovedLine, left: u8) -> Put
     requires { 0 < left }
     ensures text { Says W.contents sheet.old sheet.new (likely_lines line result.lines) }
     ensures last { result.last ≡ last_line line result.lines }

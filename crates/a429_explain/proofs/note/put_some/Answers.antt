@@ -18,5 +18,5 @@ returns-in-Some-clause-last g c =
     let twice : 2 * n ≡ n + n = omega arith in
     c.carried.ensures ∙ sym (ap (last_line c.args.line) twice ∙ ap (λ (m : MovedLine). last_line m (n + n)) c.in-Some.ensures.before ∙ block_last c.in-Some.words.place n c.in-Some.ensures.inside)
 
-pub overflow_mul-in-Some : goal.overflow_mul-in-Some
-overflow_mul-in-Some g c = omega (arith, c.in-Some.ensures.few)
+pub overflow_mul-result : goal.overflow_mul-result
+overflow_mul-result g c = omega (arith, c.in-Some.ensures.few)
