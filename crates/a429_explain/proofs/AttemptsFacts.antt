@@ -1,16 +1,22 @@
 -- The roles of a recording's words, from the last to the first.
-use Rattle.std.proofs.Common.{◌≡◌, ℕ, suc, ◌+◌, ◌≤◌, List, [], ◌∷◌, ◌++◌, length, drop, reverse, Option, Some, None, refl, sym, ap, ◌∙◌, subst, arith}
+use Rattle.std.proofs.Common.{◌≡◌, ℕ, zero, suc, ◌+◌, ◌<◌, ◌≤◌, List, [], ◌∷◌, ◌++◌, length, drop, get_or, reverse, slice_get, Option, Some, None, refl, sym, ap, ◌∙◌, subst, arith}
 use Rattle.std.proofs.lemmas.List.{reverse-append}
 use Rattle.a429_profile.specs.declared.codes.Codes.{Codes}
 use Rattle.a429_ldu.specs.declared.forms.Form.{Form}
 use Rattle.a429_ldu.specs.declared.forms.Form.TheVariants.{Rts, Cts, Ack, Nak, Sot, Part, Eot}
+use Rattle.a429_ldu.specs.declared.sight.Sight.{Sight}
+use Rattle.a429_ldu.specs.declared.sight.Sight.TheVariants as sight
+use Rattle.a429_ldu.specs.Sight.{form_in, sight_of}
+use Rattle.a429_ldu.proofs.SightFacts.{form_of-sight}
 use Rattle.a429_link.specs.declared.seen.Seen.{Seen}
 use Rattle.a429_explain.specs.declared.attempts.Role.{Role}
 use Rattle.a429_explain.specs.declared.attempts.Ahead.{Ahead}
 use Rattle.a429_explain.specs.declared.decoded.DecodedWord.{DecodedWord}
-use Rattle.a429_explain.specs.Decoded.{IsHeardAt, forms_of}
+use Rattle.a429_explain.specs.Decoded.{sight_at, IsHeardAt, forms_of}
 use Rattle.a429_explain.specs.Attempts.{next_start, role_of, roles, IsAhead}
+use Rattle.a429_explain.specs.Groups.{asked}
 use Rattle.a429_explain.specs.Guess.{started, file_of}
+use Rattle.a429_explain.specs.Whole.{wanted}
 use Rattle.a429_explain.proofs.DecodedFacts.{forms_from}
 
 -- where the pass has come to
@@ -38,6 +44,28 @@ length-roles c (i ∷ items) = ap suc (length-roles c items)
 
 pub roles_long : (c : Codes) (items : List Seen) (rs : List Role) → rs ≡ roles (forms_of c items) → length rs ≡ length items
 roles_long c items rs e = ap length e ∙ length-roles c items
+
+-- ---- the requests
+
+asks : (s : Sight) (more : List (Option Form)) → asked (role_of (form_in s) more) ≡ wanted s
+asks sight.Free more = refl
+asks sight.NoForm more = refl
+asks (sight.Form (Rts n)) more = refl
+asks (sight.Form (Cts n)) more = refl
+asks (sight.Form (Ack f l)) more = refl
+asks (sight.Form (Nak b)) more = refl
+asks (sight.Form (Sot g f l)) more = refl
+asks (sight.Form (Part s)) more = refl
+asks (sight.Form (Eot f k)) more = refl
+
+-- a role says how many words a request asks for
+pub asked_is : (c : Codes) (items : List Seen) (rs : List Role) (n : ℕ) (d : Role) → rs ≡ roles (forms_of c items) → n < length items → asked (get_or rs n d) ≡ wanted (sight_at c (slice_get items n))
+asked_is c items rs n d all l = ap (λ (xs : List Role). asked (get_or xs n d)) all ∙ by items n l
+  where
+    by : (items : List Seen) (n : ℕ) → n < length items → asked (get_or (roles (forms_of c items)) n d) ≡ wanted (sight_at c (slice_get items n))
+    by [] n l = absurd (omega arith)
+    by (i ∷ items) zero l = ap (λ (o : Option Form). asked (role_of o (forms_of c items))) (sym (form_of-sight c i.bus i.word)) ∙ asks (sight_of c i.bus i.word) (forms_of c items)
+    by (i ∷ items) (suc n) l = by items n (omega arith)
 
 -- ---- the next start word
 

@@ -1,6 +1,6 @@
 -- The groups of a recording without loss, one after the other.
-use Rattle.std.proofs.Common.{◌≡◌, ℕ, zero, suc, ◌+◌, ◌-◌, ◌≤◌, ◌<◌, Bool, true, false, cond, List, [], ◌∷◌, ◌++◌, length, take, drop, slice_get, Option, Some, None, refl, sym, ap, ◌∙◌, subst, arith, append_assoc, append-nil, eq-eqb}
-use Rattle.std.proofs.lemmas.List.{drop-drop, drop_all}
+use Rattle.std.proofs.Common.{◌≡◌, ℕ, zero, suc, ◌+◌, ◌-◌, ◌≤◌, ◌<◌, Bool, true, false, cond, List, [], ◌∷◌, length, take, drop, slice_get, Option, Some, None, refl, sym, ap, ◌∙◌, subst, arith, eq-eqb}
+use Rattle.std.proofs.lemmas.List.{drop-drop}
 use Rattle.a429_word.specs.declared.bus.Bus.TheVariants as bus
 use Rattle.a429_profile.specs.declared.codes.Codes.{Codes}
 use Rattle.a429_profile.specs.Profile.{Contents, IsProfile}
@@ -13,7 +13,6 @@ use Rattle.a429_link.specs.declared.seen.Seen.{Seen}
 use Rattle.a429_link.specs.Clean.{on_a, clean_blocks, AllFit, without_free}
 use Rattle.a429_link.specs.Number.{number_after, first_number}
 use Rattle.a429_explain.specs.declared.attempts.Role.{Role}
-use Rattle.a429_explain.specs.declared.groups.Group.{Group}
 use Rattle.a429_explain.specs.declared.groups.Request.{Request}
 use Rattle.a429_link.specs.declared.number.UnitNumber.{UnitNumber}
 use Rattle.a429_explain.specs.Attempts.{roles}
@@ -26,7 +25,7 @@ use Rattle.a429_explain.specs.Guess.{decoded, request_at, place_at_group, place_
 use Rattle.a429_explain.specs.Whole.{wanted}
 use Rattle.a429_explain.proofs.CleanBlock.{formed_sight}
 use Rattle.a429_explain.proofs.CleanGroups.{unit_has_forms, unit_parts}
-use Rattle.a429_explain.proofs.PlainPlans.{plain_past, plain_end, plain_group}
+use Rattle.a429_explain.proofs.PlainPlans.{plain_past, plain_group}
 use Rattle.a429_explain.proofs.WholeFacts.{has_item, drop_next}
 use Rattle.a429_explain.proofs.CrossedUnit.{request_kept}
 use Rattle.a429_link.proofs.NumberFacts.{next_byte}

@@ -1,5 +1,5 @@
 -- What was decoded of a recording, word by word.
-use Rattle.std.proofs.Common.{None, Some, IfSome, slice_get, drop, ◌≡◌, ℕ, zero, suc, ◌+◌, ◌<◌, List, [], ◌∷◌, length, get_or, Option, refl, ap, sym, ◌∙◌, arith}
+use Rattle.std.proofs.Common.{None, Some, IfSome, slice_get, drop, ◌≡◌, ℕ, zero, suc, ◌+◌, List, [], ◌∷◌, Option, refl, ap, sym, ◌∙◌, arith}
 use Rattle.a429_profile.specs.declared.codes.Codes.{Codes}
 use Rattle.a429_profile.specs.Profile.{Contents, IsProfile}
 use Rattle.a429_ldu.specs.declared.forms.Form.{Form}
@@ -10,33 +10,18 @@ use Rattle.a429_ldu.proofs.SightFacts.{form_of-sight}
 use Rattle.a429_ldu.proofs.FormFacts.{form_of-is}
 use Rattle.a429_word.specs.declared.bus.Bus.{Bus}
 use Rattle.a429_link.specs.declared.seen.Seen.{Seen}
-use Rattle.a429_record.specs.declared.entry.Entry.{Entry}
-use Rattle.a429_cert.specs.Explained.{seen_of, items_of}
 use Rattle.a429_explain.specs.declared.decoded.DecodedWord.{DecodedWord}
-use Rattle.a429_explain.specs.Decoded.{sights_of, sight_at, IsHeardAt, forms_of}
-use Rattle.a429_explain.proofs.WalkFacts.{item_at}
-
--- ---- what each word is
-
-pub sight_here : (c : Codes) (items : List Seen) (ss : List Sight) (n : ℕ) (s : Sight) → ss ≡ sights_of c items → n < length items → s ≡ get_or ss n s → s ≡ sight_at c (slice_get items n)
-sight_here c items ss n s all l at = at ∙ ap (λ (xs : List Sight). get_or xs n s) all ∙ by items n l
-  where
-    by : (items : List Seen) (n : ℕ) → n < length items → get_or (sights_of c items) n s ≡ sight_at c (slice_get items n)
-    by [] n l = absurd (omega arith)
-    by (i ∷ items) zero l = refl
-    by (i ∷ items) (suc n) l = by items n (omega arith)
+use Rattle.a429_explain.specs.Decoded.{sight_at, IsHeardAt, forms_of}
 
 -- ---- the form of a word
 
-pub heard_here : (c : Codes) (es : List Entry) (n : ℕ) (e : Entry) (s : Sight) (h : DecodedWord) → n < length es → e ≡ get_or es n e → s ≡ sight_at c (slice_get (items_of es) n) → h.form ≡ form_in s → h.word ≡ e.word → IsHeardAt c (items_of es) n h
-heard_here c es n e s h l is said form word =
-    let here : slice_get (items_of es) n ≡ Some (seen_of e) = item_at es n e (seen_of e) l is refl in
-    record {
-      item = seen_of e;
-      is = here;
-      form_is = sym (form_of-sight c e.bus e.word) ∙ sym (form ∙ ap form_in (said ∙ ap (sight_at c) here));
-      word_is = sym word;
-    }
+pub heard_here : (c : Codes) (items : List Seen) (n : ℕ) (i : Seen) (s : Sight) (o : Option Form) → slice_get items n ≡ Some i → s ≡ sight_at c (slice_get items n) → o ≡ form_in s → IsHeardAt c items n (record { word = i.word; form = o })
+heard_here c items n i s o is said form = record {
+  item = i;
+  is = is;
+  form_is = sym (form_of-sight c i.bus i.word) ∙ sym (form ∙ ap form_in (said ∙ ap (sight_at c) is));
+  word_is = refl;
+}
 
 -- its numbers are in their ranges
 pub formed_range : (p : Contents) → IsProfile p → (b : Bus) (w : ℕ) (o : Option Form) → o ≡ form_of p.codes b w → IfSome o IsInRange

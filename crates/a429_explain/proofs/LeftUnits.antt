@@ -14,7 +14,7 @@ use Rattle.a429_ldu.specs.Ldu.{LduValue}
 use Rattle.a429_link.specs.declared.number.UnitNumber.{UnitNumber}
 use Rattle.a429_link.specs.declared.seen.Seen.{Seen}
 use Rattle.a429_link.specs.Link.{LinkValue}
-use Rattle.a429_link.specs.Number.{first_number, number_after}
+use Rattle.a429_link.specs.Number.{first_number}
 use Rattle.a429_link.specs.Run.{IsRun}
 use Rattle.a429_link.specs.State.{start, rest}
 use Rattle.a429_cert.specs.Change.{change}
@@ -30,10 +30,10 @@ use Rattle.a429_explain.specs.Decoded.{forms_of, sight_at}
 use Rattle.a429_explain.specs.Groups.{group_from}
 use Rattle.a429_explain.specs.Guess.{decoded, request_at, place_past, plain_plans, HaveCrossed}
 use Rattle.a429_explain.specs.Plan.{plain, begins_at, plan_for, plans_left}
-use Rattle.a429_explain.specs.Planner.{with_roles, wanted_at, CrossesAt, PlansAt, PlansGroup, StopsAt}
+use Rattle.a429_explain.specs.Planner.{with_roles, wanted_at, PlansAt, PlansGroup, StopsAt}
 use Rattle.a429_explain.specs.Scribe.{IsLossless, lossless_steps, link_after}
 use Rattle.a429_explain.specs.Whole.{wanted}
-use Rattle.a429_explain.proofs.CrossedUnits.{IsLeft, IsNext, left_all, left_free, left_group, plans_free, next_group, next_place, next_plan, next_number_is}
+use Rattle.a429_explain.proofs.CrossedUnits.{IsLeft, left_all, left_free, left_group, plans_free, next_group, next_place, next_plan, next_number_is}
 use Rattle.a429_explain.proofs.ScribeWithoutLoss.{OnPlan, Goes, role_in, role_at, plan_starts, plan_next, plan_kept, goes_run, goes_lossless}
 
 -- the entries up to the next one

@@ -1,5 +1,5 @@
 -- How far the groups of a recording are planned.
-use Rattle.std.proofs.Common.{◌≡◌, ℕ, ◌+◌, ◌≤◌, ◌<◌, List, [], ◌∷◌, ◌++◌, length, slice_get, Option, Some, None, inl, inr, refl, sym, ap, ◌∙◌, subst, arith, append-nil}
+use Rattle.std.proofs.Common.{◌≡◌, ℕ, ◌+◌, ◌≤◌, List, [], ◌∷◌, ◌++◌, length, slice_get, Option, Some, None, inl, inr, refl, sym, ap, ◌∙◌, subst, arith, append-nil}
 use Rattle.std.specs.Option.{IfSome}
 use Rattle.std.proofs.lemmas.Bool.{cases_order}
 use Rattle.std.proofs.lemmas.Option.{slice_get_past}
@@ -19,7 +19,7 @@ use Rattle.a429_explain.specs.Block.{IsMatchedUnit, IsDoubtIn, IsStopIn, HasCros
 use Rattle.a429_explain.specs.Decoded.{HeardValue, sight_at}
 use Rattle.a429_explain.specs.Groups.{group_from, group_start}
 use Rattle.a429_explain.specs.Plan.{give_ups_from}
-use Rattle.a429_explain.specs.Guess.{Annotated, decoded, request_at, first_place, IsNoRequestFrom, IsFirstRequest, IsNextPlan, place_at_group, place_past, ArePlansBefore, ArePlansOf, IsNextDoubt, IsFirstStop, HasNoDoubt}
+use Rattle.a429_explain.specs.Guess.{Annotated, decoded, request_at, first_place, IsNoRequestFrom, IsFirstRequest, place_at_group, place_past, ArePlansBefore, IsNextDoubt, IsFirstStop, HasNoDoubt}
 use Rattle.a429_explain.specs.Whole.{wanted}
 use Rattle.a429_explain.specs.Planner.{with_roles, wanted_at, numbers_at, CrossesAt, HasCome, IsPlannedTo, PlansAt, PlansGroup, StopsAt}
 

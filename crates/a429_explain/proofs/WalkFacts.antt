@@ -1,7 +1,7 @@
 -- The walk over the entries of a recording.
 use Rattle.std.proofs.lemmas.Bool.{cases_order}
 use Rattle.std.proofs.lemmas.Option.{slice_get_within}
-use Rattle.std.proofs.Common.{Bool, true, false, cond, ◌≡◌, ◌⊎◌, ℕ, zero, suc, ◌+◌, ◌<◌, ◌≤◌, List, [], ◌∷◌, ◌++◌, length, take, take_all, get_or, Option, Some, None, slice_get, refl, sym, ap, ◌∙◌, subst, inl, inr, arith}
+use Rattle.std.proofs.Common.{Bool, true, false, cond, ◌≡◌, ◌⊎◌, ℕ, zero, suc, ◌+◌, ◌<◌, ◌≤◌, List, [], ◌∷◌, length, take, get_or, Option, Some, None, slice_get, refl, sym, ap, ◌∙◌, subst, inl, inr, arith}
 use Rattle.a429_word.specs.declared.bus.Bus.{Bus}
 use Rattle.a429_profile.specs.declared.codes.Codes.{Codes}
 use Rattle.a429_profile.specs.Profile.{Contents, IsProfile}
@@ -22,7 +22,7 @@ use Rattle.a429_explain.specs.declared.verdict.Reason.{Reason}
 use Rattle.a429_explain.specs.Verdict.{HasNoForm}
 use Rattle.a429_explain.specs.declared.verdict.Doubt.TheVariants.{NotOneBlock}
 use Rattle.a429_explain.specs.declared.decoded.DecodedWord.{DecodedWord}
-use Rattle.a429_explain.specs.Decoded.{sight_at, sights_of, IsHeardAt}
+use Rattle.a429_explain.specs.Decoded.{sight_at, IsHeardAt}
 use Rattle.a429_explain.specs.Stop.{IsDoubtOf, IsDoubtAt}
 use Rattle.a429_explain.specs.Matching.{IsOfBlock}
 use Rattle.a429_explain.specs.Walk.{AreAllowed, FitsAt, FitsSight, IsRefusable, IsRefusal}
@@ -42,33 +42,25 @@ observed_more p [] n i o at = absurd (cc at)
 observed_more p (x ∷ items) zero i o at = ap (λ (j : Seen). sees p j o) (cc at)
 observed_more p (x ∷ items) (suc n) i o at = observed_more p items n i (sees p x o) at
 
-sights_more : (c : Codes) (items : List Seen) (n : ℕ) (i : Seen) → slice_get items n ≡ Some i → sights_of c (take (suc n) items) ≡ sights_of c (take n items) ++ sight_of c i.bus i.word ∷ []
-sights_more c [] n i at = absurd (cc at)
-sights_more c (x ∷ items) zero i at = ap (λ (j : Seen). sight_of c j.bus j.word ∷ []) (cc at)
-sights_more c (x ∷ items) (suc n) i at = ap (λ (ss : List Sight). sight_of c x.bus x.word ∷ ss) (sights_more c items n i at)
-
 split : (k n : ℕ) → k < n + 1 → (k < n) ⊎ (k ≡ n)
 split k n m = elim (cases_order k n) [ inl e ↦ inr e | inr (inl l) ↦ inl l | inr (inr g) ↦ absurd (omega arith) ]
 
 -- where the walk has come to
-pub record Walks (p : Contents) (items : List Seen) (n : ℕ) (o : Observer) (ss : List Sight) : Type 0 where
+pub record Walks (p : Contents) (items : List Seen) (n : ℕ) (o : Observer) : Type 0 where
   pub observer : o ≡ observed p (take n items) at_first
   pub allowed : AreAllowed p items n
-  pub sights : ss ≡ sights_of p.codes (take n items)
 
 -- the word at this place is allowed
-pub record IsAllowedAt (p : Contents) (items : List Seen) (n : ℕ) (o : Observer) (i : Seen) (s : Sight) : Type 0 where
+pub record IsAllowedAt (p : Contents) (items : List Seen) (n : ℕ) (o : Observer) (i : Seen) : Type 0 where
   pub item : slice_get items n ≡ Some i
-  pub sight : s ≡ sight_of p.codes i.bus i.word
   pub allowed : Allows p o i
 
-pub walks_on : (p : Contents) (items : List Seen) (n : ℕ) (o t : Observer) (ss more : List Sight) (i : Seen) (s : Sight) → Walks p items n o ss → IsAllowedAt p items n o i s → t ≡ sees p i o → more ≡ ss ++ s ∷ [] → Walks p items (n + 1) t more
-walks_on p items n o t ss more i s w a seen pushed =
+pub walks_on : (p : Contents) (items : List Seen) (n : ℕ) (o t : Observer) (i : Seen) → Walks p items n o → IsAllowedAt p items n o i → t ≡ sees p i o → Walks p items (n + 1) t
+walks_on p items n o t i w a seen =
     let one : n + 1 ≡ suc n = omega arith in
     rw one (record {
       observer = seen ∙ ap (sees p i) w.observer ∙ sym (observed_more p items n i at_first a.item);
       allowed = λ k m. upto k (split k n (omega (arith, m)));
-      sights = pushed ∙ ap (λ (x : Sight). ss ++ x ∷ []) a.sight ∙ ap (λ (xs : List Sight). xs ++ sight_of p.codes i.bus i.word ∷ []) w.sights ∙ sym (sights_more p.codes items n i a.item);
     })
   where
     here : AllowsNext p (observed p (take n items) at_first) (slice_get items n)
@@ -79,12 +71,12 @@ walks_on p items n o t ss more i s w a seen pushed =
     upto k (inr e) = subst (λ (j : ℕ). AllowsNext p (observed p (take j items) at_first) (slice_get items j)) (sym e) here
 
 -- at its end
-pub walked : (p : Contents) (items : List Seen) (n : ℕ) (o : Observer) (ss : List Sight) → length items ≤ n → Walks p items n o ss → AreAllowed p items (length items) × (ss ≡ sights_of p.codes items)
-walked p items n o ss long w = ((λ k l. w.allowed k (omega arith)), w.sights ∙ ap (sights_of p.codes) (take_all n items long))
+pub walked : (p : Contents) (items : List Seen) (n : ℕ) (o : Observer) → length items ≤ n → Walks p items n o → AreAllowed p items (length items)
+walked p items n o long w = λ k l. w.allowed k (omega arith)
 
 -- the word at this place is not allowed
-pub is_refusal : (p : Contents) (items : List Seen) (n : ℕ) (o : Observer) (ss : List Sight) (i : Seen) (s : Sight) (r : Reason) → (IsRefused p items n → BeginsARun p (take (suc n) items) → ⊥) → slice_get items n ≡ Some i → s ≡ sight_of p.codes i.bus i.word → FitsSight s r → (Allows p o i → ⊥) → Walks p items n o ss → IsRefusal p items n r
-is_refusal p items n o ss i s r law at said fits h w =
+pub is_refusal : (p : Contents) (items : List Seen) (n : ℕ) (o : Observer) (i : Seen) (s : Sight) (r : Reason) → (IsRefused p items n → BeginsARun p (take (suc n) items) → ⊥) → slice_get items n ≡ Some i → s ≡ sight_of p.codes i.bus i.word → FitsSight s r → (Allows p o i → ⊥) → Walks p items n o → IsRefusal p items n r
+is_refusal p items n o i s r law at said fits h w =
     let refused : IsRefused p items n = λ a. h (subst (λ (q : Observer). Allows p q i) (sym w.observer) (subst (AllowsNext p (observed p (take n items) at_first)) at a)) in
     let one : n + 1 ≡ suc n = omega arith in
     record {

@@ -1,4 +1,4 @@
--- What was decoded: a recording's words under the profile of its bench, and what each of them is (profile).
+-- A recording's words under the profile of its bench, and what each of them is (profile).
 use Rattle.std.specs.Prelude.{◌≡◌, ℕ, List, map, Option, Some, None, slice_get}
 use Rattle.a429_profile.specs.declared.codes.Codes.{Codes}
 use Rattle.a429_profile.specs.Profile.{Contents}
@@ -13,10 +13,6 @@ use Rattle.a429_explain.specs.declared.decoded.DecodedWord.{DecodedWord}
 pub record HeardValue : Type 0 where
   pub profile : Contents
   pub items : List Seen
-
--- what each word is
-abbrev pub sights_of : Codes → List Seen → List Sight
-sights_of c items = map (λ i. sight_of c i.bus i.word) items
 
 -- what the word at a place is; past the last word it is free
 abbrev pub sight_at : Codes → Option Seen → Sight

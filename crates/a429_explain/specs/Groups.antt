@@ -55,6 +55,11 @@ words_of_group items g = slice_range items g.from g.to
 
 -- ---- its link data unit
 
+-- how many words the request asks for with which an attempt begins here
+abbrev pub asked : Role → Option ℕ
+asked (Request n start) = Some n
+asked _ = None
+
 -- the numbers of the start word of an attempt that begins here
 abbrev pub start_of : Role → Option UnitNumber
 start_of (Request n start) = start

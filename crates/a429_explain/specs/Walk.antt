@@ -12,7 +12,6 @@ use Rattle.a429_link.specs.Run.{BeginsARun}
 use Rattle.a429_explain.specs.declared.verdict.Reason.{Reason}
 use Rattle.a429_explain.specs.declared.verdict.Reason.TheVariants.{NoForm, NotGranted, WrongAnswer}
 use Rattle.a429_explain.specs.declared.walk.Halt.{Halt}
-use Rattle.a429_explain.specs.declared.walk.Halt.TheVariants.{Refused, OutOfMemory}
 
 -- each of the first n words is allowed after those before it
 abbrev pub AreAllowed : Contents → List Seen → ℕ → Type 0
@@ -52,5 +51,4 @@ pub record IsRefusal (p : Contents) (items : List Seen) (i : ℕ) (reason : Reas
   pub impossible : BeginsARun p (take (i + 1) items) → ⊥
 
 abbrev pub IsHalt : Contents → List Seen → Halt → Type 0
-IsHalt p items (Refused i reason) = IsRefusal p items i reason
-IsHalt p items OutOfMemory = Unit {0}
+IsHalt p items h = IsRefusal p items h.entry h.reason

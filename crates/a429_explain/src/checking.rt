@@ -44,8 +44,7 @@ pub fn check(alloc: Global, profile: &Profile, entries: &[Entry]) -> Result<Verd
             Err(Stop::Unexplained { entry, doubt }) => Ok(Verdict::Unexplained { entry, doubt }),
             Err(Stop::OutOfMemory) => Err(OutOfMemory),
         },
-        Err(Halt::Refused { entry, reason }) => Ok(Verdict::Impossible { entry, reason }),
-        Err(Halt::OutOfMemory) => Err(OutOfMemory),
+        Err(Halt { entry, reason }) => Ok(Verdict::Impossible { entry, reason }),
     }
 }
 

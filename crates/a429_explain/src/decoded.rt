@@ -4,10 +4,10 @@ ghost use Rattle.std.specs.Prelude.{◌≡◌, ◌<◌, Some, IfSome, length, sl
 ghost use Rattle.a429_profile.specs.Profile.{IsProfile};
 ghost use Rattle.a429_ldu.specs.Form.{IsInRange};
 ghost use Rattle.a429_cert.specs.Explained.{items_of};
-ghost use Rattle.a429_explain.specs.Decoded.{sights_of, sight_at, IsHeardAt};
+ghost use Rattle.a429_explain.specs.Decoded.{sight_at, IsHeardAt};
 
 use a429_cert::seen;
-use a429_ldu::{Form, Sight};
+use a429_ldu::{Form, Sight, form};
 use a429_link::Seen;
 use a429_profile::Profile;
 use a429_record::Entry;
@@ -21,37 +21,28 @@ pub struct DecodedWord {
     pub form: Option<Form>,
 }
 
-/// A recording, with what each of its words is under the profile of its bench.
+/// A recording under the profile of its bench. What a word is, is computed where it is asked for.
 #[derive(Drop)]
 pub struct Decoded<'a> {
     profile: &'a Profile,
     entries: &'a [Entry],
-    sights: Vec<Sight>,
 }
 
 impl<'a> Model for Decoded<'a> {
-    ghost use Rattle.std.specs.Prelude.{◌≡◌};
     ghost use Rattle.a429_cert.specs.Explained.{items_of};
-    ghost use Rattle.a429_explain.specs.Decoded.{HeardValue, sights_of};
+    ghost use Rattle.a429_explain.specs.Decoded.{HeardValue};
 
     ghost Value = { HeardValue };
 
     ghost view = { λ h. record { profile = h.profile.now; items = items_of h.entries.now } };
-
-    ghost invariant = { λ h. h.sights.items ≡ sights_of h.profile.now.codes (items_of h.entries.now) };
 }
 
 impl<'a> Decoded<'a> {
-    /// A recording of which each word is this.
-    pub(crate) fn new(profile: &'a Profile, entries: &'a [Entry], sights: Vec<Sight>) -> Decoded<'a>
-        requires { sights.items ≡ sights_of profile.now.codes (items_of entries.now) }
+    /// These entries, recorded at a bench of this profile.
+    pub(crate) fn new(profile: &'a Profile, entries: &'a [Entry]) -> Decoded<'a>
         ensures { result ≡ record { profile = profile.now; items = items_of entries.now } }
     {
-        Decoded {
-            profile,
-            entries,
-            sights,
-        }
+        Decoded { profile, entries }
     }
 
     /// The profile of the bench.
@@ -65,6 +56,7 @@ impl<'a> Decoded<'a> {
     }
 
     /// How many words were recorded.
+    #[inline(always)]
     pub fn len(&self) -> usize
         ensures { result ≡ length self.now.items }
     {
@@ -72,14 +64,17 @@ impl<'a> Decoded<'a> {
     }
 
     /// What the word at this place is, counted from 0.
+    #[inline(always)]
     pub fn sight(&self, at: usize) -> Sight
         requires { at < length self.now.items }
         ensures { result ≡ sight_at self.now.profile.codes (slice_get self.now.items at) }
     {
-        self.sights[at]
+        let Seen { bus, word } = self.seen(at);
+        form(self.profile, bus, word)
     }
 
     /// The word at this place, and its bus.
+    #[inline(always)]
     pub fn seen(&self, at: usize) -> Seen
         requires { at < length self.now.items }
         ensures { slice_get self.now.items at ≡ Some result }
@@ -89,6 +84,7 @@ impl<'a> Decoded<'a> {
     }
 
     /// The word at this place, and its form.
+    #[inline(always)]
     pub fn word(&self, at: usize) -> DecodedWord
         requires { at < length self.now.items }
         ensures is { IsHeardAt self.now.profile.codes self.now.items at result }
@@ -96,9 +92,8 @@ impl<'a> Decoded<'a> {
     {
         // (for the proof: the profile is sound)
         let _codes = self.profile.codes();
-        DecodedWord {
-            word: self.entries[at].word,
-            form: self.sights[at].form(),
-        }
+        let word = self.seen(at).word;
+        let form = self.sight(at).form();
+        DecodedWord { word, form }
     }
 }

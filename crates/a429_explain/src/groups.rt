@@ -1,7 +1,7 @@
 //! The groups of attempts in a recording, and how many words their requests ask for.
 
 ghost use Rattle.std.specs.Prelude.{◌≡◌, ◌<◌, ◌≤◌, ◌+◌, Some, drop, length};
-ghost use Rattle.a429_explain.specs.Groups.{are_other, stays_within, start_in, with_role, group_length, start_of, group_start, ends_its_group, is_settled};
+ghost use Rattle.a429_explain.specs.Groups.{are_other, stays_within, start_in, with_role, group_length, start_of, group_start, ends_its_group, is_settled, asked};
 ghost use Rattle.a429_explain.specs.Whole.{wanted};
 
 use crate::attempts::Role;
@@ -137,6 +137,16 @@ fn settles(role: Role) -> bool
     ensures { result ≡ ends_its_group (Some role) }
 {
     matches!(role, Role::Acknowledged { ends_group: true })
+}
+
+/// How many words a request asks for, if an entry of this role is one.
+pub(crate) fn asked(role: Role) -> Option<u8>
+    ensures { result ≡ asked role }
+{
+    match role {
+        Role::Request { count, .. } => Some(count),
+        _ => None,
+    }
 }
 
 /// How many words a request asks for, if the word is one.

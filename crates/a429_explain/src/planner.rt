@@ -13,7 +13,7 @@ ghost use Rattle.a429_explain.specs.Whole.{IsRequestOf};
 use crate::attempts::Role;
 use crate::block::matched_unit;
 use crate::decoded::Decoded;
-use crate::groups::{Request, group_at, group_start, is_settled, wanted};
+use crate::groups::{Request, asked, group_at, group_start, is_settled};
 use crate::plan::{Plan, give_ups_from, place_after, place_from};
 use crate::stop::Stop;
 use a429_link::UnitNumber;
@@ -42,6 +42,7 @@ impl Planner {
 
     /// What the source does before this entry, if a group begins there, or the first doubt of that group. It is called at each entry,
     /// in their order. Of a recording without loss the source gives nothing up, and loads the link data units that crossed.
+    #[inline(always)]
     pub(crate) fn plan_at(
         &mut self,
         alloc: Global,
@@ -61,7 +62,7 @@ impl Planner {
         if at < self.next {
             return Ok(None);
         }
-        let Some(count) = wanted(decoded.sight(at)) else {
+        let Some(count) = asked(roles[at]) else {
             self.next = at + 1;
             return Ok(None);
         };

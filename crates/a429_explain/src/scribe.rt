@@ -71,6 +71,7 @@ impl<'a> Scribe<'a> {
     /// Writes the lines of the next entry. Before a request that begins a group the source does what the plan says; at
     /// a request without a plan it asks again for the link data unit that it has. Fails at a step that cannot be made,
     /// or out of memory.
+    #[inline(always)]
     pub(crate) fn write_entry(
         &mut self,
         seen: Seen,

@@ -1,4 +1,4 @@
-//! What each word of a recording is, up to the first that no run records.
+//! A recording, up to the first word that no run records.
 
 ghost use Rattle.std.specs.Prelude.{◌≡◌, ◌↔◌, IsOk, IfOk, IfErr, OnOk, length};
 ghost use Rattle.a429_word.specs.Screening.{screened};
@@ -22,16 +22,15 @@ use a429_record::Entry;
 use a429_word::{Bus, THIS_LABEL};
 use std::alloc::Global;
 
-/// Why a recording is not decoded to its end.
+/// The first entry, counted from 0, whose word those before it do not allow, and the reason.
 #[derive(Clone, Copy, Debug)]
-pub enum Halt {
-    /// The words before this entry, counted from 0, do not allow its word.
-    Refused { entry: usize, reason: Reason },
-    OutOfMemory,
+pub struct Halt {
+    pub entry: usize,
+    pub reason: Reason,
 }
 
-/// What each word of a recording is, where each is allowed after those before it; else the first entry that is not,
-/// which no run records there, and why. Each word is looked at once.
+/// A recording under a profile, where each word is allowed after those before it; else the first entry whose word is not,
+/// which no run records there, and why. Each word is looked at once, and no memory is taken.
 pub fn walk<'a>(
     alloc: Global,
     profile: &'a Profile,
@@ -41,28 +40,22 @@ pub fn walk<'a>(
     ensures allowed { IfOk result (λ h. AreAllowed profile.now (items_of entries.now) (length (items_of entries.now))) }
     ensures formed { IfOk result (λ h. ¬ HasNoForm profile.now.codes (items_of entries.now)) }
     ensures halt { IfErr result (IsHalt profile.now (items_of entries.now)) }
-    ensures without_loss { IsWithoutLoss profile.now (items_of entries.now) → IfErr result (λ h. h ≡ Halt.OutOfMemory) }
+    ensures without_loss { IsWithoutLoss profile.now (items_of entries.now) → IsOk result }
 {
     refused_is_impossible();
     let mut screening = screening_of(profile, entries);
     let mut observer = Observer::new(alloc);
-    let Ok(mut sights) = Vec::with_capacity(alloc, entries.len()) else {
-        return Err(Halt::OutOfMemory);
-    };
     for entry in 0..entries.len() {
         let answer = screening.answer(entry);
         match see_screened(&mut observer, profile, seen(entries[entry]), answer) {
-            Ok(sight) => match sights.push(sight) {
-                Ok(()) => {}
-                Err(_) => return Err(Halt::OutOfMemory),
-            },
+            Ok(()) => {}
             Err(sight) => {
                 let reason = reason_of(sight.form());
-                return Err(Halt::Refused { entry, reason });
+                return Err(Halt { entry, reason });
             }
         }
     }
-    Ok(Decoded::new(profile, entries, sights))
+    Ok(Decoded::new(profile, entries))
 }
 
 // The entries of a recording, whose words are screened by the label of bus A.
@@ -73,24 +66,26 @@ fn screening_of<'a>(profile: &Profile, entries: &'a [Entry]) -> Screening<'a>
     Screening::new(entries, profile.codes().to_sink)
 }
 
-// Takes the next recorded word, as an observer does. `answer` is what `screen` returns for it by the label of bus A:
-// that alone shows most free words of that bus.
+// Takes the next recorded word, as an observer does; the error is what the word is. `answer` is what `screen` returns for it by
+// the label of bus A: that alone shows most free words of that bus.
 fn see_screened(
     observer: &mut Observer,
     profile: &Profile,
     seen: Seen,
     answer: u8,
-) -> Result<Sight, Sight>
+) -> Result<(), Sight>
     requires { answer ≡ screened profile.now.codes.to_sink seen.word }
     ensures allowed { IsOk result ↔ Allows profile.now observer.old seen }
     ensures taken { OnOk result (observer.new ≡ sees profile.now seen observer.old) }
-    ensures ok { IfOk result (λ sight. sight ≡ sight_of profile.now.codes seen.bus seen.word) }
     ensures err { IfErr result (λ sight. sight ≡ sight_of profile.now.codes seen.bus seen.word) }
 {
     if seen.bus == Bus::A && answer != THIS_LABEL {
-        return Ok(Sight::Free);
+        return Ok(());
     }
-    observer.see(profile, seen)
+    match observer.see(profile, seen) {
+        Ok(_) => Ok(()),
+        Err(sight) => Err(sight),
+    }
 }
 
 /// Why a word is refused that is not free and has this form, or none.

@@ -97,8 +97,7 @@ fn contradiction(
             Ok(found) => Ok(found),
             Err(_) => Err(OutOfMemory),
         },
-        Err(Halt::Refused { .. }) => Ok(None),
-        Err(Halt::OutOfMemory) => Err(OutOfMemory),
+        Err(Halt { .. }) => Ok(None),
     }
 }
 
@@ -112,8 +111,7 @@ fn apart(alloc: Global, profile: &Profile, entries: &[Entry]) -> Result<Option<u
             Ok(found) => Ok(found),
             Err(_) => Err(OutOfMemory),
         },
-        Err(Halt::Refused { .. }) => Ok(None),
-        Err(Halt::OutOfMemory) => Err(OutOfMemory),
+        Err(Halt { .. }) => Ok(None),
     }
 }
 
@@ -130,8 +128,7 @@ fn found(
 {
     let decoded = match walk(alloc, profile, entries) {
         Ok(decoded) => decoded,
-        Err(Halt::Refused { .. }) => return Ok(None),
-        Err(Halt::OutOfMemory) => return Err(OutOfMemory),
+        Err(Halt { .. }) => return Ok(None),
     };
     let Ok(guess) = guess_of(alloc, &decoded) else {
         return Err(OutOfMemory);

@@ -1,4 +1,4 @@
-use Rattle.std.proofs.Common.{rules, ◌≡◌, ◌≤◌, ◌<◌, ◌+◌, List, length, take, take_all, get_or, sym, ap, subst, ◌∙◌, arith}
+use Rattle.std.proofs.Common.{rules, ◌≡◌, ◌<◌, List, length, take, take_all, get_or, sym, ap, subst, ◌∙◌, arith}
 use Rattle.std.specs.Option.{IfSome}
 use Rattle.a429_profile.specs.Profile.{Contents, IsProfile}
 use Rattle.a429_ldu.specs.Ldu.{IsLdu}

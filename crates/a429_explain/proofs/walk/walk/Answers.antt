@@ -37,20 +37,19 @@ returns-in-Err-clause-halt c =
     let items = items_of c.args.entries.now in
     let n = c.loop-entry.entry in
     let fits = subst (λ (s : Sight). FitsSight s c.reason_of-reason.result) (told a) c.reason_of-reason.ensures in
-    is_refusal p items n c.loop-entry.observer c.loop-entry.sights.items c.seen.result c.in-Err.sight c.reason_of-reason.result (c.refused_is_impossible.ensures p items n c.screening_of-screening.ensures.sound) (item (goal.at.returns-in-Err-clause-halt c).After-seen) c.in-Err.ensures.err fits (refused a) c.loop-entry.invariant.walks
+    is_refusal p items n c.loop-entry.observer c.seen.result c.in-Err.sight c.reason_of-reason.result (c.refused_is_impossible.ensures p items n c.screening_of-screening.ensures.sound) (item (goal.at.returns-in-Err-clause-halt c).After-seen) c.in-Err.ensures.err fits (refused a) c.loop-entry.invariant.walks
 
 pub returns-in-Err-clause-without_loss : goal.returns-in-Err-clause-without_loss
 returns-in-Err-clause-without_loss c = λ h. absurd ((returns-in-Err-clause-halt c).impossible (begins c.args.profile.now c.screening_of-screening.ensures.sound (items_of c.args.entries.now) (c.loop-entry.entry + 1) h))
 
 pub loop-entry-preserved : goal.loop-entry-preserved
 loop-entry-preserved c =
-    let may : IsAllowedAt c.args.profile.now (items_of c.args.entries.now) c.loop-entry.entry c.loop-entry.observer c.seen.result c.in-Ok-see_screened.sight = record {
+    let may : IsAllowedAt c.args.profile.now (items_of c.args.entries.now) c.loop-entry.entry c.loop-entry.observer c.seen.result = record {
       item = item (goal.at.loop-entry-preserved c).After-seen;
-      sight = c.in-Ok-see_screened.ensures.ok;
-      allowed = c.in-Ok-see_screened.ensures.allowed.0 refl;
+      allowed = c.in-Ok.ensures.allowed.0 refl;
     } in
     record {
-      walks = walks_on c.args.profile.now (items_of c.args.entries.now) c.loop-entry.entry c.loop-entry.observer c.see_screened.new.observer c.loop-entry.sights.items c.push.new.self.items c.seen.result c.in-Ok-see_screened.sight c.loop-entry.invariant.walks may c.in-Ok-see_screened.ensures.taken c.in-Ok-push.ensures.items;
+      walks = walks_on c.args.profile.now (items_of c.args.entries.now) c.loop-entry.entry c.loop-entry.observer c.see_screened.new.observer c.seen.result c.loop-entry.invariant.walks may c.in-Ok.ensures.taken;
       entries = ap (λ (v : ScreenedEntries). v.entries) c.answer-answer.ensures.same ∙ c.loop-entry.invariant.entries;
       label = ap (λ (v : ScreenedEntries). v.label) c.answer-answer.ensures.same ∙ c.loop-entry.invariant.label;
     }
@@ -58,16 +57,10 @@ loop-entry-preserved c =
 pub returns-clause-allowed : goal.returns-clause-allowed
 returns-clause-allowed c =
     let items = items_of c.args.entries.now in
-    (walked c.args.profile.now items c.loop-entry.entry c.loop-entry.observer c.loop-entry.sights.items (omega (arith, c.loop-entry-test.false, length-items_of c.args.entries.now)) c.loop-entry.invariant.walks).0
+    walked c.args.profile.now items c.loop-entry.entry c.loop-entry.observer (omega (arith, c.loop-entry-test.false, length-items_of c.args.entries.now)) c.loop-entry.invariant.walks
 
 pub returns-clause-formed : goal.returns-clause-formed
 returns-clause-formed c = formed c.args.profile.now (items_of c.args.entries.now) (returns-clause-allowed c)
-
-pub returns-clause-halt : goal.returns-clause-halt
-returns-clause-halt c = tt
-
-pub returns-clause-without_loss : goal.returns-clause-without_loss
-returns-clause-without_loss c = λ h. tt
 
 pub loop-entry-init : goal.loop-entry-init
 loop-entry-init c = search rules

@@ -1,18 +1,14 @@
-use Rattle.std.proofs.Common.{rules, ◌≡◌, ◌<◌, List, ap, subst, sym, ◌∙◌, refl, arith}
+use Rattle.std.proofs.Common.{List, ap, subst, ◌∙◌, refl, arith}
 use Rattle.a429_profile.specs.Profile.{Contents}
 use Rattle.a429_cert.specs.Change.{change}
 use Rattle.a429_explain.specs.declared.attempts.Role.{Role}
 use Rattle.a429_explain.specs.declared.plan.Plan.{Plan}
 use Rattle.a429_explain.specs.declared.planner.Planner.{Planner}
-use Rattle.a429_explain.specs.Decoded.{sight_at}
-use Rattle.a429_explain.specs.Groups.{group_start}
 use Rattle.a429_explain.specs.Guess.{annotated, place_at_group}
 use Rattle.a429_explain.specs.Plan.{place_from, give_ups_from, place_after}
-use Rattle.a429_explain.specs.Planner.{wanted_at, PlansGroup, StopsAt}
-use Rattle.a429_explain.specs.Whole.{wanted}
+use Rattle.a429_explain.specs.Planner.{PlansGroup, StopsAt}
 use Rattle.a429_link.specs.declared.number.UnitNumber.{UnitNumber}
 use Rattle.a429_explain.proofs.AttemptsFacts.{roles_long}
-use Rattle.a429_explain.proofs.GroupsFacts.{group_is}
 use Rattle.a429_explain.proofs.PlannerFacts.{IsGroupAt, looking, stops_at, plans_group}
 use Rattle.a429_explain.proofs.planner.Planner.plan_group.Goals as goal
 use Rattle.a429_explain.proofs.planner.Planner.plan_group.Goals.{After-place_from-numbers}
