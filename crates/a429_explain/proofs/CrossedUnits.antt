@@ -24,7 +24,7 @@ use Rattle.a429_explain.specs.Block.{HasCrossed}
 use Rattle.a429_explain.specs.Guess.{decoded, request_at, place_at_group, place_past, plain_plans, HaveCrossed}
 use Rattle.a429_explain.specs.Whole.{wanted}
 use Rattle.a429_explain.proofs.CleanBlock.{formed_sight}
-use Rattle.a429_explain.proofs.CleanGroups.{unit_has_forms, unit_parts}
+use Rattle.a429_explain.proofs.CleanGroups.{unit_has_forms, unit_parts, start_numbers}
 use Rattle.a429_explain.proofs.PlainPlans.{plain_past, plain_group}
 use Rattle.a429_explain.proofs.WholeFacts.{has_item, drop_next}
 use Rattle.a429_explain.proofs.CrossedUnit.{request_kept}
@@ -98,7 +98,7 @@ pub record IsNext (p : Contents) (items : List Seen) (rs : List Role) (rest : Li
   pub plans : plain_plans p.codes r.group.from rest (drop r.group.from items) ≡ plain r.group.from unit ∷ plain_plans p.codes r.group.to more (drop r.group.to items)
   pub file : place.file ≤ 255
   pub crossed : HasCrossed (decoded p items) r place unit
-  pub start : group_start rs r.group ≡ Some place
+  pub start : group_start rs r.group ≡ Some (start_numbers place)
   pub settled : is_settled rs r.group ≡ true
   pub words : without_free p.codes (drop r.group.to items) ≡ clean_blocks p.codes (number_after p.codes place unit) more
   pub fit : AllFit p (number_after p.codes place unit) more
@@ -146,10 +146,10 @@ next_group p is items place at count l w h =
     next_is p is items place at (at + group_length (drop at (roles (forms_of p.codes items)))) count h.rest here.item (drop (at + 1) items) (ap (λ (n : ℕ). at + n) goes) h.file h.fit list kept asks (ap (without_free p.codes) (sym list) ∙ h.words)
 
 -- a group without loss begins and ends under the numbers that the source comes to it with, and no file is given up
-no_more : (place : UnitNumber) → place.file ≤ 255 → give_ups_from place (Some place) ≡ 0
+no_more : (place : UnitNumber) → place.file ≤ 255 → give_ups_from place (Some (start_numbers place)) ≡ 0
 no_more place l = omega arith
 
-same_place : (c : Codes) (place : UnitNumber) → place_from c place (Some place) ≡ place
+same_place : (c : Codes) (place : UnitNumber) → place_from c place (Some (start_numbers place)) ≡ place
 same_place c place = ap (λ (b : Bool). cond b place (first_number c place.file)) (eq-eqb place.file place.file refl)
 
 pub next_place : (p : Contents) (items : List Seen) (rs : List Role) (rest : List LduValue) (place : UnitNumber) (r : Request) → IsNext p items rs rest place r → place_at_group p.codes rs r.group place ≡ place

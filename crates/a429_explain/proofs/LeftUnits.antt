@@ -12,6 +12,7 @@ use Rattle.a429_ldu.specs.Form.{form_of, is_free}
 use Rattle.a429_ldu.specs.Sight.{sight_of, sight_in}
 use Rattle.a429_ldu.specs.Ldu.{LduValue}
 use Rattle.a429_link.specs.declared.number.UnitNumber.{UnitNumber}
+use Rattle.a429_explain.specs.declared.attempts.StartNumbers.{StartNumbers}
 use Rattle.a429_link.specs.declared.seen.Seen.{Seen}
 use Rattle.a429_link.specs.Link.{LinkValue}
 use Rattle.a429_link.specs.Number.{first_number}
@@ -56,7 +57,7 @@ no_plan (Request k start) n plans e = record {
 }
 no_plan _ n plans e = record { is = refl; left_is = refl }
 
-its_plan : (r : Role) (k : ℕ) (start : Option UnitNumber) (n : ℕ) (u : LduValue) (more : List Plan) → r ≡ Request k start → IsPlanOf r n (Some (plain n u)) (plain n u ∷ more) more
+its_plan : (r : Role) (k : ℕ) (start : Option StartNumbers) (n : ℕ) (u : LduValue) (more : List Plan) → r ≡ Request k start → IsPlanOf r n (Some (plain n u)) (plain n u ∷ more) more
 its_plan r k start n u more e =
     let here : (n == n) ≡ true = eq-eqb n n refl in
     subst (λ q. IsPlanOf q n (Some (plain n u)) (plain n u ∷ more) more) (sym e) (record {

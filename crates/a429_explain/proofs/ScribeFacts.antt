@@ -17,7 +17,7 @@ use Rattle.a429_link.specs.Source.{IsIdle}
 use Rattle.a429_link.specs.Sink.{Sink, Listens, SinkPhase, Quiet, OwesClear, Granted, InBlock, OwesAck, OwesNak}
 use Rattle.a429_link.specs.Step.{Can, after, label}
 use Rattle.a429_link.specs.State.{start, State, sink_state_of, states_of}
-use Rattle.a429_link.specs.declared.number.UnitNumber.{UnitNumber}
+use Rattle.a429_explain.specs.declared.attempts.StartNumbers.{StartNumbers}
 use Rattle.a429_link.specs.declared.carry.NextWord.{NextWord}
 use Rattle.a429_link.specs.Carry.{on_a}
 use Rattle.a429_link.proofs.CarryFacts.{can_send, can_take}
@@ -313,7 +313,7 @@ pub record Asks (r : Role) (i : Seen) (plan : Option Plan) (l : LinkValue) : Typ
   pub sends : CanMake (sent i) (link_after (begin_steps plan) l)
   pub leads : link_after (lossless_steps r i plan) l ≡ link_after (sent i) (link_after (begin_steps plan) l)
 
-pub asks_parts : (r : Role) (n : ℕ) (start : Option UnitNumber) (i : Seen) (plan : Option Plan) (l : LinkValue) → r ≡ Request n start → IsLossless r plan → CanMake (lossless_steps r i plan) l → Asks r i plan l
+pub asks_parts : (r : Role) (n : ℕ) (start : Option StartNumbers) (i : Seen) (plan : Option Plan) (l : LinkValue) → r ≡ Request n start → IsLossless r plan → CanMake (lossless_steps r i plan) l → Asks r i plan l
 asks_parts r n start i plan l e h run = subst (λ q. Asks q i plan l) (sym e) (by plan (subst (λ q. IsLossless q plan) e h) (subst (λ q. CanMake (lossless_steps q i plan) l) e run))
   where
     by : (o : Option Plan) → IsLossless (Request n start) o → CanMake (lossless_steps (Request n start) i o) l → Asks (Request n start) i o l
@@ -345,7 +345,7 @@ closes_on (Ok x) l m a made h = λ k c. record {
   leads = made ∙ ap (link_after (a ∷ [])) c.leads ∙ ap (λ (s : State). record k { state = s }) (sym (end_both k.profile c.steps (a ∷ []) k.state));
 }
 
-pub has_asked : {X E : Type 0} (r : Result X E) (role : Role) (n : ℕ) (start : Option UnitNumber) (i : Seen) (plan : Option Plan) (l closed begun m : LinkValue) → role ≡ Request n start → Closes l closed → begun ≡ link_after (begin_steps plan) closed → OnOk r (m ≡ link_after (sent i) begun) → OnOk r (HasAsked role i plan l m)
+pub has_asked : {X E : Type 0} (r : Result X E) (role : Role) (n : ℕ) (start : Option StartNumbers) (i : Seen) (plan : Option Plan) (l closed begun m : LinkValue) → role ≡ Request n start → Closes l closed → begun ≡ link_after (begin_steps plan) closed → OnOk r (m ≡ link_after (sent i) begun) → OnOk r (HasAsked role i plan l m)
 has_asked (Err e) role n start i plan l closed begun m is closes b h = tt
 has_asked (Ok x) role n start i plan l closed begun m is closes b h =
     let begin = begin_steps plan in

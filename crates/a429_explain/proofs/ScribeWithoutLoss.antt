@@ -21,6 +21,7 @@ use Rattle.a429_link.proofs.CleanRuns.{clean_is_run, run_split}
 use Rattle.a429_record.specs.declared.entry.Entry.{Entry}
 use Rattle.a429_cert.specs.Explained.{seen_of, items_of}
 use Rattle.a429_link.specs.declared.number.UnitNumber.{UnitNumber}
+use Rattle.a429_explain.specs.declared.attempts.StartNumbers.{StartNumbers}
 use Rattle.a429_explain.specs.declared.attempts.Role.{Role}
 use Rattle.a429_explain.specs.declared.attempts.Role.TheVariants as role
 use Rattle.a429_explain.specs.declared.plan.Plan.{Plan}
@@ -33,7 +34,7 @@ use Rattle.a429_explain.specs.Scribe.{IsLossless, lossless_steps, link_after}
 use Rattle.a429_explain.specs.Matching.{IsOfBlock}
 use Rattle.a429_explain.proofs.CleanBlock.{AreOfBlock, block_has_forms, formed_sight}
 use Rattle.a429_explain.proofs.PlainPlans.{IsOther, other_wants, plain_asked, plain_past}
-use Rattle.a429_explain.proofs.CleanGroups.{unit_has_forms, next_start_other, attempt_start_is}
+use Rattle.a429_explain.proofs.CleanGroups.{unit_has_forms, next_start_other, attempt_start_is, start_numbers}
 use Rattle.a429_explain.proofs.MatchingFacts.{get_item, length-items_of}
 use Rattle.a429_explain.proofs.Thinned.{attempt_start-thin, next_start-thin}
 use Rattle.a429_explain.proofs.WalkFacts.{free_none}
@@ -70,9 +71,9 @@ role_thin c i items = by (form_of c i.bus i.word)
   where
     by : (o : Option Form) → role_of o (forms_of c items) ≡ role_of o (forms_of c (without_free c items))
     by (Some (Cts n)) = ap (λ (b : Bool). role.Clear b) (sym (sends-thin c items))
-    by (Some (Ack f l)) = ap (λ (o : Option UnitNumber). role.Acknowledged (not (are_numbers o f l))) (sym (next_start-thin c items))
+    by (Some (Ack f l)) = ap (λ (o : Option StartNumbers). role.Acknowledged (not (are_numbers o f l))) (sym (next_start-thin c items))
     by None = refl
-    by (Some (Rts n)) = ap (λ (o : Option UnitNumber). role.Request n o) (sym (attempt_start-thin c items))
+    by (Some (Rts n)) = ap (λ (o : Option StartNumbers). role.Request n o) (sym (attempt_start-thin c items))
     by (Some (Nak b)) = refl
     by (Some (Sot g f l)) = refl
     by (Some (Part s)) = refl
@@ -103,7 +104,7 @@ record IsPlanned (c : Codes) (n : ℕ) (i : Seen) (items : List Seen) (r : Role)
   steps : lossless_steps r i (next_plain us) ≡ lossless_steps r i (plan_for r n plans)
   left : plans_left r n plans ≡ plain_plans c (n + 1) (units_left r us) items
 
-planned_asked : (c : Codes) (n : ℕ) (i : Seen) (items : List Seen) (k : ℕ) (first : Option UnitNumber) (us : List LduValue) (plans : List Plan) → wanted (sight_of c i.bus i.word) ≡ Some k → plans ≡ plain_plans c n us (i ∷ items) → IsLossless (role.Request k first) (next_plain us) → IsPlanned c n i items (role.Request k first) us plans
+planned_asked : (c : Codes) (n : ℕ) (i : Seen) (items : List Seen) (k : ℕ) (first : Option StartNumbers) (us : List LduValue) (plans : List Plan) → wanted (sight_of c i.bus i.word) ≡ Some k → plans ≡ plain_plans c n us (i ∷ items) → IsLossless (role.Request k first) (next_plain us) → IsPlanned c n i items (role.Request k first) us plans
 planned_asked c n i items k first [] plans w e h = absurd (cc h)
 planned_asked c n i items k first (u ∷ us) plans w e h =
     let r = role.Request k first in
@@ -231,8 +232,8 @@ planned_clean p is (u ∷ us) place f h =
     let more_steps = (map sends_word block ++ replies last ∷ []) ++ gs in
     let cts = word_number c (Cts (count_of u)) in
     let cleared = planned_cons c (on_b cts) follows (replies cts) more_steps us (role.Clear true) (rw k.clear (rw k.start refl)) refl refl words in
-    let begun : attempt_start (forms_of c (on_b cts ∷ follows)) ≡ Some place = ap (λ (ys : List Seen). attempt_start (forms_of c (on_b cts ∷ ys))) (append_assoc (map on_a block) (on_b last ∷ []) xs) ∙ attempt_start_is p place u (on_b last ∷ xs) k in
-    planned_cons c (on_a (word_number c (Rts (count_of u)))) (on_b cts ∷ follows) (asks c u) (replies cts ∷ more_steps) (u ∷ us) (role.Request (count_of u) (Some place)) (rw k.request (ap (λ (o : Option UnitNumber). role.Request (count_of u) o) begun)) refl refl cleared
+    let begun : attempt_start (forms_of c (on_b cts ∷ follows)) ≡ Some (start_numbers place) = ap (λ (ys : List Seen). attempt_start (forms_of c (on_b cts ∷ ys))) (append_assoc (map on_a block) (on_b last ∷ []) xs) ∙ attempt_start_is p place u (on_b last ∷ xs) k in
+    planned_cons c (on_a (word_number c (Rts (count_of u)))) (on_b cts ∷ follows) (asks c u) (replies cts ∷ more_steps) (u ∷ us) (role.Request (count_of u) (Some (start_numbers place))) (rw k.request (ap (λ (o : Option StartNumbers). role.Request (count_of u) o) begun)) refl refl cleared
 
 -- ---- the whole recording
 

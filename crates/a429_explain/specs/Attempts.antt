@@ -4,9 +4,9 @@ use Rattle.std.specs.Prelude.{◌≡◌, ℕ, ◌==◌, Bool, true, false, not, 
 use Rattle.a429_ldu.specs.declared.forms.Form.{Form}
 use Rattle.a429_ldu.specs.declared.forms.Form.TheVariants.{Rts, Cts, Ack, Nak, Sot, Part, Eot}
 use Rattle.a429_explain.specs.declared.attempts.Ahead.{Ahead}
-use Rattle.a429_link.specs.declared.number.UnitNumber.{UnitNumber}
 use Rattle.a429_explain.specs.declared.attempts.Role.{Role}
 use Rattle.a429_explain.specs.declared.attempts.Role.TheVariants as role
+use Rattle.a429_explain.specs.declared.attempts.StartNumbers.{StartNumbers}
 
 -- a word of a block is recorded before the next request
 abbrev pub sends_block : List (Option Form) → Bool
@@ -18,19 +18,19 @@ sends_block (Some (Eot flags check) ∷ more) = true
 sends_block (_ ∷ more) = sends_block more
 
 -- the numbers of the next start word; after an acknowledgement it is one of a later attempt
-abbrev pub next_start : List (Option Form) → Option UnitNumber
+abbrev pub next_start : List (Option Form) → Option StartNumbers
 next_start [] = None
 next_start (Some (Sot gfi file ldu) ∷ more) = Some (record { file = file; ldu = ldu })
 next_start (_ ∷ more) = next_start more
 
 -- the numbers of the first start word that is recorded before the next request
-abbrev pub attempt_start : List (Option Form) → Option UnitNumber
+abbrev pub attempt_start : List (Option Form) → Option StartNumbers
 attempt_start [] = None
 attempt_start (Some (Rts n) ∷ more) = None
 attempt_start (Some (Sot gfi file ldu) ∷ more) = Some (record { file = file; ldu = ldu })
 attempt_start (_ ∷ more) = attempt_start more
 
-abbrev pub are_numbers : Option UnitNumber → ℕ → ℕ → Bool
+abbrev pub are_numbers : Option StartNumbers → ℕ → ℕ → Bool
 are_numbers None file ldu = false
 are_numbers (Some n) file ldu = (n.file == file) && (n.ldu == ldu)
 

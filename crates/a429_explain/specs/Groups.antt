@@ -1,12 +1,11 @@
 -- Where a group of attempts ends, and what it says of its link data unit (profile). It ends with an acknowledgement after which
 -- that unit does not start again, and before an attempt whose start word has other numbers than those before it.
-use Rattle.std.specs.Prelude.{ℕ, suc, ◌+◌, ◌-◌, Bool, true, false, not, if◌then◌else◌, Option, Some, None, List, [], ◌∷◌, drop, slice_get, slice_range}
+use Rattle.std.specs.Prelude.{ℕ, suc, ◌+◌, ◌-◌, ◌==◌, Bool, true, false, not, ◌&&◌, if◌then◌else◌, Option, Some, None, List, [], ◌∷◌, drop, slice_get, slice_range}
 use Rattle.std.specs.Option.{option_or}
 use Rattle.a429_link.specs.declared.seen.Seen.{Seen}
-use Rattle.a429_link.specs.declared.number.UnitNumber.{UnitNumber}
-use Rattle.a429_link.specs.Number.{is_number}
 use Rattle.a429_explain.specs.declared.attempts.Role.{Role}
 use Rattle.a429_explain.specs.declared.attempts.Role.TheVariants.{Request, Acknowledged}
+use Rattle.a429_explain.specs.declared.attempts.StartNumbers.{StartNumbers}
 use Rattle.a429_explain.specs.declared.groups.Group.{Group}
 use Rattle.a429_explain.specs.declared.groups.Grouping.{Grouping}
 use Rattle.a429_explain.specs.declared.groups.Grouping.TheVariants.{Between, Within}
@@ -14,8 +13,8 @@ use Rattle.a429_explain.specs.declared.groups.Grouping.TheVariants.{Between, Wit
 -- ---- its end
 
 -- two start words were recorded, and they have other numbers
-abbrev pub are_other : Option UnitNumber → Option UnitNumber → Bool
-are_other (Some m) (Some n) = not (is_number m n)
+abbrev pub are_other : Option StartNumbers → Option StartNumbers → Bool
+are_other (Some m) (Some n) = not ((m.file == n.file) && (m.ldu == n.ldu))
 are_other _ _ = false
 
 -- a word belongs to the group that those before it have begun
@@ -25,7 +24,7 @@ stays_within (Within first) (Request n start) = not (are_other first start)
 stays_within (Within first) _ = true
 
 -- the numbers of the group's start words, where one was recorded
-abbrev pub start_in : Grouping → Option UnitNumber
+abbrev pub start_in : Grouping → Option StartNumbers
 start_in Between = None
 start_in (Within start) = start
 
@@ -61,17 +60,17 @@ asked (Request n start) = Some n
 asked _ = None
 
 -- the numbers of the start word of an attempt that begins here
-abbrev pub start_of : Role → Option UnitNumber
+abbrev pub start_of : Role → Option StartNumbers
 start_of (Request n start) = start
 start_of _ = None
 
 -- those of the first of these words
-abbrev pub first_started : List Role → Option UnitNumber
+abbrev pub first_started : List Role → Option StartNumbers
 first_started [] = None
 first_started (r ∷ more) = option_or (start_of r) (first_started more)
 
 -- that of the group's first start word, where one was recorded
-abbrev pub group_start : List Role → Group → Option UnitNumber
+abbrev pub group_start : List Role → Group → Option StartNumbers
 group_start rs g = first_started (slice_range rs g.from g.to)
 
 -- the word is the acknowledgement that ends its group

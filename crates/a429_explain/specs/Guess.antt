@@ -9,6 +9,7 @@ use Rattle.a429_ldu.specs.Sight.{sight_of}
 use Rattle.a429_link.specs.Clean.{AllFit, without_free, clean_blocks}
 use Rattle.a429_link.specs.declared.seen.Seen.{Seen}
 use Rattle.a429_explain.specs.declared.attempts.Role.{Role}
+use Rattle.a429_explain.specs.declared.attempts.StartNumbers.{StartNumbers}
 use Rattle.a429_explain.specs.declared.groups.Group.{Group}
 use Rattle.a429_explain.specs.declared.groups.Request.{Request}
 use Rattle.a429_explain.specs.declared.guess.Guess.{Guess}
@@ -33,7 +34,7 @@ abbrev pub started : Option Form → Option ℕ
 started (Some (Sot gfi file ldu)) = Some file
 started _ = None
 
-abbrev pub file_of : Option UnitNumber → ℕ
+abbrev pub file_of : Option StartNumbers → ℕ
 file_of None = 0
 file_of (Some n) = n.file
 

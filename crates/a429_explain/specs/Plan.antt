@@ -8,18 +8,19 @@ use Rattle.a429_link.specs.Number.{first_number, files_past, number_after}
 use Rattle.a429_link.specs.State.{rest}
 use Rattle.a429_explain.specs.declared.attempts.Role.{Role}
 use Rattle.a429_explain.specs.declared.attempts.Role.TheVariants.{Request}
+use Rattle.a429_explain.specs.declared.attempts.StartNumbers.{StartNumbers}
 use Rattle.a429_explain.specs.declared.plan.Plan.{Plan}
 
 -- ---- numbers
 
 -- those of a group whose first start word has these, where the source comes to it with those of `place`: if the file is another,
 -- the source gives up each file before that one
-abbrev pub place_from : Codes → UnitNumber → Option UnitNumber → UnitNumber
+abbrev pub place_from : Codes → UnitNumber → Option StartNumbers → UnitNumber
 place_from c place None = place
 place_from c place (Some start) = if start.file == place.file then place else first_number c start.file
 
 -- how many files it gives up
-abbrev pub give_ups_from : UnitNumber → Option UnitNumber → ℕ
+abbrev pub give_ups_from : UnitNumber → Option StartNumbers → ℕ
 give_ups_from place None = 0
 give_ups_from place (Some start) = files_past start.file place.file
 

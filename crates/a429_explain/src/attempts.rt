@@ -7,8 +7,14 @@ ghost use Rattle.a429_explain.specs.Attempts.{sends_block, next_start, are_numbe
 
 use crate::decoded::Decoded;
 use a429_ldu::Form;
-use a429_link::UnitNumber;
 use std::alloc::{AllocError, Global};
+
+/// The numbers of a start word: that of its file, and that of its link data unit in the file, both 0 to 255 (ARINC 429 Part 3).
+#[derive(Clone, Copy, Debug, PartialEq, Eq)]
+pub struct StartNumbers {
+    pub file: u8,
+    pub ldu: u8,
+}
 
 /// What a recorded word is to the steps of a guess.
 #[derive(Clone, Copy, Debug, PartialEq, Eq)]
@@ -19,7 +25,7 @@ pub enum Role {
     /// one was recorded. `explain_by` looks at neither: its plans say at which requests a group begins.
     Request {
         count: u8,
-        start: Option<UnitNumber>,
+        start: Option<StartNumbers>,
     },
     /// The clear answer, and whether the source takes it; else it is lost after the recorder. By the rule of
     /// `check` the source takes it where a word of the block was recorded in its attempt.
@@ -42,10 +48,10 @@ pub enum Role {
 pub(crate) struct Ahead {
     /// A word of a block comes before the next request.
     pub sends_block: bool,
-    /// The number of the first start word before the next request.
-    pub attempt: Option<UnitNumber>,
-    /// The number of the next start word.
-    pub start: Option<UnitNumber>,
+    /// The numbers of the first start word before the next request.
+    pub attempt: Option<StartNumbers>,
+    /// The numbers of the next start word.
+    pub start: Option<StartNumbers>,
 }
 
 /// The role of each recorded word, by the rule of `check` (docs/CHECKER.md). The error is out of memory.
@@ -89,12 +95,12 @@ fn role_of(form: &Option<Form>, ahead: Ahead) -> Role
     }
 }
 
-fn are_numbers(start: Option<UnitNumber>, file: u8, ldu: u8) -> bool
+fn are_numbers(start: Option<StartNumbers>, file: u8, ldu: u8) -> bool
     ensures { result ≡ are_numbers start file ldu }
 {
     match start {
         None => false,
-        Some(start) => start.file == file && start.ldu == u16::from(ldu),
+        Some(start) => start.file == file && start.ldu == ldu,
     }
 }
 
@@ -110,8 +116,7 @@ fn before(form: &Option<Form>, ahead: Ahead) -> Ahead
             start: ahead.start,
         },
         Some(Form::Sot { file, ldu, .. }) => {
-            let ldu = u16::from(ldu);
-            let start = Some(UnitNumber { file, ldu });
+            let start = Some(StartNumbers { file, ldu });
             Ahead {
                 sends_block: true,
                 attempt: start,

@@ -4,9 +4,8 @@ ghost use Rattle.std.specs.Prelude.{◌≡◌, ◌<◌, ◌≤◌, ◌+◌, Some
 ghost use Rattle.a429_explain.specs.Groups.{are_other, stays_within, start_in, with_role, group_length, start_of, group_start, ends_its_group, is_settled, asked};
 ghost use Rattle.a429_explain.specs.Whole.{wanted};
 
-use crate::attempts::Role;
+use crate::attempts::{Role, StartNumbers};
 use a429_ldu::{Form, Sight};
-use a429_link::UnitNumber;
 
 /// The entries of a group: those from its first request on, and before this one.
 #[derive(Clone, Copy, Debug)]
@@ -28,7 +27,7 @@ pub(crate) enum Grouping {
     /// Between two groups.
     Between,
     /// Within a group; with the numbers of its start words, where one was recorded.
-    Within { start: Option<UnitNumber> },
+    Within { start: Option<StartNumbers> },
 }
 
 impl Grouping {
@@ -59,7 +58,7 @@ impl Grouping {
         }
     }
 
-    fn start(self) -> Option<UnitNumber>
+    fn start(self) -> Option<StartNumbers>
         ensures { result ≡ start_in self }
     {
         match self {
@@ -70,7 +69,7 @@ impl Grouping {
 }
 
 // Two start words were recorded, and they have other numbers.
-fn are_other(first: Option<UnitNumber>, start: Option<UnitNumber>) -> bool
+fn are_other(first: Option<StartNumbers>, start: Option<StartNumbers>) -> bool
     ensures { result ≡ are_other first start }
 {
     match (first, start) {
@@ -101,7 +100,7 @@ pub(crate) fn group_at(roles: &[Role], from: usize) -> Group
 }
 
 /// The numbers of a group's first start word, where one was recorded.
-pub(crate) fn group_start(roles: &[Role], group: Group) -> Option<UnitNumber>
+pub(crate) fn group_start(roles: &[Role], group: Group) -> Option<StartNumbers>
     requires { group.to ≤ length roles.now }
     ensures { result ≡ group_start roles.now group }
 {
@@ -114,7 +113,7 @@ pub(crate) fn group_start(roles: &[Role], group: Group) -> Option<UnitNumber>
 }
 
 // The numbers of the start word of an attempt that begins here.
-fn start_of(role: Role) -> Option<UnitNumber>
+fn start_of(role: Role) -> Option<StartNumbers>
     ensures { result ≡ start_of role }
 {
     match role {

@@ -24,7 +24,7 @@ mod verdict;
 pub mod walk;
 mod whole;
 
-pub use crate::attempts::{Role, roles};
+pub use crate::attempts::{Role, StartNumbers, roles};
 pub use crate::certificate::Certificate;
 pub use crate::checking::check;
 pub use crate::decoded::{Decoded, DecodedWord};

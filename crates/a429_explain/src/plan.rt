@@ -3,7 +3,7 @@
 ghost use Rattle.std.specs.Prelude.{◌≡◌};
 ghost use Rattle.a429_explain.specs.Plan.{place_from, give_ups_from, place_after, begins_at, plan_for, plans_left};
 
-use crate::attempts::Role;
+use crate::attempts::{Role, StartNumbers};
 use a429_ldu::Ldu;
 use a429_link::UnitNumber;
 use a429_profile::Profile;
@@ -45,7 +45,7 @@ fn begins_at(plans: &VecDeque<Plan>, at: usize) -> bool
 pub(crate) fn place_from(
     profile: &Profile,
     place: UnitNumber,
-    start: Option<UnitNumber>,
+    start: Option<StartNumbers>,
 ) -> UnitNumber
     ensures { result ≡ place_from profile.now.codes place start }
 {
@@ -56,7 +56,7 @@ pub(crate) fn place_from(
 }
 
 /// How many files the source gives up before that group, 0 to 255.
-pub(crate) fn give_ups_from(place: UnitNumber, start: Option<UnitNumber>) -> u8
+pub(crate) fn give_ups_from(place: UnitNumber, start: Option<StartNumbers>) -> u8
     ensures { result ≡ give_ups_from place start }
 {
     match start {
