@@ -6,16 +6,19 @@ use Rattle.a429_ldu.specs.declared.forms.Form.{Form}
 use Rattle.a429_ldu.specs.declared.forms.Form.TheVariants.{Rts, Cts, Ack, Nak, Sot, Part, Eot}
 use Rattle.a429_ldu.specs.declared.sight.Sight.{Sight}
 use Rattle.a429_ldu.specs.declared.sight.Sight.TheVariants as sight
+use Rattle.a429_ldu.specs.Form.{form_of}
 use Rattle.a429_ldu.specs.Sight.{form_in, sight_of}
 use Rattle.a429_ldu.proofs.SightFacts.{form_of-sight}
 use Rattle.a429_link.specs.declared.seen.Seen.{Seen}
 use Rattle.a429_explain.specs.declared.attempts.Role.{Role}
+use Rattle.a429_explain.specs.declared.attempts.Role.TheVariants as role
 use Rattle.a429_explain.specs.declared.attempts.Ahead.{Ahead}
 use Rattle.a429_explain.specs.declared.decoded.DecodedWord.{DecodedWord}
 use Rattle.a429_explain.specs.Decoded.{sight_at, IsHeardAt, forms_of}
 use Rattle.a429_explain.specs.Attempts.{next_start, role_of, roles, IsAhead}
 use Rattle.a429_explain.specs.Groups.{asked}
 use Rattle.a429_explain.specs.Guess.{started, file_of}
+use Rattle.a429_explain.specs.Matching.{IsOfBlock}
 use Rattle.a429_explain.specs.Whole.{wanted}
 use Rattle.a429_explain.proofs.DecodedFacts.{forms_from}
 
@@ -66,6 +69,35 @@ asked_is c items rs n d all l = ap (λ (xs : List Role). asked (get_or xs n d)) 
     by [] n l = absurd (omega arith)
     by (i ∷ items) zero l = ap (λ (o : Option Form). asked (role_of o (forms_of c items))) (sym (form_of-sight c i.bus i.word)) ∙ asks (sight_of c i.bus i.word) (forms_of c items)
     by (i ∷ items) (suc n) l = by items n (omega arith)
+
+-- ---- the role of a word
+
+-- a word of this form has this role, by what comes after it
+pub record IsRole (r : Role) (o : Option Form) : Type 0 where
+  pub more : List (Option Form)
+  pub is : r ≡ role_of o more
+
+pub role_here : (c : Codes) (items : List Seen) (rs : List Role) (n : ℕ) (d : Role) (i : Seen) → rs ≡ roles (forms_of c items) → slice_get items n ≡ Some i → IsRole (get_or rs n d) (form_of c i.bus i.word)
+role_here c items rs n d i all at = subst (λ (xs : List Role). IsRole (get_or xs n d) (form_of c i.bus i.word)) (sym all) (by items n at)
+  where
+    by : (items : List Seen) (n : ℕ) → slice_get items n ≡ Some i → IsRole (get_or (roles (forms_of c items)) n d) (form_of c i.bus i.word)
+    by [] n at = absurd (cc at)
+    by (x ∷ items) zero at = record { more = forms_of c items; is = ap (λ (j : Seen). role_of (form_of c j.bus j.word) (forms_of c items)) (cc at) }
+    by (x ∷ items) (suc n) at = by items n at
+
+-- one of a block has a form of one
+pub of_block : (r : Role) (o : Option Form) → IsRole r o → r ≡ role.OfBlock → IsOfBlock o
+of_block r o h e = by o (sym h.is ∙ e)
+  where
+    by : (o : Option Form) → role_of o h.more ≡ role.OfBlock → IsOfBlock o
+    by (Some (Sot g f l)) e = tt
+    by (Some (Part s)) e = tt
+    by (Some (Eot f k)) e = tt
+    by (Some (Rts n)) e = absurd (cc e)
+    by (Some (Cts n)) e = absurd (cc e)
+    by (Some (Ack f l)) e = absurd (cc e)
+    by (Some (Nak b)) e = absurd (cc e)
+    by None e = absurd (cc e)
 
 -- ---- the next start word
 

@@ -5,14 +5,17 @@ use Rattle.std.proofs.lemmas.List.{get_or-drop}
 use Rattle.std.proofs.lemmas.Option.{slice_get_within, get_or_from_slice_get}
 use Rattle.a429_profile.specs.declared.codes.Codes.{Codes}
 use Rattle.a429_ldu.specs.declared.forms.Form.{Form}
+use Rattle.a429_ldu.specs.declared.forms.Form.TheVariants.{Rts, Cts, Ack, Nak, Sot, Part, Eot}
+use Rattle.a429_ldu.specs.Form.{form_of}
 use Rattle.a429_ldu.specs.Ldu.{LduValue, count_of}
 use Rattle.a429_link.specs.declared.seen.Seen.{Seen}
 use Rattle.a429_record.specs.declared.entry.Entry.{Entry}
 use Rattle.a429_cert.specs.Explained.{seen_of, items_of}
 use Rattle.a429_link.specs.declared.number.UnitNumber.{UnitNumber}
-use Rattle.a429_explain.specs.declared.decoded.DecodedWord.{DecodedWord}
-use Rattle.a429_explain.specs.Decoded.{IsHeardAt}
-use Rattle.a429_explain.specs.Matching.{is_word, passed_with, passing_as, passing, passed_after}
+use Rattle.a429_explain.specs.declared.attempts.Role.{Role}
+use Rattle.a429_explain.specs.Attempts.{role_of}
+use Rattle.a429_explain.specs.Matching.{is_word, passed_with, passing_as, passing_by, passing, passed_after}
+use Rattle.a429_explain.proofs.AttemptsFacts.{IsRole}
 
 passed_one : (is : ℕ → Bool) (k n : ℕ) → is k ≡ false → passed_with is k (suc n) ≡ passed_with is (suc k) n
 passed_one is k n e = rw e refl
@@ -57,11 +60,23 @@ passed_next c u place items a n i passed m e h =
 pub passed_none : (c : Codes) (u : LduValue) (place : UnitNumber) (items : List Seen) (a : ℕ) → passed_after c u place (slice_range items a a) (Some 0) ≡ Some 0
 passed_none c u place items a = let none : a - a ≡ 0 = omega arith in ap (λ (k : ℕ). passed_after c u place (take k (drop a items)) (Some 0)) none
 
-pub passed_step : (c : Codes) (u : LduValue) (place : UnitNumber) (items : List Seen) (a n : ℕ) (w : DecodedWord) (passed : ℕ) (r : Option ℕ) → a ≤ n → IsHeardAt c items n w → passed_after c u place (slice_range items a n) (Some 0) ≡ Some passed → r ≡ passing_as w.form (passed_with (is_word c u place w.word) passed (count_of u - passed)) passed → passed_after c u place (slice_range items a (n + 1)) (Some 0) ≡ r
-passed_step c u place items a n w passed r m k h e =
-    passed_next c u place items a n k.item passed m k.is h
-    ∙ ap (λ (x : Option Form). passing_as x (passed_with (is_word c u place k.item.word) passed (count_of u - passed)) passed) k.form_is
-    ∙ ap (λ (v : ℕ). passing_as w.form (passed_with (is_word c u place v) passed (count_of u - passed)) passed) k.word_is
+-- the role of a word tells how many are passed
+by_role : (o : Option Form) (more : List (Option Form)) (matched : Option ℕ) (passed : ℕ) → passing_by (role_of o more) matched passed ≡ passing_as o matched passed
+by_role (Some (Rts n)) more matched passed = refl
+by_role (Some (Cts n)) more matched passed = refl
+by_role (Some (Ack f l)) more matched passed = refl
+by_role (Some (Nak b)) more matched passed = refl
+by_role (Some (Sot g f l)) more matched passed = refl
+by_role (Some (Part s)) more matched passed = refl
+by_role (Some (Eot f k)) more matched passed = refl
+by_role None more matched passed = refl
+
+pub passed_by : (c : Codes) (u : LduValue) (place : UnitNumber) (items : List Seen) (a n : ℕ) (i : Seen) (role : Role) (passed : ℕ) (r : Option ℕ) → a ≤ n → slice_get items n ≡ Some i → IsRole role (form_of c i.bus i.word) → passed_after c u place (slice_range items a n) (Some 0) ≡ Some passed → r ≡ passing_by role (passed_with (is_word c u place i.word) passed (count_of u - passed)) passed → passed_after c u place (slice_range items a (n + 1)) (Some 0) ≡ r
+passed_by c u place items a n i role passed r m at k h e =
+    let matched = passed_with (is_word c u place i.word) passed (count_of u - passed) in
+    passed_next c u place items a n i passed m at h
+    ∙ sym (by_role (form_of c i.bus i.word) k.more matched passed)
+    ∙ ap (λ (q : Role). passing_by q matched passed) (sym k.is)
     ∙ sym e
 
 pub no_some : (o : Option ℕ) → o ≡ None → IsSome o → ⊥

@@ -1,5 +1,5 @@
 -- Searches through the words of a group, one word after the other.
-use Rattle.std.proofs.Common.{◌≡◌, ◌≢◌, ℕ, zero, suc, ◌+◌, ◌-◌, ◌≤◌, ◌<◌, Bool, true, false, cond, not, ◌&&◌, List, [], ◌∷◌, length, take, drop, slice_get, slice_range, Option, Some, None, is_some, refl, sym, ap, ◌∙◌, subst, arith, eq-eqb}
+use Rattle.std.proofs.Common.{◌≡◌, ◌≢◌, ℕ, zero, suc, ◌+◌, ◌-◌, ◌≤◌, ◌<◌, Bool, true, false, cond, not, ◌&&◌, List, [], ◌∷◌, length, take, drop, get_or, slice_get, slice_range, Option, Some, None, is_some, refl, sym, ap, ◌∙◌, subst, arith, eq-eqb}
 use Rattle.std.proofs.lemmas.Bool.{ne_eqb}
 use Rattle.std.proofs.lemmas.List.{drop_more}
 use Rattle.std.proofs.lemmas.Option.{slice_get_within, get_or_from_slice_get}
@@ -10,6 +10,7 @@ use Rattle.a429_ldu.specs.declared.forms.Form.{Form}
 use Rattle.a429_ldu.specs.declared.forms.Form.TheVariants.{Rts, Cts, Ack, Nak, Sot, Part, Eot}
 use Rattle.a429_ldu.specs.declared.fault.LduFault.{LduFault}
 use Rattle.a429_ldu.specs.declared.fault.LduFault.TheVariants.{Count, NotBytes, CheckWrong, OutOfMemory}
+use Rattle.a429_ldu.specs.Form.{form_of}
 use Rattle.a429_ldu.specs.Sight.{sight_of}
 use Rattle.a429_ldu.specs.Carried.{bytes_carried, bytes_in}
 use Rattle.a429_ldu.specs.Ldu.{LduValue, IsLdu, IsFirstLduFault}
@@ -21,8 +22,11 @@ use Rattle.a429_ldu.specs.declared.sight.Sight.TheVariants as sight
 use Rattle.a429_explain.specs.declared.verdict.Doubt.TheVariants.{NotOneBlock}
 use Rattle.a429_explain.specs.Stop.{IsDoubtOf, IsDoubtAt}
 use Rattle.a429_explain.specs.declared.decoded.DecodedWord.{DecodedWord}
-use Rattle.a429_explain.specs.Decoded.{sight_at, IsHeardAt}
-use Rattle.a429_explain.specs.Whole.{ends_with, Recorded, gathered_with, is_whole, unit_made, ended_by, first_whole, wanted, is_other, other_request}
+use Rattle.a429_explain.specs.declared.attempts.Role.{Role}
+use Rattle.a429_explain.specs.Attempts.{role_of, roles}
+use Rattle.a429_explain.specs.Decoded.{sight_at, IsHeardAt, forms_of}
+use Rattle.a429_explain.specs.Whole.{ends_with, Recorded, gathered_with, is_whole, is_of_attempt, unit_made, ended_by, first_whole, wanted, is_other, other_request}
+use Rattle.a429_explain.proofs.AttemptsFacts.{role_here}
 use Rattle.a429_explain.proofs.CleanBlock.{made_of}
 
 -- ---- the next word
@@ -122,3 +126,22 @@ whole_on p count items at to w r s l k e g =
     whole_next p count items at to w r l k
     ∙ ap (λ (x : Option LduValue). option_or x (first_whole p count (slice_range items (at + 1) to) (gathered_with w.form w.word r))) (sym e)
     ∙ ap (first_whole p count (slice_range items (at + 1) to)) (sym g)
+
+-- a free word and an answer are passed over
+pass_over : (p : Contents) (count : ℕ) (o : Option Form) (more : List (Option Form)) (word : ℕ) (items : List Seen) (r : Recorded) → is_of_attempt (role_of o more) ≡ false → option_or (ended_by p count o r) (first_whole p count items (gathered_with o word r)) ≡ first_whole p count items r
+pass_over p count (Some (Cts n)) more word items r e = refl
+pass_over p count (Some (Ack f l)) more word items r e = refl
+pass_over p count (Some (Nak b)) more word items r e = refl
+pass_over p count None more word items r e = refl
+pass_over p count (Some (Rts n)) more word items r e = absurd (cc e)
+pass_over p count (Some (Sot g f l)) more word items r e = absurd (cc e)
+pass_over p count (Some (Part s)) more word items r e = absurd (cc e)
+pass_over p count (Some (Eot f k)) more word items r e = absurd (cc e)
+
+pub whole_past : (p : Contents) (count : ℕ) (items : List Seen) (rs : List Role) (at to : ℕ) (d : Role) (r : Recorded) → at < to → at < length items → rs ≡ roles (forms_of p.codes items) → is_of_attempt (get_or rs at d) ≡ false → first_whole p count (slice_range items at to) r ≡ first_whole p count (slice_range items (at + 1) to) r
+whole_past p count items rs at to d r l m all e =
+    let here = has_item items at m in
+    let form = form_of p.codes here.item.bus here.item.word in
+    let role = role_here p.codes items rs at d here.item all here.is in
+    ap (λ (xs : List Seen). first_whole p count xs r) (range_next items at to here.item l here.is)
+    ∙ pass_over p count form role.more here.item.word (slice_range items (at + 1) to) r (ap is_of_attempt (sym role.is) ∙ e)

@@ -7,6 +7,8 @@ use Rattle.a429_ldu.specs.Form.{form_of}
 use Rattle.a429_ldu.specs.Ldu.{LduValue, count_of, block_of}
 use Rattle.a429_link.specs.declared.seen.Seen.{Seen}
 use Rattle.a429_link.specs.declared.number.UnitNumber.{UnitNumber}
+use Rattle.a429_explain.specs.declared.attempts.Role.{Role}
+use Rattle.a429_explain.specs.declared.attempts.Role.TheVariants.{Request, OfBlock}
 
 -- word k of the block; a start word has no number above 255
 abbrev pub is_word : Codes → LduValue → UnitNumber → ℕ → ℕ → Bool
@@ -25,6 +27,12 @@ passing_as (Some (Sot gfi file ldu)) matched passed = matched
 passing_as (Some (Part semis)) matched passed = matched
 passing_as (Some (Eot flags check)) matched passed = matched
 passing_as _ matched passed = Some passed
+
+-- the same with a word of this role
+abbrev pub passing_by : Role → Option ℕ → ℕ → Option ℕ
+passing_by (Request n start) matched passed = Some 0
+passing_by OfBlock matched passed = matched
+passing_by _ matched passed = Some passed
 
 -- with a word of this form, which is these words of a block of so many
 abbrev pub passing_with : (ℕ → Bool) → ℕ → Option Form → ℕ → Option ℕ

@@ -1,6 +1,6 @@
 -- Which link data unit a group carries (profile). A whole attempt has a start word, as many data words as its request
 -- asks for, that carry bytes, and an end word whose check word agrees.
-use Rattle.std.specs.Prelude.{◌≡◌, ◌<◌, ◌≤◌, ℕ, ◌+◌, ◌==◌, Bool, false, not, ◌&&◌, if◌then◌else◌, Option, Some, None, is_some, option_and_then, List, [], ◌∷◌, ◌++◌, length, slice_get}
+use Rattle.std.specs.Prelude.{◌≡◌, ◌<◌, ◌≤◌, ℕ, ◌+◌, ◌==◌, Bool, true, false, not, ◌&&◌, if◌then◌else◌, Option, Some, None, is_some, option_and_then, List, [], ◌∷◌, ◌++◌, length, slice_get}
 use Rattle.std.specs.Option.{option_or}
 use Rattle.a429_ldu.specs.CheckWord.{agrees}
 use Rattle.a429_profile.specs.declared.codes.Codes.{Codes}
@@ -15,6 +15,8 @@ use Rattle.a429_ldu.specs.Carried.{bytes_carried, bytes_in}
 use Rattle.a429_ldu.specs.Ldu.{LduValue}
 use Rattle.a429_link.specs.declared.seen.Seen.{Seen}
 use Rattle.a429_explain.specs.declared.groups.Request.{Request}
+use Rattle.a429_explain.specs.declared.attempts.Role.{Role}
+use Rattle.a429_explain.specs.declared.attempts.Role.TheVariants as role
 use Rattle.a429_explain.specs.declared.whole.Ends.{Ends}
 use Rattle.a429_explain.specs.Groups.{words_of_group}
 use Rattle.a429_explain.specs.Decoded.{HeardValue, sight_at}
@@ -33,6 +35,12 @@ gathered_with (Some (Rts n)) word r = nothing_yet
 gathered_with (Some (Sot gfi file ldu)) word r = record { start = Some gfi; words = r.words }
 gathered_with (Some (Part semis)) word r = record { start = r.start; words = r.words ++ word ∷ [] }
 gathered_with _ word r = r
+
+-- a word of this role is a request or a word of a block; an attempt passes over the others
+abbrev pub is_of_attempt : Role → Bool
+is_of_attempt (role.Request n start) = true
+is_of_attempt role.OfBlock = true
+is_of_attempt _ = false
 
 -- data words and a check word are those of a unit for which such a request asks
 abbrev pub is_whole : Contents → ℕ → List ℕ → ℕ → Bool

@@ -4,12 +4,15 @@ ghost use Rattle.std.specs.Prelude.{◌≡◌, ◌≤◌, ℕ, Some, Err, IfOk, 
 ghost use Rattle.a429_ldu.specs.Ldu.{LduValue};
 ghost use Rattle.a429_explain.specs.declared.verdict.Doubt.TheVariants as doubt;
 ghost use Rattle.a429_explain.specs.Stop.{IsDoubtAt, IsStop};
+ghost use Rattle.a429_explain.specs.Attempts.{roles as roles_of};
+ghost use Rattle.a429_explain.specs.Decoded.{HeardValue, forms_of};
 ghost use Rattle.a429_explain.specs.Whole.{IsRequestOf};
 ghost use Rattle.a429_explain.specs.Block.{other_for, IsUnitFor, IsWhyNoUnit, IsMatchedUnit, IsStopIn, HasCrossed};
 
+use crate::attempts::Role;
 use crate::decoded::Decoded;
 use crate::filled::filled_unit;
-use crate::groups::{Request, wanted};
+use crate::groups::{Request, asked};
 use crate::matching::first_unmatched;
 use crate::stop::Stop;
 use crate::verdict::Doubt;
@@ -22,10 +25,12 @@ use std::alloc::Global;
 pub(crate) fn matched_unit(
     alloc: Global,
     decoded: &Decoded,
+    roles: &[Role],
     request: Request,
     place: UnitNumber,
 ) -> Result<Ldu, Stop>
-    requires { IsRequestOf decoded.now request }
+    requires roles { roles.now ≡ roles_of (forms_of decoded.now.profile.codes decoded.now.items) }
+    requires request { IsRequestOf decoded.now request }
     ensures unit { IfOk result (λ u. IsMatchedUnit decoded.now request place u) }
     ensures fits { IfErr result (λ s. IsStop decoded.now.profile.codes decoded.now.items s) }
     ensures first { IfErr result (λ s. IsStopIn decoded.now request place s) }
@@ -35,11 +40,11 @@ pub(crate) fn matched_unit(
 {
     // (for the proof: the profile is sound)
     let _profile = decoded.profile();
-    let unit = match unit_of(alloc, decoded, request) {
+    let unit = match unit_of(alloc, decoded, roles, request) {
         Ok(unit) => unit,
         Err(stop) => return Err(stop),
     };
-    match first_unmatched(decoded, request.group, &unit, place) {
+    match first_unmatched(decoded, roles, request.group, &unit, place) {
         Some(entry) => {
             let doubt = Doubt::NotOneBlock;
             Err(Stop::Unexplained { entry, doubt })
@@ -51,16 +56,17 @@ pub(crate) fn matched_unit(
 // The link data unit of a group whose first request asks for so many words: that of its first whole attempt. Where
 // there is none, and no end word was recorded, it is made of the data words of the last attempt that recorded any,
 // and of filler words after them.
-fn unit_of(alloc: Global, decoded: &Decoded, request: Request) -> Result<Ldu, Stop>
-    requires { IsRequestOf decoded.now request }
+fn unit_of(alloc: Global, decoded: &Decoded, roles: &[Role], request: Request) -> Result<Ldu, Stop>
+    requires roles { roles.now ≡ roles_of (forms_of decoded.now.profile.codes decoded.now.items) }
+    requires request { IsRequestOf decoded.now request }
     ensures ok { IfOk result (λ u. IsUnitFor decoded.now request u) }
     ensures err { IfErr result (λ s. IsWhyNoUnit decoded.now request s × IsStop decoded.now.profile.codes decoded.now.items s) }
 {
-    if let Some(entry) = other_request(decoded, request) {
+    if let Some(entry) = other_request(roles, request) {
         let doubt = Doubt::NotOneBlock;
         return Err(Stop::Unexplained { entry, doubt });
     }
-    let Ok(whole) = whole_unit(alloc, decoded, request) else {
+    let Ok(whole) = whole_unit(alloc, decoded, roles, request) else {
         return Err(Stop::OutOfMemory);
     };
     if let Some(unit) = whole {
@@ -79,13 +85,14 @@ fn unit_of(alloc: Global, decoded: &Decoded, request: Request) -> Result<Ldu, St
 }
 
 // The first request of a group that asks for another number of words than its first one.
-fn other_request(decoded: &Decoded, request: Request) -> Option<usize>
-    requires { request.group.to ≤ length decoded.now.items }
-    ensures first { result ≡ other_for decoded.now request }
-    ensures fits { IfSome result (λ i. IsDoubtAt decoded.now.profile.codes decoded.now.items i doubt.NotOneBlock) }
+fn other_request(roles: &[Role], request: Request) -> Option<usize>
+    requires { request.group.to ≤ length roles.now }
+    ensures first { (h : HeardValue) → roles.now ≡ roles_of (forms_of h.profile.codes h.items) → result ≡ other_for h request }
+    ensures fits { (h : HeardValue) → roles.now ≡ roles_of (forms_of h.profile.codes h.items)
+        → IfSome result (λ i. IsDoubtAt h.profile.codes h.items i doubt.NotOneBlock) }
 {
     for at in request.group.from..request.group.to {
-        if let Some(count) = wanted(decoded.sight(at)) {
+        if let Some(count) = asked(roles[at]) {
             if count != request.count {
                 return Some(at);
             }

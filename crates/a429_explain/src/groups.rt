@@ -2,10 +2,8 @@
 
 ghost use Rattle.std.specs.Prelude.{◌≡◌, ◌<◌, ◌≤◌, ◌+◌, Some, drop, length};
 ghost use Rattle.a429_explain.specs.Groups.{are_other, stays_within, start_in, with_role, group_length, start_of, group_start, ends_its_group, is_settled, asked};
-ghost use Rattle.a429_explain.specs.Whole.{wanted};
 
 use crate::attempts::{Role, StartNumbers};
-use a429_ldu::{Form, Sight};
 
 /// The entries of a group: those from its first request on, and before this one.
 #[derive(Clone, Copy, Debug)]
@@ -144,16 +142,6 @@ pub(crate) fn asked(role: Role) -> Option<u8>
 {
     match role {
         Role::Request { count, .. } => Some(count),
-        _ => None,
-    }
-}
-
-/// How many words a request asks for, if the word is one.
-pub(crate) fn wanted(sight: Sight) -> Option<u8>
-    ensures { result ≡ wanted sight }
-{
-    match sight {
-        Sight::Form(Form::Rts { count }) => Some(count),
         _ => None,
     }
 }

@@ -2,13 +2,16 @@
 
 ghost use Rattle.std.specs.Prelude.{◌≡◌, ◌<◌, ◌≤◌, ◌-◌, ◌+◌, None, IfSome, length, slice_range};
 ghost use Rattle.a429_ldu.specs.Ldu.{count_of};
-ghost use Rattle.a429_explain.specs.Matching.{is_word, passed_with, passing_with, AreMatched, IsOfBlock};
+ghost use Rattle.a429_explain.specs.Attempts.{roles as roles_of};
+ghost use Rattle.a429_explain.specs.Decoded.{forms_of};
+ghost use Rattle.a429_explain.specs.Matching.{is_word, passed_with, passing_by, AreMatched};
 ghost use Rattle.a429_explain.specs.declared.verdict.Doubt.TheVariants as doubt;
 ghost use Rattle.a429_explain.specs.Stop.{IsDoubtAt};
 
-use crate::decoded::{Decoded, DecodedWord};
+use crate::attempts::Role;
+use crate::decoded::Decoded;
 use crate::groups::Group;
-use a429_ldu::{Form, Ldu};
+use a429_ldu::Ldu;
 use a429_link::UnitNumber;
 use a429_profile::Profile;
 use a429_word::Word;
@@ -17,10 +20,12 @@ use a429_word::Word;
 /// attempt the recorded words have to be some of the block, in their order.
 pub(crate) fn first_unmatched(
     decoded: &Decoded,
+    roles: &[Role],
     group: Group,
     unit: &Ldu,
     place: UnitNumber,
 ) -> Option<usize>
+    requires roles { roles.now ≡ roles_of (forms_of decoded.now.profile.codes decoded.now.items) }
     requires some { group.from ≤ group.to }
     requires inside { group.to ≤ length decoded.now.items }
     ensures fits { IfSome result (λ i. IsDoubtAt decoded.now.profile.codes decoded.now.items i doubt.NotOneBlock) }
@@ -33,7 +38,8 @@ pub(crate) fn first_unmatched(
     let profile = decoded.profile();
     let mut passed = 0;
     for at in group.from..group.to {
-        match passing(profile, unit, place, passed, decoded.word(at)) {
+        let word = decoded.seen(at).word;
+        match passing(profile, unit, place, passed, roles[at], word) {
             Some(more) => passed = more,
             None => return Some(at),
         }
@@ -41,27 +47,26 @@ pub(crate) fn first_unmatched(
     None
 }
 
-// How many words of the block are passed with this word, where `passed` are passed before it; none where it is not
-// matched.
+// How many words of the block are passed with this word, which has this role, where `passed` are passed before it; none where it
+// is not matched.
 fn passing(
     profile: &Profile,
     unit: &Ldu,
     place: UnitNumber,
     passed: u8,
-    decoded: DecodedWord,
+    role: Role,
+    word: Word,
 ) -> Option<u8>
     requires { passed ≤ count_of unit.now }
-    ensures passed { result ≡ passing_with (is_word profile.now.codes unit.now place decoded.word) (count_of unit.now) decoded.form passed }
+    ensures passed { result ≡ passing_by role (passed_with (is_word profile.now.codes unit.now place word) passed (count_of unit.now - passed)) passed }
     ensures inside { IfSome result (λ more. more ≤ count_of unit.now) }
-    ensures fits { result ≡ None → IsOfBlock decoded.form }
+    ensures fits { result ≡ None → role ≡ Role.OfBlock }
 {
-    match decoded.form {
-        Some(Form::Rts { .. }) => Some(0),
-        Some(Form::Sot { .. } | Form::Part(_) | Form::Eot { .. }) => {
-            passed_with(profile, unit, place, passed, decoded.word)
-        }
-        Some(Form::Cts { .. } | Form::Ack { .. } | Form::Nak { .. }) => Some(passed),
-        None => Some(passed),
+    match role {
+        Role::Request { .. } => Some(0),
+        Role::OfBlock => passed_with(profile, unit, place, passed, word),
+        Role::Clear { .. } | Role::Acknowledged { .. } | Role::Refused => Some(passed),
+        Role::Free => Some(passed),
     }
 }
 

@@ -96,7 +96,7 @@ impl Planner {
         let start = group_start(roles, group);
         let give_ups = give_ups_from(self.place, start);
         let numbers = place_from(profile, self.place, start);
-        let unit = match matched_unit(alloc, decoded, request, numbers) {
+        let unit = match matched_unit(alloc, decoded, roles, request, numbers) {
             Ok(unit) => unit,
             Err(stop) => return Err(stop),
         };

@@ -3,8 +3,11 @@
 ghost use Rattle.std.specs.Prelude.{◌≡◌, ◌≤◌, IfOk, IfSome, OnOk, length};
 ghost use Rattle.a429_ldu.specs.Form.{IsInRange};
 ghost use Rattle.a429_ldu.specs.Ldu.{IsLdu, count_of};
-ghost use Rattle.a429_explain.specs.Whole.{nothing_yet, gathered_with, unit_made, ended_by, first_whole, words_for};
+ghost use Rattle.a429_explain.specs.Attempts.{roles as roles_of};
+ghost use Rattle.a429_explain.specs.Decoded.{forms_of};
+ghost use Rattle.a429_explain.specs.Whole.{nothing_yet, gathered_with, is_of_attempt, unit_made, ended_by, first_whole, words_for};
 
+use crate::attempts::Role;
 use crate::decoded::{Decoded, DecodedWord};
 use crate::groups::Request;
 use a429_ldu::{Form, Ldu, LduFault};
@@ -18,9 +21,11 @@ use std::marker::Model;
 pub(crate) fn whole_unit(
     alloc: Global,
     decoded: &Decoded,
+    roles: &[Role],
     request: Request,
 ) -> Result<Option<Ldu>, AllocError>
-    requires { request.group.to ≤ length decoded.now.items }
+    requires roles { roles.now ≡ roles_of (forms_of decoded.now.profile.codes decoded.now.items) }
+    requires inside { request.group.to ≤ length decoded.now.items }
     ensures first { IfOk result (λ found. found ≡ first_whole decoded.now.profile request.count (words_for decoded.now request) nothing_yet) }
     ensures unit { IfOk result (λ found. IfSome found (λ u. IsLdu decoded.now.profile u)) }
     ensures count { IfOk result (λ found. IfSome found (λ u. count_of u ≡ request.count)) }
@@ -28,6 +33,9 @@ pub(crate) fn whole_unit(
     let profile = decoded.profile();
     let mut attempt = Attempt::new(alloc);
     for at in request.group.from..request.group.to {
+        if !is_of_attempt(roles[at]) {
+            continue;
+        }
         let word = decoded.word(at);
         match attempt.ended_by(alloc, profile, &word.form, request.count) {
             Ok(Some(unit)) => return Ok(Some(unit)),
@@ -37,6 +45,13 @@ pub(crate) fn whole_unit(
         attempt.take(word)?;
     }
     Ok(None)
+}
+
+// A word of this role is a request or a word of a block.
+fn is_of_attempt(role: Role) -> bool
+    ensures { result ≡ is_of_attempt role }
+{
+    matches!(role, Role::Request { .. } | Role::OfBlock)
 }
 
 // What an attempt has recorded: the general format identifier of its start word, and its data words.

@@ -13,7 +13,7 @@ use Rattle.a429_explain.proofs.block.matched_unit.Goals.{After-unit_of}
 
 -- what the group gives, where a link data unit has crossed
 gives : (c : After-unit_of) (u : LduValue) → HasCrossed c.args.decoded.now c.args.request c.args.place u → GivesUnit c.args.decoded.now.profile c.args.decoded.now.items c.args.request.group.from c.args.request.group.to c.args.request.count c.args.place u
-gives c u h = crossed_gives c.args.decoded.now.profile c.profile-profile.ensures.sound c.args.decoded.now.items c.args.request.group.from c.args.request.group.to c.args.request.count c.args.place u c.requires.some c.requires.inside c.requires.wants h
+gives c u h = crossed_gives c.args.decoded.now.profile c.profile-profile.ensures.sound c.args.decoded.now.items c.args.request.group.from c.args.request.group.to c.args.request.count c.args.place u c.requires.request.some c.requires.request.inside c.requires.request.wants h
 
 -- a group has one unit
 found : (unit u : LduValue) (o : Option LduValue) → o ≡ Some unit → o ≡ Some u → unit ≡ u
