@@ -5,6 +5,7 @@ use Rattle.std.proofs.Math.Seq.{take-append_seam}
 use Rattle.std.proofs.lemmas.Bool.Decides.{Decides-eqb, nat_tests}
 use Rattle.std.proofs.lemmas.List.{append_assoc, length-append, get_or_append_left, get_or_push, drop_more}
 use Rattle.std.proofs.lemmas.Slice.Eq.{starts_is}
+use Rattle.std.proofs.lemmas.Fmt.{decimal_digit}
 use Rattle.a429_cert.proofs.LineReaderFacts.{held_now, ahead_now, ahead_past}
 use Rattle.a429_cert.specs.declared.line.MovedLine.{MovedLine}
 use Rattle.a429_cert.specs.declared.line.CertLine.TheVariants.{Moved}
@@ -26,10 +27,11 @@ use Rattle.a429_cert.specs.declared.act.Act.TheVariants.{Sent, SentLost, TimeOut
 use Rattle.a429_cert.specs.Act.{act_text}
 use Rattle.std.specs.Fmt.{decimal}
 use Rattle.a429_cert.specs.Field.{field}
-use Rattle.a429_cert.specs.States.{sink_text, IsSink}
-use Rattle.a429_link.specs.declared.state.SourceState.TheVariants.{Sending}
+use Rattle.a429_cert.specs.States.{source_text, sink_text, IsSource, IsSink}
 use Rattle.a429_link.specs.declared.state.SinkState.{SinkState}
-use Rattle.a429_cert.specs.Likely.{sent_line, taken_line, sink_after, sending_field, ways_fields, values_below, IsLikely}
+use Rattle.a429_link.specs.declared.state.States.{States}
+use Rattle.a429_cert.specs.Likely.{sent_line, taken_line, sink_after, ways_fields, values_below, IsLikely}
+use Rattle.a429_cert.specs.LikelyLine.{IsWays}
 use Rattle.a429_cert.specs.StreamHead.{ReadsAtMost}
 use Rattle.a429_cert.specs.declared.stream_fault.StreamFault.TheVariants as stream
 use Rattle.a429_cert.proofs.LineShape.{IsVisible, line-visible}
@@ -75,45 +77,44 @@ likely n text m spells read e is =
       ends = λ rest. line_first (Moved n) (spelling (Moved n)) rest spells;
     })
 
--- ---- a line inside a block, by its pieces
-
-abbrev inside : Act → ℕ → ℕ → ℕ → MovedLine
-inside a sent taken to_sink = record { act = a; states = record { source = Sending sent; sink = sink_after taken; to_sink = to_sink; to_source = 0 } }
-
-sink_held : (taken : ℕ) → taken ≤ 254 → IsSink (sink_after taken)
-sink_held zero h = tt
-sink_held (suc k) h = (omega arith, h)
-
-inside_spells : (a : Act) (sent taken to_sink : ℕ) → sent ≤ 254 → taken ≤ 254 → to_sink ≤ 1 → SpellsLine (spelling (Moved (inside a sent taken to_sink))) (Moved (inside a sent taken to_sink))
-inside_spells a sent taken to_sink few some one = record { line = (few, sink_held taken some); held = (omega arith, omega arith); spelled = refl }
+-- ---- a line by its pieces
 
 -- only a line of a file that is given up is read in another way by a version
-inside_read : (a : Act) (sent taken to_sink : ℕ) → a ≢ GiveUp → (v : Version) → read_as v (Some (spelling (Moved (inside a sent taken to_sink)))) ≡ Some (spelling (Moved (inside a sent taken to_sink)))
-inside_read a sent taken to_sink goes Two = refl
-inside_read Sent sent taken to_sink goes One = refl
-inside_read SentLost sent taken to_sink goes One = refl
-inside_read TimeOut sent taken to_sink goes One = refl
-inside_read TakeAnswer sent taken to_sink goes One = refl
-inside_read LoseAnswer sent taken to_sink goes One = refl
-inside_read SinkTakes sent taken to_sink goes One = refl
-inside_read Silent sent taken to_sink goes One = refl
-inside_read Answered sent taken to_sink goes One = refl
-inside_read FreeSeen sent taken to_sink goes One = refl
-inside_read GiveUp sent taken to_sink goes One = absurd (goes refl)
+moved_read : (a : Act) (s : States) → a ≢ GiveUp → (v : Version) → read_as v (Some (spelling (Moved (record { act = a; states = s })))) ≡ Some (spelling (Moved (record { act = a; states = s })))
+moved_read a s goes Two = refl
+moved_read Sent s goes One = refl
+moved_read SentLost s goes One = refl
+moved_read TimeOut s goes One = refl
+moved_read TakeAnswer s goes One = refl
+moved_read LoseAnswer s goes One = refl
+moved_read SinkTakes s goes One = refl
+moved_read Silent s goes One = refl
+moved_read Answered s goes One = refl
+moved_read FreeSeen s goes One = refl
+moved_read GiveUp s goes One = absurd (goes refl)
 
 regroup : (a b c d e : List ℕ) → a ++ (b ++ ((c ++ d) ++ e)) ≡ (((a ++ b) ++ c) ++ d) ++ e
 regroup a b c d e =
     ap (λ l. a ++ (b ++ l)) (append_assoc c d e) ∙ sym (append_assoc ((a ++ b) ++ c) d e ∙ append_assoc (a ++ b) c (d ++ e) ∙ append_assoc a b (c ++ (d ++ e)))
 
-pub inside_likely : (a : Act) (letter sent taken to_sink : ℕ) (source ways : List ℕ) (sink : SinkState) → a ≢ GiveUp → sent ≤ 254 → taken ≤ 254 → to_sink ≤ 1
-    → letter ∷ [] ≡ act_text a → source ≡ sending_field sent → ways ≡ ways_fields to_sink taken → sink ≡ sink_after taken
-    → IsLikely (letter ∷ (source ++ ways)) (record { act = a; states = record { source = Sending sent; sink = sink; to_sink = to_sink; to_source = 0 } })
-inside_likely a letter sent taken to_sink source ways sink goes few some one is is' is'' sink_is =
-    let m = inside a sent taken to_sink in
-    likely m (letter ∷ (source ++ ways)) _ (inside_spells a sent taken to_sink few some one) (inside_read a sent taken to_sink goes)
-    (rw (is', is'') (ap (λ (l : List ℕ). l ++ (sending_field sent ++ ways_fields to_sink taken)) is
-    ∙ regroup (act_text a) (sending_field sent) (field (sink_text (sink_after taken))) (field (decimal to_sink)) (field (decimal 0))))
-    (ap (λ (s : SinkState). Moved (record { act = a; states = record { source = Sending sent; sink = s; to_sink = to_sink; to_source = 0 } })) sink_is)
+pub likely_pieces : (a : Act) (letter : ℕ) (s : States) (source ways : List ℕ) → a ≢ GiveUp → letter ∷ [] ≡ act_text a → (source ≡ field (source_text s.source)) × IsSource s.source → IsWays s ways
+    → IsLikely (letter ∷ (source ++ ways)) (record { act = a; states = s })
+likely_pieces a letter s source ways goes is from way =
+    let m : MovedLine = record { act = a; states = s } in
+    likely m (letter ∷ (source ++ ways)) m (record { line = (from.1, way.sink); held = (omega (arith, way.to_sink), omega (arith, way.to_source)); spelled = refl }) (moved_read a s goes)
+    (rw (from.0, way.text) (ap (λ (l : List ℕ). l ++ (field (source_text s.source) ++ (field (sink_text s.sink) ++ field (decimal s.to_sink) ++ field (decimal s.to_source)))) is
+    ∙ regroup (act_text a) (field (source_text s.source)) (field (sink_text s.sink)) (field (decimal s.to_sink)) (field (decimal s.to_source))))
+    refl
+
+-- the last piece, of a sink that takes no word of a block
+pub other_ways : (s : States) (sink : SinkState) (m n : ℕ) (text : List ℕ) → s.sink ≡ sink → s.to_sink ≡ m → s.to_source ≡ n → IsSink sink → m ≤ 1 → n ≤ 1
+    → text ≡ field (sink_text sink) ++ field ((48 + m) ∷ []) ++ field ((48 + n) ∷ []) → IsWays s text
+other_ways s sink m n text is to_sink to_source held few some e = record {
+  text = e ∙ rw (is, to_sink, to_source, decimal_digit m (omega (arith, few)), decimal_digit n (omega (arith, some))) refl;
+  sink = subst IsSink (sym is) held;
+  to_sink = omega (arith, to_sink, few);
+  to_source = omega (arith, to_source, some);
+}
 
 -- ---- the table
 

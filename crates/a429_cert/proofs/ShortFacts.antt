@@ -27,29 +27,3 @@ three_digits n h old mid new some least most short a b =
     let pair = (48 + (n - 100 * h) / 10) ∷ (48 + (n - 100 * h) % 10) ∷ [] in
     let is : decimal n ≡ (48 + h) ∷ pair = three_is n (omega arith) short ∙ rw (first, second, third) refl in
     b ∙ ap (λ t. t ++ pair) a ∙ append_assoc old ((48 + h) ∷ []) pair ∙ ap (λ t. old ++ t) (sym is)
-
--- ---- a text that begins with the digits of a number
-
-all_of : (rest : List ℕ) (n : ℕ) → n ≡ length rest → rest ≡ take n rest
-all_of rest n e = sym (take_all n rest (omega (arith, e)))
-
-pub one_at : (n : ℕ) (text : List ℕ) → n < 10 → 1 ≤ length text → get_or text 0 0 ≡ 48 + n → text ≡ decimal n ++ take (length text - 1) (drop 1 text)
-one_at n [] most len d = absurd (omega arith)
-one_at n (a ∷ rest) most len d =
-    ap (λ x. x ∷ rest) d ∙ ap (λ t. t ++ rest) (sym (decimal_digit n most)) ∙ ap (λ t. decimal n ++ t) (all_of rest (length (a ∷ rest) - 1) (omega arith))
-
-pub two_at : (n : ℕ) (text : List ℕ) → 10 ≤ n → n < 100 → 2 ≤ length text → get_or text 0 0 ≡ 48 + n / 10 → get_or text 1 0 ≡ 48 + n % 10 → text ≡ decimal n ++ take (length text - 2) (drop 2 text)
-two_at n [] least most len d e = absurd (omega arith)
-two_at n (a ∷ []) least most len d e = absurd (omega arith)
-two_at n (a ∷ (b ∷ rest)) least most len d e =
-    ap (λ x. x ∷ (b ∷ rest)) d ∙ ap (λ x. (48 + n / 10) ∷ (x ∷ rest)) e ∙ ap (λ t. t ++ rest) (sym (two_is n least most))
-    ∙ ap (λ t. decimal n ++ t) (all_of rest (length (a ∷ (b ∷ rest)) - 2) (omega arith))
-
-pub three_at : (n : ℕ) (text : List ℕ) → 100 ≤ n → n < 1000 → 3 ≤ length text → get_or text 0 0 ≡ 48 + n / 100 → get_or text 1 0 ≡ 48 + n / 10 % 10 → get_or text 2 0 ≡ 48 + n % 10
-    → text ≡ decimal n ++ take (length text - 3) (drop 3 text)
-three_at n [] least most len d e f = absurd (omega arith)
-three_at n (a ∷ []) least most len d e f = absurd (omega arith)
-three_at n (a ∷ (b ∷ [])) least most len d e f = absurd (omega arith)
-three_at n (a ∷ (b ∷ (g ∷ rest))) least most len d e f =
-    ap (λ x. x ∷ (b ∷ (g ∷ rest))) d ∙ ap (λ x. (48 + n / 100) ∷ (x ∷ (g ∷ rest))) e ∙ ap (λ x. (48 + n / 100) ∷ ((48 + n / 10 % 10) ∷ (x ∷ rest))) f
-    ∙ ap (λ t. t ++ rest) (sym (three_is n least most)) ∙ ap (λ t. decimal n ++ t) (all_of rest (length (a ∷ (b ∷ (g ∷ rest))) - 3) (omega arith))

@@ -7,7 +7,7 @@ use Rattle.a429_link.specs.declared.state.SourceState.{SourceState}
 use Rattle.a429_link.specs.declared.state.SourceState.TheVariants.{Idle, Awaiting, Sending, Waiting}
 use Rattle.a429_link.specs.declared.state.SinkState.{SinkState}
 use Rattle.a429_link.specs.declared.state.SinkState.TheVariants.{Quiet, OwesClear, Granted, InBlock, OwesAck, OwesNak}
-use Rattle.a429_cert.specs.States.{source_text, IsSource, sending_in, source_letter, source_in, sink_text, IsSink, block_in, sink_letter, sink_in, states_in, BeginsWithStates}
+use Rattle.a429_cert.specs.States.{source_text, IsSource, sending_in, source_letter, source_in, sink_text, IsSink, block_in, sink_letter, sink_in, states_in}
 use Rattle.a429_cert.specs.Field.{field, with_rest, decimal_in, last_decimal_in}
 use Rattle.a429_cert.proofs.FieldFacts.{IsNext, IsSpelling, field-back, field-only}
 use Rattle.a429_cert.proofs.Options.{bind_some, when_some, some_is, split}
@@ -140,10 +140,3 @@ states-only text s e =
     let spelled : text ≡ states_text read =
     first.0 ∙ ap (λ t. field (source_text source.0.0) ++ t) (second.0 ∙ ap (λ t. field (sink_text sink.0.0) ++ t) (third.0 ∙ ap (λ t. field (decimal to_sink.0.0) ++ t) fourth.0)) in
     subst P (some_is read s to_source.2) (spelled, record { source = first.1; sink = second.1; to_sink = third.1; to_source = fourth.1 })
-
--- a text that begins with states, and ends there, is read as these
-pub spelled-back : (text : List ℕ) (s : States) (rest : List ℕ) → BeginsWithStates text s rest → (length rest == 0) ≡ true → states_in text ≡ Some s
-spelled-back text s rest h e =
-    let front : List ℕ → List ℕ = λ t. field (source_text s.source) ++ (field (sink_text s.sink) ++ (field (decimal s.to_sink) ++ t)) in
-    let same : text ≡ states_text s = h.begins ∙ ap (λ r. front (field (decimal s.to_source) ++ r)) (nothing rest e) ∙ ap front (append-nil (field (decimal s.to_source))) in
-    ap states_in same ∙ states-back s (record { source = h.source; sink = h.sink; to_sink = h.to_sink; to_source = h.to_source })

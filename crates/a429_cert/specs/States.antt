@@ -80,11 +80,3 @@ states_in text = do
   to_sink ← with_rest decimal_in sink.1
   to_source ← last_decimal_in to_sink.1
   Some (record { source = source.0; sink = sink.0; to_sink = to_sink.0; to_source = to_source })
-
--- the text begins with these states, which a line may write, and this comes after them
-pub record BeginsWithStates (text : List ℕ) (s : States) (rest : List ℕ) : Type 0 where
-  pub source : IsSource s.source
-  pub sink : IsSink s.sink
-  pub to_sink : s.to_sink < 256
-  pub to_source : s.to_source < 256
-  pub begins : text ≡ field (source_text s.source) ++ (field (sink_text s.sink) ++ (field (decimal s.to_sink) ++ (field (decimal s.to_source) ++ rest)))

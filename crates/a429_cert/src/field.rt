@@ -1,9 +1,8 @@
 //! The fields of a line, and the numbers in them.
 
-ghost use Rattle.std.specs.Prelude.{◌≡◌, ◌<◌, ◌≤◌, ◌^◌, [], ◌∷◌, ◌++◌, length, IfSome, option_map};
-ghost use Rattle.std.specs.Fmt.{decimal};
+ghost use Rattle.std.specs.Prelude.{◌≡◌, ◌<◌, ◌≤◌, ◌^◌, length, IfSome, option_map};
 ghost use Rattle.std.specs.List.{list_all};
-ghost use Rattle.a429_cert.specs.Field.{last_decimal_in, decimal_in, with_next_digit, decimal_digit_in, hex_in, hex_digits_in, hex_digit_in, is_not_lower, with_rest, after_space, field};
+ghost use Rattle.a429_cert.specs.Field.{last_decimal_in, decimal_in, with_next_digit, decimal_digit_in, hex_in, hex_digits_in, hex_digit_in, is_not_lower, with_rest, after_space};
 
 use a429_word::Word;
 
@@ -154,90 +153,6 @@ pub fn last_decimal_at(text: &[u8]) -> Option<u8>
 {
     let (number, rest) = decimal_at(text)?;
     if rest.is_empty() { Some(number) } else { None }
-}
-
-// What comes after the digits of this number, where the text begins with them.
-#[inline(always)]
-fn after_decimal(text: &[u8], number: u8) -> Option<&[u8]>
-    ensures { IfSome result (λ rest. text.now ≡ decimal number ++ rest.now) }
-{
-    if number < 10 {
-        after_one(text, number)
-    } else if number < 100 {
-        after_two(text, number)
-    } else {
-        after_three(text, number)
-    }
-}
-
-#[inline(always)]
-fn after_one(text: &[u8], number: u8) -> Option<&[u8]>
-    requires { number < 10 }
-    ensures { IfSome result (λ rest. text.now ≡ decimal number ++ rest.now) }
-{
-    match text {
-        [one, rest @ ..] if *one == b'0' + number => Some(rest),
-        _ => None,
-    }
-}
-
-#[inline(always)]
-fn after_two(text: &[u8], number: u8) -> Option<&[u8]>
-    requires least { 10 ≤ number }
-    requires most { number < 100 }
-    ensures { IfSome result (λ rest. text.now ≡ decimal number ++ rest.now) }
-{
-    let (ten, unit) = (b'0' + number / 10, b'0' + number % 10);
-    match text {
-        [one, two, rest @ ..] if *one == ten && *two == unit => Some(rest),
-        _ => None,
-    }
-}
-
-#[inline(always)]
-fn after_three(text: &[u8], number: u8) -> Option<&[u8]>
-    requires { 100 ≤ number }
-    ensures { IfSome result (λ rest. text.now ≡ decimal number ++ rest.now) }
-{
-    let (hundred, ten, unit) = (
-        b'0' + number / 100,
-        b'0' + number / 10 % 10,
-        b'0' + number % 10,
-    );
-    match text {
-        [one, two, three, rest @ ..] if *one == hundred && *two == ten && *three == unit => Some(
-            rest,
-        ),
-        _ => None,
-    }
-}
-
-/// What comes after the field of this number, where the text begins with it.
-#[inline(always)]
-pub fn after_number(text: &[u8], number: u8) -> Option<&[u8]>
-    ensures begins { IfSome result (λ rest. text.now ≡ field (decimal number) ++ rest.now) }
-    ensures byte { number < 256 }
-{
-    after_decimal(after_space(text)?, number)
-}
-
-/// What comes after the field of this letter, where the text begins with it.
-#[inline(always)]
-pub fn after_letter(text: &[u8], letter: u8) -> Option<&[u8]>
-    ensures { IfSome result (λ rest. text.now ≡ field (letter ∷ []) ++ rest.now) }
-{
-    match text {
-        [b' ', first, rest @ ..] if *first == letter => Some(rest),
-        _ => None,
-    }
-}
-
-/// What comes after the field of this letter with this number after it, where the text begins with it.
-#[inline(always)]
-pub fn after_counted(text: &[u8], letter: u8, number: u8) -> Option<&[u8]>
-    ensures { IfSome result (λ rest. text.now ≡ field (letter ∷ decimal number) ++ rest.now) }
-{
-    after_decimal(after_letter(text, letter)?, number)
 }
 
 /// The hexadecimal number of so many digits in the next field, and what comes after it.

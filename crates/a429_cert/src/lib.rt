@@ -2,6 +2,7 @@
 #![tactic(auto)]
 
 mod act;
+mod after;
 mod at;
 mod block_text;
 mod entry;

@@ -1,11 +1,14 @@
-//! The lines of the words inside a block, written before they are needed.
+//! Lines that are likely the next, and the texts of those inside a block, written before they are needed.
 
 ghost use Rattle.std.specs.Prelude.{◌≡◌, ◌≢◌, ◌<◌, ◌≤◌, IfOk, IfSome};
 ghost use Rattle.a429_cert.specs.declared.line.CertLine.TheVariants.{Moved};
+ghost use Rattle.a429_cert.specs.Field.{field};
+ghost use Rattle.a429_cert.specs.States.{source_text, IsSource};
 ghost use Rattle.a429_cert.specs.Likely.{pair_text, sending_field, sent_line, sink_after, taken_line, values_below, ways_fields};
-ghost use Rattle.a429_cert.specs.LikelyLine.{IsLikelyLine};
+ghost use Rattle.a429_cert.specs.LikelyLine.{IsLikelyLine, IsWays};
 
-use crate::act::{Act, act_letter};
+use crate::act::{Act, act_letter, act_of};
+use crate::after::likely_after;
 use crate::fault::OutOfMemory;
 use crate::line::MovedLine;
 use crate::short::ShortText;
@@ -73,70 +76,93 @@ impl WordLines {
         Some(self.pairs[place as usize].as_slice())
     }
 
-    /// The line that is likely the next in these states, where it has this letter: of a word of a block that is sent, taken or lost.
+    /// The line that is likely the next in these states, where it begins with this letter and has this one for the source.
     #[inline(always)]
-    pub fn likely(&self, before: States, letter: u8) -> Option<LikelyLine<'_>>
+    pub fn likely(&self, before: States, letter: u8, source: u8) -> Option<LikelyLine<'_>>
         ensures { IfSome result IsLikelyLine }
     {
-        let SourceState::Sending(sent) = before.source else {
-            return None;
-        };
-        let taken = taken_in(before.sink)?;
-        if sent >= 254 || taken >= 254 || before.to_source != 0 {
+        match act_of(letter) {
+            Some(Act::GiveUp) | None => None,
+            Some(act) => self.line(act, likely_after(act, before, source)),
+        }
+    }
+
+    // The line of this step, with these states after it, where its pieces are there.
+    #[inline(always)]
+    fn line(&self, act: Act, states: States) -> Option<LikelyLine<'_>>
+        requires { act ≢ Act.GiveUp }
+        ensures { IfSome result IsLikelyLine }
+    {
+        let source = self.source(states.source)?;
+        let ways = self.ways(states)?;
+        Some(LikelyLine {
+            line: MovedLine { act, states },
+            letter: act_letter(act),
+            source,
+            ways,
+        })
+    }
+
+    // The field of the source.
+    #[inline(always)]
+    fn source(&self, source: SourceState) -> Option<&[u8]>
+        ensures { IfSome result (λ text. (text.now ≡ field (source_text source)) × IsSource source) }
+    {
+        match source {
+            SourceState::Idle => Some(b" I".as_slice()),
+            SourceState::Awaiting => Some(b" C".as_slice()),
+            SourceState::Waiting => Some(b" W".as_slice()),
+            SourceState::Sending(sent) if sent <= 254 => Some(
+                self.sources[sent as usize].as_slice(),
+            ),
+            SourceState::Sending(_) => None,
+        }
+    }
+
+    // The fields of the sink and of the words on their way.
+    #[inline(always)]
+    fn ways(&self, states: States) -> Option<&[u8]>
+        ensures { IfSome result (λ text. IsWays states text.now) }
+    {
+        match states.sink {
+            SinkState::Granted if states.to_source == 0 => self.block_ways(0, states.to_sink),
+            SinkState::InBlock(taken) if 1 <= taken && states.to_source == 0 => self.block_ways(
+                taken,
+                states.to_sink,
+            ),
+            _ => other_ways(states),
+        }
+    }
+
+    // The same of a sink that has granted a block, and taken so many of its words.
+    #[inline(always)]
+    fn block_ways(&self, taken: u8, to_sink: u8) -> Option<&[u8]>
+        ensures { IfSome result (λ text. (text.now ≡ ways_fields to_sink taken) × (taken ≤ 254) × (to_sink ≤ 1)) }
+    {
+        if taken > 254 {
             return None;
         }
-        match (letter, before.to_sink) {
-            (b'a', 0) => Some(self.line(Act::Sent, sent + 1, taken, 1)),
-            (b'l', 0) => Some(self.line(Act::SentLost, sent + 1, taken, 0)),
-            (b'k', 1) => Some(self.line(Act::SinkTakes, sent, taken + 1, 0)),
+        match to_sink {
+            0 => Some(self.idle[taken as usize].as_slice()),
+            1 => Some(self.busy[taken as usize].as_slice()),
             _ => None,
         }
     }
+}
 
-    // The line of a step after which so many words of a block are sent, so many taken, and so many on their way.
-    #[inline(always)]
-    fn line(&self, act: Act, sent: u8, taken: u8, to_sink: u8) -> LikelyLine<'_>
-        requires sent { sent ≤ 254 }
-        requires taken { taken ≤ 254 }
-        requires to_sink { to_sink ≤ 1 }
-        requires act { act ≢ Act.GiveUp }
-        ensures { IsLikelyLine result }
-    {
-        LikelyLine {
-            line: MovedLine {
-                act,
-                states: States {
-                    source: SourceState::Sending(sent),
-                    sink: sink_after(taken),
-                    to_sink,
-                    to_source: 0,
-                },
-            },
-            letter: act_letter(act),
-            source: self.source(sent),
-            ways: self.ways(to_sink, taken),
-        }
-    }
-
-    #[inline(always)]
-    fn source(&self, sent: u8) -> &[u8]
-        requires { sent ≤ 254 }
-        ensures { result.now ≡ sending_field sent }
-    {
-        self.sources[sent as usize].as_slice()
-    }
-
-    #[inline(always)]
-    fn ways(&self, to_sink: u8, taken: u8) -> &[u8]
-        requires to_sink { to_sink ≤ 1 }
-        requires taken { taken ≤ 254 }
-        ensures { result.now ≡ ways_fields to_sink taken }
-    {
-        if to_sink == 0 {
-            self.idle[taken as usize].as_slice()
-        } else {
-            self.busy[taken as usize].as_slice()
-        }
+// The fields of a sink that takes no word of a block, and of the words on their way.
+fn other_ways(states: States) -> Option<&'static [u8]>
+    ensures { IfSome result (λ text. IsWays states text.now) }
+{
+    match (states.sink, states.to_sink, states.to_source) {
+        (SinkState::Quiet, 0, 0) => Some(b" Q 0 0".as_slice()),
+        (SinkState::Quiet, 0, 1) => Some(b" Q 0 1".as_slice()),
+        (SinkState::Quiet, 1, 0) => Some(b" Q 1 0".as_slice()),
+        (SinkState::OwesClear, 0, 0) => Some(b" c 0 0".as_slice()),
+        (SinkState::Granted, 0, 1) => Some(b" G 0 1".as_slice()),
+        (SinkState::OwesAck, 0, 0) => Some(b" A 0 0".as_slice()),
+        (SinkState::OwesNak, 0, 0) => Some(b" N 0 0".as_slice()),
+        _ => None,
     }
 }
 
@@ -177,18 +203,6 @@ fn sink_after(taken: u8) -> SinkState
         SinkState::Granted
     } else {
         SinkState::InBlock(taken)
-    }
-}
-
-// How many words the sink has taken of a block that it has granted.
-#[inline(always)]
-fn taken_in(sink: SinkState) -> Option<u8>
-    ensures { IfSome result (λ taken. sink ≡ sink_after taken) }
-{
-    match sink {
-        SinkState::Granted => Some(0),
-        SinkState::InBlock(taken) if taken > 0 => Some(taken),
-        _ => None,
     }
 }
 

@@ -121,14 +121,15 @@ impl LineReader {
         })
     }
 
-    /// The first byte of what was read and not yet handed out.
+    /// The letters that the next line has for its step and for the source, where as much of it was read.
     #[inline(always)]
-    pub(crate) fn first_byte(&self) -> Option<u8>
-        ensures { result ≡ slice_get (bytes_ahead self.now) 0 }
+    pub(crate) fn letters(&self) -> Option<(u8, u8)>
+        ensures some { IfSome result (λ x. (slice_get (bytes_ahead self.now) 0 ≡ Some x.0) × (slice_get (bytes_ahead self.now) 2 ≡ Some x.1)) }
+        ensures none { IfNone result (length (bytes_ahead self.now) < 3) }
     {
         match &self.buffer[self.next..self.filled] {
-            [first, ..] => Some(*first),
-            [] => None,
+            [step, _, source, ..] => Some((*step, *source)),
+            _ => None,
         }
     }
 

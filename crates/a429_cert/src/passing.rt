@@ -17,7 +17,7 @@ use crate::at::At;
 use crate::fault::CertFault;
 use crate::line::{CertLine, LoadLine, MovedLine};
 use crate::listed::Listed;
-use crate::reading::{load_of, moved_from};
+use crate::reading::{load_of, moved_of};
 use a429_ldu::{Ldu, LduFault};
 use a429_link::{Link, Seen, States, Step, StepFault};
 use a429_profile::Profile;
@@ -142,7 +142,7 @@ fn read_moved(link: &Link<'_>, letter: u8, text: &[u8], n: usize) -> Result<List
     ensures listed { IfOk result (λ x. Lists link.now.profile (Some (letter ∷ text.now)) x link.now.state) }
     ensures refused { IfErr result (RefusesFirst link.now.profile (Some (letter ∷ text.now)) n link.now.state) }
 {
-    match moved_from(letter, text, link.states()) {
+    match moved_of(letter, text) {
         Some(line) => allow_line(link, line, n),
         None => Err(CertFault::Line(n)),
     }

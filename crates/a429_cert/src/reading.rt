@@ -8,10 +8,9 @@ use crate::act::{Act, act_of};
 use crate::fault::OutOfMemory;
 use crate::field::{hex_at, last_decimal_at, word_at};
 use crate::line::{CertLine, LoadLine, MovedLine};
-use crate::states::{states_at, states_near};
+use crate::states::states_at;
 use crate::words::Words;
 use a429_ldu::MOST_DATA_WORDS;
-use a429_link::{SinkState, SourceState, States};
 use std::alloc::Global;
 
 // How many bytes a word takes in a line: a space and eight digits.
@@ -115,57 +114,4 @@ pub fn moved_of(letter: u8, text: &[u8]) -> Option<MovedLine>
     let act = act_of(letter)?;
     let states = states_at(text)?;
     Some(MovedLine { act, states })
-}
-
-/// The same, where the step is at this place: the states after it are likely those that a step of its name mostly
-/// leads to.
-#[inline(always)]
-#[tactic(auto, unfolding(crate::specs::Reading::moved_in))]
-pub fn moved_from(letter: u8, text: &[u8], before: States) -> Option<MovedLine>
-    ensures { result ≡ moved_in letter text.now }
-{
-    let act = act_of(letter)?;
-    let states = states_near(text, likely_after(act, before))?;
-    Some(MovedLine { act, states })
-}
-
-// The states that a step of this name mostly leads to from these. Nothing rests on it: where it is wrong, the
-// states of a line are read.
-#[inline(always)]
-fn likely_after(act: Act, before: States) -> States {
-    match act {
-        Act::Sent => States {
-            source: likely_source(before.source),
-            to_sink: before.to_sink.wrapping_add(1),
-            ..before
-        },
-        Act::SentLost => States {
-            source: likely_source(before.source),
-            ..before
-        },
-        Act::SinkTakes => States {
-            sink: likely_sink(before.sink),
-            to_sink: before.to_sink.wrapping_sub(1),
-            ..before
-        },
-        _ => before,
-    }
-}
-
-// The source in a block, with one more word sent.
-#[inline(always)]
-fn likely_source(source: SourceState) -> SourceState {
-    match source {
-        SourceState::Sending(sent) => SourceState::Sending(sent.wrapping_add(1)),
-        _ => source,
-    }
-}
-
-// The sink in a block, with one more word taken.
-#[inline(always)]
-fn likely_sink(sink: SinkState) -> SinkState {
-    match sink {
-        SinkState::InBlock(taken) => SinkState::InBlock(taken.wrapping_add(1)),
-        _ => sink,
-    }
 }

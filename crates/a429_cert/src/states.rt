@@ -1,12 +1,10 @@
 //! The states that a line writes, read.
 
-ghost use Rattle.std.specs.Prelude.{◌≡◌, ◌++◌, true, IfSome, Some, option_map};
-ghost use Rattle.a429_cert.specs.States.{sending_in, source_in, block_in, sink_in, states_in, source_text, sink_text, IsSource, IsSink, BeginsWithStates};
-ghost use Rattle.a429_cert.specs.Field.{decimal_in, field, with_rest};
+ghost use Rattle.std.specs.Prelude.{◌≡◌, option_map};
+ghost use Rattle.a429_cert.specs.States.{sending_in, source_in, block_in, sink_in, states_in};
+ghost use Rattle.a429_cert.specs.Field.{decimal_in, with_rest};
 
-use crate::field::{
-    after_counted, after_letter, after_number, after_space, decimal_at, decimal_of, last_decimal_at,
-};
+use crate::field::{after_space, decimal_at, decimal_of, last_decimal_at};
 use a429_link::{SinkState, SourceState, States};
 
 // The source's state, and what comes after it.
@@ -97,68 +95,4 @@ pub fn states_at(text: &[u8]) -> Option<States>
         to_sink,
         to_source,
     })
-}
-
-/// The same of states that are likely these: then they are only held against the text.
-#[inline(always)]
-pub fn states_near(text: &[u8], likely: States) -> Option<States>
-    ensures { result ≡ states_in text.now }
-{
-    if spells(text, likely) {
-        Some(likely)
-    } else {
-        states_at(text)
-    }
-}
-
-// Whether the text is that of these states.
-#[inline(always)]
-fn spells(text: &[u8], states: States) -> bool
-    ensures { result ≡ true → states_in text.now ≡ Some states }
-{
-    match after_states(text, states) {
-        Some(rest) => rest.is_empty(),
-        None => false,
-    }
-}
-
-// What comes after these states, where the text begins with them.
-#[inline(always)]
-fn after_states(text: &[u8], states: States) -> Option<&[u8]>
-    ensures { IfSome result (λ rest. BeginsWithStates text.now states rest.now) }
-{
-    let rest = after_source(text, states.source)?;
-    let rest = after_sink(rest, states.sink)?;
-    let rest = after_number(rest, states.to_sink)?;
-    after_number(rest, states.to_source)
-}
-
-// What comes after this state of the source, where the text begins with it.
-#[inline(always)]
-fn after_source(text: &[u8], source: SourceState) -> Option<&[u8]>
-    ensures { IfSome result (λ rest. (text.now ≡ field (source_text source) ++ rest.now) × IsSource source) }
-{
-    match source {
-        SourceState::Idle => after_letter(text, b'I'),
-        SourceState::Awaiting => after_letter(text, b'C'),
-        SourceState::Waiting => after_letter(text, b'W'),
-        SourceState::Sending(sent) if sent <= 254 => after_counted(text, b'S', sent),
-        SourceState::Sending(_) => None,
-    }
-}
-
-// What comes after this state of the sink, where the text begins with it.
-#[inline(always)]
-fn after_sink(text: &[u8], sink: SinkState) -> Option<&[u8]>
-    ensures { IfSome result (λ rest. (text.now ≡ field (sink_text sink) ++ rest.now) × IsSink sink) }
-{
-    match sink {
-        SinkState::Quiet => after_letter(text, b'Q'),
-        SinkState::OwesClear => after_letter(text, b'c'),
-        SinkState::Granted => after_letter(text, b'G'),
-        SinkState::OwesAck => after_letter(text, b'A'),
-        SinkState::OwesNak => after_letter(text, b'N'),
-        SinkState::InBlock(taken) if 1 <= taken && taken <= 254 => after_counted(text, b'B', taken),
-        SinkState::InBlock(_) => None,
-    }
 }

@@ -117,5 +117,6 @@ fn likely_line<'w>(
 ) -> Option<LikelyLine<'w>>
     ensures { IfSome result IsLikelyLine }
 {
-    words.likely(link.states(), lines.first_byte()?)
+    let (letter, source) = lines.letters()?;
+    words.likely(link.states(), letter, source)
 }
