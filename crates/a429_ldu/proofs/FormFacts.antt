@@ -93,20 +93,18 @@ some_same e = cc
 pub one_form : (p : Contents) → IsProfile p → (b : Bus) (w : ℕ) (x y : Form) → IsForm p.codes b w x → IsForm p.codes b w y → x ≡ y
 one_form p is b w x y hx hy = let d = distinct p is in some_same (sym (form_on-found p.codes b w x d hx) ∙ form_on-found p.codes b w y d hy)
 
+-- the form that is found in a word of good parity with the label of its bus
+pub told_form : (c : Codes) (b : Bus) (w : ℕ) (x : Form) → HasOddParity w × (label_of w ≡ address_of c b) → w < 2 ^ 32 → form_on c b (fields_of w) ≡ Some x → IsForm c b w x
+told_form c b w x at word e =
+    let told = told_row c b (fields_of w) x (small_fields w) e in
+    record { bus = told.0; range = told.1; fields = told.2; label = at.1; parity = at.0; word = word }
+
 -- what is found in a word that is not free
 pub found_form : (c : Codes) (b : Bus) (w : ℕ) (x : Form) → is_free c b w ≡ false → w < 2 ^ 32 → form_on c b (fields_of w) ≡ Some x → IsForm c b w x
 found_form c b w x free word e =
     let parity = or_parts (not (count_of_ones w % 2 == 1)) _ free in
     let label = or_parts (not (label_of w == address_of c b)) _ parity.1 in
-    let told = told_row c b (fields_of w) x (small_fields w) e in
-    record {
-      bus = told.0;
-      range = told.1;
-      fields = told.2;
-      label = eqb-true (label_of w) (address_of c b) (not-false _ label.0);
-      parity = eqb-true (count_of_ones w % 2) 1 (not-false _ parity.0);
-      word = word;
-    }
+    told_form c b w x (eqb-true (count_of_ones w % 2) 1 (not-false _ parity.0), eqb-true (label_of w) (address_of c b) (not-false _ label.0)) word e
 
 some_else : (t : Bool) (o : Option Form) (x : Form) → cond t None o ≡ Some x → (t ≡ false) × (o ≡ Some x)
 some_else true o x e = absurd (cc)

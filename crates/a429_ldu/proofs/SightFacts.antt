@@ -18,8 +18,8 @@ use Rattle.a429_ldu.specs.Semis.{five_of}
 use Rattle.a429_ldu.specs.Carried.{semis_in}
 use Rattle.a429_ldu.proofs.FormDistinct.{AreDistinct, distinct}
 use Rattle.a429_ldu.proofs.FormTests.{yes}
-use Rattle.a429_ldu.proofs.FormFree.{is_free-decides, full_not_free}
-use Rattle.a429_ldu.proofs.FormFacts.{form_of-is, form_is_not_free}
+use Rattle.a429_ldu.proofs.FormFree.{is_free-decides, form_not_free, full_not_free}
+use Rattle.a429_ldu.proofs.FormFacts.{told_form, form_of-is, form_is_not_free}
 
 -- its form, from what it is
 form_in-sight_in : (o : Option Form) → form_in (sight_in o) ≡ o
@@ -90,10 +90,17 @@ seen_free c b w f t word fields decides e = sym (ap (λ u. told u (form_on c b f
 pub seen_told : (c : Codes) (b : Bus) (w : ℕ) (f : Fields) (t : Bool) (o : Option Form) → w < 2 ^ 32 → fields_of w ≡ f → Decides t (IsFree c b w) → t ≡ false → o ≡ form_on c b f → sight_in o ≡ sight_of c b w
 seen_told c b w f t o word fields decides e eo = ap sight_in eo ∙ sym (ap (λ u. told u (form_on c b f)) e) ∙ sight_tested c b w f t word fields decides
 
--- ---- full words
-
 form_of_kept : (c : Codes) (b : Bus) (w : ℕ) → w < 2 ^ 32 → is_free c b w ≡ false → form_of c b w ≡ form_on c b (fields_of w)
 form_of_kept c b w word free = rw (free, lt-leb (2 ^ 32) w word) refl
+
+-- a word of good parity with the label of its bus that has a form is not ignored
+pub seen_form : (p : Contents) → IsProfile p → (c : Codes) → c ≡ p.codes → (b : Bus) (w : ℕ) (f : Fields) (x : Form) → HasOddParity w × (label_of w ≡ address_of c b) → w < 2 ^ 32 → fields_of w ≡ f → form_on c b f ≡ Some x → sight.Form x ≡ sight_of c b w
+seen_form p is c ec b w f x at word fields e =
+    let found = ap (form_on c b) fields ∙ e in
+    let free = form_not_free c b w x (subst AreDistinct (sym ec) (distinct p is)) (told_form c b w x at word found) in
+    ap sight_in (sym (form_of_kept c b w word free ∙ found)) ∙ sym (ap (λ u. told u (form_of c b w)) free)
+
+-- ---- full words
 
 -- the semi-octets of a full word
 abbrev pub five : Fields → List ℕ

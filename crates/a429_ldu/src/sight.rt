@@ -53,8 +53,8 @@ pub fn form(profile: &Profile, bus: Bus, word: Word) -> Sight
     seen(profile, bus, word)
 }
 
-// Full data words are tested first, since most words of a recording are such: no other form has their type,
-// and no profile ignores it.
+// Full data words are tested first, since most words of a recording are such: no other form has their type. No profile
+// ignores a word that has a form, so the ignored types and codes come last.
 #[inline(always)]
 fn seen(profile: &Profile, bus: Bus, word: Word) -> Sight
     ensures sight { result ≡ sight_of profile.now.codes bus word }
@@ -71,11 +71,9 @@ fn seen(profile: &Profile, bus: Bus, word: Word) -> Sight
             Bus::B => Sight::NoForm,
         };
     }
-    if is_ignored(codes, parts) {
-        return Sight::Free;
-    }
     match form_on(codes, bus, parts) {
         Some(form) => Sight::Form(form),
+        None if is_ignored(codes, parts) => Sight::Free,
         None => Sight::NoForm,
     }
 }
