@@ -30,7 +30,7 @@ use Rattle.a429_cert.specs.Field.{field}
 use Rattle.a429_cert.specs.States.{source_text, sink_text, IsSource, IsSink}
 use Rattle.a429_link.specs.declared.state.SinkState.{SinkState}
 use Rattle.a429_link.specs.declared.state.States.{States}
-use Rattle.a429_cert.specs.Likely.{sent_line, taken_line, sink_after, ways_fields, values_below, IsLikely}
+use Rattle.a429_cert.specs.Likely.{sent_line, taken_line, values_below, IsLikely}
 use Rattle.a429_cert.specs.LikelyLine.{IsWays}
 use Rattle.a429_cert.specs.StreamHead.{ReadsAtMost}
 use Rattle.a429_cert.specs.declared.stream_fault.StreamFault.TheVariants as stream

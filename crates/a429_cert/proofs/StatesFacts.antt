@@ -1,5 +1,5 @@
 -- States are read as they are spelled.
-use Rattle.std.proofs.Common.{◌≡◌, ◌==◌, ◌∙◌, ◌≤◌, inl, inr, if◌then◌else◌, ℕ, List, [], ◌∷◌, ◌++◌, ◌&&◌, nat_le, ◌<◌, true, length, Option, Some, refl, sym, ap, subst, arith, append-nil}
+use Rattle.std.proofs.Common.{◌≡◌, ◌==◌, ◌∙◌, ◌≤◌, inl, inr, if◌then◌else◌, ℕ, List, [], ◌∷◌, ◌++◌, ◌&&◌, nat_le, ◌<◌, Option, Some, refl, sym, ap, subst, arith}
 use Rattle.std.specs.Fmt.{decimal}
 use Rattle.std.proofs.lemmas.Bool.{and_parts}
 use Rattle.a429_link.specs.declared.state.States.{States}
@@ -11,7 +11,7 @@ use Rattle.a429_cert.specs.States.{source_text, IsSource, sending_in, source_let
 use Rattle.a429_cert.specs.Field.{field, with_rest, decimal_in, last_decimal_in}
 use Rattle.a429_cert.proofs.FieldFacts.{IsNext, IsSpelling, field-back, field-only}
 use Rattle.a429_cert.proofs.Options.{bind_some, when_some, some_is, split}
-use Rattle.a429_cert.proofs.FieldNumbers.{decimals, last_decimal-back, last_decimal-only, nothing, fits, below, is_same}
+use Rattle.a429_cert.proofs.FieldNumbers.{decimals, last_decimal-back, last_decimal-only, fits, below, is_same}
 
 -- ---- states that are a letter alone
 

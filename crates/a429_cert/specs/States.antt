@@ -1,12 +1,12 @@
 -- The states that a line writes: their spelling, their ranges, and how they are read (profile).
-use Rattle.std.specs.Prelude.{ℕ, ◌≡◌, ◌<◌, ◌≤◌, List, [], ◌∷◌, ◌++◌, ◌&&◌, ◌==◌, nat_le, if◌then◌else◌, codes, Option, Some, None, ⊤}
+use Rattle.std.specs.Prelude.{ℕ, ◌≤◌, List, [], ◌∷◌, ◌++◌, ◌&&◌, ◌==◌, nat_le, if◌then◌else◌, codes, Option, Some, None, ⊤}
 use Rattle.std.specs.Fmt.{decimal}
 use Rattle.a429_link.specs.declared.state.SourceState.{SourceState}
 use Rattle.a429_link.specs.declared.state.SourceState.TheVariants.{Idle, Awaiting, Sending, Waiting}
 use Rattle.a429_link.specs.declared.state.SinkState.{SinkState}
 use Rattle.a429_link.specs.declared.state.SinkState.TheVariants.{Quiet, OwesClear, Granted, InBlock, OwesAck, OwesNak}
 use Rattle.a429_link.specs.declared.state.States.{States}
-use Rattle.a429_cert.specs.Field.{◌>>=◌, field, when, with_rest, decimal_in, last_decimal_in}
+use Rattle.a429_cert.specs.Field.{◌>>=◌, when, with_rest, decimal_in, last_decimal_in}
 
 -- ---- the source
 

@@ -1,4 +1,4 @@
-use Rattle.std.proofs.Common.{◌≡◌, ◌≤◌, ◌∙◌, List, ℕ, ap, sym, arith}
+use Rattle.std.proofs.Common.{◌∙◌, ap, sym, arith}
 use Rattle.a429_cert.specs.Likely.{ways_fields}
 use Rattle.a429_cert.proofs.LikelyFacts.{get-below}
 use Rattle.a429_cert.proofs.likely.WordLines.block_ways.Goals as goal
