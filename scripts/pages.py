@@ -1,6 +1,7 @@
 """What the pages of this repository refer to: their links, the files that they name, and the commands that their blocks show."""
 import re
 from dataclasses import dataclass
+from functools import cache
 from pathlib import Path
 from urllib.parse import unquote
 
@@ -10,6 +11,8 @@ from console import blocks_of
 COMMAND = re.compile(r"(?:scripts/|\.ci/|\./|a429 [a-z]|rt |cd |export )")
 # The line above a block whose commands no test can run, with the reason.
 NOT_RUN = re.compile(r"<!-- not run: .+ -->")
+# What looks like a name of code: words joined by underscores, or two or more words that begin with capitals.
+NAME = re.compile(r"[a-z]\w*_\w*[a-z0-9]|(?:[A-Z][a-z0-9]+){2,}")
 
 
 @dataclass(frozen=True)
@@ -133,3 +136,20 @@ def lost_definitions(page, root):
             paths = [root / "crates" / crate / it for it in files]
             if not any(it.exists() and re.search(rf"\b{name}\b", it.read_text(encoding="utf-8")) for it in paths):
                 yield Fault(page, line, f"{name} is not in {' or '.join(files)} of {crate}")
+
+
+@cache
+def words_of_code(root):
+    """The words of the crates' sources, specs and proofs, of the scripts and of the examples, and the names of the crates."""
+    places = ("crates/*/src/**/*.rt", "crates/*/specs/**/*.antt", "crates/*/proofs/**/*.antt", "scripts/*", "examples/*")
+    files = (it for place in places for it in root.glob(place) if it.is_file())
+    texts = (it.read_text(encoding="utf-8", errors="replace") for it in files)
+    return {it.name for it in root.glob("crates/*")}.union(*(re.findall(r"\w+", text) for text in texts))
+
+
+def lost_names(page, root):
+    """The names of code that a page has between backquotes and that no source has."""
+    for number, line in enumerate(prose_of(page.read_text(encoding="utf-8")).splitlines(), 1):
+        for name in re.findall(r"`(?:\w+::)*(\w+)`", line):
+            if NAME.fullmatch(name) and name not in words_of_code(root):
+                yield Fault(page, number, f"no source has {name}")

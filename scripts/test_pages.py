@@ -4,7 +4,7 @@ import unittest
 from pathlib import Path
 
 from console import blocks_of
-from pages import anchors_of, commands_never_run, dead_links, idle_files, lost_definitions, missing_files
+from pages import anchors_of, commands_never_run, dead_links, idle_files, lost_definitions, lost_names, missing_files
 
 PAGE = """\
 # A page
@@ -89,6 +89,12 @@ class Pages(unittest.TestCase):
         text = "## low\n\n| `one w` | | `specs/One.antt` |\n| `two`, `four` | | same |\n| `three` | | same, `specs/Two.antt` |\n"
         faults = lost_definitions(self.put("definitions.md", text), self.root)
         self.assertEqual(self.said(faults), [(4, "four is not in specs/One.antt of low")])
+
+    def test_names_of_code_are_in_the_sources(self):
+        self.put("crates/low/src/lib.rt", "pub fn is_there() -> IsThere {}")
+        text = "`is_there`, `Low::is_there`, `IsThere` of `low`\n\n`was_there`, `IsGone::was_new`, `NAME`, `a b_c`, was_never\n"
+        faults = lost_names(self.put("names.md", text), self.root)
+        self.assertEqual(self.said(faults), [(3, "no source has was_there"), (3, "no source has was_new")])
 
 
 if __name__ == "__main__":
