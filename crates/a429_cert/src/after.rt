@@ -29,7 +29,7 @@ pub(crate) fn likely_after(act: Act, before: States, source: u8) -> States {
             ..before
         },
         Act::TakeAnswer => States {
-            source: hearing(before.source),
+            source: after_answer(before.source),
             to_source: before.to_source.wrapping_sub(1),
             ..before
         },
@@ -83,7 +83,7 @@ fn answered(sink: SinkState) -> SinkState {
 
 // The source, once it has taken an answer.
 #[inline(always)]
-fn hearing(source: SourceState) -> SourceState {
+fn after_answer(source: SourceState) -> SourceState {
     match source {
         SourceState::Awaiting => SourceState::Sending(0),
         _ => SourceState::Idle,
