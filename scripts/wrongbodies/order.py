@@ -3,14 +3,17 @@ import os
 import re
 import sys
 from concurrent.futures import ThreadPoolExecutor
+from itertools import count
 from queue import PriorityQueue
 from threading import Semaphore
 
-from wrongbodies.functions import text_of
-from wrongbodies.tries import Crate, cost, edits_of
+from wrongbodies.functions import files_below, text_of
+from wrongbodies.tries import Crate, cost
 
 # The most memory that a check was seen to take, in bytes.
 MEMORY_OF_A_CHECK = 4_000_000_000
+# How many edits are tried at once: a crate with more has them tried in parts, side by side where processors are free.
+MOST_AT_ONCE = 80
 
 
 # ---- rounds
@@ -48,9 +51,9 @@ def accepted(crate, edits, is_proved):
 
 
 def try_crate(crate, is_proved):
-    """How many edits of a crate are refused, how many of these are named ones, and how many are not refused."""
+    """How many edits of a crate, or of its part, are refused, how many of these are named ones, and how many are not refused."""
     with crate.room:
-        edits = edits_of(crate.folder)
+        edits = crate.edits()
         not_refused = accepted(crate, edits, is_proved)
     well = [it for it in edits if it not in not_refused]
     named = [it for it in well if it.name.startswith("named/")]
@@ -69,14 +72,20 @@ def lanes():
     return max(1, min(len(os.sched_getaffinity(0)), memory // MEMORY_OF_A_CHECK))
 
 
+def parts_of(made, rattle):
+    """A crate, in as many parts as its edits need."""
+    parts = -(-len(files_below(f"{made.folder}/wrong")) // MOST_AT_ONCE)
+    return [Crate(made, rattle, part, parts) for part in range(parts)]
+
+
 def dearest_first(crates, try_it, first, most):
     """What `try_it` counts of each of these crates, of which the dearest that has come is always next. They are tried on so many
     processors at first, and on the most once the last crate has come."""
-    free, waiting = Semaphore(first), PriorityQueue()
+    free, waiting, places = Semaphore(first), PriorityQueue(), count()
 
     def come():
         for crate in crates:
-            waiting.put((-crate.cost, crate.name, crate))
+            waiting.put((-crate.cost, next(places), crate))
             yield crate
         for _ in range(most - first):
             free.release()
@@ -99,7 +108,7 @@ def try_named(words, crates, rattle):
     if "-" in words:
         wanted = map(str.strip, sys.stdin)
     # (each is made when its name comes: it takes the libraries below it as they are then)
-    come = (Crate(made_of[it], rattle) for it in wanted if it in made_of)
+    come = (part for it in wanted if it in made_of for part in parts_of(made_of[it], rattle))
     sums = dearest_first(come, lambda crate: try_crate(crate, "--proved" in words), first, most)
     passed, named, failed = (sum(it) for it in zip(*sums, (0, 0, len(unknown))))
     print(f"wrong bodies refused: {passed}, of them named ones: {named}")

@@ -1,11 +1,14 @@
 """The rounds of a crate whose checks are made up, and the order of crates."""
 import contextlib
 import io
+import os
+import tempfile
 import threading
 import unittest
+from pathlib import Path
 from types import SimpleNamespace
 
-from wrongbodies.order import accepted, dearest_first, refused
+from wrongbodies.order import accepted, dearest_first, parts_of, refused
 from wrongbodies.tries import Edit
 
 
@@ -90,8 +93,22 @@ class Order(unittest.TestCase):
         def try_it(crate):
             return both.wait() < 2
 
-        crates = [SimpleNamespace(name=str(it), cost=it) for it in range(2)]
+        crates = [SimpleNamespace(name="both", cost=1) for _ in range(2)]
         self.assertEqual(dearest_first(crates, try_it, 1, 2), [True, True])
+
+    def test_a_crate_of_many_edits_is_tried_in_parts(self):
+        with tempfile.TemporaryDirectory(prefix="a429-order.") as folder:
+            os.makedirs(f"{folder}/wrong/named")
+            edits = [*(f"{it:03}.edit" for it in range(160)), "named/one.edit"]
+            for it in edits:
+                Path(folder, "wrong", it).write_text("")
+            made = SimpleNamespace(name="a429_test", folder=folder, below=lambda: [], words=lambda *_, **__: [])
+            parts = parts_of(made, "rattle")
+            found = [[it.name for it in part.edits()] for part in parts]
+            self.assertEqual((len(parts), sorted(sum(found, []))), (3, edits))
+            self.assertLessEqual(max(map(len, found)), 80)
+            for it in parts:
+                it.room.cleanup()
 
 
 if __name__ == "__main__":

@@ -132,10 +132,12 @@ def cost(made):
 
 
 class Crate:
-    """A crate whose edits are tried, over the libraries below it as they are now. `rattle` is the prover's command."""
+    """A crate whose edits are tried, or one of so many parts of them, over the libraries below it as they are now. `rattle` is the
+    prover's command."""
 
-    def __init__(self, made, rattle):
-        self.name, self.folder, self.cost, self.rattle, self.checks = made.name, made.folder, cost(made), rattle, 0
+    def __init__(self, made, rattle, part=0, parts=1):
+        self.name, self.folder, self.cost, self.rattle, self.checks = made.name, made.folder, cost(made) / parts, rattle, 0
+        self.part, self.parts = part, parts
         os.makedirs(f"{made.folder}/out", exist_ok=True)
         self.room = tempfile.TemporaryDirectory(prefix="wrong-bodies-", dir=f"{made.folder}/out")
         self.words = made.words(["--jobs", "1"], keeps=False)
@@ -143,6 +145,10 @@ class Crate:
             # (links, since `rt ci` replaces the library's folder once it has made it anew)
             shutil.copytree(f"{it.folder}/out/rlib", f"{self.room.name}/{it.name}", copy_function=os.link)
             self.words = [word.replace(f"{it.folder}/out/rlib", f"{self.room.name}/{it.name}") for word in self.words]
+
+    def edits(self):
+        """The edits of this part."""
+        return edits_of(self.folder)[self.part :: self.parts]
 
     def check(self, edits):
         """Checks a copy with these edits; of it only the edits' functions, if they are of functions. The exit status, the output, and
