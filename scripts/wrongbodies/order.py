@@ -7,8 +7,8 @@ from itertools import count
 from queue import PriorityQueue
 from threading import Semaphore
 
-from wrongbodies.functions import files_below, text_of
-from wrongbodies.tries import Crate, cost
+from wrongbodies.functions import text_of
+from wrongbodies.tries import Crate, cost, names_of
 
 # The most memory that a check was seen to take, in bytes.
 MEMORY_OF_A_CHECK = 4_000_000_000
@@ -72,10 +72,10 @@ def lanes():
     return max(1, min(len(os.sched_getaffinity(0)), memory // MEMORY_OF_A_CHECK))
 
 
-def parts_of(made, rattle):
+def parts_of(made, rattle, is_release=True):
     """A crate, in as many parts as its edits need."""
-    parts = -(-len(files_below(f"{made.folder}/wrong")) // MOST_AT_ONCE)
-    return [Crate(made, rattle, part, parts) for part in range(parts)]
+    parts = -(-len(names_of(made.folder, is_release)) // MOST_AT_ONCE)
+    return [Crate(made, rattle, part, parts, is_release) for part in range(parts)]
 
 
 def dearest_first(crates, try_it, first, most):
@@ -108,7 +108,7 @@ def try_named(words, crates, rattle):
     if "-" in words:
         wanted = map(str.strip, sys.stdin)
     # (each is made when its name comes: it takes the libraries below it as they are then)
-    come = (part for it in wanted if it in made_of for part in parts_of(made_of[it], rattle))
+    come = (part for it in wanted if it in made_of for part in parts_of(made_of[it], rattle, "--change" not in words))
     sums = dearest_first(come, lambda crate: try_crate(crate, "--proved" in words), first, most)
     passed, named, failed = (sum(it) for it in zip(*sums, (0, 0, len(unknown))))
     print(f"wrong bodies refused: {passed}, of them named ones: {named}")

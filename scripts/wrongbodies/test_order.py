@@ -110,6 +110,17 @@ class Order(unittest.TestCase):
             for it in parts:
                 it.room.cleanup()
 
+    def test_for_a_change_those_of_a_release_are_left_out(self):
+        with tempfile.TemporaryDirectory(prefix="a429-order.") as folder:
+            for it in ("one.edit", "named/two.edit", "release/three.edit"):
+                os.makedirs(os.path.dirname(f"{folder}/wrong/{it}"), exist_ok=True)
+                Path(folder, "wrong", it).write_text("")
+            made = SimpleNamespace(name="a429_test", folder=folder, below=lambda: [], words=lambda *_, **__: [])
+            for is_release, wanted in ((True, "named/two one release/three"), (False, "named/two one")):
+                part, = parts_of(made, "rattle", is_release)
+                self.assertEqual(" ".join(it.name.removesuffix(".edit") for it in part.edits()), wanted)
+                part.room.cleanup()
+
 
 if __name__ == "__main__":
     unittest.main()

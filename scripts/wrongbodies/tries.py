@@ -41,9 +41,14 @@ class Edit:
         return text
 
 
-def edits_of(folder):
-    """The wrong bodies of a crate."""
-    return [read_edit(it, text_of(f"{folder}/wrong/{it}"), folder) for it in files_below(f"{folder}/wrong")]
+def names_of(folder, is_release=True):
+    """The names of a crate's wrong bodies; for a mere change without those of wrong/release."""
+    return [it for it in files_below(f"{folder}/wrong") if is_release or not it.startswith("release/")]
+
+
+def edits_of(folder, is_release=True):
+    """The wrong bodies of a crate, as `names_of` names them."""
+    return [read_edit(it, text_of(f"{folder}/wrong/{it}"), folder) for it in names_of(folder, is_release)]
 
 
 def read_edit(name, text, folder):
@@ -133,11 +138,11 @@ def cost(made):
 
 class Crate:
     """A crate whose edits are tried, or one of so many parts of them, over the libraries below it as they are now. `rattle` is the
-    prover's command."""
+    prover's command. For a mere change those of wrong/release are left out."""
 
-    def __init__(self, made, rattle, part=0, parts=1):
+    def __init__(self, made, rattle, part=0, parts=1, is_release=True):
         self.name, self.folder, self.cost, self.rattle, self.checks = made.name, made.folder, cost(made) / parts, rattle, 0
-        self.part, self.parts = part, parts
+        self.part, self.parts, self.is_release = part, parts, is_release
         os.makedirs(f"{made.folder}/out", exist_ok=True)
         self.room = tempfile.TemporaryDirectory(prefix="wrong-bodies-", dir=f"{made.folder}/out")
         self.words = made.words(["--jobs", "1"], keeps=False)
@@ -148,7 +153,7 @@ class Crate:
 
     def edits(self):
         """The edits of this part."""
-        return edits_of(self.folder)[self.part :: self.parts]
+        return edits_of(self.folder, self.is_release)[self.part :: self.parts]
 
     def check(self, edits):
         """Checks a copy with these edits; of it only the edits' functions, if they are of functions. The exit status, the output, and
