@@ -1,5 +1,5 @@
 // Loaded before the C library (LD_PRELOAD), makes chosen calls of a program fail. scripts/faults builds
-// it and runs the program with it. What it is to do stands in two variables of the environment:
+// it and runs the program with it. What it is to do is in two variables of the environment:
 //
 //   FAULTS="CALL HOW FIRST LAST MARK"   the calls numbered FIRST to LAST, from 1, of CALL fail so:
 //       CALL    alloc, open, read or write

@@ -33,7 +33,7 @@ def records_of(text):
 
 
 def rows_of(text):
-    """The bus, the word and the time of each row behind the header; None for one that is no entry."""
+    """The bus, the word and the time of each row after the header; None for one that is no entry."""
     records = (record for record in records_of(text) if record)
     if next(records, None) != ["time", "bus", "word"]:
         raise Refused("recording: header")

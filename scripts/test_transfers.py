@@ -41,7 +41,7 @@ class Transfers(unittest.TestCase):
         first = run.transfer.file
         run.send_file([cut_unit(Profile(), b"A", True)])
         entries, files, certificate = run.broken_off(6)
-        # (the last step is behind the last entry)
+        # (the last step is after the last entry)
         self.assertEqual(certificate.decode(), LINES.format(first=first).removesuffix("g I Q 0 0\n"))
         self.assertEqual((len(entries), files), (6, [(first, b"A")]))
         self.assertEqual(run.broken_off(5)[1], [])

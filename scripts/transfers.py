@@ -153,7 +153,7 @@ def unit_by_chance(profile, dice, words, is_final):
 
 
 class Transfer:
-    """A source and a sink, the messages between them, and what was recorded and told of their steps."""
+    """A source and a sink, the messages between them, and what was recorded and listed of their steps."""
 
     def __init__(self, profile, first):
         self.profile = profile
