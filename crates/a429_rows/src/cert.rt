@@ -3,6 +3,5 @@
 mod line_reader;
 mod lines;
 mod replay;
-mod series;
 pub(crate) mod shelf;
 mod stream;

@@ -1,11 +1,13 @@
 //! Into which parts a recording is cut, by the sample profile.
 
+use crate::agreement::none_differs;
 use crate::calls::sample;
 use a429_parts::{MemoryParts, Parts, put_parts};
 use a429_profile::Profile;
 use a429_record::{EntryReader, ReadFault};
 use a429_word::{Page, Sheet, Tally};
 use std::alloc::Global;
+use std::test::Fail;
 
 // Files 254 and 255, of one byte each.
 const TWO_FILES: &str = "time,bus,word
@@ -118,6 +120,7 @@ fn first_that_differs(alloc: Global, profile: &Profile) -> Option<usize> {
 }
 
 #[test]
-fn parts_of_recordings(rt: HostRuntime) {
-    assert_eq!(rt; first_that_differs(rt.alloc(), &sample(&rt)), None);
+fn parts_of_recordings(rt: HostRuntime) -> Result<(), Fail> {
+    let profile = sample(&rt);
+    none_differs(first_that_differs(rt.alloc(), &profile))
 }

@@ -1,5 +1,6 @@
 //! What of a recording its transfer needs, by the sample profile.
 
+use crate::agreement::none_differs;
 use crate::calls::sample;
 use a429_parts::put_kept;
 use a429_profile::Profile;
@@ -7,6 +8,7 @@ use a429_record::{EntryReader, ReadFault};
 use a429_word::{Page, Sheet, Tally};
 use std::alloc::Global;
 use std::io::{Read, Write};
+use std::test::Fail;
 
 /// Writes a recording of any length without the entries that its transfer does not need.
 fn keep<R: Read + Drop, W: Write>(
@@ -63,6 +65,7 @@ fn first_that_differs(alloc: Global, profile: &Profile) -> Option<&'static str> 
 }
 
 #[test]
-fn what_is_kept(rt: HostRuntime) {
-    assert_eq!(rt; first_that_differs(rt.alloc(), &sample(&rt)), None);
+fn what_is_kept(rt: HostRuntime) -> Result<(), Fail> {
+    let profile = sample(&rt);
+    none_differs(first_that_differs(rt.alloc(), &profile))
 }

@@ -15,6 +15,12 @@ pub fn seen(bus: Bus, number: u32) -> Seen {
     }
 }
 
+// The number that eight digits write.
+fn digits_of(word: &str) -> Option<u32> {
+    let word = Word::parse_hex(word.as_bytes())?;
+    Some(word.to_u32())
+}
+
 // The number of a word by its name, or by its digits where it has none.
 fn number_of(word: &str) -> Option<u32> {
     match word {
@@ -25,7 +31,7 @@ fn number_of(word: &str) -> Option<u32> {
         "EOT" => Some(EOT),
         "ACK" => Some(ACK),
         "NAK" => Some(NAK),
-        _ => u32::from_str_radix(word, 16).ok(),
+        _ => digits_of(word),
     }
 }
 

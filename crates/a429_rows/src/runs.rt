@@ -9,13 +9,18 @@ mod words;
 
 use a429_link::FileBytes;
 
+// Whether a file has the number and the bytes of another.
+fn is_same(found: &FileBytes, expected: &FileBytes) -> bool {
+    found.number == expected.number && found.bytes.as_slice() == expected.bytes.as_slice()
+}
+
 // Whether files have the numbers and bytes of others, in their order.
 fn same_files(found: &[FileBytes], expected: &[FileBytes]) -> bool {
     if found.len() != expected.len() {
         return false;
     }
-    for (file, sent) in found.iter().zip(expected.iter()) {
-        if file.number != sent.number || file.bytes.as_slice() != sent.bytes.as_slice() {
+    for place in 0..found.len() {
+        if !is_same(&found[place], &expected[place]) {
             return false;
         }
     }

@@ -1,5 +1,6 @@
 //! Lines of certificates, and texts that are no line.
 
+use crate::agreement::none_differs;
 use crate::calls::debug;
 use a429_cert::{CertLine, LoadLine, OutOfMemory, Words, read_line, write_line};
 use a429_sample::CERTIFICATE;
@@ -105,8 +106,8 @@ fn first_count_read_otherwise(alloc: Global) -> Option<usize> {
 }
 
 #[test]
-fn loads_of_many_words(rt: HostRuntime) {
-    assert_eq!(rt; first_count_read_otherwise(rt.alloc()), None);
+fn loads_of_many_words(rt: HostRuntime) -> Result<(), Fail> {
+    none_differs(first_count_read_otherwise(rt.alloc()))
 }
 
 // How many texts these are, with this between them, where none of them is read as a line.

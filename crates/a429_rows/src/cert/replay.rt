@@ -1,5 +1,6 @@
 //! Changed certificates of the transfer of one byte, held against its recording.
 
+use crate::agreement::none_differs;
 use crate::calls::{debug, sample};
 use a429_cert::{Verified, verify};
 use a429_profile::Profile;
@@ -7,6 +8,7 @@ use a429_record::Entry;
 use a429_sample::{ACK, CERTIFICATE, CTS, EOT, PART, RTS, SOT};
 use a429_word::{Bus, Word};
 use std::alloc::{AllocError, Global};
+use std::test::Fail;
 
 // How many files a certificate lends, and what it gives away: file 1, with the byte 41, 65 in decimal.
 const ONE_FILE: &str = "(1, [FileBytes { number: 1, bytes: Bytes { bytes: [65] } }])";
@@ -174,7 +176,7 @@ fn first_that_differs(alloc: Global, profile: &Profile) -> Option<&'static str> 
 }
 
 #[test]
-fn changed_certificates(rt: HostRuntime) {
+fn changed_certificates(rt: HostRuntime) -> Result<(), Fail> {
     let profile = sample(&rt);
-    assert_eq!(rt; first_that_differs(rt.alloc(), &profile), None);
+    none_differs(first_that_differs(rt.alloc(), &profile))
 }

@@ -1,5 +1,6 @@
 //! A certificate of two files, held against their recording, both read as streams, also over devices that fail.
 
+use crate::agreement::none_differs;
 use crate::calls::{certificate_of, sample};
 use crate::cert::shelf::{Frail, noted};
 use crate::recordings::recorded;
@@ -10,7 +11,6 @@ use a429_sample::{Shaky, with};
 use a429_word::Tally;
 use std::alloc::Global;
 use std::io::Read;
-use std::process::Abort;
 use std::test::Fail;
 
 // Files 255 and 0, each of the byte 41.
@@ -38,23 +38,14 @@ fn streamed<R: Read + Drop, C: Read + Drop, S: Shelf>(
     (answer, failed)
 }
 
-// What is given to a stream: the sample profile, the recording of two files, and its certificate.
-#[derive(Drop)]
-struct Given {
-    profile: Profile,
-    recording: String,
-    certificate: Vec<u8>,
-}
-
-fn two_files(rt: &(impl Abort + AllocGlobal)) -> Result<Given, Fail> {
-    let profile = sample(rt);
-    let recording = recorded(rt.alloc(), WORDS)?;
-    let text = certificate_of(rt.alloc(), &profile, recording.as_str());
-    Ok(Given {
-        profile,
-        recording,
-        certificate: text.ok_or("no certificate")?,
-    })
+// What is given to a stream: the sample profile, the recording of two files, the same with its last word cut off, and the
+// certificate of the whole.
+#[derive(Clone, Copy)]
+struct Given<'a> {
+    profile: &'a Profile,
+    recording: &'a str,
+    cut: &'a str,
+    certificate: &'a [u8],
 }
 
 // At which call the readers of the recording and of the certificate, and the shelf fail; 0 for none.
@@ -64,14 +55,14 @@ type Calls = (u32, u32, u32);
 // fault then, and the shelf.
 fn stream_over(
     alloc: Global,
-    given: &Given,
+    given: Given<'_>,
     recording: &str,
     fails_at: Calls,
 ) -> (Answer, bool, Frail) {
     let rec = Shaky::new(recording.as_bytes(), fails_at.0);
-    let cert = Shaky::new(given.certificate.as_slice(), fails_at.1);
+    let cert = Shaky::new(given.certificate, fails_at.1);
     let mut shelf = Frail::new(alloc, fails_at.2);
-    let (answer, failed) = streamed(alloc, &given.profile, rec, cert, &mut shelf);
+    let (answer, failed) = streamed(alloc, given.profile, rec, cert, &mut shelf);
     (answer, failed, shelf)
 }
 
@@ -99,60 +90,53 @@ fn is_yes(answer: &Answer) -> bool {
 }
 
 // Whether a stream over all puts both files and lists them.
-fn puts_both(alloc: Global, given: &Given) -> bool {
-    let (answer, failed, shelf) = stream_over(alloc, given, given.recording.as_str(), (0, 0, 0));
+fn puts_both(alloc: Global, given: Given<'_>) -> bool {
+    let (answer, failed, shelf) = stream_over(alloc, given, given.recording, (0, 0, 0));
     is_yes(&answer) && !failed && has_both(&shelf)
 }
 
-#[test]
-fn two_files_are_put_in_order(rt: HostRuntime) -> Result<(), Fail> {
-    let given = two_files(&rt)?;
-    assert!(rt; puts_both(rt.alloc(), &given));
-    Ok(())
+// Whether the file before a fault stays where the last word is cut off.
+fn puts_first_alone(alloc: Global, given: Given<'_>) -> bool {
+    let (answer, failed, shelf) = stream_over(alloc, given, given.cut, (0, 0, 0));
+    let is_fault = matches!(answer, Err(StreamFault::Read(ReadFault::Row(11))));
+    is_fault && failed && has_first_alone(&shelf)
 }
 
-// The last word is cut off: the file before it was put.
-#[test]
-fn a_file_before_a_fault_stays(rt: HostRuntime) -> Result<(), Fail> {
-    let given = two_files(&rt)?;
-    let cut = with(rt.alloc(), given.recording.as_str(), "C50001A3 -> C5000")?;
-    let (answer, failed, shelf) = stream_over(rt.alloc(), &given, cut.as_str(), (0, 0, 0));
-    assert!(rt; matches!(answer, Err(StreamFault::Read(ReadFault::Row(11)))));
-    assert!(rt; failed && has_first_alone(&shelf));
-    Ok(())
+// The shelf that a stream leaves whose shelf fails at this put, where that is reported as a device that fails.
+fn left_at_put(alloc: Global, given: Given<'_>, put: u32) -> Option<Frail> {
+    let (answer, _, shelf) = stream_over(alloc, given, given.recording, (0, 0, put));
+    match answer {
+        Err(StreamFault::Device) => Some(shelf),
+        _ => None,
+    }
 }
 
-// Whether a shelf that fails at this put is reported as a device that fails, and has file 255 alone then, or none.
-fn fails_at_put(alloc: Global, given: &Given, put: u32, has_first: bool) -> bool {
-    let (answer, _, shelf) = stream_over(alloc, given, given.recording.as_str(), (0, 0, put));
-    let is_left = if has_first {
-        has_first_alone(&shelf)
+// Whether a shelf that fails at the first put has no file then.
+fn leaves_none(alloc: Global, given: Given<'_>) -> bool {
+    matches!(left_at_put(alloc, given, 1), Some(shelf) if shelf.files().is_empty())
+}
+
+// Whether one that fails at the second has file 255 alone.
+fn leaves_first(alloc: Global, given: Given<'_>) -> bool {
+    matches!(left_at_put(alloc, given, 2), Some(shelf) if has_first_alone(&shelf))
+}
+
+// What a stream answers whose reader of the recording, or else of the certificate, fails at a call.
+fn answer_at_call(alloc: Global, given: Given<'_>, is_recording: bool, call: u32) -> Answer {
+    let fails_at = if is_recording {
+        (call, 0, 0)
     } else {
-        shelf.files().is_empty()
+        (0, call, 0)
     };
-    is_left && matches!(answer, Err(StreamFault::Device))
-}
-
-#[test]
-fn a_shelf_that_fails_at_a_put(rt: HostRuntime) -> Result<(), Fail> {
-    let given = two_files(&rt)?;
-    assert!(rt; fails_at_put(rt.alloc(), &given, 1, false));
-    assert!(rt; fails_at_put(rt.alloc(), &given, 2, true));
-    Ok(())
+    let (answer, _, _) = stream_over(alloc, given, given.recording, fails_at);
+    answer
 }
 
 // How many runs end in a failure of the recording's reader, or else of the certificate's, one call later each, until
 // one does not fail; 0 where one of them is reported as another fault.
-fn failing_runs(alloc: Global, given: &Given, is_recording: bool) -> u32 {
-    let whole = given.recording.as_str();
+fn failing_runs(alloc: Global, given: Given<'_>, is_recording: bool) -> u32 {
     for call in 1..1_000 {
-        let fails_at = if is_recording {
-            (call, 0, 0)
-        } else {
-            (0, call, 0)
-        };
-        let (answer, _, _) = stream_over(alloc, given, whole, fails_at);
-        match answer {
+        match answer_at_call(alloc, given, is_recording, call) {
             Ok(_) => return call - 1,
             Err(StreamFault::Read(ReadFault::Device)) if is_recording => {}
             Err(StreamFault::Device) if !is_recording => {}
@@ -167,12 +151,54 @@ fn is_each_call(runs: u32, text: &[u8]) -> bool {
     runs as usize == text.len() + 1
 }
 
+// What first does not hold.
+fn first_that_fails(alloc: Global, given: Given<'_>) -> Option<&'static str> {
+    if !puts_both(alloc, given) {
+        return Some("two files are put in order");
+    }
+    if !puts_first_alone(alloc, given) {
+        return Some("a file before a fault stays");
+    }
+    if !leaves_none(alloc, given) {
+        return Some("a shelf that fails at the first put");
+    }
+    if !leaves_first(alloc, given) {
+        return Some("a shelf that fails at the second put");
+    }
+    if !is_each_call(failing_runs(alloc, given, true), given.recording.as_bytes()) {
+        return Some("the recording's reader fails at each call");
+    }
+    if !is_each_call(failing_runs(alloc, given, false), given.certificate) {
+        return Some("the certificate's reader fails at each call");
+    }
+    None
+}
+
+// The same of a recording, which the checker explains.
+fn first_that_fails_over(
+    alloc: Global,
+    profile: &Profile,
+    recording: &str,
+    cut: &str,
+) -> Option<&'static str> {
+    match certificate_of(alloc, profile, recording) {
+        Some(text) => first_that_fails(
+            alloc,
+            Given {
+                profile,
+                recording,
+                cut,
+                certificate: text.as_slice(),
+            },
+        ),
+        None => Some("no certificate"),
+    }
+}
+
 #[test]
-fn readers_that_fail_at_each_call(rt: HostRuntime) -> Result<(), Fail> {
-    let given = two_files(&rt)?;
-    let recording = failing_runs(rt.alloc(), &given, true);
-    assert!(rt; is_each_call(recording, given.recording.as_bytes()));
-    let certificate = failing_runs(rt.alloc(), &given, false);
-    assert!(rt; is_each_call(certificate, given.certificate.as_slice()));
-    Ok(())
+fn two_files_as_streams(rt: HostRuntime) -> Result<(), Fail> {
+    let recording = recorded(rt.alloc(), WORDS)?;
+    let cut = with(rt.alloc(), recording.as_str(), "C50001A3 -> C5000")?;
+    let profile = sample(&rt);
+    none_differs(first_that_fails_over(rt.alloc(), &profile, recording.as_str(), cut.as_str()))
 }

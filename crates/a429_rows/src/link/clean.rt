@@ -30,8 +30,11 @@ fn fault(alloc: Global, profile: &Profile, texts: &[&[u8]]) -> Option<CleanFault
 
 // A recorded word and its bus.
 fn word_at(run: &[Seen], place: usize) -> Option<(Bus, u32)> {
-    let seen = run.get(place)?;
-    Some((seen.bus, seen.word.to_u32()))
+    if place < run.len() {
+        Some((run[place].bus, run[place].word.to_u32()))
+    } else {
+        None
+    }
 }
 
 // How many words the run of a file has, and those at places 3 and 5, each with its bus.
@@ -55,7 +58,10 @@ fn is_refused(
     file: usize,
     wanted: CutFault,
 ) -> bool {
-    fault(alloc, profile, texts) == Some(CleanFault::Cut(file, wanted))
+    match fault(alloc, profile, texts) {
+        Some(CleanFault::Cut(number, fault)) => number == file && fault == wanted,
+        _ => false,
+    }
 }
 
 #[test]

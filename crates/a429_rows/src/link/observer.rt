@@ -1,5 +1,6 @@
 //! What a recording can go on with.
 
+use crate::agreement::none_differs;
 use crate::calls::sample;
 use crate::recordings::seen;
 use a429_link::Observer;
@@ -7,6 +8,7 @@ use a429_profile::Profile;
 use a429_sample::{ACK, CTS, RTS, SOT};
 use a429_word::Bus;
 use std::alloc::Global;
+use std::test::Fail;
 
 // Recorded words, and whether each may follow those before it.
 const RECORDED: [(Bus, u32, bool); 8] = [
@@ -32,7 +34,7 @@ fn first_that_differs(alloc: Global, profile: &Profile) -> Option<(u32, bool)> {
 }
 
 #[test]
-fn words_that_are_not_granted(rt: HostRuntime) {
+fn words_that_are_not_granted(rt: HostRuntime) -> Result<(), Fail> {
     let profile = sample(&rt);
-    assert_eq!(rt; first_that_differs(rt.alloc(), &profile), None);
+    none_differs(first_that_differs(rt.alloc(), &profile))
 }

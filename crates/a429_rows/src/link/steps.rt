@@ -1,5 +1,6 @@
 //! Steps on a link: what is delivered, and which are refused.
 
+use crate::agreement::none_differs;
 use crate::calls::{read, sample};
 use crate::link::script::Stage;
 use a429_profile::Profile;
@@ -156,9 +157,8 @@ const SCRIPTS: [(u8, &[&str]); 8] = [
 // The first line of them that goes otherwise than it says.
 fn first_that_differs(alloc: Global, profile: &Profile) -> Option<&'static str> {
     for (first, parts) in SCRIPTS {
-        let line = played(alloc, profile, first, parts);
-        if line.is_some() {
-            return line;
+        if let Some(line) = played(alloc, profile, first, parts) {
+            return Some(line);
         }
     }
     None
@@ -167,10 +167,7 @@ fn first_that_differs(alloc: Global, profile: &Profile) -> Option<&'static str> 
 #[test]
 fn steps_go_as_the_scripts_say(rt: HostRuntime) -> Result<(), Fail> {
     let profile = sample(&rt);
-    match first_that_differs(rt.alloc(), &profile) {
-        Some(line) => Err(Fail::new(line)),
-        None => Ok(()),
-    }
+    none_differs(first_that_differs(rt.alloc(), &profile))
 }
 
 #[test]

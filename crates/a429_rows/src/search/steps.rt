@@ -3,6 +3,7 @@
 ghost use Rattle.std.specs.Prelude.{◌≤◌};
 
 use super::plain::{has_each, has_none_twice, is_chosen, list_at};
+use crate::agreement::none_differs_given_memory;
 use crate::calls::sample;
 use a429_ldu::{Form, Semis, bytes_of, check_word, word_of};
 use a429_profile::{Check, CheckTables, Profile};
@@ -48,9 +49,12 @@ fn first_subsequence(
 
 #[test]
 fn some_of_others(rt: HostRuntime) -> Result<(), Fail> {
-    assert_eq!(rt; first_subsequence(rt.alloc(), 2, OF_TWO)?, None);
-    assert_eq!(rt; first_subsequence(rt.alloc(), 3, OF_THREE)?, None);
-    Ok(())
+    none_differs_given_memory(first_subsequence(rt.alloc(), 2, OF_TWO))
+}
+
+#[test]
+fn some_of_others_of_three_words(rt: HostRuntime) -> Result<(), Fail> {
+    none_differs_given_memory(first_subsequence(rt.alloc(), 3, OF_THREE))
 }
 
 // ---- a shortest list that has two
@@ -102,8 +106,7 @@ fn first_pair(alloc: Global) -> Result<Option<(u32, u32)>, AllocError> {
 
 #[test]
 fn shortest_of_two(rt: HostRuntime) -> Result<(), Fail> {
-    assert_eq!(rt; first_pair(rt.alloc())?, None);
-    Ok(())
+    none_differs_given_memory(first_pair(rt.alloc()))
 }
 
 // ---- several lists
@@ -153,8 +156,7 @@ fn first_order(alloc: Global) -> Result<Option<[u32; 3]>, AllocError> {
 
 #[test]
 fn one_order_of_three(rt: HostRuntime) -> Result<(), Fail> {
-    assert_eq!(rt; first_order(rt.alloc())?, None);
-    Ok(())
+    none_differs_given_memory(first_order(rt.alloc()))
 }
 
 // The data words with two semi-octets each that stand for these words.
@@ -213,8 +215,7 @@ fn first_search(alloc: Global, profile: &Profile) -> Result<Option<[u32; 3]>, Al
 #[test]
 fn search_for_three(rt: HostRuntime) -> Result<(), Fail> {
     let profile = sample(&rt);
-    assert_eq!(rt; first_search(rt.alloc(), &profile)?, None);
-    Ok(())
+    none_differs_given_memory(first_search(rt.alloc(), &profile))
 }
 
 // ---- check words
@@ -287,8 +288,7 @@ fn first_bits(alloc: Global) -> Result<Option<(usize, u16)>, AllocError> {
 
 #[test]
 fn bits_for_a_check_word(rt: HostRuntime) -> Result<(), Fail> {
-    assert_eq!(rt; first_bits(rt.alloc())?, None);
-    Ok(())
+    none_differs_given_memory(first_bits(rt.alloc()))
 }
 
 // ---- data words that are filled up
@@ -343,6 +343,5 @@ fn first_completed(alloc: Global, profile: &Profile) -> Result<Option<(u32, usiz
 #[test]
 fn data_words_completed(rt: HostRuntime) -> Result<(), Fail> {
     let profile = sample(&rt);
-    assert_eq!(rt; first_completed(rt.alloc(), &profile)?, None);
-    Ok(())
+    none_differs_given_memory(first_completed(rt.alloc(), &profile))
 }

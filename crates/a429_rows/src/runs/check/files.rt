@@ -1,5 +1,7 @@
 //! Small files, and the recordings of runs that carry them.
 
+ghost use Rattle.std.specs.Prelude.{◌<◌, ◌≤◌};
+
 use crate::recordings::{push_row, seen};
 use a429_link::{FileBytes, Seen, clean_run};
 use a429_profile::Profile;
@@ -19,9 +21,23 @@ pub(super) fn small_files(alloc: Global, chance: &mut Chance) -> Result<Vec<Vec<
 }
 
 fn small_file(alloc: Global, chance: &mut Chance) -> Result<Vec<u8>, AllocError> {
+    let count = 1 + chance.below(30);
+    some_bytes(alloc, chance, count, 256)
+}
+
+/// So many bytes, each below a bound.
+pub(super) fn some_bytes(
+    alloc: Global,
+    chance: &mut Chance,
+    count: u32,
+    bound: u32,
+) -> Result<Vec<u8>, AllocError>
+    requires least { 0 < bound }
+    requires most { bound ≤ 256 }
+{
     let mut bytes = Vec::new(alloc);
-    for _ in 0..1 + chance.below(30) {
-        bytes.push(chance.below(256) as u8)?;
+    for _ in 0..count {
+        bytes.push(chance.below(bound) as u8)?;
     }
     Ok(bytes)
 }
@@ -66,14 +82,19 @@ pub(super) fn damaged(word: Seen, chance: &mut Chance) -> Seen {
     seen(word.bus, word.word.to_u32() ^ bit)
 }
 
+// A file has this number and these bytes.
+fn is_file(file: &FileBytes, number: u8, bytes: &[u8]) -> bool {
+    file.number == number && file.bytes.as_slice() == bytes
+}
+
 /// The files that crossed are the first of those that were sent.
 pub(super) fn begins(found: &[FileBytes], sent: &Transfer) -> bool {
     if found.len() > sent.files.len() {
         return false;
     }
     let mut number = sent.first;
-    for (file, bytes) in found.iter().zip(sent.files.iter()) {
-        if file.number != number || file.bytes.as_slice() != bytes.as_slice() {
+    for place in 0..found.len() {
+        if !is_file(&found[place], number, &sent.files[place]) {
             return false;
         }
         number = number.wrapping_add(1);

@@ -2,7 +2,7 @@
 
 use crate::calls::{MOST, text_of, verdict_on};
 use crate::runs::check::files::recording;
-use crate::runs::same_files;
+use crate::runs::is_same;
 use a429_cert::{MemoryShelf, PutFile, verify_stream};
 use a429_explain::{Certificate, Verdict};
 use a429_link::{FileBytes, Seen};
@@ -21,21 +21,27 @@ pub(super) enum Outcome {
     Wrong,
 }
 
+// The file was put at a place, counted from 0.
+fn is_put(put: &PutFile, place: usize, file: &FileBytes) -> bool {
+    (put.index as usize).checked_sub(1) == Some(place) && is_same(&put.file, file)
+}
+
 // The files that were put have the places, numbers and bytes of others, in their order.
 fn were_put(put: &[PutFile], files: &[FileBytes]) -> bool {
     if put.len() != files.len() {
         return false;
     }
-    let mut place = 0u32;
-    for (found, file) in put.iter().zip(files.iter()) {
-        place = place.saturating_add(1);
-        let is_same = found.file.number == file.number
-            && found.file.bytes.as_slice() == file.bytes.as_slice();
-        if found.index != place || !is_same {
+    for place in 0..put.len() {
+        if !is_put(&put[place], place, &files[place]) {
             return false;
         }
     }
     true
+}
+
+// The number and the length are those of a file.
+fn is_size(size: (u8, u32), file: &FileBytes) -> bool {
+    size.0 == file.number && size.1 as usize == file.bytes.as_slice().len()
 }
 
 // The numbers and lengths are those of the files.
@@ -43,8 +49,8 @@ fn are_sizes(sizes: &[(u8, u32)], files: &[FileBytes]) -> bool {
     if sizes.len() != files.len() {
         return false;
     }
-    for (size, file) in sizes.iter().zip(files.iter()) {
-        if size.0 != file.number || size.1 as usize != file.bytes.as_slice().len() {
+    for place in 0..sizes.len() {
+        if !is_size(sizes[place], &files[place]) {
             return false;
         }
     }

@@ -11,41 +11,46 @@ use a429_record::EntryReader;
 use a429_sample::Chance;
 use a429_word::Tally;
 use std::alloc::{AllocError, Global};
-use std::test::Fail;
 
-// A part: its recording and its certificate.
-#[derive(Drop)]
-struct Part {
-    recording: String,
-    certificate: Vec<u8>,
-}
-
-// The part that carries these files in blocks of so many words, the first with this number.
-fn part_of(
+// The recording of a run that carries these files in blocks of so many words, the first with this number.
+fn recording_of(
     alloc: Global,
     profile: &Profile,
     number: u8,
     words: u8,
     files: &[Vec<u8>],
-) -> Result<Part, Fail>
+) -> Option<String>
     requires { 3 ≤ words }
 {
-    let run = clean_run(alloc, profile, number, words, files)
-        .ok()
-        .ok_or("a run")?;
-    let text = recording(alloc, run.as_slice())?;
-    let certificate = certificate_of(alloc, profile, text.as_str()).ok_or("no certificate")?;
-    Ok(Part {
-        recording: text,
-        certificate,
-    })
+    match clean_run(alloc, profile, number, words, files) {
+        Ok(run) => recording(alloc, &run).ok(),
+        Err(_) => None,
+    }
 }
 
-// The series with this part more.
-fn with_part<'a>(alloc: Global, series: Series<'a>, part: &Part) -> Option<Series<'a>> {
-    let mut rec = EntryReader::new(alloc, Tally::new(part.recording.as_bytes(), MOST));
-    let mut cert = Tally::new(part.certificate.as_slice(), MOST);
+// The series with a part more, and the certificate of the checker.
+fn with_certificate<'a>(
+    series: Series<'a>,
+    alloc: Global,
+    recording: &str,
+    certificate: &[u8],
+) -> Option<Series<'a>> {
+    let mut rec = EntryReader::new(alloc, Tally::new(recording.as_bytes(), MOST));
+    let mut cert = Tally::new(certificate, MOST);
     series.add(&mut rec, &mut cert).ok()
+}
+
+// The series with the part of this recording more.
+fn with_part<'a>(
+    alloc: Global,
+    profile: &Profile,
+    series: Series<'a>,
+    recording: &str,
+) -> Option<Series<'a>> {
+    match certificate_of(alloc, profile, recording) {
+        Some(certificate) => with_certificate(series, alloc, recording, &certificate),
+        None => None,
+    }
 }
 
 // Notes the number and the length of each file, the first with this number. The number after them.
@@ -58,35 +63,54 @@ fn note(sizes: &mut Vec<(u8, u32)>, number: u8, files: &[Vec<u8>]) -> Result<u8,
     Ok(next)
 }
 
+// A part with files by chance, of which it notes the numbers and lengths.
+fn some_part(
+    alloc: Global,
+    profile: &Profile,
+    chance: &mut Chance,
+    first: u8,
+    sizes: &mut Vec<(u8, u32)>,
+) -> Option<(String, u8)> {
+    let files = small_files(alloc, chance).ok()?;
+    let words = 3 + chance.below(10) as u8;
+    let recording = recording_of(alloc, profile, first, words, &files)?;
+    let next = note(sizes, first, &files).ok()?;
+    Some((recording, next))
+}
+
 // One to six parts, before each of which none to two files are given up. Whether each is taken, and the files are theirs.
-fn is_right(alloc: Global, profile: &Profile, chance: &mut Chance) -> Result<bool, Fail> {
+fn is_right(alloc: Global, profile: &Profile, chance: &mut Chance) -> bool {
     let mut number = chance.below(256) as u8;
     let mut sizes = Vec::new(alloc);
     let mut series = Series::new(alloc, profile);
     for _ in 0..1 + chance.below(6) {
         let first = number.wrapping_add(chance.below(3) as u8);
-        let files = small_files(alloc, chance)?;
-        let words = 3 + chance.below(10) as u8;
-        let part = part_of(alloc, profile, first, words, &files)?;
-        number = note(&mut sizes, first, &files)?;
-        series = match with_part(alloc, series, &part) {
+        let Some((recording, next)) = some_part(alloc, profile, chance, first, &mut sizes) else {
+            return false;
+        };
+        number = next;
+        series = match with_part(alloc, profile, series, recording.as_str()) {
             Some(more) => more,
-            None => return Ok(false),
+            None => return false,
         };
     }
-    Ok(series.files() == sizes.as_slice())
+    series.files() == sizes.as_slice()
 }
 
-#[test]
-fn parts_of_runs(rt: HostRuntime) -> Result<(), Fail> {
-    let profile = sample(&rt);
+// How many of 100 series are right.
+fn count_right(alloc: Global, profile: &Profile) -> u32 {
     let mut chance = Chance::new(5);
     let mut right = 0u32;
     for _ in 0..100 {
-        if is_right(rt.alloc(), &profile, &mut chance)? {
+        if is_right(alloc, profile, &mut chance) {
             right = right.saturating_add(1);
         }
     }
-    assert_eq!(rt; right, 100);
-    Ok(())
+    right
+}
+
+#[test]
+fn parts_of_runs(rt: HostRuntime) {
+    let profile = sample(&rt);
+    assert!(rt; count_right(rt.alloc(), &profile) == 100);
 }

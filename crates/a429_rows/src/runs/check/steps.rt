@@ -4,6 +4,7 @@
 ghost use Rattle.std.specs.Prelude.{◌≡◌};
 
 use crate::calls::sample;
+use crate::runs::check::files::some_bytes;
 use crate::runs::check::outcome::{Outcome, outcome_of};
 use crate::runs::draft::Draft;
 use crate::runs::same_files;
@@ -41,20 +42,12 @@ struct Run<'a> {
     ghost same: { link.profile ≡ profile.now },
 }
 
-// One to eight bytes.
-fn some_bytes(alloc: Global, chance: &mut Chance) -> Result<Vec<u8>, AllocError> {
-    let mut bytes = Vec::new(alloc);
-    for _ in 0..1 + chance.below(8) {
-        bytes.push(chance.below(3) as u8)?;
-    }
-    Ok(bytes)
-}
-
 // The first words of a unit with these flags, of which there are at most five.
 fn drafted(unit: &Ldu, flags: u8) -> Draft {
     let mut words = [0; 5];
-    for (place, word) in words.iter_mut().zip(unit.words().iter()) {
-        *place = word.to_u32();
+    let found = unit.words();
+    for place in 0..found.len().min(5) {
+        words[place] = found[place].to_u32();
     }
     Draft {
         gfi: 0,
@@ -71,14 +64,15 @@ fn first_draft(alloc: Global, profile: &Profile, bytes: &[u8], flags: u8) -> Opt
     Some(drafted(units.first()?, flags))
 }
 
-// A link data unit of some bytes. Often its flags end the file, unless it is to stay open.
+// A link data unit of one to eight bytes. Often its flags end the file, unless it is to stay open.
 fn some_draft(
     alloc: Global,
     profile: &Profile,
     chance: &mut Chance,
     is_open: bool,
 ) -> Result<Draft, Fail> {
-    let bytes = some_bytes(alloc, chance)?;
+    let count = 1 + chance.below(8);
+    let bytes = some_bytes(alloc, chance, count, 3)?;
     let flags = if is_open { 0 } else { chance.below(16) as u8 };
     Ok(first_draft(alloc, profile, bytes.as_slice(), flags).ok_or("a unit")?)
 }
