@@ -12,10 +12,13 @@ use Rattle.a429_explain.specs.WithoutLoss.{IsWithoutLoss}
 use Rattle.a429_check.specs.declared.fault.RunFault.{RunFault}
 use Rattle.a429_check.specs.declared.fault.RunFault.TheVariants as run
 use Rattle.a429_check.specs.Output.{Output, UsedWork}
-use Rattle.a429_check.specs.Recording.{SayInput}
+use Rattle.a429_record.specs.declared.entry.Entry.{Entry}
+use Rattle.a429_cert.specs.Explained.{items_of}
+use Rattle.a429_check.specs.Profile.{IsProfileOf}
+use Rattle.a429_check.specs.Recording.{IsReadFault, SayInput, SaysEntries}
 use Rattle.a429_check.specs.declared.engines.rule.Rule.{Rule}
 use Rattle.a429_check.specs.declared.engines.rule.Rule.TheVariants as rule
-use Rattle.a429_check.specs.Check.{EitherFailed, IsByRule, IsCheckFault, IsVerdictBy, IsVerdictOn, LeavesVerdict, ReportsVerdict}
+use Rattle.a429_check.specs.Check.{IsByRule, IsCheckFault, IsVerdictBy, IsVerdictOn, IsVerdictUnder, IsWritingFault, LeavesVerdict, ReportsVerdict}
 
 -- what the library's call says of its verdict, as one
 pub found : (by_rule : Rule) (p : Contents) (items : List Seen) (r : Result Verdict OutOfMemory)
@@ -51,11 +54,51 @@ left cert out v IsSuch rec (Err e) such works (inr (device, _, (w, is, cut))) = 
 pub used : (r : Result ℕ RunFault) (rec cert out : Bool) → rec ≡ false → IfOk r (UsedWork false cert out) → IfOk r (UsedWork rec cert out)
 used r rec cert out e w = subst (λ (b : Bool). IfOk r (UsedWork b cert out)) (sym e) w
 
--- a writer alone failed
-pub not_written : (profile : List ℕ) (known : Option (List ℕ)) (r : Result ℕ RunFault) (rec cert out : Bool) → SayInput profile known
-    → IfErr r (λ e. (e ≡ run.Device) × EitherFailed cert out) → IfErr r (IsCheckFault profile known rec (EitherFailed cert out))
-not_written profile known (Ok status) rec cert out says f = tt
-not_written profile known (Err e) rec cert out says f = subst (λ (e : RunFault). IsCheckFault profile known rec (EitherFailed cert out) e) (sym f.0) (inr (says, f.1))
+-- a writer alone failed, or memory was refused
+written_not : (profile : List ℕ) (known : Option (List ℕ)) (rec : Bool) (Writers : Type 0) (e : RunFault) → SayInput profile known → IsWritingFault Writers e → IsCheckFault profile known rec Writers e
+written_not profile known rec Writers run.Device says h = inr (says, h)
+written_not profile known rec Writers run.Memory says h = says.is_profile.0
+written_not profile known rec Writers (run.Profile f) says h = absurd h
+written_not profile known rec Writers (run.Read f) says h = absurd h
+written_not profile known rec Writers (run.Cut k f) says h = absurd h
+written_not profile known rec Writers run.TooLong says h = absurd h
+written_not profile known rec Writers run.BadWord says h = absurd h
+written_not profile known rec Writers run.Usage says h = absurd h
+
+pub not_written : (profile : List ℕ) (known : Option (List ℕ)) (r : Result ℕ RunFault) (rec : Bool) (Writers : Type 0) → SayInput profile known
+    → IfErr r (IsWritingFault Writers) → IfErr r (IsCheckFault profile known rec Writers)
+not_written profile known (Ok status) rec Writers says f = tt
+not_written profile known (Err e) rec Writers says f = written_not profile known rec Writers e says f
+
+-- ---- under a profile that was read
+
+pub on : (by_rule : Rule) (profile : List ℕ) (p : Contents) (known : Option (List ℕ)) (r : Result Verdict RunFault) → IsProfileOf profile p → IfOk r (IsVerdictUnder by_rule p known) → IfOk r (IsVerdictOn by_rule profile known)
+on by_rule profile p known (Ok v) is h = (record { contents = p; entries = h.0; is_profile = is; stand = h.1 }, h.2)
+on by_rule profile p known (Err e) is h = tt
+
+fault_under : (profile : List ℕ) (p : Contents) (known : Option (List ℕ)) (rec : Bool) (e : RunFault) → IsProfileOf profile p → IsReadFault known rec e → IsCheckFault profile known rec ⊥ e
+fault_under profile p known rec (run.Read f) is h = ((p, is), h)
+fault_under profile p known rec run.Device is h = inl ((p, is), h)
+fault_under profile p known rec run.Memory is h = is.0
+fault_under profile p known rec (run.Profile f) is h = absurd h
+fault_under profile p known rec (run.Cut k f) is h = absurd h
+fault_under profile p known rec run.TooLong is h = absurd h
+fault_under profile p known rec run.BadWord is h = absurd h
+fault_under profile p known rec run.Usage is h = absurd h
+
+pub not_under : (profile : List ℕ) (p : Contents) (known : Option (List ℕ)) (rec : Bool) (r : Result Verdict RunFault) → IsProfileOf profile p → IfErr r (IsReadFault known rec) → IfErr r (IsCheckFault profile known rec ⊥)
+not_under profile p known rec (Ok v) is h = tt
+not_under profile p known rec (Err e) is h = fault_under profile p known rec e is h
+
+-- of these entries
+pub under : (by_rule : Rule) (p : Contents) (known : Option (List ℕ)) (es slice : List Entry) (a : Result Verdict OutOfMemory) (r : Result Verdict RunFault) → SaysEntries known es → slice ≡ es
+    → IfOk a (IsVerdictBy by_rule p (items_of slice)) → IfOk r (λ v. a ≡ Ok v) → IfOk r (IsVerdictUnder by_rule p known)
+under by_rule p known es slice a (Ok v) says same by is = (es, says, subst (λ (xs : List Entry). IsVerdictBy by_rule p (items_of xs) v) same (subst (λ (x : Result Verdict OutOfMemory). IfOk x (IsVerdictBy by_rule p (items_of slice))) is by))
+under by_rule p known es slice a (Err e) says same by is = tt
+
+pub of_memory : (known : Option (List ℕ)) (rec : Bool) (r : Result Verdict RunFault) → IfErr r (λ e. e ≡ run.Memory) → IfErr r (IsReadFault known rec)
+of_memory known rec (Ok v) h = tt
+of_memory known rec (Err e) h = subst (IsReadFault known rec) (sym h) tt
 
 -- no verdict was found, whatever the writers would have done
 pub not_found : (profile : List ℕ) (known : Option (List ℕ)) (rec : Bool) (Writers : Type 0) (e : RunFault) → IsCheckFault profile known rec ⊥ e → IsCheckFault profile known rec Writers e

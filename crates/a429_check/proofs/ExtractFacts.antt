@@ -1,5 +1,5 @@
 -- Which files are on a shelf where a command gives no verdict.
-use Rattle.std.proofs.Common.{◌≡◌, ◌⊎◌, inl, inr, ℕ, Bool, true, false, List, Vec, Global, Result, Ok, Err, IfOk, IfErr, refl}
+use Rattle.std.proofs.Common.{◌≡◌, ◌⊎◌, inl, inr, ℕ, Bool, true, false, List, Vec, Global, Result, Ok, Err, IfOk, IfErr, refl, sym, ap, subst, ◌∙◌}
 use Rattle.a429_profile.specs.Profile.{Contents}
 use Rattle.a429_record.specs.declared.fault.ReadFault.TheVariants as read
 use Rattle.a429_cert.specs.declared.stream_fault.StreamFault.{StreamFault}
@@ -9,7 +9,7 @@ use Rattle.a429_cert.specs.BreakOff.{BreaksOff}
 use Rattle.a429_check.specs.declared.fault.RunFault.{RunFault}
 use Rattle.a429_check.specs.declared.fault.RunFault.TheVariants as run
 use Rattle.a429_check.specs.Profile.{IsProfileFault, IsProfileOf}
-use Rattle.a429_check.specs.Verdict.{AnyFailed, HasFailed, of_stream}
+use Rattle.a429_check.specs.Verdict.{AnyFailed, HasFailed, IsNoAnswer, of_stream}
 use Rattle.a429_check.specs.Extract.{IsAnsweredAt, IsUntouched, Leaves, Progress}
 use Rattle.a429_cert.specs.Change.{change}
 
@@ -68,3 +68,12 @@ module _ (profile : List ℕ) (p : Contents) (at : Progress) (Failed : Type 0) (
       → IfErr r (BreaksOff p at.read at.shelf at.listener) → Failed → Leaves profile at Failed run.Device
   left_by_device (Ok files) here there place failed = inl (failed, (Ok files.items, record { contents = p; is_profile = is; is = here; place = tt }))
   left_by_device (Err f) here there place failed = inl (failed, (Err f, record { contents = p; is_profile = is; is = there; place = place }))
+
+  pub left_by_no_answer : (failed : Bool) (r : Result (Vec (ℕ × ℕ) Global) StreamFault) (e : RunFault) → IsNoAnswer failed r e
+      → IfOk r (SaysYes (compared p at.read.certificate at.read.recording) (change at.shelf.before at.shelf.after)) → IfErr r (Refuses (compared p at.read.certificate at.read.recording) (change at.shelf.before at.shelf.after)) → IfErr r (BreaksOff p at.read at.shelf at.listener)
+      → (failed ≡ true → Failed) → (r ≡ Err stream.Device → Failed) → (r ≡ Err (stream.Read read.Device) → Failed) → Leaves profile at Failed e
+  left_by_no_answer failed r e (inl h) here there place any a b = subst (Leaves profile at Failed) (sym h.1) (left_by_device r here there place (any h.0))
+  left_by_no_answer failed r e (inr (_, (f, same, fault))) here there place any a b =
+      let refused : Refuses (compared p at.read.certificate at.read.recording) (change at.shelf.before at.shelf.after) f = subst (λ (x : Result (Vec (ℕ × ℕ) Global) StreamFault). IfErr x (Refuses (compared p at.read.certificate at.read.recording) (change at.shelf.before at.shelf.after))) same there in
+      let breaks : BreaksOff p at.read at.shelf at.listener f = subst (λ (x : Result (Vec (ℕ × ℕ) Global) StreamFault). IfErr x (BreaksOff p at.read at.shelf at.listener)) same place in
+      subst (Leaves profile at Failed) (sym fault) (left_by_stream f refused breaks (λ is_device. a (same ∙ ap (λ (x : StreamFault). Err x) is_device)) (λ is_read. b (same ∙ ap (λ (x : StreamFault). Err x) is_read)))

@@ -14,6 +14,7 @@ pub mod UnitsFacts
 pub mod UpgradeFacts
 pub mod PictureFacts
 pub mod ExtractFacts
+pub mod EntriesFacts
 pub mod CheckFacts
 pub mod StreamingFacts
 pub mod OutputFacts

@@ -21,7 +21,7 @@ use Rattle.a429_check.specs.Verdict.{of_stream}
 use Rattle.a429_check.specs.Output.{Output, IsCutShort}
 use Rattle.a429_word.specs.Sheet.{Writes}
 use Rattle.a429_word.specs.Tally.{has_failed}
-use Rattle.a429_check.specs.Series.{AnswersSeries, AreOneRun, FitAs, Holds, IsListFault, IsMiscounted, IsPartsAnswer, IsPartsFault, IsRefusal, IsRefusedAt, IsSeriesAnswer, IsSeriesFault, SeriesInput, FailsIn, IsSeriesVerdict, IsSomeSeriesVerdict, entries_of, first_parts, status_of_series, text_of_series, with_part}
+use Rattle.a429_check.specs.Series.{AnswersSeries, AreOneRun, FitAs, Holds, IsListFault, IsMiscounted, IsPartsAnswer, IsPartsFault, IsRefusal, IsRefusedAt, IsSeriesAnswer, IsSeriesFault, SeriesInput, FailsIn, IsSeriesVerdict, IsSomeSeriesVerdict, IsStopOf, entries_of, first_parts, status_of_series, text_of_series, with_part}
 
 -- ---- what the readers of a part have to read
 
@@ -50,6 +50,36 @@ pub none_known : (o : Option Part) (known : Option (List ℕ)) (rec : Option Rec
     → IfSome o (λ q. Holds q known rec) → IfErr r (RefusesPart old known rec) → IfErr r (λ f. IfSome o (λ q. IsPartFault old f q.certificate q.recording))
 none_known o known rec old (Ok new) h j = tt
 none_known o known rec old (Err f) h j = refuses_known o known rec old f h j
+
+-- ---- unless something has failed
+
+pub added_ok : (failed : Bool) (a r : Result SeriesValue StreamFault) (P : SeriesValue → Type 0) → IfOk r (λ new. (failed ≡ false) × (a ≡ Ok new)) → IfOk a P → IfOk r P
+added_ok failed a (Ok new) P h j = subst (λ (x : Result SeriesValue StreamFault). IfOk x P) h.1 j
+added_ok failed a (Err f) P h j = tt
+
+refuses_device : (old : SeriesValue) (known : Option (List ℕ)) (rec : Option Recording) → RefusesPart old known rec stream.Device
+refuses_device old None rec = tt
+refuses_device old (Some text) None = tt
+refuses_device old (Some text) (Some r) = tt
+
+pub added_err : (failed : Bool) (a r : Result SeriesValue StreamFault) (old : SeriesValue) (known : Option (List ℕ)) (rec : Option Recording) → IfErr r (IsStopOf failed a) → IfErr a (RefusesPart old known rec) → IfErr r (RefusesPart old known rec)
+added_err failed a (Ok new) old known rec h j = tt
+added_err failed a (Err f) old known rec (inl h) j = subst (RefusesPart old known rec) (sym h.1) (refuses_device old known rec)
+added_err failed a (Err f) old known rec (inr h) j = subst (λ (x : Result SeriesValue StreamFault). IfErr x (RefusesPart old known rec)) h.1 j
+
+pub works_ok : (failed now : Bool) (a r : Result SeriesValue StreamFault) → failed ≡ now → IfOk r (λ new. (failed ≡ false) × (a ≡ Ok new)) → IfOk r (λ _. now ≡ false)
+works_ok failed now a (Ok new) e h = sym e ∙ h.0
+works_ok failed now a (Err f) e h = tt
+
+pub works_refused : (failed now : Bool) (a r : Result SeriesValue StreamFault) → failed ≡ now → IfErr r (IsStopOf failed a) → IfErr r (λ f. (g : CertFault) → f ≡ stream.Cert g → now ≡ false)
+works_refused failed now a (Ok new) e h = tt
+works_refused failed now a (Err f) e (inl h) = λ g is. absurd (cc (h.1, is))
+works_refused failed now a (Err f) e (inr h) = λ g is. sym e ∙ h.0
+
+pub stop_failed : (failed now : Bool) (a r : Result SeriesValue StreamFault) (f : StreamFault) → failed ≡ now → IfErr r (IsStopOf failed a) → (a ≡ Err f → now ≡ true) → r ≡ Err f → now ≡ true
+stop_failed failed now a (Ok new) f e h why is = absurd (cc is)
+stop_failed failed now a (Err g) f e (inl h) why is = sym e ∙ h.0
+stop_failed failed now a (Err g) f e (inr h) why is = why (cc (h.1, is))
 
 -- ---- one part more
 

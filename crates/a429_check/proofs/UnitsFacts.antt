@@ -1,5 +1,5 @@
 -- What has been written where the rows of a certificate's units are finished.
-use Rattle.std.proofs.Common.{◌≡◌, ◌++◌, ℕ, List, [], Vec, Global, Option, Some, None, Ok, Err, inl, inr, refl, subst}
+use Rattle.std.proofs.Common.{◌≡◌, ◌++◌, ℕ, List, [], Vec, Global, Option, Some, None, Result, Ok, Err, IfErr, inl, inr, refl, sym, subst}
 use Rattle.std.specs.Io.KnownBytes.{append_known, Appends}
 use Rattle.std.proofs.KnownBytes.{Appends-trans}
 use Rattle.std.proofs.lemmas.List.{append-nil}
@@ -19,7 +19,10 @@ use Rattle.a429_view.proofs.UnitsFacts.{all_rows, ended_put}
 use Rattle.a429_check.specs.declared.engines.verdict.Judged.{Judged}
 use Rattle.a429_check.specs.Output.{output}
 use Rattle.a429_check.specs.Verdict.{HearsJudged, Input, IsJudged, no_shelf, no_text, text_of_answer}
-use Rattle.a429_check.specs.Units.{AreFresh, PutsUnits, PutsEnded, ReportsUnits}
+use Rattle.a429_check.specs.declared.fault.RunFault.{RunFault}
+use Rattle.a429_check.specs.declared.fault.RunFault.TheVariants as run
+use Rattle.a429_profile.specs.declared.fault.ProfileFault.{ProfileFault}
+use Rattle.a429_check.specs.Units.{AreFresh, EndsUnits, PutsUnits, PutsEnded, ReportsUnits}
 
 -- an empty page holds nothing back
 from_empty : (a b : Option (List ℕ)) (text : List ℕ) → Appends (append_known a []) b text → Appends a b text
@@ -47,7 +50,7 @@ module _ {W : Type 0} (contents : W → Option (List ℕ)) (p : Contents) (old m
   units_put (Some text) (Some r) fresh h last = one fresh last text r h
 
 -- a yes whose rows are finished
-pub reports_yes : {W : Type 0} (contents : W → Option (List ℕ)) (i : Input) (old mid new : UnitRows W) (j : Judged) (files : Vec (ℕ × ℕ) Global)
+reports_yes : {W : Type 0} (contents : W → Option (List ℕ)) (i : Input) (old mid new : UnitRows W) (j : Judged) (files : Vec (ℕ × ℕ) Global)
     → j.answer ≡ Ok files → AreFresh old → IsJudged i no_shelf j → HearsJudged (listening (HearsRows contents) old mid) i j
     → PutsAll contents mid new (line_before mid.row) → ReportsUnits (output contents old.out new.out) i 0
 reports_yes contents i old mid new j files is fresh judged heard last =
@@ -83,7 +86,7 @@ module _ {W : Type 0} (contents : W → Option (List ℕ)) (p : Contents) (old m
   ended_before (Some text) (Some r) fresh h rest last = before_one fresh rest last text r h
 
 -- a no whose line is put after all that waited
-pub reports_no : {W : Type 0} (contents : W → Option (List ℕ)) (i : Input) (old mid waited new : UnitRows W) (j : Judged) (f : CertFault)
+reports_no : {W : Type 0} (contents : W → Option (List ℕ)) (i : Input) (old mid waited new : UnitRows W) (j : Judged) (f : CertFault)
     → j.answer ≡ Err f → AreFresh old → IsJudged i no_shelf j → HearsJudged (listening (HearsRows contents) old mid) i j
     → PutsAll contents mid waited [] → Puts contents waited.out new.out (text_of_answer j.answer) → ReportsUnits (output contents old.out new.out) i 2
 reports_no contents i old mid waited new j f is fresh judged heard rest puts =
@@ -104,3 +107,21 @@ reports_no contents i old mid waited new j f is fresh judged heard rest puts =
         rows = ended_before contents p old mid waited.out new.out f i.certificate i.recording fresh reports rest line;
       },
     )
+
+-- either, by the answer
+pub reports : {W : Type 0} (contents : W → Option (List ℕ)) (i : Input) (old mid new : UnitRows W) (j : Judged) (status : ℕ)
+    → AreFresh old → IsJudged i no_shelf j → HearsJudged (listening (HearsRows contents) old mid) i j
+    → EndsUnits contents mid new j.answer status → ReportsUnits (output contents old.out new.out) i status
+reports contents i old mid new j status fresh judged heard h = by j.answer refl h
+  where
+    by : (a : Result (Vec (ℕ × ℕ) Global) CertFault) → j.answer ≡ a → EndsUnits contents mid new a status → ReportsUnits (output contents old.out new.out) i status
+    by (Ok files) e h = subst (λ (n : ℕ). ReportsUnits (output contents old.out new.out) i n) (sym h.0) (reports_yes contents i old mid new j files e fresh judged heard h.1)
+    by (Err f) e h =
+        let no = h.1 in
+        let puts = subst (λ (a : Result (Vec (ℕ × ℕ) Global) CertFault). Puts contents no.0.out new.out (text_of_answer a)) (sym e) no.2 in
+        subst (λ (n : ℕ). ReportsUnits (output contents old.out new.out) i n) (sym h.0) (reports_no contents i old mid no.0 new j f e fresh judged heard no.1 puts)
+
+-- a failed output is no fault of a profile
+pub no_profile_here : (r : Result ℕ RunFault) (Failed : Type 0) (f : ProfileFault) → IfErr r (λ e. (e ≡ run.Device) × Failed) → r ≡ Err (run.Profile f) → ⊥
+no_profile_here (Ok status) Failed f h e = cc e
+no_profile_here (Err why) Failed f h e = cc (h.0, e)

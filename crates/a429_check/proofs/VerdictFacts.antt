@@ -15,7 +15,8 @@ use Rattle.a429_cert.specs.declared.stream_fault.StreamFault.{StreamFault}
 use Rattle.a429_cert.specs.declared.stream_fault.StreamFault.TheVariants as stream
 use Rattle.a429_cert.specs.Shelf.{IsUnchanged}
 use Rattle.a429_cert.specs.BreakOff.{Shelved}
-use Rattle.a429_cert.specs.StreamExplained.{compared, Refuses, SaysYes}
+use Rattle.a429_cert.specs.StreamExplained.{compared, HearsBefore, HearsRun, Refuses, SaysYes}
+use Rattle.a429_cert.specs.Report.{Listening}
 use Rattle.a429_cert.specs.declared.fault.CertFault.{CertFault}
 use Rattle.a429_cert.specs.declared.fault.CertFault.TheVariants as cert
 use Rattle.a429_profile.specs.declared.fault.ProfileFault.{ProfileFault}
@@ -24,7 +25,7 @@ use Rattle.a429_check.specs.declared.fault.RunFault.{RunFault}
 use Rattle.a429_check.specs.declared.fault.RunFault.TheVariants as run
 use Rattle.a429_check.specs.Profile.{IsProfileOf, IsProfileFault}
 use Rattle.a429_check.specs.Output.{Output, HasFailedIn, IsCutShort}
-use Rattle.a429_check.specs.Verdict.{AllWork, AnyFailed, HasAnswer, HasFailed, Input, IsAnswered, IsJudged, IsSomeVerdict, IsVerdict, IsVerifyFault, Judges, Rejects, count_line, file_line, line_of_file, no, no_text, of_stream, status_of_answer, text_of_answer, yes, yes_text}
+use Rattle.a429_check.specs.Verdict.{AllWork, AnyFailed, HasAnswer, HasFailed, HearsAnswer, Input, IsAnswerOf, IsAnswered, IsJudged, IsNoAnswer, IsSomeVerdict, IsVerdict, IsVerifyFault, Judges, Rejects, count_line, file_line, line_of_file, no, no_text, of_stream, status_of_answer, text_of_answer, yes, yes_text}
 use Rattle.a429_cert.specs.Change.{change}
 
 -- what is reported of files, by their lines
@@ -45,7 +46,7 @@ pub has_answer : (i : Input) (shelf : Shelved) (p : Contents) (r : Result (Vec (
 has_answer i shelf p (Ok files) is here _ = (Ok files.items, record { contents = p; is_profile = is; is = here })
 has_answer i shelf p (Err f) is _ here = (Err f, record { contents = p; is_profile = is; is = here })
 
-judged_answer : (i : Input) (shelf : Shelved) (p : Contents) (a : Result (Vec (ℕ × ℕ) Global) CertFault) → IsProfileOf i.profile p → IsAnswered p i shelf a → HasAnswer i shelf
+pub judged_answer : (i : Input) (shelf : Shelved) (p : Contents) (a : Result (Vec (ℕ × ℕ) Global) CertFault) → IsProfileOf i.profile p → IsAnswered p i shelf a → HasAnswer i shelf
 judged_answer i shelf p (Ok files) is here = (Ok files.items, record { contents = p; is_profile = is; is = here })
 judged_answer i shelf p (Err f) is here = (Err (stream.Cert f), record { contents = p; is_profile = is; is = here.0 })
 
@@ -147,3 +148,34 @@ no_profile (stream.Read read.Device) fault e = cc e
 no_profile (stream.Read read.OutOfMemory) fault e = cc e
 no_profile stream.Device fault e = cc e
 no_profile stream.OutOfMemory fault e = cc e
+
+-- ---- the answer of a stream, unless something has failed
+
+module _ (i : Input) (shelf : Shelved) (p : Contents) (failed : Bool) where
+  pub answered_by : (r : Result (Vec (ℕ × ℕ) Global) StreamFault) (a : Result (Vec (ℕ × ℕ) Global) CertFault) → IsAnswerOf failed r a
+      → IfOk r (SaysYes (compared p i.certificate i.recording) (change shelf.before shelf.after)) → IfErr r (Refuses (compared p i.certificate i.recording) (change shelf.before shelf.after)) → IsAnswered p i shelf a
+  answered_by (Ok files) a h there no_way = subst (IsAnswered p i shelf) (sym h.1) there
+  answered_by (Err f) a h there no_way = subst (IsAnswered p i shelf) (sym h.1.3) (subst (Refuses (compared p i.certificate i.recording) (change shelf.before shelf.after)) h.1.1 no_way, h.1.2)
+
+  pub heard_by : {T : Type 0} (l : Listening T) (r : Result (Vec (ℕ × ℕ) Global) StreamFault) (a : Result (Vec (ℕ × ℕ) Global) CertFault) → IsAnswerOf failed r a
+      → OnOk r (HearsRun l (compared p i.certificate i.recording)) → IfErr r (HearsBefore l (compared p i.certificate i.recording)) → HearsAnswer l p i a
+  heard_by l (Ok files) a h there no_way = subst (HearsAnswer l p i) (sym h.1) there
+  heard_by l (Err f) a h there no_way = subst (HearsAnswer l p i) (sym h.1.3) (subst (HearsBefore l (compared p i.certificate i.recording)) h.1.1 no_way)
+
+  pub none_has_failed : (r : Result (Vec (ℕ × ℕ) Global) StreamFault) (a : Result (Vec (ℕ × ℕ) Global) CertFault) → IsAnswerOf failed r a → failed ≡ false
+  none_has_failed (Ok files) a h = h.0
+  none_has_failed (Err f) a h = h.0
+
+  -- why there is none
+  pub by_no_answer : (Failed : Type 0) (r : Result (Vec (ℕ × ℕ) Global) StreamFault) (e : RunFault) → IsProfileOf i.profile p → IsNoAnswer failed r e
+      → IfOk r (SaysYes (compared p i.certificate i.recording) (change shelf.before shelf.after)) → IfErr r (Refuses (compared p i.certificate i.recording) (change shelf.before shelf.after))
+      → (failed ≡ true → Failed) → (r ≡ Err stream.Device → Failed) → (r ≡ Err (stream.Read read.Device) → Failed) → IsVerifyFault i shelf Failed e
+  by_no_answer Failed r e is (inl h) there no_way any a b = subst (IsVerifyFault i shelf Failed) (sym h.1) (any h.0, has_answer i shelf p r is there no_way)
+  by_no_answer Failed r e is (inr (_, (f, same, fault))) there no_way any a b =
+      let refused : Refuses (compared p i.certificate i.recording) (change shelf.before shelf.after) f = subst (λ (x : Result (Vec (ℕ × ℕ) Global) StreamFault). IfErr x (Refuses (compared p i.certificate i.recording) (change shelf.before shelf.after))) same no_way in
+      subst (IsVerifyFault i shelf Failed) (sym fault) (by_stream i shelf p Failed f is refused (λ is_device. a (same ∙ ap (λ (x : StreamFault). Err x) is_device)) (λ is_read. b (same ∙ ap (λ (x : StreamFault). Err x) is_read)))
+
+-- such a fault is none of the profile
+pub none_of_profile : (failed : Bool) (r : Result (Vec (ℕ × ℕ) Global) StreamFault) (e : RunFault) (f : ProfileFault) → IsNoAnswer failed r e → e ≡ run.Profile f → ⊥
+none_of_profile failed r e f (inl h) is = cc (h.1, is)
+none_of_profile failed r e f (inr (_, (g, same, fault))) is = no_profile g f (sym fault ∙ is)

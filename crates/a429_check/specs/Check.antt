@@ -2,6 +2,7 @@
 use Rattle.std.specs.Prelude.{◌≡◌, ◌≢◌, ◌⊎◌, ◌++◌, ℕ, List, [], codes, Bool, true, Option}
 use Rattle.a429_profile.specs.Profile.{Contents}
 use Rattle.a429_link.specs.declared.seen.Seen.{Seen}
+use Rattle.a429_record.specs.declared.entry.Entry.{Entry}
 use Rattle.std.specs.Fmt.{decimal}
 use Rattle.a429_cert.specs.Explained.{items_of}
 use Rattle.a429_explain.specs.declared.verdict.Verdict.{Verdict}
@@ -23,7 +24,7 @@ use Rattle.a429_check.specs.declared.engines.rule.Rule.{Rule}
 use Rattle.a429_check.specs.declared.engines.rule.Rule.TheVariants as rule
 use Rattle.a429_check.specs.Fault.{ComesBy, never}
 use Rattle.a429_check.specs.Profile.{IsSomeProfile, HasFault}
-use Rattle.a429_check.specs.Recording.{SayInput, IsRecordingFault}
+use Rattle.a429_check.specs.Recording.{SayInput, SaysEntries, IsRecordingFault}
 use Rattle.a429_check.specs.Verdict.{yes_text}
 
 -- ---- the text
@@ -85,6 +86,10 @@ pub record IsVerdictBy (by_rule : Rule) (p : Contents) (items : List Seen) (v : 
 abbrev pub IsVerdictOn : Rule → List ℕ → Option (List ℕ) → Verdict → Type 0
 IsVerdictOn by_rule profile recording v = (says : SayInput profile recording) × IsVerdictBy by_rule says.contents (items_of says.entries) v
 
+-- it is one on a recording, under a profile that was read
+abbrev pub IsVerdictUnder : Rule → Contents → Option (List ℕ) → Verdict → Type 0
+IsVerdictUnder by_rule p recording v = (es : List Entry) × SaysEntries recording es × IsVerdictBy by_rule p (items_of es) v
+
 -- such a verdict is reported: its certificate to a writer, its text on the output, and its status; nothing is written of a certificate but of a yes
 pub record ReportsVerdict {C W : Type 0} (cert : Output C) (out : Output W) (IsSuch : Verdict → Type 0) (status : ℕ) : Type 0 where
   pub verdict : Verdict
@@ -99,6 +104,10 @@ pub record ReportsVerdict {C W : Type 0} (cert : Output C) (out : Output W) (IsS
 -- the certificate's writer has failed, or the output has
 abbrev pub EitherFailed : Bool → Bool → Type 0
 EitherFailed cert out = (cert ≡ true) ⊎ (out ≡ true)
+
+-- why a verdict was not written: a writer failed, or out of memory
+abbrev pub IsWritingFault : Type 0 → RunFault → Type 0
+IsWritingFault Writers = ComesBy (record never { device = Writers; memory = Unit {0} })
 
 -- the profile's own fault, then the recording's; the recording's reader failed, or, once the recording was read whole, a writer did; out of memory, once the profile is known to be a text
 abbrev pub IsCheckFault : List ℕ → Option (List ℕ) → Bool → Type 0 → RunFault → Type 0

@@ -14,6 +14,9 @@ form_line c e = recorded_text e ++ what_text c e.bus e.word ++ codes "\n"
 abbrev pub form_lines : Codes → List Entry → List ℕ
 form_lines c es = flat_map (form_line c) es
 
+abbrev pub IsFormsText : Codes → List Entry → List ℕ → Type 0
+IsFormsText c es text = text ≡ form_lines c es
+
 -- the text is that of what a profile's text and a recording say
 pub record TellsForms (profile : List ℕ) (recording : Option (List ℕ)) (text : List ℕ) : Type 0 where
   pub says : SayInput profile recording

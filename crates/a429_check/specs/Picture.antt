@@ -1,5 +1,5 @@
 -- What `a429 picture` writes (profile).
-use Rattle.std.specs.Prelude.{◌≡◌, ◌⊎◌, ◌≤◌, ◌<◌, ℕ, List, Bool, true, None}
+use Rattle.std.specs.Prelude.{◌≡◌, ◌⊎◌, ◌≤◌, ◌<◌, ℕ, List, Bool, true, None, Result, Ok, Err, Vec}
 use Rattle.a429_profile.specs.Profile.{Contents}
 use Rattle.a429_link.specs.declared.step.Step.{Step}
 use Rattle.a429_record.specs.Recording.{Recording}
@@ -12,10 +12,13 @@ use Rattle.a429_view.specs.Picture.{picture_text, svg_text}
 use Rattle.a429_view.specs.declared.sketch.Sketch.{Sketch}
 use Rattle.a429_profile.specs.declared.codes.Codes.{Codes}
 use Rattle.a429_view.specs.Sketch.{most_steps}
+use Rattle.a429_cert.specs.declared.fault.CertFault.{CertFault}
+use Rattle.a429_check.specs.declared.engines.verdict.Judged.{Judged}
 use Rattle.a429_check.specs.declared.fault.RunFault.{RunFault}
+use Rattle.a429_check.specs.declared.fault.RunFault.TheVariants as run
 use Rattle.a429_check.specs.Fault.{ComesBy, never}
 use Rattle.a429_check.specs.Profile.{IsProfileOf}
-use Rattle.a429_check.specs.Verdict.{Input, Rejects, no_shelf, verify_causes}
+use Rattle.a429_check.specs.Verdict.{Input, Rejects, no_shelf, no_text, verify_causes}
 use Rattle.a429_cert.specs.Change.{change}
 
 -- a run by which the certificate explains the recording
@@ -68,3 +71,25 @@ IsSketchFault steps failed = ComesBy (record never { too_long = most_steps < ste
 -- the text of a sketch that has not too many of them
 abbrev pub IsSketched : Codes → Sketch → List ℕ → Type 0
 IsSketched c sketch text = (text ≡ svg_text c sketch.rows.items) × (sketch.steps ≤ most_steps)
+
+-- ---- of a certificate that was judged
+
+-- what is written by its answer: the text of its sketch and 0, or a no and 2
+abbrev pub IsPictureByAnswer : {Z : Type 0} → Result (Vec (ℕ × ℕ) Z) CertFault → Codes → Sketch → ℕ → List ℕ → Type 0
+IsPictureByAnswer (Ok files) c sketch status text = (status ≡ 0) × IsSketched c sketch text
+IsPictureByAnswer (Err f) c sketch status text = (status ≡ 2) × (text ≡ no_text f)
+
+abbrev pub IsPictureOf : Judged → Sketch → ℕ → List ℕ → Type 0
+IsPictureOf j sketch = IsPictureByAnswer j.answer j.profile.codes sketch
+
+-- with one of the two statuses
+abbrev pub IsSomePictureOf : Judged → Sketch → List ℕ → Type 0
+IsSomePictureOf j sketch text = (status : ℕ) × IsPictureOf j sketch status text
+
+-- why nothing is answered: that of its sketch, or that the output failed
+abbrev pub IsPictureFaultByAnswer : {Z : Type 0} → Result (Vec (ℕ × ℕ) Z) CertFault → ℕ → Bool → RunFault → Type 0
+IsPictureFaultByAnswer (Ok files) steps failed e = IsSketchFault steps failed e
+IsPictureFaultByAnswer (Err f) steps failed e = (e ≡ run.Device) × (failed ≡ true)
+
+abbrev pub IsPictureFaultOf : Judged → Sketch → Bool → RunFault → Type 0
+IsPictureFaultOf j sketch = IsPictureFaultByAnswer j.answer sketch.steps

@@ -1,5 +1,5 @@
 -- What the bytes of a recording say, or what is wrong with them (profile).
-use Rattle.std.specs.Prelude.{◌≡◌, ℕ, List, Bool, true, Option, Some, IfSome}
+use Rattle.std.specs.Prelude.{◌≡◌, ◌⊎◌, ℕ, List, Bool, true, Option, Some, IfSome}
 use Rattle.a429_profile.specs.Profile.{Contents}
 use Rattle.a429_record.specs.declared.entry.Entry.{Entry}
 use Rattle.a429_record.specs.declared.fault.ReadFault.{ReadFault}
@@ -16,6 +16,14 @@ pub record SayInput (profile : List ℕ) (recording : Option (List ℕ)) : Type 
   pub is_profile : IsProfileOf profile contents
   pub stand : IfSome recording (λ bytes. stands_for bytes ≡ whole entries)
 
+-- a recording says these entries; its bytes need not be known
+abbrev pub SaysEntries : Option (List ℕ) → List Entry → Type 0
+SaysEntries recording es = IfSome recording (λ bytes. stands_for bytes ≡ whole es)
+
+-- the text is such a one of the entries that a recording says
+abbrev pub IsOfEntries : Option (List ℕ) → (List Entry → List ℕ → Type 0) → List ℕ → Type 0
+IsOfEntries recording IsSuch text = (es : List Entry) × SaysEntries recording es × IsSuch es text
+
 -- the first fault of a recording's bytes, where they are known; a failed reader, out of memory and a fault answered before are none
 abbrev pub IsRecordingFault : Option (List ℕ) → ReadFault → Type 0
 IsRecordingFault known read.Device = ⊥
@@ -26,3 +34,7 @@ IsRecordingFault known f = IfSome known (λ bytes. (stands_for bytes).fault ≡ 
 -- why a recording could not be read: its own fault, a reader that failed, or out of memory
 abbrev pub IsReadFault : Option (List ℕ) → Bool → RunFault → Type 0
 IsReadFault known failed = ComesBy (record never { recording = IsRecordingFault known; device = failed ≡ true; memory = Unit {0} })
+
+-- why no lines of its entries are written: its own fault, a reader or a writer that failed, or out of memory
+abbrev pub IsEntriesFault : Option (List ℕ) → Bool → Bool → RunFault → Type 0
+IsEntriesFault known rec_failed out_failed = ComesBy (record never { recording = IsRecordingFault known; device = (rec_failed ≡ true) ⊎ (out_failed ≡ true); memory = Unit {0} })

@@ -1,5 +1,5 @@
 -- The verdict on a recording in parts, each with a certificate of its own (profile).
-use Rattle.std.specs.Prelude.{◌≡◌, ◌≢◌, ◌⊎◌, ◌<◌, ◌++◌, ℕ, zero, suc, List, [], ◌∷◌, length, take, map, slice_get, codes, Bool, true, false, Option, Some, None, IfSome, ⊤}
+use Rattle.std.specs.Prelude.{◌≡◌, ◌≢◌, ◌⊎◌, ◌<◌, ◌++◌, ℕ, zero, suc, List, [], ◌∷◌, length, take, map, slice_get, codes, Bool, true, false, Option, Some, None, Result, Err, IfSome, ⊤}
 use Rattle.std.specs.Fmt.{decimal}
 use Rattle.std.specs.Str.{IsUtf8}
 use Rattle.a429_profile.specs.Profile.{Contents}
@@ -152,3 +152,7 @@ series_causes i Failed = record never {
 
 abbrev pub IsSeriesFault : SeriesInput → Type 0 → RunFault → Type 0
 IsSeriesFault i Failed = ComesBy (series_causes i Failed)
+
+-- why a part was not added: a device has failed, or else the fault of the part
+abbrev pub IsStopOf : Bool → Result SeriesValue StreamFault → StreamFault → Type 0
+IsStopOf failed added f = ((failed ≡ true) × (f ≡ stream.Device)) ⊎ ((failed ≡ false) × (added ≡ Err f))

@@ -16,6 +16,10 @@ pub record Surveys (profile : List ℕ) (rec : Option Recording) (text : List �
   pub says : SayStream profile rec
   pub lines : text ≡ survey_text says.contents.codes says.entries
 
+-- the same of the entries that come, by these codes
+abbrev pub SurveysBy : Codes → Option Recording → List ℕ → Type 0
+SurveysBy c rec text = (es : List Entry) × IfSome rec (λ r. r ≡ whole es) × (text ≡ survey_text c es)
+
 -- the counts are those of the entries that come
 abbrev pub Counts : Codes → Option Recording → Survey → Type 0
 Counts c rec s = (es : List Entry) × IsSurvey c s es × IfSome rec (λ r. r ≡ whole es)

@@ -1,5 +1,5 @@
 -- What `a429 units` writes (profile).
-use Rattle.std.specs.Prelude.{◌≡◌, ◌≢◌, ◌⊎◌, ◌++◌, ℕ, List, [], None}
+use Rattle.std.specs.Prelude.{◌≡◌, ◌≢◌, ◌⊎◌, ◌++◌, ℕ, List, [], Option, None, Result, Ok, Err, Vec}
 use Rattle.a429_word.specs.declared.tally.Tally.{Tally}
 use Rattle.a429_word.specs.Tally.{Puts}
 use Rattle.a429_profile.specs.Profile.{Contents}
@@ -13,6 +13,7 @@ use Rattle.a429_cert.specs.StreamExplained.{compared, Extracts, Refuses, AreRepo
 use Rattle.a429_cert.specs.Report.{Report, reports_of_run}
 use Rattle.a429_view.specs.declared.units.rows.UnitRows.{UnitRows}
 use Rattle.a429_view.specs.Units.{units_text, ended_text}
+use Rattle.a429_view.specs.UnitSteps.{line_before, PutsAll}
 use Rattle.a429_check.specs.Output.{Output}
 use Rattle.a429_check.specs.Profile.{IsProfileOf}
 use Rattle.a429_check.specs.Verdict.{Input, no_text}
@@ -57,3 +58,8 @@ pub record RefusesUnits {W : Type 0} (o : Output W) (i : Input) : Type 0 where
 -- a verdict: 0 and the rows, or 2 and a no
 abbrev pub ReportsUnits : {W : Type 0} → Output W → Input → ℕ → Type 0
 ReportsUnits o i status = ((status ≡ 0) × ListsUnits o i) ⊎ ((status ≡ 2) × RefusesUnits o i)
+
+-- the rows are ended by the answer: the last row is put, and 0; or those that wait are, then the line of the no, and 2
+abbrev pub EndsUnits : {W Z : Type 0} → (W → Option (List ℕ)) → UnitRows W → UnitRows W → Result (Vec (ℕ × ℕ) Z) CertFault → ℕ → Type 0
+EndsUnits contents old new (Ok files) status = (status ≡ 0) × PutsAll contents old new (line_before old.row)
+EndsUnits {W} contents old new (Err f) status = (status ≡ 2) × ((waited : UnitRows W) × PutsAll contents old waited [] × Puts contents waited.out new.out (no_text f))

@@ -151,6 +151,15 @@ abbrev pub IsAnswered : {Z : Type 0} → Contents → Input → Shelved → Resu
 IsAnswered p i shelf (Ok files) = Extracts (compared p i.certificate i.recording) (change shelf.before shelf.after) files.items
 IsAnswered p i shelf (Err f) = Refuses (compared p i.certificate i.recording) (change shelf.before shelf.after) (stream.Cert f) × (f ≢ cert.OutOfMemory)
 
+-- the answer on a certificate is that of its stream, and nothing has failed
+abbrev pub IsAnswerOf : {Z : Type 0} → Bool → Result (Vec (ℕ × ℕ) Z) StreamFault → Result (Vec (ℕ × ℕ) Z) CertFault → Type 0
+IsAnswerOf failed (Ok files) answer = (failed ≡ false) × (answer ≡ Ok files)
+IsAnswerOf failed (Err f) answer = (failed ≡ false) × ((fault : CertFault) × (f ≡ stream.Cert fault) × (fault ≢ cert.OutOfMemory) × (answer ≡ Err fault))
+
+-- there is none: something has failed, or else the stream has this fault
+abbrev pub IsNoAnswer : {Z : Type 0} → Bool → Result (Vec (ℕ × ℕ) Z) StreamFault → RunFault → Type 0
+IsNoAnswer failed answer e = ((failed ≡ true) × (e ≡ run.Device)) ⊎ ((failed ≡ false) × ((f : StreamFault) × (answer ≡ Err f) × (e ≡ of_stream f)))
+
 -- it is judged under the profile whose text the bytes are
 abbrev pub IsJudged : Input → Shelved → Judged → Type 0
 IsJudged i shelf j = IsProfileOf i.profile j.profile × IsAnswered j.profile i shelf j.answer

@@ -32,39 +32,91 @@ fn command_of<'a>(alloc: Global, matches: &ArgMatches<'a>) -> Result<Command<'a>
     ensures err { IfErr result (λ e. (e ≡ RunFault.Memory) ⊎ (e ≡ RunFault.Usage)) }
 {
     match matches.subcommand() {
-        Some(("version", _)) => Ok(Command::Version),
-        Some(("word", given)) => match given.get_str("HEX") {
-            Some(hex) => Ok(Command::Word(hex)),
-            None => Err(RunFault::Usage),
-        },
-        Some(("labels", given)) => match given.get_str("PROFILE") {
-            Some(profile) => Ok(Command::Labels(profile)),
-            None => Err(RunFault::Usage),
-        },
-        Some(("pack", given)) => match given.get_str("REC") {
-            Some(recording) => Ok(Command::Pack(recording)),
-            None => Err(RunFault::Usage),
-        },
-        Some(("upgrade", given)) => match (given.get_str("CERT"), given.get_str("OUT")) {
-            (Some(cert), Some(new_cert)) if differ(new_cert, cert) => Ok(Command::Upgrade {
-                cert,
-                new_cert,
-            }),
-            _ => Err(RunFault::Usage),
-        },
-        Some(("series", given)) => match (given.get_str("PROFILE"), given.get_str("DIR")) {
-            (Some(profile), Some(folder)) => Ok(Command::Series { profile, folder }),
-            _ => Err(RunFault::Usage),
-        },
-        Some(("make", given)) => match given.get_str("PROFILE") {
-            Some(profile) => Ok(Command::Make {
-                profile,
-                files: all_of(alloc, given.get_strs("FILE"))?,
-            }),
-            None => Err(RunFault::Usage),
-        },
-        Some(("cut", given)) => cut_of(given),
-        Some((name, given)) => of_recording(name, given),
+        Some((name, given)) => of_name(alloc, name, given),
+        None => Err(RunFault::Usage),
+    }
+}
+
+// The command of this name.
+fn of_name<'a>(alloc: Global, name: &str, given: &ArgMatches<'a>) -> Result<Command<'a>, RunFault>
+    ensures apart { IfOk result KeepsInputs }
+    ensures err { IfErr result (λ e. (e ≡ RunFault.Memory) ⊎ (e ≡ RunFault.Usage)) }
+{
+    match name {
+        "version" => Ok(Command::Version),
+        "word" => word_of(given),
+        "labels" => labels_of(given),
+        "pack" => pack_of(given),
+        "upgrade" => upgrade_of(given),
+        "series" => series_of(given),
+        "make" => make_of(alloc, given),
+        "cut" => cut_of(given),
+        _ => of_recording(name, given),
+    }
+}
+
+fn word_of<'a>(given: &ArgMatches<'a>) -> Result<Command<'a>, RunFault>
+    ensures apart { IfOk result KeepsInputs }
+    ensures err { IfErr result (λ e. e ≡ RunFault.Usage) }
+{
+    match given.get_str("HEX") {
+        Some(hex) => Ok(Command::Word(hex)),
+        None => Err(RunFault::Usage),
+    }
+}
+
+fn labels_of<'a>(given: &ArgMatches<'a>) -> Result<Command<'a>, RunFault>
+    ensures apart { IfOk result KeepsInputs }
+    ensures err { IfErr result (λ e. e ≡ RunFault.Usage) }
+{
+    match given.get_str("PROFILE") {
+        Some(profile) => Ok(Command::Labels(profile)),
+        None => Err(RunFault::Usage),
+    }
+}
+
+fn pack_of<'a>(given: &ArgMatches<'a>) -> Result<Command<'a>, RunFault>
+    ensures apart { IfOk result KeepsInputs }
+    ensures err { IfErr result (λ e. e ≡ RunFault.Usage) }
+{
+    match given.get_str("REC") {
+        Some(recording) => Ok(Command::Pack(recording)),
+        None => Err(RunFault::Usage),
+    }
+}
+
+fn upgrade_of<'a>(given: &ArgMatches<'a>) -> Result<Command<'a>, RunFault>
+    ensures apart { IfOk result KeepsInputs }
+    ensures err { IfErr result (λ e. e ≡ RunFault.Usage) }
+{
+    match (given.get_str("CERT"), given.get_str("OUT")) {
+        (Some(cert), Some(new_cert)) if differ(new_cert, cert) => Ok(Command::Upgrade {
+            cert,
+            new_cert,
+        }),
+        _ => Err(RunFault::Usage),
+    }
+}
+
+fn series_of<'a>(given: &ArgMatches<'a>) -> Result<Command<'a>, RunFault>
+    ensures apart { IfOk result KeepsInputs }
+    ensures err { IfErr result (λ e. e ≡ RunFault.Usage) }
+{
+    match (given.get_str("PROFILE"), given.get_str("DIR")) {
+        (Some(profile), Some(folder)) => Ok(Command::Series { profile, folder }),
+        _ => Err(RunFault::Usage),
+    }
+}
+
+fn make_of<'a>(alloc: Global, given: &ArgMatches<'a>) -> Result<Command<'a>, RunFault>
+    ensures apart { IfOk result KeepsInputs }
+    ensures err { IfErr result (λ e. (e ≡ RunFault.Memory) ⊎ (e ≡ RunFault.Usage)) }
+{
+    match given.get_str("PROFILE") {
+        Some(profile) => Ok(Command::Make {
+            profile,
+            files: all_of(alloc, given.get_strs("FILE"))?,
+        }),
         None => Err(RunFault::Usage),
     }
 }
@@ -84,42 +136,80 @@ fn of_recording<'a>(name: &str, given: &ArgMatches<'a>) -> Result<Command<'a>, R
     ensures apart { IfOk result KeepsInputs }
     ensures err { IfErr result (λ e. e ≡ RunFault.Usage) }
 {
-    let Some(profile) = given.get_str("PROFILE") else {
-        return Err(RunFault::Usage);
-    };
-    let Some(recording) = given.get_str("REC") else {
-        return Err(RunFault::Usage);
-    };
-    match name {
-        "show" => return Ok(Command::Show { profile, recording }),
-        "forms" => return Ok(Command::Forms { profile, recording }),
-        "survey" => return Ok(Command::Survey { profile, recording }),
-        "keep" => return Ok(Command::Keep { profile, recording }),
-        "trace" => return Ok(Command::Trace { profile, recording }),
-        _ => {}
-    }
-    let Some(certificate) = given.get_str("CERT") else {
-        return Err(RunFault::Usage);
-    };
-    let claim = Claim {
-        profile,
-        recording,
-        certificate,
-    };
-    match (name, given.get_str("DIR")) {
-        ("check", _) if is_apart(&claim) => Ok(Command::Check(claim)),
-        ("decide", _) if is_apart(&claim) => Ok(Command::Decide(claim)),
-        ("verify", _) => Ok(Command::Verify(claim)),
-        ("units", _) => Ok(Command::Units(claim)),
-        ("extract", Some(folder)) if is_new(folder, &claim) => Ok(Command::Extract {
-            claim,
-            folder,
-        }),
-        ("picture", _) => Ok(Command::Picture {
-            claim,
-            span: span_of(given)?,
-        }),
+    match (given.get_str("PROFILE"), given.get_str("REC")) {
+        (Some(profile), Some(recording)) => of_both(name, given, profile, recording),
         _ => Err(RunFault::Usage),
+    }
+}
+
+// The command of this name on a profile and a recording.
+fn of_both<'a>(
+    name: &str,
+    given: &ArgMatches<'a>,
+    profile: &'a str,
+    recording: &'a str,
+) -> Result<Command<'a>, RunFault>
+    ensures apart { IfOk result KeepsInputs }
+    ensures err { IfErr result (λ e. e ≡ RunFault.Usage) }
+{
+    match name {
+        "show" => Ok(Command::Show { profile, recording }),
+        "forms" => Ok(Command::Forms { profile, recording }),
+        "survey" => Ok(Command::Survey { profile, recording }),
+        "keep" => Ok(Command::Keep { profile, recording }),
+        "trace" => Ok(Command::Trace { profile, recording }),
+        _ => match given.get_str("CERT") {
+            Some(certificate) => of_claim(
+                name,
+                given,
+                Claim {
+                    profile,
+                    recording,
+                    certificate,
+                },
+            ),
+            None => Err(RunFault::Usage),
+        },
+    }
+}
+
+// The command of this name on a certificate.
+fn of_claim<'a>(
+    name: &str,
+    given: &ArgMatches<'a>,
+    claim: Claim<'a>,
+) -> Result<Command<'a>, RunFault>
+    ensures apart { IfOk result KeepsInputs }
+    ensures err { IfErr result (λ e. e ≡ RunFault.Usage) }
+{
+    match name {
+        "check" if is_apart(&claim) => Ok(Command::Check(claim)),
+        "decide" if is_apart(&claim) => Ok(Command::Decide(claim)),
+        "verify" => Ok(Command::Verify(claim)),
+        "units" => Ok(Command::Units(claim)),
+        "extract" => extract_of(given, claim),
+        "picture" => picture_of(given, claim),
+        _ => Err(RunFault::Usage),
+    }
+}
+
+fn extract_of<'a>(given: &ArgMatches<'a>, claim: Claim<'a>) -> Result<Command<'a>, RunFault>
+    ensures apart { IfOk result KeepsInputs }
+    ensures err { IfErr result (λ e. e ≡ RunFault.Usage) }
+{
+    match given.get_str("DIR") {
+        Some(folder) if is_new(folder, &claim) => Ok(Command::Extract { claim, folder }),
+        _ => Err(RunFault::Usage),
+    }
+}
+
+fn picture_of<'a>(given: &ArgMatches<'a>, claim: Claim<'a>) -> Result<Command<'a>, RunFault>
+    ensures apart { IfOk result KeepsInputs }
+    ensures err { IfErr result (λ e. e ≡ RunFault.Usage) }
+{
+    match span_of(given) {
+        Ok(span) => Ok(Command::Picture { claim, span }),
+        Err(fault) => Err(fault),
     }
 }
 
@@ -207,81 +297,125 @@ fn parser<'a>(alloc: Global) -> Result<Parser<'a>, AllocError> {
     let all = Parser::new(alloc, "a429")
         .no_binary_name(true)
         .subcommand_required(true);
-    let all = with(all, Ok(Parser::new(alloc, "version")))?;
-    let all = with(all, Parser::new(alloc, "word").arg(once(alloc, "HEX")))?;
-    let all = with(all, with_profile(alloc, "labels"))?;
-    let all = with(all, Parser::new(alloc, "pack").arg(once(alloc, "REC")))?;
-    let all = with(all, with_recording(alloc, "show"))?;
-    let all = with(all, with_recording(alloc, "forms"))?;
-    let all = with(all, with_recording(alloc, "survey"))?;
-    let all = with(all, with_recording(alloc, "keep"))?;
-    let all = with(all, with_recording(alloc, "trace"))?;
-    let all = with(all, with_parts(alloc, "cut"))?;
-    let all = with(all, with_certificate(alloc, "check"))?;
-    let all = with(all, with_certificate(alloc, "decide"))?;
-    let all = with(all, with_certificate(alloc, "verify"))?;
-    let all = with(all, with_certificate(alloc, "units"))?;
-    let all = with(all, with_folder(alloc, "extract"))?;
-    let all = with(all, with_span(alloc, "picture"))?;
-    let all = with(all, with_output(alloc, "upgrade"))?;
-    let all = with(all, with_part_folder(alloc, "series"))?;
+    let all = with_others(alloc, Ok(all));
+    let all = with_recordings(alloc, all);
+    let all = with_makers(alloc, all);
+    with_claims(alloc, all)
+}
+
+// These commands, and those that take no recording.
+fn with_others<'a>(
+    alloc: Global,
+    all: Result<Parser<'a>, AllocError>,
+) -> Result<Parser<'a>, AllocError> {
+    let all = with(all, Ok(Parser::new(alloc, "version")));
+    let all = with(all, with_word(alloc, "word", "HEX"));
+    let all = with(all, with_profile(alloc, "labels"));
+    let all = with(all, with_part_folder(alloc, "series"));
     with(all, with_files(alloc, "make"))
+}
+
+// These commands, and those that show a recording.
+fn with_recordings<'a>(
+    alloc: Global,
+    all: Result<Parser<'a>, AllocError>,
+) -> Result<Parser<'a>, AllocError> {
+    let all = with(all, with_recording(alloc, "show"));
+    let all = with(all, with_recording(alloc, "forms"));
+    let all = with(all, with_recording(alloc, "survey"));
+    with(all, with_recording(alloc, "trace"))
+}
+
+// These commands, and those that write a recording or a certificate anew.
+fn with_makers<'a>(
+    alloc: Global,
+    all: Result<Parser<'a>, AllocError>,
+) -> Result<Parser<'a>, AllocError> {
+    let all = with(all, with_word(alloc, "pack", "REC"));
+    let all = with(all, with_recording(alloc, "keep"));
+    let all = with(all, with_parts(alloc, "cut"));
+    with(all, with_output(alloc, "upgrade"))
+}
+
+// These commands, and those on a recording and its certificate.
+fn with_claims<'a>(
+    alloc: Global,
+    all: Result<Parser<'a>, AllocError>,
+) -> Result<Parser<'a>, AllocError> {
+    let all = with(all, with_certificate(alloc, "check"));
+    let all = with(all, with_certificate(alloc, "decide"));
+    let all = with(all, with_certificate(alloc, "verify"));
+    let all = with(all, with_certificate(alloc, "units"));
+    let all = with(all, with_folder(alloc, "extract"));
+    with(all, with_span(alloc, "picture"))
 }
 
 // These commands and one more.
 fn with<'a>(
-    all: Parser<'a>,
+    all: Result<Parser<'a>, AllocError>,
     command: Result<Parser<'a>, AllocError>,
 ) -> Result<Parser<'a>, AllocError> {
-    all.subcommand(command?)
+    all?.subcommand(command?)
+}
+
+// A command that takes one word more.
+fn taking<'a>(
+    command: Result<Parser<'a>, AllocError>,
+    word: Arg<'a>,
+) -> Result<Parser<'a>, AllocError> {
+    command?.arg(word)
+}
+
+// A command that takes one word.
+fn with_word<'a>(alloc: Global, name: &'a str, word: &'a str) -> Result<Parser<'a>, AllocError> {
+    Parser::new(alloc, name).arg(once(alloc, word))
 }
 
 // A command that takes a profile.
 fn with_profile<'a>(alloc: Global, name: &'a str) -> Result<Parser<'a>, AllocError> {
-    Parser::new(alloc, name).arg(once(alloc, "PROFILE"))
+    with_word(alloc, name, "PROFILE")
 }
 
 // A command that takes a profile and a recording.
 fn with_recording<'a>(alloc: Global, name: &'a str) -> Result<Parser<'a>, AllocError> {
-    with_profile(alloc, name)?.arg(once(alloc, "REC"))
+    taking(with_profile(alloc, name), once(alloc, "REC"))
 }
 
 // A command that takes a profile, a recording and a certificate.
 fn with_certificate<'a>(alloc: Global, name: &'a str) -> Result<Parser<'a>, AllocError> {
-    with_recording(alloc, name)?.arg(once(alloc, "CERT"))
+    taking(with_recording(alloc, name), once(alloc, "CERT"))
 }
 
 // A command that takes a profile, a recording, a certificate and a folder.
 fn with_folder<'a>(alloc: Global, name: &'a str) -> Result<Parser<'a>, AllocError> {
-    with_certificate(alloc, name)?.arg(once(alloc, "DIR"))
+    taking(with_certificate(alloc, name), once(alloc, "DIR"))
 }
 
 // A command that takes a profile, a recording, a certificate and two entries.
 fn with_span<'a>(alloc: Global, name: &'a str) -> Result<Parser<'a>, AllocError> {
-    let parser = with_certificate(alloc, name)?.arg(once(alloc, "FROM"))?;
-    parser.arg(once(alloc, "TO"))
+    let parser = taking(with_certificate(alloc, name), once(alloc, "FROM"));
+    taking(parser, once(alloc, "TO"))
 }
 
 // A command that takes a profile, a recording, a folder, and perhaps the most entries of a part.
 fn with_parts<'a>(alloc: Global, name: &'a str) -> Result<Parser<'a>, AllocError> {
-    let parser = with_recording(alloc, name)?.arg(once(alloc, "DIR"))?;
-    parser.arg(Arg::new(alloc, "MOST").action(ArgAction::Set))
+    let parser = taking(with_recording(alloc, name), once(alloc, "DIR"));
+    taking(parser, Arg::new(alloc, "MOST").action(ArgAction::Set))
 }
 
 // A command that takes a certificate, and where to write another.
 fn with_output<'a>(alloc: Global, name: &'a str) -> Result<Parser<'a>, AllocError> {
-    let parser = Parser::new(alloc, name).arg(once(alloc, "CERT"))?;
-    parser.arg(once(alloc, "OUT"))
+    taking(with_word(alloc, name, "CERT"), once(alloc, "OUT"))
 }
 
 // A command that takes a profile and the folder of a recording's parts.
 fn with_part_folder<'a>(alloc: Global, name: &'a str) -> Result<Parser<'a>, AllocError> {
-    with_profile(alloc, name)?.arg(once(alloc, "DIR"))
+    taking(with_profile(alloc, name), once(alloc, "DIR"))
 }
 
 // A command that takes a profile and any number of files.
 fn with_files<'a>(alloc: Global, name: &'a str) -> Result<Parser<'a>, AllocError> {
-    with_profile(alloc, name)?.arg(any_number(alloc, "FILE"))
+    taking(with_profile(alloc, name), any_number(alloc, "FILE"))
 }
 
 // A word that comes once.

@@ -1,14 +1,15 @@
 //! `a429 check PROFILE REC CERT`: finds a certificate for a recording, or says why there is none; and `a429 decide`,
 //! which does the same, tests whether words contradict each other, and searches for a run where `check` has a doubt.
 
-ghost use Rattle.std.specs.Prelude.{◌≡◌, ◌≢◌, ◌↔◌, [], true, false, IsErr, IfOk, IfErr, OnOk};
+ghost use Rattle.std.specs.Prelude.{◌≡◌, ◌≢◌, ◌↔◌, [], true, false, Ok, IsErr, IfOk, IfErr, OnOk};
 ghost use Rattle.std.specs.Fmt.{decimal};
 ghost use Rattle.a429_word.specs.Tally.{has_failed, unread, Puts};
 ghost use Rattle.a429_word.specs.Sheet.{Says, Writes};
 ghost use Rattle.a429_cert.specs.Explained.{items_of};
 ghost use Rattle.a429_check.specs.declared.engines.rule.Rule.TheVariants as rules;
 ghost use Rattle.a429_check.specs.Output.{output, UsedWork};
-ghost use Rattle.a429_check.specs.Check.{reason_text, doubt_text, verdict_text, certificate_text, verdict_status, EitherFailed, IsCheckFault, IsVerdictBy, IsVerdictOn, LeavesVerdict, ReportsVerdict};
+ghost use Rattle.a429_check.specs.Recording.{IsReadFault};
+ghost use Rattle.a429_check.specs.Check.{reason_text, doubt_text, verdict_text, certificate_text, verdict_status, EitherFailed, IsCheckFault, IsVerdictBy, IsVerdictOn, IsVerdictUnder, IsWritingFault, LeavesVerdict, ReportsVerdict};
 
 use crate::engines::profile::profile_of;
 use crate::engines::recording::entries_of;
@@ -81,8 +82,23 @@ pub fn run_by_rule<R: Read, C: Write, W: Write>(
         (has_failed rec.new ≡ true) (IsVerdictOn rule profile.now (unread R.remaining rec.old))) }
 {
     let verdict = verdict_on(alloc, profile, rec, rule)?;
+    write_found(alloc, cert, out, &verdict)
+}
+
+// Writes the certificate of a verdict and then the verdict, and answers its status.
+fn write_found<C: Write, W: Write>(
+    alloc: Global,
+    cert: &mut Tally<C>,
+    out: &mut Tally<W>,
+    verdict: &Verdict,
+) -> Result<u8, RunFault>
+    ensures verdict { IfOk result (ReportsVerdict (output C.contents cert.old cert.new) (output W.contents out.old out.new) (λ v. v ≡ verdict.now)) }
+    ensures device { IfOk result (UsedWork false (has_failed cert.new) (has_failed out.new)) }
+    ensures err { IfErr result (IsWritingFault (EitherFailed (has_failed cert.new) (has_failed out.new))) }
+    ensures cut { IfErr result (LeavesVerdict (output C.contents cert.old cert.new) (output W.contents out.old out.new) ⊥ (λ v. v ≡ verdict.now)) }
+{
     let page = Page::new(alloc)?;
-    write_both(page, cert, out, &verdict)
+    write_both(page, cert, out, verdict)
 }
 
 // Writes the certificate of a verdict, by an empty page, and then the verdict, and answers its status.
@@ -115,8 +131,30 @@ fn verdict_on<R: Read>(
     ensures err { IfErr result (IsCheckFault profile.now (unread R.remaining rec.old) (has_failed rec.new) ⊥) }
 {
     let profile = profile_of(alloc, profile)?;
+    verdict_under(alloc, &profile, rec, rule)
+}
+
+// The same under a profile that was read.
+fn verdict_under<R: Read>(
+    alloc: Global,
+    profile: &Profile,
+    rec: &mut Tally<R>,
+    rule: Rule,
+) -> Result<Verdict, RunFault>
+    ensures verdict { IfOk result (IsVerdictUnder rule profile.now (unread R.remaining rec.old)) }
+    ensures device { OnOk result (has_failed rec.new ≡ false) }
+    ensures err { IfErr result (IsReadFault (unread R.remaining rec.old) (has_failed rec.new)) }
+{
     let entries = entries_of(alloc, rec)?;
-    match verdict_by(alloc, &profile, entries.as_slice(), rule) {
+    found(verdict_by(alloc, profile, entries.as_slice(), rule))
+}
+
+// The verdict that was found, if memory sufficed.
+fn found(verdict: Result<Verdict, OutOfMemory>) -> Result<Verdict, RunFault>
+    ensures ok { IfOk result (λ v. verdict ≡ Ok v) }
+    ensures err { IfErr result (λ e. e ≡ RunFault.Memory) }
+{
+    match verdict {
         Ok(verdict) => Ok(verdict),
         Err(_) => Err(RunFault::Memory),
     }

@@ -4,8 +4,9 @@ ghost use Rattle.std.specs.Prelude.{◌≡◌, ◌↔◌, [], true, false, IsErr
 ghost use Rattle.a429_word.specs.Tally.{has_failed, unread};
 ghost use Rattle.a429_word.specs.Sheet.{Says, Writes};
 ghost use Rattle.a429_check.specs.Output.{output, IsCutShort, PutsText};
+ghost use Rattle.a429_check.specs.Recording.{IsEntriesFault, IsOfEntries};
 ghost use Rattle.a429_check.specs.Show.{IsShowFault};
-ghost use Rattle.a429_check.specs.Forms.{form_line, form_lines, TellsForms};
+ghost use Rattle.a429_check.specs.Forms.{form_line, form_lines, IsFormsText, TellsForms};
 
 use crate::engines::profile::profile_of;
 use crate::engines::recording::entries_of;
@@ -34,9 +35,25 @@ pub fn run_forms<R: Read, W: Write>(
     ensures device { OnOk result ((has_failed rec.new ≡ false) × (has_failed out.new ≡ false)) }
 {
     let profile = profile_of(alloc, profile)?;
+    forms_by(alloc, &profile, rec, out)
+}
+
+// Does the same by a profile that was read.
+fn forms_by<R: Read, W: Write>(
+    alloc: Global,
+    profile: &Profile,
+    rec: &mut Tally<R>,
+    out: &mut Tally<W>,
+) -> Result<u8, RunFault>
+    ensures ok { IfOk result (λ status. status ≡ 0) }
+    ensures lines { OnOk result (PutsText W.contents out.old out.new (IsOfEntries (unread R.remaining rec.old) (IsFormsText profile.now.codes))) }
+    ensures err { IfErr result (IsEntriesFault (unread R.remaining rec.old) (has_failed rec.new) (has_failed out.new)) }
+    ensures cut { IfErr result (IsCutShort (output W.contents out.old out.new) (has_failed rec.new ≡ true) (IsOfEntries (unread R.remaining rec.old) (IsFormsText profile.now.codes))) }
+    ensures device { OnOk result ((has_failed rec.new ≡ false) × (has_failed out.new ≡ false)) }
+{
     let entries = entries_of(alloc, rec)?;
     let page = Page::new(alloc)?;
-    put_entries(page, out, &profile, entries.as_slice())?;
+    put_entries(page, out, profile, entries.as_slice())?;
     Ok(0)
 }
 

@@ -4,9 +4,9 @@ ghost use Rattle.std.specs.Prelude.{◌≡◌, false, IfOk, IfErr, OnOk};
 ghost use Rattle.a429_word.specs.Tally.{has_failed};
 ghost use Rattle.a429_check.specs.Output.{output, IsCutShort, PutsText};
 ghost use Rattle.a429_check.specs.Verdict.{input, AllWork, AnyFailed, HasFailed};
-ghost use Rattle.a429_check.specs.Picture.{IsPicture, IsPictureFault, IsSketchFault, IsSketched, IsSomePicture};
+ghost use Rattle.a429_check.specs.Picture.{IsPicture, IsPictureFault, IsPictureFaultOf, IsPictureOf, IsSketchFault, IsSketched, IsSomePicture, IsSomePictureOf};
 
-use crate::engines::verdict::{judge, write_answer};
+use crate::engines::verdict::{Judged, judge, write_answer};
 use crate::fault::RunFault;
 use a429_cert::NoShelf;
 use a429_profile::Profile;
@@ -39,9 +39,24 @@ pub fn run_picture<R: Read, C: Read, W: Write>(
 {
     let mut sketch = Sketch::new(alloc, span);
     let judged = judge(alloc, profile, rec, cert, &mut NoShelf, &mut sketch)?;
+    write_judged(alloc, out, &judged, &sketch)
+}
+
+// Writes what was sketched of a certificate that is accepted, or the no of one that is refused, and answers the status.
+fn write_judged<W: Write>(
+    alloc: Global,
+    out: &mut Tally<W>,
+    judged: &Judged,
+    sketch: &Sketch,
+) -> Result<u8, RunFault>
+    ensures answer { IfOk result (λ status. PutsText W.contents out.old out.new (IsPictureOf judged.now sketch.now status)) }
+    ensures works { OnOk result (has_failed out.new ≡ false) }
+    ensures err { IfErr result (IsPictureFaultOf judged.now sketch.now (has_failed out.new)) }
+    ensures cut { IfErr result (IsCutShort (output W.contents out.old out.new) ⊥ (IsSomePictureOf judged.now sketch.now)) }
+{
     match &judged.answer {
         Ok(_) => {
-            write_sketch(alloc, out, &judged.profile, &sketch)?;
+            write_sketch(alloc, out, &judged.profile, sketch)?;
             Ok(0)
         }
         Err(_) => Ok(write_answer(out, &judged.answer)?),

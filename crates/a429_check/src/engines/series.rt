@@ -1,19 +1,19 @@
 //! `a429 series PROFILE DIR`: whether the certificates of a recording's parts explain all of it.
 
-ghost use Rattle.std.specs.Prelude.{◌≡◌, ◌≢◌, ◌↔◌, ◌⊎◌, ◌<◌, ◌++◌, codes, length, true, false, Err, IsErr, IsErrOf, IfOk, IfErr, IfSome, OnOk};
+ghost use Rattle.std.specs.Prelude.{◌≡◌, ◌≢◌, ◌↔◌, ◌⊎◌, ◌<◌, ◌++◌, codes, length, true, false, Ok, Err, IsErr, IsErrOf, IfOk, IfErr, IfSome, OnOk};
 ghost use Rattle.std.specs.Fmt.{decimal};
-ghost use Rattle.a429_word.specs.Tally.{has_failed};
+ghost use Rattle.a429_word.specs.Tally.{has_failed, unread};
 ghost use Rattle.a429_word.specs.Sheet.{Says, Writes};
 ghost use Rattle.a429_profile.specs.Profile.{IsProfile};
 ghost use Rattle.a429_record.specs.declared.fault.ReadFault.TheVariants as read;
-ghost use Rattle.a429_cert.specs.Series.{IsPartFault, Joins};
+ghost use Rattle.a429_cert.specs.Series.{IsPartFault, Joins, RefusesPart};
 ghost use Rattle.a429_cert.specs.declared.fault.CertFault.{CertFault};
 ghost use Rattle.a429_check.specs.Output.{output, IsCutShort, PutsText};
 ghost use Rattle.a429_check.specs.Verdict.{fault_text, of_stream};
-ghost use Rattle.a429_check.specs.Series.{part_text, series_input, status_of_series, text_of_series, AnswersSeries, FailsIn, IsListFault, IsPartsAnswer, IsPartsFault, IsRefusal, IsSeriesAnswer, IsSeriesFault, IsSeriesVerdict, IsSomeSeriesVerdict};
+ghost use Rattle.a429_check.specs.Series.{part_text, series_input, status_of_series, text_of_series, AnswersSeries, FailsIn, IsListFault, IsPartsAnswer, IsPartsFault, IsRefusal, IsSeriesAnswer, IsSeriesFault, IsSeriesVerdict, IsSomeSeriesVerdict, IsStopOf};
 
 use crate::engines::part_list::read_parts;
-use crate::engines::part_source::PartSource;
+use crate::engines::part_source::{OpenPart, PartSource};
 use crate::engines::profile::profile_of;
 use crate::engines::verdict::{of_certificate, put_fault, put_yes};
 use crate::fault::RunFault;
@@ -135,14 +135,42 @@ fn add_part<'a, R: Read + Drop, C: Read + Drop, P: PartSource<R, C>>(
     ensures read { IsErrOf result (StreamFault.Read read.Device) → P.failed parts.new ≡ true }
     ensures same { P.part parts.new ≡ P.part parts.old }
 {
-    let mut part = match parts.open(place) {
-        Ok(part) => part,
-        Err(Trouble::Device) => return Err(StreamFault::Device),
-        Err(Trouble::OutOfMemory) => return Err(StreamFault::OutOfMemory),
-    };
+    match parts.open(place) {
+        Ok(part) => add_open(series, parts, part),
+        Err(Trouble::Device) => Err(StreamFault::Device),
+        Err(Trouble::OutOfMemory) => Err(StreamFault::OutOfMemory),
+    }
+}
+
+// Adds a part that was opened.
+fn add_open<'a, R: Read + Drop, C: Read + Drop, P: PartSource<R, C>>(
+    series: Series<'a>,
+    parts: &mut P,
+    part: OpenPart<R, C>,
+) -> Result<Series<'a>, StreamFault>
+    ensures ok { IfOk result (Joins series.entry (unread C.remaining part.cert) part.rec.to_come) }
+    ensures err { IfErr result (RefusesPart series.entry (unread C.remaining part.cert) part.rec.to_come) }
+    ensures works { IfOk result (λ _. P.failed parts.new ≡ false) }
+    ensures refused { IfErr result (λ f. (g : CertFault) → f ≡ StreamFault.Cert g → P.failed parts.new ≡ false) }
+    ensures device { IsErrOf result StreamFault.Device → P.failed parts.new ≡ true }
+    ensures read { IsErrOf result (StreamFault.Read read.Device) → P.failed parts.new ≡ true }
+    ensures same { P.part parts.new ≡ P.part parts.old }
+{
+    let mut part = part;
     let added = series.add(&mut part.rec, &mut part.cert);
     parts.note(part.rec.failed() || part.cert.failed());
-    if parts.failed() {
+    unless_failed(parts.failed(), added)
+}
+
+// What was added, unless something has failed.
+fn unless_failed<'a>(
+    has_failed: bool,
+    added: Result<Series<'a>, StreamFault>,
+) -> Result<Series<'a>, StreamFault>
+    ensures ok { IfOk result (λ new. (has_failed ≡ false) × (added.entry ≡ Ok new)) }
+    ensures err { IfErr result (IsStopOf has_failed added.entry) }
+{
+    if has_failed {
         return Err(StreamFault::Device);
     }
     added

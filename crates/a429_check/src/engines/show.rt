@@ -9,6 +9,7 @@ ghost use Rattle.a429_profile.specs.Shown.{IsShown, HasItsRanges};
 ghost use Rattle.a429_profile.specs.Entry.{IsFlagBit, IsKindInRange};
 ghost use Rattle.a429_profile.specs.Flags.{both_texts};
 ghost use Rattle.a429_check.specs.Output.{output, IsCutShort, PutsText, PutsPrefixOf};
+ghost use Rattle.a429_check.specs.Recording.{IsEntriesFault, IsOfEntries};
 ghost use Rattle.a429_check.specs.Show.{IsShowFault, status_text, bad_digit_text, unit_text, test_text, flag_text, IsValueText, field_text, IsShownText, recorded_text, fields_text, SaysSome, IsShowLine, AreShowLines, AreFirstShowLines, ShowsEntries, ShowsFirst};
 
 use crate::engines::profile::profile_of;
@@ -39,9 +40,25 @@ pub fn run_show<R: Read, W: Write>(
     ensures device { OnOk result ((has_failed rec.new ≡ false) × (has_failed out.new ≡ false)) }
 {
     let profile = profile_of(alloc, profile)?;
+    show_by(alloc, &profile, rec, out)
+}
+
+// Does the same by a profile that was read.
+fn show_by<R: Read, W: Write>(
+    alloc: Global,
+    profile: &Profile,
+    rec: &mut Tally<R>,
+    out: &mut Tally<W>,
+) -> Result<u8, RunFault>
+    ensures ok { IfOk result (λ status. status ≡ 0) }
+    ensures lines { OnOk result (PutsText W.contents out.old out.new (IsOfEntries (unread R.remaining rec.old) (AreShowLines profile.now))) }
+    ensures err { IfErr result (IsEntriesFault (unread R.remaining rec.old) (has_failed rec.new) (has_failed out.new)) }
+    ensures cut { IfErr result (IsCutShort (output W.contents out.old out.new) (has_failed rec.new ≡ true) (IsOfEntries (unread R.remaining rec.old) (AreFirstShowLines profile.now))) }
+    ensures device { OnOk result ((has_failed rec.new ≡ false) × (has_failed out.new ≡ false)) }
+{
     let entries = entries_of(alloc, rec)?;
     let page = Page::new(alloc)?;
-    put_entries(page, out, &profile, entries.as_slice())?;
+    put_entries(page, out, profile, entries.as_slice())?;
     Ok(0)
 }
 

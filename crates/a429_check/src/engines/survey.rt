@@ -8,7 +8,8 @@ ghost use Rattle.a429_record.specs.declared.entry.Entry.{Entry};
 ghost use Rattle.a429_view.specs.Survey.{IsSurvey, survey_text};
 ghost use Rattle.a429_check.specs.Output.{PutsText, IsCutShort, output};
 ghost use Rattle.a429_check.specs.Streaming.{IsNextFault};
-ghost use Rattle.a429_check.specs.Survey.{Counts, IsSomeSurvey, Surveys, IsSurveyFault};
+ghost use Rattle.a429_check.specs.Survey.{Counts, IsSomeSurvey, Surveys, SurveysBy, IsSurveyFault};
+ghost use Rattle.a429_check.specs.Trace.{IsLinesFault};
 
 use crate::engines::profile::profile_of;
 use crate::engines::streaming::next_entry;
@@ -37,8 +38,24 @@ pub fn run_survey<R: Read, W: Write>(
     ensures device { OnOk result ((rec.new.failed ≡ false) × (has_failed out.new ≡ false)) }
 {
     let profile = profile_of(alloc, profile)?;
+    survey_by(alloc, &profile, rec, out)
+}
+
+// Does the same by a profile that was read.
+fn survey_by<R: Read, W: Write>(
+    alloc: Global,
+    profile: &Profile,
+    rec: &mut EntryReader<R>,
+    out: &mut Tally<W>,
+) -> Result<u8, RunFault>
+    ensures ok { IfOk result (λ status. status ≡ 0) }
+    ensures lines { OnOk result (PutsText W.contents out.old out.new (SurveysBy profile.now.codes rec.old.to_come)) }
+    ensures err { IfErr result (IsLinesFault rec.old.to_come rec.new.failed (has_failed out.new)) }
+    ensures cut { IfErr result (IsCutShort (output W.contents out.old out.new) (rec.new.failed ≡ true) (SurveysBy profile.now.codes rec.old.to_come)) }
+    ensures device { OnOk result ((rec.new.failed ≡ false) × (has_failed out.new ≡ false)) }
+{
     let page = Page::new(alloc)?;
-    let survey = survey_of(&profile, rec)?;
+    let survey = survey_of(profile, rec)?;
     put_lines(page, out, &survey)?;
     Ok(0)
 }

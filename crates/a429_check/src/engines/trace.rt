@@ -3,6 +3,7 @@
 ghost use Rattle.std.specs.Prelude.{◌≡◌, [], false, IfErr, IfOk, flat_map};
 ghost use Rattle.a429_word.specs.Sheet.{Says, sheet_failed};
 ghost use Rattle.a429_word.specs.Tally.{has_failed};
+ghost use Rattle.a429_view.specs.Trace.{IsTrace};
 ghost use Rattle.a429_check.specs.Output.{PutsText, output};
 ghost use Rattle.a429_check.specs.Trace.{IsLinesFault, IsPutBy, IsTraceFault, IsTraceOf, LeavesLines, LeavesTrace, SaysText, Traces, only_text, size_line};
 
@@ -75,6 +76,22 @@ fn put_trace<R: Read, W: Write>(
     ensures device { IfOk result (λ status. status ≡ 0 → rec.new.failed ≡ false) }
 {
     let mut trace = Trace::new(alloc);
+    put_steps(alloc, sheet, profile, rec, &mut trace)
+}
+
+// The same by a trace that has no entry yet.
+fn put_steps<R: Read, W: Write>(
+    alloc: Global,
+    sheet: &mut Sheet<'_, W>,
+    profile: &Profile,
+    rec: &mut EntryReader<R>,
+    trace: &mut Trace,
+) -> Result<u8, RunFault>
+    requires { IsTrace profile.now trace.old [] }
+    ensures text { SaysText W.contents sheet.old sheet.new (IsPutBy profile.now rec.old.to_come result) }
+    ensures err { IfErr result (IsLinesFault rec.old.to_come rec.new.failed (sheet_failed sheet.new)) }
+    ensures device { IfOk result (λ status. status ≡ 0 → rec.new.failed ≡ false) }
+{
     'entries: loop {
         if sheet.failed() {
             return Err(RunFault::Device);

@@ -1,13 +1,13 @@
 //! `a429 units PROFILE REC CERT`: the link data units that a certificate loads, a row for each.
 
-ghost use Rattle.std.specs.Prelude.{◌≡◌, Err, false, IfOk, IfErr, OnOk};
+ghost use Rattle.std.specs.Prelude.{◌≡◌, Err, true, false, IfOk, IfErr, OnOk};
 ghost use Rattle.a429_word.specs.Tally.{has_failed};
 ghost use Rattle.a429_profile.specs.declared.fault.ProfileFault.{ProfileFault};
 ghost use Rattle.a429_check.specs.Output.{output};
 ghost use Rattle.a429_check.specs.Verdict.{input, no_shelf, AllWork, AnyFailed, IsVerifyFault};
-ghost use Rattle.a429_check.specs.Units.{AreFresh, ReportsUnits};
+ghost use Rattle.a429_check.specs.Units.{AreFresh, EndsUnits, ReportsUnits};
 
-use crate::engines::verdict::{judge, write_answer};
+use crate::engines::verdict::{Judged, judge, write_answer};
 use crate::fault::RunFault;
 use a429_cert::NoShelf;
 use a429_record::EntryReader;
@@ -36,6 +36,15 @@ pub fn run_units<R: Read, C: Read, W: Write>(
     ensures silent { (f : ProfileFault) → result ≡ Err (RunFault.Profile f) → rows.new ≡ rows.old }
 {
     let judged = judge(alloc, profile, rec, certificate, &mut NoShelf, rows)?;
+    end_rows(rows, &judged)
+}
+
+// Ends the rows of a certificate that was judged, writes the no of one that is refused, and answers the status.
+fn end_rows<W: Write>(rows: &mut UnitRows<W>, judged: &Judged) -> Result<u8, RunFault>
+    ensures ended { IfOk result (EndsUnits W.contents rows.old rows.new judged.now.answer) }
+    ensures works { OnOk result (has_failed rows.new.out ≡ false) }
+    ensures err { IfErr result (λ e. (e ≡ RunFault.Device) × (has_failed rows.new.out ≡ true)) }
+{
     match &judged.answer {
         Ok(_) => {
             rows.finish()?;

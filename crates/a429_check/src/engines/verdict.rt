@@ -10,7 +10,7 @@ ghost use Rattle.a429_profile.specs.declared.fault.ProfileFault.{ProfileFault};
 ghost use Rattle.a429_cert.specs.Stream.{sizes};
 ghost use Rattle.a429_cert.specs.BreakOff.{readers, shelved};
 ghost use Rattle.a429_check.specs.Extract.{progress, Leaves};
-ghost use Rattle.a429_check.specs.Verdict.{count_line, file_line, line_of_file, yes_text, fault_text, no_text, text_of_answer, status_of_answer, of_stream, input, AllWork, AnyFailed, HearsJudged, IsJudged, IsVerifyFault};
+ghost use Rattle.a429_check.specs.Verdict.{count_line, file_line, line_of_file, yes_text, fault_text, no_text, text_of_answer, status_of_answer, of_stream, input, AllWork, AnyFailed, HearsJudged, IsAnswerOf, IsJudged, IsNoAnswer, IsVerifyFault};
 ghost use Rattle.a429_cert.specs.Report.{listening};
 
 use crate::engines::profile::profile_of;
@@ -56,19 +56,27 @@ pub(crate) fn judge<R: Read, C: Read, S: Shelf, T: Listener>(
 {
     let profile = profile_of(alloc, profile)?;
     let answer = replay_stream(alloc, &profile, rec, cert, shelf, listener);
-    if any_failed(rec, cert, shelf, listener) {
+    match answer_of(answer, any_failed(rec, cert, shelf, listener)) {
+        Ok(answer) => Ok(Judged { profile, answer }),
+        Err(fault) => Err(fault),
+    }
+}
+
+// The answer of a stream as that on its certificate, unless something has failed.
+fn answer_of(
+    answer: Result<Vec<(u8, u32)>, StreamFault>,
+    has_failed: bool,
+) -> Result<Answer, RunFault>
+    ensures ok { IfOk result (IsAnswerOf has_failed answer) }
+    ensures err { IfErr result (IsNoAnswer has_failed answer) }
+{
+    if has_failed {
         return Err(RunFault::Device);
     }
     match answer {
-        Ok(files) => Ok(Judged {
-            profile,
-            answer: Ok(files),
-        }),
+        Ok(files) => Ok(Ok(files)),
         Err(fault) => match of_certificate(fault) {
-            Ok(fault) => Ok(Judged {
-                profile,
-                answer: Err(fault),
-            }),
+            Ok(fault) => Ok(Err(fault)),
             Err(fault) => Err(fault),
         },
     }

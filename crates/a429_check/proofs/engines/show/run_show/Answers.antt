@@ -1,30 +1,18 @@
-use Rattle.std.proofs.Common.{◌≡◌, inr, true, refl}
-use Rattle.std.proofs.lemmas.Result.{err_from_is_err_and}
-use Rattle.a429_word.specs.Tally.{inner_of, has_failed}
-use Rattle.a429_check.specs.Recording.{SayInput}
+use Rattle.std.proofs.lemmas.Result.{on_ok_weaker}
+use Rattle.a429_word.specs.Tally.{unread}
+use Rattle.a429_check.proofs.EntriesFacts.{cut_short_as, first_shown, show_fault, shown}
+use Rattle.a429_check.proofs.TraceLines.{if_err_map}
 use Rattle.a429_check.proofs.engines.show.run_show.Goals as goal
-
-pub returns-in_err-put_entries-clause-err : goal.returns-in_err-put_entries-clause-err
-returns-in_err-put_entries-clause-err g c =
-    let p = err_from_is_err_and c.from_residual-in_err-put_entries.result c.from_residual-in_err-put_entries.ensures.1 in
-    rw (p.1, p.2) ((_, c.in_ok-profile.ensures.ok), inr (c.in_err-put_entries.ensures.device.0 refl))
-
-pub returns-in_err-put_entries-clause-cut : goal.returns-in_err-put_entries-clause-cut
-returns-in_err-put_entries-clause-cut g c =
-    let p = err_from_is_err_and c.from_residual-in_err-put_entries.result c.from_residual-in_err-put_entries.ensures.1 in
-    let lines = rw c.as_slice.ensures.value at c.in_err-put_entries.ensures.prefix in
-    let says : SayInput c.args.profile.now (g.R.Read.remaining (inner_of c.args.rec.now)) = record { contents = c.in_ok-profile.profile; entries = c.in_ok-entries.entries.items; is_profile = c.in_ok-profile.ensures.ok; stand = c.in_ok-entries.ensures.ok } in
-    let works = c.in_ok-entries.ensures.device in
-    rw (p.1, p.2)
-    (inr (record {
-      device = refl;
-      failed = c.in_err-put_entries.ensures.device.0 refl;
-      alone = λ failed. cc (failed, works);
-      prefix = (lines.0, record { says = says; lines = lines.1 }, lines.2);
-    }))
 
 pub returns-clause-lines : goal.returns-clause-lines
 returns-clause-lines g c =
-    let lines = rw c.as_slice.ensures.value at c.in_ok-put_entries.ensures.ok in
-    let says : SayInput c.args.profile.now (g.R.Read.remaining (inner_of c.args.rec.now)) = record { contents = c.in_ok-profile.profile; entries = c.in_ok-entries.entries.items; is_profile = c.in_ok-profile.ensures.ok; stand = c.in_ok-entries.ensures.ok } in
-    (lines.0, record { says = says; lines = lines.1 }, lines.2)
+    on_ok_weaker c.show_by.result (λ h. (h.0, shown c.args.profile.now c.in_ok-profile.profile (unread g.R.Read.remaining c.args.rec.now) h.0 c.in_ok-profile.ensures.ok h.1, h.2)) c.show_by.ensures.lines
+
+pub returns-clause-err : goal.returns-clause-err
+returns-clause-err g c =
+    if_err_map c.show_by.result c.show_by.ensures.err (λ e h. show_fault c.args.profile.now c.in_ok-profile.profile (unread g.R.Read.remaining c.args.rec.now) _ _ e c.in_ok-profile.ensures.ok h)
+
+pub returns-clause-cut : goal.returns-clause-cut
+returns-clause-cut g c =
+    if_err_map c.show_by.result c.show_by.ensures.cut
+    (λ e h. cut_short_as _ _ e (λ text of. first_shown c.args.profile.now c.in_ok-profile.profile (unread g.R.Read.remaining c.args.rec.now) text c.in_ok-profile.ensures.ok of) h)

@@ -1,40 +1,17 @@
-use Rattle.std.proofs.Common.{inr, refl}
-use Rattle.std.proofs.lemmas.Bool.{false_from_ne_true}
-use Rattle.std.proofs.lemmas.Result.{err_from_is_err_and}
-use Rattle.a429_check.specs.Streaming.{SayStream}
-use Rattle.a429_check.proofs.StreamingFacts.{survey_fault}
+use Rattle.std.proofs.lemmas.Result.{on_ok_weaker}
+use Rattle.a429_check.proofs.EntriesFacts.{cut_short_as, surveyed}
+use Rattle.a429_check.proofs.TraceLines.{if_err_map, trace_fault}
 use Rattle.a429_check.proofs.engines.survey.run_survey.Goals as goal
-
-pub returns-in_err-survey-clause-err : goal.returns-in_err-survey-clause-err
-returns-in_err-survey-clause-err g c =
-    let p = err_from_is_err_and c.from_residual-in_err-survey.result c.from_residual-in_err-survey.ensures.1 in
-    rw (p.1, p.2) (survey_fault c.args.profile.now c.in_ok-profile.profile c.args.rec.now.to_come c.survey_of.new.rec.failed _ _ c.in_ok-profile.ensures.ok c.in_err-survey.ensures.err)
-
-pub returns-in_err-put_lines-clause-err : goal.returns-in_err-put_lines-clause-err
-returns-in_err-put_lines-clause-err g c =
-    let p = err_from_is_err_and c.from_residual-in_err-put_lines.result c.from_residual-in_err-put_lines.ensures.1 in
-    rw (p.1, p.2) ((_, c.in_ok-profile.ensures.ok), inr (c.in_err-put_lines.ensures.device.0 refl))
-
-pub returns-in_err-put_lines-clause-cut : goal.returns-in_err-put_lines-clause-cut
-returns-in_err-put_lines-clause-cut g c =
-    let p = err_from_is_err_and c.from_residual-in_err-put_lines.result c.from_residual-in_err-put_lines.ensures.1 in
-    let found = c.in_ok-survey.ensures.ok in
-    let contents = c.in_ok-profile.profile in
-    let lines = c.in_err-put_lines.ensures.written contents.codes found.0 found.1 in
-    let says : SayStream c.args.profile.now c.args.rec.now.to_come = record { contents = contents; entries = found.0; is_profile = c.in_ok-profile.ensures.ok; stand = found.2 } in
-    let works = c.in_ok-survey.ensures.device in
-    rw (p.1, p.2)
-    (inr (record {
-      device = refl;
-      failed = c.in_err-put_lines.ensures.device.0 refl;
-      alone = λ failed. cc (failed, works);
-      prefix = (_, record { says = says; lines = refl }, lines.prefix);
-    }))
 
 pub returns-clause-lines : goal.returns-clause-lines
 returns-clause-lines g c =
-    let found = c.in_ok-survey.ensures.ok in
-    let p = c.in_ok-profile.profile in
-    let says : SayStream c.args.profile.now c.args.rec.now.to_come = record { contents = p; entries = found.0; is_profile = c.in_ok-profile.ensures.ok; stand = found.2 } in
-    let works = false_from_ne_true _ (λ failed. absurd (cc (c.in_ok-put_lines.ensures.device.1 failed))) in
-    (_, record { says = says; lines = refl }, (c.in_ok-put_lines.ensures.written p.codes found.0 found.1).all works)
+    on_ok_weaker c.survey_by.result (λ h. (h.0, surveyed c.args.profile.now c.in_ok-profile.profile c.args.rec.now.to_come h.0 c.in_ok-profile.ensures.ok h.1, h.2)) c.survey_by.ensures.lines
+
+pub returns-clause-err : goal.returns-clause-err
+returns-clause-err g c =
+    if_err_map c.survey_by.result c.survey_by.ensures.err (λ e h. trace_fault c.args.profile.now c.in_ok-profile.profile _ _ _ e c.in_ok-profile.ensures.ok h)
+
+pub returns-clause-cut : goal.returns-clause-cut
+returns-clause-cut g c =
+    if_err_map c.survey_by.result c.survey_by.ensures.cut
+    (λ e h. cut_short_as _ _ e (λ text of. surveyed c.args.profile.now c.in_ok-profile.profile c.args.rec.now.to_come text c.in_ok-profile.ensures.ok of) h)

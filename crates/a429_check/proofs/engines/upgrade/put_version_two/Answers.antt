@@ -1,3 +1,5 @@
+use Rattle.std.proofs.Common.{◌<◌, ℕ, sym, subst, arith}
+use Rattle.std.proofs.lemmas.List.{length-replicate}
 use Rattle.std.proofs.lemmas.Result.{on_ok_weaker, on_err_weaker}
 use Rattle.std.proofs.KnownBytes.{Appends-trans}
 use Rattle.a429_check.specs.Upgrade.{version_two_line}
@@ -15,3 +17,6 @@ returns-clause-ok g c =
 pub returns-clause-err : goal.returns-clause-err
 returns-clause-err g c =
     on_err_weaker c.copy.result (λ (rest, are, front). (rest, are, front_after _ _ _ version_two_line rest c.in_ok-put.ensures.ok front)) c.copy.ensures.err
+
+pub copy-requires-clause-room : goal.copy-requires-clause-room
+copy-requires-clause-room g c = subst (λ (n : ℕ). 0 < n) (sym (length-replicate {A = ℕ} 262144 0)) (omega arith)

@@ -1,12 +1,12 @@
-use Rattle.std.proofs.Common.{sym, subst, inl, refl, arith}
+use Rattle.std.proofs.Common.{inl, refl, arith}
 use Rattle.std.proofs.lemmas.Result.{err_from_is_err_and}
 use Rattle.a429_word.specs.Tally.{has_failed}
 use Rattle.a429_cert.specs.BreakOff.{readers, shelved}
-use Rattle.a429_check.specs.declared.fault.RunFault.{RunFault}
-use Rattle.a429_check.specs.Extract.{progress, Leaves}
-use Rattle.a429_check.specs.Verdict.{input, AnyFailed, IsVerifyFault}
-use Rattle.a429_check.proofs.ExtractFacts.{left_by_device, left_by_profile, left_by_stream}
-use Rattle.a429_check.proofs.VerdictFacts.{by_profile, by_stream, has_answer, no_profile, one_failed, unchanged}
+use Rattle.a429_cert.specs.Report.{listening}
+use Rattle.a429_check.specs.Extract.{progress}
+use Rattle.a429_check.specs.Verdict.{input, no_shelf}
+use Rattle.a429_check.proofs.ExtractFacts.{left_by_no_answer, left_by_profile}
+use Rattle.a429_check.proofs.VerdictFacts.{answered_by, by_no_answer, by_profile, heard_by, none_has_failed, none_of_profile, one_failed, unchanged}
 use Rattle.a429_check.proofs.engines.verdict.judge.Goals as goal
 
 pub returns-in_err-profile-clause-err : goal.returns-in_err-profile-clause-err
@@ -23,35 +23,40 @@ returns-in_err-profile-clause-files g c =
     (left_by_profile c.args.profile.now (progress (readers g.C.Read.remaining c.args.cert.now c.args.cert.now c.args.rec.now c.args.rec.now) (shelved g.S.Shelf.files g.S.Failing.failed shelf shelf) (g.T.Failing.failed c.args.listener.now))
     _ _ c.in_err-profile.ensures.err (refl, omega (arith), unchanged (g.S.Shelf.files shelf)))
 
-pub returns-then-any_failed-clause-err : goal.returns-then-any_failed-clause-err
-returns-then-any_failed-clause-err g c =
-    let stream = c.replay_stream-answer in
-    (c.any_failed.ensures.yes c.if-any_failed.true, has_answer (input c.args.profile.now g.C.Read.remaining c.args.cert.now c.args.rec.now) (shelved g.S.Shelf.files g.S.Failing.failed c.args.shelf.now stream.new.shelf) c.in_ok-profile.profile stream.result c.in_ok-profile.ensures.ok stream.ensures.ok stream.ensures.err)
-
-pub returns-then-any_failed-clause-files : goal.returns-then-any_failed-clause-files
-returns-then-any_failed-clause-files g c =
-    let stream = c.replay_stream-answer in
-    let at = progress (readers g.C.Read.remaining c.args.cert.now stream.new.cert c.args.rec.now stream.new.rec) (shelved g.S.Shelf.files g.S.Failing.failed c.args.shelf.now stream.new.shelf) (g.T.Failing.failed stream.new.listener) in
-    left_by_device c.args.profile.now c.in_ok-profile.profile at _ c.in_ok-profile.ensures.ok stream.result stream.ensures.ok stream.ensures.err stream.ensures.place (c.any_failed.ensures.yes c.if-any_failed.true)
-
-pub returns-in-Err-of_certificate-clause-err : goal.returns-in-Err-of_certificate-clause-err
-returns-in-Err-of_certificate-clause-err g c =
+pub returns-in-Ok-clause-judged : goal.returns-in-Ok-clause-judged
+returns-in-Ok-clause-judged g c =
     let stream = c.replay_stream-answer in
     let i = input c.args.profile.now g.C.Read.remaining c.args.cert.now c.args.rec.now in
     let shelf = shelved g.S.Shelf.files g.S.Failing.failed c.args.shelf.now stream.new.shelf in
-    let Failed = AnyFailed stream.new.rec.failed (has_failed stream.new.cert) (g.S.Failing.failed stream.new.shelf) (g.T.Failing.failed stream.new.listener) in
-    subst (λ (e : RunFault). IsVerifyFault i shelf Failed e) (sym c.in-Err-of_certificate.ensures.err)
-    (by_stream i shelf c.in_ok-profile.profile Failed c.in-Err.fault c.in_ok-profile.ensures.ok c.in-Err.ensures.err
-    (λ e. one_failed stream.new.rec.failed (has_failed stream.new.cert) (g.S.Failing.failed stream.new.shelf) (g.T.Failing.failed stream.new.listener) (c.in-Err.ensures.device (cc e))) (λ e. inl (inl (c.in-Err.ensures.read (cc e)))))
+    (c.in_ok-profile.ensures.ok, answered_by i shelf c.in_ok-profile.profile c.any_failed.result stream.result c.in-Ok.answer c.in-Ok.ensures.ok stream.ensures.ok stream.ensures.err)
 
-pub returns-in-Err-of_certificate-clause-files : goal.returns-in-Err-of_certificate-clause-files
-returns-in-Err-of_certificate-clause-files g c =
+pub returns-in-Ok-clause-heard : goal.returns-in-Ok-clause-heard
+returns-in-Ok-clause-heard g c =
+    let stream = c.replay_stream-answer in
+    let i = input c.args.profile.now g.C.Read.remaining c.args.cert.now c.args.rec.now in
+    let shelf = shelved g.S.Shelf.files g.S.Failing.failed c.args.shelf.now stream.new.shelf in
+    heard_by i shelf c.in_ok-profile.profile c.any_failed.result (listening g.T.Listener.hears c.args.listener.now stream.new.listener) stream.result c.in-Ok.answer c.in-Ok.ensures.ok stream.ensures.heard stream.ensures.reports
+
+pub returns-in-Ok-clause-works : goal.returns-in-Ok-clause-works
+returns-in-Ok-clause-works g c =
+    let stream = c.replay_stream-answer in
+    let i = input c.args.profile.now g.C.Read.remaining c.args.cert.now c.args.rec.now in
+    c.any_failed.ensures.no (none_has_failed i no_shelf c.in_ok-profile.profile c.any_failed.result stream.result c.in-Ok.answer c.in-Ok.ensures.ok)
+
+pub returns-in-Err-clause-err : goal.returns-in-Err-clause-err
+returns-in-Err-clause-err g c =
+    let stream = c.replay_stream-answer in
+    let i = input c.args.profile.now g.C.Read.remaining c.args.cert.now c.args.rec.now in
+    let shelf = shelved g.S.Shelf.files g.S.Failing.failed c.args.shelf.now stream.new.shelf in
+    by_no_answer i shelf c.in_ok-profile.profile c.any_failed.result _ stream.result c.in-Err.fault c.in_ok-profile.ensures.ok c.in-Err.ensures.err stream.ensures.ok stream.ensures.err c.any_failed.ensures.yes
+    (λ e. one_failed stream.new.rec.failed (has_failed stream.new.cert) (g.S.Failing.failed stream.new.shelf) (g.T.Failing.failed stream.new.listener) (stream.ensures.device e)) (λ e. inl (inl (stream.ensures.read e)))
+
+pub returns-in-Err-clause-files : goal.returns-in-Err-clause-files
+returns-in-Err-clause-files g c =
     let stream = c.replay_stream-answer in
     let at = progress (readers g.C.Read.remaining c.args.cert.now stream.new.cert c.args.rec.now stream.new.rec) (shelved g.S.Shelf.files g.S.Failing.failed c.args.shelf.now stream.new.shelf) (g.T.Failing.failed stream.new.listener) in
-    let Failed = AnyFailed stream.new.rec.failed (has_failed stream.new.cert) (g.S.Failing.failed stream.new.shelf) (g.T.Failing.failed stream.new.listener) in
-    subst (λ (e : RunFault). Leaves c.args.profile.now at Failed e) (sym c.in-Err-of_certificate.ensures.err)
-    (left_by_stream c.args.profile.now c.in_ok-profile.profile at Failed c.in_ok-profile.ensures.ok c.in-Err.fault c.in-Err.ensures.err c.in-Err.ensures.place
-    (λ e. one_failed stream.new.rec.failed (has_failed stream.new.cert) (g.S.Failing.failed stream.new.shelf) (g.T.Failing.failed stream.new.listener) (c.in-Err.ensures.device (cc e))) (λ e. inl (inl (c.in-Err.ensures.read (cc e)))))
+    left_by_no_answer c.args.profile.now c.in_ok-profile.profile at _ c.in_ok-profile.ensures.ok c.any_failed.result stream.result c.in-Err.fault c.in-Err.ensures.err stream.ensures.ok stream.ensures.err stream.ensures.place c.any_failed.ensures.yes
+    (λ e. one_failed stream.new.rec.failed (has_failed stream.new.cert) (g.S.Failing.failed stream.new.shelf) (g.T.Failing.failed stream.new.listener) (stream.ensures.device e)) (λ e. inl (inl (stream.ensures.read e)))
 
-pub returns-in-Err-of_certificate-clause-before : goal.returns-in-Err-of_certificate-clause-before
-returns-in-Err-of_certificate-clause-before g c = λ f e. absurd (no_profile c.in-Err.fault f (cc (e, c.in-Err-of_certificate.ensures.err)))
+pub returns-in-Err-clause-before : goal.returns-in-Err-clause-before
+returns-in-Err-clause-before g c = λ f e. absurd (none_of_profile c.any_failed.result c.replay_stream-answer.result c.in-Err.fault f c.in-Err.ensures.err (cc e))

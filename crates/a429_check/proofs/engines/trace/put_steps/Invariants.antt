@@ -4,7 +4,7 @@ use Rattle.a429_record.specs.declared.entry.Entry.{Entry}
 use Rattle.a429_parts.proofs.KeepingFacts.{Came}
 use Rattle.a429_check.specs.Trace.{first_lines}
 use Rattle.a429_check.proofs.TraceLines.{Traced}
-use Rattle.a429_check.proofs.engines.trace.put_trace.Given as goal
+use Rattle.a429_check.proofs.engines.trace.put_steps.Given as goal
 
 abbrev pub invariant-entries : goal.invariant-entries
 invariant-entries g l = (es : List Entry) × Traced l.profile l.trace es × Came l.fn.rec.to_come es l.rec.to_come × (length es ≤ l.rec.count) × Says g.W.Write.contents l.fn.sheet l.sheet (first_lines l.profile es)

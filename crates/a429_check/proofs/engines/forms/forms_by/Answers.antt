@@ -1,0 +1,34 @@
+use Rattle.std.proofs.Common.{inr, refl}
+use Rattle.std.proofs.lemmas.Bool.{false_from_ne_true}
+use Rattle.std.proofs.lemmas.Result.{err_from_is_err_and}
+use Rattle.a429_check.proofs.EntriesFacts.{not_read}
+use Rattle.a429_check.proofs.engines.forms.forms_by.Goals as goal
+
+pub returns-in_err-entries-clause-err : goal.returns-in_err-entries-clause-err
+returns-in_err-entries-clause-err g c =
+    let p = err_from_is_err_and c.from_residual.result c.from_residual.ensures.1 in
+    rw (p.1, p.2) (not_read _ _ _ _ c.in_err-entries.ensures.err)
+
+pub returns-in_err-put_entries-clause-err : goal.returns-in_err-put_entries-clause-err
+returns-in_err-put_entries-clause-err g c =
+    let p = err_from_is_err_and c.from_residual-in_err-put_entries.result c.from_residual-in_err-put_entries.ensures.1 in
+    rw (p.1, p.2) (inr (c.in_err-put_entries.ensures.device.0 refl))
+
+pub returns-in_err-put_entries-clause-cut : goal.returns-in_err-put_entries-clause-cut
+returns-in_err-put_entries-clause-cut g c =
+    let p = err_from_is_err_and c.from_residual-in_err-put_entries.result c.from_residual-in_err-put_entries.ensures.1 in
+    let lines = rw c.as_slice.ensures.value at c.in_err-put_entries.ensures.written in
+    let works = c.in_ok-entries.ensures.device in
+    rw (p.1, p.2)
+    (inr (record {
+      device = refl;
+      failed = c.in_err-put_entries.ensures.device.0 refl;
+      alone = λ failed. cc (failed, works);
+      prefix = (_, (c.in_ok-entries.entries.items, c.in_ok-entries.ensures.ok, refl), lines.prefix);
+    }))
+
+pub returns-clause-lines : goal.returns-clause-lines
+returns-clause-lines g c =
+    let lines = rw c.as_slice.ensures.value at c.in_ok-put_entries.ensures.written in
+    let works = false_from_ne_true _ (λ failed. absurd (cc (c.in_ok-put_entries.ensures.device.1 failed))) in
+    (_, (c.in_ok-entries.entries.items, c.in_ok-entries.ensures.ok, refl), lines.all works)
