@@ -2,11 +2,13 @@
 
 ghost use Rattle.a429_ldu.specs.Form.{IsInRange};
 
+use crate::agreement::none_differs;
 use crate::profile::sample_profile;
 use a429_ldu::{Form, Semis, Sight, form, word_of};
 use a429_profile::Profile;
 use a429_sample::{ACK, CTS, EOT, NAK, PART, RTS, SOT};
 use a429_word::{Bus, Word};
+use std::test::Fail;
 
 // Whether this is what a word says on a bus.
 fn says(profile: &Profile, bus: Bus, number: u32, sight: Sight) -> bool {
@@ -54,9 +56,9 @@ fn first_that_differs(profile: &Profile) -> Option<u32> {
 }
 
 #[test]
-fn words_are_known_by_their_fields(rt: HostRuntime) {
+fn words_are_known_by_their_fields(rt: HostRuntime) -> Result<(), Fail> {
     let profile = sample_profile(&rt);
-    assert_eq!(rt; first_that_differs(&profile), None);
+    none_differs(first_that_differs(&profile))
 }
 
 // Whether the partial word of some semi-octets is said by this word, and by no other.

@@ -2,6 +2,7 @@
 
 ghost use Rattle.std.specs.Prelude.{◌≤◌, length};
 
+use crate::agreement::none_differs;
 use crate::profile::sample_profile;
 use a429_ldu::{CutFault, Ldu, LduFault, block_bytes, bytes_of, check_word, check_word_by, cut};
 use a429_profile::{Check, CheckTables, Profile};
@@ -16,25 +17,26 @@ fn give(alloc: Global, rule: Check, wanted: u16) -> Result<bool, AllocError> {
     Ok(check_word(&rule, b"123456789") == wanted && check_word_by(&tables, b"123456789") == wanted)
 }
 
+const LOW_FIRST: Check = Check {
+    poly: 0x1021,
+    init: 0xFFFF,
+    xor: 0xFFFF,
+    low_first: true,
+    compare: true,
+};
+
+const HIGH_FIRST: Check = Check {
+    poly: 0x1021,
+    init: 0xFFFF,
+    xor: 0,
+    low_first: false,
+    compare: true,
+};
+
 #[test]
-fn known_check_words(rt: HostRuntime) -> Result<(), Fail> {
-    let low = Check {
-        poly: 0x1021,
-        init: 0xFFFF,
-        xor: 0xFFFF,
-        low_first: true,
-        compare: true,
-    };
-    let high = Check {
-        poly: 0x1021,
-        init: 0xFFFF,
-        xor: 0,
-        low_first: false,
-        compare: true,
-    };
-    assert!(rt; give(rt.alloc(), low, 0x906E)?);
-    assert!(rt; give(rt.alloc(), high, 0x29B1)?);
-    Ok(())
+fn known_check_words(rt: HostRuntime) {
+    assert!(rt; give(rt.alloc(), LOW_FIRST, 0x906E) == Ok(true));
+    assert!(rt; give(rt.alloc(), HIGH_FIRST, 0x29B1) == Ok(true));
 }
 
 // Whether these bytes are made, or none.
@@ -68,17 +70,29 @@ fn carry_both(alloc: Global, profile: &Profile, words: &[Word], bytes: Option<&[
     carry(alloc, profile, words, bytes) && carry_in_block(profile, words, bytes)
 }
 
-#[test]
-fn bytes_of_data_words(rt: HostRuntime) {
-    let profile = sample_profile(&rt);
+// What first does not hold of the bytes that words carry.
+fn first_carried_otherwise(alloc: Global, profile: &Profile) -> Option<&'static str> {
     let both = [Word::from_u32(0x0342_4123), Word::from_u32(0x9100_0423)];
-    assert!(rt; carry_both(rt.alloc(), &profile, &both, Some(b"ABC".as_slice())));
-    let odd = [Word::from_u32(0x9100_0123)];
-    assert!(rt; carry_both(rt.alloc(), &profile, &odd, None));
-    assert!(rt; carry_both(rt.alloc(), &profile, &[], None));
-    // A request among data words.
+    if !carry_both(alloc, profile, &both, Some(b"ABC".as_slice())) {
+        return Some("two words");
+    }
+    if !carry_both(alloc, profile, &[Word::from_u32(0x9100_0123)], None) {
+        return Some("an odd number of semi-octets");
+    }
+    if !carry_both(alloc, profile, &[], None) {
+        return Some("no words");
+    }
     let mixed = [Word::from_u32(PART), Word::from_u32(RTS)];
-    assert!(rt; carry_both(rt.alloc(), &profile, &mixed, None));
+    if !carry_both(alloc, profile, &mixed, None) {
+        return Some("a request among data words");
+    }
+    None
+}
+
+#[test]
+fn bytes_of_data_words(rt: HostRuntime) -> Result<(), Fail> {
+    let profile = sample_profile(&rt);
+    none_differs(first_carried_otherwise(rt.alloc(), &profile))
 }
 
 // The link data unit of these words with a GFI of 0 and flags of 1.
@@ -117,28 +131,53 @@ fn is_unit(alloc: Global, profile: &Profile, number: u32, check: u16, numbers: [
     }
 }
 
+// Whether there is no link data unit of these words for this reason.
+fn is_refused(
+    alloc: Global,
+    profile: &Profile,
+    check: u16,
+    words: &[Word],
+    wanted: LduFault,
+) -> bool {
+    match unit_of(alloc, profile, check, words) {
+        Ok(_) => false,
+        Err(fault) => fault == wanted,
+    }
+}
+
+// What first does not hold of link data units of given words.
+fn first_made_otherwise(alloc: Global, profile: &Profile) -> Option<&'static str> {
+    if !is_unit(alloc, profile, PART, 0xA3F5, [SOT, PART, EOT]) {
+        return Some("a link data unit and its block");
+    }
+    if !is_refused(
+        alloc,
+        profile,
+        0xA3F4,
+        &[Word::from_u32(PART)],
+        LduFault::CheckWrong,
+    ) {
+        return Some("another check word");
+    }
+    if !is_refused(
+        alloc,
+        profile,
+        0xA3F5,
+        &[Word::from_u32(0x9100_0123)],
+        LduFault::NotBytes,
+    ) {
+        return Some("an odd number of semi-octets");
+    }
+    if !is_refused(alloc, profile, 0xA3F5, &[], LduFault::Count) {
+        return Some("no words");
+    }
+    None
+}
+
 #[test]
-fn a_link_data_unit_and_its_block(rt: HostRuntime) {
+fn link_data_units_of_words(rt: HostRuntime) -> Result<(), Fail> {
     let profile = sample_profile(&rt);
-    assert!(rt; is_unit(rt.alloc(), &profile, PART, 0xA3F5, [SOT, PART, EOT]));
-}
-
-// Why there is no link data unit of these words.
-fn refused(alloc: Global, profile: &Profile, check: u16, words: &[Word]) -> Option<LduFault> {
-    unit_of(alloc, profile, check, words).err()
-}
-
-// Why there is none of one word.
-fn one_refused(alloc: Global, profile: &Profile, check: u16, number: u32) -> Option<LduFault> {
-    refused(alloc, profile, check, &[Word::from_u32(number)])
-}
-
-#[test]
-fn words_that_make_no_link_data_unit(rt: HostRuntime) {
-    let profile = sample_profile(&rt);
-    assert!(rt; one_refused(rt.alloc(), &profile, 0xA3F4, PART) == Some(LduFault::CheckWrong));
-    assert!(rt; one_refused(rt.alloc(), &profile, 0xA3F5, 0x9100_0123) == Some(LduFault::NotBytes));
-    assert!(rt; refused(rt.alloc(), &profile, 0xA3F5, &[]) == Some(LduFault::Count));
+    none_differs(first_made_otherwise(rt.alloc(), &profile))
 }
 
 // The link data units of a file, each of at most so many words.
@@ -180,13 +219,6 @@ fn are_its_words(unit: Option<Ldu>, first: u32, second: u32) -> bool {
     }
 }
 
-#[test]
-fn a_short_file_is_one_link_data_unit(rt: HostRuntime) {
-    let profile = sample_profile(&rt);
-    let unit = only(units_of(rt.alloc(), &profile, b"ABC", 255));
-    assert!(rt; are_its_words(unit, 0x0342_4123, 0x9100_0423));
-}
-
 // Whether words are all this one.
 fn are_all(words: &[Word], number: u32) -> bool {
     for word in words {
@@ -209,12 +241,6 @@ fn is_longest(unit: Option<Ldu>) -> bool {
         && full.len() == 252
         && are_all(full, 0x0000_0023)
         && last.to_u32() == 0x1400_0023
-}
-
-#[test]
-fn the_longest_link_data_unit(rt: HostRuntime) {
-    let profile = sample_profile(&rt);
-    assert!(rt; is_longest(only(units_of_zeros(rt.alloc(), &profile, 632, 255))));
 }
 
 // Whether one of the units has these flags.
@@ -241,22 +267,48 @@ fn is_of(alloc: Global, profile: &Profile, zeros: usize, count: usize) -> bool {
     }
 }
 
-#[test]
-fn the_longest_file_at_three_words(rt: HostRuntime) {
-    let profile = sample_profile(&rt);
-    assert!(rt; is_of(rt.alloc(), &profile, 510, 255));
-}
-
-// Why a file of zeros is not cut.
-fn not_cut(alloc: Global, profile: &Profile, count: usize, max_words: u8) -> Option<CutFault>
+// Whether a file of zeros is not cut for this reason.
+fn is_not_cut(
+    alloc: Global,
+    profile: &Profile,
+    count: usize,
+    max_words: u8,
+    wanted: CutFault,
+) -> bool
     requires { 3 ≤ max_words }
 {
-    units_of_zeros(alloc, profile, count, max_words).err()
+    match units_of_zeros(alloc, profile, count, max_words) {
+        Ok(_) => false,
+        Err(fault) => fault == wanted,
+    }
+}
+
+// What first does not hold of the link data units of files.
+fn first_cut_otherwise(alloc: Global, profile: &Profile) -> Option<&'static str> {
+    if !are_its_words(
+        only(units_of(alloc, profile, b"ABC", 255)),
+        0x0342_4123,
+        0x9100_0423,
+    ) {
+        return Some("a short file is one link data unit");
+    }
+    if !is_longest(only(units_of_zeros(alloc, profile, 632, 255))) {
+        return Some("the longest link data unit");
+    }
+    if !is_of(alloc, profile, 510, 255) {
+        return Some("the longest file at three words");
+    }
+    if !is_not_cut(alloc, profile, 0, 255, CutFault::Empty) {
+        return Some("no bytes");
+    }
+    if !is_not_cut(alloc, profile, 511, 3, CutFault::TooLong) {
+        return Some("a byte more than the longest file at three words");
+    }
+    None
 }
 
 #[test]
-fn files_that_are_not_cut(rt: HostRuntime) {
+fn files_are_cut(rt: HostRuntime) -> Result<(), Fail> {
     let profile = sample_profile(&rt);
-    assert!(rt; not_cut(rt.alloc(), &profile, 0, 255) == Some(CutFault::Empty));
-    assert!(rt; not_cut(rt.alloc(), &profile, 511, 3) == Some(CutFault::TooLong));
+    none_differs(first_cut_otherwise(rt.alloc(), &profile))
 }

@@ -1,7 +1,7 @@
 //! What is read of the sample, and of a document of other forms.
 
-use super::{read, reports};
-use a429_profile::{Kind, Profile};
+use super::read;
+use a429_profile::Profile;
 use a429_sample::{PROFILE, joined, labels, sections, with};
 use std::alloc::{AllocError, Global};
 use std::fmt::{Debug, Write};
@@ -185,44 +185,4 @@ fn other_forms_of_a_table(rt: HostRuntime) -> Result<(), Fail> {
         says(&rt, text.as_str(), NUMBERS, entries)?;
     }
     Ok(())
-}
-
-// The sample's flags changed to 19 of them.
-const NINETEEN_FLAGS: &str =
-    r#"flags = [{bit = 11, name = "gear"}, {bit = 12, name = "door"}] -> flags = [{name = 'f', bit = 11}, {name = 'f', bit = 12}, {name = 'f', bit = 13}, {name = 'f', bit = 14}, {name = 'f', bit = 15}, {name = 'f', bit = 16}, {name = 'f', bit = 17}, {name = 'f', bit = 18}, {name = 'f', bit = 19}, {name = 'f', bit = 20}, {name = 'f', bit = 21}, {name = 'f', bit = 22}, {name = 'f', bit = 23}, {name = 'f', bit = 24}, {name = 'f', bit = 25}, {name = 'f', bit = 26}, {name = 'f', bit = 27}, {name = 'f', bit = 28}, {name = 'f', bit = 29}, ]"#;
-
-// How many flags the entry of the label 270 has.
-fn flag_count(profile: &Profile) -> usize {
-    match profile.entry(0o270, 1) {
-        Some(entry) => match &entry.kind {
-            Kind::Discrete { flags } => flags.as_slice().len(),
-            _ => 0,
-        },
-        None => 0,
-    }
-}
-
-fn flag_count_of(rt: &(impl Abort + AllocGlobal), text: &str) -> usize {
-    let profile = read(rt, text);
-    flag_count(&profile)
-}
-
-#[test]
-fn nineteen_flags(rt: HostRuntime) -> Result<(), Fail> {
-    let text = with(rt.alloc(), PROFILE, NINETEEN_FLAGS)?;
-    assert!(rt; flag_count_of(&rt, text.as_str()) == 19);
-    Ok(())
-}
-
-// A twentieth has to share a bit; the number of flags is reported first.
-#[test]
-fn a_twentieth_flag(rt: HostRuntime) -> Result<(), Fail> {
-    let text = with(rt.alloc(), PROFILE, NINETEEN_FLAGS)?;
-    let twentieth = "bit = 29}, ] -> bit = 29}, {name = 'f', bit = 11}]";
-    reports(
-        rt.alloc(),
-        text.as_str(),
-        twentieth,
-        ("", "out of range label 3 flags"),
-    )
 }

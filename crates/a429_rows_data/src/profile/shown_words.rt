@@ -1,9 +1,11 @@
 //! What is shown of words by the sample profile.
 
 use super::sample_profile;
+use crate::agreement::none_differs;
 use a429_profile::Profile;
 use a429_word::Word;
 use std::alloc::{AllocError, Global};
+use std::test::Fail;
 
 // What a profile shows of the word of a number.
 fn shown(alloc: Global, profile: &Profile, number: u32) -> Result<String, AllocError> {
@@ -54,7 +56,7 @@ fn first_that_differs(alloc: Global, profile: &Profile) -> Option<u32> {
 }
 
 #[test]
-fn words_of_each_kind(rt: HostRuntime) {
+fn words_of_each_kind(rt: HostRuntime) -> Result<(), Fail> {
     let profile = sample_profile(&rt);
-    assert_eq!(rt; first_that_differs(rt.alloc(), &profile), None);
+    none_differs(first_that_differs(rt.alloc(), &profile))
 }

@@ -2,12 +2,14 @@
 
 ghost use Rattle.a429_record.specs.Recording.{IsRecordable};
 
+use crate::agreement::none_differs;
 use crate::record::{Answer, count, count_in, entry, failed, five_answers, stands_for};
 use a429_record::{Entry, ReadFault, write_binary};
 use a429_sample::{ACK, CTS, EOT, Endless, Narrow, PART, RTS, SOT, Shaky};
 use a429_word::{Bus, Device, Tally};
 use std::alloc::{AllocError, Global};
 use std::io::{ErrorKind, Write};
+use std::test::Fail;
 
 // The transfer of a file of one byte: eight bytes, and thirteen for each of its six entries.
 const PACKED: &[u8] = b"A429REC1\
@@ -91,8 +93,8 @@ fn first_length_that_differs(alloc: Global) -> Option<usize> {
 }
 
 #[test]
-fn cut_at_each_byte(rt: HostRuntime) {
-    assert_eq!(rt; first_length_that_differs(rt.alloc()), None);
+fn cut_at_each_byte(rt: HostRuntime) -> Result<(), Fail> {
+    none_differs(first_length_that_differs(rt.alloc()))
 }
 
 const CHANGED: [(usize, &[u8], ReadFault); 7] = [
@@ -116,8 +118,8 @@ fn first_other_fault(alloc: Global) -> Option<(usize, ReadFault)> {
 }
 
 #[test]
-fn changed_bytes(rt: HostRuntime) {
-    assert_eq!(rt; first_other_fault(rt.alloc()), None);
+fn changed_bytes(rt: HostRuntime) -> Result<(), Fail> {
+    none_differs(first_other_fault(rt.alloc()))
 }
 
 // What is answered where the reader fails at a call.
@@ -166,8 +168,8 @@ fn first_other_fault_before_failure(alloc: Global) -> Option<usize> {
 }
 
 #[test]
-fn a_fault_before_the_reader_fails(rt: HostRuntime) {
-    assert_eq!(rt; first_other_fault_before_failure(rt.alloc()), None);
+fn a_fault_before_the_reader_fails(rt: HostRuntime) -> Result<(), Fail> {
+    none_differs(first_other_fault_before_failure(rt.alloc()))
 }
 
 #[test]

@@ -1,11 +1,13 @@
 //! Recordings read entry by entry: after the end there is none, after a fault comes `Failed`.
 
+use crate::agreement::none_differs;
 use crate::record::{Answer, entry, failed, five_answers};
 use a429_record::{EntryReader, ReadFault};
 use a429_word::{Bus, Failing, Tally};
 use std::alloc::Global;
 use std::io;
 use std::io::Read;
+use std::test::Fail;
 
 const TWO_ENTRIES: &[u8] = b"time,bus,word\n0,A,41410323\n1000,B,C24103A3\n";
 
@@ -63,8 +65,8 @@ fn first_size_that_differs(alloc: Global) -> Option<usize> {
 }
 
 #[test]
-fn pieces_of_every_size(rt: HostRuntime) {
-    assert_eq!(rt; first_size_that_differs(rt.alloc()), None);
+fn pieces_of_every_size(rt: HostRuntime) -> Result<(), Fail> {
+    none_differs(first_size_that_differs(rt.alloc()))
 }
 
 // What four calls of a reader of at most so many entries answer.
@@ -135,8 +137,8 @@ fn first_without_its_fault(alloc: Global) -> Option<&'static str> {
 }
 
 #[test]
-fn failed_after_a_fault(rt: HostRuntime) {
-    assert_eq!(rt; first_without_its_fault(rt.alloc()), None);
+fn failed_after_a_fault(rt: HostRuntime) -> Result<(), Fail> {
+    none_differs(first_without_its_fault(rt.alloc()))
 }
 
 // The two entries, a device that fails, and then `Failed`.

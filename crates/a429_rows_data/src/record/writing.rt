@@ -2,12 +2,14 @@
 
 ghost use Rattle.a429_record.specs.Recording.{IsRecordable};
 
+use crate::agreement::none_differs;
 use crate::record::{entry, stands_for};
 use a429_record::{Entry, WriteFault, read_entries, write_entries};
 use a429_sample::{CTS, EOT, Narrow, PART, RTS, SOT};
 use a429_word::{Bus, Failing, Tally};
 use std::alloc::Global;
 use std::io::{ErrorKind, Write};
+use std::test::Fail;
 
 // What a writer answers to a recording of these entries.
 fn write<W: Write>(alloc: Global, out: &mut Tally<W>, entries: &[Entry]) -> Result<(), WriteFault>
@@ -90,6 +92,6 @@ fn first_room_that_differs(alloc: Global) -> Option<usize> {
 }
 
 #[test]
-fn writers_that_fail(rt: HostRuntime) {
-    assert_eq!(rt; first_room_that_differs(rt.alloc()), None);
+fn writers_that_fail(rt: HostRuntime) -> Result<(), Fail> {
+    none_differs(first_room_that_differs(rt.alloc()))
 }

@@ -1,6 +1,8 @@
 //! Words worked out by hand from the standard's layout.
 
+use crate::agreement::none_differs;
 use a429_word::{Bus, Word, octal};
+use std::test::Fail;
 
 // A word's number, label, SDI, data field and SSM, and whether its parity is odd.
 fn fields(number: u32) -> (u32, u8, u8, u32, u8, bool) {
@@ -38,8 +40,8 @@ fn first_with_other_fields() -> Option<u32> {
 }
 
 #[test]
-fn fields_of_known_words(rt: HostRuntime) {
-    assert_eq!(rt; first_with_other_fields(), None);
+fn fields_of_known_words() -> Result<(), Fail> {
+    none_differs(first_with_other_fields())
 }
 
 // The first bit of a word that is not 1 at the ends and 0 between them.
@@ -53,8 +55,8 @@ fn first_other_bit(word: Word) -> Option<u8> {
 }
 
 #[test]
-fn bits_are_numbered_from_1(rt: HostRuntime) {
-    assert_eq!(rt; first_other_bit(Word::from_u32(0x8000_0001)), None);
+fn bits_are_numbered_from_1() -> Result<(), Fail> {
+    none_differs(first_other_bit(Word::from_u32(0x8000_0001)))
 }
 
 // The raw number of a word with 1 to 18 significant bits.
@@ -89,8 +91,8 @@ fn first_with_another_raw() -> Option<u32> {
 }
 
 #[test]
-fn raw_numbers(rt: HostRuntime) {
-    assert_eq!(rt; first_with_another_raw(), None);
+fn raw_numbers() -> Result<(), Fail> {
+    none_differs(first_with_another_raw())
 }
 
 // The first word that its raw number does not make.
@@ -115,8 +117,8 @@ fn first_not_made_of_its_raw() -> Option<u32> {
 }
 
 #[test]
-fn words_of_known_raw_numbers(rt: HostRuntime) {
-    assert_eq!(rt; first_not_made_of_its_raw(), None);
+fn words_of_known_raw_numbers() -> Result<(), Fail> {
+    none_differs(first_not_made_of_its_raw())
 }
 
 // The first word that its parts do not make.
@@ -138,8 +140,8 @@ fn first_not_made_of_its_parts() -> Option<u32> {
 }
 
 #[test]
-fn words_of_their_parts(rt: HostRuntime) {
-    assert_eq!(rt; first_not_made_of_its_parts(), None);
+fn words_of_their_parts() -> Result<(), Fail> {
+    none_differs(first_not_made_of_its_parts())
 }
 
 // The number of the word that a text writes.
@@ -175,9 +177,13 @@ fn first_read_otherwise() -> Option<&'static str> {
 }
 
 #[test]
-fn hexadecimal(rt: HostRuntime) {
-    assert_eq!(rt; first_written_otherwise(), None);
-    assert_eq!(rt; first_read_otherwise(), None);
+fn hexadecimal_written() -> Result<(), Fail> {
+    none_differs(first_written_otherwise())
+}
+
+#[test]
+fn hexadecimal_read() -> Result<(), Fail> {
+    none_differs(first_read_otherwise())
 }
 
 const NO_WORDS: [&str; 9] = [
@@ -203,8 +209,8 @@ fn first_that_is_read() -> Option<&'static str> {
 }
 
 #[test]
-fn texts_that_are_no_words(rt: HostRuntime) {
-    assert_eq!(rt; first_that_is_read(), None);
+fn texts_that_are_no_words() -> Result<(), Fail> {
+    none_differs(first_that_is_read())
 }
 
 // The first label that is written in another way.
@@ -223,8 +229,8 @@ fn first_label_written_otherwise() -> Option<u8> {
 }
 
 #[test]
-fn labels_in_octal(rt: HostRuntime) {
-    assert_eq!(rt; first_label_written_otherwise(), None);
+fn labels_in_octal() -> Result<(), Fail> {
+    none_differs(first_label_written_otherwise())
 }
 
 #[test]

@@ -1,8 +1,10 @@
 //! Fractions and the texts that a reader expects of them.
 
+use crate::agreement::none_differs;
 use a429_word::{Device, Failing, Fixed, Tally};
 use std::alloc::Global;
 use std::io::Write;
+use std::test::Fail;
 
 // What a write of a fraction of at most 24 decimals answers.
 fn write<W: Write>(number: i128, decimals: u8, out: &mut Tally<W>) -> Result<(), Device> {
@@ -50,8 +52,8 @@ fn first_that_differs(alloc: Global) -> Option<&'static str> {
 }
 
 #[test]
-fn fractions_in_decimal(rt: HostRuntime) {
-    assert_eq!(rt; first_that_differs(rt.alloc()), None);
+fn fractions_in_decimal(rt: HostRuntime) -> Result<(), Fail> {
+    none_differs(first_that_differs(rt.alloc()))
 }
 
 // What two writes of -0.5 into the first three bytes answer, and whether the writer has failed between

@@ -1,6 +1,8 @@
 //! Many words screened at once are answered as each of them is alone.
 
+use crate::agreement::none_differs;
 use a429_word::{BAD_PARITY, OTHER_LABEL, THIS_LABEL, Word, screen};
+use std::test::Fail;
 
 const LONGEST: usize = 70;
 
@@ -57,8 +59,8 @@ fn first_length_that_differs(words: &[u32; LONGEST]) -> Option<usize> {
 }
 
 #[test]
-fn words_of_each_number(rt: HostRuntime) {
-    assert_eq!(rt; first_length_that_differs(&some_words()), None);
+fn words_of_each_number() -> Result<(), Fail> {
+    none_differs(first_length_that_differs(&some_words()))
 }
 
 #[test]
