@@ -13,6 +13,29 @@ use std::alloc::{AllocError, Global};
 
 pub mod commands;
 
+// Each command, and the names of the words that it takes.
+const COMMANDS: [(&str, &[&str]); 19] = [
+    ("version", &[]),
+    ("word", &["HEX"]),
+    ("labels", &["PROFILE"]),
+    ("pack", &["REC"]),
+    ("show", &["PROFILE", "REC"]),
+    ("forms", &["PROFILE", "REC"]),
+    ("survey", &["PROFILE", "REC"]),
+    ("keep", &["PROFILE", "REC"]),
+    ("trace", &["PROFILE", "REC"]),
+    ("cut", &["PROFILE", "REC", "DIR", "MOST"]),
+    ("check", &["PROFILE", "REC", "CERT"]),
+    ("decide", &["PROFILE", "REC", "CERT"]),
+    ("verify", &["PROFILE", "REC", "CERT"]),
+    ("units", &["PROFILE", "REC", "CERT"]),
+    ("extract", &["PROFILE", "REC", "CERT", "DIR"]),
+    ("picture", &["PROFILE", "REC", "CERT", "FROM", "TO"]),
+    ("upgrade", &["CERT", "OUT"]),
+    ("series", &["PROFILE", "DIR"]),
+    ("make", &["PROFILE", "FILE"]),
+];
+
 /// Reads the words after `a429`. The fault is `Memory` where memory was refused, and else `Usage`: no
 /// command or an unknown one, too few or too many words, an option, a wish for help, or a name to write to
 /// that is written like the name of something to read.
@@ -297,57 +320,11 @@ fn parser<'a>(alloc: Global) -> Result<Parser<'a>, AllocError> {
     let all = Parser::new(alloc, "a429")
         .no_binary_name(true)
         .subcommand_required(true);
-    let all = with_others(alloc, Ok(all));
-    let all = with_recordings(alloc, all);
-    let all = with_makers(alloc, all);
-    with_claims(alloc, all)
-}
-
-// These commands, and those that take no recording.
-fn with_others<'a>(
-    alloc: Global,
-    all: Result<Parser<'a>, AllocError>,
-) -> Result<Parser<'a>, AllocError> {
-    let all = with(all, Ok(Parser::new(alloc, "version")));
-    let all = with(all, with_word(alloc, "word", "HEX"));
-    let all = with(all, with_profile(alloc, "labels"));
-    let all = with(all, with_part_folder(alloc, "series"));
-    with(all, with_files(alloc, "make"))
-}
-
-// These commands, and those that show a recording.
-fn with_recordings<'a>(
-    alloc: Global,
-    all: Result<Parser<'a>, AllocError>,
-) -> Result<Parser<'a>, AllocError> {
-    let all = with(all, with_recording(alloc, "show"));
-    let all = with(all, with_recording(alloc, "forms"));
-    let all = with(all, with_recording(alloc, "survey"));
-    with(all, with_recording(alloc, "trace"))
-}
-
-// These commands, and those that write a recording or a certificate anew.
-fn with_makers<'a>(
-    alloc: Global,
-    all: Result<Parser<'a>, AllocError>,
-) -> Result<Parser<'a>, AllocError> {
-    let all = with(all, with_word(alloc, "pack", "REC"));
-    let all = with(all, with_recording(alloc, "keep"));
-    let all = with(all, with_parts(alloc, "cut"));
-    with(all, with_output(alloc, "upgrade"))
-}
-
-// These commands, and those on a recording and its certificate.
-fn with_claims<'a>(
-    alloc: Global,
-    all: Result<Parser<'a>, AllocError>,
-) -> Result<Parser<'a>, AllocError> {
-    let all = with(all, with_certificate(alloc, "check"));
-    let all = with(all, with_certificate(alloc, "decide"));
-    let all = with(all, with_certificate(alloc, "verify"));
-    let all = with(all, with_certificate(alloc, "units"));
-    let all = with(all, with_folder(alloc, "extract"));
-    with(all, with_span(alloc, "picture"))
+    let mut all = Ok(all);
+    'commands: for (name, words) in COMMANDS {
+        all = with(all, with_words(alloc, name, words));
+    }
+    all
 }
 
 // These commands and one more.
@@ -358,6 +335,19 @@ fn with<'a>(
     all?.subcommand(command?)
 }
 
+// A command that takes these words.
+fn with_words<'a>(
+    alloc: Global,
+    name: &'a str,
+    words: &[&'a str],
+) -> Result<Parser<'a>, AllocError> {
+    let mut command = Ok(Parser::new(alloc, name));
+    'words: for word in words {
+        command = taking(command, word_of_name(alloc, word));
+    }
+    command
+}
+
 // A command that takes one word more.
 fn taking<'a>(
     command: Result<Parser<'a>, AllocError>,
@@ -366,68 +356,15 @@ fn taking<'a>(
     command?.arg(word)
 }
 
-// A command that takes one word.
-fn with_word<'a>(alloc: Global, name: &'a str, word: &'a str) -> Result<Parser<'a>, AllocError> {
-    Parser::new(alloc, name).arg(once(alloc, word))
-}
-
-// A command that takes a profile.
-fn with_profile<'a>(alloc: Global, name: &'a str) -> Result<Parser<'a>, AllocError> {
-    with_word(alloc, name, "PROFILE")
-}
-
-// A command that takes a profile and a recording.
-fn with_recording<'a>(alloc: Global, name: &'a str) -> Result<Parser<'a>, AllocError> {
-    taking(with_profile(alloc, name), once(alloc, "REC"))
-}
-
-// A command that takes a profile, a recording and a certificate.
-fn with_certificate<'a>(alloc: Global, name: &'a str) -> Result<Parser<'a>, AllocError> {
-    taking(with_recording(alloc, name), once(alloc, "CERT"))
-}
-
-// A command that takes a profile, a recording, a certificate and a folder.
-fn with_folder<'a>(alloc: Global, name: &'a str) -> Result<Parser<'a>, AllocError> {
-    taking(with_certificate(alloc, name), once(alloc, "DIR"))
-}
-
-// A command that takes a profile, a recording, a certificate and two entries.
-fn with_span<'a>(alloc: Global, name: &'a str) -> Result<Parser<'a>, AllocError> {
-    let parser = taking(with_certificate(alloc, name), once(alloc, "FROM"));
-    taking(parser, once(alloc, "TO"))
-}
-
-// A command that takes a profile, a recording, a folder, and perhaps the most entries of a part.
-fn with_parts<'a>(alloc: Global, name: &'a str) -> Result<Parser<'a>, AllocError> {
-    let parser = taking(with_recording(alloc, name), once(alloc, "DIR"));
-    taking(parser, Arg::new(alloc, "MOST").action(ArgAction::Set))
-}
-
-// A command that takes a certificate, and where to write another.
-fn with_output<'a>(alloc: Global, name: &'a str) -> Result<Parser<'a>, AllocError> {
-    taking(with_word(alloc, name, "CERT"), once(alloc, "OUT"))
-}
-
-// A command that takes a profile and the folder of a recording's parts.
-fn with_part_folder<'a>(alloc: Global, name: &'a str) -> Result<Parser<'a>, AllocError> {
-    taking(with_profile(alloc, name), once(alloc, "DIR"))
-}
-
-// A command that takes a profile and any number of files.
-fn with_files<'a>(alloc: Global, name: &'a str) -> Result<Parser<'a>, AllocError> {
-    taking(with_profile(alloc, name), any_number(alloc, "FILE"))
-}
-
-// A word that comes once.
-fn once<'a>(alloc: Global, name: &'a str) -> Arg<'a> {
-    Arg::new(alloc, name).required(true).action(ArgAction::Set)
-}
-
-// A word that may come any number of times, none too.
-fn any_number<'a>(alloc: Global, name: &'a str) -> Arg<'a> {
-    Arg::new(alloc, name)
-        .num_args(0..)
-        .action(ArgAction::Append)
+// The word of this name: it comes once, but for MOST, which may be left out, and FILE, which may come any number of times.
+fn word_of_name<'a>(alloc: Global, name: &'a str) -> Arg<'a> {
+    match name {
+        "MOST" => Arg::new(alloc, name).action(ArgAction::Set),
+        "FILE" => Arg::new(alloc, name)
+            .num_args(0..)
+            .action(ArgAction::Append),
+        _ => Arg::new(alloc, name).required(true).action(ArgAction::Set),
+    }
 }
 
 // The words of a list, if there are any.
