@@ -82,7 +82,9 @@ pub fn run_by_rule<R: Read, C: Write, W: Write>(
         (has_failed rec.new ≡ true) (IsVerdictOn rule profile.now (unread R.remaining rec.old))) }
 {
     let verdict = verdict_on(alloc, profile, rec, rule)?;
-    write_found(alloc, cert, out, &verdict)
+    let status = write_found(alloc, cert, out, &verdict);
+    drop(verdict);
+    status
 }
 
 // Writes the certificate of a verdict and then the verdict, and answers its status.
@@ -131,7 +133,9 @@ fn verdict_on<R: Read>(
     ensures err { IfErr result (IsCheckFault profile.now (unread R.remaining rec.old) (has_failed rec.new) ⊥) }
 {
     let profile = profile_of(alloc, profile)?;
-    verdict_under(alloc, &profile, rec, rule)
+    let verdict = verdict_under(alloc, &profile, rec, rule);
+    drop(profile);
+    verdict
 }
 
 // The same under a profile that was read.

@@ -33,7 +33,9 @@ pub fn run_cut<R: Read, P: Parts, W: Write>(
     ensures device { OnOk result ((rec.new.failed ≡ false) × (P.failed parts.new ≡ false) × (has_failed out.new ≡ false)) }
 {
     let profile = profile_of(alloc, profile)?;
-    cut_by(alloc, &profile, most, rec, parts, out)
+    let status = cut_by(alloc, &profile, most, rec, parts, out);
+    drop(profile);
+    status
 }
 
 // Does the same by a profile that was read.

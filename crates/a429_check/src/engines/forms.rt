@@ -35,7 +35,9 @@ pub fn run_forms<R: Read, W: Write>(
     ensures device { OnOk result ((has_failed rec.new ≡ false) × (has_failed out.new ≡ false)) }
 {
     let profile = profile_of(alloc, profile)?;
-    forms_by(alloc, &profile, rec, out)
+    let status = forms_by(alloc, &profile, rec, out);
+    drop(profile);
+    status
 }
 
 // Does the same by a profile that was read.

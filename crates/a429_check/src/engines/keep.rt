@@ -33,7 +33,9 @@ pub fn run_keep<R: Read, W: Write>(
     ensures device { OnOk result ((rec.new.failed ≡ false) × (has_failed out.new ≡ false)) }
 {
     let profile = profile_of(alloc, profile)?;
-    keep_by(alloc, &profile, rec, out)
+    let status = keep_by(alloc, &profile, rec, out);
+    drop(profile);
+    status
 }
 
 // Does the same by a profile that was read.

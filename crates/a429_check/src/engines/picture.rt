@@ -39,7 +39,9 @@ pub fn run_picture<R: Read, C: Read, W: Write>(
 {
     let mut sketch = Sketch::new(alloc, span);
     let judged = judge(alloc, profile, rec, cert, &mut NoShelf, &mut sketch)?;
-    write_judged(alloc, out, &judged, &sketch)
+    let status = write_judged(alloc, out, &judged, &sketch);
+    drop(judged);
+    status
 }
 
 // Writes what was sketched of a certificate that is accepted, or the no of one that is refused, and answers the status.

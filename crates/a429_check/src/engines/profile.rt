@@ -9,6 +9,7 @@ use std::alloc::Global;
 use std::str;
 
 /// The profile that the bytes are the text of. Bytes that are no text are no TOML.
+/// (for the proof: its owner calls `drop`, since that is one step, and the end of a scope has one for each field)
 pub(crate) fn profile_of(alloc: Global, bytes: &[u8]) -> Result<Profile, RunFault>
     ensures ok { IfOk result (IsProfileOf bytes.now) }
     ensures err { IfErr result (IsProfileFault bytes.now) }

@@ -71,7 +71,9 @@ fn judge_series<R: Read + Drop, C: Read + Drop, P: PartSource<R, C>>(
     ensures err { IfErr result (IsSeriesFault (series_input profile.now list.now (P.part parts.old)) (P.failed parts.new ≡ true)) }
 {
     let profile = profile_of(alloc, profile)?;
-    judge_list(alloc, &profile, list, parts)
+    let answer = judge_list(alloc, &profile, list, parts);
+    drop(profile);
+    answer
 }
 
 // Judges the parts that a list names, if it is a list.

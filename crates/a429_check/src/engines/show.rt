@@ -40,7 +40,9 @@ pub fn run_show<R: Read, W: Write>(
     ensures device { OnOk result ((has_failed rec.new ≡ false) × (has_failed out.new ≡ false)) }
 {
     let profile = profile_of(alloc, profile)?;
-    show_by(alloc, &profile, rec, out)
+    let status = show_by(alloc, &profile, rec, out);
+    drop(profile);
+    status
 }
 
 // Does the same by a profile that was read.

@@ -40,7 +40,9 @@ pub fn run_trace<R: Read, W: Write>(
 {
     let profile = profile_of(alloc, profile)?;
     let page = Page::new(alloc)?;
-    write_trace(alloc, page, &profile, rec, out)
+    let status = write_trace(alloc, page, &profile, rec, out);
+    drop(profile);
+    status
 }
 
 // By an empty page.

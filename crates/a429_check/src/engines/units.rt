@@ -36,7 +36,9 @@ pub fn run_units<R: Read, C: Read, W: Write>(
     ensures silent { (f : ProfileFault) → result ≡ Err (RunFault.Profile f) → rows.new ≡ rows.old }
 {
     let judged = judge(alloc, profile, rec, certificate, &mut NoShelf, rows)?;
-    end_rows(rows, &judged)
+    let status = end_rows(rows, &judged);
+    drop(judged);
+    status
 }
 
 // Ends the rows of a certificate that was judged, writes the no of one that is refused, and answers the status.

@@ -58,7 +58,10 @@ pub(crate) fn judge<R: Read, C: Read, S: Shelf, T: Listener>(
     let answer = replay_stream(alloc, &profile, rec, cert, shelf, listener);
     match answer_of(answer, any_failed(rec, cert, shelf, listener)) {
         Ok(answer) => Ok(Judged { profile, answer }),
-        Err(fault) => Err(fault),
+        Err(fault) => {
+            drop(profile);
+            Err(fault)
+        }
     }
 }
 

@@ -12,18 +12,18 @@ returns-in_err-verdict-clause-err g c =
 
 pub returns-clause-verdict : goal.returns-clause-verdict
 returns-clause-verdict g c =
-    reported (output g.C.Write.contents c.args.cert.now c.write_found.new.cert) (output g.W.Write.contents c.args.out.now c.write_found.new.out) c.in_ok-verdict.verdict
-    (IsVerdictOn c.args.rule c.args.profile.now (unread g.R.Read.remaining c.args.rec.now)) c.write_found.result c.in_ok-verdict.ensures.verdict c.write_found.ensures.verdict
+    reported (output g.C.Write.contents c.args.cert.now c.write_found-status.new.cert) (output g.W.Write.contents c.args.out.now c.write_found-status.new.out) c.in_ok-verdict.verdict
+    (IsVerdictOn c.args.rule c.args.profile.now (unread g.R.Read.remaining c.args.rec.now)) c.write_found-status.result c.in_ok-verdict.ensures.verdict c.write_found-status.ensures.verdict
 
 pub returns-clause-device : goal.returns-clause-device
 returns-clause-device g c =
-    used c.write_found.result (has_failed c.verdict_on.new.rec) (has_failed c.write_found.new.cert) (has_failed c.write_found.new.out) c.in_ok-verdict.ensures.device c.write_found.ensures.device
+    used c.write_found-status.result (has_failed c.verdict_on.new.rec) (has_failed c.write_found-status.new.cert) (has_failed c.write_found-status.new.out) c.in_ok-verdict.ensures.device c.write_found-status.ensures.device
 
 pub returns-clause-err : goal.returns-clause-err
 returns-clause-err g c =
-    not_written c.args.profile.now (unread g.R.Read.remaining c.args.rec.now) c.write_found.result (has_failed c.verdict_on.new.rec) _ c.in_ok-verdict.ensures.verdict.0 c.write_found.ensures.err
+    not_written c.args.profile.now (unread g.R.Read.remaining c.args.rec.now) c.write_found-status.result (has_failed c.verdict_on.new.rec) _ c.in_ok-verdict.ensures.verdict.0 c.write_found-status.ensures.err
 
 pub returns-clause-cut : goal.returns-clause-cut
 returns-clause-cut g c =
-    left (output g.C.Write.contents c.args.cert.now c.write_found.new.cert) (output g.W.Write.contents c.args.out.now c.write_found.new.out) c.in_ok-verdict.verdict
-    (IsVerdictOn c.args.rule c.args.profile.now (unread g.R.Read.remaining c.args.rec.now)) (has_failed c.verdict_on.new.rec) c.write_found.result c.in_ok-verdict.ensures.verdict c.in_ok-verdict.ensures.device c.write_found.ensures.cut
+    left (output g.C.Write.contents c.args.cert.now c.write_found-status.new.cert) (output g.W.Write.contents c.args.out.now c.write_found-status.new.out) c.in_ok-verdict.verdict
+    (IsVerdictOn c.args.rule c.args.profile.now (unread g.R.Read.remaining c.args.rec.now)) (has_failed c.verdict_on.new.rec) c.write_found-status.result c.in_ok-verdict.ensures.verdict c.in_ok-verdict.ensures.device c.write_found-status.ensures.cut

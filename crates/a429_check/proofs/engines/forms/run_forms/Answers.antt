@@ -6,13 +6,13 @@ use Rattle.a429_check.proofs.engines.forms.run_forms.Goals as goal
 
 pub returns-clause-lines : goal.returns-clause-lines
 returns-clause-lines g c =
-    on_ok_weaker c.forms_by.result (λ h. (h.0, told c.args.profile.now c.in_ok-profile.profile (unread g.R.Read.remaining c.args.rec.now) h.0 c.in_ok-profile.ensures.ok h.1, h.2)) c.forms_by.ensures.lines
+    on_ok_weaker c.forms_by-status.result (λ h. (h.0, told c.args.profile.now c.in_ok-profile.profile (unread g.R.Read.remaining c.args.rec.now) h.0 c.in_ok-profile.ensures.ok h.1, h.2)) c.forms_by-status.ensures.lines
 
 pub returns-clause-err : goal.returns-clause-err
 returns-clause-err g c =
-    if_err_map c.forms_by.result c.forms_by.ensures.err (λ e h. show_fault c.args.profile.now c.in_ok-profile.profile (unread g.R.Read.remaining c.args.rec.now) _ _ e c.in_ok-profile.ensures.ok h)
+    if_err_map c.forms_by-status.result c.forms_by-status.ensures.err (λ e h. show_fault c.args.profile.now c.in_ok-profile.profile (unread g.R.Read.remaining c.args.rec.now) _ _ e c.in_ok-profile.ensures.ok h)
 
 pub returns-clause-cut : goal.returns-clause-cut
 returns-clause-cut g c =
-    if_err_map c.forms_by.result c.forms_by.ensures.cut
+    if_err_map c.forms_by-status.result c.forms_by-status.ensures.cut
     (λ e h. cut_short_as _ _ e (λ text of. told c.args.profile.now c.in_ok-profile.profile (unread g.R.Read.remaining c.args.rec.now) text c.in_ok-profile.ensures.ok of) h)

@@ -11,20 +11,20 @@ pub returns-clause-verdict : goal.returns-clause-verdict
 returns-clause-verdict g c =
     let i = input c.args.profile.now g.C.Read.remaining c.args.certificate.now c.args.rec.now in
     let said = c.in_ok-judged.ensures in
-    if_ok_map c.end_rows.result c.end_rows.ensures.ended (λ status h. reports g.W.Write.contents i c.args.rows.now c.judge.new.listener c.end_rows.new.rows c.in_ok-judged.judged status c.requires said.judged said.heard h)
+    if_ok_map c.end_rows-status.result c.end_rows-status.ensures.ended (λ status h. reports g.W.Write.contents i c.args.rows.now c.judge.new.listener c.end_rows-status.new.rows c.in_ok-judged.judged status c.requires said.judged said.heard h)
 
 pub returns-clause-device : goal.returns-clause-device
 returns-clause-device g c =
     let new = c.judge.new in
-    on_ok_weaker c.end_rows.result (λ works. all_work new.rec.failed (has_failed new.cert) false _ (has_failed c.end_rows.new.rows.out) c.in_ok-judged.ensures.works works) c.end_rows.ensures.works
+    on_ok_weaker c.end_rows-status.result (λ works. all_work new.rec.failed (has_failed new.cert) false _ (has_failed c.end_rows-status.new.rows.out) c.in_ok-judged.ensures.works works) c.end_rows-status.ensures.works
 
 pub returns-clause-err : goal.returns-clause-err
 returns-clause-err g c =
     let new = c.judge.new in
     let i = input c.args.profile.now g.C.Read.remaining c.args.certificate.now c.args.rec.now in
-    let Failed = AnyFailed new.rec.failed (has_failed new.cert) false (has_failed c.end_rows.new.rows.out) in
-    if_err_map c.end_rows.result c.end_rows.ensures.err
+    let Failed = AnyFailed new.rec.failed (has_failed new.cert) false (has_failed c.end_rows-status.new.rows.out) in
+    if_err_map c.end_rows-status.result c.end_rows-status.ensures.err
     (λ e h. subst (IsVerifyFault i no_shelf Failed) (sym h.0) (inr h.1, judged i no_shelf c.in_ok-judged.judged c.in_ok-judged.ensures.judged))
 
 pub returns-clause-silent : goal.returns-clause-silent
-returns-clause-silent g c = λ f e. absurd (no_profile_here c.end_rows.result _ f c.end_rows.ensures.err e)
+returns-clause-silent g c = λ f e. absurd (no_profile_here c.end_rows-status.result _ f c.end_rows-status.ensures.err e)
