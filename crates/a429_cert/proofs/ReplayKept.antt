@@ -1,10 +1,18 @@
 -- What a replay keeps where one call follows another, and what is ahead before and after two lines.
-use Rattle.std.proofs.Common.{◌≡◌, ◌∙◌, ◌⊎◌, ◌≤◌, ◌+◌, ◌++◌, ◌∷◌, [], inl, inr, ℕ, List, length, ap, sym, subst, arith}
+use Rattle.std.proofs.Common.{◌≡◌, ◌∙◌, ◌⊎◌, ◌≤◌, ◌+◌, ◌++◌, ◌∷◌, [], inl, inr, ℕ, List, length, Bool, true, false, Option, Some, None, IsSome, refl, ap, sym, subst, arith}
 use Rattle.std.proofs.lemmas.List.{length-append}
 use Rattle.a429_link.specs.Link.{LinkValue, handed_out}
 use Rattle.a429_record.specs.declared.fault.ReadFault.{ReadFault}
 use Rattle.a429_cert.specs.Likely.{pair_text, sent_text, taken_text}
-use Rattle.a429_cert.specs.Stream.{HandsFilesOut, IsUnreported}
+use Rattle.a429_cert.specs.Stream.{HandsFilesOut, IsUnreported, OneFailed, of_cert}
+use Rattle.a429_cert.specs.Fault.{SaysLine}
+use Rattle.a429_cert.specs.StreamHead.{RefusesHead}
+use Rattle.a429_cert.specs.Version.{read_as}
+use Rattle.a429_cert.specs.declared.fault.CertFault.{CertFault}
+use Rattle.a429_cert.specs.declared.fault.CertFault.TheVariants as of
+use Rattle.a429_cert.specs.declared.line.CertLine.{CertLine}
+use Rattle.a429_cert.specs.declared.version.Version.{Version}
+use Rattle.a429_cert.specs.declared.version.Version.TheVariants.{One, Two}
 use Rattle.a429_cert.specs.declared.stream.Replay.{Replay}
 use Rattle.a429_cert.specs.declared.stream_fault.StreamFault.{StreamFault}
 use Rattle.a429_cert.specs.declared.stream_fault.StreamFault.TheVariants as stream
@@ -37,3 +45,51 @@ two_ahead k ahead old e =
     let both : length (pair_text k) ≡ length (sent_text k) + length second = length-append (sent_text k) second in
     let ending : length (taken_text k ++ feed) ≡ length (taken_text k) + length feed = length-append (taken_text k) feed in
     omega (arith, all, both, ending)
+
+-- a fault of the certificate is none of a device, and none of the recording
+pub cert_unreported : {T : Type 0} (old : T) (f : CertFault) → IsUnreported old old (of_cert f)
+cert_unreported old of.Version = refl
+cert_unreported old (of.Line m) = refl
+cert_unreported old (of.NotAllowed m) = refl
+cert_unreported old (of.StateDiffers m) = refl
+cert_unreported old (of.WordDiffers m j) = refl
+cert_unreported old (of.Unfinished j) = refl
+cert_unreported old of.OutOfMemory = tt
+
+pub cert_no_device : (f : CertFault) → of_cert f ≡ stream.Device → ⊥
+cert_no_device of.Version e = cc e
+cert_no_device (of.Line m) e = cc e
+cert_no_device (of.NotAllowed m) e = cc e
+cert_no_device (of.StateDiffers m) e = cc e
+cert_no_device (of.WordDiffers m j) e = cc e
+cert_no_device (of.Unfinished j) e = cc e
+cert_no_device of.OutOfMemory e = cc e
+
+pub cert_no_read : (f : CertFault) (g : ReadFault) → of_cert f ≡ stream.Read g → ⊥
+cert_no_read of.Version g e = cc e
+cert_no_read (of.Line m) g e = cc e
+cert_no_read (of.NotAllowed m) g e = cc e
+cert_no_read (of.StateDiffers m) g e = cc e
+cert_no_read (of.WordDiffers m j) g e = cc e
+cert_no_read (of.Unfinished j) g e = cc e
+cert_no_read of.OutOfMemory g e = cc e
+
+-- a line that says something has an end
+pub says_ended : (v : Version) (line : Option (List ℕ)) (l : CertLine) → SaysLine (read_as v line) l → IsSome line
+says_ended v (Some text) l h = refl
+says_ended One None l h = absurd h
+says_ended Two None l h = absurd h
+
+-- where shelf and listener cannot fail, the certificate's reader has failed
+pub only_reader : (cert : Bool) → OneFailed cert false false → cert ≡ true
+only_reader cert (inl e) = e
+only_reader cert (inr (inl e)) = absurd (cc e)
+only_reader cert (inr (inr e)) = absurd (cc e)
+
+-- the head of a certificate is refused before the recording is looked at
+pub head_not_read : (Holds : List ℕ → CertFault → Type 0) (old : Option (List ℕ)) (f : StreamFault) (g : ReadFault) → RefusesHead Holds old f → f ≡ stream.Read g → ⊥
+head_not_read Holds None (stream.Read f) g h e = absurd h
+head_not_read Holds (Some xs) (stream.Read f) g h e = absurd h
+head_not_read Holds old (stream.Cert f) g h e = cc e
+head_not_read Holds old stream.Device g h e = cc e
+head_not_read Holds old stream.OutOfMemory g h e = cc e
