@@ -4,7 +4,13 @@ use Rattle.std.proofs.lemmas.List.{length-append}
 use Rattle.a429_link.specs.Link.{LinkValue, handed_out}
 use Rattle.a429_record.specs.declared.fault.ReadFault.{ReadFault}
 use Rattle.a429_cert.specs.Likely.{pair_text, sent_text, taken_text}
-use Rattle.a429_cert.specs.Stream.{HandsFilesOut, IsUnreported, OneFailed, of_cert}
+use Rattle.a429_cert.specs.Report.{Position}
+use Rattle.a429_profile.specs.Profile.{Contents}
+use Rattle.a429_record.specs.Recording.{Recording}
+use Rattle.a429_record.specs.declared.fault.ReadFault.TheVariants as read
+use Rattle.a429_word.specs.declared.trouble.Trouble.{Trouble}
+use Rattle.a429_word.specs.declared.trouble.Trouble.TheVariants as trouble
+use Rattle.a429_cert.specs.Stream.{HandsFilesOut, IsUnreported, OneFailed, RefusesOver, of_cert, of_read, of_trouble}
 use Rattle.a429_cert.specs.Fault.{SaysLine}
 use Rattle.a429_cert.specs.StreamHead.{RefusesHead}
 use Rattle.a429_cert.specs.Version.{read_as}
@@ -93,3 +99,34 @@ head_not_read Holds (Some xs) (stream.Read f) g h e = absurd h
 head_not_read Holds old (stream.Cert f) g h e = cc e
 head_not_read Holds old stream.Device g h e = cc e
 head_not_read Holds old stream.OutOfMemory g h e = cc e
+
+-- nor is one of the recording one that is reported
+pub read_unreported : {T : Type 0} (old : T) (f : ReadFault) → IsUnreported old old (of_read f)
+read_unreported old read.Header = refl
+read_unreported old (read.Row i) = refl
+read_unreported old (read.TimeBack i) = refl
+read_unreported old read.TooMany = refl
+read_unreported old read.Device = refl
+read_unreported old read.OutOfMemory = tt
+read_unreported old read.Failed = refl
+
+-- what has stopped a listener
+pub trouble_unreported : {T : Type 0} (old new : T) (t : Trouble) → IsUnreported old new (of_trouble t)
+trouble_unreported old new trouble.Device = tt
+trouble_unreported old new trouble.OutOfMemory = tt
+
+pub trouble_device : (t : Trouble) → of_trouble t ≡ stream.Device → t ≡ trouble.Device
+trouble_device trouble.Device e = refl
+trouble_device trouble.OutOfMemory e = absurd (cc e)
+
+pub trouble_no_read : (t : Trouble) (g : ReadFault) → of_trouble t ≡ stream.Read g → ⊥
+trouble_no_read trouble.Device g e = cc e
+trouble_no_read trouble.OutOfMemory g e = cc e
+
+pub trouble_refuses : (p : Contents) (text : Option (List ℕ)) (at : Position) (n : ℕ) (t : Trouble) → RefusesOver p text at n (of_trouble t)
+trouble_refuses p text at n t = by at.recording t
+  where
+    by : (rec : Option Recording) (t : Trouble) → RefusesOver p text (record at { recording = rec }) n (of_trouble t)
+    by None t = tt
+    by (Some r) trouble.Device = tt
+    by (Some r) trouble.OutOfMemory = tt
