@@ -1,4 +1,4 @@
--- What a replay keeps where one call follows another, and what is ahead before and after two lines.
+-- Small facts that the goals of a replay cite: what it keeps where one call follows another, which faults are of a device, of the certificate or of the recording, and how much two lines are.
 use Rattle.std.proofs.Common.{◌≡◌, ◌∙◌, ◌⊎◌, ◌≤◌, ◌+◌, ◌++◌, ◌∷◌, [], inl, inr, ℕ, List, length, Bool, true, false, Option, Some, None, IsSome, refl, ap, sym, subst, arith}
 use Rattle.std.proofs.lemmas.List.{length-append}
 use Rattle.a429_link.specs.Link.{LinkValue, handed_out}
