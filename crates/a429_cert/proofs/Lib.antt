@@ -23,6 +23,7 @@ pub mod StreamHeadFacts
 pub mod StreamStands
 pub mod StreamReplay
 pub mod StreamRefused
+pub mod ReplayKept
 pub mod ReportFacts
 pub mod ReportsOfRefused
 pub mod StreamLine

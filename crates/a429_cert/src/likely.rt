@@ -81,10 +81,24 @@ impl WordLines {
     pub fn likely(&self, before: States, letter: u8, source: u8) -> Option<LikelyLine<'_>>
         ensures { IfSome result IsLikelyLine }
     {
+        if letter == b'l' && source == b'S' {
+            if let SourceState::Sending(sent) = before.source {
+                return self.lost_line(before, sent);
+            }
+        }
         match act_of(letter) {
             Some(Act::GiveUp) | None => None,
             Some(act) => self.line(act, likely_after(act, before, source)),
         }
+    }
+
+    // The line of a word that is lost, inside a block of which so many were sent before.
+    #[inline(always)]
+    fn lost_line(&self, before: States, sent: u8) -> Option<LikelyLine<'_>>
+        ensures { IfSome result IsLikelyLine }
+    {
+        let source = SourceState::Sending(sent.wrapping_add(1));
+        self.line(Act::SentLost, States { source, ..before })
     }
 
     // The line of this step, with these states after it, where its pieces are there.

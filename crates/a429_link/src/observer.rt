@@ -70,7 +70,7 @@ impl Observer {
 
     /// Takes the next recorded word, of which the caller knows that it is not free and has this form, where the words
     /// before it allow it. It answers whether they do; where they do not, the observer is unchanged.
-    #[inline]
+    #[inline(always)]
     pub fn see_form(&mut self, profile: &Profile, bus: Bus, word: Word, form: &Form) -> bool
         ensures allowed { IsTrue result ↔ AllowsForm self.old bus (Some form.now) }
         ensures taken { IsTrue result → self.new ≡ sees_form profile.now bus word (Some form.now) self.old }

@@ -71,6 +71,7 @@ impl Cutter {
     }
 
     /// Takes the next entry. It takes as many as a `usize` counts.
+    #[inline(always)]
     pub fn take(&mut self, profile: &Profile, entry: &Entry) -> Result<(), PartFault>
         ensures most { (self.new.most ≡ self.old.most) × OnOk result (self.new.watched.count ≡ self.old.watched.count + 1) }
         ensures waits { OnOk result (self.new.waiting ≡ self.old.waiting ++ entry.now ∷ []) }
@@ -96,6 +97,7 @@ impl Cutter {
 
     /// How many of the entries that wait are a part, if it is complete. It is not where the next entries may still say
     /// that there is a later place that is near enough.
+    #[inline(always)]
     pub fn part(&self) -> Result<Option<usize>, PartFault>
         ensures some { IfOk result (λ o. IfSome o (IsNextPart self.now)) }
         ensures none { result ≡ Ok None → IsInReach self.now → IsCurrent self.now }

@@ -50,7 +50,7 @@ impl Follower {
 
     /// Takes the next recorded word, which has this form, where the words before it allow it, and answers the number of an
     /// acknowledgement by which a file crosses.
-    #[inline]
+    #[inline(always)]
     pub(crate) fn see(
         &mut self,
         profile: &Profile,

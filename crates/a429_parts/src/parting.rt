@@ -80,6 +80,7 @@ impl Parting {
     }
 
     // Takes the next entry, and puts the parts that are complete then.
+    #[inline(always)]
     fn add<P: Parts, W: Write>(
         &mut self,
         profile: &Profile,
@@ -111,6 +112,7 @@ impl Parting {
     }
 
     // Takes the next entry.
+    #[inline(always)]
     fn take(&mut self, profile: &Profile, entry: &Entry) -> Result<(), ReadFault>
         requires room { self.old.cutter.watched.count + 1 < 2 ^ 64 }
         ensures ok { OnOk result ((most : ℕ) (parts : List (List Entry)) (es : List Entry) → Holds profile.now most false parts es self.old → IsCurrent self.old.cutter → Holds profile.now most false parts (es ++ entry.now ∷ []) self.new) }
@@ -123,6 +125,7 @@ impl Parting {
     }
 
     // Puts the parts that are complete; where no entry comes any more, all but the last.
+    #[inline(always)]
     fn put_complete<P: Parts, W: Write>(
         &mut self,
         at_end: bool,
@@ -152,6 +155,7 @@ impl Parting {
     }
 
     // How many of the entries that wait are the next part.
+    #[inline(always)]
     fn size(&self, at_end: bool) -> Result<Option<usize>, PartFault>
         ensures some { IfOk result (λ o. IfSome o (λ size. IsPart self.now.cutter size × EndsFor at_end self.now.cutter size)) }
         ensures current { at_end ≡ false → result ≡ Ok None → IsInReach self.now.cutter → IsCurrent self.now.cutter }
@@ -166,6 +170,7 @@ impl Parting {
     }
 
     // Puts so many of the entries that wait as the next part, and ends it.
+    #[inline(never)]
     fn put_and_end<P: Parts, W: Write>(
         &mut self,
         size: usize,

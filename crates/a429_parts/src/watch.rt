@@ -67,7 +67,7 @@ impl Watch {
     }
 
     /// Takes the next word, and answers the place to cut, after so many words, that it makes certain.
-    #[inline]
+    #[inline(always)]
     pub(crate) fn take(&mut self, profile: &Profile, seen: &Seen) -> Option<usize>
         requires room { self.old.count + 1 < 2 ^ 64 }
         ensures counts { self.new.count ≡ self.old.count + 1 }
@@ -109,6 +109,7 @@ impl Watch {
     }
 
     // The place in doubt that a word of this form makes certain. A place that it rules out is forgotten.
+    #[inline(always)]
     fn settle(&mut self, profile: &Profile, form: &Form) -> Option<usize>
         ensures counts { self.new.count ≡ self.old.count }
         ensures settles { Settles profile.now.codes (Some form.now) self.old self.new result }
@@ -134,6 +135,7 @@ impl Watch {
     }
 
     // Follows the next word, which has this form.
+    #[inline(always)]
     fn follow(&mut self, profile: &Profile, seen: &Seen, form: &Form)
         requires form { form_of profile.now.codes seen.now.bus seen.now.word ≡ Some form.now }
         requires room { self.old.count + 1 < 2 ^ 64 }

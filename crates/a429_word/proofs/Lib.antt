@@ -11,6 +11,7 @@ pub mod DigitsFacts
 pub mod FixedDecimals
 pub mod FixedZeros
 pub mod HexValues
+pub mod HexPairs
 pub mod FixedHalves
 pub mod FixedText
 pub mod FixedOneSpelling

@@ -10,6 +10,10 @@ use crate::word::Word;
 
 const HEX_DIGITS: [u8; 16] = *b"0123456789ABCDEF";
 
+// Each byte as two hexadecimal digits.
+const HEX_PAIRS: [u8; 512] =
+    *b"000102030405060708090A0B0C0D0E0F101112131415161718191A1B1C1D1E1F202122232425262728292A2B2C2D2E2F303132333435363738393A3B3C3D3E3F404142434445464748494A4B4C4D4E4F505152535455565758595A5B5C5D5E5F606162636465666768696A6B6C6D6E6F707172737475767778797A7B7C7D7E7F808182838485868788898A8B8C8D8E8F909192939495969798999A9B9C9D9E9FA0A1A2A3A4A5A6A7A8A9AAABACADAEAFB0B1B2B3B4B5B6B7B8B9BABBBCBDBEBFC0C1C2C3C4C5C6C7C8C9CACBCCCDCECFD0D1D2D3D4D5D6D7D8D9DADBDCDDDEDFE0E1E2E3E4E5E6E7E8E9EAEBECEDEEEFF0F1F2F3F4F5F6F7F8F9FAFBFCFDFEFF";
+
 // The value of a byte that is no hexadecimal digit: above any number of four digits.
 const NONE: u32 = 65536;
 
@@ -54,24 +58,19 @@ impl Word {
     pub fn hex(self) -> [u8; 8]
         ensures { result ≡ hex_text self }
     {
-        [
-            self.hex_digit(7),
-            self.hex_digit(6),
-            self.hex_digit(5),
-            self.hex_digit(4),
-            self.hex_digit(3),
-            self.hex_digit(2),
-            self.hex_digit(1),
-            self.hex_digit(0),
-        ]
+        let (a, b) = (self.hex_pair(3), self.hex_pair(2));
+        let (c, d) = (self.hex_pair(1), self.hex_pair(0));
+        [a[0], a[1], b[0], b[1], c[0], c[1], d[0], d[1]]
     }
 
-    // The digit that counts 16^place.
-    fn hex_digit(self, place: u8) -> u8
-        requires { place < 8 }
-        ensures { result ≡ digit_glyph true (self / 2 ^ (4 * place) % 16) }
+    // The two digits that count 16^(2 place + 1) and 16^(2 place).
+    #[inline(always)]
+    fn hex_pair(self, place: u8) -> [u8; 2]
+        requires { place < 4 }
+        ensures { result ≡ digit_glyph true (self / 2 ^ (8 * place) / 16 % 16) ∷ digit_glyph true (self / 2 ^ (8 * place) % 16) ∷ [] }
     {
-        hex_digit((self.to_u32() >> (4 * place) & 15) as u8)
+        let from = (self.to_u32() >> (8 * place) & 255) as usize * 2;
+        [HEX_PAIRS[from], HEX_PAIRS[from + 1]]
     }
 }
 

@@ -91,3 +91,9 @@ returns-in-Ok-all_used-clause-ok c =
 pub returns-in-Ok-all_used-clause-every_run : goal.returns-in-Ok-all_used-clause-every_run
 returns-in-Ok-all_used-clause-every_run c =
     in_every_run c.args.profile.now (search rules) c.args.certificate.now (items_of c.args.entries.now) c.new.result (returns-in-Ok-all_used-clause-ok c)
+
+pub loop-line-smaller : goal.loop-line-smaller
+loop-line-smaller c = c.in-Some.ensures.shorter refl
+
+pub replay_line-requires-clause-profile : goal.replay_line-requires-clause-profile
+replay_line-requires-clause-profile c = c.loop-line.invariant.profile

@@ -1,4 +1,4 @@
-use Rattle.std.proofs.Common.{◌≡◌, ℕ, List, [], true, length, ap, refl, arith}
+use Rattle.std.proofs.Common.{◌≡◌, ◌∙◌, inl, ℕ, List, [], true, length, ap, refl, subst, sym, arith}
 use Rattle.a429_cert.specs.StreamNext.{progress, unread_of}
 use Rattle.a429_cert.proofs.StreamNextFacts.{ended_walks, stop_place, stop_refuses, stop_unreported, walks_some}
 use Rattle.a429_cert.proofs.StreamRefused.{head_both_known}
@@ -14,6 +14,9 @@ use Rattle.a429_cert.proofs.ReportsOfRefused.{heard_head}
 use Rattle.a429_cert.specs.declared.stream_fault.StreamFault.TheVariants as stream
 use Rattle.a429_cert.proofs.LikelyFacts.{nothing_read}
 use Rattle.a429_cert.proofs.StreamEndFacts.{late_both_known, heard_late}
+use Rattle.a429_profile.specs.Profile.{IsProfile}
+use Rattle.a429_record.specs.declared.fault.ReadFault.TheVariants as read
+use Rattle.a429_cert.proofs.ReplayKept.{head_not_read}
 use Rattle.a429_cert.proofs.stream.replay_stream.Goals as goal
 
 pub lines-init : goal.lines-init
@@ -197,3 +200,42 @@ returns-clause-place g c =
           (bytes_ahead c.take_next.new.lines) c.args.rec.now c.take_next.new.rec c.none_left.new.rec none.line c.none_left.new.rec.to_come c.in-Err-none_left.fault v.none_left (c.in-Ok-take_next.ensures.ahead c.if-not-found.true) none.given none.kept v.counted c.in-Err-none_left.ensures.err c.in-Err-none_left.ensures.given v.reports;
       put = v.put;
     }
+
+pub take_next-requires-clause-sound : goal.take_next-requires-clause-sound
+take_next-requires-clause-sound g c = subst IsProfile (sym c.lines.invariant.walks.profile) c.start-replay.ensures.sound
+
+pub take_next-requires-clause-profile : goal.take_next-requires-clause-profile
+take_next-requires-clause-profile g c = c.lines.invariant.walks.link ∙ sym c.lines.invariant.walks.profile
+
+pub take_next-requires-clause-none_left : goal.take_next-requires-clause-none_left
+take_next-requires-clause-none_left g c = c.lines.invariant.walks.none_left
+
+pub take_next-requires-clause-few : goal.take_next-requires-clause-few
+take_next-requires-clause-few g c = c.lines.invariant.walks.few
+
+pub lines-smaller : goal.lines-smaller
+lines-smaller g c = c.in-Ok-take_next.ensures.shorter c.if-not-found.false
+
+pub returns-in-Err-clause-device : goal.returns-in-Err-clause-device
+returns-in-Err-clause-device g c = λ e. absurd (cc e)
+
+pub returns-in-Err-clause-read : goal.returns-in-Err-clause-read
+returns-in-Err-clause-read g c = λ e. absurd (cc e)
+
+pub returns-in-Err-begin-clause-read : goal.returns-in-Err-begin-clause-read
+returns-in-Err-begin-clause-read g c = λ e. absurd (head_not_read _ (to_come g.C.Read.remaining c.new-lines.result c.args.cert.now) c.in-Err-begin.fault read.Device c.in-Err-begin.ensures.err (cc e))
+
+pub returns-in-Err-take_next-clause-read : goal.returns-in-Err-take_next-clause-read
+returns-in-Err-take_next-clause-read g c = λ e. c.in-Err-take_next.ensures.read (cc e)
+
+pub returns-clause-device : goal.returns-clause-device
+returns-clause-device g c = λ e. absurd (c.in-Err-none_left.ensures.device (cc e))
+
+pub returns-clause-read : goal.returns-clause-read
+returns-clause-read g c = λ e. c.in-Err-none_left.ensures.read (cc e)
+
+pub returns-in-Err-begin-clause-device : goal.returns-in-Err-begin-clause-device
+returns-in-Err-begin-clause-device g c = λ e. inl (c.in-Err-begin.ensures.device (cc e))
+
+pub returns-in-Err-take_next-clause-device : goal.returns-in-Err-take_next-clause-device
+returns-in-Err-take_next-clause-device g c = λ e. c.in-Err-take_next.ensures.device (cc e)

@@ -1,4 +1,4 @@
-use Rattle.std.proofs.Common.{◌≡◌, ◌≤◌, ◌+◌, Option, option_map, subst, sym}
+use Rattle.std.proofs.Common.{◌≡◌, ◌≤◌, ◌+◌, Option, option_map, refl, subst, sym}
 use Rattle.std.proofs.lemmas.Result.{IfOk-weaker, IfErr-weaker}
 use Rattle.a429_link.specs.declared.seen.Seen.{Seen}
 use Rattle.a429_record.specs.declared.fault.ReadFault.TheVariants as read
@@ -9,6 +9,8 @@ use Rattle.a429_cert.specs.Passing.{PassesListed, uses_listed}
 use Rattle.a429_cert.specs.Stream.{ReplaysNext, EndsNext, IsNotTaken, GivesAtFault}
 use Rattle.a429_cert.proofs.StreamFacts.{passes_next, few_used, used_given, most_given, none_given, not_taken_given}
 use Rattle.a429_cert.proofs.ReportFacts.{ends_next, not_read}
+use Rattle.a429_cert.proofs.StreamReplay.{read_device, read_no_device}
+use Rattle.a429_cert.proofs.ReplayKept.{read_unreported}
 use Rattle.a429_cert.proofs.stream.step_and_report.Goals as goal
 use Rattle.a429_cert.specs.Change.{change}
 
@@ -124,3 +126,42 @@ returns-in-Moved-clause-given g c =
     IfErr-weaker c.move_and_report.result (IsNotTaken replay (listed.Moved c.in-Moved.line) next) (λ f. GivesAtFault (uses_listed c.args.listed ≡ 1) f old new)
     (λ f h. not_taken_given replay (listed.Moved c.in-Moved.line) next (uses_listed c.args.listed ≡ 1) f old new h (most_given (uses_listed c.args.listed) c.in-Ok.next old new c.in-Ok.ensures.given))
     c.move_and_report.ensures.refused
+
+pub returns-in-Err-clause-unreported : goal.returns-in-Err-clause-unreported
+returns-in-Err-clause-unreported g c = rw c.of_read.ensures (read_unreported c.args.listener.now c.in-Err.fault)
+
+pub returns-in-Err-clause-device : goal.returns-in-Err-clause-device
+returns-in-Err-clause-device g c = λ e. absurd (read_no_device c.in-Err.fault (cc (e, c.of_read.ensures)))
+
+pub returns-in-Err-clause-read : goal.returns-in-Err-clause-read
+returns-in-Err-clause-read g c = λ e. c.in-Err.ensures.device (cc (read_device c.in-Err.fault (cc (e, c.of_read.ensures))))
+
+pub returns-in-Err-clause-kept : goal.returns-in-Err-clause-kept
+returns-in-Err-clause-kept g c = refl
+
+pub returns-in-Err-clause-profile : goal.returns-in-Err-clause-profile
+returns-in-Err-clause-profile g c = refl
+
+pub returns-in-Load-clause-unreported : goal.returns-in-Load-clause-unreported
+returns-in-Load-clause-unreported g c = c.load_and_report.ensures.unreported
+
+pub returns-in-Load-clause-device : goal.returns-in-Load-clause-device
+returns-in-Load-clause-device g c = c.load_and_report.ensures.device
+
+pub returns-in-Load-clause-kept : goal.returns-in-Load-clause-kept
+returns-in-Load-clause-kept g c = c.load_and_report.ensures.kept
+
+pub returns-in-Load-clause-profile : goal.returns-in-Load-clause-profile
+returns-in-Load-clause-profile g c = c.load_and_report.ensures.profile
+
+pub returns-in-Moved-clause-unreported : goal.returns-in-Moved-clause-unreported
+returns-in-Moved-clause-unreported g c = c.move_and_report.ensures.unreported
+
+pub returns-in-Moved-clause-device : goal.returns-in-Moved-clause-device
+returns-in-Moved-clause-device g c = c.move_and_report.ensures.device
+
+pub returns-in-Moved-clause-kept : goal.returns-in-Moved-clause-kept
+returns-in-Moved-clause-kept g c = c.move_and_report.ensures.kept
+
+pub returns-in-Moved-clause-profile : goal.returns-in-Moved-clause-profile
+returns-in-Moved-clause-profile g c = c.move_and_report.ensures.profile

@@ -1,4 +1,5 @@
-use Rattle.std.proofs.Common.{◌++◌, inl, inr, ℕ, List, true, Some, refl, sym, subst}
+use Rattle.std.proofs.Common.{◌++◌, inl, inr, ℕ, List, true, Some, ap, refl, sym, subst, arith}
+use Rattle.std.proofs.lemmas.Result.{IfOk-weaker}
 use Rattle.std.specs.Io.KnownBytes.{prepend_known}
 use Rattle.a429_word.specs.Tally.{unread}
 use Rattle.a429_profile.specs.Profile.{Contents}
@@ -9,6 +10,7 @@ use Rattle.a429_cert.specs.LineReader.{bytes_ahead}
 use Rattle.a429_cert.specs.StreamNext.{progress, TakesSome}
 use Rattle.a429_cert.specs.declared.stream.Replay.{Replay}
 use Rattle.a429_cert.proofs.PairFacts.{ended, fewer, gives_sent, least_place, takes_both}
+use Rattle.a429_cert.proofs.ReplayKept.{two_ahead}
 use Rattle.a429_cert.proofs.stream_next.take_next.Goals as goal
 
 pub returns-in-Ok-clause-goes_on : goal.returns-in-Ok-clause-goes_on
@@ -48,4 +50,49 @@ returns-in-Err-clause-stopped g c =
             device = λ e. c.in-Err.ensures.device (cc e);
           });
       unreported = c.in-Err.ensures.unreported;
+    })
+
+pub returns-in-Ok-clause-shorter : goal.returns-in-Ok-clause-shorter
+returns-in-Ok-clause-shorter g c = λ _. omega (arith, two_ahead c.in-Some.next.place (bytes_ahead c.next_pair.new.lines) (bytes_ahead c.args.lines.now) c.in-Some.ensures.lines)
+
+pub returns-in-Ok-clause-room : goal.returns-in-Ok-clause-room
+returns-in-Ok-clause-room g c = λ _.
+    omega (arith, ap (λ (w : Replay). w.lines) c.in-Ok.ensures.taken, two_ahead c.in-Some.next.place (bytes_ahead c.next_pair.new.lines) (bytes_ahead c.args.lines.now) c.in-Some.ensures.lines)
+
+pub returns-in-Ok-clause-ended : goal.returns-in-Ok-clause-ended
+returns-in-Ok-clause-ended g c = λ e. absurd (cc e)
+
+pub returns-in-Ok-clause-ahead : goal.returns-in-Ok-clause-ahead
+returns-in-Ok-clause-ahead g c = λ e. absurd (cc e)
+
+pub returns-in-Err-clause-device : goal.returns-in-Err-clause-device
+returns-in-Err-clause-device g c = λ e. inr (inr (c.in-Err.ensures.device (cc e)))
+
+pub returns-in-Err-clause-read : goal.returns-in-Err-clause-read
+returns-in-Err-clause-read g c = λ e. c.in-Err.ensures.read (cc e)
+
+pub carry_and_report-requires : goal.carry_and_report-requires
+carry_and_report-requires g c = record {
+  profile = c.requires.profile;
+  word = rw (sym c.requires.profile) c.in-Some.ensures.word;
+  few = c.requires.few;
+  room = omega (arith, c.requires.room, two_ahead c.in-Some.next.place (bytes_ahead c.next_pair.new.lines) (bytes_ahead c.args.lines.now) c.in-Some.ensures.lines);
+}
+
+pub take_one-requires : goal.take_one-requires
+take_one-requires g c = record { sound = c.requires.sound; profile = c.requires.profile; few = c.requires.few; room = rw c.in_default.ensures.none c.requires.room }
+
+-- the next line alone
+pub returns-in_default : goal.returns-in_default
+returns-in_default g c =
+    rw (sym c.in_default.ensures.none)
+    (record {
+      goes_on = IfOk-weaker c.take_one.result _ _ (λ _ h e. inl (h e)) c.take_one.ensures.goes_on;
+      ended = c.take_one.ensures.ended;
+      shorter = c.take_one.ensures.shorter;
+      room = c.take_one.ensures.room;
+      stopped = c.take_one.ensures.stopped;
+      ahead = IfOk-weaker c.take_one.result _ _ (λ _ _ _. c.take_one.ensures.ahead) c.take_one.ensures.shorter;
+      device = c.take_one.ensures.device;
+      read = c.take_one.ensures.read;
     })

@@ -1,4 +1,4 @@
-use Rattle.std.proofs.Common.{◌≡◌, ◌+◌, inl, inr, ℕ, List, true, false, Option, IsSome, ap, refl, sym, subst, arith, rules}
+use Rattle.std.proofs.Common.{◌≡◌, ◌+◌, inl, inr, ℕ, List, true, false, Option, IsSome, ap, refl, sym, subst, arith}
 use Rattle.a429_cert.specs.declared.stream.Replay.{Replay}
 use Rattle.a429_cert.specs.CutLines.{GivesLine}
 use Rattle.a429_cert.specs.LineReader.{bytes_ahead, held_line, to_come}
@@ -64,10 +64,10 @@ returns-in_default-clause-stopped g c =
     inl
     (record {
       fault = refl;
-      failed = c.next_near.ensures.device (search rules);
+      failed = c.in_default.ensures.device refl;
       ahead = bytes_ahead c.next_near.new.self;
-      part = c.next_near.ensures.part (search rules);
-      kept = c.next_near.ensures.kept (search rules);
+      part = c.in_default.ensures.part refl;
+      kept = c.in_default.ensures.kept refl;
       recording = refl;
       shelf = refl;
     })
@@ -86,3 +86,42 @@ returns-in-Err-clause-stopped g c =
       stopped = c.in-Err.ensures.stopped;
       unreported = c.in-Err.ensures.unreported;
     })
+
+pub returns-in_default-clause-ahead : goal.returns-in_default-clause-ahead
+returns-in_default-clause-ahead g c = c.next_near.ensures.few
+
+pub returns-then-not-next-clause-ahead : goal.returns-then-not-next-clause-ahead
+returns-then-not-next-clause-ahead g c = c.next_near.ensures.few
+
+pub returns-in-Ok-replay_and_put-clause-ahead : goal.returns-in-Ok-replay_and_put-clause-ahead
+returns-in-Ok-replay_and_put-clause-ahead g c = c.next_near.ensures.few
+
+pub returns-in-Err-clause-ahead : goal.returns-in-Err-clause-ahead
+returns-in-Err-clause-ahead g c = c.next_near.ensures.few
+
+pub returns-then-not-next-clause-goes_on : goal.returns-then-not-next-clause-goes_on
+returns-then-not-next-clause-goes_on g c = λ e. absurd (cc e)
+
+pub returns-then-not-next-clause-shorter : goal.returns-then-not-next-clause-shorter
+returns-then-not-next-clause-shorter g c = λ e. absurd (cc e)
+
+pub returns-then-not-next-clause-room : goal.returns-then-not-next-clause-room
+returns-then-not-next-clause-room g c = λ e. absurd (cc e)
+
+pub returns-in-Ok-replay_and_put-clause-ended : goal.returns-in-Ok-replay_and_put-clause-ended
+returns-in-Ok-replay_and_put-clause-ended g c = λ e. absurd (cc e)
+
+pub returns-in_default-clause-device : goal.returns-in_default-clause-device
+returns-in_default-clause-device g c = λ _. inl (c.in_default.ensures.device refl)
+
+pub returns-in-Err-clause-device : goal.returns-in-Err-clause-device
+returns-in-Err-clause-device g c = λ e. inr (c.in-Err.ensures.device (cc e))
+
+pub returns-in-Err-clause-read : goal.returns-in-Err-clause-read
+returns-in-Err-clause-read g c = λ e. c.in-Err.ensures.read (cc e)
+
+pub next_near-requires : goal.next_near-requires
+next_near-requires g c = c.likely_line-likely.ensures
+
+pub replay_and_put-requires : goal.replay_and_put-requires
+replay_and_put-requires g c = record { sound = c.requires.sound; profile = c.requires.profile; known = rw c.line.ensures c.in-Ok.ensures.known }

@@ -1,4 +1,4 @@
-use Rattle.std.proofs.Common.{rules, ◌∙◌, refl}
+use Rattle.std.proofs.Common.{rules, arith, ◌∙◌, refl}
 use Rattle.a429_word.specs.Tally.{unread}
 use Rattle.a429_cert.specs.LineReader.{bytes_ahead, held_line, to_come}
 use Rattle.a429_cert.proofs.LineReaderFacts.{ended_given, open_given}
@@ -21,3 +21,21 @@ returns-then-not-branch-clause-given g c =
 
 pub returns-then-not-branch-clause-room : goal.returns-then-not-branch-clause-room
 returns-then-not-branch-clause-room g c = search rules
+
+pub returns-then-take_line-clause-shorter : goal.returns-then-take_line-clause-shorter
+returns-then-take_line-clause-shorter g c = λ _. omega (arith, c.reads.invariant.room, c.if-take_line.ensures.short refl)
+
+pub returns-then-take_line-clause-room : goal.returns-then-take_line-clause-room
+returns-then-take_line-clause-room g c = λ _. omega (arith, c.reads.invariant.room, c.if-take_line.ensures.short refl)
+
+pub returns-then-take_line-clause-kept : goal.returns-then-take_line-clause-kept
+returns-then-take_line-clause-kept g c = λ h. absurd (h refl)
+
+pub returns-then-take_line-clause-part : goal.returns-then-take_line-clause-part
+returns-then-take_line-clause-part g c = λ e. absurd (cc e)
+
+pub returns-then-take_line-clause-device : goal.returns-then-take_line-clause-device
+returns-then-take_line-clause-device g c = λ e. absurd (cc e)
+
+pub returns-then-take_line-clause-stays : goal.returns-then-take_line-clause-stays
+returns-then-take_line-clause-stays g c = c.reads.invariant.stays

@@ -8,6 +8,9 @@ use Rattle.a429_cert.specs.Series.{SeriesValue, begun}
 use Rattle.a429_cert.proofs.SeriesFacts.{begun_no_files, part_init, part_late, part_fits, part_head, part_stopped}
 use Rattle.a429_cert.proofs.StreamNextFacts.{ended_part, part_at_next, part_some}
 use Rattle.a429_cert.proofs.StreamReplay.{fresh}
+use Rattle.a429_profile.specs.Profile.{IsProfile}
+use Rattle.a429_record.specs.declared.fault.ReadFault.TheVariants as read
+use Rattle.a429_cert.proofs.ReplayKept.{head_not_read, only_reader}
 use Rattle.a429_cert.proofs.series.Series.add.Goals as goal
 
 pub returns-in-Err-clause-err : goal.returns-in-Err-clause-err
@@ -91,3 +94,48 @@ returns-clause-err g c =
     let v = ended_part c.args.self known c.args.rec.now.to_come h.head _ _ h.walks none in
     part_late c.args.self h.head v.k c.take_next.new.replay.used v.taken c.take_next.new.replay.link.state known left more none.line c.args.rec.now.to_come c.take_next.new.rec.to_come c.none_left.new.rec.to_come c.in-Err-none_left.fault
     none.given c.in-Err-none_left.ensures.err v.reports
+
+pub take_next-requires-clause-sound : goal.take_next-requires-clause-sound
+take_next-requires-clause-sound g c = subst IsProfile (sym c.lines.invariant.walks.profile) c.begin_part-replay.ensures.sound
+
+pub take_next-requires-clause-profile : goal.take_next-requires-clause-profile
+take_next-requires-clause-profile g c = c.lines.invariant.walks.link ∙ sym c.lines.invariant.walks.profile
+
+pub take_next-requires-clause-none_left : goal.take_next-requires-clause-none_left
+take_next-requires-clause-none_left g c = c.lines.invariant.walks.none_left
+
+pub take_next-requires-clause-few : goal.take_next-requires-clause-few
+take_next-requires-clause-few g c = c.lines.invariant.walks.few
+
+pub lines-smaller : goal.lines-smaller
+lines-smaller g c = c.in-Ok-take_next.ensures.shorter c.if-not-found.false
+
+pub returns-in-Err-clause-device : goal.returns-in-Err-clause-device
+returns-in-Err-clause-device g c = λ e. absurd (cc e)
+
+pub returns-in-Err-clause-read : goal.returns-in-Err-clause-read
+returns-in-Err-clause-read g c = λ e. absurd (cc e)
+
+pub returns-in-Err-begin-clause-read : goal.returns-in-Err-begin-clause-read
+returns-in-Err-begin-clause-read g c = λ e. absurd (head_not_read _ (to_come g.C.Read.remaining c.new-lines.result c.args.cert.now) c.in-Err-begin.fault read.Device c.in-Err-begin.ensures.err (cc e))
+
+pub returns-in-Err-take_next-clause-read : goal.returns-in-Err-take_next-clause-read
+returns-in-Err-take_next-clause-read g c = λ e. c.in-Err-take_next.ensures.read (cc e)
+
+pub returns-clause-device : goal.returns-clause-device
+returns-clause-device g c = λ e. absurd (c.in-Err-none_left.ensures.device (cc e))
+
+pub returns-clause-read : goal.returns-clause-read
+returns-clause-read g c = λ e. c.in-Err-none_left.ensures.read (cc e)
+
+pub returns-in-Err-begin-clause-device : goal.returns-in-Err-begin-clause-device
+returns-in-Err-begin-clause-device g c = λ e. c.in-Err-begin.ensures.device (cc e)
+
+pub returns-in-Err-take_next-clause-device : goal.returns-in-Err-take_next-clause-device
+returns-in-Err-take_next-clause-device g c = λ e. only_reader _ (c.in-Err-take_next.ensures.device (cc e))
+
+pub past-requires-clause-profile : goal.past-requires-clause-profile
+past-requires-clause-profile g c = rw (c.in-Ok-take_next.ensures.ended c.if-not-found.true).replay (c.lines.invariant.walks.link ∙ sym c.lines.invariant.walks.profile)
+
+pub past-requires-clause-files : goal.past-requires-clause-files
+past-requires-clause-files g c = rw (c.in-Ok-take_next.ensures.ended c.if-not-found.true).replay c.lines.invariant.walks.none_left
