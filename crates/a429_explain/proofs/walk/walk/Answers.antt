@@ -64,3 +64,9 @@ returns-clause-formed c = formed c.args.profile.now (items_of c.args.entries.now
 
 pub loop-entry-init : goal.loop-entry-init
 loop-entry-init c = search rules
+
+pub returns-clause-halt : goal.returns-clause-halt
+returns-clause-halt c = tt
+
+pub returns-clause-without_loss : goal.returns-clause-without_loss
+returns-clause-without_loss c = λ h. refl
