@@ -93,3 +93,6 @@ returns-in-Ok-None-apart-clause-first c =
     let items = items_of c.args.entries.now in
     let doubt = subst (λ (v : Verdict). IsFirst p items v) c.in-Ok-Unexplained.field-0-is c.in-Ok-Unexplained.ensures.first in
     no_reason_at_all p items doubt.0 (c.in-Ok-None-contradiction.ensures.none (ap (λ (o : Option Contradiction). Ok o) c.in-Ok-None-contradiction.field-0-is))
+
+pub returns-in-Ok-None-apart-clause-impossible : goal.returns-in-Ok-None-apart-clause-impossible
+returns-in-Ok-None-apart-clause-impossible c = tt
