@@ -1,6 +1,7 @@
 //! Where the parts of a recording are put, and in the end their list.
 
-ghost use Rattle.std.specs.Prelude.{◌≡◌, [], List, Option, Some, None, IsErrOf, OnOk, OnErr, true, false};
+ghost use Rattle.std.specs.Prelude.{◌≡◌, [], List, Option, Some, None, IfSome, IsErrOf, OnOk, OnErr, map, true, false};
+ghost use Rattle.a429_parts.specs.MemoryParts.{part_in};
 ghost use Rattle.a429_parts.specs.Parts.{GainsList, GainsPart, IsSame, PutParts};
 
 use a429_record::Entry;
@@ -67,12 +68,17 @@ impl MemoryParts {
     }
 
     /// The parts that were put, lent.
-    pub fn parts(&self) -> &[Part] {
+    pub fn parts(&self) -> &[Part]
+        ensures { map part_in result.now ≡ self.now.parts }
+    {
         self.parts.as_slice()
     }
 
     /// The list, if it was put, lent.
-    pub fn list(&self) -> Option<&[u8]> {
+    pub fn list(&self) -> Option<&[u8]>
+        ensures some { IfSome result (λ text. self.now.list ≡ Some text.now) }
+        ensures none { result ≡ None → self.now.list ≡ None }
+    {
         match &self.list {
             Some(text) => Some(text.as_slice()),
             None => None,
