@@ -8,13 +8,14 @@ ghost use Rattle.a429_parts.specs.Keeping.{kept_line, KeepsAll, KeepsUntil};
 
 use crate::kept::is_kept;
 use a429_profile::Profile;
-use a429_record::{Entry, EntryReader, ReadFault, put_header, put_line};
+use a429_record::{Entry, EntryReader, EntryText, ReadFault, put_header};
 use a429_word::{Failing, Sheet};
 use std::io::{Read, Write};
 
 /// Puts a text recording of the entries that are kept (`is_kept`), in order, as they are read. Where the
-/// recording has a fault, the rows of the entries before it are put; where no entry comes before it, nothing is.
-/// A reader that has failed is no end of the recording: the fault is `Device`.
+/// recording has a fault, the header and the rows of the kept entries before it are put; where no entry comes before it,
+/// nothing is. A reader that has failed is no end of the recording: the fault is `Device`. Where the sheet fails it stops
+/// and answers `Ok`: ask the sheet.
 pub fn put_kept<R: Read, W: Write>(
     profile: &Profile,
     rec: &mut EntryReader<R>,
@@ -27,6 +28,7 @@ pub fn put_kept<R: Read, W: Write>(
 {
     let mut next = next_of(rec)?;
     put_header(sheet);
+    let mut text = EntryText::new();
     'entries: loop {
         let Some(entry) = next else {
             return Ok(());
@@ -34,7 +36,7 @@ pub fn put_kept<R: Read, W: Write>(
         if sheet.failed() {
             return Ok(());
         }
-        put_if_kept(profile, entry, sheet);
+        put_if_kept(profile, entry, &mut text, sheet);
         next = next_of(rec)?;
     }
 }
@@ -56,10 +58,15 @@ pub(crate) fn next_of<R: Read>(rec: &mut EntryReader<R>) -> Result<Option<Entry>
 
 // Puts the line of an entry that is kept.
 #[inline(always)]
-fn put_if_kept<W: Write>(profile: &Profile, entry: Entry, sheet: &mut Sheet<'_, W>)
+fn put_if_kept<W: Write>(
+    profile: &Profile,
+    entry: Entry,
+    text: &mut EntryText,
+    sheet: &mut Sheet<'_, W>,
+)
     ensures { Says W.contents sheet.old sheet.new (kept_line profile.now.codes entry) }
 {
     if is_kept(profile, &entry) {
-        put_line(sheet, entry);
+        text.put_line(sheet, entry);
     }
 }

@@ -2,8 +2,8 @@
 
 use thiserror::Error;
 
-/// Why a recording was not read (profile). Places count entries from 0. The text of a fault is its line on standard
-/// error.
+/// Why a recording was not read (profile). Places count entries from 0. On standard error the program writes the text
+/// of a fault after `recording: `; `device` and `memory` alone are whole lines.
 #[derive(Clone, Copy, Debug, PartialEq, Eq, Drop, Error)]
 pub enum ReadFault {
     /// The first row of a text is not the header.

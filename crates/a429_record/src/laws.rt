@@ -50,12 +50,12 @@ pub fn binaries_with_a_fault()
     ensures only { (bytes : List ℕ) (es : List Entry) (f : ReadFault) → IsBinary bytes → StopAfter bytes es f → IsFaultyBinary bytes es f }
 {}
 
-/// The text that is written of entries stands for these entries.
+/// The text that is written of entries that a recording may hold stands for them.
 pub fn written_is_read_back()
     ensures { (es : List Entry) → AreEntries es → IsRecordable es → stands_for (written_form es) ≡ whole es }
 {}
 
-/// The binary recording that is written of them does too.
+/// The binary recording that is written of such entries does too.
 pub fn packed_is_read_back()
     ensures { (es : List Entry) → AreEntries es → IsRecordable es → stands_for (binary_form es) ≡ whole es }
 {}

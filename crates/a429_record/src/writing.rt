@@ -1,32 +1,24 @@
 //! Recordings, written whole, and their lines.
 
-ghost use Rattle.std.specs.Prelude.{◌≡◌, ◌↔◌, ◌++◌, ◌∷◌, [], ℕ, List, true, codes, IsErr, IsErrOf, OnOk};
-ghost use Rattle.std.specs.Fmt.{decimal};
+ghost use Rattle.std.specs.Prelude.{◌≡◌, ◌↔◌, [], true, IsErr, IsErrOf, OnOk};
 ghost use Rattle.std.specs.List.{flat_map};
 ghost use Rattle.a429_word.specs.Tally.{has_failed, Puts, PutsFront};
 ghost use Rattle.a429_word.specs.Sheet.{Says, Writes};
-ghost use Rattle.a429_word.specs.Digits.{hex_text};
-ghost use Rattle.a429_word.specs.Bus.{bus_text};
-ghost use Rattle.a429_record.specs.Writing.{header_text, line_text, entry_text, written_form};
+ghost use Rattle.a429_record.specs.Writing.{header_text, line_text, written_form};
 ghost use Rattle.a429_record.specs.Recording.{IsRecordable};
 ghost use Rattle.a429_word.specs.declared.trouble.Trouble.TheVariants as fault;
 
 use crate::entry::Entry;
-use a429_word::{Bus, Device, Failing, Page, Sheet, Tally, Trouble, Word};
-use itoa::write_digits;
+use crate::entry_text::EntryText;
+use a429_word::{Device, Failing, Page, Sheet, Tally, Trouble};
 use std::alloc::Global;
 use std::io::Write;
-
-// How many digits the longest time has.
-const LONGEST_TIME: usize = 20;
-
-// How many bytes the longest entry has, with one byte after it.
-const LONGEST: usize = LONGEST_TIME + 12;
 
 /// Why a recording was not written.
 pub type WriteFault = Trouble;
 
-/// Writes entries, at most 1,000,000 whose times never fall, as a text recording: so it is read back. Else as `write_text`.
+/// Writes entries, at most 1,000,000 whose times never fall, as a text recording, which reads back as these entries. In
+/// all else it is `write_text`.
 pub fn write_entries<W: Write>(
     alloc: Global,
     out: &mut Tally<W>,
@@ -78,11 +70,12 @@ fn put_entries<W: Write>(page: Page, out: &mut Tally<W>, entries: &[Entry]) -> R
 fn put_lines<W: Write>(sheet: &mut Sheet<'_, W>, entries: &[Entry])
     ensures { Says W.contents sheet.old sheet.new (flat_map line_text entries.now) }
 {
+    let mut text = EntryText::new();
     for entry in entries {
         if sheet.failed() {
             return;
         }
-        put_line(sheet, *entry);
+        text.put_line(sheet, *entry);
     }
 }
 
@@ -91,37 +84,4 @@ pub fn put_header<W: Write>(sheet: &mut Sheet<'_, W>)
     ensures { Says W.contents sheet.old sheet.new header_text }
 {
     sheet.put(b"time,bus,word\n");
-}
-
-/// Puts the line of an entry.
-pub fn put_line<W: Write>(sheet: &mut Sheet<'_, W>, entry: Entry)
-    ensures { Says W.contents sheet.old sheet.new (line_text entry) }
-{
-    put_parts(sheet, entry, b',', b'\n');
-}
-
-/// Puts the time, the bus and the word of an entry, with one byte between them and one after them.
-#[inline(always)]
-pub fn put_parts<W: Write>(sheet: &mut Sheet<'_, W>, entry: Entry, between: u8, after: u8)
-    ensures { Says W.contents sheet.old sheet.new (entry_text between after entry) }
-{
-    // (room for 32 bytes from the first digit on)
-    let mut text = [0; LONGEST_TIME + 32];
-    let fields = bus_and_word(entry.bus, entry.word, between, after);
-    text[LONGEST_TIME..LONGEST].copy_from_slice(&fields);
-    let start = write_digits(entry.time, &mut text, LONGEST_TIME);
-    sheet.put_first(&text[start..start + 32], LONGEST - start);
-}
-
-// A bus and a word, one byte before each and one after them.
-#[inline(always)]
-fn bus_and_word(bus: Bus, word: Word, before: u8, following: u8) -> [u8; 12]
-    ensures { result ≡ before ∷ (bus_text bus ++ (before ∷ (hex_text word ++ following ∷ []))) }
-{
-    let letter = bus.letter().as_bytes()[0];
-    let hex = word.hex();
-    [
-        before, letter, before, hex[0], hex[1], hex[2], hex[3], hex[4], hex[5], hex[6], hex[7],
-        following,
-    ]
 }

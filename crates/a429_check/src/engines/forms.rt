@@ -12,7 +12,7 @@ use crate::engines::profile::profile_of;
 use crate::engines::recording::entries_of;
 use crate::fault::RunFault;
 use a429_profile::Profile;
-use a429_record::{Entry, put_parts};
+use a429_record::{Entry, EntryText};
 use a429_view::put_what;
 use a429_word::{Device, Page, Sheet, Tally};
 use std::alloc::Global;
@@ -80,18 +80,24 @@ fn put_entries<W: Write>(
 fn put_lines<W: Write>(sheet: &mut Sheet<'_, W>, profile: &Profile, entries: &[Entry])
     ensures { Says W.contents sheet.old sheet.new (form_lines profile.now.codes entries.now) }
 {
+    let mut text = EntryText::new();
     for entry in entries {
         if sheet.failed() {
             return;
         }
-        put_entry(sheet, profile, entry);
+        put_entry(sheet, profile, &mut text, entry);
     }
 }
 
-fn put_entry<W: Write>(sheet: &mut Sheet<'_, W>, profile: &Profile, entry: &Entry)
+fn put_entry<W: Write>(
+    sheet: &mut Sheet<'_, W>,
+    profile: &Profile,
+    text: &mut EntryText,
+    entry: &Entry,
+)
     ensures { Says W.contents sheet.old sheet.new (form_line profile.now.codes entry.now) }
 {
-    put_parts(sheet, *entry, b' ', b' ');
+    text.put_parts(sheet, *entry, b' ', b' ');
     put_what(sheet, profile, entry);
     sheet.put(b"\n");
 }

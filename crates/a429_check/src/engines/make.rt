@@ -15,7 +15,7 @@ use crate::fault::RunFault;
 use a429_ldu::{CutFault, MOST_UNIT_BYTES, MOST_UNITS};
 use a429_link::{CleanFault, Seen, clean_run};
 use a429_profile::Profile;
-use a429_record::{Entry, MOST_ENTRIES, ReadFault, put_header, put_line};
+use a429_record::{Entry, EntryText, MOST_ENTRIES, ReadFault, put_header};
 use a429_word::{Page, Sheet, Tally};
 use std::alloc::Global;
 use std::io::Write;
@@ -154,12 +154,13 @@ fn put_words<W: Write>(sheet: &mut Sheet<'_, W>, first: usize, words: &[Seen])
     requires most { first + length words.now ≤ most_entries }
     ensures { Says W.contents sheet.old sheet.new (flat_map line_text (timed first words.now)) }
 {
+    let mut text = EntryText::new();
     for (i, seen) in words.iter().enumerate() {
         let entry = Entry {
             time: 1000 * (first + i) as u64,
             bus: seen.bus,
             word: seen.word,
         };
-        put_line(sheet, entry);
+        text.put_line(sheet, entry);
     }
 }

@@ -16,7 +16,7 @@ use crate::engines::profile::profile_of;
 use crate::engines::recording::entries_of;
 use crate::fault::RunFault;
 use a429_profile::{Flag, Kind, LabelEntry, Profile, Shown, Status};
-use a429_record::{Entry, SCREENED, put_parts, screen_entries};
+use a429_record::{Entry, EntryText, SCREENED, screen_entries};
 use a429_word::{BAD_PARITY, Device, Fixed, Page, Sheet, Tally, Word, octal};
 use std::alloc::Global;
 use std::io::{Read, Write};
@@ -87,31 +87,43 @@ fn put_lines<W: Write>(sheet: &mut Sheet<'_, W>, profile: &Profile, entries: &[E
     ensures first { SaysSome W.contents sheet.old sheet.new (AreFirstShowLines profile.now entries.now) }
     ensures all { sheet_failed sheet.new ≡ false → SaysSome W.contents sheet.old sheet.new (AreShowLines profile.now entries.now) }
 {
+    let mut text = EntryText::new();
     for piece in entries.chunks(SCREENED) {
         if sheet.failed() {
             return;
         }
-        put_piece(sheet, profile, piece);
+        put_piece(sheet, profile, &mut text, piece);
     }
 }
 
 // A line for each of some entries, whose words are screened together.
-fn put_piece<W: Write>(sheet: &mut Sheet<'_, W>, profile: &Profile, piece: &[Entry])
+fn put_piece<W: Write>(
+    sheet: &mut Sheet<'_, W>,
+    profile: &Profile,
+    text: &mut EntryText,
+    piece: &[Entry],
+)
     requires { length piece.now ≤ SCREENED }
     ensures { SaysSome W.contents sheet.old sheet.new (AreShowLines profile.now piece.now) }
 {
     let answers = screen_entries(piece, ANY_LABEL);
     for i in 0..piece.len() {
-        put_entry(sheet, profile, &piece[i], answers[i] != BAD_PARITY);
+        put_entry(sheet, profile, text, &piece[i], answers[i] != BAD_PARITY);
     }
 }
 
 // The line of an entry whose parity is known.
-fn put_entry<W: Write>(sheet: &mut Sheet<'_, W>, profile: &Profile, entry: &Entry, is_good: bool)
+fn put_entry<W: Write>(
+    sheet: &mut Sheet<'_, W>,
+    profile: &Profile,
+    text: &mut EntryText,
+    entry: &Entry,
+    is_good: bool,
+)
     requires { IsTrue is_good ↔ HasOddParity entry.now.word }
     ensures { SaysSome W.contents sheet.old sheet.new (IsShowLine profile.now entry.now) }
 {
-    put_recorded(sheet, entry);
+    put_recorded(sheet, text, entry);
     put_shown(sheet, &shown_by_parity(profile, &entry.word, is_good));
     sheet.put(b"\n");
 }
@@ -131,10 +143,10 @@ fn shown_by_parity<'a>(profile: &'a Profile, word: &Word, is_good: bool) -> Show
 
 // When, on which bus and which word, and the word's label, SDI and SSM.
 #[tactic(auto, using(a429_word::proofs::SheetFacts::says_both))]
-fn put_recorded<W: Write>(sheet: &mut Sheet<'_, W>, entry: &Entry)
+fn put_recorded<W: Write>(sheet: &mut Sheet<'_, W>, text: &mut EntryText, entry: &Entry)
     ensures { Says W.contents sheet.old sheet.new (recorded_text entry.now ++ fields_text entry.now.word) }
 {
-    put_parts(sheet, *entry, b' ', b' ');
+    text.put_parts(sheet, *entry, b' ', b' ');
     sheet.put(&fields(entry.word));
 }
 

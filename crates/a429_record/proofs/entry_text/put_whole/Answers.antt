@@ -3,7 +3,7 @@ use Rattle.std.proofs.lemmas.Fmt.{length-decimal-le}
 use Rattle.std.specs.Fmt.{decimal}
 use Rattle.a429_word.specs.Sheet.{Says}
 use Rattle.a429_record.proofs.WritingFacts.{entry_parts, entry_written}
-use Rattle.a429_record.proofs.writing.put_parts.Goals as goal
+use Rattle.a429_record.proofs.entry_text.put_whole.Goals as goal
 
 pub write_digits-start-requires : goal.write_digits-start-requires
 write_digits-start-requires g c = (search (rules, length-decimal-le 20), omega arith)

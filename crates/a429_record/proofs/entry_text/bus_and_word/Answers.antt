@@ -3,7 +3,7 @@ use Rattle.a429_word.specs.declared.bus.Bus.{Bus}
 use Rattle.a429_word.specs.declared.bus.Bus.TheVariants.{A, B}
 use Rattle.a429_word.specs.Digits.{numeral, hex_text}
 use Rattle.a429_word.specs.Bus.{bus_text}
-use Rattle.a429_record.proofs.writing.bus_and_word.Goals as goal
+use Rattle.a429_record.proofs.entry_text.bus_and_word.Goals as goal
 
 letter_alone : (bus : Bus) → get_or (bus_text bus) 0 0 ∷ [] ≡ bus_text bus
 letter_alone A = refl
