@@ -12,7 +12,7 @@ use Rattle.a429_link.specs.Observer.{Observer}
 use Rattle.a429_cert.specs.Explained.{items_of, seen_of}
 use Rattle.a429_parts.specs.declared.doubt.Doubt.{Doubt}
 use Rattle.a429_parts.specs.declared.doubt.Doubt.TheVariants.{AfterUnit, Anew}
-use Rattle.a429_parts.specs.Cutter.{AwaitsPlace, Cuts, CutsAlways, CutterState, EndsLast, EndsNowhere, HasNoPart, IsCurrent, IsInReach, IsNextPart, IsNextPartAtEnd, IsPart, IsPastDoubt}
+use Rattle.a429_parts.specs.Cutter.{AwaitsPlace, Cuts, CutsAlways, CutterState, EndsLast, EndsNowhere, HasNoPart, IsCurrent, IsFoundInTime, IsInReach, IsNextPart, IsNextPartAtEnd, IsPart, IsPastDoubt}
 use Rattle.a429_parts.specs.Cutting.{CourseAfter, IsPlace, Lost}
 use Rattle.a429_parts.specs.Near.{IsNearEnough}
 use Rattle.a429_parts.specs.Watch.{Finds, IsInDoubt, IsKnownIn, TakesWord, Watched, Watches}
@@ -29,6 +29,10 @@ pub next_word : (p : Contents) (parted rest : List Entry) (e : Entry) (c : Cutte
 next_word p parted rest e c h =
     subst (λ (xs : List Entry). slice_get (items_of xs) c.watched.count ≡ Some (seen_of e)) (append_assoc parted c.waiting (e ∷ rest))
     (subst (λ (n : ℕ). slice_get (items_of ((parted ++ c.waiting) ++ (e ∷ rest))) n ≡ Some (seen_of e)) (length-append parted c.waiting ∙ sym h.count) (get_after (parted ++ c.waiting) rest e))
+
+-- a place that is in doubt, and awaited
+abbrev IsAwaited : CutterState → ℕ → Type 0
+IsAwaited c place = (place ≤ c.begin + c.most) × (c.begin + length c.waiting ≤ place + c.most)
 
 -- the watch of the words so far, and the next one
 module _ (p : Contents) (parted rest : List Entry) (e : Entry) (old new : CutterState) (found : Option ℕ) (h : Cuts p parted (e ∷ rest) old) (takes : TakesWord p (seen_of e) old.watched new.watched found) where
@@ -65,13 +69,45 @@ module _ (p : Contents) (parted rest : List Entry) (e : Entry) (old new : Cutter
       until : unwrap_or found old.place ≤ old.watched.count
       until = takes_until p words (seen_of e) old.watched new.watched found takes get h.watches old.place h.finds
 
-      by_found : (o : Option ℕ) → IfSome o (λ k. k ≤ old.begin + old.most) → unwrap_or o old.place ≤ old.begin + old.most
+      by_found : (o : Option ℕ) → IfSome o (IsAwaited old) → unwrap_or o old.place ≤ old.begin + old.most
       by_found None few = current.0
-      by_found (Some k) few = few
+      by_found (Some k) few = few.0
 
       by : (length old.waiting ≤ old.most) ⊎ AwaitsPlace old → IsInReach new
       by (inl few) = omega (arith, begin, most, place, until, few, h.count, h.begin)
-      by (inr near) = omega (arith, begin, most, place, by_found found (takes_found p (seen_of e) old.watched new.watched found takes (old.begin + old.most) near.0))
+      by (inr near) = omega (arith, begin, most, place, by_found found (takes_found p (seen_of e) old.watched new.watched found takes (IsAwaited old) near.0))
+
+-- the same place, of the same entries
+place_same : (p : Contents) {a b m n : ℕ} {xs ys : List Entry} → a ≡ b → m ≡ n → xs ≡ ys → IsPlace p (items_of (take (a + m + 1) xs)) a → IsPlace p (items_of (take (b + n + 1) ys)) b
+place_same p {a} {b} {m} {n} {xs} {ys} e1 e2 e3 h =
+    subst (λ (l : List Entry). IsPlace p (items_of (take (b + n + 1) l)) b) e3 (subst (λ (k : ℕ). IsPlace p (items_of (take (b + k + 1) xs)) b) e2 (subst (λ (k : ℕ). IsPlace p (items_of (take (k + m + 1) xs)) k) e1 h))
+
+-- more of a list than two pieces of it
+taken_past : (k : ℕ) (xs ys rest : List Entry) → length xs + length ys ≤ k → take k (xs ++ (ys ++ rest)) ≡ xs ++ (ys ++ take (k - (length xs + length ys)) rest)
+taken_past k xs ys rest long =
+    let more : ℕ = k - (length xs + length ys) in
+    ap (take k) (sym (append_assoc xs ys rest)) ∙ ap (λ (n : ℕ). take n ((xs ++ ys) ++ rest)) (omega (arith, long, length-append xs ys)) ∙ take-append-add (xs ++ ys) rest more ∙ append_assoc xs ys (take more rest)
+
+-- a place that the next entry makes certain is found in time, where each part that was complete has been ended
+module _ (p : Contents) (parted : List Entry) (e : Entry) (old new : CutterState) (begin : new.begin ≡ old.begin) (most : new.most ≡ old.most) (waiting : new.waiting ≡ old.waiting ++ e ∷ []) (cuts : CutsAlways p parted new) where
+  found_new : (k : ℕ) → new.place ≡ k → (length old.waiting ≤ old.most) ⊎ IsAwaited old k → IsFoundInTime p parted new
+  found_new k is near rest after =
+      subst (λ (l : List Entry). IsPlace p (items_of l) new.place) (sym (taken_past (new.place + new.most + 1) parted new.waiting rest (long near)))
+      ((cuts (take (new.place + new.most + 1 - (length parted + length new.waiting)) rest)).place (omega (arith, after)))
+    where
+      long : (length old.waiting ≤ old.most) ⊎ IsAwaited old k → length parted + length new.waiting ≤ new.place + new.most + 1
+      long (inl few) = omega (arith, few, after, begin, most, (cuts []).begin, ap length waiting, length-append old.waiting (e ∷ []))
+      long (inr awaited) = omega (arith, awaited.1, is, begin, most, (cuts []).begin, ap length waiting, length-append old.waiting (e ∷ []))
+
+  pub found_more : (found : Option ℕ) → TakesWord p (seen_of e) old.watched new.watched found → new.place ≡ unwrap_or found old.place → IsCurrent old → IsFoundInTime p parted old → IsFoundInTime p parted new
+  found_more None takes place current in_time rest after =
+      place_same p (sym place) (sym most) (ap (λ (xs : List Entry). parted ++ xs) (sym (append_assoc old.waiting (e ∷ []) rest) ∙ ap (λ (xs : List Entry). xs ++ rest) (sym waiting)))
+      (in_time (e ∷ rest) (omega (arith, after, place, begin)))
+  found_more (Some k) takes place current in_time rest after = found_new k place (by current.1) rest after
+    where
+      by : (length old.waiting ≤ old.most) ⊎ AwaitsPlace old → (length old.waiting ≤ old.most) ⊎ IsAwaited old k
+      by (inl few) = inl few
+      by (inr near) = inr (takes_found p (seen_of e) old.watched new.watched (Some k) takes (IsAwaited old) near.0)
 
 -- by the word and the watch as the code has them
 pub takes_same : (p : Contents) (e : Entry) (watch old new : Watched) (word : Seen) (found : Option ℕ) → watch ≡ old → word ≡ seen_of e → TakesWord p word watch new found → TakesWord p (seen_of e) old new found
@@ -183,11 +219,15 @@ module _ (p : Contents) (parted : List Entry) (c : CutterState) (cuts : CutsAlwa
 
 -- ---- what the code answers
 
+-- a part ends at the last place, which is near enough
+is_near : (p : Contents) (parted : List Entry) (c : CutterState) (size : ℕ) (rest : List Entry) → IsPart c size → IsFoundInTime p parted c → IsNearEnough p c.most (parted ++ (c.waiting ++ rest)) c.begin (c.begin + size)
+is_near p parted c size rest part in_time = (omega (arith, part.some), omega (arith, part.within), place_same p (sym part.place) refl refl (in_time rest (omega (arith, part.place, part.some))))
+
 ends_last : (c : CutterState) (size : ℕ) (rest : List Entry) → c.most < length c.waiting → IsPastDoubt c → IsPart c size → EndsLast c size rest
-ends_last c size rest more past part p parted cuts n near = omega (arith, near_place p parted c cuts rest n more past near, part.place)
+ends_last c size rest more past part p parted cuts in_time = (is_near p parted c size rest part in_time, λ n near. omega (arith, near_place p parted c cuts rest n more past near, part.place))
 
 ends_last_at_end : (c : CutterState) (size : ℕ) → c.most < length c.waiting → IsPart c size → EndsLast c size []
-ends_last_at_end c size more part p parted cuts n near = omega (arith, near_place_at_end p parted c cuts n more near, part.place)
+ends_last_at_end c size more part p parted cuts in_time = (is_near p parted c size [] part in_time, λ n near. omega (arith, near_place_at_end p parted c cuts n more near, part.place))
 
 pub next_part : {E : Type 0} (c : CutterState) (r : Result (Option ℕ) E) → c.most < length c.waiting → IsPastDoubt c → IfOk r (λ o. IfSome o (IsPart c)) → IfOk r (λ o. IfSome o (IsNextPart c))
 next_part c (Err e) more past h = tt

@@ -15,7 +15,7 @@ use Rattle.a429_link.specs.declared.seen.Seen.{Seen}
 use Rattle.a429_link.specs.Observer.{at_first}
 use Rattle.a429_cert.specs.Explained.{items_of}
 use Rattle.a429_parts.specs.Cutting.{Follows, IsPlace}
-use Rattle.a429_parts.specs.Cutter.{CutterState, Cuts, EndsLast, EndsNowhere, HasNoNextPart, HasNoNextPartAtEnd, IsCurrent, IsInReach, IsNextPart, IsNextPartAtEnd, IsPart}
+use Rattle.a429_parts.specs.Cutter.{CutterState, Cuts, EndsLast, CutsAlways, EndsNowhere, HasNoNextPart, HasNoNextPartAtEnd, IsCurrent, IsFoundInTime, IsInReach, IsNextPart, IsNextPartAtEnd, IsPart}
 use Rattle.a429_parts.specs.Near.{HasNoneNear, IsLastNear}
 use Rattle.a429_parts.specs.Watch.{FindsAll}
 use Rattle.a429_parts.specs.Parts.{AreFirstParts, EndAtPlaces, GainsPart, GainsParts, HaveAtMost, IsSame, NumberedPart, PutParts, joined, list_text, numbered, part_line, part_lines, with_parts}
@@ -128,6 +128,7 @@ holds_first p most s cutter next list = record {
     before = λ some. absurd (omega (arith, some));
     finds = finds_first p (items_of rest);
   });
+  in_time = subst (IsFoundInTime p []) (sym cutter) (λ rest after. absurd (omega (arith, after)));
   reach = subst IsInReach (sym cutter) (omega arith);
   limit = ap (λ (c : CutterState). c.most) cutter;
   next = next;
@@ -142,10 +143,12 @@ held_count p most at_end parts es s h =
 
 -- an entry more
 pub holds_more : (p : Contents) (most : ℕ) (parts : List (List Entry)) (es : List Entry) (e : Entry) (old new : Parting) → Holds p most false parts es old → new.cutter.waiting ≡ old.cutter.waiting ++ e ∷ [] → new.cutter.most ≡ old.cutter.most → new.next ≡ old.next → new.list.items ≡ old.list.items → ((parted rest : List Entry) → Cuts p parted (e ∷ rest) old.cutter → Cuts p parted rest new.cutter)
-    → ((parted rest : List Entry) → Cuts p parted (e ∷ rest) old.cutter → IsCurrent old.cutter → IsInReach new.cutter) → IsCurrent old.cutter → Holds p most false parts (es ++ e ∷ []) new
-holds_more p most parts es e old new h waiting same next list cuts reach current = record {
+    → ((parted rest : List Entry) → Cuts p parted (e ∷ rest) old.cutter → IsCurrent old.cutter → IsInReach new.cutter)
+    → ((parted : List Entry) → CutsAlways p parted old.cutter → IsCurrent old.cutter → IsFoundInTime p parted old.cutter → IsFoundInTime p parted new.cutter) → IsCurrent old.cutter → Holds p most false parts (es ++ e ∷ []) new
+holds_more p most parts es e old new h waiting same next list cuts reach in_time current = record {
   are = λ rest left. first_same p most parts (sym (append_assoc es (e ∷ []) rest)) (sym (append_assoc old.cutter.waiting (e ∷ []) rest) ∙ ap (λ (l : List Entry). l ++ rest) (sym waiting)) (h.are (e ∷ rest) tt);
   reach = reach (joined parts) [] (h.cuts (e ∷ [])) current;
+  in_time = in_time (joined parts) h.cuts current h.in_time;
   cuts = λ rest. cuts (joined parts) rest (h.cuts (e ∷ rest));
   limit = same ∙ h.limit;
   next = next ∙ h.next;
@@ -153,15 +156,16 @@ holds_more p most parts es e old new h waiting same next list cuts reach current
 }
 
 -- a part more
-pub holds_part : (p : Contents) (most : ℕ) (at_end : Bool) (parts : List (List Entry)) (es : List Entry) (size : ℕ) (old new : Parting) → Holds p most at_end parts es old → EndsFor at_end old.cutter size → IsInReach new.cutter → IsPart old.cutter size → new.cutter.waiting ≡ drop size old.cutter.waiting → new.cutter.most ≡ old.cutter.most → new.next ≡ old.next + 1 → new.list.items ≡ old.list.items ++ part_line old.next size old.cutter.begin
+pub holds_part : (p : Contents) (most : ℕ) (at_end : Bool) (parts : List (List Entry)) (es : List Entry) (size : ℕ) (old new : Parting) → Holds p most at_end parts es old → EndsFor at_end old.cutter size → IsInReach new.cutter → new.cutter.begin ≡ new.cutter.place → IsPart old.cutter size → new.cutter.waiting ≡ drop size old.cutter.waiting → new.cutter.most ≡ old.cutter.most → new.next ≡ old.next + 1 → new.list.items ≡ old.list.items ++ part_line old.next size old.cutter.begin
     → ((parted rest : List Entry) → Cuts p parted rest old.cutter → Cuts p (parted ++ take size old.cutter.waiting) rest new.cutter) → Holds p most at_end (parts ++ take size old.cutter.waiting ∷ []) es new
-holds_part p most at_end parts es size old new h ends reach part waiting same next list cuts = record {
+holds_part p most at_end parts es size old new h ends reach begins part waiting same next list cuts = record {
   are = λ rest left. record {
     joined = all rest ∙ (h.are rest left).joined;
     places = places-push p most (es ++ rest) 0 parts piece (h.are rest left).places (long rest left) (place rest left) (last rest left);
     few = most-push most parts piece (h.are rest left).few (omega (arith, part.some, taken)) (omega (arith, part.within, taken, h.limit));
   };
   reach = reach;
+  in_time = λ rest after. absurd (omega (arith, after, begins));
   cuts = λ rest. subst (λ (l : List Entry). Cuts p l rest new.cutter) (sym (joined-push parts piece)) (cuts (joined parts) rest (h.cuts rest));
   limit = same ∙ h.limit;
   next = omega (arith, next, h.next, length-append parts (piece ∷ []));
@@ -189,7 +193,7 @@ holds_part p most at_end parts es size old new h ends reach part waiting same ne
     long rest left = omega (arith, ends.1, h.limit, ap length (h.are rest left).joined, length-append (joined parts) (old.cutter.waiting ++ rest), length-append old.cutter.waiting rest)
 
     last : (rest : List Entry) → IsLeft at_end rest → IsLastNear p most (es ++ rest) (0 + length (joined parts)) (0 + (length (joined parts) + length piece))
-    last rest left = last_near p h.limit (h.are rest left).joined (omega (arith, (h.cuts rest).begin)) (omega (arith, (h.cuts rest).begin, taken)) (ends.0 rest left p (joined parts) h.cuts)
+    last rest left = last_near p h.limit (h.are rest left).joined (omega (arith, (h.cuts rest).begin)) (omega (arith, (h.cuts rest).begin, taken)) (ends.0 rest left p (joined parts) h.cuts h.in_time)
 
     line : part_line old.next size old.cutter.begin ≡ part_line (1 + length parts) (length piece) (0 + length (joined parts))
     line = line_same (h.next ∙ omega arith) (sym taken) ((h.cuts []).begin ∙ omega arith)
@@ -208,11 +212,11 @@ module _ {W : Type 0} (contents : W → Option (List ℕ)) (p : Contents) (most 
   }
 
   -- a part is put, and ended
-  pub progress_more : (at_end : Bool) (b c : Option PutParts) (t u : Sheet W) (size : ℕ) (old new : Parting) → Progress p most at_end (outputs contents known b first t) es old → EndsFor at_end old.cutter size → IsInReach new.cutter → IsPart old.cutter size → new.cutter.waiting ≡ drop size old.cutter.waiting → new.cutter.most ≡ old.cutter.most → new.next ≡ old.next + 1 → new.list.items ≡ old.list.items ++ part_line old.next size old.cutter.begin
+  pub progress_more : (at_end : Bool) (b c : Option PutParts) (t u : Sheet W) (size : ℕ) (old new : Parting) → Progress p most at_end (outputs contents known b first t) es old → EndsFor at_end old.cutter size → IsInReach new.cutter → new.cutter.begin ≡ new.cutter.place → IsPart old.cutter size → new.cutter.waiting ≡ drop size old.cutter.waiting → new.cutter.most ≡ old.cutter.most → new.next ≡ old.next + 1 → new.list.items ≡ old.list.items ++ part_line old.next size old.cutter.begin
       → ((parted rest : List Entry) → Cuts p parted rest old.cutter → Cuts p (parted ++ take size old.cutter.waiting) rest new.cutter) → GainsPart b c old.next (take size old.cutter.waiting) → Says contents t u (part_line old.next size old.cutter.begin) → Progress p most at_end (outputs contents known c first u) es new
-  progress_more at_end b c t u size old new h ends reach part waiting same next list cuts gains says = record {
+  progress_more at_end b c t u size old new h ends reach begins part waiting same next list cuts gains says = record {
     parts = h.parts ++ take size old.cutter.waiting ∷ [];
-    holds = holds_part p most at_end h.parts es size old new h.holds ends reach part waiting same next list cuts;
+    holds = holds_part p most at_end h.parts es size old new h.holds ends reach begins part waiting same next list cuts;
     puts = puts_more b c t u h.parts old (take size old.cutter.waiting) at_end h.holds h.puts gains
         (subst (λ (n : ℕ). Says contents t u (part_line old.next n old.cutter.begin)) (sym (length-take-le size old.cutter.waiting (omega (arith, part.waits)))) says);
   }
@@ -285,7 +289,7 @@ nowhere_yet at_end c h = (h.0, λ reach rest left. h.1 reach rest)
 pub progress_at_end : {W : Type 0} (p : Contents) (most : ℕ) (o : Outputs W) (es : List Entry) (s : Parting) → Progress p most false o es s → Progress p most true o es s
 progress_at_end p most o es s h = record {
   parts = h.parts;
-  holds = record { are = λ rest left. h.holds.are rest tt; cuts = h.holds.cuts; reach = h.holds.reach; limit = h.holds.limit; next = h.holds.next; list = h.holds.list };
+  holds = record { are = λ rest left. h.holds.are rest tt; cuts = h.holds.cuts; in_time = h.holds.in_time; reach = h.holds.reach; limit = h.holds.limit; next = h.holds.next; list = h.holds.list };
   puts = h.puts;
 }
 

@@ -443,16 +443,16 @@ module _ (p : Contents) (items : List Seen) (i : Seen) (old new : Watched) (plac
       (followed_finds p items i mid takes.seen get_mid knows_mid leaves_mid (unwrap_or place last) (settled_finds p items i old mid place get knows last finds takes.sees.settles) takes.sees.follows))
 
 -- a place that a word makes certain was in doubt
-pub takes_found : (p : Contents) (i : Seen) (old new : Watched) (place : Option ℕ) → TakesWord p i old new place → (most : ℕ) → IfSome old.doubt (λ doubt. place_of doubt ≤ most) → IfSome place (λ k. k ≤ most)
-takes_found p i old new place takes most near = by old.doubt takes.sees.settles near
+pub takes_found : (p : Contents) (i : Seen) (old new : Watched) (place : Option ℕ) → TakesWord p i old new place → (P : ℕ → Type 0) → IfSome old.doubt (λ doubt. P (place_of doubt)) → IfSome place P
+takes_found p i old new place takes P near = by old.doubt takes.sees.settles near
   where
-    no_place : place ≡ None → IfSome place (λ k. k ≤ most)
-    no_place none = subst (λ (q : Option ℕ). IfSome q (λ k. k ≤ most)) (sym none) tt
+    no_place : place ≡ None → IfSome place P
+    no_place none = subst (λ (q : Option ℕ). IfSome q P) (sym none) tt
 
-    by : (doubt : Option Doubt) → SettlesDoubt p.codes (form_of p.codes i.bus i.word) doubt old takes.sees.settled place → IfSome doubt (λ doubt. place_of doubt ≤ most) → IfSome place (λ k. k ≤ most)
+    by : (doubt : Option Doubt) → SettlesDoubt p.codes (form_of p.codes i.bus i.word) doubt old takes.sees.settled place → IfSome doubt (λ doubt. P (place_of doubt)) → IfSome place P
     by None h few = no_place h.1
     by (Some d) (inl h) few = no_place h.2
-    by (Some d) (inr (inl h)) few = subst (λ (q : Option ℕ). IfSome q (λ k. k ≤ most)) (sym h.2) few
+    by (Some d) (inr (inl h)) few = subst (λ (q : Option ℕ). IfSome q P) (sym h.2) few
     by (Some d) (inr (inr h)) few = no_place h.2
 
 -- ---- what the code does with a word

@@ -1,5 +1,5 @@
 -- What a cutter of a recording holds, and what it knows (profile).
-use Rattle.std.specs.Prelude.{◌≡◌, ◌<◌, ◌≤◌, ◌⊎◌, ◌+◌, ◌++◌, ℕ, List, [], length, IfSome}
+use Rattle.std.specs.Prelude.{◌≡◌, ◌<◌, ◌≤◌, ◌⊎◌, ◌+◌, ◌++◌, ℕ, List, [], length, take, IfSome}
 use Rattle.a429_profile.specs.Profile.{Contents}
 use Rattle.a429_record.specs.declared.entry.Entry.{Entry}
 use Rattle.a429_cert.specs.Explained.{items_of}
@@ -37,9 +37,13 @@ pub record IsPart (c : CutterState) (size : ℕ) : Type 0 where
 abbrev pub CutsAlways : Contents → List Entry → CutterState → Type 0
 CutsAlways p parted c = (rest : List Entry) → Cuts p parted rest c
 
+-- whatever comes, the last place, where no part begins, is one by the entries up to it and as many more as a part may have, and one
+abbrev pub IsFoundInTime : Contents → List Entry → CutterState → Type 0
+IsFoundInTime p parted c = (rest : List Entry) → c.begin < c.place → IsPlace p (items_of (take (c.place + c.most + 1) (parted ++ (c.waiting ++ rest)))) c.place
+
 -- where these entries are still to come, a part of this size ends at the last place that is near enough
 abbrev pub EndsLast : CutterState → ℕ → List Entry → Type 0
-EndsLast c size rest = (p : Contents) (parted : List Entry) → CutsAlways p parted c → IsLastNear p c.most (parted ++ (c.waiting ++ rest)) c.begin (c.begin + size)
+EndsLast c size rest = (p : Contents) (parted : List Entry) → CutsAlways p parted c → IsFoundInTime p parted c → IsLastNear p c.most (parted ++ (c.waiting ++ rest)) c.begin (c.begin + size)
 
 -- no place is near enough
 abbrev pub EndsNowhere : CutterState → List Entry → Type 0
@@ -49,9 +53,9 @@ EndsNowhere c rest = (p : Contents) (parted : List Entry) → CutsAlways p parte
 abbrev pub IsInReach : CutterState → Type 0
 IsInReach c = c.place ≤ c.begin + c.most
 
--- a place in doubt is not too far, and at most twice as many entries wait as a part may have
+-- a place in doubt is not too far, and at most as many entries came after it as a part may have: so at most twice as many wait
 abbrev pub AwaitsPlace : CutterState → Type 0
-AwaitsPlace c = IfSome c.watched.doubt (λ doubt. place_of doubt ≤ c.begin + c.most) × (length c.waiting ≤ c.most + c.most)
+AwaitsPlace c = IfSome c.watched.doubt (λ doubt. (place_of doubt ≤ c.begin + c.most) × (c.begin + length c.waiting ≤ place_of doubt + c.most)) × (length c.waiting ≤ c.most + c.most)
 
 -- each part that was complete has been ended: where more entries wait than a part may have, a place in doubt is awaited
 abbrev pub IsCurrent : CutterState → Type 0

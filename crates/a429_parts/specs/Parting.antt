@@ -9,7 +9,7 @@ use Rattle.a429_record.specs.declared.fault.ReadFault.TheVariants as read
 use Rattle.a429_record.specs.Recording.{Recording, whole}
 use Rattle.a429_record.specs.Rows.{Stops}
 use Rattle.a429_parts.specs.declared.parting.Parting.{Parting}
-use Rattle.a429_parts.specs.Cutter.{Cuts, CutterState, EndsLast, EndsNowhere, IsInReach}
+use Rattle.a429_parts.specs.Cutter.{Cuts, CutterState, EndsLast, EndsNowhere, IsFoundInTime, IsInReach}
 use Rattle.a429_parts.specs.Near.{HasNoneNear}
 use Rattle.a429_parts.specs.Keeping.{with_entries}
 use Rattle.a429_parts.specs.Parts.{AreFirstParts, AreParts, GainsParts, PutParts, joined, list_text}
@@ -75,6 +75,7 @@ EndsNowhereFor at_end c = (rest : List Entry) → IsLeft at_end rest → EndsNow
 pub record Holds (p : Contents) (most : ℕ) (at_end : Bool) (parts : List (List Entry)) (es : List Entry) (s : Parting) : Type 0 where
   pub are : (rest : List Entry) → IsLeft at_end rest → AreFirstParts p most (es ++ rest) parts (s.cutter.waiting ++ rest)
   pub cuts : (rest : List Entry) → Cuts p (joined parts) rest s.cutter
+  pub in_time : IsFoundInTime p (joined parts) s.cutter
   pub reach : IsInReach s.cutter
   pub limit : s.cutter.most ≡ most
   pub next : s.next ≡ suc (length parts)

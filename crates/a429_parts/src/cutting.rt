@@ -1,10 +1,10 @@
 //! The parts of a long recording.
 
-ghost use Rattle.std.specs.Prelude.{◌≡◌, true, false, ◌+◌, ◌<◌, ◌≤◌, ◌^◌, ◌∷◌, ◌++◌, [], Some, None, Ok, IfOk, IfSome, IsErr, IsErrOf, OnOk, List, length, take, drop};
+ghost use Rattle.std.specs.Prelude.{◌≡◌, true, false, ◌+◌, ◌<◌, ◌≤◌, ◌^◌, ◌∷◌, ◌++◌, [], Some, None, Ok, IfOk, IfErr, IfSome, IsErr, IsErrOf, OnErr, OnOk, List, length, take, drop};
 ghost use Rattle.a429_profile.specs.Profile.{Contents};
 ghost use Rattle.a429_record.specs.declared.entry.Entry.{Entry};
 ghost use Rattle.a429_link.specs.Observer.{at_first};
-ghost use Rattle.a429_parts.specs.Cutter.{AwaitsPlace, Cuts, HasNoNextPart, HasNoNextPartAtEnd, HasNoPart, IsCurrent, IsInReach, IsNextPart, IsNextPartAtEnd, IsPart, IsPastDoubt};
+ghost use Rattle.a429_parts.specs.Cutter.{AwaitsPlace, Cuts, CutsAlways, HasNoNextPart, HasNoNextPartAtEnd, HasNoPart, IsCurrent, IsFoundInTime, IsInReach, IsNextPart, IsNextPartAtEnd, IsPart, IsPastDoubt};
 
 use crate::watch::Watch;
 use a429_cert::seen;
@@ -16,13 +16,16 @@ use std::marker::Model;
 /// Why a recording has no more parts.
 #[derive(Clone, Copy, Debug, PartialEq, Eq)]
 pub enum PartFault {
-    /// There is no place to cut that is near enough.
+    /// There is no place to cut that is near enough, or as many entries have come as a `usize` counts.
     TooMany,
+    /// Memory for an entry that waits was refused.
     OutOfMemory,
 }
 
 /// Cuts a recording into parts of at most so many entries, while it is read: a part ends at the last place that is near
-/// enough. It remembers the entries that are in no part yet.
+/// enough. Such a place is in reach of the part, and the next entries, as many as a part may have and one, say that the
+/// recording may be cut there. It remembers the entries that are in no part yet. Call `part` after each entry, and
+/// `end_part` with its answer, until it answers none.
 #[derive(Debug, Drop)]
 pub struct Cutter {
     most: usize,
@@ -70,14 +73,16 @@ impl Cutter {
         self.waiting.as_slice()
     }
 
-    /// Takes the next entry. It takes as many as a `usize` counts.
+    /// Takes the next entry. It takes as many as a `usize` counts. After a fault nothing has changed.
     #[inline(always)]
     pub fn take(&mut self, profile: &Profile, entry: &Entry) -> Result<(), PartFault>
         ensures most { (self.new.most ≡ self.old.most) × OnOk result (self.new.watched.count ≡ self.old.watched.count + 1) }
         ensures waits { OnOk result (self.new.waiting ≡ self.old.waiting ++ entry.now ∷ []) }
         ensures cuts { OnOk result ((parted : List Entry) (rest : List Entry) → Cuts profile.now parted (entry.now ∷ rest) self.old → Cuts profile.now parted rest self.new) }
         ensures many { IsErrOf result PartFault.TooMany → self.old.watched.count + 1 ≡ 2 ^ 64 }
+        ensures unchanged { OnErr result (self.new ≡ self.old) }
         ensures reach { OnOk result ((parted : List Entry) (rest : List Entry) → Cuts profile.now parted (entry.now ∷ rest) self.old → IsCurrent self.old → IsInReach self.new) }
+        ensures in_time { OnOk result ((parted : List Entry) → CutsAlways profile.now parted self.old → IsCurrent self.old → IsFoundInTime profile.now parted self.old → IsFoundInTime profile.now parted self.new) }
     {
         if self.watch.count() == usize::MAX {
             return Err(PartFault::TooMany);
@@ -95,13 +100,14 @@ impl Cutter {
         }
     }
 
-    /// How many of the entries that wait are a part, if it is complete. It is not where the next entries may still say
-    /// that there is a later place that is near enough.
+    /// How many of the entries that wait are a part, if it is complete. It is not complete while the next entries may still
+    /// say that a later place is near enough. The fault is `TooMany`, where no place is near enough.
     #[inline(always)]
     pub fn part(&self) -> Result<Option<usize>, PartFault>
         ensures some { IfOk result (λ o. IfSome o (IsNextPart self.now)) }
         ensures none { result ≡ Ok None → IsInReach self.now → IsCurrent self.now }
         ensures many { IsErr result → HasNoNextPart self.now }
+        ensures fault { IfErr result (λ fault. fault ≡ PartFault.TooMany) }
     {
         if self.waiting.len() <= self.most || self.may_end_in_doubt() {
             return Ok(None);
@@ -114,6 +120,7 @@ impl Cutter {
         ensures some { IfOk result (λ o. IfSome o (IsNextPartAtEnd self.now)) }
         ensures none { result ≡ Ok None → length self.now.waiting ≤ self.now.most }
         ensures many { IsErr result → HasNoNextPartAtEnd self.now }
+        ensures fault { IfErr result (λ fault. fault ≡ PartFault.TooMany) }
     {
         if self.waiting.len() <= self.most {
             return Ok(None);
@@ -126,6 +133,7 @@ impl Cutter {
         ensures some { IfOk result (λ o. IfSome o (IsPart self.now)) }
         ensures never { IfOk result (λ o. o ≡ None → ⊥) }
         ensures none { IsErr result → HasNoPart self.now }
+        ensures fault { IfErr result (λ fault. fault ≡ PartFault.TooMany) }
     {
         if self.place <= self.begin {
             return Err(PartFault::TooMany);
@@ -160,6 +168,7 @@ impl Cutter {
         ensures waits { self.new.waiting ≡ drop size self.old.waiting }
         ensures most { (self.new.most ≡ self.old.most) × (self.new.watched ≡ self.old.watched) }
         ensures reach { IsInReach self.new }
+        ensures begin { self.new.begin ≡ self.new.place }
     {
         self.begin = self.place;
         self.waiting.drain(..size);

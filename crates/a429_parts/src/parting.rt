@@ -34,9 +34,9 @@ pub(crate) struct Parting {
 }
 
 /// Puts the parts of a recording as it is read, and their lines on a sheet, and answers the list of them. A part ends
-/// at the last place where the recording may be cut that is at most `most` entries after its beginning, or at the end
-/// of the recording where that is as near. A recording without entries is one part. The fault is `TooMany` also where
-/// no place is near enough. After a fault the parts before it are there.
+/// at the last place, at most `most` entries after its beginning, of which the next `most` entries, and one, say that the
+/// recording may be cut there, or at the end of the recording where that is as near. A recording without entries is one
+/// part. The fault is `TooMany` also where there is no such place. After a fault the parts that were complete are there.
 pub fn put_parts<R: Read, P: Parts, W: Write>(
     alloc: Global,
     profile: &Profile,

@@ -12,7 +12,7 @@ pub returns-in-Ok-clause-ok : goal.returns-in-Ok-clause-ok
 returns-in-Ok-clause-ok g c p most at_end known first es ends h =
     let same = c.put.ensures.same.0 in
     let part = c.requires.part in
-    progress_more g.W.Write.contents p most known first es at_end (g.P.Parts.known c.args.parts.now) (g.P.Parts.known c.put.new.parts) c.args.sheet.now c.put.new.sheet c.args.size c.args.self.now _ h ends (c.end_part.ensures.reach) part
+    progress_more g.W.Write.contents p most known first es at_end (g.P.Parts.known c.args.parts.now) (g.P.Parts.known c.put.new.parts) c.args.sheet.now c.put.new.sheet c.args.size c.args.self.now _ h ends (c.end_part.ensures.reach) (c.end_part.ensures.begin) part
     (rw same at c.end_part.ensures.waits) (rw same at c.end_part.ensures.most.0) (search rules) c.in-Ok.ensures.ok.2 (λ parted rest cuts. rw same at (c.end_part.ensures.cuts p parted rest (rw same cuts))) c.in-Ok.ensures.ok.0 c.in-Ok.ensures.ok.1
 
 pub returns-in-Err-clause-err : goal.returns-in-Err-clause-err
