@@ -48,8 +48,8 @@ impl Certificate {
         sheet.put(b"\n");
     }
 
-    /// Writes the text, each piece at once: to a writer that gathers what is written. It takes no memory. After `Device` a
-    /// prefix of the text has been written.
+    /// Writes the text in many small writes: use a writer with a buffer. It takes no memory. After `Device` a prefix of the
+    /// text has been written.
     pub fn write<W: Write>(&self, out: &mut Tally<W>) -> Result<(), Device>
         ensures written { Writes W.contents out.old out.new self.now }
         ensures device { IsErr result ↔ (has_failed out.new ≡ true) }

@@ -29,12 +29,13 @@ pub enum Verdict {
 pub enum Reason {
     /// It has the label of the transfer and no form.
     NoForm,
-    /// It is a start, data or end word without a clear answer before it, or one word too many.
+    /// It is a start, data or end word without a clear answer before it, a start word after a start or data word of the same
+    /// grant, or one data word too many.
     NotGranted,
     /// It is an answer that the sink does not owe.
     WrongAnswer,
     /// The last data word of a block whose data words are all recorded and carry no bytes, or the end word of a block
-    /// that was recorded whole and whose check word is not theirs. `check` leaves this reason and the two after it out.
+    /// that was recorded whole and whose check word is not theirs. `check` leaves this reason and the three after it out.
     BadBlock,
     /// A start word with a number that the source cannot have come to.
     WrongNumber,
@@ -52,7 +53,8 @@ pub enum Doubt {
     /// The link data unit of this request was never recorded whole, although an end word was; or no filler words make
     /// its semi-octets whole bytes.
     NeverWhole,
-    /// This word is not one of the link data unit that the other words of its group make.
+    /// A request that asks for another number of words than the first of its group; or a word that the block of its group
+    /// does not have after those before it in its attempt.
     NotOneBlock,
     /// The guessed steps cannot be made from this entry on.
     NotReplayed,

@@ -41,7 +41,7 @@ abbrev pub semis_of_words : Codes → List ℕ → Option (List ℕ)
 semis_of_words c [] = Some []
 semis_of_words c (w ∷ ws) = joined_to (semis_in (form_of c bus.A w)) (semis_of_words c ws)
 
--- how many they are, and none where there are none
+-- how many they are; 0 where a word is no data word of bus A
 abbrev pub semis_in_words : Codes → List ℕ → ℕ
 semis_in_words c words = length (unwrap_or (semis_of_words c words) [])
 

@@ -14,7 +14,7 @@ unit_of p bytes flags = record { gfi = 0; flags = flags; check = check_of p.chec
 abbrev pub room : ℕ → ℕ
 room max_words = (max_words - 2) * 5 / 2
 
--- bytes in pieces of so many, the last of which may have fewer; no more than a number of pieces
+-- bytes in pieces of so many, the last of which may have fewer; at most as many pieces as the first number says
 unfoldable pub pieces : ℕ → ℕ → List ℕ → List (List ℕ)
 pieces zero size bytes = []
 pieces (suc most) size bytes = if nat_le (length bytes) size then bytes ∷ [] else take size bytes ∷ pieces most size (drop size bytes)
@@ -35,7 +35,7 @@ units_in p [] = []
 units_in p (piece ∷ []) = unit_of p piece (final_flag p.codes) ∷ []
 units_in p (piece ∷ next ∷ rest) = unit_of p piece 0 ∷ units_in p (next ∷ rest)
 
--- the most link data units that a file has: as many as have a number
+-- the most link data units that a file has: 255 (profile). From a first number 0 or 1 on, each has a number below 256.
 abbrev pub most_units : ℕ
 most_units = 255
 

@@ -8,8 +8,8 @@ use Rattle.a429_ldu.specs.declared.freedom.Freedom.{Freedom}
 use Rattle.a429_ldu.specs.declared.freedom.Freedom.TheVariants.{BadParity, OtherLabel, IgnoredType, IgnoredCode}
 use Rattle.a429_ldu.specs.Form.{address_of}
 
--- the first reason that holds: its parity is even, its label is not the address label of its bus, its type is ignored, or its code is;
--- none of a word that is not free
+-- the first reason that holds: its parity is even, its label is not the address label of its bus, its type is ignored, or it is a
+-- protocol word, and its code is ignored; none of a word that is not free
 abbrev pub freedom_of : Codes → Bus → ℕ → Option Freedom
 freedom_of c b w =
     if not (count_of_ones w % 2 == 1) then Some BadParity

@@ -53,7 +53,7 @@ pub fn bytes_of(
 }
 
 /// The bytes that words carry, as `bytes_of` returns them, without taking memory: for at most 253 words, as many
-/// as a block has.
+/// data words as a block may have.
 pub fn block_bytes(profile: &Profile, words: &[Word]) -> Option<BlockBytes>
     requires { length words.now ≤ most_data_words }
     ensures some { IfSome result (λ bytes. CarryBytes profile.now.codes words.now bytes.items) }

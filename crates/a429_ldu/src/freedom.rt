@@ -19,7 +19,7 @@ pub enum Freedom {
     OtherLabel,
     /// The profile ignores its type.
     IgnoredType,
-    /// The profile ignores its code.
+    /// It is a protocol word, and the profile ignores its code.
     IgnoredCode,
 }
 

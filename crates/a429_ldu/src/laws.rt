@@ -64,7 +64,7 @@ pub fn units_have_few_bytes()
     ensures { (p : Contents) (u : LduValue) → IsProfile p → IsLdu p u → HasUnitBytes (bytes_of p.codes u) }
 {}
 
-/// A link data unit has no fault, and words that make none have exactly one first fault. So `Ldu::new` returns a
+/// A link data unit has no fault, and words that make none have at most one first fault. So `Ldu::new` returns a
 /// fault exactly where there is one.
 pub fn a_unit_has_no_fault()
     ensures none { (p : Contents) (u : LduValue) (f : LduFault) → IsProfile p → IsLdu p u → ¬ IsFirstLduFault p u.check u.words f }

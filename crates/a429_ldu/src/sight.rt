@@ -18,7 +18,7 @@ use a429_word::{Bus, Word};
 #[derive(Clone, Copy, Debug, PartialEq, Eq)]
 pub enum Sight {
     /// A word that the transfer passes over: its parity is wrong, its label is not the address label of
-    /// its bus, or the profile ignores its type or its code.
+    /// its bus, the profile ignores its type, or it is a protocol word, and the profile ignores its code.
     Free,
     /// A word of the transfer.
     Form(Form),

@@ -29,7 +29,7 @@ senses (Discrete flags) = Normal ∷ NoValue NoData ∷ Test ∷ NoValue Failure
 abbrev pub sense_of : Kind → ℕ → Sense
 sense_of kind ssm = get_or (senses kind) ssm Normal
 
--- a word has a value in normal operation and in a functional test
+-- a word has a value where its SSM says a functional test (true), or normal operation (false)
 abbrev pub HasValue : Kind → ℕ → Bool → Type 0
 HasValue kind w true = sense_of kind (ssm_of w) ≡ Test
 HasValue kind w false = sense_of kind (ssm_of w) ≡ Normal

@@ -58,7 +58,7 @@ pub struct Check {
     pub init: u16,
     /// The number that is exclusive-ored with the register at the end.
     pub xor: u16,
-    /// Whether the lowest bit of each byte is fed in first.
+    /// Whether the lowest bit of each byte is fed in first, and the remainder is read with its first bit as the lowest.
     pub low_first: bool,
     /// Whether check words are compared. Where not, any check word is good.
     pub compare: bool,

@@ -8,7 +8,7 @@ use std::alloc::{AllocError, Global};
 use std::fmt::{self, Debug, Formatter, Write};
 use std::marker::Model;
 
-/// A short text: printable characters of ASCII.
+/// A text of a profile. In a profile that was read it is short and of printable ASCII; `new` takes any.
 #[derive(Debug, Drop)]
 pub struct Text {
     text: String,
@@ -23,13 +23,14 @@ impl Model for Text {
 }
 
 impl Text {
-    /// The same text, owned.
+    /// The text that this string holds.
     pub fn new(text: String) -> Text
         ensures { result ≡ string_bytes text }
     {
         Text { text }
     }
 
+    /// The text, borrowed.
     pub fn as_str(&self) -> &str
         ensures { result.now ≡ self.now }
     {
@@ -60,12 +61,14 @@ impl Model for Numbers {
 }
 
 impl Numbers {
+    /// The numbers of this list, in its order.
     pub fn new(numbers: Vec<u8>) -> Numbers
         ensures { result ≡ numbers.items }
     {
         Numbers { numbers }
     }
 
+    /// The numbers, borrowed.
     pub fn as_slice(&self) -> &[u8]
         ensures { result.now ≡ self.now }
     {
@@ -125,6 +128,7 @@ impl Flags {
         Ok(Flags { flags, texts })
     }
 
+    /// The flags, borrowed.
     pub fn as_slice(&self) -> &[Flag]
         ensures { result.now ≡ self.now }
     {
@@ -178,8 +182,8 @@ fn push_text(texts: &mut Vec<u8>, flag: &Flag, end: &[u8]) -> Result<(), AllocEr
 /// How the data field of a label's words is read (ARINC 429 Part 1).
 #[derive(Debug, Drop)]
 pub enum Kind {
-    /// A binary number in two's complement: `bits` significant bits, 1 to 18, below the sign. The sign bit counts `range`,
-    /// 1 to 1,000,000,000, in units of `10^-decimals`, 0 to 6.
+    /// A binary number in two's complement: `bits` significant bits, 1 to 18, below the sign. Values lie from `-range`
+    /// to below `range`, in units of `10^-decimals`. `range` is 1 to 1,000,000,000, `decimals` 0 to 6.
     Bnr { bits: u8, range: u32, decimals: u8 },
     /// A decimal number: `digits` digits, 1 to 5, in units of `10^-decimals`, 0 to 6.
     Bcd { digits: u8, decimals: u8 },

@@ -3,8 +3,8 @@
 use crate::key::{Key, SectionKey};
 use thiserror::Error;
 
-/// The first thing wrong with a profile (profile): the document, then its keys in their order, then clashes. The text of a
-/// fault is its line on standard error.
+/// The first thing wrong with a profile (profile): the document, then its keys in their order, then clashes. On
+/// standard error the program writes the text of a fault after `profile: `; `memory` alone is the whole line.
 #[derive(Clone, Copy, Debug, PartialEq, Eq, Error)]
 pub enum ProfileFault {
     /// The text is no TOML document.
@@ -23,7 +23,8 @@ pub enum ProfileFault {
     /// transfer.
     #[error("label clash {0:03o}")]
     LabelClash(u8),
-    /// Both keys have the same number.
+    /// A number is given twice: at the first key earlier, at the second again. Both are one key where its list names
+    /// the number twice.
     #[error("code clash {0} {1}")]
     CodeClash(SectionKey, SectionKey),
     /// Two flags of an entry of this label have this bit.

@@ -1,4 +1,5 @@
--- The BNR value (ARINC 429 Part 1, two's complement fractional binary notation).
+-- The BNR value (ARINC 429 Part 1, two's complement fractional binary notation). How many significant bits s a value has is the project's
+-- own (profile).
 use Rattle.std.specs.Prelude.{◌≡◌, ℕ, ◌-◌, ◌*◌, ◌^◌, ℤ, pos, ◌-ℤ◌}
 use Rattle.a429_word.specs.Word.{bit, number_at, label_of, sdi_of, ssm_of}
 

@@ -7,7 +7,7 @@ unfoldable pub sum_below : ℕ → (ℕ → ℕ) → ℕ
 sum_below zero f = 0
 sum_below (suc k) f = sum_below k f + f k
 
--- the number of 32 bits: bit i, from 1 to 32, counts 2 ^ (i - 1)
+-- the number of 32 bits (profile): bit i, from 1 to 32, counts 2 ^ (i - 1)
 abbrev pub number_of_bits : (ℕ → ℕ) → ℕ
 number_of_bits bits = sum_below 32 (λ j. bits (j + 1) * 2 ^ j)
 
@@ -27,7 +27,7 @@ number_at w first count = sum_below count (λ j. bit w (first + j) * 2 ^ j)
 abbrev pub label_of : ℕ → ℕ
 label_of w = sum_below 8 (λ j. bit w (j + 1) * 2 ^ (7 - j))
 
--- the source/destination identifier: bits 9 and 10
+-- the source/destination identifier: bits 9 and 10, bit 9 the lower one (profile)
 abbrev pub sdi_of : ℕ → ℕ
 sdi_of w = number_at w 9 2
 
@@ -35,7 +35,7 @@ sdi_of w = number_at w 9 2
 abbrev pub field_of : ℕ → ℕ
 field_of w = number_at w 11 19
 
--- the sign/status matrix: bits 30 and 31
+-- the sign/status matrix: bits 30 and 31, bit 30 the lower one (profile)
 abbrev pub ssm_of : ℕ → ℕ
 ssm_of w = number_at w 30 2
 

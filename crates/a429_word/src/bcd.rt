@@ -6,15 +6,15 @@ ghost use Rattle.a429_word.specs.Bcd.{digit_of, decimal_of, AreDecimal, IsFirstB
 
 use crate::word::Word;
 
-/// The place of the first digit above 9 (profile), from 1 to 5, where 1 is the most significant. It is
-/// never 1, since the first digit has three bits.
+/// The place of the first digit above 9 (profile), from 2 to 5: digit 1, the most significant, has three
+/// bits and is never above 9.
 #[derive(Clone, Copy, Debug, PartialEq, Eq)]
 pub struct BadDigit(pub u8);
 
 impl Word {
-    /// The number that the first k digits of a BCD word write, k from 1 to 5 (ARINC 429 Part 1). The
-    /// most significant digit has bits 29 to 27, each further one the four bits below. If one of them
-    /// is above 9, the error is the place of the first such digit.
+    /// The number that the first k digits of a BCD word write (ARINC 429 Part 1), k from 1 to 5 (profile).
+    /// The most significant digit has bits 29 to 27, each further one the four bits below. If one of them
+    /// is above 9, the error is the place of the first such digit (profile).
     pub fn bcd_digits(self, k: u8) -> Result<u32, BadDigit>
         requires least { 1 ≤ k }
         requires most { k ≤ 5 }
@@ -32,8 +32,8 @@ impl Word {
         Ok(value)
     }
 
-    /// The BCD word with this number in its first k digits, k from 1 to 5, below `8 * 10^(k-1)`, since
-    /// the first digit has three bits (Part 1). SDI and SSM are 0 to 3. The other digits are 0.
+    /// The BCD word with this number in its first k digits, k from 1 to 5 (profile), below `8 * 10^(k-1)`,
+    /// since the first digit has three bits (Part 1). SDI and SSM are 0 to 3. The other digits are 0 (profile).
     pub fn bcd_word(label: u8, sdi: u8, ssm: u8, k: u8, value: u32) -> Word
         requires sdi { sdi ≤ 3 }
         requires ssm { ssm ≤ 3 }

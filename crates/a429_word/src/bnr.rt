@@ -7,8 +7,8 @@ ghost use Rattle.a429_word.specs.Bnr.{raw_of};
 use crate::word::Word;
 
 impl Word {
-    /// The raw number of a BNR word with s significant bits, s from 1 to 18 (ARINC 429 Part 1), from `-2^s` to `2^s - 1`:
-    /// two's complement in the s + 1 bits from bit 29, the sign, down to bit `29-s`.
+    /// The raw number of a BNR word (ARINC 429 Part 1) with s significant bits, s from 1 to 18 (profile): two's
+    /// complement in the s + 1 bits from bit 29, the sign, down to bit `29-s`, and so from `-2^s` to `2^s - 1`.
     pub fn bnr_raw(self, s: u8) -> i32
         requires least { 1 ≤ s }
         requires most { s ≤ 18 }
@@ -18,8 +18,9 @@ impl Word {
         if self.bit(29) { data - (1 << s) } else { data }
     }
 
-    /// The BNR word with s significant bits, s from 1 to 18, and this raw number, from `-2^s` to
-    /// `2^s - 1` (Part 1). SDI and SSM are 0 to 3. The bits of the data field below bit `29-s` are 0.
+    /// The BNR word (Part 1) with s significant bits, s from 1 to 18 (profile), and this raw number, from
+    /// `-2^s` to `2^s - 1`. SDI and SSM are 0 to 3. The bits of the data field below bit `29-s` are 0
+    /// (profile).
     pub fn bnr_word(label: u8, sdi: u8, ssm: u8, s: u8, raw: i32) -> Word
         requires sdi { sdi ≤ 3 }
         requires ssm { ssm ≤ 3 }

@@ -37,8 +37,10 @@ pub fn hex_is_read_back()
 /// The raw number of a word is two's complement in s + 1 bits: the number of the bits from bit `29-s` up
 /// to bit 29, less `2^(s+1)` where bit 29 is 1. It is one that `Word::bnr_word` takes, from `-2^s` to
 /// `2^s - 1`, and no two words of odd parity have the same label, SDI, SSM, raw number and other bits of
-/// the data field: so `Word::bnr_word` makes that word again of what `Word::bnr_raw` returns. The other
-/// way needs no law: clause `raw` of `Word::bnr_word` and the contract of `Word::bnr_raw` both say `raw_of`.
+/// the data field. So if a word has odd parity and the bits of its data field below bit `29-s` are 0,
+/// `Word::bnr_word` makes that word again from its label, its SDI, its SSM and what `Word::bnr_raw` returns.
+/// The other way needs no law: clause `raw` of `Word::bnr_word` and the contract of `Word::bnr_raw` both say
+/// `raw_of`.
 pub fn bnr_is_read_back()
     ensures bits { (w s : ℕ) → 1 ≤ s → s ≤ 18 → raw_of w s ≡ pos (number_at w (29 - s) (s + 1)) -ℤ pos (2 ^ (s + 1) * bit w 29) }
     ensures within { (w s : ℕ) → 1 ≤ s → s ≤ 18 → (neg_ℤ (pos (2 ^ s)) ≤ℤ raw_of w s) × (raw_of w s <ℤ pos (2 ^ s)) }

@@ -51,7 +51,8 @@ impl Page {
         })
     }
 
-    /// An empty page without room, which takes no memory: a sheet with it writes each piece at once.
+    /// An empty page without room. It takes no memory, as its signature says. A sheet with it writes each piece at
+    /// once: that is seen in the body, and no clause says it.
     pub fn without_room() -> Page
         ensures { result ≡ [] }
     {

@@ -12,7 +12,7 @@ use std::io::{ErrorKind, Read, Write};
 #[derive(Clone, Copy, Debug, PartialEq, Eq)]
 pub struct Device;
 
-/// What may fail, and then stays failed.
+/// What may fail. That it stays failed is a clause of the calls that use it.
 pub trait Failing {
     ghost failed: { Self → Bool };
 

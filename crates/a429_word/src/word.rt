@@ -23,8 +23,8 @@ const REVERSED: [u8; 256] = [
     239, 31, 159, 95, 223, 63, 191, 127, 255,
 ];
 
-/// A word of 32 bits (ARINC 429 Part 1, word formats). Bits are numbered from 1 to 32; as a number,
-/// bit i counts `2^(i-1)`.
+/// A word of 32 bits (ARINC 429 Part 1, word formats). Bits are numbered from 1 to 32; as a number
+/// (profile), bit i counts `2^(i-1)`.
 #[derive(Clone, Copy, Debug, Default, PartialEq, Eq)]
 pub struct Word(u32);
 
@@ -61,7 +61,7 @@ impl Word {
         reversed((self.0 & 0xff) as u8)
     }
 
-    /// The source/destination identifier, bits 9 and 10 (Part 1): 0 to 3, bit 9 its lower one.
+    /// The source/destination identifier, 0 to 3: bits 9 and 10 (Part 1), bit 9 its lower one (profile).
     #[tactic(auto, using(crate::proofs::WordBits::fields))]
     pub fn sdi(self) -> u8
         ensures value { result ≡ sdi_of self }
@@ -78,7 +78,7 @@ impl Word {
         self.0 >> 10 & 0x7_FFFF
     }
 
-    /// The sign/status matrix, bits 30 and 31 (Part 1): 0 to 3, bit 30 its lower one.
+    /// The sign/status matrix, 0 to 3: bits 30 and 31 (Part 1), bit 30 its lower one (profile).
     #[tactic(auto, using(crate::proofs::WordBits::fields))]
     pub fn ssm(self) -> u8
         ensures value { result ≡ ssm_of self }
