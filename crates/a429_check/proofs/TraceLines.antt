@@ -31,9 +31,9 @@ use Rattle.a429_check.specs.declared.fault.RunFault.{RunFault}
 use Rattle.a429_check.specs.declared.fault.RunFault.TheVariants as run
 use Rattle.a429_check.specs.Profile.{IsProfileOf}
 use Rattle.a429_parts.proofs.KeepingFacts.{Came}
-use Rattle.a429_check.specs.Streaming.{AreAllBefore, IsNextFault}
+use Rattle.a429_check.specs.Streaming.{AreAllBefore}
 use Rattle.a429_check.proofs.StreamingFacts.{all_before}
-use Rattle.a429_check.specs.Trace.{AreDelivered, BeginsWith, IsCut, IsLinesFault, IsRefusedAfter, IsPutBy, IsTraceFault, IsTraceOf, LeavesLines, SaysText, first_lines, impossible, lines, only, only_text}
+use Rattle.a429_check.specs.Trace.{AreInEachRun, BeginsWith, IsCut, IsLinesFault, IsRefusedAfter, IsPutBy, IsTraceFault, IsTraceOf, LeavesLines, SaysText, first_lines, impossible, lines, only, only_text}
 use Rattle.a429_check.specs.Check.{verdict_text}
 use Rattle.a429_check.specs.Output.{output}
 use Rattle.a429_explain.specs.declared.verdict.Verdict.TheVariants as verdict
@@ -156,7 +156,7 @@ may_name p sound t es e s h stopped =
 
 -- ---- what is delivered
 
-pub delivered_all : (p : Contents) (t : Trace) (es : List Entry) → Traced p t es → AreDelivered p (items_of es) t.files.items
+pub delivered_all : (p : Contents) (t : Trace) (es : List Entry) → Traced p t es → AreInEachRun p (items_of es) t.files.items
 delivered_all p t es h r e = ap sizes_of (files_delivered p (is_read p r.is_run.sound) r.first r.is_run.byte r.steps r.is_run.run (items_of es) e) ∙ sym h.is.files
 
 -- ---- where it is cut off
@@ -171,16 +171,6 @@ cut_here p t es first left f h came none = record { entries = es; begins = begin
 -- the same of a failed output, by less
 device_cut : (p : Contents) (known : Option Recording) (f : RunFault) (text : List ℕ) → IsCut p known f text → IsCut p known run.Device text
 device_cut p known f text cut = record { entries = cut.entries; begins = cut.begins; all = tt; allowed = cut.allowed; text_is = cut.text_is }
-
-pub put_fault : (known : Option Recording) (rec out : Bool) (e : RunFault) → IsNextFault known rec e → IsLinesFault known rec out e
-put_fault known rec out (run.Read f) h = h
-put_fault known rec out run.Device h = inl h
-put_fault known rec out run.Memory h = h
-put_fault known rec out (run.Profile f) h = h
-put_fault known rec out (run.Cut k f) h = h
-put_fault known rec out run.TooLong h = h
-put_fault known rec out run.BadWord h = h
-put_fault known rec out run.Usage h = h
 
 pub trace_fault : (profile : List ℕ) (p : Contents) (known : Option Recording) (rec out : Bool) (e : RunFault) → IsProfileOf profile p → IsLinesFault known rec out e → IsTraceFault profile known rec out e
 trace_fault profile p known rec out (run.Read f) is h = ((p, is), h)
@@ -222,7 +212,7 @@ says_more contents a b c p t es e h before line =
     subst (Says contents a c) (sym (lines_push p es e)) (before ▹ here)
 
 pub says_only : {W : Type 0} (contents : W → Option (List ℕ)) (a b c : Sheet W) (p : Contents) (known : Option Recording) (t : Trace) (es : List Entry) → Traced p t es → IfSome known (λ r. r ≡ whole es) → Says contents a b (first_lines p es) → Says contents b c (only_text t.files.items) → SaysText contents a c (IsPutBy p known (Ok 0))
-says_only contents a b c p known t es h all before after = (_, only es all h.allowed t.files.items (delivered_all p t es h) refl refl, before ▹ after)
+says_only contents a b c p known t es h all before after = (_, only es all h.allowed t.files.items h.is.files (delivered_all p t es h) refl refl, before ▹ after)
 
 pub says_impossible : {W : Type 0} (contents : W → Option (List ℕ)) (a b c d : Sheet W) (p : Contents) (known : Option Recording) (t : Trace) (es : List Entry) (e : Entry) (n : ℕ) (r : Reason) → n ≡ t.entries → BeginsWith known (es ++ e ∷ []) → Traced p t es → IsRefusedAfter p (items_of es) (seen_of e) r
     → Says contents a b (first_lines p es) → Says contents b c (refused_line p t.entries t.sink e) → Says contents c d (verdict_text (verdict.Impossible n r)) → SaysText contents a d (IsPutBy p known (Ok 1))

@@ -15,8 +15,7 @@ use Rattle.a429_check.specs.declared.fault.RunFault.TheVariants as run
 use Rattle.a429_check.specs.Fault.{ComesBy, never}
 use Rattle.a429_check.specs.Output.{Output}
 use Rattle.a429_check.specs.Profile.{IsProfileOf}
-use Rattle.a429_check.specs.Streaming.{IsFaultToCome}
-use Rattle.a429_check.specs.Survey.{IsSurveyFault}
+use Rattle.a429_check.specs.Streaming.{IsFaultToCome, IsStreamingFault}
 
 -- an output has gained the text recording of the entries of a recording that are kept; the recording has no fault
 pub record PutsKept {W : Type 0} (contents : W → Option (List ℕ)) (old new : Tally W) (rec : Option Recording) (c : Codes) : Type 0 where
@@ -62,6 +61,6 @@ LeavesKept o profile rec e = WithCodes profile (GainsUntil o rec e)
 abbrev pub EndsBy : Option Recording → Type 0 → RunFault → Type 0
 EndsBy rec Failed = ComesBy (record never { recording = IsFaultToCome rec; device = Failed; memory = Unit {0} })
 
--- why `keep` fails: for the same reasons as `survey`
+-- why `keep` fails: as a command that writes while it reads
 abbrev pub IsKeepFault : List ℕ → Option Recording → Bool → Bool → RunFault → Type 0
-IsKeepFault profile rec rec_failed out_failed = IsSurveyFault profile rec rec_failed out_failed
+IsKeepFault profile rec rec_failed out_failed = IsStreamingFault profile rec rec_failed out_failed

@@ -12,6 +12,7 @@ use Rattle.a429_link.specs.declared.seen.Seen.{Seen}
 use Rattle.a429_link.specs.Implied.{implied, implied_at_first, sizes_of}
 use Rattle.a429_link.specs.Observer.{Allows, AreAllowed, at_first, observed}
 use Rattle.a429_link.specs.Run.{BeginsARun, RunOf, delivered_by, trace}
+use Rattle.a429_link.specs.Trace.{files_of}
 use Rattle.a429_record.specs.declared.entry.Entry.{Entry}
 use Rattle.a429_record.specs.Recording.{Recording, whole}
 use Rattle.a429_cert.specs.Explained.{items_of, seen_of}
@@ -25,8 +26,7 @@ use Rattle.a429_check.specs.Check.{verdict_text}
 use Rattle.a429_check.specs.Fault.{ComesBy, never}
 use Rattle.a429_check.specs.Output.{Output}
 use Rattle.a429_check.specs.Profile.{IsProfileOf}
-use Rattle.a429_check.specs.Streaming.{AreAllBefore, IsFaultToCome}
-use Rattle.a429_check.specs.Survey.{IsSurveyFault}
+use Rattle.a429_check.specs.Streaming.{AreAllBefore, IsFaultToCome, IsStreamingFault}
 use Rattle.a429_check.specs.Verdict.{file_line}
 
 -- ---- the text
@@ -44,8 +44,8 @@ abbrev pub first_lines : Contents → List Entry → List ℕ
 first_lines p es = lines_of p 0 implied_at_first es
 
 -- each run that records these words delivers exactly these files
-abbrev pub AreDelivered : Contents → List Seen → List Crossing → Type 0
-AreDelivered p items files = (r : RunOf p) → trace r.steps ≡ items → sizes_of (delivered_by r) ≡ files
+abbrev pub AreInEachRun : Contents → List Seen → List Crossing → Type 0
+AreInEachRun p items files = (r : RunOf p) → trace r.steps ≡ items → sizes_of (delivered_by r) ≡ files
 
 -- these are the first entries of the recording, where it is known
 abbrev pub BeginsWith : Option Recording → List Entry → Type 0
@@ -59,9 +59,9 @@ pub record IsRefusedAfter (p : Contents) (items : List Seen) (i : Seen) (reason 
   pub impossible : BeginsARun p (items ++ i ∷ []) → ⊥
 
 -- the trace of a whole recording: the lines of its entries, each of which is allowed after those before it, and the files
--- that are delivered; or of one up to the first entry that no run records, its line, and the reason
+-- of the sink, which each run delivers that records these words; or of one up to the first entry that no run records, its line, and the reason
 pub data IsTraceOf (p : Contents) (known : Option Recording) (status : ℕ) (text : List ℕ) : Type 0 where
-  only : (es : List Entry) (all : IfSome known (λ r. r ≡ whole es)) (allowed : AreAllowed p at_first (items_of es)) (files : List Crossing) (delivered : AreDelivered p (items_of es) files) (status_is : status ≡ 0) (text_is : text ≡ first_lines p es ++ only_text files) → IsTraceOf p known status text
+  only : (es : List Entry) (all : IfSome known (λ r. r ≡ whole es)) (allowed : AreAllowed p at_first (items_of es)) (files : List Crossing) (sink : files ≡ sizes_of (files_of p (items_of es))) (delivered : AreInEachRun p (items_of es) files) (status_is : status ≡ 0) (text_is : text ≡ first_lines p es ++ only_text files) → IsTraceOf p known status text
   impossible : (es : List Entry) (e : Entry) (begins : BeginsWith known (es ++ e ∷ [])) (reason : Reason) (refused : IsRefusedAfter p (items_of es) (seen_of e) reason) (status_is : status ≡ 1) (text_is : text ≡ first_lines p es ++ (refused_line p (length es) (implied p (items_of es) implied_at_first) e ++ verdict_text (verdict.Impossible (length es) reason))) → IsTraceOf p known status text
 
 -- the same by the profile whose text the bytes are
@@ -104,6 +104,6 @@ LeavesTrace o profile known e = (o.new ≡ o.old) ⊎ ((p : Contents) × IsProfi
 abbrev pub IsLinesFault : Option Recording → Bool → Bool → RunFault → Type 0
 IsLinesFault known rec_failed out_failed = ComesBy (record never { recording = IsFaultToCome known; device = (rec_failed ≡ true) ⊎ (out_failed ≡ true); memory = Unit {0} })
 
--- why `trace` fails: as `survey` does
+-- why `trace` fails: as a command that writes while it reads
 abbrev pub IsTraceFault : List ℕ → Option Recording → Bool → Bool → RunFault → Type 0
-IsTraceFault profile known rec_failed out_failed = IsSurveyFault profile known rec_failed out_failed
+IsTraceFault profile known rec_failed out_failed = IsStreamingFault profile known rec_failed out_failed
