@@ -23,7 +23,7 @@ pub record PutsKept {W : Type 0} (contents : W → Option (List ℕ)) (old new :
   pub all : IfSome rec (λ r. r ≡ whole entries)
   pub puts : Puts contents old new (kept_text c entries)
 
--- it has gained that of the entries that come before a fault; nothing where no entry does
+-- it has gained that of the entries that come before a fault, of some first entries where that is a failed reader or out of memory; nothing where no entry does
 pub record PutsKeptUntil {W : Type 0} (contents : W → Option (List ℕ)) (old new : Tally W) (rec : Option Recording) (c : Codes) (fault : ReadFault) : Type 0 where
   pub entries : List Entry
   pub stops : IfSome rec (λ r. (rest : Recording) × (r ≡ with_entries entries rest) × Stops fault rest)
