@@ -7,7 +7,7 @@ use Rattle.a429_cert.specs.declared.fault.OutOfMemory.{OutOfMemory}
 use Rattle.a429_explain.specs.declared.verdict.Verdict.{Verdict}
 use Rattle.a429_explain.specs.declared.verdict.Reason.{Reason}
 use Rattle.a429_search.specs.Deciding.{IsImpossibleBy, IsImpossibleUpTo, IsOfCheck, IsReasonAt}
-use Rattle.a429_explain.specs.Verdict.{IsFirst, IsSoundVerdict, IsOfLeastVersion, IsImpossible, IsDoubted, HasNoForm, IsImpossibility, IsExplanation}
+use Rattle.a429_explain.specs.Verdict.{IsFirst, IsSoundVerdict, IsAccepted, IsOfLeastVersion, IsImpossible, IsDoubted, HasNoForm, IsImpossibility, IsExplanation}
 use Rattle.a429_explain.specs.WithoutLoss.{IsWithoutLoss}
 use Rattle.a429_check.specs.declared.fault.RunFault.{RunFault}
 use Rattle.a429_check.specs.declared.fault.RunFault.TheVariants as run
@@ -22,11 +22,11 @@ use Rattle.a429_check.specs.Check.{IsByRule, IsCheckFault, IsVerdictBy, IsVerdic
 
 -- what the library's call says of its verdict, as one
 pub found : (by_rule : Rule) (p : Contents) (items : List Seen) (r : Result Verdict OutOfMemory)
-    → IfOk r (IsSoundVerdict p items) → IfOk r (IsOfLeastVersion p items) → IfOk r (IsDoubted p items) → IfOk r (IsByRule by_rule p items)
+    → IfOk r (IsSoundVerdict p items) → IfOk r (IsAccepted p items) → IfOk r (IsOfLeastVersion p items) → IfOk r (IsDoubted p items) → IfOk r (IsByRule by_rule p items)
     → (HasNoForm p.codes items → IfOk r IsImpossibility) → (IsWithoutLoss p items → IfOk r IsExplanation) → IfOk r (IsVerdictBy by_rule p items)
-found by_rule p items (Ok v) sound version doubted first no_form without_loss =
-    record { sound = sound; version = version; doubted = doubted; first = first; no_form = no_form; without_loss = without_loss }
-found by_rule p items (Err e) sound version doubted first no_form without_loss = tt
+found by_rule p items (Ok v) sound accepted version doubted first no_form without_loss =
+    record { sound = sound; accepted = accepted; version = version; doubted = doubted; first = first; no_form = no_form; without_loss = without_loss }
+found by_rule p items (Err e) sound accepted version doubted first no_form without_loss = tt
 
 -- by the rule of `check`, and by that of `decide`
 pub checked : (p : Contents) (items : List Seen) (r : Result Verdict OutOfMemory) → IfOk r (IsFirst p items) → IfOk r (IsImpossible p items) → IfOk r (IsByRule rule.Check p items)

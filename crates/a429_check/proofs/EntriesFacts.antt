@@ -30,7 +30,8 @@ not_read known rec out run.Usage h = h
 -- the profile is one
 pub show_fault : (profile : List ℕ) (p : Contents) (known : Option (List ℕ)) (rec out : Bool) (e : RunFault) → IsProfileOf profile p → IsEntriesFault known rec out e → IsShowFault profile known rec out e
 show_fault profile p known rec out (run.Read f) is h = ((p, is), h)
-show_fault profile p known rec out run.Device is h = ((p, is), h)
+show_fault profile p known rec out run.Device is (inl h) = inl ((p, is), h)
+show_fault profile p known rec out run.Device is (inr h) = inr (record { contents = p; entries = h.0.0; is_profile = is; stand = h.0.1 }, h.1)
 show_fault profile p known rec out run.Memory is h = is.0
 show_fault profile p known rec out (run.Profile f) is h = absurd h
 show_fault profile p known rec out (run.Cut k f) is h = absurd h

@@ -223,7 +223,7 @@ by_parts : (i : SeriesInput) (Failed : Type 0) (p : Contents) (counts : List ℕ
 by_parts i Failed p counts (run.Profile f) is listed h = absurd h
 by_parts i Failed p counts run.Memory is listed h = is.0
 by_parts i Failed p counts (run.Read f) is listed h = (h.0, (p, counts, h.1.0, is, listed, h.1.1))
-by_parts i Failed p counts run.Device is listed h = h
+by_parts i Failed p counts run.Device is listed h = ((p, is), h)
 by_parts i Failed p counts (run.Cut k f) is listed h = absurd h
 by_parts i Failed p counts run.TooLong is listed h = absurd h
 by_parts i Failed p counts run.BadWord is listed h = absurd h
@@ -246,7 +246,7 @@ pub more_series : (i : SeriesInput) (Failed More : Type 0) (e : RunFault) → (F
 more_series i Failed More (run.Profile f) more h = h
 more_series i Failed More run.Memory more h = h
 more_series i Failed More (run.Read f) more h = h
-more_series i Failed More run.Device more h = more h
+more_series i Failed More run.Device more h = (h.0, more h.1)
 more_series i Failed More (run.Cut k f) more h = absurd h
 more_series i Failed More run.TooLong more h = absurd h
 more_series i Failed More run.BadWord more h = absurd h

@@ -1,5 +1,5 @@
 -- Entries that come one by one.
-use Rattle.std.proofs.Common.{◌≡◌, List, [], ◌++◌, append-nil, Bool, Option, Some, None, Err, ap, ◌∙◌, ℕ, inl}
+use Rattle.std.proofs.Common.{◌≡◌, List, [], ◌++◌, append-nil, Bool, Option, Some, None, Err, ap, ◌∙◌, ℕ, inl, inr}
 use Rattle.std.specs.Prelude.{IfSome}
 use Rattle.a429_record.specs.declared.entry.Entry.{Entry}
 use Rattle.a429_record.specs.declared.fault.ReadFault.{ReadFault}
@@ -12,7 +12,7 @@ use Rattle.a429_profile.specs.Profile.{Contents}
 use Rattle.a429_profile.specs.declared.codes.Codes.{Codes}
 use Rattle.a429_view.specs.declared.survey.Survey.{Survey}
 use Rattle.a429_view.specs.Survey.{IsSurvey}
-use Rattle.a429_check.specs.Survey.{IsSomeSurvey, IsSurveyFault}
+use Rattle.a429_check.specs.Survey.{IsCountingFault, IsSomeSurvey, IsSurveyFault}
 use Rattle.a429_check.specs.Profile.{IsProfileOf}
 use Rattle.a429_parts.proofs.KeepingFacts.{Came}
 use Rattle.a429_check.specs.Streaming.{AreAllBefore, IsFaultToCome, IsNextFault, reported}
@@ -74,13 +74,25 @@ where_counted s w f = f w.0 w.1 w.2
 pub by_fact : {A P : Type 0} → A → (A → P) → P
 by_fact a f = f a
 
--- why no more entries come, under a profile that was read, is why `survey` fails
-pub survey_fault : (profile : List ℕ) (p : Contents) (known : Option Recording) (rec_failed out_failed : Bool) (e : RunFault) → IsProfileOf profile p → IsNextFault known rec_failed e → IsSurveyFault profile known rec_failed out_failed e
-survey_fault profile p known rec_failed out_failed (run.Read f) is h = ((p, is), h)
-survey_fault profile p known rec_failed out_failed run.Device is h = ((p, is), inl h)
-survey_fault profile p known rec_failed out_failed run.Memory is h = is.0
-survey_fault profile p known rec_failed out_failed (run.Profile f) is h = absurd h
-survey_fault profile p known rec_failed out_failed (run.Cut k f) is h = absurd h
-survey_fault profile p known rec_failed out_failed run.TooLong is h = absurd h
-survey_fault profile p known rec_failed out_failed run.BadWord is h = absurd h
-survey_fault profile p known rec_failed out_failed run.Usage is h = absurd h
+-- why no more entries come is why they are not counted
+pub not_counted : (known : Option Recording) (rec out : Bool) (e : RunFault) → IsNextFault known rec e → IsCountingFault known rec out e
+not_counted known rec out (run.Read f) h = h
+not_counted known rec out run.Device h = inl h
+not_counted known rec out run.Memory h = h
+not_counted known rec out (run.Profile f) h = h
+not_counted known rec out (run.Cut k f) h = h
+not_counted known rec out run.TooLong h = h
+not_counted known rec out run.BadWord h = h
+not_counted known rec out run.Usage h = h
+
+-- the profile is one
+pub survey_fault : (profile : List ℕ) (p : Contents) (known : Option Recording) (rec out : Bool) (e : RunFault) → IsProfileOf profile p → IsCountingFault known rec out e → IsSurveyFault profile known rec out e
+survey_fault profile p known rec out (run.Read f) is h = ((p, is), h)
+survey_fault profile p known rec out run.Device is (inl h) = inl ((p, is), h)
+survey_fault profile p known rec out run.Device is (inr h) = inr (record { contents = p; entries = h.0.0; is_profile = is; stand = h.0.1 }, h.1)
+survey_fault profile p known rec out run.Memory is h = is.0
+survey_fault profile p known rec out (run.Profile f) is h = absurd h
+survey_fault profile p known rec out (run.Cut k f) is h = absurd h
+survey_fault profile p known rec out run.TooLong is h = absurd h
+survey_fault profile p known rec out run.BadWord is h = absurd h
+survey_fault profile p known rec out run.Usage is h = absurd h

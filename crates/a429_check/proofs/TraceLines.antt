@@ -31,9 +31,9 @@ use Rattle.a429_check.specs.declared.fault.RunFault.{RunFault}
 use Rattle.a429_check.specs.declared.fault.RunFault.TheVariants as run
 use Rattle.a429_check.specs.Profile.{IsProfileOf}
 use Rattle.a429_parts.proofs.KeepingFacts.{Came}
-use Rattle.a429_check.specs.Streaming.{AreAllBefore, IsNextFault}
+use Rattle.a429_check.specs.Streaming.{AreAllBefore, AreThoseGiven, Taken}
 use Rattle.a429_check.proofs.StreamingFacts.{all_before}
-use Rattle.a429_check.specs.Trace.{AreDelivered, BeginsWith, IsCut, IsLinesFault, IsRefusedAfter, IsPutBy, IsTraceFault, IsTraceOf, LeavesLines, SaysText, first_lines, impossible, lines, only, only_text}
+use Rattle.a429_check.specs.Trace.{AreInEachRun, BeginsWith, IsCut, IsLinesFault, IsRefusedAfter, IsPutBy, IsTraceFault, IsTraceOf, LeavesLines, SaysText, first_lines, impossible, lines, only, only_text}
 use Rattle.a429_check.specs.Check.{verdict_text}
 use Rattle.a429_check.specs.Output.{output}
 use Rattle.a429_explain.specs.declared.verdict.Verdict.TheVariants as verdict
@@ -156,7 +156,7 @@ may_name p sound t es e s h stopped =
 
 -- ---- what is delivered
 
-pub delivered_all : (p : Contents) (t : Trace) (es : List Entry) → Traced p t es → AreDelivered p (items_of es) t.files.items
+pub delivered_all : (p : Contents) (t : Trace) (es : List Entry) → Traced p t es → AreInEachRun p (items_of es) t.files.items
 delivered_all p t es h r e = ap sizes_of (files_delivered p (is_read p r.is_run.sound) r.first r.is_run.byte r.steps r.is_run.run (items_of es) e) ∙ sym h.is.files
 
 -- ---- where it is cut off
@@ -165,22 +165,20 @@ pub begins_with : (first left : Option Recording) (es : List Entry) → Came fir
 begins_with None left es h = tt
 begins_with (Some r) left es h = (h.0.entries, ap (λ (q : Recording). q.entries) h.2)
 
-pub cut_here : (p : Contents) (t : Trace) (es : List Entry) (first left : Option Recording) (f : RunFault) → Traced p t es → Came first es left → AreAllBefore f left [] → IsCut p first f (first_lines p es)
-cut_here p t es first left f h came none = record { entries = es; begins = begins_with first left es came; all = all_before first left es f came none; allowed = h.allowed; text_is = refl }
+pub cut_here : (p : Contents) (t : Trace) (es : List Entry) (first : Taken) (left : Option Recording) (f : RunFault) → Traced p t es → Came first.recording es left → AreAllBefore f left [] → AreThoseGiven f first.given (length es) → IsCut p first f (first_lines p es)
+cut_here p t es first left f h came none given =
+    record { entries = es; begins = begins_with first.recording left es came; all = all_before first.recording left es f came none; came = given; allowed = h.allowed; text_is = refl }
 
--- the same of a failed output, by less
-device_cut : (p : Contents) (known : Option Recording) (f : RunFault) (text : List ℕ) → IsCut p known f text → IsCut p known run.Device text
-device_cut p known f text cut = record { entries = cut.entries; begins = cut.begins; all = tt; allowed = cut.allowed; text_is = cut.text_is }
-
-pub put_fault : (known : Option Recording) (rec out : Bool) (e : RunFault) → IsNextFault known rec e → IsLinesFault known rec out e
-put_fault known rec out (run.Read f) h = h
-put_fault known rec out run.Device h = inl h
-put_fault known rec out run.Memory h = h
-put_fault known rec out (run.Profile f) h = h
-put_fault known rec out (run.Cut k f) h = h
-put_fault known rec out run.TooLong h = h
-put_fault known rec out run.BadWord h = h
-put_fault known rec out run.Usage h = h
+-- exactly so many were handed out, whatever the fault is
+pub all_given : (f : RunFault) (given n : ℕ) → given ≡ n → AreThoseGiven f given n
+all_given run.Memory given n h = inl h
+all_given run.Device given n h = h
+all_given (run.Read f) given n h = h
+all_given (run.Profile f) given n h = h
+all_given (run.Cut k f) given n h = h
+all_given run.TooLong given n h = h
+all_given run.BadWord given n h = h
+all_given run.Usage given n h = h
 
 pub trace_fault : (profile : List ℕ) (p : Contents) (known : Option Recording) (rec out : Bool) (e : RunFault) → IsProfileOf profile p → IsLinesFault known rec out e → IsTraceFault profile known rec out e
 trace_fault profile p known rec out (run.Read f) is h = ((p, is), h)
@@ -206,13 +204,13 @@ pub if_ok_by : {T E : Type 0} {P : T → Type 0} (r : Result T E) → ((x : T) �
 if_ok_by (Ok x) f = f x refl
 if_ok_by (Err e) f = tt
 
-pub err_written : {W : Type 0} (contents : W → Option (List ℕ)) (old new : Tally W) (p : Contents) (known : Option Recording) (r : Result ℕ RunFault) (text : List ℕ) → IsPutBy p known r text → Puts contents old new text → IfErr r (LeavesLines (output contents old new) p known)
+pub err_written : {W : Type 0} (contents : W → Option (List ℕ)) (old new : Tally W) (p : Contents) (known : Taken) (r : Result ℕ RunFault) (text : List ℕ) → IsPutBy p known r text → Puts contents old new text → IfErr r (LeavesLines (output contents old new) p known)
 err_written contents old new p known (Ok status) text is put = tt
 err_written contents old new p known (Err f) text is put = lines text is put
 
-pub either_text : (p : Contents) (known : Option Recording) (r : Result ℕ RunFault) (text : List ℕ) → IsPutBy p known r text → IsCut p known run.Device text ⊎ ((status : ℕ) × IsTraceOf p known status text)
+pub either_text : (p : Contents) (known : Taken) (r : Result ℕ RunFault) (text : List ℕ) → IsPutBy p known r text → ((why : RunFault) × IsCut p known why text) ⊎ ((status : ℕ) × IsTraceOf p known.recording status text)
 either_text p known (Ok status) text is = inr (status, is)
-either_text p known (Err f) text is = inl (device_cut p known f text is)
+either_text p known (Err f) text is = inl (f, is)
 
 -- ---- what a sheet says
 
@@ -221,15 +219,16 @@ says_more contents a b c p t es e h before line =
     let here = subst (λ (k : Implied). Says contents b c (line_of p (length es) k e)) h.is.sink (subst (λ (n : ℕ). Says contents b c (line_of p n t.sink e)) h.is.entries line) in
     subst (Says contents a c) (sym (lines_push p es e)) (before ▹ here)
 
-pub says_only : {W : Type 0} (contents : W → Option (List ℕ)) (a b c : Sheet W) (p : Contents) (known : Option Recording) (t : Trace) (es : List Entry) → Traced p t es → IfSome known (λ r. r ≡ whole es) → Says contents a b (first_lines p es) → Says contents b c (only_text t.files.items) → SaysText contents a c (IsPutBy p known (Ok 0))
-says_only contents a b c p known t es h all before after = (_, only es all h.allowed t.files.items (delivered_all p t es h) refl refl, before ▹ after)
+pub says_only : {W : Type 0} (contents : W → Option (List ℕ)) (a b c : Sheet W) (p : Contents) (known : Taken) (t : Trace) (es : List Entry) → Traced p t es → IfSome known.recording (λ r. r ≡ whole es) → Says contents a b (first_lines p es) → Says contents b c (only_text t.files.items) → SaysText contents a c (IsPutBy p known (Ok 0))
+says_only contents a b c p known t es h all before after = (_, only es all h.allowed t.files.items h.is.files (delivered_all p t es h) refl refl, before ▹ after)
 
-pub says_impossible : {W : Type 0} (contents : W → Option (List ℕ)) (a b c d : Sheet W) (p : Contents) (known : Option Recording) (t : Trace) (es : List Entry) (e : Entry) (n : ℕ) (r : Reason) → n ≡ t.entries → BeginsWith known (es ++ e ∷ []) → Traced p t es → IsRefusedAfter p (items_of es) (seen_of e) r
+pub says_impossible : {W : Type 0} (contents : W → Option (List ℕ)) (a b c d : Sheet W) (p : Contents) (known : Taken) (t : Trace) (es : List Entry) (e : Entry) (n : ℕ) (r : Reason) → n ≡ t.entries → BeginsWith known.recording (es ++ e ∷ []) → Traced p t es → IsRefusedAfter p (items_of es) (seen_of e) r
     → Says contents a b (first_lines p es) → Says contents b c (refused_line p t.entries t.sink e) → Says contents c d (verdict_text (verdict.Impossible n r)) → SaysText contents a d (IsPutBy p known (Ok 1))
 says_impossible contents a b c d p known t es e n r at begins h refused before line last =
     let here = subst (λ (k : Implied). Says contents b c (refused_line p (length es) k e)) h.is.sink (subst (λ (m : ℕ). Says contents b c (refused_line p m t.sink e)) h.is.entries line) in
     let there = subst (λ (m : ℕ). Says contents c d (verdict_text (verdict.Impossible m r))) (at ∙ h.is.entries) last in
     (_, impossible es e begins r refused refl refl, before ▹ (here ▹ there))
 
-pub says_cut : {W : Type 0} (contents : W → Option (List ℕ)) (a b : Sheet W) (p : Contents) (known left : Option Recording) (t : Trace) (es : List Entry) (f : RunFault) → Traced p t es → Came known es left → AreAllBefore f left [] → Says contents a b (first_lines p es) → SaysText contents a b (IsPutBy p known (Err f))
-says_cut contents a b p known left t es f h came none says = (_, cut_here p t es known left f h came none, says)
+pub says_cut : {W : Type 0} (contents : W → Option (List ℕ)) (a b : Sheet W) (p : Contents) (known : Taken) (left : Option Recording) (t : Trace) (es : List Entry) (f : RunFault) → Traced p t es → Came known.recording es left → AreAllBefore f left [] → AreThoseGiven f known.given (length es)
+    → Says contents a b (first_lines p es) → SaysText contents a b (IsPutBy p known (Err f))
+says_cut contents a b p known left t es f h came none given says = (_, cut_here p t es known left f h came none given, says)

@@ -1,13 +1,14 @@
 -- What has been written where the rows of a certificate's units are finished.
 use Rattle.std.proofs.Common.{◌≡◌, ◌++◌, ℕ, List, [], Vec, Global, Option, Some, None, Result, Ok, Err, IfErr, inl, inr, refl, sym, subst}
 use Rattle.std.specs.Io.KnownBytes.{append_known, Appends}
-use Rattle.std.proofs.KnownBytes.{Appends-trans}
+use Rattle.std.proofs.KnownBytes.{Appends-nil, Appends-trans}
 use Rattle.std.proofs.lemmas.List.{append-nil}
 use Rattle.a429_word.specs.declared.tally.Tally.{Tally}
 use Rattle.a429_word.specs.Tally.{inner_of, Puts}
 use Rattle.a429_word.specs.Page.{paged}
 use Rattle.a429_profile.specs.Profile.{Contents}
 use Rattle.a429_record.specs.Recording.{Recording}
+use Rattle.a429_record.specs.declared.fault.ReadFault.{ReadFault}
 use Rattle.a429_cert.specs.declared.fault.CertFault.{CertFault}
 use Rattle.a429_cert.specs.declared.stream_fault.StreamFault.TheVariants as stream
 use Rattle.a429_cert.specs.StreamExplained.{WhereBothKnown, IsHeardBefore}
@@ -18,11 +19,11 @@ use Rattle.a429_view.specs.UnitSteps.{HearsRows, line_before, PutsAll}
 use Rattle.a429_view.proofs.UnitsFacts.{all_rows, ended_put}
 use Rattle.a429_check.specs.declared.engines.verdict.Judged.{Judged}
 use Rattle.a429_check.specs.Output.{output}
-use Rattle.a429_check.specs.Verdict.{HearsJudged, Input, IsJudged, no_shelf, no_text, text_of_answer}
+use Rattle.a429_check.specs.Verdict.{HearsJudged, HearsUntil, Input, IsJudged, no_shelf, no_text, text_of_answer}
 use Rattle.a429_check.specs.declared.fault.RunFault.{RunFault}
 use Rattle.a429_check.specs.declared.fault.RunFault.TheVariants as run
 use Rattle.a429_profile.specs.declared.fault.ProfileFault.{ProfileFault}
-use Rattle.a429_check.specs.Units.{AreFresh, EndsUnits, PutsUnits, PutsEnded, ReportsUnits}
+use Rattle.a429_check.specs.Units.{AreFresh, EndsUnits, HaveEnded, LeavesUnits, PutsUnits, PutsEnded, ReportsUnits}
 
 -- an empty page holds nothing back
 from_empty : (a b : Option (List ℕ)) (text : List ℕ) → Appends (append_known a []) b text → Appends a b text
@@ -121,7 +122,23 @@ reports contents i old mid new j status fresh judged heard h = by j.answer refl 
         let puts = subst (λ (a : Result (Vec (ℕ × ℕ) Global) CertFault). Puts contents no.0.out new.out (text_of_answer a)) (sym e) no.2 in
         subst (λ (n : ℕ). ReportsUnits (output contents old.out new.out) i n) (sym h.0) (reports_no contents i old mid no.0 new j f e fresh judged heard no.1 puts)
 
--- a failed output is no fault of a profile
-pub no_profile_here : (r : Result ℕ RunFault) (Failed : Type 0) (f : ProfileFault) → IfErr r (λ e. (e ≡ run.Device) × Failed) → r ≡ Err (run.Profile f) → ⊥
-no_profile_here (Ok status) Failed f h e = cc e
-no_profile_here (Err why) Failed f h e = cc (h.0, e)
+-- ---- where there is no verdict
+
+-- the rows of the units that ended before a fault of the recording
+ended_until : {W : Type 0} (contents : W → Option (List ℕ)) (p : Contents) (old new : UnitRows W) (f : ReadFault) (known : Option (List ℕ)) (rec : Option Recording) → AreFresh old
+    → WhereBothKnown known rec (IsHeardBefore (listening (HearsRows contents) old new) p (stream.Read f)) → WhereBothKnown known rec (HaveEnded contents old new p f)
+ended_until contents p old new f None rec fresh h = tt
+ended_until contents p old new f (Some text) None fresh h = tt
+ended_until contents p old new f (Some text) (Some r) fresh h =
+    record { reports = h.reports; before = h.before; puts = ended_put contents p old new h.reports (paged contents new.out new.page) fresh.1 h.heard (Appends-nil (paged contents new.out new.page)) }
+
+pub leaves_units : {W : Type 0} (contents : W → Option (List ℕ)) (i : Input) (old new : UnitRows W) (e : RunFault) → AreFresh old → ((f : ProfileFault) → e ≡ run.Profile f → new ≡ old)
+    → HearsUntil (listening (HearsRows contents) old new) i e → LeavesUnits contents old new i e
+leaves_units contents i old new (run.Profile f) fresh before h = before f refl
+leaves_units contents i old new (run.Read f) fresh before h = (h.0, h.1, ended_until contents h.0 old new f i.certificate i.recording fresh h.2)
+leaves_units contents i old new run.Device fresh before h = tt
+leaves_units contents i old new run.Memory fresh before h = tt
+leaves_units contents i old new (run.Cut k f) fresh before h = tt
+leaves_units contents i old new run.TooLong fresh before h = tt
+leaves_units contents i old new run.BadWord fresh before h = tt
+leaves_units contents i old new run.Usage fresh before h = tt

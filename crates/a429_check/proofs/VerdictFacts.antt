@@ -25,7 +25,7 @@ use Rattle.a429_check.specs.declared.fault.RunFault.{RunFault}
 use Rattle.a429_check.specs.declared.fault.RunFault.TheVariants as run
 use Rattle.a429_check.specs.Profile.{IsProfileOf, IsProfileFault}
 use Rattle.a429_check.specs.Output.{Output, HasFailedIn, IsCutShort}
-use Rattle.a429_check.specs.Verdict.{AllWork, AnyFailed, HasAnswer, HasFailed, HearsAnswer, Input, IsAnswerOf, IsAnswered, IsJudged, IsNoAnswer, IsSomeVerdict, IsVerdict, IsVerifyFault, Judges, Rejects, count_line, file_line, line_of_file, no, no_text, of_stream, status_of_answer, text_of_answer, yes, yes_text}
+use Rattle.a429_check.specs.Verdict.{AllWork, AnyFailed, HasAnswer, HasFailed, HearsAnswer, HearsUntil, Input, IsAnswerOf, IsAnswered, IsJudged, IsNoAnswer, IsSomeVerdict, IsVerdict, IsVerifyFault, Judges, Rejects, count_line, file_line, line_of_file, no, no_text, of_stream, status_of_answer, text_of_answer, yes, yes_text}
 use Rattle.a429_cert.specs.Change.{change}
 
 -- what is reported of files, by their lines
@@ -105,6 +105,17 @@ by_profile i shelf Failed run.TooLong same h = absurd h
 by_profile i shelf Failed run.BadWord same h = absurd h
 by_profile i shelf Failed run.Usage same h = absurd h
 
+-- then nothing was heard of the recording
+pub unheard : {T : Type 0} (l : Listening T) (i : Input) (e : RunFault) → IsProfileFault i.profile e → HearsUntil l i e
+unheard l i (run.Profile f) h = tt
+unheard l i run.Memory h = tt
+unheard l i (run.Read f) h = absurd h
+unheard l i run.Device h = tt
+unheard l i (run.Cut k f) h = tt
+unheard l i run.TooLong h = tt
+unheard l i run.BadWord h = tt
+unheard l i run.Usage h = tt
+
 -- a fault of a stream, as a command reports it
 pub by_stream : (i : Input) (shelf : Shelved) (p : Contents) (Failed : Type 0) (f : StreamFault) → IsProfileOf i.profile p → Refuses (compared p i.certificate i.recording) (change shelf.before shelf.after) f
     → (f ≡ stream.Device → Failed) → (f ≡ stream.Read read.Device → Failed) → IsVerifyFault i shelf Failed (of_stream f)
@@ -161,6 +172,25 @@ module _ (i : Input) (shelf : Shelved) (p : Contents) (failed : Bool) where
       → OnOk r (HearsRun l (compared p i.certificate i.recording)) → IfErr r (HearsBefore l (compared p i.certificate i.recording)) → HearsAnswer l p i a
   heard_by l (Ok files) a h there no_way = subst (HearsAnswer l p i) (sym h.1) there
   heard_by l (Err f) a h there no_way = subst (HearsAnswer l p i) (sym h.1.3) (subst (HearsBefore l (compared p i.certificate i.recording)) h.1.1 no_way)
+
+  -- where it is no answer, but a fault of the recording
+  pub heard_until : {T : Type 0} (l : Listening T) (r : Result (Vec (ℕ × ℕ) Global) StreamFault) (e : RunFault) → IsProfileOf i.profile p → IsNoAnswer failed r e
+      → IfErr r (HearsBefore l (compared p i.certificate i.recording)) → HearsUntil l i e
+  heard_until l r e is (inl h) heard = subst (HearsUntil l i) (sym h.1) tt
+  heard_until l r e is (inr (_, (f, same, fault))) heard =
+      subst (HearsUntil l i) (sym fault) (by f (subst (λ (x : Result (Vec (ℕ × ℕ) Global) StreamFault). IfErr x (HearsBefore l (compared p i.certificate i.recording))) same heard))
+    where
+      by : (f : StreamFault) → HearsBefore l (compared p i.certificate i.recording) f → HearsUntil l i (of_stream f)
+      by (stream.Cert f) h = tt
+      by (stream.Read read.Header) h = (p, is, h)
+      by (stream.Read (read.Row n)) h = (p, is, h)
+      by (stream.Read (read.TimeBack n)) h = (p, is, h)
+      by (stream.Read read.TooMany) h = (p, is, h)
+      by (stream.Read read.Failed) h = (p, is, h)
+      by (stream.Read read.Device) h = tt
+      by (stream.Read read.OutOfMemory) h = tt
+      by stream.Device h = tt
+      by stream.OutOfMemory h = tt
 
   pub none_has_failed : (r : Result (Vec (ℕ × ℕ) Global) StreamFault) (a : Result (Vec (ℕ × ℕ) Global) CertFault) → IsAnswerOf failed r a → failed ≡ false
   none_has_failed (Ok files) a h = h.0

@@ -12,7 +12,7 @@ use Rattle.a429_explain.specs.declared.verdict.Reason.TheVariants.{NoForm, NotGr
 use Rattle.a429_explain.specs.declared.verdict.Doubt.{Doubt}
 use Rattle.a429_explain.specs.declared.verdict.Doubt.TheVariants.{NeverWhole, NotOneBlock, NotReplayed}
 use Rattle.a429_search.specs.Deciding.{IsImpossibleBy, IsImpossibleUpTo, IsOfCheck, IsReasonAt}
-use Rattle.a429_explain.specs.Verdict.{IsSoundVerdict, IsOfLeastVersion, IsImpossible, IsDoubted, IsFirst, HasNoForm, IsImpossibility, IsExplanation}
+use Rattle.a429_explain.specs.Verdict.{IsSoundVerdict, IsAccepted, IsOfLeastVersion, IsImpossible, IsDoubted, IsFirst, HasNoForm, IsImpossibility, IsExplanation}
 use Rattle.a429_explain.specs.WithoutLoss.{IsWithoutLoss}
 use Rattle.std.specs.Str.{IsUtf8}
 use Rattle.a429_cert.specs.Stream.{sizes}
@@ -76,6 +76,7 @@ IsByRule rule.Decide p items v = IsDecided p items v
 -- such a verdict on recorded words, under a profile
 pub record IsVerdictBy (by_rule : Rule) (p : Contents) (items : List Seen) (v : Verdict) : Type 0 where
   pub sound : IsSoundVerdict p items v
+  pub accepted : IsAccepted p items v
   pub version : IsOfLeastVersion p items v
   pub doubted : IsDoubted p items v
   pub first : IsByRule by_rule p items v

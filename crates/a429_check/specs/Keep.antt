@@ -15,8 +15,7 @@ use Rattle.a429_check.specs.declared.fault.RunFault.TheVariants as run
 use Rattle.a429_check.specs.Fault.{ComesBy, never}
 use Rattle.a429_check.specs.Output.{Output}
 use Rattle.a429_check.specs.Profile.{IsProfileOf}
-use Rattle.a429_check.specs.Streaming.{IsFaultToCome}
-use Rattle.a429_check.specs.Survey.{IsSurveyFault}
+use Rattle.a429_check.specs.Streaming.{IsFaultToCome, IsStreamingFault}
 
 -- an output has gained the text recording of the entries of a recording that are kept; the recording has no fault
 pub record PutsKept {W : Type 0} (contents : W → Option (List ℕ)) (old new : Tally W) (rec : Option Recording) (c : Codes) : Type 0 where
@@ -24,7 +23,7 @@ pub record PutsKept {W : Type 0} (contents : W → Option (List ℕ)) (old new :
   pub all : IfSome rec (λ r. r ≡ whole entries)
   pub puts : Puts contents old new (kept_text c entries)
 
--- it has gained that of the entries that come before a fault; nothing where no entry does
+-- it has gained that of the entries that come before a fault, of some first entries where that is a failed reader or out of memory; nothing where no entry does
 pub record PutsKeptUntil {W : Type 0} (contents : W → Option (List ℕ)) (old new : Tally W) (rec : Option Recording) (c : Codes) (fault : ReadFault) : Type 0 where
   pub entries : List Entry
   pub stops : IfSome rec (λ r. (rest : Recording) × (r ≡ with_entries entries rest) × Stops fault rest)
@@ -62,6 +61,6 @@ LeavesKept o profile rec e = WithCodes profile (GainsUntil o rec e)
 abbrev pub EndsBy : Option Recording → Type 0 → RunFault → Type 0
 EndsBy rec Failed = ComesBy (record never { recording = IsFaultToCome rec; device = Failed; memory = Unit {0} })
 
--- why `keep` fails: for the same reasons as `survey`
+-- why `keep` fails: as a command that writes while it reads
 abbrev pub IsKeepFault : List ℕ → Option Recording → Bool → Bool → RunFault → Type 0
-IsKeepFault profile rec rec_failed out_failed = IsSurveyFault profile rec rec_failed out_failed
+IsKeepFault profile rec rec_failed out_failed = IsStreamingFault profile rec rec_failed out_failed

@@ -1,4 +1,4 @@
--- Which names a command may have: none overwrites what it reads (profile).
+-- Which names a command may have: what it writes to is spelled unlike each name that it reads; another spelling of it, or a file inside DIR, is not seen (profile).
 use Rattle.std.specs.Prelude.{◌≢◌, ⊤}
 use Rattle.a429_check.specs.declared.command_line.commands.Claim.{Claim}
 use Rattle.a429_check.specs.declared.command_line.commands.Command.{Command}

@@ -20,6 +20,10 @@ pub record SayInput (profile : List ℕ) (recording : Option (List ℕ)) : Type 
 abbrev pub SaysEntries : Option (List ℕ) → List Entry → Type 0
 SaysEntries recording es = IfSome recording (λ bytes. stands_for bytes ≡ whole es)
 
+-- a recording says some entries: it has no fault
+abbrev pub IsSomeRecording : Option (List ℕ) → Type 0
+IsSomeRecording recording = (es : List Entry) × SaysEntries recording es
+
 -- the text is such a one of the entries that a recording says
 abbrev pub IsOfEntries : Option (List ℕ) → (List Entry → List ℕ → Type 0) → List ℕ → Type 0
 IsOfEntries recording IsSuch text = (es : List Entry) × SaysEntries recording es × IsSuch es text
@@ -35,6 +39,6 @@ IsRecordingFault known f = IfSome known (λ bytes. (stands_for bytes).fault ≡ 
 abbrev pub IsReadFault : Option (List ℕ) → Bool → RunFault → Type 0
 IsReadFault known failed = ComesBy (record never { recording = IsRecordingFault known; device = failed ≡ true; memory = Unit {0} })
 
--- why no lines of its entries are written: its own fault, a reader or a writer that failed, or out of memory
+-- why no lines of its entries are written: its own fault; its reader failed, or, once the recording was read whole, the output did; or out of memory
 abbrev pub IsEntriesFault : Option (List ℕ) → Bool → Bool → RunFault → Type 0
-IsEntriesFault known rec_failed out_failed = ComesBy (record never { recording = IsRecordingFault known; device = (rec_failed ≡ true) ⊎ (out_failed ≡ true); memory = Unit {0} })
+IsEntriesFault known rec_failed out_failed = ComesBy (record never { recording = IsRecordingFault known; device = (rec_failed ≡ true) ⊎ (IsSomeRecording known × (out_failed ≡ true)); memory = Unit {0} })

@@ -15,7 +15,7 @@ use Rattle.a429_check.specs.declared.fault.RunFault.{RunFault}
 use Rattle.a429_check.specs.declared.fault.RunFault.TheVariants as run
 use Rattle.a429_check.specs.Fault.{Causes, ComesBy, never}
 use Rattle.a429_check.specs.PartList.{ListsParts}
-use Rattle.a429_check.specs.Profile.{IsProfileOf, HasFault}
+use Rattle.a429_check.specs.Profile.{IsProfileOf, IsSomeProfile, HasFault}
 use Rattle.a429_check.specs.Verdict.{IsReportedAsRead, fault_text, yes_text}
 
 -- ---- the parts
@@ -141,12 +141,12 @@ IsPartsFault p part counts Failed = ComesBy (part_causes p part counts Failed)
 abbrev pub IsListFault : Contents → List ℕ → (ℕ → Option Part) → Type 0 → RunFault → Type 0
 IsListFault p list part Failed e = (e ≡ run.Memory) ⊎ ((counts : List ℕ) × ListsParts list counts × IsPartsFault p part counts Failed e)
 
--- the profile's own fault; those of parts that are listed; a device that has failed; out of memory, once the profile is known to be a text
+-- the profile's own fault; those of parts that are listed; a device that has failed, after the profile was read; out of memory, once the profile is known to be a text
 abbrev pub series_causes : SeriesInput → Type 0 → Causes
 series_causes i Failed = record never {
   profile = λ f. HasFault i.profile f;
   recording = λ f. IsReportedAsRead f × ((contents : Contents) × (counts : List ℕ) × (place : ℕ) × IsProfileOf i.profile contents × ListsParts i.list counts × IsRefusedAt contents i.part counts place (stream.Read f));
-  device = Failed;
+  device = IsSomeProfile i.profile × Failed;
   memory = IsUtf8 i.profile;
 }
 

@@ -113,11 +113,11 @@ pub record ShowsFirst (profile : List ℕ) (recording : Option (List ℕ)) (text
   pub says : SayInput profile recording
   pub lines : AreFirstShowLines (says.contents) (says.entries) text
 
--- why `show` may fail: the profile's own fault, then the recording's, a reader or writer that failed after the profile was read, or out of memory, once the profile is known to be a text
+-- why `show` may fail: the profile's own fault, then the recording's; its reader failed, or, once the recording was read whole, the output did; or out of memory, once the profile is known to be a text
 abbrev pub IsShowFault : List ℕ → Option (List ℕ) → Bool → Bool → RunFault → Type 0
 IsShowFault profile known rec_failed out_failed = ComesBy (record never {
   profile = HasFault profile;
   recording = λ f. IsSomeProfile profile × IsRecordingFault known f;
-  device = IsSomeProfile profile × ((rec_failed ≡ true) ⊎ (out_failed ≡ true));
+  device = (IsSomeProfile profile × (rec_failed ≡ true)) ⊎ (SayInput profile known × (out_failed ≡ true));
   memory = IsUtf8 profile;
 })

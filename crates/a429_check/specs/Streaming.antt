@@ -1,14 +1,16 @@
 -- What a recording says that is read entry by entry, or what is wrong with it (profile).
-use Rattle.std.specs.Prelude.{◌≡◌, ℕ, List, Bool, true, Option, Some, IfSome}
+use Rattle.std.specs.Prelude.{◌≡◌, ◌⊎◌, ◌+◌, ◌-◌, ℕ, List, Bool, true, Option, Some, IfSome}
+use Rattle.std.specs.Str.{IsUtf8}
 use Rattle.a429_profile.specs.Profile.{Contents}
 use Rattle.a429_record.specs.declared.entry.Entry.{Entry}
 use Rattle.a429_record.specs.declared.fault.ReadFault.{ReadFault}
 use Rattle.a429_record.specs.declared.fault.ReadFault.TheVariants as read
 use Rattle.a429_record.specs.Recording.{Recording, whole}
+use Rattle.a429_record.specs.Entries.{EntriesLeft}
 use Rattle.a429_check.specs.declared.fault.RunFault.{RunFault}
 use Rattle.a429_check.specs.declared.fault.RunFault.TheVariants as run
 use Rattle.a429_check.specs.Fault.{ComesBy, never}
-use Rattle.a429_check.specs.Profile.{IsProfileOf}
+use Rattle.a429_check.specs.Profile.{IsProfileOf, IsSomeProfile, HasFault}
 
 -- a profile's text, and what is in a reader of a recording, say these contents and entries; what is in the reader need not be known
 pub record SayStream (profile : List ℕ) (rec : Option Recording) : Type 0 where
@@ -16,6 +18,10 @@ pub record SayStream (profile : List ℕ) (rec : Option Recording) : Type 0 wher
   pub entries : List Entry
   pub is_profile : IsProfileOf profile contents
   pub stand : IfSome rec (λ r. r ≡ whole entries)
+
+-- what is in the reader is a whole recording, without a fault, where it is known
+abbrev pub ComesWhole : Option Recording → Type 0
+ComesWhole rec = (es : List Entry) × IfSome rec (λ r. r ≡ whole es)
 
 -- the fault in the rest of a recording, if its bytes are known; a failed reader and refused memory are no faults of the recording
 abbrev pub IsFaultToCome : Option Recording → ReadFault → Type 0
@@ -33,7 +39,30 @@ reported f = run.Read f
 abbrev pub IsNextFault : Option Recording → Bool → RunFault → Type 0
 IsNextFault known failed = ComesBy (record never { recording = IsFaultToCome known; device = failed ≡ true; memory = Unit {0} })
 
+-- why a command fails that writes while it reads, so that its output may fail before a fault of the recording is met: the profile has a fault; or the
+-- profile has none, and the recording has a fault or the reader or the output failed; or the profile is a text, and memory was refused
+abbrev pub IsStreamingFault : List ℕ → Option Recording → Bool → Bool → RunFault → Type 0
+IsStreamingFault profile rec rec_failed out_failed = ComesBy (record never {
+  profile = HasFault profile;
+  recording = λ f. IsSomeProfile profile × IsFaultToCome rec f;
+  device = IsSomeProfile profile × ((rec_failed ≡ true) ⊎ (out_failed ≡ true));
+  memory = IsUtf8 profile;
+})
+
 -- where the recording has the fault, these are all the entries before it
 abbrev pub AreAllBefore : RunFault → Option Recording → List Entry → Type 0
 AreAllBefore (run.Read f) known es = IfSome known (λ r. r.entries ≡ es)
 AreAllBefore e known es = Unit {0}
+
+-- a recording that was to come, and how many of its entries were handed out
+pub record Taken : Type 0 where
+  pub recording : Option Recording
+  pub given : ℕ
+
+abbrev pub taken : EntriesLeft → EntriesLeft → Taken
+taken old new = record { recording = old.to_come; given = new.count - old.count }
+
+-- at a fault so many entries were handed out: n; where memory was refused, n or one more
+abbrev pub AreThoseGiven : RunFault → ℕ → ℕ → Type 0
+AreThoseGiven run.Memory given n = (given ≡ n) ⊎ (given ≡ n + 1)
+AreThoseGiven e given n = given ≡ n

@@ -12,6 +12,7 @@ use Rattle.a429_link.specs.declared.seen.Seen.{Seen}
 use Rattle.a429_link.specs.Implied.{implied, implied_at_first, sizes_of}
 use Rattle.a429_link.specs.Observer.{Allows, AreAllowed, at_first, observed}
 use Rattle.a429_link.specs.Run.{BeginsARun, RunOf, delivered_by, trace}
+use Rattle.a429_link.specs.Trace.{files_of}
 use Rattle.a429_record.specs.declared.entry.Entry.{Entry}
 use Rattle.a429_record.specs.Recording.{Recording, whole}
 use Rattle.a429_cert.specs.Explained.{items_of, seen_of}
@@ -25,8 +26,7 @@ use Rattle.a429_check.specs.Check.{verdict_text}
 use Rattle.a429_check.specs.Fault.{ComesBy, never}
 use Rattle.a429_check.specs.Output.{Output}
 use Rattle.a429_check.specs.Profile.{IsProfileOf}
-use Rattle.a429_check.specs.Streaming.{AreAllBefore, IsFaultToCome}
-use Rattle.a429_check.specs.Survey.{IsSurveyFault}
+use Rattle.a429_check.specs.Streaming.{AreAllBefore, AreThoseGiven, IsFaultToCome, IsStreamingFault, Taken}
 use Rattle.a429_check.specs.Verdict.{file_line}
 
 -- ---- the text
@@ -44,8 +44,8 @@ abbrev pub first_lines : Contents → List Entry → List ℕ
 first_lines p es = lines_of p 0 implied_at_first es
 
 -- each run that records these words delivers exactly these files
-abbrev pub AreDelivered : Contents → List Seen → List Crossing → Type 0
-AreDelivered p items files = (r : RunOf p) → trace r.steps ≡ items → sizes_of (delivered_by r) ≡ files
+abbrev pub AreInEachRun : Contents → List Seen → List Crossing → Type 0
+AreInEachRun p items files = (r : RunOf p) → trace r.steps ≡ items → sizes_of (delivered_by r) ≡ files
 
 -- these are the first entries of the recording, where it is known
 abbrev pub BeginsWith : Option Recording → List Entry → Type 0
@@ -59,9 +59,9 @@ pub record IsRefusedAfter (p : Contents) (items : List Seen) (i : Seen) (reason 
   pub impossible : BeginsARun p (items ++ i ∷ []) → ⊥
 
 -- the trace of a whole recording: the lines of its entries, each of which is allowed after those before it, and the files
--- that are delivered; or of one up to the first entry that no run records, its line, and the reason
+-- of the sink, which each run delivers that records these words; or of one up to the first entry that no run records, its line, and the reason
 pub data IsTraceOf (p : Contents) (known : Option Recording) (status : ℕ) (text : List ℕ) : Type 0 where
-  only : (es : List Entry) (all : IfSome known (λ r. r ≡ whole es)) (allowed : AreAllowed p at_first (items_of es)) (files : List Crossing) (delivered : AreDelivered p (items_of es) files) (status_is : status ≡ 0) (text_is : text ≡ first_lines p es ++ only_text files) → IsTraceOf p known status text
+  only : (es : List Entry) (all : IfSome known (λ r. r ≡ whole es)) (allowed : AreAllowed p at_first (items_of es)) (files : List Crossing) (sink : files ≡ sizes_of (files_of p (items_of es))) (delivered : AreInEachRun p (items_of es) files) (status_is : status ≡ 0) (text_is : text ≡ first_lines p es ++ only_text files) → IsTraceOf p known status text
   impossible : (es : List Entry) (e : Entry) (begins : BeginsWith known (es ++ e ∷ [])) (reason : Reason) (refused : IsRefusedAfter p (items_of es) (seen_of e) reason) (status_is : status ≡ 1) (text_is : text ≡ first_lines p es ++ (refused_line p (length es) (implied p (items_of es) implied_at_first) e ++ verdict_text (verdict.Impossible (length es) reason))) → IsTraceOf p known status text
 
 -- the same by the profile whose text the bytes are
@@ -72,38 +72,39 @@ pub record Traces (profile : List ℕ) (known : Option Recording) (status : ℕ)
 
 -- ---- where it is cut off
 
--- the text is the lines of the entries that came before a fault, each of which is allowed after those before it; where the fault is the
--- recording's, of all entries before it
-pub record IsCut (p : Contents) (known : Option Recording) (e : RunFault) (text : List ℕ) : Type 0 where
+-- the text is the lines of the entries that were handed out before a fault, each of which is allowed after those before it; where the fault is the
+-- recording's, of all entries before it; where memory was refused, the last one may have no line
+pub record IsCut (p : Contents) (t : Taken) (e : RunFault) (text : List ℕ) : Type 0 where
   pub entries : List Entry
-  pub begins : BeginsWith known entries
-  pub all : AreAllBefore e known entries
+  pub begins : BeginsWith t.recording entries
+  pub all : AreAllBefore e t.recording entries
+  pub came : AreThoseGiven e t.given (length entries)
   pub allowed : AreAllowed p at_first (items_of entries)
   pub text_is : text ≡ first_lines p entries
 
 -- the text that is put before a command answers this status or this fault
-abbrev pub IsPutBy : Contents → Option Recording → Result ℕ RunFault → List ℕ → Type 0
-IsPutBy p known (Ok status) text = IsTraceOf p known status text
-IsPutBy p known (Err f) text = IsCut p known f text
+abbrev pub IsPutBy : Contents → Taken → Result ℕ RunFault → List ℕ → Type 0
+IsPutBy p t (Ok status) text = IsTraceOf p t.recording status text
+IsPutBy p t (Err f) text = IsCut p t f text
 
 -- a sheet says some text that is such
 abbrev pub SaysText : {W : Type 0} → (W → Option (List ℕ)) → Sheet W → Sheet W → (List ℕ → Type 0) → Type 0
 SaysText contents old new IsSuch = (text : List ℕ) × IsSuch text × Says contents old new text
 
--- what the output has after a fault of the recording: the lines of the entries before it; or, where the output has failed, a
--- prefix of these or of a whole trace
-pub data LeavesLines {W : Type 0} (o : Output W) (p : Contents) (known : Option Recording) (e : RunFault) : Type 0 where
-  lines : (text : List ℕ) (cut : IsCut p known e text) (put : Puts o.contents o.old o.new text) → LeavesLines o p known e
-  failed : (device : e ≡ run.Device) (failed : has_failed o.new ≡ true) (text : List ℕ) (of : IsCut p known e text ⊎ ((status : ℕ) × IsTraceOf p known status text)) (prefix : PutsFront o.contents o.old o.new text) → LeavesLines o p known e
+-- what the output has after a fault that comes once the profile was read: the lines of the entries before it; or, where the output has failed, a
+-- prefix of such lines, whatever else has failed, or of a whole trace
+pub data LeavesLines {W : Type 0} (o : Output W) (p : Contents) (t : Taken) (e : RunFault) : Type 0 where
+  lines : (text : List ℕ) (cut : IsCut p t e text) (put : Puts o.contents o.old o.new text) → LeavesLines o p t e
+  failed : (device : e ≡ run.Device) (failed : has_failed o.new ≡ true) (text : List ℕ) (of : ((why : RunFault) × IsCut p t why text) ⊎ ((status : ℕ) × IsTraceOf p t.recording status text)) (prefix : PutsFront o.contents o.old o.new text) → LeavesLines o p t e
 
 -- what it has after any fault: what it had, or such lines by the profile whose text the bytes are
-abbrev pub LeavesTrace : {W : Type 0} → Output W → List ℕ → Option Recording → RunFault → Type 0
-LeavesTrace o profile known e = (o.new ≡ o.old) ⊎ ((p : Contents) × IsProfileOf profile p × LeavesLines o p known e)
+abbrev pub LeavesTrace : {W : Type 0} → Output W → List ℕ → Taken → RunFault → Type 0
+LeavesTrace o profile t e = (o.new ≡ o.old) ⊎ ((p : Contents) × IsProfileOf profile p × LeavesLines o p t e)
 
 -- why no more lines are put, under a profile that was read: the recording has a fault, its reader or the output failed, or memory was refused
 abbrev pub IsLinesFault : Option Recording → Bool → Bool → RunFault → Type 0
 IsLinesFault known rec_failed out_failed = ComesBy (record never { recording = IsFaultToCome known; device = (rec_failed ≡ true) ⊎ (out_failed ≡ true); memory = Unit {0} })
 
--- why `trace` fails: as `survey` does
+-- why `trace` fails: as a command that writes while it reads
 abbrev pub IsTraceFault : List ℕ → Option Recording → Bool → Bool → RunFault → Type 0
-IsTraceFault profile known rec_failed out_failed = IsSurveyFault profile known rec_failed out_failed
+IsTraceFault profile known rec_failed out_failed = IsStreamingFault profile known rec_failed out_failed

@@ -172,6 +172,11 @@ HearsAnswer l p i (Err f) = HearsBefore l (compared p i.certificate i.recording)
 abbrev pub HearsJudged : {T : Type 0} → Listening T → Input → Judged → Type 0
 HearsJudged l i j = HearsAnswer l j.profile i j.answer
 
+-- at a fault of the recording it has heard the steps of the lines before it, by the profile whose text the bytes are
+abbrev pub HearsUntil : {T : Type 0} → Listening T → Input → RunFault → Type 0
+HearsUntil l i (run.Read f) = (p : Contents) × IsProfileOf i.profile p × HearsBefore l (compared p i.certificate i.recording) (stream.Read f)
+HearsUntil l i e = Unit {0}
+
 -- the text and the status of what was judged
 abbrev pub status_of_answer : {Z : Type 0} → Result (Vec (ℕ × ℕ) Z) CertFault → ℕ
 status_of_answer (Ok files) = 0

@@ -21,7 +21,8 @@ pub enum RunFault {
     /// The profile has this fault, its first one.
     #[error("profile: {0}")]
     Profile(ProfileFault),
-    /// The recording has this fault, its first one.
+    /// The recording has this fault, its first one; `TooMany` also where `make` would write more than 1,000,000 entries, and
+    /// where `cut` finds no place near enough.
     #[error("recording: {0}")]
     Read(ReadFault),
     /// The file at this place, from 0, can not be cut into link data units: it is `Empty` or `TooLong`.

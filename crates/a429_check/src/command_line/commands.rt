@@ -55,7 +55,8 @@ pub enum Command<'a> {
     },
     /// `check PROFILE REC CERT`: finds a certificate for a recording, and writes it to CERT.
     Check(Claim<'a>),
-    /// `decide PROFILE REC CERT`: as `check`, and where that has a doubt a search for a run.
+    /// `decide PROFILE REC CERT`: as `check`; where that is no yes, contradictions, and where it has a doubt a search for a
+    /// run, and then attempts to send one unit that no unit has.
     Decide(Claim<'a>),
     /// `extract PROFILE REC CERT DIR`: takes out the files that crossed, into the folder DIR.
     Extract {

@@ -1,5 +1,6 @@
 //! `a429 check PROFILE REC CERT`: finds a certificate for a recording, or says why there is none; and `a429 decide`,
-//! which does the same, tests whether words contradict each other, and searches for a run where `check` has a doubt.
+//! which does the same, tests whether words contradict each other, and, where `check` has a doubt, searches for a run and then
+//! compares attempts to send one unit.
 
 ghost use Rattle.std.specs.Prelude.{◌≡◌, ◌≢◌, ◌↔◌, [], true, false, Ok, IsErr, IfOk, IfErr, OnOk};
 ghost use Rattle.std.specs.Fmt.{decimal};
@@ -45,9 +46,10 @@ pub fn run_check<R: Read, C: Write, W: Write>(
     run_by_rule(alloc, profile, rec, cert, out, Rule::Check)
 }
 
-/// Does what `run_check` does, with two differences. A recording is impossible, too, from the first word on that contradicts
-/// what was recorded before it. And where `check` has a doubt, and no word contradicts, it searches for a run; where it finds
-/// one the recording is explained.
+/// Does what `run_check` does, with three differences. A recording is impossible, too, from the first word on that contradicts
+/// what was recorded before it. Where `check` has a doubt, and no word contradicts, it searches for a run; where it finds
+/// one the recording is explained. Where the search finds none, the recording is impossible, by `NoRun`, if attempts to send
+/// one link data unit are found that no unit has.
 pub fn run_decide<R: Read, C: Write, W: Write>(
     alloc: Global,
     profile: &[u8],

@@ -18,8 +18,9 @@ use std::io::{Read, Write};
 /// Writes the text recording of the entries whose words have the label that the transfer of a profile has on their
 /// bus, in order, and answers status 0. Damaged and ignored words with that label are kept; the words left out are
 /// free, whatever they are (ARINC 429 Part 3; which words are free is the profile's). `profile` is the bytes of its
-/// text. The recording is read entry by entry, and none of them is kept in memory. Where the recording has a fault, or its
-/// reader fails, the rows of the entries before it are written, and nothing where there is none.
+/// text. The recording is read entry by entry, and none of them is kept in memory. Where the recording has a fault, the
+/// rows of the entries before it are written, and nothing where there is none; after a failed reader or out of memory, those
+/// of some first entries.
 pub fn run_keep<R: Read, W: Write>(
     alloc: Global,
     profile: &[u8],

@@ -5,6 +5,7 @@
 pub enum Rule {
     /// `check`: the fixed rule alone.
     Check,
-    /// `decide`: that of `check`; where it is no yes, contradictions, and where it has a doubt a search.
+    /// `decide`: that of `check`; where it is no yes, contradictions, and where it has a doubt a search, and then attempts to
+    /// send one unit that no unit has.
     Decide,
 }

@@ -17,6 +17,7 @@ pub(crate) fn next_entry<R: Read>(rec: &mut EntryReader<R>) -> Result<Option<Ent
     ensures room { IfOk result (λ o. IfSome o (λ _. rec.new.room < rec.old.room)) }
     ensures works { IfOk result (λ o. o ≡ None → rec.new.failed ≡ false) }
     ensures err { IfErr result (IsNextFault rec.old.to_come rec.new.failed) }
+    ensures same { IfErr result (λ _. rec.new.count ≡ rec.old.count) }
     ensures none_before { IfErr result (λ e. AreAllBefore e rec.old.to_come []) }
 {
     match rec.next() {

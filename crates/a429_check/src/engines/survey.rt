@@ -8,8 +8,7 @@ ghost use Rattle.a429_record.specs.declared.entry.Entry.{Entry};
 ghost use Rattle.a429_view.specs.Survey.{IsSurvey, survey_text};
 ghost use Rattle.a429_check.specs.Output.{PutsText, IsCutShort, output};
 ghost use Rattle.a429_check.specs.Streaming.{IsNextFault};
-ghost use Rattle.a429_check.specs.Survey.{Counts, IsSomeSurvey, Surveys, SurveysBy, IsSurveyFault};
-ghost use Rattle.a429_check.specs.Trace.{IsLinesFault};
+ghost use Rattle.a429_check.specs.Survey.{Counts, IsCountingFault, IsSomeSurvey, Surveys, SurveysBy, IsSurveyFault};
 
 use crate::engines::profile::profile_of;
 use crate::engines::streaming::next_entry;
@@ -52,7 +51,7 @@ fn survey_by<R: Read, W: Write>(
 ) -> Result<u8, RunFault>
     ensures ok { IfOk result (λ status. status ≡ 0) }
     ensures lines { OnOk result (PutsText W.contents out.old out.new (SurveysBy profile.now.codes rec.old.to_come)) }
-    ensures err { IfErr result (IsLinesFault rec.old.to_come rec.new.failed (has_failed out.new)) }
+    ensures err { IfErr result (IsCountingFault rec.old.to_come rec.new.failed (has_failed out.new)) }
     ensures cut { IfErr result (IsCutShort (output W.contents out.old out.new) (rec.new.failed ≡ true) (SurveysBy profile.now.codes rec.old.to_come)) }
     ensures device { OnOk result ((rec.new.failed ≡ false) × (has_failed out.new ≡ false)) }
 {

@@ -5,6 +5,7 @@ ghost use Rattle.a429_word.specs.Sheet.{Says, sheet_failed};
 ghost use Rattle.a429_word.specs.Tally.{has_failed};
 ghost use Rattle.a429_view.specs.Trace.{IsTrace};
 ghost use Rattle.a429_check.specs.Output.{PutsText, output};
+ghost use Rattle.a429_check.specs.Streaming.{taken};
 ghost use Rattle.a429_check.specs.Trace.{IsLinesFault, IsPutBy, IsTraceFault, IsTraceOf, LeavesLines, LeavesTrace, SaysText, Traces, only_text, size_line};
 
 use crate::engines::check::put_impossible;
@@ -26,7 +27,7 @@ use std::io::{Read, Write};
 /// first word that no run records after those before it, which is the last that is read (ARINC 429 Part 3; the layout is
 /// the profile's). `profile` is the bytes of its text. The recording is read entry by entry. Kept are the number and the
 /// length of each file that has crossed, 16 bytes, and the bytes of the one that is not whole. Where the recording has a
-/// fault, or the reader fails, the lines of the entries before it are written.
+/// fault, or the reader fails, the lines of the entries before it are written; out of memory, the last entry may have no line.
 pub fn run_trace<R: Read, W: Write>(
     alloc: Global,
     profile: &[u8],
@@ -35,7 +36,7 @@ pub fn run_trace<R: Read, W: Write>(
 ) -> Result<u8, RunFault>
     ensures text { IfOk result (λ status. PutsText W.contents out.old out.new (Traces profile.now rec.old.to_come status)) }
     ensures err { IfErr result (IsTraceFault profile.now rec.old.to_come rec.new.failed (has_failed out.new)) }
-    ensures cut { IfErr result (LeavesTrace (output W.contents out.old out.new) profile.now rec.old.to_come) }
+    ensures cut { IfErr result (LeavesTrace (output W.contents out.old out.new) profile.now (taken rec.old rec.new)) }
     ensures device { IfOk result (λ status. (has_failed out.new ≡ false) × (status ≡ 0 → rec.new.failed ≡ false)) }
 {
     let profile = profile_of(alloc, profile)?;
@@ -56,7 +57,7 @@ fn write_trace<R: Read, W: Write>(
     requires { page ≡ [] }
     ensures text { IfOk result (λ status. PutsText W.contents out.old out.new (IsTraceOf profile.now rec.old.to_come status)) }
     ensures err { IfErr result (IsLinesFault rec.old.to_come rec.new.failed (has_failed out.new)) }
-    ensures cut { IfErr result (LeavesLines (output W.contents out.old out.new) profile.now rec.old.to_come) }
+    ensures cut { IfErr result (LeavesLines (output W.contents out.old out.new) profile.now (taken rec.old rec.new)) }
     ensures device { IfOk result (λ status. (has_failed out.new ≡ false) × (status ≡ 0 → rec.new.failed ≡ false)) }
 {
     let mut page = page;
@@ -73,7 +74,7 @@ fn put_trace<R: Read, W: Write>(
     profile: &Profile,
     rec: &mut EntryReader<R>,
 ) -> Result<u8, RunFault>
-    ensures text { SaysText W.contents sheet.old sheet.new (IsPutBy profile.now rec.old.to_come result) }
+    ensures text { SaysText W.contents sheet.old sheet.new (IsPutBy profile.now (taken rec.old rec.new) result) }
     ensures err { IfErr result (IsLinesFault rec.old.to_come rec.new.failed (sheet_failed sheet.new)) }
     ensures device { IfOk result (λ status. status ≡ 0 → rec.new.failed ≡ false) }
 {
@@ -90,7 +91,7 @@ fn put_steps<R: Read, W: Write>(
     trace: &mut Trace,
 ) -> Result<u8, RunFault>
     requires { IsTrace profile.now trace.old [] }
-    ensures text { SaysText W.contents sheet.old sheet.new (IsPutBy profile.now rec.old.to_come result) }
+    ensures text { SaysText W.contents sheet.old sheet.new (IsPutBy profile.now (taken rec.old rec.new) result) }
     ensures err { IfErr result (IsLinesFault rec.old.to_come rec.new.failed (sheet_failed sheet.new)) }
     ensures device { IfOk result (λ status. status ≡ 0 → rec.new.failed ≡ false) }
 {

@@ -1,11 +1,10 @@
 //! `a429 units PROFILE REC CERT`: the link data units that a certificate loads, a row for each.
 
-ghost use Rattle.std.specs.Prelude.{◌≡◌, Err, true, false, IfOk, IfErr, OnOk};
+ghost use Rattle.std.specs.Prelude.{◌≡◌, true, false, IfOk, IfErr, OnOk};
 ghost use Rattle.a429_word.specs.Tally.{has_failed};
-ghost use Rattle.a429_profile.specs.declared.fault.ProfileFault.{ProfileFault};
 ghost use Rattle.a429_check.specs.Output.{output};
 ghost use Rattle.a429_check.specs.Verdict.{input, no_shelf, AllWork, AnyFailed, IsVerifyFault};
-ghost use Rattle.a429_check.specs.Units.{AreFresh, EndsUnits, ReportsUnits};
+ghost use Rattle.a429_check.specs.Units.{AreFresh, EndsUnits, LeavesUnits, ReportsUnits};
 
 use crate::engines::verdict::{Judged, judge, write_answer};
 use crate::fault::RunFault;
@@ -33,7 +32,7 @@ pub fn run_units<R: Read, C: Read, W: Write>(
     ensures device { OnOk result (AllWork rec.new.failed (has_failed certificate.new) false (has_failed rows.new.out)) }
     ensures err { IfErr result (IsVerifyFault (input profile.now C.remaining certificate.old rec.old) no_shelf
         (AnyFailed rec.new.failed (has_failed certificate.new) false (has_failed rows.new.out))) }
-    ensures silent { (f : ProfileFault) → result ≡ Err (RunFault.Profile f) → rows.new ≡ rows.old }
+    ensures cut { IfErr result (LeavesUnits W.contents rows.old rows.new (input profile.now C.remaining certificate.old rec.old)) }
 {
     let judged = judge(alloc, profile, rec, certificate, &mut NoShelf, rows)?;
     let status = end_rows(rows, &judged);

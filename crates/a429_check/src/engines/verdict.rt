@@ -10,7 +10,7 @@ ghost use Rattle.a429_profile.specs.declared.fault.ProfileFault.{ProfileFault};
 ghost use Rattle.a429_cert.specs.Stream.{sizes};
 ghost use Rattle.a429_cert.specs.BreakOff.{readers, shelved};
 ghost use Rattle.a429_check.specs.Extract.{progress, Leaves};
-ghost use Rattle.a429_check.specs.Verdict.{count_line, file_line, line_of_file, yes_text, fault_text, no_text, text_of_answer, status_of_answer, of_stream, input, AllWork, AnyFailed, HearsJudged, IsAnswerOf, IsJudged, IsNoAnswer, IsVerifyFault};
+ghost use Rattle.a429_check.specs.Verdict.{count_line, file_line, line_of_file, yes_text, fault_text, no_text, text_of_answer, status_of_answer, of_stream, input, AllWork, AnyFailed, HearsJudged, HearsUntil, IsAnswerOf, IsJudged, IsNoAnswer, IsVerifyFault};
 ghost use Rattle.a429_cert.specs.Report.{listening};
 
 use crate::engines::profile::profile_of;
@@ -46,6 +46,7 @@ pub(crate) fn judge<R: Read, C: Read, S: Shelf, T: Listener>(
 ) -> Result<Judged, RunFault>
     ensures judged { IfOk result (IsJudged (input profile.now C.remaining cert.old rec.old) (shelved S.files S.failed shelf.old shelf.new)) }
     ensures heard { IfOk result (HearsJudged (listening T.hears listener.old listener.new) (input profile.now C.remaining cert.old rec.old)) }
+    ensures until { IfErr result (HearsUntil (listening T.hears listener.old listener.new) (input profile.now C.remaining cert.old rec.old)) }
     ensures works { OnOk result (AllWork rec.new.failed (has_failed cert.new) (S.failed shelf.new) (T.failed listener.new)) }
     ensures err { IfErr result (IsVerifyFault (input profile.now C.remaining cert.old rec.old) (shelved S.files S.failed shelf.old shelf.new)
         (AnyFailed rec.new.failed (has_failed cert.new) (S.failed shelf.new) (T.failed listener.new))) }

@@ -12,7 +12,7 @@ returns-in_err-entries-clause-err g c =
 pub returns-in_err-put_entries-clause-err : goal.returns-in_err-put_entries-clause-err
 returns-in_err-put_entries-clause-err g c =
     let p = err_from_is_err_and c.from_residual-in_err-put_entries.result c.from_residual-in_err-put_entries.ensures.1 in
-    rw (p.1, p.2) (inr (c.in_err-put_entries.ensures.device.0 refl))
+    rw (p.1, p.2) (inr ((c.in_ok-entries.entries.items, c.in_ok-entries.ensures.ok), c.in_err-put_entries.ensures.device.0 refl))
 
 pub returns-in_err-put_entries-clause-cut : goal.returns-in_err-put_entries-clause-cut
 returns-in_err-put_entries-clause-cut g c =

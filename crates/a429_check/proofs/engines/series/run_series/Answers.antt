@@ -16,7 +16,8 @@ returns-in_err-answer-clause-err g c =
 pub returns-in_err-write_series-clause-err : goal.returns-in_err-write_series-clause-err
 returns-in_err-write_series-clause-err g c =
     let p = err_from_is_err_and c.from_residual-in_err-write_series.result c.from_residual-in_err-write_series.ensures.1 in
-    rw (p.1, p.2) (inr (c.in_err-write_series.ensures.device.0 refl))
+    let under = c.in_ok-answer.ensures.judged in
+    rw (p.1, p.2) ((under.0, under.1), inr (c.in_err-write_series.ensures.device.0 refl))
 
 pub returns-in_err-write_series-clause-cut : goal.returns-in_err-write_series-clause-cut
 returns-in_err-write_series-clause-cut g c =

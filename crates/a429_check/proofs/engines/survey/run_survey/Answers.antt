@@ -1,6 +1,7 @@
 use Rattle.std.proofs.lemmas.Result.{on_ok_weaker}
 use Rattle.a429_check.proofs.EntriesFacts.{cut_short_as, surveyed}
-use Rattle.a429_check.proofs.TraceLines.{if_err_map, trace_fault}
+use Rattle.a429_check.proofs.StreamingFacts.{survey_fault}
+use Rattle.a429_check.proofs.TraceLines.{if_err_map}
 use Rattle.a429_check.proofs.engines.survey.run_survey.Goals as goal
 
 pub returns-clause-lines : goal.returns-clause-lines
@@ -9,7 +10,7 @@ returns-clause-lines g c =
 
 pub returns-clause-err : goal.returns-clause-err
 returns-clause-err g c =
-    if_err_map c.survey_by-status.result c.survey_by-status.ensures.err (λ e h. trace_fault c.args.profile.now c.in_ok-profile.profile _ _ _ e c.in_ok-profile.ensures.ok h)
+    if_err_map c.survey_by-status.result c.survey_by-status.ensures.err (λ e h. survey_fault c.args.profile.now c.in_ok-profile.profile _ _ _ e c.in_ok-profile.ensures.ok h)
 
 pub returns-clause-cut : goal.returns-clause-cut
 returns-clause-cut g c =

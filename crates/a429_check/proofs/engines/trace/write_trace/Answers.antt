@@ -3,6 +3,7 @@ use Rattle.std.proofs.lemmas.Bool.{false_from_ne_true}
 use Rattle.std.proofs.lemmas.Result.{err_from_is_err_and}
 use Rattle.a429_word.proofs.SheetFacts.{says_same_out, writes}
 use Rattle.a429_check.specs.declared.fault.RunFault.{RunFault}
+use Rattle.a429_check.specs.Streaming.{taken}
 use Rattle.a429_check.specs.Trace.{IsPutBy, failed}
 use Rattle.a429_check.proofs.TraceLines.{either_text, err_written, if_ok_by}
 use Rattle.a429_check.proofs.engines.trace.write_trace.Goals as goal
@@ -28,7 +29,7 @@ returns-clause-text g c =
     let all = written.all works in
     let same = says_same_out text.2 in
     let stays = says_same_out c.in_ok-finish.ensures.nothing_more in
-    if_ok_by status.result (λ s e. (text.0, subst (λ (r : Result ℕ RunFault). IsPutBy c.args.profile.now c.args.rec.now.to_come r text.0) e text.1, search rules))
+    if_ok_by status.result (λ s e. (text.0, subst (λ (r : Result ℕ RunFault). IsPutBy c.args.profile.now (taken c.args.rec.now status.new.rec) r text.0) e text.1, search rules))
 
 pub returns-clause-cut : goal.returns-clause-cut
 returns-clause-cut g c =

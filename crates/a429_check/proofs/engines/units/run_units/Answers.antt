@@ -1,9 +1,10 @@
-use Rattle.std.proofs.Common.{inr, false, sym, subst}
-use Rattle.std.proofs.lemmas.Result.{on_ok_weaker}
+use Rattle.std.proofs.Common.{inr, false, Err, ap, sym, subst}
+use Rattle.std.proofs.lemmas.Result.{err_from_is_err_and, on_ok_weaker}
 use Rattle.a429_word.specs.Tally.{has_failed}
+use Rattle.a429_check.specs.Units.{LeavesUnits}
 use Rattle.a429_check.specs.Verdict.{input, no_shelf, AnyFailed, IsVerifyFault}
 use Rattle.a429_check.proofs.TraceLines.{if_err_map, if_ok_map}
-use Rattle.a429_check.proofs.UnitsFacts.{no_profile_here, reports}
+use Rattle.a429_check.proofs.UnitsFacts.{leaves_units, reports}
 use Rattle.a429_check.proofs.VerdictFacts.{all_work, judged}
 use Rattle.a429_check.proofs.engines.units.run_units.Goals as goal
 
@@ -26,5 +27,14 @@ returns-clause-err g c =
     if_err_map c.end_rows-status.result c.end_rows-status.ensures.err
     (λ e h. subst (IsVerifyFault i no_shelf Failed) (sym h.0) (inr h.1, judged i no_shelf c.in_ok-judged.judged c.in_ok-judged.ensures.judged))
 
-pub returns-clause-silent : goal.returns-clause-silent
-returns-clause-silent g c = λ f e. absurd (no_profile_here c.end_rows-status.result _ f c.end_rows-status.ensures.err e)
+pub returns-clause-cut : goal.returns-clause-cut
+returns-clause-cut g c =
+    let i = input c.args.profile.now g.C.Read.remaining c.args.certificate.now c.args.rec.now in
+    if_err_map c.end_rows-status.result c.end_rows-status.ensures.err
+    (λ e h. subst (LeavesUnits g.W.Write.contents c.args.rows.now c.end_rows-status.new.rows i) (sym h.0) tt)
+
+pub returns-in_err-judged-clause-cut : goal.returns-in_err-judged-clause-cut
+returns-in_err-judged-clause-cut g c =
+    let i = input c.args.profile.now g.C.Read.remaining c.args.certificate.now c.args.rec.now in
+    let p = err_from_is_err_and c.from_residual.result c.from_residual.ensures.1 in
+    rw (p.1, p.2) (leaves_units g.W.Write.contents i c.args.rows.now c.judge.new.listener _ c.requires (λ f is. c.in_err-judged.ensures.before f (ap (λ e. Err e) is)) c.in_err-judged.ensures.until)

@@ -6,7 +6,7 @@ use Rattle.a429_cert.specs.Report.{listening}
 use Rattle.a429_check.specs.Extract.{progress}
 use Rattle.a429_check.specs.Verdict.{input, no_shelf}
 use Rattle.a429_check.proofs.ExtractFacts.{left_by_no_answer, left_by_profile}
-use Rattle.a429_check.proofs.VerdictFacts.{answered_by, by_no_answer, by_profile, heard_by, none_has_failed, none_of_profile, one_failed, unchanged}
+use Rattle.a429_check.proofs.VerdictFacts.{answered_by, by_no_answer, by_profile, heard_by, heard_until, none_has_failed, none_of_profile, one_failed, unchanged, unheard}
 use Rattle.a429_check.proofs.engines.verdict.judge.Goals as goal
 
 pub returns-in_err-profile-clause-err : goal.returns-in_err-profile-clause-err
@@ -22,6 +22,11 @@ returns-in_err-profile-clause-files g c =
     rw (p.1, p.2)
     (left_by_profile c.args.profile.now (progress (readers g.C.Read.remaining c.args.cert.now c.args.cert.now c.args.rec.now c.args.rec.now) (shelved g.S.Shelf.files g.S.Failing.failed shelf shelf) (g.T.Failing.failed c.args.listener.now))
     _ _ c.in_err-profile.ensures.err (refl, omega (arith), unchanged (g.S.Shelf.files shelf)))
+
+pub returns-in_err-profile-clause-until : goal.returns-in_err-profile-clause-until
+returns-in_err-profile-clause-until g c =
+    let p = err_from_is_err_and c.from_residual.result c.from_residual.ensures.1 in
+    rw (p.1, p.2) (unheard (listening g.T.Listener.hears c.args.listener.now c.args.listener.now) (input c.args.profile.now g.C.Read.remaining c.args.cert.now c.args.rec.now) _ c.in_err-profile.ensures.err)
 
 pub returns-in-Ok-clause-judged : goal.returns-in-Ok-clause-judged
 returns-in-Ok-clause-judged g c =
@@ -50,6 +55,13 @@ returns-in-Err-clause-err g c =
     let shelf = shelved g.S.Shelf.files g.S.Failing.failed c.args.shelf.now stream.new.shelf in
     by_no_answer i shelf c.in_ok-profile.profile c.any_failed.result _ stream.result c.in-Err.fault c.in_ok-profile.ensures.ok c.in-Err.ensures.err stream.ensures.ok stream.ensures.err c.any_failed.ensures.yes
     (λ e. one_failed stream.new.rec.failed (has_failed stream.new.cert) (g.S.Failing.failed stream.new.shelf) (g.T.Failing.failed stream.new.listener) (stream.ensures.device e)) (λ e. inl (inl (stream.ensures.read e)))
+
+pub returns-in-Err-clause-until : goal.returns-in-Err-clause-until
+returns-in-Err-clause-until g c =
+    let stream = c.replay_stream-answer in
+    let i = input c.args.profile.now g.C.Read.remaining c.args.cert.now c.args.rec.now in
+    let shelf = shelved g.S.Shelf.files g.S.Failing.failed c.args.shelf.now stream.new.shelf in
+    heard_until i shelf c.in_ok-profile.profile c.any_failed.result (listening g.T.Listener.hears c.args.listener.now stream.new.listener) stream.result c.in-Err.fault c.in_ok-profile.ensures.ok c.in-Err.ensures.err stream.ensures.reports
 
 pub returns-in-Err-clause-files : goal.returns-in-Err-clause-files
 returns-in-Err-clause-files g c =
