@@ -19,7 +19,8 @@ use std::io::{Read, Write};
 /// the columns, and answers its status: 0 where it explains the recording, and 2 where it is refused. `profile`
 /// is the bytes of its text. Recording and certificate are read as a stream, and a row goes out once its unit
 /// has ended: where the certificate is refused, the names of the columns, once a unit was loaded, and the rows of
-/// the units that ended in the lines before the fault are written, and the verdict after them.
+/// the units that ended in the lines before the fault are written, and the verdict after them. Where the recording has a
+/// fault, first ones of such rows may be written; the others are lost with the page on which they wait.
 pub fn run_units<R: Read, C: Read, W: Write>(
     alloc: Global,
     profile: &[u8],
