@@ -69,7 +69,7 @@ impl ImpliedSink {
         }
     }
 
-    /// What the words so far allow next.
+    /// What the words so far allow next, free words aside, which may always come.
     pub fn next(&self) -> Next
         ensures { kinds_of_next result ≡ kinds_allowed (observer_of self.now) }
     {
@@ -126,7 +126,8 @@ impl ImpliedSink {
         }
     }
 
-    /// If a word of this form is a start word, its number is that of the link data unit accepted last, or in sequence with it.
+    /// If a word of this form is a start word, its number is that of the link data unit accepted last, or in sequence with it, or,
+    /// where none was accepted, the number of a file's first.
     pub(crate) fn number_comes(&self, profile: &Profile, bus: Bus, form: &Form) -> bool
         ensures { IsTrue result ↔ ComesForm profile.now.codes bus (Some form.now) self.now.sink.last }
     {
