@@ -31,7 +31,7 @@ pub enum Act {
     GiveUp,
 }
 
-/// The name of a step, which a certificate writes as a letter; none where a link data unit is loaded,
+/// The name of a step, an `Act`, and not the letter that a certificate writes for it. `None` where a link data unit is loaded,
 /// since that has a line of its own.
 pub fn letter_of(step: &Step) -> Option<Act>
     ensures { result ≡ letter_of step.now }

@@ -43,7 +43,8 @@ impl BlockText {
         Ok(BlockText { text, starts })
     }
 
-    /// The lines of so many words, from the one at this place of its block on, counted from 0.
+    /// The lines of so many words, from the one at this place of its block on, counted from 0. Those of word 0, the start word, are
+    /// others: they fill its place only.
     #[inline(always)]
     pub fn lines(&self, place: u8, words: u8) -> &[u8]
         requires { place + words ≤ 254 }

@@ -21,11 +21,12 @@ impl<T: Drop> From<AllocFailed<T>> for OutOfMemory {
 /// Why a certificate is refused. Lines are counted from 1, entries from 0.
 #[derive(Clone, Copy, Debug, PartialEq, Eq)]
 pub enum CertFault {
-    /// The first line is not the version's.
+    /// The first line names no version, or is not there.
     Version,
-    /// This line does not end, spells no line, or is none that may come there.
+    /// This line does not end, spells no line, is none that may come there, or is not there.
     Line(usize),
-    /// No step of this line's name may be made there.
+    /// No step of this line's name may be made there; of a load, its link data unit is none of the profile's, or none may be
+    /// loaded.
     NotAllowed(usize),
     /// The step of this line may be made, and leads to another state than the line writes.
     StateDiffers(usize),

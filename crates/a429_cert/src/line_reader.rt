@@ -41,9 +41,10 @@ pub(crate) struct NextLine {
 impl LineReader {
     ghost use Rattle.a429_cert.specs.LineReader.{bytes_ahead, held_line, to_come, room_left};
 
-    /// Nothing was read.
+    /// Nothing was read, and no line is held.
     pub fn new() -> LineReader
-        ensures { bytes_ahead result ≡ [] }
+        ensures ahead { bytes_ahead result ≡ [] }
+        ensures line { held_line result ≡ None }
     {
         LineReader {
             buffer: [0; ROOM],
@@ -76,6 +77,7 @@ impl LineReader {
         ensures kept { result ≢ Ok true → Keeps (to_come R.remaining self.old cert.old) (to_come R.remaining self.new cert.new) }
         ensures part { IsErr result → HasNoLineFeed (bytes_ahead self.new) }
         ensures few { length (bytes_ahead self.new) ≤ 2288 }
+        ensures works { IfOk result (λ found. found ≡ false → has_failed cert.new ≡ false) }
         ensures device { IsErr result → has_failed cert.new ≡ true }
         ensures stays { has_failed cert.old ≡ true → has_failed cert.new ≡ true }
     {
@@ -106,6 +108,7 @@ impl LineReader {
         ensures kept { IsErr result → Keeps (to_come R.remaining self.old cert.old) (to_come R.remaining self.new cert.new) }
         ensures part { IsErr result → HasNoLineFeed (bytes_ahead self.new) }
         ensures few { length (bytes_ahead self.new) ≤ 2288 }
+        ensures works { IfOk result (λ n. n.found ≡ false → has_failed cert.new ≡ false) }
         ensures device { IsErr result → has_failed cert.new ≡ true }
         ensures stays { has_failed cert.old ≡ true → has_failed cert.new ≡ true }
     {
@@ -209,6 +212,7 @@ impl LineReader {
         ensures failed { OnErr result (bytes_ahead self.new ≡ bytes_ahead self.old) }
         ensures same { IfOk result (λ more. more ≡ false → bytes_ahead self.new ≡ bytes_ahead self.old) }
         ensures end { IfOk result (λ more. more ≡ false → (2288 ≤ length (bytes_ahead self.new)) ⊎ IsAtEnd (unread R.remaining cert.new)) }
+        ensures works { IfOk result (λ more. more ≡ false → (2288 ≤ length (bytes_ahead self.new)) ⊎ (has_failed cert.new ≡ false)) }
         ensures left { IfOk result (λ more. more ≡ true → left_of cert.new < left_of cert.old) }
         ensures room { OnOk result (room_left self.new cert.new ≡ room_left self.old cert.old) }
         ensures device { IsErr result → has_failed cert.new ≡ true }

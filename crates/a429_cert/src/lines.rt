@@ -11,7 +11,7 @@ use std::marker::Model;
 pub enum TextLine<'a> {
     /// It comes without its line feed.
     Ended(&'a [u8]),
-    /// The text ends in it: it has no line feed.
+    /// The text ends in it: it has no line feed; or, from a `LineReader`, it has more than 2,287 bytes.
     Unended,
 }
 

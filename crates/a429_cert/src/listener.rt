@@ -9,8 +9,8 @@ use a429_profile::Profile;
 use a429_record::Entry;
 use a429_word::{Failing, Trouble};
 
-/// What is reported of each step that a certificate lists, once its line is accepted: what it has heard are the
-/// first steps of a run, and a whole run only where the whole certificate is accepted.
+/// To whom the steps of a certificate are reported, each once its line is accepted. With a yes it has heard a whole run; at a
+/// fault of the certificate or the recording the steps before it; where a device fails or memory is refused nothing is said.
 pub trait Listener: Failing {
     ghost use Rattle.std.specs.Prelude.{◌≡◌, IsErrOf, OnOk, true};
     ghost use Rattle.a429_profile.specs.Profile.{Contents};
@@ -24,7 +24,7 @@ pub trait Listener: Failing {
         ensures heard { OnOk result (hears profile.now self.old (Loads number unit.now) self.new) }
         ensures device { IsErrOf result Trouble.Device → Self.failed self.new ≡ true };
 
-    /// Another step is made. It records this entry, which has this number, counted from 0.
+    /// Another step is made. It records this entry, which has this number, counted from 0; `None` where it records none.
     fn make(
         &mut self,
         profile: &Profile,

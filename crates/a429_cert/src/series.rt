@@ -1,6 +1,6 @@
 //! A recording in parts, each with a certificate of its own, held against one run.
 
-ghost use Rattle.std.specs.Prelude.{◌≡◌, [], true, IfOk, IfErr, IsErrOf, Some};
+ghost use Rattle.std.specs.Prelude.{◌≡◌, [], true, false, IfOk, IfErr, IsErrOf, OnOk, Some};
 ghost use Rattle.a429_profile.specs.Profile.{IsProfile};
 ghost use Rattle.a429_link.specs.Run.{end_of};
 ghost use Rattle.a429_record.specs.declared.fault.ReadFault.TheVariants as read;
@@ -70,8 +70,9 @@ impl<'a> Series<'a> {
     }
 
     /// Adds the next part: its recording, and the certificate of it, both read as streams. The run goes on with the certificate's steps.
-    /// Where the part's first file is past the source's, an idle source gives up the files between before, if it may (profile); the
-    /// certificate's steps say whether the part fits. Else the fault is the part's first, as `verify_stream` has it, and the series ends.
+    /// Where the number of the part's first file is past the source's, and the source is idle and may give up so many files, it gives
+    /// up those between first (profile). A part whose lines do not go on from there is refused with its first fault, as of
+    /// `verify_stream`, and there is no series any more.
     pub fn add<R: Read, C: Read>(
         self,
         rec: &mut EntryReader<R>,
@@ -79,6 +80,7 @@ impl<'a> Series<'a> {
     ) -> Result<Series<'a>, StreamFault>
         ensures ok { IfOk result (Joins self.entry (unread C.remaining cert.old) rec.old.to_come) }
         ensures err { IfErr result (RefusesPart self.entry (unread C.remaining cert.old) rec.old.to_come) }
+        ensures works { OnOk result (has_failed cert.new ≡ false) }
         ensures device { IsErrOf result StreamFault.Device → has_failed cert.new ≡ true }
         ensures read { IsErrOf result (StreamFault.Read read.Device) → rec.new.failed ≡ true }
     {

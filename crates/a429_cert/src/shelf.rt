@@ -30,6 +30,7 @@ pub trait Shelf: Failing {
     fn put(&mut self, index: u32, number: u8, bytes: &[u8]) -> Result<(), Trouble>
         ensures ok { OnOk result (Gains (files self.old) (files self.new) index number bytes.now) }
         ensures err { OnErr result (IsUnchanged (files self.old) (files self.new)) }
+        ensures works { OnOk result (Self.failed self.new ≡ false) }
         ensures device { IsErrOf result Trouble.Device → Self.failed self.new ≡ true }
         ensures stays { Self.failed self.old ≡ true → Self.failed self.new ≡ true };
 }

@@ -11,7 +11,7 @@ use std::marker::Model;
 // The bytes of two lines of steps that are no loads, 19 each at most, and of their line feeds.
 const ROOM: usize = 40;
 
-/// The bytes that were filled, from the first on.
+/// A text of at most 40 bytes, which takes no memory.
 #[derive(Drop)]
 pub struct ShortText {
     bytes: [u8; ROOM],

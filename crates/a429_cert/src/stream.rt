@@ -62,6 +62,7 @@ pub fn verify_stream<R: Read, C: Read, S: Shelf>(
     ensures err { IfErr result (Refuses (comparison profile.now C.remaining cert.old rec.old) (change (S.files shelf.old) (S.files shelf.new))) }
     ensures place { IfErr result (BreaksOff profile.now (readers C.remaining cert.old cert.new rec.old rec.new)
         (shelved S.files S.failed shelf.old shelf.new) false) }
+    ensures works { OnOk result (has_failed cert.new ≡ false) }
     ensures device { IsErrOf result StreamFault.Device → (has_failed cert.new ≡ true) ⊎ (S.failed shelf.new ≡ true) }
     ensures read { IsErrOf result (StreamFault.Read read.Device) → rec.new.failed ≡ true }
 {
@@ -86,6 +87,7 @@ pub fn replay_stream<R: Read, C: Read, S: Shelf, T: Listener>(
     ensures place { IfErr result (BreaksOff profile.now (readers C.remaining cert.old cert.new rec.old rec.new)
         (shelved S.files S.failed shelf.old shelf.new) (T.failed listener.new)) }
     ensures reports { IfErr result (HearsBefore (listening T.hears listener.old listener.new) (comparison profile.now C.remaining cert.old rec.old)) }
+    ensures works { OnOk result (has_failed cert.new ≡ false) }
     ensures device { IsErrOf result StreamFault.Device → OneFailed (has_failed cert.new) (S.failed shelf.new) (T.failed listener.new) }
     ensures read { IsErrOf result (StreamFault.Read read.Device) → rec.new.failed ≡ true }
 {

@@ -12,7 +12,7 @@ use a429_word::Trouble;
 pub enum StreamFault {
     /// The certificate's first fault. Lines are counted from 1, entries from 0.
     Cert(CertFault),
-    /// The recording's fault, at the place of the first entry that is wanted of it.
+    /// The recording's fault, at the place of the first entry that is wanted of it; a reader that has failed is `Read(Device)`.
     Read(ReadFault),
     /// The certificate's reader, the shelf or the listener has failed.
     Device,

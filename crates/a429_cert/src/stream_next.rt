@@ -50,6 +50,7 @@ pub fn take_next<R: Read, C: Read, S: Shelf, T: Listener>(
         (progress replay.old (to_come C.remaining lines.old cert.old) rec.old shelf.old listener.old)
         (progress replay.new (to_come C.remaining lines.new cert.new) rec.new shelf.new listener.new)) }
     ensures ahead { IfOk result (λ found. found ≡ false → length (bytes_ahead lines.new) ≤ 2288) }
+    ensures works { IfOk result (λ found. found ≡ false → has_failed cert.new ≡ false) }
     ensures device { IsErrOf result StreamFault.Device → OneFailed (has_failed cert.new) (S.failed shelf.new) (T.failed listener.new) }
     ensures read { IsErrOf result (StreamFault.Read read.Device) → rec.new.failed ≡ true }
 {
@@ -88,6 +89,7 @@ fn take_one<R: Read, C: Read, S: Shelf, T: Listener>(
         (progress replay.old (to_come C.remaining lines.old cert.old) rec.old shelf.old listener.old)
         (progress replay.new (to_come C.remaining lines.new cert.new) rec.new shelf.new listener.new)) }
     ensures ahead { length (bytes_ahead lines.new) ≤ 2288 }
+    ensures works { IfOk result (λ found. found ≡ false → has_failed cert.new ≡ false) }
     ensures device { IsErrOf result StreamFault.Device → OneFailed (has_failed cert.new) (S.failed shelf.new) (T.failed listener.new) }
     ensures read { IsErrOf result (StreamFault.Read read.Device) → rec.new.failed ≡ true }
 {

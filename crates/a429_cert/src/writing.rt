@@ -55,7 +55,7 @@ fn put_line(line: &CertLine, out: &mut Vec<u8>) -> Result<(), OutOfMemory>
     }
 }
 
-/// The text of the line of a step that is no load.
+/// The text of the line of a step that is no load, without a line feed.
 #[inline(always)]
 pub fn moved_text(line: MovedLine) -> ShortText
     ensures { result ≡ spelling (Moved line) }
@@ -132,7 +132,7 @@ fn put_word(number: u32, out: &mut Vec<u8>) -> Result<(), OutOfMemory>
     put(&word_field(number), out)
 }
 
-/// The field of a word: a space, and its eight digits.
+/// The field of a word: a space, and its eight hexadecimal digits.
 #[inline(always)]
 pub fn word_field(number: u32) -> [u8; 9]
     ensures { result ≡ field (hex_text number) }

@@ -1,5 +1,5 @@
 -- A data word that is sent, and taken at once.
-use Rattle.std.proofs.Common.{◌≡◌, ◌≢◌, ◌<◌, ◌≤◌, ◌+◌, ℕ, zero, suc, List, [], ◌∷◌, ◌++◌, length, Some, slice_get, refl, ap, subst, arith}
+use Rattle.std.proofs.Common.{◌≡◌, ◌≢◌, ◌<◌, ◌≤◌, ◌+◌, ℕ, zero, suc, List, [], ◌∷◌, ◌++◌, length, Option, Some, None, IfNone, slice_get, refl, ap, subst, arith}
 use Rattle.a429_word.specs.declared.bus.Bus.TheVariants.{A}
 use Rattle.a429_profile.specs.declared.codes.Codes.{Codes}
 use Rattle.a429_profile.specs.Profile.{Contents}
@@ -78,6 +78,20 @@ at_word p next s kept h =
       word = h.word;
       part = part.1;
     }
+
+-- ---- where there is none
+
+pub is_next : (p : Contents) (next : NextWord) (s : State) → IsAtWord p next s → IsNext p next s
+is_next p next s h = record {
+  sends = record { unit = h.unit; current = h.current; sending = h.sending; more = h.more };
+  taken = rw h.taking (h.to_sink, h.taken);
+  to_source = h.to_source;
+  word = h.word;
+}
+
+pub none_then : (r : Option NextWord) {P Q : Type 0} → IfNone r P → (P → Q) → IfNone r Q
+none_then None h f = f h
+none_then (Some x) h f = tt
 
 -- ---- both steps
 

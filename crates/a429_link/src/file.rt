@@ -19,18 +19,21 @@ impl Model for Bytes {
 }
 
 impl Bytes {
+    /// These bytes.
     pub fn new(bytes: Vec<u8>) -> Bytes
         ensures { result ≡ bytes.items }
     {
         Bytes { bytes }
     }
 
+    /// The bytes, lent.
     pub fn as_slice(&self) -> &[u8]
         ensures { result.now ≡ self.now }
     {
         self.bytes.as_slice()
     }
 
+    /// The bytes, given back.
     pub fn into_vec(self) -> Vec<u8>
         ensures { result.items ≡ self }
     {

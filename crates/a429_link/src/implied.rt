@@ -2,7 +2,7 @@
 
 ghost use Rattle.std.specs.Prelude.{◌≡◌, ◌↔◌, ◌+◌, nat_lt, Some, IsTrue, IfOk, OnOk, OnErr};
 ghost use Rattle.a429_link.specs.Observer.{AllowsForm, sees_form};
-ghost use Rattle.a429_link.specs.Sink.{answers, unfiled};
+ghost use Rattle.a429_link.specs.Sink.{IsAck, answers, unfiled};
 ghost use Rattle.a429_link.specs.Allowed.{kinds_allowed, kinds_of_next};
 ghost use Rattle.a429_link.specs.WholeBlock.{ComesForm, EndsBadForm};
 ghost use Rattle.a429_link.specs.Implied.{crossing_in, does, implied_at_first, implies_form, observer_of, why_at, with_counts};
@@ -69,7 +69,7 @@ impl ImpliedSink {
         }
     }
 
-    /// What the words so far allow next.
+    /// What the words so far allow next, free words aside, which may always come.
     pub fn next(&self) -> Next
         ensures { kinds_of_next result ≡ kinds_allowed (observer_of self.now) }
     {
@@ -92,8 +92,8 @@ impl ImpliedSink {
         u16::from(self.parts) + 2 < u16::from(self.sink.count())
     }
 
-    /// Takes a word of this form, which the words so far allow, and answers what the sink does then. Where there is no
-    /// memory, it is unchanged.
+    /// Takes a word of this form, which the words so far allow, and answers what the sink does then. An acknowledgement alone
+    /// may want memory; where there is none, it is unchanged.
     pub fn take(
         &mut self,
         alloc: Global,
@@ -105,6 +105,7 @@ impl ImpliedSink {
         ensures taken { OnOk result (self.new ≡ implies_form profile.now seen.bus seen.word (Some form.now) self.old) }
         ensures does { IfOk result (λ doing. doing ≡ does profile.now seen.bus seen.word form.now self.old.sink) }
         ensures unchanged { OnErr result (self.new ≡ self.old) }
+        ensures memory { OnErr result (IsAck (Some form.now)) }
     {
         match seen.bus {
             Bus::A => {
@@ -125,7 +126,8 @@ impl ImpliedSink {
         }
     }
 
-    /// If a word of this form is a start word, its number is that of the link data unit accepted last, or in sequence with it.
+    /// If a word of this form is a start word, its number is that of the link data unit accepted last, or in sequence with it, or,
+    /// where none was accepted, the number of a file's first.
     pub(crate) fn number_comes(&self, profile: &Profile, bus: Bus, form: &Form) -> bool
         ensures { IsTrue result ↔ ComesForm profile.now.codes bus (Some form.now) self.now.sink.last }
     {
@@ -172,6 +174,7 @@ impl ImpliedSink {
         ensures taken { OnOk result (self.new ≡ implies_form profile.now Bus.B 0 (Some form.now) self.old) }
         ensures does { IfOk result (λ doing. doing ≡ does profile.now Bus.B 0 form.now self.old.sink) }
         ensures unchanged { OnErr result (self.new ≡ self.old) }
+        ensures memory { OnErr result (IsAck (Some form.now)) }
     {
         if let Form::Ack { file, ldu } = *form {
             return self.acknowledge(alloc, profile, file, ldu);

@@ -1,7 +1,8 @@
 //! A link: one run of a source and a sink, step by step.
 
-ghost use Rattle.std.specs.Prelude.{◌≡◌, ◌↔◌, [], IsTrue, IfErr, IfSome, OnOk, OnErr};
+ghost use Rattle.std.specs.Prelude.{◌≡◌, ◌↔◌, [], IsTrue, IfErr, IfSome, IfNone, OnOk, OnErr};
 ghost use Rattle.a429_ldu.specs.Ldu.{IsLdu, LduValue};
+ghost use Rattle.a429_link.specs.declared.carry.NextWord.{NextWord};
 ghost use Rattle.a429_link.specs.declared.seen.Seen.{Seen};
 ghost use Rattle.a429_link.specs.Carry.{IsAtWord, after_both};
 ghost use Rattle.a429_link.specs.Step.{Can, after, LoadsLdu, IsFault, IsNamedStep};
@@ -70,10 +71,12 @@ impl<'a> Link<'a> {
         self.transfer.apply(self.alloc, self.profile, step)
     }
 
-    /// The data word of its block that the source sends next, where the sink has taken all words before it, and nothing is on its way.
+    /// The data word of its block that the source sends next, where the sink has taken all words before it, and nothing is on its way;
+    /// `None` where that is not so.
     #[inline(always)]
     pub fn next_word(&self) -> Option<NextWord>
-        ensures { IfSome result (λ next. IsAtWord self.now.profile next self.now.state) }
+        ensures some { IfSome result (λ next. IsAtWord self.now.profile next self.now.state) }
+        ensures none { IfNone result ((next : NextWord) → IsAtWord self.now.profile next self.now.state → ⊥) }
     {
         self.transfer.next_word(self.profile)
     }

@@ -1,6 +1,7 @@
 //! What a recording may go on with.
 
-/// What a recording may go on with: a request always, and what its sink waits for or owes.
+/// What a recording may go on with, free words aside, which may always come: a request always, and what its sink waits for or
+/// owes.
 #[derive(Clone, Copy, Debug, PartialEq, Eq)]
 pub enum Next {
     /// A request, and nothing else.

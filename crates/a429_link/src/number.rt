@@ -29,7 +29,7 @@ impl UnitNumber {
     }
 
     /// The one that comes next: after a file's last link data unit that of the next file's first, 255
-    /// followed by 0, else that of the file's next (profile).
+    /// followed by 0, else that of the file's next, at most 256 (profile).
     pub fn next(self, profile: &Profile, is_final: bool) -> UnitNumber
         ensures number { result ≡ next_number profile.now.codes self is_final }
         ensures high { result.ldu ≤ 256 }
@@ -44,7 +44,7 @@ impl UnitNumber {
         }
     }
 
-    /// The one that comes next where this link data unit has this one.
+    /// The number that comes next, where `unit` is the link data unit of this number.
     pub fn after(self, profile: &Profile, unit: &Ldu) -> UnitNumber
         ensures number { result ≡ number_after profile.now.codes self unit.now }
         ensures high { result.ldu ≤ 256 }

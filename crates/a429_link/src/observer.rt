@@ -90,7 +90,8 @@ impl Observer {
         self.sink.ends_bad(profile, bus, form)
     }
 
-    /// If a word of this form is a start word, its number is that of the link data unit accepted last, or in sequence with it.
+    /// If a word of this form is a start word, its number is that of the link data unit accepted last, or in sequence with it, or,
+    /// where none was accepted, the number of a file's first.
     pub fn number_comes(&self, profile: &Profile, bus: Bus, form: &Form) -> bool
         ensures { IsTrue result ↔ ComesForm profile.now.codes bus (Some form.now) self.now.last }
     {

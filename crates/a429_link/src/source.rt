@@ -1,6 +1,6 @@
 //! The source of a file transfer.
 
-ghost use Rattle.std.specs.Prelude.{◌≡◌, ◌≤◌, ◌+◌, ◌↔◌, IsTrue, IsSome, IfSome, None, Some};
+ghost use Rattle.std.specs.Prelude.{ℕ, ◌≡◌, ◌≤◌, ◌+◌, ◌↔◌, IsTrue, IsSome, IfSome, IfNone, None, Some};
 ghost use Rattle.a429_profile.specs.Profile.{Contents};
 ghost use Rattle.a429_ldu.specs.Ldu.{IsLdu};
 ghost use Rattle.a429_link.specs.Carry.{SendsMore};
@@ -131,7 +131,8 @@ impl Source {
     /// The place in its block, counted from 0, of the word that it sends next, where one more comes after it.
     #[inline(always)]
     pub(crate) fn place(&self) -> Option<u8>
-        ensures { IfSome result (SendsMore self.now) }
+        ensures some { IfSome result (SendsMore self.now) }
+        ensures none { IfNone result ((place : ℕ) → SendsMore self.now place → ⊥) }
     {
         let Some(unit) = &self.current else {
             return None;

@@ -1,8 +1,9 @@
 //! The source, the sink, and the recorded words between them.
 
-ghost use Rattle.std.specs.Prelude.{◌≡◌, ◌≤◌, ◌↔◌, IsTrue, IfSome, length};
+ghost use Rattle.std.specs.Prelude.{◌≡◌, ◌≤◌, ◌↔◌, IsTrue, IfSome, IfNone, length};
 ghost use Rattle.a429_profile.specs.Profile.{Contents, IsProfile};
 ghost use Rattle.a429_ldu.specs.Ldu.{IsLdu, LduValue};
+ghost use Rattle.a429_link.specs.declared.carry.NextWord.{NextWord};
 ghost use Rattle.a429_link.specs.declared.step.Step.TheVariants as step;
 ghost use Rattle.a429_link.specs.Carry.{IsAtWord, IsNext, after_both};
 ghost use Rattle.a429_link.specs.Losses.{words_left, with_rest_lost};
@@ -131,7 +132,8 @@ impl Transfer {
     /// it, and nothing is on its way.
     #[inline(always)]
     pub(crate) fn next_word(&self, profile: &Profile) -> Option<NextWord>
-        ensures { IfSome result (λ next. IsNext profile.now next self.now) }
+        ensures some { IfSome result (λ next. IsNext profile.now next self.now) }
+        ensures none { IfNone result ((next : NextWord) → IsNext profile.now next self.now → ⊥) }
     {
         let Some(place) = self.source.place() else {
             return None;

@@ -1,6 +1,7 @@
 //! Why a block is not good.
 
-/// Why a sink answers a block with a negative answer (ARINC 429 Part 3; which blocks are in sequence: profile).
+/// Why a sink answers a block with a negative answer: the first of these that holds (ARINC 429 Part 3; which blocks are in
+/// sequence: profile).
 #[derive(Clone, Copy, Debug, PartialEq, Eq)]
 pub enum Why {
     /// No start word was taken.

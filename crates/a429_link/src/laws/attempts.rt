@@ -30,15 +30,15 @@ pub fn a_whole_block_is_a_unit()
     ensures impossible { (p : Contents) (items : List Seen) (i : ℕ) → IsProfile p → EndsBadAt p items i → BeginsARun p (take (suc i) items) → ⊥ }
 {}
 
-/// Where a run records as many data words under one grant as were asked for, they are those of a link data unit, and carry
-/// bytes, whether or not its start word and its end word are recorded. So no run records them where their semi-octets
-/// are odd in number.
+/// Where a run records as many data words under one grant as were asked for, they carry bytes, whether or not the block's
+/// start word and its end word are recorded. So no run records them where their semi-octets are odd in number.
 pub fn all_data_words_carry_bytes()
     ensures { (p : Contents) (items : List Seen) (i : ℕ) → IsProfile p → IsHalfAt p items i → BeginsARun p (take (suc i) items) → ⊥ }
 {}
 
 /// Each start word that a run records has the number of the link data unit accepted last before it, or a number
-/// in sequence with it: the next one of a file that is not whole, or the first of a file that is 1 to 128 past.
+/// in sequence with it: the next one of a file that is not whole, or the first of a file that is 1 to 128 past; or, where none
+/// was accepted, the number of a file's first.
 pub fn a_start_word_may_come()
     ensures { (p : Contents) (items : List Seen) (i : ℕ) → IsProfile p → BeginsARun p (take (suc i) items) → NumberComesAt p items i }
 {}

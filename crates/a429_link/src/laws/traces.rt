@@ -36,8 +36,8 @@ pub fn listed_is_what_is_allowed()
     ensures word { (p : Contents) (items : List Seen) (k : Kind) → IsProfile p → Contains (kinds_allowed (observed p items at_first)) k ↔ AllowsWordOf p (observed p items at_first) k }
 {}
 
-/// What is implied word after word is that sink with its files handed out, and what an observer counts. A file crosses
-/// by a word exactly where the sink is said to accept a link data unit with it.
+/// What is implied word after word is that sink with its files handed out, and what an observer counts. By an allowed word a
+/// file crosses exactly where `does` names it, and by a word without a form none does.
 pub fn what_is_implied_is_the_sink()
     ensures sink { (p : Contents) (items : List Seen) → implied p items implied_at_first ≡ with_counts (observed p items at_first) (sink_after p items sink_at_first) }
     ensures crosses { (p : Contents) (items : List Seen) (i : Seen) (x : Form) → form_of p.codes i.bus i.word ≡ Some x → AllowsForm (observed p items at_first) i.bus (Some x)

@@ -24,7 +24,7 @@ lines-init g c =
     let known = unread g.C.Read.remaining c.args.cert.now in
     let old = to_come g.C.Read.remaining c.new-lines.result c.args.cert.now in
     let state : c.start-replay.result.link.state ≡ start c.args.profile.now c.in-Ok-begin.head.first = ap (λ (l : LinkValue). l.state) c.start-replay.ensures.link in
-    let none : length (bytes_ahead c.new-lines.result) ≡ 0 = ap (λ (l : List ℕ). length l) c.new-lines.ensures in
+    let none : length (bytes_ahead c.new-lines.result) ≡ 0 = ap (λ (l : List ℕ). length l) c.new-lines.ensures.ahead in
     let lines = c.start-replay.ensures.lines in
     let used = c.start-replay.ensures.used in
     record {
@@ -35,7 +35,7 @@ lines-init g c =
         number = lines;
         reports = rw used
             (init_both_known c.args.profile.now c.in-Ok-begin.head c.start-replay.result.link.state known old (to_come g.C.Read.remaining c.begin.new.lines c.begin.new.cert) c.args.rec.now.to_come
-            (fresh (bytes_ahead c.new-lines.result) known c.new-lines.ensures) c.in-Ok-begin.ensures.ok state);
+            (fresh (bytes_ahead c.new-lines.result) known c.new-lines.ensures.ahead) c.in-Ok-begin.ensures.ok state);
         heard = rw used (hears_init g.T.Listener.hears c.args.profile.now c.in-Ok-begin.head c.start-replay.result.link.state c.args.listener.now known c.args.rec.now.to_come state);
         none_left = ap (λ (t : State). t.sink.received.files) state;
         put = gains_none (g.S.Shelf.files c.args.shelf.now) 1;
@@ -79,7 +79,7 @@ returns-in-Err-begin-clause-err g c =
     let old = to_come g.C.Read.remaining c.new-lines.result c.args.cert.now in
     record {
       files = [];
-      fault = head_both_known c.args.profile.now known old c.args.rec.now.to_come c.in-Err-begin.fault (fresh (bytes_ahead c.new-lines.result) known c.new-lines.ensures) c.in-Err-begin.ensures.err;
+      fault = head_both_known c.args.profile.now known old c.args.rec.now.to_come c.in-Err-begin.fault (fresh (bytes_ahead c.new-lines.result) known c.new-lines.ensures.ahead) c.in-Err-begin.ensures.err;
       put = gains_none (g.S.Shelf.files c.args.shelf.now) 1;
     }
 
@@ -87,7 +87,7 @@ pub returns-in-Err-begin-clause-reports : goal.returns-in-Err-begin-clause-repor
 returns-in-Err-begin-clause-reports g c =
     let known = unread g.C.Read.remaining c.args.cert.now in
     let old = to_come g.C.Read.remaining c.new-lines.result c.args.cert.now in
-    heard_head g.T.Listener.hears c.args.profile.now known old c.args.rec.now.to_come c.in-Err-begin.fault c.args.listener.now (fresh (bytes_ahead c.new-lines.result) known c.new-lines.ensures) c.in-Err-begin.ensures.err
+    heard_head g.T.Listener.hears c.args.profile.now known old c.args.rec.now.to_come c.in-Err-begin.fault c.args.listener.now (fresh (bytes_ahead c.new-lines.result) known c.new-lines.ensures.ahead) c.in-Err-begin.ensures.err
 
 pub returns-in-Err-begin-clause-place : goal.returns-in-Err-begin-clause-place
 returns-in-Err-begin-clause-place g c =
@@ -97,7 +97,7 @@ returns-in-Err-begin-clause-place g c =
     record {
       files = [];
       place = head_breaks c.args.profile.now known old left (has_failed c.begin.new.cert) (g.S.Failing.failed c.args.shelf.now) (g.T.Failing.failed c.args.listener.now) c.args.rec.now c.args.rec.now c.in-Err-begin.fault
-          (fresh (bytes_ahead c.new-lines.result) known c.new-lines.ensures) c.in-Err-begin.ensures.read c.in-Err-begin.ensures.err refl (λ e. c.in-Err-begin.ensures.device (cc e));
+          (fresh (bytes_ahead c.new-lines.result) known c.new-lines.ensures.ahead) c.in-Err-begin.ensures.read c.in-Err-begin.ensures.err refl (λ e. c.in-Err-begin.ensures.device (cc e));
       put = gains_none (g.S.Shelf.files c.args.shelf.now) 1;
     }
 
@@ -161,6 +161,9 @@ returns-in-Ok-none_left-clause-heard g c =
     let none = c.in-Ok-take_next.ensures.ended c.if-not-found.true in
     let v = ended_walks g.S.Shelf.files g.T.Listener.hears c.args.profile.now (record { known = known; recording = c.args.rec.now; shelf = c.args.shelf.now; listener = c.args.listener.now }) h.head (progress c.lines.replay (to_come g.C.Read.remaining c.lines.lines c.lines.cert) c.lines.rec c.lines.shelf c.lines.listener) (progress c.take_next.new.replay (to_come g.C.Read.remaining c.take_next.new.lines c.take_next.new.cert) c.take_next.new.rec c.take_next.new.shelf c.take_next.new.listener) h.walks none in
     hears_all g.T.Listener.hears c.args.profile.now h.head v.k c.take_next.new.replay.used v.taken c.take_next.new.replay.link.state none.line known left more c.args.rec.now.to_come c.take_next.new.rec.to_come c.none_left.new.rec.to_come c.args.listener.now c.take_next.new.listener none.given c.in-Ok-none_left.ensures.ok v.reports v.heard
+
+pub returns-in-Ok-none_left-clause-works : goal.returns-in-Ok-none_left-clause-works
+returns-in-Ok-none_left-clause-works g c = c.in-Ok-take_next.ensures.works c.if-not-found.true
 
 pub returns-clause-err : goal.returns-clause-err
 returns-clause-err g c =

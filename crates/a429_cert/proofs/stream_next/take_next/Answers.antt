@@ -65,6 +65,9 @@ returns-in-Ok-clause-ended g c = λ e. absurd (cc e)
 pub returns-in-Ok-clause-ahead : goal.returns-in-Ok-clause-ahead
 returns-in-Ok-clause-ahead g c = λ e. absurd (cc e)
 
+pub returns-in-Ok-clause-works : goal.returns-in-Ok-clause-works
+returns-in-Ok-clause-works g c = λ e. absurd (cc e)
+
 pub returns-in-Err-clause-device : goal.returns-in-Err-clause-device
 returns-in-Err-clause-device g c = λ e. inr (inr (c.in-Err.ensures.device (cc e)))
 
@@ -93,6 +96,7 @@ returns-in_default g c =
       room = c.take_one.ensures.room;
       stopped = c.take_one.ensures.stopped;
       ahead = IfOk-weaker c.take_one.result _ _ (λ _ _ _. c.take_one.ensures.ahead) c.take_one.ensures.shorter;
+      works = c.take_one.ensures.works;
       device = c.take_one.ensures.device;
       read = c.take_one.ensures.read;
     })

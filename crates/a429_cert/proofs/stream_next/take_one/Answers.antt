@@ -111,6 +111,12 @@ returns-then-not-next-clause-room g c = λ e. absurd (cc e)
 pub returns-in-Ok-replay_and_put-clause-ended : goal.returns-in-Ok-replay_and_put-clause-ended
 returns-in-Ok-replay_and_put-clause-ended g c = λ e. absurd (cc e)
 
+pub returns-then-not-next-clause-works : goal.returns-then-not-next-clause-works
+returns-then-not-next-clause-works g c = λ _. c.in-Ok.ensures.works (is_no c.in-Ok.next.found c.if-not-next.true)
+
+pub returns-in-Ok-replay_and_put-clause-works : goal.returns-in-Ok-replay_and_put-clause-works
+returns-in-Ok-replay_and_put-clause-works g c = λ e. absurd (cc e)
+
 pub returns-in_default-clause-device : goal.returns-in_default-clause-device
 returns-in_default-clause-device g c = λ _. inl (c.in_default.ensures.device refl)
 

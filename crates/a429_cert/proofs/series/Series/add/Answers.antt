@@ -19,7 +19,7 @@ returns-in-Err-clause-err g c = part_stopped c.args.self (unread g.C.Read.remain
 pub returns-in-Err-begin-clause-err : goal.returns-in-Err-begin-clause-err
 returns-in-Err-begin-clause-err g c =
     let known = unread g.C.Read.remaining c.args.cert.now in
-    part_head c.args.self known (to_come g.C.Read.remaining c.new-lines.result c.args.cert.now) c.args.rec.now.to_come c.in-Err-begin.fault (fresh (bytes_ahead c.new-lines.result) known c.new-lines.ensures) c.in-Err-begin.ensures.err
+    part_head c.args.self known (to_come g.C.Read.remaining c.new-lines.result c.args.cert.now) c.args.rec.now.to_come c.in-Err-begin.fault (fresh (bytes_ahead c.new-lines.result) known c.new-lines.ensures.ahead) c.in-Err-begin.ensures.err
 
 pub lines-init : goal.lines-init
 lines-init g c =
@@ -29,7 +29,7 @@ lines-init g c =
     let before = to_come g.C.Read.remaining c.new-lines.result c.args.cert.now in
     let e = c.begin_part-replay.ensures in
     let state : c.begin_part-replay.result.link.state ≡ begun old.profile old.state head.first = ap (λ (l : LinkValue). l.state) e.link in
-    let none : length (bytes_ahead c.new-lines.result) ≡ 0 = ap (λ (l : List ℕ). length l) c.new-lines.ensures in
+    let none : length (bytes_ahead c.new-lines.result) ≡ 0 = ap (λ (l : List ℕ). length l) c.new-lines.ensures.ahead in
     let delivered = subst (λ (q : SeriesValue). (begun q.profile q.state head.first).sink.received.files ≡ []) c.self.view_is (begun_no_files c.self.inside.profile.now c.self.inside.link head.first c.self.invariant) in
     record {
       head = head;
@@ -39,7 +39,7 @@ lines-init g c =
         number = e.lines;
         reports = rw e.used
             (part_init old head c.begin_part-replay.result.link.state known before (to_come g.C.Read.remaining c.begin.new.lines c.begin.new.cert) c.args.rec.now.to_come
-            (fresh (bytes_ahead c.new-lines.result) known c.new-lines.ensures) c.in-Ok-begin.ensures.ok state);
+            (fresh (bytes_ahead c.new-lines.result) known c.new-lines.ensures.ahead) c.in-Ok-begin.ensures.ok state);
         none_left = ap (λ (t : State). t.sink.received.files) state ∙ delivered;
         noted = e.files ∙ sym (append-nil old.files);
         few = omega (arith, e.lines, e.used);
@@ -83,6 +83,9 @@ returns-in-Ok-none_left-clause-ok g c =
       more = ap (λ (q : SeriesValue). q.files) c.past.ensures ∙ v.noted;
       profile = ap (λ (q : SeriesValue). q.profile) c.past.ensures ∙ v.profile;
     }
+
+pub returns-in-Ok-none_left-clause-works : goal.returns-in-Ok-none_left-clause-works
+returns-in-Ok-none_left-clause-works g c = c.in-Ok-take_next.ensures.works c.if-not-found.true
 
 pub returns-clause-err : goal.returns-clause-err
 returns-clause-err g c =
