@@ -1,15 +1,17 @@
 -- Data words that fit are those of a link data unit.
-use Rattle.std.proofs.Common.{◌≡◌, ℕ, Bool, List, Option, Some, None, IfSome, if◌then◌else◌, sym, ap, ◌∙◌, subst}
+use Rattle.std.proofs.Common.{◌≡◌, ◌+◌, ℕ, Bool, List, [], Option, Some, None, IfSome, IfNone, unwrap_or, length, if◌then◌else◌, sym, ap, ◌∙◌, subst}
 use Rattle.a429_profile.specs.Profile.{Contents, IsProfile}
-use Rattle.a429_ldu.specs.Carried.{CarryBytes, bytes_carried}
+use Rattle.a429_ldu.specs.Carried.{CarryBytes, bytes_carried, bytes_in}
 use Rattle.a429_ldu.specs.CheckWord.{check_of}
-use Rattle.a429_ldu.specs.Ldu.{HasLength, IsFirstLduFault}
+use Rattle.a429_ldu.specs.Ldu.{HasLength, IsFirstLduFault, IsLdu, LduValue, ldu_of}
 use Rattle.a429_ldu.specs.declared.fault.LduFault.{LduFault}
 use Rattle.a429_ldu.specs.declared.fault.LduFault.TheVariants.{Count, NotBytes, CheckWrong, OutOfMemory}
 use Rattle.a429_ldu.proofs.CarriedFacts.{carries_of, one_list}
 use Rattle.a429_search.specs.declared.pieces.EndWord.{EndWord}
+use Rattle.a429_search.specs.declared.pieces.GroupPieces.{GroupPieces}
+use Rattle.a429_search.specs.Order.{HasEach, lists_of}
 use Rattle.a429_search.specs.Fill.{Fits}
-use Rattle.a429_search.specs.Block.{check_wanted, HaveCheckWord}
+use Rattle.a429_search.specs.Block.{check_wanted, HaveCheckWord, IsUnitOf}
 
 -- they carry bytes
 fitting : (p : Contents) → IsProfile p → (wanted : Option ℕ) (words : List ℕ) (f : Fits p wanted words) → CarryBytes p.codes words f.bytes
@@ -38,3 +40,38 @@ no_fault p is wanted words check fits long has OutOfMemory h = h
 pub recorded : (p : Contents) → IsProfile p → (words : List ℕ) (end : Option EndWord) → Fits p (check_wanted p end) words → IfSome end (λ e. HaveCheckWord p words e.check)
 recorded p is words None fits = tt
 recorded p is words (Some e) fits = checked p is words e fits
+
+-- ---- what was not recorded
+
+-- the end word that is made where none was recorded: flags 0, and the check word of the data words
+abbrev pub IsMadeEnd : Contents → List ℕ → Option EndWord → EndWord → Type 0
+IsMadeEnd p words recorded e = IfNone recorded ((e.flags ≡ 0) × (e.check ≡ check_of p.check (bytes_in p.codes words)))
+
+pub end_made : (p : Contents) (words bytes : List ℕ) (end : Option EndWord) (e : EndWord) → bytes_carried p.codes words ≡ Some bytes → e.flags ≡ 0 → e.check ≡ check_of p.check bytes → IsMadeEnd p words end e
+end_made p words bytes None e carried flags check = (flags, check ∙ ap (check_of p.check) (sym (ap (λ (o : Option (List ℕ)). unwrap_or o []) carried)))
+end_made p words bytes (Some r) e carried flags check = tt
+
+gfi_some : (o : Option ℕ) (n : ℕ) → n ≡ unwrap_or o 0 → IfSome o (λ k. n ≡ k)
+gfi_some None n same = tt
+gfi_some (Some k) n same = same
+
+gfi_none : (o : Option ℕ) (n : ℕ) → n ≡ unwrap_or o 0 → IfNone o (n ≡ 0)
+gfi_none None n same = same
+gfi_none (Some k) n same = tt
+
+end_same : (o : Option EndWord) (e : EndWord) → IfSome o (λ r. e ≡ r) → IfSome o (λ r. (e.flags ≡ r.flags) × (e.check ≡ r.check))
+end_same None e same = tt
+end_same (Some r) e same = (ap (λ (x : EndWord). x.flags) same, ap (λ (x : EndWord). x.check) same)
+
+-- the link data unit of data words, with what was recorded and what is made
+pub unit_of : (p : Contents) (pieces : GroupPieces) (u : LduValue) (gfi : ℕ) (e : EndWord) (words : List ℕ) → u ≡ ldu_of gfi e.flags e.check words → IsLdu p u → length words + 2 ≡ pieces.count
+    → gfi ≡ unwrap_or pieces.gfi 0 → IfSome pieces.end (λ r. e ≡ r) → IsMadeEnd p words pieces.end e → HasEach words (lists_of pieces.attempts.items) → IsUnitOf p pieces u
+unit_of p pieces u gfi e words same sound count first recorded made each = subst (IsUnitOf p pieces) (sym same) (record {
+  unit = subst (IsLdu p) same sound;
+  count = count;
+  gfi = gfi_some pieces.gfi gfi first;
+  no_gfi = gfi_none pieces.gfi gfi first;
+  end = end_same pieces.end e recorded;
+  no_end = made;
+  each = each;
+})

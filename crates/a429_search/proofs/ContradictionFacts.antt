@@ -25,7 +25,7 @@ use Rattle.a429_explain.proofs.WalkFacts.{observed_more}
 use Rattle.a429_link.proofs.AllData.{data-append}
 use Rattle.a429_link.proofs.Contradictions.{so_far_latest}
 use Rattle.a429_search.specs.SoFar.{data_after, unheard}
-use Rattle.a429_search.specs.Contradiction.{Contradicts, ContradictsAt, HasNoContradiction}
+use Rattle.a429_search.specs.Contradiction.{Contradicts, ContradictsAt, HasNoContradiction, HasNoneBefore}
 
 -- ---- what is acknowledged in an attempt does not matter
 
@@ -231,6 +231,16 @@ allowed_at p items n i o s parts at may w =
 
 pub witnesses_first : (p : Contents) (items : List Seen) (o : Observer) (s : SoFar) (parts : List ℕ) → o ≡ at_first → s ≡ at_start → parts ≡ [] → Witnesses p items 0 o s parts
 witnesses_first p items o s parts a b c = record { observer = a; so_far = ap unheard b; words = c ∙ ap (λ (z : SoFar). data_words p.codes z.attempt.words) (sym b); none = λ k l r h. absurd (omega arith) }
+
+-- where each reason that holds in one way holds in another, too
+pub none_before : (Holds Other : Reason → Type 0) → ((r : Reason) → Holds r → Other r) → (r : Reason) → HasNoneBefore Other r → HasNoneBefore Holds r
+none_before Holds Other f BadBlock h = tt
+none_before Holds Other f WrongNumber h = λ k. h (f BadBlock k)
+none_before Holds Other f OtherBlock h = ((λ k. h.0 (f BadBlock k)), (λ k. h.1 (f WrongNumber k)))
+none_before Holds Other f NoForm h = tt
+none_before Holds Other f NotGranted h = tt
+none_before Holds Other f WrongAnswer h = tt
+none_before Holds Other f NoRun h = tt
 
 -- ---- no run
 

@@ -1,8 +1,13 @@
 -- Verdicts that are given before a search.
 use Rattle.std.proofs.lemmas.Bool.{cases_order}
 use Rattle.std.proofs.lemmas.Option.{slice_get_past}
-use Rattle.std.proofs.Common.{◌≡◌, ◌⊎◌, ℕ, zero, suc, ◌+◌, ◌<◌, ◌≤◌, List, [], ◌∷◌, ◌++◌, length, take, drop, Option, None, slice_get, refl, sym, ap, ◌∙◌, subst, inl, inr, arith}
+use Rattle.std.proofs.Common.{◌≡◌, ◌⊎◌, ℕ, zero, suc, ◌+◌, ◌<◌, ◌≤◌, List, [], ◌∷◌, ◌++◌, length, take, drop, Option, Some, None, slice_get, refl, sym, ap, ◌∙◌, subst, inl, inr, arith}
 use Rattle.a429_profile.specs.Profile.{Contents}
+use Rattle.a429_profile.specs.declared.codes.Codes.{Codes}
+use Rattle.a429_ldu.specs.declared.forms.Form.TheVariants.{Rts, Cts, Ack, Nak, Sot, Part, Eot}
+use Rattle.a429_ldu.specs.declared.sight.Sight.{Sight}
+use Rattle.a429_ldu.specs.declared.sight.Sight.TheVariants as sight
+use Rattle.a429_ldu.specs.Sight.{sight_of}
 use Rattle.a429_link.specs.declared.file.FileBytes.{FileBytes}
 use Rattle.a429_link.specs.declared.seen.Seen.{Seen}
 use Rattle.a429_link.specs.Attempt.{latest}
@@ -14,10 +19,12 @@ use Rattle.a429_cert.specs.Explained.{IsExplained}
 use Rattle.a429_cert.proofs.ExplainedFacts.{in_some_run}
 use Rattle.a429_explain.specs.declared.verdict.Reason.{Reason}
 use Rattle.a429_explain.specs.declared.verdict.Reason.TheVariants.{NoForm, NotGranted, WrongAnswer, BadBlock, WrongNumber, OtherBlock, NoRun}
-use Rattle.a429_explain.specs.Walk.{AreAllowed, FitsAt}
+use Rattle.a429_explain.specs.declared.verdict.Verdict.TheVariants.{Impossible}
+use Rattle.a429_explain.specs.Walk.{AreAllowed, FitsAt, FitsSight}
 use Rattle.a429_search.specs.declared.contradiction.Contradiction.{Contradiction}
-use Rattle.a429_search.specs.Contradiction.{ContradictsAt, HasNoContradiction, HasNoRun, IsFirstContradiction}
-use Rattle.a429_search.specs.Deciding.{IsReasonAt}
+use Rattle.a429_search.specs.Contradiction.{ContradictsAt, HasNoContradiction, HasNoneBefore, HasNoRun, IsFirstContradiction}
+use Rattle.a429_search.proofs.ContradictionFacts.{none_before}
+use Rattle.a429_search.specs.Deciding.{HasNoReason, IsImpossibleBy, IsReasonAt}
 
 -- ---- the first words of a recording
 
@@ -106,8 +113,8 @@ at_least p items n may none k r h = elim (cases_order k n) [
 ]
 
 -- no word of the recording is refused, and none contradicts
-pub no_reason_at_all : (p : Contents) (items : List Seen) → AreAllowed p items (length items) → HasNoContradiction p items (length items) → (k : ℕ) (r : Reason) → ¬ IsReasonAt p items k r
-no_reason_at_all p items may none k r h = no_reason p items (length items) may none k r (reason_within p items k r h) h
+pub no_reason_at_all : (p : Contents) (items : List Seen) → HasNoReason p items → (k : ℕ) (r : Reason) → ¬ IsReasonAt p items k r
+no_reason_at_all p items (may, none) k r h = no_reason p items (length items) may none k r (reason_within p items k r h) h
 
 -- ---- in the first n words
 
@@ -137,6 +144,7 @@ pub record IsContradiction (p : Contents) (items : List Seen) (n : ℕ) (c : Con
   pub within : c.entry < n
   pub holds : ContradictsAt p items c.entry c.reason
   pub before : HasNoContradiction p items c.entry
+  pub ranked : HasNoneBefore (ContradictsAt p items c.entry) c.reason
   pub no_run : HasNoRun p items c.entry
 
 pub found_first : (p : Contents) (items : List Seen) (n : ℕ) (c : Contradiction) → n ≤ length items → IsFirstContradiction p (take n items) c → HasNoRun p (take n items) c.entry → IsContradiction p items n c
@@ -147,6 +155,7 @@ found_first p items n c m first none =
       within = l;
       holds = subst (λ (T : Type 0). T) (in_first p items n c.entry c.reason l) first.holds;
       before = λ k j r h. first.before k j r (subst (λ (T : Type 0). T) (sym (in_first p items n k r (omega arith))) h);
+      ranked = none_before (ContradictsAt p items c.entry) (ContradictsAt p (take n items) c.entry) (λ k h. subst (λ (T : Type 0). T) (sym (in_first p items n c.entry k l)) h) c.reason first.ranked;
       no_run = λ run. none (subst (λ (xs : List Seen). BeginsARun p xs) (sym (take_first (c.entry + 1) n items (omega arith))) run);
     }
 
@@ -173,12 +182,45 @@ explained_none p items certificate files is may law k r (inr h) = law items k r 
 
 -- ---- verdicts
 
-pub impossible_by : (p : Contents) (items : List Seen) (n : ℕ) (c : Contradiction) → IsContradiction p items n c → (c.entry < length items) × (IsReasonAt p items c.entry c.reason ⊎ (c.reason ≡ NoRun)) × HasNoRun p items c.entry
-impossible_by p items n c h = (h.inside, inl (inr h.holds), h.no_run)
+-- a word that is refused is not so by the reason of a contradiction
+not_number : (s : Sight) → ¬ FitsSight s WrongNumber
+not_number sight.Free h = h
+not_number sight.NoForm h = h
+not_number (sight.Form (Rts n)) h = h
+not_number (sight.Form (Cts n)) h = h
+not_number (sight.Form (Ack f l)) h = h
+not_number (sight.Form (Nak q)) h = h
+not_number (sight.Form (Sot g f l)) h = h
+not_number (sight.Form (Part q)) h = h
+not_number (sight.Form (Eot f c)) h = h
+
+not_other : (s : Sight) → ¬ FitsSight s OtherBlock
+not_other sight.Free h = h
+not_other sight.NoForm h = h
+not_other (sight.Form (Rts n)) h = h
+not_other (sight.Form (Cts n)) h = h
+not_other (sight.Form (Ack f l)) h = h
+not_other (sight.Form (Nak q)) h = h
+not_other (sight.Form (Sot g f l)) h = h
+not_other (sight.Form (Part q)) h = h
+not_other (sight.Form (Eot f c)) h = h
+
+pub first_of_refused : (c : Codes) (o : Option Seen) (Holds : Reason → Type 0) (r : Reason) → FitsAt c o r → HasNoneBefore Holds r
+first_of_refused c None Holds r h = absurd h
+first_of_refused c (Some i) Holds WrongNumber h = absurd (not_number (sight_of c i.bus i.word) h)
+first_of_refused c (Some i) Holds OtherBlock h = absurd (not_other (sight_of c i.bus i.word) h)
+first_of_refused c (Some i) Holds BadBlock h = tt
+first_of_refused c (Some i) Holds NoForm h = tt
+first_of_refused c (Some i) Holds NotGranted h = tt
+first_of_refused c (Some i) Holds WrongAnswer h = tt
+first_of_refused c (Some i) Holds NoRun h = tt
+
+pub impossible_by : (p : Contents) (items : List Seen) (n : ℕ) (c : Contradiction) → IsContradiction p items n c → IsImpossibleBy p items (Impossible c.entry c.reason)
+impossible_by p items n c h = (h.inside, inl (inr h.holds, h.ranked), h.no_run)
 
 pub first_by : (p : Contents) (items : List Seen) (n : ℕ) (c : Contradiction) → AreAllowed p items n → IsContradiction p items n c → (k : ℕ) (r : Reason) → IsReasonAt p items k r → c.entry ≤ k
 first_by p items n c may h = at_least p items c.entry (less_allowed p items n c.entry (omega (arith, h.within)) may) h.before
 
 -- of a whole recording
 pub found_whole : (p : Contents) (items : List Seen) (c : Contradiction) → IsFirstContradiction p items c → HasNoRun p items c.entry → IsContradiction p items (length items) c
-found_whole p items c first none = record { inside = first.inside; within = first.inside; holds = first.holds; before = first.before; no_run = none }
+found_whole p items c first none = record { inside = first.inside; within = first.inside; holds = first.holds; before = first.before; ranked = first.ranked; no_run = none }

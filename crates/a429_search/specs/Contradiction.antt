@@ -34,11 +34,18 @@ Contradicts p o s b w x WrongNumber = ¬ ComesForm p.codes b x o.last ⊎ IsWron
 Contradicts p o s b w x OtherBlock = IsOtherForm b w x s
 Contradicts p o s b w x reason = ⊥
 
--- it is one of the items, and the first that contradicts those before it
+-- of the reasons in the order `BadBlock`, `WrongNumber`, `OtherBlock`: none before this one holds
+abbrev pub HasNoneBefore : (Reason → Type 0) → Reason → Type 0
+HasNoneBefore Holds WrongNumber = ¬ Holds BadBlock
+HasNoneBefore Holds OtherBlock = (¬ Holds BadBlock) × (¬ Holds WrongNumber)
+HasNoneBefore Holds reason = Unit {0}
+
+-- it is one of the items, and the first that contradicts those before it; its reason is the first that holds there
 pub record IsFirstContradiction (p : Contents) (items : List Seen) (c : Contradiction) : Type 0 where
   pub inside : c.entry < length items
   pub holds : ContradictsAt p items c.entry c.reason
   pub before : HasNoContradiction p items c.entry
+  pub ranked : HasNoneBefore (ContradictsAt p items c.entry) c.reason
 
 -- no run's trace begins with the words up to item i
 abbrev pub HasNoRun : Contents → List Seen → ℕ → Type 0

@@ -9,16 +9,25 @@ use Rattle.a429_explain.specs.declared.verdict.Verdict.{Verdict}
 use Rattle.a429_explain.specs.declared.verdict.Verdict.TheVariants.{Explained, Impossible, Unexplained}
 use Rattle.a429_explain.specs.declared.verdict.Doubt.{Doubt}
 use Rattle.a429_explain.specs.Verdict.{IsFirst}
-use Rattle.a429_explain.specs.Walk.{FitsAt}
-use Rattle.a429_search.specs.Contradiction.{ContradictsAt, HasNoRun}
+use Rattle.a429_explain.specs.Walk.{AreAllowed, FitsAt}
+use Rattle.a429_search.specs.Contradiction.{ContradictsAt, HasNoContradiction, HasNoneBefore, HasNoRun}
 
 -- the words before item i do not allow it, and the reason fits it; or it contradicts them, by this reason
 abbrev pub IsReasonAt : Contents → List Seen → ℕ → Reason → Type 0
 IsReasonAt p items i reason = (IsRefused p items i × FitsAt p.codes (slice_get items i) reason) ⊎ ContradictsAt p items i reason
 
--- no run's trace begins with the words up to this one; there the reason holds, or it is `NoRun`, which says no more
+-- every item is allowed after those before it, and none contradicts them: no reason holds at any of them
+abbrev pub HasNoReason : Contents → List Seen → Type 0
+HasNoReason p items = AreAllowed p items (length items) × HasNoContradiction p items (length items)
+
+-- the reason holds at item i, and item i contradicts the words before it by no reason that comes before this one in their order
+abbrev pub IsFirstReasonAt : Contents → List Seen → ℕ → Reason → Type 0
+IsFirstReasonAt p items i reason = IsReasonAt p items i reason × HasNoneBefore (ContradictsAt p items i) reason
+
+-- no run's trace begins with the words up to this one; there the reason is the first that holds, or it is `NoRun`, and no reason
+-- holds at any item
 abbrev pub IsImpossibleBy : Contents → List Seen → Verdict → Type 0
-IsImpossibleBy p items (Impossible i reason) = (i < length items) × (IsReasonAt p items i reason ⊎ (reason ≡ NoRun)) × HasNoRun p items i
+IsImpossibleBy p items (Impossible i reason) = (i < length items) × (IsFirstReasonAt p items i reason ⊎ ((reason ≡ NoRun) × HasNoReason p items)) × HasNoRun p items i
 IsImpossibleBy p items _ = Unit {0}
 
 -- the verdict says that no run's trace begins with the words up to item i, or with fewer

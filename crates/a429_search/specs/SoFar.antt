@@ -15,9 +15,9 @@ pub record WordsSoFar : Type 0 where
 
 -- so many words of the block are passed with these: more words are some of the block after them where they are some of the rest;
 -- none where these words are not some of the block, in order
-abbrev pub HasPassed : List ℕ → Option ℕ → List ℕ → Type 0
-HasPassed words None block = (more : List ℕ) → ¬ IsSubsequenceOf (words ++ more) block
-HasPassed words (Some n) block = (more : List ℕ) → IsSubsequenceOf (words ++ more) block ↔ IsSubsequenceOf more (drop n block)
+abbrev pub IsPassedWith : List ℕ → Option ℕ → List ℕ → Type 0
+IsPassedWith words None block = (more : List ℕ) → ¬ IsSubsequenceOf (words ++ more) block
+IsPassedWith words (Some n) block = (more : List ℕ) → IsSubsequenceOf (words ++ more) block ↔ IsSubsequenceOf more (drop n block)
 
 -- a link data unit with its block
 abbrev pub kept_with : Option (List ℕ) → UnitKept → UnitSoFar

@@ -21,9 +21,9 @@ struct Apart {
     entry: usize,
 }
 
-/// The first entry with which an attempt has words that no link data unit has beside those of another attempt that was to send
-/// the same one: no run records it after those before it. `None` where none is found: at most 16 attempts of a unit are
-/// compared with those after them, as far as the steps of a budget last.
+/// An entry, the first that is found, with which an attempt has words that no link data unit has beside those of another
+/// attempt that was to send the same one: no run records it after those before it. `None` where none is found: at most 16
+/// attempts of a unit are compared with those after them, as far as the steps of a budget last.
 pub fn first_apart(alloc: Global, decoded: &Decoded) -> Result<Option<usize>, AllocError>
     ensures inside { IfOk result (λ found. IfSome found (λ n. n < length decoded.now.items)) }
     ensures impossible { IfOk result (λ found. IfSome found (λ n. HasNoRun decoded.now.profile decoded.now.items n)) }

@@ -3,7 +3,7 @@
 ghost use Rattle.std.specs.Prelude.{◌≡◌, ◌↔◌, ◌++◌, ◌∷◌, [], ℕ, List, Some, None, IfSome, IsTrue, OnOk, drop, length, slice_get};
 ghost use Rattle.a429_link.specs.Contradiction.{AreOther};
 ghost use Rattle.a429_link.specs.Run.{IsSubsequenceOf};
-ghost use Rattle.a429_search.specs.SoFar.{HasPassed};
+ghost use Rattle.a429_search.specs.SoFar.{IsPassedWith};
 
 use a429_word::Word;
 use std::alloc::{AllocError, Global};
@@ -22,13 +22,13 @@ pub(crate) struct AttemptWords {
 
 impl Model for AttemptWords {
     ghost use Rattle.std.specs.Prelude.{◌≡◌, true, Some, None, if◌then◌else◌};
-    ghost use Rattle.a429_search.specs.SoFar.{HasPassed, WordsSoFar};
+    ghost use Rattle.a429_search.specs.SoFar.{IsPassedWith, WordsSoFar};
 
     ghost Value = { WordsSoFar };
 
     ghost view = { λ s. record { words = s.words.items; block = if s.is_known then Some s.block.items else None } };
 
-    ghost invariant = { λ s. s.is_known ≡ true → HasPassed s.words.items s.passed s.block.items };
+    ghost invariant = { λ s. s.is_known ≡ true → IsPassedWith s.words.items s.passed s.block.items };
 }
 
 impl AttemptWords {
@@ -67,7 +67,7 @@ impl AttemptWords {
 
     // How many words of the block are passed with one more word.
     fn passed_with(&self, word: Word) -> Option<usize>
-        ensures { (block : List ℕ) → self.now.block ≡ Some block → HasPassed (self.now.words ++ word ∷ []) result block }
+        ensures { (block : List ℕ) → self.now.block ≡ Some block → IsPassedWith (self.now.words ++ word ∷ []) result block }
     {
         match self.passed {
             Some(passed) => passed_after(self.block.as_slice(), passed, word),

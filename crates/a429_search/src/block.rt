@@ -1,6 +1,8 @@
 //! The link data unit of a group.
 
 ghost use Rattle.std.specs.Prelude.{◌≡◌, ◌↔◌, ◌≤◌, ◌+◌, IfOk, IfSome, IfNone, IsSome, IsTrue, EachIndex, length};
+ghost use Rattle.a429_ldu.specs.Carried.{bytes_in};
+ghost use Rattle.a429_ldu.specs.CheckWord.{check_of};
 ghost use Rattle.a429_ldu.specs.Ldu.{HasLength};
 ghost use Rattle.a429_search.specs.Order.{lists_of, words_at, HasEach};
 ghost use Rattle.a429_search.specs.Fill.{Fits, AreDataOf, CanBeCompleted};
@@ -22,8 +24,10 @@ use std::alloc::{AllocError, Global};
 
 /// A link data unit that has all that was recorded of a group. A longest attempt is taken, where it has all others; else the
 /// attempts are merged in one order, or one after the other, or by a search, as long as the budget lasts. Missing data words
-/// are filled in. The first of these steps that gives a unit is taken; other units may do as well. `None` where no step gives
-/// one, and then there may be a unit all the same, but none of a longest attempt that has all others.
+/// are filled in. The first of these steps that gives a unit is taken; other units may do as well. Where no start word was
+/// recorded its general format identifier is 0; where no end word was, its flags are 0, and its check word is that of its
+/// bytes. `None` where no step gives one, and then there may be a unit all the same, but none of a longest attempt that has
+/// all others.
 pub fn unit_of_pieces(
     alloc: Global,
     profile: &Profile,
@@ -106,8 +110,7 @@ fn words_of(
     search_words(alloc, profile, lists, wanted, budget)
 }
 
-// The link data unit of these data words. Where no start word was recorded its general format identifier is 0; where no
-// end word was, its flags are 0, and its check word is that of its bytes.
+// The link data unit of these data words.
 fn unit_with(
     alloc: Global,
     profile: &Profile,
@@ -155,6 +158,7 @@ fn end_word(
     ensures found { IfOk result IsSome }
     ensures check { IfOk result (λ found. IfSome found (λ e. HaveCheckWord profile.now words.now e.check)) }
     ensures recorded { IfOk result (λ found. IfSome found (λ e. IfSome recorded (λ r. e ≡ r))) }
+    ensures made { IfOk result (λ found. IfSome found (λ e. IfNone recorded ((e.flags ≡ 0) × (e.check ≡ check_of profile.now.check (bytes_in profile.now.codes words.now))))) }
     ensures flags { IfOk result (λ found. IfSome found (λ e. e.flags ≤ 15)) }
 {
     // (for the proof: the profile is sound)

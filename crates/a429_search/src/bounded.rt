@@ -24,7 +24,8 @@ const STEPS_A_PAIR: usize = 4;
 /// The wanted data words that have each of these lists in its order. The search goes depth first: it takes a word that is
 /// next in some list and passes it in each list where it is next. Where all words are passed it completes the list of those
 /// taken; where that fails, or a shortest list for what is left of two lists is too long, it goes back. `None` where it
-/// finds none at `MOST_NODES` places, or before the budget is spent.
+/// finds none at `MOST_NODES` places, or before the budget is spent, or where one of two or more lists has more than 253
+/// words.
 pub fn search_words(
     alloc: Global,
     profile: &Profile,

@@ -14,7 +14,7 @@ pub struct Budget {
 }
 
 impl Budget {
-    /// That of a recording with so many entries.
+    /// The budget for a recording of `count` entries.
     pub fn of_entries(count: usize) -> Budget {
         let steps = STEPS_AN_ENTRY.saturating_mul(count as u64);
         Budget {

@@ -10,7 +10,7 @@ ghost use Rattle.a429_link.specs.Contradiction.{at_start, so_far_after};
 ghost use Rattle.a429_explain.specs.declared.verdict.Reason.{Reason};
 ghost use Rattle.a429_link.specs.WholeBlock.{IsHalfForm, data_words};
 ghost use Rattle.a429_search.specs.SoFar.{data_after, unheard};
-ghost use Rattle.a429_search.specs.Contradiction.{Contradicts, ContradictsAt, HasNoContradiction, HasNoRun, IsFirstContradiction};
+ghost use Rattle.a429_search.specs.Contradiction.{Contradicts, ContradictsAt, HasNoContradiction, HasNoneBefore, HasNoRun, IsFirstContradiction};
 
 use crate::data_words::DataWords;
 use crate::so_far::SoFar;
@@ -53,8 +53,8 @@ pub fn what_contradicts_has_no_run()
     what_contradicts_is_impossible();
 }
 
-/// The first word that contradicts those before it: no run records it after those. `None` where none does. Each word is
-/// looked at once.
+/// The first word that contradicts those before it: no run records it after those. Where two reasons hold, it is the first
+/// in the order `BadBlock`, `WrongNumber`, `OtherBlock`. `None` where none does. Each word is looked at once.
 pub fn first_contradiction(
     alloc: Global,
     decoded: &Decoded,
@@ -100,6 +100,7 @@ impl Witness {
         requires form { form ≡ form_of profile.now.codes seen.now.bus seen.now.word }
         requires parts { self.old.parts ≡ data_words profile.now.codes self.old.so_far.attempt.words }
         ensures some { IfOk result (λ found. IfSome found (Contradicts profile.now self.old.observer self.old.so_far seen.now.bus seen.now.word form)) }
+        ensures ranked { IfOk result (λ found. IfSome found (HasNoneBefore (Contradicts profile.now self.old.observer self.old.so_far seen.now.bus seen.now.word form))) }
         ensures none { result ≡ Ok None → (reason : Reason) → ¬ Contradicts profile.now self.old.observer self.old.so_far seen.now.bus seen.now.word form reason }
         ensures observer { result ≡ Ok None → Allows profile.now self.old.observer seen.now → self.new.observer ≡ sees profile.now seen.now self.old.observer }
         ensures so_far { result ≡ Ok None → unheard self.new.so_far ≡ unheard (so_far_after seen.now.bus seen.now.word form self.old.so_far) }
@@ -120,6 +121,7 @@ impl Witness {
     fn reason(&self, profile: &Profile, seen: &Seen, form: &Form) -> Option<Reason>
         requires { self.now.parts ≡ data_after seen.now.bus seen.now.word (Some form.now) (data_words profile.now.codes self.now.so_far.attempt.words) }
         ensures some { IfSome result (Contradicts profile.now self.now.observer self.now.so_far seen.now.bus seen.now.word (Some form.now)) }
+        ensures ranked { IfSome result (HasNoneBefore (Contradicts profile.now self.now.observer self.now.so_far seen.now.bus seen.now.word (Some form.now))) }
         ensures none { result ≡ None → (reason : Reason) → ¬ Contradicts profile.now self.now.observer self.now.so_far seen.now.bus seen.now.word (Some form.now) reason }
     {
         if self.observer.ends_bad(profile, seen.bus, form) || self.is_half(profile, seen, form) {

@@ -21,10 +21,10 @@ use a429_record::Entry;
 use std::alloc::Global;
 
 /// The verdict on a recording, under the profile of its bench: that of `check`, where it explains the recording. Else the
-/// recording is impossible from the first word on that those before it do not allow, or that contradicts them. Where
-/// there is no such word a search follows; the certificate of a run that it finds explains the recording. Where it finds
-/// none the recording is impossible, by `NoRun`, where attempts to send one link data unit are found to have words that no
-/// unit has; else the doubt of `check` stays.
+/// recording is impossible from the first word on that those before it do not allow, or that contradicts them, by the
+/// first of `BadBlock`, `WrongNumber` and `OtherBlock` that holds. Where there is no such word a search follows; the
+/// certificate of a run that it finds explains the recording. Where it finds none the recording is impossible, by `NoRun`,
+/// where attempts to send one link data unit are found to have words that no unit has; else the doubt of `check` stays.
 pub fn decide(alloc: Global, profile: &Profile, entries: &[Entry]) -> Result<Verdict, OutOfMemory>
     ensures explained { IfOk result (λ v. IsSoundVerdict profile.now (items_of entries.now) v) }
     ensures accepted { IfOk result (λ v. IsAccepted profile.now (items_of entries.now) v) }

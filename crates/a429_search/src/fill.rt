@@ -13,7 +13,7 @@ use std::alloc::{AllocError, Global};
 /// What the data words of a block must be.
 #[derive(Clone, Copy, Debug)]
 pub struct Wanted {
-    /// So many.
+    /// How many data words.
     pub count: usize,
     /// With this check word, where one is wanted.
     pub check: Option<u16>,

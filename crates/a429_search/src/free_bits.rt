@@ -9,8 +9,8 @@ use a429_ldu::check_word_by;
 use a429_profile::CheckTables;
 use std::alloc::{AllocError, Global};
 
-/// So many bits, at most 32: exclusive-ored into the first bytes, the lowest bit first, they give the bytes
-/// the wanted check word. `None` where no such bits do.
+/// A number of at most `count` bits that, exclusive-ored into the bytes (its lowest eight into the first), gives them the
+/// check word `wanted`. `None` where no such number does. `count` is at most 32.
 pub fn bits_for_check_word(
     alloc: Global,
     rule: &CheckTables,

@@ -1,4 +1,4 @@
-//! The data words of a link data unit of which each attempt was recorded with losses.
+//! The decision on a recording: contradictions, a search for a run, and the data words of units recorded with losses.
 #![tactic(auto)]
 
 mod apart;

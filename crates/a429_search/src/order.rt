@@ -8,7 +8,7 @@ use a429_word::Word;
 use std::alloc::{AllocError, Global};
 
 /// A list that has each of these in its order, no word twice, and none but theirs; `None` where there is no list that has
-/// each and no word twice.
+/// each and no word twice. The budget is only counted.
 pub fn merge_in_one_order(
     alloc: Global,
     lists: &[Vec<Word>],

@@ -9,7 +9,7 @@ ghost use Rattle.a429_search.specs.Pair.{last, merged_length, IsRow, IsTable};
 use a429_word::Word;
 use std::alloc::{AllocError, Global};
 
-/// A shortest list that has both of these, each in its order.
+/// A shortest list that has both of these, each in its order. Each has at most 253 words.
 pub fn merge_shortest(alloc: Global, left: &[Word], right: &[Word]) -> Result<Vec<Word>, AllocError>
     requires few_left { length left.now ≤ most_data_words }
     requires few_right { length right.now ≤ most_data_words }

@@ -27,7 +27,7 @@ use Rattle.a429_view.specs.declared.trace.Trace.{Trace}
 use Rattle.a429_record.specs.declared.entry.Entry.{Entry}
 use Rattle.a429_view.specs.Block.{block_end, block_start}
 use Rattle.a429_view.specs.Forms.{form_text, freedom_text, reason_or_form_text}
-use Rattle.a429_view.specs.Trace.{GoesOn, after_text, crossings_by, doing_text, else_text, free_text, has_line, head_text, line_of}
+use Rattle.a429_view.specs.Trace.{GoesOn, after_text, crossings_by, doing_text, else_text, free_text, has_line, line_head, line_of}
 
 -- ---- what a word is
 
@@ -91,7 +91,7 @@ where_false true x e = absurd (cc e)
 
 -- a line by the reason why its word is free and by its form
 abbrev line_by : Contents → ℕ → Implied → Entry → Option Freedom → Option Form → List ℕ
-line_by p n k e why x = head_text n e ++ reason_or_form_text p.codes why x ++ after_text p k e.bus e.word why x ++ codes "\n"
+line_by p n k e why x = line_head n e ++ reason_or_form_text p.codes why x ++ after_text p k e.bus e.word why x ++ codes "\n"
 
 pub no_line : (p : Contents) (n : ℕ) (k : Implied) (e : Entry) → has_line p.codes e ≡ false → line_of p n k e ≡ []
 no_line p n k e h = where_false (has_line p.codes e) (line_by p n k e (freedom_of p.codes e.bus e.word) (form_of p.codes e.bus e.word)) h
@@ -100,20 +100,20 @@ some_line : (p : Contents) (n : ℕ) (k : Implied) (e : Entry) → has_line p.co
 some_line p n k e h = where_true (has_line p.codes e) (line_by p n k e (freedom_of p.codes e.bus e.word) (form_of p.codes e.bus e.word)) h
 
 pub free_line : (p : Contents) (n : ℕ) (k : Implied) (e : Entry) → has_line p.codes e ≡ true → is_free p.codes e.bus e.word ≡ true
-    → line_of p n k e ≡ head_text n e ++ (free_text p.codes e.bus e.word (freedom_of p.codes e.bus e.word) ++ codes "\n")
+    → line_of p n k e ≡ line_head n e ++ (free_text p.codes e.bus e.word (freedom_of p.codes e.bus e.word) ++ codes "\n")
 free_line p n k e h free = some_line p n k e h ∙ by (freedom_of p.codes e.bus e.word) (form_of p.codes e.bus e.word) ((some_where_free p.codes e.bus e.word).1 ((is_free-decides p.codes e.bus e.word).0 free))
   where
-    by : (o : Option Freedom) (x : Option Form) → o ≢ None → line_by p n k e o x ≡ head_text n e ++ (free_text p.codes e.bus e.word o ++ codes "\n")
+    by : (o : Option Freedom) (x : Option Form) → o ≢ None → line_by p n k e o x ≡ line_head n e ++ (free_text p.codes e.bus e.word o ++ codes "\n")
     by None x some = absurd (some refl)
-    by (Some why) x some = three (head_text n e) (freedom_text why) (else_text p.codes e.bus e.word why) (codes "\n")
+    by (Some why) x some = three (line_head n e) (freedom_text why) (else_text p.codes e.bus e.word why) (codes "\n")
 
 pub allowed_line : (p : Contents) (n : ℕ) (k : Implied) (e : Entry) (x : Form) → has_line p.codes e ≡ true → freedom_of p.codes e.bus e.word ≡ None → form_of p.codes e.bus e.word ≡ Some x
-    → line_of p n k e ≡ head_text n e ++ (form_text p.codes x ++ (codes " | " ++ doing_text (does p e.bus e.word x k.sink)) ++ codes "\n")
+    → line_of p n k e ≡ line_head n e ++ (form_text p.codes x ++ (codes " | " ++ doing_text (does p e.bus e.word x k.sink)) ++ codes "\n")
 allowed_line p n k e x h free is =
     some_line p n k e h
     ∙ ap (λ (o : Option Freedom). line_by p n k e o (form_of p.codes e.bus e.word)) free
     ∙ ap (λ (f : Option Form). line_by p n k e None f) is
-    ∙ three (head_text n e) (form_text p.codes x) (codes " | " ++ doing_text (does p e.bus e.word x k.sink)) (codes "\n")
+    ∙ three (line_head n e) (form_text p.codes x) (codes " | " ++ doing_text (does p e.bus e.word x k.sink)) (codes "\n")
 
 -- an entry's bus and word after its time, byte by byte
 pub entry_bytes : (w : ℕ) (bus : Bus) (letter hex time : List ℕ) → letter ≡ bus_text bus → hex ≡ hex_text w

@@ -106,12 +106,12 @@ abbrev pub has_line : Codes → Entry → Bool
 has_line c e = label_of e.word == address_of c e.bus
 
 -- how it begins: the entry's number, its time, bus and word
-abbrev pub head_text : ℕ → Entry → List ℕ
-head_text n e = decimal n ++ codes " " ++ entry_text 32 32 e
+abbrev pub line_head : ℕ → Entry → List ℕ
+line_head n e = decimal n ++ codes " " ++ entry_text 32 32 e
 
 -- entry n, whose word is allowed after words that imply this
 abbrev pub line_of : Contents → ℕ → Implied → Entry → List ℕ
-line_of p n k e = if has_line p.codes e then head_text n e ++ what_text p.codes e.bus e.word ++ after_text p k e.bus e.word (freedom_of p.codes e.bus e.word) (form_of p.codes e.bus e.word) ++ codes "\n" else []
+line_of p n k e = if has_line p.codes e then line_head n e ++ what_text p.codes e.bus e.word ++ after_text p k e.bus e.word (freedom_of p.codes e.bus e.word) (form_of p.codes e.bus e.word) ++ codes "\n" else []
 
 -- entries from number n on, each allowed after those before it
 abbrev pub lines_of : Contents → ℕ → Implied → List Entry → List ℕ
@@ -124,7 +124,7 @@ refused_text c x k = reason_or_form_text c None x ++ codes " | refused, allowed:
 
 -- entry n, whose word is such
 abbrev pub refused_line : Contents → ℕ → Implied → Entry → List ℕ
-refused_line p n k e = head_text n e ++ refused_text p.codes (form_of p.codes e.bus e.word) k
+refused_line p n k e = line_head n e ++ refused_text p.codes (form_of p.codes e.bus e.word) k
 
 -- ---- the trace of entries
 

@@ -1,4 +1,5 @@
-//! What people look at who look for a fault: the units of a certificate as rows, and its messages as a picture.
+//! What people look at who look for a fault: the words of a recording as texts, counted, and as lines with what its sink does;
+//! the units of a certificate as rows, and its messages as a picture.
 #![tactic(auto)]
 
 mod forms;

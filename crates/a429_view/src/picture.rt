@@ -14,7 +14,8 @@ use a429_profile::Profile;
 use a429_word::{Bus, Device, Page, Sheet, Tally};
 use std::io::Write;
 
-/// Writes the picture of these rows as SVG, by an empty page. After `Device` a prefix of it has been written.
+/// Writes the picture of these rows as SVG. `page` is its buffer, and is empty; at most 2,000 rows. After `Device` a prefix
+/// of it has been written.
 pub fn put_picture<W: Write>(
     page: Page,
     out: &mut Tally<W>,

@@ -42,7 +42,7 @@ impl Sketch {
     ghost use Rattle.a429_cert.specs.Report.{Makes};
     ghost use Rattle.a429_view.specs.Sketch.{most_steps, Hears, IsBlank, Notes};
 
-    /// One on which nothing is noted.
+    /// A sketch of this span, without rows.
     pub fn new(alloc: Global, span: Span) -> Sketch
         ensures { IsBlank span result }
     {

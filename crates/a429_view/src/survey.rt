@@ -39,7 +39,7 @@ impl Survey {
         }
     }
 
-    /// One more entry.
+    /// Counts one more entry; the profile is the same for all.
     pub fn add(&mut self, profile: &Profile, entry: &Entry)
         ensures { (es : List Entry) → length es + 1 < 2 ^ 64 → IsSurvey profile.now.codes self.old es
             → IsSurvey profile.now.codes self.new (es ++ entry.now ∷ []) }

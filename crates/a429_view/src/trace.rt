@@ -6,7 +6,7 @@ ghost use Rattle.a429_ldu.specs.Sight.{form_in};
 ghost use Rattle.a429_link.specs.Observer.{AllowsForm};
 ghost use Rattle.a429_link.specs.Implied.{crossings_of, does, implies_form, observer_of};
 ghost use Rattle.a429_profile.specs.Profile.{Contents, IsProfile};
-ghost use Rattle.a429_view.specs.Trace.{GoesOn, IsTrace, IsTraceStop, has_line, head_text, line_of, refused_text, stop_text};
+ghost use Rattle.a429_view.specs.Trace.{GoesOn, IsTrace, IsTraceStop, has_line, line_head, line_of, refused_text, stop_text};
 
 mod block;
 mod count;
@@ -48,7 +48,7 @@ pub struct Trace {
 }
 
 impl Trace {
-    /// That of no entries.
+    /// A trace of no entries.
     pub fn new(alloc: Global) -> Trace
         ensures { (p : Contents) → IsTrace p result [] }
     {
@@ -130,7 +130,7 @@ impl Trace {
         sight: Sight,
     ) -> TraceStop
         ensures stop { result ≡ TraceStop.Refused sight }
-        ensures line { Says W.contents sheet.old sheet.new (head_text self.now.entries entry.now ++ refused_text profile.now.codes (form_in sight) self.now.sink) }
+        ensures line { Says W.contents sheet.old sheet.new (line_head self.now.entries entry.now ++ refused_text profile.now.codes (form_in sight) self.now.sink) }
     {
         let next = self.sink.next();
         put_refused(sheet, profile, &self.entries, entry, sight.form(), next);

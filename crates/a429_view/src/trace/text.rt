@@ -8,7 +8,7 @@ ghost use Rattle.a429_link.specs.Allowed.{kinds_of_next};
 ghost use Rattle.a429_record.specs.Writing.{entry_text};
 ghost use Rattle.a429_view.specs.Forms.{form_text, reason_or_form_text};
 ghost use Rattle.a429_view.specs.Line.{Adds, Fits};
-ghost use Rattle.a429_view.specs.Trace.{crossing_text, doing_text, else_form_text, else_text, free_text, head_text, kinds_text, turned_over, why_text, words_text};
+ghost use Rattle.a429_view.specs.Trace.{crossing_text, doing_text, else_form_text, else_text, free_text, line_head, kinds_text, turned_over, why_text, words_text};
 
 use crate::forms::{add_form, add_form_or_none, add_likely_form, add_named, add_unit, freedom};
 use crate::line::Line;
@@ -29,7 +29,7 @@ pub(crate) fn put_free<W: Write>(
     count: &EntryCount,
     entry: &Entry,
 )
-    ensures { Says W.contents sheet.old sheet.new (head_text count.now entry.now ++ (free_text profile.now.codes entry.now.bus entry.now.word (freedom_of profile.now.codes entry.now.bus entry.now.word) ++ codes "\n")) }
+    ensures { Says W.contents sheet.old sheet.new (line_head count.now entry.now ++ (free_text profile.now.codes entry.now.bus entry.now.word (freedom_of profile.now.codes entry.now.bus entry.now.word) ++ codes "\n")) }
 {
     let mut line = Line::new();
     add_head(&mut line, count, entry);
@@ -50,7 +50,7 @@ pub(crate) fn put_allowed<W: Write>(
     form: &Form,
     doing: &Doing,
 )
-    ensures { Says W.contents sheet.old sheet.new (head_text count.now entry.now ++ (form_text profile.now.codes form.now ++ (codes " | " ++ doing_text doing.now) ++ codes "\n")) }
+    ensures { Says W.contents sheet.old sheet.new (line_head count.now entry.now ++ (form_text profile.now.codes form.now ++ (codes " | " ++ doing_text doing.now) ++ codes "\n")) }
 {
     line.clear();
     add_head(line, count, entry);
@@ -70,7 +70,7 @@ pub(crate) fn put_refused<W: Write>(
     form: Option<Form>,
     next: Next,
 )
-    ensures { Says W.contents sheet.old sheet.new (head_text count.now entry.now ++ (reason_or_form_text profile.now.codes None form ++ codes " | refused, allowed: " ++ kinds_text (kinds_of_next next) ++ codes "\n")) }
+    ensures { Says W.contents sheet.old sheet.new (line_head count.now entry.now ++ (reason_or_form_text profile.now.codes None form ++ codes " | refused, allowed: " ++ kinds_text (kinds_of_next next) ++ codes "\n")) }
 {
     let mut line = Line::new();
     add_head(&mut line, count, entry);
@@ -85,7 +85,7 @@ pub(crate) fn put_refused<W: Write>(
 #[inline(always)]
 fn add_head(line: &mut Line, count: &EntryCount, entry: &Entry)
     requires { Fits line.old 57 }
-    ensures { Adds line.old line.new 57 (head_text count.now entry.now) }
+    ensures { Adds line.old line.new 57 (line_head count.now entry.now) }
 {
     line.put_short(count.digits());
     line.put(b" ");

@@ -52,9 +52,11 @@ impl<W: Write> UnitRows<W> {
         self.put_waiting()
     }
 
-    /// Puts the rows that wait to be put, those of units after which another was loaded, and nothing else.
+    /// Puts the rows that wait to be put, those of units after which another was loaded, and nothing else. The row that is
+    /// begun stays.
     pub fn put_waiting(&mut self) -> Result<(), Device>
         ensures ok { OnOk result (PutsAll W.contents self.old self.new []) }
+        ensures row { self.new.row ≡ self.old.row }
         ensures device { IsErr result ↔ (has_failed self.new.out ≡ true) }
     {
         let mut sheet = Sheet::new(&mut self.out, &mut self.page);

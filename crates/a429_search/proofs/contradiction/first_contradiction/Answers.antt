@@ -3,8 +3,8 @@ use Rattle.std.proofs.Common.{◌≡◌, Option, Ok, IfSome, sym, ap, subst}
 use Rattle.a429_profile.specs.Profile.{Contents}
 use Rattle.a429_link.specs.Observer.{Allows, sees}
 use Rattle.a429_explain.specs.declared.verdict.Reason.{Reason}
-use Rattle.a429_search.specs.Contradiction.{Contradicts}
-use Rattle.a429_search.proofs.ContradictionFacts.{IsAt, allowed_at, contradicts_at, is_at, witnesses_more}
+use Rattle.a429_search.specs.Contradiction.{Contradicts, ContradictsAt, HasNoneBefore}
+use Rattle.a429_search.proofs.ContradictionFacts.{IsAt, allowed_at, contradicts_at, is_at, none_before, witnesses_more}
 use Rattle.a429_search.proofs.contradiction.first_contradiction.Goals as goal
 use Rattle.a429_search.proofs.contradiction.first_contradiction.Goals.{After-look}
 
@@ -23,10 +23,14 @@ returns-in-Some-clause-first c =
     let x = c.word-form.result.form in
     let r = c.in-Some.reason in
     let found = subst (λ (z : Option Reason). IfSome z (Contradicts c.profile-profile.result.now o s i.bus i.word x)) c.in-Some.is c.in_ok-reason.ensures.some in
+    let first = subst (λ (z : Option Reason). IfSome z (HasNoneBefore (Contradicts c.profile-profile.result.now o s i.bus i.word x))) c.in-Some.is c.in_ok-reason.ensures.ranked in
     record {
       inside = slice_get_within items c.loop-entry.entry i c.seen-seen.ensures;
       holds = subst (λ (T : Type 0). T) (sym (contradicts_at p items c.loop-entry.entry i x o s c.loop-entry.witness.parts r (word a) c.loop-entry.invariant)) (subst (λ (q : Contents). Contradicts q o s i.bus i.word x r) c.profile-profile.ensures.is found);
       before = c.loop-entry.invariant.none;
+      ranked = none_before (ContradictsAt p items c.loop-entry.entry) (Contradicts p o s i.bus i.word x)
+          (λ k h. subst (λ (T : Type 0). T) (contradicts_at p items c.loop-entry.entry i x o s c.loop-entry.witness.parts k (word a) c.loop-entry.invariant) h) r
+          (subst (λ (q : Contents). HasNoneBefore (Contradicts q o s i.bus i.word x) r) c.profile-profile.ensures.is first);
     }
 
 pub returns-in-Some-clause-impossible : goal.returns-in-Some-clause-impossible

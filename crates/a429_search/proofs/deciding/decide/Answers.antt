@@ -1,4 +1,4 @@
-use Rattle.std.proofs.Common.{List, length, take, Option, Ok, IfSome, sym, ap, subst, inl, inr, arith}
+use Rattle.std.proofs.Common.{List, length, slice_get, take, Option, Ok, IfSome, sym, ap, subst, inl, inr, arith}
 use Rattle.std.proofs.lemmas.List.{take-map}
 use Rattle.a429_link.specs.declared.seen.Seen.{Seen}
 use Rattle.a429_cert.specs.Explained.{items_of, seen_of}
@@ -6,8 +6,8 @@ use Rattle.a429_explain.specs.declared.verdict.Verdict.{Verdict}
 use Rattle.a429_explain.specs.Verdict.{IsFirst, IsImpossible, IsSoundVerdict}
 use Rattle.a429_explain.specs.Walk.{AreAllowed}
 use Rattle.a429_search.specs.declared.contradiction.Contradiction.{Contradiction}
-use Rattle.a429_search.specs.Contradiction.{HasNoContradiction, HasNoRun, IsFirstContradiction}
-use Rattle.a429_search.proofs.DecidingFacts.{allowed_first, at_least, explained_none, first_by, found_first, impossible_by, no_reason_at_all, none_first}
+use Rattle.a429_search.specs.Contradiction.{ContradictsAt, HasNoContradiction, HasNoRun, IsFirstContradiction}
+use Rattle.a429_search.proofs.DecidingFacts.{allowed_first, at_least, explained_none, first_by, found_first, first_of_refused, impossible_by, no_reason_at_all, none_first}
 use Rattle.a429_search.proofs.deciding.decide.Goals as goal
 
 pub contradiction-requires : goal.contradiction-requires
@@ -61,9 +61,10 @@ pub returns-in-Ok-None-clause-impossible : goal.returns-in-Ok-None-clause-imposs
 returns-in-Ok-None-clause-impossible c =
     let p = c.args.profile.now in
     let items = items_of c.args.entries.now in
+    let n = c.in-Ok-Impossible.entry in
     let refused = subst (λ (v : Verdict). IsFirst p items v) c.in-Ok-Impossible.field-0-is c.in-Ok-Impossible.ensures.first in
     let is = subst (λ (v : Verdict). IsImpossible p items v) c.in-Ok-Impossible.field-0-is c.in-Ok-Impossible.ensures.impossible in
-    (is.0, inl (inl (refused.refused, is.1)), is.2)
+    (is.0, inl (inl (refused.refused, is.1), first_of_refused p.codes (slice_get items n) (ContradictsAt p items n) c.in-Ok-Impossible.reason is.1), is.2)
 
 pub returns-in-Ok-None-clause-first : goal.returns-in-Ok-None-clause-first
 returns-in-Ok-None-clause-first c =
@@ -81,7 +82,7 @@ returns-in-Ok-Some-found-clause-first c =
     let p = c.args.profile.now in
     let items = items_of c.args.entries.now in
     let doubt = subst (λ (v : Verdict). IsFirst p items v) c.in-Ok-Unexplained.field-0-is c.in-Ok-Unexplained.ensures.first in
-    no_reason_at_all p items doubt.0 (c.in-Ok-None-contradiction.ensures.none (ap (λ (o : Option Contradiction). Ok o) c.in-Ok-None-contradiction.field-0-is))
+    no_reason_at_all p items (doubt.0, c.in-Ok-None-contradiction.ensures.none (ap (λ (o : Option Contradiction). Ok o) c.in-Ok-None-contradiction.field-0-is))
 
 pub returns-in-Ok-Some-found-clause-of_check : goal.returns-in-Ok-Some-found-clause-of_check
 returns-in-Ok-Some-found-clause-of_check c =
@@ -92,7 +93,7 @@ returns-in-Ok-None-apart-clause-first c =
     let p = c.args.profile.now in
     let items = items_of c.args.entries.now in
     let doubt = subst (λ (v : Verdict). IsFirst p items v) c.in-Ok-Unexplained.field-0-is c.in-Ok-Unexplained.ensures.first in
-    no_reason_at_all p items doubt.0 (c.in-Ok-None-contradiction.ensures.none (ap (λ (o : Option Contradiction). Ok o) c.in-Ok-None-contradiction.field-0-is))
+    no_reason_at_all p items (doubt.0, c.in-Ok-None-contradiction.ensures.none (ap (λ (o : Option Contradiction). Ok o) c.in-Ok-None-contradiction.field-0-is))
 
 pub returns-in-Ok-None-apart-clause-impossible : goal.returns-in-Ok-None-apart-clause-impossible
 returns-in-Ok-None-apart-clause-impossible c = tt
