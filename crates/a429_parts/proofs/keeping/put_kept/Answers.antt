@@ -1,4 +1,4 @@
-use Rattle.std.proofs.Common.{◌∙◌, ◌∷◌, ◌++◌, []}
+use Rattle.std.proofs.Common.{◌∙◌, ◌∷◌, ◌++◌, [], sym, true≢false}
 use Rattle.std.proofs.lemmas.Result.{err_from_is_err_and}
 use Rattle.a429_word.proofs.SheetFacts.{◌▹◌, says_nothing}
 use Rattle.a429_parts.proofs.KeepingFacts.{before_is, gave_all, gave_first, gave_more, gave_these, gave_until, kept_text-push, less_left}
@@ -36,7 +36,7 @@ returns-then-failed-clause-all g c = record {
   entries = c.entries.invariant.entries;
   says = c.entries.invariant.says;
   first = gave_these c.args.rec.now.to_come c.entries.rec.to_come c.entries.invariant.entries _ c.entries.invariant.gave;
-  all = λ works. absurd (cc (works, c.failed.ensures, c.if-failed.true));
+  all = λ works. absurd (true≢false (sym c.if-failed.true ∙ (c.failed.ensures ∙ works)));
 }
 
 pub returns-in_err-next-2-clause-until : goal.returns-in_err-next-2-clause-until
