@@ -27,7 +27,8 @@ use std::alloc::Global;
 
 /// The verdict on a recording under the profile of its bench, by the rule of `check` (docs/CHECKER.md): impossible, at the
 /// first word that those before it do not allow, so that no run of source and sink records it there; explained, with the
-/// certificate of a run that records all words; or unexplained, where none is found. `verify` accepts the certificate, which is of version 2 exactly where its run gives a file up.
+/// certificate of a run that records all words; or unexplained, where none is found. `verify` accepts the certificate, which
+/// is of version 2 exactly where its run gives a file up.
 pub fn check(alloc: Global, profile: &Profile, entries: &[Entry]) -> Result<Verdict, OutOfMemory>
     ensures explained { IfOk result (λ v. IsSoundVerdict profile.now (items_of entries.now) v) }
     ensures accepted { IfOk result (λ v. IsAccepted profile.now (items_of entries.now) v) }

@@ -224,10 +224,10 @@ is_near : (p : Contents) (parted : List Entry) (c : CutterState) (size : ℕ) (r
 is_near p parted c size rest part in_time = (omega (arith, part.some), omega (arith, part.within), place_same p (sym part.place) refl refl (in_time rest (omega (arith, part.place, part.some))))
 
 ends_last : (c : CutterState) (size : ℕ) (rest : List Entry) → c.most < length c.waiting → IsPastDoubt c → IsPart c size → EndsLast c size rest
-ends_last c size rest more past part p parted cuts in_time = (is_near p parted c size rest part in_time, λ n near. omega (arith, near_place p parted c cuts rest n more past near, part.place))
+ends_last c size rest more past part p parted cuts = (λ n near. omega (arith, near_place p parted c cuts rest n more past near, part.place), is_near p parted c size rest part)
 
 ends_last_at_end : (c : CutterState) (size : ℕ) → c.most < length c.waiting → IsPart c size → EndsLast c size []
-ends_last_at_end c size more part p parted cuts in_time = (is_near p parted c size [] part in_time, λ n near. omega (arith, near_place_at_end p parted c cuts n more near, part.place))
+ends_last_at_end c size more part p parted cuts = (λ n near. omega (arith, near_place_at_end p parted c cuts n more near, part.place), is_near p parted c size [] part)
 
 pub next_part : {E : Type 0} (c : CutterState) (r : Result (Option ℕ) E) → c.most < length c.waiting → IsPastDoubt c → IfOk r (λ o. IfSome o (IsPart c)) → IfOk r (λ o. IfSome o (IsNextPart c))
 next_part c (Err e) more past h = tt

@@ -193,7 +193,9 @@ holds_part p most at_end parts es size old new h ends reach begins part waiting 
     long rest left = omega (arith, ends.1, h.limit, ap length (h.are rest left).joined, length-append (joined parts) (old.cutter.waiting ++ rest), length-append old.cutter.waiting rest)
 
     last : (rest : List Entry) → IsLeft at_end rest → IsLastNear p most (es ++ rest) (0 + length (joined parts)) (0 + (length (joined parts) + length piece))
-    last rest left = last_near p h.limit (h.are rest left).joined (omega (arith, (h.cuts rest).begin)) (omega (arith, (h.cuts rest).begin, taken)) (ends.0 rest left p (joined parts) h.cuts h.in_time)
+    last rest left =
+        let end = ends.0 rest left p (joined parts) h.cuts in
+        last_near p h.limit (h.are rest left).joined (omega (arith, (h.cuts rest).begin)) (omega (arith, (h.cuts rest).begin, taken)) (end.1 h.in_time, end.0)
 
     line : part_line old.next size old.cutter.begin ≡ part_line (1 + length parts) (length piece) (0 + length (joined parts))
     line = line_same (h.next ∙ omega arith) (sym taken) ((h.cuts []).begin ∙ omega arith)

@@ -4,7 +4,7 @@ use Rattle.a429_profile.specs.Profile.{Contents}
 use Rattle.a429_record.specs.declared.entry.Entry.{Entry}
 use Rattle.a429_cert.specs.Explained.{items_of}
 use Rattle.a429_parts.specs.Cutting.{IsPlace}
-use Rattle.a429_parts.specs.Near.{HasNoneNear, IsLastNear}
+use Rattle.a429_parts.specs.Near.{HasNoneAfter, HasNoneNear, IsNearEnough}
 use Rattle.a429_parts.specs.Watch.{Finds, IsInDoubt, Watched, Watches, place_of}
 
 -- the most entries of a part; what is known of the words so far; how many entries are in parts; the last place, after so many entries, or 0; the entries in no part yet
@@ -41,9 +41,11 @@ CutsAlways p parted c = (rest : List Entry) → Cuts p parted rest c
 abbrev pub IsFoundInTime : Contents → List Entry → CutterState → Type 0
 IsFoundInTime p parted c = (rest : List Entry) → c.begin < c.place → IsPlace p (items_of (take (c.place + c.most + 1) (parted ++ (c.waiting ++ rest)))) c.place
 
--- where these entries are still to come, a part of this size ends at the last place that is near enough
+-- where these entries are still to come, no place after a part of this size is near enough; its end is, where it was found in time
 abbrev pub EndsLast : CutterState → ℕ → List Entry → Type 0
-EndsLast c size rest = (p : Contents) (parted : List Entry) → CutsAlways p parted c → IsFoundInTime p parted c → IsLastNear p c.most (parted ++ (c.waiting ++ rest)) c.begin (c.begin + size)
+EndsLast c size rest =
+    (p : Contents) (parted : List Entry)
+    → CutsAlways p parted c → HasNoneAfter p c.most (parted ++ (c.waiting ++ rest)) c.begin (c.begin + size) × (IsFoundInTime p parted c → IsNearEnough p c.most (parted ++ (c.waiting ++ rest)) c.begin (c.begin + size))
 
 -- no place is near enough
 abbrev pub EndsNowhere : CutterState → List Entry → Type 0

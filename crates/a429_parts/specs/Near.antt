@@ -9,9 +9,13 @@ use Rattle.a429_parts.specs.Cutting.{IsPlace}
 abbrev pub IsNearEnough : Contents → ℕ → List Entry → ℕ → ℕ → Type 0
 IsNearEnough p most entries from n = (from < n) × (n ≤ from + most) × IsPlace p (items_of (take (n + most + 1) entries)) n
 
+-- it may not end after the place `end`
+abbrev pub HasNoneAfter : Contents → ℕ → List Entry → ℕ → ℕ → Type 0
+HasNoneAfter p most entries from end = (n : ℕ) → IsNearEnough p most entries from n → n ≤ end
+
 -- it may end after `end` of them, and not later
 abbrev pub IsLastNear : Contents → ℕ → List Entry → ℕ → ℕ → Type 0
-IsLastNear p most entries from end = IsNearEnough p most entries from end × ((n : ℕ) → IsNearEnough p most entries from n → n ≤ end)
+IsLastNear p most entries from end = IsNearEnough p most entries from end × HasNoneAfter p most entries from end
 
 -- it may end nowhere
 abbrev pub HasNoneNear : Contents → ℕ → List Entry → ℕ → Type 0

@@ -48,7 +48,8 @@ impl Model for EntryText {
 }
 
 impl EntryText {
-    /// As after an entry at 10,000 microseconds.
+    /// None was put yet: the digits that it keeps are those of a time of 10,000 microseconds. What is put next does not
+    /// depend on them.
     pub fn new() -> EntryText
         ensures { result ≡ 1 }
     {
