@@ -106,6 +106,14 @@ def commands_never_run(page, pages_run):
                     yield Fault(page, line, f"no test runs: {command}")
 
 
+def shared_files(page):
+    """The commands of a page that is run which name a file in /tmp: two runs of the page, side by side, have one such file."""
+    for block in blocks_of(page.read_text(encoding="utf-8")):
+        for line, command in commands_of(block):
+            if block.language == "console" and re.search(r"(?<![\w.~])/tmp/", command):
+                yield Fault(page, line, f"another run has this file too: {command}")
+
+
 def idle_files(page):
     """The files that a page shows and that none of its commands uses."""
     blocks = [*blocks_of(page.read_text(encoding="utf-8"))]

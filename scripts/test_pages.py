@@ -4,7 +4,7 @@ import unittest
 from pathlib import Path
 
 from console import blocks_of
-from pages import anchors_of, commands_never_run, dead_links, idle_files, lost_definitions, lost_names, missing_files
+from pages import anchors_of, commands_never_run, dead_links, idle_files, lost_definitions, lost_names, missing_files, shared_files
 
 PAGE = """\
 # A page
@@ -82,6 +82,11 @@ class Pages(unittest.TestCase):
         self.assertEqual(self.said(idle_files(self.page)), [])
         idle = self.put("idle.md", "```awk convert.awk\n{ print }\n```\n")
         self.assertEqual(self.said(idle_files(idle)), [(2, "no command uses the file convert.awk")])
+
+    def test_files_that_two_runs_share_are_named(self):
+        text = "```console\n$ cp a ~/tmp/b\n$ cp a /tmp/b\n```\n\n```\ncp a /tmp/b\n```\n"
+        wanted = [(3, "another run has this file too: cp a /tmp/b")]
+        self.assertEqual(self.said(shared_files(self.put("shared.md", text))), wanted)
 
     def test_definitions_are_in_the_files_that_are_named(self):
         self.put("crates/low/specs/One.antt", "one two")

@@ -12,7 +12,8 @@ from wrongbodies.tries import Crate, cost, names_of
 
 # The most memory that a check was seen to take, in bytes.
 MEMORY_OF_A_CHECK = 4_000_000_000
-# How many edits are tried at once: a crate with more has them tried in parts, side by side where processors are free.
+# How many edits are tried at once: a crate with more has them tried in parts, side by side, where more than two checks can run so. Each
+# part reads all contracts below the crate once more.
 MOST_AT_ONCE = 80
 
 
@@ -72,9 +73,9 @@ def lanes():
     return max(1, min(len(os.sched_getaffinity(0)), memory // MEMORY_OF_A_CHECK))
 
 
-def parts_of(made, rattle, is_release=True):
-    """A crate, in as many parts as its edits need."""
-    parts = -(-len(names_of(made.folder, is_release)) // MOST_AT_ONCE)
+def parts_of(made, rattle, most, is_release=True):
+    """A crate, in as many parts as its edits need where so many checks run side by side."""
+    parts = -(-len(names_of(made.folder, is_release)) // MOST_AT_ONCE) if most > 2 else 1
     return [Crate(made, rattle, part, parts, is_release) for part in range(parts)]
 
 
@@ -108,7 +109,7 @@ def try_named(words, crates, rattle):
     if "-" in words:
         wanted = map(str.strip, sys.stdin)
     # (each is made when its name comes: it takes the libraries below it as they are then)
-    come = (part for it in wanted if it in made_of for part in parts_of(made_of[it], rattle, "--change" not in words))
+    come = (part for it in wanted if it in made_of for part in parts_of(made_of[it], rattle, most, "--change" not in words))
     sums = dearest_first(come, lambda crate: try_crate(crate, "--proved" in words), first, most)
     passed, named, failed = (sum(it) for it in zip(*sums, (0, 0, len(unknown))))
     print(f"wrong bodies refused: {passed}, of them named ones: {named}")

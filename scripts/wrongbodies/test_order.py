@@ -103,11 +103,13 @@ class Order(unittest.TestCase):
             for it in edits:
                 Path(folder, "wrong", it).write_text("")
             made = SimpleNamespace(name="a429_test", folder=folder, below=lambda: [], words=lambda *_, **__: [])
-            parts = parts_of(made, "rattle")
+            parts = parts_of(made, "rattle", 3)
             found = [[it.name for it in part.edits()] for part in parts]
             self.assertEqual((len(parts), sorted(sum(found, []))), (3, edits))
             self.assertLessEqual(max(map(len, found)), 80)
-            for it in parts:
+            on_two = parts_of(made, "rattle", 2)
+            self.assertEqual([sorted(it.name for it in part.edits()) for part in on_two], [edits])
+            for it in parts + on_two:
                 it.room.cleanup()
 
     def test_for_a_change_those_of_a_release_are_left_out(self):
@@ -117,7 +119,7 @@ class Order(unittest.TestCase):
                 Path(folder, "wrong", it).write_text("")
             made = SimpleNamespace(name="a429_test", folder=folder, below=lambda: [], words=lambda *_, **__: [])
             for is_release, wanted in ((True, "named/two one release/three"), (False, "named/two one")):
-                part, = parts_of(made, "rattle", is_release)
+                part, = parts_of(made, "rattle", 4, is_release)
                 self.assertEqual(" ".join(it.name.removesuffix(".edit") for it in part.edits()), wanted)
                 part.room.cleanup()
 

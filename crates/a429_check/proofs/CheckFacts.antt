@@ -1,6 +1,5 @@
 -- What a command that finds a certificate has written, once a verdict was found.
-use Rattle.std.proofs.Common.{◌≡◌, ◌⊎◌, inl, inr, List, ℕ, Option, Result, Ok, Err, IfOk, IfErr, Bool, true, false, sym, subst}
-use Rattle.std.specs.Str.{IsUtf8}
+use Rattle.std.proofs.Common.{◌≡◌, inl, inr, List, ℕ, Option, Result, Ok, Err, IfOk, IfErr, Bool, true, false, sym, subst}
 use Rattle.a429_link.specs.declared.seen.Seen.{Seen}
 use Rattle.a429_profile.specs.Profile.{Contents}
 use Rattle.a429_cert.specs.declared.fault.OutOfMemory.{OutOfMemory}

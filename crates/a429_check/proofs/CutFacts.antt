@@ -1,5 +1,5 @@
 -- What `cut` puts and writes, and what it leaves after a fault.
-use Rattle.std.proofs.Common.{◌≡◌, ◌⊎◌, ◌∙◌, ◌++◌, ℕ, List, length, [], append-nil, Bool, true, false, Option, Some, None, refl, sym, ap, inl, inr}
+use Rattle.std.proofs.Common.{◌≡◌, ◌⊎◌, ◌∙◌, ◌++◌, ℕ, List, length, [], append-nil, Bool, false, Option, Some, None, refl, sym, ap, inl, inr}
 use Rattle.std.specs.Prelude.{IfSome}
 use Rattle.a429_word.specs.declared.sheet.Sheet.{Sheet}
 use Rattle.a429_word.specs.declared.tally.Tally.{Tally}
@@ -13,7 +13,7 @@ use Rattle.a429_record.specs.declared.fault.ReadFault.{ReadFault}
 use Rattle.a429_record.specs.declared.fault.ReadFault.TheVariants as read
 use Rattle.a429_record.specs.Recording.{Recording, whole}
 use Rattle.a429_record.specs.Rows.{Stops}
-use Rattle.a429_parts.specs.Keeping.{BeginsWith, with_entries}
+use Rattle.a429_parts.specs.Keeping.{BeginsWith, Taken, with_entries}
 use Rattle.a429_parts.specs.Parts.{GainsAll, GainsList, GainsParts, IsSame, PutParts, joined, list_text, numbered, with_list}
 use Rattle.a429_parts.specs.Parting.{CannotGoOn, CutsAll, CutsUntil, outputs}
 use Rattle.a429_check.specs.declared.fault.RunFault.{RunFault}
@@ -67,23 +67,23 @@ ends p rec most es from rest read.Failed Failed h failed = fault_of_cut p rec mo
 
 -- ---- what is left
 
-module _ {W : Type 0} (contents : W → Option (List ℕ)) (p : Contents) (most : ℕ) (rec : Option Recording) {s t : Sheet W} (old new : Tally W) (a b : Option PutParts) where
-  pub ends_by : (f : ReadFault) (Failed : Type 0) → CutsUntil p most rec (outputs contents a b s t) f → (f ≡ read.Device → Failed) → StopsBy rec Failed (reported f)
-  ends_by f Failed h failed = ends p rec most h.entries (length (joined h.parts)) h.rest f Failed h.ends failed
+module _ {W : Type 0} (contents : W → Option (List ℕ)) (p : Contents) (most : ℕ) (k : Taken) {s t : Sheet W} (old new : Tally W) (a b : Option PutParts) where
+  pub ends_by : (f : ReadFault) (Failed : Type 0) → CutsUntil p most k (outputs contents a b s t) f → (f ≡ read.Device → Failed) → StopsBy k.recording Failed (reported f)
+  ends_by f Failed h failed = ends p k.recording most h.entries (length (joined h.parts)) h.rest f Failed h.ends failed
 
-  pub cuts_into : (list : List ℕ) (all : CutsAll p most rec (outputs contents a b s t) list) → Writes contents old new (list_text all.parts) → CutsInto (task most rec) (outlets contents old new a b) p list
-  cuts_into list all written = record { entries = all.entries; parts = all.parts; all = all.all; are = all.are; gains = all.puts.gains; text = all.text; writes = written }
+  pub cuts_into : (list : List ℕ) (all : CutsAll p most k (outputs contents a b s t) list) → Writes contents old new (list_text all.parts) → CutsInto (task most k) (outlets contents old new a b) p list
+  cuts_into list all written = record { entries = all.entries; parts = all.parts; came = all.came; all = all.all; are = all.are; gains = all.puts.gains; text = all.text; writes = written }
 
-  pub leaves_all : (list : List ℕ) (all : CutsAll p most rec (outputs contents a b s t) list) → Writes contents old new (list_text all.parts) → PutsSomeParts (task most rec) (outlets contents old new a b) p
-  leaves_all list all written = record { entries = all.entries; parts = all.parts; first = begins_all rec all.entries all.all; are = inl all.are; gains = all.puts.gains; writes = written }
+  pub leaves_all : (list : List ℕ) (all : CutsAll p most k (outputs contents a b s t) list) → Writes contents old new (list_text all.parts) → PutsSomeParts (task most k) (outlets contents old new a b) p
+  leaves_all list all written = record { entries = all.entries; parts = all.parts; came = all.came; first = begins_all k.recording all.entries all.all; are = inl all.are; gains = all.puts.gains; writes = written }
 
-  pub leaves_some : (f : ReadFault) (until : CutsUntil p most rec (outputs contents a b s t) f) → Writes contents old new (list_text until.parts) → PutsSomeParts (task most rec) (outlets contents old new a b) p
-  leaves_some f h written = record { entries = h.entries; parts = h.parts; first = begins p rec most h.entries (length (joined h.parts)) h.rest f h.ends; are = inr (h.rest, h.are); gains = h.puts.gains; writes = written }
+  pub leaves_some : (f : ReadFault) (until : CutsUntil p most k (outputs contents a b s t) f) → Writes contents old new (list_text until.parts) → PutsSomeParts (task most k) (outlets contents old new a b) p
+  leaves_some f h written = record { entries = h.entries; parts = h.parts; came = h.came; first = begins p k.recording most h.entries (length (joined h.parts)) h.rest f h.ends; are = inr (h.rest, h.few, h.are); gains = h.puts.gains; writes = written }
 
-  leaves_first : (f : ReadFault) (until : CutsUntil p most rec (outputs contents a b s t) f) → Writes contents old new (list_text until.parts) → has_failed new ≡ false → PutsFirstParts (task most rec) (outlets contents old new a b) f p
-  leaves_first f h written works = record { entries = h.entries; parts = h.parts; rest = h.rest; are = h.are; ends = h.ends; gains = h.puts.gains; puts = written.all works }
+  leaves_first : (f : ReadFault) (until : CutsUntil p most k (outputs contents a b s t) f) → Writes contents old new (list_text until.parts) → has_failed new ≡ false → PutsFirstParts (task most k) (outlets contents old new a b) f p
+  leaves_first f h written works = record { entries = h.entries; parts = h.parts; came = h.came; rest = h.rest; few = h.few; are = h.are; ends = h.ends; gains = h.puts.gains; puts = written.all works }
 
-  pub leaves_until : (f : ReadFault) (until : CutsUntil p most rec (outputs contents a b s t) f) → Writes contents old new (list_text until.parts) → has_failed new ≡ false → LeavesFirst (task most rec) (outlets contents old new a b) (reported f) p
+  pub leaves_until : (f : ReadFault) (until : CutsUntil p most k (outputs contents a b s t) f) → Writes contents old new (list_text until.parts) → has_failed new ≡ false → LeavesFirst (task most k) (outlets contents old new a b) (reported f) p
   leaves_until read.Device h written works = leaves_some read.Device h written
   leaves_until read.OutOfMemory h written works = leaves_some read.OutOfMemory h written
   leaves_until read.Header h written works = leaves_first read.Header h written works
@@ -106,12 +106,12 @@ gains_same (Some s) None c parts h g = absurd h
 gains_same (Some s) (Some t) None parts h g = absurd g
 gains_same (Some s) (Some t) (Some u) parts h g = g ∙ h
 
-module _ {W : Type 0} (contents : W → Option (List ℕ)) (p : Contents) (most : ℕ) (rec : Option Recording) (old new : Tally W) (a b c : Option PutParts) (list : List ℕ) (cut : CutsInto (task most rec) (outlets contents old new a b) p list) where
-  pub puts_all : GainsList b c list → has_failed new ≡ false → PutsAllParts (task most rec) (outlets contents old new a c) p
-  puts_all gains works = record { entries = cut.entries; parts = cut.parts; all = cut.all; are = cut.are; gains = gains_all a b c cut.parts list cut.text cut.gains gains; puts = cut.writes.all works }
+module _ {W : Type 0} (contents : W → Option (List ℕ)) (p : Contents) (most : ℕ) (k : Taken) (old new : Tally W) (a b c : Option PutParts) (list : List ℕ) (cut : CutsInto (task most k) (outlets contents old new a b) p list) where
+  pub puts_all : GainsList b c list → has_failed new ≡ false → PutsAllParts (task most k) (outlets contents old new a c) p
+  puts_all gains works = record { entries = cut.entries; parts = cut.parts; came = cut.came; all = cut.all; are = cut.are; gains = gains_all a b c cut.parts list cut.text cut.gains gains; puts = cut.writes.all works }
 
-  pub puts_no_list : IsSame b c → PutsSomeParts (task most rec) (outlets contents old new a c) p
-  puts_no_list same = record { entries = cut.entries; parts = cut.parts; first = begins_all rec cut.entries cut.all; are = inl cut.are; gains = gains_same a b c cut.parts cut.gains same; writes = cut.writes }
+  pub puts_no_list : IsSame b c → PutsSomeParts (task most k) (outlets contents old new a c) p
+  puts_no_list same = record { entries = cut.entries; parts = cut.parts; came = cut.came; first = begins_all k.recording cut.entries cut.all; are = inl cut.are; gains = gains_same a b c cut.parts cut.gains same; writes = cut.writes }
 
 -- ---- what has failed
 

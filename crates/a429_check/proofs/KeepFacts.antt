@@ -12,7 +12,7 @@ use Rattle.a429_record.specs.declared.fault.ReadFault.{ReadFault}
 use Rattle.a429_record.specs.declared.fault.ReadFault.TheVariants as read
 use Rattle.a429_record.specs.Recording.{Recording}
 use Rattle.a429_record.specs.Rows.{Stops}
-use Rattle.a429_parts.specs.Keeping.{BeginsWith, KeepsAll, KeepsUntil, kept_text, kept_text_before, with_entries}
+use Rattle.a429_parts.specs.Keeping.{BeginsWith, KeepsAll, KeepsUntil, Taken, kept_text, kept_text_before, with_entries}
 use Rattle.a429_check.specs.Output.{Output, output}
 use Rattle.a429_check.specs.Streaming.{reported}
 use Rattle.a429_profile.specs.Profile.{Contents}
@@ -34,45 +34,45 @@ pub front_before : (a b : Option (List ℕ)) (c : Codes) (es : List Entry) → A
 front_before a b c [] h = AppendsPrefix-longer a b [] (kept_text c []) h
 front_before a b c (e ∷ es) h = h
 
-rows_until : {W : Type 0} (o : Output W) (rec : Option Recording) (c : Codes) (fault : ReadFault) → PutsKeptUntil o.contents o.old o.new rec c fault → GainsUntil o rec (reported fault) c
-rows_until o rec c read.Device rows = inl rows
-rows_until o rec c read.OutOfMemory rows = rows
-rows_until o rec c read.Header rows = rows
-rows_until o rec c (read.Row i) rows = rows
-rows_until o rec c (read.TimeBack i) rows = rows
-rows_until o rec c read.TooMany rows = rows
-rows_until o rec c read.Failed rows = rows
+rows_until : {W : Type 0} (o : Output W) (t : Taken) (c : Codes) (fault : ReadFault) → PutsKeptUntil o.contents o.old o.new t c fault → GainsUntil o t (reported fault) c
+rows_until o t c read.Device rows = inl rows
+rows_until o t c read.OutOfMemory rows = rows
+rows_until o t c read.Header rows = rows
+rows_until o t c (read.Row i) rows = rows
+rows_until o t c (read.TimeBack i) rows = rows
+rows_until o t c read.TooMany rows = rows
+rows_until o t c read.Failed rows = rows
 
 -- ---- what was written, once the sheet is finished
 
-pub puts_kept : {W : Type 0} {contents : W → Option (List ℕ)} {a b : Sheet W} {old new : Tally W} (c : Codes) (rec : Option Recording) (all : KeepsAll contents c rec a b) → Writes contents old new (kept_text c all.entries) → has_failed new ≡ false → sheet_failed b ≡ false → PutsKept contents old new rec c
-puts_kept c rec all written works before = record { entries = all.entries; all = all.all before; puts = written.all works }
+pub puts_kept : {W : Type 0} {contents : W → Option (List ℕ)} {a b : Sheet W} {old new : Tally W} (c : Codes) (t : Taken) (all : KeepsAll contents c t a b) → Writes contents old new (kept_text c all.entries) → has_failed new ≡ false → sheet_failed b ≡ false → PutsKept contents old new t c
+puts_kept c t all written works before = record { entries = all.entries; came = all.came before; all = all.all before; puts = written.all works }
 
-pub fails_all : {W : Type 0} {contents : W → Option (List ℕ)} {a b : Sheet W} {old new : Tally W} (c : Codes) (rec : Option Recording) (all : KeepsAll contents c rec a b) → Writes contents old new (kept_text c all.entries) → has_failed new ≡ true → FailsKept contents old new rec c
-fails_all c rec all written failed = record { failed = failed; entries = all.entries; first = all.first; prefix = written.prefix }
+pub fails_all : {W : Type 0} {contents : W → Option (List ℕ)} {a b : Sheet W} {old new : Tally W} (c : Codes) (t : Taken) (all : KeepsAll contents c t a b) → Writes contents old new (kept_text c all.entries) → has_failed new ≡ true → FailsKept contents old new t c
+fails_all c t all written failed = record { failed = failed; entries = all.entries; first = all.first; prefix = written.prefix }
 
-pub fails_until : {W : Type 0} {contents : W → Option (List ℕ)} {a b : Sheet W} {old new : Tally W} (c : Codes) (rec : Option Recording) (fault : ReadFault) (until : KeepsUntil contents c rec a b fault) → Writes contents old new (kept_text_before c until.entries) → has_failed new ≡ true → FailsKept contents old new rec c
-fails_until c rec fault until written failed = record { failed = failed; entries = until.entries; first = begins rec until.entries fault until.stops; prefix = front_before _ _ c until.entries written.prefix }
+pub fails_until : {W : Type 0} {contents : W → Option (List ℕ)} {a b : Sheet W} {old new : Tally W} (c : Codes) (t : Taken) (fault : ReadFault) (until : KeepsUntil contents c t a b fault) → Writes contents old new (kept_text_before c until.entries) → has_failed new ≡ true → FailsKept contents old new t c
+fails_until c t fault until written failed = record { failed = failed; entries = until.entries; first = begins t.recording until.entries fault until.stops; prefix = front_before _ _ c until.entries written.prefix }
 
 -- the sheet's output, by its last value
-pub gains_rows : {W : Type 0} (contents : W → Option (List ℕ)) {a b : Sheet W} (old new : Tally W) (c : Codes) (rec : Option Recording) (fault : ReadFault) (until : KeepsUntil contents c rec a b fault) → Writes contents old new (kept_text_before c until.entries) → has_failed new ≡ false → GainsUntil (output contents old new) rec (reported fault) c
-gains_rows contents old new c rec fault until written works = rows_until (output contents old new) rec c fault (record { entries = until.entries; stops = until.stops; puts = written.all works })
+pub gains_rows : {W : Type 0} (contents : W → Option (List ℕ)) {a b : Sheet W} (old new : Tally W) (c : Codes) (t : Taken) (fault : ReadFault) (until : KeepsUntil contents c t a b fault) → Writes contents old new (kept_text_before c until.entries) → has_failed new ≡ false → GainsUntil (output contents old new) t (reported fault) c
+gains_rows contents old new c t fault until written works = rows_until (output contents old new) t c fault (record { entries = until.entries; came = until.came; stops = until.stops; puts = written.all works })
 
 -- what is left, by the profile whose text the bytes are
-pub leaves_kept : {W : Type 0} (profile : List ℕ) (p : Contents) (o : Output W) (rec : Option Recording) (e : RunFault) → IsProfileOf profile p → GainsBegun o rec e p.codes → LeavesKept o profile rec e
-leaves_kept profile p o rec (run.Read f) is (inl h) = absurd (cc h.0)
-leaves_kept profile p o rec (run.Read f) is (inr h) = (p, is, h)
-leaves_kept profile p o rec run.Device is (inl h) = absurd (cc h.0)
-leaves_kept profile p o rec run.Device is (inr h) = (p, is, h)
-leaves_kept profile p o rec run.Memory is (inl h) = inl h.1
-leaves_kept profile p o rec run.Memory is (inr h) = inr (p, is, h)
-leaves_kept profile p o rec (run.Profile f) is (inl h) = h.1
-leaves_kept profile p o rec (run.Profile f) is (inr h) = absurd h
-leaves_kept profile p o rec (run.Cut k f) is (inl h) = absurd (cc h.0)
-leaves_kept profile p o rec (run.Cut k f) is (inr h) = absurd h
-leaves_kept profile p o rec run.TooLong is (inl h) = absurd (cc h.0)
-leaves_kept profile p o rec run.TooLong is (inr h) = absurd h
-leaves_kept profile p o rec run.BadWord is (inl h) = absurd (cc h.0)
-leaves_kept profile p o rec run.BadWord is (inr h) = absurd h
-leaves_kept profile p o rec run.Usage is (inl h) = absurd (cc h.0)
-leaves_kept profile p o rec run.Usage is (inr h) = absurd h
+pub leaves_kept : {W : Type 0} (profile : List ℕ) (p : Contents) (o : Output W) (t : Taken) (e : RunFault) → IsProfileOf profile p → GainsBegun o t e p.codes → LeavesKept o profile t e
+leaves_kept profile p o t (run.Read f) is (inl h) = absurd (cc h.0)
+leaves_kept profile p o t (run.Read f) is (inr h) = (p, is, h)
+leaves_kept profile p o t run.Device is (inl h) = absurd (cc h.0)
+leaves_kept profile p o t run.Device is (inr h) = (p, is, h)
+leaves_kept profile p o t run.Memory is (inl h) = inl h.1
+leaves_kept profile p o t run.Memory is (inr h) = inr (p, is, h)
+leaves_kept profile p o t (run.Profile f) is (inl h) = h.1
+leaves_kept profile p o t (run.Profile f) is (inr h) = absurd h
+leaves_kept profile p o t (run.Cut k f) is (inl h) = absurd (cc h.0)
+leaves_kept profile p o t (run.Cut k f) is (inr h) = absurd h
+leaves_kept profile p o t run.TooLong is (inl h) = absurd (cc h.0)
+leaves_kept profile p o t run.TooLong is (inr h) = absurd h
+leaves_kept profile p o t run.BadWord is (inl h) = absurd (cc h.0)
+leaves_kept profile p o t run.BadWord is (inr h) = absurd h
+leaves_kept profile p o t run.Usage is (inl h) = absurd (cc h.0)
+leaves_kept profile p o t run.Usage is (inr h) = absurd h

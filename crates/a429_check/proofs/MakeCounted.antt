@@ -19,7 +19,7 @@ use Rattle.std.specs.Vec.{vec_len}
 use Rattle.a429_check.specs.declared.fault.RunFault.{RunFault}
 use Rattle.a429_check.specs.declared.fault.RunFault.TheVariants.{BadWord, Profile, Read, Cut, TooLong, Device, Memory, Usage}
 use Rattle.a429_check.specs.Profile.{IsSomeProfile}
-use Rattle.a429_check.specs.Make.{words_made, AreTooMany, IsFilesFault, IsMakeFault, IsPutFault}
+use Rattle.a429_check.specs.Make.{words_made, AreTooMany, FitARecording, IsFilesFault, IsMakeFault, IsPutFault}
 use Rattle.a429_link.specs.declared.number.UnitNumber.{UnitNumber}
 use Rattle.a429_link.specs.Number.{first_number, number_after}
 
@@ -176,12 +176,12 @@ refusal_fault profile files failed BadWord sound h = absurd h
 refusal_fault profile files failed Usage sound h = absurd h
 
 -- a fault of the second pass
-pub put_fault : (profile : List ℕ) (files : List (List ℕ)) (failed : Bool) (e : RunFault) → IsSomeProfile profile → IsPutFault failed e → IsMakeFault profile files failed e
-put_fault profile files failed Device sound h = (sound, h)
-put_fault profile files failed Memory sound h = sound.1.0
-put_fault profile files failed (Profile f) sound h = absurd h
-put_fault profile files failed (Read f) sound h = absurd h
-put_fault profile files failed (Cut k f) sound h = absurd h
-put_fault profile files failed TooLong sound h = absurd h
-put_fault profile files failed BadWord sound h = absurd h
-put_fault profile files failed Usage sound h = absurd h
+pub put_fault : (profile : List ℕ) (files : List (List ℕ)) (failed : Bool) (e : RunFault) → IsSomeProfile profile → FitARecording files → IsPutFault failed e → IsMakeFault profile files failed e
+put_fault profile files failed Device sound fit h = (sound, fit, h)
+put_fault profile files failed Memory sound fit h = sound.1.0
+put_fault profile files failed (Profile f) sound fit h = absurd h
+put_fault profile files failed (Read f) sound fit h = absurd h
+put_fault profile files failed (Cut k f) sound fit h = absurd h
+put_fault profile files failed TooLong sound fit h = absurd h
+put_fault profile files failed BadWord sound fit h = absurd h
+put_fault profile files failed Usage sound fit h = absurd h

@@ -1,15 +1,13 @@
 -- What is answered of the parts of a recording, part after part.
-use Rattle.std.proofs.Common.{◌≡◌, ◌≢◌, ◌∙◌, ◌<◌, ◌+◌, ◌++◌, ◌∷◌, ℕ, zero, suc, List, [], length, take, map, get_or, slice_get, Bool, true, false, Option, Some, None, refl, sym, ap, subst, arith, inl, inr, ◌⊎◌, Vec, Global}
-use Rattle.std.specs.Prelude.{codes, IfSome, IfOk, IfErr, OnOk, Result, Ok, Err}
+use Rattle.std.proofs.Common.{◌≡◌, ◌≢◌, ◌∙◌, ◌<◌, ◌+◌, ◌++◌, ◌∷◌, ℕ, zero, suc, List, [], length, take, map, get_or, slice_get, Bool, true, false, Option, Some, None, refl, sym, ap, subst, arith, inl, inr, ◌⊎◌}
+use Rattle.std.specs.Prelude.{IfSome, IfOk, IfErr, OnOk, Result, Ok, Err}
 use Rattle.a429_check.specs.declared.engines.series.SeriesAnswer.{SeriesAnswer}
 use Rattle.a429_check.specs.declared.engines.series.SeriesAnswer.TheVariants as answer
 use Rattle.std.proofs.lemmas.List.{map-append, take_all, take_more}
-use Rattle.a429_profile.specs.Profile.{Contents, IsProfile}
-use Rattle.a429_record.specs.declared.fault.ReadFault.{ReadFault}
+use Rattle.a429_profile.specs.Profile.{Contents}
 use Rattle.a429_record.specs.declared.fault.ReadFault.TheVariants as read
 use Rattle.a429_record.specs.Recording.{Recording}
 use Rattle.a429_cert.specs.declared.fault.CertFault.{CertFault}
-use Rattle.a429_cert.specs.declared.fault.CertFault.TheVariants as cert
 use Rattle.a429_cert.specs.declared.stream_fault.StreamFault.{StreamFault}
 use Rattle.a429_cert.specs.declared.stream_fault.StreamFault.TheVariants as stream
 use Rattle.a429_cert.specs.Series.{AreAdded, IsOneRun, IsPartFault, Joins, Part, RefusesPart, SeriesValue, joined, no_parts}

@@ -30,8 +30,9 @@ use Rattle.a429_view.proofs.TraceFacts.{free_none}
 use Rattle.a429_check.specs.declared.fault.RunFault.{RunFault}
 use Rattle.a429_check.specs.declared.fault.RunFault.TheVariants as run
 use Rattle.a429_check.specs.Profile.{IsProfileOf}
+use Rattle.a429_parts.specs.Keeping.{Taken}
 use Rattle.a429_parts.proofs.KeepingFacts.{Came}
-use Rattle.a429_check.specs.Streaming.{AreAllBefore, AreThoseGiven, Taken}
+use Rattle.a429_check.specs.Streaming.{AreAllBefore, AreThoseGiven}
 use Rattle.a429_check.proofs.StreamingFacts.{all_before}
 use Rattle.a429_check.specs.Trace.{AreInEachRun, BeginsWith, IsCut, IsLinesFault, IsRefusedAfter, IsPutBy, IsTraceFault, IsTraceOf, LeavesLines, SaysText, first_lines, impossible, lines, only, only_text}
 use Rattle.a429_check.specs.Check.{verdict_text}

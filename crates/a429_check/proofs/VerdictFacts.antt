@@ -24,8 +24,8 @@ use Rattle.a429_check.specs.declared.engines.verdict.Judged.{Judged}
 use Rattle.a429_check.specs.declared.fault.RunFault.{RunFault}
 use Rattle.a429_check.specs.declared.fault.RunFault.TheVariants as run
 use Rattle.a429_check.specs.Profile.{IsProfileOf, IsProfileFault}
-use Rattle.a429_check.specs.Output.{Output, HasFailedIn, IsCutShort}
-use Rattle.a429_check.specs.Verdict.{AllWork, AnyFailed, HasAnswer, HasFailed, HearsAnswer, HearsUntil, Input, IsAnswerOf, IsAnswered, IsJudged, IsNoAnswer, IsSomeVerdict, IsVerdict, IsVerifyFault, Judges, Rejects, count_line, file_line, line_of_file, no, no_text, of_stream, status_of_answer, text_of_answer, yes, yes_text}
+use Rattle.a429_check.specs.Output.{Output, IsCutShort}
+use Rattle.a429_check.specs.Verdict.{AllWork, AnyFailed, HasAnswer, HasFailed, HearsAnswer, HearsUntil, Input, IsAnswerOf, IsAnswered, IsJudged, IsNoAnswer, IsVerdict, IsVerifyFault, Judges, Rejects, count_line, file_line, line_of_file, no, no_text, of_stream, status_of_answer, text_of_answer, yes, yes_text}
 use Rattle.a429_cert.specs.Change.{change}
 
 -- what is reported of files, by their lines

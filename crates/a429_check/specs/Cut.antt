@@ -1,5 +1,5 @@
 -- What `a429 cut` puts and writes, and what it leaves after a fault (profile).
-use Rattle.std.specs.Prelude.{◌≡◌, ◌⊎◌, ◌++◌, ℕ, List, length, Bool, true, Option, IfSome}
+use Rattle.std.specs.Prelude.{◌≡◌, ◌≤◌, ◌+◌, ◌⊎◌, ◌++◌, ℕ, List, length, Bool, true, Option, IfSome}
 use Rattle.std.specs.Str.{IsUtf8}
 use Rattle.a429_word.specs.declared.tally.Tally.{Tally}
 use Rattle.a429_word.specs.declared.trouble.Trouble.{Trouble}
@@ -12,7 +12,7 @@ use Rattle.a429_record.specs.declared.fault.ReadFault.{ReadFault}
 use Rattle.a429_record.specs.declared.fault.ReadFault.TheVariants as read
 use Rattle.a429_record.specs.Recording.{Recording, whole}
 use Rattle.a429_record.specs.Rows.{Stops}
-use Rattle.a429_parts.specs.Keeping.{BeginsWith, with_entries}
+use Rattle.a429_parts.specs.Keeping.{BeginsWith, Taken, with_entries}
 use Rattle.a429_parts.specs.Parts.{AreFirstParts, AreParts, AreSomeParts, GainsAll, GainsParts, IsSame, PutParts, joined, list_text}
 use Rattle.a429_parts.specs.Parting.{CannotGoOn}
 use Rattle.a429_check.specs.declared.fault.RunFault.{RunFault}
@@ -22,13 +22,14 @@ use Rattle.a429_check.specs.Output.{Output}
 use Rattle.a429_check.specs.Profile.{HasFault, IsProfileOf, IsSomeProfile}
 use Rattle.a429_check.specs.Streaming.{IsFaultToCome}
 
--- a recording that is to be cut into parts of at most so many entries
+-- a recording that is to be cut into parts of at most so many entries, and how many of its entries were handed out
 pub record Task : Type 0 where
   pub most : ℕ
   pub recording : Option Recording
+  pub given : ℕ
 
-abbrev pub task : ℕ → Option Recording → Task
-task most recording = record { most = most; recording = recording }
+abbrev pub task : ℕ → Taken → Task
+task most t = record { most = most; recording = t.recording; given = t.given }
 
 -- the output, and the parts that were put, where they are known, before and after
 pub record Outlets (W : Type 0) : Type 0 where
@@ -47,6 +48,7 @@ WithContents profile P = (p : Contents) × IsProfileOf profile p × P p
 pub record CutsInto {W : Type 0} (t : Task) (o : Outlets W) (p : Contents) (list : List ℕ) : Type 0 where
   pub entries : List Entry
   pub parts : List (List Entry)
+  pub came : t.given ≡ length entries
   pub all : IfSome t.recording (λ r. r ≡ whole entries)
   pub are : AreParts p t.most entries parts
   pub gains : GainsParts o.old o.new parts
@@ -57,25 +59,29 @@ pub record CutsInto {W : Type 0} (t : Task) (o : Outlets W) (p : Contents) (list
 pub record PutsAllParts {W : Type 0} (t : Task) (o : Outlets W) (p : Contents) : Type 0 where
   pub entries : List Entry
   pub parts : List (List Entry)
+  pub came : t.given ≡ length entries
   pub all : IfSome t.recording (λ r. r ≡ whole entries)
   pub are : AreParts p t.most entries parts
   pub gains : GainsAll o.old o.new parts
   pub puts : Puts o.out.contents o.out.old o.out.new (list_text parts)
 
--- the parts before this fault were put, and no list: it is the recording's, or more entries wait than a part may have, and no place is near enough
+-- the parts before this fault were put, and no list: it is the recording's, or more entries wait than a part may have, and no place is near enough. Of the entries that were handed out at most twice as many as a part may have, and one, are in no part
 pub record PutsFirstParts {W : Type 0} (t : Task) (o : Outlets W) (fault : ReadFault) (p : Contents) : Type 0 where
   pub entries : List Entry
   pub parts : List (List Entry)
+  pub came : t.given ≡ length entries
   pub rest : List Entry
+  pub few : length rest ≤ t.most + t.most + 1
   pub are : AreFirstParts p t.most entries parts rest
   pub ends : IfSome t.recording (λ r. (later : Recording) × (r ≡ with_entries entries later) × (Stops fault later ⊎ CannotGoOn p t.most (entries ++ later.entries) (length (joined parts)) rest fault))
   pub gains : GainsParts o.old o.new parts
   pub puts : Puts o.out.contents o.out.old o.out.new (list_text parts)
 
--- some first parts were put, or all of them, and no list; the output has their lines, and a prefix at most where it has failed
+-- some first parts of the entries that were handed out were put, or all of them, and no list; the output has their lines, and a prefix at most where it has failed
 pub record PutsSomeParts {W : Type 0} (t : Task) (o : Outlets W) (p : Contents) : Type 0 where
   pub entries : List Entry
   pub parts : List (List Entry)
+  pub came : t.given ≡ length entries
   pub first : BeginsWith t.recording entries
   pub are : AreSomeParts p t.most entries parts
   pub gains : GainsParts o.old o.new parts

@@ -1,5 +1,5 @@
 -- What `a429 keep` writes, and what it leaves after a fault (profile).
-use Rattle.std.specs.Prelude.{◌≡◌, ◌⊎◌, ℕ, List, Bool, true, Option, IfSome}
+use Rattle.std.specs.Prelude.{◌≡◌, ◌⊎◌, ℕ, List, length, Bool, true, Option, IfSome}
 use Rattle.a429_word.specs.declared.tally.Tally.{Tally}
 use Rattle.a429_word.specs.Tally.{has_failed, Puts, PutsFront}
 use Rattle.a429_profile.specs.declared.codes.Codes.{Codes}
@@ -9,7 +9,7 @@ use Rattle.a429_record.specs.declared.fault.ReadFault.{ReadFault}
 use Rattle.a429_record.specs.declared.fault.ReadFault.TheVariants as read
 use Rattle.a429_record.specs.Recording.{Recording, whole}
 use Rattle.a429_record.specs.Rows.{Stops}
-use Rattle.a429_parts.specs.Keeping.{BeginsWith, kept_text, kept_text_before, with_entries}
+use Rattle.a429_parts.specs.Keeping.{BeginsWith, Taken, kept_text, kept_text_before, with_entries}
 use Rattle.a429_check.specs.declared.fault.RunFault.{RunFault}
 use Rattle.a429_check.specs.declared.fault.RunFault.TheVariants as run
 use Rattle.a429_check.specs.Fault.{ComesBy, never}
@@ -17,45 +17,47 @@ use Rattle.a429_check.specs.Output.{Output}
 use Rattle.a429_check.specs.Profile.{IsProfileOf}
 use Rattle.a429_check.specs.Streaming.{IsFaultToCome, IsStreamingFault}
 
--- an output has gained the text recording of the entries of a recording that are kept; the recording has no fault
-pub record PutsKept {W : Type 0} (contents : W → Option (List ℕ)) (old new : Tally W) (rec : Option Recording) (c : Codes) : Type 0 where
+-- an output has gained the text recording of the entries of a recording that are kept; the recording has no fault, and these are all that were handed out
+pub record PutsKept {W : Type 0} (contents : W → Option (List ℕ)) (old new : Tally W) (t : Taken) (c : Codes) : Type 0 where
   pub entries : List Entry
-  pub all : IfSome rec (λ r. r ≡ whole entries)
+  pub came : t.given ≡ length entries
+  pub all : IfSome t.recording (λ r. r ≡ whole entries)
   pub puts : Puts contents old new (kept_text c entries)
 
--- it has gained that of the entries that come before a fault, of some first entries where that is a failed reader or out of memory; nothing where no entry does
-pub record PutsKeptUntil {W : Type 0} (contents : W → Option (List ℕ)) (old new : Tally W) (rec : Option Recording) (c : Codes) (fault : ReadFault) : Type 0 where
+-- it has gained that of the entries that were handed out before a fault; nothing where none was
+pub record PutsKeptUntil {W : Type 0} (contents : W → Option (List ℕ)) (old new : Tally W) (t : Taken) (c : Codes) (fault : ReadFault) : Type 0 where
   pub entries : List Entry
-  pub stops : IfSome rec (λ r. (rest : Recording) × (r ≡ with_entries entries rest) × Stops fault rest)
+  pub came : t.given ≡ length entries
+  pub stops : IfSome t.recording (λ r. (rest : Recording) × (r ≡ with_entries entries rest) × Stops fault rest)
   pub puts : Puts contents old new (kept_text_before c entries)
 
 -- it has failed, with a prefix at most of that of some first entries
-pub record FailsKept {W : Type 0} (contents : W → Option (List ℕ)) (old new : Tally W) (rec : Option Recording) (c : Codes) : Type 0 where
+pub record FailsKept {W : Type 0} (contents : W → Option (List ℕ)) (old new : Tally W) (t : Taken) (c : Codes) : Type 0 where
   pub failed : has_failed new ≡ true
   pub entries : List Entry
-  pub first : BeginsWith rec entries
+  pub first : BeginsWith t.recording entries
   pub prefix : PutsFront contents old new (kept_text c entries)
 
 -- what an output has gained where no more entries came by this fault
-abbrev pub GainsUntil : {W : Type 0} → Output W → Option Recording → RunFault → Codes → Type 0
-GainsUntil o rec (run.Read f) c = PutsKeptUntil o.contents o.old o.new rec c f
-GainsUntil o rec run.Memory c = PutsKeptUntil o.contents o.old o.new rec c read.OutOfMemory
-GainsUntil o rec run.Device c = PutsKeptUntil o.contents o.old o.new rec c read.Device ⊎ FailsKept o.contents o.old o.new rec c
-GainsUntil o rec e c = ⊥
+abbrev pub GainsUntil : {W : Type 0} → Output W → Taken → RunFault → Codes → Type 0
+GainsUntil o t (run.Read f) c = PutsKeptUntil o.contents o.old o.new t c f
+GainsUntil o t run.Memory c = PutsKeptUntil o.contents o.old o.new t c read.OutOfMemory
+GainsUntil o t run.Device c = PutsKeptUntil o.contents o.old o.new t c read.Device ⊎ FailsKept o.contents o.old o.new t c
+GainsUntil o t e c = ⊥
 
 -- the same, or nothing where memory was refused before an entry was read
-abbrev pub GainsBegun : {W : Type 0} → Output W → Option Recording → RunFault → Codes → Type 0
-GainsBegun o rec e c = ((e ≡ run.Memory) × (o.new ≡ o.old)) ⊎ GainsUntil o rec e c
+abbrev pub GainsBegun : {W : Type 0} → Output W → Taken → RunFault → Codes → Type 0
+GainsBegun o t e c = ((e ≡ run.Memory) × (o.new ≡ o.old)) ⊎ GainsUntil o t e c
 
 -- the bytes are the text of a profile, and something holds of its codes
 abbrev pub WithCodes : List ℕ → (Codes → Type 0) → Type 0
 WithCodes profile P = (contents : Contents) × IsProfileOf profile contents × P contents.codes
 
 -- what `keep` leaves on the output after a fault: what it had, where the profile has the fault, or where memory was refused before an entry was read; else the rows before the fault
-abbrev pub LeavesKept : {W : Type 0} → Output W → List ℕ → Option Recording → RunFault → Type 0
-LeavesKept o profile rec (run.Profile f) = o.new ≡ o.old
-LeavesKept o profile rec run.Memory = (o.new ≡ o.old) ⊎ WithCodes profile (GainsUntil o rec run.Memory)
-LeavesKept o profile rec e = WithCodes profile (GainsUntil o rec e)
+abbrev pub LeavesKept : {W : Type 0} → Output W → List ℕ → Taken → RunFault → Type 0
+LeavesKept o profile t (run.Profile f) = o.new ≡ o.old
+LeavesKept o profile t run.Memory = (o.new ≡ o.old) ⊎ WithCodes profile (GainsUntil o t run.Memory)
+LeavesKept o profile t e = WithCodes profile (GainsUntil o t e)
 
 -- why no more rows are written: the recording has a fault, a device failed, or memory was refused
 abbrev pub EndsBy : Option Recording → Type 0 → RunFault → Type 0

@@ -77,13 +77,18 @@ IsUncut files k f = (first_refused 255 0 files ≡ Some (clean.Cut k f)) × (f �
 abbrev pub IsFilesFault : List (List ℕ) → RunFault → Type 0
 IsFilesFault files = ComesBy (record never { recording = λ f. (f ≡ read.TooMany) × AreTooMany files; file = IsUncut files })
 
--- why `make` may fail: the profile's own fault, then that of the files; a writer that failed, or out of memory, once the profile is known to be a text
+-- a recording can be made of files: none is refused, and there is room for all their words
+pub record FitARecording (files : List (List ℕ)) : Type 0 where
+  pub cut : first_refused 255 0 files ≡ None
+  pub room : (p : Contents) → length (words_made p files) ≤ most_entries
+
+-- why `make` may fail: the profile's own fault, then that of the files; a writer that failed where neither has one; or out of memory, once the profile is known to be a text
 abbrev pub IsMakeFault : List ℕ → List (List ℕ) → Bool → RunFault → Type 0
 IsMakeFault profile files failed = ComesBy (record never {
   profile = HasFault profile;
   recording = λ f. IsSomeProfile profile × (f ≡ read.TooMany) × AreTooMany files;
   file = λ k f. IsSomeProfile profile × IsUncut files k f;
-  device = IsSomeProfile profile × (failed ≡ true);
+  device = IsSomeProfile profile × FitARecording files × (failed ≡ true);
   memory = IsUtf8 profile;
 })
 

@@ -1,12 +1,11 @@
 -- What a recording says that is read entry by entry, or what is wrong with it (profile).
-use Rattle.std.specs.Prelude.{◌≡◌, ◌⊎◌, ◌+◌, ◌-◌, ℕ, List, Bool, true, Option, Some, IfSome}
+use Rattle.std.specs.Prelude.{◌≡◌, ◌⊎◌, ◌+◌, ℕ, List, Bool, true, Option, Some, IfSome}
 use Rattle.std.specs.Str.{IsUtf8}
 use Rattle.a429_profile.specs.Profile.{Contents}
 use Rattle.a429_record.specs.declared.entry.Entry.{Entry}
 use Rattle.a429_record.specs.declared.fault.ReadFault.{ReadFault}
 use Rattle.a429_record.specs.declared.fault.ReadFault.TheVariants as read
 use Rattle.a429_record.specs.Recording.{Recording, whole}
-use Rattle.a429_record.specs.Entries.{EntriesLeft}
 use Rattle.a429_check.specs.declared.fault.RunFault.{RunFault}
 use Rattle.a429_check.specs.declared.fault.RunFault.TheVariants as run
 use Rattle.a429_check.specs.Fault.{ComesBy, never}
@@ -53,14 +52,6 @@ IsStreamingFault profile rec rec_failed out_failed = ComesBy (record never {
 abbrev pub AreAllBefore : RunFault → Option Recording → List Entry → Type 0
 AreAllBefore (run.Read f) known es = IfSome known (λ r. r.entries ≡ es)
 AreAllBefore e known es = Unit {0}
-
--- a recording that was to come, and how many of its entries were handed out
-pub record Taken : Type 0 where
-  pub recording : Option Recording
-  pub given : ℕ
-
-abbrev pub taken : EntriesLeft → EntriesLeft → Taken
-taken old new = record { recording = old.to_come; given = new.count - old.count }
 
 -- at a fault so many entries were handed out: n; where memory was refused, n or one more
 abbrev pub AreThoseGiven : RunFault → ℕ → ℕ → Type 0

@@ -26,7 +26,8 @@ use Rattle.a429_check.specs.Check.{verdict_text}
 use Rattle.a429_check.specs.Fault.{ComesBy, never}
 use Rattle.a429_check.specs.Output.{Output}
 use Rattle.a429_check.specs.Profile.{IsProfileOf}
-use Rattle.a429_check.specs.Streaming.{AreAllBefore, AreThoseGiven, IsFaultToCome, IsStreamingFault, Taken}
+use Rattle.a429_parts.specs.Keeping.{Taken}
+use Rattle.a429_check.specs.Streaming.{AreAllBefore, AreThoseGiven, IsFaultToCome, IsStreamingFault}
 use Rattle.a429_check.specs.Verdict.{file_line}
 
 -- ---- the text

@@ -20,7 +20,7 @@ use Rattle.a429_parts.specs.Near.{HasNoneNear, IsLastNear}
 use Rattle.a429_parts.specs.Watch.{FindsAll}
 use Rattle.a429_parts.specs.Parts.{AreFirstParts, EndAtPlaces, GainsPart, GainsParts, HaveAtMost, IsSame, NumberedPart, PutParts, joined, list_text, numbered, part_line, part_lines, with_parts}
 use Rattle.a429_parts.specs.declared.parting.Parting.{Parting}
-use Rattle.a429_parts.specs.Keeping.{with_entries}
+use Rattle.a429_parts.specs.Keeping.{Taken, with_entries}
 use Rattle.a429_parts.specs.Parting.{ArePut, CannotGoOn, CutsAll, CutsUntil, EndsFor, EndsNowhereFor, Finished, Holds, IsLeft, Outputs, Progress, Stopped, outputs}
 use Rattle.a429_parts.proofs.KeepingFacts.{Came, came_whole}
 
@@ -200,6 +200,11 @@ holds_part p most at_end parts es size old new h ends reach begins part waiting 
     line : part_line old.next size old.cutter.begin ≡ part_line (1 + length parts) (length piece) (0 + length (joined parts))
     line = line_same (h.next ∙ omega arith) (sym taken) ((h.cuts []).begin ∙ omega arith)
 
+-- at most twice as many entries wait as a part may have
+pub few_wait : {p : Contents} {most : ℕ} {at_end : Bool} {parts : List (List Entry)} {es : List Entry} (s : Parting) → Holds p most at_end parts es s → IsCurrent s.cutter → length s.cutter.waiting ≤ most + most
+few_wait s h (reach, inl few) = omega (arith, few, h.limit)
+few_wait s h (reach, inr (doubt, few)) = omega (arith, few, h.limit)
+
 -- ---- and where it is
 
 module _ {W : Type 0} (contents : W → Option (List ℕ)) (p : Contents) (most : ℕ) (known : Option PutParts) (first : Sheet W) (es : List Entry) where
@@ -224,11 +229,12 @@ module _ {W : Type 0} (contents : W → Option (List ℕ)) (p : Contents) (most 
   }
 
   -- no part is put any more
-  pub stopped : (at_end : Bool) (b c : Option PutParts) (t u : Sheet W) (s : Parting) (fault : ReadFault) (h : Progress p most at_end (outputs contents known b first t) es s) → IsSame b c → Says contents t u []
+  pub stopped : (at_end : Bool) (b c : Option PutParts) (t u : Sheet W) (s : Parting) (fault : ReadFault) (h : Progress p most at_end (outputs contents known b first t) es s) → length s.cutter.waiting ≤ most + most + 1 → IsSame b c → Says contents t u []
       → ((more : List Entry) → IsLeft at_end more → CannotGoOn p most (es ++ more) (length (joined h.parts)) s.cutter.waiting fault) → Stopped p most at_end (outputs contents known c first u) es fault
-  stopped at_end b c t u s fault h same nothing reason = record {
+  stopped at_end b c t u s fault h few same nothing reason = record {
     parts = h.parts;
     rest = s.cutter.waiting;
+    few = few;
     are = first_same p most h.parts (append-nil es) (append-nil s.cutter.waiting) (h.holds.are [] (left_nothing at_end));
     puts = record { gains = gains_same known b c h.parts h.puts.gains same; says = subst (Says contents first u) (append-nil (list_text h.parts)) (h.puts.says ▹ nothing) };
     reason = reason;
@@ -304,35 +310,37 @@ if_err_map (Ok x) h f = tt
 if_err_map (Err e) h f = f e h
 
 -- all entries came
-pub cuts_all : {W : Type 0} (p : Contents) (most : ℕ) (o : Outputs W) (recording left new : Option Recording) (es : List Entry) (list : List ℕ) → Came recording es left → GivesNext left new (Ok None) → Finished p most o es list → CutsAll p most recording o list
-cuts_all p most o recording left new es list came gives h =
-    record { entries = es; parts = h.parts; all = came_whole recording left new es gives came; are = h.are; puts = h.puts; text = h.text }
+pub cuts_all : {W : Type 0} (p : Contents) (most : ℕ) (o : Outputs W) (t : Taken) (left new : Option Recording) (es : List Entry) (list : List ℕ) → Came t.recording es left → t.given ≡ length es → GivesNext left new (Ok None) → Finished p most o es list → CutsAll p most t o list
+cuts_all p most o t left new es list came given gives h =
+    record { entries = es; parts = h.parts; came = given; all = came_whole t.recording left new es gives came; are = h.are; puts = h.puts; text = h.text }
 
 -- parts could not be put
-pub cuts_until : {W : Type 0} (p : Contents) (most : ℕ) (o : Outputs W) (recording left : Option Recording) (es : List Entry) (f : ReadFault) → Came recording es left → Stopped p most false o es f → CutsUntil p most recording o f
-cuts_until {W} p most o recording left es f came h = record { entries = es; parts = h.parts; rest = h.rest; are = h.are; puts = h.puts; ends = ends recording came }
+pub cuts_until : {W : Type 0} (p : Contents) (most : ℕ) (o : Outputs W) (t : Taken) (left : Option Recording) (es : List Entry) (f : ReadFault) → Came t.recording es left → t.given ≡ length es → Stopped p most false o es f → CutsUntil p most t o f
+cuts_until {W} p most o t left es f came given h = record { entries = es; parts = h.parts; came = given; rest = h.rest; few = h.few; are = h.are; puts = h.puts; ends = ends t.recording came }
   where
     ends : (recording : Option Recording) → Came recording es left → IfSome recording (λ r. (later : Recording) × (r ≡ with_entries es later) × (Stops f later ⊎ CannotGoOn p most (es ++ later.entries) (length (joined h.parts)) h.rest f))
     ends None c = tt
     ends (Some r) (later, is, all) = (later, all, inr (h.reason later.entries tt))
 
 -- nor at the end
-pub cuts_until_end : {W : Type 0} (p : Contents) (most : ℕ) (o : Outputs W) (recording left new : Option Recording) (es : List Entry) (f : ReadFault) → Came recording es left → GivesNext left new (Ok None) → Stopped p most true o es f → CutsUntil p most recording o f
-cuts_until_end {W} p most o recording left new es f came gives h = record { entries = es; parts = h.parts; rest = h.rest; are = h.are; puts = h.puts; ends = ends recording came }
+pub cuts_until_end : {W : Type 0} (p : Contents) (most : ℕ) (o : Outputs W) (t : Taken) (left new : Option Recording) (es : List Entry) (f : ReadFault) → Came t.recording es left → t.given ≡ length es → GivesNext left new (Ok None) → Stopped p most true o es f → CutsUntil p most t o f
+cuts_until_end {W} p most o t left new es f came given gives h = record { entries = es; parts = h.parts; came = given; rest = h.rest; few = h.few; are = h.are; puts = h.puts; ends = ends t.recording came }
   where
     ends : (recording : Option Recording) → Came recording es left → IfSome recording (λ r. (later : Recording) × (r ≡ with_entries es later) × (Stops f later ⊎ CannotGoOn p most (es ++ later.entries) (length (joined h.parts)) h.rest f))
     ends None c = tt
     ends (Some r) (later, is, all) = (later, all, inr (h.reason later.entries (ap (λ (q : Recording). q.entries) (rw is at gives))))
 
 -- the recording has a fault
-pub cuts_before : {W : Type 0} (p : Contents) (most : ℕ) (o : Outputs W) (recording left new : Option Recording) (es : List Entry) (s : Parting) (f : ReadFault) → Came recording es left → GivesNext left new (Err f) → Progress p most false o es s → CutsUntil p most recording o f
-cuts_before {W} p most o recording left new es s f came gives h = record {
+pub cuts_before : {W : Type 0} (p : Contents) (most : ℕ) (o : Outputs W) (t : Taken) (left new : Option Recording) (es : List Entry) (s : Parting) (f : ReadFault) → Came t.recording es left → t.given ≡ length es → GivesNext left new (Err f) → Progress p most false o es s → IsCurrent s.cutter → CutsUntil p most t o f
+cuts_before {W} p most o t left new es s f came given gives h current = record {
   entries = es;
   parts = h.parts;
+  came = given;
   rest = s.cutter.waiting;
+  few = omega (arith, few_wait s h.holds current);
   are = first_same p most h.parts (append-nil es) (append-nil s.cutter.waiting) (h.holds.are [] tt);
   puts = h.puts;
-  ends = ends recording came;
+  ends = ends t.recording came;
 }
   where
     ends : (recording : Option Recording) → Came recording es left → IfSome recording (λ r. (later : Recording) × (r ≡ with_entries es later) × (Stops f later ⊎ CannotGoOn p most (es ++ later.entries) (length (joined h.parts)) s.cutter.waiting f))

@@ -1,5 +1,5 @@
 -- How far a recording is cut, and where it ends (profile).
-use Rattle.std.specs.Prelude.{◌≡◌, ◌<◌, ◌⊎◌, ℕ, suc, Bool, true, false, List, [], ◌++◌, length, Option, IfSome, ⊤}
+use Rattle.std.specs.Prelude.{◌≡◌, ◌<◌, ◌≤◌, ◌+◌, ◌⊎◌, ℕ, suc, Bool, true, false, List, [], ◌++◌, length, Option, IfSome, ⊤}
 use Rattle.a429_word.specs.declared.sheet.Sheet.{Sheet}
 use Rattle.a429_word.specs.Sheet.{Says}
 use Rattle.a429_profile.specs.Profile.{Contents}
@@ -11,7 +11,7 @@ use Rattle.a429_record.specs.Rows.{Stops}
 use Rattle.a429_parts.specs.declared.parting.Parting.{Parting}
 use Rattle.a429_parts.specs.Cutter.{Cuts, CutterState, EndsLast, EndsNowhere, IsFoundInTime, IsInReach}
 use Rattle.a429_parts.specs.Near.{HasNoneNear}
-use Rattle.a429_parts.specs.Keeping.{with_entries}
+use Rattle.a429_parts.specs.Keeping.{Taken, with_entries}
 use Rattle.a429_parts.specs.Parts.{AreFirstParts, AreParts, GainsParts, PutParts, joined, list_text}
 
 -- what takes the parts and their lines, before and after
@@ -31,11 +31,12 @@ pub record ArePut {W : Type 0} (o : Outputs W) (parts : List (List Entry)) : Typ
   pub gains : GainsParts o.old_parts o.new_parts parts
   pub says : Says o.contents o.old_sheet o.new_sheet (list_text parts)
 
--- all parts of a recording without fault were put, and this is their list
-pub record CutsAll {W : Type 0} (p : Contents) (most : ℕ) (recording : Option Recording) (o : Outputs W) (list : List ℕ) : Type 0 where
+-- all parts of a recording without fault were put, and this is their list; they have all entries that were handed out
+pub record CutsAll {W : Type 0} (p : Contents) (most : ℕ) (t : Taken) (o : Outputs W) (list : List ℕ) : Type 0 where
   pub entries : List Entry
   pub parts : List (List Entry)
-  pub all : IfSome recording (λ r. r ≡ whole entries)
+  pub came : t.given ≡ length entries
+  pub all : IfSome t.recording (λ r. r ≡ whole entries)
   pub are : AreParts p most entries parts
   pub puts : ArePut o parts
   pub text : list ≡ list_text parts
@@ -47,14 +48,16 @@ CannotGoOn p most entries from rest read.Device = ⊤
 CannotGoOn p most entries from rest read.OutOfMemory = ⊤
 CannotGoOn p most entries from rest fault = ⊥
 
--- the first parts of a recording were put, up to a fault: its own, which comes after these entries, or another
-pub record CutsUntil {W : Type 0} (p : Contents) (most : ℕ) (recording : Option Recording) (o : Outputs W) (fault : ReadFault) : Type 0 where
+-- the first parts of a recording were put, up to a fault: its own, which comes after these entries, or another. Of the entries that were handed out at most twice as many as a part may have, and one, are in none of them
+pub record CutsUntil {W : Type 0} (p : Contents) (most : ℕ) (t : Taken) (o : Outputs W) (fault : ReadFault) : Type 0 where
   pub entries : List Entry
   pub parts : List (List Entry)
+  pub came : t.given ≡ length entries
   pub rest : List Entry
+  pub few : length rest ≤ most + most + 1
   pub are : AreFirstParts p most entries parts rest
   pub puts : ArePut o parts
-  pub ends : IfSome recording (λ r. (later : Recording) × (r ≡ with_entries entries later) × (Stops fault later ⊎ CannotGoOn p most (entries ++ later.entries) (length (joined parts)) rest fault))
+  pub ends : IfSome t.recording (λ r. (later : Recording) × (r ≡ with_entries entries later) × (Stops fault later ⊎ CannotGoOn p most (entries ++ later.entries) (length (joined parts)) rest fault))
 
 -- ---- while it is cut
 
@@ -91,6 +94,7 @@ pub record Progress {W : Type 0} (p : Contents) (most : ℕ) (at_end : Bool) (o 
 pub record Stopped {W : Type 0} (p : Contents) (most : ℕ) (at_end : Bool) (o : Outputs W) (es : List Entry) (fault : ReadFault) : Type 0 where
   pub parts : List (List Entry)
   pub rest : List Entry
+  pub few : length rest ≤ most + most + 1
   pub are : AreFirstParts p most es parts rest
   pub puts : ArePut o parts
   pub reason : (more : List Entry) → IsLeft at_end more → CannotGoOn p most (es ++ more) (length (joined parts)) rest fault

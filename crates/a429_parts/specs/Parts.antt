@@ -39,9 +39,9 @@ pub record AreParts (p : Contents) (most : ℕ) (entries : List Entry) (parts : 
   pub begin : AreFirstParts p most entries first last
   pub few : length last ≤ most
 
--- all parts, or the first ones
+-- all parts, or the first ones: at most twice as many entries as a part may have, and one, are in none of them
 abbrev pub AreSomeParts : Contents → ℕ → List Entry → List (List Entry) → Type 0
-AreSomeParts p most entries parts = AreParts p most entries parts ⊎ ((rest : List Entry) × AreFirstParts p most entries parts rest)
+AreSomeParts p most entries parts = AreParts p most entries parts ⊎ ((rest : List Entry) × (length rest ≤ most + most + 1) × AreFirstParts p most entries parts rest)
 
 -- ---- their list
 

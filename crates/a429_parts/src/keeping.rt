@@ -2,9 +2,9 @@
 
 ghost use Rattle.std.specs.Prelude.{◌≡◌, ◌+◌, ◌<◌, ◌^◌, true, false, None, IfOk, IfErr, IsErrOf, OnOk};
 ghost use Rattle.a429_word.specs.Sheet.{Says, sheet_failed};
-ghost use Rattle.a429_record.specs.Rows.{GivesNext, IfEntry};
+ghost use Rattle.a429_record.specs.Rows.{GivesNext, IfEntry, entries_in};
 ghost use Rattle.a429_record.specs.declared.fault.ReadFault.TheVariants as read;
-ghost use Rattle.a429_parts.specs.Keeping.{kept_line, KeepsAll, KeepsUntil};
+ghost use Rattle.a429_parts.specs.Keeping.{kept_line, taken, KeepsAll, KeepsUntil};
 
 use crate::kept::is_kept;
 use a429_profile::Profile;
@@ -21,8 +21,8 @@ pub fn put_kept<R: Read, W: Write>(
     rec: &mut EntryReader<R>,
     sheet: &mut Sheet<'_, W>,
 ) -> Result<(), ReadFault>
-    ensures all { OnOk result (KeepsAll W.contents profile.now.codes rec.old.to_come sheet.old sheet.new) }
-    ensures until { IfErr result (KeepsUntil W.contents profile.now.codes rec.old.to_come sheet.old sheet.new) }
+    ensures all { OnOk result (KeepsAll W.contents profile.now.codes (taken rec.old rec.new) sheet.old sheet.new) }
+    ensures until { IfErr result (KeepsUntil W.contents profile.now.codes (taken rec.old rec.new) sheet.old sheet.new) }
     ensures device { IsErrOf result read.Device → rec.new.failed ≡ true }
     ensures works { OnOk result (sheet_failed sheet.new ≡ false → rec.new.failed ≡ false) }
 {
@@ -45,7 +45,8 @@ pub fn put_kept<R: Read, W: Write>(
 #[inline(always)]
 pub(crate) fn next_of<R: Read>(rec: &mut EntryReader<R>) -> Result<Option<Entry>, ReadFault>
     ensures gives { GivesNext rec.old.to_come rec.new.to_come result }
-    ensures counts { IfEntry result (λ _. (rec.new.count ≡ rec.old.count + 1) × (rec.new.count < 2 ^ 64)) }
+    ensures counts { rec.new.count ≡ rec.old.count + entries_in result }
+    ensures few { IfEntry result (λ _. rec.new.count < 2 ^ 64) }
     ensures room { IfEntry result (λ _. rec.new.room < rec.old.room) }
     ensures works { IfOk result (λ o. o ≡ None → rec.new.failed ≡ false) }
     ensures device { IsErrOf result read.Device → rec.new.failed ≡ true }

@@ -10,6 +10,7 @@ ghost use Rattle.a429_record.specs.declared.fault.ReadFault.{ReadFault};
 ghost use Rattle.a429_record.specs.declared.fault.ReadFault.TheVariants as read;
 ghost use Rattle.a429_parts.specs.declared.cutting.PartFault.TheVariants as part;
 ghost use Rattle.a429_parts.specs.Cutter.{IsCurrent, IsInReach, IsPart};
+ghost use Rattle.a429_parts.specs.Keeping.{taken};
 ghost use Rattle.a429_parts.specs.Parts.{GainsPart, IsSame, PutParts, part_line};
 ghost use Rattle.a429_parts.specs.Parting.{CannotGoOn, CutsAll, CutsUntil, EndsFor, EndsNowhereFor, Finished, Holds, Progress, Stopped, outputs};
 
@@ -36,7 +37,8 @@ pub(crate) struct Parting {
 /// Puts the parts of a recording as it is read, and their lines on a sheet, and answers the list of them. A part ends
 /// at the last place, at most `most` entries after its beginning, of which the next `most` entries, and one, say that the
 /// recording may be cut there, or at the end of the recording where that is as near. A recording without entries is one
-/// part. The fault is `TooMany` also where there is no such place. After a fault the parts that were complete are there.
+/// part. The fault is `TooMany` also where there is no such place. After a fault the parts that were complete are there: of the
+/// entries before it at most `2 * most + 1` are in none.
 pub fn put_parts<R: Read, P: Parts, W: Write>(
     alloc: Global,
     profile: &Profile,
@@ -45,8 +47,8 @@ pub fn put_parts<R: Read, P: Parts, W: Write>(
     parts: &mut P,
     sheet: &mut Sheet<'_, W>,
 ) -> Result<Vec<u8>, ReadFault>
-    ensures all { IfOk result (λ list. CutsAll profile.now most rec.old.to_come (outputs W.contents (P.known parts.old) (P.known parts.new) sheet.old sheet.new) list.items) }
-    ensures until { IfErr result (CutsUntil profile.now most rec.old.to_come (outputs W.contents (P.known parts.old) (P.known parts.new) sheet.old sheet.new)) }
+    ensures all { IfOk result (λ list. CutsAll profile.now most (taken rec.old rec.new) (outputs W.contents (P.known parts.old) (P.known parts.new) sheet.old sheet.new) list.items) }
+    ensures until { IfErr result (CutsUntil profile.now most (taken rec.old rec.new) (outputs W.contents (P.known parts.old) (P.known parts.new) sheet.old sheet.new)) }
     ensures device { IsErrOf result read.Device → (rec.new.failed ≡ true) ⊎ ((P.failed parts.new ≡ true) ⊎ (sheet_failed sheet.new ≡ true)) }
     ensures works { OnOk result ((rec.new.failed ≡ false) × (P.failed parts.new ≡ false)) }
 {
@@ -116,6 +118,7 @@ impl Parting {
     fn take(&mut self, profile: &Profile, entry: &Entry) -> Result<(), ReadFault>
         requires room { self.old.cutter.watched.count + 1 < 2 ^ 64 }
         ensures ok { OnOk result ((most : ℕ) (parts : List (List Entry)) (es : List Entry) → Holds profile.now most false parts es self.old → IsCurrent self.old.cutter → Holds profile.now most false parts (es ++ entry.now ∷ []) self.new) }
+        ensures waits { OnOk result (length self.new.cutter.waiting ≡ length self.old.cutter.waiting + 1) }
         ensures err { IfErr result (λ fault. fault ≡ read.OutOfMemory) }
     {
         match self.cutter.take(profile, entry) {
@@ -135,7 +138,7 @@ impl Parting {
         ensures ok { OnOk result ((p : Contents) (most : ℕ) (known : Option PutParts) (first : Sheet W) (es : List Entry)
             → Progress p most at_end (outputs W.contents known (P.known parts.old) first sheet.old) es self.old
             → Progress p most at_end (outputs W.contents known (P.known parts.new) first sheet.new) es self.new) }
-        ensures err { IfErr result (λ fault. (p : Contents) (most : ℕ) (known : Option PutParts) (first : Sheet W) (es : List Entry)
+        ensures err { IfErr result (λ fault. (p : Contents) (most : ℕ) (known : Option PutParts) (first : Sheet W) (es : List Entry) → length self.old.cutter.waiting ≤ most + most + 1
             → Progress p most at_end (outputs W.contents known (P.known parts.old) first sheet.old) es self.old
             → Stopped p most at_end (outputs W.contents known (P.known parts.new) first sheet.new) es fault) }
         ensures last { OnOk result (at_end ≡ true → length self.new.cutter.waiting ≤ self.new.cutter.most) }
@@ -181,7 +184,7 @@ impl Parting {
         ensures ok { OnOk result ((p : Contents) (most : ℕ) (at_end : Bool) (known : Option PutParts) (first : Sheet W) (es : List Entry) → EndsFor at_end self.old.cutter size
             → Progress p most at_end (outputs W.contents known (P.known parts.old) first sheet.old) es self.old
             → Progress p most at_end (outputs W.contents known (P.known parts.new) first sheet.new) es self.new) }
-        ensures err { OnErr result ((p : Contents) (most : ℕ) (at_end : Bool) (known : Option PutParts) (first : Sheet W) (es : List Entry) (fault : ReadFault) → ((entries : List Entry) (from : ℕ) → CannotGoOn p most entries from self.old.cutter.waiting fault)
+        ensures err { OnErr result ((p : Contents) (most : ℕ) (at_end : Bool) (known : Option PutParts) (first : Sheet W) (es : List Entry) (fault : ReadFault) → ((entries : List Entry) (from : ℕ) → CannotGoOn p most entries from self.old.cutter.waiting fault) → length self.old.cutter.waiting ≤ most + most + 1
             → Progress p most at_end (outputs W.contents known (P.known parts.old) first sheet.old) es self.old
             → Stopped p most at_end (outputs W.contents known (P.known parts.new) first sheet.new) es fault) }
         ensures reach { OnOk result (IsInReach self.new.cutter) }
@@ -239,7 +242,7 @@ impl Parting {
         ensures ok { IfOk result (λ list. (p : Contents) (most : ℕ) (known : Option PutParts) (first : Sheet W) (es : List Entry)
             → Progress p most false (outputs W.contents known (P.known parts.old) first sheet.old) es self
             → Finished p most (outputs W.contents known (P.known parts.new) first sheet.new) es list.items) }
-        ensures err { IfErr result (λ fault. (p : Contents) (most : ℕ) (known : Option PutParts) (first : Sheet W) (es : List Entry)
+        ensures err { IfErr result (λ fault. (p : Contents) (most : ℕ) (known : Option PutParts) (first : Sheet W) (es : List Entry) → length self.cutter.waiting ≤ most + most + 1
             → Progress p most false (outputs W.contents known (P.known parts.old) first sheet.old) es self
             → Stopped p most true (outputs W.contents known (P.known parts.new) first sheet.new) es fault) }
         ensures device { IsErrOf result read.Device → P.failed parts.new ≡ true }

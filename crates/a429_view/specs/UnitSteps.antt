@@ -1,6 +1,6 @@
 -- How the row of a link data unit grows by the steps that are reported one after the other.
 use Rattle.std.specs.Prelude.{◌≡◌, ◌+◌, ℕ, List, Bool, true, false, ◌||◌, Option, Some, None, option_map}
-use Rattle.std.specs.Io.KnownBytes.{Appends}
+use Rattle.std.specs.Io.KnownBytes.{Appends, Keeps}
 use Rattle.a429_word.specs.Tally.{inner_of}
 use Rattle.a429_word.specs.Page.{paged, PutsOn}
 use Rattle.a429_profile.specs.declared.codes.Codes.{Codes}
@@ -65,3 +65,7 @@ HearsRows contents p old (Makes act entry) new = new ≡ record old { row = opti
 -- all that waited to be put has gone out, and this text after it
 abbrev pub PutsAll : {W : Type 0} → (W → Option (List ℕ)) → UnitRows W → UnitRows W → List ℕ → Type 0
 PutsAll contents old new text = Appends (paged contents old.out old.page) (contents (inner_of new.out)) text
+
+-- none waits to be put: the output has all that was
+abbrev pub NoneWaits : {W : Type 0} → (W → Option (List ℕ)) → UnitRows W → Type 0
+NoneWaits contents rows = Keeps (paged contents rows.out rows.page) (contents (inner_of rows.out))

@@ -2,6 +2,7 @@
 
 ghost use Rattle.std.specs.Prelude.{◌≡◌, [], false, IfOk, IfErr, OnOk};
 ghost use Rattle.a429_word.specs.Tally.{has_failed};
+ghost use Rattle.a429_parts.specs.Keeping.{taken};
 ghost use Rattle.a429_check.specs.Cut.{AnyOf, CutsInto, StopsBy, IsCutFault, LeavesBegun, LeavesFirst, LeavesParts, PutsAllParts, WithContents, outlets, task, troubled};
 
 use crate::engines::profile::profile_of;
@@ -27,9 +28,9 @@ pub fn run_cut<R: Read, P: Parts, W: Write>(
     out: &mut Tally<W>,
 ) -> Result<u8, RunFault>
     ensures ok { IfOk result (λ status. status ≡ 0) }
-    ensures cut { OnOk result (WithContents profile.now (PutsAllParts (task most rec.old.to_come) (outlets W.contents out.old out.new (P.known parts.old) (P.known parts.new)))) }
+    ensures cut { OnOk result (WithContents profile.now (PutsAllParts (task most (taken rec.old rec.new)) (outlets W.contents out.old out.new (P.known parts.old) (P.known parts.new)))) }
     ensures err { IfErr result (IsCutFault profile.now rec.old.to_come (AnyOf rec.new.failed (P.failed parts.new) (has_failed out.new))) }
-    ensures left { IfErr result (LeavesParts profile.now (task most rec.old.to_come) (outlets W.contents out.old out.new (P.known parts.old) (P.known parts.new))) }
+    ensures left { IfErr result (LeavesParts profile.now (task most (taken rec.old rec.new)) (outlets W.contents out.old out.new (P.known parts.old) (P.known parts.new))) }
     ensures device { OnOk result ((rec.new.failed ≡ false) × (P.failed parts.new ≡ false) × (has_failed out.new ≡ false)) }
 {
     let profile = profile_of(alloc, profile)?;
@@ -48,9 +49,9 @@ fn cut_by<R: Read, P: Parts, W: Write>(
     out: &mut Tally<W>,
 ) -> Result<u8, RunFault>
     ensures ok { IfOk result (λ status. status ≡ 0) }
-    ensures cut { OnOk result (PutsAllParts (task most rec.old.to_come) (outlets W.contents out.old out.new (P.known parts.old) (P.known parts.new)) profile.now) }
+    ensures cut { OnOk result (PutsAllParts (task most (taken rec.old rec.new)) (outlets W.contents out.old out.new (P.known parts.old) (P.known parts.new)) profile.now) }
     ensures err { IfErr result (StopsBy rec.old.to_come (AnyOf rec.new.failed (P.failed parts.new) (has_failed out.new))) }
-    ensures left { IfErr result (λ e. LeavesBegun (task most rec.old.to_come) (outlets W.contents out.old out.new (P.known parts.old) (P.known parts.new)) e profile.now) }
+    ensures left { IfErr result (λ e. LeavesBegun (task most (taken rec.old rec.new)) (outlets W.contents out.old out.new (P.known parts.old) (P.known parts.new)) e profile.now) }
     ensures device { OnOk result ((rec.new.failed ≡ false) × (P.failed parts.new ≡ false) × (has_failed out.new ≡ false)) }
 {
     let page = Page::new(alloc)?;
@@ -69,9 +70,9 @@ fn put_all<R: Read, P: Parts, W: Write>(
     out: &mut Tally<W>,
 ) -> Result<(), RunFault>
     requires { page ≡ [] }
-    ensures cut { OnOk result (PutsAllParts (task most rec.old.to_come) (outlets W.contents out.old out.new (P.known parts.old) (P.known parts.new)) profile.now) }
+    ensures cut { OnOk result (PutsAllParts (task most (taken rec.old rec.new)) (outlets W.contents out.old out.new (P.known parts.old) (P.known parts.new)) profile.now) }
     ensures err { IfErr result (StopsBy rec.old.to_come (AnyOf rec.new.failed (P.failed parts.new) (has_failed out.new))) }
-    ensures left { IfErr result (λ e. LeavesFirst (task most rec.old.to_come) (outlets W.contents out.old out.new (P.known parts.old) (P.known parts.new)) e profile.now) }
+    ensures left { IfErr result (λ e. LeavesFirst (task most (taken rec.old rec.new)) (outlets W.contents out.old out.new (P.known parts.old) (P.known parts.new)) e profile.now) }
     ensures device { OnOk result ((rec.new.failed ≡ false) × (P.failed parts.new ≡ false) × (has_failed out.new ≡ false)) }
 {
     let list = match write_parts(alloc, page, profile, most, rec, parts, out) {
@@ -95,9 +96,9 @@ fn write_parts<R: Read, P: Parts, W: Write>(
     out: &mut Tally<W>,
 ) -> Result<Vec<u8>, RunFault>
     requires { page ≡ [] }
-    ensures cut { IfOk result (λ list. CutsInto (task most rec.old.to_come) (outlets W.contents out.old out.new (P.known parts.old) (P.known parts.new)) profile.now list.items) }
+    ensures cut { IfOk result (λ list. CutsInto (task most (taken rec.old rec.new)) (outlets W.contents out.old out.new (P.known parts.old) (P.known parts.new)) profile.now list.items) }
     ensures err { IfErr result (StopsBy rec.old.to_come (AnyOf rec.new.failed (P.failed parts.new) (has_failed out.new))) }
-    ensures left { IfErr result (λ e. LeavesFirst (task most rec.old.to_come) (outlets W.contents out.old out.new (P.known parts.old) (P.known parts.new)) e profile.now) }
+    ensures left { IfErr result (λ e. LeavesFirst (task most (taken rec.old rec.new)) (outlets W.contents out.old out.new (P.known parts.old) (P.known parts.new)) e profile.now) }
     ensures device { OnOk result ((rec.new.failed ≡ false) × (has_failed out.new ≡ false)) }
 {
     let mut page = page;

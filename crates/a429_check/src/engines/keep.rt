@@ -2,6 +2,7 @@
 
 ghost use Rattle.std.specs.Prelude.{◌≡◌, ◌⊎◌, [], true, false, IfOk, IfErr, OnOk};
 ghost use Rattle.a429_word.specs.Tally.{has_failed};
+ghost use Rattle.a429_parts.specs.Keeping.{taken};
 ghost use Rattle.a429_check.specs.Output.{output};
 ghost use Rattle.a429_check.specs.Keep.{EndsBy, GainsBegun, GainsUntil, IsKeepFault, LeavesKept, PutsKept, WithCodes};
 
@@ -20,7 +21,7 @@ use std::io::{Read, Write};
 /// free, whatever they are (ARINC 429 Part 3; which words are free is the profile's). `profile` is the bytes of its
 /// text. The recording is read entry by entry, and none of them is kept in memory. Where the recording has a fault, the
 /// rows of the entries before it are written, and nothing where there is none; after a failed reader or out of memory, those
-/// of some first entries.
+/// of the entries that came before.
 pub fn run_keep<R: Read, W: Write>(
     alloc: Global,
     profile: &[u8],
@@ -28,9 +29,9 @@ pub fn run_keep<R: Read, W: Write>(
     out: &mut Tally<W>,
 ) -> Result<u8, RunFault>
     ensures ok { IfOk result (λ status. status ≡ 0) }
-    ensures kept { OnOk result (WithCodes profile.now (PutsKept W.contents out.old out.new rec.old.to_come)) }
+    ensures kept { OnOk result (WithCodes profile.now (PutsKept W.contents out.old out.new (taken rec.old rec.new))) }
     ensures err { IfErr result (IsKeepFault profile.now rec.old.to_come rec.new.failed (has_failed out.new)) }
-    ensures left { IfErr result (LeavesKept (output W.contents out.old out.new) profile.now rec.old.to_come) }
+    ensures left { IfErr result (LeavesKept (output W.contents out.old out.new) profile.now (taken rec.old rec.new)) }
     ensures device { OnOk result ((rec.new.failed ≡ false) × (has_failed out.new ≡ false)) }
 {
     let profile = profile_of(alloc, profile)?;
@@ -47,9 +48,9 @@ fn keep_by<R: Read, W: Write>(
     out: &mut Tally<W>,
 ) -> Result<u8, RunFault>
     ensures ok { IfOk result (λ status. status ≡ 0) }
-    ensures kept { OnOk result (PutsKept W.contents out.old out.new rec.old.to_come profile.now.codes) }
+    ensures kept { OnOk result (PutsKept W.contents out.old out.new (taken rec.old rec.new) profile.now.codes) }
     ensures err { IfErr result (EndsBy rec.old.to_come ((rec.new.failed ≡ true) ⊎ (has_failed out.new ≡ true))) }
-    ensures left { IfErr result (λ e. GainsBegun (output W.contents out.old out.new) rec.old.to_come e profile.now.codes) }
+    ensures left { IfErr result (λ e. GainsBegun (output W.contents out.old out.new) (taken rec.old rec.new) e profile.now.codes) }
     ensures works { OnOk result ((rec.new.failed ≡ false) × (has_failed out.new ≡ false)) }
 {
     let page = Page::new(alloc)?;
@@ -65,10 +66,10 @@ fn write_kept<R: Read, W: Write>(
     out: &mut Tally<W>,
 ) -> Result<(), RunFault>
     requires { page ≡ [] }
-    ensures kept { OnOk result (PutsKept W.contents out.old out.new rec.old.to_come profile.now.codes) }
+    ensures kept { OnOk result (PutsKept W.contents out.old out.new (taken rec.old rec.new) profile.now.codes) }
     ensures works { OnOk result ((rec.new.failed ≡ false) × (has_failed out.new ≡ false)) }
     ensures err { IfErr result (EndsBy rec.old.to_come ((rec.new.failed ≡ true) ⊎ (has_failed out.new ≡ true))) }
-    ensures left { IfErr result (λ e. GainsUntil (output W.contents out.old out.new) rec.old.to_come e profile.now.codes) }
+    ensures left { IfErr result (λ e. GainsUntil (output W.contents out.old out.new) (taken rec.old rec.new) e profile.now.codes) }
 {
     let mut page = page;
     let mut sheet = Sheet::new(out, &mut page);

@@ -5,7 +5,7 @@ ghost use Rattle.a429_word.specs.Sheet.{Says, sheet_failed};
 ghost use Rattle.a429_word.specs.Tally.{has_failed};
 ghost use Rattle.a429_view.specs.Trace.{IsTrace};
 ghost use Rattle.a429_check.specs.Output.{PutsText, output};
-ghost use Rattle.a429_check.specs.Streaming.{taken};
+ghost use Rattle.a429_parts.specs.Keeping.{taken};
 ghost use Rattle.a429_check.specs.Trace.{IsLinesFault, IsPutBy, IsTraceFault, IsTraceOf, LeavesLines, LeavesTrace, SaysText, Traces, only_text, size_line};
 
 use crate::engines::check::put_impossible;

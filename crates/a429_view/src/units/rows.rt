@@ -4,7 +4,7 @@ ghost use Rattle.std.specs.Prelude.{◌≡◌, ◌↔◌, [], None, true, false,
 ghost use Rattle.a429_word.specs.Tally.{has_failed};
 ghost use Rattle.a429_word.specs.Page.{PutsOn};
 ghost use Rattle.a429_cert.specs.Report.{Makes};
-ghost use Rattle.a429_view.specs.UnitSteps.{line_before, PutsAll};
+ghost use Rattle.a429_view.specs.UnitSteps.{line_before, NoneWaits, PutsAll};
 
 use crate::units::row::UnitRow;
 use crate::units::text::put_line_before;
@@ -46,6 +46,7 @@ impl<W: Write> UnitRows<W> {
     /// to be put.
     pub fn finish(&mut self) -> Result<(), Device>
         ensures ok { OnOk result (PutsAll W.contents self.old self.new (line_before self.old.row)) }
+        ensures none_waits { OnOk result (NoneWaits W.contents self.new) }
         ensures device { IsErr result ↔ (has_failed self.new.out ≡ true) }
     {
         self.put_last()?;
@@ -56,6 +57,7 @@ impl<W: Write> UnitRows<W> {
     /// begun stays.
     pub fn put_waiting(&mut self) -> Result<(), Device>
         ensures ok { OnOk result (PutsAll W.contents self.old self.new []) }
+        ensures none_waits { OnOk result (NoneWaits W.contents self.new) }
         ensures row { self.new.row ≡ self.old.row }
         ensures device { IsErr result ↔ (has_failed self.new.out ≡ true) }
     {

@@ -1,11 +1,11 @@
-use Rattle.std.proofs.Common.{inl, inr, refl, false}
+use Rattle.std.proofs.Common.{inr, refl, false}
 use Rattle.std.proofs.lemmas.Bool.{false_from_ne_true}
 use Rattle.std.proofs.lemmas.Result.{err_from_is_err_and}
 use Rattle.a429_word.specs.Tally.{has_failed}
 use Rattle.a429_cert.specs.BreakOff.{readers, shelved}
 use Rattle.a429_check.specs.Extract.{progress}
 use Rattle.a429_check.specs.Output.{output}
-use Rattle.a429_check.specs.Verdict.{input, status_of_answer, text_of_answer, AnyFailed, HasFailed, IsSomeVerdict}
+use Rattle.a429_check.specs.Verdict.{input, status_of_answer, text_of_answer, IsSomeVerdict}
 use Rattle.a429_check.proofs.ExtractFacts.{left_more, no_listener}
 use Rattle.a429_check.proofs.VerdictFacts.{all_work, cut_in, judged, more_failed, verdict, without_listener}
 use Rattle.a429_check.proofs.engines.extract.run_extract.Goals as goal

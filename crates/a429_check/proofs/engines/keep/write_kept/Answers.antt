@@ -2,6 +2,7 @@ use Rattle.std.proofs.Common.{◌∙◌, inr, refl, rules}
 use Rattle.std.proofs.lemmas.Bool.{false_from_ne_true}
 use Rattle.std.proofs.lemmas.Result.{err_from_is_err_and}
 use Rattle.a429_word.proofs.SheetFacts.{says_same_out, says_works, writes}
+use Rattle.a429_parts.specs.Keeping.{taken}
 use Rattle.a429_check.proofs.KeepFacts.{fails_all, fails_until, gains_rows, puts_kept}
 use Rattle.a429_check.proofs.engines.keep.write_kept.Goals as goal
 
@@ -13,7 +14,7 @@ returns-in_err-finish-in-Ok-clause-left g c =
     let same = says_same_out all.says in
     let stays = says_same_out c.finish.ensures.nothing_more in
     let failed = c.in_err-finish-in-Ok.ensures.device.0 refl in
-    rw (p.1, p.2) (inr (fails_all c.args.profile.now.codes c.args.rec.now.to_come all (search rules) (search rules)))
+    rw (p.1, p.2) (inr (fails_all c.args.profile.now.codes (taken c.args.rec.now c.put_kept.new.rec) all (search rules) (search rules)))
 
 pub returns-in-Ok-clause-kept : goal.returns-in-Ok-clause-kept
 returns-in-Ok-clause-kept g c =
@@ -22,7 +23,7 @@ returns-in-Ok-clause-kept g c =
     let same = says_same_out all.says in
     let stays = says_same_out c.finish.ensures.nothing_more in
     let works = false_from_ne_true _ (λ failed. absurd (cc (c.in_ok-finish-in-Ok.ensures.device.1 failed))) in
-    puts_kept c.args.profile.now.codes c.args.rec.now.to_come all (search rules) (search rules) (says_works c.finish.ensures.nothing_more works)
+    puts_kept c.args.profile.now.codes (taken c.args.rec.now c.put_kept.new.rec) all (search rules) (search rules) (says_works c.finish.ensures.nothing_more works)
 
 pub returns-in_err-finish-in-Err-clause-left : goal.returns-in_err-finish-in-Err-clause-left
 returns-in_err-finish-in-Err-clause-left g c =
@@ -32,7 +33,7 @@ returns-in_err-finish-in-Err-clause-left g c =
     let same = says_same_out until.says in
     let stays = says_same_out c.finish-in-Err.ensures.nothing_more in
     let failed = c.in_err-finish-in-Err.ensures.device.0 refl in
-    rw (p.1, p.2) (inr (fails_until c.args.profile.now.codes c.args.rec.now.to_come c.in-Err.fault until (search rules) (search rules)))
+    rw (p.1, p.2) (inr (fails_until c.args.profile.now.codes (taken c.args.rec.now c.put_kept.new.rec) c.in-Err.fault until (search rules) (search rules)))
 
 pub returns-clause-left : goal.returns-clause-left
 returns-clause-left g c =
@@ -41,4 +42,4 @@ returns-clause-left g c =
     let same = says_same_out until.says in
     let stays = says_same_out c.finish-in-Err.ensures.nothing_more in
     let works = false_from_ne_true _ (λ failed. absurd (cc (c.in_ok-finish-in-Err.ensures.device.1 failed))) in
-    rw c.fault_of.ensures (gains_rows g.W.Write.contents c.args.out.now _ c.args.profile.now.codes c.args.rec.now.to_come c.in-Err.fault until (search rules) (search rules))
+    rw c.fault_of.ensures (gains_rows g.W.Write.contents c.args.out.now _ c.args.profile.now.codes (taken c.args.rec.now c.put_kept.new.rec) c.in-Err.fault until (search rules) (search rules))

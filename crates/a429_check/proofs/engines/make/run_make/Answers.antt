@@ -13,7 +13,7 @@ returns-in_err-check_files-clause-err g c =
 pub returns-in_err-put_recording-clause-err : goal.returns-in_err-put_recording-clause-err
 returns-in_err-put_recording-clause-err g c =
     let p = err_from_is_err_and c.from_residual-in_err-put_recording.result c.from_residual-in_err-put_recording.ensures.1 in
-    rw (p.1, p.2) (put_fault c.args.profile.now (map (λ f. f.items) c.args.files.now) _ c.in_err-put_recording.field-0.0 (c.in_ok-profile.profile, c.in_ok-profile.ensures.ok) c.in_err-put_recording.ensures.err)
+    rw (p.1, p.2) (put_fault c.args.profile.now (map (λ f. f.items) c.args.files.now) _ c.in_err-put_recording.field-0.0 (c.in_ok-profile.profile, c.in_ok-profile.ensures.ok) (record { cut = c.in_ok-check_files.ensures.cut; room = c.in_ok-check_files.ensures.room }) c.in_err-put_recording.ensures.err)
 
 pub returns-clause-written : goal.returns-clause-written
 returns-clause-written g c =

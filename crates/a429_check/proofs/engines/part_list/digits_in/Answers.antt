@@ -2,7 +2,6 @@ use Rattle.std.proofs.Common.{arith, ◌<◌, length, get_or}
 use Rattle.std.proofs.lemmas.Grind.{common_steps}
 use Rattle.std.proofs.lemmas.Int.Digits.{digits_more}
 use Rattle.std.specs.Char.{digit_value}
-use Rattle.a429_check.proofs.PartListFacts.{ends_at}
 use Rattle.a429_check.proofs.engines.part_list.digits_in.Goals as goal
 
 pub digits-preserved : goal.digits-preserved

@@ -1,4 +1,4 @@
-use Rattle.std.proofs.Common.{inr, refl, ap, sym}
+use Rattle.std.proofs.Common.{inr, refl, ap}
 use Rattle.std.proofs.lemmas.Bool.{false_from_ne_true}
 use Rattle.std.proofs.lemmas.Result.{err_from_is_err_and}
 use Rattle.a429_view.specs.Picture.{svg_text}

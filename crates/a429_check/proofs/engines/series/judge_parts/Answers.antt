@@ -1,4 +1,4 @@
-use Rattle.std.proofs.Common.{◌≡◌, ◌∙◌, ◌+◌, length, get_or, true, false, arith, sym, subst}
+use Rattle.std.proofs.Common.{◌≡◌, ◌∙◌, ◌+◌, length, get_or, true, arith, subst}
 use Rattle.a429_cert.proofs.SeriesRun.{parts_one_run}
 use Rattle.a429_check.proofs.SeriesVerdictFacts.{SoFar, all_fit, at_next, by_part, goes_on, miscounted_at, refusal_answers, refusal_faults, refusal_works, refused_at}
 use Rattle.a429_check.proofs.engines.series.judge_parts.Goals as goal

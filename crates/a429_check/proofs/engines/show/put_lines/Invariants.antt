@@ -1,4 +1,4 @@
-use Rattle.std.proofs.Common.{◌≡◌, ◌++◌, ℕ, List}
+use Rattle.std.proofs.Common.{◌≡◌, ◌++◌, List}
 use Rattle.std.specs.Slice.Iter.{chunks_rest, chunks_size}
 use Rattle.a429_record.specs.declared.entry.Entry.{Entry}
 use Rattle.a429_check.specs.Show.{AreShowLines, SaysSome}

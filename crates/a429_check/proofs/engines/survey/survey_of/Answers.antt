@@ -1,4 +1,4 @@
-use Rattle.std.proofs.Common.{◌++◌, ◌∷◌, [], length, length-append, arith}
+use Rattle.std.proofs.Common.{◌++◌, ◌∷◌, [], length-append, arith}
 use Rattle.a429_parts.proofs.KeepingFacts.{came_first, came_more, came_whole}
 use Rattle.a429_check.proofs.StreamingFacts.{next_earlier}
 use Rattle.a429_check.proofs.engines.survey.survey_of.Goals as goal

@@ -1,7 +1,7 @@
 use Rattle.std.proofs.Common.{◌++◌, ◌∷◌, [], length-append, append-nil, subst, inr, arith}
 use Rattle.a429_word.specs.Sheet.{Says}
 use Rattle.a429_word.proofs.SheetFacts.{◌▹◌, says_nothing}
-use Rattle.a429_check.specs.Streaming.{taken}
+use Rattle.a429_parts.specs.Keeping.{taken}
 use Rattle.a429_check.specs.Trace.{first_lines}
 use Rattle.a429_check.specs.declared.fault.RunFault.TheVariants as run
 use Rattle.a429_parts.proofs.KeepingFacts.{came_first, came_more, came_whole}

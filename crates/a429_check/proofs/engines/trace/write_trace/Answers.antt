@@ -3,7 +3,7 @@ use Rattle.std.proofs.lemmas.Bool.{false_from_ne_true}
 use Rattle.std.proofs.lemmas.Result.{err_from_is_err_and}
 use Rattle.a429_word.proofs.SheetFacts.{says_same_out, writes}
 use Rattle.a429_check.specs.declared.fault.RunFault.{RunFault}
-use Rattle.a429_check.specs.Streaming.{taken}
+use Rattle.a429_parts.specs.Keeping.{taken}
 use Rattle.a429_check.specs.Trace.{IsPutBy, failed}
 use Rattle.a429_check.proofs.TraceLines.{either_text, err_written, if_ok_by}
 use Rattle.a429_check.proofs.engines.trace.write_trace.Goals as goal
