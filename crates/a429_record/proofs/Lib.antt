@@ -8,6 +8,7 @@ pub mod LinesFacts
 pub mod BinaryFacts
 pub mod FormatFacts
 pub mod RowsFacts
+pub mod DecimalPairs
 pub mod WritingFacts
 pub mod WholeRecordings
 pub mod LargerLimits

@@ -21,6 +21,10 @@ const UPPER: usize = LONGEST_TIME - 4;
 // How many bytes the longest entry has, with one byte after it.
 const LONGEST: usize = LONGEST_TIME + 12;
 
+// Each number below 100 as two digits.
+const DECIMAL_PAIRS: [u8; 200] =
+    *b"00010203040506070809101112131415161718192021222324252627282930313233343536373839404142434445464748495051525354555657585960616263646566676869707172737475767778798081828384858687888990919293949596979899";
+
 // One more than four digits write.
 const ABOVE_FOUR: u64 = 10_000;
 
@@ -146,13 +150,18 @@ fn four_digits(number: u32) -> [u8; 4]
     requires { number < ABOVE_FOUR }
     ensures { result ≡ (48 + number / 100 / 10) ∷ (48 + number / 100 % 10) ∷ (48 + number % 100 / 10) ∷ (48 + number % 100 % 10) ∷ [] }
 {
-    let (upper, lower) = (number / 100, number % 100);
-    [
-        b'0' + (upper / 10) as u8,
-        b'0' + (upper % 10) as u8,
-        b'0' + (lower / 10) as u8,
-        b'0' + (lower % 10) as u8,
-    ]
+    let (upper, lower) = (two_digits(number / 100), two_digits(number % 100));
+    [upper[0], upper[1], lower[0], lower[1]]
+}
+
+// A number below 100 in two digits.
+#[inline(always)]
+fn two_digits(number: u32) -> [u8; 2]
+    requires { number < 100 }
+    ensures { result ≡ (48 + number / 10) ∷ (48 + number % 10) ∷ [] }
+{
+    let from = number as usize * 2;
+    [DECIMAL_PAIRS[from], DECIMAL_PAIRS[from + 1]]
 }
 
 // A bus and a word, one byte before each and one after them.
