@@ -5,6 +5,7 @@ pub mod FormMade
 pub mod FormFacts
 pub mod FormPacked
 pub mod SightFacts
+pub mod FullFacts
 pub mod FreedomFacts
 pub mod CheckWordDivision
 pub mod CheckWordDown

@@ -1,8 +1,9 @@
 -- What a word is to the file transfer: free, a form, or neither.
-use Rattle.std.specs.Prelude.{ℕ, if◌then◌else◌, Option, Some, None}
+use Rattle.std.specs.Prelude.{ℕ, ◌==◌, if◌then◌else◌, Option, Some, None, length}
 use Rattle.a429_word.specs.declared.bus.Bus.{Bus}
 use Rattle.a429_profile.specs.declared.codes.Codes.{Codes}
 use Rattle.a429_ldu.specs.declared.forms.Form.{Form}
+use Rattle.a429_ldu.specs.declared.forms.Form.TheVariants.{Part}
 use Rattle.a429_ldu.specs.declared.sight.Sight.{Sight}
 use Rattle.a429_ldu.specs.declared.sight.Sight.TheVariants as sight
 use Rattle.a429_ldu.specs.Form.{is_free, form_of}
@@ -19,3 +20,8 @@ sight_of c b w = if is_free c b w then sight.Free else sight_in (form_of c b w)
 abbrev pub form_in : Sight → Option Form
 form_in (sight.Form x) = Some x
 form_in _ = None
+
+-- the form of a data word of five semi-octets, which is a full one, and of no other word
+abbrev pub full_in : Option Form → Option Form
+full_in (Some (Part semis)) = if length semis == 5 then Some (Part semis) else None
+full_in _ = None

@@ -23,4 +23,4 @@ pub use crate::forms::writing::word_of;
 pub use crate::freedom::{Freedom, why_free};
 pub use crate::ldu::{Ldu, MOST_DATA_WORDS, MOST_UNIT_BYTES};
 pub use crate::semis::Semis;
-pub use crate::sight::{Sight, form};
+pub use crate::sight::{Sight, form, form_if_full};

@@ -1,6 +1,6 @@
 -- What a watch knows after one word more, and that it misses no place.
 use Rattle.std.proofs.Common.{◌≡◌, ◌≤◌, ◌<◌, ◌⊎◌, ◌∙◌, true, false, ◌+◌, Bool, cond, Result, ℕ, suc, List, drop, Option, Some, None, refl, sym, ap, subst, inl, inr, arith}
-use Rattle.std.specs.Prelude.{IfSome, IsOk, OnOk, slice_get, unwrap_or}
+use Rattle.std.specs.Prelude.{◌==◌, IfSome, length, IsOk, OnOk, slice_get, unwrap_or}
 use Rattle.std.proofs.lemmas.Bool.{cases_eq}
 use Rattle.a429_word.specs.declared.bus.Bus.{Bus}
 use Rattle.a429_word.specs.declared.bus.Bus.TheVariants as bus
@@ -9,7 +9,7 @@ use Rattle.a429_profile.specs.Profile.{Contents}
 use Rattle.a429_ldu.specs.declared.forms.Form.{Form}
 use Rattle.a429_ldu.specs.declared.forms.Form.TheVariants.{Rts, Cts, Ack, Nak, Sot, Part, Eot}
 use Rattle.a429_ldu.specs.Form.{form_of, is_free}
-use Rattle.a429_ldu.specs.Sight.{form_in, sight_in, sight_of}
+use Rattle.a429_ldu.specs.Sight.{form_in, full_in, sight_in, sight_of}
 use Rattle.a429_ldu.specs.declared.sight.Sight.{Sight}
 use Rattle.a429_ldu.specs.declared.sight.Sight.TheVariants as sight
 use Rattle.a429_ldu.proofs.SightFacts.{form_of-sight}
@@ -517,6 +517,21 @@ taken_is c b w e = by (is_free c b w) (form_of c b w) e
     by : (t : Bool) (f : Option Form) → sight.NoForm ≡ cond t sight.Free (sight_in f) → t ≡ false
     by true f e = absurd (cc e)
     by false f e = refl
+
+full_by : (t : Bool) (f x : Form) → cond t (Some f) None ≡ Some x → Some f ≡ Some x
+full_by true f x e = e
+full_by false f x e = absurd (cc e)
+
+-- a word that has the form of a full one has this form
+pub full_is : (o : Option Form) (x : Form) → full_in o ≡ Some x → o ≡ Some x
+full_is None x e = absurd (cc e)
+full_is (Some (Part semis)) x e = full_by (length semis == 5) (Part semis) x e
+full_is (Some (Rts n)) x e = absurd (cc e)
+full_is (Some (Cts n)) x e = absurd (cc e)
+full_is (Some (Ack file ldu)) x e = absurd (cc e)
+full_is (Some (Nak bits)) x e = absurd (cc e)
+full_is (Some (Sot gfi file ldu)) x e = absurd (cc e)
+full_is (Some (Eot flags check)) x e = absurd (cc e)
 
 pub form_is : (c : Codes) (b : Bus) (w : ℕ) (s : Sight) → s ≡ sight_of c b w → form_of c b w ≡ form_in s
 form_is c b w s e = sym (ap form_in e ∙ form_of-sight c b w)

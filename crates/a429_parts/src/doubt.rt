@@ -42,6 +42,7 @@ impl Doubt {
     }
 
     /// What a word of this form says of it.
+    #[inline(always)]
     pub(crate) fn outcome(&self, profile: &Profile, form: &Form) -> Outcome
         ensures open { result ≡ Outcome.Open → Leaves (Some form.now) (Some self.now) }
         ensures place { result ≡ Outcome.IsPlace → MakesCertain profile.now.codes self.now (Some form.now) }

@@ -8,7 +8,7 @@ ghost use Rattle.a429_parts.specs.Watch.{FollowsWord, SeesWord, Settles, TakesWo
 
 use crate::doubt::{Doubt, Outcome};
 use crate::follower::{Follower, Refused};
-use a429_ldu::{Form, Sight, form};
+use a429_ldu::{Form, Sight, form, form_if_full};
 use a429_link::{Seen, UnitNumber};
 use a429_profile::Profile;
 use a429_word::Bus;
@@ -78,9 +78,23 @@ impl Watch {
         place
     }
 
-    // The same, and the word is not counted yet. It is read once.
+    // The same, and the word is not counted yet. Full data words are looked for first, since most words of a recording are
+    // such: the code that follows is made for them alone then.
     #[inline(always)]
     fn see(&mut self, profile: &Profile, seen: &Seen) -> Option<usize>
+        requires room { self.old.count + 1 < 2 ^ 64 }
+        ensures counts { self.new.count ≡ self.old.count }
+        ensures sees { SeesWord profile.now seen.now self.old self.new result }
+    {
+        match form_if_full(profile, seen.bus, seen.word) {
+            Some(form) => self.see_form(profile, seen, &form),
+            None => self.see_any(profile, seen),
+        }
+    }
+
+    // The same of any word.
+    #[inline(never)]
+    fn see_any(&mut self, profile: &Profile, seen: &Seen) -> Option<usize>
         requires room { self.old.count + 1 < 2 ^ 64 }
         ensures counts { self.new.count ≡ self.old.count }
         ensures sees { SeesWord profile.now seen.now self.old self.new result }
@@ -91,12 +105,21 @@ impl Watch {
                 self.refuse();
                 None
             }
-            Sight::Form(form) => {
-                let place = self.settle(profile, &form);
-                self.follow(profile, seen, &form);
-                place
-            }
+            Sight::Form(form) => self.see_form(profile, seen, &form),
         }
+    }
+
+    // The same of a word that has this form.
+    #[inline(always)]
+    fn see_form(&mut self, profile: &Profile, seen: &Seen, form: &Form) -> Option<usize>
+        requires form { form_of profile.now.codes seen.now.bus seen.now.word ≡ Some form.now }
+        requires room { self.old.count + 1 < 2 ^ 64 }
+        ensures counts { self.new.count ≡ self.old.count }
+        ensures sees { SeesWord profile.now seen.now self.old self.new result }
+    {
+        let place = self.settle(profile, form);
+        self.follow(profile, seen, form);
+        place
     }
 
     // A word that no run records comes.
@@ -143,7 +166,9 @@ impl Watch {
         ensures follows { FollowsWord profile.now seen.now self.old self.new }
     {
         if self.is_lost {
-            self.begin(profile, seen, form);
+            if is_request(seen, form) {
+                self.begin(profile, seen, form);
+            }
             return;
         }
         match self.follower.see(profile, seen, form) {
@@ -175,19 +200,19 @@ impl Watch {
         }
     }
 
-    // A request may begin the sink anew.
+    // A request, which may begin the sink anew.
+    #[inline(never)]
     fn begin(&mut self, profile: &Profile, seen: &Seen, form: &Form)
         requires form { form_of profile.now.codes seen.now.bus seen.now.word ≡ Some form.now }
+        requires request { IsRequest seen.now.bus (Some form.now) }
         requires lost { self.old.observer ≡ None }
         ensures counts { self.new.count ≡ self.old.count }
         ensures follows { FollowsWord profile.now seen.now self.old self.new }
     {
-        if is_request(seen, form) {
-            self.follower = Follower::new(self.alloc);
-            let _ = self.follower.see(profile, seen, form);
-            self.is_lost = false;
-            self.doubt = Some(Doubt::Anew { place: self.count });
-        }
+        self.follower = Follower::new(self.alloc);
+        let _ = self.follower.see(profile, seen, form);
+        self.is_lost = false;
+        self.doubt = Some(Doubt::Anew { place: self.count });
     }
 }
 

@@ -1,28 +1,7 @@
-use Rattle.std.proofs.Common.{Option, ap, sym, subst, ◌∙◌}
-use Rattle.a429_ldu.specs.declared.forms.Form.{Form}
-use Rattle.a429_ldu.specs.declared.sight.Sight.TheVariants as sight
-use Rattle.a429_parts.specs.Watch.{Settles, Watched}
-use Rattle.a429_parts.proofs.WatchFacts.{form_is, sees_free, sees_refused}
+use Rattle.std.proofs.Common.{sym, ◌∙◌}
+use Rattle.a429_ldu.specs.Form.{form_of}
+use Rattle.a429_parts.proofs.WatchFacts.{full_is}
 use Rattle.a429_parts.proofs.watch.Watch.see.Goals as goal
 
-pub follow-requires-clause-form : goal.follow-requires-clause-form
-follow-requires-clause-form c = form_is c.args.profile.now.codes c.args.seen.now.bus c.args.seen.now.word (sight.Form c.in-Form.form) (sym c.in-Form.is ∙ c.form.ensures.computed)
-
-pub returns-in-Free-clause-sees : goal.returns-in-Free-clause-sees
-returns-in-Free-clause-sees c = sees_free c.args.profile.now c.args.seen.now c.args.self.now (sym c.in-Free.is ∙ c.form.ensures.computed)
-
-pub returns-in-NoForm-clause-sees : goal.returns-in-NoForm-clause-sees
-returns-in-NoForm-clause-sees c =
-    sees_refused c.args.profile.now c.args.seen.now c.args.self.now c.refuse.new.self (sym c.in-NoForm.is ∙ c.form.ensures.computed)
-    (ap (λ (w : Watched). w.count) c.refuse.ensures) (ap (λ (w : Watched). w.observer) c.refuse.ensures) (ap (λ (w : Watched). w.doubt) c.refuse.ensures)
-
-pub returns-in-Form-clause-sees : goal.returns-in-Form-clause-sees
-returns-in-Form-clause-sees c =
-    let p = c.args.profile.now in
-    let i = c.args.seen.now in
-    let is = form_is p.codes i.bus i.word (sight.Form c.in-Form.form) (sym c.in-Form.is ∙ c.form.ensures.computed) in
-    record {
-      settled = c.settle-place.new.self;
-      settles = subst (λ (f : Option Form). Settles p.codes f c.args.self.now c.settle-place.new.self c.settle-place.result) (sym is) c.settle-place.ensures.settles;
-      follows = c.follow.ensures.follows;
-    }
+pub see_form-requires-clause-form : goal.see_form-requires-clause-form
+see_form-requires-clause-form c = full_is (form_of c.args.profile.now.codes c.args.seen.now.bus c.args.seen.now.word) c.in-Some.form (sym c.form_if_full.ensures ∙ c.in-Some.is)
