@@ -12,7 +12,7 @@ use a429_word::{Device, Page, Sheet, Tally};
 use std::io::Write;
 
 // How many entries are put at once.
-const GROUP: usize = 256;
+const GROUP: usize = 4096;
 
 /// Writes entries, at most 1,000,000 whose times never fall, as a binary recording: eight bytes, and 13 for each
 /// entry. It takes no memory. After `Device` a prefix of the recording has been written.
@@ -45,7 +45,7 @@ fn put_binary<W: Write>(sheet: &mut Sheet<'_, W>, entries: &[Entry])
 
 // The bytes of a few entries at once.
 fn put_group<W: Write>(sheet: &mut Sheet<'_, W>, group: &[Entry])
-    requires { length group.now ≤ 256 }
+    requires { length group.now ≤ 4096 }
     ensures { Says W.contents sheet.old sheet.new (flat_map entry_piece group.now) }
 {
     let mut bytes = [0; GROUP * ENTRY_BYTES];

@@ -13,7 +13,7 @@ use std::io::Write;
 use std::marker::Model;
 
 // How many bytes a page has room for.
-const ROOM: usize = 16384;
+const ROOM: usize = 65536;
 
 // How many digits the longest number has.
 const LONGEST: usize = 20;
@@ -21,7 +21,7 @@ const LONGEST: usize = 20;
 // How many bytes `put_first` copies.
 const FEW: usize = 32;
 
-/// Bytes that wait to be written, 16,384 at most, so that a writer is called once for many pieces. A `Sheet` fills it.
+/// Bytes that wait to be written, 65,536 at most, so that a writer is called once for many pieces. A `Sheet` fills it.
 #[derive(Drop)]
 pub struct Page {
     // none: each piece is written at once

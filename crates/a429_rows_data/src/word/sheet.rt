@@ -10,14 +10,14 @@ fn put_pieces(alloc: Global, out: &mut Tally<&mut Vec<u8>>) -> Result<bool, Allo
     let mut sheet = Sheet::new(out, &mut page);
     sheet.put(b"time ");
     sheet.put_number(18_446_744_073_709_551_615);
-    sheet.put(&[b'x'; 16_384]);
+    sheet.put(&[b'x'; 65_536]);
     sheet.put(b"behind");
     Ok(sheet.finish().is_ok())
 }
 
 // Whether they are what was written.
 fn are_pieces(written: &[u8]) -> bool {
-    written.len() == 5 + 20 + 16_384 + 6
+    written.len() == 5 + 20 + 65_536 + 6
         && written.starts_with(b"time 18446744073709551615xxx")
         && written.ends_with(b"xxxbehind")
 }
@@ -33,7 +33,7 @@ fn pieces_come_out_in_their_order(rt: HostRuntime) {
 fn put_first_bytes(alloc: Global, out: &mut Tally<&mut Vec<u8>>) -> Result<bool, AllocError> {
     let mut page = Page::new(alloc)?;
     let mut sheet = Sheet::new(out, &mut page);
-    for _ in 0..32_768 {
+    for _ in 0..131_072 {
         sheet.put_first(b"0123456789abcdefghijklmnopqrstuv", 1);
     }
     sheet.put_first(b"0123456789abcdefghijklmnopqrstuv", 32);
@@ -43,7 +43,7 @@ fn put_first_bytes(alloc: Global, out: &mut Tally<&mut Vec<u8>>) -> Result<bool,
 
 // Whether they are what was written.
 fn are_first_bytes(written: &[u8]) -> bool {
-    written.len() == 32_768 + 32
+    written.len() == 131_072 + 32
         && written.starts_with(b"00000000")
         && written.ends_with(b"000000000123456789abcdefghijklmnopqrstuv")
 }

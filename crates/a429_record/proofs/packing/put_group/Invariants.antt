@@ -5,7 +5,7 @@ use Rattle.a429_record.proofs.packing.put_group.Given as goal
 
 abbrev pub invariant-loop-entry : goal.invariant-loop-entry
 invariant-loop-entry g l = record {
-  size : length l.bytes ≡ 3328;
+  size : length l.bytes ≡ 53248;
   place : l.at ≡ 13 * l.entry-index;
   text : take l.at l.bytes ≡ flat_map entry_piece (take l.entry-index l.group);
 }
