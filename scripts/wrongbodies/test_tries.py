@@ -3,8 +3,9 @@ import os
 import tempfile
 import unittest
 
+from console import ROOT
 from wrongbodies.functions import text_of
-from wrongbodies.tries import apply_all, empty, kind_of, read_edit, refuses, write
+from wrongbodies.tries import apply_all, edits_of, empty, kind_of, read_edit, refuses, write
 
 SOURCE = """\
 pub struct Word(u32);
@@ -64,6 +65,11 @@ class Edits(unittest.TestCase):
         for old in ("self.0", "self.1"):
             with self.assertRaises(SystemExit):
                 self.read((old, "0"))
+
+    def test_the_old_texts_of_all_crates_are_there_once(self):
+        for folder in sorted(ROOT.glob("crates/*/wrong")):
+            with self.subTest(folder.parent.name):
+                self.assertTrue(edits_of(folder.parent))
 
     def test_the_first_edit_changes_the_function_and_each_other_a_double_with_its_own_proof(self):
         edits = [self.read(("ensures { result ≡ self }", f"ensures {{ result ≡ {it} }}")) for it in "abc"]
