@@ -171,6 +171,16 @@ impl Cutter {
         ensures begin { self.new.begin ≡ self.new.place }
     {
         self.begin = self.place;
-        self.waiting.drain(..size);
+        drop_first(&mut self.waiting, size);
     }
+}
+
+// Drops the first entries. Only those after them are moved: `drain` moves them all.
+fn drop_first(entries: &mut Vec<Entry>, size: usize)
+    requires { size ≤ length entries.old.items }
+    ensures { entries.new.items ≡ drop size entries.old.items }
+{
+    let left = entries.len() - size;
+    entries.copy_within(size.., 0);
+    entries.truncate(left);
 }

@@ -4,7 +4,7 @@ ghost use Rattle.a429_ldu.specs.Form.{IsInRange};
 
 use crate::agreement::none_differs;
 use crate::profile::sample_profile;
-use a429_ldu::{Form, Semis, Sight, form, word_of};
+use a429_ldu::{Form, Semis, Sight, form, form_if_full, word_of};
 use a429_profile::Profile;
 use a429_sample::{ACK, CTS, EOT, NAK, PART, RTS, SOT};
 use a429_word::{Bus, Word};
@@ -59,6 +59,41 @@ fn first_that_differs(profile: &Profile) -> Option<u32> {
 fn words_are_known_by_their_fields(rt: HostRuntime) -> Result<(), Fail> {
     let profile = sample_profile(&rt);
     none_differs(first_that_differs(&profile))
+}
+
+// The form of the full data word in the table below.
+fn five_semis() -> Option<Form> {
+    match Semis::new(&[12, 4, 5, 4, 8]) {
+        Some(semis) => Some(Form::Part(semis)),
+        None => None,
+    }
+}
+
+// A full data word; the same on bus B, with wrong parity, and with another label; a partial word and a request.
+const FULL: [(Bus, u32, bool); 6] = [
+    (Bus::A, 0x8845_4C23, true),
+    (Bus::B, 0x8845_4C23, false),
+    (Bus::A, 0x0845_4C23, false),
+    (Bus::A, 0x0845_4CA3, false),
+    (Bus::A, PART, false),
+    (Bus::A, RTS, false),
+];
+
+// The first of them of which something else is found.
+fn first_found_otherwise(profile: &Profile) -> Option<u32> {
+    for (bus, number, is_full) in FULL {
+        let form = if is_full { five_semis() } else { None };
+        if form_if_full(profile, bus, Word::from_u32(number)) != form {
+            return Some(number);
+        }
+    }
+    None
+}
+
+#[test]
+fn full_data_words_are_found(rt: HostRuntime) -> Result<(), Fail> {
+    let profile = sample_profile(&rt);
+    none_differs(first_found_otherwise(&profile))
 }
 
 // Whether the partial word of some semi-octets is said by this word, and by no other.
