@@ -20,7 +20,8 @@ use Rattle.a429_check.specs.declared.fault.RunFault.{RunFault}
 use Rattle.a429_check.specs.declared.fault.RunFault.TheVariants as run
 use Rattle.a429_check.specs.Profile.{IsProfileOf}
 use Rattle.a429_check.specs.Streaming.{reported}
-use Rattle.a429_check.specs.Cut.{AnyOf, CutsInto, IsCutFault, IsFaultOfCut, LeavesBegun, LeavesFirst, LeavesParts, Outlets, PutsAllParts, PutsFirstParts, PutsSomeParts, StopsBy, Task, outlets, task, troubled}
+use Rattle.a429_check.proofs.LeavesFacts.{leaves_read}
+use Rattle.a429_check.specs.Cut.{AnyOf, CutsInto, IsCutFault, IsAsBefore, IsFaultOfCut, LeavesBegun, LeavesFirst, LeavesParts, Outlets, PutsAllParts, PutsFirstParts, PutsSomeParts, StopsBy, Task, outlets, task, troubled}
 
 -- entries, and then the rest of a recording, with a fault or by one of `cut`
 abbrev pub Ends : Contents → Option Recording → ℕ → List Entry → ℕ → List Entry → ReadFault → Type 0
@@ -139,19 +140,4 @@ cut_fault profile p rec Failed run.Usage is h = absurd h
 
 -- what is left, by the profile whose text the bytes are
 pub leaves_begun : {W : Type 0} (profile : List ℕ) (p : Contents) (t : Task) (o : Outlets W) (e : RunFault) → IsProfileOf profile p → LeavesBegun t o e p → LeavesParts profile t o e
-leaves_begun profile p t o (run.Read f) is (inl h) = absurd (cc h.0)
-leaves_begun profile p t o (run.Read f) is (inr h) = (p, is, h)
-leaves_begun profile p t o run.Device is (inl h) = absurd (cc h.0)
-leaves_begun profile p t o run.Device is (inr h) = (p, is, h)
-leaves_begun profile p t o run.Memory is (inl h) = inl h.1
-leaves_begun profile p t o run.Memory is (inr h) = inr (p, is, h)
-leaves_begun profile p t o (run.Profile f) is (inl h) = absurd (cc h.0)
-leaves_begun profile p t o (run.Profile f) is (inr h) = absurd h
-leaves_begun profile p t o (run.Cut k f) is (inl h) = absurd (cc h.0)
-leaves_begun profile p t o (run.Cut k f) is (inr h) = absurd h
-leaves_begun profile p t o run.TooLong is (inl h) = absurd (cc h.0)
-leaves_begun profile p t o run.TooLong is (inr h) = absurd h
-leaves_begun profile p t o run.BadWord is (inl h) = absurd (cc h.0)
-leaves_begun profile p t o run.BadWord is (inr h) = absurd h
-leaves_begun profile p t o run.Usage is (inl h) = absurd (cc h.0)
-leaves_begun profile p t o run.Usage is (inr h) = absurd h
+leaves_begun profile p t o e is h = leaves_read (IsAsBefore o) (LeavesFirst t o) profile p e (λ f never. never) is h

@@ -1,5 +1,5 @@
 -- What `keep` writes, and what it leaves after a fault.
-use Rattle.std.proofs.Common.{◌≡◌, ℕ, List, [], ◌∷◌, true, false, Option, Some, None, inl, inr}
+use Rattle.std.proofs.Common.{◌≡◌, ℕ, List, [], ◌∷◌, true, false, Option, Some, None, inl}
 use Rattle.std.specs.Prelude.{IfSome}
 use Rattle.a429_word.specs.declared.sheet.Sheet.{Sheet}
 use Rattle.a429_word.specs.declared.tally.Tally.{Tally}
@@ -17,8 +17,8 @@ use Rattle.a429_check.specs.Output.{Output, output}
 use Rattle.a429_check.specs.Streaming.{reported}
 use Rattle.a429_profile.specs.Profile.{Contents}
 use Rattle.a429_check.specs.declared.fault.RunFault.{RunFault}
-use Rattle.a429_check.specs.declared.fault.RunFault.TheVariants as run
 use Rattle.a429_check.specs.Profile.{IsProfileOf}
+use Rattle.a429_check.proofs.LeavesFacts.{leaves_read}
 use Rattle.a429_check.specs.Keep.{FailsKept, GainsBegun, GainsUntil, LeavesKept, PutsKept, PutsKeptUntil}
 
 -- these entries come before this fault
@@ -59,20 +59,5 @@ pub gains_rows : {W : Type 0} (contents : W → Option (List ℕ)) {a b : Sheet 
 gains_rows contents old new c t fault until written works = rows_until (output contents old new) t c fault (record { entries = until.entries; came = until.came; stops = until.stops; puts = written.all works })
 
 -- what is left, by the profile whose text the bytes are
-pub leaves_kept : {W : Type 0} (profile : List ℕ) (p : Contents) (o : Output W) (t : Taken) (e : RunFault) → IsProfileOf profile p → GainsBegun o t e p.codes → LeavesKept o profile t e
-leaves_kept profile p o t (run.Read f) is (inl h) = absurd (cc h.0)
-leaves_kept profile p o t (run.Read f) is (inr h) = (p, is, h)
-leaves_kept profile p o t run.Device is (inl h) = absurd (cc h.0)
-leaves_kept profile p o t run.Device is (inr h) = (p, is, h)
-leaves_kept profile p o t run.Memory is (inl h) = inl h.1
-leaves_kept profile p o t run.Memory is (inr h) = inr (p, is, h)
-leaves_kept profile p o t (run.Profile f) is (inl h) = h.1
-leaves_kept profile p o t (run.Profile f) is (inr h) = absurd h
-leaves_kept profile p o t (run.Cut k f) is (inl h) = absurd (cc h.0)
-leaves_kept profile p o t (run.Cut k f) is (inr h) = absurd h
-leaves_kept profile p o t run.TooLong is (inl h) = absurd (cc h.0)
-leaves_kept profile p o t run.TooLong is (inr h) = absurd h
-leaves_kept profile p o t run.BadWord is (inl h) = absurd (cc h.0)
-leaves_kept profile p o t run.BadWord is (inr h) = absurd h
-leaves_kept profile p o t run.Usage is (inl h) = absurd (cc h.0)
-leaves_kept profile p o t run.Usage is (inr h) = absurd h
+pub leaves_kept : {W : Type 0} (profile : List ℕ) (p : Contents) (o : Output W) (t : Taken) (e : RunFault) → IsProfileOf profile p → GainsBegun o t e p → LeavesKept o profile t e
+leaves_kept profile p o t e is h = leaves_read (o.new ≡ o.old) (λ e p. GainsUntil o t e p.codes) profile p e (λ f never. never) is h

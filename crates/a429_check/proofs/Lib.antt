@@ -18,6 +18,7 @@ pub mod EntriesFacts
 pub mod CheckFacts
 pub mod StreamingFacts
 pub mod OutputFacts
+pub mod LeavesFacts
 pub mod KeepFacts
 pub mod CutFacts
 pub mod TraceLines

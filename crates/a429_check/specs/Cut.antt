@@ -19,17 +19,17 @@ use Rattle.a429_check.specs.declared.fault.RunFault.{RunFault}
 use Rattle.a429_check.specs.declared.fault.RunFault.TheVariants as run
 use Rattle.a429_check.specs.Fault.{ComesBy, never}
 use Rattle.a429_check.specs.Output.{Output}
-use Rattle.a429_check.specs.Profile.{HasFault, IsProfileOf, IsSomeProfile}
+use Rattle.a429_check.specs.Leaves.{LeavesAfter, LeavesRead}
+use Rattle.a429_check.specs.Profile.{HasFault, IsSomeProfile}
 use Rattle.a429_check.specs.Streaming.{IsFaultToCome}
 
--- a recording that is to be cut into parts of at most so many entries, and how many of its entries were handed out
+-- a recording that is to be cut into parts of at most so many entries
 pub record Task : Type 0 where
   pub most : ℕ
-  pub recording : Option Recording
-  pub given : ℕ
+  pub taken : Taken
 
 abbrev pub task : ℕ → Taken → Task
-task most t = record { most = most; recording = t.recording; given = t.given }
+task most t = record { most = most; taken = t }
 
 -- the output, and the parts that were put, where they are known, before and after
 pub record Outlets (W : Type 0) : Type 0 where
@@ -40,16 +40,12 @@ pub record Outlets (W : Type 0) : Type 0 where
 abbrev pub outlets : {W : Type 0} → (W → Option (List ℕ)) → Tally W → Tally W → Option PutParts → Option PutParts → Outlets W
 outlets contents old_out new_out old new = record { out = record { contents = contents; old = old_out; new = new_out }; old = old; new = new }
 
--- the bytes are the text of a profile, and something holds of what it says
-abbrev pub WithContents : List ℕ → (Contents → Type 0) → Type 0
-WithContents profile P = (p : Contents) × IsProfileOf profile p × P p
-
 -- all parts of the recording, which has no fault, were put, numbered from 1, and no list yet, which is this text; the output has the same, and a prefix at most where it has failed
 pub record CutsInto {W : Type 0} (t : Task) (o : Outlets W) (p : Contents) (list : List ℕ) : Type 0 where
   pub entries : List Entry
   pub parts : List (List Entry)
-  pub came : t.given ≡ length entries
-  pub all : IfSome t.recording (λ r. r ≡ whole entries)
+  pub came : t.taken.given ≡ length entries
+  pub all : IfSome t.taken.recording (λ r. r ≡ whole entries)
   pub are : AreParts p t.most entries parts
   pub gains : GainsParts o.old o.new parts
   pub text : list ≡ list_text parts
@@ -59,8 +55,8 @@ pub record CutsInto {W : Type 0} (t : Task) (o : Outlets W) (p : Contents) (list
 pub record PutsAllParts {W : Type 0} (t : Task) (o : Outlets W) (p : Contents) : Type 0 where
   pub entries : List Entry
   pub parts : List (List Entry)
-  pub came : t.given ≡ length entries
-  pub all : IfSome t.recording (λ r. r ≡ whole entries)
+  pub came : t.taken.given ≡ length entries
+  pub all : IfSome t.taken.recording (λ r. r ≡ whole entries)
   pub are : AreParts p t.most entries parts
   pub gains : GainsAll o.old o.new parts
   pub puts : Puts o.out.contents o.out.old o.out.new (list_text parts)
@@ -69,11 +65,11 @@ pub record PutsAllParts {W : Type 0} (t : Task) (o : Outlets W) (p : Contents) :
 pub record PutsFirstParts {W : Type 0} (t : Task) (o : Outlets W) (fault : ReadFault) (p : Contents) : Type 0 where
   pub entries : List Entry
   pub parts : List (List Entry)
-  pub came : t.given ≡ length entries
+  pub came : t.taken.given ≡ length entries
   pub rest : List Entry
   pub few : length rest ≤ t.most + t.most + 1
   pub are : AreFirstParts p t.most entries parts rest
-  pub ends : IfSome t.recording (λ r. (later : Recording) × (r ≡ with_entries entries later) × (Stops fault later ⊎ CannotGoOn p t.most (entries ++ later.entries) (length (joined parts)) rest fault))
+  pub ends : IfSome t.taken.recording (λ r. (later : Recording) × (r ≡ with_entries entries later) × (Stops fault later ⊎ CannotGoOn p t.most (entries ++ later.entries) (length (joined parts)) rest fault))
   pub gains : GainsParts o.old o.new parts
   pub puts : Puts o.out.contents o.out.old o.out.new (list_text parts)
 
@@ -81,8 +77,8 @@ pub record PutsFirstParts {W : Type 0} (t : Task) (o : Outlets W) (fault : ReadF
 pub record PutsSomeParts {W : Type 0} (t : Task) (o : Outlets W) (p : Contents) : Type 0 where
   pub entries : List Entry
   pub parts : List (List Entry)
-  pub came : t.given ≡ length entries
-  pub first : BeginsWith t.recording entries
+  pub came : t.taken.given ≡ length entries
+  pub first : BeginsWith t.taken.recording entries
   pub are : AreSomeParts p t.most entries parts
   pub gains : GainsParts o.old o.new parts
   pub writes : Writes o.out.contents o.out.old o.out.new (list_text parts)
@@ -98,15 +94,13 @@ LeavesFirst t o e p = ⊥
 abbrev pub IsAsBefore : {W : Type 0} → Outlets W → Type 0
 IsAsBefore o = (o.out.new ≡ o.out.old) × IsSame o.old o.new
 
--- what is left of any fault after that: nothing where memory was refused before an entry was read
+-- what is left of any fault after that
 abbrev pub LeavesBegun : {W : Type 0} → Task → Outlets W → RunFault → Contents → Type 0
-LeavesBegun t o e p = ((e ≡ run.Memory) × IsAsBefore o) ⊎ LeavesFirst t o e p
+LeavesBegun t o = LeavesRead (IsAsBefore o) (LeavesFirst t o)
 
--- what `cut` leaves after a fault: nothing where the profile has it, or where memory was refused before an entry was read
+-- what `cut` leaves after a fault
 abbrev pub LeavesParts : {W : Type 0} → List ℕ → Task → Outlets W → RunFault → Type 0
-LeavesParts profile t o (run.Profile f) = IsAsBefore o
-LeavesParts profile t o run.Memory = IsAsBefore o ⊎ WithContents profile (LeavesFirst t o run.Memory)
-LeavesParts profile t o e = WithContents profile (LeavesFirst t o e)
+LeavesParts profile t o = LeavesAfter (IsAsBefore o) (LeavesFirst t o) profile
 
 -- the reader, what takes the parts, or the output has failed
 abbrev pub AnyOf : Bool → Bool → Bool → Type 0

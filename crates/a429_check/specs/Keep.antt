@@ -13,8 +13,8 @@ use Rattle.a429_parts.specs.Keeping.{BeginsWith, Taken, kept_text, kept_text_bef
 use Rattle.a429_check.specs.declared.fault.RunFault.{RunFault}
 use Rattle.a429_check.specs.declared.fault.RunFault.TheVariants as run
 use Rattle.a429_check.specs.Fault.{ComesBy, never}
+use Rattle.a429_check.specs.Leaves.{LeavesAfter, LeavesRead}
 use Rattle.a429_check.specs.Output.{Output}
-use Rattle.a429_check.specs.Profile.{IsProfileOf}
 use Rattle.a429_check.specs.Streaming.{IsFaultToCome, IsStreamingFault}
 
 -- an output has gained the text recording of the entries of a recording that are kept; the recording has no fault, and these are all that were handed out
@@ -46,18 +46,12 @@ GainsUntil o t run.Device c = PutsKeptUntil o.contents o.old o.new t c read.Devi
 GainsUntil o t e c = ⊥
 
 -- the same, or nothing where memory was refused before an entry was read
-abbrev pub GainsBegun : {W : Type 0} → Output W → Taken → RunFault → Codes → Type 0
-GainsBegun o t e c = ((e ≡ run.Memory) × (o.new ≡ o.old)) ⊎ GainsUntil o t e c
-
--- the bytes are the text of a profile, and something holds of its codes
-abbrev pub WithCodes : List ℕ → (Codes → Type 0) → Type 0
-WithCodes profile P = (contents : Contents) × IsProfileOf profile contents × P contents.codes
+abbrev pub GainsBegun : {W : Type 0} → Output W → Taken → RunFault → Contents → Type 0
+GainsBegun o t = LeavesRead (o.new ≡ o.old) (λ e p. GainsUntil o t e p.codes)
 
 -- what `keep` leaves on the output after a fault: what it had, where the profile has the fault, or where memory was refused before an entry was read; else the rows before the fault
 abbrev pub LeavesKept : {W : Type 0} → Output W → List ℕ → Taken → RunFault → Type 0
-LeavesKept o profile t (run.Profile f) = o.new ≡ o.old
-LeavesKept o profile t run.Memory = (o.new ≡ o.old) ⊎ WithCodes profile (GainsUntil o t run.Memory)
-LeavesKept o profile t e = WithCodes profile (GainsUntil o t e)
+LeavesKept o profile t = LeavesAfter (o.new ≡ o.old) (λ e p. GainsUntil o t e p.codes) profile
 
 -- why no more rows are written: the recording has a fault, a device failed, or memory was refused
 abbrev pub EndsBy : Option Recording → Type 0 → RunFault → Type 0

@@ -20,6 +20,7 @@ pub mod Units
 pub mod Picture
 pub mod Streaming
 pub mod Survey
+pub mod Leaves
 pub mod Keep
 pub mod Cut
 pub mod Trace

@@ -12,6 +12,10 @@ use Rattle.a429_check.specs.Fault.{ComesBy, never}
 abbrev pub IsProfileOf : List ℕ → Contents → Type 0
 IsProfileOf bytes contents = IsUtf8 bytes × Answers (parse_document bytes) (Ok contents)
 
+-- they are, and something holds of what the profile says
+abbrev pub WithContents : List ℕ → (Contents → Type 0) → Type 0
+WithContents bytes P = (contents : Contents) × IsProfileOf bytes contents × P contents
+
 -- the bytes are no text, or a text with this fault
 abbrev pub HasFault : List ℕ → ProfileFault → Type 0
 HasFault bytes f = ((¬ IsUtf8 bytes) × (f ≡ NotToml)) ⊎ (IsUtf8 bytes × Answers (parse_document bytes) (Err f))

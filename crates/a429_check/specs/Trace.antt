@@ -25,7 +25,7 @@ use Rattle.a429_check.specs.declared.fault.RunFault.TheVariants as run
 use Rattle.a429_check.specs.Check.{verdict_text}
 use Rattle.a429_check.specs.Fault.{ComesBy, never}
 use Rattle.a429_check.specs.Output.{Output}
-use Rattle.a429_check.specs.Profile.{IsProfileOf}
+use Rattle.a429_check.specs.Profile.{IsProfileOf, WithContents}
 use Rattle.a429_parts.specs.Keeping.{Taken}
 use Rattle.a429_check.specs.Streaming.{AreAllBefore, AreThoseGiven, IsFaultToCome, IsStreamingFault}
 use Rattle.a429_check.specs.Verdict.{file_line}
@@ -100,7 +100,7 @@ pub data LeavesLines {W : Type 0} (o : Output W) (p : Contents) (t : Taken) (e :
 
 -- what it has after any fault: what it had, or such lines by the profile whose text the bytes are
 abbrev pub LeavesTrace : {W : Type 0} → Output W → List ℕ → Taken → RunFault → Type 0
-LeavesTrace o profile t e = (o.new ≡ o.old) ⊎ ((p : Contents) × IsProfileOf profile p × LeavesLines o p t e)
+LeavesTrace o profile t e = (o.new ≡ o.old) ⊎ WithContents profile (λ p. LeavesLines o p t e)
 
 -- why no more lines are put, under a profile that was read: the recording has a fault, its reader or the output failed, or memory was refused
 abbrev pub IsLinesFault : Option Recording → Bool → Bool → RunFault → Type 0

@@ -3,7 +3,8 @@
 ghost use Rattle.std.specs.Prelude.{◌≡◌, [], false, IfOk, IfErr, OnOk};
 ghost use Rattle.a429_word.specs.Tally.{has_failed};
 ghost use Rattle.a429_parts.specs.Keeping.{taken};
-ghost use Rattle.a429_check.specs.Cut.{AnyOf, CutsInto, StopsBy, IsCutFault, LeavesBegun, LeavesFirst, LeavesParts, PutsAllParts, WithContents, outlets, task, troubled};
+ghost use Rattle.a429_check.specs.Profile.{WithContents};
+ghost use Rattle.a429_check.specs.Cut.{AnyOf, CutsInto, StopsBy, IsCutFault, LeavesBegun, LeavesFirst, LeavesParts, PutsAllParts, outlets, task, troubled};
 
 use crate::engines::profile::profile_of;
 use crate::engines::streaming::fault_of;

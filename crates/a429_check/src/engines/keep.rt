@@ -4,7 +4,8 @@ ghost use Rattle.std.specs.Prelude.{◌≡◌, ◌⊎◌, [], true, false, IfOk,
 ghost use Rattle.a429_word.specs.Tally.{has_failed};
 ghost use Rattle.a429_parts.specs.Keeping.{taken};
 ghost use Rattle.a429_check.specs.Output.{output};
-ghost use Rattle.a429_check.specs.Keep.{EndsBy, GainsBegun, GainsUntil, IsKeepFault, LeavesKept, PutsKept, WithCodes};
+ghost use Rattle.a429_check.specs.Profile.{WithContents};
+ghost use Rattle.a429_check.specs.Keep.{EndsBy, GainsBegun, GainsUntil, IsKeepFault, LeavesKept, PutsKept};
 
 use crate::engines::profile::profile_of;
 use crate::engines::streaming::fault_of;
@@ -29,7 +30,7 @@ pub fn run_keep<R: Read, W: Write>(
     out: &mut Tally<W>,
 ) -> Result<u8, RunFault>
     ensures ok { IfOk result (λ status. status ≡ 0) }
-    ensures kept { OnOk result (WithCodes profile.now (PutsKept W.contents out.old out.new (taken rec.old rec.new))) }
+    ensures kept { OnOk result (WithContents profile.now (λ p. PutsKept W.contents out.old out.new (taken rec.old rec.new) p.codes)) }
     ensures err { IfErr result (IsKeepFault profile.now rec.old.to_come rec.new.failed (has_failed out.new)) }
     ensures left { IfErr result (LeavesKept (output W.contents out.old out.new) profile.now (taken rec.old rec.new)) }
     ensures device { OnOk result ((rec.new.failed ≡ false) × (has_failed out.new ≡ false)) }
@@ -50,7 +51,7 @@ fn keep_by<R: Read, W: Write>(
     ensures ok { IfOk result (λ status. status ≡ 0) }
     ensures kept { OnOk result (PutsKept W.contents out.old out.new (taken rec.old rec.new) profile.now.codes) }
     ensures err { IfErr result (EndsBy rec.old.to_come ((rec.new.failed ≡ true) ⊎ (has_failed out.new ≡ true))) }
-    ensures left { IfErr result (λ e. GainsBegun (output W.contents out.old out.new) (taken rec.old rec.new) e profile.now.codes) }
+    ensures left { IfErr result (λ e. GainsBegun (output W.contents out.old out.new) (taken rec.old rec.new) e profile.now) }
     ensures works { OnOk result ((rec.new.failed ≡ false) × (has_failed out.new ≡ false)) }
 {
     let page = Page::new(alloc)?;
