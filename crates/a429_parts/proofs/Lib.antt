@@ -6,3 +6,4 @@ pub mod WatchFacts
 pub mod PlacesFacts
 pub mod CutterFacts
 pub mod PartsFacts
+pub mod WaitingFacts

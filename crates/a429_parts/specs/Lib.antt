@@ -7,4 +7,5 @@ pub mod Near
 pub mod Cutter
 pub mod Parts
 pub mod MemoryParts
+pub mod Waiting
 pub mod Parting

@@ -3,15 +3,20 @@
 ghost use Rattle.std.specs.Prelude.{◌≡◌, true, false, ◌+◌, ◌<◌, ◌≤◌, ◌^◌, ◌∷◌, ◌++◌, [], Some, None, Ok, IfOk, IfErr, IfSome, IsErr, IsErrOf, OnErr, OnOk, List, length, take, drop};
 ghost use Rattle.a429_profile.specs.Profile.{Contents};
 ghost use Rattle.a429_record.specs.declared.entry.Entry.{Entry};
+ghost use Rattle.a429_record.specs.Writing.{line_text};
 ghost use Rattle.a429_link.specs.Observer.{at_first};
 ghost use Rattle.a429_parts.specs.Cutter.{AwaitsPlace, Cuts, CutsAlways, HasNoNextPart, HasNoNextPartAtEnd, HasNoPart, IsCurrent, IsFoundInTime, IsInReach, IsNextPart, IsNextPartAtEnd, IsPart, IsPastDoubt};
 
+use crate::waiting::{Rows, Waiting};
 use crate::watch::Watch;
 use a429_cert::seen;
 use a429_profile::Profile;
-use a429_record::Entry;
+use a429_record::{Entry, EntryLine};
 use std::alloc::Global;
 use std::marker::Model;
+
+// How many bytes more than entries the lines of those that wait may have, for each entry that a part may have.
+const SPARE_BYTES: usize = 8;
 
 /// Why a recording has no more parts.
 #[derive(Clone, Copy, Debug, PartialEq, Eq)]
@@ -34,7 +39,7 @@ pub struct Cutter {
     begin: usize,
     // The last place, after so many entries.
     place: usize,
-    waiting: Vec<Entry>,
+    waiting: Waiting,
 }
 
 impl Model for Cutter {
@@ -42,7 +47,7 @@ impl Model for Cutter {
 
     ghost Value = { CutterState };
 
-    ghost view = { λ c. record { most = c.most; watched = c.watch; begin = c.begin; place = c.place; waiting = c.waiting.items } };
+    ghost view = { λ c. record { most = c.most; watched = c.watch; begin = c.begin; place = c.place; waiting = c.waiting } };
 }
 
 impl Cutter {
@@ -55,7 +60,7 @@ impl Cutter {
             watch: Watch::new(alloc),
             begin: 0,
             place: 0,
-            waiting: Vec::new(alloc),
+            waiting: Waiting::new(alloc, most.saturating_mul(SPARE_BYTES)),
         }
     }
 
@@ -66,16 +71,30 @@ impl Cutter {
         self.begin
     }
 
-    /// The entries that are in no part yet.
-    pub fn waiting(&self) -> &[Entry]
-        ensures { result.now ≡ self.now.waiting }
+    /// The first of the entries that are in no part yet, so many.
+    pub fn waiting(&self, size: usize) -> Rows<'_>
+        requires { size ≤ length self.now.waiting }
+        ensures { result ≡ take size self.now.waiting }
     {
-        self.waiting.as_slice()
+        self.waiting.first(size)
     }
 
-    /// Takes the next entry. It takes as many as a `usize` counts. After a fault nothing has changed.
+    /// How many entries are in no part yet.
+    pub fn count_waiting(&self) -> usize
+        ensures { result ≡ length self.now.waiting }
+    {
+        self.waiting.len()
+    }
+
+    /// Takes the next entry, whose line this is. It takes as many as a `usize` counts. After a fault nothing has changed.
     #[inline(always)]
-    pub fn take(&mut self, profile: &Profile, entry: &Entry) -> Result<(), PartFault>
+    pub fn take(
+        &mut self,
+        profile: &Profile,
+        entry: &Entry,
+        line: &EntryLine,
+    ) -> Result<(), PartFault>
+        requires line { line.now ≡ line_text entry.now }
         ensures most { (self.new.most ≡ self.old.most) × OnOk result (self.new.watched.count ≡ self.old.watched.count + 1) }
         ensures waits { OnOk result (self.new.waiting ≡ self.old.waiting ++ entry.now ∷ []) }
         ensures cuts { OnOk result ((parted : List Entry) (rest : List Entry) → Cuts profile.now parted (entry.now ∷ rest) self.old → Cuts profile.now parted rest self.new) }
@@ -87,7 +106,7 @@ impl Cutter {
         if self.watch.count() == usize::MAX {
             return Err(PartFault::TooMany);
         }
-        if self.waiting.push(*entry).is_err() {
+        if self.waiting.push(*entry, line).is_err() {
             return Err(PartFault::OutOfMemory);
         }
         let word = seen(*entry);
@@ -171,16 +190,6 @@ impl Cutter {
         ensures begin { self.new.begin ≡ self.new.place }
     {
         self.begin = self.place;
-        drop_first(&mut self.waiting, size);
+        self.waiting.drop_first(size);
     }
-}
-
-// Drops the first entries. Only those after them are moved: `drain` moves them all.
-fn drop_first(entries: &mut Vec<Entry>, size: usize)
-    requires { size ≤ length entries.old.items }
-    ensures { entries.new.items ≡ drop size entries.old.items }
-{
-    let left = entries.len() - size;
-    entries.copy_within(size.., 0);
-    entries.truncate(left);
 }

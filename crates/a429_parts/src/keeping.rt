@@ -4,11 +4,12 @@ ghost use Rattle.std.specs.Prelude.{◌≡◌, ◌+◌, ◌<◌, ◌^◌, true, 
 ghost use Rattle.a429_word.specs.Sheet.{Says, sheet_failed};
 ghost use Rattle.a429_record.specs.Rows.{GivesNext, IfEntry, entries_in};
 ghost use Rattle.a429_record.specs.declared.fault.ReadFault.TheVariants as read;
+ghost use Rattle.a429_record.specs.Writing.{IsLineOf};
 ghost use Rattle.a429_parts.specs.Keeping.{kept_line, taken, KeepsAll, KeepsUntil};
 
 use crate::kept::is_kept;
 use a429_profile::Profile;
-use a429_record::{Entry, EntryReader, EntryText, ReadFault, put_header};
+use a429_record::{Entry, EntryLine, EntryReader, EntryText, ReadFault, put_header};
 use a429_word::{Failing, Sheet};
 use std::io::{Read, Write};
 
@@ -26,7 +27,8 @@ pub fn put_kept<R: Read, W: Write>(
     ensures device { IsErrOf result read.Device → rec.new.failed ≡ true }
     ensures works { OnOk result (sheet_failed sheet.new ≡ false → rec.new.failed ≡ false) }
 {
-    let mut next = next_of(rec)?;
+    let mut line = EntryLine::new();
+    let mut next = next_of(rec, &mut line)?;
     put_header(sheet);
     let mut text = EntryText::new();
     'entries: loop {
@@ -36,38 +38,49 @@ pub fn put_kept<R: Read, W: Write>(
         if sheet.failed() {
             return Ok(());
         }
-        put_if_kept(profile, entry, &mut text, sheet);
-        next = next_of(rec)?;
+        put_if_kept(profile, entry, &line, &mut text, sheet);
+        next = next_of(rec, &mut line)?;
     }
 }
 
-/// The next entry, or none at the recording's end.
+/// The next entry, or none at the recording's end. Its line is given too, where it is known.
 #[inline(always)]
-pub(crate) fn next_of<R: Read>(rec: &mut EntryReader<R>) -> Result<Option<Entry>, ReadFault>
+pub(crate) fn next_of<R: Read>(
+    rec: &mut EntryReader<R>,
+    line: &mut EntryLine,
+) -> Result<Option<Entry>, ReadFault>
     ensures gives { GivesNext rec.old.to_come rec.new.to_come result }
     ensures counts { rec.new.count ≡ rec.old.count + entries_in result }
     ensures few { IfEntry result (λ _. rec.new.count < 2 ^ 64) }
     ensures room { IfEntry result (λ _. rec.new.room < rec.old.room) }
     ensures works { IfOk result (λ o. o ≡ None → rec.new.failed ≡ false) }
     ensures device { IsErrOf result read.Device → rec.new.failed ≡ true }
+    ensures line { IfEntry result (λ e. IsLineOf line.new e) }
 {
-    match rec.next() {
+    match rec.next_line(line) {
         Ok(None) if rec.failed() => Err(ReadFault::Device),
         next => next,
     }
 }
 
-// Puts the line of an entry that is kept.
+// Puts the line of an entry that is kept: this one, where it is known.
 #[inline(always)]
 fn put_if_kept<W: Write>(
     profile: &Profile,
     entry: Entry,
+    line: &EntryLine,
     text: &mut EntryText,
     sheet: &mut Sheet<'_, W>,
 )
+    requires { IsLineOf line.now entry }
     ensures { Says W.contents sheet.old sheet.new (kept_line profile.now.codes entry) }
 {
-    if is_kept(profile, &entry) {
+    if !is_kept(profile, &entry) {
+        return;
+    }
+    if line.is_empty() {
         text.put_line(sheet, entry);
+    } else {
+        line.put(sheet);
     }
 }

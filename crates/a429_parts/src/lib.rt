@@ -9,6 +9,7 @@ mod kept;
 pub mod laws;
 mod parting;
 mod parts;
+mod waiting;
 mod watch;
 
 pub use crate::cutting::{Cutter, PartFault};
@@ -16,3 +17,4 @@ pub use crate::keeping::put_kept;
 pub use crate::kept::is_kept;
 pub use crate::parting::put_parts;
 pub use crate::parts::{MemoryParts, Part, Parts};
+pub use crate::waiting::Rows;

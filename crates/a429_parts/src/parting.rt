@@ -8,6 +8,7 @@ ghost use Rattle.a429_profile.specs.Profile.{Contents};
 ghost use Rattle.a429_record.specs.declared.entry.Entry.{Entry};
 ghost use Rattle.a429_record.specs.declared.fault.ReadFault.{ReadFault};
 ghost use Rattle.a429_record.specs.declared.fault.ReadFault.TheVariants as read;
+ghost use Rattle.a429_record.specs.Writing.{line_text};
 ghost use Rattle.a429_parts.specs.declared.cutting.PartFault.TheVariants as part;
 ghost use Rattle.a429_parts.specs.Cutter.{IsCurrent, IsInReach, IsPart};
 ghost use Rattle.a429_parts.specs.Keeping.{taken};
@@ -18,7 +19,7 @@ use crate::cutting::{Cutter, PartFault};
 use crate::keeping::next_of;
 use crate::parts::Parts;
 use a429_profile::Profile;
-use a429_record::{Entry, EntryReader, ReadFault};
+use a429_record::{Entry, EntryLine, EntryReader, ReadFault};
 use a429_word::{Failing, Sheet, Trouble};
 use itoa::Buffer;
 use std::alloc::{AllocError, Global};
@@ -53,15 +54,17 @@ pub fn put_parts<R: Read, P: Parts, W: Write>(
     ensures works { OnOk result ((rec.new.failed ≡ false) × (P.failed parts.new ≡ false)) }
 {
     let mut parting = Parting::new(alloc, most);
+    let mut line = EntryLine::new();
     'entries: loop {
-        let next = match next_of(rec) {
+        let next = match next_of(rec, &mut line) {
             Ok(next) => next,
             Err(fault) => return Err(fault),
         };
         let Some(entry) = next else {
             return parting.finish(parts, sheet);
         };
-        match parting.add(profile, &entry, parts, sheet) {
+        line.complete(entry);
+        match parting.add(profile, &entry, &line, parts, sheet) {
             Ok(()) => {}
             Err(fault) => return Err(fault),
         }
@@ -81,16 +84,18 @@ impl Parting {
         }
     }
 
-    // Takes the next entry, and puts the parts that are complete then.
+    // Takes the next entry, whose line this is, and puts the parts that are complete then.
     #[inline(always)]
     fn add<P: Parts, W: Write>(
         &mut self,
         profile: &Profile,
         entry: &Entry,
+        line: &EntryLine,
         parts: &mut P,
         sheet: &mut Sheet<'_, W>,
     ) -> Result<(), ReadFault>
         requires room { self.old.cutter.watched.count + 1 < 2 ^ 64 }
+        requires line { line.now ≡ line_text entry.now }
         ensures ok { OnOk result ((most : ℕ) (known : Option PutParts) (first : Sheet W) (es : List Entry)
             → Progress profile.now most false (outputs W.contents known (P.known parts.old) first sheet.old) es self.old → IsCurrent self.old.cutter
             → Progress profile.now most false (outputs W.contents known (P.known parts.new) first sheet.new) (es ++ entry.now ∷ []) self.new × IsCurrent self.new.cutter) }
@@ -99,7 +104,7 @@ impl Parting {
             → Stopped profile.now most false (outputs W.contents known (P.known parts.new) first sheet.new) (es ++ entry.now ∷ []) fault) }
         ensures device { IsErrOf result read.Device → (P.failed parts.new ≡ true) ⊎ (sheet_failed sheet.new ≡ true) }
     {
-        match self.take(profile, entry) {
+        match self.take(profile, entry, line) {
             Ok(()) => {}
             Err(fault) => return Err(fault),
         }
@@ -113,15 +118,16 @@ impl Parting {
         Ok(())
     }
 
-    // Takes the next entry.
+    // Takes the next entry, whose line this is.
     #[inline(always)]
-    fn take(&mut self, profile: &Profile, entry: &Entry) -> Result<(), ReadFault>
+    fn take(&mut self, profile: &Profile, entry: &Entry, line: &EntryLine) -> Result<(), ReadFault>
         requires room { self.old.cutter.watched.count + 1 < 2 ^ 64 }
+        requires line { line.now ≡ line_text entry.now }
         ensures ok { OnOk result ((most : ℕ) (parts : List (List Entry)) (es : List Entry) → Holds profile.now most false parts es self.old → IsCurrent self.old.cutter → Holds profile.now most false parts (es ++ entry.now ∷ []) self.new) }
         ensures waits { OnOk result (length self.new.cutter.waiting ≡ length self.old.cutter.waiting + 1) }
         ensures err { IfErr result (λ fault. fault ≡ read.OutOfMemory) }
     {
-        match self.cutter.take(profile, entry) {
+        match self.cutter.take(profile, entry, line) {
             Ok(()) => Ok(()),
             Err(fault) => Err(fault_of(fault)),
         }
@@ -224,7 +230,7 @@ impl Parting {
         if put_line(&mut self.list, self.next, size, self.cutter.begin()).is_err() {
             return Err(Trouble::OutOfMemory);
         }
-        match parts.put(self.next, &self.cutter.waiting()[..size]) {
+        match parts.put(self.next, &self.cutter.waiting(size)) {
             Ok(()) => {
                 sheet.put(&self.list[start..]);
                 Ok(())
@@ -253,7 +259,7 @@ impl Parting {
             Ok(()) => {}
             Err(fault) => return Err(fault),
         }
-        let size = parting.cutter.waiting().len();
+        let size = parting.cutter.count_waiting();
         match parting.put(size, parts, sheet) {
             Ok(()) => Ok(parting.list),
             Err(trouble) => Err(fault_by(trouble)),

@@ -4,7 +4,7 @@ ghost use Rattle.std.specs.Prelude.{◌≡◌, [], List, Option, Some, None, IfS
 ghost use Rattle.a429_parts.specs.MemoryParts.{part_in};
 ghost use Rattle.a429_parts.specs.Parts.{GainsList, GainsPart, IsSame, PutParts};
 
-use a429_record::Entry;
+use crate::waiting::{Rows, Waiting};
 use a429_word::{Failing, Trouble};
 use std::alloc::Global;
 use std::marker::Model;
@@ -15,8 +15,8 @@ pub trait Parts: Failing {
     ghost known: { Self → Option PutParts };
 
     /// Puts a part: its number, from 1, and its entries. A part that is refused is not there.
-    fn put(&mut self, number: usize, entries: &[Entry]) -> Result<(), Trouble>
-        ensures ok { OnOk result (GainsPart (known self.old) (known self.new) number entries.now) }
+    fn put(&mut self, number: usize, rows: &Rows<'_>) -> Result<(), Trouble>
+        ensures ok { OnOk result (GainsPart (known self.old) (known self.new) number rows.now) }
         ensures err { OnErr result (IsSame (known self.old) (known self.new)) }
         ensures device { IsErrOf result Trouble.Device → Self.failed self.new ≡ true }
         ensures works { OnOk result (Self.failed self.new ≡ false) };
@@ -34,7 +34,16 @@ pub trait Parts: Failing {
 pub struct Part {
     /// Its number, from 1.
     pub number: usize,
-    pub entries: Vec<Entry>,
+    rows: Waiting,
+}
+
+impl Part {
+    /// Its entries, lent.
+    pub fn rows(&self) -> Rows<'_>
+        ensures { result ≡ (part_in self.now).entries }
+    {
+        self.rows.first(self.rows.len())
+    }
 }
 
 /// Keeps parts in memory, and makes them known.
@@ -97,16 +106,11 @@ impl Failing for MemoryParts {
 impl Parts for MemoryParts {
     ghost known = { λ s. Some s };
 
-    fn put(&mut self, number: usize, entries: &[Entry]) -> Result<(), Trouble> {
-        let mut kept = Vec::new(self.alloc);
-        if kept.extend_from_slice(entries).is_err() {
+    fn put(&mut self, number: usize, rows: &Rows<'_>) -> Result<(), Trouble> {
+        let Ok(rows) = Waiting::copy_of(self.alloc, rows) else {
             return Err(Trouble::OutOfMemory);
-        }
-        let part = Part {
-            number,
-            entries: kept,
         };
-        if self.parts.push(part).is_err() {
+        if self.parts.push(Part { number, rows }).is_err() {
             return Err(Trouble::OutOfMemory);
         }
         Ok(())

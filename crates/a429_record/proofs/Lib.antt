@@ -4,6 +4,7 @@ pub mod LineRecords
 pub mod LinePlain
 pub mod MarkFacts
 pub mod PlainFacts
+pub mod WrittenRow
 pub mod LinesFacts
 pub mod BinaryFacts
 pub mod FormatFacts
@@ -14,6 +15,7 @@ pub mod WholeRecordings
 pub mod LargerLimits
 pub mod FaultyRecordings
 pub mod Handed
+pub mod WrittenEntry
 pub mod HandedFormats
 pub mod PiecesFacts
 pub mod WrittenIsReadBack

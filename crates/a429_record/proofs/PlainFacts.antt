@@ -3,13 +3,12 @@ use Rattle.std.proofs.Common.{◌≡◌, ◌∙◌, ℕ, zero, suc, ◌+◌, ◌
 use Rattle.std.proofs.lemmas.List.{append-nil, length-take-le, take_all, take-append-drop}
 use Rattle.std.specs.Str.Parse.{digits_value, AllDigits}
 use Rattle.a429_word.specs.declared.bus.Bus.{Bus}
-use Rattle.a429_word.specs.Digits.{ReadsHex}
 use Rattle.a429_record.specs.declared.entry.Entry.{Entry}
 use Rattle.a429_record.specs.Ends.{HasNoEnd}
 use Rattle.a429_record.specs.Row.{time_in, bus_in, word_in}
 use Rattle.a429_record.specs.Line.{line_entries}
-use Rattle.a429_record.specs.Plain.{IsPlainRow, IsLineEnd}
-use Rattle.a429_record.proofs.RowDigits.{time_in-is, word_in-reads}
+use Rattle.a429_record.specs.Plain.{IsFront, IsPlainRow, IsLineEnd}
+use Rattle.a429_record.proofs.RowDigits.{time_in-is}
 use Rattle.a429_record.proofs.LinePlain.{AllHigh, high, digits_high, whole, time_plain, bus_plain, word_plain, plain_line}
 use Rattle.a429_record.proofs.LinesFacts.{HasNoEnd-append}
 
@@ -34,23 +33,22 @@ following (x ∷ []) long a b = absurd (omega arith)
 following (x ∷ y ∷ []) long a b = absurd (omega arith)
 
 -- the fields of a row, where each of them is one
-pub is_row : (bytes : List ℕ) (n : ℕ) (time : ℕ) (bus : Bus) (word : ℕ) → 1 ≤ n → n ≤ 19 → n + 11 ≤ length bytes
+pub is_front : (bytes : List ℕ) (n : ℕ) (time : ℕ) (bus : Bus) → 1 ≤ n → n ≤ 19 → n + 11 ≤ length bytes
     → AllDigits 10 (take n bytes) → time ≡ digits_value 10 (take n bytes) → time < 2 ^ 64
     → get_or (drop n bytes) 0 0 ≡ 44 → get_or (drop n bytes) 2 0 ≡ 44
-    → Some bus ≡ bus_in (take 1 (drop 1 (drop n bytes))) → ReadsHex (take 8 (drop 3 (drop n bytes))) (Some word)
-    → IsPlainRow (take (n + 11) bytes) (record { time = time; bus = bus; word = word })
-is_row bytes n time bus word least most inside digits number small first second letter hex =
+    → Some bus ≡ bus_in (take 1 (drop 1 (drop n bytes)))
+    → IsFront (take (n + 11) bytes) time bus (take 8 (drop 3 (drop n bytes)))
+is_front bytes n time bus least most inside digits number small first second letter =
     let rest = drop n bytes in
     let long : 11 ≤ length rest = simp length-drop (omega arith) in
     let size = length-take-le n bytes (omega arith) in
-    let t = time_in-is (take n bytes) time (omega (arith, size)) (omega (arith, size)) digits number small in
-    let w = word_in-reads (take 8 (drop 3 rest)) (Some word) hex in
     record {
-      time = take n bytes;
-      bus = take 1 (drop 1 rest);
-      word = take 8 (drop 3 rest);
+      digits = take n bytes;
+      letter = take 1 (drop 1 rest);
       layout = take-add n 11 bytes ∙ ap (λ (r : List ℕ). take n bytes ++ r) (following rest long first second);
-      says = rw (← t, ← letter, ← w) refl;
+      timed = sym (time_in-is (take n bytes) time (omega (arith, size)) (omega (arith, size)) digits number small);
+      heard = sym letter;
+      eight = length-take-le 8 (drop 3 rest) (omega (arith, length-drop 3 rest, long));
     }
 
 -- ---- lines of a plain row

@@ -51,7 +51,7 @@ length-hex_text : (w : ℕ) → length (hex_text w) ≡ 8
 unfolding numeral
 length-hex_text w = omega arith
 
-word-back : (w : ℕ) → w < 2 ^ 32 → word_in (hex_text w) ≡ Some w
+pub word-back : (w : ℕ) → w < 2 ^ 32 → word_in (hex_text w) ≡ Some w
 word-back w h =
     let reads : ReadsHex (hex_text w) (Some (digits_value 16 (hex_text w))) = ((length-hex_text w, AllDigits-numeral 8 w), refl) in
     let value : Some (digits_value 16 (hex_text w)) ≡ Some w = hex_text-read w (Some (digits_value 16 (hex_text w))) h reads in
@@ -63,26 +63,26 @@ entry-back e ht hw = rw (time-back e.time ht, bus-back e.bus, word-back e.word h
 -- ---- lines
 
 -- the line of an entry, without its line feed
-abbrev body : Entry → List ℕ
+abbrev pub body : Entry → List ℕ
 body e = decimal e.time ++ (44 ∷ (bus_text e.bus ++ (44 ∷ (hex_text e.word ++ []))))
 
 no_end : (xs : List ℕ) → AllHigh xs → HasNoEnd xs
 no_end [] h = tt
 no_end (b ∷ bs) h = ((high b h.0).3, no_end bs h.1)
 
-body-end : (e : Entry) → e.time < 2 ^ 64 → HasNoEnd (body e)
+pub body-end : (e : Entry) → e.time < 2 ^ 64 → HasNoEnd (body e)
 body-end e h =
     let word : HasNoEnd (hex_text e.word ++ []) = rw append-nil (no_end (hex_text e.word) (AllHigh-numeral 8 e.word)) in
     HasNoEnd-append (decimal e.time) (44 ∷ (bus_text e.bus ++ (44 ∷ (hex_text e.word ++ [])))) (no_end (decimal e.time) (AllHigh-decimal e.time h))
     (refl, HasNoEnd-append (bus_text e.bus) (44 ∷ (hex_text e.word ++ [])) (no_end (bus_text e.bus) (AllHigh-bus e.bus)) (refl, word))
 
-line-is : (e : Entry) (rest : List ℕ) → line_text e ++ rest ≡ body e ++ (10 ∷ rest)
+pub line-is : (e : Entry) (rest : List ℕ) → line_text e ++ rest ≡ body e ++ (10 ∷ rest)
 line-is e rest = simp (append_assoc, append-nil)
 
 rows-line : (e : Entry) (rest : List ℕ) → e.time < 2 ^ 64 → rows_of (line_text e ++ rest) ≡ line_rows (body e) ++ rows_of rest
 rows-line e rest h = ap (flat_map line_rows) (ap recording_lines (line-is e rest) ∙ lines_of-ended (body e) rest (body-end e h))
 
-rows-back : (es : List Entry) → AreEntries es → map entry_in (rows_of (flat_map line_text es)) ≡ map Some es
+pub rows-back : (es : List Entry) → AreEntries es → map entry_in (rows_of (flat_map line_text es)) ≡ map Some es
 rows-back [] h = refl
 rows-back (e ∷ es) h =
     let here : line_entries (body e) ≡ Some e ∷ [] = plain_line (decimal e.time) (bus_text e.bus) (hex_text e.word) [] e (entry-back e h.0 h.1) (inl refl) in

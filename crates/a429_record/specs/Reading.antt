@@ -1,8 +1,7 @@
 -- What a reading will still return, by its stage (profile).
-use Rattle.std.specs.Prelude.{ℕ, List, [], ◌∷◌, ◌≡◌, Option, Some, IfSome, Result}
+use Rattle.std.specs.Prelude.{ℕ, List, [], ◌∷◌, ◌≡◌, Option, Some, IfSome}
 use Rattle.a429_word.specs.declared.tally.Tally.{Tally}
 use Rattle.a429_record.specs.declared.entry.Entry.{Entry}
-use Rattle.a429_record.specs.declared.fault.ReadFault.{ReadFault}
 use Rattle.a429_record.specs.declared.fault.ReadFault.TheVariants as fault
 use Rattle.a429_record.specs.declared.reading.Reading.{Reading}
 use Rattle.a429_record.specs.declared.format.Format.{Format}
@@ -14,7 +13,7 @@ use Rattle.a429_record.specs.Recording.{Recording, whole, stops}
 use Rattle.a429_record.specs.WholeRecordings.{AreBinary}
 use Rattle.a429_record.specs.Handed.{HasNoFaultWithin, HasNoRow, IsCut, AreLines, AreGiven, AreEntryOf, ArePieceOf}
 use Rattle.a429_record.specs.Lines.{Pending, pending_of, HandsOut, FailsAfter}
-use Rattle.a429_record.specs.Rows.{all_left, recording_left, chosen_form, GivesNext}
+use Rattle.a429_record.specs.Rows.{all_left, recording_left, chosen_form}
 
 -- what is still to come, where the bytes are known: entries, and the fault that comes after them, if one does
 abbrev pub still_to_come : {R : Type 0} → (R → Option (List ℕ)) → Stage → RowReader → Tally R → Option Recording

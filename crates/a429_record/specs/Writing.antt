@@ -1,5 +1,5 @@
 -- How a recording is written (profile).
-use Rattle.std.specs.Prelude.{ℕ, List, [], ◌++◌, ◌∷◌, flat_map, codes}
+use Rattle.std.specs.Prelude.{ℕ, List, [], ◌++◌, ◌∷◌, ◌≡◌, ◌⊎◌, flat_map, codes}
 use Rattle.std.specs.Fmt.{decimal}
 use Rattle.a429_word.specs.Digits.{hex_text}
 use Rattle.a429_word.specs.Bus.{bus_text}
@@ -25,6 +25,14 @@ entry_text between following e = decimal e.time ++ between ∷ [] ++ bus_text e.
 abbrev pub line_text : Entry → List ℕ
 line_text e = decimal e.time ++ codes "," ++ bus_text e.bus ++ codes "," ++ hex_text e.word ++ codes "\n"
 
+-- a line is an entry's, or there is none
+abbrev pub IsLineOf : List ℕ → Entry → Type 0
+IsLineOf line e = (line ≡ []) ⊎ (line ≡ line_text e)
+
 -- the header's line, and then a line for each entry
 abbrev pub written_form : List Entry → List ℕ
 written_form entries = header_text ++ flat_map line_text entries
+
+-- the header's line, a line for each of the entries before some lines, these, and a line for each of those after them
+abbrev pub lined_form : List Entry → List ℕ → List Entry → List ℕ
+lined_form before lines after = header_text ++ (flat_map line_text before ++ (lines ++ flat_map line_text after))

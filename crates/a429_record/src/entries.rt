@@ -4,6 +4,7 @@ ghost use Rattle.std.specs.Prelude.{◌≡◌, ◌↔◌, ◌+◌, ◌<◌, Bool
 ghost use Rattle.a429_word.specs.Tally.{has_failed, left_of, unread};
 
 use crate::entry::{Entry, MOST_ENTRIES};
+use crate::entry_line::EntryLine;
 use crate::fault::ReadFault;
 use crate::reading::Reading;
 use a429_word::{Failing, Tally};
@@ -46,6 +47,7 @@ impl<R: Read> EntryReader<R> {
     ghost use Rattle.a429_record.specs.Stage.{may_go_on, stage_after, AnswersAt};
     ghost use Rattle.a429_record.specs.Rows.{GivesNext, IfEntry, entries_in};
     ghost use Rattle.a429_record.specs.Entries.{ComesNext, PassesFrom};
+    ghost use Rattle.a429_record.specs.Writing.{IsLineOf};
     ghost use Rattle.a429_record.specs.declared.fault.ReadFault.TheVariants as fault;
     ghost use Rattle.a429_record.specs.declared.stage.Stage.TheVariants as at;
 
@@ -96,6 +98,30 @@ impl<R: Read> EntryReader<R> {
         ensures device { IsErrOf result fault.Device ↔ (may_go_on self.old.stage ≡ true) × (self.new.failed ≡ true) }
         ensures stays { may_go_on self.old.stage ≡ false → self.new ≡ self.old }
     {
+        self.reading.next(&mut self.rec)
+    }
+
+    /// The next entry, as `next` answers it, and its line, where its row was read whole and is as it is written; else the line
+    /// is empty. So a row may be written again without the digits being made anew.
+    #[inline(always)]
+    pub fn next_line(&mut self, line: &mut EntryLine) -> Result<Option<Entry>, ReadFault>
+        ensures gives { GivesNext self.old.to_come self.new.to_come result }
+        ensures answers { AnswersAt self.old.stage result }
+        ensures stage { self.new.stage ≡ stage_after result }
+        ensures follows { IfEntry result (λ e. ComesNext self.old self.new e) }
+        ensures counts { self.new.count ≡ self.old.count + entries_in result }
+        ensures format { IfEntry result (λ _. IsFormatAfter self.old.stage self.old.format self.old.bytes self.new.format) }
+        ensures lines { IfEntry result (λ e. Loses (AreHandedAt self.old.stage self.new.format e) self.old.bytes self.new.bytes) }
+        ensures before { IsErrOf result fault.Device → Loses (OfTaken (PassesFrom self.old)) self.old.bytes self.new.unread }
+        ensures room { IfEntry result (λ _. self.new.room < self.old.room) }
+        ensures device { IsErrOf result fault.Device ↔ (may_go_on self.old.stage ≡ true) × (self.new.failed ≡ true) }
+        ensures stays { may_go_on self.old.stage ≡ false → self.new ≡ self.old }
+        ensures line { IfEntry result (λ e. IsLineOf line.new e) }
+    {
+        if let Some(entry) = self.reading.written_entry(line) {
+            return Ok(Some(entry));
+        }
+        line.clear();
         self.reading.next(&mut self.rec)
     }
 }

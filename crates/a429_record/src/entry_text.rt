@@ -7,19 +7,20 @@ ghost use Rattle.a429_word.specs.Bus.{bus_text};
 ghost use Rattle.a429_record.specs.Writing.{line_text, entry_text};
 
 use crate::entry::Entry;
+use crate::entry_line::EntryLine;
 use a429_word::{Bus, Sheet, Word};
 use itoa::write_digits;
 use std::io::Write;
 use std::marker::Model;
 
-// How many digits the longest time has.
-const LONGEST_TIME: usize = 20;
+/// How many digits the longest time has.
+pub const LONGEST_TIME: usize = 20;
 
 // How many of them all but the last four are.
 const UPPER: usize = LONGEST_TIME - 4;
 
-// How many bytes the longest entry has, with one byte after it.
-const LONGEST: usize = LONGEST_TIME + 12;
+/// How many bytes the longest entry has, with one byte after it.
+pub const LONGEST: usize = LONGEST_TIME + 12;
 
 // Each number below 100 as two digits.
 const DECIMAL_PAIRS: [u8; 200] =
@@ -136,12 +137,7 @@ impl EntryText {
 fn put_whole<W: Write>(sheet: &mut Sheet<'_, W>, entry: Entry, between: u8, after: u8)
     ensures { Says W.contents sheet.old sheet.new (entry_text between after entry) }
 {
-    // (room for 32 bytes from the first digit on)
-    let mut text = [0; LONGEST_TIME + 32];
-    let fields = bus_and_word(entry.bus, entry.word, between, after);
-    text[LONGEST_TIME..LONGEST].copy_from_slice(&fields);
-    let start = write_digits(entry.time, &mut text, LONGEST_TIME);
-    sheet.put_first(&text[start..start + 32], LONGEST - start);
+    EntryLine::of(entry, between, after).put(sheet);
 }
 
 // A number below 10,000 in four digits.
@@ -164,9 +160,9 @@ fn two_digits(number: u32) -> [u8; 2]
     [DECIMAL_PAIRS[from], DECIMAL_PAIRS[from + 1]]
 }
 
-// A bus and a word, one byte before each and one after them.
+/// A bus and a word, one byte before each and one after them.
 #[inline(always)]
-fn bus_and_word(bus: Bus, word: Word, before: u8, following: u8) -> [u8; 12]
+pub fn bus_and_word(bus: Bus, word: Word, before: u8, following: u8) -> [u8; 12]
     ensures { result ≡ before ∷ (bus_text bus ++ (before ∷ (hex_text word ++ following ∷ []))) }
 {
     let letter = bus.letter().as_bytes()[0];

@@ -4,6 +4,7 @@
 mod binary;
 mod entries;
 mod entry;
+mod entry_line;
 mod entry_text;
 mod fault;
 mod format;
@@ -23,9 +24,10 @@ mod writing;
 
 pub use crate::entries::EntryReader;
 pub use crate::entry::{Entry, MOST_ENTRIES};
+pub use crate::entry_line::EntryLine;
 pub use crate::entry_text::EntryText;
 pub use crate::fault::ReadFault;
 pub use crate::packing::write_binary;
 pub use crate::recording::read_entries;
 pub use crate::screening::{SCREENED, screen_entries};
-pub use crate::writing::{WriteFault, put_header, write_entries, write_text};
+pub use crate::writing::{WriteFault, put_header, write_entries, write_lines, write_text};

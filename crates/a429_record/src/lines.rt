@@ -13,6 +13,11 @@ use memchr::memchr;
 use std::alloc::AllocError;
 use std::io::Read;
 
+// How many bytes `front` gives, and where the last of them begin that the buffer has.
+const FRONT: usize = 32;
+
+const LAST_FRONT: usize = 16384 - FRONT;
+
 /// A buffer of a reader's bytes: those from `at` to `filled` were read and not yet used.
 #[derive(Drop)]
 pub struct Lines {
@@ -186,6 +191,18 @@ impl Lines {
         ensures { result.now ≡ ahead_of self.now }
     {
         &self.buffer[self.at..self.filled]
+    }
+
+    /// 32 bytes of the buffer, which begin with those that were read and not yet used; none near the end of the buffer.
+    #[inline(always)]
+    pub fn front(&self) -> Option<&[u8]>
+        ensures size { IfSome result (λ bytes. length bytes.now ≡ 32) }
+        ensures begins { IfSome result (λ bytes. (n : ℕ) → n ≤ 32 → n ≤ length (ahead_of self.now) → take n bytes.now ≡ take n (ahead_of self.now)) }
+    {
+        if self.at > LAST_FRONT {
+            return None;
+        }
+        Some(&self.buffer[self.at..self.at + FRONT])
     }
 
     /// Passes this many of the bytes that were read.

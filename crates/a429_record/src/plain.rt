@@ -1,19 +1,23 @@
 //! Plain rows: three fields with nothing around them, as nearly all rows are.
 
-ghost use Rattle.std.specs.Prelude.{◌≡◌, ◌<◌, ◌≤◌, ◌*◌, ◌+◌, ◌∷◌, [], ◌↔◌, IsTrue, IfSome, length, take};
+ghost use Rattle.std.specs.Prelude.{◌≡◌, ◌≢◌, ◌<◌, ◌≤◌, ◌*◌, ◌+◌, ◌∷◌, [], ◌↔◌, IsTrue, IfSome, length, slice_index, take};
 ghost use Rattle.std.specs.Char.{digit_value};
 ghost use Rattle.std.specs.Str.Parse.{digits_value, AllDigits};
-ghost use Rattle.a429_record.specs.Plain.{IsPlainRow};
+ghost use Rattle.a429_record.specs.Plain.{IsFront, IsPlainRow};
+ghost use Rattle.a429_record.specs.Writing.{line_text};
 
 use crate::entry::Entry;
 use crate::row::bus_of;
-use a429_word::Word;
+use a429_word::{Bus, Word};
 
 // So many digits fit 64 bits, whatever they are.
 const SURE_DIGITS: usize = 19;
 
 // How many bytes come after the time: a bus and a word, each after a comma.
 const AFTER_TIME: usize = 11;
+
+// How many bytes the shortest row has: a time of one digit, and what comes after it.
+const SHORTEST: usize = 1 + AFTER_TIME;
 
 /// The row that bytes begin with.
 #[derive(Clone, Copy, Drop)]
@@ -36,19 +40,77 @@ struct Leading {
 pub fn plain_row(bytes: &[u8]) -> Option<PlainRow>
     ensures { IfSome result (λ r. (r.len ≤ length bytes.now) × IsPlainRow (take r.len bytes.now) r.entry) }
 {
+    let fields = fields_of(bytes)?;
+    let word = Word::parse_hex(fields.word)?;
+    Some(fields.row(word))
+}
+
+/// The same, where the row is as it is written of its entry, and its line feed comes after it.
+#[inline(always)]
+pub fn written_row(bytes: &[u8]) -> Option<PlainRow>
+    ensures inside { IfSome result (λ r. r.len < length bytes.now) }
+    ensures row { IfSome result (λ r. IsPlainRow (take r.len bytes.now) r.entry) }
+    ensures ended { IfSome result (λ r. slice_index bytes.now r.len ≡ 10) }
+    ensures line { IfSome result (λ r. take (r.len + 1) bytes.now ≡ line_text r.entry) }
+{
+    let fields = fields_of(bytes)?;
+    let word = Word::parse_upper_hex(fields.word)?;
+    if fields.len >= bytes.len() || bytes[fields.len] != b'\n' || has_zero(bytes, fields.len) {
+        return None;
+    }
+    Some(fields.row(word))
+}
+
+// Whether a row of so many bytes has a time with a 0 in front, that is not 0 alone.
+#[inline(always)]
+fn has_zero(bytes: &[u8], len: usize) -> bool
+    requires { 0 < length bytes.now }
+    ensures { IsTrue result ↔ (slice_index bytes.now 0 ≡ 48) × (len ≢ 12) }
+{
+    bytes[0] == b'0' && len != SHORTEST
+}
+
+// The fields of a plain row, its word as it stands, and how many bytes it has.
+#[derive(Clone, Copy, Drop)]
+struct Fields<'a> {
+    time: u64,
+    bus: Bus,
+    word: &'a [u8],
+    len: usize,
+}
+
+impl<'a> Fields<'a> {
+    // The row with this word.
+    #[inline(always)]
+    fn row(self, word: Word) -> PlainRow
+        ensures { result ≡ record { entry = record { time = self.entry.time; bus = self.entry.bus; word = word }; len = self.entry.len } }
+    {
+        PlainRow {
+            entry: Entry {
+                time: self.time,
+                bus: self.bus,
+                word,
+            },
+            len: self.len,
+        }
+    }
+}
+
+// The fields of the row that bytes begin with, where it is plain. Its word may be any eight bytes.
+#[inline(always)]
+fn fields_of(bytes: &[u8]) -> Option<Fields<'_>>
+    ensures inside { IfSome result (λ f. f.len ≤ length bytes.now) }
+    ensures front { IfSome result (λ f. IsFront (take f.len bytes.now) f.time f.bus f.word.now) }
+{
     let time = leading_number(bytes);
     let rest = &bytes[time.len..];
     if time.len == 0 || rest.len() < AFTER_TIME || rest[0] != b',' || rest[2] != b',' {
         return None;
     }
-    let bus = bus_of(&rest[1..2])?;
-    let word = Word::parse_hex(&rest[3..AFTER_TIME])?;
-    Some(PlainRow {
-        entry: Entry {
-            time: time.number,
-            bus,
-            word,
-        },
+    Some(Fields {
+        time: time.number,
+        bus: bus_of(&rest[1..2])?,
+        word: &rest[3..AFTER_TIME],
         len: time.len + AFTER_TIME,
     })
 }

@@ -1,11 +1,12 @@
 //! One reading of a recording, entry by entry.
 
-ghost use Rattle.std.specs.Prelude.{◌≡◌, ◌↔◌, ◌+◌, ◌<◌, true, false, IsErrOf};
+ghost use Rattle.std.specs.Prelude.{◌≡◌, ◌↔◌, ◌+◌, ◌<◌, true, false, IsErrOf, IfSome, IfNone, Some, Ok};
 ghost use Rattle.a429_word.specs.Tally.{has_failed};
 ghost use Rattle.a429_record.specs.Rows.{IsFresh};
 ghost use Rattle.a429_record.specs.declared.stage.Stage.TheVariants as at;
 
 use crate::entry::Entry;
+use crate::entry_line::EntryLine;
 use crate::fault::ReadFault;
 use crate::rows::RowReader;
 use crate::stage::Stage;
@@ -22,8 +23,11 @@ pub struct Reading {
 }
 
 impl Reading {
-    ghost use Rattle.a429_record.specs.Lines.{pending, room_of};
-    ghost use Rattle.a429_record.specs.Rows.{GivesNext, IfEntry, Follows, entries_in};
+    ghost use Rattle.a429_record.specs.Lines.{ahead_of, pending, room_of};
+    ghost use Rattle.a429_record.specs.Line.{GivesEntry};
+    ghost use Rattle.a429_record.specs.Writing.{line_text};
+    ghost use Rattle.a429_record.specs.declared.format.Format.TheVariants as format;
+    ghost use Rattle.a429_record.specs.Rows.{GivesNext, GivesRow, IfEntry, Follows, entries_in};
     ghost use Rattle.a429_record.specs.Stage.{may_go_on, stage_after, AnswersAt};
     ghost use Rattle.a429_record.specs.Reading.{left_to_come, HandsEntry, FailsAfterRows, KeepsFormat};
     ghost use Rattle.a429_record.specs.declared.fault.ReadFault.TheVariants as fault;
@@ -36,6 +40,26 @@ impl Reading {
         Reading {
             rows: RowReader::new(alloc, most),
             stage: Stage::Begins,
+        }
+    }
+
+    /// The next entry of a text, after the first, where its row was read whole, makes no fault, and is as it is written of the
+    /// entry, and the row with its line feed; else none, and the line has what it had.
+    #[inline(always)]
+    pub fn written_entry(&mut self, line: &mut EntryLine) -> Option<Entry>
+        ensures stage { IfSome result (λ _. self.old.stage ≡ at.Rows) }
+        ensures stays { self.new.stage ≡ self.old.stage }
+        ensures text { IfSome result (λ _. self.old.rows.format ≡ format.Text) }
+        ensures gives { IfSome result (λ e. GivesEntry (ahead_of self.old.rows.lines) (ahead_of self.new.rows.lines) e) }
+        ensures row { IfSome result (λ e. GivesRow self.old.rows (Some e) self.new.rows (Ok (Some e))) }
+        ensures follows { IfSome result (λ e. Follows self.old.rows self.new.rows e) }
+        ensures line { IfSome result (λ e. line.new ≡ line_text e) }
+        ensures format { self.new.rows.format ≡ self.old.rows.format }
+        ensures none { IfNone result ((self.new ≡ self.old) × (line.new ≡ line.old)) }
+    {
+        match self.stage {
+            Stage::Rows => self.rows.written_entry(line),
+            _ => None,
         }
     }
 

@@ -1,14 +1,16 @@
 //! The rows of a recording, read one by one: the lines of a text, or the pieces of a binary recording.
 
-ghost use Rattle.std.specs.Prelude.{◌≡◌, ◌≢◌, ◌↔◌, ◌∷◌, ◌+◌, ◌<◌, ◌≤◌, [], false, true, IsErrOf, IsTrue, IfOk, IfErr, IfSome, IfNone, OnOk, Err};
+ghost use Rattle.std.specs.Prelude.{◌≡◌, ◌≢◌, ◌↔◌, ◌∷◌, ◌+◌, ◌<◌, ◌≤◌, [], false, true, IsErrOf, IsTrue, IfOk, IfErr, IfSome, IfNone, OnOk, Ok, Err, Some};
 ghost use Rattle.a429_word.specs.Tally.{has_failed};
 
 use crate::binary::{ENTRY_BYTES, entry_of_piece};
 use crate::entry::Entry;
+use crate::entry_line::EntryLine;
 use crate::fault::ReadFault;
 use crate::format::Format;
 use crate::line::{LineEntry, LineRow, entry_in_line, front_line, row_in_line};
 use crate::lines::Lines;
+use crate::plain::written_row;
 use crate::row::is_header_row;
 use a429_word::{Failing, Tally};
 use std::alloc::Global;
@@ -34,6 +36,8 @@ impl RowReader {
     ghost use Rattle.a429_record.specs.Handed.{HasNoRow, HasNoFaultWithin, HasNoTextFault, IsCut, AreHeader, AreEntryOf, AreGiven, ArePieceOf};
     ghost use Rattle.a429_record.specs.Rows.{IsFresh, IsUncounted, rows_left, text_left, binary_left, recording_left, all_left, TakesHeader, GivesNext, first_left, GivesRow, IfEntry, Follows, entries_in};
     ghost use Rattle.a429_record.specs.Reading.{AreFirstHanded, AreNextHanded, FailsNext, IsChosen};
+    ghost use Rattle.a429_record.specs.Writing.{line_text};
+    ghost use Rattle.a429_record.specs.declared.format.Format.TheVariants as format;
     ghost use Rattle.a429_record.specs.declared.fault.ReadFault.TheVariants as fault;
 
     /// A reading in which nothing was read yet, of at most this many entries.
@@ -99,6 +103,40 @@ impl RowReader {
             Format::Text => self.next_row(rec),
             Format::Binary => self.next_piece(rec),
         }
+    }
+
+    /// The next entry of a text, where its row was read whole, makes no fault, and is as it is written of the entry, and the
+    /// row with its line feed; else none, and the line has what it had. The header was read before.
+    #[inline(always)]
+    pub fn written_entry(&mut self, line: &mut EntryLine) -> Option<Entry>
+        ensures text { IfSome result (λ _. self.old.format ≡ format.Text) }
+        ensures gives { IfSome result (λ e. GivesEntry (ahead_of self.old.lines) (ahead_of self.new.lines) e) }
+        ensures row { IfSome result (λ e. GivesRow self.old (Some e) self.new (Ok (Some e))) }
+        ensures follows { IfSome result (λ e. Follows self.old self.new e) }
+        ensures line { IfSome result (λ e. line.new ≡ line_text e) }
+        ensures format { self.new.format ≡ self.old.format }
+        ensures none { IfNone result ((self.new ≡ self.old) × (line.new ≡ line.old)) }
+    {
+        if self.is_full() || !self.is_text() {
+            return None;
+        }
+        let row = written_row(self.lines.ahead())?;
+        if row.entry.time < self.last {
+            return None;
+        }
+        line.copy(self.lines.front()?, row.len + 1);
+        self.lines.pass(row.len + 1);
+        self.count += 1;
+        self.last = row.entry.time;
+        Some(row.entry)
+    }
+
+    // Whether the recording is a text.
+    #[inline(always)]
+    fn is_text(&self) -> bool
+        ensures { IsTrue result ↔ (self.now.format ≡ format.Text) }
+    {
+        matches!(self.format, Format::Text)
     }
 
     // Reads the header of a text, which comes before the first entry.

@@ -4,7 +4,7 @@ ghost use Rattle.std.specs.Prelude.{◌≡◌, ◌↔◌, [], true, IsErr, IsErr
 ghost use Rattle.std.specs.List.{flat_map};
 ghost use Rattle.a429_word.specs.Tally.{has_failed, Puts, PutsFront};
 ghost use Rattle.a429_word.specs.Sheet.{Says, Writes};
-ghost use Rattle.a429_record.specs.Writing.{header_text, line_text, written_form};
+ghost use Rattle.a429_record.specs.Writing.{header_text, line_text, lined_form, written_form};
 ghost use Rattle.a429_record.specs.Recording.{IsRecordable};
 ghost use Rattle.a429_word.specs.declared.trouble.Trouble.TheVariants as fault;
 
@@ -45,24 +45,49 @@ pub fn write_text<W: Write>(
     ensures prefix { PutsFront W.contents out.old out.new (written_form entries.now) }
     ensures memory { IsErrOf result fault.OutOfMemory → out.new ≡ out.old }
 {
+    write_lines(alloc, out, entries, b"", &[])
+}
+
+/// Writes a text, some lines of which are there already: the header of a recording, a line for each of the entries before
+/// them, these lines, and a line for each of the entries after them. In all else it is `write_text`.
+pub fn write_lines<W: Write>(
+    alloc: Global,
+    out: &mut Tally<W>,
+    before: &[Entry],
+    lines: &[u8],
+    after: &[Entry],
+) -> Result<(), WriteFault>
+    ensures ok { OnOk result (Puts W.contents out.old out.new (lined_form before.now lines.now after.now)) }
+    ensures device { IsErrOf result fault.Device ↔ (has_failed out.new ≡ true) }
+    ensures prefix { PutsFront W.contents out.old out.new (lined_form before.now lines.now after.now) }
+    ensures memory { IsErrOf result fault.OutOfMemory → out.new ≡ out.old }
+{
     if out.failed() {
         return Err(WriteFault::Device);
     }
     let page = Page::new(alloc)?;
-    put_entries(page, out, entries)?;
+    put_all(page, out, before, lines, after)?;
     Ok(())
 }
 
-// Writes the entries, on a page that is empty.
-fn put_entries<W: Write>(page: Page, out: &mut Tally<W>, entries: &[Entry]) -> Result<(), Device>
+// Writes them, on a page that is empty.
+fn put_all<W: Write>(
+    page: Page,
+    out: &mut Tally<W>,
+    before: &[Entry],
+    lines: &[u8],
+    after: &[Entry],
+) -> Result<(), Device>
     requires { page ≡ [] }
-    ensures written { Writes W.contents out.old out.new (written_form entries.now) }
+    ensures written { Writes W.contents out.old out.new (lined_form before.now lines.now after.now) }
     ensures device { IsErr result ↔ (has_failed out.new ≡ true) }
 {
     let mut page = page;
     let mut sheet = Sheet::new(out, &mut page);
     put_header(&mut sheet);
-    put_lines(&mut sheet, entries);
+    put_lines(&mut sheet, before);
+    sheet.put(lines);
+    put_lines(&mut sheet, after);
     sheet.finish()
 }
 

@@ -124,3 +124,114 @@ fn parts_of_recordings(rt: HostRuntime) -> Result<(), Fail> {
     let profile = sample(&rt);
     none_differs(first_that_differs(rt.alloc(), &profile))
 }
+
+// The same with words in lower case, times with zeros in front, and lines that end in CR LF.
+const OTHER_FORMS: &str = "time,bus,word\r
+00,A,41410323\r
+01,B,c24103a3\r
+02,A,60fe0123\r
+03,A,12004123\r
+04,A,71a3f523\r
+05,B,45fe01a3\r
+06,A,41410323\r
+07,B,c24103a3\r
+08,A,e0ff0123\r
+09,A,12004123\r
+010,A,71a3f523\r
+011,B,c5ff01a3\r
+";
+
+// The same with times of 16 digits: lines of these take more room than a part of six entries has for lines.
+const LATER: &str = "time,bus,word
+1700000000000000,A,41410323
+1700000000000001,B,C24103A3
+1700000000000002,A,60FE0123
+1700000000000003,A,12004123
+1700000000000004,A,71A3F523
+1700000000000005,B,45FE01A3
+1700000000000006,A,41410323
+1700000000000007,B,C24103A3
+1700000000000008,A,E0FF0123
+1700000000000009,A,12004123
+1700000000000010,A,71A3F523
+1700000000000011,B,C5FF01A3
+";
+
+// The texts of the two parts of the first, one after the other, each with its header.
+const TEXT_IN_TWO: &str = "time,bus,word
+0,A,41410323
+1,B,C24103A3
+2,A,60FE0123
+3,A,12004123
+4,A,71A3F523
+5,B,45FE01A3
+time,bus,word
+6,A,41410323
+7,B,C24103A3
+8,A,E0FF0123
+9,A,12004123
+10,A,71A3F523
+11,B,C5FF01A3
+";
+
+// A recording, and the texts of its two parts.
+const TEXTS: [(&str, &str); 3] = [
+    (TWO_FILES, TEXT_IN_TWO),
+    (OTHER_FORMS, TEXT_IN_TWO),
+    (
+        LATER,
+        "time,bus,word
+1700000000000000,A,41410323
+1700000000000001,B,C24103A3
+1700000000000002,A,60FE0123
+1700000000000003,A,12004123
+1700000000000004,A,71A3F523
+1700000000000005,B,45FE01A3
+time,bus,word
+1700000000000006,A,41410323
+1700000000000007,B,C24103A3
+1700000000000008,A,E0FF0123
+1700000000000009,A,12004123
+1700000000000010,A,71A3F523
+1700000000000011,B,C5FF01A3
+",
+    ),
+];
+
+// Whether a recording is cut at six entries into parts of this text.
+fn is_text_of_parts(alloc: Global, profile: &Profile, recording: &'static str, text: &str) -> bool {
+    let case = Case {
+        recording,
+        most: 6,
+        count: 2,
+        list: Ok(IN_TWO),
+    };
+    let mut parts = MemoryParts::new(alloc);
+    if cut(alloc, profile, case, &mut parts).is_err() {
+        return false;
+    }
+    let mut written = Vec::new(alloc);
+    let mut out = Tally::new(&mut written, 0);
+    for part in parts.parts() {
+        if part.rows().write(alloc, &mut out).is_err() {
+            return false;
+        }
+    }
+    written.as_slice() == text.as_bytes()
+}
+
+// The first recording of which that is not so.
+fn first_text_that_differs(alloc: Global, profile: &Profile) -> Option<&'static str> {
+    for (recording, text) in TEXTS {
+        if !is_text_of_parts(alloc, profile, recording, text) {
+            return Some(recording);
+        }
+    }
+    None
+}
+
+#[test]
+fn texts_of_parts(rt: HostRuntime) -> Result<(), Fail> {
+    let profile = sample(&rt);
+    none_differs(first_text_that_differs(rt.alloc(), &profile))
+}

@@ -5,6 +5,7 @@ ghost use Rattle.std.specs.Prelude.{◌≡◌};
 mod as_csv;
 mod binary;
 mod entries;
+mod lines;
 mod reading;
 mod writing;
 

@@ -1,11 +1,11 @@
 -- Hexadecimal digits, written and read.
-use Rattle.std.proofs.Common.{◌≡◌, ℕ, zero, suc, ◌+◌, ◌*◌, ◌/◌, ◌%◌, ◌^◌, ◌<◌, refl, ap, ◌∙◌, arith, List, [], ◌∷◌, length, get_or, Option, Some, None, true, bit_and}
+use Rattle.std.proofs.Common.{◌≡◌, ℕ, zero, suc, ◌+◌, ◌*◌, ◌/◌, ◌%◌, ◌^◌, ◌<◌, ◌≤◌, refl, ap, ◌∙◌, arith, List, [], ◌∷◌, length, get_or, Option, Some, None, true, bit_and}
 use Rattle.std.specs.Char.{digit_value}
 use Rattle.std.specs.Fmt.{digit_glyph}
 use Rattle.std.specs.Str.Parse.{digits_value, AllDigits}
 use Rattle.std.proofs.lemmas.Nat.{and_mask}
 use Rattle.std.proofs.lemmas.Bool.Decides.{nat_tests}
-use Rattle.a429_word.specs.Digits.{numeral, hex_text, octal_text, ReadsHex}
+use Rattle.a429_word.specs.Digits.{numeral, hex_text, octal_text, AreUpper, ReadsHex}
 
 -- ---- reading
 
@@ -67,3 +67,74 @@ pub hex_text-read : (w : ℕ) (read : Option ℕ) → w < 2 ^ 32 → ReadsHex (h
 unfolding numeral
 hex_text-read w None h is = absurd (is (refl, AllDigits-numeral 8 w))
 hex_text-read w (Some v) h is = ap Some (is.1 ∙ digits_value-hex_text w h)
+
+-- ---- digits in upper case
+
+glyph_is : (b n : ℕ) → digit_value b < 16 → b ≤ 70 → n ≡ digit_value b → digit_glyph true n ≡ b
+glyph_is b n h upper is = grind (arith, nat_tests)
+
+pub numeral_is : (text : List ℕ) → length text ≡ 8 → AllDigits 16 text → AreUpper text → hex_text (digits_value 16 text) ≡ text
+unfolding numeral
+numeral_is (a ∷ b ∷ c ∷ d ∷ e ∷ f ∷ g ∷ h ∷ []) long all upper =
+    let v = digits_value 16 (a ∷ b ∷ c ∷ d ∷ e ∷ f ∷ g ∷ h ∷ []) in
+    let (pa, (pb, (pc, (pd, (pe, (pf, (pg, (ph, pn)))))))) = all in
+    let (ua, (ub, (uc, (ud, (ue, (uf, (ug, (uh, un)))))))) = upper in
+    let ga = glyph_is a (v / 16 ^ 7 % 16) pa ua (omega arith) in
+    let gb = glyph_is b (v / 16 ^ 6 % 16) pb ub (omega arith) in
+    let gc = glyph_is c (v / 16 ^ 5 % 16) pc uc (omega arith) in
+    let gd = glyph_is d (v / 16 ^ 4 % 16) pd ud (omega arith) in
+    let ge = glyph_is e (v / 16 ^ 3 % 16) pe ue (omega arith) in
+    let gf = glyph_is f (v / 16 ^ 2 % 16) pf uf (omega arith) in
+    let gg = glyph_is g (v / 16 ^ 1 % 16) pg ug (omega arith) in
+    let gh = glyph_is h (v / 16 ^ 0 % 16) ph uh (omega arith) in
+    rw (ga, gb, gc, gd, ge, gf, gg, gh) refl
+numeral_is (a ∷ b ∷ c ∷ d ∷ e ∷ f ∷ g ∷ h ∷ i ∷ text) long all upper = absurd (omega arith)
+numeral_is [] long all upper = absurd (omega arith)
+numeral_is (a ∷ []) long all upper = absurd (omega arith)
+numeral_is (a ∷ b ∷ []) long all upper = absurd (omega arith)
+numeral_is (a ∷ b ∷ c ∷ []) long all upper = absurd (omega arith)
+numeral_is (a ∷ b ∷ c ∷ d ∷ []) long all upper = absurd (omega arith)
+numeral_is (a ∷ b ∷ c ∷ d ∷ e ∷ []) long all upper = absurd (omega arith)
+numeral_is (a ∷ b ∷ c ∷ d ∷ e ∷ f ∷ []) long all upper = absurd (omega arith)
+numeral_is (a ∷ b ∷ c ∷ d ∷ e ∷ f ∷ g ∷ []) long all upper = absurd (omega arith)
+
+glyph_upper : (d : ℕ) → d < 16 → digit_glyph true d ≤ 70
+glyph_upper d h = grind (arith, nat_tests)
+
+AreUpper-numeral : (k w : ℕ) → AreUpper (numeral 16 k w)
+unfolding numeral
+AreUpper-numeral zero w = tt
+AreUpper-numeral (suc k) w = (glyph_upper (w / 16 ^ k % 16) (omega arith), AreUpper-numeral k w)
+
+length-hex_text : (w : ℕ) → length (hex_text w) ≡ 8
+unfolding numeral
+length-hex_text w = refl
+
+-- eight digits, told in halves
+pub upper_joined : (text : List ℕ) → length text ≡ 8
+    → AreUpper (get_or text 0 0 ∷ get_or text 1 0 ∷ get_or text 2 0 ∷ get_or text 3 0 ∷ [])
+    → AreUpper (get_or text 4 0 ∷ get_or text 5 0 ∷ get_or text 6 0 ∷ get_or text 7 0 ∷ [])
+    → AreUpper text
+upper_joined (a ∷ b ∷ c ∷ d ∷ e ∷ f ∷ g ∷ h ∷ []) long p q = (p.0, (p.1.0, (p.1.1.0, (p.1.1.1.0, q))))
+upper_joined (a ∷ b ∷ c ∷ d ∷ e ∷ f ∷ g ∷ h ∷ i ∷ text) long p q = absurd (omega arith)
+upper_joined [] long p q = absurd (omega arith)
+upper_joined (a ∷ []) long p q = absurd (omega arith)
+upper_joined (a ∷ b ∷ []) long p q = absurd (omega arith)
+upper_joined (a ∷ b ∷ c ∷ []) long p q = absurd (omega arith)
+upper_joined (a ∷ b ∷ c ∷ d ∷ []) long p q = absurd (omega arith)
+upper_joined (a ∷ b ∷ c ∷ d ∷ e ∷ []) long p q = absurd (omega arith)
+upper_joined (a ∷ b ∷ c ∷ d ∷ e ∷ f ∷ []) long p q = absurd (omega arith)
+upper_joined (a ∷ b ∷ c ∷ d ∷ e ∷ f ∷ g ∷ []) long p q = absurd (omega arith)
+
+-- the halves of a word's digits are digits in upper case
+pub upper_halves : (text : List ℕ) (w : ℕ) → text ≡ hex_text w
+    → (AllDigits 16 (get_or text 0 0 ∷ get_or text 1 0 ∷ get_or text 2 0 ∷ get_or text 3 0 ∷ []) × AreUpper (get_or text 0 0 ∷ get_or text 1 0 ∷ get_or text 2 0 ∷ get_or text 3 0 ∷ []))
+    × (AllDigits 16 (get_or text 4 0 ∷ get_or text 5 0 ∷ get_or text 6 0 ∷ get_or text 7 0 ∷ []) × AreUpper (get_or text 4 0 ∷ get_or text 5 0 ∷ get_or text 6 0 ∷ get_or text 7 0 ∷ []))
+unfolding numeral
+upper_halves text w is =
+    let p = AllDigits-numeral 8 w in
+    let q = AreUpper-numeral 8 w in
+    rw is (((p.0, (p.1.0, (p.1.1.0, (p.1.1.1.0, tt)))), (q.0, (q.1.0, (q.1.1.0, (q.1.1.1.0, tt))))), (p.1.1.1.1, q.1.1.1.1))
+
+pub eight_long : (text : List ℕ) (w : ℕ) → text ≡ hex_text w → length text ≡ 8
+eight_long text w is = rw is (length-hex_text w)

@@ -1,10 +1,10 @@
 //! Words in hexadecimal digits, and labels in octal ones.
 
-ghost use Rattle.std.specs.Prelude.{◌≡◌, ◌<◌, ◌≤◌, ◌^◌, ◌*◌, ◌/◌, ◌%◌, ◌∷◌, [], ◌↔◌, true};
+ghost use Rattle.std.specs.Prelude.{◌≡◌, ◌<◌, ◌≤◌, ◌^◌, ◌*◌, ◌/◌, ◌%◌, ◌∷◌, [], ◌↔◌, true, ℕ, IfSome, IfNone};
 ghost use Rattle.std.specs.Char.{digit_value};
 ghost use Rattle.std.specs.Fmt.{digit_glyph};
 ghost use Rattle.std.specs.Str.Parse.{digits_value, AllDigits};
-ghost use Rattle.a429_word.specs.Digits.{hex_text, octal_text, ReadsHex};
+ghost use Rattle.a429_word.specs.Digits.{hex_text, octal_text, AreUpper, ReadsHex};
 
 use crate::word::Word;
 
@@ -37,6 +37,26 @@ const HEX_VALUES: [u32; 256] = [
     NONE, NONE, NONE, NONE, NONE, NONE, NONE,
 ];
 
+// The same of digits in upper case alone.
+const UPPER_HEX_VALUES: [u32; 256] = [
+    NONE, NONE, NONE, NONE, NONE, NONE, NONE, NONE, NONE, NONE, NONE, NONE, NONE, NONE, NONE, NONE,
+    NONE, NONE, NONE, NONE, NONE, NONE, NONE, NONE, NONE, NONE, NONE, NONE, NONE, NONE, NONE, NONE,
+    NONE, NONE, NONE, NONE, NONE, NONE, NONE, NONE, NONE, NONE, NONE, NONE, NONE, NONE, NONE, NONE,
+    0, 1, 2, 3, 4, 5, 6, 7, 8, 9, NONE, NONE, NONE, NONE, NONE, NONE, NONE, 10, 11, 12, 13, 14, 15,
+    NONE, NONE, NONE, NONE, NONE, NONE, NONE, NONE, NONE, NONE, NONE, NONE, NONE, NONE, NONE, NONE,
+    NONE, NONE, NONE, NONE, NONE, NONE, NONE, NONE, NONE, NONE, NONE, NONE, NONE, NONE, NONE, NONE,
+    NONE, NONE, NONE, NONE, NONE, NONE, NONE, NONE, NONE, NONE, NONE, NONE, NONE, NONE, NONE, NONE,
+    NONE, NONE, NONE, NONE, NONE, NONE, NONE, NONE, NONE, NONE, NONE, NONE, NONE, NONE, NONE, NONE,
+    NONE, NONE, NONE, NONE, NONE, NONE, NONE, NONE, NONE, NONE, NONE, NONE, NONE, NONE, NONE, NONE,
+    NONE, NONE, NONE, NONE, NONE, NONE, NONE, NONE, NONE, NONE, NONE, NONE, NONE, NONE, NONE, NONE,
+    NONE, NONE, NONE, NONE, NONE, NONE, NONE, NONE, NONE, NONE, NONE, NONE, NONE, NONE, NONE, NONE,
+    NONE, NONE, NONE, NONE, NONE, NONE, NONE, NONE, NONE, NONE, NONE, NONE, NONE, NONE, NONE, NONE,
+    NONE, NONE, NONE, NONE, NONE, NONE, NONE, NONE, NONE, NONE, NONE, NONE, NONE, NONE, NONE, NONE,
+    NONE, NONE, NONE, NONE, NONE, NONE, NONE, NONE, NONE, NONE, NONE, NONE, NONE, NONE, NONE, NONE,
+    NONE, NONE, NONE, NONE, NONE, NONE, NONE, NONE, NONE, NONE, NONE, NONE, NONE, NONE, NONE, NONE,
+    NONE, NONE, NONE, NONE, NONE, NONE, NONE, NONE, NONE,
+];
+
 impl Word {
     /// The word that eight hexadecimal digits of either case write; `None` for any other text (profile).
     #[inline(always)]
@@ -48,6 +68,23 @@ impl Word {
         }
         let upper = number_of_four(text[0], text[1], text[2], text[3]);
         let lower = number_of_four(text[4], text[5], text[6], text[7]);
+        if upper >= NONE || lower >= NONE {
+            return None;
+        }
+        Some(Word::from_u32(upper * 65536 + lower))
+    }
+
+    /// The word whose digits these are, as `hex` writes them; `None` for any other text (profile).
+    #[inline(always)]
+    pub fn parse_upper_hex(text: &[u8]) -> Option<Word>
+        ensures some { IfSome result (λ w. text.now ≡ hex_text w) }
+        ensures none { IfNone result ((w : ℕ) → w < 2 ^ 32 → text.now ≡ hex_text w → ⊥) }
+    {
+        if text.len() != 8 {
+            return None;
+        }
+        let upper = number_of_upper(text[0], text[1], text[2], text[3]);
+        let lower = number_of_upper(text[4], text[5], text[6], text[7]);
         if upper >= NONE || lower >= NONE {
             return None;
         }
@@ -103,6 +140,27 @@ fn hex_value(byte: u8) -> u32
     ensures most { result ≤ NONE }
 {
     HEX_VALUES[usize::from(byte)]
+}
+
+// The same of digits in upper case alone.
+#[inline(always)]
+fn number_of_upper(a: u8, b: u8, c: u8, d: u8) -> u32
+    ensures digits { result < NONE ↔ AllDigits 16 (a ∷ b ∷ c ∷ d ∷ []) × AreUpper (a ∷ b ∷ c ∷ d ∷ []) }
+    ensures value { result < NONE → result ≡ digits_value 16 (a ∷ b ∷ c ∷ d ∷ []) }
+{
+    let upper = upper_hex_value(a) * 16 + upper_hex_value(b);
+    let lower = upper_hex_value(c) * 16 + upper_hex_value(d);
+    upper * 256 + lower
+}
+
+// The value of a byte as a hexadecimal digit in upper case, and `NONE` where it is none.
+#[inline(always)]
+fn upper_hex_value(byte: u8) -> u32
+    ensures digit { result < NONE ↔ (digit_value byte < 16) × (byte ≤ 70) }
+    ensures value { result < NONE → result ≡ digit_value byte }
+    ensures most { result ≤ NONE }
+{
+    UPPER_HEX_VALUES[usize::from(byte)]
 }
 
 /// A label as it is written (Part 1): three octal digits, 000 to 377.

@@ -2,8 +2,7 @@
 
 ghost use Rattle.std.specs.Prelude.{◌≡◌, None, false, IfOk};
 
-use a429_parts::Parts;
-use a429_record::{Entry, write_text};
+use a429_parts::{Parts, Rows};
 use a429_word::{Failing, Tally, Trouble};
 use std::alloc::Global;
 use std::fs;
@@ -42,9 +41,9 @@ impl<'a, F: Files> PartFolder<'a, F> {
     }
 
     // Writes a part.
-    fn write(&self, path: &str, entries: &[Entry]) -> Result<(), Trouble> {
+    fn write(&self, path: &str, rows: &Rows<'_>) -> Result<(), Trouble> {
         match fs::create(self.rt, path) {
-            Ok(file) => write_text(self.alloc, &mut Tally::new(file, 0), entries),
+            Ok(file) => rows.write(self.alloc, &mut Tally::new(file, 0)),
             Err(_) => Err(Trouble::Device),
         }
     }
@@ -69,14 +68,14 @@ impl<F: Files> Failing for PartFolder<'_, F> {
 impl<F: Files> Parts for PartFolder<'_, F> {
     ghost known = { λ f. None };
 
-    fn put(&mut self, number: usize, entries: &[Entry]) -> Result<(), Trouble> {
+    fn put(&mut self, number: usize, rows: &Rows<'_>) -> Result<(), Trouble> {
         if self.is_failed {
             return Err(Trouble::Device);
         }
         let Ok(path) = format!(in self.alloc; "{}/{number:06}.csv", self.dir.as_str()) else {
             return Err(Trouble::OutOfMemory);
         };
-        match self.write(path.as_str(), entries) {
+        match self.write(path.as_str(), rows) {
             Err(Trouble::Device) => {
                 self.is_failed = true;
                 Err(Trouble::Device)

@@ -4,7 +4,7 @@ ghost use Rattle.a429_record.specs.Recording.{IsRecordable};
 
 use crate::agreement::none_differs;
 use crate::record::{entry, stands_for};
-use a429_record::{Entry, WriteFault, read_entries, write_entries};
+use a429_record::{Entry, WriteFault, read_entries, write_entries, write_lines};
 use a429_sample::{CTS, EOT, Narrow, PART, RTS, SOT};
 use a429_word::{Bus, Failing, Tally};
 use std::alloc::Global;
@@ -55,6 +55,19 @@ fn a_file_of_one_byte(rt: HostRuntime) {
 #[test]
 fn no_entries(rt: HostRuntime) {
     assert!(rt; is_written(rt.alloc(), &[], b"time,bus,word\n"));
+}
+
+#[test]
+fn lines_between_entries(rt: HostRuntime) {
+    let mut text = Vec::new(rt.alloc());
+    let before = [entry(0, Bus::A, RTS)];
+    let after = [entry(2000, Bus::A, SOT), entry(3000, Bus::A, PART)];
+    let mut out = Tally::new(&mut text, 0);
+    let answer = write_lines(rt.alloc(), &mut out, &before, b"1000,B,C24103A3\n", &after);
+    let wanted: &[u8] =
+        b"time,bus,word\n0,A,41410323\n1000,B,C24103A3\n2000,A,60010123\n3000,A,12004123\n";
+    assert!(rt; answer == Ok(()));
+    assert!(rt; text.as_slice() == wanted);
 }
 
 // What a writer of so many bytes answers to a recording of one entry, whether it has failed then, and

@@ -186,6 +186,33 @@ fn hexadecimal_read() -> Result<(), Fail> {
     none_differs(first_read_otherwise())
 }
 
+// Texts, and the words whose digits they are as they are written.
+const WRITTEN: [(&str, Option<u32>); 8] = [
+    ("E13880C1", Some(0xe138_80c1)),
+    ("00009AAF", Some(0x0000_9aaf)),
+    ("e13880c1", None),
+    ("00009AAf", None),
+    ("E13880C", None),
+    ("E13880C10", None),
+    ("E13880G1", None),
+    ("", None),
+];
+
+// The first of them of which that is not so.
+fn first_not_as_written() -> Option<&'static str> {
+    for (text, number) in WRITTEN {
+        if Word::parse_upper_hex(text.as_bytes()).map(Word::to_u32) != number {
+            return Some(text);
+        }
+    }
+    None
+}
+
+#[test]
+fn hexadecimal_as_it_is_written() -> Result<(), Fail> {
+    none_differs(first_not_as_written())
+}
+
 const NO_WORDS: [&str; 9] = [
     "",
     "E13880C",

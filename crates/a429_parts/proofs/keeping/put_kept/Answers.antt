@@ -23,6 +23,7 @@ entries-init g c = record {
   gave = gave_first c.args.rec.now.to_come c.next_of.new.rec.to_come _ c.in_ok-next.ensures.gives;
   count = omega (arith, c.in_ok-next.ensures.counts);
   works = c.in_ok-next.ensures.works;
+  line = c.in_ok-next.ensures.line;
 }
 
 pub returns-in_default-clause-all : goal.returns-in_default-clause-all
@@ -76,7 +77,11 @@ entries-preserved g c =
       says = rw (kept_text-push codes es e) (c.entries.invariant.says ▹ c.put_if_kept.ensures);
       gave = gave_more c.args.rec.now.to_come _ _ es e _ (rw c.in-Some.is at c.entries.invariant.gave) c.in_ok-next-2.ensures.gives;
       works = c.in_ok-next-2.ensures.works;
+      line = c.in_ok-next-2.ensures.line;
     }
 
 pub returns-in_default-clause-works : goal.returns-in_default-clause-works
 returns-in_default-clause-works g c working = c.entries.invariant.works c.in_default.is
+
+pub put_if_kept-requires : goal.put_if_kept-requires
+put_if_kept-requires g c = rw c.in-Some.is at c.entries.invariant.line

@@ -14,8 +14,8 @@ entries-init g c = record {
   count = omega arith;
 }
 
-pub add-requires : goal.add-requires
-add-requires g c =
+pub add-requires-clause-room : goal.add-requires-clause-room
+add-requires-clause-room g c =
     let i = c.entries.invariant in
     let one : c.next_of.new.rec.count ≡ c.entries.rec.count + 1 = rw c.in-Some.is at c.in-Ok.ensures.counts in
     omega (arith, held_count c.args.profile.now c.args.most false i.progress.parts i.entries c.entries.parting i.progress.holds, i.count, one, rw c.in-Some.is at c.in-Ok.ensures.few)

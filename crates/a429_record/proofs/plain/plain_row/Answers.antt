@@ -1,20 +1,12 @@
-use Rattle.std.proofs.Common.{◌≡◌, ◌-◌, ◌+◌, ◌≤◌, arith, rules, length, take, drop, length-drop}
-use Rattle.std.proofs.lemmas.List.{take_all}
-use Rattle.a429_record.proofs.PlainFacts.{is_row}
+use Rattle.std.proofs.Common.{Some, take, sym}
+use Rattle.a429_record.specs.declared.entry.Entry.{Entry}
+use Rattle.a429_record.proofs.RowDigits.{word_in-reads}
+use Rattle.a429_record.proofs.WrittenRow.{plain_of}
 use Rattle.a429_record.proofs.plain.plain_row.Goals as goal
 
 pub returns : goal.returns
 returns c =
-    let bytes = c.args.bytes.now in
-    let n = c.leading_number-time.result.len in
-    let rest : take (length bytes - n) (drop n bytes) ≡ drop n bytes = take_all (length bytes - n) (drop n bytes) (simp length-drop (omega arith)) in
-    let following = simp (rest, length-drop) at c.if-rest-lt-AFTER_TIME.false in
-    let long : n + 11 ≤ length bytes = omega arith in
-    let bus = rw (c.in_ok-bus.was, rest) at c.bus_of.ensures in
-    let word = rw (c.in_ok-word.was, rest) at c.parse_hex.ensures in
-    let first = rw rest at c.if-rest-ne44.false in
-    let second = rw rest at c.if-rest-ne44-2.false in (
-      omega arith,
-      is_row bytes n c.leading_number-time.result.number c.in_ok-bus.bus c.in_ok-word.word (omega arith) (omega arith) (omega arith)
-          c.leading_number-time.ensures.digits c.leading_number-time.ensures.number (search rules) first second bus word,
-    )
+    let f = c.in_ok-fields.fields in
+    let w = c.in_ok-word.word in
+    let e : Entry = record { time = f.time; bus = f.bus; word = w } in
+    rw c.row.ensures (c.in_ok-fields.ensures.inside, plain_of (take f.len c.args.bytes.now) f.word.now e c.in_ok-fields.ensures.front (sym (word_in-reads f.word.now (Some w) c.in_ok-word.ensures)))

@@ -1,5 +1,4 @@
-use Rattle.std.proofs.Common.{◌≡◌, ◌-◌, ◌+◌, ◌^◌, ap, ◌∙◌, sym, arith, ◌/◌, ◌++◌}
-use Rattle.a429_word.specs.Digits.{numeral}
+use Rattle.std.proofs.Common.{◌≡◌, ◌-◌, ◌+◌, ◌^◌, ap, ◌∙◌, sym, arith, ◌/◌}
 use Rattle.a429_word.proofs.FixedDecimals.{numeral-moved, quotient-more}
 use Rattle.a429_word.proofs.fixed.text.Text.push_decimals.Goals as goal
 

@@ -1,4 +1,4 @@
-use Rattle.std.proofs.Common.{◌≡◌, ◌+◌, ◌^◌, ap, ◌∙◌, sym, arith, ◌%◌, ◌++◌, length, length-append, length-drop, rules}
+use Rattle.std.proofs.Common.{◌+◌, ap, ◌∙◌, sym, arith, ◌%◌, ◌++◌, length, length-append, length-drop, rules}
 use Rattle.std.specs.Fmt.{decimal}
 use Rattle.a429_word.specs.Digits.{numeral}
 use Rattle.a429_word.proofs.FixedDecimals.{numeral-none, length-numeral, one_and_part, behind_one}

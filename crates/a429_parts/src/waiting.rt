@@ -1,0 +1,235 @@
+//! Entries that wait for the end of their part, and lent, the first of them.
+
+ghost use Rattle.std.specs.Prelude.{◌≡◌, ◌-◌, ◌≤◌, ◌↔◌, ◌∷◌, ◌++◌, [], length, min, take, drop, true, IfOk, IsErrOf, OnErr, OnOk};
+ghost use Rattle.a429_word.specs.Tally.{has_failed, Puts, PutsFront};
+ghost use Rattle.a429_word.specs.declared.trouble.Trouble.TheVariants as fault;
+ghost use Rattle.a429_record.specs.Writing.{line_text, written_form};
+ghost use Rattle.a429_parts.specs.Waiting.{entries_of, size_of, AreWritten};
+
+use a429_record::{Entry, EntryLine, WriteFault, write_lines};
+use a429_word::Tally;
+use memchr::memrchr;
+use std::alloc::{AllocError, Global};
+use std::io::Write;
+use std::marker::Model;
+
+// How many bytes an entry has, where it is not held as a line.
+const ENTRY_BYTES: usize = 16;
+
+/// Entries that wait, in order. They are held as lines, which are written as they are, while these have at most `spare` bytes
+/// more than entries would have; else as entries.
+#[derive(Debug, Drop)]
+pub(crate) struct Waiting {
+    spare: usize,
+    len: usize,
+    before: Vec<Entry>,
+    lines: Vec<u8>,
+    after: Vec<Entry>,
+}
+
+impl Model for Waiting {
+    ghost use Rattle.std.specs.Prelude.{◌≡◌, ◌++◌, List, length};
+    ghost use Rattle.a429_record.specs.declared.entry.Entry.{Entry};
+    ghost use Rattle.a429_parts.specs.Waiting.{entries_of, AreWritten};
+
+    ghost Value = { List Entry };
+
+    ghost view = { λ w. w.before.items ++ (entries_of w.lines.items ++ w.after.items) };
+
+    ghost invariant = { λ w. AreWritten w.lines.items × (w.len ≡ length (w.before.items ++ (entries_of w.lines.items ++ w.after.items))) };
+}
+
+/// Entries of a recording, lent: some as entries, some as lines, and some as entries again.
+#[derive(Debug, Drop)]
+pub struct Rows<'a> {
+    len: usize,
+    before: &'a [Entry],
+    lines: &'a [u8],
+    after: &'a [Entry],
+}
+
+impl<'a> Model for Rows<'a> {
+    ghost use Rattle.std.specs.Prelude.{◌≡◌, ◌++◌, List, length};
+    ghost use Rattle.a429_record.specs.declared.entry.Entry.{Entry};
+    ghost use Rattle.a429_parts.specs.Waiting.{entries_of, AreWritten};
+
+    ghost Value = { List Entry };
+
+    ghost view = { λ r. r.before.now ++ (entries_of r.lines.now ++ r.after.now) };
+
+    ghost invariant = { λ r. AreWritten r.lines.now × (r.len ≡ length (r.before.now ++ (entries_of r.lines.now ++ r.after.now))) };
+}
+
+impl Waiting {
+    /// None. Lines may have so many bytes more than entries would have.
+    pub(crate) fn new(alloc: Global, spare: usize) -> Waiting
+        ensures { result ≡ [] }
+    {
+        Waiting {
+            spare,
+            len: 0,
+            before: Vec::new(alloc),
+            lines: Vec::new(alloc),
+            after: Vec::new(alloc),
+        }
+    }
+
+    /// How many there are.
+    pub(crate) fn len(&self) -> usize
+        ensures { result ≡ length self.now }
+    {
+        self.len
+    }
+
+    /// Adds one, whose line this is.
+    #[inline(always)]
+    pub(crate) fn push(&mut self, entry: Entry, line: &EntryLine) -> Result<(), AllocError>
+        requires { line.now ≡ line_text entry }
+        ensures ok { OnOk result (self.new ≡ self.old ++ entry ∷ []) }
+        ensures err { OnErr result (self.new ≡ self.old) }
+    {
+        let Some(len) = self.len.checked_add(1) else {
+            return Err(AllocError);
+        };
+        if self.after.is_empty()
+            && has_room(self.len - self.before.len(), self.lines.len(), self.spare)
+        {
+            line.append_to(&mut self.lines)?;
+        } else {
+            self.after.push(entry)?;
+        }
+        self.len = len;
+        Ok(())
+    }
+
+    /// The first of them, so many.
+    pub(crate) fn first(&self, size: usize) -> Rows<'_>
+        requires { size ≤ length self.now }
+        ensures { result ≡ take size self.now }
+    {
+        let cut = end_of_first(&self.before, &self.lines, &self.after, self.len, size);
+        Rows {
+            len: size,
+            before: &self.before[..cut.before],
+            lines: &self.lines[..cut.lines],
+            after: &self.after[..cut.after],
+        }
+    }
+
+    /// Drops the first of them, so many.
+    pub(crate) fn drop_first(&mut self, size: usize)
+        requires { size ≤ length self.old }
+        ensures { self.new ≡ drop size self.old }
+    {
+        let cut = end_of_first(&self.before, &self.lines, &self.after, self.len, size);
+        drop_front(&mut self.before, cut.before);
+        drop_front(&mut self.lines, cut.lines);
+        drop_front(&mut self.after, cut.after);
+        self.len -= size;
+        if self.before.is_empty() && self.lines.is_empty() {
+            move_to_front(&mut self.before, &mut self.after);
+        }
+    }
+
+    /// A copy of entries.
+    pub(crate) fn copy_of(alloc: Global, rows: &Rows<'_>) -> Result<Waiting, AllocError>
+        ensures { IfOk result (λ w. w ≡ rows.now) }
+    {
+        let mut before = Vec::new(alloc);
+        before.extend_from_slice(rows.before)?;
+        let mut lines = Vec::new(alloc);
+        lines.extend_from_slice(rows.lines)?;
+        let mut after = Vec::new(alloc);
+        after.extend_from_slice(rows.after)?;
+        Ok(Waiting {
+            spare: 0,
+            len: rows.len,
+            before,
+            lines,
+            after,
+        })
+    }
+}
+
+impl<'a> Rows<'a> {
+    /// Writes them as a text: the header of a recording, and a line for each. If memory runs out, nothing is written; after
+    /// `Device` a prefix has been.
+    pub fn write<W: Write>(&self, alloc: Global, out: &mut Tally<W>) -> Result<(), WriteFault>
+        ensures ok { OnOk result (Puts W.contents out.old out.new (written_form self.now)) }
+        ensures device { IsErrOf result fault.Device ↔ (has_failed out.new ≡ true) }
+        ensures prefix { PutsFront W.contents out.old out.new (written_form self.now) }
+        ensures memory { IsErrOf result fault.OutOfMemory → out.new ≡ out.old }
+    {
+        write_lines(alloc, out, self.before, self.lines, self.after)
+    }
+}
+
+// Whether a further entry may be held as a line, where so many are, in so many bytes.
+#[inline(always)]
+fn has_room(lined: usize, bytes: usize, spare: usize) -> bool {
+    bytes <= lined.saturating_mul(ENTRY_BYTES).saturating_add(spare)
+}
+
+// Where the first of entries that wait end: after so many of those before the lines, so many bytes of the lines, and so many
+// of those after them.
+#[derive(Clone, Copy)]
+struct Cut {
+    before: usize,
+    lines: usize,
+    after: usize,
+}
+
+// Where the first of all these entries end, so many.
+fn end_of_first(before: &[Entry], lines: &[u8], after: &[Entry], len: usize, size: usize) -> Cut
+    requires written { AreWritten lines.now }
+    requires len { len ≡ length (before.now ++ (entries_of lines.now ++ after.now)) }
+    requires size { size ≤ len }
+    ensures before { result.before ≡ min size (length before.now) }
+    ensures lines { result.lines ≡ size_of (size - length before.now) (entries_of lines.now) }
+    ensures after { result.after ≡ size - length before.now - length (entries_of lines.now) }
+{
+    let lined = len - before.len() - after.len();
+    let past = size.saturating_sub(before.len());
+    Cut {
+        before: size.min(before.len()),
+        lines: start_of_last(lines, lined.saturating_sub(past)),
+        after: past.saturating_sub(lined),
+    }
+}
+
+// Drops the front of a list, so many. Only what is after it is moved: `drain` moves all.
+fn drop_front<T: Copy>(list: &mut Vec<T>, size: usize)
+    requires { size ≤ length list.old.items }
+    ensures { list.new.items ≡ drop size list.old.items }
+{
+    let left = list.len() - size;
+    list.copy_within(size.., 0);
+    list.truncate(left);
+}
+
+// Moves the entries after the lines before them, where nothing is left there, so that lines may be held again. Each list keeps its
+// room. Where memory is refused, the entries stay.
+fn move_to_front(before: &mut Vec<Entry>, after: &mut Vec<Entry>)
+    requires { before.old.items ≡ [] }
+    ensures { before.new.items ++ after.new.items ≡ after.old.items }
+{
+    if before.extend_from_slice(after.as_slice()).is_ok() {
+        after.clear();
+    }
+}
+
+// Where the last of some lines begin, so many.
+fn start_of_last(lines: &[u8], count: usize) -> usize
+    requires written { AreWritten lines.now }
+    requires count { count ≤ length (entries_of lines.now) }
+    ensures { result ≡ size_of (length (entries_of lines.now) - count) (entries_of lines.now) }
+{
+    let mut start = lines.len();
+    for _ in 0..count {
+        start = match memrchr(b'\n', &lines[..start - 1]) {
+            Some(end) => end + 1,
+            None => 0,
+        };
+    }
+    start
+}
