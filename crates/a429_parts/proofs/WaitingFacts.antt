@@ -2,7 +2,7 @@
 use Rattle.std.proofs.Common.{◌≡◌, ◌∙◌, ◌+◌, ◌-◌, ◌<◌, ◌≤◌, ◌^◌, ◌==◌, ℕ, zero, suc, List, [], ◌∷◌, ◌++◌, ◌⊎◌, map, length, take, drop, get_or, min, true, Option, Some, None, MatchOption, inl, inr, refl, sym, ap, subst, arith, append_assoc, eqb-true}
 use Rattle.std.specs.List.{flat_map}
 use Rattle.std.proofs.lemmas.Bool.{false≢true}
-use Rattle.std.proofs.lemmas.List.{append-nil, get_or_at, get_or-append_right, length-append, take_at, drop_at, take_more, take_all, drop_all, take_min, drop_min}
+use Rattle.std.proofs.lemmas.List.{append-nil, get_or_at, get_or-append_right, length-append, length-take-le, take-take, take_at, drop_at, take_more, take_all, drop_all, take_min, drop_min}
 use Rattle.std.proofs.lemmas.List.Concat.{flat_map-append}
 use Rattle.a429_word.specs.declared.bus.Bus.TheVariants.{A}
 use Rattle.memchr.specs.Find.{is_byte, IsLastByte}
@@ -13,7 +13,8 @@ use Rattle.a429_record.specs.Writing.{line_text}
 use Rattle.a429_record.proofs.WrittenIsReadBack.{rows-back, body, body-end, line-is}
 use Rattle.a429_record.proofs.WritingTexts.{flat_map-rest}
 use Rattle.a429_parts.specs.declared.waiting.Cut.{Cut}
-use Rattle.a429_parts.specs.Waiting.{somes, entries_of, size_of, AreWritten}
+use Rattle.a429_parts.specs.declared.waiting.LineEnd.{LineEnd}
+use Rattle.a429_parts.specs.Waiting.{somes, entries_of, size_of, AreWritten, IsLineEnd}
 
 -- ---- lines are read back
 
@@ -26,9 +27,9 @@ written_back : (es : List Entry) → AreEntries es → entries_of (flat_map line
 written_back es h = ap somes (rows-back es h) ∙ somes-back es
 
 -- lines that were written of these entries
-record AreOf (lines : List ℕ) (es : List Entry) : Type 0 where
-  written : AreWritten lines
-  entries : entries_of lines ≡ es
+pub record AreOf (lines : List ℕ) (es : List Entry) : Type 0 where
+  pub written : AreWritten lines
+  pub entries : entries_of lines ≡ es
 
 are_of : (lines : List ℕ) (es : List Entry) → AreEntries es → lines ≡ flat_map line_text es → AreOf lines es
 are_of lines es h is =
@@ -219,6 +220,44 @@ lines_dropped lines n h =
     let es = entries_of lines in
     are_of (drop (size_of n es) lines) (drop n es) (are_drop n es h.1)
     (ap (drop (size_of n es)) (parted lines n h) ∙ drop_at (flat_map line_text (take n es)) (flat_map line_text (drop n es)) (size_of n es) refl)
+
+-- the end of some lines is the same, where one more line is there
+pub end_stays : (lines line new : List ℕ) (e : Entry) (end : LineEnd)
+    → AreWritten lines → e.time < 2 ^ 64 → e.word < 2 ^ 32 → line ≡ line_text e → new ≡ lines ++ line → IsLineEnd lines end → IsLineEnd new end
+end_stays lines line new e end h ht hw text more is =
+    let es = entries_of lines in
+    let all : entries_of new ≡ es ++ e ∷ [] = (pushed lines line new e h ht hw text more).entries in
+    let none : end.lines - length es ≡ 0 = omega (arith, is.0) in
+    let same : take end.lines (es ++ e ∷ []) ≡ take end.lines es = taken es (e ∷ []) end.lines ∙ rw none (append-nil (take end.lines es)) in (
+      omega (arith, is.0, ap length all, length-append es (e ∷ [])),
+      is.1 ∙ sym (ap (λ (l : List Entry). length (flat_map line_text l)) (ap (take end.lines) all ∙ same)),
+    )
+
+-- the lines before an end
+pub record AreBefore (lines : List ℕ) (end : LineEnd) : Type 0 where
+  pub within : end.bytes ≤ length lines
+  pub front : AreOf (take end.bytes lines) (take end.lines (entries_of lines))
+  pub count : length (entries_of (take end.bytes lines)) ≡ end.lines
+
+pub are_before : (lines : List ℕ) (end : LineEnd) → AreWritten lines → IsLineEnd lines end → AreBefore lines end
+are_before lines end h is =
+    let es = entries_of lines in
+    let of : AreOf (take end.bytes lines) (take end.lines es) = subst (λ (k : ℕ). AreOf (take k lines) (take end.lines es)) (sym is.1) (lines_taken lines end.lines h) in
+    record {
+      within = omega (arith, is.1, size_within lines end.lines h);
+      front = of;
+      count = ap length of.entries ∙ length-take-le end.lines es is.0;
+    }
+
+-- where some of them end, which are looked for from that end
+pub before_end : (lines : List ℕ) (end : LineEnd) (count at : ℕ) → AreWritten lines → IsLineEnd lines end → count ≤ end.lines
+    → at ≡ size_of (length (entries_of (take end.bytes lines)) - (end.lines - count)) (entries_of (take end.bytes lines))
+    → at ≡ size_of count (entries_of lines)
+before_end lines end count at h is few at_is =
+    let es = entries_of lines in
+    let b = are_before lines end h is in
+    let n : length (entries_of (take end.bytes lines)) - (end.lines - count) ≡ count = omega (arith, b.count, few) in
+    at_is ∙ rw (n, b.front.entries) (ap (λ (l : List Entry). length (flat_map line_text l)) (take-take count end.lines es few))
 
 -- where the first of entries, lines and entries end, so many of all of them
 pub record IsEnd (before : List Entry) (lines : List ℕ) (after : List Entry) (size : ℕ) (cut : Cut) : Type 0 where

@@ -1,10 +1,11 @@
 -- The lines in which entries are held (profile).
-use Rattle.std.specs.Prelude.{◌≡◌, ℕ, List, [], ◌∷◌, length, map, take, flat_map, Option, Some, None}
+use Rattle.std.specs.Prelude.{◌≡◌, ◌≤◌, ℕ, List, [], ◌∷◌, length, map, take, flat_map, Option, Some, None}
 use Rattle.a429_record.specs.declared.entry.Entry.{Entry}
 use Rattle.a429_record.specs.Row.{entry_in}
 use Rattle.a429_record.specs.Recording.{rows_of}
 use Rattle.a429_record.specs.WholeRecordings.{AreEntries}
 use Rattle.a429_record.specs.Writing.{line_text}
+use Rattle.a429_parts.specs.declared.waiting.LineEnd.{LineEnd}
 
 -- those that are there
 abbrev pub somes : List (Option Entry) → List Entry
@@ -23,3 +24,7 @@ AreWritten lines = (lines ≡ flat_map line_text (entries_of lines)) × AreEntri
 -- how many bytes the lines of the first of entries have, so many
 abbrev pub size_of : ℕ → List Entry → ℕ
 size_of n es = length (flat_map line_text (take n es))
+
+-- an end of some of the first lines: it has as many bytes as they have
+abbrev pub IsLineEnd : List ℕ → LineEnd → Type 0
+IsLineEnd lines end = (end.lines ≤ length (entries_of lines)) × (end.bytes ≡ size_of end.lines (entries_of lines))

@@ -113,6 +113,7 @@ impl Cutter {
         match self.watch.take(profile, &word) {
             Some(place) => {
                 self.place = place;
+                self.waiting.note(place.saturating_sub(self.begin));
                 Ok(())
             }
             None => Ok(()),

@@ -4,7 +4,7 @@ ghost use Rattle.std.specs.Prelude.{◌≡◌, ◌-◌, ◌≤◌, ◌↔◌, �
 ghost use Rattle.a429_word.specs.Tally.{has_failed, Puts, PutsFront};
 ghost use Rattle.a429_word.specs.declared.trouble.Trouble.TheVariants as fault;
 ghost use Rattle.a429_record.specs.Writing.{line_text, written_form};
-ghost use Rattle.a429_parts.specs.Waiting.{entries_of, size_of, AreWritten};
+ghost use Rattle.a429_parts.specs.Waiting.{entries_of, size_of, AreWritten, IsLineEnd};
 
 use a429_record::{Entry, EntryLine, WriteFault, write_lines};
 use a429_word::Tally;
@@ -25,19 +25,31 @@ pub(crate) struct Waiting {
     before: Vec<Entry>,
     lines: Vec<u8>,
     after: Vec<Entry>,
+    // An end of some of the lines, which `note` has found.
+    noted: LineEnd,
 }
 
 impl Model for Waiting {
     ghost use Rattle.std.specs.Prelude.{◌≡◌, ◌++◌, List, length};
     ghost use Rattle.a429_record.specs.declared.entry.Entry.{Entry};
-    ghost use Rattle.a429_parts.specs.Waiting.{entries_of, AreWritten};
+    ghost use Rattle.a429_parts.specs.Waiting.{entries_of, AreWritten, IsLineEnd};
 
     ghost Value = { List Entry };
 
     ghost view = { λ w. w.before.items ++ (entries_of w.lines.items ++ w.after.items) };
 
-    ghost invariant = { λ w. AreWritten w.lines.items × (w.len ≡ length (w.before.items ++ (entries_of w.lines.items ++ w.after.items))) };
+    ghost invariant = { λ w. AreWritten w.lines.items × (w.len ≡ length (w.before.items ++ (entries_of w.lines.items ++ w.after.items))) × IsLineEnd w.lines.items w.noted };
 }
+
+/// Where the first of some lines end: how many lines they are, and how many bytes they have.
+#[derive(Clone, Copy, Debug)]
+pub struct LineEnd {
+    pub lines: usize,
+    pub bytes: usize,
+}
+
+// Where none of them end.
+const NO_LINES: LineEnd = LineEnd { lines: 0, bytes: 0 };
 
 /// Entries of a recording, lent: some as entries, some as lines, and some as entries again.
 #[derive(Debug, Drop)]
@@ -71,6 +83,7 @@ impl Waiting {
             before: Vec::new(alloc),
             lines: Vec::new(alloc),
             after: Vec::new(alloc),
+            noted: NO_LINES,
         }
     }
 
@@ -102,12 +115,30 @@ impl Waiting {
         Ok(())
     }
 
+    /// Remembers where the first of them end, so many: `first` and `drop_first` find it at once then.
+    #[inline(never)]
+    pub(crate) fn note(&mut self, size: usize)
+        ensures { self.new ≡ self.old }
+    {
+        let lined = self.len - self.before.len() - self.after.len();
+        let lines = size.saturating_sub(self.before.len()).min(lined);
+        let bytes = end_of_lines(&self.lines, lined, self.noted, lines);
+        self.noted = LineEnd { lines, bytes };
+    }
+
     /// The first of them, so many.
     pub(crate) fn first(&self, size: usize) -> Rows<'_>
         requires { size ≤ length self.now }
         ensures { result ≡ take size self.now }
     {
-        let cut = end_of_first(&self.before, &self.lines, &self.after, self.len, size);
+        let cut = end_of_first(
+            &self.before,
+            &self.lines,
+            &self.after,
+            self.len,
+            self.noted,
+            size,
+        );
         Rows {
             len: size,
             before: &self.before[..cut.before],
@@ -121,11 +152,19 @@ impl Waiting {
         requires { size ≤ length self.old }
         ensures { self.new ≡ drop size self.old }
     {
-        let cut = end_of_first(&self.before, &self.lines, &self.after, self.len, size);
+        let cut = end_of_first(
+            &self.before,
+            &self.lines,
+            &self.after,
+            self.len,
+            self.noted,
+            size,
+        );
         drop_front(&mut self.before, cut.before);
         drop_front(&mut self.lines, cut.lines);
         drop_front(&mut self.after, cut.after);
         self.len -= size;
+        self.noted = NO_LINES;
         if self.before.is_empty() && self.lines.is_empty() {
             move_to_front(&mut self.before, &mut self.after);
         }
@@ -147,6 +186,7 @@ impl Waiting {
             before,
             lines,
             after,
+            noted: NO_LINES,
         })
     }
 }
@@ -164,10 +204,11 @@ impl<'a> Rows<'a> {
     }
 }
 
-// Whether a further entry may be held as a line, where so many are, in so many bytes.
+// Whether a further entry may be held as a line, where so many are, in so many bytes. No memory is so large that the sum
+// overflows.
 #[inline(always)]
 fn has_room(lined: usize, bytes: usize, spare: usize) -> bool {
-    bytes <= lined.saturating_mul(ENTRY_BYTES).saturating_add(spare)
+    bytes <= lined.wrapping_mul(ENTRY_BYTES).wrapping_add(spare)
 }
 
 // Where the first of entries that wait end: after so many of those before the lines, so many bytes of the lines, and so many
@@ -180,9 +221,17 @@ struct Cut {
 }
 
 // Where the first of all these entries end, so many.
-fn end_of_first(before: &[Entry], lines: &[u8], after: &[Entry], len: usize, size: usize) -> Cut
+fn end_of_first(
+    before: &[Entry],
+    lines: &[u8],
+    after: &[Entry],
+    len: usize,
+    noted: LineEnd,
+    size: usize,
+) -> Cut
     requires written { AreWritten lines.now }
     requires len { len ≡ length (before.now ++ (entries_of lines.now ++ after.now)) }
+    requires noted { IsLineEnd lines.now noted }
     requires size { size ≤ len }
     ensures before { result.before ≡ min size (length before.now) }
     ensures lines { result.lines ≡ size_of (size - length before.now) (entries_of lines.now) }
@@ -192,7 +241,7 @@ fn end_of_first(before: &[Entry], lines: &[u8], after: &[Entry], len: usize, siz
     let past = size.saturating_sub(before.len());
     Cut {
         before: size.min(before.len()),
-        lines: start_of_last(lines, lined.saturating_sub(past)),
+        lines: end_of_lines(lines, lined, noted, past.min(lined)),
         after: past.saturating_sub(lined),
     }
 }
@@ -215,6 +264,22 @@ fn move_to_front(before: &mut Vec<Entry>, after: &mut Vec<Entry>)
 {
     if before.extend_from_slice(after.as_slice()).is_ok() {
         after.clear();
+    }
+}
+
+// Where the first of these lines end, so many. Their end is looked for line by line, back from the noted end, or where that
+// comes before it, from the end of all lines.
+fn end_of_lines(lines: &[u8], len: usize, noted: LineEnd, count: usize) -> usize
+    requires written { AreWritten lines.now }
+    requires len { len ≡ length (entries_of lines.now) }
+    requires noted { IsLineEnd lines.now noted }
+    requires count { count ≤ len }
+    ensures { result ≡ size_of count (entries_of lines.now) }
+{
+    if count <= noted.lines {
+        start_of_last(&lines[..noted.bytes], noted.lines - count)
+    } else {
+        start_of_last(lines, len - count)
     }
 }
 

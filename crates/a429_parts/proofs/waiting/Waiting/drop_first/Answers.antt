@@ -1,4 +1,4 @@
-use Rattle.std.proofs.Common.{◌≡◌, ◌∙◌, ◌-◌, ◌++◌, List, length, drop, ap, sym, arith}
+use Rattle.std.proofs.Common.{◌≡◌, ◌∙◌, ◌-◌, ◌++◌, List, length, drop, ap, sym, refl, arith}
 use Rattle.std.proofs.lemmas.List.{length-drop}
 use Rattle.a429_record.specs.declared.entry.Entry.{Entry}
 use Rattle.a429_parts.specs.Waiting.{entries_of, AreWritten}
@@ -35,13 +35,13 @@ invariant_of-self c =
     let none = none_in b.items b.len (omega (arith, b.ok.0)) (sym c.is_empty.ensures ∙ c.if-is_empty.true) in
     let unlined = none_in l.items l.len (omega (arith, l.ok.0)) (sym c.is_empty-then-is_empty.ensures ∙ c.if-is_empty-2.true) in
     let same = alone b.items l.items a.items c.move_to_front.new.before.items c.move_to_front.new.after.items none unlined c.move_to_front.ensures in
-    (rest.0, omega (arith, ap length (same ∙ rest.1), length-drop c.args.size (s.before.items ++ (entries_of s.lines.items ++ s.after.items)), c.self.invariant.1))
+    (rest.0, omega (arith, ap length (same ∙ rest.1), length-drop c.args.size (s.before.items ++ (entries_of s.lines.items ++ s.after.items)), c.self.invariant.1), (omega arith, refl))
 
 pub invariant_of-self-else-is_empty-2 : goal.invariant_of-self-else-is_empty-2
 invariant_of-self-else-is_empty-2 c =
     let s = c.self.inside in
     let rest = dropped (goal.at.invariant_of-self-else-is_empty-2 c).After-drop_front-3 in
-    (rest.0, omega (arith, ap length rest.1, length-drop c.args.size (s.before.items ++ (entries_of s.lines.items ++ s.after.items)), c.self.invariant.1))
+    (rest.0, omega (arith, ap length rest.1, length-drop c.args.size (s.before.items ++ (entries_of s.lines.items ++ s.after.items)), c.self.invariant.1), (omega arith, refl))
 
 pub move_to_front-requires : goal.move_to_front-requires
 move_to_front-requires c =
@@ -52,7 +52,7 @@ pub invariant_of-self-else-is_empty : goal.invariant_of-self-else-is_empty
 invariant_of-self-else-is_empty c =
     let s = c.self.inside in
     let rest = dropped (goal.at.invariant_of-self-else-is_empty c).After-drop_front-3 in
-    (rest.0, omega (arith, ap length rest.1, length-drop c.args.size (s.before.items ++ (entries_of s.lines.items ++ s.after.items)), c.self.invariant.1))
+    (rest.0, omega (arith, ap length rest.1, length-drop c.args.size (s.before.items ++ (entries_of s.lines.items ++ s.after.items)), c.self.invariant.1), (omega arith, refl))
 
 pub returns-then-is_empty-2 : goal.returns-then-is_empty-2
 returns-then-is_empty-2 c =
