@@ -1,31 +1,56 @@
 -- Hexadecimal digits, written and read.
-use Rattle.std.proofs.Common.{◌≡◌, ℕ, zero, suc, ◌+◌, ◌*◌, ◌/◌, ◌%◌, ◌^◌, ◌<◌, ◌≤◌, refl, ap, ◌∙◌, arith, List, [], ◌∷◌, length, get_or, Option, Some, None, true, bit_and}
+use Rattle.std.proofs.Common.{◌≡◌, ℕ, zero, suc, ◌+◌, ◌*◌, ◌/◌, ◌%◌, ◌^◌, ◌<◌, ◌≤◌, refl, sym, ap, subst, ◌∙◌, arith, List, [], ◌∷◌, ◌++◌, length, get_or, Option, Some, None, true, bit_and}
 use Rattle.std.specs.Char.{digit_value}
 use Rattle.std.specs.Fmt.{digit_glyph}
 use Rattle.std.specs.Str.Parse.{digits_value, AllDigits}
 use Rattle.std.proofs.lemmas.Nat.{and_mask}
 use Rattle.std.proofs.lemmas.Bool.Decides.{nat_tests}
-use Rattle.a429_word.specs.Digits.{numeral, hex_text, octal_text, AreUpper, ReadsHex}
+use Rattle.a429_word.specs.Digits.{numeral, hex_text, octal_text, IsHexWord, AreUpper, ReadsHex}
+use Rattle.a429_word.specs.declared.digits.Letters.{Letters}
+use Rattle.a429_word.specs.declared.digits.Letters.TheVariants.{Upper}
 
 -- ---- reading
 
--- eight digits, told in halves
-pub eight_hex : (text : List ℕ) (w : ℕ) → length text ≡ 8
-    → AllDigits 16 (get_or text 0 0 ∷ get_or text 1 0 ∷ get_or text 2 0 ∷ get_or text 3 0 ∷ [])
-    → AllDigits 16 (get_or text 4 0 ∷ get_or text 5 0 ∷ get_or text 6 0 ∷ get_or text 7 0 ∷ [])
-    → w ≡ digits_value 16 (get_or text 0 0 ∷ get_or text 1 0 ∷ get_or text 2 0 ∷ get_or text 3 0 ∷ []) * 65536
-    + digits_value 16 (get_or text 4 0 ∷ get_or text 5 0 ∷ get_or text 6 0 ∷ get_or text 7 0 ∷ [])
-    → ReadsHex text (Some w)
-eight_hex (a ∷ b ∷ c ∷ d ∷ e ∷ f ∷ g ∷ h ∷ []) w long high low is = ((refl, (high.0, (high.1.0, (high.1.1.0, (high.1.1.1.0, low))))), omega arith)
-eight_hex (a ∷ b ∷ c ∷ d ∷ e ∷ f ∷ g ∷ h ∷ i ∷ text) w long high low is = absurd (omega arith)
-eight_hex [] w long high low is = absurd (omega arith)
-eight_hex (a ∷ []) w long high low is = absurd (omega arith)
-eight_hex (a ∷ b ∷ []) w long high low is = absurd (omega arith)
-eight_hex (a ∷ b ∷ c ∷ []) w long high low is = absurd (omega arith)
-eight_hex (a ∷ b ∷ c ∷ d ∷ []) w long high low is = absurd (omega arith)
-eight_hex (a ∷ b ∷ c ∷ d ∷ e ∷ []) w long high low is = absurd (omega arith)
-eight_hex (a ∷ b ∷ c ∷ d ∷ e ∷ f ∷ []) w long high low is = absurd (omega arith)
-eight_hex (a ∷ b ∷ c ∷ d ∷ e ∷ f ∷ g ∷ []) w long high low is = absurd (omega arith)
+-- hexadecimal digits with these letters
+abbrev AreDigits : Letters → List ℕ → Type 0
+AreDigits letters text = AllDigits 16 text × (letters ≡ Upper → AreUpper text)
+
+abbrev first_four : List ℕ → List ℕ
+first_four text = get_or text 0 0 ∷ get_or text 1 0 ∷ get_or text 2 0 ∷ get_or text 3 0 ∷ []
+
+abbrev next_four : List ℕ → List ℕ
+next_four text = get_or text 4 0 ∷ get_or text 5 0 ∷ get_or text 6 0 ∷ get_or text 7 0 ∷ []
+
+eight_bytes : (text : List ℕ) → length text ≡ 8 → first_four text ++ next_four text ≡ text
+eight_bytes (a ∷ b ∷ c ∷ d ∷ e ∷ f ∷ g ∷ h ∷ []) long = refl
+eight_bytes (a ∷ b ∷ c ∷ d ∷ e ∷ f ∷ g ∷ h ∷ i ∷ text) long = absurd (omega arith)
+eight_bytes [] long = absurd (omega arith)
+eight_bytes (a ∷ []) long = absurd (omega arith)
+eight_bytes (a ∷ b ∷ []) long = absurd (omega arith)
+eight_bytes (a ∷ b ∷ c ∷ []) long = absurd (omega arith)
+eight_bytes (a ∷ b ∷ c ∷ d ∷ []) long = absurd (omega arith)
+eight_bytes (a ∷ b ∷ c ∷ d ∷ e ∷ []) long = absurd (omega arith)
+eight_bytes (a ∷ b ∷ c ∷ d ∷ e ∷ f ∷ []) long = absurd (omega arith)
+eight_bytes (a ∷ b ∷ c ∷ d ∷ e ∷ f ∷ g ∷ []) long = absurd (omega arith)
+
+-- four digits and four are eight
+pub eight_hex : (letters : Letters) (text : List ℕ) (w : ℕ) → length text ≡ 8 → AreDigits letters (first_four text) → AreDigits letters (next_four text)
+    → w ≡ digits_value 16 (first_four text) * 65536 + digits_value 16 (next_four text)
+    → IsHexWord text × (letters ≡ Upper → AreUpper text) × (w ≡ digits_value 16 text)
+eight_hex letters text w long high low is =
+    let all : AllDigits 16 (first_four text ++ next_four text) = (high.0.0, (high.0.1.0, (high.0.1.1.0, (high.0.1.1.1.0, low.0)))) in
+    let upper : letters ≡ Upper → AreUpper (first_four text ++ next_four text) = λ u. let h = high.1 u in (h.0, (h.1.0, (h.1.1.0, (h.1.1.1.0, low.1 u)))) in
+    subst (λ (t : List ℕ). IsHexWord t × (letters ≡ Upper → AreUpper t) × (w ≡ digits_value 16 t)) (eight_bytes text long) ((refl, all), upper, omega arith)
+
+-- and eight are four and four
+pub eight_halves : (letters : Letters) (text : List ℕ) → IsHexWord text → (letters ≡ Upper → AreUpper text) → AreDigits letters (first_four text) × AreDigits letters (next_four text)
+eight_halves letters text hex upper =
+    let is = sym (eight_bytes text hex.0) in
+    let all = subst (λ (t : List ℕ). AllDigits 16 t) is hex.1 in
+    let ups : letters ≡ Upper → AreUpper (first_four text ++ next_four text) = λ u. subst (λ (t : List ℕ). AreUpper t) is (upper u) in (
+      ((all.0, (all.1.0, (all.1.1.0, (all.1.1.1.0, tt)))), λ u. let h = ups u in (h.0, (h.1.0, (h.1.1.0, (h.1.1.1.0, tt))))),
+      (all.1.1.1.1, λ u. (ups u).1.1.1.1),
+    )
 
 -- ---- writing
 
@@ -73,9 +98,10 @@ hex_text-read w (Some v) h is = ap Some (is.1 ∙ digits_value-hex_text w h)
 glyph_is : (b n : ℕ) → digit_value b < 16 → b ≤ 70 → n ≡ digit_value b → digit_glyph true n ≡ b
 glyph_is b n h upper is = grind (arith, nat_tests)
 
-pub numeral_is : (text : List ℕ) → length text ≡ 8 → AllDigits 16 text → AreUpper text → hex_text (digits_value 16 text) ≡ text
+eight_glyphs : (a b c d e f g h : ℕ) → AllDigits 16 (a ∷ b ∷ c ∷ d ∷ e ∷ f ∷ g ∷ h ∷ []) → AreUpper (a ∷ b ∷ c ∷ d ∷ e ∷ f ∷ g ∷ h ∷ [])
+    → hex_text (digits_value 16 (a ∷ b ∷ c ∷ d ∷ e ∷ f ∷ g ∷ h ∷ [])) ≡ a ∷ b ∷ c ∷ d ∷ e ∷ f ∷ g ∷ h ∷ []
 unfolding numeral
-numeral_is (a ∷ b ∷ c ∷ d ∷ e ∷ f ∷ g ∷ h ∷ []) long all upper =
+eight_glyphs a b c d e f g h all upper =
     let v = digits_value 16 (a ∷ b ∷ c ∷ d ∷ e ∷ f ∷ g ∷ h ∷ []) in
     let (pa, (pb, (pc, (pd, (pe, (pf, (pg, (ph, pn)))))))) = all in
     let (ua, (ub, (uc, (ud, (ue, (uf, (ug, (uh, un)))))))) = upper in
@@ -88,15 +114,12 @@ numeral_is (a ∷ b ∷ c ∷ d ∷ e ∷ f ∷ g ∷ h ∷ []) long all upper =
     let gg = glyph_is g (v / 16 ^ 1 % 16) pg ug (omega arith) in
     let gh = glyph_is h (v / 16 ^ 0 % 16) ph uh (omega arith) in
     rw (ga, gb, gc, gd, ge, gf, gg, gh) refl
-numeral_is (a ∷ b ∷ c ∷ d ∷ e ∷ f ∷ g ∷ h ∷ i ∷ text) long all upper = absurd (omega arith)
-numeral_is [] long all upper = absurd (omega arith)
-numeral_is (a ∷ []) long all upper = absurd (omega arith)
-numeral_is (a ∷ b ∷ []) long all upper = absurd (omega arith)
-numeral_is (a ∷ b ∷ c ∷ []) long all upper = absurd (omega arith)
-numeral_is (a ∷ b ∷ c ∷ d ∷ []) long all upper = absurd (omega arith)
-numeral_is (a ∷ b ∷ c ∷ d ∷ e ∷ []) long all upper = absurd (omega arith)
-numeral_is (a ∷ b ∷ c ∷ d ∷ e ∷ f ∷ []) long all upper = absurd (omega arith)
-numeral_is (a ∷ b ∷ c ∷ d ∷ e ∷ f ∷ g ∷ []) long all upper = absurd (omega arith)
+
+-- eight digits in upper case are the text of the word that they write
+pub hex_text-read_upper : (text : List ℕ) (w : ℕ) → IsHexWord text → AreUpper text → w ≡ digits_value 16 text → text ≡ hex_text w
+hex_text-read_upper text w hex upper is =
+    let same = subst (λ (t : List ℕ). AllDigits 16 t → AreUpper t → hex_text (digits_value 16 t) ≡ t) (eight_bytes text hex.0) (eight_glyphs _ _ _ _ _ _ _ _) hex.1 upper in
+    sym same ∙ ap hex_text (sym is)
 
 glyph_upper : (d : ℕ) → d < 16 → digit_glyph true d ≤ 70
 glyph_upper d h = grind (arith, nat_tests)
@@ -106,35 +129,9 @@ unfolding numeral
 AreUpper-numeral zero w = tt
 AreUpper-numeral (suc k) w = (glyph_upper (w / 16 ^ k % 16) (omega arith), AreUpper-numeral k w)
 
-length-hex_text : (w : ℕ) → length (hex_text w) ≡ 8
+-- the text of a word is eight digits in upper case
+pub hex_text-upper : (text : List ℕ) (w : ℕ) → text ≡ hex_text w → IsHexWord text × AreUpper text
 unfolding numeral
-length-hex_text w = refl
+hex_text-upper text w is = rw is ((refl, AllDigits-numeral 8 w), AreUpper-numeral 8 w)
 
--- eight digits, told in halves
-pub upper_joined : (text : List ℕ) → length text ≡ 8
-    → AreUpper (get_or text 0 0 ∷ get_or text 1 0 ∷ get_or text 2 0 ∷ get_or text 3 0 ∷ [])
-    → AreUpper (get_or text 4 0 ∷ get_or text 5 0 ∷ get_or text 6 0 ∷ get_or text 7 0 ∷ [])
-    → AreUpper text
-upper_joined (a ∷ b ∷ c ∷ d ∷ e ∷ f ∷ g ∷ h ∷ []) long p q = (p.0, (p.1.0, (p.1.1.0, (p.1.1.1.0, q))))
-upper_joined (a ∷ b ∷ c ∷ d ∷ e ∷ f ∷ g ∷ h ∷ i ∷ text) long p q = absurd (omega arith)
-upper_joined [] long p q = absurd (omega arith)
-upper_joined (a ∷ []) long p q = absurd (omega arith)
-upper_joined (a ∷ b ∷ []) long p q = absurd (omega arith)
-upper_joined (a ∷ b ∷ c ∷ []) long p q = absurd (omega arith)
-upper_joined (a ∷ b ∷ c ∷ d ∷ []) long p q = absurd (omega arith)
-upper_joined (a ∷ b ∷ c ∷ d ∷ e ∷ []) long p q = absurd (omega arith)
-upper_joined (a ∷ b ∷ c ∷ d ∷ e ∷ f ∷ []) long p q = absurd (omega arith)
-upper_joined (a ∷ b ∷ c ∷ d ∷ e ∷ f ∷ g ∷ []) long p q = absurd (omega arith)
-
--- the halves of a word's digits are digits in upper case
-pub upper_halves : (text : List ℕ) (w : ℕ) → text ≡ hex_text w
-    → (AllDigits 16 (get_or text 0 0 ∷ get_or text 1 0 ∷ get_or text 2 0 ∷ get_or text 3 0 ∷ []) × AreUpper (get_or text 0 0 ∷ get_or text 1 0 ∷ get_or text 2 0 ∷ get_or text 3 0 ∷ []))
-    × (AllDigits 16 (get_or text 4 0 ∷ get_or text 5 0 ∷ get_or text 6 0 ∷ get_or text 7 0 ∷ []) × AreUpper (get_or text 4 0 ∷ get_or text 5 0 ∷ get_or text 6 0 ∷ get_or text 7 0 ∷ []))
-unfolding numeral
-upper_halves text w is =
-    let p = AllDigits-numeral 8 w in
-    let q = AreUpper-numeral 8 w in
-    rw is (((p.0, (p.1.0, (p.1.1.0, (p.1.1.1.0, tt)))), (q.0, (q.1.0, (q.1.1.0, (q.1.1.1.0, tt))))), (p.1.1.1.1, q.1.1.1.1))
-
-pub eight_long : (text : List ℕ) (w : ℕ) → text ≡ hex_text w → length text ≡ 8
-eight_long text w is = rw is (length-hex_text w)
+pub ruleset upper_hex = (hex_text-read_upper, hex_text-upper)

@@ -4,9 +4,19 @@ ghost use Rattle.std.specs.Prelude.{◌≡◌, ◌<◌, ◌≤◌, ◌^◌, ◌*
 ghost use Rattle.std.specs.Char.{digit_value};
 ghost use Rattle.std.specs.Fmt.{digit_glyph};
 ghost use Rattle.std.specs.Str.Parse.{digits_value, AllDigits};
-ghost use Rattle.a429_word.specs.Digits.{hex_text, octal_text, AreUpper, ReadsHex};
+ghost use Rattle.a429_word.specs.Digits.{hex_text, octal_text, IsHexWord, AreUpper, ReadsHex};
+ghost use Rattle.a429_word.specs.declared.digits.Letters.TheVariants.{Upper};
 
 use crate::word::Word;
+
+// The letters that are hexadecimal digits, besides 0 to 9.
+#[derive(Clone, Copy)]
+enum Letters {
+    // A to F and a to f.
+    Either,
+    // A to F alone.
+    Upper,
+}
 
 const HEX_DIGITS: [u8; 16] = *b"0123456789ABCDEF";
 
@@ -63,28 +73,30 @@ impl Word {
     pub fn parse_hex(text: &[u8]) -> Option<Word>
         ensures { ReadsHex text.now result }
     {
-        if text.len() != 8 {
-            return None;
-        }
-        let upper = number_of_four(text[0], text[1], text[2], text[3]);
-        let lower = number_of_four(text[4], text[5], text[6], text[7]);
-        if upper >= NONE || lower >= NONE {
-            return None;
-        }
-        Some(Word::from_u32(upper * 65536 + lower))
+        Word::parse(Letters::Either, text)
     }
 
     /// The word whose digits these are, as `hex` writes them; `None` for any other text (profile).
     #[inline(always)]
+    #[tactic(auto, using(crate::proofs::DigitsFacts::upper_hex))]
     pub fn parse_upper_hex(text: &[u8]) -> Option<Word>
         ensures some { IfSome result (λ w. text.now ≡ hex_text w) }
         ensures none { IfNone result ((w : ℕ) → w < 2 ^ 32 → text.now ≡ hex_text w → ⊥) }
     {
+        Word::parse(Letters::Upper, text)
+    }
+
+    // The word that eight hexadecimal digits with these letters write; `None` for any other text.
+    #[inline(always)]
+    fn parse(letters: Letters, text: &[u8]) -> Option<Word>
+        ensures some { IfSome result (λ w. IsHexWord text.now × (letters ≡ Upper → AreUpper text.now) × (w ≡ digits_value 16 text.now)) }
+        ensures none { IfNone result (¬ (IsHexWord text.now × (letters ≡ Upper → AreUpper text.now))) }
+    {
         if text.len() != 8 {
             return None;
         }
-        let upper = number_of_upper(text[0], text[1], text[2], text[3]);
-        let lower = number_of_upper(text[4], text[5], text[6], text[7]);
+        let upper = number_of_four(letters, text[0], text[1], text[2], text[3]);
+        let lower = number_of_four(letters, text[4], text[5], text[6], text[7]);
         if upper >= NONE || lower >= NONE {
             return None;
         }
@@ -120,47 +132,29 @@ pub fn hex_digit(number: u8) -> u8
     HEX_DIGITS[usize::from(number)]
 }
 
-// The number that four hexadecimal digits write, and `NONE` or more where one of them is none. So the
-// digits are tested and counted at once.
+// The number that four hexadecimal digits with these letters write, and `NONE` or more where one of them
+// is none. So the digits are tested and counted at once.
 #[inline(always)]
-fn number_of_four(a: u8, b: u8, c: u8, d: u8) -> u32
-    ensures digits { result < NONE ↔ AllDigits 16 (a ∷ b ∷ c ∷ d ∷ []) }
+fn number_of_four(letters: Letters, a: u8, b: u8, c: u8, d: u8) -> u32
+    ensures digits { result < NONE ↔ AllDigits 16 (a ∷ b ∷ c ∷ d ∷ []) × (letters ≡ Upper → AreUpper (a ∷ b ∷ c ∷ d ∷ [])) }
     ensures value { result < NONE → result ≡ digits_value 16 (a ∷ b ∷ c ∷ d ∷ []) }
 {
-    let upper = hex_value(a) * 16 + hex_value(b);
-    let lower = hex_value(c) * 16 + hex_value(d);
+    let upper = hex_value(letters, a) * 16 + hex_value(letters, b);
+    let lower = hex_value(letters, c) * 16 + hex_value(letters, d);
     upper * 256 + lower
 }
 
-// The value of a byte as a hexadecimal digit, and `NONE` where it is none.
+// The value of a byte as a hexadecimal digit with these letters, and `NONE` where it is none.
 #[inline(always)]
-fn hex_value(byte: u8) -> u32
-    ensures digit { result < NONE ↔ (digit_value byte < 16) }
+fn hex_value(letters: Letters, byte: u8) -> u32
+    ensures digit { result < NONE ↔ (digit_value byte < 16) × (letters ≡ Upper → byte ≤ 70) }
     ensures value { result < NONE → result ≡ digit_value byte }
     ensures most { result ≤ NONE }
 {
-    HEX_VALUES[usize::from(byte)]
-}
-
-// The same of digits in upper case alone.
-#[inline(always)]
-fn number_of_upper(a: u8, b: u8, c: u8, d: u8) -> u32
-    ensures digits { result < NONE ↔ AllDigits 16 (a ∷ b ∷ c ∷ d ∷ []) × AreUpper (a ∷ b ∷ c ∷ d ∷ []) }
-    ensures value { result < NONE → result ≡ digits_value 16 (a ∷ b ∷ c ∷ d ∷ []) }
-{
-    let upper = upper_hex_value(a) * 16 + upper_hex_value(b);
-    let lower = upper_hex_value(c) * 16 + upper_hex_value(d);
-    upper * 256 + lower
-}
-
-// The value of a byte as a hexadecimal digit in upper case, and `NONE` where it is none.
-#[inline(always)]
-fn upper_hex_value(byte: u8) -> u32
-    ensures digit { result < NONE ↔ (digit_value byte < 16) × (byte ≤ 70) }
-    ensures value { result < NONE → result ≡ digit_value byte }
-    ensures most { result ≤ NONE }
-{
-    UPPER_HEX_VALUES[usize::from(byte)]
+    match letters {
+        Letters::Either => HEX_VALUES[usize::from(byte)],
+        Letters::Upper => UPPER_HEX_VALUES[usize::from(byte)],
+    }
 }
 
 /// A label as it is written (Part 1): three octal digits, 000 to 377.

@@ -1,23 +1,21 @@
-use Rattle.std.proofs.Common.{◌<◌, ◌∙◌, arith, ap}
-use Rattle.std.specs.Char.{digit_value}
-use Rattle.a429_word.proofs.Tables.{tabulated-at}
-use Rattle.a429_word.proofs.HexValues.{or_none, digit-is, value-is, most-is}
+use Rattle.a429_word.specs.declared.digits.Letters.TheVariants.{Either, Upper}
+use Rattle.a429_word.proofs.HexValues.{tabulated-is}
 use Rattle.a429_word.proofs.digits.hex_value.Goals as goal
 
-pub returns-clause-digit : goal.returns-clause-digit
-returns-clause-digit c =
-    let inside : c.from.result < 256 = omega arith in
-    let value = tabulated-at (λ b. or_none (digit_value b)) 256 c.from.result inside ∙ ap (λ b. or_none (digit_value b)) c.from.ensures in
-    rw value (digit-is (digit_value c.args.byte))
+pub returns-in-Either-clause-digit : goal.returns-in-Either-clause-digit
+returns-in-Either-clause-digit c = rw c.in-Either.is (tabulated-is Either c.args.byte c.from.result c.ranges.byte.fits c.from.ensures).digit
 
-pub returns-clause-value : goal.returns-clause-value
-returns-clause-value c =
-    let inside : c.from.result < 256 = omega arith in
-    let value = tabulated-at (λ b. or_none (digit_value b)) 256 c.from.result inside ∙ ap (λ b. or_none (digit_value b)) c.from.ensures in
-    rw value (value-is (digit_value c.args.byte))
+pub returns-in-Either-clause-value : goal.returns-in-Either-clause-value
+returns-in-Either-clause-value c = (tabulated-is Either c.args.byte c.from.result c.ranges.byte.fits c.from.ensures).value
 
-pub returns-clause-most : goal.returns-clause-most
-returns-clause-most c =
-    let inside : c.from.result < 256 = omega arith in
-    let value = tabulated-at (λ b. or_none (digit_value b)) 256 c.from.result inside ∙ ap (λ b. or_none (digit_value b)) c.from.ensures in
-    rw value (most-is (digit_value c.args.byte))
+pub returns-in-Either-clause-most : goal.returns-in-Either-clause-most
+returns-in-Either-clause-most c = (tabulated-is Either c.args.byte c.from.result c.ranges.byte.fits c.from.ensures).most
+
+pub returns-in-Upper-clause-digit : goal.returns-in-Upper-clause-digit
+returns-in-Upper-clause-digit c = rw c.in-Upper.is (tabulated-is Upper c.args.byte c.from-in-Upper.result c.ranges.byte.fits c.from-in-Upper.ensures).digit
+
+pub returns-in-Upper-clause-value : goal.returns-in-Upper-clause-value
+returns-in-Upper-clause-value c = (tabulated-is Upper c.args.byte c.from-in-Upper.result c.ranges.byte.fits c.from-in-Upper.ensures).value
+
+pub returns-in-Upper-clause-most : goal.returns-in-Upper-clause-most
+returns-in-Upper-clause-most c = (tabulated-is Upper c.args.byte c.from-in-Upper.result c.ranges.byte.fits c.from-in-Upper.ensures).most
