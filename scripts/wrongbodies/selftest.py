@@ -8,8 +8,8 @@ BESIDE = {
     "loop_variable_renamed": "file: src/bcd.rt\nold: for before in 0..k {\nnew: for earlier in 0..k {\n"
     "old: let digit = self.bcd_digit(before + 1);\nnew: let digit = self.bcd_digit(earlier + 1);\n"
     "old: return Err(BadDigit(before + 1));\nnew: return Err(BadDigit(earlier + 1));",
-    "goals_renamed_by_a_test": "file: src/digits.rt\nold: let lower = number_of_four(text[4], text[5], text[6], text[7]);\n"
-    "new: if text.is_empty() { return None; } let lower = number_of_four(text[4], text[5], text[6], text[7]);",
+    "goals_renamed_by_a_test": "file: src/digits.rt\nold: let lower = number_of_four(letters, text[4], text[5], text[6], text[7]);\n"
+    "new: if text.is_empty() { return None; } let lower = number_of_four(letters, text[4], text[5], text[6], text[7]);",
 }
 # The edits that a check has at once, and those of them that it has to show to be refused: the wrong body alone, and none where a text
 # cannot be read.

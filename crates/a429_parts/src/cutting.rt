@@ -15,7 +15,7 @@ use a429_record::{Entry, EntryLine};
 use std::alloc::Global;
 use std::marker::Model;
 
-// How many bytes more than entries the lines of those that wait may have, for each entry that a part may have.
+// The room for lines of waiting entries: for each entry that a part may have, this many bytes more than the entries would need.
 const SPARE_BYTES: usize = 8;
 
 /// Why a recording has no more parts.
@@ -27,17 +27,17 @@ pub enum PartFault {
     OutOfMemory,
 }
 
-/// Cuts a recording into parts of at most so many entries, while it is read: a part ends at the last place that is near
-/// enough. Such a place is in reach of the part, and the next entries, as many as a part may have and one, say that the
-/// recording may be cut there. It remembers the entries that are in no part yet. Call `part` after each entry, and
-/// `end_part` with its answer, until it answers none.
+/// Cuts a recording into parts of at most `most` entries, while it is read. A part ends at the last place to cut that is near
+/// enough: at most `most` entries after the part's beginning, and known as one from the next `most + 1` entries. It
+/// remembers the entries that are in no part yet. Call `part` after each entry, and `end_part` with its answer, until it
+/// answers none.
 #[derive(Debug, Drop)]
 pub struct Cutter {
     most: usize,
     watch: Watch,
-    // How many entries are in a part.
+    // How many entries are in parts.
     begin: usize,
-    // The last place, after so many entries.
+    // The last place to cut: how many entries of the recording are before it.
     place: usize,
     waiting: Waiting,
 }
@@ -51,7 +51,7 @@ impl Model for Cutter {
 }
 
 impl Cutter {
-    /// No entry has come. A part has at most so many.
+    /// A cutter to which no entry has come, for parts of at most `most` entries.
     pub fn new(alloc: Global, most: usize) -> Cutter
         ensures { result ≡ record { most = most; watched = record { count = 0; observer = Some at_first; doubt = None }; begin = 0; place = 0; waiting = [] } }
     {
@@ -71,7 +71,7 @@ impl Cutter {
         self.begin
     }
 
-    /// The first of the entries that are in no part yet, so many.
+    /// The first `size` of the entries that are in no part yet.
     pub fn waiting(&self, size: usize) -> Rows<'_>
         requires { size ≤ length self.now.waiting }
         ensures { result ≡ take size self.now.waiting }
@@ -86,7 +86,7 @@ impl Cutter {
         self.waiting.len()
     }
 
-    /// Takes the next entry, whose line this is. It takes as many as a `usize` counts. After a fault nothing has changed.
+    /// Takes the next entry and its line. It takes as many as a `usize` counts. After a fault nothing has changed.
     #[inline(always)]
     pub fn take(
         &mut self,
@@ -120,8 +120,8 @@ impl Cutter {
         }
     }
 
-    /// How many of the entries that wait are a part, if it is complete. It is not complete while the next entries may still
-    /// say that a later place is near enough. The fault is `TooMany`, where no place is near enough.
+    /// How many of the waiting entries are the next part, if it is complete. It is not complete while the entries to come may
+    /// still make a later place near enough. The fault is `TooMany`, where no place is near enough.
     #[inline(always)]
     pub fn part(&self) -> Result<Option<usize>, PartFault>
         ensures some { IfOk result (λ o. IfSome o (IsNextPart self.now)) }
@@ -135,7 +135,7 @@ impl Cutter {
         self.last_part()
     }
 
-    /// The same, where no entry comes any more: then the entries that wait are the last part where none is answered.
+    /// The same at the end of the recording. If it answers none, the waiting entries are the last part.
     pub fn part_at_end(&self) -> Result<Option<usize>, PartFault>
         ensures some { IfOk result (λ o. IfSome o (IsNextPartAtEnd self.now)) }
         ensures none { result ≡ Ok None → length self.now.waiting ≤ self.now.most }
@@ -181,7 +181,7 @@ impl Cutter {
         }
     }
 
-    /// Ends a part of so many of the entries that wait: they wait no longer.
+    /// Ends a part: the first `size` of the waiting entries are dropped.
     pub fn end_part(&mut self, size: usize)
         requires part { IsPart self.old size }
         ensures cuts { (p : Contents) (parted : List Entry) (rest : List Entry) → Cuts p parted rest self.old → Cuts p (parted ++ take size self.old.waiting) rest self.new }

@@ -7,7 +7,7 @@ use a429_ldu::Form;
 use a429_link::UnitNumber;
 use a429_profile::Profile;
 
-/// A place to cut, after so many words, if the words that come say so.
+/// A place that may be one to cut at: the words after it decide. It is counted in the words before it.
 #[derive(Clone, Copy, Debug, PartialEq, Eq)]
 pub(crate) enum Doubt {
     /// After an acknowledgement of this number: if the next start word has another.
@@ -16,7 +16,7 @@ pub(crate) enum Doubt {
     Anew { place: usize },
 }
 
-/// What the next word says of a place in doubt.
+/// What the next word decides of a place in doubt.
 #[derive(Clone, Copy, Debug, PartialEq, Eq)]
 pub(crate) enum Outcome {
     Open,
@@ -41,7 +41,7 @@ impl Doubt {
         matches!(self, Doubt::Anew { .. })
     }
 
-    /// What a word of this form says of it.
+    /// What a word of this form decides.
     #[inline(always)]
     pub(crate) fn outcome(&self, profile: &Profile, form: &Form) -> Outcome
         ensures open { result ≡ Outcome.Open → Leaves (Some form.now) (Some self.now) }

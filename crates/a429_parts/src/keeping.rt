@@ -43,7 +43,7 @@ pub fn put_kept<R: Read, W: Write>(
     }
 }
 
-/// The next entry, or none at the recording's end. Its line is given too, where it is known.
+/// The next entry, or none at the recording's end. `line` becomes its line, or empty where the row was not written so.
 #[inline(always)]
 pub(crate) fn next_of<R: Read>(
     rec: &mut EntryReader<R>,
@@ -63,7 +63,7 @@ pub(crate) fn next_of<R: Read>(
     }
 }
 
-// Puts the line of an entry that is kept: this one, where it is known.
+// Puts the line of an entry that is kept: `line`, unless it is empty.
 #[inline(always)]
 fn put_if_kept<W: Write>(
     profile: &Profile,

@@ -36,10 +36,10 @@ pub(crate) struct Parting {
 }
 
 /// Puts the parts of a recording as it is read, and their lines on a sheet, and answers the list of them. A part ends
-/// at the last place, at most `most` entries after its beginning, of which the next `most` entries, and one, say that the
-/// recording may be cut there, or at the end of the recording where that is as near. A recording without entries is one
-/// part. The fault is `TooMany` also where there is no such place. After a fault the parts that were complete are there: of the
-/// entries before it at most `2 * most + 1` are in none.
+/// at the last place to cut that is at most `most` entries after its beginning and known as one from the next `most + 1`
+/// entries, or at the end of the recording where that is as near. A recording without entries is one part. The fault is
+/// `TooMany` also where there is no such place. After a fault the parts that were complete stay: of the entries before the
+/// fault at most `2 * most + 1` are in no part.
 pub fn put_parts<R: Read, P: Parts, W: Write>(
     alloc: Global,
     profile: &Profile,
@@ -72,7 +72,7 @@ pub fn put_parts<R: Read, P: Parts, W: Write>(
 }
 
 impl Parting {
-    // Nothing has come. A part has at most so many entries.
+    // Nothing has come. A part has at most `most` entries.
     fn new(alloc: Global, most: usize) -> Parting
         ensures holds { (p : Contents) → Holds p most false [] [] result }
         ensures current { IsCurrent result.cutter }
@@ -84,7 +84,7 @@ impl Parting {
         }
     }
 
-    // Takes the next entry, whose line this is, and puts the parts that are complete then.
+    // Takes the next entry and its line, and puts the parts that are complete then.
     #[inline(always)]
     fn add<P: Parts, W: Write>(
         &mut self,
@@ -118,7 +118,7 @@ impl Parting {
         Ok(())
     }
 
-    // Takes the next entry, whose line this is.
+    // Takes the next entry and its line.
     #[inline(always)]
     fn take(&mut self, profile: &Profile, entry: &Entry, line: &EntryLine) -> Result<(), ReadFault>
         requires room { self.old.cutter.watched.count + 1 < 2 ^ 64 }
@@ -133,7 +133,7 @@ impl Parting {
         }
     }
 
-    // Puts the parts that are complete; where no entry comes any more, all but the last.
+    // Puts the parts that are complete; at the end of the recording all but the last.
     #[inline(always)]
     fn put_complete<P: Parts, W: Write>(
         &mut self,
@@ -163,7 +163,7 @@ impl Parting {
         }
     }
 
-    // How many of the entries that wait are the next part.
+    // How many of the waiting entries are the next part.
     #[inline(always)]
     fn size(&self, at_end: bool) -> Result<Option<usize>, PartFault>
         ensures some { IfOk result (λ o. IfSome o (λ size. IsPart self.now.cutter size × EndsFor at_end self.now.cutter size)) }
@@ -178,7 +178,7 @@ impl Parting {
         }
     }
 
-    // Puts so many of the entries that wait as the next part, and ends it.
+    // Puts the first `size` of the waiting entries as the next part, and ends it.
     #[inline(never)]
     fn put_and_end<P: Parts, W: Write>(
         &mut self,
@@ -210,7 +210,7 @@ impl Parting {
         }
     }
 
-    // Puts so many of the entries that wait as the next part, and its line on the sheet and on the list.
+    // Puts the first `size` of the waiting entries as the next part, and its line on the sheet and on the list.
     fn put<P: Parts, W: Write>(
         &mut self,
         size: usize,
@@ -289,7 +289,7 @@ fn fault_by(trouble: Trouble) -> ReadFault
     }
 }
 
-// Appends the line of a part: its number, how many entries it has, and which of the recording is its first.
+// Appends the line of a part: its number, how many entries it has, and which entry of the recording is its first.
 fn put_line(list: &mut Vec<u8>, number: usize, size: usize, from: usize) -> Result<(), AllocError>
     ensures { OnOk result (list.new.items ≡ list.old.items ++ part_line number size from) }
 {

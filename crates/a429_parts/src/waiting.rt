@@ -1,4 +1,4 @@
-//! Entries that wait for the end of their part, and lent, the first of them.
+//! Entries that wait for the end of their part, and some of them, lent.
 
 ghost use Rattle.std.specs.Prelude.{◌≡◌, ◌-◌, ◌≤◌, ◌↔◌, ◌∷◌, ◌++◌, [], length, min, take, drop, true, IfOk, IsErrOf, OnErr, OnOk};
 ghost use Rattle.a429_word.specs.Tally.{has_failed, Puts, PutsFront};
@@ -13,11 +13,11 @@ use std::alloc::{AllocError, Global};
 use std::io::Write;
 use std::marker::Model;
 
-// How many bytes an entry has, where it is not held as a line.
+// How many bytes an entry takes that is not held as a line.
 const ENTRY_BYTES: usize = 16;
 
-/// Entries that wait, in order. They are held as lines, which are written as they are, while these have at most `spare` bytes
-/// more than entries would have; else as entries.
+/// Entries that wait, in order. They are held as lines of text, ready to be written, while the lines take at most `spare` bytes
+/// more than entries would; the others are held as entries.
 #[derive(Debug, Drop)]
 pub(crate) struct Waiting {
     spare: usize,
@@ -25,7 +25,7 @@ pub(crate) struct Waiting {
     before: Vec<Entry>,
     lines: Vec<u8>,
     after: Vec<Entry>,
-    // An end of some of the lines, which `note` has found.
+    // An end of some of the lines, found by `note`.
     noted: LineEnd,
 }
 
@@ -73,7 +73,7 @@ impl<'a> Model for Rows<'a> {
 }
 
 impl Waiting {
-    /// None. Lines may have so many bytes more than entries would have.
+    /// None. Lines may take `spare` bytes more than entries would.
     pub(crate) fn new(alloc: Global, spare: usize) -> Waiting
         ensures { result ≡ [] }
     {
@@ -94,7 +94,7 @@ impl Waiting {
         self.len
     }
 
-    /// Adds one, whose line this is.
+    /// Adds an entry, given with its line.
     #[inline(always)]
     pub(crate) fn push(&mut self, entry: Entry, line: &EntryLine) -> Result<(), AllocError>
         requires { line.now ≡ line_text entry }
@@ -115,7 +115,7 @@ impl Waiting {
         Ok(())
     }
 
-    /// Remembers where the first of them end, so many: `first` and `drop_first` find it at once then.
+    /// Remembers where the first `size` of them end: `first` and `drop_first` find that place at once then.
     #[inline(never)]
     pub(crate) fn note(&mut self, size: usize)
         ensures { self.new ≡ self.old }
@@ -126,7 +126,7 @@ impl Waiting {
         self.noted = LineEnd { lines, bytes };
     }
 
-    /// The first of them, so many.
+    /// The first `size` of them.
     pub(crate) fn first(&self, size: usize) -> Rows<'_>
         requires { size ≤ length self.now }
         ensures { result ≡ take size self.now }
@@ -147,7 +147,7 @@ impl Waiting {
         }
     }
 
-    /// Drops the first of them, so many.
+    /// Drops the first `size` of them.
     pub(crate) fn drop_first(&mut self, size: usize)
         requires { size ≤ length self.old }
         ensures { self.new ≡ drop size self.old }
@@ -204,15 +204,15 @@ impl<'a> Rows<'a> {
     }
 }
 
-// Whether a further entry may be held as a line, where so many are, in so many bytes. No memory is so large that the sum
-// overflows.
+// Whether one more entry may be held as a line, where `lined` entries are, in `bytes` bytes. The sum overflows in no memory that
+// there is.
 #[inline(always)]
 fn has_room(lined: usize, bytes: usize, spare: usize) -> bool {
     bytes <= lined.wrapping_mul(ENTRY_BYTES).wrapping_add(spare)
 }
 
-// Where the first of entries that wait end: after so many of those before the lines, so many bytes of the lines, and so many
-// of those after them.
+// Where the first of the waiting entries end: how many of those before the lines, how many bytes of the lines, and how many of
+// those after the lines belong to them.
 #[derive(Clone, Copy)]
 struct Cut {
     before: usize,
@@ -220,7 +220,7 @@ struct Cut {
     after: usize,
 }
 
-// Where the first of all these entries end, so many.
+// Where the first `size` of all these entries end.
 fn end_of_first(
     before: &[Entry],
     lines: &[u8],
@@ -246,7 +246,7 @@ fn end_of_first(
     }
 }
 
-// Drops the front of a list, so many. Only what is after it is moved: `drain` moves all.
+// Drops the first `size` of a list. Only what comes after them is moved: `drain` moves all.
 fn drop_front<T: Copy>(list: &mut Vec<T>, size: usize)
     requires { size ≤ length list.old.items }
     ensures { list.new.items ≡ drop size list.old.items }
@@ -256,8 +256,8 @@ fn drop_front<T: Copy>(list: &mut Vec<T>, size: usize)
     list.truncate(left);
 }
 
-// Moves the entries after the lines before them, where nothing is left there, so that lines may be held again. Each list keeps its
-// room. Where memory is refused, the entries stay.
+// Moves the entries after the lines to the list before the lines, which is empty, so that lines may be held again. Each list
+// keeps its room. Where memory is refused, the entries stay.
 fn move_to_front(before: &mut Vec<Entry>, after: &mut Vec<Entry>)
     requires { before.old.items ≡ [] }
     ensures { before.new.items ++ after.new.items ≡ after.old.items }
@@ -267,8 +267,8 @@ fn move_to_front(before: &mut Vec<Entry>, after: &mut Vec<Entry>)
     }
 }
 
-// Where the first of these lines end, so many. Their end is looked for line by line, back from the noted end, or where that
-// comes before it, from the end of all lines.
+// Where the first `count` of these `len` lines end. It goes back line by line from the noted end, or from the end of all lines
+// where the noted end comes too early.
 fn end_of_lines(lines: &[u8], len: usize, noted: LineEnd, count: usize) -> usize
     requires written { AreWritten lines.now }
     requires len { len ≡ length (entries_of lines.now) }
@@ -283,7 +283,7 @@ fn end_of_lines(lines: &[u8], len: usize, noted: LineEnd, count: usize) -> usize
     }
 }
 
-// Where the last of some lines begin, so many.
+// Where the last `count` of some lines begin.
 fn start_of_last(lines: &[u8], count: usize) -> usize
     requires written { AreWritten lines.now }
     requires count { count ≤ length (entries_of lines.now) }

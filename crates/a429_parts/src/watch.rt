@@ -15,7 +15,7 @@ use a429_word::Bus;
 use std::alloc::Global;
 use std::marker::Model;
 
-/// What the words so far say of where the recording may be cut.
+/// Where the recording may be cut, by the words so far.
 #[derive(Debug, Drop)]
 pub(crate) struct Watch {
     alloc: Global,
@@ -56,7 +56,7 @@ impl Watch {
         self.count
     }
 
-    /// The place, after so many words, that depends on the words that come.
+    /// The place in doubt, counted in the words before it.
     pub(crate) fn place_in_doubt(&self) -> Option<usize>
         ensures { result ≡ option_map place_of self.now.doubt }
     {
@@ -66,7 +66,7 @@ impl Watch {
         }
     }
 
-    /// Takes the next word, and answers the place to cut, after so many words, that it makes certain.
+    /// Takes the next word, and answers the place to cut that it makes certain, counted in the words before it.
     #[inline(always)]
     pub(crate) fn take(&mut self, profile: &Profile, seen: &Seen) -> Option<usize>
         requires room { self.old.count + 1 < 2 ^ 64 }

@@ -101,8 +101,8 @@ impl<R: Read> EntryReader<R> {
         self.reading.next(&mut self.rec)
     }
 
-    /// The next entry, as `next` answers it, and its line, where its row was read whole and is as it is written; else the line
-    /// is empty. So a row may be written again without the digits being made anew.
+    /// The next entry, as `next` answers it. `line` becomes its row and line feed, if these are in the buffer and exactly as this
+    /// library writes the entry; else it becomes empty. So a row can be copied, and its digits need not be made again.
     #[inline(always)]
     pub fn next_line(&mut self, line: &mut EntryLine) -> Result<Option<Entry>, ReadFault>
         ensures gives { GivesNext self.old.to_come self.new.to_come result }

@@ -12,10 +12,10 @@ use std::alloc::AllocError;
 use std::io::Write;
 use std::marker::Model;
 
-/// The text of an entry, in 32 bytes at most, or none. It is the line that a recording has, where nothing else is said.
+/// The text of one entry, at most 32 bytes, or none: the line that a text recording has for it, unless a function says otherwise.
 #[derive(Debug, Drop)]
 pub struct EntryLine {
-    // it comes first
+    // (the first field, so that it is aligned)
     bytes: [u8; LONGEST],
     len: usize,
 }
@@ -31,7 +31,7 @@ impl Model for EntryLine {
 }
 
 impl EntryLine {
-    /// None.
+    /// An empty line.
     pub fn new() -> EntryLine
         ensures { result ≡ [] }
     {
@@ -45,7 +45,7 @@ impl EntryLine {
     pub(crate) fn of(entry: Entry, between: u8, after: u8) -> EntryLine
         ensures { result ≡ entry_text between after entry }
     {
-        // (room for 32 bytes from the first digit on)
+        // (room for 32 bytes, wherever the first digit is)
         let mut text = [0; LONGEST_TIME + LONGEST];
         let fields = bus_and_word(entry.bus, entry.word, between, after);
         text[LONGEST_TIME..LONGEST].copy_from_slice(&fields);
@@ -55,7 +55,7 @@ impl EntryLine {
         line
     }
 
-    /// Takes the first of 32 bytes. All of them are copied, so that a few take as long as one.
+    /// Becomes the first `len` of 32 bytes. All 32 are copied: copying a fixed number is faster than copying fewer.
     #[inline(always)]
     pub(crate) fn copy(&mut self, bytes: &[u8], len: usize)
         requires bytes { length bytes.now ≡ 32 }
@@ -66,7 +66,7 @@ impl EntryLine {
         self.len = len;
     }
 
-    /// Takes none.
+    /// Becomes empty.
     #[inline(always)]
     pub(crate) fn clear(&mut self)
         ensures { self.new ≡ [] }
@@ -74,7 +74,7 @@ impl EntryLine {
         self.len = 0;
     }
 
-    /// Whether there is none.
+    /// Whether it is empty.
     #[inline(always)]
     pub fn is_empty(&self) -> bool
         ensures { result ≡ true ↔ (self.now ≡ []) }
@@ -90,7 +90,7 @@ impl EntryLine {
         self.len
     }
 
-    /// Takes the line of an entry, where it has none yet.
+    /// Becomes the line of this entry, unless it is that already.
     #[inline(always)]
     pub fn complete(&mut self, entry: Entry)
         requires { IsLineOf self.old entry }
@@ -101,7 +101,7 @@ impl EntryLine {
         }
     }
 
-    // Takes the line of an entry.
+    // Becomes the line of this entry.
     #[cold]
     #[inline(never)]
     fn set(&mut self, entry: Entry)

@@ -10,7 +10,7 @@ use crate::entry::Entry;
 use crate::row::bus_of;
 use a429_word::{Bus, Word};
 
-// So many digits fit 64 bits, whatever they are.
+// Any number of 19 digits fits 64 bits.
 const SURE_DIGITS: usize = 19;
 
 // How many bytes come after the time: a bus and a word, each after a comma.
@@ -45,7 +45,7 @@ pub fn plain_row(bytes: &[u8]) -> Option<PlainRow>
     Some(fields.row(word))
 }
 
-/// The same, where the row is as it is written of its entry, and its line feed comes after it.
+/// The same, where the row is exactly as this library writes its entry, and a line feed comes after it.
 #[inline(always)]
 pub fn written_row(bytes: &[u8]) -> Option<PlainRow>
     ensures inside { IfSome result (λ r. r.len < length bytes.now) }
@@ -61,7 +61,7 @@ pub fn written_row(bytes: &[u8]) -> Option<PlainRow>
     Some(fields.row(word))
 }
 
-// Whether a row of so many bytes has a time with a 0 in front, that is not 0 alone.
+// Whether the time of a row of `len` bytes begins with a 0 and has more digits.
 #[inline(always)]
 fn has_zero(bytes: &[u8], len: usize) -> bool
     requires { 0 < length bytes.now }
@@ -70,7 +70,7 @@ fn has_zero(bytes: &[u8], len: usize) -> bool
     bytes[0] == b'0' && len != SHORTEST
 }
 
-// The fields of a plain row, its word as it stands, and how many bytes it has.
+// The fields of a plain row, with the bytes of its word, and how many bytes the row has.
 #[derive(Clone, Copy, Drop)]
 struct Fields<'a> {
     time: u64,

@@ -43,8 +43,8 @@ impl Reading {
         }
     }
 
-    /// The next entry of a text, after the first, where its row was read whole, makes no fault, and is as it is written of the
-    /// entry, and the row with its line feed; else none, and the line has what it had.
+    /// The next entry of a text, after the first, if its row makes no fault, and the row and its line feed are in the buffer,
+    /// exactly as this library writes them; `line` becomes the row and its line feed then. Else none, and nothing changes.
     #[inline(always)]
     pub fn written_entry(&mut self, line: &mut EntryLine) -> Option<Entry>
         ensures stage { IfSome result (λ _. self.old.stage ≡ at.Rows) }

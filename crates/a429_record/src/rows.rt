@@ -105,8 +105,9 @@ impl RowReader {
         }
     }
 
-    /// The next entry of a text, where its row was read whole, makes no fault, and is as it is written of the entry, and the
-    /// row with its line feed; else none, and the line has what it had. The header was read before.
+    /// The next entry of a text, if its row makes no fault, and the row and its line feed are in the buffer, exactly as this
+    /// library writes them; `line` becomes the row and its line feed then. Else none, and nothing changes. The header was read
+    /// before.
     #[inline(always)]
     pub fn written_entry(&mut self, line: &mut EntryLine) -> Option<Entry>
         ensures text { IfSome result (λ _. self.old.format ≡ format.Text) }

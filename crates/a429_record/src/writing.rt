@@ -48,8 +48,8 @@ pub fn write_text<W: Write>(
     write_lines(alloc, out, entries, b"", &[])
 }
 
-/// Writes a text, some lines of which are there already: the header of a recording, a line for each of the entries before
-/// them, these lines, and a line for each of the entries after them. In all else it is `write_text`.
+/// Writes a text recording, some lines of which are made already: the header, a line for each entry of `before`, then `lines`,
+/// and a line for each entry of `after`. In all else it is `write_text`.
 pub fn write_lines<W: Write>(
     alloc: Global,
     out: &mut Tally<W>,
