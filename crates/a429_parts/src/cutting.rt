@@ -60,7 +60,7 @@ impl Cutter {
             watch: Watch::new(alloc),
             begin: 0,
             place: 0,
-            waiting: Waiting::new(alloc, most.saturating_mul(SPARE_BYTES)),
+            waiting: Waiting::new(alloc, most.min(usize::MAX / 16) * SPARE_BYTES),
         }
     }
 

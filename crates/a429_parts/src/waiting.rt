@@ -204,8 +204,8 @@ impl<'a> Rows<'a> {
     }
 }
 
-// Whether one more entry may be held as a line, where `lined` entries are, in `bytes` bytes. The sum overflows in no memory that
-// there is.
+// Whether one more entry may be held as a line, where `lined` entries are, in `bytes` bytes. The sum would overflow only in
+// 2^63 bytes of memory.
 #[inline(always)]
 fn has_room(lined: usize, bytes: usize, spare: usize) -> bool {
     bytes <= lined.wrapping_mul(ENTRY_BYTES).wrapping_add(spare)
