@@ -101,8 +101,10 @@ impl<R: Read> EntryReader<R> {
         self.reading.next(&mut self.rec)
     }
 
-    /// The next entry, as `next` answers it. `line` becomes its row and line feed, if these are in the buffer and exactly as this
-    /// library writes the entry; else it becomes empty. So a row can be copied, and its digits need not be made again.
+    /// The next entry, as `next` answers it. Where the row is exactly as this library writes the entry, `line` becomes the row and
+    /// its line feed, so that they can be copied and no digits made again; else it becomes empty. It also becomes empty for the
+    /// first entry, for a time of 20 digits, and for a row that is not whole in the buffer with its line feed or begins less than
+    /// 32 bytes before the buffer's end.
     #[inline(always)]
     pub fn next_line(&mut self, line: &mut EntryLine) -> Result<Option<Entry>, ReadFault>
         ensures gives { GivesNext self.old.to_come self.new.to_come result }

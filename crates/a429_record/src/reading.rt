@@ -43,8 +43,9 @@ impl Reading {
         }
     }
 
-    /// The next entry of a text, after the first, if its row makes no fault, and the row and its line feed are in the buffer,
-    /// exactly as this library writes them; `line` becomes the row and its line feed then. Else none, and nothing changes.
+    /// The next entry of a text, after the first, where a quick look finds its row and line feed in the buffer, without a fault and
+    /// exactly as this library writes them: `line` becomes these. Else none, and nothing changes; the row may be like that all the
+    /// same.
     #[inline(always)]
     pub fn written_entry(&mut self, line: &mut EntryLine) -> Option<Entry>
         ensures stage { IfSome result (λ _. self.old.stage ≡ at.Rows) }

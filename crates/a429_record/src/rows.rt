@@ -105,9 +105,9 @@ impl RowReader {
         }
     }
 
-    /// The next entry of a text, if its row makes no fault, and the row and its line feed are in the buffer, exactly as this
-    /// library writes them; `line` becomes the row and its line feed then. Else none, and nothing changes. The header was read
-    /// before.
+    /// The next entry of a text, where a quick look finds its row and line feed in the buffer, without a fault and exactly as this
+    /// library writes them: `line` becomes these. Else none, and nothing changes; the row may be like that all the same. The header
+    /// was read before.
     #[inline(always)]
     pub fn written_entry(&mut self, line: &mut EntryLine) -> Option<Entry>
         ensures text { IfSome result (λ _. self.old.format ≡ format.Text) }

@@ -47,7 +47,7 @@ const HEX_VALUES: [u32; 256] = [
     NONE, NONE, NONE, NONE, NONE, NONE, NONE,
 ];
 
-// The same of digits in upper case alone.
+// The same of digits in upper case alone. It is a table of its own, since a test of the case takes longer.
 const UPPER_HEX_VALUES: [u32; 256] = [
     NONE, NONE, NONE, NONE, NONE, NONE, NONE, NONE, NONE, NONE, NONE, NONE, NONE, NONE, NONE, NONE,
     NONE, NONE, NONE, NONE, NONE, NONE, NONE, NONE, NONE, NONE, NONE, NONE, NONE, NONE, NONE, NONE,
