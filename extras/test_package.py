@@ -29,8 +29,9 @@ def why_not():
 
 
 def package(*words):
-    """Runs scripts/package."""
-    return subprocess.run([ROOT / "scripts/package", *words], capture_output=True, text=True)
+    """Runs scripts/package with the program that is built: the gate has just built it."""
+    env = {**os.environ, "PROGRAM": str(ROOT / "crates/a429/out/a429")}
+    return subprocess.run([ROOT / "scripts/package", *words], capture_output=True, text=True, env=env)
 
 
 @unittest.skipIf(why_not(), why_not())
@@ -99,7 +100,7 @@ class Package(unittest.TestCase):
         lines = self.text.read_text().splitlines()
         self.assertEqual(lines[0], f"a429 {self.version}")
         self.assertEqual(lines[1], f"commit {self.commit}")
-        self.assertEqual(lines[3:], [f"built by {output_of('rt', 'version')}", "gate: 12 passed, 0 failed"])
+        self.assertEqual(lines[3:], ["a program that was given, and not built here", "gate: 12 passed, 0 failed"])
 
     def test_without_a_gate_the_text_says_so(self):
         package(self.room / "three")

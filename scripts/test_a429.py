@@ -3,6 +3,7 @@ import os
 import shutil
 import subprocess
 import tempfile
+import time
 import unittest
 from pathlib import Path
 
@@ -49,6 +50,15 @@ class Builds(unittest.TestCase):
                 os.utime(self.root / "crates/a429/src/main.rt", (later, later))
             self.assertEqual(self.start("word").communicate()[0], "word\n")
             self.assertEqual(self.calls(), calls)
+
+    def test_a_source_that_is_saved_during_the_build_is_built_with_the_next_call(self):
+        call = self.start("first")
+        while self.calls() == 0:
+            time.sleep(0.02)
+        (self.root / "crates/a429/src/main.rt").write_text("// later\n")
+        self.assertEqual(call.communicate()[0], "first\n")
+        self.assertEqual(self.start("second").communicate()[0], "second\n")
+        self.assertEqual(self.calls(), 2)
 
     def test_without_rt_the_status_is_125(self):
         call = self.start("word", path="none")

@@ -14,7 +14,8 @@ class Reports(unittest.TestCase):
     def setUp(self):
         room = tempfile.TemporaryDirectory()
         self.addCleanup(room.cleanup)
-        self.results = Path(room.name)
+        self.results = Path(room.name) / "results"
+        self.results.mkdir()
 
     def put(self, name, status, verdict, differs=None):
         """The result of a recording."""
@@ -36,7 +37,7 @@ class Reports(unittest.TestCase):
     def test_each_result(self):
         rows = [
             ("a", 0, "YES files 1\nfile 1 1\n", None, None),
-            ("b", 0, "YES files 0\n", "", None),
+            ("b", 0, "YES files 0\n", "", ("failure", "no file crossed")),
             ("c", 0, "YES files 1\nfile 1 1\n", "Only in sent: 000002.bin\n", ("failure", "files differ")),
             ("d", 1, "IMPOSSIBLE 1 NotGranted\n", None, ("failure", "IMPOSSIBLE 1 NotGranted")),
             ("e", 2, "UNEXPLAINED 0 NeverWhole\n", None, ("skipped", "UNEXPLAINED 0 NeverWhole")),
@@ -54,7 +55,17 @@ class Reports(unittest.TestCase):
         self.assertEqual([*self.outcomes()], wanted)
         suite = self.report()
         totals = [suite.get(it) for it in ("tests", "failures", "errors", "skipped")]
-        self.assertEqual(totals, ["12", "3", "6", "1"])
+        self.assertEqual(totals, ["12", "4", "6", "1"])
+
+    def test_no_file_is_a_pass_where_none_was_sent(self):
+        for name, files in (("none", []), ("one", ["1"]), ("unknown", None)):
+            self.put(name, 0, "YES files 0\n", "")
+            if files is not None:
+                (self.results.parent / "sent" / name).mkdir(parents=True)
+                for file in files:
+                    (self.results.parent / "sent" / name / file).write_text("A")
+        missing = ("failure", "no file crossed")
+        self.assertEqual([*self.outcomes()], [("none",), ("one", missing), ("unknown", missing)])
 
     def test_the_report_has_what_was_said(self):
         self.put("it", 0, "YES files 1\nfile 1 1\n", "differs\n")
@@ -63,7 +74,7 @@ class Reports(unittest.TestCase):
         self.assertEqual(case.findtext("failure"), "differs\n")
 
     def test_recordings_that_nobody_judged(self):
-        self.put("a", 0, "YES files 0\n")
+        self.put("a", 0, "YES files 1\nfile 1 1\n")
         found = [*self.outcomes("recordings/b.csv", "recordings/a.csv")]
         self.assertEqual(found, [("b", ("error", "not judged")), ("a",)])
 
