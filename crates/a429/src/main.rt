@@ -2,7 +2,7 @@
 #![tactic(auto)]
 
 use a429_check::{
-    Claim, Command, Folder, PartFolder, Rule, RunFault, Span, command, read_whole, report,
+    Claim, Command, Folder, NewFile, PartFolder, Rule, RunFault, Span, command, read_whole, report,
     run_by_rule, run_cut, run_extract, run_forms, run_keep, run_labels, run_make, run_pack,
     run_picture, run_series, run_show, run_survey, run_trace, run_units, run_upgrade, run_verify,
     run_version, run_word,
@@ -39,10 +39,10 @@ struct Case<R: Read> {
 // What a command that writes a certificate is given: a profile, which was read, a recording to read, and a file for
 // the certificate.
 #[derive(Drop)]
-struct Quest<R> {
+struct Quest<'a, F: Files> {
     profile: Vec<u8>,
-    rec: Tally<R>,
-    cert: Tally<R>,
+    rec: Tally<F::File>,
+    cert: NewFile<'a, F>,
 }
 
 fn main(rt: HostRuntime) -> ExitCode {
@@ -54,7 +54,9 @@ fn main(rt: HostRuntime) -> ExitCode {
 }
 
 // Runs the command that the words ask for, and answers the exit status.
-fn run(rt: &(impl Files + Env + Print + AllocGlobal)) -> Result<u8, RunFault> {
+fn run(
+    rt: &(impl Files + Env + Print + AllocGlobal + Clone + Drop),
+) -> Result<u8, RunFault> {
     let alloc = rt.alloc();
     let words = words_of(rt, alloc)?;
     let writer = BufWriter::new(alloc, io::writer(rt)).map_err(|_| RunFault::Memory)?;
@@ -64,7 +66,7 @@ fn run(rt: &(impl Files + Env + Print + AllocGlobal)) -> Result<u8, RunFault> {
 
 // Answers a command. What waits to be written is flushed at its end.
 fn answer<W: Write + Drop>(
-    rt: &impl Files,
+    rt: &(impl Files + AllocGlobal + Clone + Drop),
     alloc: Global,
     command: Command<'_>,
     out: Tally<W>,
@@ -94,7 +96,7 @@ fn answer<W: Write + Drop>(
         Command::Units(claim) => return units(rt, alloc, claim, out),
         Command::Picture { claim, span } => picture(rt, alloc, claim, span, &mut out),
         Command::Extract { claim, folder } => extract(rt, alloc, claim, folder, &mut out),
-        Command::Upgrade { cert, new_cert } => upgrade(rt, cert, new_cert, &mut out),
+        Command::Upgrade { cert, new_cert } => upgrade(rt, alloc, cert, new_cert, &mut out),
     };
     flushed(status, &mut out)
 }
@@ -176,7 +178,7 @@ fn keep<W: Write>(
 }
 
 fn cut<W: Write>(
-    rt: &impl Files,
+    rt: &(impl Files + AllocGlobal + Clone + Drop),
     alloc: Global,
     profile: &str,
     recording: &str,
@@ -186,12 +188,9 @@ fn cut<W: Write>(
 ) -> Result<u8, RunFault> {
     let profile = bytes_of(rt, alloc, profile)?;
     let mut rec = opened_whole(rt, alloc, recording)?;
-    let mut parts = PartFolder::open(rt, alloc, folder).map_err(|trouble| match trouble {
-        Trouble::Device => RunFault::Device,
-        Trouble::OutOfMemory => RunFault::Memory,
-    })?;
+    let mut parts = PartFolder::open(rt, alloc, folder)?;
     let status = run_cut(alloc, profile.as_slice(), most, &mut rec, &mut parts, out);
-    written(status, out)
+    parts.settle(written(status, out))
 }
 
 fn trace<W: Write>(
@@ -233,15 +232,20 @@ fn find<W: Write>(
     rule: Rule,
     out: &mut Tally<W>,
 ) -> Result<u8, RunFault> {
-    let mut quest = opened_quest(rt, alloc, claim)?;
-    run_by_rule(
+    let Quest {
+        profile,
+        mut rec,
+        mut cert,
+    } = opened_quest(rt, alloc, claim)?;
+    let status = run_by_rule(
         alloc,
-        quest.profile.as_slice(),
-        &mut quest.rec,
-        &mut quest.cert,
+        profile.as_slice(),
+        &mut rec,
+        &mut cert.out,
         out,
         rule,
-    )
+    );
+    cert.settle(status)
 }
 
 fn verify<W: Write>(
@@ -293,14 +297,14 @@ fn units<W: Write + Drop>(
 }
 
 fn extract<W: Write>(
-    rt: &impl Files,
+    rt: &(impl Files + AllocGlobal + Clone + Drop),
     alloc: Global,
     claim: Claim<'_>,
     folder: &str,
     out: &mut Tally<W>,
 ) -> Result<u8, RunFault> {
     let mut case = opened_claim(rt, alloc, claim)?;
-    let mut folder = Folder::new(rt, alloc, folder).map_err(|_| RunFault::Memory)?;
+    let mut folder = Folder::open(rt, alloc, folder)?;
     run_extract(
         alloc,
         case.profile.as_slice(),
@@ -331,13 +335,15 @@ fn picture<W: Write>(
 
 fn upgrade<W: Write>(
     rt: &impl Files,
+    alloc: Global,
     cert: &str,
     new_cert: &str,
     out: &mut Tally<W>,
 ) -> Result<u8, RunFault> {
     let mut cert = opened(rt, cert, CERTIFICATE_CAP)?;
-    let mut new_cert = created(rt, new_cert)?;
-    run_upgrade(&mut cert, &mut new_cert, out)
+    let mut new_cert = emptied(rt, alloc, new_cert)?;
+    let status = run_upgrade(&mut cert, &mut new_cert.out, out);
+    new_cert.settle(status)
 }
 
 // The bytes of each of these files.
@@ -362,15 +368,15 @@ fn words_of(rt: &(impl Env + AllocGlobal), alloc: Global) -> Result<Vec<String>,
 }
 
 // The files of a command that writes a certificate, opened in this order.
-fn opened_quest<F: Files>(
-    rt: &F,
+fn opened_quest<'a, F: Files>(
+    rt: &'a F,
     alloc: Global,
     claim: Claim<'_>,
-) -> Result<Quest<F::File>, RunFault> {
+) -> Result<Quest<'a, F>, RunFault> {
     Ok(Quest {
         profile: bytes_of(rt, alloc, claim.profile)?,
         rec: opened(rt, claim.recording, CAP)?,
-        cert: created(rt, claim.certificate)?,
+        cert: emptied(rt, alloc, claim.certificate)?,
     })
 }
 
@@ -415,9 +421,15 @@ fn opened_certificate<F: Files>(
 }
 
 // A file to write, which is emptied first.
-fn created<F: Files>(rt: &F, path: &str) -> Result<Tally<F::File>, RunFault> {
-    let file = fs::create(rt, path).map_err(|_| RunFault::Device)?;
-    Ok(Tally::new(file, 0))
+fn emptied<'a, F: Files>(
+    rt: &'a F,
+    alloc: Global,
+    path: &str,
+) -> Result<NewFile<'a, F>, RunFault> {
+    NewFile::create_empty(rt, alloc, path).map_err(|trouble| match trouble {
+        Trouble::Device => RunFault::Device,
+        Trouble::OutOfMemory => RunFault::Memory,
+    })
 }
 
 // The bytes of a file.

@@ -19,7 +19,7 @@ use Rattle.a429_check.specs.Verdict.{of_stream}
 use Rattle.a429_check.specs.Output.{Output, IsCutShort}
 use Rattle.a429_word.specs.Sheet.{Writes}
 use Rattle.a429_word.specs.Tally.{has_failed}
-use Rattle.a429_check.specs.Series.{AnswersSeries, AreOneRun, FitAs, Holds, IsListFault, IsMiscounted, IsPartsAnswer, IsPartsFault, IsRefusal, IsRefusedAt, IsSeriesAnswer, IsSeriesFault, SeriesInput, FailsIn, IsSeriesVerdict, IsSomeSeriesVerdict, IsStopOf, entries_of, first_parts, status_of_series, text_of_series, with_part}
+use Rattle.a429_check.specs.Series.{AnswersSeries, AreListedRun, AreOneRun, FitAs, Holds, IsListFault, IsMiscounted, IsPartsAnswer, IsPartsFault, IsRefusal, IsRefusedAt, IsSeriesAnswer, IsSeriesFault, SeriesInput, FailsIn, IsSeriesVerdict, IsSomeSeriesVerdict, IsStopOf, entries_of, first_parts, status_of_series, text_of_series, with_part}
 
 -- ---- what the readers of a part have to read
 
@@ -165,12 +165,17 @@ module _ (p : Contents) (part : ℕ → Option Part) (counts : List ℕ) where
   refusal_faults Failed (Ok a) f h here = tt
   refusal_faults Failed (Err e) f h here = subst (IsPartsFault p part counts Failed) (sym h) here
 
-  pub all_fit : (s : SeriesValue) → ((parts : List Part) (t : SeriesValue) → AreAdded (no_parts p) parts t → IsOneRun p (joined parts) t.files) → SoFar (length counts) s → AreOneRun p part counts s.files
+  pub all_fit : (s : SeriesValue) → ((parts : List Part) (t : SeriesValue) → AreAdded (no_parts p) parts t → IsOneRun p (joined parts) t.files) → SoFar (length counts) s → AreListedRun p part counts s.files
   all_fit s law h = by (first_parts part (length counts)) h
     where
-      by : (o : Option (List Part)) → IfSome o (λ parts. FitAs p parts (take (length counts) counts) s) → IfSome o (λ parts. IsOneRun p (joined parts) s.files × (map entries_of parts ≡ counts))
+      by : (o : Option (List Part)) → IfSome o (λ parts. FitAs p parts (take (length counts) counts) s) → IfSome o (λ parts. AreOneRun p parts counts s.files)
       by None h = tt
-      by (Some parts) h = (law parts s h.added, h.counted ∙ take_all (length counts) counts (omega arith))
+      by (Some parts) h = record {
+        last = s;
+        fit = subst (λ (l : List ℕ). FitAs p parts l s) (take_all (length counts) counts (omega arith)) h;
+        crossed = refl;
+        one = law parts s h.added;
+      }
 
   -- ---- a fault, as a command reports it
 

@@ -4,7 +4,7 @@ use Rattle.a429_profile.specs.declared.fault.ProfileFault.{ProfileFault}
 use Rattle.a429_ldu.specs.declared.fault.CutFault.{CutFault}
 use Rattle.a429_record.specs.declared.fault.ReadFault.{ReadFault}
 use Rattle.a429_check.specs.declared.fault.RunFault.{RunFault}
-use Rattle.a429_check.specs.declared.fault.RunFault.TheVariants.{BadWord, Profile, Read, Cut, TooLong, Device, Memory, Usage}
+use Rattle.a429_check.specs.declared.fault.RunFault.TheVariants.{BadWord, Profile, Read, Cut, TooLong, OldFiles, Device, Memory, Usage}
 
 -- 3: the input is refused; 4: a device failed or memory was refused; 5: wrong usage
 abbrev pub status_of : RunFault → ℕ
@@ -13,6 +13,7 @@ status_of (Profile f) = 3
 status_of (Read f) = 3
 status_of (Cut k f) = 3
 status_of TooLong = 3
+status_of OldFiles = 3
 status_of Device = 4
 status_of Memory = 4
 status_of Usage = 5
@@ -30,7 +31,7 @@ pub record Causes : Type 1 where
 abbrev pub never : Causes
 never = record { profile = λ f. ⊥; recording = λ f. ⊥; file = λ k f. ⊥; too_long = ⊥; device = ⊥; memory = ⊥ }
 
--- the fault comes by these causes; what reads a profile, a recording or files answers no bad word and no wrong usage
+-- the fault comes by these causes; what reads a profile, a recording or files answers no bad word and no wrong usage, and sees no folder
 abbrev pub ComesBy : Causes → RunFault → Type 0
 ComesBy c (Profile f) = c.profile f
 ComesBy c (Read f) = c.recording f
@@ -40,3 +41,4 @@ ComesBy c Device = c.device
 ComesBy c Memory = c.memory
 ComesBy c BadWord = ⊥
 ComesBy c Usage = ⊥
+ComesBy c OldFiles = ⊥

@@ -13,6 +13,7 @@ pub mod Verdict
 pub mod Extract
 pub mod PartList
 pub mod Series
+pub mod MemoryPartSource
 pub mod Check
 pub mod Pack
 pub mod Upgrade

@@ -54,9 +54,16 @@ pub record FitAs (p : Contents) (parts : List Part) (counts : List ℕ) (s : Ser
   pub added : AreAdded (no_parts p) parts s
   pub counted : map entries_of parts ≡ counts
 
--- all parts fit and have the entries that are listed: some run records exactly what they record, one after the other, and each run that does delivers exactly these files
-abbrev pub AreOneRun : Contents → (ℕ → Option Part) → List ℕ → List (ℕ × ℕ) → Type 0
-AreOneRun p part counts files = IfSome (first_parts part (length counts)) (λ parts. IsOneRun p (joined parts) files × (map entries_of parts ≡ counts))
+-- all parts fit and have the entries that are listed, and these files have crossed in them: some run records exactly what they record, one after the other, and each run that does delivers exactly these files
+pub record AreOneRun (p : Contents) (parts : List Part) (counts : List ℕ) (files : List (ℕ × ℕ)) : Type 0 where
+  pub last : SeriesValue
+  pub fit : FitAs p parts counts last
+  pub crossed : files ≡ last.files
+  pub one : IsOneRun p (joined parts) files
+
+-- the same of the parts that are listed, where all of them are known
+abbrev pub AreListedRun : Contents → (ℕ → Option Part) → List ℕ → List (ℕ × ℕ) → Type 0
+AreListedRun p part counts files = IfSome (first_parts part (length counts)) (λ parts. AreOneRun p parts counts files)
 
 -- the parts before this one fit and have the entries that are listed, and this is the first fault of this one
 pub record IsRefusedAt (p : Contents) (part : ℕ → Option Part) (counts : List ℕ) (place : ℕ) (f : StreamFault) : Type 0 where
@@ -75,7 +82,7 @@ pub record IsMiscounted (p : Contents) (part : ℕ → Option Part) (counts : Li
 
 -- an answer for parts that are listed, with so many entries
 abbrev pub IsPartsAnswer : Contents → (ℕ → Option Part) → List ℕ → SeriesAnswer → Type 0
-IsPartsAnswer p part counts (answer.Files files) = AreOneRun p part counts files.items
+IsPartsAnswer p part counts (answer.Files files) = AreListedRun p part counts files.items
 IsPartsAnswer p part counts (answer.Refused place f) = IsRefusedAt p part counts place (stream.Cert f) × (f ≢ cert.OutOfMemory)
 IsPartsAnswer p part counts (answer.Miscounted place n) = IsMiscounted p part counts place n
 IsPartsAnswer p part counts answer.NotListed = ⊥

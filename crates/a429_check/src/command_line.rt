@@ -1,7 +1,7 @@
 //! Reads the words after `a429`.
 
-ghost use Rattle.std.specs.Prelude.{◌≡◌, ◌≢◌, ◌↔◌, ◌≤◌, ◌⊎◌, IsTrue, IfOk, IfErr};
-ghost use Rattle.a429_check.specs.Names.{IsCertificateApart, KeepsInputs};
+ghost use Rattle.std.specs.Prelude.{◌≡◌, ◌↔◌, ◌≤◌, ◌⊎◌, IsTrue, IfOk, IfErr};
+ghost use Rattle.a429_check.specs.Names.{IsCertificateApart, KeepsInputs, MayWrite};
 
 use crate::fault::RunFault;
 use a429_record::MOST_ENTRIES;
@@ -38,7 +38,7 @@ const COMMANDS: [(&str, &[&str]); 19] = [
 
 /// Reads the words after `a429`. The fault is `Memory` where memory was refused, and else `Usage`: no
 /// command or an unknown one, too few or too many words, an option, a wish for help, or a name to write to
-/// that is written like the name of something to read.
+/// that is empty or written like the name of something to read.
 pub fn command<'a>(alloc: Global, words: &'a [String]) -> Result<Command<'a>, RunFault>
     ensures apart { IfOk result KeepsInputs }
     ensures err { IfErr result (λ e. (e ≡ RunFault.Memory) ⊎ (e ≡ RunFault.Usage)) }
@@ -113,7 +113,7 @@ fn upgrade_of<'a>(given: &ArgMatches<'a>) -> Result<Command<'a>, RunFault>
     ensures err { IfErr result (λ e. e ≡ RunFault.Usage) }
 {
     match (given.get_str("CERT"), given.get_str("OUT")) {
-        (Some(cert), Some(new_cert)) if differ(new_cert, cert) => Ok(Command::Upgrade {
+        (Some(cert), Some(new_cert)) if may_write(new_cert, cert) => Ok(Command::Upgrade {
             cert,
             new_cert,
         }),
@@ -249,7 +249,7 @@ fn cut_of<'a>(given: &ArgMatches<'a>) -> Result<Command<'a>, RunFault>
     let (Some(profile), Some(recording), Some(folder)) = words else {
         return Err(RunFault::Usage);
     };
-    if !differ(folder, profile) || !differ(folder, recording) {
+    if !may_write(folder, profile) || !may_write(folder, recording) {
         return Err(RunFault::Usage);
     }
     Ok(Command::Cut {
@@ -274,26 +274,27 @@ fn most_of(text: Option<&str>) -> Result<usize, RunFault>
     }
 }
 
-// Whether the certificate, which is written, is not written like the profile or the recording.
+// Whether the certificate, which is written, has a name, and not that of the profile or the recording.
 fn is_apart(claim: &Claim<'_>) -> bool
     ensures { IsTrue result ↔ IsCertificateApart claim.now }
 {
-    differ(claim.certificate, claim.profile) && differ(claim.certificate, claim.recording)
+    may_write(claim.certificate, claim.profile) && may_write(claim.certificate, claim.recording)
 }
 
-// Whether a folder is not written like one of the files that are read.
+// Whether a folder has a name, and not that of one of the files that are read.
 fn is_new(folder: &str, claim: &Claim<'_>) -> bool
-    ensures { IsTrue result ↔ ((folder.now ≢ claim.now.profile.now) × (folder.now ≢ claim.now.recording.now) × (folder.now ≢ claim.now.certificate.now)) }
+    ensures { IsTrue result ↔ (MayWrite folder.now claim.now.profile.now × MayWrite folder.now claim.now.recording.now × MayWrite folder.now claim.now.certificate.now) }
 {
-    differ(folder, claim.profile)
-        && differ(folder, claim.recording)
-        && differ(folder, claim.certificate)
+    may_write(folder, claim.profile)
+        && may_write(folder, claim.recording)
+        && may_write(folder, claim.certificate)
 }
 
-fn differ(a: &str, b: &str) -> bool
-    ensures { IsTrue result ↔ (a.now ≢ b.now) }
+// Whether a name to write to is not empty, and not written like this one, which is read.
+fn may_write(name: &str, read: &str) -> bool
+    ensures { IsTrue result ↔ MayWrite name.now read.now }
 {
-    a != b
+    !name.is_empty() && name != read
 }
 
 // The span of the entries FROM to TO.

@@ -31,6 +31,9 @@ pub enum RunFault {
     /// The span of a picture has more than 2,000 steps.
     #[error("picture: too long")]
     TooLong,
+    /// The folder to write to has files of an earlier call, which would be taken for new ones.
+    #[error("folder: has old files")]
+    OldFiles,
     /// A reader or a writer failed, or a file could not be opened.
     #[error("device")]
     Device,
@@ -78,7 +81,8 @@ impl RunFault {
             | RunFault::Profile(_)
             | RunFault::Read(_)
             | RunFault::Cut(..)
-            | RunFault::TooLong => 3,
+            | RunFault::TooLong
+            | RunFault::OldFiles => 3,
             RunFault::Device | RunFault::Memory => 4,
             RunFault::Usage => 5,
         }

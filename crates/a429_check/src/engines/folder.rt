@@ -2,14 +2,16 @@
 
 ghost use Rattle.std.specs.Prelude.{◌≡◌, None, false, IfOk};
 
-use a429_cert::{OutOfMemory, Shelf};
-use a429_word::{Device, Failing, Tally, Trouble};
+use crate::engines::new_file::NewFile;
+use crate::engines::old_files::refuse_numbered;
+use crate::fault::RunFault;
+use a429_cert::Shelf;
+use a429_word::{Failing, Trouble};
 use std::alloc::Global;
-use std::fs;
 use std::rt::Files;
 
-/// The program's shelf: a folder, in which each file is written at once, under its place in six digits.
-/// What it holds is not known to contracts.
+/// The program's shelf: a folder, in which each file is written at once, under its place in six digits. A name that is there is
+/// that of a whole file. What it holds is not known to contracts.
 #[derive(Drop)]
 pub struct Folder<'a, F: Files> {
     rt: &'a F,
@@ -19,10 +21,13 @@ pub struct Folder<'a, F: Files> {
 }
 
 impl<'a, F: Files> Folder<'a, F> {
-    /// The folder of this name, of which nothing is asked yet.
-    pub fn new(rt: &'a F, alloc: Global, dir: &str) -> Result<Folder<'a, F>, OutOfMemory>
+    /// The folder of this name. One that has a file of such a name already is refused: it would be taken for a new one.
+    pub fn open(rt: &'a F, alloc: Global, dir: &str) -> Result<Folder<'a, F>, RunFault>
+    where
+        F: AllocGlobal + Clone + Drop,
         ensures fresh { IfOk result (λ f. f.is_failed ≡ false) }
     {
+        refuse_numbered(rt, dir, ".bin")?;
         Ok(Folder {
             rt,
             alloc,
@@ -32,11 +37,10 @@ impl<'a, F: Files> Folder<'a, F> {
     }
 
     // Writes a file.
-    fn write(&self, path: &str, bytes: &[u8]) -> Result<(), Device> {
-        match fs::create(self.rt, path) {
-            Ok(file) => Tally::new(file, 0).put(bytes),
-            Err(_) => Err(Device),
-        }
+    fn write(&self, path: &str, bytes: &[u8]) -> Result<(), Trouble> {
+        let mut file = NewFile::create(self.rt, self.alloc, path)?;
+        let written = file.out.put(bytes);
+        Ok(file.settle(written)?)
     }
 }
 
@@ -58,10 +62,12 @@ impl<F: Files> Shelf for Folder<'_, F> {
         let Ok(path) = format!(in self.alloc; "{}/{index:06}.bin", self.dir.as_str()) else {
             return Err(Trouble::OutOfMemory);
         };
-        if self.write(path.as_str(), bytes).is_err() {
-            self.is_failed = true;
-            return Err(Trouble::Device);
+        match self.write(path.as_str(), bytes) {
+            Err(Trouble::Device) => {
+                self.is_failed = true;
+                Err(Trouble::Device)
+            }
+            answer => answer,
         }
-        Ok(())
     }
 }
