@@ -1,4 +1,4 @@
--- The definitions compute, under a sample profile: a run that carries the one byte 41, hexadecimal, and one that gives a
+-- Examples: the definitions compute, under a sample profile, a run that carries the one byte 41, hexadecimal, and one that gives a
 -- file up after its first link data unit, and carries the byte in the next file.
 use Rattle.std.proofs.Common.{◌≡◌, ◌≤◌, ℕ, true, List, [], ◌∷◌, ◌++◌, length, refl, arith, lit≤}
 use Rattle.a429_word.specs.Word.{sum_below}

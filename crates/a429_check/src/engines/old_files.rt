@@ -5,7 +5,7 @@ use std::fs;
 use std::io::ErrorKind;
 use std::rt::Files;
 
-// Refuses a folder that has a file with a number of six digits or more and this ending. A folder that is not there has none.
+// Refuses a folder that has a file with a number of six digits or more and this ending. What is not there, or is no folder, has none.
 pub(crate) fn refuse_numbered<F: Files + AllocGlobal + Clone + Drop>(
     rt: &F,
     dir: &str,
@@ -36,7 +36,7 @@ pub(crate) fn refuse_named(rt: &impl Files, path: &str) -> Result<(), RunFault> 
 // What is not there, and a name that is no text, is no old file.
 fn refused_by(kind: ErrorKind) -> Result<(), RunFault> {
     match kind {
-        ErrorKind::NotFound | ErrorKind::InvalidFilename => Ok(()),
+        ErrorKind::NotFound | ErrorKind::NotADirectory | ErrorKind::InvalidFilename => Ok(()),
         ErrorKind::OutOfMemory => Err(RunFault::Memory),
         _ => Err(RunFault::Device),
     }
