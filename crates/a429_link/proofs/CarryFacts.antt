@@ -16,8 +16,11 @@ use Rattle.a429_link.specs.Sink.{Block, SinkPhase, Quiet, OwesClear, Granted, In
 use Rattle.a429_link.specs.Step.{Can}
 use Rattle.a429_link.specs.State.{State}
 use Rattle.a429_link.specs.Link.{IsKept}
-use Rattle.a429_link.specs.Carry.{HasTaken, IsNext, IsAtWord, on_a, after_sent, after_both}
-use Rattle.a429_link.proofs.LinkKept.{kept_holds, kept_step}
+use Rattle.a429_link.specs.Carry.{HasTaken, IsNext, IsAtWord, on_a, sends_word, after_sent, after_both}
+use Rattle.a429_link.specs.Losses.{StaysBounded}
+use Rattle.a429_link.specs.Run.{IsRun}
+use Rattle.a429_link.proofs.LinkKept.{kept_holds}
+use Rattle.a429_link.proofs.LossesFacts.{kept_run}
 use Rattle.a429_link.proofs.StateHolds.{Current}
 
 -- ---- a word inside a block is a data word
@@ -106,6 +109,8 @@ pub both_made : (p : Contents) (next : NextWord) (s : State) → IsAtWord p next
     → after_both p next.word s ≡ record s { source = with_word_sent s.source; sink = takes_part next.word s.sink; to_sink = [] }
 both_made p next s h = rw (h.to_sink, h.part) refl
 
-pub kept_both : (p : Contents) (next : NextWord) (s : State) → IsKept p s → IsAtWord p next s → IsKept p (after_both p next.word s)
-kept_both p next s kept h =
-    kept_step p SinkTakes (after_sent p next.word s) (kept_step p (Sent (on_a next.word)) s kept (can_send p next s h)) (can_take p next s h)
+pub both_run : (p : Contents) (next : NextWord) (s : State) → IsAtWord p next s → IsRun p (sends_word next.word) s
+both_run p next s h = (can_send p next s h, (can_take p next s h, tt))
+
+pub kept_both : (p : Contents) (next : NextWord) (s : State) → IsKept p s → IsAtWord p next s → IsKept p (after_both p next.word s) × StaysBounded p (sends_word next.word) s
+kept_both p next s kept h = kept_run p (sends_word next.word) s kept (both_run p next s h)
