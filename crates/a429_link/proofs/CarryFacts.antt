@@ -16,7 +16,7 @@ use Rattle.a429_link.specs.Sink.{Block, SinkPhase, Quiet, OwesClear, Granted, In
 use Rattle.a429_link.specs.Step.{Can}
 use Rattle.a429_link.specs.State.{State}
 use Rattle.a429_link.specs.Link.{IsKept}
-use Rattle.a429_link.specs.Carry.{HasTaken, IsNext, IsAtWord, on_a, sends_word, after_sent, after_both}
+use Rattle.a429_link.specs.Carry.{HasTaken, SendsNext, IsAtWord, on_a, sends_word, after_sent, after_both}
 use Rattle.a429_link.specs.Losses.{StaysBounded}
 use Rattle.a429_link.specs.Run.{IsRun}
 use Rattle.a429_link.proofs.LinkKept.{kept_holds}
@@ -63,7 +63,7 @@ in_one Granted coming k h = absurd h
 in_one (OwesAck b flags) coming k h = absurd h
 in_one OwesNak coming k h = absurd h
 
-pub at_word : (p : Contents) (next : NextWord) (s : State) → IsKept p s → IsNext p next s → IsAtWord p next s
+pub at_word : (p : Contents) (next : NextWord) (s : State) → IsKept p s → SendsNext p next s → IsAtWord p next s
 at_word p next s kept h =
     let one = in_one s.sink.phase s.to_sink next.place h.taken in
     let part = part_there p s h.sends.unit next.place next.word kept h.sends.current h.sends.sending (omega (arith, one.2)) h.sends.more h.word in
@@ -84,7 +84,7 @@ at_word p next s kept h =
 
 -- ---- where there is none
 
-pub is_next : (p : Contents) (next : NextWord) (s : State) → IsAtWord p next s → IsNext p next s
+pub is_next : (p : Contents) (next : NextWord) (s : State) → IsAtWord p next s → SendsNext p next s
 is_next p next s h = record {
   sends = record { unit = h.unit; current = h.current; sending = h.sending; more = h.more };
   taken = rw h.taking (h.to_sink, h.taken);

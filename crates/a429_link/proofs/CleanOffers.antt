@@ -14,7 +14,7 @@ use Rattle.a429_link.specs.declared.state.SourceState.TheVariants.{Awaiting, Wai
 use Rattle.a429_link.specs.declared.step.Step.{Step}
 use Rattle.a429_link.specs.declared.step.Step.TheVariants.{FreeSeen, Sent, SinkTakes}
 use Rattle.a429_link.specs.Carry.{on_a, sends_word}
-use Rattle.a429_link.specs.Clean.{clean_blocks, AllFit, shelved, without_free, asks, replies, block_steps, clean_steps, all_steps, first_of, rest_of, weave, IsRunOf}
+use Rattle.a429_link.specs.Clean.{clean_blocks, AllFit, shelved, without_free, requests, replies, block_steps, clean_steps, all_steps, first_of, rest_of, weave, IsRunOf}
 use Rattle.a429_link.specs.Number.{first_number, number_after}
 use Rattle.a429_link.specs.Run.{end_of, newest, offers, offered_from, settles, settled_from, is_final_unit}
 use Rattle.a429_link.specs.Sink.{Number, Received, Sink, nothing_received, put}
@@ -65,18 +65,18 @@ reply_books : (p : Contents) (w : ℕ) (x : Form) (s : Source) (k : Sink) (o : R
 reply_books p w x s k o xs e = record { offers = refl; settles = rw e refl }
 
 -- the link data unit is offered as it is loaded, under its number
-asked_books : (p : Contents) (number : UnitNumber) (u : LduValue) (last : Option Number) (received : Received) (count : ℕ) (xs : List FileBytes) → Books p (asks p.codes u) (idle_at number last received count) received (put number.file (bytes_of p.codes u) (is_final p.codes u.flags) received) xs xs
+asked_books : (p : Contents) (number : UnitNumber) (u : LduValue) (last : Option Number) (received : Received) (count : ℕ) (xs : List FileBytes) → Books p (requests p.codes u) (idle_at number last received count) received (put number.file (bytes_of p.codes u) (is_final p.codes u.flags) received) xs xs
 asked_books p number u last received count xs = record { offers = refl; settles = refl }
 
 sent_books : (p : Contents) → IsProfile p → (number : UnitNumber) (u : LduValue) (last : Option Number) (received : Received) (count : ℕ) (xs : List FileBytes) → 3 ≤ count_of u → count_of u ≤ 255 → Books p (sent_steps p.codes number u) (idle_at number last received count) received (put number.file (bytes_of p.codes u) (is_final p.codes u.flags) received) xs xs
 sent_books p is number u last received count xs some few =
     let s = idle_at number last received count in
     let o = put number.file (bytes_of p.codes u) (is_final p.codes u.flags) received in
-    let asked = end_of p (asks p.codes u) s in
+    let asked = end_of p (requests p.codes u) s in
     let cts = word_number p.codes (form.Cts (count_of u)) in
     let block = block_of p.codes u number.file number.ldu in
     let clear = reply_books p cts (form.Cts (count_of u)) (source_at 0 number (Some u) Awaiting) asked.sink o xs (form_of-word_number p is (form.Cts (count_of u)) (some, few)) in
-    books_append p (asks p.codes u) (replies cts ++ all_steps (map sends_word block)) s asked received o o xs xs xs refl (asked_books p number u last received count xs)
+    books_append p (requests p.codes u) (replies cts ++ all_steps (map sends_word block)) s asked received o o xs xs xs refl (asked_books p number u last received count xs)
     (books_append p (replies cts) (all_steps (map sends_word block)) asked (end_of p (replies cts) asked) o o o xs xs xs refl clear (words_books p block (end_of p (replies cts) asked) o xs))
 
 ack_books : (p : Contents) → IsProfile p → (number : UnitNumber) (u : LduValue) (k : Sink) (o : Received) (xs : List FileBytes) → number.file ≤ 255 → number.ldu ≤ 255 → Books p (replies (word_number p.codes (form.Ack number.file number.ldu))) (at number (Some u) Waiting k) o o xs (if is_final p.codes u.flags then xs ++ newest o.files else xs)

@@ -22,7 +22,7 @@ use Rattle.a429_ldu.specs.declared.forms.Form.TheVariants as form
 use Rattle.a429_ldu.specs.Carried.{bytes_carried, bytes_in}
 use Rattle.a429_ldu.specs.CheckWord.{check_of, agrees}
 use Rattle.a429_ldu.proofs.CarriedFacts.{carried_of}
-use Rattle.a429_link.specs.Clean.{clean_block, clean_blocks, AllFit, shelved, without_free, asks, replies, block_steps, clean_steps, all_steps, first_of, rest_of, weave}
+use Rattle.a429_link.specs.Clean.{clean_block, clean_blocks, AllFit, shelved, without_free, requests, replies, block_steps, clean_steps, all_steps, first_of, rest_of, weave}
 use Rattle.a429_link.specs.Carry.{on_a, on_b, sends_word}
 use Rattle.a429_link.proofs.MessageRead.{is_read}
 use Rattle.a429_link.proofs.StateConfigs.{sink_at, source_at, unit_number}
@@ -190,10 +190,10 @@ joined_words ws ack = joined_append (map sends_word ws) (replies ack ∷ []) ∙
 
 -- the steps up to the acknowledgement
 abbrev pub sent_steps : Codes → UnitNumber → LduValue → List Step
-sent_steps c n u = asks c u ++ (replies (word_number c (form.Cts (count_of u))) ++ all_steps (map sends_word (block_of c u n.file n.ldu)))
+sent_steps c n u = requests c u ++ (replies (word_number c (form.Cts (count_of u))) ++ all_steps (map sends_word (block_of c u n.file n.ldu)))
 
 pub block_split : (c : Codes) (n : UnitNumber) (u : LduValue) → all_steps (block_steps c n u) ≡ sent_steps c n u ++ replies (word_number c (form.Ack n.file n.ldu))
-block_split c n u = ap (λ (l : List Step). asks c u ++ (replies (word_number c (form.Cts (count_of u))) ++ l)) (joined_words (block_of c u n.file n.ldu) (word_number c (form.Ack n.file n.ldu)))
+block_split c n u = ap (λ (l : List Step). requests c u ++ (replies (word_number c (form.Cts (count_of u))) ++ l)) (joined_words (block_of c u n.file n.ldu) (word_number c (form.Ack n.file n.ldu)))
 
 -- the sink with the whole block of a link data unit, which it has not acknowledged
 abbrev pub owing : UnitNumber → LduValue → Option Number → Received → Sink
@@ -214,7 +214,7 @@ block_sent p good number u is s last received count c =
     let cts : message_of p bus.B (word_of p (Cts n)) ≡ Some (Cts n) = good.reads bus.B (Cts n) (omega arith, omega arith) in
     let sot : message_of p bus.A (word_of p (Sot u.gfi number.file number.ldu)) ≡ Some (Sot u.gfi number.file number.ldu) = good.reads bus.A (Sot u.gfi number.file number.ldu) (h.gfi, byte, omega arith) in
     let asked = word_goes p number (Some u) Idle (sink_at last received count Quiet) (Rts n) refl tt rts in
-    let ask : Goes p (asks p.codes u) (idle_at number last received count) (at number (Some u) Awaiting (sink_at last received n OwesClear)) = record {
+    let ask : Goes p (requests p.codes u) (idle_at number last received count) (at number (Some u) Awaiting (sink_at last received n OwesClear)) = record {
       run = ((tt, refl, fit, is), asked.run);
       ends = asked.ends;
     } in
@@ -230,7 +230,7 @@ block_sent p good number u is s last received count c =
       ends = begun.ends ∙ rw more refl;
     } in
     let words = parts_goes p good number u s last received c [] u.words refl h.parts 1 refl in
-    goes_append p (asks p.codes u) _ _ _ _ ask (goes_append p (replies (word_of p (Cts n))) _ _ _ _ clear (goes_append p (sends_word (word_of p (Sot u.gfi number.file number.ldu))) _ _ _ _ begin words))
+    goes_append p (requests p.codes u) _ _ _ _ ask (goes_append p (replies (word_of p (Cts n))) _ _ _ _ clear (goes_append p (sends_word (word_of p (Sot u.gfi number.file number.ldu))) _ _ _ _ begin words))
 
 -- one link data unit crosses without loss
 pub block_goes : (p : Contents) → IsRead p → (number : UnitNumber) (u : LduValue) → IsLdu p u → Sound p u → (last : Option Number) (received : Received) (count : ℕ) → Comes p number last received → Goes p (all_steps (block_steps p.codes number u)) (idle_at number last received count) (idle_at (number_after p.codes number u) (Some (unit_number p.codes number u)) (put number.file (bytes_in p.codes u.words) (is_final p.codes u.flags) received) (count_of u))

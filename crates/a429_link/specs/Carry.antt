@@ -28,7 +28,7 @@ HasTaken (InBlock b) coming k = (coming ≡ []) × (length b.words + 1 ≡ k)
 HasTaken _ coming k = ⊥
 
 -- the source sends this word next, and one more after it; the sink has taken all words of the block before it, and nothing is on its way
-pub record IsNext (p : Contents) (next : NextWord) (s : State) : Type 0 where
+pub record SendsNext (p : Contents) (next : NextWord) (s : State) : Type 0 where
   pub sends : SendsMore s.source next.place
   pub taken : HasTaken s.sink.phase s.to_sink next.place
   pub to_source : s.to_source ≡ []

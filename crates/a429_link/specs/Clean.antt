@@ -7,7 +7,7 @@ use Rattle.a429_ldu.specs.declared.forms.Form.TheVariants.{Rts, Cts, Ack}
 use Rattle.a429_ldu.specs.Form.{word_number, is_free}
 use Rattle.a429_ldu.specs.declared.fault.CutFault.{CutFault}
 use Rattle.a429_ldu.specs.declared.fault.CutFault.TheVariants as cut
-use Rattle.a429_ldu.specs.Cut.{room, units_of}
+use Rattle.a429_ldu.specs.Cut.{most_units, room, units_of}
 use Rattle.a429_ldu.specs.Ldu.{LduValue, IsLdu, count_of, block_of, bytes_of, is_final}
 use Rattle.a429_link.specs.declared.fault.CleanFault.{CleanFault}
 use Rattle.a429_link.specs.declared.fault.CleanFault.TheVariants.{Cut}
@@ -54,14 +54,14 @@ without_free c (i ∷ items) = if is_free c i.bus i.word then without_free c ite
 
 -- ---- the steps, in a group for each word
 
-abbrev pub asks : Codes → LduValue → List Step
-asks c u = Load u ∷ (Sent (on_a (word_number c (Rts (count_of u)))) ∷ (SinkTakes ∷ []))
+abbrev pub requests : Codes → LduValue → List Step
+requests c u = Load u ∷ (Sent (on_a (word_number c (Rts (count_of u)))) ∷ (SinkTakes ∷ []))
 
 abbrev pub replies : ℕ → List Step
 replies w = Answered (on_b w) ∷ (TakeAnswer ∷ [])
 
 abbrev pub block_steps : Codes → UnitNumber → LduValue → List (List Step)
-block_steps c n u = asks c u ∷ (replies (word_number c (Cts (count_of u))) ∷ (map sends_word (block_of c u n.file n.ldu) ++ replies (word_number c (Ack n.file n.ldu)) ∷ []))
+block_steps c n u = requests c u ∷ (replies (word_number c (Cts (count_of u))) ∷ (map sends_word (block_of c u n.file n.ldu) ++ replies (word_number c (Ack n.file n.ldu)) ∷ []))
 
 abbrev pub clean_steps : Codes → UnitNumber → List LduValue → List (List Step)
 clean_steps c n [] = []
@@ -136,7 +136,7 @@ CarriesFiles p max_words first files =
 abbrev pub cut_fault : ℕ → List ℕ → Option CutFault
 cut_fault max_words bytes =
     if length bytes == 0 then Some cut.Empty
-    else (if nat_lt (255 * room max_words) (length bytes) then Some cut.TooLong
+    else (if nat_lt (most_units * room max_words) (length bytes) then Some cut.TooLong
     else None)
 
 abbrev pub refused_or : ℕ → Option CutFault → Option CleanFault → Option CleanFault
