@@ -8,7 +8,8 @@ use Rattle.a429_ldu.specs.Form.{form_of}
 use Rattle.a429_ldu.specs.Ldu.{LduValue, block_of}
 use Rattle.a429_ldu.proofs.FormFacts.{form_of-is}
 use Rattle.a429_link.specs.declared.seen.Seen.{Seen}
-use Rattle.a429_link.specs.Clean.{AllFit, IsRunOf, numbered, on_a, clean_blocks, clean_block, units_of_files, first_refused}
+use Rattle.a429_link.specs.Clean.{AllFit, IsRunOf, numbered, clean_blocks, clean_block, units_of_files, first_refused}
+use Rattle.a429_link.specs.Carry.{on_a}
 use Rattle.a429_link.proofs.CleanFiles.{all_fit}
 use Rattle.a429_record.specs.Recording.{stands_for, whole, most_entries, NeverFalls}
 use Rattle.a429_record.specs.WholeRecordings.{AreEntries}

@@ -13,7 +13,8 @@ use Rattle.a429_ldu.specs.Filling.{data_words, fives}
 use Rattle.a429_ldu.proofs.CutPieces.{length-semis}
 use Rattle.a429_ldu.specs.declared.fault.CutFault.{CutFault}
 use Rattle.a429_link.specs.declared.fault.CleanFault.TheVariants as clean
-use Rattle.a429_link.specs.Clean.{clean_blocks, clean_block, clean_words, cut_fault, first_refused, refused_or, on_a, on_b, units_of_files}
+use Rattle.a429_link.specs.Clean.{clean_blocks, clean_block, clean_words, cut_fault, first_refused, refused_or, units_of_files}
+use Rattle.a429_link.specs.Carry.{on_a, on_b}
 use Rattle.a429_record.specs.Recording.{most_entries}
 use Rattle.std.specs.Vec.{vec_len}
 use Rattle.a429_check.specs.declared.fault.RunFault.{RunFault}

@@ -10,7 +10,8 @@ use Rattle.a429_ldu.specs.declared.forms.Form.TheVariants.{Rts, Cts, Ack, Nak, S
 use Rattle.a429_ldu.specs.Form.{form_of, is_free, word_number}
 use Rattle.a429_ldu.specs.Ldu.{LduValue, IsLdu, count_of, block_of}
 use Rattle.a429_link.specs.declared.seen.Seen.{Seen}
-use Rattle.a429_link.specs.Clean.{on_a, on_b, clean_block, clean_blocks, AllFit, without_free}
+use Rattle.a429_link.specs.Clean.{clean_block, clean_blocks, AllFit, without_free}
+use Rattle.a429_link.specs.Carry.{on_a, on_b}
 use Rattle.a429_link.specs.declared.number.UnitNumber.{UnitNumber}
 use Rattle.a429_explain.specs.declared.attempts.StartNumbers.{StartNumbers}
 use Rattle.a429_explain.specs.declared.attempts.Role.{Role}

@@ -10,7 +10,8 @@ use Rattle.a429_ldu.specs.Form.{form_of, is_free, word_number}
 use Rattle.a429_ldu.specs.Sight.{sight_of}
 use Rattle.a429_ldu.specs.Ldu.{LduValue, count_of}
 use Rattle.a429_link.specs.declared.seen.Seen.{Seen}
-use Rattle.a429_link.specs.Clean.{on_a, without_free}
+use Rattle.a429_link.specs.Clean.{without_free}
+use Rattle.a429_link.specs.Carry.{on_a}
 use Rattle.a429_link.specs.declared.number.UnitNumber.{UnitNumber}
 use Rattle.a429_explain.specs.Matching.{passing, passed_after}
 use Rattle.a429_explain.specs.Decoded.{sight_at}

@@ -10,7 +10,8 @@ use Rattle.a429_ldu.specs.Form.{is_free, word_number}
 use Rattle.a429_ldu.specs.Sight.{sight_of}
 use Rattle.a429_ldu.specs.Ldu.{LduValue, count_of}
 use Rattle.a429_link.specs.declared.seen.Seen.{Seen}
-use Rattle.a429_link.specs.Clean.{on_a, clean_blocks, AllFit, without_free}
+use Rattle.a429_link.specs.Clean.{clean_blocks, AllFit, without_free}
+use Rattle.a429_link.specs.Carry.{on_a}
 use Rattle.a429_link.specs.Number.{number_after, first_number}
 use Rattle.a429_explain.specs.declared.attempts.Role.{Role}
 use Rattle.a429_explain.specs.declared.groups.Request.{Request}

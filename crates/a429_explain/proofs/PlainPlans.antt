@@ -12,7 +12,8 @@ use Rattle.a429_ldu.specs.Sight.{sight_of, sight_in}
 use Rattle.a429_ldu.specs.Ldu.{LduValue, block_of, count_of}
 use Rattle.a429_link.specs.declared.number.UnitNumber.{UnitNumber}
 use Rattle.a429_link.specs.declared.seen.Seen.{Seen}
-use Rattle.a429_link.specs.Clean.{on_a, on_b, clean_block, without_free}
+use Rattle.a429_link.specs.Clean.{clean_block, without_free}
+use Rattle.a429_link.specs.Carry.{on_a, on_b}
 use Rattle.a429_explain.specs.declared.plan.Plan.{Plan}
 use Rattle.a429_explain.specs.Plan.{plain}
 use Rattle.a429_explain.specs.Guess.{plain_plans}

@@ -12,12 +12,14 @@ use Rattle.a429_ldu.specs.Ldu.{LduValue, block_of, count_of}
 use Rattle.a429_link.specs.declared.seen.Seen.{Seen}
 use Rattle.a429_link.specs.declared.step.Step.{Step}
 use Rattle.a429_link.specs.declared.step.Step.TheVariants.{FreeSeen}
-use Rattle.a429_link.specs.Clean.{on_a, on_b, clean_blocks, AllFit, without_free, asks, sends_word, replies, clean_steps, first_of, rest_of, weave}
+use Rattle.a429_link.specs.Clean.{clean_blocks, AllFit, without_free, requests, replies, clean_steps, first_of, rest_of, weave}
+use Rattle.a429_link.specs.Carry.{on_a, on_b, sends_word}
 use Rattle.a429_link.specs.Link.{LinkValue}
 use Rattle.a429_link.specs.Run.{IsRun, end_of}
 use Rattle.a429_link.specs.Step.{Can}
 use Rattle.a429_link.specs.State.{start, rest}
-use Rattle.a429_link.proofs.CleanRuns.{clean_is_run, run_split}
+use Rattle.a429_link.proofs.CleanOffers.{clean_is_run}
+use Rattle.a429_link.proofs.CleanRuns.{run_split}
 use Rattle.a429_record.specs.declared.entry.Entry.{Entry}
 use Rattle.a429_cert.specs.Explained.{seen_of, items_of}
 use Rattle.a429_link.specs.declared.number.UnitNumber.{UnitNumber}
@@ -233,7 +235,7 @@ planned_clean p is (u ∷ us) place f h =
     let cts = word_number c (Cts (count_of u)) in
     let cleared = planned_cons c (on_b cts) follows (replies cts) more_steps us (role.Clear true) (rw k.clear (rw k.start refl)) refl refl words in
     let begun : attempt_start (forms_of c (on_b cts ∷ follows)) ≡ Some (start_numbers place) = ap (λ (ys : List Seen). attempt_start (forms_of c (on_b cts ∷ ys))) (append_assoc (map on_a block) (on_b last ∷ []) xs) ∙ attempt_start_is p place u (on_b last ∷ xs) k in
-    planned_cons c (on_a (word_number c (Rts (count_of u)))) (on_b cts ∷ follows) (asks c u) (replies cts ∷ more_steps) (u ∷ us) (role.Request (count_of u) (Some (start_numbers place))) (rw k.request (ap (λ (o : Option StartNumbers). role.Request (count_of u) o) begun)) refl refl cleared
+    planned_cons c (on_a (word_number c (Rts (count_of u)))) (on_b cts ∷ follows) (requests c u) (replies cts ∷ more_steps) (u ∷ us) (role.Request (count_of u) (Some (start_numbers place))) (rw k.request (ap (λ (o : Option StartNumbers). role.Request (count_of u) o) begun)) refl refl cleared
 
 -- ---- the whole recording
 

@@ -15,10 +15,11 @@ use Rattle.a429_ldu.specs.Ldu.{LduValue, block_of}
 use Rattle.a429_ldu.proofs.CutFacts.{units}
 use Rattle.a429_link.specs.declared.fault.CleanFault.{CleanFault}
 use Rattle.a429_link.specs.declared.seen.Seen.{Seen}
-use Rattle.a429_link.specs.Clean.{AllFit, on_a, clean_block, clean_words, without_free, clean_blocks, clean_steps, weave, units_of_files, cut_fault, refused_or, first_refused}
+use Rattle.a429_link.specs.Clean.{AllFit, clean_block, clean_words, without_free, clean_blocks, clean_steps, weave, units_of_files, cut_fault, refused_or, first_refused}
+use Rattle.a429_link.specs.Carry.{on_a}
 use Rattle.a429_link.specs.Run.{BeginsARun}
 use Rattle.a429_link.proofs.CleanFiles.{EachCut, all_fit}
-use Rattle.a429_link.proofs.CleanRuns.{clean_is_run}
+use Rattle.a429_link.proofs.CleanOffers.{clean_is_run}
 use Rattle.a429_explain.specs.Decoded.{forms_of}
 use Rattle.a429_explain.specs.Guess.{first_file_of, decoded, HaveCrossed}
 use Rattle.a429_explain.specs.WithoutLoss.{Crossing, CanCross, IsWithoutLoss}

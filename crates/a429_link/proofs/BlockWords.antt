@@ -1,5 +1,5 @@
 -- The words of a link data unit's block by their forms: one start word, one end word.
-use Rattle.std.proofs.Common.{◌≡◌, ◌⊎◌, ℕ, ◌≤◌, List, [], ◌∷◌, ◌++◌, Option, Some, None, refl, sym, ap, ◌∙◌, subst, inl, inr}
+use Rattle.std.proofs.Common.{◌≡◌, ◌⊎◌, ℕ, List, [], ◌∷◌, ◌++◌, Option, Some, sym, ap, ◌∙◌, subst, inl, inr}
 use Rattle.a429_word.specs.declared.bus.Bus.TheVariants as bus
 use Rattle.a429_profile.specs.Profile.{Contents, IsProfile}
 use Rattle.a429_ldu.specs.declared.forms.Form.{Form}
@@ -10,7 +10,7 @@ use Rattle.a429_ldu.proofs.FormFacts.{form_of-is}
 use Rattle.a429_link.specs.declared.number.UnitNumber.{UnitNumber}
 use Rattle.a429_link.specs.Attempt.{IsStartOf}
 use Rattle.a429_link.specs.Run.{IsSubsequenceOf}
-use Rattle.a429_link.proofs.Message.{AllParts, Eot, IsRead, Message, Part, Sot, end_message, message_in, message_of, word_of}
+use Rattle.a429_link.proofs.Message.{AllParts, Eot, IsRead, Part, Sot, end_message, message_in, message_of}
 
 -- a word is one of these
 abbrev pub IsIn : ℕ → List ℕ → Type 0

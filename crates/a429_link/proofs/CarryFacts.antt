@@ -16,8 +16,11 @@ use Rattle.a429_link.specs.Sink.{Block, SinkPhase, Quiet, OwesClear, Granted, In
 use Rattle.a429_link.specs.Step.{Can}
 use Rattle.a429_link.specs.State.{State}
 use Rattle.a429_link.specs.Link.{IsKept}
-use Rattle.a429_link.specs.Carry.{HasTaken, IsNext, IsAtWord, on_a, after_sent, after_both}
-use Rattle.a429_link.proofs.LinkKept.{kept_holds, kept_step}
+use Rattle.a429_link.specs.Carry.{HasTaken, SendsNext, IsAtWord, on_a, sends_word, after_sent, after_both}
+use Rattle.a429_link.specs.Losses.{StaysBounded}
+use Rattle.a429_link.specs.Run.{IsRun}
+use Rattle.a429_link.proofs.LinkKept.{kept_holds}
+use Rattle.a429_link.proofs.LossesFacts.{kept_run}
 use Rattle.a429_link.proofs.StateHolds.{Current}
 
 -- ---- a word inside a block is a data word
@@ -60,7 +63,7 @@ in_one Granted coming k h = absurd h
 in_one (OwesAck b flags) coming k h = absurd h
 in_one OwesNak coming k h = absurd h
 
-pub at_word : (p : Contents) (next : NextWord) (s : State) → IsKept p s → IsNext p next s → IsAtWord p next s
+pub at_word : (p : Contents) (next : NextWord) (s : State) → IsKept p s → SendsNext p next s → IsAtWord p next s
 at_word p next s kept h =
     let one = in_one s.sink.phase s.to_sink next.place h.taken in
     let part = part_there p s h.sends.unit next.place next.word kept h.sends.current h.sends.sending (omega (arith, one.2)) h.sends.more h.word in
@@ -81,7 +84,7 @@ at_word p next s kept h =
 
 -- ---- where there is none
 
-pub is_next : (p : Contents) (next : NextWord) (s : State) → IsAtWord p next s → IsNext p next s
+pub is_next : (p : Contents) (next : NextWord) (s : State) → IsAtWord p next s → SendsNext p next s
 is_next p next s h = record {
   sends = record { unit = h.unit; current = h.current; sending = h.sending; more = h.more };
   taken = rw h.taking (h.to_sink, h.taken);
@@ -106,6 +109,8 @@ pub both_made : (p : Contents) (next : NextWord) (s : State) → IsAtWord p next
     → after_both p next.word s ≡ record s { source = with_word_sent s.source; sink = takes_part next.word s.sink; to_sink = [] }
 both_made p next s h = rw (h.to_sink, h.part) refl
 
-pub kept_both : (p : Contents) (next : NextWord) (s : State) → IsKept p s → IsAtWord p next s → IsKept p (after_both p next.word s)
-kept_both p next s kept h =
-    kept_step p SinkTakes (after_sent p next.word s) (kept_step p (Sent (on_a next.word)) s kept (can_send p next s h)) (can_take p next s h)
+pub both_run : (p : Contents) (next : NextWord) (s : State) → IsAtWord p next s → IsRun p (sends_word next.word) s
+both_run p next s h = (can_send p next s h, (can_take p next s h, tt))
+
+pub kept_both : (p : Contents) (next : NextWord) (s : State) → IsKept p s → IsAtWord p next s → IsKept p (after_both p next.word s) × StaysBounded p (sends_word next.word) s
+kept_both p next s kept h = kept_run p (sends_word next.word) s kept (both_run p next s h)

@@ -19,6 +19,7 @@ use Rattle.a429_ldu.proofs.CutFacts.{AreUnits}
 use Rattle.a429_link.specs.Clean.{clean_block, clean_blocks, AllFit, shelved, clean_steps, all_steps, units_of_files, clean_words, clean_run_steps, numbered, cut_fault, refused_or, first_refused, IsRunOf}
 use Rattle.a429_ldu.specs.declared.fault.CutFault.{CutFault}
 use Rattle.a429_link.specs.declared.fault.CleanFault.TheVariants.{Cut}
+use Rattle.a429_link.proofs.CleanOffers.{clean_books}
 use Rattle.a429_link.proofs.CleanRuns.{clean_goes, clean_records, start_ready, Records, trace_append}
 use Rattle.a429_link.specs.declared.number.UnitNumber.{UnitNumber}
 use Rattle.a429_link.specs.Number.{first_number, number_after}
@@ -133,11 +134,15 @@ pub files_cross : (p : Contents) (w first : ℕ) (files : List (List ℕ)) → I
 files_cross p w first files is l h =
     let us = units_of_files p w files in
     let fit = all_fit p w files h first in
-    let goes = clean_goes p is us (first_number p.codes first) None nothing_received 0 fit (start_ready p first us l fit) in
+    let ready = start_ready p first us l fit in
+    let goes = clean_goes p is us (first_number p.codes first) None nothing_received 0 fit ready in
+    let books = clean_books p is us (first_number p.codes first) None nothing_received 0 fit ready in
     record {
       run = goes.run;
       records = trace_all (clean_steps p.codes (first_number p.codes first) us) (clean_blocks p.codes (first_number p.codes first) us) (clean_records p.codes us (first_number p.codes first));
       gives = ap (λ (s : State). s.sink.received.files) goes.ends ∙ all_shelved p w first files [] h;
+      offers = ap (λ (o : Received). o.files) books.offers ∙ all_shelved p w first files [] h;
+      settles = books.settles ∙ all_shelved p w first files [] h;
     }
 
 -- ---- the link data units still to come

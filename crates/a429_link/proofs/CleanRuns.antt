@@ -9,7 +9,7 @@ use Rattle.a429_link.specs.Run.{IsRun, end_of, trace, with_label}
 use Rattle.a429_link.specs.Sink.{nothing_received, Block, Granted, InBlock, Listens, MayAnswerForm, Number, OwesAck, OwesClear, OwesNak, Quiet, Received, Sink, SinkPhase, answers_word, emptied, in_sequence, is_good, is_same, put, received_for}
 use Rattle.a429_link.specs.Source.{Source, after_word, next_word}
 use Rattle.a429_link.specs.Step.{after, label}
-use Rattle.a429_link.specs.State.{start, State}
+use Rattle.a429_link.specs.State.{State}
 use Rattle.a429_link.specs.declared.state.SourceState.{SourceState}
 use Rattle.a429_link.specs.declared.state.SourceState.TheVariants.{Awaiting, Idle, Sending, Waiting}
 use Rattle.a429_link.specs.declared.seen.Seen.{Seen}
@@ -22,7 +22,8 @@ use Rattle.a429_ldu.specs.declared.forms.Form.TheVariants as form
 use Rattle.a429_ldu.specs.Carried.{bytes_carried, bytes_in}
 use Rattle.a429_ldu.specs.CheckWord.{check_of, agrees}
 use Rattle.a429_ldu.proofs.CarriedFacts.{carried_of}
-use Rattle.a429_link.specs.Clean.{on_a, on_b, clean_block, clean_blocks, AllFit, shelved, without_free, asks, replies, sends_word, block_steps, clean_steps, all_steps, first_of, rest_of, weave, IsRunOf}
+use Rattle.a429_link.specs.Clean.{clean_block, clean_blocks, AllFit, shelved, without_free, requests, replies, block_steps, clean_steps, all_steps, first_of, rest_of, weave}
+use Rattle.a429_link.specs.Carry.{on_a, on_b, sends_word}
 use Rattle.a429_link.proofs.MessageRead.{is_read}
 use Rattle.a429_link.proofs.StateConfigs.{sink_at, source_at, unit_number}
 use Rattle.a429_link.specs.declared.number.UnitNumber.{UnitNumber}
@@ -50,7 +51,7 @@ goes_append p xs ys s t r h k = record {
   ends = end_append p xs ys s ∙ ap (end_of p ys) h.ends ∙ k.ends;
 }
 
-joined_append : (xs ys : List (List Step)) → all_steps (xs ++ ys) ≡ all_steps xs ++ all_steps ys
+pub joined_append : (xs ys : List (List Step)) → all_steps (xs ++ ys) ≡ all_steps xs ++ all_steps ys
 joined_append [] ys = refl
 joined_append (x ∷ xs) ys = ap (λ (l : List Step). x ++ l) (joined_append xs ys) ∙ sym (append_assoc x (all_steps xs) (all_steps ys))
 
@@ -80,7 +81,7 @@ word_goes p number cur sp k x e l f = record {
 }
 
 -- an answer is given and heard
-abbrev heard_at : Source → Sink → State
+abbrev pub heard_at : Source → Sink → State
 heard_at s k = record { source = s; sink = k; to_sink = []; to_source = [] }
 
 may_say : (count w : ℕ) (kp : SinkPhase) (x : Message) (o : Option Form) → MaySay count kp x → message_in w o ≡ Some x → MayAnswerForm count kp o
@@ -139,7 +140,7 @@ pub record Sound (p : Contents) (u : LduValue) : Type 0 where
   pub carried : is_some (bytes_carried p.codes u.words) ≡ true
   pub agrees : agrees p.check (bytes_in p.codes u.words) u.check ≡ true
 
-sound : (p : Contents) → IsProfile p → (u : LduValue) → IsLdu p u → Sound p u
+pub sound : (p : Contents) → IsProfile p → (u : LduValue) → IsLdu p u → Sound p u
 sound p is u h =
     let carried = carried_of p is u.words h.bytes h.carries in
     record {
@@ -187,10 +188,21 @@ idle_at number last received count = at number None Idle (sink_at last received 
 joined_words : (ws : List ℕ) (ack : ℕ) → all_steps (map sends_word ws ++ replies ack ∷ []) ≡ all_steps (map sends_word ws) ++ replies ack
 joined_words ws ack = joined_append (map sends_word ws) (replies ack ∷ []) ∙ ap (λ (l : List Step). all_steps (map sends_word ws) ++ l) (append-nil (replies ack))
 
--- one link data unit crosses without loss
-block_goes : (p : Contents) → IsRead p → (number : UnitNumber) (u : LduValue) → IsLdu p u → Sound p u → (last : Option Number) (received : Received) (count : ℕ) → Comes p number last received → Goes p (all_steps (block_steps p.codes number u)) (idle_at number last received count) (idle_at (number_after p.codes number u) (Some (unit_number p.codes number u)) (put number.file (bytes_in p.codes u.words) (is_final p.codes u.flags) received) (count_of u))
+-- the steps up to the acknowledgement
+abbrev pub sent_steps : Codes → UnitNumber → LduValue → List Step
+sent_steps c n u = requests c u ++ (replies (word_number c (form.Cts (count_of u))) ++ all_steps (map sends_word (block_of c u n.file n.ldu)))
+
+pub block_split : (c : Codes) (n : UnitNumber) (u : LduValue) → all_steps (block_steps c n u) ≡ sent_steps c n u ++ replies (word_number c (form.Ack n.file n.ldu))
+block_split c n u = ap (λ (l : List Step). requests c u ++ (replies (word_number c (form.Cts (count_of u))) ++ l)) (joined_words (block_of c u n.file n.ldu) (word_number c (form.Ack n.file n.ldu)))
+
+-- the sink with the whole block of a link data unit, which it has not acknowledged
+abbrev pub owing : UnitNumber → LduValue → Option Number → Received → Sink
+owing number u last received = sink_at last received (count_of u) (OwesAck (record { gfi = u.gfi; file = number.file; ldu = number.ldu; words = u.words }) u.flags)
+
+-- one link data unit is sent without loss
+pub block_sent : (p : Contents) → IsRead p → (number : UnitNumber) (u : LduValue) → IsLdu p u → Sound p u → (last : Option Number) (received : Received) (count : ℕ) → Comes p number last received → Goes p (sent_steps p.codes number u) (idle_at number last received count) (at number (Some u) Waiting (owing number u last received))
 unfolding holding
-block_goes p good number u is s last received count c =
+block_sent p good number u is s last received count c =
     let h = s.fit in
     let some = h.some in
     let room = h.room in
@@ -200,10 +212,9 @@ block_goes p good number u is s last received count c =
     let n = count_of u in
     let rts : message_of p bus.A (word_of p (Rts n)) ≡ Some (Rts n) = good.reads bus.A (Rts n) (omega arith, omega arith) in
     let cts : message_of p bus.B (word_of p (Cts n)) ≡ Some (Cts n) = good.reads bus.B (Cts n) (omega arith, omega arith) in
-    let ack : message_of p bus.B (word_of p (Ack number.file number.ldu)) ≡ Some (Ack number.file number.ldu) = good.reads bus.B (Ack number.file number.ldu) (byte, omega arith) in
     let sot : message_of p bus.A (word_of p (Sot u.gfi number.file number.ldu)) ≡ Some (Sot u.gfi number.file number.ldu) = good.reads bus.A (Sot u.gfi number.file number.ldu) (h.gfi, byte, omega arith) in
     let asked = word_goes p number (Some u) Idle (sink_at last received count Quiet) (Rts n) refl tt rts in
-    let ask : Goes p (asks p.codes u) (idle_at number last received count) (at number (Some u) Awaiting (sink_at last received n OwesClear)) = record {
+    let ask : Goes p (requests p.codes u) (idle_at number last received count) (at number (Some u) Awaiting (sink_at last received n OwesClear)) = record {
       run = ((tt, refl, fit, is), asked.run);
       ends = asked.ends;
     } in
@@ -219,15 +230,24 @@ block_goes p good number u is s last received count c =
       ends = begun.ends ∙ rw more refl;
     } in
     let words = parts_goes p good number u s last received c [] u.words refl h.parts 1 refl in
+    goes_append p (requests p.codes u) _ _ _ _ ask (goes_append p (replies (word_of p (Cts n))) _ _ _ _ clear (goes_append p (sends_word (word_of p (Sot u.gfi number.file number.ldu))) _ _ _ _ begin words))
+
+-- one link data unit crosses without loss
+pub block_goes : (p : Contents) → IsRead p → (number : UnitNumber) (u : LduValue) → IsLdu p u → Sound p u → (last : Option Number) (received : Received) (count : ℕ) → Comes p number last received → Goes p (all_steps (block_steps p.codes number u)) (idle_at number last received count) (idle_at (number_after p.codes number u) (Some (unit_number p.codes number u)) (put number.file (bytes_in p.codes u.words) (is_final p.codes u.flags) received) (count_of u))
+block_goes p good number u is s last received count c =
+    let low = good.first in
+    let fit = c.room in
+    let byte = c.byte in
+    let n = count_of u in
+    let ack : message_of p bus.B (word_of p (Ack number.file number.ldu)) ≡ Some (Ack number.file number.ldu) = good.reads bus.B (Ack number.file number.ldu) (byte, omega arith) in
     let b : Block = record { gfi = u.gfi; file = number.file; ldu = number.ldu; words = u.words } in
     let settled = reply_goes p number (Some u) Waiting (sink_at last received n (OwesAck b u.flags)) (Ack number.file number.ldu) (refl, refl) ack in
     let settle : Goes p (replies (word_of p (Ack number.file number.ldu))) (at number (Some u) Waiting (sink_at last received n (OwesAck b u.flags))) (idle_at (number_after p.codes number u) (Some (unit_number p.codes number u)) (put number.file (bytes_in p.codes u.words) (is_final p.codes u.flags) received) n) = subst (λ (o : Received). Goes p (replies (word_of p (Ack number.file number.ldu))) (at number (Some u) Waiting (sink_at last received n (OwesAck b u.flags))) (idle_at (number_after p.codes number u) (Some (unit_number p.codes number u)) (put number.file (bytes_in p.codes u.words) (is_final p.codes u.flags) o) n)) c.kept (record {
       run = settled.run;
       ends = settled.ends ∙ rw (eqb_same number.file) (rw (eqb_same number.ldu) (rw c.new refl));
     }) in
-    goes_append p (asks p.codes u) _ _ _ _ ask (goes_append p (replies (word_of p (Cts n))) _ _ _ _ clear (goes_append p (sends_word (word_of p (Sot u.gfi number.file number.ldu))) _ _ _ _ begin
-    (subst (λ acts. Goes p acts (at number (Some u) (Sending 1) (sink_at last received n (holding u number []))) (idle_at (number_after p.codes number u) (Some (unit_number p.codes number u)) (put number.file (bytes_in p.codes u.words) (is_final p.codes u.flags) received) n)) (sym (joined_words (u.words ++ word_of p (end_message u) ∷ []) (word_of p (Ack number.file number.ldu))))
-    (goes_append p _ _ _ _ _ words settle))))
+    subst (λ acts. Goes p acts (idle_at number last received count) (idle_at (number_after p.codes number u) (Some (unit_number p.codes number u)) (put number.file (bytes_in p.codes u.words) (is_final p.codes u.flags) received) n)) (sym (block_split p.codes number u))
+    (goes_append p _ _ _ _ _ (block_sent p good number u is s last received count c) settle)
 
 -- the next number comes after this one
 next_comes : (p : Contents) → IsRead p → (number : UnitNumber) (bytes : List ℕ) (t : Bool) (received : Received) → number.file ≤ 255 → number.ldu ≤ p.codes.first_ldu + 254 → (next_number p.codes number t).ldu ≤ p.codes.first_ldu + 254 → Comes p (next_number p.codes number t) (Some (record { number = number; final = t })) (put number.file bytes t received)
@@ -275,7 +295,7 @@ abbrev pub Ready : Contents → UnitNumber → Option Number → Received → Li
 Ready p number last received [] = Unit {0}
 Ready p number last received (u ∷ us) = Comes p number last received
 
-ready_next : (p : Contents) → IsRead p → (number : UnitNumber) (u : LduValue) (us : List LduValue) (received : Received) → number.file ≤ 255 → number.ldu ≤ p.codes.first_ldu + 254 → AllFit p (number_after p.codes number u) us → Ready p (number_after p.codes number u) (Some (unit_number p.codes number u)) (put number.file (bytes_in p.codes u.words) (is_final p.codes u.flags) received) us
+pub ready_next : (p : Contents) → IsRead p → (number : UnitNumber) (u : LduValue) (us : List LduValue) (received : Received) → number.file ≤ 255 → number.ldu ≤ p.codes.first_ldu + 254 → AllFit p (number_after p.codes number u) us → Ready p (number_after p.codes number u) (Some (unit_number p.codes number u)) (put number.file (bytes_in p.codes u.words) (is_final p.codes u.flags) received) us
 ready_next p good number u [] received byte fit h = tt
 ready_next p good number u (v ∷ us) received byte fit h = next_comes p good number (bytes_in p.codes u.words) (is_final p.codes u.flags) received byte fit h.1
 
@@ -322,11 +342,11 @@ pub clean_records : (c : Codes) (us : List LduValue) (number : UnitNumber) → R
 clean_records c [] number = tt
 clean_records c (u ∷ us) number = records_append (block_steps c number u) (clean_steps c (number_after c number u) us) (clean_block c number u) (clean_blocks c (number_after c number u) us) (block_records c number u) (clean_records c us (number_after c number u))
 
-record Woven (p : Contents) (items : List Seen) (gs : List (List Step)) (s : State) : Type 0 where
-  goes : Goes p (weave p.codes items gs) s (end_of p (all_steps gs) s)
-  records : trace (weave p.codes items gs) ≡ items
+pub record Woven (p : Contents) (items : List Seen) (gs : List (List Step)) (s : State) : Type 0 where
+  pub goes : Goes p (weave p.codes items gs) s (end_of p (all_steps gs) s)
+  pub records : trace (weave p.codes items gs) ≡ items
 
-none_left : (gs : List (List Step)) → Records gs [] → gs ≡ []
+pub none_left : (gs : List (List Step)) → Records gs [] → gs ≡ []
 none_left [] h = refl
 none_left (g ∷ gs) h = absurd h
 
@@ -346,7 +366,7 @@ woven_item : (p : Contents) (i : Seen) (items : List Seen) (gs : List (List Step
 woven_item p i items gs s true e r h more = let next = more gs s r h in (record { run = (e, next.goes.run); ends = next.goes.ends }, ap (λ (l : List Seen). i ∷ l) next.records)
 woven_item p i items gs s false e r h more = woven_group p i items gs s r h more
 
-weave_goes : (p : Contents) (items : List Seen) (gs : List (List Step)) (s : State) → Records gs (without_free p.codes items) → IsRun p (all_steps gs) s → Woven p items gs s
+pub weave_goes : (p : Contents) (items : List Seen) (gs : List (List Step)) (s : State) → Records gs (without_free p.codes items) → IsRun p (all_steps gs) s → Woven p items gs s
 weave_goes p [] gs s r h = rw (none_left gs r) (record { goes = record { run = tt; ends = refl }; records = refl })
 weave_goes p (i ∷ items) gs s r h =
     let both = woven_item p i items gs s (is_free p.codes i.bus i.word) refl r h (weave_goes p items) in
@@ -355,14 +375,3 @@ weave_goes p (i ∷ items) gs s r h =
 pub start_ready : (p : Contents) (file : ℕ) (us : List LduValue) → file ≤ 255 → AllFit p (first_number p.codes file) us → Ready p (first_number p.codes file) None nothing_received us
 start_ready p file [] f h = tt
 start_ready p file (u ∷ us) f h = record { new = refl; follows = eqb_same p.codes.first_ldu; byte = f; room = h.1; kept = refl }
-
--- a recording of a run without loss is the trace of the woven steps, and these deliver its files
-pub clean_is_run : (p : Contents) (file : ℕ) (us : List LduValue) (items : List Seen) → IsProfile p → file ≤ 255 → AllFit p (first_number p.codes file) us → without_free p.codes items ≡ clean_blocks p.codes (first_number p.codes file) us → IsRunOf p file (weave p.codes items (clean_steps p.codes (first_number p.codes file) us)) items (shelved p.codes (first_number p.codes file) us nothing_received)
-clean_is_run p file us items is f h e =
-    let goes = clean_goes p is us (first_number p.codes file) None nothing_received 0 h (start_ready p file us f h) in
-    let woven = weave_goes p items (clean_steps p.codes (first_number p.codes file) us) (start p file) (subst (Records (clean_steps p.codes (first_number p.codes file) us)) (sym e) (clean_records p.codes us (first_number p.codes file))) goes.run in
-    record {
-      run = woven.goes.run;
-      records = woven.records;
-      gives = ap (λ (s : State). s.sink.received.files) (woven.goes.ends ∙ goes.ends);
-    }

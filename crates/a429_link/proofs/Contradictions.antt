@@ -11,7 +11,7 @@ use Rattle.a429_ldu.specs.Ldu.{LduValue, IsLdu, block_of}
 use Rattle.a429_link.specs.declared.number.UnitNumber.{UnitNumber}
 use Rattle.a429_link.specs.declared.seen.Seen.{Seen}
 use Rattle.a429_link.specs.Attempt.{Attempt, BeginsUnder, HasNumber, IsAttemptAt, IsStartOf, IsWhole, asks, fresh, grown, latest, latest_from, under_way}
-use Rattle.a429_link.specs.Contradiction.{AreOther, IsOtherAt, IsOtherEnd, IsOtherForm, IsOtherLast, IsOtherNext, IsOtherStart, IsOtherWord, IsWrongAt, IsWrongForm, IsWrongNext, IsWrongStart, SoFar, UnitSoFar, at_start, begun, ended, sends, so_far, so_far_after, so_far_from, started, unit_after, whole_block, with_ack, with_end, with_start}
+use Rattle.a429_link.specs.Contradiction.{AreOther, IsOtherAt, IsOtherEnd, IsOtherForm, IsOtherLast, IsOtherNext, IsOtherStart, IsOtherWord, IsWrongAt, IsWrongForm, IsWrongNext, IsWrongStart, SoFar, UnitSoFar, none_so_far, begun, ended, sends, so_far, so_far_after, so_far_from, started, unit_after, whole_block, with_ack, with_end, with_start}
 use Rattle.a429_link.specs.Group.{AcksForm, AcksOnly}
 use Rattle.a429_link.specs.Number.{is_number}
 use Rattle.a429_link.specs.Run.{BeginsARun, IsSubsequenceOf}
@@ -69,10 +69,6 @@ was_now p n items P h is = record { before = items; since = []; splits = sym (ap
 -- an attempt with this start word after a request for this count; with this end word last; with these words, and whole
 abbrev Starts : ℕ → ℕ → Attempt → Type 0
 Starts w count a = (a.words ≡ w ∷ []) × (a.count ≡ count)
-
-abbrev IsEnd : Option Form → Type 0
-IsEnd (Some (form.Eot flags check)) = Unit {0}
-IsEnd _ = ⊥
 
 record Ends (p : Contents) (w : ℕ) (a : Attempt) : Type 0 where
   words : List ℕ
@@ -227,7 +223,7 @@ stands_from p items (i ∷ more) s h =
     subst (λ l. Stands p l (so_far_from p s (i ∷ more))) (append_assoc items (i ∷ []) more) (stands_from p (items ++ i ∷ []) more (so_far_after i.bus i.word (form_of p.codes i.bus i.word) s) (stands_next p items i s h))
 
 stands : (p : Contents) (items : List Seen) → Stands p items (so_far p items)
-stands p items = stands_from p [] items at_start (record { attempt = refl; unit = tt })
+stands p items = stands_from p [] items none_so_far (record { attempt = refl; unit = tt })
 
 -- the attempt that is under way is the latest one
 pub so_far_latest : (p : Contents) (items : List Seen) → (so_far p items).attempt ≡ latest p items

@@ -1,5 +1,5 @@
 -- What is implied word after word.
-use Rattle.std.proofs.Common.{◌≡◌, ℕ, ◌+◌, Bool, true, false, cond, List, [], ◌∷◌, ◌++◌, length, map, append-nil, Option, Some, None, refl, sym, ap, ◌∙◌, subst}
+use Rattle.std.proofs.Common.{◌≡◌, ℕ, Bool, true, false, cond, List, [], ◌∷◌, ◌++◌, append-nil, Option, Some, None, refl, sym, ap, ◌∙◌, subst}
 use Rattle.a429_word.specs.declared.bus.Bus.{Bus}
 use Rattle.a429_word.specs.declared.bus.Bus.TheVariants as bus
 use Rattle.a429_profile.specs.Profile.{Contents}
@@ -15,7 +15,7 @@ use Rattle.a429_link.specs.declared.why.Why.{Why}
 use Rattle.a429_link.specs.declared.doing.Crossing.{Crossing}
 use Rattle.a429_link.specs.declared.doing.Doing.{Doing}
 use Rattle.a429_link.specs.declared.doing.Doing.TheVariants as doing
-use Rattle.a429_link.specs.Sink.{Block, Granted, InBlock, MayAnswer, Number, OwesAck, OwesClear, OwesNak, Quiet, Received, Sink, SinkPhase, accepts_owed, answers, emptied, in_phase, is_same, is_same_file, number_of, put, received_for, takes, without_files}
+use Rattle.a429_link.specs.Sink.{Block, Granted, InBlock, MayAnswer, OwesAck, OwesClear, OwesNak, Quiet, Sink, SinkPhase, accepts_owed, emptied, in_phase, is_same, is_same_file, number_of, put, without_files}
 use Rattle.a429_link.specs.Observer.{AllowsForm, Observer, at_first, observed, sees, sees_form}
 use Rattle.a429_link.specs.Trace.{files_of, sink_after, sink_at_first, sink_sees}
 use Rattle.a429_link.specs.Implied.{Implied, acknowledging, crossing_in, crossings_of, does, doing_in, implied, implied_at_first, implies, implies_form, sink_sees_form, size_of, sizes_of, why_at, with_counts}

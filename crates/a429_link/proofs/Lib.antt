@@ -26,6 +26,7 @@ pub mod LinkCalls
 pub mod ObserverBlock
 pub mod ObserverSight
 pub mod CleanRuns
+pub mod CleanOffers
 pub mod CleanFiles
 pub mod DeliveredFiles
 pub mod WholeBlock

@@ -30,7 +30,7 @@ use Rattle.a429_link.proofs.SinkShelves.{Past, past_given_up, past_new, past_nex
 use Rattle.a429_link.proofs.StateConfigs.{Config, Stale, acked, asked, block_words_each, cleared, idle, may_answer, may_owes, owes_alone, owes_grant, owes_stale, refused, sending, source_at, spoiled, unasked, waiting, whole}
 use Rattle.a429_link.proofs.StateHolds.{Current, HoldsAt, answered_count, owed_form, sends, start_holds, step_holds}
 use Rattle.a429_link.proofs.SinkFromTrace.{Alike, IsStill, sees, step_alike}
-use Rattle.a429_link.proofs.RunTraces.{HasCts, IsCts, block_word, no_cts, see_item}
+use Rattle.a429_link.proofs.RunTraces.{HasCts, IsCts, block_word, no_cts}
 use Rattle.a429_link.proofs.RunCrossing.{HasAck, IsAck, no_ack, one_answer}
 use Rattle.a429_link.proofs.LatestAttempt.{attempt, attempt_from, joins, latest_count, latest_words}
 use Rattle.a429_link.proofs.WholeBlock.{all_taken_fit}

@@ -20,12 +20,12 @@ use Rattle.a429_link.specs.declared.state.SourceState.{SourceState}
 use Rattle.a429_link.specs.declared.state.SourceState.TheVariants.{Awaiting, Idle, Sending, Waiting}
 use Rattle.a429_link.specs.declared.step.Step.{Step}
 use Rattle.a429_link.specs.declared.step.Step.TheVariants.{Answered, FreeSeen, GiveUp, Load, LoseAnswer, Sent, SentLost, Silent, SinkTakes, TakeAnswer, TimeOut}
-use Rattle.a429_link.specs.WholeBlock.{ending, ComesForm, ComesNext, EndsBad, EndsBadAt, EndsBadForm, EndsForm, EndsGoodAt, EndsWhole, GoodForm, GoodNext, NumberComesAt, makes_unit}
+use Rattle.a429_link.specs.WholeBlock.{ComesForm, ComesNext, EndsBad, EndsBadAt, EndsBadForm, EndsForm, EndsWhole, NumberComesAt, makes_unit}
 use Rattle.a429_link.specs.Number.{begins_file, files_past, first_number, is_number, next_number}
 use Rattle.a429_link.specs.Observer.{Observer, at_first, observed}
 use Rattle.a429_link.specs.Observer.{sees as observes}
 use Rattle.a429_link.specs.Run.{BeginsARun, IsRun, IsSubsequenceOf, trace, with_label, offers, settles}
-use Rattle.a429_link.specs.Sink.{Block, InBlock, Number, Received, Sink, SinkPhase, nothing_received, is_same, may_come, number_of, takes_first}
+use Rattle.a429_link.specs.Sink.{Block, InBlock, Number, Received, Sink, SinkPhase, nothing_received, is_good, is_same, may_come, number_of, takes_first}
 use Rattle.a429_link.specs.Source.{Source, with_answer_first}
 use Rattle.a429_link.specs.State.{IsNonEmpty, State, start}
 use Rattle.a429_link.specs.Step.{Can, after, label}
@@ -293,6 +293,32 @@ pub numbers_come : (p : Contents) → IsRead p → (items : List Seen) (i : ℕ)
 numbers_come p good items i r = comes_at p items r.more sink_at_first [] i at_first refl (begun_comes p good items i r)
 
 -- ---- a whole attempt is good
+
+-- an end word that ends a whole block ends one that the sink may acknowledge
+abbrev pub GoodEnd : Contents → ℕ → ℕ → Option Number → SinkPhase → Type 0
+GoodEnd p check count last (InBlock b) = length b.words + 2 ≡ count → is_good p last count b check ≡ true
+GoodEnd p check count last _ = Unit {0}
+
+-- a sink, where a word may end its block: its phase, the count of its last request, and the number of its last unit
+pub record Ending : Type 0 where
+  pub phase : SinkPhase
+  pub count : ℕ
+  pub last : Option Number
+
+abbrev pub ending : SinkPhase → ℕ → Option Number → Ending
+ending phase count last = record { phase = phase; count = count; last = last }
+
+-- the same of a word of any form
+abbrev pub GoodForm : Contents → Bus → Option Form → Ending → Type 0
+GoodForm p bus.A (Some (form.Eot flags check)) e = GoodEnd p check e.count e.last e.phase
+GoodForm p _ _ e = Unit {0}
+
+abbrev pub GoodNext : Contents → Observer → Option Seen → Type 0
+GoodNext p o None = Unit {0}
+GoodNext p o (Some i) = GoodForm p i.bus (form_of p.codes i.bus i.word) (ending o.phase o.count o.last)
+
+abbrev pub EndsGoodAt : Contents → List Seen → ℕ → Type 0
+EndsGoodAt p items i = GoodNext p (observed p (take i items) at_first) (slice_get items i)
 
 good_end : (p : Contents) → IsProfile p → (last : Option Number) (count : ℕ) (kp : SinkPhase) (flags check : ℕ) → BlockComes p.codes last kp → ((v : LduValue) → EndsForm bus.A (Some (form.Eot flags check)) kp count v → IsLdu p v) → GoodForm p bus.A (Some (form.Eot flags check)) (ending kp count last)
 good_end p is last count (InBlock b) flags check h whole =

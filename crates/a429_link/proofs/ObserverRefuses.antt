@@ -7,7 +7,7 @@ use Rattle.a429_ldu.specs.Ldu.{is_final}
 use Rattle.a429_link.proofs.Message.{IsRead, MaySay, Part, Message, Sot, message_in}
 use Rattle.a429_link.specs.Observer.{Allows, AllowsForm, AllowsNext, HasGrant, IsRefused, Observer, at_first, observed, sees, sees_form, watching}
 use Rattle.a429_link.specs.Run.{BeginsARun}
-use Rattle.a429_link.specs.Sink.{nothing_received, Granted, InBlock, Number, OwesAck, OwesClear, OwesNak, Quiet, Sink, SinkPhase, accepts_owed, answers, answers_form, is_same, put, received_for, takes_form, number_of}
+use Rattle.a429_link.specs.Sink.{nothing_received, Granted, InBlock, Number, OwesAck, OwesClear, OwesNak, Quiet, Sink, SinkPhase, accepts_owed, answers, is_same, put, received_for, number_of}
 use Rattle.a429_link.specs.declared.seen.Seen.{Seen}
 use Rattle.a429_profile.specs.Profile.{Contents}
 use Rattle.a429_word.specs.declared.bus.Bus.{Bus}

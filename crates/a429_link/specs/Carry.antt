@@ -1,12 +1,13 @@
 -- A data word of a block that is sent, and taken at once, with nothing else on its way (ARINC 429 Part 3).
-use Rattle.std.specs.Prelude.{◌≡◌, ◌<◌, ◌+◌, ℕ, suc, List, [], length, Some}
-use Rattle.a429_word.specs.declared.bus.Bus.TheVariants.{A}
+use Rattle.std.specs.Prelude.{◌≡◌, ◌<◌, ◌+◌, ℕ, suc, List, [], ◌∷◌, length, Some}
+use Rattle.a429_word.specs.declared.bus.Bus.TheVariants.{A, B}
 use Rattle.a429_profile.specs.Profile.{Contents}
 use Rattle.a429_ldu.specs.declared.forms.Form.TheVariants.{Part}
 use Rattle.a429_ldu.specs.Form.{form_of}
 use Rattle.a429_ldu.specs.Ldu.{LduValue, count_of}
 use Rattle.a429_link.specs.declared.seen.Seen.{Seen}
 use Rattle.a429_link.specs.declared.state.SourceState.TheVariants.{Sending}
+use Rattle.a429_link.specs.declared.step.Step.{Step}
 use Rattle.a429_link.specs.declared.step.Step.TheVariants.{Sent, SinkTakes}
 use Rattle.a429_link.specs.declared.carry.NextWord.{NextWord}
 use Rattle.a429_link.specs.Source.{Source, next_word_of}
@@ -27,7 +28,7 @@ HasTaken (InBlock b) coming k = (coming ≡ []) × (length b.words + 1 ≡ k)
 HasTaken _ coming k = ⊥
 
 -- the source sends this word next, and one more after it; the sink has taken all words of the block before it, and nothing is on its way
-pub record IsNext (p : Contents) (next : NextWord) (s : State) : Type 0 where
+pub record SendsNext (p : Contents) (next : NextWord) (s : State) : Type 0 where
   pub sends : SendsMore s.source next.place
   pub taken : HasTaken s.sink.phase s.to_sink next.place
   pub to_source : s.to_source ≡ []
@@ -48,9 +49,16 @@ pub record IsAtWord (p : Contents) (next : NextWord) (s : State) : Type 0 where
   pub word : next_word_of p s.source ≡ Some next.word
   pub part : form_of p.codes A next.word ≡ Some (Part semis)
 
--- a word of bus A
+-- a word of bus A, and one of bus B
 abbrev pub on_a : ℕ → Seen
 on_a word = record { bus = A; word = word }
+
+abbrev pub on_b : ℕ → Seen
+on_b word = record { bus = B; word = word }
+
+-- a word of bus A is sent, and taken at once
+abbrev pub sends_word : ℕ → List Step
+sends_word word = Sent (on_a word) ∷ (SinkTakes ∷ [])
 
 -- the state after the word is sent, and after it is taken too
 abbrev pub after_sent : Contents → ℕ → State → State

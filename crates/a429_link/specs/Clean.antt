@@ -1,14 +1,13 @@
 -- What a run without loss records, and the steps that record it (profile: each link data unit is asked for, cleared, sent
 -- and acknowledged once).
 use Rattle.std.specs.Prelude.{◌≡◌, ℕ, ◌+◌, ◌*◌, ◌%◌, ◌≤◌, ◌==◌, nat_lt, if◌then◌else◌, Option, Some, None, List, [], ◌∷◌, ◌++◌, map, length}
-use Rattle.a429_word.specs.declared.bus.Bus.TheVariants as bus
 use Rattle.a429_profile.specs.declared.codes.Codes.{Codes}
 use Rattle.a429_profile.specs.Profile.{Contents, IsProfile}
 use Rattle.a429_ldu.specs.declared.forms.Form.TheVariants.{Rts, Cts, Ack}
 use Rattle.a429_ldu.specs.Form.{word_number, is_free}
 use Rattle.a429_ldu.specs.declared.fault.CutFault.{CutFault}
 use Rattle.a429_ldu.specs.declared.fault.CutFault.TheVariants as cut
-use Rattle.a429_ldu.specs.Cut.{room, units_of}
+use Rattle.a429_ldu.specs.Cut.{most_units, room, units_of}
 use Rattle.a429_ldu.specs.Ldu.{LduValue, IsLdu, count_of, block_of, bytes_of, is_final}
 use Rattle.a429_link.specs.declared.fault.CleanFault.{CleanFault}
 use Rattle.a429_link.specs.declared.fault.CleanFault.TheVariants.{Cut}
@@ -18,15 +17,10 @@ use Rattle.a429_link.specs.Number.{first_number, number_after}
 use Rattle.a429_link.specs.declared.seen.Seen.{Seen}
 use Rattle.a429_link.specs.declared.step.Step.{Step}
 use Rattle.a429_link.specs.declared.step.Step.TheVariants.{Load, Sent, TakeAnswer, SinkTakes, Answered, FreeSeen}
+use Rattle.a429_link.specs.Carry.{on_a, on_b, sends_word}
 use Rattle.a429_link.specs.Sink.{Received, put, nothing_received}
 use Rattle.a429_link.specs.State.{start}
-use Rattle.a429_link.specs.Run.{IsRun, trace, delivered}
-
-abbrev pub on_a : ℕ → Seen
-on_a w = record { bus = bus.A; word = w }
-
-abbrev pub on_b : ℕ → Seen
-on_b w = record { bus = bus.B; word = w }
+use Rattle.a429_link.specs.Run.{IsRun, trace, delivered, offered, settled}
 
 -- ---- the words
 
@@ -60,17 +54,14 @@ without_free c (i ∷ items) = if is_free c i.bus i.word then without_free c ite
 
 -- ---- the steps, in a group for each word
 
-abbrev pub asks : Codes → LduValue → List Step
-asks c u = Load u ∷ (Sent (on_a (word_number c (Rts (count_of u)))) ∷ (SinkTakes ∷ []))
+abbrev pub requests : Codes → LduValue → List Step
+requests c u = Load u ∷ (Sent (on_a (word_number c (Rts (count_of u)))) ∷ (SinkTakes ∷ []))
 
 abbrev pub replies : ℕ → List Step
 replies w = Answered (on_b w) ∷ (TakeAnswer ∷ [])
 
-abbrev pub sends_word : ℕ → List Step
-sends_word w = Sent (on_a w) ∷ (SinkTakes ∷ [])
-
 abbrev pub block_steps : Codes → UnitNumber → LduValue → List (List Step)
-block_steps c n u = asks c u ∷ (replies (word_number c (Cts (count_of u))) ∷ (map sends_word (block_of c u n.file n.ldu) ++ replies (word_number c (Ack n.file n.ldu)) ∷ []))
+block_steps c n u = requests c u ∷ (replies (word_number c (Cts (count_of u))) ∷ (map sends_word (block_of c u n.file n.ldu) ++ replies (word_number c (Ack n.file n.ldu)) ∷ []))
 
 abbrev pub clean_steps : Codes → UnitNumber → List LduValue → List (List Step)
 clean_steps c n [] = []
@@ -89,13 +80,16 @@ abbrev pub weave : Codes → List Seen → List (List Step) → List Step
 weave c [] gs = []
 weave c (i ∷ items) gs = if is_free c i.bus i.word then FreeSeen i ∷ weave c items gs else first_of gs ++ weave c items (rest_of gs)
 
--- the steps are a run from the start that records these words and delivers these files
+-- the steps are a run from the start that records these words; the files that it offers, delivers and settles are these
 pub record IsRunOf (p : Contents) (file : ℕ) (steps : List Step) (items : List Seen) (received : Received) : Type 0 where
   pub run : IsRun p steps (start p file)
   pub records : trace steps ≡ items
   pub gives : delivered p file steps ≡ received.files
+  pub offers : offered p file steps ≡ received.files
+  pub settles : settled p file steps ≡ received.files
 
--- the steps of this recording, free words among them, are a run from the start that delivers the files of these link data units
+-- the steps of this recording, free words among them, are a run from the start; it offers, delivers and settles the files of these
+-- link data units
 abbrev pub CarriesUnits : Contents → ℕ → List LduValue → List Seen → Type 0
 CarriesUnits p first units items = IsRunOf p first (weave p.codes items (clean_steps p.codes (first_number p.codes first) units)) items (shelved p.codes (first_number p.codes first) units nothing_received)
 
@@ -133,7 +127,7 @@ abbrev pub numbered : ℕ → List (List ℕ) → List FileBytes
 numbered first [] = []
 numbered first (bytes ∷ files) = record { number = first; bytes = bytes } ∷ numbered ((first + 1) % 256) files
 
--- its steps are a run that records its words and delivers these files
+-- its steps are a run that records its words; it offers, delivers and settles these files
 abbrev pub CarriesFiles : Contents → ℕ → ℕ → List (List ℕ) → Type 0
 CarriesFiles p max_words first files =
     IsRunOf p first (clean_run_steps p max_words first files) (clean_words p max_words first files) (record { files = numbered first files; open_bytes = [] })
@@ -142,7 +136,7 @@ CarriesFiles p max_words first files =
 abbrev pub cut_fault : ℕ → List ℕ → Option CutFault
 cut_fault max_words bytes =
     if length bytes == 0 then Some cut.Empty
-    else (if nat_lt (255 * room max_words) (length bytes) then Some cut.TooLong
+    else (if nat_lt (most_units * room max_words) (length bytes) then Some cut.TooLong
     else None)
 
 abbrev pub refused_or : ℕ → Option CutFault → Option CleanFault → Option CleanFault

@@ -32,8 +32,8 @@ pub record SoFar : Type 0 where
   pub attempt : Attempt
   pub unit : Option UnitSoFar
 
-abbrev pub at_start : SoFar
-at_start = record { attempt = fresh 0; unit = None }
+abbrev pub none_so_far : SoFar
+none_so_far = record { attempt = fresh 0; unit = None }
 
 abbrev pub begun : Attempt → UnitNumber → ℕ → UnitSoFar
 begun a n w = record { number = n; start = w; count = a.count; ending = None; block = None }
@@ -83,7 +83,7 @@ so_far_from p s [] = s
 so_far_from p s (i ∷ items) = so_far_from p (so_far_after i.bus i.word (form_of p.codes i.bus i.word) s) items
 
 abbrev pub so_far : Contents → List Seen → SoFar
-so_far p items = so_far_from p at_start items
+so_far p items = so_far_from p none_so_far items
 
 -- ---- contradictions
 

@@ -94,10 +94,6 @@ is_good p last count b check =
     && (agrees p.check (bytes_in p.codes b.words) check
     && may_come p.codes last (number_of b)))
 
--- the same by what this sink accepted last, and by the count of its last request
-abbrev pub is_good_for : Sink → Contents → Block → ℕ → Bool
-is_good_for k p b check = is_good p k.last k.count b check
-
 -- ---- taking words
 
 -- a start word begins a block where the sink is granted, or in a block; a data word joins a block;

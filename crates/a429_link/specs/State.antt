@@ -7,7 +7,8 @@ use Rattle.a429_link.specs.declared.state.SinkState.TheVariants as shown
 use Rattle.a429_link.specs.declared.state.States.{States}
 use Rattle.a429_link.specs.Number.{first_number}
 use Rattle.a429_link.specs.Source.{Source}
-use Rattle.a429_link.specs.Sink.{Sink, SinkSide, SinkPhase, Quiet, OwesClear, Granted, InBlock, OwesAck, OwesNak, nothing_received}
+use Rattle.a429_link.specs.Sink.{Sink, SinkSide, SinkPhase, Quiet, OwesClear, Granted, InBlock, OwesAck, OwesNak}
+use Rattle.a429_link.specs.Trace.{sink_at_first}
 
 pub record State : Type 0 where
   pub source : Source
@@ -22,7 +23,7 @@ abbrev pub start : Contents → ℕ → State
 start p first =
     record {
       source = record { number = first_number p.codes first; current = None; phase = Idle; give_ups = 0 };
-      sink = record { last = None; received = nothing_received; count = 0; phase = Quiet };
+      sink = sink_at_first;
       to_sink = [];
       to_source = [];
     }

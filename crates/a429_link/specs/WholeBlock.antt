@@ -12,7 +12,7 @@ use Rattle.a429_ldu.specs.declared.forms.Form.TheVariants.{Sot, Part, Eot}
 use Rattle.a429_ldu.specs.Form.{form_of}
 use Rattle.a429_ldu.specs.Ldu.{LduValue, ldu_of}
 use Rattle.a429_link.specs.declared.seen.Seen.{Seen}
-use Rattle.a429_link.specs.Sink.{Block, SinkPhase, InBlock, Number, is_good, may_come}
+use Rattle.a429_link.specs.Sink.{Block, SinkPhase, InBlock, Number, may_come}
 use Rattle.a429_link.specs.Observer.{Observer, at_first, observed}
 use Rattle.a429_link.specs.Attempt.{Attempt, latest}
 
@@ -47,32 +47,6 @@ EndsBad p o (Some i) = EndsBadForm p i.bus (form_of p.codes i.bus i.word) o.phas
 
 abbrev pub EndsBadAt : Contents → List Seen → ℕ → Type 0
 EndsBadAt p items i = EndsBad p (observed p (take i items) at_first) (slice_get items i)
-
--- an end word that ends a whole block ends one that the sink may acknowledge
-abbrev pub GoodEnd : Contents → ℕ → ℕ → Option Number → SinkPhase → Type 0
-GoodEnd p check count last (InBlock b) = length b.words + 2 ≡ count → is_good p last count b check ≡ true
-GoodEnd p check count last _ = Unit {0}
-
--- a sink, where a word may end its block: its phase, the count of its last request, and the number of its last unit
-pub record Ending : Type 0 where
-  pub phase : SinkPhase
-  pub count : ℕ
-  pub last : Option Number
-
-abbrev pub ending : SinkPhase → ℕ → Option Number → Ending
-ending phase count last = record { phase = phase; count = count; last = last }
-
--- the same of a word of any form
-abbrev pub GoodForm : Contents → Bus → Option Form → Ending → Type 0
-GoodForm p bus.A (Some (Eot flags check)) e = GoodEnd p check e.count e.last e.phase
-GoodForm p _ _ e = Unit {0}
-
-abbrev pub GoodNext : Contents → Observer → Option Seen → Type 0
-GoodNext p o None = Unit {0}
-GoodNext p o (Some i) = GoodForm p i.bus (form_of p.codes i.bus i.word) (ending o.phase o.count o.last)
-
-abbrev pub EndsGoodAt : Contents → List Seen → ℕ → Type 0
-EndsGoodAt p items i = GoodNext p (observed p (take i items) at_first) (slice_get items i)
 
 -- ---- all data words
 

@@ -55,7 +55,7 @@ pub fn refused_is_impossible()
 {}
 
 /// A recording that is, free words left out, the words of link data units that cross without loss is that
-/// of a run which delivers their files.
+/// of a run which offers, delivers and settles their files.
 pub fn a_clean_recording_is_a_run()
     ensures { (p : Contents) (r : CleanRecording p) → CarriesUnits p r.first r.units r.items }
 {}

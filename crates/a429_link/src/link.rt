@@ -4,7 +4,7 @@ ghost use Rattle.std.specs.Prelude.{◌≡◌, ◌↔◌, [], IsTrue, IfErr, IfS
 ghost use Rattle.a429_ldu.specs.Ldu.{IsLdu, LduValue};
 ghost use Rattle.a429_link.specs.declared.carry.NextWord.{NextWord};
 ghost use Rattle.a429_link.specs.declared.seen.Seen.{Seen};
-ghost use Rattle.a429_link.specs.Carry.{IsAtWord, after_both};
+ghost use Rattle.a429_link.specs.Carry.{IsAtWord, after_both, sends_word};
 ghost use Rattle.a429_link.specs.Step.{Can, after, LoadsLdu, IsFault, IsNamedStep};
 ghost use Rattle.a429_link.specs.State.{start, states_of};
 ghost use Rattle.a429_link.specs.Link.{handed_out};
@@ -85,7 +85,9 @@ impl<'a> Link<'a> {
     #[inline(always)]
     pub fn carry(&mut self, next: NextWord)
         requires { IsAtWord self.old.profile next self.old.state }
-        ensures { self.new ≡ record (self.old) { state = after_both self.old.profile next.word self.old.state } }
+        ensures allowed { IsRun self.old.profile (sends_word next.word) self.old.state }
+        ensures done { self.new ≡ record (self.old) { state = after_both self.old.profile next.word self.old.state } }
+        ensures bounds { StaysBounded self.old.profile (sends_word next.word) self.old.state }
     {
         self.transfer.carry(self.profile, next);
     }

@@ -5,7 +5,7 @@ ghost use Rattle.a429_profile.specs.Profile.{Contents, IsProfile};
 ghost use Rattle.a429_ldu.specs.Ldu.{IsLdu, LduValue};
 ghost use Rattle.a429_link.specs.declared.carry.NextWord.{NextWord};
 ghost use Rattle.a429_link.specs.declared.step.Step.TheVariants as step;
-ghost use Rattle.a429_link.specs.Carry.{IsAtWord, IsNext, after_both};
+ghost use Rattle.a429_link.specs.Carry.{IsAtWord, SendsNext, after_both};
 ghost use Rattle.a429_link.specs.Losses.{words_left, with_rest_lost};
 ghost use Rattle.a429_link.specs.Sink.{held_count};
 ghost use Rattle.a429_link.specs.Step.{LoadsLdu};
@@ -132,8 +132,8 @@ impl Transfer {
     /// it, and nothing is on its way.
     #[inline(always)]
     pub(crate) fn next_word(&self, profile: &Profile) -> Option<NextWord>
-        ensures some { IfSome result (λ next. IsNext profile.now next self.now) }
-        ensures none { IfNone result ((next : NextWord) → IsNext profile.now next self.now → ⊥) }
+        ensures some { IfSome result (λ next. SendsNext profile.now next self.now) }
+        ensures none { IfNone result ((next : NextWord) → SendsNext profile.now next self.now → ⊥) }
     {
         let Some(place) = self.source.place() else {
             return None;

@@ -2,13 +2,10 @@
 use Rattle.std.proofs.Common.{◌≡◌, ◌∙◌, ◌<◌, ◌≤◌, ℕ, List, [], ◌++◌, length, take, drop, false, Option, Some, None, IfSome, sym, ap}
 use Rattle.std.specs.Io.KnownBytes.{Consumes, Keeps, IsAtEnd, prepend_known}
 use Rattle.std.proofs.lemmas.List.{append-nil}
-use Rattle.std.proofs.KnownBytes.{Consumes-kept, prepend_known-nil}
 use Rattle.a429_record.specs.declared.format.Format.TheVariants as format
 use Rattle.a429_record.specs.Binary.{magic, is_binary}
-use Rattle.a429_record.specs.Handed.{OfTaken, Loses}
-use Rattle.a429_record.specs.Lines.{Chooses, IsMagicFront}
+use Rattle.a429_record.specs.Lines.{Chooses}
 use Rattle.a429_record.proofs.BinaryFacts.{short_text, other_text}
-use Rattle.a429_record.proofs.Handed.{consumed}
 
 -- what was read is still ahead
 back : (k k' : Option (List ℕ)) (at : ℕ) (none ahead : List ℕ) → none ≡ [] → at ≡ 0 → Consumes k k' ahead → Keeps (prepend_known none k) (prepend_known (drop at ahead) k')
@@ -33,18 +30,3 @@ other_bytes k k' at none ahead e start gone few other = (back k k' at none ahead
   is_text None k' gone = tt
   is_text (Some a) None gone = absurd gone
   is_text (Some a) (Some b) gone = rw (e, gone) (other_text ahead b few other)
-
--- all eight
-pub all_eight : (k k' : Option (List ℕ)) (filled : ℕ) (none ahead : List ℕ) → none ≡ [] → filled ≡ 8 → ahead ≡ take filled magic → Consumes k k' ahead
-    → Consumes (prepend_known none k) (prepend_known (drop 8 ahead) k') magic
-all_eight None k' filled none ahead e full front gone = tt
-all_eight (Some a) None filled none ahead e full front gone = absurd gone
-all_eight (Some a) (Some b) filled none ahead e full front gone =
-    let eight : ahead ≡ magic = rw full at front in rw (e, eight) (rw eight at gone)
-
--- the reader fails behind fewer
-pub magic_lost : (k k' k'' : Option (List ℕ)) (filled : ℕ) (none ahead : List ℕ) → none ≡ [] → filled < 8 → ahead ≡ take filled magic → Consumes k k' ahead → Keeps k' k''
-    → Loses (OfTaken IsMagicFront) (prepend_known none k) k''
-magic_lost k k' k'' filled none ahead e few front gone kept =
-    let all : Consumes (prepend_known none k) k'' ahead = rw (e, prepend_known-nil) (Consumes-kept k k' k'' ahead gone kept) in
-    consumed (OfTaken IsMagicFront) (prepend_known none k) k'' ahead all (λ rest. (filled, few, front))

@@ -265,10 +265,6 @@ failed_next most es a b c h p q = lost_both _ _ _ a b c p q (λ t u rest before 
 
 -- ---- the header and the first entry
 
--- the reader fails before the header
-pub failed_header : (most : ℕ) (a b : Option (List ℕ)) → Loses (OfTaken HasNoRow) a b → Loses (OfTaken (HasNoTextFault most)) a b
-failed_header most a b h = lost_so (OfTaken HasNoRow) (OfTaken (HasNoTextFault most)) a b h (λ t rest none. subst (AreSound most) (sym none) tt)
-
 -- it fails behind the header
 pub failed_first : (most : ℕ) (a b c : Option (List ℕ)) → Loses (AreLines AreHeader) a b → Loses (OfTaken HasNoRow) b c → Loses (OfTaken (HasNoTextFault most)) a c
 failed_first most a b c p q = failed_next most [] a b c (omega arith, tt) (given_header a b p) q

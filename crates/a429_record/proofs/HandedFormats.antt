@@ -1,8 +1,7 @@
 -- What a reader has handed out, in either format.
-use Rattle.std.proofs.Common.{◌≡◌, ◌∙◌, ◌<◌, ℕ, zero, suc, List, [], ◌∷◌, ◌++◌, length, take, true, false, Option, Some, None, Result, Ok, Err, option_map, inl, inr, refl, sym, ap, subst, append_assoc, arith, rules}
+use Rattle.std.proofs.Common.{◌≡◌, ◌∙◌, ◌<◌, ℕ, zero, suc, List, [], ◌∷◌, ◌++◌, length, take, true, false, Option, Some, None, Result, Ok, Err, inl, inr, refl, sym, ap, subst, append_assoc, arith, rules}
 use Rattle.std.proofs.lemmas.Bool.{cases_Bool}
-use Rattle.std.specs.Io.KnownBytes.{Keeps, prepend_known}
-use Rattle.std.proofs.KnownBytes.{prepend_known-nil}
+use Rattle.std.specs.Io.KnownBytes.{Keeps}
 use Rattle.std.proofs.lemmas.List.{length-take-le}
 use Rattle.a429_record.specs.declared.entry.Entry.{Entry}
 use Rattle.a429_record.specs.declared.fault.ReadFault.{ReadFault}
@@ -11,23 +10,17 @@ use Rattle.a429_record.specs.declared.format.Format.TheVariants as format
 use Rattle.a429_record.specs.declared.stage.Stage.{Stage}
 use Rattle.a429_record.specs.declared.stage.Stage.TheVariants as stage
 use Rattle.a429_record.specs.Ends.{HasNoEnd}
-use Rattle.a429_record.specs.Binary.{magic, is_binary, piece_entries}
-use Rattle.a429_record.specs.Recording.{Recording, rows_of, entries_stand_for, all_rows_stand_for, stands_within, IsWithin}
+use Rattle.a429_record.specs.Binary.{magic, is_binary}
+use Rattle.a429_record.specs.Recording.{IsWithin}
 use Rattle.a429_record.specs.WholeRecordings.{AreBinary}
 use Rattle.a429_record.specs.Handed.{OfTaken, AreSound, Loses, HasNoFaultWithin, HasNoTextFault, HasNoRow, IsCut, IsCutBinary, AreLines, AreGiven, ArePieceOf}
 use Rattle.a429_record.specs.Lines.{Chooses, IsMagicFront}
-use Rattle.a429_record.specs.Rows.{GivesNext, IfEntry, chosen_form}
+use Rattle.a429_record.specs.Rows.{IfEntry, chosen_form}
 use Rattle.a429_record.specs.Reading.{AreFirstHanded, AreNextHanded, AreHandedAt, MakesNoFault, PassesAt, IsChosen, IsFormatAfter}
 use Rattle.a429_record.proofs.BinaryFacts.{short_text, still_binary, piece_alone, piece_behind}
-use Rattle.a429_record.proofs.Handed.{nothing_lost, lost_both, lost_so, open_no_row, given_next, failed_next}
+use Rattle.a429_record.proofs.Handed.{lost_both, lost_so, open_no_row, given_next, failed_next}
 
 -- ---- the first bytes
-
--- nothing was read, and the reader has failed
-pub failed_begun : (most : ℕ) (k : Option (List ℕ)) (ahead : List ℕ) → ahead ≡ [] → Loses (OfTaken (HasNoFaultWithin most)) (prepend_known ahead k) k
-failed_begun most k ahead none =
-    let own : prepend_known ahead k ≡ k = rw none (prepend_known-nil k) in
-    subst (λ (o : Option (List ℕ)). Loses (OfTaken (HasNoFaultWithin most)) o k) (sym own) (nothing_lost (OfTaken (HasNoFaultWithin most)) k (λ rest. (λ e. cc e, λ e. tt)))
 
 HasNoEnd-take : (n : ℕ) (xs : List ℕ) → HasNoEnd xs → HasNoEnd (take n xs)
 HasNoEnd-take zero xs h = tt
@@ -65,32 +58,6 @@ failed_binary most (Some xs) (Some ys) (Some zs) count none p q =
 
 -- ---- the first answer
 
-pub first_text : (most : ℕ) (a b : Option (List ℕ)) (new : Option Recording) (r : Result (Option Entry) ReadFault) → Chooses format.Text a b
-    → GivesNext (option_map (all_rows_stand_for most) (option_map rows_of b)) new r → GivesNext (option_map (stands_within most) a) new r
-first_text most None b new r p h = tt
-first_text most (Some xs) None new r p h = absurd p.0
-first_text most (Some xs) (Some ys) new r p h =
-    let same : all_rows_stand_for most (rows_of ys) ≡ stands_within most xs = rw (p.1, p.0) refl in
-    subst (λ (t : Recording). GivesNext (Some t) new r) same h
-
-pub first_binary : (most : ℕ) (a b : Option (List ℕ)) (new : Option Recording) (n last : ℕ) (r : Result (Option Entry) ReadFault) → n ≡ 0 → last ≡ 0 → Chooses format.Binary a b
-    → GivesNext (option_map (λ bytes. entries_stand_for most n last (piece_entries bytes)) b) new r → GivesNext (option_map (stands_within most) a) new r
-first_binary most None b new n last r none start p h = tt
-first_binary most (Some xs) None new n last r none start p h = absurd p
-first_binary most (Some xs) (Some ys) new n last r none start p h =
-    let same : entries_stand_for most n last (piece_entries ys) ≡ stands_within most xs = rw (none, start, p) refl in
-    subst (λ (t : Recording). GivesNext (Some t) new r) same h
-
-pub chosen_text : (a b : Option (List ℕ)) → Chooses format.Text a b → IsChosen a format.Text
-chosen_text None b p = tt
-chosen_text (Some xs) None p = absurd p.0
-chosen_text (Some xs) (Some ys) p = rw p.1 refl
-
-pub chosen_binary : (a b : Option (List ℕ)) → Chooses format.Binary a b → IsChosen a format.Binary
-chosen_binary None b p = tt
-chosen_binary (Some xs) None p = absurd p
-chosen_binary (Some xs) (Some ys) p = rw p refl
-
 -- where an answer is an entry, what holds of it holds so
 pub if_entry : (r : Result (Option Entry) ReadFault) (P Q : Entry → Type 0) → ((e : Entry) → P e → Q e) → IfEntry r P → IfEntry r Q
 if_entry (Ok None) P Q f h = tt
@@ -102,10 +69,6 @@ kept_lost P None b c p q = tt
 kept_lost P (Some xs) None c p q = absurd p
 kept_lost P (Some xs) (Some ys) None p q = absurd q
 kept_lost P (Some xs) (Some ys) (Some zs) p q = (q.0, sym p ∙ q.1, q.2)
-
-pub lines_first : (a b c : Option (List ℕ)) (r : Result (Option Entry) ReadFault) → Chooses format.Text a b → IfEntry r (λ e. Loses (AreLines (AreGiven (e ∷ []))) b c)
-    → IfEntry r (λ e. Loses (AreFirstHanded format.Text e) a c)
-lines_first a b c r p h = if_entry r (λ e. Loses (AreLines (AreGiven (e ∷ []))) b c) (λ e. Loses (AreFirstHanded format.Text e) a c) (λ e. kept_lost (AreLines (AreGiven (e ∷ []))) a b c p.0) h
 
 after_magic : (e : Entry) (a b c : Option (List ℕ)) → Chooses format.Binary a b → Loses (ArePieceOf e) b c → Loses (AreFirstHanded format.Binary e) a c
 after_magic e None b c p q = tt

@@ -7,24 +7,17 @@ use Rattle.a429_record.specs.declared.fault.ReadFault.{ReadFault}
 use Rattle.a429_record.specs.declared.fault.ReadFault.TheVariants as fault
 use Rattle.a429_record.specs.Binary.{entry_bytes, piece_entry, piece_entries}
 use Rattle.a429_record.specs.Recording.{Recording, entries_stand_for}
-use Rattle.a429_record.specs.Handed.{OfTaken, Loses, IsCut, ArePieceOf}
-use Rattle.a429_record.specs.Lines.{IsShort, IsNothing}
+use Rattle.a429_record.specs.Handed.{Loses, ArePieceOf}
 use Rattle.a429_record.specs.Rows.{GivesNext, IfEntry}
-use Rattle.a429_record.proofs.BinaryFacts.{pieces-first, pieces-last, pieces-next, piece_size}
+use Rattle.a429_record.proofs.BinaryFacts.{pieces-first, pieces-last, pieces-next}
 use Rattle.std.proofs.lemmas.Bool.{cases_lt}
 use Rattle.std.proofs.lemmas.Bool.Decides.{nat_tests}
-use Rattle.a429_record.proofs.Handed.{lost_so, consumed}
+use Rattle.a429_record.proofs.Handed.{consumed}
 use Rattle.a429_record.proofs.HandedFormats.{kept_lost}
 
 -- what is left of known bytes stands for
 abbrev pub Left : ℕ → ℕ → ℕ → Option (List ℕ) → Option Recording
 Left m n last a = option_map (λ bytes. entries_stand_for m n last (piece_entries bytes)) a
-
--- none is left
-pub pieces_end : (m n last : ℕ) (a b : Option (List ℕ)) (new : Option Recording) → Keeps a b → IsAtEnd b → GivesNext (Left m n last a) new (Ok None)
-pieces_end m n last None b new p q = tt
-pieces_end m n last (Some xs) None new p q = absurd p
-pieces_end m n last (Some xs) (Some ys) new p q = let none : xs ≡ [] = sym p ∙ q in rw none refl
 
 -- one is left, where there are as many as may be
 pub pieces_full : (m n last : ℕ) (a k : Option (List ℕ)) (ahead : List ℕ) (new : Option Recording) → n ≡ m → 0 < length ahead → Keeps a (prepend_known ahead k)
@@ -69,16 +62,3 @@ pub piece_lost : (a b c : Option (List ℕ)) (part : List ℕ) (o : Option Entry
 piece_lost a b c part o (Ok None) p gone is h = tt
 piece_lost a b c part o (Ok (Some e)) p gone is h = kept_lost (ArePieceOf e) a b c p (consumed (ArePieceOf e) b c part gone (λ rest. sym (h ∙ is)))
 piece_lost a b c part o (Err f) p gone is h = tt
-
--- an entry comes of a whole piece
-pub whole_piece : (part : List ℕ) (o : Option Entry) (r : Result (Option Entry) ReadFault) (P : Entry → Type 0) → o ≡ piece_entry part → IfOk r (λ x. x ≡ o) → (length part ≡ entry_bytes → (e : Entry) → P e) → IfEntry r P
-whole_piece part o (Ok None) P is h so = tt
-whole_piece part o (Ok (Some e)) P is h so = so (piece_size part e (sym (h ∙ is))) e
-whole_piece part o (Err f) P is h so = tt
-
--- the reader fails before a byte of it, or within it
-pub nothing_cut : (m n : ℕ) (a c : Option (List ℕ)) → Loses (OfTaken IsNothing) a c → Loses (OfTaken (IsCut m n)) a c
-nothing_cut m n a c h = lost_so (OfTaken IsNothing) (OfTaken (IsCut m n)) a c h (λ t rest none. (rw none (omega arith), λ full. none))
-
-pub short_cut : (m n size : ℕ) (a b c : Option (List ℕ)) → size ≡ entry_bytes → (n ≡ m → ⊥) → Keeps a b → Loses (OfTaken (IsShort size)) b c → Loses (OfTaken (IsCut m n)) a c
-short_cut m n size a b c is room p h = kept_lost (OfTaken (IsCut m n)) a b c p (lost_so (OfTaken (IsShort size)) (OfTaken (IsCut m n)) b c h (λ t rest few. (rw is at few, λ full. absurd (room full))))

@@ -50,19 +50,6 @@ other_row most None b line r h one first = tt
 other_row most (Some all) b line r h one first =
     let e : all ≡ r ∷ h.0 = rw (← one) at h.2 in ap (all_rows_stand_for most) e ∙ rw first refl
 
--- the header makes a fault
-pub header_stops : (most : ℕ) (rows mid : Option (List Row)) (new : Option Recording) (f : ReadFault) → TakesHeader most rows mid (Err f) → GivesNext (option_map (all_rows_stand_for most) rows) new (Err f)
-header_stops most None mid new f h = tt
-header_stops most (Some all) mid new f h = h
-
--- the header is taken, and then the answer is that of the rows behind it
-pub header_passes : (most : ℕ) (rows mid : Option (List Row)) (new : Option Recording) (n last : ℕ) (u : Unit {0}) (answer : Result (Option Entry) ReadFault) → n ≡ 0 → last ≡ 0
-    → TakesHeader most rows mid (Ok u) → GivesNext (option_map (rows_stand_for most n last) mid) new answer → GivesNext (option_map (all_rows_stand_for most) rows) new answer
-header_passes most None mid new n last u answer zero start took h = tt
-header_passes most (Some all) mid new n last u answer zero start took h =
-    let same : option_map (rows_stand_for most n last) mid ≡ Some (all_rows_stand_for most all) = rw (took.1, zero, start) (ap Some (sym took.2)) in
-    subst (λ (o : Option Recording). GivesNext o new answer) same h
-
 -- ---- entries
 
 -- the row of a line with one entry, or one that is none

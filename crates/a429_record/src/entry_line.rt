@@ -85,7 +85,8 @@ impl EntryLine {
     /// How many bytes it has.
     #[inline(always)]
     pub fn len(&self) -> usize
-        ensures { result ≡ length self.now }
+        ensures count { result ≡ length self.now }
+        ensures most { result ≤ 32 }
     {
         self.len
     }

@@ -2,7 +2,7 @@ use Rattle.std.proofs.Common.{◌≡◌, ◌∷◌, ◌++◌, map, take}
 use Rattle.a429_ldu.specs.declared.forms.Form.TheVariants as form
 use Rattle.a429_ldu.specs.Form.{word_number}
 use Rattle.a429_ldu.specs.Ldu.{count_of, block_of}
-use Rattle.a429_link.specs.Clean.{on_a, on_b}
+use Rattle.a429_link.specs.Carry.{on_a, on_b}
 use Rattle.a429_link.proofs.clean.push_unit.Given as goal
 
 abbrev pub invariant-loop-k : goal.invariant-loop-k

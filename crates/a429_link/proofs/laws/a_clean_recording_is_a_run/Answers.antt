@@ -1,4 +1,4 @@
-use Rattle.a429_link.proofs.CleanRuns.{clean_is_run}
+use Rattle.a429_link.proofs.CleanOffers.{clean_is_run}
 use Rattle.a429_link.proofs.laws.a_clean_recording_is_a_run.Goals as goal
 
 pub returns : goal.returns

@@ -1,5 +1,5 @@
 use Rattle.std.proofs.Common.{sym, ap, ◌∙◌}
-use Rattle.a429_link.specs.Sink.{OwesAck, OwesNak, Sink, SinkSide, block_with, in_phase, phase_of, takes_end}
+use Rattle.a429_link.specs.Sink.{OwesAck, Sink, SinkSide, block_with, in_phase, phase_of, takes_end}
 use Rattle.a429_link.specs.declared.sink.Phase.{Phase}
 use Rattle.a429_link.proofs.SinkBadBlock.{ends_bad, ends_good}
 use Rattle.a429_link.proofs.sink.Sink.end_block.Goals as goal
