@@ -8,9 +8,9 @@ use Rattle.a429_cert.specs.StreamExplained.{compared, Extracts, HearsRun, WhereB
 use Rattle.a429_cert.specs.Report.{listening, IsHeard, reports_of_run}
 use Rattle.a429_view.specs.declared.mark.Span.{Span}
 use Rattle.a429_view.specs.declared.sketch.Sketch.{Sketch}
-use Rattle.a429_view.specs.Sketch.{most_steps, Hears, IsBlank, IsOf}
+use Rattle.a429_view.specs.Sketch.{most_steps, Hears, IsBlank}
 use Rattle.a429_view.specs.Picture.{svg_text}
-use Rattle.a429_view.proofs.SketchFacts.{is_of}
+use Rattle.a429_view.proofs.SketchFacts.{IsOf, is_of}
 use Rattle.a429_check.specs.declared.fault.RunFault.{RunFault}
 use Rattle.a429_check.specs.declared.fault.RunFault.TheVariants as run
 use Rattle.a429_check.specs.Profile.{IsProfileOf}

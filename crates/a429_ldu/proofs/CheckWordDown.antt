@@ -82,10 +82,6 @@ after_all p r bytes = fold (fed_down p) r (flat_map (fed_bits true) bytes)
 pub byte_in : (p r v : ℕ) → v < 256 → fold (fed_down p) r (fed_bits true v) ≡ after_zeros p 1 (bit_xor r v)
 byte_in p r v h = ap (fold (fed_down p) r) (sym (low_bits-8 v)) ∙ fed_into 8 p r v h
 
--- a byte's place in a table
-pub place_below : (r v i : ℕ) → v < 256 → i ≡ bit_xor (bit_and r 255) v → i < 256
-place_below r v i h e = let small = and_le_r r 255 in rw e (xor_lt 8 (bit_and r 255) v (omega arith) h)
-
 -- the low half of a register, and the high one
 halves : (r : ℕ) → r ≡ bit_xor (r / 256 * 2 ^ 8) (bit_and r 255)
 halves r = omega arith ∙ sym (xor_shifted (r / 256) 8 (r % 256) (omega arith)) ∙ ap (bit_xor (r / 256 * 2 ^ 8)) (sym (and_mask r 8))
@@ -116,12 +112,6 @@ first_byte (suc n) p r = ap (after_zeros p 1) (first_byte n p r)
 abbrev summed : ℕ → ℕ → List ℕ → ℕ
 summed p a [] = a
 summed p a (b ∷ bs) = summed p (bit_xor a (after_zeros p (suc (length bs)) b)) bs
-
-summed-xor : (p a b : ℕ) (bs : List ℕ) → summed p (bit_xor a b) bs ≡ bit_xor a (summed p b bs)
-summed-xor p a b [] = refl
-summed-xor p a b (v ∷ bs) =
-    let e = after_zeros p (suc (length bs)) v in
-    ap (λ y. summed p y bs) (xor_assoc a b e) ∙ summed-xor p a (bit_xor b e) bs
 
 -- what was in the register moves as if bytes 0 were fed
 all-summed : (p r : ℕ) (bs : List ℕ) → AllByRecursion (λ b. b < 256) bs → after_all p r bs ≡ summed p (after_zeros p (length bs) r) bs

@@ -20,12 +20,6 @@ both_texts-is old one both f e1 e2 =
     e2 ∙ ap (λ t. t ++ high) e1 ∙ append_assoc old (codes " " ++ f.name ++ (61 ∷ 48 ∷ [])) high
     ∙ ap (λ t. old ++ (t ++ high)) (text_with-is 0 f (omega arith)) ∙ ap (λ t. old ++ (text_with 0 f ++ t)) (text_with-is 1 f (omega arith))
 
--- the texts of a further flag
-pub both_texts-more : (fs : List Flag) (i : ℕ) (f : Flag) → i < length fs → f ≡ get_or fs i f → flat_map both_texts (take (i + 1) fs) ≡ flat_map both_texts (take i fs) ++ both_texts f
-both_texts-more fs i f h found =
-    ap (flat_map both_texts) (take_more fs i f h ∙ ap (λ x. take i fs ++ x ∷ []) (sym found))
-    ∙ flat_map-append both_texts (take i fs) (f ∷ []) ∙ ap (λ t. flat_map both_texts (take i fs) ++ t) (append-nil (both_texts f))
-
 -- how long a text is
 pub length-text_with : (bit : ℕ) (f : Flag) → bit < 10 → length (text_with bit f) ≡ length f.name + 3
 length-text_with bit f small = omega (arith, ap length (text_with-is bit f small), length-append (codes " " ++ f.name) (61 ∷ (48 + bit) ∷ []))

@@ -2,13 +2,14 @@
 use Rattle.std.proofs.Common.{◌≡◌, ◌≤◌, ◌<◌, ◌+◌, ◌++◌, ◌∷◌, ◌∙◌, List, [], inl, inr, sym, ap, subst, arith, append-nil, append_assoc}
 use Rattle.std.specs.List.{FoldsTo}
 use Rattle.std.proofs.lemmas.Bool.{cases_lt}
+use Rattle.a429_profile.specs.declared.codes.Codes.{Codes}
 use Rattle.a429_profile.specs.Profile.{Contents}
 use Rattle.a429_cert.specs.Report.{Report}
 use Rattle.a429_view.specs.declared.mark.Mark.{Mark}
 use Rattle.a429_view.specs.declared.mark.Span.{Span}
 use Rattle.a429_view.specs.declared.sketch.Sketch.{Sketch}
 use Rattle.a429_view.specs.Mark.{past, marks, shown, steps_within, before_all}
-use Rattle.a429_view.specs.Sketch.{most_steps, Hears, IsBlank, IsOf}
+use Rattle.a429_view.specs.Sketch.{most_steps, Hears, IsBlank}
 
 -- what it gains of steps that are told
 record Gains (p : Contents) (old : Sketch) (ts : List Report) (new : Sketch) : Type 0 where
@@ -61,6 +62,11 @@ one_more p old t j ts new h g =
         let n = g.many e in
         elim (cases_lt most_steps old.steps) as (λ _. most_steps < old.steps + steps_within p.codes old.span old.at (t ∷ ts))
         [ inl more ↦ omega (arith, more) | inr few ↦ (let m = h.counts few in omega (arith, n, m, place_after)) ]
+
+-- the rows of a span of these steps, unless there are too many of them
+pub record IsOf (c : Codes) (span : Span) (reports : List Report) (s : Sketch) : Type 0 where
+  pub few : s.steps ≤ most_steps → (s.rows.items ≡ marks c span before_all reports) × (steps_within c span before_all reports ≤ most_steps)
+  pub many : most_steps < s.steps → most_steps < steps_within c span before_all reports
 
 all : (p : Contents) (ts : List Report) (old new : Sketch) → FoldsTo (Hears p) old ts new → Gains p old ts new
 all p [] old new h = subst (λ s. Gains p old [] s) h (none p old)

@@ -58,15 +58,6 @@ knows c b w s e = subst (Knows c b w) (sym e) (elim (cases_Bool (is_free c b w))
     by not (Some x) is = (not, no_reason c b w not, sym is)
     by not None is = (not, no_reason c b w not, sym is)
 
--- a word with another label than the transfer's is free
-pub other_free : (c : Codes) (e : Entry) → has_line c e ≡ false → is_free c e.bus e.word ≡ true
-other_free c e h = by (not (count_of_ones e.word % 2 == 1)) (label_of e.word == address_of c e.bus) _ h
-  where
-    by : (t label others : Bool) → label ≡ false → (t || (not label || others)) ≡ true
-    by true label others l = refl
-    by false true others l = absurd (cc l)
-    by false false others l = refl
-
 pub free_none : (c : Codes) (b : Bus) (w : ℕ) → is_free c b w ≡ true → form_of c b w ≡ None
 free_none c b w free = sym (form_of-sight c b w) ∙ ap form_in (ap (λ t. cond t sight.Free (sight_in (form_of c b w))) free)
 

@@ -31,8 +31,3 @@ pub record IsBlank (of : Span) (s : Sketch) : Type 0 where
   pub at : s.at ≡ before_all
   pub steps : s.steps ≡ 0
   pub rows : s.rows.items ≡ []
-
--- the rows of a span of these steps, unless there are too many of them
-pub record IsOf (c : Codes) (span : Span) (reports : List Report) (s : Sketch) : Type 0 where
-  pub few : s.steps ≤ most_steps → (s.rows.items ≡ marks c span before_all reports) × (steps_within c span before_all reports ≤ most_steps)
-  pub many : most_steps < s.steps → most_steps < steps_within c span before_all reports

@@ -72,6 +72,3 @@ upper_parts a b m some =
     let whole : a / m * m + a % m ≡ a = div-add-mod' a m in
     let both : a * b ≡ (a / m * b + r / m) * m + r % m = ap (λ x. x * b) (sym whole) ∙ grind (arith, rest) in
     sym (ap (λ x. x / m) both ∙ div-mul-add (a / m * b + r / m) m (r % m) (mod_below r m some))
-
-pub product_fits : (a b : ℕ) → a < 2 ^ 64 → b < 2 ^ 64 → a * b < 2 ^ 128
-product_fits a b ha hb = let h = mul-le a b 18446744073709551615 18446744073709551615 (omega arith) (omega arith) in omega (arith, h)

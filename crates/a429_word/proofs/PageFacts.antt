@@ -38,11 +38,6 @@ AppendsPrefix-behind a b c page bytes put front = (length page + front.0, omega 
     joined (Some z) (Some y) None xs ys put more = absurd more
     joined (Some z) (Some y) (Some c) xs ys put more = more ∙ ap (λ t. t ++ ys) put ∙ append_assoc z xs ys
 
--- an empty page adds nothing
-pub Appends-empty : (a : Option (List ℕ)) (page : List ℕ) → page ≡ [] → Appends a (append_known a page) []
-Appends-empty None page empty = tt
-Appends-empty (Some xs) page empty = ap (λ t. xs ++ t) empty
-
 -- nothing is a prefix of anything
 pub AppendsPrefix-none : (a b : Option (List ℕ)) (text : List ℕ) → Keeps a b → AppendsPrefix a b text
 AppendsPrefix-none a b text h = (0, omega arith, nothing a b h)

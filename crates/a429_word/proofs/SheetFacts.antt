@@ -112,15 +112,9 @@ says_after_failure contents a text failed = said (record {
 pub says_same_out : {W : Type 0} {contents : W → Option (List ℕ)} {a b : Sheet W} {x : List ℕ} → Says contents a b x → b.out.ghost_name ≡ a.out.ghost_name
 says_same_out (said p) = p.same_out
 
-pub says_same_page : {W : Type 0} {contents : W → Option (List ℕ)} {a b : Sheet W} {x : List ℕ} → Says contents a b x → b.page.ghost_name ≡ a.page.ghost_name
-says_same_page (said p) = p.same_page
-
 -- if it has not failed, it had not before, and the text comes after all that was put
 pub says_works : {W : Type 0} {contents : W → Option (List ℕ)} {a b : Sheet W} {x : List ℕ} → Says contents a b x → sheet_failed b ≡ false → sheet_failed a ≡ false
 says_works (said p) works = false_from_ne_true _ (λ failed. let same = p.stays failed in absurd (cc (works, failed, same)))
-
-pub says_all : {W : Type 0} {contents : W → Option (List ℕ)} {a b : Sheet W} {x : List ℕ} → Says contents a b x → sheet_failed b ≡ false → Appends (all_put contents a) (all_put contents b) x
-says_all (said p) works = p.all works
 
 -- what is put on a sheet, begun with an empty page, is what is written to its output, once the sheet is finished
 pub writes : {W : Type 0} {contents : W → Option (List ℕ)} {start last done : Sheet W} {text : List ℕ} {old : Tally W} → start.page.now ≡ [] → start.out.now ≡ old → Says contents start last text → Says contents last done [] → (sheet_failed done ≡ false → IsWritten contents done) → Writes contents old done.out.now text
