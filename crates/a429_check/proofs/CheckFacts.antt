@@ -63,6 +63,7 @@ written_not profile known rec Writers (run.Cut k f) says h = absurd h
 written_not profile known rec Writers run.TooLong says h = absurd h
 written_not profile known rec Writers run.BadWord says h = absurd h
 written_not profile known rec Writers run.Usage says h = absurd h
+written_not profile known rec Writers run.OldFiles says h = absurd h
 
 pub not_written : (profile : List ℕ) (known : Option (List ℕ)) (r : Result ℕ RunFault) (rec : Bool) (Writers : Type 0) → SayInput profile known
     → IfErr r (IsWritingFault Writers) → IfErr r (IsCheckFault profile known rec Writers)
@@ -84,6 +85,7 @@ fault_under profile p known rec (run.Cut k f) is h = absurd h
 fault_under profile p known rec run.TooLong is h = absurd h
 fault_under profile p known rec run.BadWord is h = absurd h
 fault_under profile p known rec run.Usage is h = absurd h
+fault_under profile p known rec run.OldFiles is h = absurd h
 
 pub not_under : (profile : List ℕ) (p : Contents) (known : Option (List ℕ)) (rec : Bool) (r : Result Verdict RunFault) → IsProfileOf profile p → IfErr r (IsReadFault known rec) → IfErr r (IsCheckFault profile known rec ⊥)
 not_under profile p known rec (Ok v) is h = tt
@@ -110,3 +112,4 @@ not_found profile known rec Writers (run.Cut k f) h = h
 not_found profile known rec Writers run.TooLong h = h
 not_found profile known rec Writers run.BadWord h = h
 not_found profile known rec Writers run.Usage h = h
+not_found profile known rec Writers run.OldFiles h = h

@@ -137,6 +137,7 @@ cut_fault profile p rec Failed (run.Cut k f) is h = absurd h
 cut_fault profile p rec Failed run.TooLong is h = absurd h
 cut_fault profile p rec Failed run.BadWord is h = absurd h
 cut_fault profile p rec Failed run.Usage is h = absurd h
+cut_fault profile p rec Failed run.OldFiles is h = absurd h
 
 -- what is left, by the profile whose text the bytes are
 pub leaves_begun : {W : Type 0} (profile : List ℕ) (p : Contents) (t : Task) (o : Outlets W) (e : RunFault) → IsProfileOf profile p → LeavesBegun t o e p → LeavesParts profile t o e

@@ -4,11 +4,9 @@ use Rattle.a429_profile.specs.Profile.{Contents}
 use Rattle.a429_record.specs.Recording.{Recording}
 use Rattle.a429_check.specs.declared.fault.RunFault.{RunFault}
 use Rattle.a429_check.specs.declared.fault.RunFault.TheVariants as run
-use Rattle.a429_check.specs.Forms.{IsFormsText, TellsForms}
 use Rattle.a429_check.specs.Output.{Output, IsCutShort}
 use Rattle.a429_check.specs.Profile.{IsProfileOf}
-use Rattle.a429_check.specs.Recording.{IsEntriesFault, IsOfEntries, IsReadFault}
-use Rattle.a429_check.specs.Show.{AreFirstShowLines, AreShowLines, IsShowFault, ShowsEntries, ShowsFirst}
+use Rattle.a429_check.specs.Recording.{IsEntriesFault, IsReadFault}
 use Rattle.a429_check.specs.Survey.{Surveys, SurveysBy}
 
 -- a text that was cut short is so of what it is, too
@@ -26,27 +24,7 @@ not_read known rec out (run.Cut k f) h = h
 not_read known rec out run.TooLong h = h
 not_read known rec out run.BadWord h = h
 not_read known rec out run.Usage h = h
-
--- the profile is one
-pub show_fault : (profile : List ℕ) (p : Contents) (known : Option (List ℕ)) (rec out : Bool) (e : RunFault) → IsProfileOf profile p → IsEntriesFault known rec out e → IsShowFault profile known rec out e
-show_fault profile p known rec out (run.Read f) is h = ((p, is), h)
-show_fault profile p known rec out run.Device is (inl h) = inl ((p, is), h)
-show_fault profile p known rec out run.Device is (inr h) = inr (record { contents = p; entries = h.0.0; is_profile = is; stand = h.0.1 }, h.1)
-show_fault profile p known rec out run.Memory is h = is.0
-show_fault profile p known rec out (run.Profile f) is h = absurd h
-show_fault profile p known rec out (run.Cut k f) is h = absurd h
-show_fault profile p known rec out run.TooLong is h = absurd h
-show_fault profile p known rec out run.BadWord is h = absurd h
-show_fault profile p known rec out run.Usage is h = absurd h
+not_read known rec out run.OldFiles h = h
 
 pub surveyed : (profile : List ℕ) (p : Contents) (rec : Option Recording) (text : List ℕ) → IsProfileOf profile p → SurveysBy p.codes rec text → Surveys profile rec text
 surveyed profile p rec text is h = record { says = record { contents = p; entries = h.0; is_profile = is; stand = h.1 }; lines = h.2 }
-
-pub told : (profile : List ℕ) (p : Contents) (known : Option (List ℕ)) (text : List ℕ) → IsProfileOf profile p → IsOfEntries known (IsFormsText p.codes) text → TellsForms profile known text
-told profile p known text is h = record { says = record { contents = p; entries = h.0; is_profile = is; stand = h.1 }; lines = h.2 }
-
-pub shown : (profile : List ℕ) (p : Contents) (known : Option (List ℕ)) (text : List ℕ) → IsProfileOf profile p → IsOfEntries known (AreShowLines p) text → ShowsEntries profile known text
-shown profile p known text is h = record { says = record { contents = p; entries = h.0; is_profile = is; stand = h.1 }; lines = h.2 }
-
-pub first_shown : (profile : List ℕ) (p : Contents) (known : Option (List ℕ)) (text : List ℕ) → IsProfileOf profile p → IsOfEntries known (AreFirstShowLines p) text → ShowsFirst profile known text
-first_shown profile p known text is h = record { says = record { contents = p; entries = h.0; is_profile = is; stand = h.1 }; lines = h.2 }

@@ -22,3 +22,4 @@ pub mod LeavesFacts
 pub mod KeepFacts
 pub mod CutFacts
 pub mod TraceLines
+pub mod EndsFacts

@@ -18,7 +18,7 @@ use Rattle.a429_link.specs.Carry.{on_a, on_b}
 use Rattle.a429_record.specs.Recording.{most_entries}
 use Rattle.std.specs.Vec.{vec_len}
 use Rattle.a429_check.specs.declared.fault.RunFault.{RunFault}
-use Rattle.a429_check.specs.declared.fault.RunFault.TheVariants.{BadWord, Profile, Read, Cut, TooLong, Device, Memory, Usage}
+use Rattle.a429_check.specs.declared.fault.RunFault.TheVariants.{BadWord, Profile, Read, Cut, TooLong, OldFiles, Device, Memory, Usage}
 use Rattle.a429_check.specs.Profile.{IsSomeProfile}
 use Rattle.a429_check.specs.Make.{words_made, AreTooMany, FitARecording, IsFilesFault, IsMakeFault, IsPutFault}
 use Rattle.a429_link.specs.declared.number.UnitNumber.{UnitNumber}
@@ -175,6 +175,7 @@ refusal_fault profile files failed Memory sound h = absurd h
 refusal_fault profile files failed TooLong sound h = absurd h
 refusal_fault profile files failed BadWord sound h = absurd h
 refusal_fault profile files failed Usage sound h = absurd h
+refusal_fault profile files failed OldFiles sound h = absurd h
 
 -- a fault of the second pass
 pub put_fault : (profile : List ℕ) (files : List (List ℕ)) (failed : Bool) (e : RunFault) → IsSomeProfile profile → FitARecording files → IsPutFault failed e → IsMakeFault profile files failed e
@@ -186,3 +187,4 @@ put_fault profile files failed (Cut k f) sound fit h = absurd h
 put_fault profile files failed TooLong sound fit h = absurd h
 put_fault profile files failed BadWord sound fit h = absurd h
 put_fault profile files failed Usage sound fit h = absurd h
+put_fault profile files failed OldFiles sound fit h = absurd h

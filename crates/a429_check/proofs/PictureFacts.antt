@@ -78,6 +78,7 @@ as_verify i span Failed (run.Cut k f) h = absurd h
 as_verify i span Failed run.TooLong h = absurd h
 as_verify i span Failed run.BadWord h = absurd h
 as_verify i span Failed run.Usage h = absurd h
+as_verify i span Failed run.OldFiles h = absurd h
 
 -- what was sketched was not drawn
 not_drawn : (i : Input) (span : Span) (rec certificate out : Bool) (old new : Sketch) (p : Contents) (files : List (ℕ × ℕ)) (e : RunFault)
@@ -91,6 +92,7 @@ not_drawn i span rec certificate out old new p files (run.Read f) is here b h g 
 not_drawn i span rec certificate out old new p files (run.Cut k f) is here b h g = absurd g
 not_drawn i span rec certificate out old new p files run.BadWord is here b h g = absurd g
 not_drawn i span rec certificate out old new p files run.Usage is here b h g = absurd g
+not_drawn i span rec certificate out old new p files run.OldFiles is here b h g = absurd g
 
 -- ---- of what was judged and sketched
 

@@ -221,6 +221,7 @@ by_profile i Failed (run.Cut k f) h = absurd h
 by_profile i Failed run.TooLong h = absurd h
 by_profile i Failed run.BadWord h = absurd h
 by_profile i Failed run.Usage h = absurd h
+by_profile i Failed run.OldFiles h = absurd h
 
 by_parts : (i : SeriesInput) (Failed : Type 0) (p : Contents) (counts : List ℕ) (e : RunFault) → IsProfileOf i.profile p → ListsParts i.list counts → IsPartsFault p i.part counts Failed e → IsSeriesFault i Failed e
 by_parts i Failed p counts (run.Profile f) is listed h = absurd h
@@ -231,6 +232,7 @@ by_parts i Failed p counts (run.Cut k f) is listed h = absurd h
 by_parts i Failed p counts run.TooLong is listed h = absurd h
 by_parts i Failed p counts run.BadWord is listed h = absurd h
 by_parts i Failed p counts run.Usage is listed h = absurd h
+by_parts i Failed p counts run.OldFiles is listed h = absurd h
 
 by_list : (i : SeriesInput) (Failed : Type 0) (p : Contents) (e : RunFault) → IsProfileOf i.profile p → IsListFault p i.list i.part Failed e → IsSeriesFault i Failed e
 by_list i Failed p e is (inl memory) = subst (IsSeriesFault i Failed) (sym memory) is.0
@@ -254,6 +256,7 @@ more_series i Failed More (run.Cut k f) more h = absurd h
 more_series i Failed More run.TooLong more h = absurd h
 more_series i Failed More run.BadWord more h = absurd h
 more_series i Failed More run.Usage more h = absurd h
+more_series i Failed More run.OldFiles more h = absurd h
 
 -- ---- a verdict
 

@@ -1,17 +1,11 @@
 -- The lines of a recording, entry by entry.
-use Rattle.std.proofs.Common.{◌≡◌, ℕ, ◌+◌, ◌<◌, List, [], ◌∷◌, ◌++◌, length, take, get_or, sym, ap, ◌∙◌, append-nil, append_assoc, refl, true, false, codes, Option, Result, Ok, Err}
+use Rattle.std.proofs.Common.{◌≡◌, ℕ, ◌+◌, ◌<◌, List, [], ◌∷◌, ◌++◌, length, take, get_or, sym, ap, ◌∙◌, append-nil, append_assoc, refl, false, codes}
 use Rattle.std.proofs.lemmas.List.{take_more}
 use Rattle.a429_profile.specs.Profile.{Contents}
 use Rattle.a429_record.specs.declared.entry.Entry.{Entry}
-use Rattle.std.specs.Prelude.{◌==◌, ◌↔◌, IsErr, OnOk}
+use Rattle.std.specs.Prelude.{◌==◌}
 use Rattle.std.proofs.Math.Seq.{take-append_seam}
-use Rattle.std.proofs.lemmas.Bool.{false_from_ne_true}
-use Rattle.a429_word.specs.declared.sheet.Sheet.{Sheet}
-use Rattle.a429_word.specs.declared.tally.Tally.{Tally}
-use Rattle.a429_word.specs.Sheet.{IsWritten, sheet_failed, Says}
-use Rattle.a429_word.proofs.SheetFacts.{says_works, writes}
-use Rattle.a429_check.specs.Output.{PutsText}
-use Rattle.a429_check.specs.Show.{unit_text, SaysSome, IsShowLine, AreShowLines, AreFirstShowLines}
+use Rattle.a429_check.specs.Show.{unit_text, IsShowLine, AreShowLines, AreFirstShowLines}
 
 -- the lines of some entries, and then those of more
 pub AreShowLines-join : (p : Contents) (es more : List Entry) (text rest : List ℕ) → AreShowLines p es text → AreShowLines p more rest → AreShowLines p (es ++ more) (text ++ rest)
@@ -33,14 +27,3 @@ unit_text-is (c ∷ cs) some = refl
 -- the lines of some entries are those of the first ones of these and more
 pub AreShowLines-first : (p : Contents) (es more all : List Entry) (text : List ℕ) → es ++ more ≡ all → AreShowLines p es text → AreFirstShowLines p all text
 AreShowLines-first p es more all text e lines = (length es, rw (ap (take (length es)) (sym e) ∙ take-append_seam es more) lines)
-
--- some text that is such, put where the output works, is what it has at Ok
-pub some_at_ok : {W T E : Type 0} {contents : W → Option (List ℕ)} {start last done : Sheet W} {IsSuch : List ℕ → Type 0} {old : Tally W} (r : Result T E)
-    → start.page.now ≡ [] → start.out.now ≡ old → (sheet_failed last ≡ false → SaysSome contents start last IsSuch) → Says contents last done []
-    → (sheet_failed done ≡ false → IsWritten contents done) → (IsErr r ↔ (sheet_failed done ≡ true)) → OnOk r (PutsText contents old done.out.now IsSuch)
-some_at_ok {done} (Ok x) empty same some rest whole device =
-    let works : sheet_failed done ≡ false = false_from_ne_true _ (λ failed. absurd (cc (device.1 failed))) in
-    let text = some (says_works rest works) in
-    let written = writes empty same text.2 rest whole in
-    (text.0, text.1, written.all works)
-some_at_ok (Err e) empty same some rest whole device = tt

@@ -1,5 +1,5 @@
 -- Entries that come one by one.
-use Rattle.std.proofs.Common.{◌≡◌, List, [], ◌++◌, append-nil, Bool, Option, Some, None, Err, ap, ◌∙◌, ℕ, inl, inr}
+use Rattle.std.proofs.Common.{◌≡◌, List, [], ◌++◌, append-nil, Bool, Option, Some, None, Err, ap, ◌∙◌, ℕ}
 use Rattle.std.specs.Prelude.{IfSome}
 use Rattle.a429_record.specs.declared.entry.Entry.{Entry}
 use Rattle.a429_record.specs.declared.fault.ReadFault.{ReadFault}
@@ -12,8 +12,8 @@ use Rattle.a429_profile.specs.Profile.{Contents}
 use Rattle.a429_profile.specs.declared.codes.Codes.{Codes}
 use Rattle.a429_view.specs.declared.survey.Survey.{Survey}
 use Rattle.a429_view.specs.Survey.{IsSurvey}
-use Rattle.a429_check.specs.Survey.{IsCountingFault, IsSomeSurvey, IsSurveyFault}
-use Rattle.a429_check.specs.Profile.{IsProfileOf}
+use Rattle.a429_check.specs.Survey.{IsSomeSurvey, of_survey}
+use Rattle.a429_check.specs.Profile.{IsProfileFault, IsProfileOf}
 use Rattle.a429_parts.proofs.KeepingFacts.{Came}
 use Rattle.a429_check.specs.Streaming.{AreAllBefore, IsFaultToCome, IsNextFault, reported}
 
@@ -43,6 +43,7 @@ all_before first left es run.Device h none = tt
 all_before first left es run.Memory h none = tt
 all_before first left es run.BadWord h none = tt
 all_before first left es run.Usage h none = tt
+all_before first left es run.OldFiles h none = tt
 
 earlier : (first left : Option Recording) (es : List Entry) (f : ReadFault) → Came first es left → IfSome left (λ r. r.fault ≡ Some f) → IfSome first (λ r. r.fault ≡ Some f)
 earlier None left es f h is = tt
@@ -67,6 +68,7 @@ next_earlier first left es failed run.Device h is = is
 next_earlier first left es failed run.Memory h is = is
 next_earlier first left es failed run.BadWord h is = is
 next_earlier first left es failed run.Usage h is = is
+next_earlier first left es failed run.OldFiles h is = is
 
 pub where_counted : {P : Type 0} (s : Survey) → IsSomeSurvey s → ((c : Codes) (es : List Entry) → IsSurvey c s es → P) → P
 where_counted s w f = f w.0 w.1 w.2
@@ -74,25 +76,26 @@ where_counted s w f = f w.0 w.1 w.2
 pub by_fact : {A P : Type 0} → A → (A → P) → P
 by_fact a f = f a
 
--- why no more entries come is why they are not counted
-pub not_counted : (known : Option Recording) (rec out : Bool) (e : RunFault) → IsNextFault known rec e → IsCountingFault known rec out e
-not_counted known rec out (run.Read f) h = h
-not_counted known rec out run.Device h = inl h
-not_counted known rec out run.Memory h = h
-not_counted known rec out (run.Profile f) h = h
-not_counted known rec out (run.Cut k f) h = h
-not_counted known rec out run.TooLong h = h
-not_counted known rec out run.BadWord h = h
-not_counted known rec out run.Usage h = h
-
 -- the profile is one
-pub survey_fault : (profile : List ℕ) (p : Contents) (known : Option Recording) (rec out : Bool) (e : RunFault) → IsProfileOf profile p → IsCountingFault known rec out e → IsSurveyFault profile known rec out e
-survey_fault profile p known rec out (run.Read f) is h = ((p, is), h)
-survey_fault profile p known rec out run.Device is (inl h) = inl ((p, is), h)
-survey_fault profile p known rec out run.Device is (inr h) = inr (record { contents = p; entries = h.0.0; is_profile = is; stand = h.0.1 }, h.1)
-survey_fault profile p known rec out run.Memory is h = is.0
-survey_fault profile p known rec out (run.Profile f) is h = absurd h
-survey_fault profile p known rec out (run.Cut k f) is h = absurd h
-survey_fault profile p known rec out run.TooLong is h = absurd h
-survey_fault profile p known rec out run.BadWord is h = absurd h
-survey_fault profile p known rec out run.Usage is h = absurd h
+pub uncounted : (profile : List ℕ) (p : Contents) (known : Option Recording) (failed : Bool) (e : RunFault) → IsProfileOf profile p → IsNextFault known failed e → (of_survey profile known failed).refuses e
+uncounted profile p known failed (run.Read f) is h = ((p, is), h)
+uncounted profile p known failed run.Device is h = ((p, is), h)
+uncounted profile p known failed run.Memory is h = is.0
+uncounted profile p known failed (run.Profile f) is h = absurd h
+uncounted profile p known failed (run.Cut k f) is h = absurd h
+uncounted profile p known failed run.TooLong is h = absurd h
+uncounted profile p known failed run.BadWord is h = absurd h
+uncounted profile p known failed run.Usage is h = absurd h
+uncounted profile p known failed run.OldFiles is h = absurd h
+
+-- no profile, and so no counts
+pub unprofiled : (profile : List ℕ) (known : Option Recording) (failed : Bool) (e : RunFault) → IsProfileFault profile e → (of_survey profile known failed).refuses e
+unprofiled profile known failed (run.Profile f) h = h
+unprofiled profile known failed run.Memory h = h
+unprofiled profile known failed (run.Read f) h = absurd h
+unprofiled profile known failed run.Device h = absurd h
+unprofiled profile known failed (run.Cut k f) h = absurd h
+unprofiled profile known failed run.TooLong h = absurd h
+unprofiled profile known failed run.BadWord h = absurd h
+unprofiled profile known failed run.Usage h = absurd h
+unprofiled profile known failed run.OldFiles h = absurd h

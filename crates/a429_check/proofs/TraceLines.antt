@@ -1,5 +1,5 @@
 -- The trace of entries that come one by one.
-use Rattle.std.proofs.Common.{◌≡◌, ℕ, suc, ◌+◌, ◌-◌, ◌^◌, ◌<◌, min, Bool, List, [], ◌∷◌, ◌++◌, length, length-append, append_assoc, append-nil, take, ◌⊎◌, Option, Some, None, Result, Ok, Err, IfOk, IfErr, IfSome, slice_get, refl, sym, ap, ◌∙◌, subst, inl, inr, arith}
+use Rattle.std.proofs.Common.{◌≡◌, ℕ, suc, ◌+◌, ◌-◌, ◌^◌, ◌<◌, min, List, [], ◌∷◌, ◌++◌, length, length-append, append_assoc, append-nil, take, Option, Some, None, Result, Ok, Err, IfOk, IfErr, IfSome, slice_get, refl, sym, ap, ◌∙◌, subst, inl, inr, arith}
 use Rattle.a429_profile.specs.Profile.{Contents, IsProfile}
 use Rattle.a429_ldu.specs.declared.forms.Form.{Form}
 use Rattle.a429_ldu.specs.declared.sight.Sight.{Sight}
@@ -29,20 +29,17 @@ use Rattle.a429_view.specs.Trace.{GoesOn, IsTrace, IsTraceStop, crossings_by, li
 use Rattle.a429_view.proofs.TraceFacts.{free_none}
 use Rattle.a429_check.specs.declared.fault.RunFault.{RunFault}
 use Rattle.a429_check.specs.declared.fault.RunFault.TheVariants as run
-use Rattle.a429_check.specs.Profile.{IsProfileOf}
 use Rattle.a429_parts.specs.Keeping.{Taken}
 use Rattle.a429_parts.proofs.KeepingFacts.{Came}
 use Rattle.a429_check.specs.Streaming.{AreAllBefore, AreThoseGiven}
 use Rattle.a429_check.proofs.StreamingFacts.{all_before}
-use Rattle.a429_check.specs.Trace.{AreInEachRun, BeginsWith, IsCut, IsLinesFault, IsRefusedAfter, IsPutBy, IsTraceFault, IsTraceOf, LeavesLines, SaysText, first_lines, impossible, lines, only, only_text}
+use Rattle.a429_check.specs.Trace.{AreInEachRun, BeginsWith, IsCut, IsRefusedAfter, Traces, first_lines, impossible, only, only_text}
 use Rattle.a429_check.specs.Check.{verdict_text}
-use Rattle.a429_check.specs.Output.{output}
+use Rattle.a429_check.specs.Output.{SaysSome}
 use Rattle.a429_explain.specs.declared.verdict.Verdict.TheVariants as verdict
 use Rattle.a429_word.specs.declared.sheet.Sheet.{Sheet}
 use Rattle.a429_word.specs.Sheet.{Says}
 use Rattle.a429_word.proofs.SheetFacts.{◌▹◌}
-use Rattle.a429_word.specs.Tally.{Puts}
-use Rattle.a429_word.specs.declared.tally.Tally.{Tally}
 
 -- ---- one more entry
 
@@ -180,16 +177,7 @@ all_given (run.Cut k f) given n h = h
 all_given run.TooLong given n h = h
 all_given run.BadWord given n h = h
 all_given run.Usage given n h = h
-
-pub trace_fault : (profile : List ℕ) (p : Contents) (known : Option Recording) (rec out : Bool) (e : RunFault) → IsProfileOf profile p → IsLinesFault known rec out e → IsTraceFault profile known rec out e
-trace_fault profile p known rec out (run.Read f) is h = ((p, is), h)
-trace_fault profile p known rec out run.Device is h = ((p, is), h)
-trace_fault profile p known rec out run.Memory is h = is.0
-trace_fault profile p known rec out (run.Profile f) is h = absurd h
-trace_fault profile p known rec out (run.Cut k f) is h = absurd h
-trace_fault profile p known rec out run.TooLong is h = absurd h
-trace_fault profile p known rec out run.BadWord is h = absurd h
-trace_fault profile p known rec out run.Usage is h = absurd h
+all_given run.OldFiles given n h = h
 
 -- ---- once it is written
 
@@ -201,18 +189,6 @@ pub if_err_map : {T E : Type 0} {P Q : E → Type 0} (r : Result T E) → IfErr 
 if_err_map (Ok x) h f = tt
 if_err_map (Err e) h f = f e h
 
-pub if_ok_by : {T E : Type 0} {P : T → Type 0} (r : Result T E) → ((x : T) → r ≡ Ok x → P x) → IfOk r P
-if_ok_by (Ok x) f = f x refl
-if_ok_by (Err e) f = tt
-
-pub err_written : {W : Type 0} (contents : W → Option (List ℕ)) (old new : Tally W) (p : Contents) (known : Taken) (r : Result ℕ RunFault) (text : List ℕ) → IsPutBy p known r text → Puts contents old new text → IfErr r (LeavesLines (output contents old new) p known)
-err_written contents old new p known (Ok status) text is put = tt
-err_written contents old new p known (Err f) text is put = lines text is put
-
-pub either_text : (p : Contents) (known : Taken) (r : Result ℕ RunFault) (text : List ℕ) → IsPutBy p known r text → ((why : RunFault) × IsCut p known why text) ⊎ ((status : ℕ) × IsTraceOf p known.recording status text)
-either_text p known (Ok status) text is = inr (status, is)
-either_text p known (Err f) text is = inl (f, is)
-
 -- ---- what a sheet says
 
 pub says_more : {W : Type 0} (contents : W → Option (List ℕ)) (a b c : Sheet W) (p : Contents) (t : Trace) (es : List Entry) (e : Entry) → Traced p t es → Says contents a b (first_lines p es) → Says contents b c (line_of p t.entries t.sink e) → Says contents a c (first_lines p (es ++ e ∷ []))
@@ -220,16 +196,16 @@ says_more contents a b c p t es e h before line =
     let here = subst (λ (k : Implied). Says contents b c (line_of p (length es) k e)) h.is.sink (subst (λ (n : ℕ). Says contents b c (line_of p n t.sink e)) h.is.entries line) in
     subst (Says contents a c) (sym (lines_push p es e)) (before ▹ here)
 
-pub says_only : {W : Type 0} (contents : W → Option (List ℕ)) (a b c : Sheet W) (p : Contents) (known : Taken) (t : Trace) (es : List Entry) → Traced p t es → IfSome known.recording (λ r. r ≡ whole es) → Says contents a b (first_lines p es) → Says contents b c (only_text t.files.items) → SaysText contents a c (IsPutBy p known (Ok 0))
+pub says_only : {W : Type 0} (contents : W → Option (List ℕ)) (a b c : Sheet W) (p : Contents) (known : Taken) (t : Trace) (es : List Entry) → Traced p t es → IfSome known.recording (λ r. r ≡ whole es) → Says contents a b (first_lines p es) → Says contents b c (only_text t.files.items) → SaysSome contents a c (Traces p known 0)
 says_only contents a b c p known t es h all before after = (_, only es all h.allowed t.files.items h.is.files (delivered_all p t es h) refl refl, before ▹ after)
 
 pub says_impossible : {W : Type 0} (contents : W → Option (List ℕ)) (a b c d : Sheet W) (p : Contents) (known : Taken) (t : Trace) (es : List Entry) (e : Entry) (n : ℕ) (r : Reason) → n ≡ t.entries → BeginsWith known.recording (es ++ e ∷ []) → Traced p t es → IsRefusedAfter p (items_of es) (seen_of e) r
-    → Says contents a b (first_lines p es) → Says contents b c (refused_line p t.entries t.sink e) → Says contents c d (verdict_text (verdict.Impossible n r)) → SaysText contents a d (IsPutBy p known (Ok 1))
+    → Says contents a b (first_lines p es) → Says contents b c (refused_line p t.entries t.sink e) → Says contents c d (verdict_text (verdict.Impossible n r)) → SaysSome contents a d (Traces p known 1)
 says_impossible contents a b c d p known t es e n r at begins h refused before line last =
     let here = subst (λ (k : Implied). Says contents b c (refused_line p (length es) k e)) h.is.sink (subst (λ (m : ℕ). Says contents b c (refused_line p m t.sink e)) h.is.entries line) in
     let there = subst (λ (m : ℕ). Says contents c d (verdict_text (verdict.Impossible m r))) (at ∙ h.is.entries) last in
     (_, impossible es e begins r refused refl refl, before ▹ (here ▹ there))
 
 pub says_cut : {W : Type 0} (contents : W → Option (List ℕ)) (a b : Sheet W) (p : Contents) (known : Taken) (left : Option Recording) (t : Trace) (es : List Entry) (f : RunFault) → Traced p t es → Came known.recording es left → AreAllBefore f left [] → AreThoseGiven f known.given (length es)
-    → Says contents a b (first_lines p es) → SaysText contents a b (IsPutBy p known (Err f))
+    → Says contents a b (first_lines p es) → SaysSome contents a b (IsCut p known f)
 says_cut contents a b p known left t es f h came none given says = (_, cut_here p t es known left f h came none given, says)

@@ -142,3 +142,4 @@ leaves_units contents i old new (run.Cut k f) fresh before h = tt
 leaves_units contents i old new run.TooLong fresh before h = tt
 leaves_units contents i old new run.BadWord fresh before h = tt
 leaves_units contents i old new run.Usage fresh before h = tt
+leaves_units contents i old new run.OldFiles fresh before h = tt

@@ -4,8 +4,6 @@ use Rattle.std.specs.List.{flat_map}
 use Rattle.std.specs.Result.{OnOk}
 use Rattle.std.proofs.lemmas.List.{length-map}
 use Rattle.std.proofs.lemmas.List.Folds.{flat_map-map}
-use Rattle.a429_word.specs.Tally.{has_failed}
-use Rattle.a429_word.specs.Sheet.{Writes}
 use Rattle.a429_link.specs.declared.file.FileBytes.{FileBytes}
 use Rattle.a429_cert.specs.Stream.{OneFailed, sizes}
 use Rattle.a429_profile.specs.Profile.{Contents}
@@ -24,9 +22,9 @@ use Rattle.a429_check.specs.declared.engines.verdict.Judged.{Judged}
 use Rattle.a429_check.specs.declared.fault.RunFault.{RunFault}
 use Rattle.a429_check.specs.declared.fault.RunFault.TheVariants as run
 use Rattle.a429_check.specs.Profile.{IsProfileOf, IsProfileFault}
-use Rattle.a429_check.specs.Output.{Output, IsCutShort}
-use Rattle.a429_check.specs.Verdict.{AllWork, AnyFailed, HasAnswer, HasFailed, HearsAnswer, HearsUntil, Input, IsAnswerOf, IsAnswered, IsJudged, IsNoAnswer, IsVerdict, IsVerifyFault, Judges, Rejects, count_line, file_line, line_of_file, no, no_text, of_stream, status_of_answer, text_of_answer, yes, yes_text}
+use Rattle.a429_check.specs.Verdict.{AllWork, AnyFailed, HasAnswer, HasFailed, HearsAnswer, HearsUntil, Input, IsAnswerOf, IsAnswered, IsJudged, IsNoAnswer, IsVerdict, IsVerifyFault, Judges, Rejects, SaysAnswer, count_line, file_line, line_of_file, no, no_text, of_stream, of_verdict, status_of_answer, text_of_answer, yes, yes_text}
 use Rattle.a429_cert.specs.Change.{change}
+use Rattle.a429_check.proofs.EndsFacts.{Bears}
 
 -- what is reported of files, by their lines
 pub yes_of_files : (files : List FileBytes) → yes_text (sizes files) ≡ count_line (length files) ++ flat_map line_of_file files
@@ -65,18 +63,20 @@ answered i shelf p (Err f) is here = no (rejects i shelf p f is here)
 pub verdict : (i : Input) (shelf : Shelved) (j : Judged) → IsJudged i shelf j → IsVerdict i shelf (status_of_answer j.answer) (text_of_answer j.answer)
 verdict i shelf j h = answered i shelf j.profile j.answer h.0 h.1
 
+-- it bears what is promised
+pub judged_bears : (i : Input) (shelf : Shelved) (Failed : Type 0) (j : Judged) → IsJudged i shelf j → (Failed → ⊥) → Bears (of_verdict i shelf Failed) (SaysAnswer j.answer) (λ text. text ≡ text_of_answer j.answer) ⊥
+judged_bears i shelf Failed j is works = record {
+  says = λ status text here. (rw (here.0, here.1) (verdict i shelf j is), works);
+  begins = λ text here. ((status_of_answer j.answer, rw here (verdict i shelf j is)), works);
+  no_room = λ e. absurd e;
+}
+
 -- ---- what has failed
 
 pub none_failed : (rec certificate shelf listener : Bool) → AllWork rec certificate shelf listener → HasFailed rec certificate shelf → ⊥
 none_failed rec certificate shelf listener (a, b, c, d) (inl h) = cc (a, h)
 none_failed rec certificate shelf listener (a, b, c, d) (inr (inl h)) = cc (b, h)
 none_failed rec certificate shelf listener (a, b, c, d) (inr (inr h)) = cc (c, h)
-
--- the output alone has failed, in the text of what was judged
-pub cut_in : {W : Type 0} (o : Output W) (IsSuch : List ℕ → Type 0) (text : List ℕ) (rec certificate shelf listener : Bool) → AllWork rec certificate shelf listener
-    → IsSuch text → Writes o.contents o.old o.new text → has_failed o.new ≡ true → IsCutShort o (HasFailed rec certificate shelf) IsSuch run.Device
-cut_in o IsSuch text rec certificate shelf listener works is writes failed =
-    inr (record { device = refl; failed = failed; alone = none_failed rec certificate shelf listener works; prefix = (text, is, writes.prefix) })
 
 pub all_work : (rec certificate shelf listener out : Bool) → AllWork rec certificate shelf listener → out ≡ false → AllWork rec certificate shelf out
 all_work rec certificate shelf listener out (a, b, c, d) h = (a, b, c, h)
@@ -104,6 +104,7 @@ by_profile i shelf Failed (run.Cut k f) same h = absurd h
 by_profile i shelf Failed run.TooLong same h = absurd h
 by_profile i shelf Failed run.BadWord same h = absurd h
 by_profile i shelf Failed run.Usage same h = absurd h
+by_profile i shelf Failed run.OldFiles same h = absurd h
 
 -- then nothing was heard of the recording
 pub unheard : {T : Type 0} (l : Listening T) (i : Input) (e : RunFault) → IsProfileFault i.profile e → HearsUntil l i e
@@ -115,6 +116,7 @@ unheard l i (run.Cut k f) h = tt
 unheard l i run.TooLong h = tt
 unheard l i run.BadWord h = tt
 unheard l i run.Usage h = tt
+unheard l i run.OldFiles h = tt
 
 -- a fault of a stream, as a command reports it
 pub by_stream : (i : Input) (shelf : Shelved) (p : Contents) (Failed : Type 0) (f : StreamFault) → IsProfileOf i.profile p → Refuses (compared p i.certificate i.recording) (change shelf.before shelf.after) f
@@ -146,6 +148,7 @@ more_failed i shelf Failed More run.Device more h = (more h.0, h.1)
 more_failed i shelf Failed More run.Memory more h = h
 more_failed i shelf Failed More run.BadWord more h = h
 more_failed i shelf Failed More run.Usage more h = h
+more_failed i shelf Failed More run.OldFiles more h = h
 
 -- no fault of a stream is one of a profile
 pub no_profile : (f : StreamFault) (fault : ProfileFault) → of_stream f ≡ run.Profile fault → ⊥

@@ -1,16 +1,14 @@
 -- What `a429 labels` writes, and why it may fail (profile).
-use Rattle.std.specs.Prelude.{◌≡◌, ℕ, List, ◌++◌, length, codes, Option, Some, None, Bool, true}
+use Rattle.std.specs.Prelude.{◌≡◌, ℕ, List, ◌++◌, length, codes, Option, Some, None}
 use Rattle.std.specs.List.{flat_map}
 use Rattle.std.specs.Fmt.{decimal}
-use Rattle.std.specs.Str.{IsUtf8}
 use Rattle.a429_word.specs.Digits.{octal_text}
 use Rattle.a429_profile.specs.declared.entry.Kind.{Kind}
 use Rattle.a429_profile.specs.declared.entry.Kind.TheVariants.{Bnr, Bcd, Discrete}
 use Rattle.a429_profile.specs.declared.entry.LabelEntry.{LabelEntry}
 use Rattle.a429_profile.specs.Profile.{Contents}
-use Rattle.a429_check.specs.declared.fault.RunFault.{RunFault}
-use Rattle.a429_check.specs.Fault.{ComesBy, never}
-use Rattle.a429_check.specs.Profile.{IsProfileOf, IsSomeProfile, HasFault}
+use Rattle.a429_check.specs.Ends.{Promise}
+use Rattle.a429_check.specs.Profile.{IsProfileFault, IsProfileOf}
 
 -- an SDI, or a star for any
 abbrev pub sdi_text : Option ℕ → List ℕ
@@ -39,6 +37,11 @@ pub record TellsLabels (profile text : List ℕ) : Type 0 where
   pub is_profile : IsProfileOf profile contents
   pub lines : text ≡ label_lines (contents.labels)
 
--- why `labels` may fail: the profile's own fault, a writer that failed after the profile was read, or, of a text, out of memory
-abbrev pub IsLabelsFault : List ℕ → Bool → RunFault → Type 0
-IsLabelsFault bytes failed = ComesBy (record never { profile = HasFault bytes; device = IsSomeProfile bytes × (failed ≡ true); memory = IsUtf8 bytes })
+-- `labels` writes it, with status 0; where the profile could not be read it writes nothing
+abbrev pub of_labels : List ℕ → Promise
+of_labels profile = record {
+  says = λ status text. (status ≡ 0) × TellsLabels profile text;
+  stops = λ e text. ⊥;
+  begins = λ text. TellsLabels profile text;
+  refuses = IsProfileFault profile;
+}

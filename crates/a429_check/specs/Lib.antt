@@ -3,6 +3,7 @@ pub mod Names
 pub mod Profile
 pub mod Recording
 pub mod Output
+pub mod Ends
 pub mod Whole
 pub mod Word
 pub mod Labels

@@ -39,6 +39,10 @@ IsCutShort o Others IsSuch e = (o.new ≡ o.old) ⊎ HasFailedIn o Others IsSuch
 abbrev pub UsedWork : Bool → Bool → Bool → ℕ → Type 0
 UsedWork reader cert out status = (reader ≡ false) × (status ≡ 0 → cert ≡ false) × (out ≡ false)
 
+-- a sheet says some text that is such
+abbrev pub SaysSome : {W : Type 0} → (W → Option (List ℕ)) → Sheet W → Sheet W → (List ℕ → Type 0) → Type 0
+SaysSome contents old new IsSuch = (text : List ℕ) × IsSuch text × Says contents old new text
+
 -- a sheet says some text with which this one begins
 abbrev pub SaysPrefix : {W : Type 0} → (W → Option (List ℕ)) → Sheet W → Sheet W → List ℕ → Type 0
 SaysPrefix contents old new whole = (text : List ℕ) × (rest : List ℕ) × (text ++ rest ≡ whole) × Says contents old new text

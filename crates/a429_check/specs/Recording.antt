@@ -24,10 +24,6 @@ SaysEntries recording es = IfSome recording (λ bytes. stands_for bytes ≡ whol
 abbrev pub IsSomeRecording : Option (List ℕ) → Type 0
 IsSomeRecording recording = (es : List Entry) × SaysEntries recording es
 
--- the text is such a one of the entries that a recording says
-abbrev pub IsOfEntries : Option (List ℕ) → (List Entry → List ℕ → Type 0) → List ℕ → Type 0
-IsOfEntries recording IsSuch text = (es : List Entry) × SaysEntries recording es × IsSuch es text
-
 -- the first fault of a recording's bytes, where they are known; a failed reader, out of memory and a fault answered before are none
 abbrev pub IsRecordingFault : Option (List ℕ) → ReadFault → Type 0
 IsRecordingFault known read.Device = ⊥

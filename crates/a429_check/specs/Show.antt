@@ -1,16 +1,13 @@
--- What `a429 show` writes, and why it may fail (profile).
-use Rattle.std.specs.Prelude.{◌≡◌, ◌⊎◌, ℕ, ◌-◌, List, [], ◌∷◌, ◌++◌, take, codes, Bool, true, false, Option}
+-- What `a429 show` writes (profile).
+use Rattle.std.specs.Prelude.{◌≡◌, ℕ, ◌-◌, List, [], ◌∷◌, ◌++◌, take, codes, Bool, true, false}
 use Rattle.std.specs.List.{flat_map}
 use Rattle.std.specs.Int.{bit_at}
 use Rattle.std.specs.Fmt.{decimal}
-use Rattle.std.specs.Str.{IsUtf8}
 use Rattle.a429_word.specs.Word.{label_of, sdi_of, ssm_of}
 use Rattle.a429_word.specs.Digits.{hex_text, octal_text}
 use Rattle.a429_word.specs.Bus.{bus_text}
 use Rattle.a429_word.specs.declared.fixed.Fixed.{Fixed}
-use Rattle.a429_word.specs.declared.sheet.Sheet.{Sheet}
 use Rattle.a429_word.specs.Fixed.{SpellsFraction}
-use Rattle.a429_word.specs.Sheet.{Says}
 use Rattle.a429_profile.specs.declared.entry.Flag.{Flag}
 use Rattle.a429_profile.specs.declared.entry.Kind.{Kind}
 use Rattle.a429_profile.specs.declared.entry.Kind.TheVariants.{Bnr, Bcd, Discrete}
@@ -22,10 +19,6 @@ use Rattle.a429_profile.specs.declared.shown.Shown.TheVariants as shown
 use Rattle.a429_profile.specs.Profile.{Contents}
 use Rattle.a429_profile.specs.Shown.{IsShown}
 use Rattle.a429_record.specs.declared.entry.Entry.{Entry}
-use Rattle.a429_check.specs.declared.fault.RunFault.{RunFault}
-use Rattle.a429_check.specs.Fault.{ComesBy, never}
-use Rattle.a429_check.specs.Profile.{IsSomeProfile, HasFault}
-use Rattle.a429_check.specs.Recording.{SayInput, IsRecordingFault}
 
 -- ---- what is shown of a word
 
@@ -90,10 +83,6 @@ pub record IsShowLine (p : Contents) (e : Entry) (line : List ℕ) : Type 0 wher
   pub is_text : IsShownText what text
   pub layout : line ≡ recorded_text e ++ fields_text e.word ++ text ++ codes "\n"
 
--- a sheet says some text that is such
-abbrev pub SaysSome : {W : Type 0} → (W → Option (List ℕ)) → Sheet W → Sheet W → (List ℕ → Type 0) → Type 0
-SaysSome contents old new IsSuch = (text : List ℕ) × IsSuch text × Says contents old new text
-
 -- the lines of entries, in their order
 abbrev pub AreShowLines : Contents → List Entry → List ℕ → Type 0
 AreShowLines p [] text = text ≡ []
@@ -103,21 +92,6 @@ AreShowLines p (e ∷ es) text = (line : List ℕ) × (rest : List ℕ) × IsSho
 abbrev pub AreFirstShowLines : Contents → List Entry → List ℕ → Type 0
 AreFirstShowLines p es text = (count : ℕ) × AreShowLines p (take count es) text
 
--- the text is that of what a profile's text and a recording say
-pub record ShowsEntries (profile : List ℕ) (recording : Option (List ℕ)) (text : List ℕ) : Type 0 where
-  pub says : SayInput profile recording
-  pub lines : AreShowLines (says.contents) (says.entries) text
-
--- the text is that of the first so many of these entries
-pub record ShowsFirst (profile : List ℕ) (recording : Option (List ℕ)) (text : List ℕ) : Type 0 where
-  pub says : SayInput profile recording
-  pub lines : AreFirstShowLines (says.contents) (says.entries) text
-
--- why `show` may fail: the profile's own fault, then the recording's; its reader failed, or, once the recording was read whole, the output did; or out of memory, once the profile is known to be a text
-abbrev pub IsShowFault : List ℕ → Option (List ℕ) → Bool → Bool → RunFault → Type 0
-IsShowFault profile known rec_failed out_failed = ComesBy (record never {
-  profile = HasFault profile;
-  recording = λ f. IsSomeProfile profile × IsRecordingFault known f;
-  device = (IsSomeProfile profile × (rec_failed ≡ true)) ⊎ (SayInput profile known × (out_failed ≡ true));
-  memory = IsUtf8 profile;
-})
+-- with status 0, the lines of all entries
+abbrev pub Shows : Contents → List Entry → ℕ → List ℕ → Type 0
+Shows p es status text = (status ≡ 0) × AreShowLines p es text

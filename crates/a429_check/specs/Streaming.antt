@@ -1,6 +1,5 @@
 -- What a recording says that is read entry by entry, or what is wrong with it (profile).
 use Rattle.std.specs.Prelude.{◌≡◌, ◌⊎◌, ◌+◌, ℕ, List, Bool, true, Option, Some, IfSome}
-use Rattle.std.specs.Str.{IsUtf8}
 use Rattle.a429_profile.specs.Profile.{Contents}
 use Rattle.a429_record.specs.declared.entry.Entry.{Entry}
 use Rattle.a429_record.specs.declared.fault.ReadFault.{ReadFault}
@@ -9,7 +8,7 @@ use Rattle.a429_record.specs.Recording.{Recording, whole}
 use Rattle.a429_check.specs.declared.fault.RunFault.{RunFault}
 use Rattle.a429_check.specs.declared.fault.RunFault.TheVariants as run
 use Rattle.a429_check.specs.Fault.{ComesBy, never}
-use Rattle.a429_check.specs.Profile.{IsProfileOf, IsSomeProfile, HasFault}
+use Rattle.a429_check.specs.Profile.{IsProfileOf}
 
 -- a profile's text, and what is in a reader of a recording, say these contents and entries; what is in the reader need not be known
 pub record SayStream (profile : List ℕ) (rec : Option Recording) : Type 0 where
@@ -17,10 +16,6 @@ pub record SayStream (profile : List ℕ) (rec : Option Recording) : Type 0 wher
   pub entries : List Entry
   pub is_profile : IsProfileOf profile contents
   pub stand : IfSome rec (λ r. r ≡ whole entries)
-
--- what is in the reader is a whole recording, without a fault, where it is known
-abbrev pub ComesWhole : Option Recording → Type 0
-ComesWhole rec = (es : List Entry) × IfSome rec (λ r. r ≡ whole es)
 
 -- the fault in the rest of a recording, if its bytes are known; a failed reader and refused memory are no faults of the recording
 abbrev pub IsFaultToCome : Option Recording → ReadFault → Type 0
@@ -38,15 +33,9 @@ reported f = run.Read f
 abbrev pub IsNextFault : Option Recording → Bool → RunFault → Type 0
 IsNextFault known failed = ComesBy (record never { recording = IsFaultToCome known; device = failed ≡ true; memory = Unit {0} })
 
--- why a command fails that writes while it reads, so that its output may fail before a fault of the recording is met: the profile has a fault; or the
--- profile has none, and the recording has a fault or the reader or the output failed; or the profile is a text, and memory was refused
-abbrev pub IsStreamingFault : List ℕ → Option Recording → Bool → Bool → RunFault → Type 0
-IsStreamingFault profile rec rec_failed out_failed = ComesBy (record never {
-  profile = HasFault profile;
-  recording = λ f. IsSomeProfile profile × IsFaultToCome rec f;
-  device = IsSomeProfile profile × ((rec_failed ≡ true) ⊎ (out_failed ≡ true));
-  memory = IsUtf8 profile;
-})
+-- why no more lines are put, under a profile that was read: the recording has a fault, its reader or the output failed, or memory was refused
+abbrev pub IsLinesFault : Option Recording → Bool → Bool → RunFault → Type 0
+IsLinesFault known rec_failed out_failed = ComesBy (record never { recording = IsFaultToCome known; device = (rec_failed ≡ true) ⊎ (out_failed ≡ true); memory = Unit {0} })
 
 -- where the recording has the fault, these are all the entries before it
 abbrev pub AreAllBefore : RunFault → Option Recording → List Entry → Type 0

@@ -1,15 +1,15 @@
 -- What `a429 survey` writes, and why it may fail (profile).
-use Rattle.std.specs.Prelude.{◌≡◌, ◌⊎◌, ℕ, List, Bool, true, Option, IfSome}
+use Rattle.std.specs.Prelude.{◌≡◌, ℕ, List, Bool, true, false, Option, IfSome}
 use Rattle.std.specs.Str.{IsUtf8}
 use Rattle.a429_profile.specs.declared.codes.Codes.{Codes}
 use Rattle.a429_record.specs.declared.entry.Entry.{Entry}
 use Rattle.a429_record.specs.Recording.{Recording, whole}
 use Rattle.a429_view.specs.declared.survey.Survey.{Survey}
 use Rattle.a429_view.specs.Survey.{IsSurvey, survey_text}
-use Rattle.a429_check.specs.declared.fault.RunFault.{RunFault}
+use Rattle.a429_check.specs.Ends.{Promise}
 use Rattle.a429_check.specs.Fault.{ComesBy, never}
 use Rattle.a429_check.specs.Profile.{IsSomeProfile, HasFault}
-use Rattle.a429_check.specs.Streaming.{ComesWhole, SayStream, IsFaultToCome}
+use Rattle.a429_check.specs.Streaming.{SayStream, IsFaultToCome, IsNextFault}
 
 -- the text is that of what a profile's text and a recording say
 pub record Surveys (profile : List ℕ) (rec : Option Recording) (text : List ℕ) : Type 0 where
@@ -28,15 +28,25 @@ Counts c rec s = (es : List Entry) × IsSurvey c s es × IfSome rec (λ r. r ≡
 abbrev pub IsSomeSurvey : Survey → Type 0
 IsSomeSurvey s = (c : Codes) × (es : List Entry) × IsSurvey c s es
 
--- why no counts are written, under a profile that was read: the recording has a fault; its reader failed, or, once the recording was read whole, the output did; or memory was refused
-abbrev pub IsCountingFault : Option Recording → Bool → Bool → RunFault → Type 0
-IsCountingFault rec rec_failed out_failed = ComesBy (record never { recording = IsFaultToCome rec; device = (rec_failed ≡ true) ⊎ (ComesWhole rec × (out_failed ≡ true)); memory = Unit {0} })
+-- the counts are written of all entries that come, under a profile that was read; else nothing is
+abbrev pub of_counts : Codes → Option Recording → Bool → Promise
+of_counts c rec failed = record {
+  says = λ status text. (status ≡ 0) × SurveysBy c rec text × (failed ≡ false);
+  stops = λ e text. ⊥;
+  begins = λ text. SurveysBy c rec text × (failed ≡ false);
+  refuses = IsNextFault rec failed;
+}
 
--- why `survey` fails: the profile has a fault; or the profile has none, and the recording has a fault, or its reader failed; once the recording was read whole, the output failed; or the profile is a text, and memory was refused
-abbrev pub IsSurveyFault : List ℕ → Option Recording → Bool → Bool → RunFault → Type 0
-IsSurveyFault profile rec rec_failed out_failed = ComesBy (record never {
-  profile = HasFault profile;
-  recording = λ f. IsSomeProfile profile × IsFaultToCome rec f;
-  device = (IsSomeProfile profile × (rec_failed ≡ true)) ⊎ (SayStream profile rec × (out_failed ≡ true));
-  memory = IsUtf8 profile;
-})
+-- the same by the bytes of its text: nothing is written where the profile has a fault; or where it has none, and the recording has a fault, or its reader failed; or where the profile is a text, and memory was refused
+abbrev pub of_survey : List ℕ → Option Recording → Bool → Promise
+of_survey profile rec failed = record {
+  says = λ status text. (status ≡ 0) × Surveys profile rec text × (failed ≡ false);
+  stops = λ e text. ⊥;
+  begins = λ text. Surveys profile rec text × (failed ≡ false);
+  refuses = ComesBy (record never {
+    profile = HasFault profile;
+    recording = λ f. IsSomeProfile profile × IsFaultToCome rec f;
+    device = IsSomeProfile profile × (failed ≡ true);
+    memory = IsUtf8 profile;
+  });
+}

@@ -1,10 +1,7 @@
--- What `a429 trace` writes, and why it may fail (profile).
-use Rattle.std.specs.Prelude.{◌≡◌, ◌⊎◌, ◌++◌, ℕ, List, [], ◌∷◌, length, codes, Bool, true, Option, IfSome, Result, Ok, Err}
+-- What `a429 trace` writes (profile).
+use Rattle.std.specs.Prelude.{◌≡◌, ◌++◌, ℕ, List, [], ◌∷◌, length, codes, Option, IfSome, Result}
 use Rattle.std.specs.List.{flat_map}
 use Rattle.std.specs.Fmt.{decimal}
-use Rattle.a429_word.specs.declared.sheet.Sheet.{Sheet}
-use Rattle.a429_word.specs.Sheet.{Says}
-use Rattle.a429_word.specs.Tally.{has_failed, Puts, PutsFront}
 use Rattle.a429_profile.specs.Profile.{Contents}
 use Rattle.a429_ldu.specs.Sight.{sight_of}
 use Rattle.a429_link.specs.declared.doing.Crossing.{Crossing}
@@ -21,13 +18,10 @@ use Rattle.a429_explain.specs.declared.verdict.Verdict.TheVariants as verdict
 use Rattle.a429_explain.specs.Walk.{FitsSight}
 use Rattle.a429_view.specs.Trace.{lines_of, refused_line}
 use Rattle.a429_check.specs.declared.fault.RunFault.{RunFault}
-use Rattle.a429_check.specs.declared.fault.RunFault.TheVariants as run
 use Rattle.a429_check.specs.Check.{verdict_text}
-use Rattle.a429_check.specs.Fault.{ComesBy, never}
-use Rattle.a429_check.specs.Output.{Output}
-use Rattle.a429_check.specs.Profile.{IsProfileOf, WithContents}
+use Rattle.a429_check.specs.Ends.{by_answer}
 use Rattle.a429_parts.specs.Keeping.{Taken}
-use Rattle.a429_check.specs.Streaming.{AreAllBefore, AreThoseGiven, IsFaultToCome, IsStreamingFault}
+use Rattle.a429_check.specs.Streaming.{AreAllBefore, AreThoseGiven}
 use Rattle.a429_check.specs.Verdict.{file_line}
 
 -- ---- the text
@@ -65,12 +59,6 @@ pub data IsTraceOf (p : Contents) (known : Option Recording) (status : ℕ) (tex
   only : (es : List Entry) (all : IfSome known (λ r. r ≡ whole es)) (allowed : AreAllowed p at_first (items_of es)) (files : List Crossing) (sink : files ≡ sizes_of (files_of p (items_of es))) (delivered : AreInEachRun p (items_of es) files) (status_is : status ≡ 0) (text_is : text ≡ first_lines p es ++ only_text files) → IsTraceOf p known status text
   impossible : (es : List Entry) (e : Entry) (begins : BeginsWith known (es ++ e ∷ [])) (reason : Reason) (refused : IsRefusedAfter p (items_of es) (seen_of e) reason) (status_is : status ≡ 1) (text_is : text ≡ first_lines p es ++ (refused_line p (length es) (implied p (items_of es) implied_at_first) e ++ verdict_text (verdict.Impossible (length es) reason))) → IsTraceOf p known status text
 
--- the same by the profile whose text the bytes are
-pub record Traces (profile : List ℕ) (known : Option Recording) (status : ℕ) (text : List ℕ) : Type 0 where
-  pub contents : Contents
-  pub is_profile : IsProfileOf profile contents
-  pub is_trace : IsTraceOf contents known status text
-
 -- ---- where it is cut off
 
 -- the text is the lines of the entries that were handed out before a fault, each of which is allowed after those before it; where the fault is the
@@ -83,29 +71,10 @@ pub record IsCut (p : Contents) (t : Taken) (e : RunFault) (text : List ℕ) : T
   pub allowed : AreAllowed p at_first (items_of entries)
   pub text_is : text ≡ first_lines p entries
 
--- the text that is put before a command answers this status or this fault
-abbrev pub IsPutBy : Contents → Taken → Result ℕ RunFault → List ℕ → Type 0
-IsPutBy p t (Ok status) text = IsTraceOf p t.recording status text
-IsPutBy p t (Err f) text = IsCut p t f text
+-- the trace of what was taken
+abbrev pub Traces : Contents → Taken → ℕ → List ℕ → Type 0
+Traces p t status text = IsTraceOf p t.recording status text
 
--- a sheet says some text that is such
-abbrev pub SaysText : {W : Type 0} → (W → Option (List ℕ)) → Sheet W → Sheet W → (List ℕ → Type 0) → Type 0
-SaysText contents old new IsSuch = (text : List ℕ) × IsSuch text × Says contents old new text
-
--- what the output has after a fault that comes once the profile was read: the lines of the entries before it; or, where the output has failed, a
--- prefix of such lines, whatever else has failed, or of a whole trace
-pub data LeavesLines {W : Type 0} (o : Output W) (p : Contents) (t : Taken) (e : RunFault) : Type 0 where
-  lines : (text : List ℕ) (cut : IsCut p t e text) (put : Puts o.contents o.old o.new text) → LeavesLines o p t e
-  failed : (device : e ≡ run.Device) (failed : has_failed o.new ≡ true) (text : List ℕ) (of : ((why : RunFault) × IsCut p t why text) ⊎ ((status : ℕ) × IsTraceOf p t.recording status text)) (prefix : PutsFront o.contents o.old o.new text) → LeavesLines o p t e
-
--- what it has after any fault: what it had, or such lines by the profile whose text the bytes are
-abbrev pub LeavesTrace : {W : Type 0} → Output W → List ℕ → Taken → RunFault → Type 0
-LeavesTrace o profile t e = (o.new ≡ o.old) ⊎ WithContents profile (λ p. LeavesLines o p t e)
-
--- why no more lines are put, under a profile that was read: the recording has a fault, its reader or the output failed, or memory was refused
-abbrev pub IsLinesFault : Option Recording → Bool → Bool → RunFault → Type 0
-IsLinesFault known rec_failed out_failed = ComesBy (record never { recording = IsFaultToCome known; device = (rec_failed ≡ true) ⊎ (out_failed ≡ true); memory = Unit {0} })
-
--- why `trace` fails: as a command that writes while it reads
-abbrev pub IsTraceFault : List ℕ → Option Recording → Bool → Bool → RunFault → Type 0
-IsTraceFault profile known rec_failed out_failed = IsStreamingFault profile known rec_failed out_failed
+-- the text of any answer
+abbrev pub AreSomeLines : Contents → Taken → List ℕ → Type 0
+AreSomeLines p t text = (answer : Result ℕ RunFault) × by_answer (Traces p t) (IsCut p t) answer text

@@ -21,6 +21,7 @@ use Rattle.a429_cert.specs.StreamExplained.{compared, Extracts, Refuses, HearsRu
 use Rattle.a429_cert.specs.Report.{Listening}
 use Rattle.a429_check.specs.declared.fault.RunFault.{RunFault}
 use Rattle.a429_check.specs.declared.fault.RunFault.TheVariants as run
+use Rattle.a429_check.specs.Ends.{Promise}
 use Rattle.a429_check.specs.Fault.{Causes, ComesBy, never}
 use Rattle.a429_check.specs.declared.engines.verdict.Judged.{Judged}
 use Rattle.a429_check.specs.Profile.{IsProfileOf, HasFault}
@@ -184,3 +185,16 @@ status_of_answer (Err f) = 2
 abbrev pub text_of_answer : {Z : Type 0} → Result (Vec (ℕ × ℕ) Z) CertFault → List ℕ
 text_of_answer (Ok files) = yes_text files.items
 text_of_answer (Err f) = no_text f
+
+-- with its status, its text
+abbrev pub SaysAnswer : {Z : Type 0} → Result (Vec (ℕ × ℕ) Z) CertFault → ℕ → List ℕ → Type 0
+SaysAnswer answer status text = (status ≡ status_of_answer answer) × (text ≡ text_of_answer answer)
+
+-- a command writes the verdict, where no reader and not the shelf has failed; else it writes nothing
+abbrev pub of_verdict : Input → Shelved → Type 0 → Promise
+of_verdict i shelf Failed = record {
+  says = λ status text. IsVerdict i shelf status text × (Failed → ⊥);
+  stops = λ e text. ⊥;
+  begins = λ text. IsSomeVerdict i shelf text × (Failed → ⊥);
+  refuses = IsVerifyFault i shelf Failed;
+}

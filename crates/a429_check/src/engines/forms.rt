@@ -1,20 +1,16 @@
 //! `a429 forms PROFILE REC`: what each word of a recording is to the file transfer, a line for each.
 
-ghost use Rattle.std.specs.Prelude.{◌≡◌, ◌↔◌, [], true, false, IsErr, IfOk, IfErr, OnOk};
-ghost use Rattle.a429_word.specs.Tally.{has_failed, unread};
-ghost use Rattle.a429_word.specs.Sheet.{Says, Writes};
-ghost use Rattle.a429_check.specs.Output.{output, IsCutShort, PutsText};
-ghost use Rattle.a429_check.specs.Recording.{IsEntriesFault, IsOfEntries};
-ghost use Rattle.a429_check.specs.Show.{IsShowFault};
-ghost use Rattle.a429_check.specs.Forms.{form_line, form_lines, IsFormsText, TellsForms};
+ghost use Rattle.a429_word.specs.Sheet.{Says};
+ghost use Rattle.a429_check.specs.Ends.{Ends, heard, of_entries};
+ghost use Rattle.a429_check.specs.Output.{output};
+ghost use Rattle.a429_check.specs.Forms.{AreFormLines, TellsForms, form_line, form_lines};
 
-use crate::engines::profile::profile_of;
-use crate::engines::recording::entries_of;
+use crate::engines::question::{Question, ask};
 use crate::fault::RunFault;
 use a429_profile::Profile;
 use a429_record::{Entry, EntryText};
 use a429_view::put_what;
-use a429_word::{Device, Page, Sheet, Tally};
+use a429_word::{Sheet, Tally};
 use std::alloc::Global;
 use std::io::{Read, Write};
 
@@ -28,52 +24,24 @@ pub fn run_forms<R: Read, W: Write>(
     rec: &mut Tally<R>,
     out: &mut Tally<W>,
 ) -> Result<u8, RunFault>
-    ensures ok { IfOk result (λ status. status ≡ 0) }
-    ensures lines { OnOk result (PutsText W.contents out.old out.new (TellsForms profile.now (unread R.remaining rec.old))) }
-    ensures err { IfErr result (IsShowFault profile.now (unread R.remaining rec.old) (has_failed rec.new) (has_failed out.new)) }
-    ensures cut { IfErr result (IsCutShort (output W.contents out.old out.new) (has_failed rec.new ≡ true) (TellsForms profile.now (unread R.remaining rec.old))) }
-    ensures device { OnOk result ((has_failed rec.new ≡ false) × (has_failed out.new ≡ false)) }
+    ensures { Ends (output W.contents out.old out.new) (of_entries profile.now (heard R.remaining rec.old rec.new) TellsForms AreFormLines) result }
 {
-    let profile = profile_of(alloc, profile)?;
-    let status = forms_by(alloc, &profile, rec, out);
-    drop(profile);
-    status
+    ask(alloc, Forms, profile, rec, out)
 }
 
-// Does the same by a profile that was read.
-fn forms_by<R: Read, W: Write>(
-    alloc: Global,
-    profile: &Profile,
-    rec: &mut Tally<R>,
-    out: &mut Tally<W>,
-) -> Result<u8, RunFault>
-    ensures ok { IfOk result (λ status. status ≡ 0) }
-    ensures lines { OnOk result (PutsText W.contents out.old out.new (IsOfEntries (unread R.remaining rec.old) (IsFormsText profile.now.codes))) }
-    ensures err { IfErr result (IsEntriesFault (unread R.remaining rec.old) (has_failed rec.new) (has_failed out.new)) }
-    ensures cut { IfErr result (IsCutShort (output W.contents out.old out.new) (has_failed rec.new ≡ true) (IsOfEntries (unread R.remaining rec.old) (IsFormsText profile.now.codes))) }
-    ensures device { OnOk result ((has_failed rec.new ≡ false) × (has_failed out.new ≡ false)) }
-{
-    let entries = entries_of(alloc, rec)?;
-    let page = Page::new(alloc)?;
-    put_entries(page, out, profile, entries.as_slice())?;
-    Ok(0)
-}
+// What each word is to the transfer.
+#[derive(Drop)]
+struct Forms;
 
-// A line for each entry, by an empty page.
-fn put_entries<W: Write>(
-    page: Page,
-    out: &mut Tally<W>,
-    profile: &Profile,
-    entries: &[Entry],
-) -> Result<(), Device>
-    requires { page ≡ [] }
-    ensures written { Writes W.contents out.old out.new (form_lines profile.now.codes entries.now) }
-    ensures device { IsErr result ↔ (has_failed out.new ≡ true) }
-{
-    let mut page = page;
-    let mut sheet = Sheet::new(out, &mut page);
-    put_lines(&mut sheet, profile, entries);
-    sheet.finish()
+impl Question for Forms {
+    ghost says = { TellsForms };
+
+    ghost begins = { AreFormLines };
+
+    fn put<W: Write>(&self, profile: &Profile, entries: &[Entry], sheet: &mut Sheet<'_, W>) -> u8 {
+        put_lines(sheet, profile, entries);
+        0
+    }
 }
 
 // A line for each entry.

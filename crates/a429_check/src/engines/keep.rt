@@ -1,19 +1,17 @@
 //! `a429 keep PROFILE REC`: a recording, without the entries that its transfer does not need.
 
-ghost use Rattle.std.specs.Prelude.{◌≡◌, ◌⊎◌, [], true, false, IfOk, IfErr, OnOk};
-ghost use Rattle.a429_word.specs.Tally.{has_failed};
 ghost use Rattle.a429_parts.specs.Keeping.{taken};
+ghost use Rattle.a429_check.specs.Ends.{Ends, of_stream};
 ghost use Rattle.a429_check.specs.Output.{output};
-ghost use Rattle.a429_check.specs.Profile.{WithContents};
-ghost use Rattle.a429_check.specs.Keep.{EndsBy, GainsBegun, GainsUntil, IsKeepFault, LeavesKept, PutsKept};
+ghost use Rattle.a429_check.specs.Keep.{KeepsRows, KeepsSomeRows, KeepsRowsUntil};
 
-use crate::engines::profile::profile_of;
+use crate::engines::relay::{Relay, write_while_reading};
 use crate::engines::streaming::fault_of;
 use crate::fault::RunFault;
 use a429_parts::put_kept;
 use a429_profile::Profile;
 use a429_record::EntryReader;
-use a429_word::{Page, Sheet, Tally};
+use a429_word::{Sheet, Tally};
 use std::alloc::Global;
 use std::io::{Read, Write};
 
@@ -29,56 +27,31 @@ pub fn run_keep<R: Read, W: Write>(
     rec: &mut EntryReader<R>,
     out: &mut Tally<W>,
 ) -> Result<u8, RunFault>
-    ensures ok { IfOk result (λ status. status ≡ 0) }
-    ensures kept { OnOk result (WithContents profile.now (λ p. PutsKept W.contents out.old out.new (taken rec.old rec.new) p.codes)) }
-    ensures err { IfErr result (IsKeepFault profile.now rec.old.to_come rec.new.failed (has_failed out.new)) }
-    ensures left { IfErr result (LeavesKept (output W.contents out.old out.new) profile.now (taken rec.old rec.new)) }
-    ensures device { OnOk result ((rec.new.failed ≡ false) × (has_failed out.new ≡ false)) }
+    ensures { Ends (output W.contents out.old out.new) (of_stream profile.now (taken rec.old rec.new) rec.new.failed KeepsRows KeepsRowsUntil KeepsSomeRows) result }
 {
-    let profile = profile_of(alloc, profile)?;
-    let status = keep_by(alloc, &profile, rec, out);
-    drop(profile);
-    status
+    write_while_reading(alloc, &Keeping, profile, rec, out)
 }
 
-// Does the same by a profile that was read.
-fn keep_by<R: Read, W: Write>(
-    alloc: Global,
-    profile: &Profile,
-    rec: &mut EntryReader<R>,
-    out: &mut Tally<W>,
-) -> Result<u8, RunFault>
-    ensures ok { IfOk result (λ status. status ≡ 0) }
-    ensures kept { OnOk result (PutsKept W.contents out.old out.new (taken rec.old rec.new) profile.now.codes) }
-    ensures err { IfErr result (EndsBy rec.old.to_come ((rec.new.failed ≡ true) ⊎ (has_failed out.new ≡ true))) }
-    ensures left { IfErr result (λ e. GainsBegun (output W.contents out.old out.new) (taken rec.old rec.new) e profile.now) }
-    ensures works { OnOk result ((rec.new.failed ≡ false) × (has_failed out.new ≡ false)) }
-{
-    let page = Page::new(alloc)?;
-    write_kept(page, profile, rec, out)?;
-    Ok(0)
-}
+// The rows of the entries that are kept.
+#[derive(Drop)]
+struct Keeping;
 
-// Writes the entries that are kept, by an empty page.
-fn write_kept<R: Read, W: Write>(
-    page: Page,
-    profile: &Profile,
-    rec: &mut EntryReader<R>,
-    out: &mut Tally<W>,
-) -> Result<(), RunFault>
-    requires { page ≡ [] }
-    ensures kept { OnOk result (PutsKept W.contents out.old out.new (taken rec.old rec.new) profile.now.codes) }
-    ensures works { OnOk result ((rec.new.failed ≡ false) × (has_failed out.new ≡ false)) }
-    ensures err { IfErr result (EndsBy rec.old.to_come ((rec.new.failed ≡ true) ⊎ (has_failed out.new ≡ true))) }
-    ensures left { IfErr result (λ e. GainsUntil (output W.contents out.old out.new) (taken rec.old rec.new) e profile.now.codes) }
-{
-    let mut page = page;
-    let mut sheet = Sheet::new(out, &mut page);
-    match put_kept(profile, rec, &mut sheet) {
-        Ok(()) => Ok(sheet.finish()?),
-        Err(fault) => {
-            sheet.finish()?;
-            Err(fault_of(fault))
+impl Relay for Keeping {
+    ghost says = { KeepsRows };
+
+    ghost stops = { KeepsRowsUntil };
+
+    ghost begins = { KeepsSomeRows };
+
+    fn put<R: Read, W: Write>(
+        &self,
+        profile: &Profile,
+        rec: &mut EntryReader<R>,
+        sheet: &mut Sheet<'_, W>,
+    ) -> Result<u8, RunFault> {
+        match put_kept(profile, rec, sheet) {
+            Ok(()) => Ok(0),
+            Err(fault) => Err(fault_of(fault)),
         }
     }
 }

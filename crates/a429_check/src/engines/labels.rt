@@ -1,16 +1,17 @@
 //! `a429 labels PROFILE`: the label table of a profile, a line for each entry.
 
-ghost use Rattle.std.specs.Prelude.{◌≡◌, ◌↔◌, ◌++◌, codes, length, true, false, IsErr, IfOk, IfErr, OnOk};
+ghost use Rattle.std.specs.Prelude.{◌≡◌, ◌++◌, codes, length, true};
 ghost use Rattle.std.specs.Fmt.{decimal};
-ghost use Rattle.a429_word.specs.Tally.{has_failed};
-ghost use Rattle.a429_word.specs.Sheet.{Says, Writes};
-ghost use Rattle.a429_check.specs.Output.{output, IsCutShort, PutsText};
-ghost use Rattle.a429_check.specs.Labels.{IsLabelsFault, TellsLabels, sdi_text, kind_text, address_text, label_line, label_lines};
+ghost use Rattle.a429_word.specs.Sheet.{Says};
+ghost use Rattle.a429_check.specs.Ends.{Ends};
+ghost use Rattle.a429_check.specs.Output.{output};
+ghost use Rattle.a429_check.specs.Labels.{of_labels, sdi_text, kind_text, address_text, label_line, label_lines};
 
 use crate::engines::profile::profile_of;
+use crate::engines::text::{Text, write_at_once};
 use crate::fault::RunFault;
 use a429_profile::{Flag, Kind, LabelEntry, Profile};
-use a429_word::{Device, Page, Sheet, Tally, octal};
+use a429_word::{Sheet, Tally, octal};
 use std::alloc::Global;
 use std::io::Write;
 
@@ -21,26 +22,24 @@ pub fn run_labels<W: Write>(
     profile: &[u8],
     out: &mut Tally<W>,
 ) -> Result<u8, RunFault>
-    ensures ok { IfOk result (λ status. status ≡ 0) }
-    ensures lines { OnOk result (PutsText W.contents out.old out.new (TellsLabels profile.now)) }
-    ensures err { IfErr result (IsLabelsFault profile.now (has_failed out.new)) }
-    ensures device { OnOk result (has_failed out.new ≡ false) }
-    ensures cut { IfErr result (IsCutShort (output W.contents out.old out.new) ⊥ (TellsLabels profile.now)) }
+    ensures { Ends (output W.contents out.old out.new) (of_labels profile.now) result }
 {
-    let profile = profile_of(alloc, profile)?;
-    write_labels(&profile, out)?;
-    Ok(0)
+    write_at_once(profile_of(alloc, profile), out)
 }
 
 // A line for each entry.
-fn write_labels<W: Write>(profile: &Profile, out: &mut Tally<W>) -> Result<(), Device>
-    ensures written { Writes W.contents out.old out.new (label_lines profile.now.labels) }
-    ensures device { IsErr result ↔ (has_failed out.new ≡ true) }
-{
-    let mut page = Page::without_room();
-    let mut sheet = Sheet::new(out, &mut page);
-    put_labels(&mut sheet, profile);
-    sheet.finish()
+impl Text for Profile {
+    ghost use Rattle.std.specs.Prelude.{◌≡◌};
+    ghost use Rattle.a429_check.specs.Labels.{label_lines};
+
+    ghost says = { λ p status text. (status ≡ 0) × (text ≡ label_lines p.labels) };
+
+    ghost begins = { λ p text. text ≡ label_lines p.labels };
+
+    fn put<W: Write>(&self, sheet: &mut Sheet<'_, W>) -> u8 {
+        put_labels(sheet, self);
+        0
+    }
 }
 
 fn put_labels<W: Write>(sheet: &mut Sheet<'_, W>, profile: &Profile)

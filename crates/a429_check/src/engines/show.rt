@@ -1,23 +1,21 @@
 //! `a429 show PROFILE REC`: the words of a recording, a line for each.
 
-ghost use Rattle.std.specs.Prelude.{◌≡◌, ◌↔◌, ◌≤◌, ◌++◌, [], ℕ, List, true, false, IsTrue, IsErr, IfOk, IfErr, OnOk, length, take, drop};
-ghost use Rattle.a429_word.specs.Tally.{has_failed, unread};
+ghost use Rattle.std.specs.Prelude.{◌≡◌, ◌↔◌, ◌≤◌, ◌++◌, ℕ, List, true, false, IsTrue, length, take, drop};
 ghost use Rattle.a429_word.specs.Sheet.{Says, sheet_failed};
 ghost use Rattle.a429_word.specs.Word.{HasOddParity};
 ghost use Rattle.std.specs.List.{flat_map, AllByRecursion};
 ghost use Rattle.a429_profile.specs.Shown.{IsShown, HasItsRanges};
 ghost use Rattle.a429_profile.specs.Entry.{IsFlagBit, IsKindInRange};
 ghost use Rattle.a429_profile.specs.Flags.{both_texts};
-ghost use Rattle.a429_check.specs.Output.{output, IsCutShort, PutsText, PutsPrefixOf};
-ghost use Rattle.a429_check.specs.Recording.{IsEntriesFault, IsOfEntries};
-ghost use Rattle.a429_check.specs.Show.{IsShowFault, status_text, bad_digit_text, unit_text, test_text, flag_text, IsValueText, field_text, IsShownText, recorded_text, fields_text, SaysSome, IsShowLine, AreShowLines, AreFirstShowLines, ShowsEntries, ShowsFirst};
+ghost use Rattle.a429_check.specs.Ends.{Ends, heard, of_entries};
+ghost use Rattle.a429_check.specs.Output.{output, SaysSome};
+ghost use Rattle.a429_check.specs.Show.{status_text, bad_digit_text, unit_text, test_text, flag_text, IsValueText, field_text, IsShownText, recorded_text, fields_text, IsShowLine, AreShowLines, AreFirstShowLines, Shows};
 
-use crate::engines::profile::profile_of;
-use crate::engines::recording::entries_of;
+use crate::engines::question::{Question, ask};
 use crate::fault::RunFault;
 use a429_profile::{Flag, Kind, LabelEntry, Profile, Shown, Status};
 use a429_record::{Entry, EntryText, SCREENED, screen_entries};
-use a429_word::{BAD_PARITY, Device, Fixed, Page, Sheet, Tally, Word, octal};
+use a429_word::{BAD_PARITY, Fixed, Sheet, Tally, Word, octal};
 use std::alloc::Global;
 use std::io::{Read, Write};
 
@@ -33,53 +31,24 @@ pub fn run_show<R: Read, W: Write>(
     rec: &mut Tally<R>,
     out: &mut Tally<W>,
 ) -> Result<u8, RunFault>
-    ensures ok { IfOk result (λ status. status ≡ 0) }
-    ensures lines { OnOk result (PutsText W.contents out.old out.new (ShowsEntries profile.now (unread R.remaining rec.old))) }
-    ensures err { IfErr result (IsShowFault profile.now (unread R.remaining rec.old) (has_failed rec.new) (has_failed out.new)) }
-    ensures cut { IfErr result (IsCutShort (output W.contents out.old out.new) (has_failed rec.new ≡ true) (ShowsFirst profile.now (unread R.remaining rec.old))) }
-    ensures device { OnOk result ((has_failed rec.new ≡ false) × (has_failed out.new ≡ false)) }
+    ensures { Ends (output W.contents out.old out.new) (of_entries profile.now (heard R.remaining rec.old rec.new) Shows AreFirstShowLines) result }
 {
-    let profile = profile_of(alloc, profile)?;
-    let status = show_by(alloc, &profile, rec, out);
-    drop(profile);
-    status
+    ask(alloc, Show, profile, rec, out)
 }
 
-// Does the same by a profile that was read.
-fn show_by<R: Read, W: Write>(
-    alloc: Global,
-    profile: &Profile,
-    rec: &mut Tally<R>,
-    out: &mut Tally<W>,
-) -> Result<u8, RunFault>
-    ensures ok { IfOk result (λ status. status ≡ 0) }
-    ensures lines { OnOk result (PutsText W.contents out.old out.new (IsOfEntries (unread R.remaining rec.old) (AreShowLines profile.now))) }
-    ensures err { IfErr result (IsEntriesFault (unread R.remaining rec.old) (has_failed rec.new) (has_failed out.new)) }
-    ensures cut { IfErr result (IsCutShort (output W.contents out.old out.new) (has_failed rec.new ≡ true) (IsOfEntries (unread R.remaining rec.old) (AreFirstShowLines profile.now))) }
-    ensures device { OnOk result ((has_failed rec.new ≡ false) × (has_failed out.new ≡ false)) }
-{
-    let entries = entries_of(alloc, rec)?;
-    let page = Page::new(alloc)?;
-    put_entries(page, out, profile, entries.as_slice())?;
-    Ok(0)
-}
+// What each word shows.
+#[derive(Drop)]
+struct Show;
 
-// A line for each entry, by an empty page.
-fn put_entries<W: Write>(
-    page: Page,
-    out: &mut Tally<W>,
-    profile: &Profile,
-    entries: &[Entry],
-) -> Result<(), Device>
-    requires { page ≡ [] }
-    ensures ok { OnOk result (PutsText W.contents out.old out.new (AreShowLines profile.now entries.now)) }
-    ensures prefix { PutsPrefixOf W.contents out.old out.new (AreFirstShowLines profile.now entries.now) }
-    ensures device { IsErr result ↔ (has_failed out.new ≡ true) }
-{
-    let mut page = page;
-    let mut sheet = Sheet::new(out, &mut page);
-    put_lines(&mut sheet, profile, entries);
-    sheet.finish()
+impl Question for Show {
+    ghost says = { Shows };
+
+    ghost begins = { AreFirstShowLines };
+
+    fn put<W: Write>(&self, profile: &Profile, entries: &[Entry], sheet: &mut Sheet<'_, W>) -> u8 {
+        put_lines(sheet, profile, entries);
+        0
+    }
 }
 
 // A line for each entry, up to some entry where the output fails.

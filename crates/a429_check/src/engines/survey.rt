@@ -6,9 +6,10 @@ ghost use Rattle.a429_word.specs.Sheet.{Writes};
 ghost use Rattle.a429_profile.specs.declared.codes.Codes.{Codes};
 ghost use Rattle.a429_record.specs.declared.entry.Entry.{Entry};
 ghost use Rattle.a429_view.specs.Survey.{IsSurvey, survey_text};
-ghost use Rattle.a429_check.specs.Output.{PutsText, IsCutShort, output};
+ghost use Rattle.a429_check.specs.Ends.{Ends};
+ghost use Rattle.a429_check.specs.Output.{output};
 ghost use Rattle.a429_check.specs.Streaming.{IsNextFault};
-ghost use Rattle.a429_check.specs.Survey.{Counts, IsCountingFault, IsSomeSurvey, Surveys, SurveysBy, IsSurveyFault};
+ghost use Rattle.a429_check.specs.Survey.{Counts, IsSomeSurvey, of_counts, of_survey};
 
 use crate::engines::profile::profile_of;
 use crate::engines::streaming::next_entry;
@@ -30,11 +31,7 @@ pub fn run_survey<R: Read, W: Write>(
     rec: &mut EntryReader<R>,
     out: &mut Tally<W>,
 ) -> Result<u8, RunFault>
-    ensures ok { IfOk result (λ status. status ≡ 0) }
-    ensures lines { OnOk result (PutsText W.contents out.old out.new (Surveys profile.now rec.old.to_come)) }
-    ensures err { IfErr result (IsSurveyFault profile.now rec.old.to_come rec.new.failed (has_failed out.new)) }
-    ensures cut { IfErr result (IsCutShort (output W.contents out.old out.new) (rec.new.failed ≡ true) (Surveys profile.now rec.old.to_come)) }
-    ensures device { OnOk result ((rec.new.failed ≡ false) × (has_failed out.new ≡ false)) }
+    ensures { Ends (output W.contents out.old out.new) (of_survey profile.now rec.old.to_come rec.new.failed) result }
 {
     let profile = profile_of(alloc, profile)?;
     let status = survey_by(alloc, &profile, rec, out);
@@ -49,11 +46,7 @@ fn survey_by<R: Read, W: Write>(
     rec: &mut EntryReader<R>,
     out: &mut Tally<W>,
 ) -> Result<u8, RunFault>
-    ensures ok { IfOk result (λ status. status ≡ 0) }
-    ensures lines { OnOk result (PutsText W.contents out.old out.new (SurveysBy profile.now.codes rec.old.to_come)) }
-    ensures err { IfErr result (IsCountingFault rec.old.to_come rec.new.failed (has_failed out.new)) }
-    ensures cut { IfErr result (IsCutShort (output W.contents out.old out.new) (rec.new.failed ≡ true) (SurveysBy profile.now.codes rec.old.to_come)) }
-    ensures device { OnOk result ((rec.new.failed ≡ false) × (has_failed out.new ≡ false)) }
+    ensures { Ends (output W.contents out.old out.new) (of_counts profile.now.codes rec.old.to_come rec.new.failed) result }
 {
     let page = Page::new(alloc)?;
     let survey = survey_of(profile, rec)?;

@@ -2,14 +2,15 @@
 
 ghost use Rattle.std.specs.Prelude.{◌≡◌, [], false, IfErr, IfOk, flat_map};
 ghost use Rattle.a429_word.specs.Sheet.{Says, sheet_failed};
-ghost use Rattle.a429_word.specs.Tally.{has_failed};
 ghost use Rattle.a429_view.specs.Trace.{IsTrace};
-ghost use Rattle.a429_check.specs.Output.{PutsText, output};
 ghost use Rattle.a429_parts.specs.Keeping.{taken};
-ghost use Rattle.a429_check.specs.Trace.{IsLinesFault, IsPutBy, IsTraceFault, IsTraceOf, LeavesLines, LeavesTrace, SaysText, Traces, only_text, size_line};
+ghost use Rattle.a429_check.specs.Ends.{Ends, by_answer, of_stream};
+ghost use Rattle.a429_check.specs.Output.{output, SaysSome};
+ghost use Rattle.a429_check.specs.Streaming.{IsLinesFault};
+ghost use Rattle.a429_check.specs.Trace.{AreSomeLines, IsCut, Traces, only_text, size_line};
 
 use crate::engines::check::put_impossible;
-use crate::engines::profile::profile_of;
+use crate::engines::relay::{Relay, write_while_reading};
 use crate::engines::streaming::next_entry;
 use crate::engines::verdict::put_file;
 use crate::fault::RunFault;
@@ -18,7 +19,7 @@ use a429_link::Crossing;
 use a429_profile::Profile;
 use a429_record::EntryReader;
 use a429_view::{Trace, TraceStop};
-use a429_word::{Page, Sheet, Tally};
+use a429_word::{Sheet, Tally};
 use std::alloc::Global;
 use std::io::{Read, Write};
 
@@ -34,52 +35,33 @@ pub fn run_trace<R: Read, W: Write>(
     rec: &mut EntryReader<R>,
     out: &mut Tally<W>,
 ) -> Result<u8, RunFault>
-    ensures text { IfOk result (λ status. PutsText W.contents out.old out.new (Traces profile.now rec.old.to_come status)) }
-    ensures err { IfErr result (IsTraceFault profile.now rec.old.to_come rec.new.failed (has_failed out.new)) }
-    ensures cut { IfErr result (LeavesTrace (output W.contents out.old out.new) profile.now (taken rec.old rec.new)) }
-    ensures device { IfOk result (λ status. (has_failed out.new ≡ false) × (status ≡ 0 → rec.new.failed ≡ false)) }
+    ensures { Ends (output W.contents out.old out.new) (of_stream profile.now (taken rec.old rec.new) rec.new.failed Traces IsCut AreSomeLines) result }
 {
-    let profile = profile_of(alloc, profile)?;
-    let page = Page::new(alloc)?;
-    let status = write_trace(alloc, page, &profile, rec, out);
-    drop(profile);
-    status
-}
-
-// By an empty page.
-fn write_trace<R: Read, W: Write>(
-    alloc: Global,
-    page: Page,
-    profile: &Profile,
-    rec: &mut EntryReader<R>,
-    out: &mut Tally<W>,
-) -> Result<u8, RunFault>
-    requires { page ≡ [] }
-    ensures text { IfOk result (λ status. PutsText W.contents out.old out.new (IsTraceOf profile.now rec.old.to_come status)) }
-    ensures err { IfErr result (IsLinesFault rec.old.to_come rec.new.failed (has_failed out.new)) }
-    ensures cut { IfErr result (LeavesLines (output W.contents out.old out.new) profile.now (taken rec.old rec.new)) }
-    ensures device { IfOk result (λ status. (has_failed out.new ≡ false) × (status ≡ 0 → rec.new.failed ≡ false)) }
-{
-    let mut page = page;
-    let mut sheet = Sheet::new(out, &mut page);
-    let status = put_trace(alloc, &mut sheet, profile, rec);
-    sheet.finish()?;
-    status
+    write_while_reading(alloc, &Tracing { alloc }, profile, rec, out)
 }
 
 // The lines of the entries that come, and how they end.
-fn put_trace<R: Read, W: Write>(
+#[derive(Drop)]
+struct Tracing {
     alloc: Global,
-    sheet: &mut Sheet<'_, W>,
-    profile: &Profile,
-    rec: &mut EntryReader<R>,
-) -> Result<u8, RunFault>
-    ensures text { SaysText W.contents sheet.old sheet.new (IsPutBy profile.now (taken rec.old rec.new) result) }
-    ensures err { IfErr result (IsLinesFault rec.old.to_come rec.new.failed (sheet_failed sheet.new)) }
-    ensures device { IfOk result (λ status. status ≡ 0 → rec.new.failed ≡ false) }
-{
-    let mut trace = Trace::new(alloc);
-    put_steps(alloc, sheet, profile, rec, &mut trace)
+}
+
+impl Relay for Tracing {
+    ghost says = { Traces };
+
+    ghost stops = { IsCut };
+
+    ghost begins = { AreSomeLines };
+
+    fn put<R: Read, W: Write>(
+        &self,
+        profile: &Profile,
+        rec: &mut EntryReader<R>,
+        sheet: &mut Sheet<'_, W>,
+    ) -> Result<u8, RunFault> {
+        let mut trace = Trace::new(self.alloc);
+        put_steps(self.alloc, sheet, profile, rec, &mut trace)
+    }
 }
 
 // The same by a trace that has no entry yet.
@@ -91,7 +73,7 @@ fn put_steps<R: Read, W: Write>(
     trace: &mut Trace,
 ) -> Result<u8, RunFault>
     requires { IsTrace profile.now trace.old [] }
-    ensures text { SaysText W.contents sheet.old sheet.new (IsPutBy profile.now (taken rec.old rec.new) result) }
+    ensures text { SaysSome W.contents sheet.old sheet.new (by_answer (Traces profile.now (taken rec.old rec.new)) (IsCut profile.now (taken rec.old rec.new)) result) }
     ensures err { IfErr result (IsLinesFault rec.old.to_come rec.new.failed (sheet_failed sheet.new)) }
     ensures device { IfOk result (λ status. status ≡ 0 → rec.new.failed ≡ false) }
 {

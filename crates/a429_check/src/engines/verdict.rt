@@ -14,6 +14,7 @@ ghost use Rattle.a429_check.specs.Verdict.{count_line, file_line, line_of_file, 
 ghost use Rattle.a429_cert.specs.Report.{listening};
 
 use crate::engines::profile::profile_of;
+use crate::engines::text::Text;
 use crate::fault::RunFault;
 use a429_cert::{CertFault, Listener, Shelf, StreamFault, replay_stream};
 use a429_link::FileBytes;
@@ -122,6 +123,20 @@ fn of_recording(fault: ReadFault) -> RunFault
         ReadFault::Device => RunFault::Device,
         ReadFault::OutOfMemory => RunFault::Memory,
         _ => RunFault::Read(fault),
+    }
+}
+
+impl Text for Judged {
+    ghost use Rattle.std.specs.Prelude.{◌≡◌};
+    ghost use Rattle.a429_check.specs.Verdict.{SaysAnswer, text_of_answer};
+
+    ghost says = { λ j. SaysAnswer j.answer };
+
+    ghost begins = { λ j text. text ≡ text_of_answer j.answer };
+
+    fn put<W: Write>(&self, sheet: &mut Sheet<'_, W>) -> u8 {
+        put_answer(sheet, &self.answer);
+        status_of(&self.answer)
     }
 }
 

@@ -1,9 +1,10 @@
 //! `a429 verify PROFILE REC CERT`: whether a certificate explains a recording.
 
-ghost use Rattle.std.specs.Prelude.{false, IfOk, IfErr, OnOk};
+ghost use Rattle.std.specs.Prelude.{false};
 ghost use Rattle.a429_word.specs.Tally.{has_failed};
-ghost use Rattle.a429_check.specs.Output.{output, IsCutShort, PutsText};
-ghost use Rattle.a429_check.specs.Verdict.{input, no_shelf, AllWork, AnyFailed, HasFailed, IsSomeVerdict, IsVerdict, IsVerifyFault};
+ghost use Rattle.a429_check.specs.Ends.{Ends};
+ghost use Rattle.a429_check.specs.Output.{output};
+ghost use Rattle.a429_check.specs.Verdict.{input, no_shelf, of_verdict, HasFailed};
 
 use crate::engines::extract::run_extract;
 use crate::fault::RunFault;
@@ -24,13 +25,8 @@ pub fn run_verify<R: Read, C: Read, W: Write>(
     cert: &mut Tally<C>,
     out: &mut Tally<W>,
 ) -> Result<u8, RunFault>
-    ensures verdict { IfOk result (λ status. PutsText W.contents out.old out.new
-        (IsVerdict (input profile.now C.remaining cert.old rec.old) no_shelf status)) }
-    ensures device { OnOk result (AllWork rec.new.failed (has_failed cert.new) false (has_failed out.new)) }
-    ensures err { IfErr result (IsVerifyFault (input profile.now C.remaining cert.old rec.old) no_shelf
-        (AnyFailed rec.new.failed (has_failed cert.new) false (has_failed out.new))) }
-    ensures cut { IfErr result (IsCutShort (output W.contents out.old out.new) (HasFailed rec.new.failed (has_failed cert.new) false)
-        (IsSomeVerdict (input profile.now C.remaining cert.old rec.old) no_shelf)) }
+    ensures { Ends (output W.contents out.old out.new) (of_verdict (input profile.now C.remaining cert.old rec.old) no_shelf
+        (HasFailed rec.new.failed (has_failed cert.new) false)) result }
 {
     run_extract(alloc, profile, rec, cert, &mut NoShelf, out)
 }

@@ -1,7 +1,8 @@
 use Rattle.std.proofs.Common.{◌≡◌, ◌++◌, List}
 use Rattle.std.specs.Slice.Iter.{chunks_rest, chunks_size}
 use Rattle.a429_record.specs.declared.entry.Entry.{Entry}
-use Rattle.a429_check.specs.Show.{AreShowLines, SaysSome}
+use Rattle.a429_check.specs.Output.{SaysSome}
+use Rattle.a429_check.specs.Show.{AreShowLines}
 use Rattle.a429_check.proofs.engines.show.put_lines.Given as goal
 
 abbrev pub invariant-loop-piece : goal.invariant-loop-piece

@@ -1,5 +1,6 @@
 use Rattle.std.proofs.Common.{take}
-use Rattle.a429_check.specs.Show.{SaysSome, AreShowLines}
+use Rattle.a429_check.specs.Output.{SaysSome}
+use Rattle.a429_check.specs.Show.{AreShowLines}
 use Rattle.a429_check.proofs.engines.show.put_piece.Given as goal
 
 abbrev pub invariant-loop-i : goal.invariant-loop-i
