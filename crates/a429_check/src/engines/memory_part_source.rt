@@ -1,6 +1,7 @@
 //! Parts of a recording whose bytes are in memory.
 
-ghost use Rattle.std.specs.Prelude.{◌≡◌, false};
+ghost use Rattle.std.specs.Prelude.{◌≡◌, Some, false, IfSome};
+ghost use Rattle.a429_check.specs.MemoryPartSource.{part_at, part_of_bytes};
 
 use crate::engines::part_source::{OpenPart, PartSource};
 use a429_record::EntryReader;
@@ -15,7 +16,7 @@ pub struct PartBytes<'a> {
     pub recording: &'a [u8],
 }
 
-/// Parts in memory. Contracts know each of them, so what `run_series` answers of them is no matter of what a device holds.
+/// Parts in memory. Contracts know each of them, and so which answer `run_series` gives.
 #[derive(Debug, Drop)]
 pub struct MemoryPartSource<'a> {
     alloc: Global,
@@ -44,9 +45,11 @@ impl<'a> MemoryPartSource<'a> {
     }
 
     // The part at this place, from 1 on.
-    fn part(&self, place: u64) -> Option<PartBytes<'a>> {
-        let index = usize::try_from(place.checked_sub(1)?).ok()?;
-        self.parts.get(index).copied()
+    fn part(&self, place: u64) -> Option<PartBytes<'a>>
+        ensures { IfSome result (λ part. part_at self.now.parts place ≡ Some (part_of_bytes part)) }
+    {
+        let before = place.checked_sub(1)?;
+        self.parts.get(before as usize).copied()
     }
 }
 
@@ -59,8 +62,6 @@ impl Failing for MemoryPartSource<'_> {
 }
 
 impl<'a> PartSource<&'a [u8], &'a [u8]> for MemoryPartSource<'a> {
-    ghost use Rattle.a429_check.specs.MemoryPartSource.{part_at};
-
     ghost part = { λ s. part_at s.parts };
 
     fn open(&mut self, place: u64) -> Result<OpenPart<&'a [u8], &'a [u8]>, Trouble> {
