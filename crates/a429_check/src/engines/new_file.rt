@@ -62,32 +62,43 @@ impl<'a, F: Files> NewFile<'a, F> {
         }
     }
 
-    // The draft gets its name.
+    // The draft is closed, and gets its name.
     fn keep(self) -> Result<(), Device> {
-        let Some(draft) = self.draft else {
+        let NewFile {
+            rt,
+            path,
+            draft,
+            out,
+        } = self;
+        drop(out);
+        let Some(draft) = draft else {
             return Ok(());
         };
-        if fs::rename(self.rt, draft.as_str(), self.path.as_str()).is_err() {
-            remove(self.rt, draft.as_str());
+        if fs::rename(rt, draft.as_str(), path.as_str()).is_err() {
+            remove(rt, draft.as_str());
             return Err(Device);
         }
         Ok(())
     }
 
-    // The draft is removed.
+    // The draft is closed, and removed.
     fn discard(self) {
-        if let Some(draft) = self.draft {
-            remove(self.rt, draft.as_str());
+        let NewFile {
+            rt,
+            path,
+            draft,
+            out,
+        } = self;
+        drop(out);
+        drop(path);
+        if let Some(draft) = draft {
+            remove(rt, draft.as_str());
         }
     }
 }
 
 // A draft of this name that was not there, opened.
-fn free_draft<F: Files>(
-    rt: &F,
-    alloc: Global,
-    path: &str,
-) -> Result<(String, F::File), Trouble> {
+fn free_draft<F: Files>(rt: &F, alloc: Global, path: &str) -> Result<(String, F::File), Trouble> {
     'drafts: for number in 1..=MOST_DRAFTS {
         let Ok(draft) = format!(in alloc; "{path}.new{number}") else {
             return Err(Trouble::OutOfMemory);

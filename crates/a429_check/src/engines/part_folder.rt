@@ -45,7 +45,15 @@ impl<'a, F: Files> PartFolder<'a, F> {
 
     /// The end of the command: where all has gone well the list gets its name, else there is none.
     pub fn settle(self, status: Result<u8, RunFault>) -> Result<u8, RunFault> {
-        match self.list {
+        let PartFolder {
+            rt: _,
+            alloc: _,
+            dir,
+            list,
+            is_failed: _,
+        } = self;
+        drop(dir);
+        match list {
             Some(list) => list.settle(status),
             None => status,
         }
