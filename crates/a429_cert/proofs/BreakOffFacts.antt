@@ -17,7 +17,8 @@ use Rattle.a429_cert.specs.declared.stream.Replay.{Replay}
 use Rattle.a429_cert.specs.declared.stream_fault.StreamFault.{StreamFault}
 use Rattle.a429_cert.specs.declared.stream_fault.StreamFault.TheVariants as stream
 use Rattle.a429_cert.specs.Lines.{certificate_lines}
-use Rattle.a429_cert.specs.CutLines.{GivesLine, HasNoLineFeed, HasRead, HasReadTo}
+use Rattle.a429_cert.specs.CutLines.{GivesLine, HasRead, HasReadTo}
+use Rattle.a429_record.specs.Ends.{HasNoEnd}
 use Rattle.a429_cert.specs.Explained.{step_of}
 use Rattle.a429_cert.specs.Fault.{IsFaultOfHead}
 use Rattle.a429_cert.specs.Version.{read_as, step_lines}
@@ -89,7 +90,7 @@ reads_none text k ahead old left few keeps h = record {
 -- ---- where a replay is
 
 module _ (p : Contents) (d : Head) (k i : ℕ) (taken : List FileBytes) (s : State) (old : Option (List ℕ)) (rec : Option Recording) (read : Readers) (text : List ℕ) (r : Recording) where
-  between : (ahead : List ℕ) → s.sink.received.files ≡ [] → HasNoLineFeed ahead → Keeps old (prepend_known ahead read.left) → read.given ≡ i → Stands p text r d k i taken s old rec → IsBetweenLines p text r read taken
+  between : (ahead : List ℕ) → s.sink.received.files ≡ [] → HasNoEnd ahead → Keeps old (prepend_known ahead read.left) → read.given ≡ i → Stands p text r d k i taken s old rec → IsBetweenLines p text r read taken
   between ahead none cut keeps given h = record {
     k = k;
     state = with_earlier taken s;
@@ -190,7 +191,7 @@ module _ (p : Contents) (d : Head) (k i : ℕ) (taken : List FileBytes) (s : Sta
   IsPlaceOf files f = IsPlace (halted p (reads known left failed first new) shelf listener files) f
 
   -- the certificate's reader has failed between lines
-  pub between_breaks : s.sink.received.files ≡ [] → HasNoLineFeed ahead → Keeps old (prepend_known ahead left) → rec.count ≡ first.count + i → new.count ≡ rec.count → failed ≡ true
+  pub between_breaks : s.sink.received.files ≡ [] → HasNoEnd ahead → Keeps old (prepend_known ahead left) → rec.count ≡ first.count + i → new.count ≡ rec.count → failed ≡ true
       → WhereBothKnown known first.to_come IsThere → WhereBothKnown known first.to_come (IsPlaceOf taken stream.Device)
   between_breaks none cut keeps counted same device =
       both_known_map known first.to_come IsThere (IsPlaceOf taken stream.Device)

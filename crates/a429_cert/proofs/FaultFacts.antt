@@ -78,11 +78,11 @@ no_memory p s None n i None d = d
 later : (p : Contents) (certificate : List ℕ) (items : List Seen) (f : CertFault) → IsVersioned certificate → IsLaterFault p certificate items f → IsFirstCertFault p certificate items f
 later p certificate items of.Version v h = absurd (no_version p h.state (slice_get items h.i) (h.k + 3) h.i (slice_get (step_lines h.head.version certificate) h.k) h.fault)
 later p certificate items of.OutOfMemory v h = no_memory p h.state (slice_get items h.i) (h.k + 3) h.i (slice_get (step_lines h.head.version certificate) h.k) h.fault
-later p certificate items (of.Line n) v h = (v, inr h)
-later p certificate items (of.NotAllowed n) v h = (v, inr h)
-later p certificate items (of.StateDiffers n) v h = (v, inr h)
-later p certificate items (of.WordDiffers n i) v h = (v, inr h)
-later p certificate items (of.Unfinished i) v h = (v, inr h)
+later p certificate items (of.Line n) v h = inr (v, h)
+later p certificate items (of.NotAllowed n) v h = inr (v, h)
+later p certificate items (of.StateDiffers n) v h = inr (v, h)
+later p certificate items (of.WordDiffers n i) v h = inr (v, h)
+later p certificate items (of.Unfinished i) v h = inr (v, h)
 
 -- the fault of the next line
 pub faulty : (p : Contents) (certificate : List ℕ) (items : List Seen) (d : Head) (k i : ℕ) (line : Option (List ℕ)) (s : State) (f : CertFault)

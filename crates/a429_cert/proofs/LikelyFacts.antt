@@ -1,5 +1,5 @@
 -- Lines that are written before they are needed.
-use Rattle.std.proofs.Common.{◌≡◌, ◌≢◌, ◌∙◌, ◌<◌, ◌≤◌, ◌+◌, ◌-◌, ◌==◌, ℕ, zero, suc, List, [], ◌∷◌, ◌++◌, length, get_or, take, drop, Bool, true, false, not, nat_lt, if◌then◌else◌, Option, Some, None, refl, sym, ap, subst, arith, add-one}
+use Rattle.std.proofs.Common.{◌≡◌, ◌≢◌, ◌∙◌, ◌<◌, ◌≤◌, ◌+◌, ◌-◌, ◌==◌, ℕ, zero, suc, List, [], ◌∷◌, ◌++◌, length, get_or, take, drop, Bool, true, false, not, nat_lt, if◌then◌else◌, Option, Some, None, refl, sym, ap, subst, arith}
 use Rattle.std.specs.List.{AllByRecursion, starts_with}
 use Rattle.std.proofs.Math.Seq.{take-append_seam}
 use Rattle.std.proofs.lemmas.Bool.Decides.{Decides-eqb, nat_tests}
@@ -117,9 +117,6 @@ other_ways s sink m n text is to_sink to_source held few some e = record {
 }
 
 -- ---- the table
-
-pub one_more : {A : Type 0} (f : ℕ → A) (old new : List A) (n : ℕ) (text : A) → old ≡ values_below f n → new ≡ old ++ text ∷ [] → text ≡ f n → new ≡ values_below f (n + 1)
-one_more f old new n text e g h = rw (add-one, g, e, h) refl
 
 length-below : {A : Type 0} (f : ℕ → A) (n : ℕ) → length (values_below f n) ≡ n
 length-below f zero = refl

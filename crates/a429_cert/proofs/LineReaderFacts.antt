@@ -7,8 +7,9 @@ use Rattle.a429_word.proofs.TallySlices.{take-put_mid_within}
 use Rattle.std.specs.Io.KnownBytes.{Consumes, Keeps, IsAtEnd, prepend_known}
 use Rattle.memchr.specs.Find.{is_byte, IsFirstByte}
 use Rattle.a429_cert.specs.Lines.{certificate_lines, begun_with}
-use Rattle.a429_cert.specs.CutLines.{BeginsWith, HasNoLineFeed, GivesLine, IsFirstLine, IsLeftAfter, cut}
-use Rattle.a429_cert.proofs.LinesFacts.{first_line, no_line, not_true}
+use Rattle.a429_cert.specs.CutLines.{BeginsWith, GivesLine, IsFirstLine, IsLeftAfter, cut}
+use Rattle.a429_record.specs.Ends.{HasNoEnd}
+use Rattle.a429_cert.proofs.LinesFacts.{first_line, no_line}
 use Rattle.a429_cert.proofs.Options.{some_is}
 
 -- ---- places in the buffer
@@ -129,13 +130,13 @@ begun_one b [] = record { line = None; first = refl; long = tt }
 begun_one b (None ∷ lines) = record { line = None; first = refl; long = tt }
 begun_one b (Some text ∷ lines) = record { line = Some (b ∷ text); first = refl; long = omega arith }
 
-opens : (b : ℕ) (bs z : List ℕ) → HasNoLineFeed (b ∷ bs) → Opens (suc (length bs)) (certificate_lines ((b ∷ bs) ++ z))
+opens : (b : ℕ) (bs z : List ℕ) → HasNoEnd (b ∷ bs) → Opens (suc (length bs)) (certificate_lines ((b ∷ bs) ++ z))
 opens b [] z h =
-    let other : (b == 10) ≡ false = not_true (b == 10) (h 0 (omega arith) (omega arith)) in
+    let other : (b == 10) ≡ false = h.0 in
     rw other (begun_one b (certificate_lines z))
 opens b (c ∷ cs) z h =
-    let other : (b == 10) ≡ false = not_true (b == 10) (h 0 (omega arith) (omega arith)) in
-    rw other (begun_first b (suc (length cs)) (certificate_lines ((c ∷ cs) ++ z)) (opens c cs z (λ k least below. h (suc k) (omega arith) (omega arith))))
+    let other : (b == 10) ≡ false = h.0 in
+    rw other (begun_first b (suc (length cs)) (certificate_lines ((c ∷ cs) ++ z)) (opens c cs z h.1))
 
 cut_long : (n : ℕ) (line : Option (List ℕ)) → 2288 ≤ n → IsAsLong n line → cut line ≡ None
 cut_long n None h long = refl
@@ -147,7 +148,7 @@ cut_first : (lines : List (Option (List ℕ))) (n : ℕ) → 2288 ≤ n → Open
 cut_first lines n h o = rw o.first (ap Some (cut_long n o.line h o.long))
 
 -- what was read has no line feed, and no more is read
-open_first : (b : ℕ) (bs z : List ℕ) → HasNoLineFeed (b ∷ bs) → (2288 ≤ length (b ∷ bs)) ⊎ (z ≡ []) → option_map cut (slice_get (certificate_lines ((b ∷ bs) ++ z)) 0) ≡ Some None
+open_first : (b : ℕ) (bs z : List ℕ) → HasNoEnd (b ∷ bs) → (2288 ≤ length (b ∷ bs)) ⊎ (z ≡ []) → option_map cut (slice_get (certificate_lines ((b ∷ bs) ++ z)) 0) ≡ Some None
 open_first b bs z h (inl long) = cut_first (certificate_lines ((b ∷ bs) ++ z)) (suc (length bs)) long (opens b bs z h)
 open_first b bs z h (inr none) = rw (none, append-nil bs) (by (no_line (b ∷ bs) h))
   where
@@ -155,17 +156,17 @@ open_first b bs z h (inr none) = rw (none, append-nil bs) (by (no_line (b ∷ bs
     by (inl e) = absurd (cc e)
     by (inr e) = rw e refl
 
-open_of : (ahead z x : List ℕ) → ahead ++ z ≡ x → HasNoLineFeed ahead → (2288 ≤ length ahead) ⊎ (z ≡ []) → IsFirstLine (not (length ahead == 0)) x (ahead ++ z) None
+open_of : (ahead z x : List ℕ) → ahead ++ z ≡ x → HasNoEnd ahead → (2288 ≤ length ahead) ⊎ (z ≡ []) → IsFirstLine (not (length ahead == 0)) x (ahead ++ z) None
 open_of [] z x e h (inl long) = absurd (omega (arith, long))
 open_of [] z x e h (inr none) = let all : x ≡ [] = sym e ∙ none in ap certificate_lines all
 open_of (b ∷ bs) z x e h end =
     let some : (length (b ∷ bs) == 0) ≡ false = grind (arith, nat_tests) in
     rw some (subst (λ (l : List ℕ). option_map cut (slice_get (certificate_lines l) 0) ≡ Some None) e (open_first b bs z h end), e)
 
-pub open_given : (a b k : Option (List ℕ)) (before ahead : List ℕ) (line : Option (List ℕ)) → Keeps a b → Keeps b (prepend_known ahead k) → ahead ≡ before → HasNoLineFeed before → line ≡ None
+pub open_given : (a b k : Option (List ℕ)) (before ahead : List ℕ) (line : Option (List ℕ)) → Keeps a b → Keeps b (prepend_known ahead k) → ahead ≡ before → HasNoEnd before → line ≡ None
     → (2288 ≤ length ahead) ⊎ IsAtEnd k → GivesLine a (prepend_known ahead k) line (not (length ahead == 0))
 open_given None b k before ahead line h g e free none end = tt
 open_given (Some x) None k before ahead line h g e free none end = absurd h
 open_given (Some x) (Some y) None before ahead line h g e free none end = absurd g
 open_given (Some x) (Some y) (Some z) before ahead line h g e free none end =
-    rw none (open_of ahead z x (g ∙ h) (subst HasNoLineFeed (sym e) free) end)
+    rw none (open_of ahead z x (g ∙ h) (subst HasNoEnd (sym e) free) end)

@@ -1,7 +1,9 @@
 -- The lines of a text, one after the other.
-use Rattle.std.proofs.Common.{◌≡◌, ◌⊎◌, inl, inr, ℕ, zero, suc, ◌+◌, ◌≤◌, ◌<◌, ◌==◌, List, [], ◌∷◌, ◌++◌, append-nil, length, take, drop, Bool, true, false, Option, Some, None, slice_get, refl, sym, ap, ◌∙◌, subst, arith}
+use Rattle.std.proofs.Common.{◌≡◌, ◌⊎◌, inl, inr, ℕ, zero, suc, ◌+◌, ◌≤◌, ◌<◌, ◌==◌, List, [], ◌∷◌, ◌++◌, append-nil, length, take, drop, Bool, true, false, Option, Some, None, IfNone, slice_get, refl, sym, ap, ◌∙◌, subst, arith}
 use Rattle.std.proofs.lemmas.List.{drop-drop, length-drop}
 use Rattle.memchr.specs.Find.{is_byte, Passes, IsFirstByte}
+use Rattle.a429_record.specs.Ends.{HasNoEnd}
+use Rattle.a429_record.proofs.LinesFacts.{no_end}
 use Rattle.a429_cert.specs.Lines.{certificate_lines}
 
 -- ---- where a line ends
@@ -24,9 +26,9 @@ longer b bs other (inl none) = rw (other, none) refl
 longer b bs other (inr line) = rw (other, line) refl
 
 -- a text without a line feed
-pub no_line : (bs : List ℕ) → ((k : ℕ) → 0 ≤ k → k < length bs → Passes (is_byte 10) bs k → ⊥) → (bs ≡ []) ⊎ (certificate_lines bs ≡ None ∷ [])
-no_line [] before = inl refl
-no_line (b ∷ bs) before = inr (longer b bs (not_true (b == 10) (before 0 (omega arith) (omega arith))) (no_line bs (λ k least below. before (suc k) (omega arith) (omega arith))))
+pub no_line : (bs : List ℕ) → HasNoEnd bs → (bs ≡ []) ⊎ (certificate_lines bs ≡ None ∷ [])
+no_line [] h = inl refl
+no_line (b ∷ bs) h = inr (longer b bs h.0 (no_line bs h.1))
 
 -- ---- the line that ends there
 
@@ -40,8 +42,12 @@ ends_at bs r n h e =
     let found = subst (IsFirstByte (is_byte 10) bs) e h in
     record { inside = found.0.high; lines = ap certificate_lines (sym (append-nil bs)) ∙ first_line bs [] n found.0.high found.0.before found.1 ∙ ap (λ (l : List ℕ). Some (take n bs) ∷ certificate_lines l) (append-nil (drop (suc n) bs)) }
 
+-- no line ends there
+pub not_ended : (bs : List ℕ) (r : Option ℕ) → IsFirstByte (is_byte 10) bs r → r ≡ None → HasNoEnd bs
+not_ended bs r h e = subst (λ (o : Option ℕ). IfNone o (HasNoEnd bs)) e (no_end bs r h)
+
 pub unended : (bs : List ℕ) (r : Option ℕ) (empty : Bool) → IsFirstByte (is_byte 10) bs r → r ≡ None → empty ≡ (length bs == 0) → empty ≡ false → certificate_lines bs ≡ None ∷ []
-unended bs r empty h e is not = only (no_line bs (subst (IsFirstByte (is_byte 10) bs) e h))
+unended bs r empty h e is not = only (no_line bs (not_ended bs r h e))
   where
     only : (bs ≡ []) ⊎ (certificate_lines bs ≡ None ∷ []) → certificate_lines bs ≡ None ∷ []
     only (inl none) = let all : (length bs == 0) ≡ true = rw none refl in absurd (cc (all, is, not))

@@ -20,7 +20,7 @@ use Rattle.a429_cert.specs.Lines.{certificate_lines}
 use Rattle.a429_cert.specs.Version.{version_line, read_as, step_lines}
 use Rattle.a429_cert.specs.Explained.{listed_ldu, step_of, ShowsStates, ListsStep, ListsSteps, Explains}
 use Rattle.a429_cert.specs.Act.{step_with}
-use Rattle.a429_cert.specs.Fault.{at_line, IsVersioned, HasFirst, IsOfAStep, IsFaultOfStep, IsFaultOfLine, IsFaultAt, IsLaterFault, IsFirstCertFault}
+use Rattle.a429_cert.specs.Fault.{at_line, IsVersioned, IsFaultOfHead, IsOfAStep, IsFaultOfStep, IsFaultOfLine, IsFaultAt, IsLaterFault, IsFirstCertFault}
 use Rattle.a429_cert.proofs.ReadingFacts.{one-line}
 use Rattle.a429_cert.proofs.Options.{some_is}
 
@@ -193,16 +193,18 @@ later_fault p certificate items first steps f h k =
     subst (λ (l : List Seen). IsFaultAt p (end_of p before.steps (start p first)) (at_line (k.k + 3) k.i (slice_get l k.i)) (slice_get read k.k) f) (sym h.used) (subst (λ (l : List (Option (List ℕ))). IsFaultAt p (end_of p before.steps (start p first)) (at_line (k.k + 3) k.i (slice_get items k.i)) (slice_get l k.k) f) lines (subst (λ t. IsFaultAt p t (at_line (k.k + 3) k.i (slice_get items k.i)) (slice_get (step_lines k.head.version certificate) k.k) f) ends k.fault)) in
     clash p read steps before.steps (start p first) k.k k.i (k.k + 3) k.i f h.lists lists (before.used ∙ ap (take k.i) (sym h.used)) fault
 
+no_head : (p : Contents) (certificate : List ℕ) (items : List Seen) (first : ℕ) (steps : List Step) (f : CertFault) → Explains p certificate items first steps → IsFaultOfHead certificate f → ⊥
+no_head p certificate items first steps of.Version h d = d (h.version, ap (λ (l : List (Option (List ℕ))). slice_get l 0) h.header)
+no_head p certificate items first steps (of.Line n) h d = d.2 first (h.byte, ap (λ (l : List (Option (List ℕ))). slice_get l 1) h.header)
+no_head p certificate items first steps _ h d = d
+
 no_other : (p : Contents) (certificate : List ℕ) (items : List Seen) (first : ℕ) (steps : List Step) (f : CertFault) → Explains p certificate items first steps
-    → IsVersioned certificate × ((((n : ℕ) → ¬ HasFirst certificate n) × (f ≡ of.Line 2)) ⊎ IsLaterFault p certificate items f) → ⊥
-no_other p certificate items first steps f h d = either d.1
-  where
-    either : (((n : ℕ) → ¬ HasFirst certificate n) × (f ≡ of.Line 2)) ⊎ IsLaterFault p certificate items f → ⊥
-    either (inl k) = k.0 first (h.byte, ap (λ (l : List (Option (List ℕ))). slice_get l 1) h.header)
-    either (inr k) = later_fault p certificate items first steps f h k
+    → IsFaultOfHead certificate f ⊎ (IsVersioned certificate × IsLaterFault p certificate items f) → ⊥
+no_other p certificate items first steps f h (inl d) = no_head p certificate items first steps f h d
+no_other p certificate items first steps f h (inr d) = later_fault p certificate items first steps f h d.1
 
 pub no_fault : (p : Contents) (certificate : List ℕ) (items : List Seen) (first : ℕ) (steps : List Step) (f : CertFault) → Explains p certificate items first steps → IsFirstCertFault p certificate items f → ⊥
-no_fault p certificate items first steps of.Version h d = d (h.version, ap (λ (l : List (Option (List ℕ))). slice_get l 0) h.header)
+no_fault p certificate items first steps of.Version h d = no_head p certificate items first steps of.Version h d
 no_fault p certificate items first steps of.OutOfMemory h d = d
 no_fault p certificate items first steps (of.Line n) h d = no_other p certificate items first steps (of.Line n) h d
 no_fault p certificate items first steps (of.NotAllowed n) h d = no_other p certificate items first steps (of.NotAllowed n) h d

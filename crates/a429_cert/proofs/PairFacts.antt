@@ -1,5 +1,5 @@
 -- A data word that is sent, and taken at once: its two lines, and what they lead to.
-use Rattle.std.proofs.Common.{◌≡◌, ◌≢◌, ◌∙◌, ◌≤◌, ◌<◌, ◌+◌, ℕ, suc, List, [], ◌∷◌, ◌++◌, append-nil, append_assoc, length, drop, true, Option, Some, None, option_map, slice_get, ◌⊎◌, inr, refl, sym, ap, subst, arith}
+use Rattle.std.proofs.Common.{◌≡◌, ◌≢◌, ◌∙◌, ◌≤◌, ◌<◌, ◌+◌, ℕ, suc, List, [], ◌∷◌, ◌++◌, append-nil, append_assoc, length, drop, true, Option, Some, None, option_map, slice_get, ◌⊎◌, inr, refl, sym, ap, subst, arith, IfSome}
 use Rattle.std.specs.Io.KnownBytes.{prepend_known}
 use Rattle.std.proofs.lemmas.Bool.{ne_eqb}
 use Rattle.std.proofs.lemmas.List.{length-append}
@@ -41,14 +41,18 @@ use Rattle.a429_cert.specs.Line.{SpellsLine}
 use Rattle.a429_cert.specs.Lines.{certificate_lines}
 use Rattle.a429_cert.specs.Fault.{CanBe, SaysLine, at_line}
 use Rattle.a429_cert.specs.Passing.{IsFaultOfRead, IsStepOfLine, Lists, PassesText}
-use Rattle.a429_cert.specs.Pair.{HearsBoth, IsEntry, replay_sent, replay_taken}
+use Rattle.a429_cert.specs.Pair.{HearsBoth, IsEntry, replay_taken}
 use Rattle.a429_cert.specs.Stream.{next_of, of_read, of_trouble, GainsAll, GivesAtFault, IsFaultNext, PassesOver, RefusesOver, TakesNext, WantsEntry, sizes}
 use Rattle.a429_cert.specs.StreamNext.{progress, TakesSome}
-use Rattle.a429_cert.specs.Report.{Hearing, WhereKnown, listening, position}
+use Rattle.a429_cert.specs.Report.{Hearing, listening, position}
 use Rattle.a429_cert.specs.Version.{read_as}
 use Rattle.a429_cert.proofs.CutFacts.{says-uncut}
 use Rattle.a429_cert.proofs.LikelyFacts.{line_first, sent_read, sent_spells, taken_read, taken_spells}
 use Rattle.a429_cert.proofs.StreamFacts.{gains_none, line_given, refused_next, refused_text}
+
+-- a replay after the first of the two lines
+abbrev pub replay_sent : ℕ → Replay → Replay
+replay_sent word replay = record replay { link = record (replay.link) { state = after_sent replay.profile.now word replay.link.state }; lines = replay.lines + 1; used = replay.used + 1 }
 
 -- ---- the two lines are handed out, one after the other
 
@@ -199,7 +203,7 @@ handed_same s e = ap filed e
     filed : List FileBytes → State
     filed l = record s { sink = record (s.sink) { received = record (s.sink.received) { files = l } } }
 
-always : (rec : Option Recording) (X : Type 0) → X → WhereKnown rec (λ r. X)
+always : (rec : Option Recording) (X : Type 0) → X → IfSome rec (λ r. X)
 always None X x = tt
 always (Some r) X x = x
 

@@ -39,7 +39,7 @@ use Rattle.a429_cert.specs.declared.stream_fault.StreamFault.TheVariants as stre
 use Rattle.a429_cert.specs.declared.stream.Replay.{Replay}
 use Rattle.a429_cert.specs.Stream.{left_after, next_of, PassesOver, TakesNext, RefusesNext, EndsNext, IsNotTaken, of_cert}
 use Rattle.a429_cert.specs.StreamExplained.{WhereBothKnown}
-use Rattle.a429_cert.specs.Report.{listening, position, Report, Loads, Makes, with_number, report_of, reports_of_steps, reports_of_run, Hearing, IsHeard, report_of_listed, entry_used, IsNextEntry, HearsListed, HearsText}
+use Rattle.a429_cert.specs.Report.{listening, position, Report, Loads, Makes, with_number, report_of, reports_of_steps, reports_of_run, Hearing, IsHeard, report_of_listed, entry_used, HearsListed, HearsText}
 use Rattle.a429_cert.proofs.Options.{some_is}
 use Rattle.a429_cert.proofs.ReadingFacts.{one-line}
 use Rattle.a429_cert.proofs.StreamFacts.{refused_next}
@@ -214,12 +214,6 @@ hears_all hears p d k i taken s held known left more start_rec rec new_rec old n
     (IsHeard (listening hears old now) p) (λ text r h b. hears_end hears p d k i taken s held left more rec new_rec old now text r g e h b)
 
 -- ---- a line that was read
-
--- what is told of what it lists, with the entry that was read
-pub hears_listed : {T : Type 0} (hears : Hearing T) (p : Contents) (x : Listed) (s : State) (rec : Option Recording) (next : Option Entry) (i : ℕ) (old new : T)
-    → IsNextEntry (uses_listed x) rec next → hears p old (report_of_listed s.source.number x (with_number i next)) new → HearsListed (listening hears old new) p x (position s rec i)
-hears_listed hears p x s None next i old new e h = tt
-hears_listed hears p x s (Some r) next i old new e h = subst (λ (o : Option Entry). hears p old (report_of_listed s.source.number x (with_number i o)) new) e h
 
 -- what is told of what a line of the text lists
 pub hears_text : {T : Type 0} (hears : Hearing T) (p : Contents) (text : Option (List ℕ)) (x : Listed) (s : State) (rec : Option Recording) (i : ℕ) (old new : T)

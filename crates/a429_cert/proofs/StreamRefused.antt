@@ -65,11 +65,11 @@ later p d k i taken s left rec text r f h g = record { head = d; says = h.says; 
 -- it is the certificate's first
 is_first : (p : Contents) (text : List ℕ) (items : List Seen) (f : CertFault) → f ≢ of.Version → f ≢ of.OutOfMemory → IsVersioned text → IsLaterFault p text items f → IsFirstCertFault p text items f
 is_first p text items of.Version a b v h = absurd (a refl)
-is_first p text items (of.Line m) a b v h = (v, inr h)
-is_first p text items (of.NotAllowed m) a b v h = (v, inr h)
-is_first p text items (of.StateDiffers m) a b v h = (v, inr h)
-is_first p text items (of.WordDiffers m j) a b v h = (v, inr h)
-is_first p text items (of.Unfinished j) a b v h = (v, inr h)
+is_first p text items (of.Line m) a b v h = inr (v, h)
+is_first p text items (of.NotAllowed m) a b v h = inr (v, h)
+is_first p text items (of.StateDiffers m) a b v h = inr (v, h)
+is_first p text items (of.WordDiffers m j) a b v h = inr (v, h)
+is_first p text items (of.Unfinished j) a b v h = inr (v, h)
 is_first p text items of.OutOfMemory a b v h = absurd (b refl)
 
 cert_fault : (p : Contents) (d : Head) (k i : ℕ) (taken : List FileBytes) (s : State) (left : Option (List ℕ)) (rec : Option Recording) (text : List ℕ) (r : Recording) (f : CertFault)
@@ -206,7 +206,7 @@ no_more p files text r (stream.Read f) (inr e) h = absurd (cc e)
 
 of_head : (p : Contents) (text : List ℕ) (r : Recording) (f : CertFault) → IsFaultOfHead text f → IsStreamFault p (stream.Cert f) [] text r
 of_head p text r of.Version h = (h, tt, inl (h, refl))
-of_head p text r (of.Line n) h = ((h.1, inl (h.2, ap (λ (m : ℕ). of.Line m) h.0)), tt, inl (h, refl))
+of_head p text r (of.Line n) h = (inl h, tt, inl (h, refl))
 of_head p text r (of.NotAllowed n) h = absurd h
 of_head p text r (of.StateDiffers n) h = absurd h
 of_head p text r (of.WordDiffers n i) h = absurd h

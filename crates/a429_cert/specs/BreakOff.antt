@@ -12,7 +12,8 @@ use Rattle.a429_cert.specs.declared.shelf.PutFile.{PutFile}
 use Rattle.a429_cert.specs.declared.stream_fault.StreamFault.{StreamFault}
 use Rattle.a429_cert.specs.declared.stream_fault.StreamFault.TheVariants as stream
 use Rattle.a429_cert.specs.Version.{step_lines}
-use Rattle.a429_cert.specs.CutLines.{HasNoLineFeed, HasRead, HasReadTo}
+use Rattle.a429_cert.specs.CutLines.{HasRead, HasReadTo}
+use Rattle.a429_record.specs.Ends.{HasNoEnd}
 use Rattle.a429_cert.specs.Stream.{GainsAll}
 use Rattle.a429_cert.specs.StreamExplained.{WhereBothKnown, WantsNext, Delivers, IsWantedReadFault, reached}
 
@@ -70,7 +71,7 @@ pub record IsBetweenLines (p : Contents) (text : List ℕ) (r : Recording) (read
   pub state : State
   pub before : Delivers p text r (reached k read.given state) files
   pub part : List ℕ
-  pub cut : HasNoLineFeed part
+  pub cut : HasNoEnd part
   pub lines : HasRead text read.left (k + 2) part
 
 -- at the line after the first two and k more, or after the last: these k lines deliver the files that are put; the entry that the line wants was handed out or not

@@ -1,11 +1,6 @@
 -- The lines of a certificate that is read as a stream (profile).
 use Rattle.std.specs.Prelude.{◌≡◌, ◌≤◌, ℕ, List, [], ◌∷◌, ◌++◌, length, drop, Bool, true, false, nat_le, if◌then◌else◌, Option, Some, None, option_and_then, option_map, slice_get, ⊤}
-use Rattle.memchr.specs.Find.{Nowhere, Passes, is_byte}
 use Rattle.a429_cert.specs.Lines.{certificate_lines}
-
--- no byte of the text is a line feed
-abbrev pub HasNoLineFeed : List ℕ → Type 0
-HasNoLineFeed text = Nowhere (Passes (is_byte 10) text) 0 (length text)
 
 -- bytes begin with this line and its line feed, and these come after it, whatever follows both
 abbrev pub BeginsWith : List ℕ → Option (List ℕ) → List ℕ → Type 0

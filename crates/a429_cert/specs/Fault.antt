@@ -121,9 +121,9 @@ pub record IsLaterFault (p : Contents) (certificate : List ℕ) (items : List Se
 
 -- the first fault in the order of the lines
 abbrev pub IsFirstCertFault : Contents → List ℕ → List Seen → CertFault → Type 0
-IsFirstCertFault p certificate items of.Version = ¬ IsVersioned certificate
+IsFirstCertFault p certificate items of.Version = IsFaultOfHead certificate of.Version
 IsFirstCertFault p certificate items OutOfMemory = ⊥
-IsFirstCertFault p certificate items f = IsVersioned certificate × ((((first : ℕ) → ¬ HasFirst certificate first) × (f ≡ Line 2)) ⊎ IsLaterFault p certificate items f)
+IsFirstCertFault p certificate items f = IsFaultOfHead certificate f ⊎ (IsVersioned certificate × IsLaterFault p certificate items f)
 
 -- what holds of a fault, where it is not out of memory
 abbrev pub UnlessMemory : (CertFault → Type 0) → CertFault → Type 0

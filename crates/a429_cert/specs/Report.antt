@@ -1,5 +1,5 @@
 -- What is reported to a listener of the steps of a certificate (profile).
-use Rattle.std.specs.Prelude.{◌≡◌, ◌+◌, ℕ, zero, suc, List, [], ◌∷◌, length, Option, Some, None, option_map, slice_get, ⊤}
+use Rattle.std.specs.Prelude.{◌≡◌, ◌+◌, ℕ, zero, suc, List, [], ◌∷◌, length, Option, Some, None, option_map, slice_get, ⊤, IfSome}
 use Rattle.std.specs.List.{FoldsTo}
 use Rattle.a429_profile.specs.Profile.{Contents}
 use Rattle.a429_ldu.specs.Ldu.{LduValue}
@@ -107,14 +107,9 @@ pub record Position : Type 0 where
 abbrev pub position : State → Option Recording → ℕ → Position
 position s rec i = record { state = s; recording = rec; entry = i }
 
--- what holds of the recording, where it is known
-abbrev pub WhereKnown : Option Recording → (Recording → Type 0) → Type 0
-WhereKnown None Holds = ⊤
-WhereKnown (Some r) Holds = Holds r
-
 -- what a line lists is reported to a listener, with the entry that comes next, if it uses one
 abbrev pub HearsListed : {T : Type 0} → Listening T → Contents → Listed → Position → Type 0
-HearsListed l p x at = WhereKnown at.recording (λ r. l.hears p l.old (report_of_listed at.state.source.number x (with_number at.entry (entry_used (uses_listed x) r.entries))) l.new)
+HearsListed l p x at = IfSome at.recording (λ r. l.hears p l.old (report_of_listed at.state.source.number x (with_number at.entry (entry_used (uses_listed x) r.entries))) l.new)
 
 -- of what a line of the text lists
 abbrev pub HearsText : {T : Type 0} → Listening T → Contents → Option (List ℕ) → Position → Type 0

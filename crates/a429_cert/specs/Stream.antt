@@ -1,5 +1,5 @@
 -- A certificate held against a recording, both read as a stream (profile).
-use Rattle.std.specs.Prelude.{◌≡◌, ◌≢◌, ◌⊎◌, Bool, true, ◌+◌, ℕ, zero, suc, List, [], ◌∷◌, ◌++◌, length, drop, map, Option, Some, None, slice_get, ⊤}
+use Rattle.std.specs.Prelude.{◌≡◌, ◌≢◌, ◌⊎◌, Bool, true, ◌+◌, ℕ, zero, suc, List, [], ◌∷◌, ◌++◌, length, drop, map, Option, Some, None, slice_get, ⊤, IfSome}
 use Rattle.a429_profile.specs.Profile.{Contents}
 use Rattle.a429_link.specs.declared.seen.Seen.{Seen}
 use Rattle.a429_link.specs.State.{State}
@@ -26,7 +26,7 @@ use Rattle.a429_cert.specs.Explained.{items_of}
 use Rattle.a429_cert.specs.Version.{read_as}
 use Rattle.a429_cert.specs.Fault.{SaysLine, IsNamed, IsFaultOfLine, at_line}
 use Rattle.a429_cert.specs.Change.{Change, change}
-use Rattle.a429_cert.specs.Report.{Listening, Position, position, WhereKnown, HearsListed, HearsText, report_of_listed, with_number}
+use Rattle.a429_cert.specs.Report.{Listening, Position, position, HearsListed, HearsText, report_of_listed, with_number}
 use Rattle.a429_cert.specs.Passing.{uses, uses_listed, PassesListed, RefusesListed, PassesText}
 
 -- ---- a recording that is read as a stream
@@ -85,7 +85,7 @@ HasEnd r _ = ⊤
 
 -- what a line lists passes over the recording, and uses so many entries
 abbrev pub PassesNext : Contents → Listed → Change State → Change (Option Recording) → ℕ → Type 0
-PassesNext p x state rec used = WhereKnown rec.old (λ r. PassesListed p x (next_of r) state used × (rec.new ≡ Some (left_after used r)))
+PassesNext p x state rec used = IfSome rec.old (λ r. PassesListed p x (next_of r) state used × (rec.new ≡ Some (left_after used r)))
 
 -- line n at this position of the recording
 abbrev pub line_at : Position → ℕ → Recording → At
@@ -100,7 +100,7 @@ ByFault OfCert OfRead stream.OutOfMemory = ⊤
 
 -- why what line n lists is refused: a fault of the recording comes where its entry is wanted
 abbrev pub RefusesNext : Contents → Listed → Position → ℕ → StreamFault → Type 0
-RefusesNext p x at n f = WhereKnown at.recording (λ r. ByFault
+RefusesNext p x at n f = IfSome at.recording (λ r. ByFault
     (λ g. RefusesListed p x (line_at at n r) at.state g × HasEnd r g × (g ≢ of.OutOfMemory))
     (λ g. (uses_listed x ≡ 1) × Stops g r × (g ≢ read.OutOfMemory)) f)
 
@@ -113,7 +113,7 @@ IsUnreported old new stream.OutOfMemory = ⊤
 
 -- a line of the text passes over the recording, and uses so many entries
 abbrev pub PassesOver : Contents → Option (List ℕ) → Change State → Change (Option Recording) → ℕ → Type 0
-PassesOver p text state rec used = WhereKnown rec.old (λ r. PassesText p text (next_of r) state used × (rec.new ≡ Some (left_after used r)))
+PassesOver p text state rec used = IfSome rec.old (λ r. PassesText p text (next_of r) state used × (rec.new ≡ Some (left_after used r)))
 
 -- a line of the text wants an entry: a step of its name may be made with some
 abbrev pub WantsEntry : Contents → Option (List ℕ) → State → Type 0
@@ -121,7 +121,7 @@ WantsEntry p text s = (l : CertLine) × SaysLine text l × (uses l ≡ 1) × IsN
 
 -- why line n of the text is refused
 abbrev pub RefusesOver : Contents → Option (List ℕ) → Position → ℕ → StreamFault → Type 0
-RefusesOver p text at n f = WhereKnown at.recording (λ r. ByFault
+RefusesOver p text at n f = IfSome at.recording (λ r. ByFault
     (λ g. IsFaultOfLine p at.state (line_at at n r) text g × HasEnd r g)
     (λ g. WantsEntry p text at.state × Stops g r × (g ≢ read.OutOfMemory)) f)
 

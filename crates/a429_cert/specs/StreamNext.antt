@@ -7,7 +7,8 @@ use Rattle.a429_cert.specs.declared.stream.Replay.{Replay}
 use Rattle.a429_cert.specs.declared.stream_fault.StreamFault.{StreamFault}
 use Rattle.a429_cert.specs.declared.stream_fault.StreamFault.TheVariants as stream
 use Rattle.a429_cert.specs.Change.{change}
-use Rattle.a429_cert.specs.CutLines.{GivesLine, HasNoLineFeed}
+use Rattle.a429_cert.specs.CutLines.{GivesLine}
+use Rattle.a429_record.specs.Ends.{HasNoEnd}
 use Rattle.a429_cert.specs.Report.{Hearing, listening}
 use Rattle.a429_cert.specs.Stream.{taking, GoesOn, HearsLine, IsUnreported, StopsAt}
 
@@ -70,7 +71,7 @@ pub record StopsInLine {S T : Type 0} (reader : Unread) (old new : Progress S T)
   pub fault : f ≡ stream.Device
   pub failed : reader.failed ≡ true
   pub ahead : List ℕ
-  pub part : HasNoLineFeed ahead
+  pub part : HasNoEnd ahead
   pub kept : Keeps old.left (prepend_known ahead reader.bytes)
   pub recording : new.recording ≡ old.recording
   pub shelf : new.shelf ≡ old.shelf

@@ -6,7 +6,8 @@ ghost use Rattle.a429_word.specs.Tally.{left_of, has_failed, unread};
 ghost use Rattle.a429_cert.specs.Likely.{SaysAlways};
 ghost use Rattle.a429_cert.specs.LikelyLine.{text_in, IsLikelyLine};
 ghost use Rattle.a429_cert.specs.Lines.{line_bytes};
-ghost use Rattle.a429_cert.specs.CutLines.{GivesLine, BeginsWith, HasNoLineFeed, cut};
+ghost use Rattle.a429_cert.specs.CutLines.{GivesLine, BeginsWith, cut};
+ghost use Rattle.a429_record.specs.Ends.{HasNoEnd};
 
 use crate::likely::LikelyLine;
 use crate::line::MovedLine;
@@ -75,7 +76,7 @@ impl LineReader {
         ensures shorter { OnOk result (IsSome (held_line self.new) → room_left self.new cert.new < room_left self.old cert.old) }
         ensures room { IfOk result (λ found. found ≡ true → 0 < room_left self.old cert.old) }
         ensures kept { result ≢ Ok true → Keeps (to_come R.remaining self.old cert.old) (to_come R.remaining self.new cert.new) }
-        ensures part { IsErr result → HasNoLineFeed (bytes_ahead self.new) }
+        ensures part { IsErr result → HasNoEnd (bytes_ahead self.new) }
         ensures few { length (bytes_ahead self.new) ≤ 2288 }
         ensures works { IfOk result (λ found. found ≡ false → has_failed cert.new ≡ false) }
         ensures device { IsErr result → has_failed cert.new ≡ true }
@@ -106,7 +107,7 @@ impl LineReader {
         ensures known { IfOk result (λ n. IfSome n.known (SaysAlways (held_line self.new))) }
         ensures ended { IfOk result (λ n. n.found ≡ false → Keeps (to_come R.remaining self.old cert.old) (to_come R.remaining self.new cert.new)) }
         ensures kept { IsErr result → Keeps (to_come R.remaining self.old cert.old) (to_come R.remaining self.new cert.new) }
-        ensures part { IsErr result → HasNoLineFeed (bytes_ahead self.new) }
+        ensures part { IsErr result → HasNoEnd (bytes_ahead self.new) }
         ensures few { length (bytes_ahead self.new) ≤ 2288 }
         ensures works { IfOk result (λ n. n.found ≡ false → has_failed cert.new ≡ false) }
         ensures device { IsErr result → has_failed cert.new ≡ true }
@@ -191,7 +192,7 @@ impl LineReader {
         ensures yes { result ≡ true → BeginsWith (bytes_ahead self.old) (held_line self.new) (bytes_ahead self.new) }
         ensures line { result ≡ true → IsSome (held_line self.new) × (cut (held_line self.new) ≡ held_line self.new) }
         ensures short { result ≡ true → length (bytes_ahead self.new) < length (bytes_ahead self.old) }
-        ensures no { result ≡ false → HasNoLineFeed (bytes_ahead self.old) }
+        ensures no { result ≡ false → HasNoEnd (bytes_ahead self.old) }
         ensures same { result ≡ false → bytes_ahead self.new ≡ bytes_ahead self.old }
     {
         self.at = self.next;

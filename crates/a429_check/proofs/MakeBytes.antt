@@ -16,7 +16,6 @@ use Rattle.a429_record.specs.WholeRecordings.{AreEntries}
 use Rattle.a429_record.specs.Writing.{written_form}
 use Rattle.a429_record.proofs.WrittenIsReadBack.{written-back}
 use Rattle.a429_cert.specs.Explained.{items_of}
-use Rattle.a429_explain.specs.Matching.{IsOfBlock}
 use Rattle.a429_explain.proofs.CleanBlock.{HasForms, AreOfBlock, block_has_forms}
 use Rattle.a429_explain.proofs.CleanGroups.{unit_has_forms}
 use Rattle.a429_check.specs.Recording.{SayInput}
@@ -25,6 +24,7 @@ use Rattle.a429_check.proofs.MakeCrossed.{is_profile, each_cut, made_cross}
 use Rattle.a429_link.specs.declared.number.UnitNumber.{UnitNumber}
 use Rattle.a429_link.specs.Number.{first_number, number_after}
 use Rattle.a429_link.proofs.NumberFacts.{next_byte}
+use Rattle.a429_explain.proofs.AttemptsFacts.{IsOfBlock}
 
 -- ---- entries of words
 

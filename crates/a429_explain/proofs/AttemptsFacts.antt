@@ -18,9 +18,15 @@ use Rattle.a429_explain.specs.Decoded.{sight_at, IsHeardAt, forms_of}
 use Rattle.a429_explain.specs.Attempts.{next_start, role_of, roles, IsAhead}
 use Rattle.a429_explain.specs.Groups.{asked}
 use Rattle.a429_explain.specs.Guess.{started, file_of}
-use Rattle.a429_explain.specs.Matching.{IsOfBlock}
 use Rattle.a429_explain.specs.Whole.{wanted}
 use Rattle.a429_explain.proofs.DecodedFacts.{forms_from}
+
+-- a word of a block
+abbrev pub IsOfBlock : Option Form → Type 0
+IsOfBlock (Some (Sot gfi file ldu)) = Unit {0}
+IsOfBlock (Some (Part semis)) = Unit {0}
+IsOfBlock (Some (Eot flags check)) = Unit {0}
+IsOfBlock _ = ⊥
 
 -- where the pass has come to
 pub record Stands (said : List (Option Form)) (left : ℕ) (found : List Role) (ahead : Ahead) : Type 0 where

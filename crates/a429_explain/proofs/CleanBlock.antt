@@ -20,8 +20,9 @@ use Rattle.a429_link.specs.declared.seen.Seen.{Seen}
 use Rattle.a429_link.specs.Clean.{clean_block}
 use Rattle.a429_link.specs.Carry.{on_a, on_b}
 use Rattle.a429_link.specs.declared.number.UnitNumber.{UnitNumber}
-use Rattle.a429_explain.specs.Matching.{is_word, passed_with, passing_as, passed_after, IsOfBlock}
+use Rattle.a429_explain.specs.Matching.{is_word, passed_with, passing_as, passed_after}
 use Rattle.a429_explain.specs.Whole.{ends_with, Recorded, nothing_yet, gathered_with, is_whole, unit_made, ended_by, first_whole, wanted, is_other, other_request}
+use Rattle.a429_explain.proofs.AttemptsFacts.{IsOfBlock}
 
 -- ---- its words say what they are
 

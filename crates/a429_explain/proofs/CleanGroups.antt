@@ -20,13 +20,13 @@ use Rattle.a429_explain.specs.declared.groups.Grouping.TheVariants.{Between, Wit
 use Rattle.a429_explain.specs.Attempts.{attempt_start, next_start, are_numbers, role_of, roles}
 use Rattle.a429_explain.specs.Decoded.{forms_of}
 use Rattle.a429_explain.specs.Groups.{words_in, group_length, first_started, ends_its_group}
-use Rattle.a429_explain.specs.Matching.{IsOfBlock}
 use Rattle.a429_explain.specs.Guess.{first_file_of, file_of}
 use Rattle.a429_explain.proofs.WalkFacts.{free_none}
 use Rattle.a429_explain.proofs.Thinned.{attempt_start-thin, next_start-thin}
 use Rattle.a429_explain.proofs.CleanBlock.{HasForms, AreOfBlock, has_forms, block_has_forms}
 use Rattle.a429_link.specs.Number.{first_number, next_number, number_after}
 use Rattle.a429_link.proofs.NumberFacts.{next_byte}
+use Rattle.a429_explain.proofs.AttemptsFacts.{IsOfBlock}
 
 -- ---- a group ends at its acknowledgement
 

@@ -60,16 +60,6 @@ moves_more front first last line n is next =
 
 -- ---- loops that put them
 
--- some lines, and the first of those that are left
-likely_first : (said all : List ℕ) (m : MovedLine) (n : ℕ) → 0 < n → said ++ likely_lines m n ≡ all → (said ++ line_after (Moved (next_line m))) ++ likely_lines (next_line m) (n - 1) ≡ all
-likely_first said all m zero some h = absurd (omega arith)
-likely_first said all m (suc n) some h =
-    let one : suc n - 1 ≡ n = omega arith in
-    rw one (append_assoc said (line_after (Moved (next_line m))) (likely_lines (next_line m) n) ∙ h)
-
-pub likely_next : (said all : List ℕ) (m next : MovedLine) (n : ℕ) → next ≡ next_line m → 0 < n → said ++ likely_lines m n ≡ all → (said ++ line_after (Moved next)) ++ likely_lines next (n - 1) ≡ all
-likely_next said all m next n is some h = rw is (likely_first said all m n some h)
-
 -- some fields, and the first of those that are left
 pub same_first : (said all : List ℕ) (w n : ℕ) → 0 < n → said ++ same_fields w n ≡ all → (said ++ field (hex_text w)) ++ same_fields w (n - 1) ≡ all
 same_first said all w zero some h = absurd (omega arith)

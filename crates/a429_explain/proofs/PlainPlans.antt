@@ -17,10 +17,10 @@ use Rattle.a429_link.specs.Carry.{on_a, on_b}
 use Rattle.a429_explain.specs.declared.plan.Plan.{Plan}
 use Rattle.a429_explain.specs.Plan.{plain}
 use Rattle.a429_explain.specs.Guess.{plain_plans}
-use Rattle.a429_explain.specs.Matching.{IsOfBlock}
 use Rattle.a429_explain.specs.Whole.{wanted}
 use Rattle.a429_explain.proofs.CleanBlock.{HasForms, AreOfBlock, block_has_forms, formed_sight}
 use Rattle.a429_explain.proofs.Thinned.{free_sight}
+use Rattle.a429_explain.proofs.AttemptsFacts.{IsOfBlock}
 
 -- ---- words that are no requests
 

@@ -33,7 +33,6 @@ use Rattle.a429_explain.specs.Whole.{wanted}
 use Rattle.a429_explain.specs.Attempts.{attempt_start, sends_block as sends_words, are_numbers, role_of, roles}
 use Rattle.a429_explain.specs.Decoded.{forms_of}
 use Rattle.a429_explain.specs.Scribe.{IsLossless, lossless_steps, link_after}
-use Rattle.a429_explain.specs.Matching.{IsOfBlock}
 use Rattle.a429_explain.proofs.CleanBlock.{AreOfBlock, block_has_forms, formed_sight}
 use Rattle.a429_explain.proofs.PlainPlans.{IsOther, other_wants, plain_asked, plain_past}
 use Rattle.a429_explain.proofs.CleanGroups.{unit_has_forms, next_start_other, attempt_start_is, start_numbers}
@@ -42,6 +41,7 @@ use Rattle.a429_explain.proofs.Thinned.{attempt_start-thin, next_start-thin}
 use Rattle.a429_explain.proofs.WalkFacts.{free_none}
 use Rattle.a429_link.specs.Number.{first_number, number_after}
 use Rattle.a429_link.proofs.NumberFacts.{next_byte}
+use Rattle.a429_explain.proofs.AttemptsFacts.{IsOfBlock}
 
 -- ---- roles, free words left out
 

@@ -24,8 +24,8 @@ use Rattle.a429_explain.specs.declared.verdict.Doubt.TheVariants.{NotOneBlock}
 use Rattle.a429_explain.specs.declared.decoded.DecodedWord.{DecodedWord}
 use Rattle.a429_explain.specs.Decoded.{sight_at, IsHeardAt}
 use Rattle.a429_explain.specs.Stop.{IsDoubtOf, IsDoubtAt}
-use Rattle.a429_explain.specs.Matching.{IsOfBlock}
-use Rattle.a429_explain.specs.Walk.{AreAllowed, FitsAt, FitsSight, IsRefusable, IsRefusal}
+use Rattle.a429_explain.specs.Walk.{AreAllowedUpTo, FitsAt, FitsSight, IsRefusable, IsRefusal}
+use Rattle.a429_explain.proofs.AttemptsFacts.{IsOfBlock}
 
 -- what is recorded in entry n
 pub item_at : (es : List Entry) (n : ℕ) (e : Entry) (i : Seen) → n < length es → e ≡ get_or es n e → i ≡ seen_of e → slice_get (items_of es) n ≡ Some i
@@ -48,7 +48,7 @@ split k n m = elim (cases_order k n) [ inl e ↦ inr e | inr (inl l) ↦ inl l |
 -- where the walk has come to
 pub record Walks (p : Contents) (items : List Seen) (n : ℕ) (o : Observer) : Type 0 where
   pub observer : o ≡ observed p (take n items) at_first
-  pub allowed : AreAllowed p items n
+  pub allowed : AreAllowedUpTo p items n
 
 -- the word at this place is allowed
 pub record IsAllowedAt (p : Contents) (items : List Seen) (n : ℕ) (o : Observer) (i : Seen) : Type 0 where
@@ -71,7 +71,7 @@ walks_on p items n o t i w a seen =
     upto k (inr e) = subst (λ (j : ℕ). AllowsNext p (observed p (take j items) at_first) (slice_get items j)) (sym e) here
 
 -- at its end
-pub walked : (p : Contents) (items : List Seen) (n : ℕ) (o : Observer) → length items ≤ n → Walks p items n o → AreAllowed p items (length items)
+pub walked : (p : Contents) (items : List Seen) (n : ℕ) (o : Observer) → length items ≤ n → Walks p items n o → AreAllowedUpTo p items (length items)
 walked p items n o long w = λ k l. w.allowed k (omega arith)
 
 -- the word at this place is not allowed
@@ -117,7 +117,7 @@ formed_from p [] o h n = n
 formed_from p (i ∷ items) o h (inl e) = (allows_sight p o i sight.NoForm (sym e)).0 (h 0 (omega arith))
 formed_from p (i ∷ items) o h (inr n) = formed_from p items (sees p i o) (λ k l. h (suc k) (omega arith)) n
 
-pub formed : (p : Contents) (items : List Seen) → AreAllowed p items (length items) → HasNoForm p.codes items → ⊥
+pub formed : (p : Contents) (items : List Seen) → AreAllowedUpTo p items (length items) → HasNoForm p.codes items → ⊥
 formed p items h = formed_from p items at_first h
 
 -- a word of a block can be doubted

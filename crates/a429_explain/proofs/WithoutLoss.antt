@@ -23,12 +23,12 @@ use Rattle.a429_link.proofs.CleanOffers.{clean_is_run}
 use Rattle.a429_explain.specs.Decoded.{forms_of}
 use Rattle.a429_explain.specs.Guess.{first_file_of, decoded, HaveCrossed}
 use Rattle.a429_explain.specs.WithoutLoss.{Crossing, CanCross, IsWithoutLoss}
-use Rattle.a429_explain.specs.Matching.{IsOfBlock}
 use Rattle.a429_explain.proofs.CleanBlock.{HasForms, AreOfBlock, block_has_forms, formed_free}
 use Rattle.a429_explain.proofs.CleanGroups.{clean_from_first, unit_has_forms}
 use Rattle.a429_link.specs.declared.number.UnitNumber.{UnitNumber}
 use Rattle.a429_link.specs.Number.{first_number, number_after}
 use Rattle.a429_link.proofs.NumberFacts.{next_byte}
+use Rattle.a429_explain.proofs.AttemptsFacts.{IsOfBlock}
 
 -- none of some files is refused: the first is not, and none of the others
 kept : (k : ℕ) (o : Option CutFault) (later : Option CleanFault) → refused_or k o later ≡ None → (o ≡ None) × (later ≡ None)

@@ -49,10 +49,3 @@ passed_after c u place (i ∷ items) passed = passed_after c u place items (opti
 -- all these words are matched
 abbrev pub AreMatched : Codes → LduValue → UnitNumber → List Seen → Type 0
 AreMatched c u place items = IsSome (passed_after c u place items (Some 0))
-
--- a word of a block
-abbrev pub IsOfBlock : Option Form → Type 0
-IsOfBlock (Some (Sot gfi file ldu)) = Unit {0}
-IsOfBlock (Some (Part semis)) = Unit {0}
-IsOfBlock (Some (Eot flags check)) = Unit {0}
-IsOfBlock _ = ⊥

@@ -11,7 +11,7 @@ use Rattle.a429_explain.specs.Explanation.{HasNoFault, HasLeastVersion}
 use Rattle.a429_explain.specs.declared.verdict.Verdict.{Verdict}
 use Rattle.a429_explain.specs.declared.verdict.Verdict.TheVariants.{Explained, Impossible, Unexplained}
 use Rattle.a429_explain.specs.declared.stop.Stop.TheVariants as stop
-use Rattle.a429_explain.specs.Walk.{FitsAt, AreAllowed, IsFirstRefused}
+use Rattle.a429_explain.specs.Walk.{FitsAt, AreAllowedUpTo, IsFirstRefused}
 use Rattle.a429_explain.specs.Stop.{IsDoubtAt}
 use Rattle.a429_explain.specs.Guess.{HasNoDoubt, IsFirstStop}
 
@@ -57,5 +57,5 @@ IsDoubted p items _ = Unit {0}
 -- passes its tests, then whether the steps can be made
 abbrev pub IsFirst : Contents → List Seen → Verdict → Type 0
 IsFirst p items (Impossible i reason) = IsFirstRefused p items i
-IsFirst p items (Unexplained i doubt) = AreAllowed p items (length items) × IsFirstStop p items (stop.Unexplained i doubt)
-IsFirst p items (Explained certificate files) = AreAllowed p items (length items) × HasNoDoubt p items
+IsFirst p items (Unexplained i doubt) = AreAllowedUpTo p items (length items) × IsFirstStop p items (stop.Unexplained i doubt)
+IsFirst p items (Explained certificate files) = AreAllowedUpTo p items (length items) × HasNoDoubt p items

@@ -14,12 +14,12 @@ use Rattle.a429_explain.specs.declared.verdict.Reason.TheVariants.{NoForm, NotGr
 use Rattle.a429_explain.specs.declared.walk.Halt.{Halt}
 
 -- each of the first n words is allowed after those before it
-abbrev pub AreAllowed : Contents → List Seen → ℕ → Type 0
-AreAllowed p items n = (k : ℕ) → k < n → AllowsNext p (observed p (take k items) at_first) (slice_get items k)
+abbrev pub AreAllowedUpTo : Contents → List Seen → ℕ → Type 0
+AreAllowedUpTo p items n = (k : ℕ) → k < n → AllowsNext p (observed p (take k items) at_first) (slice_get items k)
 
 -- word i is the first that is not
 pub record IsFirstRefused (p : Contents) (items : List Seen) (i : ℕ) : Type 0 where
-  pub before : AreAllowed p items i
+  pub before : AreAllowedUpTo p items i
   pub refused : IsRefused p items i
 
 -- some recording does not allow the word: it is neither free nor a request to send

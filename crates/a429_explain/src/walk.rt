@@ -8,7 +8,7 @@ ghost use Rattle.a429_link.specs.Observer.{Allows, sees};
 ghost use Rattle.a429_cert.specs.Explained.{items_of};
 ghost use Rattle.a429_explain.specs.Verdict.{HasNoForm};
 ghost use Rattle.a429_explain.specs.WithoutLoss.{IsWithoutLoss};
-ghost use Rattle.a429_explain.specs.Walk.{AreAllowed, IsHalt, IsRefusable, FitsSight};
+ghost use Rattle.a429_explain.specs.Walk.{AreAllowedUpTo, IsHalt, IsRefusable, FitsSight};
 
 use crate::decoded::Decoded;
 use crate::screening::Screening;
@@ -37,7 +37,7 @@ pub fn walk<'a>(
     entries: &'a [Entry],
 ) -> Result<Decoded<'a>, Halt>
     ensures decoded { IfOk result (λ h. h ≡ record { profile = profile.now; items = items_of entries.now }) }
-    ensures allowed { IfOk result (λ h. AreAllowed profile.now (items_of entries.now) (length (items_of entries.now))) }
+    ensures allowed { IfOk result (λ h. AreAllowedUpTo profile.now (items_of entries.now) (length (items_of entries.now))) }
     ensures formed { IfOk result (λ h. ¬ HasNoForm profile.now.codes (items_of entries.now)) }
     ensures halt { IfErr result (IsHalt profile.now (items_of entries.now)) }
     ensures without_loss { IsWithoutLoss profile.now (items_of entries.now) → IsOk result }

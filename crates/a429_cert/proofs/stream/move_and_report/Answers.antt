@@ -1,5 +1,4 @@
 use Rattle.std.proofs.Common.{rules}
-use Rattle.a429_record.specs.declared.fault.ReadFault.TheVariants as read
 use Rattle.a429_cert.proofs.ReplayKept.{cert_unreported, cert_no_device, trouble_device, trouble_unreported}
 use Rattle.a429_cert.proofs.stream.move_and_report.Goals as goal
 
