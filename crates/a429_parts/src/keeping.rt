@@ -45,7 +45,7 @@ pub fn put_kept<R: Read, W: Write>(
 
 /// The next entry, or none at the recording's end. `line` becomes its line, or empty where the row was not written so.
 #[inline(always)]
-pub(crate) fn next_of<R: Read>(
+pub fn next_of<R: Read>(
     rec: &mut EntryReader<R>,
     line: &mut EntryLine,
 ) -> Result<Option<Entry>, ReadFault>

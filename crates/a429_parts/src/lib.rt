@@ -13,7 +13,7 @@ mod waiting;
 mod watch;
 
 pub use crate::cutting::{Cutter, PartFault};
-pub use crate::keeping::put_kept;
+pub use crate::keeping::{next_of, put_kept};
 pub use crate::kept::is_kept;
 pub use crate::parting::put_parts;
 pub use crate::parts::{MemoryParts, Part, Parts};

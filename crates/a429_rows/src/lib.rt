@@ -21,3 +21,5 @@ mod recordings;
 mod runs;
 #[cfg(test)]
 mod search;
+#[cfg(test)]
+mod side;
