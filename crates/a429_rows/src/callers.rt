@@ -7,10 +7,11 @@ use crate::calls::{certificate_of, entries_of, sample};
 use crate::recordings::seen;
 use a429_cert::{CertFault, CertLine, OutOfMemory, read_line, verify, write_line};
 use a429_ldu::Ldu;
-use a429_link::{Link, Seen, Step, StepFault};
+use a429_link::{ImpliedSink, Link, Seen, Step, StepFault};
 use a429_profile::Profile;
 use a429_record::Entry;
-use a429_sample::{CERTIFICATE, PART, RECORDING, RTS};
+use a429_sample::{ACK, CERTIFICATE, PART, RECORDING, RTS};
+use a429_sink::sink_allows;
 use a429_word::{Bus, Word};
 use std::alloc::Global;
 
@@ -44,6 +45,19 @@ fn a_request(rt: HostRuntime) {
     let profile = sample(&rt);
     assert!(rt; asks_for_a_byte(rt.alloc(), &profile, RTS));
     assert!(rt; !asks_for_a_byte(rt.alloc(), &profile, PART));
+}
+
+/// Whether a sink that keeps the rules may send this word first of all.
+fn may_begin(alloc: Global, profile: &Profile, word: Word) -> bool {
+    let bus = Bus::B;
+    sink_allows(&ImpliedSink::new(alloc), profile, Seen { bus, word })
+}
+
+#[test]
+fn a_sink_begins_with_no_answer(rt: HostRuntime) {
+    let profile = sample(&rt);
+    assert!(rt; may_begin(rt.alloc(), &profile, Word::from_u32(RTS)));
+    assert!(rt; !may_begin(rt.alloc(), &profile, Word::from_u32(ACK)));
 }
 
 /// Appends the line of another first file, where the line gives the first file.
