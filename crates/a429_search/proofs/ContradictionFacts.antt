@@ -12,13 +12,13 @@ use Rattle.a429_ldu.specs.Form.{form_of}
 use Rattle.a429_link.specs.declared.number.UnitNumber.{UnitNumber}
 use Rattle.a429_link.specs.declared.seen.Seen.{Seen}
 use Rattle.a429_link.specs.Attempt.{Attempt}
-use Rattle.a429_link.specs.Contradiction.{SoFar, UnitSoFar, so_far, so_far_from, so_far_after, with_start, with_end, at_start, IsOtherForm, IsOtherStart, IsOtherWord, IsOtherLast, IsWrongForm, IsOtherAt, IsWrongAt}
+use Rattle.a429_link.specs.Contradiction.{SoFar, UnitSoFar, so_far, so_far_from, so_far_after, with_start, with_end, none_so_far, IsOtherForm, IsOtherStart, IsOtherWord, IsOtherLast, IsWrongForm, IsOtherAt, IsWrongAt}
 use Rattle.a429_link.specs.Observer.{Observer, Allows, AllowsNext, observed, sees, sees_form, at_first}
 use Rattle.a429_link.specs.Run.{BeginsARun}
 use Rattle.a429_link.specs.WholeBlock.{ComesForm, EndsBadAt, EndsBadForm, IsHalfAt, IsHalfForm, NumberComesAt, data_first, data_words}
 use Rattle.a429_explain.specs.declared.decoded.DecodedWord.{DecodedWord}
 use Rattle.a429_explain.specs.Decoded.{IsHeardAt}
-use Rattle.a429_explain.specs.Walk.{AreAllowed}
+use Rattle.a429_explain.specs.Walk.{AreAllowedUpTo}
 use Rattle.a429_explain.specs.declared.verdict.Reason.{Reason}
 use Rattle.a429_explain.specs.declared.verdict.Reason.TheVariants.{NoForm, NotGranted, WrongAnswer, BadBlock, WrongNumber, OtherBlock, NoRun}
 use Rattle.a429_explain.proofs.WalkFacts.{observed_more}
@@ -201,7 +201,7 @@ witnesses_more p items n i x o q s t parts after at w seen shown added none =
     let one : n + 1 ≡ suc n = omega arith in
     rw one (record {
       observer = seen ∙ ap (sees p i) w.observer ∙ sym (observed_more p items n i at_first at.item);
-      so_far = shown ∙ sym (after_unheard i.bus i.word x s) ∙ ap (λ (z : SoFar). unheard (so_far_after i.bus i.word x z)) w.so_far ∙ after_unheard i.bus i.word x (so_far p (take n items)) ∙ ap (λ (y : Option Form). unheard (so_far_after i.bus i.word y (so_far p (take n items)))) (sym at.form_is) ∙ ap unheard (sym (so_far_more p items n i at_start at.item));
+      so_far = shown ∙ sym (after_unheard i.bus i.word x s) ∙ ap (λ (z : SoFar). unheard (so_far_after i.bus i.word x z)) w.so_far ∙ after_unheard i.bus i.word x (so_far p (take n items)) ∙ ap (λ (y : Option Form). unheard (so_far_after i.bus i.word y (so_far p (take n items)))) (sym at.form_is) ∙ ap unheard (sym (so_far_more p items n i none_so_far at.item));
       words = added ∙ ap (data_after i.bus i.word x) w.words ∙ data_more p.codes i.bus i.word x s at.form_is ∙ sym (ap (λ (z : SoFar). data_words p.codes z.attempt.words) shown);
       none = λ k l r. upto k r (omega (arith, l));
     })
@@ -224,12 +224,12 @@ pub shown_formless : (i : Seen) (s : SoFar) → unheard s ≡ unheard (so_far_af
 shown_formless i s = ap unheard (sym (formless_same i.bus i.word s))
 
 -- the word at a place is allowed
-pub allowed_at : (p : Contents) (items : List Seen) (n : ℕ) (i : Seen) (o : Observer) (s : SoFar) (parts : List ℕ) → slice_get items n ≡ Some i → AreAllowed p items (length items) → Witnesses p items n o s parts → Allows p o i
+pub allowed_at : (p : Contents) (items : List Seen) (n : ℕ) (i : Seen) (o : Observer) (s : SoFar) (parts : List ℕ) → slice_get items n ≡ Some i → AreAllowedUpTo p items (length items) → Witnesses p items n o s parts → Allows p o i
 allowed_at p items n i o s parts at may w =
     let here : AllowsNext p (observed p (take n items) at_first) (Some i) = subst (AllowsNext p (observed p (take n items) at_first)) at (may n (slice_get_within items n i at)) in
     subst (λ (q : Observer). Allows p q i) (sym w.observer) here
 
-pub witnesses_first : (p : Contents) (items : List Seen) (o : Observer) (s : SoFar) (parts : List ℕ) → o ≡ at_first → s ≡ at_start → parts ≡ [] → Witnesses p items 0 o s parts
+pub witnesses_first : (p : Contents) (items : List Seen) (o : Observer) (s : SoFar) (parts : List ℕ) → o ≡ at_first → s ≡ none_so_far → parts ≡ [] → Witnesses p items 0 o s parts
 witnesses_first p items o s parts a b c = record { observer = a; so_far = ap unheard b; words = c ∙ ap (λ (z : SoFar). data_words p.codes z.attempt.words) (sym b); none = λ k l r h. absurd (omega arith) }
 
 -- where each reason that holds in one way holds in another, too
