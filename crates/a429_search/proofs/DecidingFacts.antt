@@ -220,7 +220,3 @@ impossible_by p items n c h = (h.inside, inl (inr h.holds, h.ranked), h.no_run)
 
 pub first_by : (p : Contents) (items : List Seen) (n : ℕ) (c : Contradiction) → AreAllowedUpTo p items n → IsContradiction p items n c → (k : ℕ) (r : Reason) → IsReasonAt p items k r → c.entry ≤ k
 first_by p items n c may h = at_least p items c.entry (less_allowed p items n c.entry (omega (arith, h.within)) may) h.before
-
--- of a whole recording
-pub found_whole : (p : Contents) (items : List Seen) (c : Contradiction) → IsFirstContradiction p items c → HasNoRun p items c.entry → IsContradiction p items (length items) c
-found_whole p items c first none = record { inside = first.inside; within = first.inside; holds = first.holds; before = first.before; ranked = first.ranked; no_run = none }
