@@ -1,26 +1,15 @@
 -- How far the words of an attempt go into a block.
-use Rattle.std.proofs.Common.{◌≡◌, ◌≢◌, ◌↔◌, Bool, true, false, ℕ, ◌+◌, ◌<◌, ◌≤◌, List, [], ◌∷◌, ◌++◌, length, drop, get_or, Option, Some, None, is_some, not, IfSome, IsTrue, if◌then◌else◌, refl, sym, ap, ◌∙◌, subst, inl, inr, arith, append-nil, length-append}
+use Rattle.std.proofs.Common.{◌≡◌, ◌↔◌, Bool, true, false, ℕ, ◌+◌, ◌<◌, ◌≤◌, List, [], ◌∷◌, ◌++◌, length, drop, get_or, Option, Some, None, is_some, not, IfSome, IsTrue, if◌then◌else◌, refl, sym, ap, ◌∙◌, subst, inr, arith, append-nil, length-append}
 use Rattle.std.proofs.lemmas.List.{drop_more, drop_all}
 use Rattle.a429_link.specs.Run.{IsSubsequenceOf}
 use Rattle.a429_link.specs.Contradiction.{AreOther}
 use Rattle.a429_link.proofs.Subsequence.{sub_none, sub_length}
 use Rattle.a429_search.specs.SoFar.{IsPassedWith}
-use Rattle.a429_search.proofs.SubsequenceFacts.{sub_all, sub_other, sub_tails}
+use Rattle.a429_search.proofs.SubsequenceFacts.{sub_all, sub_tails}
 
 -- a word is first found as far as after so many
 abbrev pub IsSoFar : ℕ → List ℕ → ℕ → ℕ → Type 0
 IsSoFar w ys n k = (more : List ℕ) → IsSubsequenceOf (w ∷ more) (drop n ys) ↔ IsSubsequenceOf (w ∷ more) (drop k ys)
-
-pub begun : (w : ℕ) (ys : List ℕ) (n : ℕ) → IsSoFar w ys n n
-begun w ys n more = ((λ h. h), (λ h. h))
-
-pub another : (w : ℕ) (ys : List ℕ) (n k : ℕ) → k < length ys → get_or ys k 0 ≢ w → IsSoFar w ys n k → IsSoFar w ys n (k + 1)
-another w ys n k l e so more = ((λ h. over.0 ((so more).0 h)), (λ h. (so more).1 (over.1 h)))
-  where
-    over : IsSubsequenceOf (w ∷ more) (drop k ys) ↔ IsSubsequenceOf (w ∷ more) (drop (k + 1) ys)
-    over =
-        let b : drop k ys ≡ get_or ys k 0 ∷ drop (k + 1) ys = drop_more ys k 0 l in
-        rw b ((λ h. sub_other w (get_or ys k 0) more (drop (k + 1) ys) (λ s. e (sym s)) h), (λ h. inl h))
 
 -- it is the next one
 pub found : (w : ℕ) (ys : List ℕ) (n k : ℕ) → k < length ys → get_or ys k 0 ≡ w → IsSoFar w ys n k → (more : List ℕ) → IsSubsequenceOf (w ∷ more) (drop n ys) ↔ IsSubsequenceOf more (drop (k + 1) ys)
@@ -31,20 +20,11 @@ found w ys n k l e so more = ((λ h. here.0 ((so more).0 h)), (λ h. (so more).1
         let b : drop k ys ≡ w ∷ drop (k + 1) ys = drop_more ys k 0 l ∙ ap (λ (x : ℕ). x ∷ drop (k + 1) ys) e in
         rw b ((λ h. sub_tails w w more (drop (k + 1) ys) h), (λ h. inr (more, refl, h)))
 
--- it is none of them
-pub not_found : (w : ℕ) (ys : List ℕ) (n k : ℕ) → length ys ≤ k → IsSoFar w ys n k → (more : List ℕ) → ¬ IsSubsequenceOf (w ∷ more) (drop n ys)
-not_found w ys n k l so more h =
-    let none : drop k ys ≡ [] = drop_all k ys l in
-    absurd (cc (subst (λ zs. IsSubsequenceOf (w ∷ more) zs) none ((so more).0 h)))
-
 one_more : (words : List ℕ) (w : ℕ) (more : List ℕ) → (words ++ w ∷ []) ++ more ≡ words ++ w ∷ more
 one_more [] w more = refl
 one_more (v ∷ words) w more = ap (λ (l : List ℕ). v ∷ l) (one_more words w more)
 
 -- ---- with one more word
-
-pub passed_none : (words : List ℕ) (w : ℕ) (block : List ℕ) → IsPassedWith words None block → IsPassedWith (words ++ w ∷ []) None block
-passed_none words w block h more s = h (w ∷ more) (subst (λ l. IsSubsequenceOf l block) (one_more words w more) s)
 
 pub passed_one : (words : List ℕ) (w n : ℕ) (o : Option ℕ) (block : List ℕ) → IsPassedWith words (Some n) block → ((k : ℕ) → o ≡ Some k → (more : List ℕ) → IsSubsequenceOf (w ∷ more) (drop n block) ↔ IsSubsequenceOf more (drop k block)) → (o ≡ None → (more : List ℕ) → ¬ IsSubsequenceOf (w ∷ more) (drop n block)) → IsPassedWith (words ++ w ∷ []) o block
 passed_one words w n None block h some none = λ more s. none refl more ((h (w ∷ more)).0 (subst (λ l. IsSubsequenceOf l block) (one_more words w more) s))
@@ -66,10 +46,6 @@ passed_known true words items slice block w n passed o h is same some none e =
     (λ k f. subst (λ b. (more : List ℕ) → IsSubsequenceOf (w ∷ more) (drop n b) ↔ IsSubsequenceOf more (drop k b)) whole (subst (λ (q : Option ℕ). Finds w n slice q) f some))
     (λ f. subst (λ b. (more : List ℕ) → ¬ IsSubsequenceOf (w ∷ more) (drop n b)) whole (none f))
 passed_known false words items slice block w n passed o h is same some none e = absurd (cc e)
-
--- no words, and all words
-pub passed_no_words : (block : List ℕ) → IsPassedWith [] (Some 0) block
-passed_no_words block more = ((λ h. h), (λ h. h))
 
 pub passed_all : (words : List ℕ) → IsPassedWith words (Some (length words)) words
 passed_all words more = (

@@ -4,7 +4,7 @@ use Rattle.std.specs.Int.{bit_at, trailing_zeros, w16}
 use Rattle.std.specs.Int.Bits.{xor_self, xor_zero_r}
 use Rattle.std.proofs.lemmas.Nat.{xor_lt, xor_shr, pow_below, pow_pos}
 use Rattle.std.proofs.lemmas.Nat.Bits.{bit_at_xor, bit_at-zero, bit_at-lt, bit_at-trailing_zeros}
-use Rattle.std.proofs.lemmas.List.Elements.{All-nil, All-head, All-tail, All-push, All-more, All-weaker}
+use Rattle.std.proofs.lemmas.List.Elements.{All-head, All-tail, All-push, All-more, All-weaker}
 use Rattle.std.proofs.lemmas.Grind.{fold-append}
 use Rattle.a429_search.specs.declared.choice.Sum.{Sum}
 use Rattle.a429_search.specs.Choice.{xor_of, reduced_by, IsBasis}
@@ -136,15 +136,6 @@ small (s ∷ basis) c h k =
 
 abbrev Reduces : List Sum → ℕ → Type 0
 Reduces basis x = (fold reduced_by (record { value = x; chosen = 0 }) basis).value ≡ 0
-
-pub basis_none : (cs : List ℕ) → IsBasis cs [] []
-basis_none cs = record {
-  sums = All-nil (λ (s : Sum). xor_of cs s.chosen ≡ s.value);
-  within = All-nil (λ (s : Sum). s.chosen < 2 ^ length cs);
-  nonzero = All-nil (λ (s : Sum). 0 < s.value);
-  small = All-nil (λ (s : Sum). s.value < 2 ^ 16);
-  reduce = All-nil (Reduces []);
-}
 
 module _ (cs : List ℕ) (basis : List Sum) (k : ℕ) (b : IsBasis cs basis (take k cs)) (l : k < length cs) (r : Sum)
     (is : r ≡ fold reduced_by (record { value = get_or cs k 0; chosen = 2 ^ k }) basis) where

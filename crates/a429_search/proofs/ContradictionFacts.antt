@@ -12,13 +12,13 @@ use Rattle.a429_ldu.specs.Form.{form_of}
 use Rattle.a429_link.specs.declared.number.UnitNumber.{UnitNumber}
 use Rattle.a429_link.specs.declared.seen.Seen.{Seen}
 use Rattle.a429_link.specs.Attempt.{Attempt}
-use Rattle.a429_link.specs.Contradiction.{SoFar, UnitSoFar, so_far, so_far_from, so_far_after, with_start, with_end, at_start, IsOtherForm, IsOtherStart, IsOtherWord, IsOtherLast, IsWrongForm, IsOtherAt, IsWrongAt}
-use Rattle.a429_link.specs.Observer.{Observer, Allows, AllowsNext, observed, sees, sees_form, at_first}
+use Rattle.a429_link.specs.Contradiction.{SoFar, UnitSoFar, so_far, so_far_from, so_far_after, with_start, with_end, none_so_far, IsOtherForm, IsOtherStart, IsOtherWord, IsOtherLast, IsWrongForm, IsOtherAt, IsWrongAt}
+use Rattle.a429_link.specs.Observer.{Observer, Allows, AllowsNext, observed, sees, at_first}
 use Rattle.a429_link.specs.Run.{BeginsARun}
 use Rattle.a429_link.specs.WholeBlock.{ComesForm, EndsBadAt, EndsBadForm, IsHalfAt, IsHalfForm, NumberComesAt, data_first, data_words}
 use Rattle.a429_explain.specs.declared.decoded.DecodedWord.{DecodedWord}
 use Rattle.a429_explain.specs.Decoded.{IsHeardAt}
-use Rattle.a429_explain.specs.Walk.{AreAllowed}
+use Rattle.a429_explain.specs.Walk.{AreAllowedUpTo}
 use Rattle.a429_explain.specs.declared.verdict.Reason.{Reason}
 use Rattle.a429_explain.specs.declared.verdict.Reason.TheVariants.{NoForm, NotGranted, WrongAnswer, BadBlock, WrongNumber, OtherBlock, NoRun}
 use Rattle.a429_explain.proofs.WalkFacts.{observed_more}
@@ -109,26 +109,6 @@ after_unheard bus.B w None s = refl
 
 -- ---- a word without form
 
-formless_same : (b : Bus) (w : ℕ) (s : SoFar) → so_far_after b w None s ≡ s
-formless_same bus.A w s = refl
-formless_same bus.B w s = refl
-
-pub formless : (p : Contents) (o : Observer) (s : SoFar) (b : Bus) (w : ℕ) (r : Reason) → ¬ Contradicts p o s b w None r
-formless p o s bus.A w BadBlock (inl h) = h
-formless p o s bus.A w BadBlock (inr h) = h
-formless p o s bus.A w WrongNumber (inl h) = h tt
-formless p o s bus.A w WrongNumber (inr h) = h
-formless p o s bus.A w OtherBlock h = h
-formless p o s bus.B w BadBlock (inl h) = h
-formless p o s bus.B w BadBlock (inr h) = h
-formless p o s bus.B w WrongNumber (inl h) = h tt
-formless p o s bus.B w WrongNumber (inr h) = h
-formless p o s bus.B w OtherBlock h = h
-formless p o s b w NoForm h = h
-formless p o s b w NotGranted h = h
-formless p o s b w WrongAnswer h = h
-formless p o s b w NoRun h = h
-
 -- ---- at a place of a recording
 
 so_far_more : (p : Contents) (items : List Seen) (n : ℕ) (i : Seen) (s : SoFar) → slice_get items n ≡ Some i → so_far_from p s (take (suc n) items) ≡ so_far_after i.bus i.word (form_of p.codes i.bus i.word) (so_far_from p s (take n items))
@@ -201,7 +181,7 @@ witnesses_more p items n i x o q s t parts after at w seen shown added none =
     let one : n + 1 ≡ suc n = omega arith in
     rw one (record {
       observer = seen ∙ ap (sees p i) w.observer ∙ sym (observed_more p items n i at_first at.item);
-      so_far = shown ∙ sym (after_unheard i.bus i.word x s) ∙ ap (λ (z : SoFar). unheard (so_far_after i.bus i.word x z)) w.so_far ∙ after_unheard i.bus i.word x (so_far p (take n items)) ∙ ap (λ (y : Option Form). unheard (so_far_after i.bus i.word y (so_far p (take n items)))) (sym at.form_is) ∙ ap unheard (sym (so_far_more p items n i at_start at.item));
+      so_far = shown ∙ sym (after_unheard i.bus i.word x s) ∙ ap (λ (z : SoFar). unheard (so_far_after i.bus i.word x z)) w.so_far ∙ after_unheard i.bus i.word x (so_far p (take n items)) ∙ ap (λ (y : Option Form). unheard (so_far_after i.bus i.word y (so_far p (take n items)))) (sym at.form_is) ∙ ap unheard (sym (so_far_more p items n i none_so_far at.item));
       words = added ∙ ap (data_after i.bus i.word x) w.words ∙ data_more p.codes i.bus i.word x s at.form_is ∙ sym (ap (λ (z : SoFar). data_words p.codes z.attempt.words) shown);
       none = λ k l r. upto k r (omega (arith, l));
     })
@@ -212,25 +192,11 @@ witnesses_more p items n i x o q s t parts after at w seen shown added none =
       | inr same ↦ none r (subst (λ (T : Type 0). T) (contradicts_at p items n i x o s parts r at w) (subst (λ (j : ℕ). ContradictsAt p items j r) same h))
     ]
 
--- a word without form
-sees_none : (p : Contents) (b : Bus) (w : ℕ) (o : Observer) → sees_form p b w None o ≡ o
-sees_none p bus.A w o = refl
-sees_none p bus.B w o = refl
-
-pub seen_formless : (p : Contents) (i : Seen) (o : Observer) → form_of p.codes i.bus i.word ≡ None → o ≡ sees p i o
-seen_formless p i o e = sym (ap (λ (y : Option Form). sees_form p i.bus i.word y o) e ∙ sees_none p i.bus i.word o)
-
-pub shown_formless : (i : Seen) (s : SoFar) → unheard s ≡ unheard (so_far_after i.bus i.word None s)
-shown_formless i s = ap unheard (sym (formless_same i.bus i.word s))
-
 -- the word at a place is allowed
-pub allowed_at : (p : Contents) (items : List Seen) (n : ℕ) (i : Seen) (o : Observer) (s : SoFar) (parts : List ℕ) → slice_get items n ≡ Some i → AreAllowed p items (length items) → Witnesses p items n o s parts → Allows p o i
+pub allowed_at : (p : Contents) (items : List Seen) (n : ℕ) (i : Seen) (o : Observer) (s : SoFar) (parts : List ℕ) → slice_get items n ≡ Some i → AreAllowedUpTo p items (length items) → Witnesses p items n o s parts → Allows p o i
 allowed_at p items n i o s parts at may w =
     let here : AllowsNext p (observed p (take n items) at_first) (Some i) = subst (AllowsNext p (observed p (take n items) at_first)) at (may n (slice_get_within items n i at)) in
     subst (λ (q : Observer). Allows p q i) (sym w.observer) here
-
-pub witnesses_first : (p : Contents) (items : List Seen) (o : Observer) (s : SoFar) (parts : List ℕ) → o ≡ at_first → s ≡ at_start → parts ≡ [] → Witnesses p items 0 o s parts
-witnesses_first p items o s parts a b c = record { observer = a; so_far = ap unheard b; words = c ∙ ap (λ (z : SoFar). data_words p.codes z.attempt.words) (sym b); none = λ k l r h. absurd (omega arith) }
 
 -- where each reason that holds in one way holds in another, too
 pub none_before : (Holds Other : Reason → Type 0) → ((r : Reason) → Holds r → Other r) → (r : Reason) → HasNoneBefore Other r → HasNoneBefore Holds r

@@ -20,7 +20,7 @@ use Rattle.a429_cert.proofs.ExplainedFacts.{in_some_run}
 use Rattle.a429_explain.specs.declared.verdict.Reason.{Reason}
 use Rattle.a429_explain.specs.declared.verdict.Reason.TheVariants.{NoForm, NotGranted, WrongAnswer, BadBlock, WrongNumber, OtherBlock, NoRun}
 use Rattle.a429_explain.specs.declared.verdict.Verdict.TheVariants.{Impossible}
-use Rattle.a429_explain.specs.Walk.{AreAllowed, FitsAt, FitsSight}
+use Rattle.a429_explain.specs.Walk.{AreAllowedUpTo, FitsAt, FitsSight}
 use Rattle.a429_search.specs.declared.contradiction.Contradiction.{Contradiction}
 use Rattle.a429_search.specs.Contradiction.{ContradictsAt, HasNoContradiction, HasNoneBefore, HasNoRun, IsFirstContradiction}
 use Rattle.a429_search.proofs.ContradictionFacts.{none_before}
@@ -97,7 +97,7 @@ fits_within p items k r h = elim (cases_order k (length items)) [
     past l = absurd (subst (λ (o : Option Seen). FitsAt p.codes o r) (slice_get_past items k l) h)
 
 -- where each of the first n words is allowed, and none contradicts those before it, no reason holds
-pub no_reason : (p : Contents) (items : List Seen) (n : ℕ) → AreAllowed p items n → HasNoContradiction p items n → (k : ℕ) (r : Reason) → k < n → ¬ IsReasonAt p items k r
+pub no_reason : (p : Contents) (items : List Seen) (n : ℕ) → AreAllowedUpTo p items n → HasNoContradiction p items n → (k : ℕ) (r : Reason) → k < n → ¬ IsReasonAt p items k r
 no_reason p items n may none k r l (inl h) = h.0 (may k l)
 no_reason p items n may none k r l (inr h) = none k l r h
 
@@ -105,7 +105,7 @@ pub reason_within : (p : Contents) (items : List Seen) (k : ℕ) (r : Reason) �
 reason_within p items k r (inl h) = fits_within p items k r h.1
 reason_within p items k r (inr h) = contradicts_within p items k r h
 
-pub at_least : (p : Contents) (items : List Seen) (n : ℕ) → AreAllowed p items n → HasNoContradiction p items n → (k : ℕ) (r : Reason) → IsReasonAt p items k r → n ≤ k
+pub at_least : (p : Contents) (items : List Seen) (n : ℕ) → AreAllowedUpTo p items n → HasNoContradiction p items n → (k : ℕ) (r : Reason) → IsReasonAt p items k r → n ≤ k
 at_least p items n may none k r h = elim (cases_order k n) [
   | inl e ↦ omega (arith, e)
   | inr (inl l) ↦ absurd (no_reason p items n may none k r l h)
@@ -118,7 +118,7 @@ no_reason_at_all p items (may, none) k r h = no_reason p items (length items) ma
 
 -- ---- in the first n words
 
-pub allowed_first : (p : Contents) (items : List Seen) (n : ℕ) → AreAllowed p items n → AreAllowed p (take n items) (length (take n items))
+pub allowed_first : (p : Contents) (items : List Seen) (n : ℕ) → AreAllowedUpTo p items n → AreAllowedUpTo p (take n items) (length (take n items))
 allowed_first p items n may k l =
     let m : k < n = omega (arith, l, take_short n items) in
     subst (λ (xs : List Seen). AllowsNext p (observed p xs at_first) (slice_get (take n items) k)) (sym (take_first k n items (omega arith)))
@@ -159,7 +159,7 @@ found_first p items n c m first none =
       no_run = λ run. none (subst (λ (xs : List Seen). BeginsARun p xs) (sym (take_first (c.entry + 1) n items (omega arith))) run);
     }
 
-pub less_allowed : (p : Contents) (items : List Seen) (n k : ℕ) → k ≤ n → AreAllowed p items n → AreAllowed p items k
+pub less_allowed : (p : Contents) (items : List Seen) (n k : ℕ) → k ≤ n → AreAllowedUpTo p items n → AreAllowedUpTo p items k
 less_allowed p items n k l may j m = may j (omega arith)
 
 -- ---- an explanation
@@ -174,7 +174,7 @@ begins_first p items certificate files h n =
     let r = in_some_run p certificate items files h in
     record { first = r.first; byte = r.byte; steps = r.steps; run = r.run; more = drop n items; records = r.recorded ∙ sym (take_drop n items) }
 
-pub explained_none : (p : Contents) (items : List Seen) (certificate : List ℕ) (files : List FileBytes) → IsExplained p certificate items files → AreAllowed p items (length items)
+pub explained_none : (p : Contents) (items : List Seen) (certificate : List ℕ) (files : List FileBytes) → IsExplained p certificate items files → AreAllowedUpTo p items (length items)
     → ((items : List Seen) (i : ℕ) (r : Reason) → ContradictsAt p items i r → HasNoRun p items i)
     → (k : ℕ) (r : Reason) → ¬ IsReasonAt p items k r
 explained_none p items certificate files is may law k r (inl h) = h.0 (may k (fits_within p items k r h.1))
@@ -218,9 +218,5 @@ first_of_refused c (Some i) Holds NoRun h = tt
 pub impossible_by : (p : Contents) (items : List Seen) (n : ℕ) (c : Contradiction) → IsContradiction p items n c → IsImpossibleBy p items (Impossible c.entry c.reason)
 impossible_by p items n c h = (h.inside, inl (inr h.holds, h.ranked), h.no_run)
 
-pub first_by : (p : Contents) (items : List Seen) (n : ℕ) (c : Contradiction) → AreAllowed p items n → IsContradiction p items n c → (k : ℕ) (r : Reason) → IsReasonAt p items k r → c.entry ≤ k
+pub first_by : (p : Contents) (items : List Seen) (n : ℕ) (c : Contradiction) → AreAllowedUpTo p items n → IsContradiction p items n c → (k : ℕ) (r : Reason) → IsReasonAt p items k r → c.entry ≤ k
 first_by p items n c may h = at_least p items c.entry (less_allowed p items n c.entry (omega (arith, h.within)) may) h.before
-
--- of a whole recording
-pub found_whole : (p : Contents) (items : List Seen) (c : Contradiction) → IsFirstContradiction p items c → HasNoRun p items c.entry → IsContradiction p items (length items) c
-found_whole p items c first none = record { inside = first.inside; within = first.inside; holds = first.holds; before = first.before; ranked = first.ranked; no_run = none }

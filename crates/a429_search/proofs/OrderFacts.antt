@@ -1,7 +1,7 @@
 -- One list for several, where one order keeps all.
-use Rattle.std.proofs.Common.{◌≡◌, ◌≢◌, ◌==◌, ◌⊎◌, ℕ, zero, suc, ◌+◌, ◌-◌, ◌<◌, ◌≤◌, Bool, true, false, cond, List, [], ◌∷◌, ◌++◌, length, take, drop, get_or, slice_get, slice_index, replicate, Option, Some, None, Contains, Vec, refl, sym, ap, ◌∙◌, subst, inl, inr, arith}
+use Rattle.std.proofs.Common.{◌≡◌, ◌≢◌, ◌==◌, ◌⊎◌, ℕ, zero, suc, ◌+◌, ◌-◌, ◌<◌, ◌≤◌, Bool, true, false, cond, List, [], ◌∷◌, ◌++◌, length, take, drop, get_or, slice_get, slice_index, Option, Some, None, Contains, Vec, refl, sym, ap, ◌∙◌, subst, inl, inr, arith}
 use Rattle.std.proofs.lemmas.Bool.{eqb-true, eqb-false, eq-eqb, cases_eq}
-use Rattle.std.proofs.lemmas.List.{drop_more, drop_all, take_more, take_all, length-drop, length-map, length-replicate, get_or-replicate, get_or_default}
+use Rattle.std.proofs.lemmas.List.{drop_more, drop_all, take_more, take_all, length-drop, length-map, get_or_default}
 use Rattle.std.proofs.lemmas.List.Elements.{Contains-push_cases}
 use Rattle.std.proofs.lemmas.Option.{slice_get_within, get_or_from_slice_get}
 use Rattle.a429_link.specs.Run.{IsSubsequenceOf}
@@ -90,15 +90,6 @@ ComesNext lists ps w = (i : ℕ) × (i < length lists) × IsNext lists ps i w
 -- the next word of a list is one of it
 next_is_theirs : (xs : List ℕ) (k w : ℕ) → slice_get xs k ≡ Some w → Contains xs w
 next_is_theirs xs k w e = (k, slice_get_within xs k w e, get_or_from_slice_get xs k w w e)
-
-pub merging_none : (lists : List (List ℕ)) → Merging lists (replicate (length lists) 0) []
-merging_none lists = record {
-  counted = length-replicate (length lists) 0;
-  kept = λ i l. rw (get_or-replicate {A = ℕ} (length lists) i 0 0 l) refl;
-  once = tt;
-  own = λ w (k, l, e). absurd (omega arith);
-  apart = λ i l v (k, m, e). absurd (omega arith);
-}
 
 pub merging_more : (lists : List (List ℕ)) (ps qs merged : List ℕ) (w : ℕ) → Merging lists ps merged → length qs ≡ length ps → Passes lists ps qs w → ComesNext lists ps w → IsFree lists ps w → Merging lists qs (merged ++ w ∷ [])
 merging_more lists ps qs merged w m e p next free = record {

@@ -141,9 +141,6 @@ pub record Walk (left right : List ℕ) (i j : ℕ) (merged : List ℕ) : Type 0
   pub right_kept : IsSubsequenceOf (take j right) merged
   pub short : length merged + merged_length (drop i left) (drop j right) ≡ merged_length left right
 
-pub walk_start : (left right : List ℕ) → Walk left right 0 0 []
-walk_start left right = record { in_left = omega arith; in_right = omega arith; left_kept = refl; right_kept = refl; short = omega arith }
-
 merged_other : (us vs xs ys : List ℕ) (x y : ℕ) → us ≡ x ∷ xs → vs ≡ y ∷ ys → x ≢ y → merged_length us vs ≡ suc (min (merged_length xs vs) (merged_length us ys))
 merged_other us vs xs ys x y e f n = rw (e, f) (step_other x y xs ys n)
 

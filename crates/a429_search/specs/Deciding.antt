@@ -9,7 +9,7 @@ use Rattle.a429_explain.specs.declared.verdict.Verdict.{Verdict}
 use Rattle.a429_explain.specs.declared.verdict.Verdict.TheVariants.{Explained, Impossible, Unexplained}
 use Rattle.a429_explain.specs.declared.verdict.Doubt.{Doubt}
 use Rattle.a429_explain.specs.Verdict.{IsFirst}
-use Rattle.a429_explain.specs.Walk.{AreAllowed, FitsAt}
+use Rattle.a429_explain.specs.Walk.{AreAllowedUpTo, FitsAt}
 use Rattle.a429_search.specs.Contradiction.{ContradictsAt, HasNoContradiction, HasNoneBefore, HasNoRun}
 
 -- the words before item i do not allow it, and the reason fits it; or it contradicts them, by this reason
@@ -18,7 +18,7 @@ IsReasonAt p items i reason = (IsRefused p items i × FitsAt p.codes (slice_get 
 
 -- every item is allowed after those before it, and none contradicts them: no reason holds at any of them
 abbrev pub HasNoReason : Contents → List Seen → Type 0
-HasNoReason p items = AreAllowed p items (length items) × HasNoContradiction p items (length items)
+HasNoReason p items = AreAllowedUpTo p items (length items) × HasNoContradiction p items (length items)
 
 -- the reason holds at item i, and item i contradicts the words before it by no reason that comes before this one in their order
 abbrev pub IsFirstReasonAt : Contents → List Seen → ℕ → Reason → Type 0

@@ -1,12 +1,12 @@
 //! The first word of a recording that contradicts those before it.
 
 ghost use Rattle.std.specs.Prelude.{◌≡◌, ◌↔◌, ℕ, List, [], Ok, Some, None, IfOk, IfSome, IsTrue, OnOk, length};
-ghost use Rattle.a429_explain.specs.Walk.{AreAllowed};
+ghost use Rattle.a429_explain.specs.Walk.{AreAllowedUpTo};
 ghost use Rattle.a429_profile.specs.Profile.{Contents, IsProfile};
 ghost use Rattle.a429_ldu.specs.Form.{form_of};
 ghost use Rattle.a429_link.specs.declared.seen.Seen.{Seen};
 ghost use Rattle.a429_link.specs.Observer.{at_first, sees, Allows};
-ghost use Rattle.a429_link.specs.Contradiction.{at_start, so_far_after};
+ghost use Rattle.a429_link.specs.Contradiction.{none_so_far, so_far_after};
 ghost use Rattle.a429_explain.specs.declared.verdict.Reason.{Reason};
 ghost use Rattle.a429_link.specs.WholeBlock.{IsHalfForm, data_words};
 ghost use Rattle.a429_search.specs.SoFar.{data_after, unheard};
@@ -59,7 +59,7 @@ pub fn first_contradiction(
     alloc: Global,
     decoded: &Decoded,
 ) -> Result<Option<Contradiction>, AllocError>
-    requires { AreAllowed decoded.now.profile decoded.now.items (length decoded.now.items) }
+    requires { AreAllowedUpTo decoded.now.profile decoded.now.items (length decoded.now.items) }
     ensures first { IfOk result (λ found. IfSome found (IsFirstContradiction decoded.now.profile decoded.now.items)) }
     ensures impossible { IfOk result (λ found. IfSome found (λ c. HasNoRun decoded.now.profile decoded.now.items c.entry)) }
     ensures none { result ≡ Ok None → HasNoContradiction decoded.now.profile decoded.now.items (length decoded.now.items) }
@@ -80,7 +80,7 @@ pub fn first_contradiction(
 impl Witness {
     fn new(alloc: Global) -> Witness
         ensures observer { result.observer ≡ at_first }
-        ensures so_far { result.so_far ≡ at_start }
+        ensures so_far { result.so_far ≡ none_so_far }
         ensures parts { result.parts ≡ [] }
     {
         Witness {

@@ -5,7 +5,7 @@ ghost use Rattle.std.specs.Prelude.{◌≡◌, ◌<◌, ℕ, Ok, None, IfOk, IfS
 ghost use Rattle.a429_cert.specs.Explained.{items_of, IsExplained, AreInEveryRun};
 ghost use Rattle.a429_explain.specs.Explanation.{HasNoFault, HasLeastVersion};
 ghost use Rattle.a429_explain.specs.Verdict.{IsSoundVerdict, IsAccepted, IsOfLeastVersion, IsDoubted, HasNoForm, IsImpossibility, IsExplanation};
-ghost use Rattle.a429_explain.specs.Walk.{AreAllowed};
+ghost use Rattle.a429_explain.specs.Walk.{AreAllowedUpTo};
 ghost use Rattle.a429_explain.specs.WithoutLoss.{IsWithoutLoss};
 ghost use Rattle.a429_search.specs.Contradiction.{HasNoContradiction, IsFirstContradiction, HasNoRun};
 ghost use Rattle.a429_search.specs.Deciding.{IsImpossibleBy, IsImpossibleUpTo, IsOfCheck, IsReasonAt};
@@ -87,7 +87,7 @@ fn contradiction(
     profile: &Profile,
     entries: &[Entry],
 ) -> Result<Option<Contradiction>, OutOfMemory>
-    requires { AreAllowed profile.now (items_of entries.now) (length (items_of entries.now)) }
+    requires { AreAllowedUpTo profile.now (items_of entries.now) (length (items_of entries.now)) }
     ensures first { IfOk result (λ found. IfSome found (IsFirstContradiction profile.now (items_of entries.now))) }
     ensures impossible { IfOk result (λ found. IfSome found (λ c. HasNoRun profile.now (items_of entries.now) c.entry)) }
     ensures none { result ≡ Ok None → HasNoContradiction profile.now (items_of entries.now) (length (items_of entries.now)) }

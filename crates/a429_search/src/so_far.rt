@@ -1,7 +1,7 @@
 //! What a recording has shown so far of the link data unit whose start word came last.
 
 ghost use Rattle.std.specs.Prelude.{◌≡◌, ◌⊎◌, ◌↔◌, ℕ, List, Option, Some, IsTrue, OnOk};
-ghost use Rattle.a429_link.specs.Contradiction.{at_start, sends, so_far_after, with_start, with_ack, IsOtherEnd, IsOtherForm, IsWrongForm};
+ghost use Rattle.a429_link.specs.Contradiction.{none_so_far, sends, so_far_after, with_start, with_ack, IsOtherEnd, IsOtherForm, IsWrongForm};
 ghost use Rattle.a429_link.specs.Group.{IsFurther};
 ghost use Rattle.a429_search.specs.SoFar.{kept_with, unheard, with_end_word};
 
@@ -49,7 +49,7 @@ impl Model for SoFar {
 impl SoFar {
     /// Before all words.
     pub(crate) fn new(alloc: Global) -> SoFar
-        ensures { result ≡ at_start }
+        ensures { result ≡ none_so_far }
     {
         SoFar {
             count: 0,

@@ -4,7 +4,7 @@ use Rattle.a429_link.specs.declared.seen.Seen.{Seen}
 use Rattle.a429_cert.specs.Explained.{items_of, seen_of}
 use Rattle.a429_explain.specs.declared.verdict.Verdict.{Verdict}
 use Rattle.a429_explain.specs.Verdict.{IsFirst, IsImpossible, IsSoundVerdict}
-use Rattle.a429_explain.specs.Walk.{AreAllowed}
+use Rattle.a429_explain.specs.Walk.{AreAllowedUpTo}
 use Rattle.a429_search.specs.declared.contradiction.Contradiction.{Contradiction}
 use Rattle.a429_search.specs.Contradiction.{ContradictsAt, HasNoContradiction, HasNoRun, IsFirstContradiction}
 use Rattle.a429_search.proofs.DecidingFacts.{allowed_first, at_least, explained_none, first_by, found_first, first_of_refused, impossible_by, no_reason_at_all, none_first}
@@ -16,7 +16,7 @@ contradiction-requires c =
     let items = items_of c.args.entries.now in
     let n = c.in-Ok-Impossible.entry in
     let refused = subst (λ (v : Verdict). IsFirst p items v) c.in-Ok-Impossible.field-0-is c.in-Ok-Impossible.ensures.first in
-    subst (λ (xs : List Seen). AreAllowed p xs (length xs)) (take-map seen_of n c.args.entries.now) (allowed_first p items n refused.before)
+    subst (λ (xs : List Seen). AreAllowedUpTo p xs (length xs)) (take-map seen_of n c.args.entries.now) (allowed_first p items n refused.before)
 
 pub returns-in-Ok-Explained-clause-first : goal.returns-in-Ok-Explained-clause-first
 returns-in-Ok-Explained-clause-first c =
