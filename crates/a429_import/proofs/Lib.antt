@@ -1,0 +1,5 @@
+pub mod BaseFacts
+pub mod BitsFacts
+pub mod PieceFacts
+pub mod TurningFacts
+pub mod ParityFacts
