@@ -3,3 +3,4 @@ pub mod BitsFacts
 pub mod PieceFacts
 pub mod TurningFacts
 pub mod ParityFacts
+pub mod TimeFacts

@@ -6,3 +6,4 @@ pub mod Texts
 pub mod Turning
 pub mod Parity
 pub mod Channel
+pub mod Time

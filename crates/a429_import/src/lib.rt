@@ -9,6 +9,7 @@ mod parity;
 mod part;
 mod piece;
 mod texts;
+mod time;
 mod turning;
 
 pub use crate::base::Base;
@@ -19,4 +20,5 @@ pub use crate::parity::{ParityBit, Status, Verdict};
 pub use crate::part::Part;
 pub use crate::piece::Piece;
 pub use crate::texts::Texts;
+pub use crate::time::{Number, Reading, Unit, read_time};
 pub use crate::turning::Turning;

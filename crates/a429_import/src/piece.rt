@@ -32,7 +32,7 @@ impl Piece {
 }
 
 // The place of the first such byte.
-fn end_of(text: &[u8], at: u8) -> Option<usize>
+pub(crate) fn end_of(text: &[u8], at: u8) -> Option<usize>
     ensures inside { IfSome result (λ e. e < length text.now) }
     ensures first { result ≡ position (λ b. b == at) text.now }
 {
