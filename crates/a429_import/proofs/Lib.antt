@@ -1,0 +1,6 @@
+pub mod BaseFacts
+pub mod BitsFacts
+pub mod PieceFacts
+pub mod TurningFacts
+pub mod ParityFacts
+pub mod TimeFacts

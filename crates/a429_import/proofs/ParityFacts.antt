@@ -1,0 +1,23 @@
+-- Bit 32, by a mask and a sum.
+use Rattle.std.proofs.Common.{◌≡◌, ℕ, ◌+◌, ◌-◌, ◌*◌, ◌/◌, ◌%◌, ◌^◌, ◌<◌, ◌∙◌, sym, ap, arith, bit_and}
+use Rattle.std.proofs.lemmas.Nat.{and_mask}
+use Rattle.a429_word.specs.Word.{number_at, count_of_ones}
+use Rattle.a429_word.proofs.WordBits.{number_at-is, number_at-lt}
+use Rattle.a429_import.specs.Parity.{with_bit_32, odd_below}
+
+low : (w : ℕ) → bit_and w 2147483647 ≡ number_at w 1 31
+low w =
+    let whole : w / 2 ^ 0 % 2 ^ 31 ≡ w % 2 ^ 31 = ap (λ n. n % 2 ^ 31) (omega arith) in
+    and_mask w 31 ∙ sym (number_at-is w 0 31 ∙ whole)
+
+pub low_mask : (w : ℕ) → bit_and w 2147483647 < 2147483648
+low_mask w = rw (low w) (number_at-lt w 0 31)
+
+pub good-is : (w r : ℕ) → r ≡ bit_and w 2147483647 + (1 - count_of_ones (bit_and w 2147483647) % 2) * 2 ^ 31 → r ≡ with_bit_32 w (1 - odd_below w)
+good-is w r e = e ∙ ap (λ n. n + (1 - count_of_ones n % 2) * 2 ^ 31) (low w)
+
+other_bit : (n o : ℕ) → n < 2147483648 → (n + (1 - o % 2) * 2147483648 + 2147483648) % 4294967296 ≡ n + o % 2 * 2147483648
+other_bit n o h = omega arith
+
+pub bad-is : (w r : ℕ) → r ≡ with_bit_32 w (1 - odd_below w) → (r + 2147483648) % 4294967296 ≡ with_bit_32 w (odd_below w)
+bad-is w r e = rw e (other_bit (number_at w 1 31) (count_of_ones (number_at w 1 31)) (number_at-lt w 0 31))
