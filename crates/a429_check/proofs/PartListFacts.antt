@@ -88,10 +88,6 @@ after_entries text after rest from n m e h few small none =
 pub after_before : (text after rest : List ℕ) (from : ℕ) → text ≡ after_count from rest → text ≡ codes " from " ++ (decimal from ++ after) → after ≡ codes "\n" ++ rest
 after_before text after rest from e h = append_cancel_left (decimal from) _ _ (append_cancel_left (codes " from ") _ _ (sym h ∙ e))
 
--- the fields are a line
-pub whole_line : (text a b c rest : List ℕ) (k from n : ℕ) → text ≡ codes "part " ++ (decimal k ++ a) → a ≡ codes " entries " ++ (decimal n ++ b) → b ≡ codes " from " ++ (decimal from ++ c) → c ≡ codes "\n" ++ rest → text ≡ part_line k from n ++ rest
-whole_line text a b c rest k from n e f g h = e ∙ rw (f, g, h) (sym (fields k from n rest))
-
 -- ---- lines
 
 abbrev pub AreFew : List ℕ → Type 0
@@ -190,17 +186,7 @@ no_sizes text counts rest number from h none refuses all l = let b = begun text 
     by [] e f = refuses (subst ArePartSizes (e ∙ append-nil counts) l.sizes)
     by (n ∷ more) e f = absurd (cc f)
 
-pub is_list : (text counts rest : List ℕ) (number from : ℕ) → IsReadTo text counts rest number from → rest ≡ [] → ArePartSizes counts → from < 10 ^ 19 → ListsParts text counts
-is_list text counts rest number from h none sizes small =
-    record { spelled = h.spelled ∙ ap (λ (t : List ℕ). part_lines 1 0 counts ++ t) none ∙ append-nil (part_lines 1 0 counts); sizes = sizes; few = omega (arith, h.before, small) }
-
 -- ---- digits
-
-pub ends_at : (text : List ℕ) (len : ℕ) → (len < length text → digit_value (get_or text len 0) < 10 → ⊥) → BeginsWithNoDigit (drop len text)
-ends_at [] zero h = tt
-ends_at [] (suc len) h = tt
-ends_at (b ∷ text) zero h = h (omega arith)
-ends_at (b ∷ text) (suc len) h = ends_at text len (λ inside. h (omega (arith, inside)))
 
 pub digit_here : (ds : List ℕ) (i : ℕ) → AllDigits 10 ds → i < length ds → digit_value (get_or ds i 0) < 10
 digit_here [] i p h = absurd (omega (arith, h))

@@ -33,12 +33,6 @@ pub refuses_known : (o : Option Part) (known : Option (List ℕ)) (rec : Option 
 refuses_known None known rec old f h j = tt
 refuses_known (Some q) known rec old f h j = subst (λ k. RefusesPart old k (Some q.recording) f) h.0 (subst (λ r. RefusesPart old known r f) h.1 j)
 
--- a device that has failed, or memory that was refused, is a fault of any part
-pub stopped_known : (o : Option Part) (old : SeriesValue) (f : StreamFault) → (f ≡ stream.Device) ⊎ (f ≡ stream.OutOfMemory) → IfSome o (λ q. IsPartFault old f q.certificate q.recording)
-stopped_known None old f h = tt
-stopped_known (Some q) old f (inl e) = subst (λ (o : StreamFault). IsPartFault old o q.certificate q.recording) (sym e) tt
-stopped_known (Some q) old f (inr e) = subst (λ (o : StreamFault). IsPartFault old o q.certificate q.recording) (sym e) tt
-
 pub all_known : (o : Option Part) (known : Option (List ℕ)) (rec : Option Recording) (old : SeriesValue) (r : Result SeriesValue StreamFault)
     → IfSome o (λ q. Holds q known rec) → IfOk r (Joins old known rec) → IfOk r (λ new. IfSome o (λ q. Joins old (Some q.certificate) (Some q.recording) new))
 all_known o known rec old (Ok new) h j = joins_known o known rec old new h j
@@ -116,9 +110,6 @@ module _ (p : Contents) (part : ℕ → Option Part) (counts : List ℕ) where
   -- so many parts fit
   abbrev pub SoFar : ℕ → SeriesValue → Type 0
   SoFar i s = IfSome (first_parts part i) (λ parts. FitAs p parts (take i counts) s)
-
-  pub none_yet : SoFar 0 (no_parts p)
-  none_yet = record { added = refl; counted = refl }
 
   pub one_more : (i : ℕ) (s new : SeriesValue) → SoFar i s → IfSome (part (suc i)) (λ q. Joins s (Some q.certificate) (Some q.recording) new)
       → IfSome (first_parts part (suc i)) (λ parts. FitAs p parts (take i counts ++ (new.entries ∷ [])) new)
@@ -211,17 +202,6 @@ fault_of_list p list part counts Failed (Ok a) listed h = tt
 fault_of_list p list part counts Failed (Err e) listed h = inr (counts, listed, h)
 
 -- ---- why there is no verdict
-
-pub by_profile : (i : SeriesInput) (Failed : Type 0) (e : RunFault) → IsProfileFault i.profile e → IsSeriesFault i Failed e
-by_profile i Failed (run.Profile f) h = h
-by_profile i Failed run.Memory h = h
-by_profile i Failed (run.Read f) h = absurd h
-by_profile i Failed run.Device h = absurd h
-by_profile i Failed (run.Cut k f) h = absurd h
-by_profile i Failed run.TooLong h = absurd h
-by_profile i Failed run.BadWord h = absurd h
-by_profile i Failed run.Usage h = absurd h
-by_profile i Failed run.OldFiles h = absurd h
 
 by_parts : (i : SeriesInput) (Failed : Type 0) (p : Contents) (counts : List ℕ) (e : RunFault) → IsProfileOf i.profile p → ListsParts i.list counts → IsPartsFault p i.part counts Failed e → IsSeriesFault i Failed e
 by_parts i Failed p counts (run.Profile f) is listed h = absurd h

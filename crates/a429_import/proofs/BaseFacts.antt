@@ -32,26 +32,10 @@ last_false true true = refl
 last_false true false = refl
 last_false false b = refl
 
-pub number_in-other : (radix bits : ℕ) (text : List ℕ) → (AllDigits radix text → ⊥) → None ≡ number_in radix bits text
-number_in-other radix bits text h =
-    let other : all_digits radix text ≡ false = not_true (all_digits radix text) (λ e. h (all_digits-to radix text e)) in
-    rw (other, middle_false (nat_le 1 (length text)) (nat_lt (digits_value radix text) (2 ^ bits))) refl
-
 pub number_in-above : (radix bits : ℕ) (text : List ℕ) → 2 ^ bits ≤ digits_value radix text → None ≡ number_in radix bits text
 number_in-above radix bits text h =
     let other : nat_lt (digits_value radix text) (2 ^ bits) ≡ false = grind (arith, nat_tests) in
     rw (other, last_false (nat_le 1 (length text)) (all_digits radix text)) refl
-
-pub number_in-none : (radix bits : ℕ) (text : List ℕ) → length text ≡ 0 → None ≡ number_in radix bits text
-number_in-none radix bits [] h = refl
-number_in-none radix bits (c ∷ cs) h = absurd (omega arith)
-
--- ---- a byte that is no digit
-
-pub no_digit : (radix : ℕ) (text : List ℕ) (i : ℕ) → i < length text → radix ≤ digit_value (get_or text i 0) → AllDigits radix text → ⊥
-no_digit radix [] i h large all = omega arith
-no_digit radix (b ∷ bs) zero h large all = omega (arith, all.0)
-no_digit radix (b ∷ bs) (suc i) h large all = no_digit radix bs i (omega arith) large all.1
 
 -- ---- digits so far
 
