@@ -23,10 +23,6 @@ number_in-is radix bits text n some all e small =
     let below : nat_lt (digits_value radix text) (2 ^ bits) ≡ true = grind (arith, nat_tests) in
     rw (first, all_digits-from radix text all, below) (ap Some e)
 
-middle_false : (a c : Bool) → (a && false && c) ≡ false
-middle_false true c = refl
-middle_false false c = refl
-
 last_false : (a b : Bool) → (a && b && false) ≡ false
 last_false true true = refl
 last_false true false = refl

@@ -1,6 +1,7 @@
 //! The callers that the pages of the crates show.
 
 use crate::profile::sample_profile;
+use a429_import::{Base, Bits};
 use a429_ldu::{CutFault, Ldu, cut};
 use a429_profile::{Profile, ProfileFault, read_profile};
 use a429_record::{Entry, ReadFault, read_entries};
@@ -23,6 +24,22 @@ fn a_word_and_its_label(rt: HostRuntime) {
     let written = write_label(Word::from_u32(0xE138_80C1), &mut Tally::new(&mut text, 0));
     assert!(rt; written.is_ok());
     assert!(rt; text.as_slice() == b"E13880C1 203\n".as_slice());
+}
+
+/// The word whose bits 1 to 8 have this label, in three octal digits.
+fn with_label(digits: &[u8]) -> Option<u32> {
+    let label = Bits {
+        low: 1,
+        count: 8,
+        reversed: true,
+    };
+    let number = Base::Octal.number(digits, label.count)?;
+    Some(label.place(number))
+}
+
+#[test]
+fn a_label_of_octal_digits(rt: HostRuntime) {
+    assert!(rt; with_label(b"304") == Some(0x23));
 }
 
 /// Writes words, a line for each, by an empty page.
