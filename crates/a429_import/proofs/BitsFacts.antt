@@ -3,9 +3,9 @@ use Rattle.std.proofs.Common.{◌≡◌, ℕ, zero, suc, ◌+◌, ◌-◌, ◌*�
 use Rattle.std.specs.Int.{bit_at, reverse_bits_onto}
 use Rattle.std.proofs.lemmas.Nat.{pow-add, pow_pos, shr-shr}
 use Rattle.std.proofs.lemmas.Nat.Bits.{bit_at-suc, bit_at-lt}
-use Rattle.std.proofs.Math.Nat.{mod-eq_of_lt, pow-le-pow_right}
-use Rattle.a429_word.specs.Word.{sum_below, number_at}
-use Rattle.a429_word.proofs.WordBits.{sum_below-same, number_at-is}
+use Rattle.std.proofs.Math.Nat.{mod-eq_of_lt, pow-le-pow_right, mul-div_cancel}
+use Rattle.a429_word.specs.Word.{sum_below, number_at, label_of}
+use Rattle.a429_word.proofs.WordBits.{sum_below-same, number_at-is, label-is, reversed_twice}
 use Rattle.a429_import.specs.declared.bits.Bits.{Bits}
 use Rattle.a429_import.specs.Bits.{AreInWord, placed}
 
@@ -109,3 +109,25 @@ placed-reversed b n reversed are =
     let first : reverse_bits_onto 32 n 0 / 2 ^ (32 - b.count) ≡ reverse_bits_onto b.count n 0 = ap (λ i. reverse_bits_onto i n 0 / 2 ^ (32 - b.count)) all ∙ reversed_first (32 - b.count) b.count n in
     let small : reverse_bits_onto b.count n 0 < 2 ^ b.count = omega (arith, reversed_below b.count n 0) in
     rw (first, reversed) (mod-eq_of_lt (below_word b.count b.low _ are.first are.last small) ∙ sym (reversed_up b.count b.low n are.first))
+
+-- ---- read back
+
+placed-moved : (b : Bits) (n : ℕ) → b.reversed ≡ false → AreInWord b → n < 2 ^ b.count → placed b n ≡ n * 2 ^ (b.low - 1)
+placed-moved b n straight are h = rw straight (moved_up b.count b.low n are.first h)
+
+pub read_back : (b : Bits) (n : ℕ) → AreInWord b → b.reversed ≡ false → n < 2 ^ b.count → number_at (placed b n) b.low b.count ≡ n
+read_back b n are straight h =
+    let first : b.low ≡ suc (b.low - 1) = omega (arith, are.first) in
+    ap (λ i. number_at (placed b n) i b.count) first ∙ number_at-is (placed b n) (b.low - 1) b.count
+    ∙ rw (placed-moved b n straight are h, mul-div_cancel n (pow_pos (b.low - 1))) (mod-eq_of_lt h)
+
+times_one : (w : ℕ) → w * 1 ≡ w
+times_one w = omega arith
+
+pub label_back : (n : ℕ) → n < 256 → label_of (placed (record { low = 1; count = 8; reversed = true }) n) ≡ n
+label_back n h =
+    let w = reverse_bits_onto 8 n 0 in
+    let placed-is : placed (record { low = 1; count = 8; reversed = true }) n ≡ w = reversed_up 8 1 n (omega arith) ∙ times_one w in
+    let small : w < 256 = omega (arith, reversed_below 8 n 0) in
+    let all : w % 256 ≡ w = omega arith in
+    ap label_of placed-is ∙ sym (label-is w) ∙ ap (λ m. reverse_bits_onto 8 m 0) all ∙ reversed_twice n h

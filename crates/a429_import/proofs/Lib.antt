@@ -4,3 +4,4 @@ pub mod PieceFacts
 pub mod TurningFacts
 pub mod ParityFacts
 pub mod TimeFacts
+pub mod ValueFacts

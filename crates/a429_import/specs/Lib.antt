@@ -7,3 +7,8 @@ pub mod Turning
 pub mod Parity
 pub mod Channel
 pub mod Time
+pub mod Fault
+pub mod Value
+pub mod Key
+pub mod Map
+pub mod PartTable

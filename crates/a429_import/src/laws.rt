@@ -1,0 +1,25 @@
+//! Laws of the definitions that the contracts of this crate cite.
+
+ghost use Rattle.std.specs.Prelude.{◌≡◌, ℕ, ◌<◌, ◌^◌, true, false};
+ghost use Rattle.a429_word.specs.Word.{number_at, label_of, HasOddParity};
+ghost use Rattle.a429_import.specs.declared.bits.Bits.{Bits};
+ghost use Rattle.a429_import.specs.declared.parity.Verdict.{Verdict};
+ghost use Rattle.a429_import.specs.declared.parity.Verdict.TheVariants as verdict;
+ghost use Rattle.a429_import.specs.Bits.{AreInWord, placed};
+ghost use Rattle.a429_import.specs.Parity.{judged};
+
+/// A number put at some bits is the number of these bits, where they are not reversed.
+pub fn a_number_is_read_back()
+    ensures { (b : Bits) (n : ℕ) → AreInWord b → b.reversed ≡ false → n < 2 ^ b.count → number_at (placed b n) b.low b.count ≡ n }
+{}
+
+/// A number at bits 1 to 8 that are reversed is the label.
+pub fn a_label_is_read_back()
+    ensures { (n : ℕ) → n < 2 ^ 8 → label_of (placed (record { low = 1; count = 8; reversed = true }) n) ≡ n }
+{}
+
+/// Bit 32 is made so that a word that was good has odd parity; the other bits stay, whatever is said of it.
+pub fn bit_32_says_so()
+    ensures good { (w : ℕ) → HasOddParity (judged verdict.Good w) }
+    ensures stays { (v : Verdict) (w : ℕ) → number_at (judged v w) 1 31 ≡ number_at w 1 31 }
+{}
