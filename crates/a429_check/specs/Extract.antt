@@ -48,3 +48,4 @@ Leaves profile at Failed (run.Cut k f) = ⊥
 Leaves profile at Failed run.TooLong = ⊥
 Leaves profile at Failed run.BadWord = ⊥
 Leaves profile at Failed run.Usage = ⊥
+Leaves profile at Failed run.OldFiles = ⊥
