@@ -3,5 +3,7 @@
 
 mod alone;
 pub mod laws;
+mod lone;
 
 pub use crate::alone::sink_allows;
+pub use crate::lone::LoneSink;
