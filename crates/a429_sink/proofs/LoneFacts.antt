@@ -1,14 +1,24 @@
 -- What is kept of a sink by itself.
-use Rattle.std.proofs.Common.{◌≡◌, ℕ, ◌+◌, ◌≤◌, Bool, true, false, cond, List, [], length, Option, Some, refl, sym, ap, ◌∙◌}
+use Rattle.std.proofs.Common.{◌≡◌, ℕ, ◌+◌, ◌≤◌, Bool, true, false, cond, List, [], length, Option, Some, refl, sym, ap, ◌∙◌, subst}
 use Rattle.std.proofs.lemmas.Bool.{le-ltb}
+use Rattle.a429_word.specs.declared.bus.Bus.{Bus}
 use Rattle.a429_word.specs.declared.bus.Bus.TheVariants as bus
 use Rattle.a429_profile.specs.Profile.{Contents}
+use Rattle.a429_ldu.specs.Form.{form_of}
+use Rattle.a429_ldu.specs.Sight.{form_in, sight_of}
+use Rattle.a429_ldu.specs.declared.sight.Sight.{Sight}
+use Rattle.a429_ldu.specs.declared.sight.Sight.TheVariants as sight
+use Rattle.a429_ldu.proofs.SightFacts.{form_of-sight}
+use Rattle.a429_ldu.specs.declared.forms.Form.{Form}
 use Rattle.a429_ldu.specs.declared.forms.Form.TheVariants as form
 use Rattle.a429_link.specs.declared.file.FileBytes.{FileBytes}
 use Rattle.a429_link.specs.Implied.{Implied, implies_form}
 use Rattle.a429_link.specs.Observer.{HasGrant}
-use Rattle.a429_link.specs.Sink.{Block, EndWord, Granted, InBlock, Number, OwesAck, OwesClear, OwesNak, Quiet, Sink, SinkPhase, at_end, end_word, in_phase, is_good, without_files}
-use Rattle.a429_sink.specs.Lone.{IsCounted, IsCountedIn, capped, capped_in, keeps_form}
+use Rattle.a429_link.specs.Sink.{Block, EndWord, Granted, InBlock, IsAck, Number, OwesAck, OwesClear, OwesNak, Quiet, Sink, SinkPhase, at_end, end_word, in_phase, is_good, without_files}
+use Rattle.a429_sink.specs.declared.fault.SinkFault.{SinkFault}
+use Rattle.a429_sink.specs.declared.fault.SinkFault.TheVariants as fault
+use Rattle.a429_sink.proofs.AloneFacts.{allows_answer}
+use Rattle.a429_sink.specs.Lone.{IsFaultOf, IsFaultOn, IsCounted, IsCountedIn, capped, capped_in, keeps_form}
 
 -- ---- what stays as it is
 
@@ -53,3 +63,12 @@ end_is_kept p i flags check g = ap (λ (q : SinkPhase). without_files (in_phase 
 
 pub end_is_counted : (p : Contents) (i : Implied) (flags check : ℕ) → HasGrant i.sink.phase → IsCounted (implies_form p bus.A 0 (Some (form.Eot flags check)) i)
 end_is_counted p i flags check g = (end_owes p i.sink.last i.sink.count (end_word flags check) i.sink.phase g).1 i.begun i.parts
+
+-- ---- a word by what it is
+
+pub form_seen : (p : Contents) (b : Bus) (w : ℕ) (s : Sight) → s ≡ sight_of p.codes b w → form_of p.codes b w ≡ form_in s
+form_seen p b w s e = sym (ap form_in e ∙ form_of-sight p.codes b w)
+
+pub fault_on : (p : Contents) (k : Sink) (w : ℕ) (x : Form) (f : SinkFault) → sight.Form x ≡ sight_of p.codes bus.B w → IsFaultOf k x f → IsFaultOn p k bus.B w f
+fault_on p k w x fault.Refused e h = λ a. h ((allows_answer p k w (sight.Form x) e).0 a)
+fault_on p k w x fault.OutOfMemory e h = ((allows_answer p k w (sight.Form x) e).1 h.0, subst IsAck (sym (form_seen p bus.B w (sight.Form x) e)) h.1)

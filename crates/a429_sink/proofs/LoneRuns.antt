@@ -1,16 +1,22 @@
 -- What is kept of a sink by itself is what the words say of it.
-use Rattle.std.proofs.Common.{◌≡◌, ◌↔◌, ◌⊎◌, ℕ, ◌+◌, ◌==◌, Bool, true, false, cond, nat_lt, List, [], ◌∷◌, ◌++◌, length, Option, Some, None, refl, sym, ap, ◌∙◌, subst, inl, inr, arith}
+use Rattle.std.proofs.Common.{◌≡◌, ◌↔◌, ◌⊎◌, ℕ, ◌+◌, ◌==◌, Bool, true, false, cond, nat_lt, List, [], ◌∷◌, ◌++◌, append-nil, length, Option, Some, None, refl, sym, ap, ◌∙◌, subst, inl, inr, arith}
 use Rattle.std.proofs.lemmas.Bool.Decides.{nat_tests}
 use Rattle.std.proofs.lemmas.List.{length-append}
 use Rattle.a429_word.specs.declared.bus.Bus.{Bus}
 use Rattle.a429_word.specs.declared.bus.Bus.TheVariants as bus
 use Rattle.a429_profile.specs.Profile.{Contents}
 use Rattle.a429_profile.specs.declared.codes.Codes.{Codes}
-use Rattle.a429_ldu.specs.Form.{form_of}
+use Rattle.a429_ldu.specs.Form.{form_of, is_free}
 use Rattle.a429_ldu.specs.Carried.{bytes_in}
 use Rattle.a429_ldu.specs.Ldu.{is_final}
 use Rattle.a429_ldu.specs.declared.forms.Form.{Form}
 use Rattle.a429_ldu.specs.declared.forms.Form.TheVariants as form
+use Rattle.a429_ldu.specs.Sight.{form_in, sight_in}
+use Rattle.a429_ldu.specs.declared.sight.Sight.TheVariants as sight
+use Rattle.a429_ldu.proofs.SightFacts.{form_of-sight}
+use Rattle.a429_link.specs.declared.doing.Crossing.{Crossing}
+use Rattle.a429_link.specs.declared.doing.Doing.{Doing}
+use Rattle.a429_link.specs.declared.doing.Doing.TheVariants as doing
 use Rattle.a429_link.specs.declared.seen.Seen.{Seen}
 use Rattle.a429_link.specs.Implied.{crossings_of, does, sink_sees_form, sizes_of, Implied}
 use Rattle.a429_link.specs.Sink.{Block, EndWord, Granted, InBlock, MayAnswer, MayAnswerForm, Number, OwesAck, OwesClear, OwesNak, Quiet, Sink, SinkPhase, accepts_owed, at_end, at_part, at_start, emptied, empty_block, end_word, in_phase, is_same, is_same_file, number_of, put, without_files}
@@ -19,7 +25,7 @@ use Rattle.a429_link.proofs.ImpliedFacts.{file_crosses, files_stay_without, impl
 use Rattle.a429_link.proofs.ObserverRefuses.{sees_on_as}
 use Rattle.a429_link.proofs.TraceFiles.{after_push, observed_sink}
 use Rattle.a429_sink.specs.Alone.{SinkAllows, SinkAllowsOn}
-use Rattle.a429_sink.specs.Lone.{capped, capped_in, keeps_form, kept}
+use Rattle.a429_sink.specs.Lone.{capped, capped_in, crosses, crosses_form, crossing_by, keeps_form, kept, listed}
 
 -- ---- a block that is left out changes nothing
 
@@ -172,7 +178,7 @@ owes_kept count Granted x h = refl
 owes_kept count (OwesAck b flags) x h = refl
 owes_kept count OwesNak x h = refl
 
-pub kept_crosses : (p : Contents) (items : List Seen) (w : ℕ) (x : Form) → form_of p.codes bus.B w ≡ Some x → MayAnswer (kept p items sink_at_first).count (kept p items sink_at_first).phase x
+kept_crosses : (p : Contents) (items : List Seen) (w : ℕ) (x : Form) → form_of p.codes bus.B w ≡ Some x → MayAnswer (kept p items sink_at_first).count (kept p items sink_at_first).phase x
     → sizes_of (files_of p (items ++ record { bus = bus.B; word = w } ∷ [])) ≡ sizes_of (files_of p items) ++ crossings_of (does p bus.B 0 x (kept p items sink_at_first))
 kept_crosses p items w x e a =
     let s = sink_after p items sink_at_first in
@@ -183,7 +189,7 @@ kept_crosses p items w x e a =
     file_crosses p items (record { bus = bus.B; word = w }) x e seen
     ∙ ap (λ (k : Sink). sizes_of (files_of p items) ++ crossings_of (does p bus.B 0 x k)) (out ∙ sym same)
 
-pub kept_stays : (p : Contents) (items : List Seen) (i : Seen) → (i.bus ≡ bus.A) ⊎ (form_of p.codes i.bus i.word ≡ None) → files_of p (items ++ i ∷ []) ≡ files_of p items
+kept_stays : (p : Contents) (items : List Seen) (i : Seen) → (i.bus ≡ bus.A) ⊎ (form_of p.codes i.bus i.word ≡ None) → files_of p (items ++ i ∷ []) ≡ files_of p items
 kept_stays p items i (inr e) = files_stay_without p items i e
 kept_stays p items i (inl e) =
     let s = sink_after p items sink_at_first in
@@ -198,3 +204,35 @@ kept_stays p items i (inl e) =
     by (Some (form.Sot g f l)) k = refl
     by (Some (form.Part s)) k = refl
     by (Some (form.Eot f c)) k = refl
+
+-- a free word has no form
+free_formless : (p : Contents) (b : Bus) (w : ℕ) → is_free p.codes b w ≡ true → form_of p.codes b w ≡ None
+free_formless p b w e = sym (form_of-sight p.codes b w) ∙ ap (λ (t : Bool). form_in (cond t sight.Free (sight_in (form_of p.codes b w)))) e
+
+as_listed : (d : Doing) → crossings_of d ≡ listed (crossing_by d)
+as_listed (doing.Accepts file ldu None) = refl
+as_listed (doing.Accepts file ldu (Some crossing)) = refl
+as_listed (doing.Again file ldu) = refl
+as_listed (doing.Quiet) = refl
+as_listed (doing.OwesClear n) = refl
+as_listed (doing.Granted n) = refl
+as_listed (doing.InBlock file ldu taken asked) = refl
+as_listed (doing.OwesAck file ldu) = refl
+as_listed (doing.OwesNak why) = refl
+
+pub all_crosses : (p : Contents) (items : List Seen) (i : Seen) → SinkAllows p (kept p items sink_at_first) i → sizes_of (files_of p (items ++ i ∷ [])) ≡ sizes_of (files_of p items) ++ listed (crosses p i (kept p items sink_at_first))
+all_crosses p items i = by i.bus i.word (form_of p.codes i.bus i.word) refl
+  where
+    k : Sink
+    k = kept p items sink_at_first
+
+    none : (b : Bus) (w : ℕ) → (b ≡ bus.A) ⊎ (form_of p.codes b w ≡ None) → sizes_of (files_of p (items ++ record { bus = b; word = w } ∷ [])) ≡ sizes_of (files_of p items) ++ []
+    none b w h = ap sizes_of (kept_stays p items (record { bus = b; word = w }) h) ∙ sym (append-nil (sizes_of (files_of p items)))
+
+    by : (b : Bus) (w : ℕ) (x : Option Form) → form_of p.codes b w ≡ x → SinkAllowsOn p k b w → sizes_of (files_of p (items ++ record { bus = b; word = w } ∷ [])) ≡ sizes_of (files_of p items) ++ listed (crosses_form p b (form_of p.codes b w) k)
+    by bus.A w x e a = none bus.A w (inl refl)
+    by bus.B w None e a = subst (λ (q : Option Form). sizes_of (files_of p (items ++ record { bus = bus.B; word = w } ∷ [])) ≡ sizes_of (files_of p items) ++ listed (crosses_form p bus.B q k)) (sym e) (none bus.B w (inr e))
+    by bus.B w (Some x) e (inl f) = absurd (cc (sym e ∙ free_formless p bus.B w f))
+    by bus.B w (Some x) e (inr a) =
+        subst (λ (q : Option Form). sizes_of (files_of p (items ++ record { bus = bus.B; word = w } ∷ [])) ≡ sizes_of (files_of p items) ++ listed (crosses_form p bus.B q k)) (sym e)
+        (kept_crosses p items w x e (subst (MayAnswerForm k.count k.phase) e a) ∙ ap (λ (c : List Crossing). sizes_of (files_of p items) ++ c) (as_listed (does p bus.B 0 x k)))

@@ -1,22 +1,20 @@
 //! Laws of a sink by itself, whatever its source sends, and of recordings that begin anywhere in a run.
 
-ghost use Rattle.std.specs.Prelude.{◌≡◌, ◌↔◌, ◌⊎◌, ◌++◌, ℕ, suc, List, [], ◌∷◌, None, Some, take};
+ghost use Rattle.std.specs.Prelude.{◌≡◌, ◌↔◌, ◌⊎◌, ◌++◌, ℕ, suc, List, [], ◌∷◌, take};
 ghost use Rattle.a429_word.specs.declared.bus.Bus.TheVariants as bus;
 ghost use Rattle.a429_profile.specs.Profile.{Contents, IsProfile};
-ghost use Rattle.a429_ldu.specs.declared.forms.Form.{Form};
-ghost use Rattle.a429_ldu.specs.Form.{form_of};
 ghost use Rattle.a429_link.specs.declared.number.UnitNumber.{UnitNumber};
 ghost use Rattle.a429_link.specs.declared.seen.Seen.{Seen};
 ghost use Rattle.a429_link.specs.Attempt.{HasNumber, latest};
 ghost use Rattle.a429_link.specs.Group.{AcksOnly, ArePartsOfWhole, IsFurther, IsGroup, IsOneUnit};
-ghost use Rattle.a429_link.specs.Implied.{crossings_of, does, sizes_of};
+ghost use Rattle.a429_link.specs.Implied.{sizes_of};
 ghost use Rattle.a429_link.specs.Observer.{Allows, Observer, sink_of};
 ghost use Rattle.a429_link.specs.Run.{BeginsARun, RunOf, delivered_by, trace};
-ghost use Rattle.a429_link.specs.Sink.{MayAnswer, Quiet, Sink, in_phase, without_files};
+ghost use Rattle.a429_link.specs.Sink.{Quiet, Sink, in_phase, without_files};
 ghost use Rattle.a429_link.specs.Trace.{files_of, sink_after, sink_at_first};
 ghost use Rattle.a429_sink.specs.Alone.{AreSinkAllowed, SinkAllows, IsSinkRefused, IsSinkRun, SinkKeeps, SinkKeepsFrom, SinkStep, sink_delivers, sink_end, sink_trace};
 ghost use Rattle.a429_sink.specs.Anywhere.{AreLastOf, EndsWith, HasRequest, IsBadAnywhere, IsPartOfARun, IsRefusedAnywhere, sure_files};
-ghost use Rattle.a429_sink.specs.Lone.{capped, kept};
+ghost use Rattle.a429_sink.specs.Lone.{capped, crosses, kept, listed};
 ghost use Rattle.a429_sink.specs.Somewhere.{IsRefusedBySinks};
 
 // ---- a sink by itself
@@ -60,14 +58,12 @@ pub fn refused_by_sinks_is_impossible()
 // ---- what is kept of a sink
 
 /// What is kept of a sink by itself, word after word, is that sink without files that have crossed, and without a block that has more
-/// data words than were asked for. It may have sent the same words. By an answer that it owes a file crosses exactly where `does` names
-/// it; by a word of bus A, or one without form, none does.
+/// data words than were asked for. It may have sent the same words. By a word that it may have recorded the file crosses that `crosses`
+/// names, if any.
 pub fn what_is_kept_is_the_sink()
     ensures sink { (p : Contents) (items : List Seen) → kept p items sink_at_first ≡ without_files (capped (sink_after p items sink_at_first)) }
     ensures allows { (p : Contents) (items : List Seen) (i : Seen) → SinkAllows p (kept p items sink_at_first) i ↔ SinkAllows p (sink_after p items sink_at_first) i }
-    ensures crosses { (p : Contents) (items : List Seen) (w : ℕ) (x : Form) → form_of p.codes bus.B w ≡ Some x → MayAnswer (kept p items sink_at_first).count (kept p items sink_at_first).phase x
-        → sizes_of (files_of p (items ++ record { bus = bus.B; word = w } ∷ [])) ≡ sizes_of (files_of p items) ++ crossings_of (does p bus.B 0 x (kept p items sink_at_first)) }
-    ensures stays { (p : Contents) (items : List Seen) (i : Seen) → (i.bus ≡ bus.A) ⊎ (form_of p.codes i.bus i.word ≡ None) → files_of p (items ++ i ∷ []) ≡ files_of p items }
+    ensures crosses { (p : Contents) (items : List Seen) (i : Seen) → SinkAllows p (kept p items sink_at_first) i → sizes_of (files_of p (items ++ i ∷ [])) ≡ sizes_of (files_of p items) ++ listed (crosses p i (kept p items sink_at_first)) }
 {}
 
 // ---- a recording that begins anywhere in a run

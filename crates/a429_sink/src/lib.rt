@@ -2,8 +2,10 @@
 #![tactic(auto)]
 
 mod alone;
+mod fault;
 pub mod laws;
 mod lone;
 
 pub use crate::alone::sink_allows;
+pub use crate::fault::SinkFault;
 pub use crate::lone::LoneSink;

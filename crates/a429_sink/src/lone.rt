@@ -1,16 +1,18 @@
 //! A sink by itself, word after word.
 
-ghost use Rattle.std.specs.Prelude.{◌≡◌, ◌↔◌, IsTrue, Some, IfOk, OnOk, OnErr};
+ghost use Rattle.std.specs.Prelude.{◌≡◌, ◌↔◌, IsTrue, Some, IfOk, IfErr, OnOk, OnErr};
+ghost use Rattle.a429_ldu.specs.Form.{form_of};
 ghost use Rattle.a429_link.specs.Implied.{does, implies_form, observer_of};
 ghost use Rattle.a429_link.specs.Observer.{AllowsForm, HasGrant};
 ghost use Rattle.a429_link.specs.Sink.{IsAck, MayAnswer, without_files};
 ghost use Rattle.a429_link.specs.Trace.{sink_at_first};
-ghost use Rattle.a429_sink.specs.Alone.{SinkAllows};
-ghost use Rattle.a429_sink.specs.Lone.{IsInBlock, capped, granted_anew, keeps_form};
+ghost use Rattle.a429_sink.specs.Alone.{SinkAllows, SinkAllowsOn};
+ghost use Rattle.a429_sink.specs.Lone.{IsFaultOf, IsFaultOn, IsInBlock, IsSinkFault, capped, crosses, crosses_form, crossing_by, granted_anew, keeps, keeps_form};
 
 use crate::alone::sink_allows;
-use a429_ldu::{Form, Semis};
-use a429_link::{Doing, ImpliedSink, Seen};
+use crate::fault::SinkFault;
+use a429_ldu::{Form, Semis, Sight, form};
+use a429_link::{Crossing, Doing, ImpliedSink, Seen};
 use a429_profile::Profile;
 use a429_word::{Bus, Word};
 use std::alloc::{AllocError, Global};
@@ -53,6 +55,86 @@ impl LoneSink {
         ensures { IsTrue result ↔ SinkAllows profile.now self.now seen }
     {
         sink_allows(&self.implied, profile, seen)
+    }
+
+    /// Takes the next recorded word where a sink that keeps the rules may have it recorded, whatever its source sends, and answers which
+    /// file crosses by it. Where no sink sends it after the words before it, it is refused, and the sink is unchanged. So it is where an
+    /// acknowledgement wants memory and there is none.
+    pub fn see(
+        &mut self,
+        alloc: Global,
+        profile: &Profile,
+        seen: Seen,
+    ) -> Result<Option<Crossing>, SinkFault>
+        ensures allowed { OnOk result (SinkAllows profile.now self.old seen) }
+        ensures taken { OnOk result (self.new ≡ keeps profile.now seen self.old) }
+        ensures crosses { IfOk result (λ crossing. crossing ≡ crosses profile.now seen self.old) }
+        ensures fault { IfErr result (λ fault. IsSinkFault profile.now self.old seen fault) }
+        ensures unchanged { OnErr result (self.new ≡ self.old) }
+    {
+        match seen.bus {
+            Bus::A => {
+                self.see_word(alloc, profile, seen.word);
+                Ok(None)
+            }
+            Bus::B => self.see_answer(alloc, profile, seen.word),
+        }
+    }
+
+    // Takes a word of bus A.
+    fn see_word(&mut self, alloc: Global, profile: &Profile, word: Word)
+        ensures { self.new ≡ keeps_form profile.now Bus.A word (form_of profile.now.codes Bus.A word) self.old }
+    {
+        match form(profile, Bus::A, word) {
+            Sight::Form(form) => self.take_word(alloc, profile, word, &form),
+            Sight::Free => self.rests(),
+            Sight::NoForm => self.rests(),
+        }
+    }
+
+    // Takes a word of bus B, if a sink may have it recorded.
+    fn see_answer(
+        &mut self,
+        alloc: Global,
+        profile: &Profile,
+        word: Word,
+    ) -> Result<Option<Crossing>, SinkFault>
+        ensures allowed { OnOk result (SinkAllowsOn profile.now self.old Bus.B word) }
+        ensures taken { OnOk result (self.new ≡ keeps_form profile.now Bus.B word (form_of profile.now.codes Bus.B word) self.old) }
+        ensures crosses { IfOk result (λ crossing. crossing ≡ crosses_form profile.now Bus.B (form_of profile.now.codes Bus.B word) self.old) }
+        ensures fault { IfErr result (λ fault. IsFaultOn profile.now self.old Bus.B word fault) }
+        ensures unchanged { OnErr result (self.new ≡ self.old) }
+    {
+        match form(profile, Bus::B, word) {
+            Sight::Form(form) => self.give(alloc, profile, &form),
+            Sight::Free => {
+                self.rests();
+                Ok(None)
+            }
+            Sight::NoForm => Err(SinkFault::Refused),
+        }
+    }
+
+    // Gives an answer of this form, if the sink may give it.
+    fn give(
+        &mut self,
+        alloc: Global,
+        profile: &Profile,
+        form: &Form,
+    ) -> Result<Option<Crossing>, SinkFault>
+        ensures allowed { OnOk result (MayAnswer self.old.count self.old.phase form.now) }
+        ensures taken { OnOk result (self.new ≡ keeps_form profile.now Bus.B 0 (Some form.now) self.old) }
+        ensures crosses { IfOk result (λ crossing. crossing ≡ crosses_form profile.now Bus.B (Some form.now) self.old) }
+        ensures fault { IfErr result (λ fault. IsFaultOf self.old form.now fault) }
+        ensures unchanged { OnErr result (self.new ≡ self.old) }
+    {
+        if !self.implied.allows(Bus::B, form) {
+            return Err(SinkFault::Refused);
+        }
+        match self.answer(alloc, profile, form) {
+            Ok(doing) => Ok(crossing_by(&doing)),
+            Err(_) => Err(SinkFault::OutOfMemory),
+        }
     }
 
     /// Takes a word of bus A that has this form, whatever its source sends.
@@ -173,6 +255,16 @@ impl LoneSink {
                     ldu: 0,
                 },
             )
+    }
+}
+
+// The file that crosses by what the sink does.
+fn crossing_by(doing: &Doing) -> Option<Crossing>
+    ensures { result ≡ crossing_by doing.now }
+{
+    match *doing {
+        Doing::Accepts { crossing, .. } => crossing,
+        _ => None,
     }
 }
 
