@@ -48,8 +48,13 @@ impl<'a> MemoryPartSource<'a> {
     fn part(&self, place: u64) -> Option<PartBytes<'a>>
         ensures { IfSome result (λ part. part_at self.now.parts place ≡ Some (part_of_bytes part)) }
     {
-        let before = place.checked_sub(1)?;
-        self.parts.get(before as usize).copied()
+        let Some(before) = place.checked_sub(1) else {
+            return None;
+        };
+        match self.parts.get(before as usize) {
+            Some(part) => Some(*part),
+            None => None,
+        }
     }
 }
 
