@@ -2,10 +2,10 @@
 #![tactic(auto)]
 
 use a429_check::{
-    Claim, Command, Folder, NewFile, PartFolder, Rule, RunFault, Span, command, read_whole, report,
-    run_by_rule, run_cut, run_extract, run_forms, run_keep, run_labels, run_make, run_pack,
-    run_picture, run_series, run_show, run_survey, run_trace, run_units, run_upgrade, run_verify,
-    run_version, run_word,
+    Claim, Command, Folder, NewFile, PartFolder, Rule, RunFault, Side, Span, command, read_whole,
+    report, run_by_rule, run_cut, run_extract, run_forms, run_keep, run_labels, run_make, run_pack,
+    run_picture, run_series, run_show, run_side, run_survey, run_trace, run_units, run_upgrade,
+    run_verify, run_version, run_word,
 };
 use a429_record::EntryReader;
 use a429_view::UnitRows;
@@ -54,9 +54,7 @@ fn main(rt: HostRuntime) -> ExitCode {
 }
 
 // Runs the command that the words ask for, and answers the exit status.
-fn run(
-    rt: &(impl Files + Env + Print + AllocGlobal + Clone + Drop),
-) -> Result<u8, RunFault> {
+fn run(rt: &(impl Files + Env + Print + AllocGlobal + Clone + Drop)) -> Result<u8, RunFault> {
     let alloc = rt.alloc();
     let words = words_of(rt, alloc)?;
     let writer = BufWriter::new(alloc, io::writer(rt)).map_err(|_| RunFault::Memory)?;
@@ -86,6 +84,12 @@ fn answer<W: Write + Drop>(
             folder,
             most,
         } => cut(rt, alloc, profile, recording, folder, most, &mut out),
+        Command::Side {
+            profile,
+            recording,
+            side: wanted,
+            new_rec,
+        } => side(rt, alloc, profile, recording, wanted, new_rec, &mut out),
         Command::Trace { profile, recording } => trace(rt, alloc, profile, recording, &mut out),
         Command::Make { profile, files } => make(rt, alloc, profile, files.as_slice(), &mut out),
         Command::Pack(recording) => pack(rt, alloc, recording, &mut out),
@@ -191,6 +195,29 @@ fn cut<W: Write>(
     let mut parts = PartFolder::open(rt, alloc, folder)?;
     let status = run_cut(alloc, profile.as_slice(), most, &mut rec, &mut parts, out);
     parts.settle(written(status, out))
+}
+
+fn side<W: Write>(
+    rt: &impl Files,
+    alloc: Global,
+    profile: &str,
+    recording: &str,
+    wanted: Side,
+    new_rec: &str,
+    out: &mut Tally<W>,
+) -> Result<u8, RunFault> {
+    let profile = bytes_of(rt, alloc, profile)?;
+    let mut rec = opened_whole(rt, alloc, recording)?;
+    let mut new_rec = emptied(rt, alloc, new_rec)?;
+    let status = run_side(
+        alloc,
+        profile.as_slice(),
+        wanted,
+        &mut rec,
+        &mut new_rec.out,
+        out,
+    );
+    new_rec.settle(status)
 }
 
 fn trace<W: Write>(
@@ -421,11 +448,7 @@ fn opened_certificate<F: Files>(
 }
 
 // A file to write, which is emptied first.
-fn emptied<'a, F: Files>(
-    rt: &'a F,
-    alloc: Global,
-    path: &str,
-) -> Result<NewFile<'a, F>, RunFault> {
+fn emptied<'a, F: Files>(rt: &'a F, alloc: Global, path: &str) -> Result<NewFile<'a, F>, RunFault> {
     NewFile::create_empty(rt, alloc, path).map_err(|trouble| match trouble {
         Trouble::Device => RunFault::Device,
         Trouble::OutOfMemory => RunFault::Memory,

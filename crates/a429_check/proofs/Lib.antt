@@ -20,6 +20,7 @@ pub mod StreamingFacts
 pub mod OutputFacts
 pub mod LeavesFacts
 pub mod KeepFacts
+pub mod SideFacts
 pub mod CutFacts
 pub mod TraceLines
 pub mod EndsFacts

@@ -24,6 +24,7 @@ pub mod Streaming
 pub mod Survey
 pub mod Leaves
 pub mod Keep
+pub mod Side
 pub mod Cut
 pub mod Trace
 pub mod Version

@@ -5,7 +5,9 @@ ghost use Rattle.a429_check.specs.Names.{IsCertificateApart, KeepsInputs, MayWri
 
 use crate::fault::RunFault;
 use a429_record::MOST_ENTRIES;
+use a429_side::Side;
 use a429_view::Span;
+use a429_word::Bus;
 use clap::error::ErrorKind;
 use clap::{Arg, ArgAction, ArgMatches, Command as Parser};
 use commands::{Claim, Command};
@@ -14,7 +16,7 @@ use std::alloc::{AllocError, Global};
 pub mod commands;
 
 // Each command, and the names of the words that it takes.
-const COMMANDS: [(&str, &[&str]); 19] = [
+const COMMANDS: [(&str, &[&str]); 20] = [
     ("version", &[]),
     ("word", &["HEX"]),
     ("labels", &["PROFILE"]),
@@ -25,6 +27,7 @@ const COMMANDS: [(&str, &[&str]); 19] = [
     ("keep", &["PROFILE", "REC"]),
     ("trace", &["PROFILE", "REC"]),
     ("cut", &["PROFILE", "REC", "DIR", "MOST"]),
+    ("side", &["PROFILE", "REC", "LINE", "OUT", "ANSWER"]),
     ("check", &["PROFILE", "REC", "CERT"]),
     ("decide", &["PROFILE", "REC", "CERT"]),
     ("verify", &["PROFILE", "REC", "CERT"]),
@@ -74,6 +77,7 @@ fn of_name<'a>(alloc: Global, name: &str, given: &ArgMatches<'a>) -> Result<Comm
         "series" => series_of(given),
         "make" => make_of(alloc, given),
         "cut" => cut_of(given),
+        "side" => side_of(given),
         _ => of_recording(name, given),
     }
 }
@@ -260,6 +264,60 @@ fn cut_of<'a>(given: &ArgMatches<'a>) -> Result<Command<'a>, RunFault>
     })
 }
 
+// The command that writes the words of one direction.
+fn side_of<'a>(given: &ArgMatches<'a>) -> Result<Command<'a>, RunFault>
+    ensures apart { IfOk result KeepsInputs }
+    ensures err { IfErr result (λ e. e ≡ RunFault.Usage) }
+{
+    let words = (
+        given.get_str("PROFILE"),
+        given.get_str("REC"),
+        given.get_str("OUT"),
+    );
+    let (Some(profile), Some(recording), Some(new_rec)) = words else {
+        return Err(RunFault::Usage);
+    };
+    if !may_write(new_rec, profile) || !may_write(new_rec, recording) {
+        return Err(RunFault::Usage);
+    }
+    Ok(Command::Side {
+        profile,
+        recording,
+        side: Side {
+            line: line_of(given.get_str("LINE"))?,
+            answer: answer_of(given.get_str("ANSWER"))?,
+        },
+        new_rec,
+    })
+}
+
+// The line of this name.
+fn line_of(name: Option<&str>) -> Result<Bus, RunFault>
+    ensures err { IfErr result (λ e. e ≡ RunFault.Usage) }
+{
+    match name {
+        Some("A") => Ok(Bus::A),
+        Some("B") => Ok(Bus::B),
+        _ => Err(RunFault::Usage),
+    }
+}
+
+// The destination code that two hexadecimal digits write, and none where they are left out.
+fn answer_of(text: Option<&str>) -> Result<Option<u8>, RunFault>
+    ensures err { IfErr result (λ e. e ≡ RunFault.Usage) }
+{
+    let Some(text) = text else {
+        return Ok(None);
+    };
+    if text.len() != 2 || text.starts_with('+') {
+        return Err(RunFault::Usage);
+    }
+    match u8::from_str_radix(text, 16) {
+        Ok(code) => Ok(Some(code)),
+        Err(_) => Err(RunFault::Usage),
+    }
+}
+
 // The most entries of a part: 1 to 1,000,000, in decimal digits, and 1,000,000 where it is left out.
 fn most_of(text: Option<&str>) -> Result<usize, RunFault>
     ensures most { IfOk result (λ most. (1 ≤ most) × (most ≤ 1000000)) }
@@ -357,10 +415,10 @@ fn taking<'a>(
     command?.arg(word)
 }
 
-// The word of this name: it comes once, but for MOST, which may be left out, and FILE, which may come any number of times.
+// The word of this name: it comes once, but for MOST and ANSWER, which may be left out, and FILE, which may come any number of times.
 fn word_of_name<'a>(alloc: Global, name: &'a str) -> Arg<'a> {
     match name {
-        "MOST" => Arg::new(alloc, name).action(ArgAction::Set),
+        "MOST" | "ANSWER" => Arg::new(alloc, name).action(ArgAction::Set),
         "FILE" => Arg::new(alloc, name)
             .num_args(0..)
             .action(ArgAction::Append),

@@ -23,6 +23,7 @@ mod relay;
 pub mod rule;
 pub mod series;
 pub mod show;
+pub mod side;
 mod streaming;
 pub mod survey;
 mod text;

@@ -1,5 +1,6 @@
 //! The commands.
 
+use a429_side::Side;
 use a429_view::Span;
 
 /// The words of a command on a certificate: the paths of a profile, of a recording, and of the certificate that
@@ -52,6 +53,13 @@ pub enum Command<'a> {
         recording: &'a str,
         folder: &'a str,
         most: usize,
+    },
+    /// `side PROFILE REC LINE OUT [ANSWER]`: writes the words of one direction of a recording to OUT.
+    Side {
+        profile: &'a str,
+        recording: &'a str,
+        side: Side,
+        new_rec: &'a str,
     },
     /// `check PROFILE REC CERT`: finds a certificate for a recording, and writes it to CERT.
     Check(Claim<'a>),
