@@ -36,8 +36,8 @@ returns-in-Ok-clause-works g c =
     let done = false_from_ne_true _ (λ broken. absurd (cc (c.in_ok-finish.ensures.device.1 broken))) in
     c.in-Ok.ensures.works (says_works c.in_ok-finish.ensures.nothing_more done)
 
-pub returns-in-Err-clause-err : goal.returns-in-Err-clause-err
-returns-in-Err-clause-err g c =
+pub returns-clause-err : goal.returns-clause-err
+returns-clause-err g c =
     let until = c.in-Err.ensures.until in
     let t = taken c.args.rec.now c.put_side-counts.new.rec in
     let done = false_from_ne_true _ (λ broken. absurd (cc (c.in_ok-finish.ensures.device.1 broken))) in
