@@ -46,5 +46,5 @@ returns-clause-err g c =
     let same = says_same_out until.says in
     let stays = says_same_out c.in_ok-finish.ensures.nothing_more in
     let rows = before_fault c.args.side c.args.profile.now t c.in-Err.fault _ (record { entries = until.entries; came = until.came; stops = until.stops; text_is = refl }) in
-    let next = next_fault t.recording until.entries c.put_side-counts.new.rec.failed c.in-Err.fault (λ is. c.in-Err.ensures.device is) until.stops in
+    let next = next_fault t.recording until.entries c.put_side-counts.new.rec.failed c.in-Err.fault (λ is. c.in-Err.ensures.device (cc is)) until.stops in
     rw c.fault_of.ensures (stopped _ _ refl (rows, next) (search rules) (search rules))
