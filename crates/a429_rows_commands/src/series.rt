@@ -40,8 +40,16 @@ fn answer(alloc: Global, list: &str, parts: &[PartBytes<'_>]) -> Result<String, 
 #[test]
 fn three_parts(rt: HostRuntime) -> Result<(), Fail> {
     let alloc = rt.alloc();
-    let second = with(alloc, RECORDING, "60010123 -> 60020123 | 450101A3 -> 450201A3")?;
-    let third = with(alloc, RECORDING, "60010123 -> E0030123 | 450101A3 -> C50301A3")?;
+    let second = with(
+        alloc,
+        RECORDING,
+        "60010123 -> 60020123 | 450101A3 -> 450201A3",
+    )?;
+    let third = with(
+        alloc,
+        RECORDING,
+        "60010123 -> E0030123 | 450101A3 -> C50301A3",
+    )?;
     let of_second = with(alloc, CERTIFICATE, "first 1 -> first 2")?;
     let of_third = with(alloc, CERTIFICATE, "first 1 -> first 3")?;
     let first = part(RECORDING, CERTIFICATE);
