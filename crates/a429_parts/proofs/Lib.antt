@@ -7,3 +7,5 @@ pub mod PlacesFacts
 pub mod CutterFacts
 pub mod PartsFacts
 pub mod WaitingFacts
+pub mod Rerun
+pub mod PartRuns

@@ -4,6 +4,7 @@ pub mod Cutting
 pub mod Follower
 pub mod Watch
 pub mod Near
+pub mod Alone
 pub mod Cutter
 pub mod Parts
 pub mod MemoryParts
