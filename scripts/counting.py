@@ -5,10 +5,10 @@ compares with it. It is written from docs/RECORDINGS.md and TRANSFER.md, and not
 from collections import Counter
 
 from reading import Refused, timed_entries
-from tracing import message_of
+from tracing import message_of, other_message_of
 
 KINDS = [
-    "rts", "cts", "sot", "data", "eot", "ack", "nak", "no form", "free parity", "free label", "free type", "free code",
+    "rts", "cts", "sot", "data", "eot", "ack", "nak", "other", "no form", "free parity", "free label", "free type", "free code",
 ]
 
 
@@ -38,12 +38,19 @@ def surveyed(profile, recording):
 
 def kinds_of(profile, bus, words):
     """A line for each kind of word, with its first entry."""
-    kinds = [(message if isinstance(message, str) else message[0], n) for n, message in
-             ((n, message_of(profile, bus, word)) for n, word in words)]
+    kinds = [(kind_of(profile, bus, word), n) for n, word in words]
     for kind in KINDS:
         places = [n for name, n in kinds if name == kind]
         if places:
             yield f"{bus} {kind} {len(places)} first {places[0]}"
+
+
+def kind_of(profile, bus, word):
+    """The kind of a word: the name of its form, or why it has none."""
+    message = message_of(profile, bus, word)
+    if message == "no form" and isinstance(other_message_of(profile, bus, word), tuple):
+        return "other"
+    return message if isinstance(message, str) else message[0]
 
 
 def labels_of(bus, words):

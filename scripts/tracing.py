@@ -18,16 +18,27 @@ def message_of(profile, bus, word):
         return "free parity"
     if word & 255 != profile.label(bus):
         return "free label"
-    kind, upper, high, low = word >> 28 & 7, word >> 24 & 15, word >> 16 & 255, word >> 8 & 255
-    full, partial, protocol, sot, eot, *ignored = profile.types
-    if kind in ignored:
+    kind, upper = word >> 28 & 7, word >> 24 & 15
+    if kind in profile.types[5:]:
         return "free type"
+    if kind == profile.types[2] and upper in profile.codes[4:]:
+        return "free code"
+    return form_on(profile, bus, word, profile.destination)
+
+
+def other_message_of(profile, bus, word):
+    """The form that a word without one has in the other direction, whatever its destination."""
+    return form_on(profile, "BA"["AB".index(bus)], word, word >> 16 & 255)
+
+
+def form_on(profile, bus, word, destination):
+    """The form that the numbers of a word have on a bus, for this destination."""
+    kind, upper, high, low = word >> 28 & 7, word >> 24 & 15, word >> 16 & 255, word >> 8 & 255
+    full, partial, protocol, sot, eot = profile.types[:5]
     if kind == protocol:
-        if upper in profile.codes[4:]:
-            return "free code"
         name = dict(zip(profile.codes, PROTOCOL[bus])).get(upper)
         if name in ("rts", "cts"):
-            return (name, low) if high == profile.destination and low >= 3 else "no form"
+            return (name, low) if high == destination and low >= 3 else "no form"
         return {"ack": ("ack", high, low), "nak": ("nak", high << 8 | low)}.get(name, "no form")
     if bus == "B":
         return "no form"
@@ -64,6 +75,9 @@ def what_is(profile, bus, word):
     intact = message_of(profile, bus, word ^ 1 << 31)
     if message == "free parity" and isinstance(intact, tuple):
         return f"free parity, else {text_of(profile, intact)}"
+    other = other_message_of(profile, bus, word)
+    if message == "no form" and isinstance(other, tuple):
+        return f"other {text_of(profile, other)}"
     return message
 
 

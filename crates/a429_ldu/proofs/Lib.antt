@@ -6,6 +6,7 @@ pub mod FormFacts
 pub mod FormPacked
 pub mod SightFacts
 pub mod FullFacts
+pub mod AcrossFacts
 pub mod FreedomFacts
 pub mod CheckWordDivision
 pub mod CheckWordDown

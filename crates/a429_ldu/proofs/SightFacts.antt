@@ -90,7 +90,7 @@ seen_free c b w f t word fields decides e = sym (ap (λ u. told u (form_on c b f
 pub seen_told : (c : Codes) (b : Bus) (w : ℕ) (f : Fields) (t : Bool) (o : Option Form) → w < 2 ^ 32 → fields_of w ≡ f → Decides t (IsFree c b w) → t ≡ false → o ≡ form_on c b f → sight_in o ≡ sight_of c b w
 seen_told c b w f t o word fields decides e eo = ap sight_in eo ∙ sym (ap (λ u. told u (form_on c b f)) e) ∙ sight_tested c b w f t word fields decides
 
-form_of_kept : (c : Codes) (b : Bus) (w : ℕ) → w < 2 ^ 32 → is_free c b w ≡ false → form_of c b w ≡ form_on c b (fields_of w)
+pub form_of_kept : (c : Codes) (b : Bus) (w : ℕ) → w < 2 ^ 32 → is_free c b w ≡ false → form_of c b w ≡ form_on c b (fields_of w)
 form_of_kept c b w word free = rw (free, lt-leb (2 ^ 32) w word) refl
 
 -- a word of good parity with the label of its bus that has a form is not ignored

@@ -1,6 +1,7 @@
 pub mod Semis
 pub mod Form
 pub mod Sight
+pub mod Across
 pub mod Freedom
 pub mod Carried
 pub mod CheckWord

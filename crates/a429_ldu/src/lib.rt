@@ -2,6 +2,7 @@
 //! units (ARINC 429 Part 3).
 #![tactic(auto)]
 
+mod across;
 mod carried;
 mod check_words;
 mod cutting;
@@ -14,6 +15,7 @@ mod ldu;
 mod semis;
 mod sight;
 
+pub use crate::across::{form_across, other_line};
 pub use crate::carried::{BlockBytes, block_bytes, bytes_of, count_semis};
 pub use crate::check_words::{agrees, check_word, check_word_by};
 pub use crate::cutting::{MOST_UNITS, cut};

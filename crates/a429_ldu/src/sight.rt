@@ -91,7 +91,7 @@ fn seen(profile: &Profile, bus: Bus, word: Word) -> Sight
             Bus::B => Sight::NoForm,
         };
     }
-    match form_on(codes, bus, parts) {
+    match form_on(codes, codes.destination, bus, parts) {
         Some(form) => Sight::Form(form),
         None if is_ignored(codes, parts) => Sight::Free,
         None => Sight::NoForm,

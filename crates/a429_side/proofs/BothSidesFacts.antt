@@ -12,7 +12,8 @@ use Rattle.a429_record.specs.declared.entry.Entry.{Entry}
 use Rattle.a429_cert.specs.Explained.{IsExplained, items_of}
 use Rattle.a429_cert.proofs.ExplainedFacts.{in_every_run, in_some_run}
 use Rattle.a429_side.specs.BothSides.{AreDuplexFiles, IsSideExplained, on}
-use Rattle.a429_side.specs.Direction.{AreApart, IsMirror, all_turned, belongs, is_named, mirrored, turned, view}
+use Rattle.a429_ldu.specs.Across.{mirrored}
+use Rattle.a429_side.specs.Direction.{AreApart, IsMirror, all_turned, belongs, is_named, turned, view}
 use Rattle.a429_side.specs.Duplex.{DuplexRun, IsInterleaved, both_trace, firsts, seconds}
 use Rattle.a429_side.specs.Side.{side_of}
 use Rattle.a429_side.proofs.DirectionFacts.{apart, named_alike}

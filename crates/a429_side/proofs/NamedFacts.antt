@@ -14,7 +14,8 @@ use Rattle.a429_ldu.proofs.SightFacts.{form_of-sight}
 use Rattle.a429_link.specs.declared.seen.Seen.{Seen}
 use Rattle.a429_side.specs.declared.direction.Direction.{Direction}
 use Rattle.a429_side.specs.declared.direction.Direction.TheVariants.{Free, Neither, Other, This}
-use Rattle.a429_side.specs.Direction.{IsMirror, belongs, direction_in, is_named, mirrored, other_line, turned}
+use Rattle.a429_ldu.specs.Across.{mirrored, other_line}
+use Rattle.a429_side.specs.Direction.{IsMirror, belongs, direction_in, is_named, turned}
 use Rattle.a429_side.specs.Destination.{destination_at, is_line_a}
 use Rattle.a429_side.proofs.DirectionFacts.{apart, form_belongs, free_belongs}
 

@@ -12,7 +12,8 @@ use Rattle.a429_cert.specs.Explained.{items_of, seen_of}
 use Rattle.a429_side.specs.declared.lot.Lot.{Lot}
 use Rattle.a429_side.specs.declared.lot.Lot.TheVariants.{Elsewhere, Kept, Renamed}
 use Rattle.a429_side.specs.declared.lot.Side.{Side}
-use Rattle.a429_side.specs.Direction.{all_turned, belongs, mirrored, turned, view}
+use Rattle.a429_ldu.specs.Across.{mirrored}
+use Rattle.a429_side.specs.Direction.{all_turned, belongs, turned, view}
 use Rattle.a429_side.specs.Destination.{destination_at, destined, is_request}
 use Rattle.a429_side.specs.Side.{last_in, last_with, lot_in, lot_of, lots, lots_of, on_line, side_of, sided, with_written, written}
 use Rattle.a429_side.specs.Siding.{side_text, side_text_before}

@@ -11,7 +11,8 @@ use Rattle.a429_side.specs.declared.direction.Direction.TheVariants as direction
 use Rattle.a429_side.specs.declared.lot.Lot.{Lot}
 use Rattle.a429_side.specs.declared.lot.Lot.TheVariants.{Elsewhere, Kept, OfNone, OfOther, Renamed}
 use Rattle.a429_side.specs.declared.lot.Side.{Side}
-use Rattle.a429_side.specs.Direction.{direction_in, other_line}
+use Rattle.a429_ldu.specs.Across.{other_line}
+use Rattle.a429_side.specs.Direction.{direction_in}
 use Rattle.a429_side.specs.Destination.{destination_at, is_line_a, is_request}
 
 -- ---- an entry

@@ -3,10 +3,9 @@
 ghost use Rattle.std.specs.Prelude.{◌≡◌, false};
 ghost use Rattle.a429_ldu.specs.Form.{fields_of, is_free};
 ghost use Rattle.a429_side.specs.Direction.{direction_in, is_named};
-ghost use Rattle.a429_side.specs.Direction.{other_line as across};
 
 use crate::fields::{code_of, kind_of};
-use a429_ldu::{Sight, form};
+use a429_ldu::{Sight, form, other_line};
 use a429_link::Seen;
 use a429_profile::{Codes, Profile};
 use a429_word::{Bus, Word};
@@ -51,16 +50,6 @@ fn named_direction(codes: &Codes, seen: Seen) -> Direction
         Direction::This
     } else {
         Direction::Neither
-    }
-}
-
-/// The other line of the pair.
-pub(crate) fn other_line(line: Bus) -> Bus
-    ensures { result ≡ across line }
-{
-    match line {
-        Bus::A => Bus::B,
-        Bus::B => Bus::A,
     }
 }
 

@@ -8,7 +8,7 @@ ghost use Rattle.a429_side.specs.Direction.{direction_in};
 ghost use Rattle.a429_side.specs.declared.direction.Direction.TheVariants.{This};
 ghost use Rattle.a429_side.specs.Side.{addressed_to, is_answer_to, is_clear_answer, last_with, lot_in, lot_of, on_line, written};
 
-use crate::direction::{Direction, direction_of, other_line};
+use crate::direction::{Direction, direction_of};
 use crate::fields::{code_of, destination_of, kind_of};
 use a429_link::Seen;
 use a429_profile::{Codes, Profile};

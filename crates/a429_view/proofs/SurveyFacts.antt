@@ -17,6 +17,7 @@ use Rattle.a429_ldu.specs.declared.forms.Form.{Form}
 use Rattle.a429_ldu.specs.declared.forms.Form.TheVariants as form
 use Rattle.a429_ldu.specs.declared.freedom.Freedom.{Freedom}
 use Rattle.a429_ldu.specs.declared.freedom.Freedom.TheVariants.{BadParity, OtherLabel, IgnoredType, IgnoredCode}
+use Rattle.a429_ldu.specs.Across.{form_across}
 use Rattle.a429_ldu.specs.Form.{address_of, form_of}
 use Rattle.a429_record.specs.declared.entry.Entry.{Entry}
 use Rattle.a429_view.specs.declared.survey.kind.WordKind.{WordKind}
@@ -92,7 +93,7 @@ label_more old new xs x count even odd few h =
 pub bus_more : (c : Codes) (old new : BusCount) (xs : List Numbered) (x : Numbered) (at_kind at_label : ℕ) (hits : Hits) (label : LabelCount) → length xs + 1 < 2 ^ 64
     → at_kind ≡ place_of c x → at_label ≡ label_in x
     → new.entries ≡ min (old.entries + 1) (2 ^ 64 - 1) → new.kinds ≡ set old.kinds at_kind hits → new.labels ≡ set old.labels at_label label
-    → place_of c x < 12 → label_in x < 256
+    → place_of c x < 13 → label_in x < 256
     → ((ys : List Numbered) → length ys + 1 < 2 ^ 64 → IsHits (get_or old.kinds (place_of c x) no_hits) ys → IsHits hits (ys ++ x ∷ []))
     → ((ys : List Numbered) → length ys + 1 < 2 ^ 64 → IsLabelCount (get_or old.labels (label_in x) no_label) ys → IsLabelCount label (ys ++ x ∷ []))
     → IsBusCount c old xs → IsBusCount c new (xs ++ x ∷ [])
@@ -106,7 +107,7 @@ bus_more c old new xs x at_kind at_label hits label few is_kind is_label entries
     record {
       entries = one_more new.entries old.entries (length xs) entries size few ∙ sym sum;
       kind_count = ap length kinds ∙ length-set old.kinds at_kind hits ∙ h.kind_count;
-      kinds = rw (kinds, is_kind) (by_more (place_of c) IsHits no_hits 12 old.kinds xs x hits h.kind_count place h.kinds (hit of_kind (omega (arith, short, few)) (h.kinds (place_of c x) place)));
+      kinds = rw (kinds, is_kind) (by_more (place_of c) IsHits no_hits 13 old.kinds xs x hits h.kind_count place h.kinds (hit of_kind (omega (arith, short, few)) (h.kinds (place_of c x) place)));
       label_count = ap length labels ∙ length-set old.labels at_label label ∙ h.label_count;
       labels = rw (labels, is_label) (by_more label_in IsLabelCount no_label 256 old.labels xs x label h.label_count in_range h.labels (lab of_label (omega (arith, short', few)) (h.labels (label_in x) in_range)));
     }
@@ -193,25 +194,26 @@ is_of_parity kind.FreeParity = true
 is_of_parity _ = false
 
 -- the first of four tests that holds, and the kind by it
-abbrev kind_by : Bool → Bool → Bool → Bool → Option Form → WordKind
-kind_by parity label type code f = kind_in (cond parity (Some BadParity) (cond label (Some OtherLabel) (cond type (Some IgnoredType) (cond code (Some IgnoredCode) None)))) f
+abbrev kind_by : Bool → Bool → Bool → Bool → Option Form → Option Form → WordKind
+kind_by parity label type code f other = kind_in (cond parity (Some BadParity) (cond label (Some OtherLabel) (cond type (Some IgnoredType) (cond code (Some IgnoredCode) None)))) f other
 
-parity_by : (parity label type code : Bool) (f : Option Form) → is_of_parity (kind_by parity label type code f) ≡ parity
-parity_by true label type code f = refl
-parity_by false true type code f = refl
-parity_by false false true code f = refl
-parity_by false false false true f = refl
-parity_by false false false false None = refl
-parity_by false false false false (Some (form.Rts n)) = refl
-parity_by false false false false (Some (form.Cts n)) = refl
-parity_by false false false false (Some (form.Ack file ldu)) = refl
-parity_by false false false false (Some (form.Nak bits)) = refl
-parity_by false false false false (Some (form.Sot gfi file ldu)) = refl
-parity_by false false false false (Some (form.Part semis)) = refl
-parity_by false false false false (Some (form.Eot flags check)) = refl
+parity_by : (parity label type code : Bool) (f other : Option Form) → is_of_parity (kind_by parity label type code f other) ≡ parity
+parity_by true label type code f other = refl
+parity_by false true type code f other = refl
+parity_by false false true code f other = refl
+parity_by false false false true f other = refl
+parity_by false false false false None (Some x) = refl
+parity_by false false false false None None = refl
+parity_by false false false false (Some (form.Rts n)) other = refl
+parity_by false false false false (Some (form.Cts n)) other = refl
+parity_by false false false false (Some (form.Ack file ldu)) other = refl
+parity_by false false false false (Some (form.Nak bits)) other = refl
+parity_by false false false false (Some (form.Sot gfi file ldu)) other = refl
+parity_by false false false false (Some (form.Part semis)) other = refl
+parity_by false false false false (Some (form.Eot flags check)) other = refl
 
 parity_of_kind : (c : Codes) (b : Bus) (w : ℕ) → is_of_parity (kind_of c b w) ≡ not (count_of_ones w % 2 == 1)
-parity_of_kind c b w = parity_by (not (count_of_ones w % 2 == 1)) (not (label_of w == address_of c b)) (list_any (λ n. n == number_at w 29 3) c.ignored_types) (number_at w 29 3 == c.protocol && list_any (λ n. n == number_at w 25 4) c.ignored_codes) (form_of c b w)
+parity_of_kind c b w = parity_by (not (count_of_ones w % 2 == 1)) (not (label_of w == address_of c b)) (list_any (λ n. n == number_at w 29 3) c.ignored_types) (number_at w 29 3 == c.protocol && list_any (λ n. n == number_at w 25 4) c.ignored_codes) (form_of c b w) (form_across c b w)
 
 pub even_by_kind : (c : Codes) (x : Numbered) (k : WordKind) → k ≡ kind_of c x.entry.bus x.entry.word → is_of_parity k ≡ is_even x
 even_by_kind c x k is = ap is_of_parity is ∙ parity_of_kind c x.entry.bus x.entry.word

@@ -8,6 +8,7 @@ use Rattle.a429_ldu.specs.declared.forms.Form.{Form}
 use Rattle.a429_ldu.specs.declared.forms.Form.TheVariants.{Rts, Cts, Ack, Nak, Sot, Part, Eot}
 use Rattle.a429_ldu.specs.declared.freedom.Freedom.{Freedom}
 use Rattle.a429_ldu.specs.declared.freedom.Freedom.TheVariants.{BadParity, OtherLabel, IgnoredType, IgnoredCode}
+use Rattle.a429_ldu.specs.Across.{form_across}
 use Rattle.a429_ldu.specs.Form.{form_of}
 use Rattle.a429_ldu.specs.Freedom.{freedom_of}
 use Rattle.a429_ldu.specs.Ldu.{is_final}
@@ -38,11 +39,20 @@ form_text c (Sot gfi file ldu) = codes "sot " ++ ldu_text file ldu ++ codes " gf
 form_text c (Part semis) = codes "data " ++ map (digit_glyph true) semis
 form_text c (Eot flags check) = codes "eot flags " ++ decimal flags ++ codes " check " ++ numeral 16 4 check ++ final_text (is_final c flags)
 
--- a word by the reason why it is free, else by its form, where it has one
-abbrev pub reason_or_form_text : Codes → Option Freedom → Option Form → List ℕ
-reason_or_form_text c (Some why) form = freedom_text why
-reason_or_form_text c None (Some x) = form_text c x
-reason_or_form_text c None None = codes "no form"
+-- a word that is not free and has no form: by its form in the other direction, where it has one there
+abbrev pub other_text : Codes → Option Form → List ℕ
+other_text c (Some x) = codes "other " ++ form_text c x
+other_text c None = codes "no form"
+
+-- a word that is not free, by its form, or by that in the other direction
+abbrev pub form_or_other_text : Codes → Option Form → Option Form → List ℕ
+form_or_other_text c (Some x) other = form_text c x
+form_or_other_text c None other = other_text c other
+
+-- a word by the reason why it is free, where there is one
+abbrev pub reason_or_text : Option Freedom → List ℕ → List ℕ
+reason_or_text (Some why) text = freedom_text why
+reason_or_text None text = text
 
 abbrev pub what_text : Codes → Bus → ℕ → List ℕ
-what_text c b w = reason_or_form_text c (freedom_of c b w) (form_of c b w)
+what_text c b w = reason_or_text (freedom_of c b w) (form_or_other_text c (form_of c b w) (form_across c b w))

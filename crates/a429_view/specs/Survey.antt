@@ -11,6 +11,7 @@ use Rattle.a429_ldu.specs.declared.forms.Form.{Form}
 use Rattle.a429_ldu.specs.declared.forms.Form.TheVariants as form
 use Rattle.a429_ldu.specs.declared.freedom.Freedom.{Freedom}
 use Rattle.a429_ldu.specs.declared.freedom.Freedom.TheVariants as freedom
+use Rattle.a429_ldu.specs.Across.{form_across}
 use Rattle.a429_ldu.specs.Form.{form_of}
 use Rattle.a429_ldu.specs.Freedom.{freedom_of}
 use Rattle.a429_record.specs.declared.entry.Entry.{Entry}
@@ -23,27 +24,28 @@ use Rattle.a429_view.specs.declared.survey.Survey.{Survey}
 
 -- ---- kinds of words
 
--- by the reason why a word is free, else by its form, where it has one
-abbrev pub kind_in : Option Freedom → Option Form → WordKind
-kind_in (Some freedom.BadParity) f = kind.FreeParity
-kind_in (Some freedom.OtherLabel) f = kind.FreeLabel
-kind_in (Some freedom.IgnoredType) f = kind.FreeType
-kind_in (Some freedom.IgnoredCode) f = kind.FreeCode
-kind_in None (Some (form.Rts n)) = kind.Rts
-kind_in None (Some (form.Cts n)) = kind.Cts
-kind_in None (Some (form.Ack file ldu)) = kind.Ack
-kind_in None (Some (form.Nak bits)) = kind.Nak
-kind_in None (Some (form.Sot gfi file ldu)) = kind.Sot
-kind_in None (Some (form.Part semis)) = kind.Data
-kind_in None (Some (form.Eot flags check)) = kind.Eot
-kind_in None None = kind.NoForm
+-- by the reason why a word is free, else by its form; where it has none, by that in the other direction
+abbrev pub kind_in : Option Freedom → Option Form → Option Form → WordKind
+kind_in (Some freedom.BadParity) f other = kind.FreeParity
+kind_in (Some freedom.OtherLabel) f other = kind.FreeLabel
+kind_in (Some freedom.IgnoredType) f other = kind.FreeType
+kind_in (Some freedom.IgnoredCode) f other = kind.FreeCode
+kind_in None (Some (form.Rts n)) other = kind.Rts
+kind_in None (Some (form.Cts n)) other = kind.Cts
+kind_in None (Some (form.Ack file ldu)) other = kind.Ack
+kind_in None (Some (form.Nak bits)) other = kind.Nak
+kind_in None (Some (form.Sot gfi file ldu)) other = kind.Sot
+kind_in None (Some (form.Part semis)) other = kind.Data
+kind_in None (Some (form.Eot flags check)) other = kind.Eot
+kind_in None None (Some x) = kind.Other
+kind_in None None None = kind.NoForm
 
 abbrev pub kind_of : Codes → Bus → ℕ → WordKind
-kind_of c b w = kind_in (freedom_of c b w) (form_of c b w)
+kind_of c b w = kind_in (freedom_of c b w) (form_of c b w) (form_across c b w)
 
 -- the kinds, in the order in which they are listed
 abbrev pub kinds : List WordKind
-kinds = kind.Rts ∷ kind.Cts ∷ kind.Ack ∷ kind.Nak ∷ kind.Sot ∷ kind.Data ∷ kind.Eot ∷ kind.NoForm ∷ kind.FreeParity ∷ kind.FreeLabel ∷ kind.FreeType ∷ kind.FreeCode ∷ []
+kinds = kind.Rts ∷ kind.Cts ∷ kind.Ack ∷ kind.Nak ∷ kind.Sot ∷ kind.Data ∷ kind.Eot ∷ kind.Other ∷ kind.NoForm ∷ kind.FreeParity ∷ kind.FreeLabel ∷ kind.FreeType ∷ kind.FreeCode ∷ []
 
 -- the place of a kind in this order
 abbrev pub place : WordKind → ℕ
@@ -54,11 +56,12 @@ place kind.Nak = 3
 place kind.Sot = 4
 place kind.Data = 5
 place kind.Eot = 6
-place kind.NoForm = 7
-place kind.FreeParity = 8
-place kind.FreeLabel = 9
-place kind.FreeType = 10
-place kind.FreeCode = 11
+place kind.Other = 7
+place kind.NoForm = 8
+place kind.FreeParity = 9
+place kind.FreeLabel = 10
+place kind.FreeType = 11
+place kind.FreeCode = 12
 
 abbrev pub name : WordKind → List ℕ
 name kind.Rts = codes "rts"
@@ -68,6 +71,7 @@ name kind.Nak = codes "nak"
 name kind.Sot = codes "sot"
 name kind.Data = codes "data"
 name kind.Eot = codes "eot"
+name kind.Other = codes "other"
 name kind.NoForm = codes "no form"
 name kind.FreeParity = codes "free parity"
 name kind.FreeLabel = codes "free label"
@@ -177,8 +181,8 @@ no_label = record { count = 0; even = 0 }
 -- the counts of a bus are those of its entries: of each kind, by its place, and of each label
 pub record IsBusCount (c : Codes) (count : BusCount) (xs : List Numbered) : Type 0 where
   pub entries : count.entries ≡ length xs
-  pub kind_count : length count.kinds ≡ 12
-  pub kinds : (k : ℕ) → k < 12 → IsHits (get_or count.kinds k no_hits) (filter (λ x. place_of c x == k) xs)
+  pub kind_count : length count.kinds ≡ 13
+  pub kinds : (k : ℕ) → k < 13 → IsHits (get_or count.kinds k no_hits) (filter (λ x. place_of c x == k) xs)
   pub label_count : length count.labels ≡ 256
   pub labels : (label : ℕ) → label < 256 → IsLabelCount (get_or count.labels label no_label) (with_label label xs)
 

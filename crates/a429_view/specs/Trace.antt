@@ -9,6 +9,7 @@ use Rattle.a429_profile.specs.Profile.{Contents}
 use Rattle.a429_ldu.specs.declared.forms.Form.{Form}
 use Rattle.a429_ldu.specs.declared.freedom.Freedom.{Freedom}
 use Rattle.a429_ldu.specs.declared.freedom.Freedom.TheVariants.{BadParity}
+use Rattle.a429_ldu.specs.Across.{form_across}
 use Rattle.a429_ldu.specs.Form.{address_of, form_of}
 use Rattle.a429_ldu.specs.Freedom.{freedom_of}
 use Rattle.a429_ldu.specs.Sight.{sight_of}
@@ -27,7 +28,7 @@ use Rattle.a429_cert.specs.Explained.{items_of, seen_of}
 use Rattle.a429_view.specs.declared.trace.Trace.{Trace}
 use Rattle.a429_view.specs.declared.trace.TraceStop.{TraceStop}
 use Rattle.a429_view.specs.declared.trace.TraceStop.TheVariants as stop
-use Rattle.a429_view.specs.Forms.{form_text, freedom_text, ldu_text, reason_or_form_text, what_text}
+use Rattle.a429_view.specs.Forms.{form_text, freedom_text, form_or_other_text, ldu_text, what_text}
 
 -- ---- what the sink does
 
@@ -118,13 +119,14 @@ abbrev pub lines_of : Contents → ℕ → Implied → List Entry → List ℕ
 lines_of p n k [] = []
 lines_of p n k (e ∷ es) = line_of p n k e ++ lines_of p (suc n) (implies p (seen_of e) k) es
 
--- how the line of a word ends that is not free, has this form or none, and is not allowed after words that imply this
-abbrev pub refused_text : Codes → Option Form → Implied → List ℕ
-refused_text c x k = reason_or_form_text c None x ++ codes " | refused, allowed: " ++ kinds_text (kinds_allowed (observer_of k)) ++ codes "\n"
+-- how the line of a word ends that is not free, has this form or none, in the other direction this one or none, and is not allowed after
+-- words that imply this
+abbrev pub refused_text : Codes → Option Form → Option Form → Implied → List ℕ
+refused_text c x other k = form_or_other_text c x other ++ codes " | refused, allowed: " ++ kinds_text (kinds_allowed (observer_of k)) ++ codes "\n"
 
 -- entry n, whose word is such
 abbrev pub refused_line : Contents → ℕ → Implied → Entry → List ℕ
-refused_line p n k e = line_head n e ++ refused_text p.codes (form_of p.codes e.bus e.word) k
+refused_line p n k e = line_head n e ++ refused_text p.codes (form_of p.codes e.bus e.word) (form_across p.codes e.bus e.word) k
 
 -- ---- the trace of entries
 

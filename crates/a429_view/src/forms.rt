@@ -3,20 +3,21 @@
 ghost use Rattle.std.specs.Prelude.{◌≡◌, ◌++◌, ◌+◌, ◌≤◌, codes, map, length, None, true};
 ghost use Rattle.std.specs.Fmt.{decimal, digit_glyph};
 ghost use Rattle.a429_word.specs.Sheet.{Says};
+ghost use Rattle.a429_ldu.specs.Across.{form_across};
 ghost use Rattle.a429_ldu.specs.Form.{form_of};
-ghost use Rattle.a429_view.specs.Forms.{freedom_text, final_text, form_text, ldu_text, reason_or_form_text, what_text};
+ghost use Rattle.a429_view.specs.Forms.{freedom_text, final_text, form_text, ldu_text, form_or_other_text, other_text, what_text};
 ghost use Rattle.a429_view.specs.Line.{Adds, Fits};
 
 use crate::line::Line;
-use a429_ldu::{Form, Freedom, Semis, why_free};
+use a429_ldu::{Form, Freedom, Semis, form_across, why_free};
 use a429_link::{form_of, is_final};
 use a429_profile::Profile;
 use a429_record::Entry;
-use a429_word::{Sheet, hex_digit};
+use a429_word::{Bus, Sheet, Word, hex_digit};
 use std::io::Write;
 
-/// Puts what a word is to the file transfer of a profile: its form with its numbers, why it is free, or that it
-/// has no form (ARINC 429 Part 3; the layout is the profile's).
+/// Puts what a word is to the file transfer of a profile: its form with its numbers, why it is free, which form it has in the other
+/// direction, or that it has none in either (ARINC 429 Part 3; the layout is the profile's).
 pub fn put_what<W: Write>(sheet: &mut Sheet<'_, W>, profile: &Profile, entry: &Entry)
     ensures { Says W.contents sheet.old sheet.new (what_text profile.now.codes entry.now.bus entry.now.word) }
 {
@@ -26,22 +27,43 @@ pub fn put_what<W: Write>(sheet: &mut Sheet<'_, W>, profile: &Profile, entry: &E
     }
 }
 
-// The form of a word that is not free, where it has one.
+// The form of a word that is not free, or that in the other direction, where it has one.
 fn put_form_if_any<W: Write>(sheet: &mut Sheet<'_, W>, profile: &Profile, entry: &Entry)
-    ensures { Says W.contents sheet.old sheet.new (reason_or_form_text profile.now.codes None (form_of profile.now.codes entry.now.bus entry.now.word)) }
+    ensures { Says W.contents sheet.old sheet.new (form_or_other_text profile.now.codes (form_of profile.now.codes entry.now.bus entry.now.word) (form_across profile.now.codes entry.now.bus entry.now.word)) }
 {
     let mut line = Line::new();
-    add_form_or_none(&mut line, profile, form_of(profile, entry.bus, entry.word));
+    let form = form_of(profile, entry.bus, entry.word);
+    add_form_or_other(&mut line, profile, entry.bus, entry.word, form);
     sheet.put(line.as_slice());
 }
 
-/// Adds the form of a word that is not free, or that it has none.
-pub(crate) fn add_form_or_none(line: &mut Line, profile: &Profile, form: Option<Form>)
-    requires { Fits line.old 31 }
-    ensures { Adds line.old line.new 30 (reason_or_form_text profile.now.codes None form) }
+/// Adds the form of a word that is not free; where it has none, that in the other direction, or that it has none there either.
+pub(crate) fn add_form_or_other(
+    line: &mut Line,
+    profile: &Profile,
+    bus: Bus,
+    word: Word,
+    form: Option<Form>,
+)
+    requires { Fits line.old 37 }
+    ensures { Adds line.old line.new 36 (form_or_other_text profile.now.codes form (form_across profile.now.codes bus word)) }
 {
     match form {
         Some(form) => add_form(line, profile, form),
+        None => add_other(line, profile, form_across(profile, bus, word)),
+    }
+}
+
+// Adds the form that a word has in the other direction, or that it has none.
+fn add_other(line: &mut Line, profile: &Profile, form: Option<Form>)
+    requires { Fits line.old 37 }
+    ensures { Adds line.old line.new 36 (other_text profile.now.codes form) }
+{
+    match form {
+        Some(form) => {
+            line.put(b"other ");
+            add_form(line, profile, form)
+        }
         None => line.put(b"no form"),
     }
 }

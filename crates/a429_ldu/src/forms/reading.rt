@@ -4,6 +4,7 @@ ghost use Rattle.std.specs.Prelude.{◌≡◌, ◌≤◌, ◌+◌, ◌*◌, ◌/
 ghost use Rattle.a429_word.specs.declared.bus.Bus.TheVariants as bus;
 ghost use Rattle.a429_ldu.specs.declared.forms.Form.TheVariants.{Part};
 ghost use Rattle.a429_ldu.specs.Form.{fields_in, partial_on, form_on};
+ghost use Rattle.a429_ldu.specs.Across.{with_destination};
 
 use crate::forms::Form;
 use crate::forms::fields::Parts;
@@ -11,24 +12,24 @@ use crate::semis::Semis;
 use a429_profile::Codes;
 use a429_word::Bus;
 
-/// The form that a word of this bus with these numbers has.
+/// The form that a word of this bus with these numbers has, where requests and clear answers have this destination.
 #[inline(never)]
-pub(crate) fn form_on(codes: &Codes, bus: Bus, parts: Parts) -> Option<Form>
+pub(crate) fn form_on(codes: &Codes, destination: u8, bus: Bus, parts: Parts) -> Option<Form>
     requires { parts.upper ≤ 15 }
-    ensures { result ≡ form_on codes.now bus (fields_in parts) }
+    ensures { result ≡ form_on (with_destination destination codes.now) bus (fields_in parts) }
 {
     match bus {
-        Bus::A => form_on_a(codes, parts),
-        Bus::B => form_on_b(codes, parts),
+        Bus::A => form_on_a(codes, destination, parts),
+        Bus::B => form_on_b(codes, destination, parts),
     }
 }
 
-fn form_on_a(codes: &Codes, parts: Parts) -> Option<Form>
+fn form_on_a(codes: &Codes, destination: u8, parts: Parts) -> Option<Form>
     requires { parts.upper ≤ 15 }
-    ensures { result ≡ form_on codes.now bus.A (fields_in parts) }
+    ensures { result ≡ form_on (with_destination destination codes.now) bus.A (fields_in parts) }
 {
     if parts.kind == codes.protocol {
-        if parts.upper == codes.rts && parts.middle == codes.destination && parts.lower >= 3 {
+        if parts.upper == codes.rts && parts.middle == destination && parts.lower >= 3 {
             Some(Form::Rts { count: parts.lower })
         } else {
             None
@@ -53,12 +54,12 @@ fn form_on_a(codes: &Codes, parts: Parts) -> Option<Form>
     }
 }
 
-fn form_on_b(codes: &Codes, parts: Parts) -> Option<Form>
-    ensures { result ≡ form_on codes.now bus.B (fields_in parts) }
+fn form_on_b(codes: &Codes, destination: u8, parts: Parts) -> Option<Form>
+    ensures { result ≡ form_on (with_destination destination codes.now) bus.B (fields_in parts) }
 {
     if parts.kind != codes.protocol {
         None
-    } else if parts.upper == codes.cts && parts.middle == codes.destination && parts.lower >= 3 {
+    } else if parts.upper == codes.cts && parts.middle == destination && parts.lower >= 3 {
         Some(Form::Cts { count: parts.lower })
     } else if parts.upper == codes.ack {
         Some(Form::Ack {

@@ -1,11 +1,12 @@
 //! What a word is to the file transfer, without its numbers.
 
 ghost use Rattle.std.specs.Prelude.{◌≡◌, ◌<◌, Option, Some, None};
+ghost use Rattle.a429_ldu.specs.declared.forms.Form.{Form as AForm};
 ghost use Rattle.a429_ldu.specs.Form.{form_of};
 ghost use Rattle.a429_profile.specs.declared.codes.Codes.{Codes};
 ghost use Rattle.a429_view.specs.Survey.{Numbered, is_even, kind_of, kind_in, place, name};
 
-use a429_ldu::{Form, Freedom, Sight, form, why_free};
+use a429_ldu::{Form, Freedom, Sight, form, form_across, why_free};
 use a429_profile::Profile;
 use a429_record::Entry;
 
@@ -19,7 +20,9 @@ pub enum WordKind {
     Sot,
     Data,
     Eot,
-    /// It claims to be a word of the transfer, and has no form.
+    /// It has no form, and one in the other direction.
+    Other,
+    /// It claims to be a word of the transfer, and has no form in either direction.
     NoForm,
     /// Its parity is even: it is damaged.
     FreeParity,
@@ -32,7 +35,7 @@ pub enum WordKind {
 }
 
 /// How many kinds there are.
-pub(crate) const KIND_COUNT: usize = 12;
+pub(crate) const KIND_COUNT: usize = 13;
 
 /// All of them, in the order in which a survey lists them.
 pub(crate) const KINDS: [WordKind; KIND_COUNT] = [
@@ -43,6 +46,7 @@ pub(crate) const KINDS: [WordKind; KIND_COUNT] = [
     WordKind::Sot,
     WordKind::Data,
     WordKind::Eot,
+    WordKind::Other,
     WordKind::NoForm,
     WordKind::FreeParity,
     WordKind::FreeLabel,
@@ -56,12 +60,12 @@ impl WordKind {
         ensures { result ≡ kind_of profile.now.codes entry.now.bus entry.now.word }
     {
         match form(profile, entry.bus, entry.word) {
-            Sight::Form(form) => form_kind(Some(form)),
-            Sight::NoForm => form_kind(None),
+            Sight::Form(form) => form_kind(form),
+            Sight::NoForm => other_kind(form_across(profile, entry.bus, entry.word)),
             Sight::Free => match why_free(profile, entry.bus, entry.word) {
                 Some(why) => free_kind(why),
                 // (a free word has a reason)
-                None => form_kind(None),
+                None => WordKind::NoForm,
             },
         }
     }
@@ -69,7 +73,7 @@ impl WordKind {
     /// Its place in the order of the kinds.
     pub(crate) fn place(self) -> usize
         ensures place { result ≡ place self }
-        ensures inside { result < 12 }
+        ensures inside { result < 13 }
     {
         match self {
             WordKind::Rts => 0,
@@ -79,11 +83,12 @@ impl WordKind {
             WordKind::Sot => 4,
             WordKind::Data => 5,
             WordKind::Eot => 6,
-            WordKind::NoForm => 7,
-            WordKind::FreeParity => 8,
-            WordKind::FreeLabel => 9,
-            WordKind::FreeType => 10,
-            WordKind::FreeCode => 11,
+            WordKind::Other => 7,
+            WordKind::NoForm => 8,
+            WordKind::FreeParity => 9,
+            WordKind::FreeLabel => 10,
+            WordKind::FreeType => 11,
+            WordKind::FreeCode => 12,
         }
     }
 
@@ -106,6 +111,7 @@ impl WordKind {
             WordKind::Sot => b"sot",
             WordKind::Data => b"data",
             WordKind::Eot => b"eot",
+            WordKind::Other => b"other",
             WordKind::NoForm => b"no form",
             WordKind::FreeParity => b"free parity",
             WordKind::FreeLabel => b"free label",
@@ -116,7 +122,7 @@ impl WordKind {
 }
 
 fn free_kind(why: Freedom) -> WordKind
-    ensures { (f : Option Form) → result ≡ kind_in (Some why) f }
+    ensures { (f other : Option AForm) → result ≡ kind_in (Some why) f other }
 {
     match why {
         Freedom::BadParity => WordKind::FreeParity,
@@ -126,17 +132,26 @@ fn free_kind(why: Freedom) -> WordKind
     }
 }
 
-fn form_kind(form: Option<Form>) -> WordKind
-    ensures { result ≡ kind_in None form }
+fn form_kind(form: Form) -> WordKind
+    ensures { (other : Option AForm) → result ≡ kind_in None (Some form) other }
 {
     match form {
-        Some(Form::Rts { .. }) => WordKind::Rts,
-        Some(Form::Cts { .. }) => WordKind::Cts,
-        Some(Form::Ack { .. }) => WordKind::Ack,
-        Some(Form::Nak { .. }) => WordKind::Nak,
-        Some(Form::Sot { .. }) => WordKind::Sot,
-        Some(Form::Part(_)) => WordKind::Data,
-        Some(Form::Eot { .. }) => WordKind::Eot,
+        Form::Rts { .. } => WordKind::Rts,
+        Form::Cts { .. } => WordKind::Cts,
+        Form::Ack { .. } => WordKind::Ack,
+        Form::Nak { .. } => WordKind::Nak,
+        Form::Sot { .. } => WordKind::Sot,
+        Form::Part(_) => WordKind::Data,
+        Form::Eot { .. } => WordKind::Eot,
+    }
+}
+
+// The kind of a word that has no form, by that in the other direction.
+fn other_kind(other: Option<Form>) -> WordKind
+    ensures { result ≡ kind_in None None other }
+{
+    match other {
+        Some(_) => WordKind::Other,
         None => WordKind::NoForm,
     }
 }

@@ -3,14 +3,15 @@
 ghost use Rattle.std.specs.Prelude.{◌≡◌, ◌++◌, codes, None, Some};
 ghost use Rattle.std.specs.Fmt.{decimal};
 ghost use Rattle.a429_word.specs.Sheet.{Says};
+ghost use Rattle.a429_ldu.specs.Across.{form_across};
 ghost use Rattle.a429_ldu.specs.Freedom.{freedom_of};
 ghost use Rattle.a429_link.specs.Allowed.{kinds_of_next};
 ghost use Rattle.a429_record.specs.Writing.{entry_text};
-ghost use Rattle.a429_view.specs.Forms.{form_text, reason_or_form_text};
+ghost use Rattle.a429_view.specs.Forms.{form_or_other_text, form_text};
 ghost use Rattle.a429_view.specs.Line.{Adds, Fits};
 ghost use Rattle.a429_view.specs.Trace.{crossing_text, doing_text, else_form_text, else_text, free_text, line_head, kinds_text, turned_over, why_text, words_text};
 
-use crate::forms::{add_form, add_form_or_none, add_likely_form, add_named, add_unit, freedom};
+use crate::forms::{add_form, add_form_or_other, add_likely_form, add_named, add_unit, freedom};
 use crate::line::Line;
 use crate::trace::block::InBlockText;
 use crate::trace::count::EntryCount;
@@ -60,7 +61,8 @@ pub(crate) fn put_allowed<W: Write>(
     sheet.put(line.as_slice());
 }
 
-/// Puts the line of an entry, whose word has this form, or none, and is not allowed; what would be is in it.
+/// Puts the line of an entry, whose word has this form, or none, and is not allowed: which form it has in the other direction, where it
+/// has none, and what would be allowed are in it.
 #[inline(never)]
 pub(crate) fn put_refused<W: Write>(
     sheet: &mut Sheet<'_, W>,
@@ -70,11 +72,11 @@ pub(crate) fn put_refused<W: Write>(
     form: Option<Form>,
     next: Next,
 )
-    ensures { Says W.contents sheet.old sheet.new (line_head count.now entry.now ++ (reason_or_form_text profile.now.codes None form ++ codes " | refused, allowed: " ++ kinds_text (kinds_of_next next) ++ codes "\n")) }
+    ensures { Says W.contents sheet.old sheet.new (line_head count.now entry.now ++ (form_or_other_text profile.now.codes form (form_across profile.now.codes entry.now.bus entry.now.word) ++ codes " | refused, allowed: " ++ kinds_text (kinds_of_next next) ++ codes "\n")) }
 {
     let mut line = Line::new();
     add_head(&mut line, count, entry);
-    add_form_or_none(&mut line, profile, form);
+    add_form_or_other(&mut line, profile, entry.bus, entry.word, form);
     line.put(b" | refused, allowed: ");
     add_next(&mut line, next);
     line.put(b"\n");

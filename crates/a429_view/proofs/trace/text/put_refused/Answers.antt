@@ -3,5 +3,5 @@ use Rattle.a429_view.proofs.trace.text.put_refused.Goals as goal
 
 pub returns : goal.returns
 returns g c =
-    let text = c.add_head.ensures ▹ (c.add_form_or_none.ensures ▹ c.put.ensures ▹ c.add_next.ensures ▹ c.put-2.ensures) in
+    let text = c.add_head.ensures ▹ (c.add_form_or_other.ensures ▹ c.put.ensures ▹ c.add_next.ensures ▹ c.put-2.ensures) in
     rw (c.as_slice.ensures, text.added, c.new-line.ensures) at c.put-3.ensures
