@@ -10,6 +10,7 @@ ghost use Rattle.a429_side.specs.Side.{addressed_to, is_answer_to, is_clear_answ
 
 use crate::direction::{Direction, direction_of};
 use crate::fields::{code_of, destination_of, kind_of};
+use a429_ldu::other_line;
 use a429_link::Seen;
 use a429_profile::{Codes, Profile};
 use a429_record::Entry;

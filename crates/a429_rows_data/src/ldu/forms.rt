@@ -4,7 +4,7 @@ ghost use Rattle.a429_ldu.specs.Form.{IsInRange};
 
 use crate::agreement::none_differs;
 use crate::profile::sample_profile;
-use a429_ldu::{Form, Semis, Sight, form, form_if_full, word_of};
+use a429_ldu::{Form, Semis, Sight, form, form_across, form_if_full, other_line, word_of};
 use a429_profile::Profile;
 use a429_sample::{ACK, CTS, EOT, NAK, PART, RTS, SOT};
 use a429_word::{Bus, Word};
@@ -94,6 +94,52 @@ fn first_found_otherwise(profile: &Profile) -> Option<u32> {
 fn full_data_words_are_found(rt: HostRuntime) -> Result<(), Fail> {
     let profile = sample_profile(&rt);
     none_differs(first_found_otherwise(&profile))
+}
+
+// Which form of the other direction a word has: an acknowledgement and a negative answer on bus A; a request to another destination, a start
+// word and an end word on bus B. None has a word with a form, a request for 2 words, one of even parity, and one of another label.
+const ACROSS: [(Bus, u32, Option<Form>); 9] = [
+    (Bus::A, 0xC501_0123, Some(Form::Ack { file: 1, ldu: 1 })),
+    (Bus::A, 0x4612_3423, Some(Form::Nak { bits: 0x1234 })),
+    (Bus::B, 0xC142_06A3, Some(Form::Rts { count: 6 })),
+    (
+        Bus::B,
+        0xE001_01A3,
+        Some(Form::Sot {
+            gfi: 0,
+            file: 1,
+            ldu: 1,
+        }),
+    ),
+    (
+        Bus::B,
+        0xF157_15A3,
+        Some(Form::Eot {
+            flags: 1,
+            check: 0x5715,
+        }),
+    ),
+    (Bus::A, RTS, None),
+    (Bus::B, 0x4142_02A3, None),
+    (Bus::A, 0x4501_0123, None),
+    (Bus::A, ACK, None),
+];
+
+// The first of them that has another one.
+fn first_across_otherwise(profile: &Profile) -> Option<u32> {
+    for (bus, number, said) in ACROSS {
+        if form_across(profile, bus, Word::from_u32(number)) != said {
+            return Some(number);
+        }
+    }
+    None
+}
+
+#[test]
+fn words_of_the_other_direction_are_known(rt: HostRuntime) -> Result<(), Fail> {
+    let profile = sample_profile(&rt);
+    assert!(rt; other_line(Bus::A) == Bus::B);
+    none_differs(first_across_otherwise(&profile))
 }
 
 // Whether the partial word of some semi-octets is said by this word, and by no other.
