@@ -234,6 +234,11 @@ refused_last p items i never =
     subst (λ (x : Option Seen). SinkAllowsNext p (sink_after p (take (length items) (items ++ i ∷ [])) sink_at_first) x → ⊥) (sym (last_item items i))
     (subst (λ (l : List Seen). SinkAllows p (sink_after p l sink_at_first) i → ⊥) (sym (take-append_seam items (i ∷ []))) never)
 
+pub last_refused : (p : Contents) (items : List Seen) (i : Seen) → IsSinkRefused p (items ++ i ∷ []) (length items) → SinkAllows p (sink_after p items sink_at_first) i → ⊥
+last_refused p items i refused a =
+    refused (subst (SinkAllowsNext p (sink_after p (take (length items) (items ++ i ∷ [])) sink_at_first)) (sym (last_item items i))
+    (subst (λ (l : List Seen). SinkAllows p (sink_after p l sink_at_first) i) (sym (take-append_seam items (i ∷ []))) a))
+
 pub owed_before_any : (p : Contents) (items : List Seen) (i : Seen) (r : Option Request) (j : Option ℕ) → (SinkAllows p (sink_after p items sink_at_first) i → ⊥) → IsLastAsked p items r → WasOwed r (form_of p.codes i.bus i.word) j → IsOwedBeforeAny p (items ++ i ∷ []) (length items) j
 owed_before_any p items i None None never asked was = λ j h. asked j (at_owed p items i j h).0.0
 owed_before_any p items i None (Some j) never asked was = absurd was

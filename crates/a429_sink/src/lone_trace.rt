@@ -74,6 +74,13 @@ impl LoneTrace {
         self.files.as_slice()
     }
 
+    /// The same as a vector.
+    pub fn into_files(self) -> Vec<Crossing>
+        ensures { result.items ≡ self.files.items }
+    {
+        self.files
+    }
+
     /// Goes on with one more entry. `Refused` where no sink that keeps the rules sends its word after those before it; an acknowledgement
     /// alone may want memory. There may be as many entries as a `usize` counts.
     pub fn see(&mut self, alloc: Global, profile: &Profile, seen: Seen) -> Result<(), LoneStop>
