@@ -1,20 +1,24 @@
 //! Laws of a sink by itself, whatever its source sends, and of recordings that begin anywhere in a run.
 
-ghost use Rattle.std.specs.Prelude.{◌≡◌, ◌↔◌, ◌⊎◌, ◌++◌, ℕ, suc, List, [], ◌∷◌, take};
+ghost use Rattle.std.specs.Prelude.{◌≡◌, ◌↔◌, ◌⊎◌, ◌++◌, ℕ, suc, List, [], ◌∷◌, Contains, Some, slice_get, take};
 ghost use Rattle.a429_word.specs.declared.bus.Bus.TheVariants as bus;
 ghost use Rattle.a429_profile.specs.Profile.{Contents, IsProfile};
+ghost use Rattle.a429_ldu.specs.declared.forms.Form.{Form};
 ghost use Rattle.a429_link.specs.declared.number.UnitNumber.{UnitNumber};
 ghost use Rattle.a429_link.specs.declared.seen.Seen.{Seen};
+ghost use Rattle.a429_link.specs.Allowed.{kind_of};
 ghost use Rattle.a429_link.specs.Attempt.{HasNumber, latest};
 ghost use Rattle.a429_link.specs.Group.{AcksOnly, ArePartsOfWhole, IsFurther, IsGroup, IsOneUnit};
 ghost use Rattle.a429_link.specs.Implied.{sizes_of};
 ghost use Rattle.a429_link.specs.Observer.{Allows, Observer, sink_of};
 ghost use Rattle.a429_link.specs.Run.{BeginsARun, RunOf, delivered_by, trace};
-ghost use Rattle.a429_link.specs.Sink.{Quiet, Sink, in_phase, without_files};
+ghost use Rattle.a429_link.specs.Sink.{MayAnswer, Quiet, Sink, in_phase, without_files};
 ghost use Rattle.a429_link.specs.Trace.{files_of, sink_after, sink_at_first};
 ghost use Rattle.a429_sink.specs.Alone.{AreSinkAllowed, SinkAllows, IsSinkRefused, IsSinkRun, SinkKeeps, SinkKeepsFrom, SinkStep, sink_delivers, sink_end, sink_trace};
 ghost use Rattle.a429_sink.specs.Anywhere.{AreLastOf, EndsWith, HasRequest, IsBadAnywhere, IsPartOfARun, IsRefusedAnywhere, sure_files};
 ghost use Rattle.a429_sink.specs.Lone.{capped, crosses, kept, listed};
+ghost use Rattle.a429_sink.specs.Owed.{IsOwed, IsOwedBefore, kinds_owed, owed_by};
+ghost use Rattle.a429_sink.specs.declared.owed.Owed.{Owed};
 ghost use Rattle.a429_sink.specs.Somewhere.{IsRefusedBySinks};
 
 // ---- a sink by itself
@@ -53,6 +57,20 @@ pub fn on_b_the_observer_judges_the_sink()
 /// whatever the sink was before them and whatever its source sends.
 pub fn refused_by_sinks_is_impossible()
     ensures { (p : Contents) (items : List Seen) (i : ℕ) → IsProfile p → IsRefusedBySinks p items i → (k : Sink) → SinkKeepsFrom p k (take (suc i) items) → ⊥ }
+{}
+
+// ---- what a sink owes
+
+/// What a sink owes is what it may give: an answer of a form exactly where it may give it, and where the form's kind is listed.
+pub fn what_a_sink_owes_it_may_give()
+    ensures gives { (k : Sink) (x : Form) → MayAnswer k.count k.phase x ↔ IsOwed (owed_by k) x }
+    ensures listed { (o : Owed) (x : Form) → Contains (kinds_owed o) (kind_of x) ↔ IsOwed o x }
+{}
+
+/// Where a word is refused that was owed before the last request, some sink records the words up to that request, and then this word in
+/// its place.
+pub fn what_was_owed_could_have_come()
+    ensures { (p : Contents) (items : List Seen) (i j : ℕ) (word : Seen) → IsProfile p → SinkKeeps p (take i items) → slice_get items i ≡ Some word → IsOwedBefore p items i j → SinkKeeps p (take j items ++ word ∷ []) }
 {}
 
 // ---- what is kept of a sink

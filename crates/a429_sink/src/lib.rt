@@ -3,9 +3,15 @@
 
 mod alone;
 mod fault;
+mod judging;
 pub mod laws;
 mod lone;
+mod lone_trace;
+mod owed;
 
 pub use crate::alone::sink_allows;
 pub use crate::fault::SinkFault;
+pub use crate::judging::{SinkVerdict, judge_sink};
 pub use crate::lone::LoneSink;
+pub use crate::lone_trace::{LoneStop, LoneTrace, Refusal};
+pub use crate::owed::Owed;

@@ -8,11 +8,13 @@ ghost use Rattle.a429_link.specs.Sink.{IsAck, MayAnswer, without_files};
 ghost use Rattle.a429_link.specs.Trace.{sink_at_first};
 ghost use Rattle.a429_sink.specs.Alone.{SinkAllows, SinkAllowsOn};
 ghost use Rattle.a429_sink.specs.Lone.{IsFaultOf, IsFaultOn, IsInBlock, IsSinkFault, capped, crosses, crosses_form, crossing_by, granted_anew, keeps, keeps_form};
+ghost use Rattle.a429_sink.specs.Owed.{owed_by};
 
 use crate::alone::sink_allows;
 use crate::fault::SinkFault;
+use crate::owed::Owed;
 use a429_ldu::{Form, Semis, Sight, form};
-use a429_link::{Crossing, Doing, ImpliedSink, Seen};
+use a429_link::{Crossing, Doing, ImpliedSink, Next, Seen};
 use a429_profile::Profile;
 use a429_word::{Bus, Word};
 use std::alloc::{AllocError, Global};
@@ -55,6 +57,18 @@ impl LoneSink {
         ensures { IsTrue result ↔ SinkAllows profile.now self.now seen }
     {
         sink_allows(&self.implied, profile, seen)
+    }
+
+    /// The answer that the sink owes.
+    pub fn owes(&self) -> Owed
+        ensures { result ≡ owed_by self.now }
+    {
+        match self.implied.next() {
+            Next::Clear(count) => Owed::Clear(count),
+            Next::Ack { file, ldu } => Owed::Ack { file, ldu },
+            Next::Nak => Owed::Nak,
+            Next::Request | Next::Block { .. } => Owed::Nothing,
+        }
     }
 
     /// Takes the next recorded word where a sink that keeps the rules may have it recorded, whatever its source sends, and answers which
