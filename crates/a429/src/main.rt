@@ -4,7 +4,7 @@
 use a429_check::{
     Claim, Command, Folder, NewFile, PartFolder, Rule, RunFault, Side, Span, command, read_whole,
     report, run_by_rule, run_cut, run_extract, run_forms, run_keep, run_labels, run_make, run_pack,
-    run_picture, run_series, run_show, run_side, run_survey, run_trace, run_units, run_upgrade,
+    run_picture, run_series, run_show, run_side, run_sink, run_survey, run_trace, run_units, run_upgrade,
     run_verify, run_version, run_word,
 };
 use a429_record::EntryReader;
@@ -91,6 +91,7 @@ fn answer<W: Write + Drop>(
             new_rec,
         } => side(rt, alloc, profile, recording, wanted, new_rec, &mut out),
         Command::Trace { profile, recording } => trace(rt, alloc, profile, recording, &mut out),
+        Command::Sink { profile, recording } => sink(rt, alloc, profile, recording, &mut out),
         Command::Make { profile, files } => make(rt, alloc, profile, files.as_slice(), &mut out),
         Command::Pack(recording) => pack(rt, alloc, recording, &mut out),
         Command::Check(claim) => find(rt, alloc, claim, Rule::Check, &mut out),
@@ -231,6 +232,18 @@ fn trace<W: Write>(
     let mut rec = opened_whole(rt, alloc, recording)?;
     let status = run_trace(alloc, profile.as_slice(), &mut rec, out);
     written(status, out)
+}
+
+fn sink<W: Write>(
+    rt: &impl Files,
+    alloc: Global,
+    profile: &str,
+    recording: &str,
+    out: &mut Tally<W>,
+) -> Result<u8, RunFault> {
+    let profile = bytes_of(rt, alloc, profile)?;
+    let mut rec = opened_whole(rt, alloc, recording)?;
+    run_sink(alloc, profile.as_slice(), &mut rec, out)
 }
 
 // The answer of a command that writes as it reads: the lines before a fault are flushed too.

@@ -21,6 +21,7 @@ pub mod OutputFacts
 pub mod LeavesFacts
 pub mod KeepFacts
 pub mod SideFacts
+pub mod SinkFacts
 pub mod CutFacts
 pub mod TraceLines
 pub mod EndsFacts

@@ -25,6 +25,7 @@ pub mod Survey
 pub mod Leaves
 pub mod Keep
 pub mod Side
+pub mod Sink
 pub mod Cut
 pub mod Trace
 pub mod Version

@@ -16,7 +16,7 @@ use std::alloc::{AllocError, Global};
 pub mod commands;
 
 // Each command, and the names of the words that it takes.
-const COMMANDS: [(&str, &[&str]); 20] = [
+const COMMANDS: [(&str, &[&str]); 21] = [
     ("version", &[]),
     ("word", &["HEX"]),
     ("labels", &["PROFILE"]),
@@ -26,6 +26,7 @@ const COMMANDS: [(&str, &[&str]); 20] = [
     ("survey", &["PROFILE", "REC"]),
     ("keep", &["PROFILE", "REC"]),
     ("trace", &["PROFILE", "REC"]),
+    ("sink", &["PROFILE", "REC"]),
     ("cut", &["PROFILE", "REC", "DIR", "MOST"]),
     ("side", &["PROFILE", "REC", "LINE", "OUT", "ANSWER"]),
     ("check", &["PROFILE", "REC", "CERT"]),
@@ -185,6 +186,7 @@ fn of_both<'a>(
         "survey" => Ok(Command::Survey { profile, recording }),
         "keep" => Ok(Command::Keep { profile, recording }),
         "trace" => Ok(Command::Trace { profile, recording }),
+        "sink" => Ok(Command::Sink { profile, recording }),
         _ => match given.get_str("CERT") {
             Some(certificate) => of_claim(
                 name,

@@ -24,6 +24,7 @@ pub mod rule;
 pub mod series;
 pub mod show;
 pub mod side;
+pub mod sink;
 mod streaming;
 pub mod survey;
 mod text;

@@ -27,6 +27,7 @@ pub use crate::engines::rule::Rule;
 pub use crate::engines::series::run_series;
 pub use crate::engines::show::run_show;
 pub use crate::engines::side::run_side;
+pub use crate::engines::sink::run_sink;
 pub use crate::engines::survey::run_survey;
 pub use crate::engines::trace::run_trace;
 pub use crate::engines::units::run_units;

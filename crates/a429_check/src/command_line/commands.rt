@@ -41,6 +41,11 @@ pub enum Command<'a> {
         profile: &'a str,
         recording: &'a str,
     },
+    /// `sink PROFILE REC`: judges the sink of a recording by itself.
+    Sink {
+        profile: &'a str,
+        recording: &'a str,
+    },
     /// `keep PROFILE REC`: writes a recording without the entries that its transfer does not need.
     Keep {
         profile: &'a str,
