@@ -17,7 +17,7 @@ use Rattle.a429_parts.proofs.KeepingFacts.{Came}
 use Rattle.a429_sink.specs.declared.lone_trace.LoneTrace.{LoneTrace}
 use Rattle.a429_sink.specs.declared.lone_trace.Refusal.{Refusal}
 use Rattle.a429_sink.specs.Alone.{AreSinkAllowed, IsSinkRefused, SinkAllows, SinkKeeps}
-use Rattle.a429_sink.specs.Judging.{SaysNo, SaysYes, SeesWhole}
+use Rattle.a429_sink.specs.Judging.{SinkNo, SinkYes, SeesWhole}
 use Rattle.a429_sink.specs.LoneTrace.{IsLoneTrace, IsRefusal}
 use Rattle.a429_sink.proofs.AloneFacts.{allowed_keeps, delivers_recorded, keeps_allowed}
 use Rattle.a429_sink.proofs.OwedFacts.{last_refused}
@@ -45,7 +45,7 @@ ran_out (Some r) left es (rest, is, all) = (rest, all, tt)
 
 -- ---- a yes
 
-pub says_yes : (p : Contents) → IsProfile p → (t : Taken) (trace : LoneTrace) → SeesWhole p t trace → SaysYes p t trace.files.items
+pub says_yes : (p : Contents) → IsProfile p → (t : Taken) (trace : LoneTrace) → SeesWhole p t trace → SinkYes p t trace.files.items
 says_yes p is t trace seen = record {
   entries = seen.entries;
   all = seen.all;
@@ -63,7 +63,7 @@ not_allowed p [] more i k h = h.0
 not_allowed p (x ∷ items) more i k h = not_allowed p items more i (sink_sees p x.bus x.word k) h.1
 
 pub says_no : (p : Contents) → IsProfile p → (t : Taken) (es : List Entry) (e : Entry) (r : Refusal) → BeginsWith t.recording (es ++ e ∷ []) → t.given ≡ length es + 1
-    → IsRefusal p (items_of es ++ seen_of e ∷ []) r × (r.entry ≡ length (items_of es)) → SaysNo p t r
+    → IsRefusal p (items_of es ++ seen_of e ∷ []) r × (r.entry ≡ length (items_of es)) → SinkNo p t r
 says_no p is t es e r begins came h =
     let n : r.entry ≡ length es = h.1 ∙ items_length es in
     let before : take r.entry (items_of es ++ seen_of e ∷ []) ≡ items_of es = ap (λ (m : ℕ). take m (items_of es ++ seen_of e ∷ [])) h.1 ∙ take-append_seam (items_of es) (seen_of e ∷ []) in

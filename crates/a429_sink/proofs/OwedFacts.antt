@@ -11,11 +11,8 @@ use Rattle.a429_profile.specs.Profile.{Contents}
 use Rattle.a429_ldu.specs.Form.{form_of}
 use Rattle.a429_ldu.specs.declared.forms.Form.{Form}
 use Rattle.a429_ldu.specs.declared.forms.Form.TheVariants as form
-use Rattle.a429_link.specs.declared.next.Next.{Next}
-use Rattle.a429_link.specs.declared.next.Next.TheVariants as next
 use Rattle.a429_link.specs.declared.seen.Seen.{Seen}
-use Rattle.a429_link.specs.Allowed.{AckOf, AnyData, AnyEot, AnyNak, AnyRts, AnySot, CtsOf, Kind, kind_of, kinds_allowed, kinds_in, kinds_of_next}
-use Rattle.a429_link.specs.Observer.{Observer}
+use Rattle.a429_link.specs.Allowed.{AckOf, AnyNak, CtsOf, Kind, kind_of}
 use Rattle.a429_link.specs.Sink.{Granted, InBlock, MayAnswer, MayAnswerForm, OwesAck, OwesClear, OwesNak, Quiet, Sink, SinkPhase}
 use Rattle.a429_link.specs.Trace.{sink_after, sink_at_first, sink_sees}
 use Rattle.a429_link.proofs.Message.{IsRead}
@@ -47,50 +44,6 @@ may_owed count phase x = (there phase x, back phase x)
     back (OwesAck b flags) (form.Nak bits) a = a
     back OwesNak (form.Nak bits) a = a
     back _ _ a = absurd a
-
--- by the kinds that are allowed next
-abbrev owed_of : List Kind → Owed
-owed_of (AnyRts ∷ (CtsOf n ∷ ks)) = owed.Clear n
-owed_of (AnyRts ∷ (AckOf file ldu ∷ ks)) = owed.Ack file ldu
-owed_of (AnyRts ∷ (AnyNak ∷ ks)) = owed.Nak
-owed_of ks = owed.Nothing
-
--- what the code makes of what may come next
-abbrev pub owed_next : Next → Owed
-owed_next (next.Clear n) = owed.Clear n
-owed_next (next.Ack file ldu) = owed.Ack file ldu
-owed_next next.Nak = owed.Nak
-owed_next n = owed.Nothing
-
-next_of : (n : Next) → owed_next n ≡ owed_of (kinds_of_next n)
-next_of next.Request = refl
-next_of (next.Clear n) = refl
-next_of (next.Block true true) = refl
-next_of (next.Block true false) = refl
-next_of (next.Block false true) = refl
-next_of (next.Block false false) = refl
-next_of (next.Ack file ldu) = refl
-next_of next.Nak = refl
-
-block_of : (begun few : Bool) → owed_of (AnyRts ∷ (cond begun [] (AnySot ∷ []) ++ (cond few (AnyData ∷ []) [] ++ AnyEot ∷ []))) ≡ owed.Nothing
-block_of true true = refl
-block_of true false = refl
-block_of false true = refl
-block_of false false = refl
-
-allowed_of : (o : Observer) → owed_of (kinds_allowed o) ≡ owed_in o.count o.phase
-allowed_of o = by o.phase
-  where
-    by : (phase : SinkPhase) → owed_of (AnyRts ∷ kinds_in o phase) ≡ owed_in o.count phase
-    by Quiet = refl
-    by OwesClear = refl
-    by Granted = block_of o.begun (nat_lt (o.parts + 2) o.count)
-    by (InBlock b) = block_of o.begun (nat_lt (o.parts + 2) o.count)
-    by (OwesAck b flags) = refl
-    by OwesNak = refl
-
-pub owes_next : (o : Observer) (n : Next) → kinds_of_next n ≡ kinds_allowed o → owed_next n ≡ owed_in o.count o.phase
-owes_next o n e = next_of n ∙ ap owed_of e ∙ allowed_of o
 
 -- ---- as kinds of words
 

@@ -23,7 +23,7 @@ abbrev pub AreInEachSinkRun : Contents → List Seen → List Crossing → Type 
 AreInEachSinkRun p items files = (steps : List SinkStep) → IsSinkRun p steps sink_at_first → sink_trace steps ≡ items → sizes_of (sink_delivers p steps) ≡ files
 
 -- a run of the sink by itself records the words of the whole recording, and these files cross in each
-pub record SaysYes (p : Contents) (t : Taken) (files : List Crossing) : Type 0 where
+pub record SinkYes (p : Contents) (t : Taken) (files : List Crossing) : Type 0 where
   pub entries : List Entry
   pub all : IfSome t.recording (λ r. r ≡ whole entries)
   pub came : t.given ≡ length entries
@@ -32,7 +32,7 @@ pub record SaysYes (p : Contents) (t : Taken) (files : List Crossing) : Type 0 w
   pub each : AreInEachSinkRun p (items_of entries) files
 
 -- a run of the sink by itself records the words of the first entries, and none goes on with the next one, whatever comes after it
-pub record SaysNo (p : Contents) (t : Taken) (refusal : Refusal) : Type 0 where
+pub record SinkNo (p : Contents) (t : Taken) (refusal : Refusal) : Type 0 where
   pub entries : List Entry
   pub next : Entry
   pub begins : BeginsWith t.recording (entries ++ next ∷ [])
@@ -43,8 +43,8 @@ pub record SaysNo (p : Contents) (t : Taken) (refusal : Refusal) : Type 0 where
   pub says : IsRefusal p (items_of (entries ++ next ∷ [])) refusal
 
 abbrev pub IsSinkVerdict : Contents → Taken → SinkVerdict → Type 0
-IsSinkVerdict p t (verdict.Yes files) = SaysYes p t files.items
-IsSinkVerdict p t (verdict.No refusal) = SaysNo p t refusal
+IsSinkVerdict p t (verdict.Yes files) = SinkYes p t files.items
+IsSinkVerdict p t (verdict.No refusal) = SinkNo p t refusal
 
 abbrev pub IsYes : SinkVerdict → Type 0
 IsYes (verdict.Yes files) = Unit {0}
@@ -53,7 +53,7 @@ IsYes (verdict.No refusal) = ⊥
 -- ---- why there is none
 
 -- the entries that were handed out come before a fault, which is the recording's next where it is one of the recording
-pub record SaysNothing (t : Taken) (fault : ReadFault) : Type 0 where
+pub record SinkUnread (t : Taken) (fault : ReadFault) : Type 0 where
   pub entries : List Entry
   pub came : t.given ≡ length entries
   pub stops : IfSome t.recording (λ r. (rest : Recording) × (r ≡ with_entries entries rest) × Stops fault rest)
@@ -69,4 +69,4 @@ pub record SeesWhole (p : Contents) (t : Taken) (trace : LoneTrace) : Type 0 whe
 
 abbrev pub Sees : Contents → Taken → LoneTrace → Option Refusal → Type 0
 Sees p t trace None = SeesWhole p t trace
-Sees p t trace (Some refusal) = SaysNo p t refusal
+Sees p t trace (Some refusal) = SinkNo p t refusal

@@ -4,7 +4,7 @@ ghost use Rattle.std.specs.Prelude.{◌≡◌, [], true, false, None, IfErr, IfO
 ghost use Rattle.a429_profile.specs.Profile.{IsProfile};
 ghost use Rattle.a429_record.specs.declared.fault.ReadFault.TheVariants as read;
 ghost use Rattle.a429_parts.specs.Keeping.{taken};
-ghost use Rattle.a429_sink.specs.Judging.{IsSinkVerdict, IsYes, SaysNothing, Sees};
+ghost use Rattle.a429_sink.specs.Judging.{IsSinkVerdict, IsYes, SinkUnread, Sees};
 ghost use Rattle.a429_sink.specs.LoneTrace.{IsLoneTrace};
 
 use crate::lone_trace::{LoneStop, LoneTrace, Refusal};
@@ -34,7 +34,7 @@ pub fn judge_sink<R: Read>(
     rec: &mut EntryReader<R>,
 ) -> Result<SinkVerdict, ReadFault>
     ensures verdict { IfOk result (IsSinkVerdict profile.now (taken rec.old rec.new)) }
-    ensures fault { IfErr result (SaysNothing (taken rec.old rec.new)) }
+    ensures fault { IfErr result (SinkUnread (taken rec.old rec.new)) }
     ensures device { IsErrOf result read.Device → rec.new.failed ≡ true }
     ensures works { IfOk result (λ verdict. IsYes verdict → rec.new.failed ≡ false) }
 {
@@ -56,7 +56,7 @@ fn see_all<R: Read>(
     requires { IsLoneTrace profile.now [] trace.old }
     ensures sound { IsProfile profile.now }
     ensures sees { IfOk result (Sees profile.now (taken rec.old rec.new) trace.new) }
-    ensures fault { IfErr result (SaysNothing (taken rec.old rec.new)) }
+    ensures fault { IfErr result (SinkUnread (taken rec.old rec.new)) }
     ensures device { IsErrOf result read.Device → rec.new.failed ≡ true }
     ensures works { IfOk result (λ refusal. refusal ≡ None → rec.new.failed ≡ false) }
 {

@@ -9,3 +9,4 @@ pub mod Crossings
 pub mod Picture
 pub mod Survey
 pub mod Trace
+pub mod Sink
