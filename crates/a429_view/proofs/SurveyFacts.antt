@@ -210,7 +210,7 @@ label_is : (b : Bus) (label : ℕ) (l : LabelCount) (xs : List Numbered) → IsL
 label_is b label l [] is = rw is.0 refl
 label_is b label l (x ∷ xs) is = rw (is.0, is.1) refl
 
-place_below : (k : WordKind) → place k < 12
+place_below : (k : WordKind) → place k < 13
 place_below kind.Rts = omega arith
 place_below kind.Cts = omega arith
 place_below kind.Ack = omega arith
@@ -218,6 +218,7 @@ place_below kind.Nak = omega arith
 place_below kind.Sot = omega arith
 place_below kind.Data = omega arith
 place_below kind.Eot = omega arith
+place_below kind.Other = omega arith
 place_below kind.NoForm = omega arith
 place_below kind.FreeParity = omega arith
 place_below kind.FreeLabel = omega arith
