@@ -1,5 +1,10 @@
 -- What a command that finds a certificate has written, once a verdict was found.
-use Rattle.std.proofs.Common.{◌≡◌, inl, inr, List, ℕ, Option, Result, Ok, Err, IfOk, IfErr, Bool, true, false, sym, subst}
+use Rattle.std.proofs.Common.{◌≡◌, inl, List, ℕ, Option, Some, Result, Ok, Err, IfOk, IfErr, Bool, true, refl, sym, subst}
+use Rattle.std.specs.Prelude.{IsErr, ◌↔◌}
+use Rattle.std.specs.Result.{OnOk, OnErr}
+use Rattle.std.proofs.lemmas.Bool.{false_from_ne_true}
+use Rattle.a429_word.specs.Sheet.{Writes}
+use Rattle.a429_word.specs.Tally.{has_failed}
 use Rattle.a429_link.specs.declared.seen.Seen.{Seen}
 use Rattle.a429_profile.specs.Profile.{Contents}
 use Rattle.a429_cert.specs.declared.fault.OutOfMemory.{OutOfMemory}
@@ -10,14 +15,18 @@ use Rattle.a429_explain.specs.Verdict.{IsFirst, IsSoundVerdict, IsAccepted, IsOf
 use Rattle.a429_explain.specs.WithoutLoss.{IsWithoutLoss}
 use Rattle.a429_check.specs.declared.fault.RunFault.{RunFault}
 use Rattle.a429_check.specs.declared.fault.RunFault.TheVariants as run
-use Rattle.a429_check.specs.Output.{Output, UsedWork}
+use Rattle.a429_check.specs.Ends.{EndsWithFile, HasGained, Heard, IsBrokenOff, after_file, in_file, unheard_causes}
+use Rattle.a429_check.specs.Fault.{ComesBy}
+use Rattle.a429_check.specs.Output.{Output}
 use Rattle.a429_record.specs.declared.entry.Entry.{Entry}
 use Rattle.a429_cert.specs.Explained.{items_of}
 use Rattle.a429_check.specs.Profile.{IsProfileOf}
-use Rattle.a429_check.specs.Recording.{IsReadFault, SayInput, SaysEntries}
+use Rattle.a429_check.specs.Recording.{IsReadFault, SaysEntries, read_causes}
 use Rattle.a429_check.specs.declared.engines.rule.Rule.{Rule}
 use Rattle.a429_check.specs.declared.engines.rule.Rule.TheVariants as rule
-use Rattle.a429_check.specs.Check.{IsByRule, IsCheckFault, IsVerdictBy, IsVerdictOn, IsVerdictUnder, IsWritingFault, LeavesVerdict, ReportsVerdict}
+use Rattle.a429_check.specs.Check.{IsByRule, IsVerdictBy, IsVerdictOn, IsVerdictUnder, TellsVerdict, of_verdicts}
+use Rattle.a429_check.proofs.EndsFacts.{ends_as}
+use Rattle.a429_check.proofs.FaultFacts.{comes_by}
 
 -- what the library's call says of its verdict, as one
 pub found : (by_rule : Rule) (p : Contents) (items : List Seen) (r : Result Verdict OutOfMemory)
@@ -37,38 +46,28 @@ pub decided : (p : Contents) (items : List Seen) (r : Result Verdict OutOfMemory
 decided p items (Ok v) of_check impossible first = record { of_check = of_check; impossible = impossible; first = first }
 decided p items (Err e) of_check impossible first = tt
 
--- what was written of one verdict was written of one that is such
-pub reported : {C W : Type 0} (cert : Output C) (out : Output W) (v : Verdict) (IsSuch : Verdict → Type 0) (r : Result ℕ RunFault) → IsSuch v
-    → IfOk r (ReportsVerdict cert out (λ w. w ≡ v)) → IfOk r (ReportsVerdict cert out IsSuch)
-reported cert out v IsSuch (Ok status) such h = record { verdict = h.verdict; is = subst IsSuch (sym h.is) such; status_is = h.status_is; certificate = h.certificate; text = h.text; none = h.none }
-reported cert out v IsSuch (Err e) such h = tt
+-- ---- what is written
 
-pub left : {C W : Type 0} (cert : Output C) (out : Output W) (v : Verdict) (IsSuch : Verdict → Type 0) (rec : Bool) (r : Result ℕ RunFault) → IsSuch v → rec ≡ false
-    → IfErr r (LeavesVerdict cert out ⊥ (λ w. w ≡ v)) → IfErr r (LeavesVerdict cert out (rec ≡ true) IsSuch)
-left cert out v IsSuch rec (Ok status) such works h = tt
-left cert out v IsSuch rec (Err e) such works (inl same) = inl same
-left cert out v IsSuch rec (Err e) such works (inr (device, _, (w, is, cut))) = inr (device, (λ failed. cc (failed, works)), (w, subst IsSuch (sym is) such, cut))
+-- by a writer that fails where it says so, the file has gained its text; or it was broken off
+pub gained : {C T E : Type 0} (c : Output C) (text : List ℕ) (r : Result T E) → Writes c.contents c.old c.new text → (IsErr r ↔ (has_failed c.new ≡ true)) → OnOk r (HasGained c (Some text))
+gained c text (Ok x) written device =
+    let works = false_from_ne_true (has_failed c.new) (λ failed. absurd (cc (device.1 failed))) in (works, written.all works)
+gained c text (Err e) written device = tt
 
--- the recording's reader has not failed either
-pub used : (r : Result ℕ RunFault) (rec cert out : Bool) → rec ≡ false → IfOk r (UsedWork false cert out) → IfOk r (UsedWork rec cert out)
-used r rec cert out e w = subst (λ (b : Bool). IfOk r (UsedWork b cert out)) (sym e) w
+pub broken : {C T E : Type 0} (c : Output C) (text : List ℕ) (r : Result T E) → Writes c.contents c.old c.new text → (IsErr r ↔ (has_failed c.new ≡ true)) → OnErr r ((t : List ℕ) × (Some text ≡ Some t) × IsBrokenOff c ⊥ t)
+broken c text (Ok x) written device = tt
+broken c text (Err e) written device = (text, refl, record { why = inl (device.0 refl); front = written.prefix })
 
--- a writer alone failed, or memory was refused
-written_not : (profile : List ℕ) (known : Option (List ℕ)) (rec : Bool) (Writers : Type 0) (e : RunFault) → SayInput profile known → IsWritingFault Writers e → IsCheckFault profile known rec Writers e
-written_not profile known rec Writers run.Device says h = inr (says, h)
-written_not profile known rec Writers run.Memory says h = says.is_profile.0
-written_not profile known rec Writers (run.Profile f) says h = absurd h
-written_not profile known rec Writers (run.Read f) says h = absurd h
-written_not profile known rec Writers (run.Cut k f) says h = absurd h
-written_not profile known rec Writers run.TooLong says h = absurd h
-written_not profile known rec Writers run.BadWord says h = absurd h
-written_not profile known rec Writers run.Usage says h = absurd h
-written_not profile known rec Writers run.OldFiles says h = absurd h
+-- what is written of one verdict is written of one that is such
+module _ (v : Verdict) (IsSuch : Verdict → Type 0) (Refuses : RunFault → Type 0) (such : IsSuch v) (memory : Refuses run.Memory) where
+  told : (certificate : Option (List ℕ)) (status : ℕ) (text : List ℕ) → TellsVerdict (λ w. w ≡ v) certificate status text → TellsVerdict IsSuch certificate status text
+  told certificate status text h = record { verdict = h.verdict; is = subst IsSuch (sym h.is) such; certificate_is = h.certificate_is; status_is = h.status_is; text_is = h.text_is }
 
-pub not_written : (profile : List ℕ) (known : Option (List ℕ)) (r : Result ℕ RunFault) (rec : Bool) (Writers : Type 0) → SayInput profile known
-    → IfErr r (IsWritingFault Writers) → IfErr r (IsCheckFault profile known rec Writers)
-not_written profile known (Ok status) rec Writers says f = tt
-not_written profile known (Err e) rec Writers says f = written_not profile known rec Writers e says f
+  pub of_one : {C W : Type 0} {c : Output C} {o : Output W} {r : Result ℕ RunFault} → EndsWithFile c o (of_verdicts (λ w. w ≡ v) (λ e. e ≡ run.Memory)) r → EndsWithFile c o (of_verdicts IsSuch Refuses) r
+  of_one (after_file certificate has ends) =
+      after_file certificate has (ends_as ((of_verdicts (λ w. w ≡ v) (λ e. e ≡ run.Memory)).after certificate) ((of_verdicts IsSuch Refuses).after certificate)
+      (told certificate) (λ e text never. never) (λ text h. (h.0, told certificate h.0 text h.1)) (λ e h. (h.0, subst Refuses (sym h.1) memory)) ends)
+  of_one (in_file text is breaks off same) = in_file text is (breaks.0, subst IsSuch (sym breaks.1) such, breaks.2) off same
 
 -- ---- under a profile that was read
 
@@ -76,20 +75,10 @@ pub on : (by_rule : Rule) (profile : List ℕ) (p : Contents) (known : Option (L
 on by_rule profile p known (Ok v) is h = (record { contents = p; entries = h.0; is_profile = is; stand = h.1 }, h.2)
 on by_rule profile p known (Err e) is h = tt
 
-fault_under : (profile : List ℕ) (p : Contents) (known : Option (List ℕ)) (rec : Bool) (e : RunFault) → IsProfileOf profile p → IsReadFault known rec e → IsCheckFault profile known rec ⊥ e
-fault_under profile p known rec (run.Read f) is h = ((p, is), h)
-fault_under profile p known rec run.Device is h = inl ((p, is), h)
-fault_under profile p known rec run.Memory is h = is.0
-fault_under profile p known rec (run.Profile f) is h = absurd h
-fault_under profile p known rec (run.Cut k f) is h = absurd h
-fault_under profile p known rec run.TooLong is h = absurd h
-fault_under profile p known rec run.BadWord is h = absurd h
-fault_under profile p known rec run.Usage is h = absurd h
-fault_under profile p known rec run.OldFiles is h = absurd h
-
-pub not_under : (profile : List ℕ) (p : Contents) (known : Option (List ℕ)) (rec : Bool) (r : Result Verdict RunFault) → IsProfileOf profile p → IfErr r (IsReadFault known rec) → IfErr r (IsCheckFault profile known rec ⊥)
-not_under profile p known rec (Ok v) is h = tt
-not_under profile p known rec (Err e) is h = fault_under profile p known rec e is h
+pub not_under : (profile : List ℕ) (p : Contents) (rec : Heard) (r : Result Verdict RunFault) → IsProfileOf profile p → IfErr r (IsReadFault rec.bytes rec.failed) → IfErr r (ComesBy (unheard_causes profile rec))
+not_under profile p rec (Ok v) is h = tt
+not_under profile p rec (Err e) is h = comes_by (read_causes rec.bytes rec.failed) (unheard_causes profile rec)
+    (record { profile = λ f h. absurd h; recording = λ f h. ((p, is), h); file = λ k f h. absurd h; too_long = λ h. absurd h; device = λ h. ((p, is), h); memory = λ h. is.0 }) e h
 
 -- of these entries
 pub under : (by_rule : Rule) (p : Contents) (known : Option (List ℕ)) (es slice : List Entry) (a : Result Verdict OutOfMemory) (r : Result Verdict RunFault) → SaysEntries known es → slice ≡ es
@@ -100,16 +89,3 @@ under by_rule p known es slice a (Err e) says same by is = tt
 pub of_memory : (known : Option (List ℕ)) (rec : Bool) (r : Result Verdict RunFault) → IfErr r (λ e. e ≡ run.Memory) → IfErr r (IsReadFault known rec)
 of_memory known rec (Ok v) h = tt
 of_memory known rec (Err e) h = subst (IsReadFault known rec) (sym h) tt
-
--- no verdict was found, whatever the writers would have done
-pub not_found : (profile : List ℕ) (known : Option (List ℕ)) (rec : Bool) (Writers : Type 0) (e : RunFault) → IsCheckFault profile known rec ⊥ e → IsCheckFault profile known rec Writers e
-not_found profile known rec Writers (run.Profile f) h = h
-not_found profile known rec Writers (run.Read f) h = h
-not_found profile known rec Writers run.Device (inl h) = inl h
-not_found profile known rec Writers run.Device (inr h) = absurd h.1
-not_found profile known rec Writers run.Memory h = h
-not_found profile known rec Writers (run.Cut k f) h = h
-not_found profile known rec Writers run.TooLong h = h
-not_found profile known rec Writers run.BadWord h = h
-not_found profile known rec Writers run.Usage h = h
-not_found profile known rec Writers run.OldFiles h = h

@@ -1,5 +1,5 @@
 -- How a command ends, by what it has read.
-use Rattle.std.proofs.Common.{◌≡◌, ℕ, List, Bool, false, Option, Result, Ok, Err, IfOk, IfErr, inl, inr, refl, sym, subst}
+use Rattle.std.proofs.Common.{◌≡◌, ◌⊎◌, ℕ, List, Bool, true, false, Option, Result, Ok, Err, IfOk, IfErr, inl, inr, refl, sym, subst}
 use Rattle.std.specs.Result.{OnOk}
 use Rattle.a429_word.specs.Tally.{has_failed, Puts}
 use Rattle.a429_profile.specs.Profile.{Contents}
@@ -10,7 +10,8 @@ use Rattle.a429_check.specs.declared.fault.RunFault.TheVariants as run
 use Rattle.a429_check.specs.Ends.{Ends, Promise, answered, cut_off, by_answer, of_read, of_stream, refused, stopped, under}
 use Rattle.a429_check.specs.Output.{Output}
 use Rattle.a429_check.specs.Profile.{IsProfileOf}
-use Rattle.a429_check.specs.Streaming.{IsLinesFault, IsNextFault}
+use Rattle.a429_check.specs.Streaming.{IsLinesFault, IsNextFault, lines_causes, next_causes}
+use Rattle.a429_check.proofs.FaultFacts.{comes_by}
 
 -- what ends by one promise ends by a weaker one
 pub ends_as : {W : Type 0} {o : Output W} {r : Result ℕ RunFault} (p q : Promise) → ((status : ℕ) (text : List ℕ) → p.says status text → q.says status text) → ((e : RunFault) (text : List ℕ) → p.stops e text → q.stops e text)
@@ -19,6 +20,11 @@ ends_as p q says stops begins refuses (answered status text is here works put) =
 ends_as p q says stops begins refuses (stopped e text is here works put) = stopped e text is (stops e text here) works put
 ends_as p q says stops begins refuses (cut_off text is here failed front) = cut_off text is (begins text here) failed front
 ends_as p q says stops begins refuses (refused e is here same) = refused e is (refuses e here) same
+
+-- the text of its answer was written, all of it
+pub by_text : {W : Type 0} {o : Output W} (p : Promise) (r : Result ℕ RunFault) (text : List ℕ) → by_answer p.says p.stops r text → has_failed o.new ≡ false → Puts o.contents o.old o.new text → Ends o p r
+by_text p (Ok status) text here works put = answered status text refl here works put
+by_text p (Err e) text here works put = stopped e text refl here works put
 
 -- a text is as promised: what it says, what it begins with, and that memory may be refused
 pub record Bears (p : Promise) (IsText : ℕ → List ℕ → Type 0) (IsBegun : List ℕ → Type 0) (NoRoom : Type 0) : Type 0 where
@@ -56,18 +62,14 @@ at_fault P says begins (Err f) r why device (refused e is here same) = rw is (su
 
 -- ---- a recording that is read while the text is written
 
+only_reader : (rec out : Bool) → (rec ≡ true) ⊎ (out ≡ true) → out ≡ false → rec ≡ true
+only_reader rec out (inl h) works = h
+only_reader rec out (inr h) works = absurd (cc (h, works))
+
 -- where the output works, the fault is one of reading
 next : (known : Option Recording) (rec out : Bool) (e : RunFault) → IsLinesFault known rec out e → out ≡ false → IsNextFault known rec e
-next known rec out (run.Read f) h works = h
-next known rec out run.Device (inl h) works = h
-next known rec out run.Device (inr h) works = absurd (cc (h, works))
-next known rec out run.Memory h works = h
-next known rec out (run.Profile f) h works = h
-next known rec out (run.Cut k f) h works = h
-next known rec out run.TooLong h works = h
-next known rec out run.BadWord h works = h
-next known rec out run.Usage h works = h
-next known rec out run.OldFiles h works = h
+next known rec out e h works = comes_by (lines_causes known rec out) (next_causes known rec)
+    (record { profile = λ f h. h; recording = λ f h. h; file = λ k f h. h; too_long = λ h. h; device = λ h. only_reader rec out h works; memory = λ h. h }) e h
 
 module _ (Says : Contents → Taken → ℕ → List ℕ → Type 0) (Stops : Contents → Taken → RunFault → List ℕ → Type 0) (Begins : Contents → Taken → List ℕ → Type 0) (p : Contents) (t : Taken) (failed : Bool) where
   -- the text of its answer was written

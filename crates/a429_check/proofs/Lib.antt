@@ -6,6 +6,7 @@ pub mod MakeCounted
 pub mod MakeWords
 pub mod MakeCrossed
 pub mod MakeBytes
+pub mod MakeEnds
 pub mod ShowOneLine
 pub mod VerdictFacts
 pub mod PartListFacts
@@ -14,11 +15,11 @@ pub mod UnitsFacts
 pub mod UpgradeFacts
 pub mod PictureFacts
 pub mod ExtractFacts
-pub mod EntriesFacts
+pub mod FaultFacts
 pub mod CheckFacts
 pub mod StreamingFacts
+pub mod SurveyFacts
 pub mod OutputFacts
-pub mod LeavesFacts
 pub mod KeepFacts
 pub mod SideFacts
 pub mod SinkFacts

@@ -17,10 +17,7 @@ use Rattle.a429_link.specs.Clean.{clean_blocks, clean_block, clean_words, cut_fa
 use Rattle.a429_link.specs.Carry.{on_a, on_b}
 use Rattle.a429_record.specs.Recording.{most_entries}
 use Rattle.std.specs.Vec.{vec_len}
-use Rattle.a429_check.specs.declared.fault.RunFault.{RunFault}
-use Rattle.a429_check.specs.declared.fault.RunFault.TheVariants.{BadWord, Profile, Read, Cut, TooLong, OldFiles, Device, Memory, Usage}
-use Rattle.a429_check.specs.Profile.{IsSomeProfile}
-use Rattle.a429_check.specs.Make.{words_made, AreTooMany, FitARecording, IsFilesFault, IsMakeFault, IsPutFault}
+use Rattle.a429_check.specs.Make.{words_made, AreTooMany}
 use Rattle.a429_link.specs.declared.number.UnitNumber.{UnitNumber}
 use Rattle.a429_link.specs.Number.{first_number, number_after}
 
@@ -164,27 +161,3 @@ all_room files n count few = λ p. let same = (count p).1 few in omega arith
 
 pub too_many : (files : List (List ℕ)) (n : ℕ) → first_refused 255 0 files ≡ None → ((p : Contents) → Counts n (length (words_made p files))) → most_entries < n → AreTooMany files
 too_many files n none count many = record { cut = none; more = λ p. let below = (count p).0 in omega arith }
-
--- a fault of the files
-pub refusal_fault : (profile : List ℕ) (files : List (List ℕ)) (failed : Bool) (e : RunFault) → IsSomeProfile profile → IsFilesFault files e → IsMakeFault profile files failed e
-refusal_fault profile files failed (Cut k f) sound h = (sound, h)
-refusal_fault profile files failed (Read f) sound h = (sound, h.0, h.1)
-refusal_fault profile files failed (Profile f) sound h = absurd h
-refusal_fault profile files failed Device sound h = absurd h
-refusal_fault profile files failed Memory sound h = absurd h
-refusal_fault profile files failed TooLong sound h = absurd h
-refusal_fault profile files failed BadWord sound h = absurd h
-refusal_fault profile files failed Usage sound h = absurd h
-refusal_fault profile files failed OldFiles sound h = absurd h
-
--- a fault of the second pass
-pub put_fault : (profile : List ℕ) (files : List (List ℕ)) (failed : Bool) (e : RunFault) → IsSomeProfile profile → FitARecording files → IsPutFault failed e → IsMakeFault profile files failed e
-put_fault profile files failed Device sound fit h = (sound, fit, h)
-put_fault profile files failed Memory sound fit h = sound.1.0
-put_fault profile files failed (Profile f) sound fit h = absurd h
-put_fault profile files failed (Read f) sound fit h = absurd h
-put_fault profile files failed (Cut k f) sound fit h = absurd h
-put_fault profile files failed TooLong sound fit h = absurd h
-put_fault profile files failed BadWord sound fit h = absurd h
-put_fault profile files failed Usage sound fit h = absurd h
-put_fault profile files failed OldFiles sound fit h = absurd h

@@ -1,6 +1,8 @@
 -- What a sketch that listened to a certificate holds, and why there is no picture.
 use Rattle.std.proofs.Common.{◌≡◌, ◌≤◌, ◌<◌, inl, inr, ℕ, List, Bool, true, false, nat_lt, Option, Some, None, Result, Ok, Err, Vec, Global, refl, sym, ap, subst}
-use Rattle.std.specs.Prelude.{IsTrue, ◌↔◌}
+use Rattle.std.specs.Prelude.{IsOkAnd, IsTrue, ◌↔◌, ⊤}
+use Rattle.std.specs.Result.{ForOk}
+use Rattle.std.specs.Str.{IsUtf8}
 use Rattle.std.proofs.lemmas.Bool.{ltb-true, ltb-false}
 use Rattle.a429_profile.specs.Profile.{Contents}
 use Rattle.a429_record.specs.Recording.{Recording}
@@ -14,12 +16,13 @@ use Rattle.a429_view.proofs.SketchFacts.{IsOf, is_of}
 use Rattle.a429_check.specs.declared.fault.RunFault.{RunFault}
 use Rattle.a429_check.specs.declared.fault.RunFault.TheVariants as run
 use Rattle.a429_check.specs.Profile.{IsProfileOf}
-use Rattle.a429_check.specs.Output.{Output, IsCutShort}
 use Rattle.a429_check.specs.declared.engines.verdict.Judged.{Judged}
 use Rattle.a429_cert.specs.declared.fault.CertFault.{CertFault}
-use Rattle.a429_check.specs.Verdict.{AllWork, AnyFailed, HasFailed, HearsAnswer, HearsJudged, Input, IsAnswered, IsJudged, IsVerifyFault, no_shelf}
-use Rattle.a429_check.proofs.VerdictFacts.{judged_answer, none_failed, rejects}
-use Rattle.a429_check.specs.Picture.{ARun, DrawsRun, IsTooLongRun, IsPicture, IsPictureByAnswer, IsPictureFault, IsPictureFaultByAnswer, IsPictureFaultOf, IsPictureOf, IsSketchFault, IsSketched, IsSomePicture, IsSomePictureOf}
+use Rattle.a429_check.specs.Verdict.{HearsAnswer, HearsJudged, Input, IsAnswered, IsJudged, IsVerifyFault, no_shelf, status_of_answer, verify_causes}
+use Rattle.a429_check.proofs.EndsFacts.{Bears}
+use Rattle.a429_check.proofs.FaultFacts.{comes_by}
+use Rattle.a429_check.proofs.VerdictFacts.{rejects}
+use Rattle.a429_check.specs.Picture.{ARun, DrawsRun, IsPicture, IsPictureFault, IsTooLongRun, drawing_text, of_picture, picture_causes}
 use Rattle.a429_cert.specs.Change.{change}
 
 where_both_known : (known : Option (List ℕ)) (rec : Option Recording) (A B : List ℕ → Recording → Type 0) → ((text : List ℕ) (r : Recording) → A text r → B text r) → WhereBothKnown known rec A → WhereBothKnown known rec B
@@ -40,10 +43,9 @@ draws p span old new text r b e h =
     record { run = heard_run h; few = of.1; drawn = ap (svg_text p.codes) of.0 }
 
 -- a picture of what was heard
-drawn : (i : Input) (span : Span) (old new : Sketch) (p : Contents) (files : List (ℕ × ℕ)) (text : List ℕ)
-    → IsProfileOf i.profile p → Extracts (compared p i.certificate i.recording) (change None None) files → IsBlank span old → HearsRun (listening Hears old new) (compared p i.certificate i.recording) → IsSketched p.codes new text
-    → IsPicture i span 0 text
-drawn i span old new p files text is here b h sketched =
+drawn : (i : Input) (span : Span) (old new : Sketch) (p : Contents) (files : List (ℕ × ℕ)) → IsProfileOf i.profile p → Extracts (compared p i.certificate i.recording) (change None None) files → IsBlank span old
+    → HearsRun (listening Hears old new) (compared p i.certificate i.recording) → new.steps ≤ most_steps → IsPicture i span 0 (svg_text p.codes new.rows.items)
+drawn i span old new p files is here b h few =
     inl (
       refl,
       record {
@@ -51,7 +53,7 @@ drawn i span old new p files text is here b h sketched =
         is_profile = is;
         files = files;
         yes = here;
-        so = where_both_known i.certificate i.recording (IsHeard (listening Hears old new) p) (DrawsRun p span text) (λ t r g. subst (λ (drawing : List ℕ). DrawsRun p span drawing t r) (sym sketched.0) (draws p span old new t r b sketched.1 g)) h;
+        so = where_both_known i.certificate i.recording (IsHeard (listening Hears old new) p) (DrawsRun p span (svg_text p.codes new.rows.items)) (λ t r g. draws p span old new t r b few g) h;
       },
     )
 
@@ -70,56 +72,40 @@ too_long i p span Failed old new files is here b h e =
 
 -- a fault of `a429 verify` is one of `picture`
 pub as_verify : (i : Input) (span : Span) (Failed : Type 0) (e : RunFault) → IsVerifyFault i no_shelf Failed e → IsPictureFault i span Failed e
-as_verify i span Failed (run.Profile f) h = h
-as_verify i span Failed (run.Read f) h = h
-as_verify i span Failed run.Device h = h
-as_verify i span Failed run.Memory h = h
-as_verify i span Failed (run.Cut k f) h = absurd h
-as_verify i span Failed run.TooLong h = absurd h
-as_verify i span Failed run.BadWord h = absurd h
-as_verify i span Failed run.Usage h = absurd h
-as_verify i span Failed run.OldFiles h = absurd h
-
--- what was sketched was not drawn
-not_drawn : (i : Input) (span : Span) (rec certificate out : Bool) (old new : Sketch) (p : Contents) (files : List (ℕ × ℕ)) (e : RunFault)
-    → IsProfileOf i.profile p → Extracts (compared p i.certificate i.recording) (change None None) files → IsBlank span old → HearsRun (listening Hears old new) (compared p i.certificate i.recording)
-    → IsSketchFault new.steps out e → IsPictureFault i span (AnyFailed rec certificate false out) e
-not_drawn i span rec certificate out old new p files run.TooLong is here b h many = too_long i p span (AnyFailed rec certificate false out) old new files is here b h many
-not_drawn i span rec certificate out old new p files run.Memory is here b h _ = (is.0, inl tt)
-not_drawn i span rec certificate out old new p files run.Device is here b h failed = (inr failed, (Ok files, record { contents = p; is_profile = is; is = here }))
-not_drawn i span rec certificate out old new p files (run.Profile f) is here b h g = absurd g
-not_drawn i span rec certificate out old new p files (run.Read f) is here b h g = absurd g
-not_drawn i span rec certificate out old new p files (run.Cut k f) is here b h g = absurd g
-not_drawn i span rec certificate out old new p files run.BadWord is here b h g = absurd g
-not_drawn i span rec certificate out old new p files run.Usage is here b h g = absurd g
-not_drawn i span rec certificate out old new p files run.OldFiles is here b h g = absurd g
+as_verify i span Failed = comes_by (verify_causes i no_shelf Failed) (picture_causes i span Failed)
+    (record { profile = λ f h. h; recording = λ f h. h; file = λ k f h. absurd h; too_long = λ h. absurd h; device = λ h. h; memory = λ h. h })
 
 -- ---- of what was judged and sketched
 
-module _ (i : Input) (span : Span) (old new : Sketch) where
-  picture_by : (p : Contents) (a : Result (Vec (ℕ × ℕ) Global) CertFault) (status : ℕ) (text : List ℕ) → IsProfileOf i.profile p → IsAnswered p i no_shelf a → HearsAnswer (listening Hears old new) p i a → IsBlank span old
-      → IsPictureByAnswer a p.codes new status text → IsPicture i span status text
-  picture_by p (Ok files) status text is here h b (e, sketched) = subst (λ (n : ℕ). IsPicture i span n text) (sym e) (drawn i span old new p files.items text is here b h sketched)
-  picture_by p (Err f) status text is here h b (e, t) = subst (λ (n : ℕ). IsPicture i span n text) (sym e) (subst (λ (l : List ℕ). IsPicture i span 2 l) (sym t) (inr (rejects i no_shelf p f is here)))
+module _ (i : Input) (span : Span) (old new : Sketch) (b : IsBlank span old) where
+  picture_by : (p : Contents) (a : Result (Vec (ℕ × ℕ) Global) CertFault) → IsProfileOf i.profile p → IsAnswered p i no_shelf a → HearsAnswer (listening Hears old new) p i a → ForOk a (λ _. new.steps ≤ most_steps)
+      → IsPicture i span (status_of_answer a) (drawing_text p.codes new a)
+  picture_by p (Ok files) is here h few = drawn i span old new p files.items is here b h (few files refl)
+  picture_by p (Err f) is here h few = inr (rejects i no_shelf p f is here)
 
-  pub pictured : (j : Judged) (status : ℕ) (text : List ℕ) → IsJudged i no_shelf j → HearsJudged (listening Hears old new) i j → IsBlank span old → IsPictureOf j new status text → IsPicture i span status text
-  pictured j status text judged heard b h = picture_by j.profile j.answer status text judged.0 judged.1 heard b h
+  pub pictured : (j : Judged) → IsJudged i no_shelf j → HearsJudged (listening Hears old new) i j → ForOk j.answer (λ _. new.steps ≤ most_steps) → IsPicture i span (status_of_answer j.answer) (drawing_text j.profile.codes new j.answer)
+  pictured j judged heard few = picture_by j.profile j.answer judged.0 judged.1 heard few
 
-  fault_by : (rec certificate out : Bool) (p : Contents) (a : Result (Vec (ℕ × ℕ) Global) CertFault) (e : RunFault) → IsProfileOf i.profile p → IsAnswered p i no_shelf a → HearsAnswer (listening Hears old new) p i a → IsBlank span old
-      → IsPictureFaultByAnswer a new.steps out e → IsPictureFault i span (AnyFailed rec certificate false out) e
-  fault_by rec certificate out p (Ok files) e is here h b g = not_drawn i span rec certificate out old new p files.items e is here b h g
-  fault_by rec certificate out p (Err f) e is here h b g = subst (IsPictureFault i span (AnyFailed rec certificate false out)) (sym g.0) (inr g.1, judged_answer i no_shelf p (Err f) is here)
+  too_long_by : (Failed : Type 0) (p : Contents) (a : Result (Vec (ℕ × ℕ) Global) CertFault) → IsProfileOf i.profile p → IsAnswered p i no_shelf a → HearsAnswer (listening Hears old new) p i a → IsOkAnd a (λ _. most_steps < new.steps)
+      → IsPictureFault i span Failed run.TooLong
+  too_long_by Failed p (Ok files) is here h many = too_long i p span Failed old new files.items is here b h many
+  too_long_by Failed p (Err f) is here h many = absurd many
 
-  pub not_pictured : (rec certificate out : Bool) (j : Judged) (e : RunFault) → IsJudged i no_shelf j → HearsJudged (listening Hears old new) i j → IsBlank span old → IsPictureFaultOf j new out e → IsPictureFault i span (AnyFailed rec certificate false out) e
-  not_pictured rec certificate out j e judged heard b h = fault_by rec certificate out j.profile j.answer e judged.0 judged.1 heard b h
+  pub not_pictured : (Failed : Type 0) (j : Judged) → IsJudged i no_shelf j → HearsJudged (listening Hears old new) i j → IsOkAnd j.answer (λ _. most_steps < new.steps) → IsPictureFault i span Failed run.TooLong
+  not_pictured Failed j judged heard many = too_long_by Failed j.profile j.answer judged.0 judged.1 heard many
 
-  -- how far it was written
-  pub picture_cut : {W : Type 0} (o : Output W) (rec certificate : Bool) (j : Judged) (e : RunFault) → IsJudged i no_shelf j → HearsJudged (listening Hears old new) i j → IsBlank span old → AllWork rec certificate false false
-      → IsCutShort o ⊥ (IsSomePictureOf j new) e → IsCutShort o (HasFailed rec certificate false) (IsSomePicture i span) e
-  picture_cut o rec certificate j e judged heard b work (inl same) = inl same
-  picture_cut o rec certificate j e judged heard b work (inr cut) =
-      let text = cut.prefix in
-      inr (record { device = cut.device; failed = cut.failed; alone = none_failed rec certificate false false work; prefix = (text.0, (text.1.0, pictured j text.1.0 text.0 judged heard b text.1.1), text.2) })
+utf8 : (i : Input) (span : Span) (status : ℕ) (text : List ℕ) → IsPicture i span status text → IsUtf8 i.profile
+utf8 i span status text (inl h) = h.1.is_profile.0
+utf8 i span status text (inr h) = h.is_profile.0
+
+-- the drawing is as promised
+pub drawing_is : (i : Input) (span : Span) (Failed : Type 0) (status : ℕ) (text : List ℕ) → IsPicture i span status text → (Failed → ⊥)
+    → Bears (of_picture i span Failed) (λ n t. (n ≡ status) × (t ≡ text)) (λ t. t ≡ text) ⊤
+drawing_is i span Failed status text is works = record {
+  says = λ n t here. (rw (here.0, here.1) is, works);
+  begins = λ t here. ((status, rw here is), works);
+  no_room = λ _. (utf8 i span status text is, inl tt);
+}
 
 -- a sketch that is not too long has few steps
 pub few_steps : (b : Bool) (n : ℕ) → (IsTrue b ↔ (most_steps < n)) → b ≡ false → n ≤ most_steps

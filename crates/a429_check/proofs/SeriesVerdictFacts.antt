@@ -13,13 +13,12 @@ use Rattle.a429_cert.specs.declared.stream_fault.StreamFault.TheVariants as stre
 use Rattle.a429_cert.specs.Series.{AreAdded, IsOneRun, IsPartFault, Joins, Part, RefusesPart, SeriesValue, joined, no_parts}
 use Rattle.a429_check.specs.declared.fault.RunFault.{RunFault}
 use Rattle.a429_check.specs.declared.fault.RunFault.TheVariants as run
-use Rattle.a429_check.specs.Profile.{IsProfileOf, IsProfileFault}
+use Rattle.a429_check.specs.Profile.{IsProfileOf}
 use Rattle.a429_check.specs.PartList.{ListsParts}
 use Rattle.a429_check.specs.Verdict.{of_stream}
-use Rattle.a429_check.specs.Output.{Output, IsCutShort}
-use Rattle.a429_word.specs.Sheet.{Writes}
-use Rattle.a429_word.specs.Tally.{has_failed}
-use Rattle.a429_check.specs.Series.{AnswersSeries, AreListedRun, AreOneRun, FitAs, Holds, IsListFault, IsMiscounted, IsPartsAnswer, IsPartsFault, IsRefusal, IsRefusedAt, IsSeriesAnswer, IsSeriesFault, SeriesInput, FailsIn, IsSeriesVerdict, IsSomeSeriesVerdict, IsStopOf, entries_of, first_parts, status_of_series, text_of_series, with_part}
+use Rattle.a429_check.specs.Series.{AnswersSeries, AreListedRun, AreOneRun, FitAs, Holds, IsListFault, IsMiscounted, IsPartsAnswer, IsPartsFault, IsRefusal, IsRefusedAt, IsSeriesAnswer, IsSeriesFault, SeriesInput, IsSeriesVerdict, IsStopOf, entries_of, first_parts, of_series, part_causes, series_causes, status_of_series, text_of_series, with_part}
+use Rattle.a429_check.proofs.EndsFacts.{Bears}
+use Rattle.a429_check.proofs.FaultFacts.{comes_by}
 
 -- ---- what the readers of a part have to read
 
@@ -204,15 +203,8 @@ fault_of_list p list part counts Failed (Err e) listed h = inr (counts, listed, 
 -- ---- why there is no verdict
 
 by_parts : (i : SeriesInput) (Failed : Type 0) (p : Contents) (counts : List ℕ) (e : RunFault) → IsProfileOf i.profile p → ListsParts i.list counts → IsPartsFault p i.part counts Failed e → IsSeriesFault i Failed e
-by_parts i Failed p counts (run.Profile f) is listed h = absurd h
-by_parts i Failed p counts run.Memory is listed h = is.0
-by_parts i Failed p counts (run.Read f) is listed h = (h.0, (p, counts, h.1.0, is, listed, h.1.1))
-by_parts i Failed p counts run.Device is listed h = ((p, is), h)
-by_parts i Failed p counts (run.Cut k f) is listed h = absurd h
-by_parts i Failed p counts run.TooLong is listed h = absurd h
-by_parts i Failed p counts run.BadWord is listed h = absurd h
-by_parts i Failed p counts run.Usage is listed h = absurd h
-by_parts i Failed p counts run.OldFiles is listed h = absurd h
+by_parts i Failed p counts e is listed = comes_by (part_causes p i.part counts Failed) (series_causes i Failed)
+    (record { profile = λ f h. absurd h; recording = λ f h. (h.0, (p, counts, h.1.0, is, listed, h.1.1)); file = λ k f h. absurd h; too_long = λ h. absurd h; device = λ h. ((p, is), h); memory = λ h. is.0 }) e
 
 by_list : (i : SeriesInput) (Failed : Type 0) (p : Contents) (e : RunFault) → IsProfileOf i.profile p → IsListFault p i.list i.part Failed e → IsSeriesFault i Failed e
 by_list i Failed p e is (inl memory) = subst (IsSeriesFault i Failed) (sym memory) is.0
@@ -226,25 +218,16 @@ pub fault_of_profile : (i : SeriesInput) (p : Contents) (Failed : Type 0) (r : R
 fault_of_profile i p Failed (Ok a) is h = tt
 fault_of_profile i p Failed (Err e) is h = by_list i Failed p e is h
 
--- one more may have failed
-pub more_series : (i : SeriesInput) (Failed More : Type 0) (e : RunFault) → (Failed → More) → IsSeriesFault i Failed e → IsSeriesFault i More e
-more_series i Failed More (run.Profile f) more h = h
-more_series i Failed More run.Memory more h = h
-more_series i Failed More (run.Read f) more h = h
-more_series i Failed More run.Device more h = (h.0, more h.1)
-more_series i Failed More (run.Cut k f) more h = absurd h
-more_series i Failed More run.TooLong more h = absurd h
-more_series i Failed More run.BadWord more h = absurd h
-more_series i Failed More run.Usage more h = absurd h
-more_series i Failed More run.OldFiles more h = absurd h
-
 -- ---- a verdict
 
-pub verdict_of : (i : SeriesInput) (a : SeriesAnswer) → AnswersSeries i a → IsSeriesVerdict i (status_of_series a) (text_of_series a)
+verdict_of : (i : SeriesInput) (a : SeriesAnswer) → AnswersSeries i a → IsSeriesVerdict i (status_of_series a) (text_of_series a)
 verdict_of i a here = record { answer = a; is = here; status_is = refl; text_is = refl }
 
--- the output alone has failed, in the text of a verdict
-pub cut_in_verdict : {W : Type 0} (o : Output W) (i : SeriesInput) (before after : Bool) (status : ℕ) (text : List ℕ) → (before ≡ false → after ≡ false) → IsSeriesVerdict i status text
-    → Writes o.contents o.old o.new text → has_failed o.new ≡ true → IsCutShort o (FailsIn before after) (IsSomeSeriesVerdict i) run.Device
-cut_in_verdict o i before after status text works is writes failed =
-    inr (record { device = refl; failed = failed; alone = λ h. absurd (cc (works h.0, h.1)); prefix = (text, (status, is), writes.prefix) })
+-- the verdict is as promised
+pub verdict_bears : (i : SeriesInput) (before after : Bool) (a : SeriesAnswer) → AnswersSeries i a → (before ≡ false → after ≡ false)
+    → Bears (of_series i before after) (λ status text. (status ≡ status_of_series a) × (text ≡ text_of_series a)) (λ text. text ≡ text_of_series a) ⊥
+verdict_bears i before after a is works = record {
+  says = λ status text here. (rw (here.0, here.1) (verdict_of i a is), works);
+  begins = λ text here. ((status_of_series a, rw here (verdict_of i a is)), works);
+  no_room = λ e. absurd e;
+}

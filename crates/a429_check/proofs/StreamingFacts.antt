@@ -8,12 +8,6 @@ use Rattle.a429_record.specs.Recording.{Recording}
 use Rattle.a429_record.specs.Rows.{GivesNext}
 use Rattle.a429_check.specs.declared.fault.RunFault.{RunFault}
 use Rattle.a429_check.specs.declared.fault.RunFault.TheVariants as run
-use Rattle.a429_profile.specs.Profile.{Contents}
-use Rattle.a429_profile.specs.declared.codes.Codes.{Codes}
-use Rattle.a429_view.specs.declared.survey.Survey.{Survey}
-use Rattle.a429_view.specs.Survey.{IsSurvey}
-use Rattle.a429_check.specs.Survey.{IsSomeSurvey, of_survey}
-use Rattle.a429_check.specs.Profile.{IsProfileFault, IsProfileOf}
 use Rattle.a429_parts.proofs.KeepingFacts.{Came}
 use Rattle.a429_check.specs.Streaming.{AreAllBefore, IsFaultToCome, IsNextFault, reported}
 
@@ -69,33 +63,3 @@ next_earlier first left es failed run.Memory h is = is
 next_earlier first left es failed run.BadWord h is = is
 next_earlier first left es failed run.Usage h is = is
 next_earlier first left es failed run.OldFiles h is = is
-
-pub where_counted : {P : Type 0} (s : Survey) → IsSomeSurvey s → ((c : Codes) (es : List Entry) → IsSurvey c s es → P) → P
-where_counted s w f = f w.0 w.1 w.2
-
-pub by_fact : {A P : Type 0} → A → (A → P) → P
-by_fact a f = f a
-
--- the profile is one
-pub uncounted : (profile : List ℕ) (p : Contents) (known : Option Recording) (failed : Bool) (e : RunFault) → IsProfileOf profile p → IsNextFault known failed e → (of_survey profile known failed).refuses e
-uncounted profile p known failed (run.Read f) is h = ((p, is), h)
-uncounted profile p known failed run.Device is h = ((p, is), h)
-uncounted profile p known failed run.Memory is h = is.0
-uncounted profile p known failed (run.Profile f) is h = absurd h
-uncounted profile p known failed (run.Cut k f) is h = absurd h
-uncounted profile p known failed run.TooLong is h = absurd h
-uncounted profile p known failed run.BadWord is h = absurd h
-uncounted profile p known failed run.Usage is h = absurd h
-uncounted profile p known failed run.OldFiles is h = absurd h
-
--- no profile, and so no counts
-pub unprofiled : (profile : List ℕ) (known : Option Recording) (failed : Bool) (e : RunFault) → IsProfileFault profile e → (of_survey profile known failed).refuses e
-unprofiled profile known failed (run.Profile f) h = h
-unprofiled profile known failed run.Memory h = h
-unprofiled profile known failed (run.Read f) h = absurd h
-unprofiled profile known failed run.Device h = absurd h
-unprofiled profile known failed (run.Cut k f) h = absurd h
-unprofiled profile known failed run.TooLong h = absurd h
-unprofiled profile known failed run.BadWord h = absurd h
-unprofiled profile known failed run.Usage h = absurd h
-unprofiled profile known failed run.OldFiles h = absurd h

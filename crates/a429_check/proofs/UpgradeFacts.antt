@@ -50,12 +50,10 @@ pub of_any : (known : Option (List ℕ)) (P : List ℕ → Type 0) → ((bytes :
 of_any None P all = ([], tt, all [])
 of_any (Some xs) P all = (xs, refl, all xs)
 
--- the line of a version was read, and this is said of what is behind it
-pub of_upgraded : (old new : Option (List ℕ)) (found : Bool) (P Q : List ℕ → Type 0) → found ≡ true → TakesVersion old new found → OfKnown new P
-    → ((bytes rest : List ℕ) → upgraded bytes ≡ Some (version_two_line ++ rest) → P rest → Q bytes) → OfKnown old Q
-of_upgraded old new true P Q _ (line, first, len, read) (rest, are, holds) so =
-    (line ++ rest, unread_after old new line rest read are, so (line ++ rest) rest (upgraded_after line rest first len) holds)
-of_upgraded old new false P Q is taken behind so = cc
+-- the line of a version was read, and these bytes come after it
+pub upgraded_of : (old new : Option (List ℕ)) (found : Bool) (rest : List ℕ) → found ≡ true → TakesVersion old new found → IfSome new (λ xs. xs ≡ rest) → OfKnown old (λ bytes. Some (version_two_line ++ rest) ≡ upgraded bytes)
+upgraded_of old new true rest _ (line, first, len, read) are = (line ++ rest, unread_after old new line rest read are, sym (upgraded_after line rest first len))
+upgraded_of old new false rest is taken are = cc
 
 -- no such line was read
 pub of_none : (old new : Option (List ℕ)) (found : Bool) (Q : List ℕ → Type 0) → found ≡ false → TakesVersion old new found
@@ -65,9 +63,6 @@ of_none None new false Q _ none so = ([], tt, so [] refl)
 of_none (Some xs) new false Q _ none so = (xs, refl, so xs none)
 
 -- ---- a front that was written
-
-pub front_none : (a : Option (List ℕ)) (xs : List ℕ) → AppendsPrefix a a xs
-front_none a xs = (0, omega arith, Appends-nil a)
 
 pub front_whole : (a b : Option (List ℕ)) (xs : List ℕ) → Appends a b xs → AppendsPrefix a b xs
 front_whole a b xs grown = (length xs, omega arith, subst (Appends a b) (sym (take-length xs)) grown)

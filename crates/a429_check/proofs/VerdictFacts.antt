@@ -21,10 +21,11 @@ use Rattle.a429_profile.specs.declared.fault.ProfileFault.{ProfileFault}
 use Rattle.a429_check.specs.declared.engines.verdict.Judged.{Judged}
 use Rattle.a429_check.specs.declared.fault.RunFault.{RunFault}
 use Rattle.a429_check.specs.declared.fault.RunFault.TheVariants as run
-use Rattle.a429_check.specs.Profile.{IsProfileOf, IsProfileFault}
-use Rattle.a429_check.specs.Verdict.{AllWork, AnyFailed, HasAnswer, HasFailed, HearsAnswer, HearsUntil, Input, IsAnswerOf, IsAnswered, IsJudged, IsNoAnswer, IsVerdict, IsVerifyFault, Judges, Rejects, SaysAnswer, count_line, file_line, line_of_file, no, no_text, of_stream, of_verdict, status_of_answer, text_of_answer, yes, yes_text}
+use Rattle.a429_check.specs.Profile.{IsProfileOf, IsProfileFault, profile_causes}
+use Rattle.a429_check.specs.Verdict.{AllWork, AnyFailed, HasAnswer, HasFailed, HearsAnswer, HearsUntil, Input, IsAnswerOf, IsAnswered, IsJudged, IsNoAnswer, IsVerdict, IsVerifyFault, Judges, Rejects, SaysAnswer, count_line, file_line, line_of_file, no, no_text, of_stream, of_verdict, status_of_answer, text_of_answer, verify_causes, yes, yes_text}
 use Rattle.a429_cert.specs.Change.{change}
 use Rattle.a429_check.proofs.EndsFacts.{Bears}
+use Rattle.a429_check.proofs.FaultFacts.{comes_by}
 
 -- what is reported of files, by their lines
 pub yes_of_files : (files : List FileBytes) → yes_text (sizes files) ≡ count_line (length files) ++ flat_map line_of_file files
@@ -81,11 +82,6 @@ none_failed rec certificate shelf listener (a, b, c, d) (inr (inr h)) = cc (c, h
 pub all_work : (rec certificate shelf listener out : Bool) → AllWork rec certificate shelf listener → out ≡ false → AllWork rec certificate shelf out
 all_work rec certificate shelf listener out (a, b, c, d) h = (a, b, c, h)
 
--- a listener that never fails has not
-pub without_listener : (rec certificate shelf out : Bool) → AnyFailed rec certificate shelf false → AnyFailed rec certificate shelf out
-without_listener rec certificate shelf out (inl h) = inl h
-without_listener rec certificate shelf out (inr e) = absurd (cc e)
-
 -- what has failed where a stream reports a device
 pub one_failed : (rec cert shelf listener : Bool) → OneFailed cert shelf listener → HasFailed rec cert shelf ⊎ (listener ≡ true)
 one_failed rec cert shelf listener (inl a) = inl (inr (inl a))
@@ -96,15 +92,8 @@ one_failed rec cert shelf listener (inr (inr d)) = inr d
 
 -- a profile that was not read
 pub by_profile : (i : Input) (shelf : Shelved) (Failed : Type 0) (e : RunFault) → IsUnchanged shelf.before shelf.after → IsProfileFault i.profile e → IsVerifyFault i shelf Failed e
-by_profile i shelf Failed (run.Profile f) same h = (h, same)
-by_profile i shelf Failed run.Memory same h = (h, inl same)
-by_profile i shelf Failed (run.Read f) same h = absurd h
-by_profile i shelf Failed run.Device same h = absurd h
-by_profile i shelf Failed (run.Cut k f) same h = absurd h
-by_profile i shelf Failed run.TooLong same h = absurd h
-by_profile i shelf Failed run.BadWord same h = absurd h
-by_profile i shelf Failed run.Usage same h = absurd h
-by_profile i shelf Failed run.OldFiles same h = absurd h
+by_profile i shelf Failed e same = comes_by (profile_causes i.profile) (verify_causes i shelf Failed)
+    (record { profile = λ f h. (h, same); recording = λ f h. absurd h; file = λ k f h. absurd h; too_long = λ h. absurd h; device = λ h. absurd h; memory = λ h. (h, inl same) }) e
 
 -- then nothing was heard of the recording
 pub unheard : {T : Type 0} (l : Listening T) (i : Input) (e : RunFault) → IsProfileFault i.profile e → HearsUntil l i e
@@ -140,15 +129,8 @@ by_stream i shelf p Failed f is here a b = by f here a b
 
 -- what has failed may be more
 pub more_failed : (i : Input) (shelf : Shelved) (Failed More : Type 0) (e : RunFault) → (Failed → More) → IsVerifyFault i shelf Failed e → IsVerifyFault i shelf More e
-more_failed i shelf Failed More (run.Profile f) more h = h
-more_failed i shelf Failed More (run.Read f) more h = h
-more_failed i shelf Failed More (run.Cut k f) more h = h
-more_failed i shelf Failed More run.TooLong more h = h
-more_failed i shelf Failed More run.Device more h = (more h.0, h.1)
-more_failed i shelf Failed More run.Memory more h = h
-more_failed i shelf Failed More run.BadWord more h = h
-more_failed i shelf Failed More run.Usage more h = h
-more_failed i shelf Failed More run.OldFiles more h = h
+more_failed i shelf Failed More e more = comes_by (verify_causes i shelf Failed) (verify_causes i shelf More)
+    (record { profile = λ f h. h; recording = λ f h. h; file = λ k f h. h; too_long = λ h. h; device = λ h. (more h.0, h.1); memory = λ h. h }) e
 
 -- no fault of a stream is one of a profile
 pub no_profile : (f : StreamFault) (fault : ProfileFault) → of_stream f ≡ run.Profile fault → ⊥

@@ -1,5 +1,5 @@
 -- The verdict on a recording, and how it is written (profile).
-use Rattle.std.specs.Prelude.{◌≡◌, ◌≢◌, ◌⊎◌, ◌++◌, ℕ, List, [], codes, Bool, true, Option}
+use Rattle.std.specs.Prelude.{◌≡◌, ◌++◌, ℕ, List, codes, false, Option, Some, None}
 use Rattle.a429_profile.specs.Profile.{Contents}
 use Rattle.a429_link.specs.declared.seen.Seen.{Seen}
 use Rattle.a429_record.specs.declared.entry.Entry.{Entry}
@@ -14,17 +14,14 @@ use Rattle.a429_explain.specs.declared.verdict.Doubt.TheVariants.{NeverWhole, No
 use Rattle.a429_search.specs.Deciding.{IsImpossibleBy, IsImpossibleUpTo, IsOfCheck, IsReasonAt}
 use Rattle.a429_explain.specs.Verdict.{IsSoundVerdict, IsAccepted, IsOfLeastVersion, IsImpossible, IsDoubted, IsFirst, HasNoForm, IsImpossibility, IsExplanation}
 use Rattle.a429_explain.specs.WithoutLoss.{IsWithoutLoss}
-use Rattle.std.specs.Str.{IsUtf8}
 use Rattle.a429_cert.specs.Stream.{sizes}
-use Rattle.a429_word.specs.Tally.{has_failed, Puts, PutsFront}
 use Rattle.a429_check.specs.declared.fault.RunFault.{RunFault}
-use Rattle.a429_check.specs.declared.fault.RunFault.TheVariants as run
+use Rattle.a429_check.specs.Ends.{Heard, IsBrokenOff, PromiseOfFile, unheard_causes}
 use Rattle.a429_check.specs.Output.{Output}
 use Rattle.a429_check.specs.declared.engines.rule.Rule.{Rule}
 use Rattle.a429_check.specs.declared.engines.rule.Rule.TheVariants as rule
-use Rattle.a429_check.specs.Fault.{ComesBy, never}
-use Rattle.a429_check.specs.Profile.{IsSomeProfile, HasFault}
-use Rattle.a429_check.specs.Recording.{SayInput, SaysEntries, IsRecordingFault}
+use Rattle.a429_check.specs.Fault.{ComesBy}
+use Rattle.a429_check.specs.Recording.{SayInput, SaysEntries}
 use Rattle.a429_check.specs.Verdict.{yes_text}
 
 -- ---- the text
@@ -49,10 +46,10 @@ verdict_text (Impossible i reason) = codes "IMPOSSIBLE " ++ decimal i ++ reason_
 verdict_text (Unexplained i doubt) = codes "UNEXPLAINED " ++ decimal i ++ doubt_text doubt
 
 -- the certificate that is written: none but of a recording that is explained
-abbrev pub certificate_text : Verdict → List ℕ
-certificate_text (Explained certificate files) = certificate
-certificate_text (Impossible i reason) = []
-certificate_text (Unexplained i doubt) = []
+abbrev pub certificate_of : Verdict → Option (List ℕ)
+certificate_of (Explained certificate files) = Some certificate
+certificate_of (Impossible i reason) = None
+certificate_of (Unexplained i doubt) = None
 
 abbrev pub verdict_status : Verdict → ℕ
 verdict_status (Explained certificate files) = 0
@@ -91,42 +88,37 @@ IsVerdictOn by_rule profile recording v = (says : SayInput profile recording) ×
 abbrev pub IsVerdictUnder : Rule → Contents → Option (List ℕ) → Verdict → Type 0
 IsVerdictUnder by_rule p recording v = (es : List Entry) × SaysEntries recording es × IsVerdictBy by_rule p (items_of es) v
 
--- such a verdict is reported: its certificate to a writer, its text on the output, and its status; nothing is written of a certificate but of a yes
-pub record ReportsVerdict {C W : Type 0} (cert : Output C) (out : Output W) (IsSuch : Verdict → Type 0) (status : ℕ) : Type 0 where
+-- ---- how it is reported
+
+-- the status and the text of such a verdict, with its certificate or none
+pub record TellsVerdict (IsSuch : Verdict → Type 0) (certificate : Option (List ℕ)) (status : ℕ) (text : List ℕ) : Type 0 where
   pub verdict : Verdict
   pub is : IsSuch verdict
+  pub certificate_is : certificate ≡ certificate_of verdict
   pub status_is : status ≡ verdict_status verdict
-  pub certificate : Puts cert.contents cert.old cert.new (certificate_text verdict)
-  pub text : Puts out.contents out.old out.new (verdict_text verdict)
-  pub none : status ≢ 0 → cert.new ≡ cert.old
+  pub text_is : text ≡ verdict_text verdict
 
--- ---- why there is none
+-- what the certificate's writer has where it failed: a prefix of the certificate
+abbrev pub LeavesCertificate : {C : Type 0} → Output C → Verdict → Type 0
+LeavesCertificate c v = (text : List ℕ) × (certificate_of v ≡ Some text) × IsBrokenOff c ⊥ text
 
--- the certificate's writer has failed, or the output has
-abbrev pub EitherFailed : Bool → Bool → Type 0
-EitherFailed cert out = (cert ≡ true) ⊎ (out ≡ true)
+-- such a verdict is reported: first its certificate, where it has one, and then its text
+abbrev pub of_verdicts : (Verdict → Type 0) → (RunFault → Type 0) → PromiseOfFile
+of_verdicts IsSuch Refuses = record {
+  after = λ certificate. record {
+    says = TellsVerdict IsSuch certificate;
+    stops = λ e text. ⊥;
+    begins = λ text. (status : ℕ) × TellsVerdict IsSuch certificate status text;
+    refuses = λ e. (certificate ≡ None) × Refuses e;
+  };
+  breaks = λ text. (v : Verdict) × IsSuch v × (certificate_of v ≡ Some text);
+  other = ⊥;
+}
 
--- why a verdict was not written: a writer failed, or out of memory
-abbrev pub IsWritingFault : Type 0 → RunFault → Type 0
-IsWritingFault Writers = ComesBy (record never { device = Writers; memory = Unit {0} })
+-- the verdict on a recording, whose reader has not failed
+abbrev pub IsVerdictOfHeard : Rule → List ℕ → Heard → Verdict → Type 0
+IsVerdictOfHeard by_rule profile rec v = IsVerdictOn by_rule profile rec.bytes v × (rec.failed ≡ false)
 
--- the profile's own fault, then the recording's; the recording's reader failed, or, once the recording was read whole, a writer did; out of memory, once the profile is known to be a text
-abbrev pub IsCheckFault : List ℕ → Option (List ℕ) → Bool → Type 0 → RunFault → Type 0
-IsCheckFault profile known rec_failed Writers = ComesBy (record never {
-  profile = HasFault profile;
-  recording = λ f. IsSomeProfile profile × IsRecordingFault known f;
-  device = (IsSomeProfile profile × (rec_failed ≡ true)) ⊎ (SayInput profile known × Writers);
-  memory = IsUtf8 profile;
-})
-
--- the writing of a verdict was cut short: its certificate's writer failed, which has a prefix of the certificate, and the output is as it was; or
--- the output did, which has a prefix of the text, and the certificate is whole
-pub data IsCutIn {C W : Type 0} (cert : Output C) (out : Output W) (v : Verdict) : Type 0 where
-  in_certificate : (failed : has_failed cert.new ≡ true) (prefix : PutsFront cert.contents cert.old cert.new (certificate_text v)) (same : out.new ≡ out.old) → IsCutIn cert out v
-  in_text : (failed : has_failed out.new ≡ true) (whole : Puts cert.contents cert.old cert.new (certificate_text v)) (prefix : PutsFront out.contents out.old out.new (verdict_text v)) → IsCutIn cert out v
-
--- what both have after a fault: what they had; or a writer has failed, and no reader, and the writing of a verdict was cut short
-abbrev pub LeavesVerdict : {C W : Type 0} → Output C → Output W → Type 0 → (Verdict → Type 0) → RunFault → Type 0
-LeavesVerdict cert out Readers IsSuch e =
-    ((cert.new ≡ cert.old) × (out.new ≡ out.old))
-    ⊎ ((e ≡ run.Device) × (Readers → ⊥) × ((v : Verdict) × IsSuch v × IsCutIn cert out v))
+-- `check` and `decide` report it; where there is none they write nothing
+abbrev pub of_check : Rule → List ℕ → Heard → PromiseOfFile
+of_check by_rule profile rec = of_verdicts (IsVerdictOfHeard by_rule profile rec) (ComesBy (unheard_causes profile rec))

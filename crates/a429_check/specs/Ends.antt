@@ -1,5 +1,5 @@
 -- How a command ends: what it has written, and its status or its fault (profile).
-use Rattle.std.specs.Prelude.{◌≡◌, ℕ, List, Bool, true, false, Option, Result, Ok, Err}
+use Rattle.std.specs.Prelude.{◌≡◌, ◌⊎◌, ℕ, List, Bool, true, false, Option, Some, None, Result, Ok, Err}
 use Rattle.std.specs.Str.{IsUtf8}
 use Rattle.a429_word.specs.declared.tally.Tally.{Tally}
 use Rattle.a429_word.specs.Tally.{has_failed, unread, Puts, PutsFront}
@@ -31,6 +31,32 @@ pub data Ends {W : Type 0} (o : Output W) (p : Promise) (r : Result ℕ RunFault
   stopped : (e : RunFault) (text : List ℕ) (is : r ≡ Err e) (stops : p.stops e text) (works : has_failed o.new ≡ false) (put : Puts o.contents o.old o.new text) → Ends o p r
   cut_off : (text : List ℕ) (is : r ≡ Err run.Device) (begins : p.begins text) (failed : has_failed o.new ≡ true) (front : PutsFront o.contents o.old o.new text) → Ends o p r
   refused : (e : RunFault) (is : r ≡ Err e) (refuses : p.refuses e) (same : o.new ≡ o.old) → Ends o p r
+
+-- ---- of two outputs, the first of which is a file that is written before the other
+
+-- what a file has gained: all of this text; where there is none, it is as it was
+abbrev pub HasGained : {C : Type 0} → Output C → Option (List ℕ) → Type 0
+HasGained file None = file.new ≡ file.old
+HasGained file (Some text) = (has_failed file.new ≡ false) × Puts file.contents file.old file.new text
+
+-- what it has gained where its writing was broken off: it has failed, or there is this other reason, and it has a prefix of the text
+pub record IsBrokenOff {C : Type 0} (file : Output C) (Other : Type 0) (text : List ℕ) : Type 0 where
+  pub why : (has_failed file.new ≡ true) ⊎ Other
+  pub front : PutsFront file.contents file.old file.new text
+
+-- what a command may answer that writes a file first
+pub record PromiseOfFile : Type 1 where
+  -- once the file has all of its text, or where there is none
+  pub after : Option (List ℕ) → Promise
+  -- where its writing was broken off: its text
+  pub breaks : List ℕ → Type 0
+  -- why it may be broken off, beside a failed writer
+  pub other : Type 0
+
+-- it has ended so: as a command with one output, after the file; or, with nothing on the output, in the file
+pub data EndsWithFile {C W : Type 0} (file : Output C) (o : Output W) (p : PromiseOfFile) (r : Result ℕ RunFault) : Type 0 where
+  after_file : (text : Option (List ℕ)) (gained : HasGained file text) (ends : Ends o (p.after text) r) → EndsWithFile file o p r
+  in_file : (text : List ℕ) (is : r ≡ Err run.Device) (breaks : p.breaks text) (broken : IsBrokenOff file p.other text) (same : o.new ≡ o.old) → EndsWithFile file o p r
 
 -- ---- of a text that is written once all is read
 

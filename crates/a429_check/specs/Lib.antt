@@ -22,7 +22,6 @@ pub mod Units
 pub mod Picture
 pub mod Streaming
 pub mod Survey
-pub mod Leaves
 pub mod Keep
 pub mod Side
 pub mod Sink

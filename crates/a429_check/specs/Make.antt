@@ -1,5 +1,5 @@
 -- What `a429 make` writes, and why it may write nothing (profile).
-use Rattle.std.specs.Prelude.{◌≡◌, ◌≢◌, ◌+◌, ◌*◌, ◌<◌, ◌≤◌, ℕ, List, [], ◌∷◌, length, Bool, true, Some, None, All}
+use Rattle.std.specs.Prelude.{◌≡◌, ◌≢◌, ◌+◌, ◌*◌, ◌<◌, ◌≤◌, ◌++◌, ℕ, List, [], ◌∷◌, length, Some, None, Result, All}
 use Rattle.std.specs.List.{AllByRecursion}
 use Rattle.std.specs.Str.{IsUtf8}
 use Rattle.a429_profile.specs.Profile.{Contents}
@@ -15,7 +15,9 @@ use Rattle.a429_record.specs.Recording.{most_entries}
 use Rattle.a429_record.specs.Writing.{written_form}
 use Rattle.a429_cert.specs.Explained.{items_of}
 use Rattle.a429_check.specs.declared.fault.RunFault.{RunFault}
-use Rattle.a429_check.specs.Fault.{ComesBy, never}
+use Rattle.a429_check.specs.declared.fault.RunFault.TheVariants as run
+use Rattle.a429_check.specs.Ends.{Promise, by_answer}
+use Rattle.a429_check.specs.Fault.{Causes, ComesBy, never}
 use Rattle.a429_check.specs.Profile.{IsProfileOf, IsSomeProfile, HasFault}
 use Rattle.a429_check.specs.Recording.{SayInput}
 
@@ -74,24 +76,42 @@ abbrev pub IsUncut : List (List ℕ) → ℕ → CutFault → Type 0
 IsUncut files k f = (first_refused 255 0 files ≡ Some (clean.Cut k f)) × (f ≢ cut.OutOfMemory)
 
 -- why no recording is made of files: the first of them that can not be cut, or too many words
+abbrev pub files_causes : List (List ℕ) → Causes
+files_causes files = record never { recording = λ f. (f ≡ read.TooMany) × AreTooMany files; file = IsUncut files }
+
 abbrev pub IsFilesFault : List (List ℕ) → RunFault → Type 0
-IsFilesFault files = ComesBy (record never { recording = λ f. (f ≡ read.TooMany) × AreTooMany files; file = IsUncut files })
+IsFilesFault files = ComesBy (files_causes files)
 
--- a recording can be made of files: none is refused, and there is room for all their words
-pub record FitARecording (files : List (List ℕ)) : Type 0 where
-  pub cut : first_refused 255 0 files ≡ None
-  pub room : (p : Contents) → length (words_made p files) ≤ most_entries
-
--- why `make` may fail: the profile's own fault, then that of the files; a writer that failed where neither has one; or out of memory, once the profile is known to be a text
-abbrev pub IsMakeFault : List ℕ → List (List ℕ) → Bool → RunFault → Type 0
-IsMakeFault profile files failed = ComesBy (record never {
+-- why nothing is written: the profile's own fault, then that of the files; or out of memory, once the profile is known to be a text
+abbrev pub make_causes : List ℕ → List (List ℕ) → Causes
+make_causes profile files = record never {
   profile = HasFault profile;
   recording = λ f. IsSomeProfile profile × (f ≡ read.TooMany) × AreTooMany files;
   file = λ k f. IsSomeProfile profile × IsUncut files k f;
-  device = IsSomeProfile profile × FitARecording files × (failed ≡ true);
   memory = IsUtf8 profile;
-})
+}
 
--- a writer that failed, or out of memory
-abbrev pub IsPutFault : Bool → RunFault → Type 0
-IsPutFault failed = ComesBy (record never { device = failed ≡ true; memory = Unit {0} })
+-- with this text such a text begins
+abbrev pub IsPrefixOf : (List ℕ → Type 0) → List ℕ → Type 0
+IsPrefixOf IsSuch text = (rest : List ℕ) × IsSuch (text ++ rest)
+
+-- `make` writes the recording, with status 0; where memory is refused between two files, a prefix of it; else nothing where there is a fault
+abbrev pub of_make : List ℕ → List (List ℕ) → Promise
+of_make profile files = record {
+  says = λ status text. (status ≡ 0) × MakesRecording profile files text;
+  stops = λ e text. (e ≡ run.Memory) × IsPrefixOf (MakesRecording profile files) text;
+  begins = MakesRecording profile files;
+  refuses = ComesBy (make_causes profile files);
+}
+
+-- the same of the recording of files of which none is refused, under a profile that was read
+abbrev pub of_recording : List ℕ → Promise
+of_recording whole = record {
+  says = λ status text. (status ≡ 0) × (text ≡ whole);
+  stops = λ e text. (e ≡ run.Memory) × IsPrefixOf (λ t. t ≡ whole) text;
+  begins = λ text. text ≡ whole;
+  refuses = λ e. e ≡ run.Memory;
+}
+
+abbrev pub AnswersRecording : List ℕ → Result ℕ RunFault → List ℕ → Type 0
+AnswersRecording whole = by_answer (of_recording whole).says (of_recording whole).stops

@@ -1,17 +1,22 @@
 -- What `pack` writes, and why it writes nothing (profile).
-use Rattle.std.specs.Prelude.{◌≡◌, ℕ, List, Bool, Option, IfSome}
+use Rattle.std.specs.Prelude.{◌≡◌, ℕ, List, false}
 use Rattle.a429_record.specs.declared.entry.Entry.{Entry}
-use Rattle.a429_record.specs.Recording.{stands_for, whole}
 use Rattle.a429_record.specs.Binary.{binary_form}
-use Rattle.a429_check.specs.declared.fault.RunFault.{RunFault}
-use Rattle.a429_check.specs.Recording.{IsEntriesFault}
+use Rattle.a429_check.specs.Ends.{Heard, Promise}
+use Rattle.a429_check.specs.Recording.{IsReadFault, SaysEntries}
 
--- the bytes are the binary form of the entries that a recording's bytes mean, where these are known
-pub record Packs (recording : Option (List ℕ)) (bytes : List ℕ) : Type 0 where
+-- the bytes are the binary form of the entries that a recording says, and its reader has not failed
+pub record Packs (rec : Heard) (bytes : List ℕ) : Type 0 where
   pub entries : List Entry
-  pub stand : IfSome recording (λ rec. stands_for rec ≡ whole entries)
+  pub stand : SaysEntries rec.bytes entries
+  pub works : rec.failed ≡ false
   pub form : bytes ≡ binary_form entries
 
--- why `pack` fails: as no lines of the entries are written
-abbrev pub IsPackFault : Option (List ℕ) → Bool → Bool → RunFault → Type 0
-IsPackFault known rec_failed out_failed = IsEntriesFault known rec_failed out_failed
+-- `pack` writes them, with status 0; of a recording that could not be read it writes nothing
+abbrev pub of_pack : Heard → Promise
+of_pack rec = record {
+  says = λ status bytes. (status ≡ 0) × Packs rec bytes;
+  stops = λ e bytes. ⊥;
+  begins = Packs rec;
+  refuses = IsReadFault rec.bytes rec.failed;
+}

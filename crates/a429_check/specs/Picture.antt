@@ -1,5 +1,5 @@
 -- What `a429 picture` writes (profile).
-use Rattle.std.specs.Prelude.{◌≡◌, ◌⊎◌, ◌≤◌, ◌<◌, ℕ, List, Bool, true, None, Result, Ok, Err, Vec}
+use Rattle.std.specs.Prelude.{◌≡◌, ◌⊎◌, ◌≤◌, ◌<◌, ℕ, List, None, Result, Ok, Err, Vec}
 use Rattle.a429_profile.specs.Profile.{Contents}
 use Rattle.a429_link.specs.declared.step.Step.{Step}
 use Rattle.a429_record.specs.Recording.{Recording}
@@ -13,10 +13,9 @@ use Rattle.a429_view.specs.declared.sketch.Sketch.{Sketch}
 use Rattle.a429_profile.specs.declared.codes.Codes.{Codes}
 use Rattle.a429_view.specs.Sketch.{most_steps}
 use Rattle.a429_cert.specs.declared.fault.CertFault.{CertFault}
-use Rattle.a429_check.specs.declared.engines.verdict.Judged.{Judged}
 use Rattle.a429_check.specs.declared.fault.RunFault.{RunFault}
-use Rattle.a429_check.specs.declared.fault.RunFault.TheVariants as run
-use Rattle.a429_check.specs.Fault.{ComesBy, never}
+use Rattle.a429_check.specs.Ends.{Promise}
+use Rattle.a429_check.specs.Fault.{Causes, ComesBy}
 use Rattle.a429_check.specs.Profile.{IsProfileOf}
 use Rattle.a429_check.specs.Verdict.{Input, Rejects, no_shelf, no_text, verify_causes}
 use Rattle.a429_cert.specs.Change.{change}
@@ -59,37 +58,24 @@ abbrev pub IsSomePicture : Input → Span → List ℕ → Type 0
 IsSomePicture i span text = (status : ℕ) × IsPicture i span status text
 
 -- a fault of `a429 verify`, or a span with more than 2,000 steps
+abbrev pub picture_causes : Input → Span → Type 0 → Causes
+picture_causes i span Failed = record (verify_causes i no_shelf Failed) { too_long = IsAcceptedSo i (λ p. IsTooLongRun p span) }
+
 abbrev pub IsPictureFault : Input → Span → Type 0 → RunFault → Type 0
-IsPictureFault i span Failed = ComesBy (record (verify_causes i no_shelf Failed) { too_long = IsAcceptedSo i (λ p. IsTooLongRun p span) })
+IsPictureFault i span Failed = ComesBy (picture_causes i span Failed)
 
--- ---- of a sketch
-
--- why so many steps are not drawn: there are more than 2,000, the output failed, or out of memory
-abbrev pub IsSketchFault : ℕ → Bool → RunFault → Type 0
-IsSketchFault steps failed = ComesBy (record never { too_long = most_steps < steps; device = failed ≡ true; memory = Unit {0} })
-
--- the text of a sketch that has not too many of them
-abbrev pub IsSketched : Codes → Sketch → List ℕ → Type 0
-IsSketched c sketch text = (text ≡ svg_text c sketch.rows.items) × (sketch.steps ≤ most_steps)
+-- `picture` writes it, where no reader has failed; else it writes nothing
+abbrev pub of_picture : Input → Span → Type 0 → Promise
+of_picture i span Failed = record {
+  says = λ status text. IsPicture i span status text × (Failed → ⊥);
+  stops = λ e text. ⊥;
+  begins = λ text. IsSomePicture i span text × (Failed → ⊥);
+  refuses = IsPictureFault i span Failed;
+}
 
 -- ---- of a certificate that was judged
 
--- what is written by its answer: the text of its sketch and 0, or a no and 2
-abbrev pub IsPictureByAnswer : {Z : Type 0} → Result (Vec (ℕ × ℕ) Z) CertFault → Codes → Sketch → ℕ → List ℕ → Type 0
-IsPictureByAnswer (Ok files) c sketch status text = (status ≡ 0) × IsSketched c sketch text
-IsPictureByAnswer (Err f) c sketch status text = (status ≡ 2) × (text ≡ no_text f)
-
-abbrev pub IsPictureOf : Judged → Sketch → ℕ → List ℕ → Type 0
-IsPictureOf j sketch = IsPictureByAnswer j.answer j.profile.codes sketch
-
--- with one of the two statuses
-abbrev pub IsSomePictureOf : Judged → Sketch → List ℕ → Type 0
-IsSomePictureOf j sketch text = (status : ℕ) × IsPictureOf j sketch status text
-
--- why nothing is answered: that of its sketch, or that the output failed
-abbrev pub IsPictureFaultByAnswer : {Z : Type 0} → Result (Vec (ℕ × ℕ) Z) CertFault → ℕ → Bool → RunFault → Type 0
-IsPictureFaultByAnswer (Ok files) steps failed e = IsSketchFault steps failed e
-IsPictureFaultByAnswer (Err f) steps failed e = (e ≡ run.Device) × (failed ≡ true)
-
-abbrev pub IsPictureFaultOf : Judged → Sketch → Bool → RunFault → Type 0
-IsPictureFaultOf j sketch = IsPictureFaultByAnswer j.answer sketch.steps
+-- its text, by its answer: the picture of what was sketched, or a no
+abbrev pub drawing_text : {Z : Type 0} → Codes → Sketch → Result (Vec (ℕ × ℕ) Z) CertFault → List ℕ
+drawing_text c sketch (Ok files) = svg_text c sketch.rows.items
+drawing_text c sketch (Err f) = no_text f

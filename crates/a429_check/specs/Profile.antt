@@ -6,7 +6,7 @@ use Rattle.a429_profile.specs.Profile.{Contents, Answers}
 use Rattle.a429_profile.specs.declared.fault.ProfileFault.{ProfileFault}
 use Rattle.a429_profile.specs.declared.fault.ProfileFault.TheVariants.{NotToml}
 use Rattle.a429_check.specs.declared.fault.RunFault.{RunFault}
-use Rattle.a429_check.specs.Fault.{ComesBy, never}
+use Rattle.a429_check.specs.Fault.{Causes, ComesBy, never}
 
 -- the bytes are the text of a profile that says this
 abbrev pub IsProfileOf : List ℕ → Contents → Type 0
@@ -25,5 +25,8 @@ abbrev pub IsSomeProfile : List ℕ → Type 0
 IsSomeProfile bytes = (contents : Contents) × IsProfileOf bytes contents
 
 -- why a profile could not be read: its own fault, or, of a text, out of memory
+abbrev pub profile_causes : List ℕ → Causes
+profile_causes bytes = record never { profile = HasFault bytes; memory = IsUtf8 bytes }
+
 abbrev pub IsProfileFault : List ℕ → RunFault → Type 0
-IsProfileFault bytes = ComesBy (record never { profile = HasFault bytes; memory = IsUtf8 bytes })
+IsProfileFault bytes = ComesBy (profile_causes bytes)

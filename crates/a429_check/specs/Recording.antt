@@ -1,12 +1,12 @@
 -- What the bytes of a recording say, or what is wrong with them (profile).
-use Rattle.std.specs.Prelude.{◌≡◌, ◌⊎◌, ℕ, List, Bool, true, Option, Some, IfSome}
+use Rattle.std.specs.Prelude.{◌≡◌, ℕ, List, Bool, true, Option, Some, IfSome}
 use Rattle.a429_profile.specs.Profile.{Contents}
 use Rattle.a429_record.specs.declared.entry.Entry.{Entry}
 use Rattle.a429_record.specs.declared.fault.ReadFault.{ReadFault}
 use Rattle.a429_record.specs.declared.fault.ReadFault.TheVariants as read
 use Rattle.a429_record.specs.Recording.{stands_for, whole}
 use Rattle.a429_check.specs.declared.fault.RunFault.{RunFault}
-use Rattle.a429_check.specs.Fault.{ComesBy, never}
+use Rattle.a429_check.specs.Fault.{Causes, ComesBy, never}
 use Rattle.a429_check.specs.Profile.{IsProfileOf}
 
 -- a profile's text and a recording say these contents and entries; the recording's bytes need not be known
@@ -20,10 +20,6 @@ pub record SayInput (profile : List ℕ) (recording : Option (List ℕ)) : Type 
 abbrev pub SaysEntries : Option (List ℕ) → List Entry → Type 0
 SaysEntries recording es = IfSome recording (λ bytes. stands_for bytes ≡ whole es)
 
--- a recording says some entries: it has no fault
-abbrev pub IsSomeRecording : Option (List ℕ) → Type 0
-IsSomeRecording recording = (es : List Entry) × SaysEntries recording es
-
 -- the first fault of a recording's bytes, where they are known; a failed reader, out of memory and a fault answered before are none
 abbrev pub IsRecordingFault : Option (List ℕ) → ReadFault → Type 0
 IsRecordingFault known read.Device = ⊥
@@ -32,9 +28,8 @@ IsRecordingFault known read.Failed = ⊥
 IsRecordingFault known f = IfSome known (λ bytes. (stands_for bytes).fault ≡ Some f)
 
 -- why a recording could not be read: its own fault, a reader that failed, or out of memory
-abbrev pub IsReadFault : Option (List ℕ) → Bool → RunFault → Type 0
-IsReadFault known failed = ComesBy (record never { recording = IsRecordingFault known; device = failed ≡ true; memory = Unit {0} })
+abbrev pub read_causes : Option (List ℕ) → Bool → Causes
+read_causes known failed = record never { recording = IsRecordingFault known; device = failed ≡ true; memory = Unit {0} }
 
--- why no lines of its entries are written: its own fault; its reader failed, or, once the recording was read whole, the output did; or out of memory
-abbrev pub IsEntriesFault : Option (List ℕ) → Bool → Bool → RunFault → Type 0
-IsEntriesFault known rec_failed out_failed = ComesBy (record never { recording = IsRecordingFault known; device = (rec_failed ≡ true) ⊎ (IsSomeRecording known × (out_failed ≡ true)); memory = Unit {0} })
+abbrev pub IsReadFault : Option (List ℕ) → Bool → RunFault → Type 0
+IsReadFault known failed = ComesBy (read_causes known failed)

@@ -13,6 +13,7 @@ use Rattle.a429_check.specs.declared.engines.series.SeriesAnswer.{SeriesAnswer}
 use Rattle.a429_check.specs.declared.engines.series.SeriesAnswer.TheVariants as answer
 use Rattle.a429_check.specs.declared.fault.RunFault.{RunFault}
 use Rattle.a429_check.specs.declared.fault.RunFault.TheVariants as run
+use Rattle.a429_check.specs.Ends.{Promise}
 use Rattle.a429_check.specs.Fault.{Causes, ComesBy, never}
 use Rattle.a429_check.specs.PartList.{ListsParts}
 use Rattle.a429_check.specs.Profile.{IsProfileOf, IsSomeProfile, HasFault}
@@ -129,10 +130,6 @@ IsSomeSeriesVerdict i text = (status : ℕ) × IsSeriesVerdict i status text
 
 -- ---- why there is none
 
--- the parts have failed in a call: they had not before it
-abbrev pub FailsIn : Bool → Bool → Type 0
-FailsIn before after = (before ≡ false) × (after ≡ true)
-
 -- the fault of a recording, where its entry is wanted first; a device that has failed; out of memory
 abbrev pub part_causes : Contents → (ℕ → Option Part) → List ℕ → Type 0 → Causes
 part_causes p part counts Failed = record never {
@@ -159,6 +156,15 @@ series_causes i Failed = record never {
 
 abbrev pub IsSeriesFault : SeriesInput → Type 0 → RunFault → Type 0
 IsSeriesFault i Failed = ComesBy (series_causes i Failed)
+
+-- `series` writes the verdict, where the parts have not failed in the call; else it writes nothing
+abbrev pub of_series : SeriesInput → Bool → Bool → Promise
+of_series i before after = record {
+  says = λ status text. IsSeriesVerdict i status text × (before ≡ false → after ≡ false);
+  stops = λ e text. ⊥;
+  begins = λ text. IsSomeSeriesVerdict i text × (before ≡ false → after ≡ false);
+  refuses = IsSeriesFault i (after ≡ true);
+}
 
 -- why a part was not added: a device has failed, or else the fault of the part
 abbrev pub IsStopOf : Bool → Result SeriesValue StreamFault → StreamFault → Type 0

@@ -7,7 +7,7 @@ use Rattle.a429_record.specs.declared.fault.ReadFault.TheVariants as read
 use Rattle.a429_record.specs.Recording.{Recording, whole}
 use Rattle.a429_check.specs.declared.fault.RunFault.{RunFault}
 use Rattle.a429_check.specs.declared.fault.RunFault.TheVariants as run
-use Rattle.a429_check.specs.Fault.{ComesBy, never}
+use Rattle.a429_check.specs.Fault.{Causes, ComesBy, never}
 use Rattle.a429_check.specs.Profile.{IsProfileOf}
 
 -- a profile's text, and what is in a reader of a recording, say these contents and entries; what is in the reader need not be known
@@ -30,12 +30,18 @@ reported read.OutOfMemory = run.Memory
 reported f = run.Read f
 
 -- why no more entries are read: the recording has a fault, the reader failed, or memory was refused
+abbrev pub next_causes : Option Recording → Bool → Causes
+next_causes known failed = record never { recording = IsFaultToCome known; device = failed ≡ true; memory = Unit {0} }
+
 abbrev pub IsNextFault : Option Recording → Bool → RunFault → Type 0
-IsNextFault known failed = ComesBy (record never { recording = IsFaultToCome known; device = failed ≡ true; memory = Unit {0} })
+IsNextFault known failed = ComesBy (next_causes known failed)
 
 -- why no more lines are put, under a profile that was read: the recording has a fault, its reader or the output failed, or memory was refused
+abbrev pub lines_causes : Option Recording → Bool → Bool → Causes
+lines_causes known rec_failed out_failed = record never { recording = IsFaultToCome known; device = (rec_failed ≡ true) ⊎ (out_failed ≡ true); memory = Unit {0} }
+
 abbrev pub IsLinesFault : Option Recording → Bool → Bool → RunFault → Type 0
-IsLinesFault known rec_failed out_failed = ComesBy (record never { recording = IsFaultToCome known; device = (rec_failed ≡ true) ⊎ (out_failed ≡ true); memory = Unit {0} })
+IsLinesFault known rec_failed out_failed = ComesBy (lines_causes known rec_failed out_failed)
 
 -- where the recording has the fault, these are all the entries before it
 abbrev pub AreAllBefore : RunFault → Option Recording → List Entry → Type 0

@@ -1,14 +1,13 @@
 -- What `upgrade` writes of a certificate, and what it answers (profile).
-use Rattle.std.specs.Prelude.{◌≡◌, ◌⊎◌, ◌++◌, ◌||◌, ℕ, List, [], ◌∷◌, length, take, drop, codes, Bool, true, false, if◌then◌else◌, Option, Some, None, IfSome}
+use Rattle.std.specs.Prelude.{◌≡◌, ◌++◌, ◌||◌, ℕ, List, [], ◌∷◌, length, take, drop, codes, Bool, true, false, if◌then◌else◌, Option, Some, None, IfSome}
 use Rattle.std.specs.Str.{bytes_eq}
 use Rattle.std.specs.Io.KnownBytes.{Consumes}
 use Rattle.a429_word.specs.declared.tally.Tally.{Tally}
-use Rattle.a429_word.specs.Tally.{unread, Puts, PutsFront}
+use Rattle.a429_word.specs.Tally.{unread}
 use Rattle.a429_cert.specs.declared.version.Version.TheVariants.{One, Two}
 use Rattle.a429_cert.specs.Version.{version_line}
-use Rattle.a429_check.specs.declared.fault.RunFault.{RunFault}
-use Rattle.a429_check.specs.Fault.{ComesBy, never}
-use Rattle.a429_check.specs.Output.{Output}
+use Rattle.a429_check.specs.declared.fault.RunFault.TheVariants as run
+use Rattle.a429_check.specs.Ends.{PromiseOfFile}
 
 -- ---- a certificate of version 2
 
@@ -28,10 +27,6 @@ abbrev pub upgraded : List ℕ → Option (List ℕ)
 upgraded bytes = if is_version_line (take 16 bytes) then Some (version_two_line ++ drop 16 bytes) else None
 
 -- ---- what is written, reported and answered
-
-abbrev pub upgrade_bytes : Option (List ℕ) → List ℕ
-upgrade_bytes (Some new) = new
-upgrade_bytes None = []
 
 abbrev pub upgrade_text : Option (List ℕ) → List ℕ
 upgrade_text (Some new) = codes "UPGRADED\n"
@@ -56,27 +51,24 @@ abbrev pub TakesVersion : Option (List ℕ) → Option (List ℕ) → Bool → T
 TakesVersion old new true = (line : List ℕ) × (is_version_line line ≡ true) × (length line ≡ 16) × Consumes old new line
 TakesVersion old new false = IfSome old (λ bytes. upgraded bytes ≡ None)
 
--- ---- what is put of it
+-- ---- how it ends
 
--- to another writer it is written as one of version 2, and the output says so, with the status
-abbrev pub PutsUpgrade : {C W R : Type 0} → Output C → Output W → (R → Option (List ℕ)) → Tally R → ℕ → Type 0
-PutsUpgrade new out remaining cert status = OfUnread remaining cert (λ bytes.
-    (status ≡ upgrade_status (upgraded bytes))
-    × Puts new.contents new.old new.new (upgrade_bytes (upgraded bytes))
-    × Puts out.contents out.old out.new (upgrade_text (upgraded bytes)))
+-- the certificate is one of which this is the upgraded one, or which has none; its reader has not failed; and this is the answer
+pub record TellsUpgrade (cert : Option (List ℕ)) (failed : Bool) (new : Option (List ℕ)) (status : ℕ) (text : List ℕ) : Type 0 where
+  pub of : OfKnown cert (λ bytes. new ≡ upgraded bytes)
+  pub works : failed ≡ false
+  pub status_is : status ≡ upgrade_status new
+  pub text_is : text ≡ upgrade_text new
 
--- some prefix of it is
-abbrev pub PutsUpgradeFront : {C : Type 0} → (C → Option (List ℕ)) → Tally C → Tally C → List ℕ → Type 0
-PutsUpgradeFront contents old new bytes = PutsFront contents old new (upgrade_bytes (upgraded bytes))
-
--- some prefix of what the output is to say
-abbrev pub PutsUpgradeText : {W : Type 0} → (W → Option (List ℕ)) → Tally W → Tally W → List ℕ → Type 0
-PutsUpgradeText contents old new bytes = PutsFront contents old new (upgrade_text (upgraded bytes))
-
--- ---- why there is no answer
-
--- a reader or a writer has failed
-abbrev pub IsUpgradeFault : Bool → Bool → Bool → RunFault → Type 0
-IsUpgradeFault cert_failed new_failed out_failed = ComesBy (record never {
-  device = (cert_failed ≡ true) ⊎ ((new_failed ≡ true) ⊎ (out_failed ≡ true));
-})
+-- the new certificate is written first, if there is one, and then it is reported; a certificate that is not read to its end breaks it off
+abbrev pub of_upgrade : Option (List ℕ) → Bool → PromiseOfFile
+of_upgrade cert failed = record {
+  after = λ new. record {
+    says = TellsUpgrade cert failed new;
+    stops = λ e text. ⊥;
+    begins = λ text. (status : ℕ) × TellsUpgrade cert failed new status text;
+    refuses = λ e. (new ≡ None) × (e ≡ run.Device) × (failed ≡ true);
+  };
+  breaks = λ text. OfKnown cert (λ bytes. upgraded bytes ≡ Some text);
+  other = failed ≡ true;
+}

@@ -2,6 +2,7 @@
 
 pub mod check;
 pub mod cut;
+mod drawing;
 pub mod extract;
 pub mod folder;
 pub mod forms;

@@ -1,6 +1,6 @@
 -- Counts of entries, one more at a time.
 use Rattle.std.proofs.Common.{◌≡◌, ◌≢◌, ℕ, zero, suc, ◌+◌, ◌-◌, ◌^◌, ◌%◌, ◌<◌, ◌≤◌, ◌==◌, min, Bool, true, false, cond, not, List, [], ◌∷◌, ◌++◌, length, length-append, append-nil, get_or, set, inl, inr, codes, Option, Some, None, ◌&&◌, refl, sym, ap, ◌∙◌, subst, arith}
-use Rattle.std.specs.Prelude.{filter}
+use Rattle.std.specs.Prelude.{filter, flat_map}
 use Rattle.std.specs.List.{list_any}
 use Rattle.std.specs.Fmt.{decimal}
 use Rattle.std.proofs.lemmas.Bool.{cases_Bool}
@@ -26,7 +26,7 @@ use Rattle.a429_view.specs.declared.survey.counts.Hits.{Hits}
 use Rattle.a429_view.specs.declared.survey.counts.LabelCount.{LabelCount}
 use Rattle.a429_view.specs.declared.survey.counts.BusCount.{BusCount}
 use Rattle.a429_view.specs.declared.survey.Survey.{Survey}
-use Rattle.a429_view.specs.Survey.{Numbered, numbered, kind_in, kind_of, on_bus, is_bus, place_of, label_in, with_label, with_even_parity, is_even, last_time, IsHits, IsLabelCount, IsBusCount, IsSurvey, AreTimes, no_hits, no_label, name, times_line, kind_line, label_line, label_lines}
+use Rattle.a429_view.specs.Survey.{Numbered, numbered, kind_in, kind_of, kinds, on_bus, is_bus, of_kind, place, place_of, label_in, with_label, with_even_parity, is_even, last_time, IsHits, IsLabelCount, IsBusCount, IsSurvey, AreTimes, no_hits, no_label, name, times_line, kind_line, label_line, label_lines, bus_lines, survey_text, times_text, kind_text, label_text, counted_kind, counted_label, counted_labels, count_lines, text_of}
 
 -- ---- one more element, filtered
 
@@ -176,17 +176,73 @@ survey_b c old new es e few on entries first later last same adds h = record {
 
 -- ---- the lines
 
-pub times_text : (s : Survey) (es : List Entry) → s.entries ≡ length es → 0 < s.entries → AreTimes s es → times_line es ≡ codes "from " ++ decimal s.first ++ codes " to " ++ decimal s.last ++ codes "\n"
-times_text s [] size some h = absurd (omega (arith, size, some))
-times_text s (e ∷ es) size some h = rw (h.0, h.1) refl
+pub times_text_some : (n first last : ℕ) → 0 < n → times_text n first last ≡ codes "from " ++ decimal first ++ codes " to " ++ decimal last ++ codes "\n"
+times_text_some zero first last some = absurd (omega (arith, some))
+times_text_some (suc n) first last some = refl
 
-pub kind_text : (b : Bus) (k : WordKind) (h : Hits) (xs : List Numbered) → 0 < h.count → IsHits h xs → kind_line b k xs ≡ bus_text b ++ codes " " ++ name k ++ codes " " ++ decimal h.count ++ codes " first " ++ decimal h.first ++ codes "\n"
-kind_text b k h [] some is = absurd (omega (arith, is, some))
-kind_text b k h (x ∷ xs) some is = rw (is.0, is.1) refl
+pub kind_text_some : (b : Bus) (k : WordKind) (n first : ℕ) → 0 < n → kind_text b k n first ≡ bus_text b ++ codes " " ++ name k ++ codes " " ++ decimal n ++ codes " first " ++ decimal first ++ codes "\n"
+kind_text_some b k zero first some = absurd (omega (arith, some))
+kind_text_some b k (suc n) first some = refl
 
-pub label_text : (b : Bus) (label : ℕ) (l : LabelCount) (xs : List Numbered) → 0 < l.count → IsLabelCount l xs → label_line b label xs ≡ bus_text b ++ codes " label " ++ octal_text label ++ codes " " ++ decimal l.count ++ codes " even " ++ decimal l.even ++ codes "\n"
-label_text b label l [] some is = let none : l.count ≡ 0 = is.0 in absurd (omega (arith, none, some))
-label_text b label l (x ∷ xs) some is = rw (is.0, is.1) refl
+pub label_text_some : (b : Bus) (label n even : ℕ) → 0 < n → label_text b label n even ≡ bus_text b ++ codes " label " ++ octal_text label ++ codes " " ++ decimal n ++ codes " even " ++ decimal even ++ codes "\n"
+label_text_some b label zero even some = absurd (omega (arith, some))
+label_text_some b label (suc n) even some = refl
+
+pub counted_none : (b : Bus) (counts : List LabelCount) → counted_labels b 0 counts ≡ []
+unfolding counted_labels
+counted_none b counts = refl
+
+pub counted_more : (b : Bus) (n : ℕ) (counts : List LabelCount) → counted_labels b (n + 1) counts ≡ counted_labels b n counts ++ counted_label b counts n
+unfolding counted_labels
+counted_more b n counts = let next : n + 1 ≡ suc n = omega arith in rw next refl
+
+-- ---- the lines of counts are those of the entries
+
+times_are : (s : Survey) (es : List Entry) → s.entries ≡ length es → AreTimes s es → times_text s.entries s.first s.last ≡ times_line es
+times_are s [] size h = rw size refl
+times_are s (e ∷ es) size h = rw (size, h.0, h.1) refl
+
+kind_is : (b : Bus) (k : WordKind) (h : Hits) (xs : List Numbered) → IsHits h xs → kind_text b k h.count h.first ≡ kind_line b k xs
+kind_is b k h [] is = rw is refl
+kind_is b k h (x ∷ xs) is = rw (is.0, is.1) refl
+
+label_is : (b : Bus) (label : ℕ) (l : LabelCount) (xs : List Numbered) → IsLabelCount l xs → label_text b label l.count l.even ≡ label_line b label xs
+label_is b label l [] is = rw is.0 refl
+label_is b label l (x ∷ xs) is = rw (is.0, is.1) refl
+
+place_below : (k : WordKind) → place k < 13
+place_below kind.Rts = omega arith
+place_below kind.Cts = omega arith
+place_below kind.Ack = omega arith
+place_below kind.Nak = omega arith
+place_below kind.Sot = omega arith
+place_below kind.Data = omega arith
+place_below kind.Eot = omega arith
+place_below kind.Other = omega arith
+place_below kind.NoForm = omega arith
+place_below kind.FreeParity = omega arith
+place_below kind.FreeLabel = omega arith
+place_below kind.FreeType = omega arith
+place_below kind.FreeCode = omega arith
+
+kinds_are : (c : Codes) (b : Bus) (count : BusCount) (xs : List Numbered) → IsBusCount c count xs → (ks : List WordKind) → flat_map (counted_kind b count.kinds) ks ≡ flat_map (λ k. kind_line b k (of_kind c k xs)) ks
+kinds_are c b count xs is [] = refl
+kinds_are c b count xs is (k ∷ ks) = let here = kind_is b k (get_or count.kinds (place k) no_hits) (of_kind c k xs) (is.kinds (place k) (place_below k)) in rw (here, kinds_are c b count xs is ks) refl
+
+labels_are : (c : Codes) (b : Bus) (count : BusCount) (xs : List Numbered) → IsBusCount c count xs → (n : ℕ) → n ≤ 256 → counted_labels b n count.labels ≡ label_lines b n xs
+unfolding counted_labels label_lines
+labels_are c b count xs is zero few = refl
+labels_are c b count xs is (suc n) few =
+    let here = label_is b n (get_or count.labels n no_label) (with_label n xs) (is.labels n (omega (arith, few))) in
+    let before = labels_are c b count xs is n (omega (arith, few)) in
+    rw (here, before) refl
+
+bus_is : (c : Codes) (b : Bus) (count : BusCount) (xs : List Numbered) → IsBusCount c count xs → count_lines b count ≡ bus_lines c b xs
+bus_is c b count xs is = rw (is.entries, kinds_are c b count xs is kinds, labels_are c b count xs is 256 (omega arith)) refl
+
+-- the text of a survey is that of the entries that have its counts
+pub text_is : (c : Codes) (s : Survey) (es : List Entry) → IsSurvey c s es → text_of s ≡ survey_text c es
+text_is c s es is = rw (times_are s es is.entries is.times, bus_is c bus.A s.a (on_bus bus.A (numbered 0 es)) is.a, bus_is c bus.B s.b (on_bus bus.B (numbered 0 es)) is.b, is.entries) refl
 
 -- a word whose parity is not odd
 abbrev pub is_of_parity : WordKind → Bool
@@ -221,14 +277,6 @@ even_by_kind c x k is = ap is_of_parity is ∙ parity_of_kind c x.entry.bus x.en
 pub no_reason : (o : Option Freedom) → (o ≢ None → ⊥) → o ≡ None
 no_reason None h = refl
 no_reason (Some why) h = absurd (h (λ e. absurd (cc e)))
-
-pub label_lines_none : (b : Bus) (xs : List Numbered) → label_lines b 0 xs ≡ []
-unfolding label_lines
-label_lines_none b xs = refl
-
-pub label_lines_more : (b : Bus) (n : ℕ) (xs : List Numbered) → label_lines b (n + 1) xs ≡ label_lines b n xs ++ label_line b n (with_label n xs)
-unfolding label_lines
-label_lines_more b n xs = let next : n + 1 ≡ suc n = omega arith in rw next refl
 
 -- an element that is there does not depend on what is read where there is none
 pub read_of : {X : Type 0} (xs : List X) (i : ℕ) (d e : X) → i < length xs → get_or xs i d ≡ get_or xs i e

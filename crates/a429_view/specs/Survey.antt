@@ -197,3 +197,40 @@ pub record IsSurvey (c : Codes) (s : Survey) (es : List Entry) : Type 0 where
   pub times : AreTimes s es
   pub a : IsBusCount c s.a (on_bus bus.A (numbered 0 es))
   pub b : IsBusCount c s.b (on_bus bus.B (numbered 0 es))
+
+-- ---- the lines of counts
+
+-- the line of a kind that occurs so often, first in the entry with this number
+abbrev pub kind_text : Bus → WordKind → ℕ → ℕ → List ℕ
+kind_text b k zero first = []
+kind_text b k (suc n) first = bus_text b ++ codes " " ++ name k ++ codes " " ++ decimal (suc n) ++ codes " first " ++ decimal first ++ codes "\n"
+
+-- the line of a label that occurs so often, so often with even parity
+abbrev pub label_text : Bus → ℕ → ℕ → ℕ → List ℕ
+label_text b label zero even = []
+label_text b label (suc n) even = bus_text b ++ codes " label " ++ octal_text label ++ codes " " ++ decimal (suc n) ++ codes " even " ++ decimal even ++ codes "\n"
+
+-- that of a kind, and of a label, by the counts of a bus
+abbrev pub counted_kind : Bus → List Hits → WordKind → List ℕ
+counted_kind b hits k = let h = get_or hits (place k) no_hits in kind_text b k h.count h.first
+
+abbrev pub counted_label : Bus → List LabelCount → ℕ → List ℕ
+counted_label b counts label = let l = get_or counts label no_label in label_text b label l.count l.even
+
+-- the lines of the labels below n, rising
+unfoldable pub counted_labels : Bus → ℕ → List LabelCount → List ℕ
+counted_labels b zero counts = []
+counted_labels b (suc n) counts = counted_labels b n counts ++ counted_label b counts n
+
+-- the lines of a bus
+abbrev pub count_lines : Bus → BusCount → List ℕ
+count_lines b c = entries_line b c.entries ++ flat_map (counted_kind b c.kinds) kinds ++ counted_labels b 256 c.labels
+
+-- from when to when, where there are so many entries
+abbrev pub times_text : ℕ → ℕ → ℕ → List ℕ
+times_text zero first last = []
+times_text (suc n) first last = codes "from " ++ decimal first ++ codes " to " ++ decimal last ++ codes "\n"
+
+-- all lines of a survey
+abbrev pub text_of : Survey → List ℕ
+text_of s = codes "entries " ++ decimal s.entries ++ codes "\n" ++ times_text s.entries s.first s.last ++ count_lines bus.A s.a ++ count_lines bus.B s.b

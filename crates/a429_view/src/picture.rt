@@ -1,9 +1,8 @@
 //! The text of a picture: SVG, with the source at the left and the sink at the right.
 
-ghost use Rattle.std.specs.Prelude.{◌≡◌, ◌↔◌, ◌≤◌, ◌+◌, ◌*◌, ◌++◌, [], codes, length, true, IsErr};
+ghost use Rattle.std.specs.Prelude.{◌≡◌, ◌≤◌, ◌+◌, ◌*◌, ◌++◌, codes, length};
 ghost use Rattle.std.specs.Fmt.{decimal};
-ghost use Rattle.a429_word.specs.Tally.{has_failed};
-ghost use Rattle.a429_word.specs.Sheet.{Says, Writes};
+ghost use Rattle.a429_word.specs.Sheet.{Says};
 ghost use Rattle.a429_view.specs.Picture.{stamp_text, arrow_text, crosses_text, word_text, seen_text, unseen_text, load_text, mark_text, row_text, rows_text, style_text, frame_text, names_text, size_text, head_text, svg_text};
 
 use crate::forms::{put_named, put_what};
@@ -11,29 +10,11 @@ use crate::mark::{Mark, Recorded};
 use a429_cert::Act;
 use a429_link::UnitNumber;
 use a429_profile::Profile;
-use a429_word::{Bus, Device, Page, Sheet, Tally};
+use a429_word::{Bus, Sheet};
 use std::io::Write;
 
-/// Writes the picture of these rows as SVG. `page` is its buffer, and is empty; at most 2,000 rows. After `Device` a prefix
-/// of it has been written.
-pub fn put_picture<W: Write>(
-    page: Page,
-    out: &mut Tally<W>,
-    profile: &Profile,
-    rows: &[Mark],
-) -> Result<(), Device>
-    requires empty { page ≡ [] }
-    requires few { length rows.now ≤ 2000 }
-    ensures written { Writes W.contents out.old out.new (svg_text profile.now.codes rows.now) }
-    ensures device { IsErr result ↔ (has_failed out.new ≡ true) }
-{
-    let mut page = page;
-    let mut sheet = Sheet::new(out, &mut page);
-    put_svg(&mut sheet, profile, rows);
-    sheet.finish()
-}
-
-fn put_svg<W: Write>(sheet: &mut Sheet<'_, W>, profile: &Profile, rows: &[Mark])
+/// Puts the picture of these rows as SVG; at most 2,000 rows.
+pub fn put_picture<W: Write>(sheet: &mut Sheet<'_, W>, profile: &Profile, rows: &[Mark])
     requires { length rows.now ≤ 2000 }
     ensures { Says W.contents sheet.old sheet.new (svg_text profile.now.codes rows.now) }
 {

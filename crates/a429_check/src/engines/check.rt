@@ -2,19 +2,22 @@
 //! which does the same, tests whether words contradict each other, and, where `check` has a doubt, searches for a run and then
 //! compares attempts to send one unit.
 
-ghost use Rattle.std.specs.Prelude.{◌≡◌, ◌≢◌, ◌↔◌, [], true, false, Ok, IsErr, IfOk, IfErr, OnOk};
+ghost use Rattle.std.specs.Prelude.{◌≡◌, ◌↔◌, [], true, false, Ok, IsErr, IfOk, IfErr, OnOk, OnErr};
 ghost use Rattle.std.specs.Fmt.{decimal};
-ghost use Rattle.a429_word.specs.Tally.{has_failed, unread, Puts};
+ghost use Rattle.a429_word.specs.Tally.{has_failed, unread};
 ghost use Rattle.a429_word.specs.Sheet.{Says, Writes};
 ghost use Rattle.a429_cert.specs.Explained.{items_of};
 ghost use Rattle.a429_check.specs.declared.engines.rule.Rule.TheVariants as rules;
-ghost use Rattle.a429_check.specs.Output.{output, UsedWork};
+ghost use Rattle.a429_check.specs.Ends.{EndsWithFile, HasGained, heard, unheard_causes};
+ghost use Rattle.a429_check.specs.Fault.{ComesBy};
+ghost use Rattle.a429_check.specs.Output.{output};
 ghost use Rattle.a429_check.specs.Recording.{IsReadFault};
-ghost use Rattle.a429_check.specs.Check.{reason_text, doubt_text, verdict_text, certificate_text, verdict_status, EitherFailed, IsCheckFault, IsVerdictBy, IsVerdictOn, IsVerdictUnder, IsWritingFault, LeavesVerdict, ReportsVerdict};
+ghost use Rattle.a429_check.specs.Check.{reason_text, doubt_text, verdict_text, verdict_status, certificate_of, of_check, of_verdicts, IsVerdictBy, IsVerdictOn, IsVerdictUnder, LeavesCertificate};
 
 use crate::engines::profile::profile_of;
 use crate::engines::recording::entries_of;
 use crate::engines::rule::Rule;
+use crate::engines::text::{Text, write_at_once};
 use crate::engines::verdict::put_explained;
 use crate::fault::RunFault;
 use a429_cert::OutOfMemory;
@@ -36,12 +39,7 @@ pub fn run_check<R: Read, C: Write, W: Write>(
     cert: &mut Tally<C>,
     out: &mut Tally<W>,
 ) -> Result<u8, RunFault>
-    ensures verdict { IfOk result (ReportsVerdict (output C.contents cert.old cert.new) (output W.contents out.old out.new)
-        (IsVerdictOn rules.Check profile.now (unread R.remaining rec.old))) }
-    ensures device { IfOk result (UsedWork (has_failed rec.new) (has_failed cert.new) (has_failed out.new)) }
-    ensures err { IfErr result (IsCheckFault profile.now (unread R.remaining rec.old) (has_failed rec.new) (EitherFailed (has_failed cert.new) (has_failed out.new))) }
-    ensures cut { IfErr result (LeavesVerdict (output C.contents cert.old cert.new) (output W.contents out.old out.new)
-        (has_failed rec.new ≡ true) (IsVerdictOn rules.Check profile.now (unread R.remaining rec.old))) }
+    ensures { EndsWithFile (output C.contents cert.old cert.new) (output W.contents out.old out.new) (of_check rules.Check profile.now (heard R.remaining rec.old rec.new)) result }
 {
     run_by_rule(alloc, profile, rec, cert, out, Rule::Check)
 }
@@ -57,12 +55,7 @@ pub fn run_decide<R: Read, C: Write, W: Write>(
     cert: &mut Tally<C>,
     out: &mut Tally<W>,
 ) -> Result<u8, RunFault>
-    ensures verdict { IfOk result (ReportsVerdict (output C.contents cert.old cert.new) (output W.contents out.old out.new)
-        (IsVerdictOn rules.Decide profile.now (unread R.remaining rec.old))) }
-    ensures device { IfOk result (UsedWork (has_failed rec.new) (has_failed cert.new) (has_failed out.new)) }
-    ensures err { IfErr result (IsCheckFault profile.now (unread R.remaining rec.old) (has_failed rec.new) (EitherFailed (has_failed cert.new) (has_failed out.new))) }
-    ensures cut { IfErr result (LeavesVerdict (output C.contents cert.old cert.new) (output W.contents out.old out.new)
-        (has_failed rec.new ≡ true) (IsVerdictOn rules.Decide profile.now (unread R.remaining rec.old))) }
+    ensures { EndsWithFile (output C.contents cert.old cert.new) (output W.contents out.old out.new) (of_check rules.Decide profile.now (heard R.remaining rec.old rec.new)) result }
 {
     run_by_rule(alloc, profile, rec, cert, out, Rule::Decide)
 }
@@ -76,17 +69,10 @@ pub fn run_by_rule<R: Read, C: Write, W: Write>(
     out: &mut Tally<W>,
     rule: Rule,
 ) -> Result<u8, RunFault>
-    ensures verdict { IfOk result (ReportsVerdict (output C.contents cert.old cert.new) (output W.contents out.old out.new)
-        (IsVerdictOn rule profile.now (unread R.remaining rec.old))) }
-    ensures device { IfOk result (UsedWork (has_failed rec.new) (has_failed cert.new) (has_failed out.new)) }
-    ensures err { IfErr result (IsCheckFault profile.now (unread R.remaining rec.old) (has_failed rec.new) (EitherFailed (has_failed cert.new) (has_failed out.new))) }
-    ensures cut { IfErr result (LeavesVerdict (output C.contents cert.old cert.new) (output W.contents out.old out.new)
-        (has_failed rec.new ≡ true) (IsVerdictOn rule profile.now (unread R.remaining rec.old))) }
+    ensures { EndsWithFile (output C.contents cert.old cert.new) (output W.contents out.old out.new) (of_check rule profile.now (heard R.remaining rec.old rec.new)) result }
 {
     let verdict = verdict_on(alloc, profile, rec, rule)?;
-    let status = write_found(alloc, cert, out, &verdict);
-    drop(verdict);
-    status
+    write_found(alloc, cert, out, verdict)
 }
 
 // Writes the certificate of a verdict and then the verdict, and answers its status.
@@ -94,33 +80,13 @@ fn write_found<C: Write, W: Write>(
     alloc: Global,
     cert: &mut Tally<C>,
     out: &mut Tally<W>,
-    verdict: &Verdict,
+    verdict: Verdict,
 ) -> Result<u8, RunFault>
-    ensures verdict { IfOk result (ReportsVerdict (output C.contents cert.old cert.new) (output W.contents out.old out.new) (λ v. v ≡ verdict.now)) }
-    ensures device { IfOk result (UsedWork false (has_failed cert.new) (has_failed out.new)) }
-    ensures err { IfErr result (IsWritingFault (EitherFailed (has_failed cert.new) (has_failed out.new))) }
-    ensures cut { IfErr result (LeavesVerdict (output C.contents cert.old cert.new) (output W.contents out.old out.new) ⊥ (λ v. v ≡ verdict.now)) }
+    ensures { EndsWithFile (output C.contents cert.old cert.new) (output W.contents out.old out.new) (of_verdicts (λ v. v ≡ verdict) (λ e. e ≡ RunFault.Memory)) result }
 {
     let page = Page::new(alloc)?;
-    write_both(page, cert, out, verdict)
-}
-
-// Writes the certificate of a verdict, by an empty page, and then the verdict, and answers its status.
-fn write_both<C: Write, W: Write>(
-    page: Page,
-    cert: &mut Tally<C>,
-    out: &mut Tally<W>,
-    verdict: &Verdict,
-) -> Result<u8, RunFault>
-    requires { page ≡ [] }
-    ensures verdict { IfOk result (ReportsVerdict (output C.contents cert.old cert.new) (output W.contents out.old out.new) (λ v. v ≡ verdict.now)) }
-    ensures device { IfOk result (UsedWork false (has_failed cert.new) (has_failed out.new)) }
-    ensures err { IfErr result (λ e. (e ≡ RunFault.Device) × EitherFailed (has_failed cert.new) (has_failed out.new)) }
-    ensures cut { IfErr result (LeavesVerdict (output C.contents cert.old cert.new) (output W.contents out.old out.new) ⊥ (λ v. v ≡ verdict.now)) }
-{
-    write_certificate(page, cert, verdict)?;
-    write_verdict(out, verdict)?;
-    Ok(status_of(verdict))
+    write_certificate(page, cert, &verdict)?;
+    write_at_once(Ok(verdict), out)
 }
 
 // The verdict on a recording, by this rule.
@@ -132,7 +98,7 @@ fn verdict_on<R: Read>(
 ) -> Result<Verdict, RunFault>
     ensures verdict { IfOk result (IsVerdictOn rule profile.now (unread R.remaining rec.old)) }
     ensures device { OnOk result (has_failed rec.new ≡ false) }
-    ensures err { IfErr result (IsCheckFault profile.now (unread R.remaining rec.old) (has_failed rec.new) ⊥) }
+    ensures err { IfErr result (ComesBy (unheard_causes profile.now (heard R.remaining rec.old rec.new))) }
 {
     let profile = profile_of(alloc, profile)?;
     let verdict = verdict_under(alloc, &profile, rec, rule);
@@ -181,16 +147,6 @@ fn verdict_by(
     }
 }
 
-fn status_of(verdict: &Verdict) -> u8
-    ensures { result ≡ verdict_status verdict.now }
-{
-    match verdict {
-        Verdict::Explained { .. } => 0,
-        Verdict::Impossible { .. } => 1,
-        Verdict::Unexplained { .. } => 2,
-    }
-}
-
 // Writes the certificate of a verdict, where there is one, by an empty page.
 fn write_certificate<W: Write>(
     page: Page,
@@ -198,11 +154,8 @@ fn write_certificate<W: Write>(
     verdict: &Verdict,
 ) -> Result<(), Device>
     requires { page ≡ [] }
-    ensures written { Writes W.contents out.old out.new (certificate_text verdict.now) }
-    ensures none { verdict_status verdict.now ≢ 0 → out.new ≡ out.old }
-    ensures explained { verdict_status verdict.now ≡ 0 → (IsErr result ↔ (has_failed out.new ≡ true)) }
-    ensures device { IsErr result → has_failed out.new ≡ true }
-    ensures whole { OnOk result (Puts W.contents out.old out.new (certificate_text verdict.now)) }
+    ensures ok { OnOk result (HasGained (output W.contents out.old out.new) (certificate_of verdict.now)) }
+    ensures err { OnErr result (LeavesCertificate (output W.contents out.old out.new) verdict.now) }
 {
     match verdict {
         Verdict::Explained { certificate, .. } => write_text(page, out, certificate),
@@ -226,15 +179,28 @@ fn write_text<W: Write>(
     sheet.finish()
 }
 
-// Writes the text of a verdict.
-fn write_verdict<W: Write>(out: &mut Tally<W>, verdict: &Verdict) -> Result<(), Device>
-    ensures written { Writes W.contents out.old out.new (verdict_text verdict.now) }
-    ensures device { IsErr result ↔ (has_failed out.new ≡ true) }
+impl Text for Verdict {
+    ghost use Rattle.std.specs.Prelude.{◌≡◌};
+    ghost use Rattle.a429_check.specs.Check.{verdict_status, verdict_text};
+
+    ghost says = { λ v status text. (status ≡ verdict_status v) × (text ≡ verdict_text v) };
+
+    ghost begins = { λ v text. text ≡ verdict_text v };
+
+    fn put<W: Write>(&self, sheet: &mut Sheet<'_, W>) -> u8 {
+        put_verdict(sheet, self);
+        status_of(self)
+    }
+}
+
+fn status_of(verdict: &Verdict) -> u8
+    ensures { result ≡ verdict_status verdict.now }
 {
-    let mut page = Page::without_room();
-    let mut sheet = Sheet::new(out, &mut page);
-    put_verdict(&mut sheet, verdict);
-    sheet.finish()
+    match verdict {
+        Verdict::Explained { .. } => 0,
+        Verdict::Impossible { .. } => 1,
+        Verdict::Unexplained { .. } => 2,
+    }
 }
 
 fn put_verdict<W: Write>(sheet: &mut Sheet<'_, W>, verdict: &Verdict)

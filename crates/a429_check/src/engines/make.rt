@@ -1,14 +1,14 @@
 //! `a429 make PROFILE FILE..`: the recording of a transfer of files without loss.
 
-ghost use Rattle.std.specs.Prelude.{◌≡◌, ◌≢◌, ◌⊎◌, ◌+◌, ◌*◌, ◌/◌, ℕ, List, map, flat_map, true, false, None, Some, IfOk, IfErr, OnOk, OnErr, ◌≤◌, length};
+ghost use Rattle.std.specs.Prelude.{◌≡◌, ◌≢◌, ◌+◌, ◌*◌, ◌/◌, ℕ, List, map, flat_map, None, Some, IfOk, IfErr, OnOk, ◌≤◌, length};
 ghost use Rattle.a429_word.specs.Sheet.{Says};
-ghost use Rattle.a429_word.specs.Tally.{Puts, PutsFront, has_failed};
 ghost use Rattle.a429_profile.specs.Profile.{Contents};
 ghost use Rattle.a429_link.specs.Clean.{cut_fault, first_refused};
 ghost use Rattle.a429_record.specs.Recording.{most_entries};
 ghost use Rattle.a429_record.specs.Writing.{line_text};
-ghost use Rattle.a429_check.specs.Output.{PutsText, PutsPrefixOf, SaysPrefix};
-ghost use Rattle.a429_check.specs.Make.{timed, words_made, recording_made, MakesWords, MakesRecording, IsMakeFault, IsFilesFault, IsPutFault};
+ghost use Rattle.a429_check.specs.Ends.{Ends};
+ghost use Rattle.a429_check.specs.Output.{output, SaysSome};
+ghost use Rattle.a429_check.specs.Make.{of_make, of_recording, timed, words_made, recording_made, AnswersRecording, MakesWords, IsFilesFault};
 
 use crate::engines::profile::profile_of;
 use crate::fault::RunFault;
@@ -36,17 +36,11 @@ pub fn run_make<W: Write>(
     files: &[Vec<u8>],
     out: &mut Tally<W>,
 ) -> Result<u8, RunFault>
-    ensures ok { IfOk result (λ status. status ≡ 0) }
-    ensures written { OnOk result (PutsText W.contents out.old out.new (MakesRecording profile.now (map (λ f. f.items) files.now))) }
-    ensures err { IfErr result (IsMakeFault profile.now (map (λ f. f.items) files.now) (has_failed out.new)) }
-    ensures device { OnOk result (has_failed out.new ≡ false) }
-    ensures silent { IfErr result (λ e. e ≢ RunFault.Device → e ≢ RunFault.Memory → out.new ≡ out.old) }
-    ensures prefix { OnErr result ((out.new ≡ out.old) ⊎ PutsPrefixOf W.contents out.old out.new (MakesRecording profile.now (map (λ f. f.items) files.now))) }
+    ensures { Ends (output W.contents out.old out.new) (of_make profile.now (map (λ f. f.items) files.now)) result }
 {
     let profile = profile_of(alloc, profile)?;
     check_files(files)?;
-    put_recording(alloc, &profile, files, out)?;
-    Ok(0)
+    put_recording(alloc, &profile, files, out)
 }
 
 // Whether a recording can be made of files: none is refused, and it has room for all their words.
@@ -100,19 +94,16 @@ fn put_recording<W: Write>(
     profile: &Profile,
     files: &[Vec<u8>],
     out: &mut Tally<W>,
-) -> Result<(), RunFault>
+) -> Result<u8, RunFault>
     requires cut { first_refused 255 0 (map (λ f. f.items) files.now) ≡ None }
     requires most { length (words_made profile.now (map (λ f. f.items) files.now)) ≤ most_entries }
-    ensures ok { OnOk result (Puts W.contents out.old out.new (recording_made profile.now (map (λ f. f.items) files.now))) }
-    ensures prefix { PutsFront W.contents out.old out.new (recording_made profile.now (map (λ f. f.items) files.now)) }
-    ensures err { IfErr result (IsPutFault (has_failed out.new)) }
-    ensures device { OnOk result (has_failed out.new ≡ false) }
+    ensures { Ends (output W.contents out.old out.new) (of_recording (recording_made profile.now (map (λ f. f.items) files.now))) result }
 {
     let mut page = Page::new(alloc)?;
     let mut sheet = Sheet::new(out, &mut page);
-    let made = put_files(alloc, profile, files, &mut sheet);
+    let status = put_files(alloc, profile, files, &mut sheet);
     sheet.finish()?;
-    made
+    status
 }
 
 // The header, and the lines of all files.
@@ -121,12 +112,10 @@ fn put_files<W: Write>(
     profile: &Profile,
     files: &[Vec<u8>],
     sheet: &mut Sheet<'_, W>,
-) -> Result<(), RunFault>
+) -> Result<u8, RunFault>
     requires cut { first_refused 255 0 (map (λ f. f.items) files.now) ≡ None }
     requires most { length (words_made profile.now (map (λ f. f.items) files.now)) ≤ most_entries }
-    ensures ok { OnOk result (Says W.contents sheet.old sheet.new (recording_made profile.now (map (λ f. f.items) files.now))) }
-    ensures prefix { OnErr result (SaysPrefix W.contents sheet.old sheet.new (recording_made profile.now (map (λ f. f.items) files.now))) }
-    ensures err { IfErr result (λ e. e ≡ RunFault.Memory) }
+    ensures { SaysSome W.contents sheet.old sheet.new (AnswersRecording (recording_made profile.now (map (λ f. f.items) files.now)) result) }
 {
     // (for the proof: the profile is sound)
     let _codes = profile.codes();
@@ -135,7 +124,7 @@ fn put_files<W: Write>(
     let mut count = 0;
     for file in files {
         if sheet.failed() {
-            return Ok(());
+            return Ok(0);
         }
         let words = match clean_run(alloc, profile, number, MAX_WORDS, from_ref(file)) {
             Ok(words) => words,
@@ -146,7 +135,7 @@ fn put_files<W: Write>(
         count += words.len();
         number = number.wrapping_add(1);
     }
-    Ok(())
+    Ok(0)
 }
 
 // The lines of words, a thousandth of a second apart, the first word at so many of these.

@@ -1,18 +1,22 @@
 //! `a429 picture PROFILE REC CERT FROM TO`: the messages of a span of a transfer, as a picture.
 
-ghost use Rattle.std.specs.Prelude.{◌≡◌, false, IfOk, IfErr, OnOk};
+ghost use Rattle.std.specs.Prelude.{◌≡◌, ◌<◌, ◌≤◌, true, false, IfOk, IfErr, IsOkAnd, OnOk};
+ghost use Rattle.std.specs.Result.{ForOk};
+ghost use Rattle.a429_view.specs.Sketch.{most_steps};
 ghost use Rattle.a429_word.specs.Tally.{has_failed};
-ghost use Rattle.a429_check.specs.Output.{output, IsCutShort, PutsText};
-ghost use Rattle.a429_check.specs.Verdict.{input, AllWork, AnyFailed, HasFailed};
-ghost use Rattle.a429_check.specs.Picture.{IsPicture, IsPictureFault, IsPictureFaultOf, IsPictureOf, IsSketchFault, IsSketched, IsSomePicture, IsSomePictureOf};
+ghost use Rattle.a429_check.specs.Ends.{Ends};
+ghost use Rattle.a429_check.specs.Output.{output};
+ghost use Rattle.a429_check.specs.Verdict.{input, status_of_answer, AllWork, HasFailed};
+ghost use Rattle.a429_check.specs.Picture.{drawing_text, of_picture, IsPicture, IsPictureFault};
 
-use crate::engines::verdict::{Judged, judge, write_answer};
+use crate::engines::drawing::Drawing;
+use crate::engines::text::write;
+use crate::engines::verdict::{Judged, judge};
 use crate::fault::RunFault;
 use a429_cert::NoShelf;
-use a429_profile::Profile;
 use a429_record::EntryReader;
-use a429_view::{Sketch, Span, put_picture};
-use a429_word::{Page, Tally};
+use a429_view::{Sketch, Span};
+use a429_word::Tally;
 use std::alloc::Global;
 use std::io::{Read, Write};
 
@@ -29,58 +33,41 @@ pub fn run_picture<R: Read, C: Read, W: Write>(
     span: Span,
     out: &mut Tally<W>,
 ) -> Result<u8, RunFault>
-    ensures answer { IfOk result (λ status. PutsText W.contents out.old out.new
-        (IsPicture (input profile.now C.remaining cert.old rec.old) span status)) }
-    ensures device { OnOk result (AllWork rec.new.failed (has_failed cert.new) false (has_failed out.new)) }
+    ensures { Ends (output W.contents out.old out.new) (of_picture (input profile.now C.remaining cert.old rec.old) span
+        (HasFailed rec.new.failed (has_failed cert.new) false)) result }
+{
+    write(alloc, drawing_of(alloc, profile, rec, cert, span), out)
+}
+
+fn drawing_of<R: Read, C: Read>(
+    alloc: Global,
+    profile: &[u8],
+    rec: &mut EntryReader<R>,
+    cert: &mut Tally<C>,
+    span: Span,
+) -> Result<Drawing, RunFault>
+    ensures ok { IfOk result (λ d. IsPicture (input profile.now C.remaining cert.old rec.old) span
+        (status_of_answer d.judged.answer) (drawing_text d.judged.profile.codes d.sketch d.judged.answer)) }
+    ensures works { OnOk result (AllWork rec.new.failed (has_failed cert.new) false false) }
     ensures err { IfErr result (IsPictureFault (input profile.now C.remaining cert.old rec.old) span
-        (AnyFailed rec.new.failed (has_failed cert.new) false (has_failed out.new))) }
-    ensures cut { IfErr result (IsCutShort (output W.contents out.old out.new) (HasFailed rec.new.failed (has_failed cert.new) false)
-        (IsSomePicture (input profile.now C.remaining cert.old rec.old) span)) }
+        (HasFailed rec.new.failed (has_failed cert.new) false)) }
 {
     let mut sketch = Sketch::new(alloc, span);
     let judged = judge(alloc, profile, rec, cert, &mut NoShelf, &mut sketch)?;
-    let status = write_judged(alloc, out, &judged, &sketch);
-    drop(judged);
-    status
-}
-
-// Writes what was sketched of a certificate that is accepted, or the no of one that is refused, and answers the status.
-fn write_judged<W: Write>(
-    alloc: Global,
-    out: &mut Tally<W>,
-    judged: &Judged,
-    sketch: &Sketch,
-) -> Result<u8, RunFault>
-    ensures answer { IfOk result (λ status. PutsText W.contents out.old out.new (IsPictureOf judged.now sketch.now status)) }
-    ensures works { OnOk result (has_failed out.new ≡ false) }
-    ensures err { IfErr result (IsPictureFaultOf judged.now sketch.now (has_failed out.new)) }
-    ensures cut { IfErr result (IsCutShort (output W.contents out.old out.new) ⊥ (IsSomePictureOf judged.now sketch.now)) }
-{
-    match &judged.answer {
-        Ok(_) => {
-            write_sketch(alloc, out, &judged.profile, sketch)?;
-            Ok(0)
-        }
-        Err(_) => Ok(write_answer(out, &judged.answer)?),
-    }
-}
-
-// Writes what was sketched, where it is not too much.
-fn write_sketch<W: Write>(
-    alloc: Global,
-    out: &mut Tally<W>,
-    profile: &Profile,
-    sketch: &Sketch,
-) -> Result<(), RunFault>
-    ensures written { OnOk result (PutsText W.contents out.old out.new (IsSketched profile.now.codes sketch.now)) }
-    ensures works { OnOk result (has_failed out.new ≡ false) }
-    ensures err { IfErr result (IsSketchFault sketch.now.steps (has_failed out.new)) }
-    ensures cut { IfErr result (IsCutShort (output W.contents out.old out.new) ⊥ (IsSketched profile.now.codes sketch.now)) }
-{
-    if sketch.is_too_long() {
+    if is_too_long(&judged, &sketch) {
+        drop(judged);
         return Err(RunFault::TooLong);
     }
-    let page = Page::new(alloc)?;
-    put_picture(page, out, profile, sketch.rows())?;
-    Ok(())
+    Ok(Drawing { judged, sketch })
+}
+
+// Whether more steps were sketched of a certificate that is accepted than a picture shows.
+fn is_too_long(judged: &Judged, sketch: &Sketch) -> bool
+    ensures yes { result ≡ true → IsOkAnd judged.now.answer (λ _. most_steps < sketch.now.steps) }
+    ensures no { result ≡ false → ForOk judged.now.answer (λ _. sketch.now.steps ≤ most_steps) }
+{
+    match &judged.answer {
+        Ok(_) => sketch.is_too_long(),
+        Err(_) => false,
+    }
 }

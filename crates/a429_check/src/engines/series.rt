@@ -1,25 +1,27 @@
 //! `a429 series PROFILE DIR`: whether the certificates of a recording's parts explain all of it.
 
-ghost use Rattle.std.specs.Prelude.{◌≡◌, ◌≢◌, ◌↔◌, ◌⊎◌, ◌<◌, ◌++◌, codes, length, true, false, Ok, Err, IsErr, IsErrOf, IfOk, IfErr, IfSome, OnOk};
+ghost use Rattle.std.specs.Prelude.{◌≡◌, ◌++◌, codes, true, false, Ok, IsErrOf, IfOk, IfErr, IfSome, OnOk};
 ghost use Rattle.std.specs.Fmt.{decimal};
-ghost use Rattle.a429_word.specs.Tally.{has_failed, unread};
-ghost use Rattle.a429_word.specs.Sheet.{Says, Writes};
+ghost use Rattle.a429_word.specs.Tally.{unread};
+ghost use Rattle.a429_word.specs.Sheet.{Says};
 ghost use Rattle.a429_profile.specs.Profile.{IsProfile};
 ghost use Rattle.a429_record.specs.declared.fault.ReadFault.TheVariants as read;
 ghost use Rattle.a429_cert.specs.Series.{IsPartFault, Joins, RefusesPart};
 ghost use Rattle.a429_cert.specs.declared.fault.CertFault.{CertFault};
-ghost use Rattle.a429_check.specs.Output.{output, IsCutShort, PutsText};
+ghost use Rattle.a429_check.specs.Ends.{Ends};
+ghost use Rattle.a429_check.specs.Output.{output};
 ghost use Rattle.a429_check.specs.Verdict.{fault_text, of_stream};
-ghost use Rattle.a429_check.specs.Series.{part_text, series_input, status_of_series, text_of_series, AnswersSeries, FailsIn, IsListFault, IsPartsAnswer, IsPartsFault, IsRefusal, IsSeriesAnswer, IsSeriesFault, IsSeriesVerdict, IsSomeSeriesVerdict, IsStopOf};
+ghost use Rattle.a429_check.specs.Series.{of_series, part_text, series_input, status_of_series, text_of_series, AnswersSeries, IsListFault, IsPartsAnswer, IsPartsFault, IsRefusal, IsSeriesAnswer, IsSeriesFault, IsStopOf};
 
 use crate::engines::part_list::read_parts;
 use crate::engines::part_source::{OpenPart, PartSource};
 use crate::engines::profile::profile_of;
+use crate::engines::text::{Text, write_at_once};
 use crate::engines::verdict::{of_certificate, put_fault, put_yes};
 use crate::fault::RunFault;
 use a429_cert::{CertFault, OutOfMemory, Series, StreamFault};
 use a429_profile::Profile;
-use a429_word::{Device, Failing, Page, Sheet, Tally, Trouble};
+use a429_word::{Failing, Sheet, Tally, Trouble};
 use std::alloc::Global;
 use std::io::{Read, Write};
 
@@ -47,16 +49,9 @@ pub fn run_series<R: Read + Drop, C: Read + Drop, P: PartSource<R, C>, W: Write>
     parts: &mut P,
     out: &mut Tally<W>,
 ) -> Result<u8, RunFault>
-    ensures verdict { IfOk result (λ status. PutsText W.contents out.old out.new
-        (IsSeriesVerdict (series_input profile.now list.now (P.part parts.old)) status)) }
-    ensures works { OnOk result ((P.failed parts.old ≡ false → P.failed parts.new ≡ false) × (has_failed out.new ≡ false)) }
-    ensures err { IfErr result (IsSeriesFault (series_input profile.now list.now (P.part parts.old))
-        ((P.failed parts.new ≡ true) ⊎ (has_failed out.new ≡ true))) }
-    ensures cut { IfErr result (IsCutShort (output W.contents out.old out.new) (FailsIn (P.failed parts.old) (P.failed parts.new))
-        (IsSomeSeriesVerdict (series_input profile.now list.now (P.part parts.old)))) }
+    ensures { Ends (output W.contents out.old out.new) (of_series (series_input profile.now list.now (P.part parts.old)) (P.failed parts.old) (P.failed parts.new)) result }
 {
-    let answer = judge_series(alloc, profile, list, parts)?;
-    Ok(write_series(out, &answer)?)
+    write_at_once(judge_series(alloc, profile, list, parts), out)
 }
 
 // Judges the parts, under the profile whose text the bytes are.
@@ -189,17 +184,18 @@ fn refused(place: u64, fault: StreamFault) -> Result<SeriesAnswer, RunFault>
     }
 }
 
-// Writes the verdict on the parts, and answers its status.
-fn write_series<W: Write>(out: &mut Tally<W>, answer: &SeriesAnswer) -> Result<u8, Device>
-    ensures status { IfOk result (λ status. status ≡ status_of_series answer.now) }
-    ensures written { Writes W.contents out.old out.new (text_of_series answer.now) }
-    ensures device { IsErr result ↔ (has_failed out.new ≡ true) }
-{
-    let mut page = Page::without_room();
-    let mut sheet = Sheet::new(out, &mut page);
-    put_series(&mut sheet, answer);
-    sheet.finish()?;
-    Ok(status_of(answer))
+impl Text for SeriesAnswer {
+    ghost use Rattle.std.specs.Prelude.{◌≡◌};
+    ghost use Rattle.a429_check.specs.Series.{status_of_series, text_of_series};
+
+    ghost says = { λ a status text. (status ≡ status_of_series a) × (text ≡ text_of_series a) };
+
+    ghost begins = { λ a text. text ≡ text_of_series a };
+
+    fn put<W: Write>(&self, sheet: &mut Sheet<'_, W>) -> u8 {
+        put_series(sheet, self);
+        status_of(self)
+    }
 }
 
 fn status_of(answer: &SeriesAnswer) -> u8

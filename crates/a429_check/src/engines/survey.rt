@@ -1,23 +1,21 @@
 //! `a429 survey PROFILE REC`: what a recording has, counted.
 
-ghost use Rattle.std.specs.Prelude.{◌≡◌, ◌≢◌, ◌⊎◌, ◌↔◌, [], List, true, false, IsErr, IfOk, IfErr, OnOk};
-ghost use Rattle.a429_word.specs.Tally.{has_failed};
-ghost use Rattle.a429_word.specs.Sheet.{Writes};
-ghost use Rattle.a429_profile.specs.declared.codes.Codes.{Codes};
-ghost use Rattle.a429_record.specs.declared.entry.Entry.{Entry};
-ghost use Rattle.a429_view.specs.Survey.{IsSurvey, survey_text};
+ghost use Rattle.std.specs.Prelude.{◌≡◌, false, IfOk, IfErr, OnOk};
+ghost use Rattle.a429_view.specs.Survey.{text_of};
 ghost use Rattle.a429_check.specs.Ends.{Ends};
+ghost use Rattle.a429_check.specs.Fault.{ComesBy};
 ghost use Rattle.a429_check.specs.Output.{output};
 ghost use Rattle.a429_check.specs.Streaming.{IsNextFault};
-ghost use Rattle.a429_check.specs.Survey.{Counts, IsSomeSurvey, of_counts, of_survey};
+ghost use Rattle.a429_check.specs.Survey.{Counts, Surveys, of_survey, survey_causes};
 
 use crate::engines::profile::profile_of;
 use crate::engines::streaming::next_entry;
+use crate::engines::text::{Text, write};
 use crate::fault::RunFault;
 use a429_profile::Profile;
 use a429_record::EntryReader;
 use a429_view::{Survey, put_survey};
-use a429_word::{Device, Page, Sheet, Tally};
+use a429_word::{Sheet, Tally};
 use std::alloc::Global;
 use std::io::{Read, Write};
 
@@ -33,31 +31,41 @@ pub fn run_survey<R: Read, W: Write>(
 ) -> Result<u8, RunFault>
     ensures { Ends (output W.contents out.old out.new) (of_survey profile.now rec.old.to_come rec.new.failed) result }
 {
-    let profile = profile_of(alloc, profile)?;
-    let status = survey_by(alloc, &profile, rec, out);
-    drop(profile);
-    status
+    write(alloc, counted(alloc, profile, rec), out)
 }
 
-// Does the same by a profile that was read.
-fn survey_by<R: Read, W: Write>(
+impl Text for Survey {
+    ghost use Rattle.std.specs.Prelude.{◌≡◌};
+    ghost use Rattle.a429_view.specs.Survey.{text_of};
+
+    ghost says = { λ s status text. (status ≡ 0) × (text ≡ text_of s) };
+
+    ghost begins = { λ s text. text ≡ text_of s };
+
+    fn put<W: Write>(&self, sheet: &mut Sheet<'_, W>) -> u8 {
+        put_survey(sheet, self);
+        0
+    }
+}
+
+fn counted<R: Read>(
     alloc: Global,
-    profile: &Profile,
+    profile: &[u8],
     rec: &mut EntryReader<R>,
-    out: &mut Tally<W>,
-) -> Result<u8, RunFault>
-    ensures { Ends (output W.contents out.old out.new) (of_counts profile.now.codes rec.old.to_come rec.new.failed) result }
+) -> Result<Survey, RunFault>
+    ensures ok { IfOk result (λ s. Surveys profile.now rec.old.to_come (text_of s)) }
+    ensures works { OnOk result (rec.new.failed ≡ false) }
+    ensures err { IfErr result (ComesBy (survey_causes profile.now rec.old.to_come rec.new.failed)) }
 {
-    let page = Page::new(alloc)?;
-    let survey = survey_of(profile, rec)?;
-    put_lines(page, out, &survey)?;
-    Ok(0)
+    let profile = profile_of(alloc, profile)?;
+    let survey = survey_of(&profile, rec);
+    drop(profile);
+    survey
 }
 
 // What the entries have that come.
 fn survey_of<R: Read>(profile: &Profile, rec: &mut EntryReader<R>) -> Result<Survey, RunFault>
     ensures ok { IfOk result (Counts profile.now.codes rec.old.to_come) }
-    ensures counted { IfOk result IsSomeSurvey }
     ensures device { OnOk result (rec.new.failed ≡ false) }
     ensures err { IfErr result (IsNextFault rec.old.to_come rec.new.failed) }
 {
@@ -69,17 +77,4 @@ fn survey_of<R: Read>(profile: &Profile, rec: &mut EntryReader<R>) -> Result<Sur
             Err(fault) => return Err(fault),
         }
     }
-}
-
-// The lines of a survey, by an empty page.
-fn put_lines<W: Write>(page: Page, out: &mut Tally<W>, survey: &Survey) -> Result<(), Device>
-    requires page { page ≡ [] }
-    requires counted { IsSomeSurvey survey.now }
-    ensures written { (c : Codes) (es : List Entry) → IsSurvey c survey.now es → Writes W.contents out.old out.new (survey_text c es) }
-    ensures device { IsErr result ↔ (has_failed out.new ≡ true) }
-{
-    let mut page = page;
-    let mut sheet = Sheet::new(out, &mut page);
-    put_survey(&mut sheet, survey);
-    sheet.finish()
 }

@@ -1,9 +1,10 @@
 //! `a429 upgrade CERT OUT`: a certificate, written as one of version 2.
 
-ghost use Rattle.std.specs.Prelude.{◌≡◌, ◌≢◌, ◌⊎◌, ◌<◌, ◌↔◌, ◌++◌, ℕ, List, length, true, false, IsErr, IfOk, IfErr, OnOk, OnErr};
+ghost use Rattle.std.specs.Prelude.{◌≡◌, ◌⊎◌, ◌<◌, ◌↔◌, ◌++◌, length, true, false, IsErr, IfOk, OnOk, OnErr};
 ghost use Rattle.a429_word.specs.Tally.{has_failed, unread, Puts, PutsFront};
-ghost use Rattle.a429_check.specs.Output.{output, UsedWork};
-ghost use Rattle.a429_check.specs.Upgrade.{OfUnread, PutsUpgrade, PutsUpgradeFront, PutsUpgradeText, TakesVersion, IsUpgradeFault, is_version_line, version_two_line};
+ghost use Rattle.a429_check.specs.Ends.{EndsWithFile};
+ghost use Rattle.a429_check.specs.Output.{output};
+ghost use Rattle.a429_check.specs.Upgrade.{of_upgrade, OfUnread, TakesVersion, is_version_line, version_two_line};
 
 use crate::fault::RunFault;
 use a429_word::{Device, Failing, Tally};
@@ -22,13 +23,7 @@ pub fn run_upgrade<R: Read, C: Write, W: Write>(
     new_cert: &mut Tally<C>,
     out: &mut Tally<W>,
 ) -> Result<u8, RunFault>
-    ensures upgraded { IfOk result (PutsUpgrade (output C.contents new_cert.old new_cert.new) (output W.contents out.old out.new) R.remaining cert.old) }
-    ensures none { IfOk result (λ status. status ≢ 0 → new_cert.new ≡ new_cert.old) }
-    ensures device { IfOk result (UsedWork (has_failed cert.new) (has_failed new_cert.new) (has_failed out.new)) }
-    ensures err { IfErr result (IsUpgradeFault (has_failed cert.new) (has_failed new_cert.new) (has_failed out.new)) }
-    ensures last { OnErr result ((has_failed cert.new ≡ true) ⊎ (has_failed out.new ≡ false) → out.new ≡ out.old) }
-    ensures front { OnErr result (OfUnread R.remaining cert.old (PutsUpgradeFront C.contents new_cert.old new_cert.new)) }
-    ensures prefix { OnErr result (OfUnread R.remaining cert.old (PutsUpgradeText W.contents out.old out.new)) }
+    ensures { EndsWithFile (output C.contents new_cert.old new_cert.new) (output W.contents out.old out.new) (of_upgrade (unread R.remaining cert.old) (has_failed cert.new)) result }
 {
     let found = take_version(cert)?;
     if found {
@@ -69,7 +64,7 @@ fn put_version_two<R: Read, C: Write>(
     ensures ok { OnOk result (OfUnread R.remaining cert.old (λ xs. Puts C.contents new_cert.old new_cert.new (version_two_line ++ xs))) }
     ensures err { OnErr result (OfUnread R.remaining cert.old (λ xs. PutsFront C.contents new_cert.old new_cert.new (version_two_line ++ xs))) }
     ensures works { OnOk result ((has_failed cert.new ≡ false) × (has_failed new_cert.new ≡ false)) }
-    ensures device { IsErr result → (has_failed cert.new ≡ true) ⊎ (has_failed new_cert.new ≡ true) }
+    ensures device { IsErr result → (has_failed new_cert.new ≡ true) ⊎ (has_failed cert.new ≡ true) }
 {
     new_cert.put(b"arinc429-cert 2\n")?;
     copy(cert, new_cert, &mut [0; ROOM])
@@ -86,7 +81,7 @@ fn copy<R: Read, C: Write>(
     ensures ok { OnOk result (OfUnread R.remaining cert.old (Puts C.contents new_cert.old new_cert.new)) }
     ensures err { OnErr result (OfUnread R.remaining cert.old (PutsFront C.contents new_cert.old new_cert.new)) }
     ensures works { OnOk result ((has_failed cert.new ≡ false) × (has_failed new_cert.new ≡ false)) }
-    ensures device { IsErr result → (has_failed cert.new ≡ true) ⊎ (has_failed new_cert.new ≡ true) }
+    ensures device { IsErr result → (has_failed new_cert.new ≡ true) ⊎ (has_failed cert.new ≡ true) }
 {
     'pieces: loop {
         let n = cert.pull(buffer)?;

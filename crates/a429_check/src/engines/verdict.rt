@@ -227,8 +227,8 @@ pub(crate) fn put_file<W: Write>(sheet: &mut Sheet<'_, W>, number: u8, len: u64)
     sheet.put(b"\n");
 }
 
-// Why the certificate is refused.
-fn put_no<W: Write>(sheet: &mut Sheet<'_, W>, fault: CertFault)
+/// Puts why a certificate is refused.
+pub(crate) fn put_no<W: Write>(sheet: &mut Sheet<'_, W>, fault: CertFault)
     ensures { Says W.contents sheet.old sheet.new (no_text fault) }
 {
     sheet.put(b"NO ");

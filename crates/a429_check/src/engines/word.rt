@@ -1,44 +1,48 @@
 //! `a429 word HEX`: what a word holds, a line for each part.
 
-ghost use Rattle.std.specs.Prelude.{◌≡◌, ◌↔◌, true, false, IsOk, IsErr, IsErrOf, IfOk};
-ghost use Rattle.std.specs.Str.Parse.{digits_value};
-ghost use Rattle.a429_word.specs.Tally.{has_failed, Puts, PutsFront};
-ghost use Rattle.a429_word.specs.Sheet.{Says, Writes};
-ghost use Rattle.a429_word.specs.Digits.{IsHexWord};
-ghost use Rattle.a429_check.specs.Word.{line, bits_text, parity_text, word_lines};
+ghost use Rattle.std.specs.Prelude.{◌≡◌, IfOk, IfErr};
+ghost use Rattle.a429_word.specs.Sheet.{Says};
+ghost use Rattle.a429_check.specs.Ends.{Ends};
+ghost use Rattle.a429_check.specs.Output.{output};
+ghost use Rattle.a429_check.specs.Word.{IsNoWord, IsWordOf, line, bits_text, of_word, parity_text, word_lines};
 
+use crate::engines::text::{Text, write_at_once};
 use crate::fault::RunFault;
-use a429_word::{Device, Page, Sheet, Tally, Word, octal};
+use a429_word::{Sheet, Tally, Word, octal};
 use itoa::Buffer;
 use std::io::Write;
 
 /// Writes what the word that `text` names holds, in seven lines, and answers status 0. A text that
 /// is not eight hexadecimal digits is `BadWord`, and then nothing is written.
 pub fn run_word<W: Write>(text: &str, out: &mut Tally<W>) -> Result<u8, RunFault>
-    ensures ok { IsOk result ↔ (IsHexWord text.now × (has_failed out.new ≡ false)) }
-    ensures lines { IfOk result (λ status. (status ≡ 0)
-        × Puts W.contents out.old out.new (word_lines (digits_value 16 text.now))) }
-    ensures bad { IsErrOf result RunFault.BadWord ↔ (¬ IsHexWord text.now) }
-    ensures silent { (¬ IsHexWord text.now) → out.new ≡ out.old }
-    ensures device { IsErrOf result RunFault.Device ↔ (IsHexWord text.now × (has_failed out.new ≡ true)) }
-    ensures prefix { PutsFront W.contents out.old out.new (word_lines (digits_value 16 text.now)) }
+    ensures { Ends (output W.contents out.old out.new) (of_word text.now) result }
 {
-    let Some(word) = Word::parse_hex(text.as_bytes()) else {
-        return Err(RunFault::BadWord);
-    };
-    write_word(word, out)?;
-    Ok(0)
+    write_at_once(word_in(text), out)
+}
+
+fn word_in(text: &str) -> Result<Word, RunFault>
+    ensures ok { IfOk result (IsWordOf text.now) }
+    ensures err { IfErr result (IsNoWord text.now) }
+{
+    match Word::parse_hex(text.as_bytes()) {
+        Some(word) => Ok(word),
+        None => Err(RunFault::BadWord),
+    }
 }
 
 // The seven lines of a word.
-fn write_word<W: Write>(word: Word, out: &mut Tally<W>) -> Result<(), Device>
-    ensures written { Writes W.contents out.old out.new (word_lines word) }
-    ensures device { IsErr result ↔ (has_failed out.new ≡ true) }
-{
-    let mut page = Page::without_room();
-    let mut sheet = Sheet::new(out, &mut page);
-    put_word(&mut sheet, word);
-    sheet.finish()
+impl Text for Word {
+    ghost use Rattle.std.specs.Prelude.{◌≡◌};
+    ghost use Rattle.a429_check.specs.Word.{word_lines};
+
+    ghost says = { λ w status text. (status ≡ 0) × (text ≡ word_lines w) };
+
+    ghost begins = { λ w text. text ≡ word_lines w };
+
+    fn put<W: Write>(&self, sheet: &mut Sheet<'_, W>) -> u8 {
+        put_word(sheet, *self);
+        0
+    }
 }
 
 fn put_word<W: Write>(sheet: &mut Sheet<'_, W>, word: Word)

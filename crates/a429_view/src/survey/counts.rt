@@ -1,8 +1,8 @@
 //! How often each kind of word and each label occurs on a bus.
 
-ghost use Rattle.std.specs.Prelude.{◌≡◌, ◌+◌, ◌<◌, ◌^◌, ◌∷◌, ◌++◌, [], List, length};
+ghost use Rattle.std.specs.Prelude.{◌≡◌, ◌+◌, ◌<◌, ◌^◌, ◌∷◌, ◌++◌, [], List, get_or, length};
 ghost use Rattle.a429_profile.specs.declared.codes.Codes.{Codes};
-ghost use Rattle.a429_view.specs.Survey.{Numbered, IsHits, IsLabelCount, IsBusCount, is_even, of_kind, with_label};
+ghost use Rattle.a429_view.specs.Survey.{Numbered, IsHits, IsLabelCount, IsBusCount, is_even, no_hits, no_label, place};
 
 use crate::survey::kind::{KIND_COUNT, WordKind};
 use a429_profile::Profile;
@@ -81,14 +81,14 @@ impl BusCount {
 
     /// How many entries have words of this kind, and the first.
     pub(crate) fn hits(&self, kind: WordKind) -> Hits
-        ensures { (c : Codes) (xs : List Numbered) → IsBusCount c self.now xs → IsHits result (of_kind c kind xs) }
+        ensures { result ≡ get_or self.now.kinds (place kind) no_hits }
     {
         self.kinds[kind.place()]
     }
 
     /// How many entries have words with this label.
     pub(crate) fn label(&self, label: u8) -> LabelCount
-        ensures { (c : Codes) (xs : List Numbered) → IsBusCount c self.now xs → IsLabelCount result (with_label label xs) }
+        ensures { result ≡ get_or self.now.labels label no_label }
     {
         self.labels[usize::from(label)]
     }

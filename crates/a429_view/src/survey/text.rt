@@ -1,12 +1,8 @@
 //! The lines of a survey.
 
-ghost use Rattle.std.specs.Prelude.{◌≡◌, ◌++◌, ◌<◌, List, codes, length, flat_map};
-ghost use Rattle.std.specs.Fmt.{decimal};
+ghost use Rattle.std.specs.Prelude.{◌≡◌, ◌<◌, flat_map};
 ghost use Rattle.a429_word.specs.Sheet.{Says};
-ghost use Rattle.a429_word.specs.Bus.{bus_text};
-ghost use Rattle.a429_profile.specs.declared.codes.Codes.{Codes};
-ghost use Rattle.a429_record.specs.declared.entry.Entry.{Entry};
-ghost use Rattle.a429_view.specs.Survey.{Numbered, IsHits, IsLabelCount, IsBusCount, IsSurvey, AreTimes, entries_line, kind_line, kinds, of_kind, label_line, label_lines, bus_lines, times_line, survey_text};
+ghost use Rattle.a429_view.specs.Survey.{count_lines, counted_kind, counted_labels, entries_line, kind_text, kinds, label_text, text_of, times_text};
 
 use crate::survey::Survey;
 use crate::survey::counts::{BusCount, Hits, LABEL_COUNT, LabelCount};
@@ -14,10 +10,10 @@ use crate::survey::kind::{KINDS, WordKind};
 use a429_word::{Bus, Sheet, octal};
 use std::io::Write;
 
-/// Puts what a recording has: a line for the count of its entries, one for its times, and then the lines of bus A
+/// Puts what was counted: a line for the count of its entries, one for its times, and then the lines of bus A
 /// and of bus B.
 pub fn put_survey<W: Write>(sheet: &mut Sheet<'_, W>, survey: &Survey)
-    ensures { (c : Codes) (es : List Entry) → IsSurvey c survey.now es → Says W.contents sheet.old sheet.new (survey_text c es) }
+    ensures { Says W.contents sheet.old sheet.new (text_of survey.now) }
 {
     sheet.put(b"entries ");
     sheet.put_number(survey.entries as u64);
@@ -29,7 +25,7 @@ pub fn put_survey<W: Write>(sheet: &mut Sheet<'_, W>, survey: &Survey)
 
 // From when to when, where there are entries.
 fn put_times<W: Write>(sheet: &mut Sheet<'_, W>, survey: &Survey)
-    ensures { (es : List Entry) → survey.now.entries ≡ length es → AreTimes survey.now es → Says W.contents sheet.old sheet.new (times_line es) }
+    ensures { Says W.contents sheet.old sheet.new (times_text survey.now.entries survey.now.first survey.now.last) }
 {
     if survey.entries > 0 {
         sheet.put(b"from ");
@@ -42,7 +38,7 @@ fn put_times<W: Write>(sheet: &mut Sheet<'_, W>, survey: &Survey)
 
 // The lines of a bus.
 fn put_bus<W: Write>(sheet: &mut Sheet<'_, W>, bus: Bus, count: &BusCount)
-    ensures { (c : Codes) (xs : List Numbered) → IsBusCount c count.now xs → Says W.contents sheet.old sheet.new (bus_lines c bus xs) }
+    ensures { Says W.contents sheet.old sheet.new (count_lines bus count.now) }
 {
     put_entries(sheet, bus, count.entries);
     put_kinds(sheet, bus, count);
@@ -61,8 +57,7 @@ fn put_entries<W: Write>(sheet: &mut Sheet<'_, W>, bus: Bus, count: usize)
 
 // A line for each kind that occurs, in their order.
 fn put_kinds<W: Write>(sheet: &mut Sheet<'_, W>, bus: Bus, count: &BusCount)
-    ensures { (c : Codes) (xs : List Numbered) → IsBusCount c count.now xs
-        → Says W.contents sheet.old sheet.new (flat_map (λ k. kind_line bus k (of_kind c k xs)) kinds) }
+    ensures { Says W.contents sheet.old sheet.new (flat_map (counted_kind bus count.now.kinds) kinds) }
 {
     for i in 0..KINDS.len() {
         let kind = KINDS[i];
@@ -71,7 +66,7 @@ fn put_kinds<W: Write>(sheet: &mut Sheet<'_, W>, bus: Bus, count: &BusCount)
 }
 
 fn put_kind<W: Write>(sheet: &mut Sheet<'_, W>, bus: Bus, kind: WordKind, hits: Hits)
-    ensures { (xs : List Numbered) → IsHits hits xs → Says W.contents sheet.old sheet.new (kind_line bus kind xs) }
+    ensures { Says W.contents sheet.old sheet.new (kind_text bus kind hits.count hits.first) }
 {
     if hits.count > 0 {
         sheet.put(bus.letter().as_bytes());
@@ -87,7 +82,7 @@ fn put_kind<W: Write>(sheet: &mut Sheet<'_, W>, bus: Bus, kind: WordKind, hits: 
 
 // A line for each label that occurs, rising.
 fn put_labels<W: Write>(sheet: &mut Sheet<'_, W>, bus: Bus, count: &BusCount)
-    ensures { (c : Codes) (xs : List Numbered) → IsBusCount c count.now xs → Says W.contents sheet.old sheet.new (label_lines bus 256 xs) }
+    ensures { Says W.contents sheet.old sheet.new (counted_labels bus 256 count.now.labels) }
 {
     for label in 0..LABEL_COUNT {
         put_label(sheet, bus, label as u8, count.label(label as u8));
@@ -95,7 +90,7 @@ fn put_labels<W: Write>(sheet: &mut Sheet<'_, W>, bus: Bus, count: &BusCount)
 }
 
 fn put_label<W: Write>(sheet: &mut Sheet<'_, W>, bus: Bus, label: u8, count: LabelCount)
-    ensures { (xs : List Numbered) → IsLabelCount count xs → Says W.contents sheet.old sheet.new (label_line bus label xs) }
+    ensures { Says W.contents sheet.old sheet.new (label_text bus label count.count count.even) }
 {
     if count.count > 0 {
         sheet.put(bus.letter().as_bytes());

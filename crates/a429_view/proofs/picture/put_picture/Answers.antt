@@ -1,8 +1,5 @@
-use Rattle.std.proofs.Common.{◌∙◌, rules}
-use Rattle.a429_word.proofs.SheetFacts.{writes}
+use Rattle.a429_word.proofs.SheetFacts.{◌▹◌}
 use Rattle.a429_view.proofs.picture.put_picture.Goals as goal
 
-pub returns-clause-written : goal.returns-clause-written
-returns-clause-written g c =
-    let written = writes (c.new-sheet.ensures.page ∙ c.requires.empty) c.new-sheet.ensures.out c.put_svg.ensures c.finish.ensures.nothing_more c.finish.ensures.written in
-    search rules
+pub returns : goal.returns
+returns g c = c.put_head.ensures ▹ c.put_rows.ensures ▹ c.put.ensures

@@ -1,29 +1,19 @@
+use Rattle.std.proofs.Common.{◌∙◌, Err, ap, refl}
 use Rattle.std.proofs.lemmas.Result.{err_from_is_err_and}
-use Rattle.a429_word.specs.Tally.{has_failed, unread}
-use Rattle.a429_check.specs.Output.{output}
-use Rattle.a429_check.specs.Check.{IsVerdictOn}
-use Rattle.a429_check.proofs.CheckFacts.{left, not_found, not_written, reported, used}
+use Rattle.a429_check.specs.Check.{IsVerdictOfHeard}
+use Rattle.a429_check.specs.Ends.{after_file, heard, refused, unheard_causes}
+use Rattle.a429_check.specs.Fault.{ComesBy}
+use Rattle.std.specs.Prelude.{None}
+use Rattle.a429_check.proofs.CheckFacts.{of_one}
 use Rattle.a429_check.proofs.engines.check.run_by_rule.Goals as goal
 
-pub returns-in_err-verdict-clause-err : goal.returns-in_err-verdict-clause-err
-returns-in_err-verdict-clause-err g c =
+pub returns-in_err-verdict : goal.returns-in_err-verdict
+returns-in_err-verdict g c =
     let p = err_from_is_err_and c.from_residual.result c.from_residual.ensures.1 in
-    rw (p.1, p.2) (not_found c.args.profile.now (unread g.R.Read.remaining c.args.rec.now) (has_failed c.verdict_on.new.rec) _ _ c.in_err-verdict.ensures.err)
+    after_file None refl (refused _ (p.1 ∙ ap Err p.2) (refl, c.in_err-verdict.ensures.err) refl)
 
-pub returns-clause-verdict : goal.returns-clause-verdict
-returns-clause-verdict g c =
-    reported (output g.C.Write.contents c.args.cert.now c.write_found-status.new.cert) (output g.W.Write.contents c.args.out.now c.write_found-status.new.out) c.in_ok-verdict.verdict
-    (IsVerdictOn c.args.rule c.args.profile.now (unread g.R.Read.remaining c.args.rec.now)) c.write_found-status.result c.in_ok-verdict.ensures.verdict c.write_found-status.ensures.verdict
-
-pub returns-clause-device : goal.returns-clause-device
-returns-clause-device g c =
-    used c.write_found-status.result (has_failed c.verdict_on.new.rec) (has_failed c.write_found-status.new.cert) (has_failed c.write_found-status.new.out) c.in_ok-verdict.ensures.device c.write_found-status.ensures.device
-
-pub returns-clause-err : goal.returns-clause-err
-returns-clause-err g c =
-    not_written c.args.profile.now (unread g.R.Read.remaining c.args.rec.now) c.write_found-status.result (has_failed c.verdict_on.new.rec) _ c.in_ok-verdict.ensures.verdict.0 c.write_found-status.ensures.err
-
-pub returns-clause-cut : goal.returns-clause-cut
-returns-clause-cut g c =
-    left (output g.C.Write.contents c.args.cert.now c.write_found-status.new.cert) (output g.W.Write.contents c.args.out.now c.write_found-status.new.out) c.in_ok-verdict.verdict
-    (IsVerdictOn c.args.rule c.args.profile.now (unread g.R.Read.remaining c.args.rec.now)) (has_failed c.verdict_on.new.rec) c.write_found-status.result c.in_ok-verdict.ensures.verdict c.in_ok-verdict.ensures.device c.write_found-status.ensures.cut
+pub returns : goal.returns
+returns g c =
+    let rec = heard g.R.Read.remaining c.args.rec.now c.verdict_on.new.rec in
+    let found = c.in_ok-verdict.ensures in
+    of_one c.in_ok-verdict.verdict (IsVerdictOfHeard c.args.rule c.args.profile.now rec) (ComesBy (unheard_causes c.args.profile.now rec)) (found.verdict, found.device) found.verdict.0.is_profile.0 c.write_found.ensures

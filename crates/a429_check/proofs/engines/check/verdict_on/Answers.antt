@@ -1,4 +1,5 @@
-use Rattle.a429_word.specs.Tally.{has_failed, unread}
+use Rattle.a429_word.specs.Tally.{unread}
+use Rattle.a429_check.specs.Ends.{heard}
 use Rattle.a429_check.proofs.CheckFacts.{not_under, on}
 use Rattle.a429_check.proofs.engines.check.verdict_on.Goals as goal
 
@@ -8,4 +9,4 @@ returns-clause-verdict g c =
 
 pub returns-clause-err : goal.returns-clause-err
 returns-clause-err g c =
-    not_under c.args.profile.now c.in_ok-profile.profile (unread g.R.Read.remaining c.args.rec.now) (has_failed c.verdict_under-verdict.new.rec) c.verdict_under-verdict.result c.in_ok-profile.ensures.ok c.verdict_under-verdict.ensures.err
+    not_under c.args.profile.now c.in_ok-profile.profile (heard g.R.Read.remaining c.args.rec.now c.verdict_under-verdict.new.rec) c.verdict_under-verdict.result c.in_ok-profile.ensures.ok c.verdict_under-verdict.ensures.err

@@ -1,15 +1,14 @@
-use Rattle.std.proofs.lemmas.Result.{on_ok_weaker}
-use Rattle.a429_check.proofs.CutFacts.{cut_fault, leaves_begun}
-use Rattle.a429_check.proofs.TraceLines.{if_err_map}
+use Rattle.std.proofs.Common.{◌∙◌, Err, ap, refl}
+use Rattle.std.proofs.lemmas.Result.{err_from_is_err_and}
+use Rattle.a429_parts.proofs.PartsFacts.{same_parts}
+use Rattle.a429_check.specs.Ends.{refused}
+use Rattle.a429_check.proofs.CutFacts.{by_profile}
 use Rattle.a429_check.proofs.engines.cut.run_cut.Goals as goal
 
-pub returns-clause-cut : goal.returns-clause-cut
-returns-clause-cut g c = on_ok_weaker c.cut_by-status.result (λ h. (c.in_ok-profile.profile, c.in_ok-profile.ensures.ok, h)) c.cut_by-status.ensures.cut
+pub returns-in_err-profile-clause-ends : goal.returns-in_err-profile-clause-ends
+returns-in_err-profile-clause-ends g c =
+    let p = err_from_is_err_and c.from_residual.result c.from_residual.ensures.1 in
+    refused _ (p.1 ∙ ap Err p.2) (c.in_err-profile.ensures.err, same_parts (g.P.Parts.known c.args.parts.now)) refl
 
-pub returns-clause-err : goal.returns-clause-err
-returns-clause-err g c =
-    if_err_map c.cut_by-status.result c.cut_by-status.ensures.err (λ e h. cut_fault c.args.profile.now c.in_ok-profile.profile c.args.rec.now.to_come _ e c.in_ok-profile.ensures.ok h)
-
-pub returns-clause-left : goal.returns-clause-left
-returns-clause-left g c =
-    if_err_map c.cut_by-status.result c.cut_by-status.ensures.left (λ e h. leaves_begun c.args.profile.now c.in_ok-profile.profile _ _ e c.in_ok-profile.ensures.ok h)
+pub returns-clause-ends : goal.returns-clause-ends
+returns-clause-ends g c = by_profile c.args.profile.now c.in_ok-profile.profile _ _ c.in_ok-profile.ensures.ok c.cut_by-status.ensures.ends

@@ -1,4 +1,4 @@
-use Rattle.std.proofs.Common.{◌≡◌, ◌+◌, ◌%◌, map, length, take, drop, sym, ◌∙◌, subst, arith}
+use Rattle.std.proofs.Common.{◌≡◌, ◌+◌, ◌%◌, map, length, take, drop, refl, sym, ◌∙◌, subst, arith}
 use Rattle.std.specs.List.{flat_map}
 use Rattle.a429_word.specs.Sheet.{Says}
 use Rattle.a429_word.proofs.SheetFacts.{◌▹◌, says_after_failure}
@@ -42,20 +42,20 @@ loop-file-preserved g c =
     }
 
 -- the lines that are left are not written
-pub returns-then-failed-clause-ok : goal.returns-then-failed-clause-ok
-returns-then-failed-clause-ok g c =
+pub returns-then-failed : goal.returns-then-failed
+returns-then-failed g c =
     let words = words_made c.args.profile.now (map (λ f. f.items) c.args.files.now) in
     let rest = flat_map line_text (timed (length (take c.loop-file.count words)) (drop c.loop-file.count words)) in
-    rw (recording-rest words c.loop-file.count) at (c.loop-file.invariant.written ▹ says_after_failure _ _ rest (sym c.failed.ensures ∙ c.if-failed.true))
+    (_, (refl, refl), rw (recording-rest words c.loop-file.count) at (c.loop-file.invariant.written ▹ says_after_failure _ _ rest (sym c.failed.ensures ∙ c.if-failed.true)))
 
-pub returns-clause-ok : goal.returns-clause-ok
-returns-clause-ok g c =
+pub returns : goal.returns
+returns g c =
     let all = all_words c.args.profile.now c.args.files.now c.loop-file.file-index c.loop-file.number c.loop-file.count c.loop-file-test.false c.loop-file.invariant.made in
-    rw all at c.loop-file.invariant.written
+    (_, (refl, refl), rw all at c.loop-file.invariant.written)
 
 -- the files that are left make no lines
-pub returns-in-Err-OutOfMemory-clause-prefix : goal.returns-in-Err-OutOfMemory-clause-prefix
-returns-in-Err-OutOfMemory-clause-prefix g c =
+pub returns-in-Err-OutOfMemory : goal.returns-in-Err-OutOfMemory
+returns-in-Err-OutOfMemory g c =
     let words = words_made c.args.profile.now (map (λ f. f.items) c.args.files.now) in
     let rest = flat_map line_text (timed (length (take c.loop-file.count words)) (drop c.loop-file.count words)) in
-    (written_form (timed 0 (take c.loop-file.count words)), rest, recording-rest words c.loop-file.count, c.loop-file.invariant.written)
+    (written_form (timed 0 (take c.loop-file.count words)), (refl, (rest, recording-rest words c.loop-file.count)), c.loop-file.invariant.written)

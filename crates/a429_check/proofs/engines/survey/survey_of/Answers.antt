@@ -25,9 +25,6 @@ returns-in-Ok-None-clause-ok g c =
     let gives = rw c.in-Ok-None.field-0-is at c.in-Ok-None.ensures.gives in
     (so_far.0, so_far.1, came_whole _ _ _ so_far.0 gives so_far.2)
 
-pub returns-in-Ok-None-clause-counted : goal.returns-in-Ok-None-clause-counted
-returns-in-Ok-None-clause-counted g c = (c.args.profile.now.codes, c.entries.invariant.0, c.entries.invariant.1)
-
 pub returns-in-Err-clause-err : goal.returns-in-Err-clause-err
 returns-in-Err-clause-err g c =
     let so_far = c.entries.invariant in

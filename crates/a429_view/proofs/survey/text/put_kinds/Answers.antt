@@ -5,17 +5,16 @@ use Rattle.a429_word.specs.Sheet.{Says}
 use Rattle.a429_word.proofs.SheetFacts.{◌▹◌}
 use Rattle.a429_record.proofs.WritingTexts.{flat_map-more}
 use Rattle.a429_view.specs.declared.survey.kind.WordKind.TheVariants.{Rts}
-use Rattle.a429_view.specs.Survey.{kind_line, kinds, of_kind}
+use Rattle.a429_view.specs.Survey.{counted_kind, kinds}
 use Rattle.a429_view.proofs.SurveyFacts.{read_of}
 use Rattle.a429_view.proofs.survey.text.put_kinds.Goals as goal
 
 pub loop-i-preserved : goal.loop-i-preserved
-loop-i-preserved g c = λ codes xs is.
+loop-i-preserved g c =
     let kind = get_or kinds c.loop-i.i Rts in
-    rw (flat_map-more (λ k. kind_line c.args.bus k (of_kind codes k xs)) kinds c.loop-i.i kind c.loop-i-test.true (read_of kinds c.loop-i.i Rts kind c.loop-i-test.true))
-    (c.loop-i.invariant codes xs is ▹ c.put_kind.ensures (of_kind codes kind xs) (c.hits.ensures codes xs is))
+    rw (flat_map-more (counted_kind c.args.bus c.args.count.now.kinds) kinds c.loop-i.i kind c.loop-i-test.true (read_of kinds c.loop-i.i Rts kind c.loop-i-test.true))
+    (c.loop-i.invariant ▹ (rw c.hits.ensures at c.put_kind.ensures))
 
 pub returns : goal.returns
-returns g c = λ codes xs is.
-    subst (λ ks. Says g.W.Write.contents c.args.sheet.now c.loop-i.sheet (flat_map (λ k. kind_line c.args.bus k (of_kind codes k xs)) ks))
-    (take_all c.loop-i.i kinds c.loop-i-test.false) (c.loop-i.invariant codes xs is)
+returns g c =
+    subst (λ ks. Says g.W.Write.contents c.args.sheet.now c.loop-i.sheet (flat_map (counted_kind c.args.bus c.args.count.now.kinds) ks)) (take_all c.loop-i.i kinds c.loop-i-test.false) c.loop-i.invariant
