@@ -1,8 +1,6 @@
 -- What `sink` writes before a fault: nothing.
-use Rattle.std.proofs.Common.{◌≡◌, ◌⊎◌, Bool, true, List, [], Option, Some, None, ℕ, inl, sym, ap, ◌∙◌}
-use Rattle.std.specs.Prelude.{IfSome}
+use Rattle.std.proofs.Common.{ℕ, List}
 use Rattle.a429_profile.specs.Profile.{Contents}
-use Rattle.a429_record.specs.declared.entry.Entry.{Entry}
 use Rattle.a429_record.specs.declared.fault.ReadFault.{ReadFault}
 use Rattle.a429_record.specs.declared.fault.ReadFault.TheVariants as read
 use Rattle.a429_parts.specs.Keeping.{Taken}

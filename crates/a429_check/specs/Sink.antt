@@ -6,7 +6,7 @@ use Rattle.a429_record.specs.declared.fault.ReadFault.TheVariants as read
 use Rattle.a429_parts.specs.Keeping.{Taken}
 use Rattle.a429_sink.specs.declared.judging.SinkVerdict.{SinkVerdict}
 use Rattle.a429_sink.specs.declared.judging.SinkVerdict.TheVariants as verdict
-use Rattle.a429_sink.specs.Judging.{IsSinkVerdict, SaysNothing}
+use Rattle.a429_sink.specs.Judging.{IsSinkVerdict, SinkUnread}
 use Rattle.a429_view.specs.Sink.{sink_text}
 use Rattle.a429_check.specs.declared.fault.RunFault.{RunFault}
 use Rattle.a429_check.specs.declared.fault.RunFault.TheVariants as run
@@ -25,7 +25,7 @@ pub record JudgesSink (p : Contents) (t : Taken) (status : ℕ) (text : List ℕ
 
 -- before a fault of the reading nothing is written
 pub record JudgesNone (t : Taken) (fault : ReadFault) (text : List ℕ) : Type 0 where
-  pub came : SaysNothing t fault
+  pub came : SinkUnread t fault
   pub text_is : text ≡ []
 
 -- by the fault of the command
