@@ -5,3 +5,5 @@ pub mod TurningFacts
 pub mod ParityFacts
 pub mod TimeFacts
 pub mod ValueFacts
+pub mod PartsFacts
+pub mod TextsFacts

@@ -10,5 +10,6 @@ pub mod Time
 pub mod Fault
 pub mod Value
 pub mod Key
-pub mod Map
 pub mod PartTable
+pub mod Parts
+pub mod Map

@@ -20,6 +20,18 @@ pub enum MapFault {
     /// The value lies outside the key's range.
     #[error("out of range {0}")]
     OutOfRange(Key),
+    /// This bit is in two parts.
+    #[error("bit clash {0}")]
+    BitClash(u8),
+    /// This bit is in none.
+    #[error("bit missing {0}")]
+    BitMissing(u8),
+    /// A status is given twice.
+    #[error("text twice error")]
+    StatusTwice,
+    /// A channel's name is given twice.
+    #[error("text twice channel")]
+    ChannelTwice,
     /// Memory was refused.
     #[error("memory")]
     OutOfMemory,
