@@ -1,5 +1,5 @@
 -- The array `part`, table by table.
-use Rattle.std.proofs.Common.{◌≡◌, ℕ, suc, ◌+◌, ◌<◌, List, [], ◌∷◌, ◌++◌, length, get_or, drop, map, Bool, true, false, ◌&&◌, nat_le, Some, None, is_some, if◌then◌else◌, refl, sym, ap, ◌∙◌, arith, append_assoc}
+use Rattle.std.proofs.Common.{◌≡◌, ℕ, suc, ◌+◌, ◌<◌, List, [], ◌∷◌, ◌++◌, length, get_or, drop, map, Bool, true, false, ◌&&◌, nat_le, Some, None, is_some, if◌then◌else◌, refl, sym, ap, ◌∙◌, arith}
 use Rattle.std.specs.List.{list_all}
 use Rattle.std.proofs.lemmas.List.{drop_more, length-map}
 use Rattle.std.proofs.lemmas.List.Folds.{list_all-map}
@@ -49,6 +49,3 @@ tables_fault-next header earlier vs i v h e ok =
 -- a bit for which it is not so is not the first
 pub first_bit-next : (is : ℕ → Bool) (low n m : ℕ) → n ≡ suc m → is low ≡ false → first_bit is low n ≡ first_bit is (low + 1) m
 first_bit-next is low n m e none = rw (e, none) refl
-
-pub first_bit-here : (is : ℕ → Bool) (low n m : ℕ) → n ≡ suc m → is low ≡ true → first_bit is low n ≡ Some low
-first_bit-here is low n m e here = rw (e, here) refl

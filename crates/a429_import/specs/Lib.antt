@@ -13,3 +13,9 @@ pub mod Key
 pub mod PartTable
 pub mod Parts
 pub mod Map
+pub mod Fields
+pub mod Columns
+pub mod Row
+pub mod Import
+pub mod Counts
+pub mod Importing

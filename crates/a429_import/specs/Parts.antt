@@ -1,5 +1,5 @@
 -- The parts of a word together: the array `part`, bits that are in two parts, and bits that are in none (profile).
-use Rattle.std.specs.Prelude.{ℕ, zero, suc, ◌+◌, List, [], ◌∷◌, ◌++◌, map, length, codes, Bool, ◌&&◌, ◌||◌, nat_le, nat_lt, not, Option, Some, None, option_map, unwrap_or, if◌then◌else◌}
+use Rattle.std.specs.Prelude.{ℕ, zero, suc, ◌+◌, List, [], ◌∷◌, ◌++◌, map, length, codes, Bool, ◌&&◌, nat_le, nat_lt, not, Option, Some, None, option_map, if◌then◌else◌}
 use Rattle.std.specs.List.{list_any}
 use Rattle.toml.specs.Data.{Data, Members, get_member}
 use Rattle.a429_profile.specs.Value.{elements_of, is_array_of, is_table}

@@ -169,12 +169,7 @@ fn read_next(
     }
 }
 
-fn read_table(
-    alloc: Global,
-    value: &Value,
-    header: bool,
-    position: usize,
-) -> Result<Part, MapFault>
+fn read_table(alloc: Global, value: &Value, header: bool, position: usize) -> Result<Part, MapFault>
     requires { is_table (view value.now) ≡ true }
     ensures sound { IfOk result (λ p. IsSoundPart p) }
     ensures gives { GivesInMemory (part_in_table header (table_of (view value.now))) (table_fault header position (table_of (view value.now))) result }

@@ -66,7 +66,9 @@ pub(crate) fn share(some: &[Text], others: &[Text]) -> bool
 fn is_among(text: &Text, texts: &[Text]) -> bool
     ensures { result ≡ has_text texts.now text.now }
 {
-    texts.iter().any(|one| is_text(one, text.as_str().as_bytes()))
+    texts
+        .iter()
+        .any(|one| is_text(one, text.as_str().as_bytes()))
 }
 
 fn is_text(one: &Text, text: &[u8]) -> bool

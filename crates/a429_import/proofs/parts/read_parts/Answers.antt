@@ -11,6 +11,8 @@ returns-then-not-are_tables c =
 pub returns : goal.returns
 returns c =
     let found = rw c.in-Some.is at c.at.ensures in
-    rw (← found,
-    array_fault-tables c.args.header (view c.in-Some.value.now) c.in-Some-elements.values.now _ c.in-Some-elements.ensures.variant c.in-Some-elements.ensures.some (sym c.if-not-are_tables.false ∙ c.are_tables.ensures),
-    parts_in-tables c.args.header (view c.in-Some.value.now) c.in-Some-elements.values.now c.in-Some-elements.ensures.some) c.read_tables.ensures
+    rw (
+      ← found,
+      array_fault-tables c.args.header (view c.in-Some.value.now) c.in-Some-elements.values.now _ c.in-Some-elements.ensures.variant c.in-Some-elements.ensures.some (sym c.if-not-are_tables.false ∙ c.are_tables.ensures),
+      parts_in-tables c.args.header (view c.in-Some.value.now) c.in-Some-elements.values.now c.in-Some-elements.ensures.some,
+    ) c.read_tables.ensures
