@@ -1,5 +1,5 @@
 -- Numbers in digits of a base, digit by digit.
-use Rattle.std.proofs.Common.{◌≡◌, ℕ, zero, suc, ◌+◌, ◌*◌, ◌%◌, ◌^◌, ◌<◌, ◌≤◌, arith, refl, ap, sym, take, List, [], ◌∷◌, length, Some, None, Bool, true, false, ◌&&◌, nat_le, nat_lt, get_or}
+use Rattle.std.proofs.Common.{◌≡◌, ℕ, ◌+◌, ◌*◌, ◌%◌, ◌^◌, ◌<◌, ◌≤◌, arith, refl, ap, sym, take, List, length, Some, None, Bool, true, false, ◌&&◌, nat_le, nat_lt, get_or}
 use Rattle.std.specs.Char.{digit_value}
 use Rattle.std.specs.Str.Parse.{digits_value, AllDigits}
 use Rattle.std.proofs.lemmas.Bool.Decides.{nat_tests}
@@ -7,7 +7,7 @@ use Rattle.std.proofs.lemmas.Int.Digits.{digits_value_more}
 use Rattle.std.proofs.lemmas.Str.Parse.{digits_value-take-le}
 use Rattle.std.proofs.Math.Nat.{pow-le-pow_right}
 use Rattle.a429_record.specs.Row.{all_digits}
-use Rattle.a429_record.proofs.RowDigits.{all_digits-from, all_digits-to, not_true}
+use Rattle.a429_record.proofs.RowDigits.{all_digits-from}
 use Rattle.a429_import.specs.Base.{number_in}
 
 pub word_limit : (bits : ℕ) → bits ≤ 32 → 2 ^ bits ≤ 4294967296

@@ -5,3 +5,11 @@ pub mod TurningFacts
 pub mod ParityFacts
 pub mod TimeFacts
 pub mod ValueFacts
+pub mod PartsFacts
+pub mod TextsFacts
+pub mod FieldsFacts
+pub mod ImportFacts
+pub mod CountsFacts
+pub mod LawFacts
+pub mod ColumnsFacts
+pub mod RowFacts

@@ -10,5 +10,12 @@ pub mod Time
 pub mod Fault
 pub mod Value
 pub mod Key
-pub mod Map
 pub mod PartTable
+pub mod Parts
+pub mod Map
+pub mod Fields
+pub mod Columns
+pub mod Row
+pub mod Import
+pub mod Counts
+pub mod Importing

@@ -1,19 +1,23 @@
 -- What a map says, section by section (profile).
-use Rattle.std.specs.Prelude.{ℕ, List, [], ◌∷◌, Bool, false, Option, None, unwrap_or}
+use Rattle.std.specs.Prelude.{◌≡◌, ℕ, List, [], ◌∷◌, ◌++◌, Bool, true, false, ◌||◌, Option, Some, None, unwrap_or, Result, Ok, Err, if◌then◌else◌}
 use Rattle.toml.specs.Data.{Members}
 use Rattle.a429_profile.specs.Value.{text_of_value, number_of_value, truth_of_value}
 use Rattle.a429_import.specs.declared.channel.Channels.{Channels}
 use Rattle.a429_import.specs.declared.column.Column.{Column}
 use Rattle.a429_import.specs.declared.fault.MapFault.{MapFault}
+use Rattle.a429_import.specs.declared.fault.MapFault.TheVariants.{NotToml, StatusTwice, ChannelTwice}
 use Rattle.a429_import.specs.declared.key.SectionKey.{SectionKey}
 use Rattle.a429_import.specs.declared.key.SectionKey.TheVariants as key
+use Rattle.a429_import.specs.declared.map.Map.{Map}
 use Rattle.a429_import.specs.declared.map.RowRule.{RowRule}
+use Rattle.a429_import.specs.declared.map.Sections.{Sections}
 use Rattle.a429_import.specs.declared.map.Separator.TheVariants as separators
 use Rattle.a429_import.specs.declared.map.TimeRule.{TimeRule}
 use Rattle.a429_import.specs.declared.map.WordRule.{WordRule}
 use Rattle.a429_import.specs.declared.parity.ParityBit.{ParityBit}
 use Rattle.a429_import.specs.declared.parity.ParityBit.TheVariants as bit_32
 use Rattle.a429_import.specs.declared.parity.Status.{Status}
+use Rattle.a429_import.specs.declared.part.Part.{Part}
 use Rattle.a429_import.specs.declared.time.Number.{Number}
 use Rattle.a429_import.specs.declared.time.Number.TheVariants as numbers
 use Rattle.a429_import.specs.declared.time.Unit.TheVariants as units
@@ -21,6 +25,9 @@ use Rattle.a429_import.specs.declared.value.FormWord.{FormWord}
 use Rattle.a429_import.specs.declared.value.FormWord.TheVariants as forms
 use Rattle.a429_import.specs.declared.value.BitWord.{BitWord}
 use Rattle.a429_import.specs.declared.value.BitWord.TheVariants as words
+use Rattle.a429_import.specs.Fault.{first_or}
+use Rattle.a429_import.specs.Parts.{missing_fault, parts_fault, parts_of}
+use Rattle.a429_import.specs.Texts.{has_twin}
 use Rattle.a429_import.specs.Key.{section_value, first_section_fault}
 use Rattle.a429_import.specs.Value.{texts_of_value, column_of_value, separator_of, form_of, unit_of, point_of, bit_word_of}
 
@@ -63,6 +70,13 @@ rows_of doc = record {
 abbrev pub time_keys : List SectionKey
 time_keys = key.TimeColumn ∷ key.TimeForm ∷ key.TimeUnit ∷ key.TimePoint ∷ []
 
+-- those that change nothing so far, with the values that are taken
+abbrev pub later_time_keys : List SectionKey
+later_time_keys = key.TimeDate ∷ key.HalfDays ∷ key.WrapsAt ∷ key.Back ∷ key.Resets ∷ []
+
+abbrev pub time_fault : Bool → Members → Option MapFault
+time_fault header doc = first_or (first_section_fault header doc time_keys) (first_section_fault header doc later_time_keys)
+
 -- how a time of this form is written, with this point
 abbrev pub number_form : FormWord → ℕ → Number
 number_form forms.Integer point = numbers.Integer
@@ -96,6 +110,10 @@ word_rule doc = record {
   turning = record { bytes = truth_at false doc key.BytesReversed; label = truth_at false doc key.LabelReversed };
 }
 
+-- repeats are not left out so far
+abbrev pub repeat_keys : List SectionKey
+repeat_keys = key.RepeatsDrop ∷ key.RepeatsWithin ∷ key.RepeatsAmong ∷ []
+
 abbrev pub status_keys : List SectionKey
 status_keys = key.ErrorColumn ∷ key.ErrorGood ∷ key.ErrorBad ∷ []
 
@@ -117,3 +135,67 @@ parity_bit header doc words.Column = bit_32.Status (status_of header doc)
 abbrev pub parity_fault : Bool → Members → BitWord → Option MapFault
 parity_fault header doc words.Column = first_section_fault header doc status_keys
 parity_fault header doc _ = None
+
+-- ---- all of a map
+
+-- what the sections say
+abbrev pub sections_of : Members → Sections
+sections_of doc = record {
+  rows = rows_of doc;
+  time = time_rule (has_header doc) doc;
+  channels = channels_of (has_header doc) doc;
+  word = word_rule doc;
+  parity = parity_bit (has_header doc) doc (word_rule doc).bit_32;
+}
+
+abbrev pub with_parts : Sections → List Part → Map
+with_parts s parts = record { rows = s.rows; time = s.time; channels = s.channels; turning = s.word.turning; parity = s.parity; parts = parts }
+
+abbrev pub map_of : Members → Map
+map_of doc = with_parts (sections_of doc) (parts_of (has_header doc) doc)
+
+-- the faults of the keys of all sections, in their order
+abbrev pub sections_fault : Members → Option MapFault
+sections_fault doc =
+    first_or (first_section_fault false doc row_keys)
+    (first_or (time_fault (has_header doc) doc)
+    (first_or (first_section_fault (has_header doc) doc channel_keys)
+    (first_or (first_section_fault false doc word_keys)
+    (first_or (first_section_fault (has_header doc) doc repeat_keys)
+    (parity_fault (has_header doc) doc (word_rule doc).bit_32)))))
+
+-- bits 1 to 31 are needed, and bit 32 where it is looked at, or where the bytes are turned
+abbrev pub looks_at_bit_32 : BitWord → Bool
+looks_at_bit_32 words.Parity = true
+looks_at_bit_32 words.ErrorSet = true
+looks_at_bit_32 words.ErrorClear = true
+looks_at_bit_32 words.Absent = false
+looks_at_bit_32 words.Column = false
+
+abbrev pub bits_needed : WordRule → ℕ
+bits_needed w = if looks_at_bit_32 w.bit_32 || w.turning.bytes then 32 else 31
+
+-- a text of the status column, or a channel's name, is given twice
+abbrev pub twin_status : ParityBit → Bool
+twin_status (bit_32.Status s) = has_twin (s.good ++ s.bad)
+twin_status _ = false
+
+abbrev pub twin_channel : Channels → Bool
+twin_channel c = has_twin (c.a ++ (c.b ++ c.pass))
+
+abbrev pub twins_fault : ParityBit → Channels → Option MapFault
+twins_fault p c = if twin_status p then Some StatusTwice else if twin_channel c then Some ChannelTwice else None
+
+-- the first fault: of the keys, then of the parts, then a bit that is in none, then a text that is given twice
+abbrev pub map_fault : Members → Option MapFault
+map_fault doc =
+    first_or (sections_fault doc)
+    (first_or (parts_fault (has_header doc) doc)
+    (first_or (missing_fault (map_of doc).parts (bits_needed (word_rule doc)))
+    (twins_fault (map_of doc).parity (map_of doc).channels)))
+
+-- the result for a text that is this document, or is none
+abbrev pub Answers : Option Members → Result Map MapFault → Type 0
+Answers None r = r ≡ Err NotToml
+Answers (Some doc) (Ok m) = (map_fault doc ≡ None) × (m ≡ map_of doc)
+Answers (Some doc) (Err f) = map_fault doc ≡ Some f

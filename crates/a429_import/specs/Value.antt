@@ -1,7 +1,7 @@
 -- Which values a key of a map may have (profile): a kind of value, and a range.
 use Rattle.std.specs.Prelude.{ℕ, List, [], ◌∷◌, map, Bool, true, false, ◌&&◌, nat_lt, not, ◌==◌, ◌||◌, bytes_eq, codes, Option, Some, None, is_some, if◌then◌else◌}
 use Rattle.toml.specs.Data.{Data, as_bool}
-use Rattle.a429_profile.specs.Value.{text_of_value, number_of_value, elements_of, is_integer, is_text, is_array_of, is_number_between}
+use Rattle.a429_profile.specs.Value.{text_of_value, number_of_value, truth_of_value, elements_of, is_integer, is_text, is_array_of, is_number_between}
 use Rattle.a429_import.specs.declared.base.Base.{Base}
 use Rattle.a429_import.specs.declared.base.Base.TheVariants as bases
 use Rattle.a429_import.specs.declared.column.Column.{Column}
@@ -18,6 +18,8 @@ use Rattle.a429_import.specs.declared.value.BitWord.TheVariants as words
 -- the rules, one for each wording in the table of keys
 pub data Rule : Type 0 where
   truth : Rule
+  -- a truth value of which only `false` is taken
+  off : Rule
   number : ℕ → ℕ → Rule
   text : Rule
   texts : Rule
@@ -25,6 +27,8 @@ pub data Rule : Type 0 where
   column : Bool → Rule
   separator : Rule
   form : Rule
+  -- a word of which only `none` is taken
+  no_date : Rule
   unit : Rule
   point : Rule
   bit_word : Rule
@@ -85,6 +89,7 @@ is_split _ = false
 
 abbrev pub has_kind : Rule → Data → Bool
 has_kind truth d = is_some (as_bool d)
+has_kind off d = is_some (as_bool d)
 has_kind (number low high) d = is_integer d
 has_kind text d = is_text d
 has_kind texts d = is_array_of is_text d
@@ -92,6 +97,7 @@ has_kind (column true) d = is_text d
 has_kind (column false) d = is_integer d
 has_kind separator d = is_text d
 has_kind form d = is_text d
+has_kind no_date d = is_text d
 has_kind unit d = is_text d
 has_kind point d = is_text d
 has_kind bit_word d = is_text d
@@ -102,6 +108,7 @@ has_kind split d = is_text d
 
 abbrev pub is_in_range : Rule → Data → Bool
 is_in_range truth d = true
+is_in_range off d = not (truth_of_value d)
 is_in_range (number low high) d = is_number_between low high d
 is_in_range text d = true
 is_in_range texts d = true
@@ -109,6 +116,7 @@ is_in_range (column true) d = true
 is_in_range (column false) d = is_number_between 1 1000 d
 is_in_range separator d = is_some (separator_of (text_of_value d))
 is_in_range form d = is_some (form_of (text_of_value d))
+is_in_range no_date d = bytes_eq (text_of_value d) (codes "none")
 is_in_range unit d = is_some (unit_of (text_of_value d))
 is_in_range point d = is_some (point_of (text_of_value d))
 is_in_range bit_word d = is_some (bit_word_of (text_of_value d))

@@ -29,6 +29,11 @@ pub enum SectionKey {
     TimeForm,
     TimeUnit,
     TimePoint,
+    TimeDate,
+    HalfDays,
+    WrapsAt,
+    Back,
+    Resets,
     ChannelColumn,
     ChannelA,
     ChannelB,
@@ -37,6 +42,9 @@ pub enum SectionKey {
     BitWord,
     BytesReversed,
     LabelReversed,
+    RepeatsDrop,
+    RepeatsWithin,
+    RepeatsAmong,
     ErrorColumn,
     ErrorGood,
     ErrorBad,
@@ -70,13 +78,21 @@ impl SectionKey {
             SectionKey::TimeColumn
             | SectionKey::TimeForm
             | SectionKey::TimeUnit
-            | SectionKey::TimePoint => "time",
+            | SectionKey::TimePoint
+            | SectionKey::TimeDate
+            | SectionKey::HalfDays
+            | SectionKey::WrapsAt
+            | SectionKey::Back
+            | SectionKey::Resets => "time",
             SectionKey::ChannelColumn
             | SectionKey::ChannelA
             | SectionKey::ChannelB
             | SectionKey::ChannelPass
             | SectionKey::PassOthers => "channel",
             SectionKey::BitWord | SectionKey::BytesReversed | SectionKey::LabelReversed => "word",
+            SectionKey::RepeatsDrop | SectionKey::RepeatsWithin | SectionKey::RepeatsAmong => {
+                "repeats"
+            }
             SectionKey::ErrorColumn | SectionKey::ErrorGood | SectionKey::ErrorBad => "error",
         }
     }
@@ -98,12 +114,20 @@ impl SectionKey {
             SectionKey::TimeForm => "form",
             SectionKey::TimeUnit => "unit",
             SectionKey::TimePoint => "point",
+            SectionKey::TimeDate => "date",
+            SectionKey::HalfDays => "half_days",
+            SectionKey::WrapsAt => "wraps_at",
+            SectionKey::Back => "back",
+            SectionKey::Resets => "resets",
             SectionKey::ChannelA => "a",
             SectionKey::ChannelB => "b",
             SectionKey::PassOthers => "pass_others",
             SectionKey::BitWord => "bit_32",
             SectionKey::BytesReversed => "bytes_reversed",
             SectionKey::LabelReversed => "label_reversed",
+            SectionKey::RepeatsDrop => "drop",
+            SectionKey::RepeatsWithin => "within",
+            SectionKey::RepeatsAmong => "among",
             SectionKey::ErrorGood => "good",
             SectionKey::ErrorBad => "bad",
         }

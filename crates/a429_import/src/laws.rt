@@ -1,6 +1,12 @@
 //! Laws of the definitions that the contracts of this crate cite.
 
-ghost use Rattle.std.specs.Prelude.{◌≡◌, ℕ, ◌<◌, ◌^◌, true, false};
+ghost use Rattle.std.specs.Prelude.{◌≡◌, ℕ, ◌+◌, ◌<◌, ◌^◌, List, length, None, true, false};
+ghost use Rattle.a429_record.specs.Recording.{NeverFalls, recording_lines};
+ghost use Rattle.a429_import.specs.declared.counts.Counts.{Counts};
+ghost use Rattle.a429_import.specs.declared.lot.Lot.{Lot};
+ghost use Rattle.a429_import.specs.declared.map.Map.{Map};
+ghost use Rattle.a429_import.specs.Counts.{AreCounts};
+ghost use Rattle.a429_import.specs.Import.{entries_of, imported};
 ghost use Rattle.a429_word.specs.Word.{number_at, label_of, HasOddParity};
 ghost use Rattle.a429_import.specs.declared.bits.Bits.{Bits};
 ghost use Rattle.a429_import.specs.declared.parity.Verdict.{Verdict};
@@ -22,4 +28,21 @@ pub fn a_label_is_read_back()
 pub fn bit_32_says_so()
     ensures good { (w : ℕ) → HasOddParity (judged verdict.Good w) }
     ensures stays { (v : Verdict) (w : ℕ) → number_at (judged v w) 1 31 ≡ number_at w 1 31 }
+{}
+
+/// Each line is counted once, and each entry is on one line of the bus pair.
+pub fn counts_add_up()
+    ensures lines { (n : Counts) (lots : List Lot) → AreCounts n lots
+        → n.entries + n.skipped + n.empty + n.comments + n.headings + n.passed_rows + n.of_passed_channels ≡ n.lines }
+    ensures entries { (n : Counts) (lots : List Lot) → AreCounts n lots → n.on_a + n.on_b ≡ n.entries }
+{}
+
+/// Where an export has no fault, each of its lines becomes something.
+pub fn each_line_counts()
+    ensures { (m : Map) (bytes : List ℕ) → (imported m bytes).fault ≡ None → length (imported m bytes).lots ≡ length (recording_lines bytes) }
+{}
+
+/// The times of the entries never fall, by any map.
+pub fn times_never_fall()
+    ensures { (m : Map) (bytes : List ℕ) → NeverFalls 0 (entries_of (imported m bytes).lots) }
 {}

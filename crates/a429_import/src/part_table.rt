@@ -1,11 +1,13 @@
 //! Reads a table of `part`.
 
-ghost use Rattle.std.specs.Prelude.{◌≡◌, Some, None, pos, [], false, option_map};
+ghost use Rattle.std.specs.Prelude.{◌≡◌, ◌≤◌, ◌+◌, Some, None, pos, [], false, option_map, IfOk, IfSome};
 ghost use Rattle.toml.specs.Data.{string, integer, boolean};
 ghost use Rattle.toml.specs.View.{view, table_view};
 ghost use Rattle.a429_profile.specs.Value.{text_of_value, number_of_value, truth_of_value};
 ghost use Rattle.a429_import.specs.Fault.{Gives, GivesSome, GivesInMemory};
 ghost use Rattle.a429_import.specs.Key.{part_row, part_fault, part_value, first_part_fault};
+ghost use Rattle.a429_import.specs.Part.{IsSoundPart};
+ghost use Rattle.a429_import.specs.Piece.{IsPieceCounted};
 ghost use Rattle.a429_import.specs.Value as rule;
 ghost use Rattle.a429_import.specs.Value.{base_of, split_of, column_of_value};
 ghost use Rattle.a429_import.specs.PartTable.{part_in_table, table_fault, digits_keys, digits_in_table, other_keys, others_in_table, joined, piece_of};
@@ -80,7 +82,9 @@ fn number_at(
 ) -> Result<u8, MapFault>
     requires rule { (part_row header key).rule ≡ rule.number 1 high }
     requires default { (part_row header key).default ≡ option_map (λ n. integer (pos n)) default }
-    ensures { Gives (number_of_value (part_value header (table_view table.now) key)) (part_fault header position (table_view table.now) key) result }
+    requires least { IfSome default (λ n. 1 ≤ n) }
+    ensures least { IfOk result (λ n. 1 ≤ n) }
+    ensures gives { Gives (number_of_value (part_value header (table_view table.now) key)) (part_fault header position (table_view table.now) key) result }
 {
     match at(table, key.name()) {
         Some(value) => {
@@ -144,7 +148,8 @@ fn read_digits(
     header: bool,
     position: usize,
 ) -> Result<Digits, MapFault>
-    ensures { GivesInMemory (digits_in_table header (table_view table.now)) (first_part_fault header position (table_view table.now) digits_keys) result }
+    ensures some { IfOk result (λ d. (1 ≤ d.low) × (1 ≤ d.count)) }
+    ensures gives { GivesInMemory (digits_in_table header (table_view table.now)) (first_part_fault header position (table_view table.now) digits_keys) result }
 {
     let column = column_at(alloc, table, header, position, PartKey::Column)?;
     let base = base_at(table, header, position, PartKey::Base)?;
@@ -160,7 +165,9 @@ fn read_digits(
 
 // The piece that is cut out at this byte, if a field is cut.
 fn piece_of(at: Option<u8>, number: u8) -> Option<Piece>
-    ensures { result ≡ piece_of at number }
+    requires { 1 ≤ number }
+    ensures piece { result ≡ piece_of at number }
+    ensures counted { IsPieceCounted result }
 {
     at.map(|at| Piece { at, number })
 }
@@ -171,7 +178,8 @@ fn read_others(
     header: bool,
     position: usize,
 ) -> Result<Others, MapFault>
-    ensures { GivesInMemory (others_in_table header (table_view table.now)) (first_part_fault header position (table_view table.now) other_keys) result }
+    ensures piece { IfOk result (λ o. IsPieceCounted o.piece) }
+    ensures gives { GivesInMemory (others_in_table header (table_view table.now)) (first_part_fault header position (table_view table.now) other_keys) result }
 {
     let reversed = truth_at(table, header, position, PartKey::Reversed)?;
     let prefix = text_at(alloc, table, header, position, PartKey::Prefix)?;
@@ -191,7 +199,8 @@ pub(crate) fn read_part(
     header: bool,
     position: usize,
 ) -> Result<Part, MapFault>
-    ensures { GivesInMemory (part_in_table header (table_view table.now)) (table_fault header position (table_view table.now)) result }
+    ensures sound { IfOk result (λ p. IsSoundPart p) }
+    ensures gives { GivesInMemory (part_in_table header (table_view table.now)) (table_fault header position (table_view table.now)) result }
 {
     let digits = read_digits(alloc, table, header, position)?;
     if u32::from(digits.low) + u32::from(digits.count) > 33 {
@@ -202,7 +211,12 @@ pub(crate) fn read_part(
 }
 
 fn part_from(digits: Digits, others: Others) -> Part
-    ensures { result ≡ joined digits others }
+    requires low { 1 ≤ digits.low }
+    requires count { 1 ≤ digits.count }
+    requires last { digits.low + digits.count ≤ 33 }
+    requires piece { IsPieceCounted others.piece }
+    ensures part { result ≡ joined digits others }
+    ensures sound { IsSoundPart result }
 {
     let Digits {
         column,

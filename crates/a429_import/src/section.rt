@@ -4,10 +4,10 @@ ghost use Rattle.std.specs.Prelude.{◌≡◌, Some, None, Bool, false, IfOk, If
 ghost use Rattle.toml.specs.Data.{string, integer, boolean, array, no_items};
 ghost use Rattle.toml.specs.View.{view, table_view};
 ghost use Rattle.a429_profile.specs.Key.{place_of};
-ghost use Rattle.a429_import.specs.Fault.{Gives, GivesSome, GivesInMemory};
+ghost use Rattle.a429_import.specs.Fault.{Finds, Gives, GivesSome, GivesInMemory};
 ghost use Rattle.a429_import.specs.Key.{section_row, section_place, section_fault, first_section_fault};
 ghost use Rattle.a429_import.specs.Value as rule;
-ghost use Rattle.a429_import.specs.Map.{text_at, texts_at, truth_at, column_at, number_at, row_keys, rows_of, time_keys, time_rule, number_form, channel_keys, channels_of, word_keys, word_rule, status_keys, status_of, parity_bit, parity_fault};
+ghost use Rattle.a429_import.specs.Map.{text_at, texts_at, truth_at, column_at, number_at, row_keys, rows_of, time_keys, later_time_keys, time_fault, repeat_keys, time_rule, number_form, channel_keys, channels_of, word_keys, word_rule, status_keys, status_of, parity_bit, parity_fault};
 ghost use Rattle.a429_import.specs.Value.{separator_of, form_of, unit_of, point_of, bit_word_of};
 ghost use Rattle.std.specs.Prelude.{pos, codes, []};
 
@@ -21,8 +21,8 @@ use crate::texts::Texts;
 use crate::time::{Number, Unit};
 use crate::turning::Turning;
 use crate::value::{
-    BitWord, FormWord, at, bit_word, column, form, number, point, separator, text, texts, truth,
-    unit,
+    BitWord, FormWord, at, bit_word, column, form, no_date, number, off, point, separator, text,
+    texts, truth, unit,
 };
 use a429_profile::Text;
 use std::alloc::Global;
@@ -172,6 +172,52 @@ fn point_at(doc: &Table, header: bool, key: SectionKey) -> Result<u8, MapFault>
     }
 }
 
+// A truth value of which only `false` is taken, which it is where it is missing.
+fn off_at(doc: &Table, header: bool, key: SectionKey) -> Result<(), MapFault>
+    requires rule { (section_row header key).rule ≡ rule.off }
+    requires default { (section_row header key).default ≡ Some (boolean false) }
+    ensures { Finds (section_fault header (table_view doc.now) key) result }
+{
+    match in_section(doc, key)? {
+        Some(value) => off(value, Key::Section(key)),
+        None => Ok(()),
+    }
+}
+
+// A word of which only `none` is taken, which it is where it is missing.
+fn no_date_at(doc: &Table, header: bool, key: SectionKey) -> Result<(), MapFault>
+    requires rule { (section_row header key).rule ≡ rule.no_date }
+    requires default { (section_row header key).default ≡ Some (string (codes "none")) }
+    ensures { Finds (section_fault header (table_view doc.now) key) result }
+{
+    match in_section(doc, key)? {
+        Some(value) => no_date(value, Key::Section(key)),
+        None => Ok(()),
+    }
+}
+
+// A number that no reader needs.
+fn idle_number_at(
+    doc: &Table,
+    header: bool,
+    key: SectionKey,
+    low: u32,
+    high: u32,
+    default: u32,
+) -> Result<(), MapFault>
+    requires rule { (section_row header key).rule ≡ rule.number low high }
+    requires default { (section_row header key).default ≡ Some (integer (pos default)) }
+    ensures { Finds (section_fault header (table_view doc.now) key) result }
+{
+    match in_section(doc, key)? {
+        Some(value) => {
+            number(value, Key::Section(key), low, high)?;
+            Ok(())
+        }
+        None => Ok(()),
+    }
+}
+
 fn bit_word_at(doc: &Table, header: bool, key: SectionKey) -> Result<BitWord, MapFault>
     requires rule { (section_row header key).rule ≡ rule.bit_word }
     requires default { (section_row header key).default ≡ None }
@@ -215,6 +261,15 @@ fn number_form(form: FormWord, point: u8) -> Number
 
 /// The section `time`.
 pub(crate) fn read_time_rule(alloc: Global, doc: &Table, header: bool) -> Result<TimeRule, MapFault>
+    ensures { GivesInMemory (time_rule header (table_view doc.now)) (time_fault header (table_view doc.now)) result }
+{
+    let rule = read_plain_time(alloc, doc, header)?;
+    check_later_times(doc, header)?;
+    Ok(rule)
+}
+
+// Its keys that say how a time is read.
+fn read_plain_time(alloc: Global, doc: &Table, header: bool) -> Result<TimeRule, MapFault>
     ensures { GivesInMemory (time_rule header (table_view doc.now)) (first_section_fault header (table_view doc.now) time_keys) result }
 {
     let column = column_at(alloc, doc, header, SectionKey::TimeColumn)?;
@@ -226,6 +281,26 @@ pub(crate) fn read_time_rule(alloc: Global, doc: &Table, header: bool) -> Result
         number: number_form(form, point),
         unit,
     })
+}
+
+// The keys of `time` that change nothing so far: each has the one value that says so, or a fault.
+fn check_later_times(doc: &Table, header: bool) -> Result<(), MapFault>
+    ensures { Finds (first_section_fault header (table_view doc.now) later_time_keys) result }
+{
+    no_date_at(doc, header, SectionKey::TimeDate)?;
+    off_at(doc, header, SectionKey::HalfDays)?;
+    idle_number_at(doc, header, SectionKey::WrapsAt, 0, 0, 0)?;
+    idle_number_at(doc, header, SectionKey::Back, 0, 0, 0)?;
+    off_at(doc, header, SectionKey::Resets)
+}
+
+/// The section `repeats`: nothing is left out so far.
+pub(crate) fn check_repeats(doc: &Table, header: bool) -> Result<(), MapFault>
+    ensures { Finds (first_section_fault header (table_view doc.now) repeat_keys) result }
+{
+    off_at(doc, header, SectionKey::RepeatsDrop)?;
+    idle_number_at(doc, header, SectionKey::RepeatsWithin, 0, 1_000_000, 0)?;
+    idle_number_at(doc, header, SectionKey::RepeatsAmong, 1, 1_000_000, 1)
 }
 
 /// The section `channel`.

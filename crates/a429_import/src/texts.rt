@@ -1,7 +1,8 @@
 //! Lists of texts.
 
 ghost use Rattle.std.specs.Prelude.{◌≡◌, bytes_eq};
-ghost use Rattle.a429_import.specs.Texts.{has_text};
+ghost use Rattle.std.specs.List.{list_any};
+ghost use Rattle.a429_import.specs.Texts.{has_text, has_twin};
 
 use a429_profile::Text;
 use std::marker::Model;
@@ -41,6 +42,33 @@ impl Texts {
     {
         self.texts.as_slice()
     }
+}
+
+/// Whether one of some texts comes again after it.
+pub(crate) fn has_twin(texts: &[Text]) -> bool
+    ensures { result ≡ has_twin texts.now }
+{
+    for (i, text) in texts.iter().enumerate() {
+        if is_among(text, &texts[i + 1..]) {
+            return true;
+        }
+    }
+    false
+}
+
+/// Whether a text is in both of two lists.
+pub(crate) fn share(some: &[Text], others: &[Text]) -> bool
+    ensures { result ≡ list_any (has_text others.now) some.now }
+{
+    some.iter().any(|text| is_among(text, others))
+}
+
+fn is_among(text: &Text, texts: &[Text]) -> bool
+    ensures { result ≡ has_text texts.now text.now }
+{
+    texts
+        .iter()
+        .any(|one| is_text(one, text.as_str().as_bytes()))
 }
 
 fn is_text(one: &Text, text: &[u8]) -> bool

@@ -5,7 +5,7 @@ ghost use Rattle.std.specs.List.{list_all};
 ghost use Rattle.toml.specs.Data.{as_array, get_member};
 ghost use Rattle.toml.specs.View.{view, table_view};
 ghost use Rattle.a429_profile.specs.Value.{number_of_value, text_of_value, truth_of_value, elements_of, is_text, is_array_of};
-ghost use Rattle.a429_import.specs.Fault.{Gives, GivesSome, GivesInMemory};
+ghost use Rattle.a429_import.specs.Fault.{Finds, Gives, GivesSome, GivesInMemory};
 ghost use Rattle.a429_import.specs.Key.{value_fault};
 ghost use Rattle.a429_import.specs.Value as rule;
 ghost use Rattle.a429_import.specs.Value.{texts_of_value, column_of_value, separator_of, separator_byte, form_of, unit_of, point_of, bit_word_of, base_of, is_split, split_of};
@@ -52,8 +52,34 @@ pub(crate) fn truth(value: &Value, key: Key) -> Result<bool, MapFault>
     value.as_bool().ok_or(MapFault::WrongKind(key))
 }
 
+// A truth value of which only `false` is taken.
+pub(crate) fn off(value: &Value, key: Key) -> Result<(), MapFault>
+    ensures { Finds (value_fault key rule.off (view value.now)) result }
+{
+    match value.as_bool() {
+        Some(false) => Ok(()),
+        Some(true) => Err(MapFault::OutOfRange(key)),
+        None => Err(MapFault::WrongKind(key)),
+    }
+}
+
+// A word of which only `none` is taken.
+pub(crate) fn no_date(value: &Value, key: Key) -> Result<(), MapFault>
+    ensures { Finds (value_fault key rule.no_date (view value.now)) result }
+{
+    let Some(text) = value.as_str() else {
+        return Err(MapFault::WrongKind(key));
+    };
+    if text.as_bytes() == b"none".as_slice() {
+        Ok(())
+    } else {
+        Err(MapFault::OutOfRange(key))
+    }
+}
+
 // A number from low to high.
 pub(crate) fn number(value: &Value, key: Key, low: u32, high: u32) -> Result<u32, MapFault>
+    ensures least { IfOk result (λ n. low ≤ n) }
     ensures fits { IfOk result (λ n. n ≤ high) }
     ensures gives { Gives (number_of_value (view value.now)) (value_fault key (rule.number low high) (view value.now)) result }
 {

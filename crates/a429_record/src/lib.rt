@@ -27,6 +27,8 @@ pub use crate::entry::{Entry, MOST_ENTRIES};
 pub use crate::entry_line::EntryLine;
 pub use crate::entry_text::EntryText;
 pub use crate::fault::ReadFault;
+pub use crate::line::without_mark;
+pub use crate::lines::Lines;
 pub use crate::packing::write_binary;
 pub use crate::recording::read_entries;
 pub use crate::screening::{SCREENED, screen_entries};

@@ -125,8 +125,8 @@ fn row_by_csv(alloc: Global, line: &[u8]) -> Result<LineRow, ReadFault>
     Ok(LineRow::One(row))
 }
 
-// A line without the byte order mark that it may begin with.
-fn without_mark(line: &[u8]) -> &[u8]
+/// A line without the byte order mark that it may begin with.
+pub fn without_mark(line: &[u8]) -> &[u8]
     ensures { result.now ≡ strip_bom line.now }
 {
     if line.starts_with(&MARK) {

@@ -1,0 +1,84 @@
+-- Counts of what becomes of lines, one more at a time; and that each line is counted once.
+use Rattle.std.proofs.Common.{◌≡◌, ℕ, suc, ◌+◌, ◌-◌, ◌^◌, ◌<◌, ◌≤◌, min, Bool, true, false, if◌then◌else◌, List, [], ◌∷◌, ◌++◌, length, length-append, inl, inr, refl, sym, ap, ◌∙◌, arith}
+use Rattle.std.specs.Prelude.{filter}
+use Rattle.std.proofs.lemmas.Bool.{cases_Bool}
+use Rattle.std.proofs.lemmas.List.Elements.{filter-append}
+use Rattle.a429_word.specs.declared.bus.Bus.{Bus}
+use Rattle.a429_word.specs.declared.bus.Bus.TheVariants as bus
+use Rattle.a429_import.specs.declared.counts.Counts.{Counts}
+use Rattle.a429_import.specs.declared.lot.Lot.{Lot}
+use Rattle.a429_import.specs.declared.lot.Lot.TheVariants as lot
+use Rattle.a429_import.specs.Counts.{AreCounts, is_empty, is_entry, is_heading, is_line_a, is_line_b, is_of_passed_channel, is_on_a, is_on_b, is_passed_row, is_remark, is_skipped}
+
+-- ---- one more
+
+filter_short : (p : Lot → Bool) (xs : List Lot) → length (filter p xs) ≤ length xs
+filter_short p [] = omega arith
+filter_short p (x ∷ xs) = elim (cases_Bool (p x)) [
+  | inl here ↦ let short = filter_short p xs in rw here (omega (arith, short))
+  | inr passed ↦ let short = filter_short p xs in rw passed (omega (arith, short))
+]
+
+-- a counter that is below the largest number counts one more
+one_more : (new old n : ℕ) → new ≡ min (old + 1) (2 ^ 64 - 1) → old ≡ n → n + 1 < 2 ^ 64 → new ≡ n + 1
+one_more new old n e is few = grind arith
+
+pub counted_yes : (p : Lot → Bool) (lots : List Lot) (l : Lot) (new old : ℕ) → p l ≡ true → new ≡ min (old + 1) (2 ^ 64 - 1) → length lots + 1 < 2 ^ 64 → old ≡ length (filter p lots) → new ≡ length (filter p (lots ++ l ∷ []))
+counted_yes p lots l new old e is few h =
+    let short = filter_short p lots in
+    let all : filter p (lots ++ l ∷ []) ≡ filter p lots ++ l ∷ [] = filter-append p lots (l ∷ []) ∙ rw e refl in
+    one_more new old (length (filter p lots)) is h (omega (arith, short, few)) ∙ sym (ap length all ∙ length-append (filter p lots) (l ∷ []))
+
+-- ---- each line is counted once
+
+abbrev pub OncePerLine : List Lot → Type 0
+OncePerLine lots =
+    length (filter is_entry lots) + length (filter is_skipped lots) + length (filter is_empty lots) + length (filter is_remark lots)
+    + length (filter is_heading lots) + length (filter is_passed_row lots) + length (filter is_of_passed_channel lots) ≡ length lots
+
+once : (lots : List Lot) → OncePerLine lots
+once [] = refl
+once (lot.Skipped ∷ lots) = let h = once lots in omega (arith, h)
+once (lot.Empty ∷ lots) = let h = once lots in omega (arith, h)
+once (lot.Comment ∷ lots) = let h = once lots in omega (arith, h)
+once (lot.Heading ∷ lots) = let h = once lots in omega (arith, h)
+once (lot.RowPassed ∷ lots) = let h = once lots in omega (arith, h)
+once (lot.ChannelPassed ∷ lots) = let h = once lots in omega (arith, h)
+once (lot.Written e is_cut v ∷ lots) = let h = once lots in omega (arith, h)
+
+pub add_up : (n : Counts) (lots : List Lot) → AreCounts n lots
+    → n.entries + n.skipped + n.empty + n.comments + n.headings + n.passed_rows + n.of_passed_channels ≡ n.lines
+add_up n lots h = let all = once lots in rw (h.entries, h.skipped, h.empty, h.comments, h.headings, h.passed_rows, h.of_passed_channels, h.lines) all
+
+-- and each entry is on one line
+abbrev pub OnOne : List Lot → Type 0
+OnOne lots = length (filter is_on_a lots) + length (filter is_on_b lots) ≡ length (filter is_entry lots)
+
+-- one more that passes, or does not
+abbrev pub one_if : Bool → ℕ → ℕ
+one_if true n = n + 1
+one_if false n = n
+
+one_if-is : (b : Bool) (l : Lot) (lots : List Lot) → length (if b then l ∷ lots else lots) ≡ one_if b (length lots)
+one_if-is true l lots = omega arith
+one_if-is false l lots = refl
+
+with_bus : (b : Bus) (x y z : ℕ) → x + y ≡ z → one_if (is_line_a b) x + one_if (is_line_b b) y ≡ z + 1
+with_bus bus.A x y z h = omega (arith, h)
+with_bus bus.B x y z h = omega (arith, h)
+
+on_one : (lots : List Lot) → OnOne lots
+on_one [] = refl
+on_one (lot.Skipped ∷ lots) = on_one lots
+on_one (lot.Empty ∷ lots) = on_one lots
+on_one (lot.Comment ∷ lots) = on_one lots
+on_one (lot.Heading ∷ lots) = on_one lots
+on_one (lot.RowPassed ∷ lots) = on_one lots
+on_one (lot.ChannelPassed ∷ lots) = on_one lots
+on_one (lot.Written e is_cut v ∷ lots) =
+    let both = with_bus e.bus (length (filter is_on_a lots)) (length (filter is_on_b lots)) (length (filter is_entry lots)) (on_one lots) in
+    let more : length (filter is_entry lots) + 1 ≡ suc (length (filter is_entry lots)) = omega arith in
+    rw (one_if-is (is_line_a e.bus) (lot.Written e is_cut v) (filter is_on_a lots), one_if-is (is_line_b e.bus) (lot.Written e is_cut v) (filter is_on_b lots)) (both ∙ more)
+
+pub lines_add_up : (n : Counts) (lots : List Lot) → AreCounts n lots → n.on_a + n.on_b ≡ n.entries
+lines_add_up n lots h = let all = on_one lots in rw (h.on_a, h.on_b, h.entries) all

@@ -1,0 +1,14 @@
+//! How far an export was read.
+
+use crate::columns::Columns;
+
+/// How far an export was read.
+#[derive(Debug, Drop)]
+pub(crate) struct Progress {
+    /// How many lines were read.
+    pub(crate) lines: u64,
+    /// Where the columns are, once that is known.
+    pub(crate) columns: Option<Columns>,
+    /// The time of the latest entry, 0 before the first.
+    pub(crate) latest: u64,
+}
