@@ -1,9 +1,10 @@
 //! Laws of a sink by itself, whatever its source sends, and of recordings that begin anywhere in a run.
 
-ghost use Rattle.std.specs.Prelude.{◌≡◌, ◌↔◌, ◌⊎◌, ◌++◌, ℕ, suc, List, [], ◌∷◌, Contains, Some, slice_get, take};
+ghost use Rattle.std.specs.Prelude.{◌≡◌, ◌↔◌, ◌⊎◌, ◌++◌, ℕ, suc, List, [], ◌∷◌, Contains, Some, map, slice_get, take};
 ghost use Rattle.a429_word.specs.declared.bus.Bus.TheVariants as bus;
 ghost use Rattle.a429_profile.specs.Profile.{Contents, IsProfile};
 ghost use Rattle.a429_ldu.specs.declared.forms.Form.{Form};
+ghost use Rattle.a429_link.specs.declared.file.FileBytes.{FileBytes};
 ghost use Rattle.a429_link.specs.declared.number.UnitNumber.{UnitNumber};
 ghost use Rattle.a429_link.specs.declared.seen.Seen.{Seen};
 ghost use Rattle.a429_link.specs.Allowed.{kind_of};
@@ -16,6 +17,7 @@ ghost use Rattle.a429_link.specs.Sink.{MayAnswer, Quiet, Sink, in_phase, without
 ghost use Rattle.a429_link.specs.Trace.{files_of, sink_after, sink_at_first};
 ghost use Rattle.a429_sink.specs.Alone.{AreSinkAllowed, SinkAllows, IsSinkRefused, IsSinkRun, SinkKeeps, SinkKeepsFrom, SinkStep, sink_delivers, sink_end, sink_trace};
 ghost use Rattle.a429_sink.specs.Anywhere.{AreLastOf, EndsWith, HasRequest, IsBadAnywhere, IsPartOfARun, IsRefusedAnywhere, sure_files};
+ghost use Rattle.a429_sink.specs.History.{ArePieces, FileUnits, IsTold, Told, joined_pieces, sound_words, whole_units};
 ghost use Rattle.a429_sink.specs.Lone.{capped, crosses, kept, listed};
 ghost use Rattle.a429_sink.specs.Owed.{IsOwed, IsOwedBefore, kinds_owed, owed_by};
 ghost use Rattle.a429_sink.specs.declared.owed.Owed.{Owed};
@@ -112,4 +114,24 @@ pub fn one_number_is_one_unit_anywhere()
 /// nor a start word whose number may not come after a unit whose acknowledgement is in it.
 pub fn bad_anywhere_is_impossible()
     ensures { (p : Contents) (items : List Seen) (i : ℕ) → IsProfile p → IsBadAnywhere p items i → IsPartOfARun p (take (suc i) items) → ⊥ }
+{}
+
+// ---- a recording in pieces
+
+/// The pieces of a recording, joined, are the recording.
+pub fn pieces_are_the_recording()
+    ensures { (p : Contents) (items : List Seen) (pieces : List (List Seen)) → ArePieces p items pieces → joined_pieces pieces ≡ items }
+{}
+
+/// What is said of a piece. `sound`: of its words before the one at which it stops, none is refused. `stop`: no run records them and then
+/// that word, whatever it recorded before them. `files`: in each run whose last words they are, the last files delivered are these.
+pub fn what_is_said_of_a_piece()
+    ensures sound { (p : Contents) (piece : List Seen) (t : Told) → IsTold p piece t → (k : ℕ) → IsRefusedAnywhere p (sound_words piece t.stop) k → ⊥ }
+    ensures stop { (p : Contents) (piece : List Seen) (t : Told) (k : ℕ) → IsProfile p → IsTold p piece t → t.stop ≡ Some k → IsPartOfARun p (take (suc k) piece) → ⊥ }
+    ensures files { (p : Contents) (piece : List Seen) (t : Told) (r : RunOf p) → IsTold p piece t → EndsWith r (sound_words piece t.stop) → AreLastOf t.files (delivered_by r) }
+{}
+
+/// The files that are sure are those of which all units are acknowledged, in order; the units of others are those of `open_units`.
+pub fn whole_files_are_sure()
+    ensures { (p : Contents) (items : List Seen) → map (λ (f : FileBytes). f.number) (sure_files p items) ≡ map (λ (u : FileUnits). u.file) (whole_units p items) }
 {}
