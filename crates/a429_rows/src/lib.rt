@@ -23,3 +23,5 @@ mod runs;
 mod search;
 #[cfg(test)]
 mod side;
+#[cfg(test)]
+mod sink;
