@@ -1,6 +1,6 @@
 -- Examples: the definitions compute, under a sample profile, what recordings say of their sink by itself, and which files are sure of
 -- recordings that begin in a file.
-use Rattle.std.proofs.Common.{◌≡◌, ℕ, zero, suc, true, List, [], ◌∷◌, ◌++◌, drop, map, take, refl, inl, inr}
+use Rattle.std.proofs.Common.{◌≡◌, ℕ, zero, suc, ◌<◌, ◌≤◌, true, List, [], ◌∷◌, ◌++◌, drop, length, map, slice_get, take, refl, inl, inr, arith, lit≤}
 use Rattle.a429_word.specs.Word.{sum_below}
 use Rattle.a429_word.specs.declared.bus.Bus.TheVariants as bus
 use Rattle.a429_profile.specs.Profile.{Contents}
@@ -8,8 +8,8 @@ use Rattle.a429_link.specs.declared.file.FileBytes.{FileBytes}
 use Rattle.a429_link.specs.declared.seen.Seen.{Seen}
 use Rattle.a429_link.specs.Trace.{files_of, sink_after, sink_at_first}
 use Rattle.a429_sink.specs.declared.owed.Owed.TheVariants as owed
-use Rattle.a429_sink.specs.Anywhere.{IsRefusedAnywhere, sure_files}
-use Rattle.a429_sink.specs.History.{open_units}
+use Rattle.a429_sink.specs.Anywhere.{Glimpse, GlimpseAllows, GlimpseAllowsNext, IsRefusedAnywhere, glimpse_at_first, glimpsed, glimpses, sure_files}
+use Rattle.a429_sink.specs.History.{ArePieces, Before, MayEnd, open_units}
 use Rattle.a429_sink.specs.Owed.{owed_by}
 
 abbrev word_a : ℕ → Seen
@@ -132,3 +132,62 @@ load_sure = refl
 pub again_stops : IsRefusedAnywhere sample (load ++ load) 17
 unfolding sum_below
 again_stops a = elim a [ inl f ↦ cc f | inr m ↦ m ]
+
+-- each of these words is allowed after those before it
+abbrev AreGlimpsed : List Seen → Glimpse → Type 0
+AreGlimpsed [] g = Unit {0}
+AreGlimpsed (i ∷ items) g = GlimpseAllows sample g i × AreGlimpsed items (glimpses sample i g)
+
+none_before : (items more : List Seen) (g : Glimpse) → AreGlimpsed items g → (m : ℕ) → m < length items → (GlimpseAllowsNext sample (glimpsed sample (take m (items ++ more)) g) (slice_get (items ++ more) m) → ⊥) → ⊥
+none_before [] more g h m l refused = absurd (omega arith)
+none_before (i ∷ items) more g h zero l refused = refused h.0
+none_before (i ∷ items) more g h (suc m) l refused = none_before items more (glimpses sample i g) h.1 m (omega arith) refused
+
+nowhere : (items : List Seen) (g : Glimpse) → AreGlimpsed items g → (m : ℕ) → (GlimpseAllowsNext sample (glimpsed sample (take m items) g) (slice_get items m) → ⊥) → ⊥
+nowhere [] g h zero refused = refused tt
+nowhere [] g h (suc m) refused = refused tt
+nowhere (i ∷ items) g h zero refused = refused h.0
+nowhere (i ∷ items) g h (suc m) refused = nowhere items (glimpses sample i g) h.1 m refused
+
+load_allowed : AreGlimpsed load glimpse_at_first
+unfolding sum_below
+load_allowed = (inr tt, (inr refl, (inr (tt, refl), (inr (tt, lit≤ tt), (inr tt, (inr (refl, refl), (inr tt, (inr refl, (inr (tt, refl), (inr (tt, lit≤ tt), (inr tt, (inr (refl, refl), tt))))))))))))
+
+allowed_again : AreGlimpsed (take 17 (load ++ load)) glimpse_at_first
+unfolding sum_below
+allowed_again = (inr tt, (inr refl, (inr (tt, refl), (inr (tt, lit≤ tt), (inr tt, (inr (refl, refl), (inr tt, (inr refl, (inr (tt, refl), (inr (tt, lit≤ tt), (inr tt, (inr (refl, refl), (inr tt, (inr refl, (inr (tt, refl), (inr (tt, lit≤ tt), (inr tt, tt)))))))))))))))))
+
+begins_at : MayEnd sample (load ++ load) 12
+unfolding sum_below
+begins_at = (lit≤ tt, (tt, refl))
+
+no_later : (m : ℕ) → 12 < m → m ≤ 17 → MayEnd sample (load ++ load) m → ⊥
+unfolding sum_below
+no_later zero after until place = absurd (omega arith)
+no_later (suc zero) after until place = absurd (omega arith)
+no_later (suc (suc zero)) after until place = absurd (omega arith)
+no_later (suc (suc (suc zero))) after until place = absurd (omega arith)
+no_later (suc (suc (suc (suc zero)))) after until place = absurd (omega arith)
+no_later (suc (suc (suc (suc (suc zero))))) after until place = absurd (omega arith)
+no_later (suc (suc (suc (suc (suc (suc zero)))))) after until place = absurd (omega arith)
+no_later (suc (suc (suc (suc (suc (suc (suc zero))))))) after until place = absurd (omega arith)
+no_later (suc (suc (suc (suc (suc (suc (suc (suc zero)))))))) after until place = absurd (omega arith)
+no_later (suc (suc (suc (suc (suc (suc (suc (suc (suc zero))))))))) after until place = absurd (omega arith)
+no_later (suc (suc (suc (suc (suc (suc (suc (suc (suc (suc zero)))))))))) after until place = absurd (omega arith)
+no_later (suc (suc (suc (suc (suc (suc (suc (suc (suc (suc (suc zero))))))))))) after until place = absurd (omega arith)
+no_later (suc (suc (suc (suc (suc (suc (suc (suc (suc (suc (suc (suc zero)))))))))))) after until place = absurd (omega arith)
+no_later (suc (suc (suc (suc (suc (suc (suc (suc (suc (suc (suc (suc (suc zero))))))))))))) after until place = place.1.0
+no_later (suc (suc (suc (suc (suc (suc (suc (suc (suc (suc (suc (suc (suc (suc zero)))))))))))))) after until place = place.1.0
+no_later (suc (suc (suc (suc (suc (suc (suc (suc (suc (suc (suc (suc (suc (suc (suc zero))))))))))))))) after until place = place.1.0
+no_later (suc (suc (suc (suc (suc (suc (suc (suc (suc (suc (suc (suc (suc (suc (suc (suc zero)))))))))))))))) after until place = place.1.0
+no_later (suc (suc (suc (suc (suc (suc (suc (suc (suc (suc (suc (suc (suc (suc (suc (suc (suc zero))))))))))))))))) after until place = place.1.0
+no_later (suc (suc (suc (suc (suc (suc (suc (suc (suc (suc (suc (suc (suc (suc (suc (suc (suc (suc m)))))))))))))))))) after until place = absurd (omega arith)
+
+-- the second load begins the second piece
+pub again_pieces : ArePieces sample (load ++ load) (load ∷ (load ∷ []))
+again_pieces = (
+  load,
+  refl,
+  Before 17 (again_stops, λ m l. none_before (take 17 (load ++ load)) (drop 17 (load ++ load)) glimpse_at_first allowed_again m l) begins_at (lit≤ tt) no_later,
+  (refl, inl (nowhere load glimpse_at_first load_allowed)),
+)
