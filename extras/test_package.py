@@ -79,6 +79,7 @@ class Package(unittest.TestCase):
 
     def test_its_files(self):
         root = self.room / "root/usr/share"
+        self.assertEqual((self.room / "root/usr/bin/campaign").read_bytes(), (ROOT / "extras/campaign/campaign").read_bytes())
         for it in ("man/man1/a429.1.gz", "bash-completion/completions/a429", "doc/a429/README.md", "doc/a429/docs/TUTORIAL.md"):
             self.assertTrue((root / it).is_file(), it)
         for it in ("examples", "extras"):

@@ -26,9 +26,6 @@ class Pages(unittest.TestCase):
     def test_sigrok(self):
         self.page("sigrok", "sigrok-cli")
 
-    def test_junit(self):
-        self.page("junit")
-
     @unittest.skipIf(sys.version_info < (3, 10), "Python before 3.10")
     def test_python(self):
         self.page("python")

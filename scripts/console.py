@@ -2,8 +2,8 @@
 
 A block of code that names a file after its language is that file. In a block of `console` each line that begins with
 `$ ` is a command, and the lines up to the next command are what it writes. All is done in its order in one shell, in a home
-folder of the page's own that has this repository as ~/hulqasem, with the tested program as `a429` and as its `scripts/a429`, and
-nothing on standard input.
+folder of the page's own that has this repository as ~/hulqasem, with the tested program as `a429` and as its `scripts/a429`, `campaign`
+of extras, and nothing on standard input.
 
 The pages of docs show what a terminal shows: standard output and standard error together, and no status. The pages of
 scripts/cases are exact. There a line of standard error begins with `2> `, as the shell names it, and a last line
@@ -141,6 +141,7 @@ def answers_of(steps, program, is_exact):
         for folder in (home, home / "bin", answers):
             folder.mkdir()
         (home / "bin/a429").symlink_to(program)
+        (home / "bin/campaign").symlink_to(ROOT / "extras/campaign/campaign")
         lay_repository(home / "hulqasem", program)
         script.write_text(script_of(steps, is_exact))
         env = {**os.environ, "HOME": str(home), "PATH": f"{home}/bin:{os.environ['PATH']}"}

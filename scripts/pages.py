@@ -8,9 +8,10 @@ from urllib.parse import unquote
 from console import blocks_of
 
 # A line of a block that is a command, in a block that is not `console`.
-COMMAND = re.compile(r"(?:scripts/|\.ci/|\./|a429 [a-z]|rt |cd |export )")
-# The line above a block whose commands no test can run, with the reason.
+COMMAND = re.compile(r"(?:scripts/|\.ci/|\./|a429 [a-z]|campaign [a-z]|rt |cd |export )")
+# The line above a block whose commands no test can run, with the reason; and above one that scripts/test-campaign runs.
 NOT_RUN = re.compile(r"<!-- not run: .+ -->")
+RUN_ON_ENGINES = "<!-- run by scripts/test-campaign -->"
 # What looks like a name of code: words joined by underscores, or two or more words that begin with capitals.
 NAME = re.compile(r"[a-z]\w*_\w*[a-z0-9]|(?:[A-Z][a-z0-9]+){2,}")
 
@@ -93,13 +94,24 @@ def commands_run(pages):
             if block.language == "console" for _, it in commands_of(block)}
 
 
+def line_above(block, lines):
+    """The line of a page before the one that opens a block."""
+    return lines[block.line - 3] if block.line > 2 else ""
+
+
+def run_on_engines(text):
+    """The texts of a page's blocks that scripts/test-campaign runs."""
+    lines = text.splitlines()
+    return [it.text for it in blocks_of(text) if line_above(it, lines) == RUN_ON_ENGINES]
+
+
 def commands_never_run(page, pages_run):
     """The commands that a page shows and that no test runs, except in blocks that say why."""
     ran, text = commands_run(pages_run), page.read_text(encoding="utf-8")
     lines = text.splitlines()
     for block in blocks_of(text):
-        # (the line before the one that opens the block)
-        is_excused = NOT_RUN.fullmatch(lines[block.line - 3]) if block.line > 2 else None
+        above = line_above(block, lines)
+        is_excused = NOT_RUN.fullmatch(above) or above == RUN_ON_ENGINES
         if not is_excused and not (block.language == "console" and page in pages_run):
             for line, command in commands_of(block):
                 if as_run(command) not in ran:
@@ -115,9 +127,11 @@ def shared_files(page):
 
 
 def idle_files(page):
-    """The files that a page shows and that none of its commands uses."""
-    blocks = [*blocks_of(page.read_text(encoding="utf-8"))]
+    """The files that a page shows and that none of its commands uses. A Snakefile is used by `snakemake`, which does not name it."""
+    text = page.read_text(encoding="utf-8")
+    blocks = [*blocks_of(text)]
     commands = " ".join(it for block in blocks if block.language == "console" for _, it in commands_of(block))
+    commands += " ".join(run_on_engines(text)).replace("snakemake", "Snakefile")
     for block in blocks:
         if block.name and block.name not in commands:
             yield Fault(page, block.line, f"no command uses the file {block.name}")

@@ -4,7 +4,9 @@ import unittest
 from pathlib import Path
 
 from console import blocks_of
-from pages import anchors_of, commands_never_run, dead_links, idle_files, lost_definitions, lost_names, missing_files, shared_files
+from pages import (
+    anchors_of, commands_never_run, dead_links, idle_files, lost_definitions, lost_names, missing_files, run_on_engines, shared_files,
+)  # fmt: skip
 
 PAGE = """\
 # A page
@@ -74,6 +76,13 @@ class Pages(unittest.TestCase):
         text = "<!-- not run: no such tool -->\n```\na429 one\n```\n\n```\na429 two\n```\n"
         faults = commands_never_run(self.put("excused.md", text), set())
         self.assertEqual(self.said(faults), [(7, "no test runs: a429 two")])
+
+    def test_a_block_can_say_that_it_is_run_on_engines(self):
+        text = "```python Snakefile\nrule\n```\n\n<!-- run by scripts/test-campaign -->\n```sh\na429 one\nsnakemake\n```\n\n```\na429 two\n```\n"
+        page = self.put("engines.md", text)
+        self.assertEqual(run_on_engines(text), ["a429 one\nsnakemake\n"])
+        self.assertEqual(self.said(commands_never_run(page, set())), [(12, "no test runs: a429 two")])
+        self.assertEqual(self.said(idle_files(page)), [])
 
     def test_commands_of_a_page_that_is_not_run_are_named(self):
         self.assertIn((21, "no test runs: sh try"), self.said(commands_never_run(self.page, set())))

@@ -1,11 +1,14 @@
 //! The program `a429`: reads its words, opens what the command names, and ends with its status.
 #![tactic(auto)]
 
+ghost use Rattle.std.specs.Prelude.{◌≡◌, false, IfOk};
+ghost use Rattle.a429_word.specs.Tally.{has_failed};
+
 use a429_check::{
     Claim, Command, Folder, NewFile, PartFolder, Rule, RunFault, Side, Span, command, read_whole,
-    report, run_by_rule, run_cut, run_extract, run_forms, run_keep, run_labels, run_make, run_pack,
-    run_picture, run_series, run_show, run_side, run_sink, run_survey, run_trace, run_units,
-    run_upgrade, run_verify, run_version, run_word,
+    report, run_by_rule, run_cut, run_extract, run_forms, run_import, run_keep, run_labels,
+    run_make, run_pack, run_picture, run_series, run_show, run_side, run_sink, run_survey,
+    run_trace, run_units, run_upgrade, run_verify, run_version, run_word,
 };
 use a429_record::EntryReader;
 use a429_view::UnitRows;
@@ -90,6 +93,11 @@ fn answer<W: Write + Drop>(
             side: wanted,
             new_rec,
         } => side(rt, alloc, profile, recording, wanted, new_rec, &mut out),
+        Command::Import {
+            map,
+            export,
+            new_rec,
+        } => import(rt, alloc, map, export, new_rec, &mut out),
         Command::Trace { profile, recording } => trace(rt, alloc, profile, recording, &mut out),
         Command::Sink { profile, recording } => sink(rt, alloc, profile, recording, &mut out),
         Command::Make { profile, files } => make(rt, alloc, profile, files.as_slice(), &mut out),
@@ -218,6 +226,21 @@ fn side<W: Write>(
         &mut new_rec.out,
         out,
     );
+    new_rec.settle(status)
+}
+
+fn import<W: Write>(
+    rt: &impl Files,
+    alloc: Global,
+    map: &str,
+    export: &str,
+    new_rec: &str,
+    out: &mut Tally<W>,
+) -> Result<u8, RunFault> {
+    let map = bytes_of(rt, alloc, map)?;
+    let mut export = opened(rt, export, u64::MAX)?;
+    let mut new_rec = emptied(rt, alloc, new_rec)?;
+    let status = run_import(alloc, map.as_slice(), &mut export, &mut new_rec.out, out);
     new_rec.settle(status)
 }
 
@@ -434,7 +457,9 @@ fn opened_claim<F: Files>(
 }
 
 // A file to read. One that cannot be opened is reported as one that fails.
-fn opened<F: Files>(rt: &F, path: &str, cap: u64) -> Result<Tally<F::File>, RunFault> {
+fn opened<F: Files>(rt: &F, path: &str, cap: u64) -> Result<Tally<F::File>, RunFault>
+    ensures { IfOk result (λ file. has_failed file ≡ false) }
+{
     let file = fs::open(rt, path).map_err(|_| RunFault::Device)?;
     Ok(Tally::new(file, cap))
 }

@@ -25,6 +25,8 @@ left_more profile at Failed More run.TooLong more h = h
 left_more profile at Failed More run.BadWord more h = h
 left_more profile at Failed More run.Usage more h = h
 left_more profile at Failed More run.OldFiles more h = h
+left_more profile at Failed More (run.Map f) more h = h
+left_more profile at Failed More (run.Export f) more h = h
 
 -- no listener fails where there is none
 pub no_listener : (rec certificate shelf : Bool) → AnyFailed rec certificate shelf false → HasFailed rec certificate shelf
@@ -42,6 +44,8 @@ left_by_profile profile at Failed run.TooLong e h = absurd e
 left_by_profile profile at Failed run.BadWord e h = absurd e
 left_by_profile profile at Failed run.Usage e h = absurd e
 left_by_profile profile at Failed run.OldFiles e h = absurd e
+left_by_profile profile at Failed (run.Map f) e h = absurd e
+left_by_profile profile at Failed (run.Export f) e h = absurd e
 
 module _ (profile : List ℕ) (p : Contents) (at : Progress) (Failed : Type 0) (is : IsProfileOf profile p) where
   -- the stream has a fault

@@ -27,3 +27,5 @@ comes_by c d h run.Memory is = h.memory is
 comes_by c d h run.BadWord is = is
 comes_by c d h run.Usage is = is
 comes_by c d h run.OldFiles is = is
+comes_by c d h (run.Map f) is = is
+comes_by c d h (run.Export f) is = is

@@ -20,6 +20,7 @@ pub mod CheckFacts
 pub mod StreamingFacts
 pub mod SurveyFacts
 pub mod OutputFacts
+pub mod ImportFacts
 pub mod KeepFacts
 pub mod SideFacts
 pub mod SinkFacts

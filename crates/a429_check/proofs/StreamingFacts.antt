@@ -38,6 +38,8 @@ all_before first left es run.Memory h none = tt
 all_before first left es run.BadWord h none = tt
 all_before first left es run.Usage h none = tt
 all_before first left es run.OldFiles h none = tt
+all_before first left es (run.Map f) h none = tt
+all_before first left es (run.Export f) h none = tt
 
 earlier : (first left : Option Recording) (es : List Entry) (f : ReadFault) → Came first es left → IfSome left (λ r. r.fault ≡ Some f) → IfSome first (λ r. r.fault ≡ Some f)
 earlier None left es f h is = tt
@@ -63,3 +65,5 @@ next_earlier first left es failed run.Memory h is = is
 next_earlier first left es failed run.BadWord h is = is
 next_earlier first left es failed run.Usage h is = is
 next_earlier first left es failed run.OldFiles h is = is
+next_earlier first left es failed (run.Map f) h is = is
+next_earlier first left es failed (run.Export f) h is = is

@@ -178,6 +178,8 @@ all_given run.TooLong given n h = h
 all_given run.BadWord given n h = h
 all_given run.Usage given n h = h
 all_given run.OldFiles given n h = h
+all_given (run.Map f) given n h = h
+all_given (run.Export f) given n h = h
 
 -- ---- once it is written
 

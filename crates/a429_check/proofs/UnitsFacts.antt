@@ -143,3 +143,5 @@ leaves_units contents i old new run.TooLong fresh before h = tt
 leaves_units contents i old new run.BadWord fresh before h = tt
 leaves_units contents i old new run.Usage fresh before h = tt
 leaves_units contents i old new run.OldFiles fresh before h = tt
+leaves_units contents i old new (run.Map f) fresh before h = tt
+leaves_units contents i old new (run.Export f) fresh before h = tt

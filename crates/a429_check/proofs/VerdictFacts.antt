@@ -106,6 +106,8 @@ unheard l i run.TooLong h = tt
 unheard l i run.BadWord h = tt
 unheard l i run.Usage h = tt
 unheard l i run.OldFiles h = tt
+unheard l i (run.Map f) h = tt
+unheard l i (run.Export f) h = tt
 
 -- a fault of a stream, as a command reports it
 pub by_stream : (i : Input) (shelf : Shelved) (p : Contents) (Failed : Type 0) (f : StreamFault) → IsProfileOf i.profile p → Refuses (compared p i.certificate i.recording) (change shelf.before shelf.after) f

@@ -4,7 +4,7 @@ use Rattle.a429_profile.specs.declared.fault.ProfileFault.{ProfileFault}
 use Rattle.a429_ldu.specs.declared.fault.CutFault.{CutFault}
 use Rattle.a429_record.specs.declared.fault.ReadFault.{ReadFault}
 use Rattle.a429_check.specs.declared.fault.RunFault.{RunFault}
-use Rattle.a429_check.specs.declared.fault.RunFault.TheVariants.{BadWord, Profile, Read, Cut, TooLong, OldFiles, Device, Memory, Usage}
+use Rattle.a429_check.specs.declared.fault.RunFault.TheVariants.{BadWord, Profile, Read, Cut, Map, Export, TooLong, OldFiles, Device, Memory, Usage}
 
 -- 3: the input is refused; 4: a device failed or memory was refused; 5: wrong usage
 abbrev pub status_of : RunFault → ℕ
@@ -12,6 +12,8 @@ status_of BadWord = 3
 status_of (Profile f) = 3
 status_of (Read f) = 3
 status_of (Cut k f) = 3
+status_of (Map f) = 3
+status_of (Export f) = 3
 status_of TooLong = 3
 status_of OldFiles = 3
 status_of Device = 4
@@ -31,7 +33,8 @@ pub record Causes : Type 1 where
 abbrev pub never : Causes
 never = record { profile = λ f. ⊥; recording = λ f. ⊥; file = λ k f. ⊥; too_long = ⊥; device = ⊥; memory = ⊥ }
 
--- the fault comes by these causes; what reads a profile, a recording or files answers no bad word and no wrong usage, and sees no folder
+-- the fault comes by these causes; what reads a profile, a recording or files answers no bad word and no wrong usage, and sees no map, no export
+-- and no folder
 abbrev pub ComesBy : Causes → RunFault → Type 0
 ComesBy c (Profile f) = c.profile f
 ComesBy c (Read f) = c.recording f
@@ -42,3 +45,5 @@ ComesBy c Memory = c.memory
 ComesBy c BadWord = ⊥
 ComesBy c Usage = ⊥
 ComesBy c OldFiles = ⊥
+ComesBy c (Map f) = ⊥
+ComesBy c (Export f) = ⊥

@@ -23,6 +23,8 @@ pub mod Picture
 pub mod Streaming
 pub mod Survey
 pub mod Keep
+pub mod Map
+pub mod Import
 pub mod Side
 pub mod Sink
 pub mod Cut

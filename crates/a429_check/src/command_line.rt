@@ -16,7 +16,7 @@ use std::alloc::{AllocError, Global};
 pub mod commands;
 
 // Each command, and the names of the words that it takes.
-const COMMANDS: [(&str, &[&str]); 21] = [
+const COMMANDS: [(&str, &[&str]); 22] = [
     ("version", &[]),
     ("word", &["HEX"]),
     ("labels", &["PROFILE"]),
@@ -29,6 +29,7 @@ const COMMANDS: [(&str, &[&str]); 21] = [
     ("sink", &["PROFILE", "REC"]),
     ("cut", &["PROFILE", "REC", "DIR", "MOST"]),
     ("side", &["PROFILE", "REC", "LINE", "OUT", "ANSWER"]),
+    ("import", &["MAP", "EXPORT", "OUT"]),
     ("check", &["PROFILE", "REC", "CERT"]),
     ("decide", &["PROFILE", "REC", "CERT"]),
     ("verify", &["PROFILE", "REC", "CERT"]),
@@ -79,6 +80,7 @@ fn of_name<'a>(alloc: Global, name: &str, given: &ArgMatches<'a>) -> Result<Comm
         "make" => make_of(alloc, given),
         "cut" => cut_of(given),
         "side" => side_of(given),
+        "import" => import_of(given),
         _ => of_recording(name, given),
     }
 }
@@ -289,6 +291,29 @@ fn side_of<'a>(given: &ArgMatches<'a>) -> Result<Command<'a>, RunFault>
             line: line_of(given.get_str("LINE"))?,
             answer: answer_of(given.get_str("ANSWER"))?,
         },
+        new_rec,
+    })
+}
+
+// The command that makes a recording of an export.
+fn import_of<'a>(given: &ArgMatches<'a>) -> Result<Command<'a>, RunFault>
+    ensures apart { IfOk result KeepsInputs }
+    ensures err { IfErr result (λ e. e ≡ RunFault.Usage) }
+{
+    let words = (
+        given.get_str("MAP"),
+        given.get_str("EXPORT"),
+        given.get_str("OUT"),
+    );
+    let (Some(map), Some(export), Some(new_rec)) = words else {
+        return Err(RunFault::Usage);
+    };
+    if !may_write(new_rec, map) || !may_write(new_rec, export) {
+        return Err(RunFault::Usage);
+    }
+    Ok(Command::Import {
+        map,
+        export,
         new_rec,
     })
 }

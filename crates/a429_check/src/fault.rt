@@ -4,6 +4,7 @@ ghost use Rattle.std.specs.Prelude.{◌≡◌};
 ghost use Rattle.a429_check.specs.Fault.{status_of};
 ghost use Rattle.a429_check.specs.declared.fault.RunFault.TheVariants as fault;
 
+use a429_import::{ExportFault, MapFault};
 use a429_ldu::CutFault;
 use a429_profile::ProfileFault;
 use a429_record::ReadFault;
@@ -28,6 +29,12 @@ pub enum RunFault {
     /// The file at this place, from 0, can not be cut into link data units: it is `Empty` or `TooLong`.
     #[error("file {}: {}", .0.saturating_add(1), cut_text(.1))]
     Cut(usize, CutFault),
+    /// The map has this fault, its first one.
+    #[error("map: {0}")]
+    Map(MapFault),
+    /// The export has this fault, its first one.
+    #[error("export: {0}")]
+    Export(ExportFault),
     /// The span of a picture has more than 2,000 steps.
     #[error("picture: too long")]
     TooLong,
@@ -81,6 +88,8 @@ impl RunFault {
             | RunFault::Profile(_)
             | RunFault::Read(_)
             | RunFault::Cut(..)
+            | RunFault::Map(_)
+            | RunFault::Export(_)
             | RunFault::TooLong
             | RunFault::OldFiles => 3,
             RunFault::Device | RunFault::Memory => 4,

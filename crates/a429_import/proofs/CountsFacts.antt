@@ -1,5 +1,5 @@
 -- Counts of what becomes of lines, one more at a time; and that each line is counted once.
-use Rattle.std.proofs.Common.{◌≡◌, ℕ, suc, ◌+◌, ◌-◌, ◌^◌, ◌<◌, ◌≤◌, min, Bool, true, false, if◌then◌else◌, List, [], ◌∷◌, ◌++◌, length, length-append, inl, inr, refl, sym, ap, ◌∙◌, arith}
+use Rattle.std.proofs.Common.{◌≡◌, ℕ, suc, ◌+◌, ◌-◌, ◌^◌, ◌<◌, ◌≤◌, min, max, Bool, true, false, if◌then◌else◌, List, [], ◌∷◌, ◌++◌, length, length-append, inl, inr, refl, sym, ap, ◌∙◌, arith}
 use Rattle.std.specs.Prelude.{filter}
 use Rattle.std.proofs.lemmas.Bool.{cases_Bool}
 use Rattle.std.proofs.lemmas.List.Elements.{filter-append}
@@ -8,7 +8,7 @@ use Rattle.a429_word.specs.declared.bus.Bus.TheVariants as bus
 use Rattle.a429_import.specs.declared.counts.Counts.{Counts}
 use Rattle.a429_import.specs.declared.lot.Lot.{Lot}
 use Rattle.a429_import.specs.declared.lot.Lot.TheVariants as lot
-use Rattle.a429_import.specs.Counts.{AreCounts, is_empty, is_entry, is_heading, is_line_a, is_line_b, is_of_passed_channel, is_on_a, is_on_b, is_passed_row, is_remark, is_skipped}
+use Rattle.a429_import.specs.Counts.{AreCounts, is_empty, is_entry, is_heading, is_line_a, is_line_b, is_of_passed_channel, is_on_a, is_on_b, is_passed_row, is_remark, is_skipped, lift_of, most_lift_of, is_repeated}
 
 -- ---- one more
 
@@ -29,12 +29,20 @@ counted_yes p lots l new old e is few h =
     let all : filter p (lots ++ l ∷ []) ≡ filter p lots ++ l ∷ [] = filter-append p lots (l ∷ []) ∙ rw e refl in
     one_more new old (length (filter p lots)) is h (omega (arith, short, few)) ∙ sym (ap length all ∙ length-append (filter p lots) (l ∷ []))
 
+-- the most of some lifts, and one more
+most-last : (lots : List Lot) (l : Lot) → most_lift_of (lots ++ l ∷ []) ≡ max (most_lift_of lots) (lift_of l)
+most-last [] l = omega arith
+most-last (x ∷ lots) l = let more = most-last lots l in omega (arith, more)
+
+pub most_lift-more : (lots : List Lot) (l : Lot) (most lift new : ℕ) → lift ≡ lift_of l → most ≡ most_lift_of lots → new ≡ max most lift → new ≡ most_lift_of (lots ++ l ∷ [])
+most_lift-more lots l most lift new e m is = omega (arith, most-last lots l, e, m, is)
+
 -- ---- each line is counted once
 
 abbrev pub OncePerLine : List Lot → Type 0
 OncePerLine lots =
     length (filter is_entry lots) + length (filter is_skipped lots) + length (filter is_empty lots) + length (filter is_remark lots)
-    + length (filter is_heading lots) + length (filter is_passed_row lots) + length (filter is_of_passed_channel lots) ≡ length lots
+    + length (filter is_heading lots) + length (filter is_passed_row lots) + length (filter is_of_passed_channel lots) + length (filter is_repeated lots) ≡ length lots
 
 once : (lots : List Lot) → OncePerLine lots
 once [] = refl
@@ -44,11 +52,12 @@ once (lot.Comment ∷ lots) = let h = once lots in omega (arith, h)
 once (lot.Heading ∷ lots) = let h = once lots in omega (arith, h)
 once (lot.RowPassed ∷ lots) = let h = once lots in omega (arith, h)
 once (lot.ChannelPassed ∷ lots) = let h = once lots in omega (arith, h)
-once (lot.Written e is_cut v ∷ lots) = let h = once lots in omega (arith, h)
+once (lot.Repeated ∷ lots) = let h = once lots in omega (arith, h)
+once (lot.Written e is_cut v mend ∷ lots) = let h = once lots in omega (arith, h)
 
 pub add_up : (n : Counts) (lots : List Lot) → AreCounts n lots
-    → n.entries + n.skipped + n.empty + n.comments + n.headings + n.passed_rows + n.of_passed_channels ≡ n.lines
-add_up n lots h = let all = once lots in rw (h.entries, h.skipped, h.empty, h.comments, h.headings, h.passed_rows, h.of_passed_channels, h.lines) all
+    → n.entries + n.skipped + n.empty + n.comments + n.headings + n.passed_rows + n.of_passed_channels + n.repeats ≡ n.lines
+add_up n lots h = let all = once lots in rw (h.entries, h.skipped, h.empty, h.comments, h.headings, h.passed_rows, h.of_passed_channels, h.repeats, h.lines) all
 
 -- and each entry is on one line
 abbrev pub OnOne : List Lot → Type 0
@@ -75,10 +84,11 @@ on_one (lot.Comment ∷ lots) = on_one lots
 on_one (lot.Heading ∷ lots) = on_one lots
 on_one (lot.RowPassed ∷ lots) = on_one lots
 on_one (lot.ChannelPassed ∷ lots) = on_one lots
-on_one (lot.Written e is_cut v ∷ lots) =
+on_one (lot.Repeated ∷ lots) = on_one lots
+on_one (lot.Written e is_cut v mend ∷ lots) =
     let both = with_bus e.bus (length (filter is_on_a lots)) (length (filter is_on_b lots)) (length (filter is_entry lots)) (on_one lots) in
     let more : length (filter is_entry lots) + 1 ≡ suc (length (filter is_entry lots)) = omega arith in
-    rw (one_if-is (is_line_a e.bus) (lot.Written e is_cut v) (filter is_on_a lots), one_if-is (is_line_b e.bus) (lot.Written e is_cut v) (filter is_on_b lots)) (both ∙ more)
+    rw (one_if-is (is_line_a e.bus) (lot.Written e is_cut v mend) (filter is_on_a lots), one_if-is (is_line_b e.bus) (lot.Written e is_cut v mend) (filter is_on_b lots)) (both ∙ more)
 
 pub lines_add_up : (n : Counts) (lots : List Lot) → AreCounts n lots → n.on_a + n.on_b ≡ n.entries
 lines_add_up n lots h = let all = on_one lots in rw (h.on_a, h.on_b, h.entries) all

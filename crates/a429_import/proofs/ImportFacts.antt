@@ -16,7 +16,7 @@ use Rattle.a429_import.specs.declared.lot.Lot.{Lot}
 use Rattle.a429_import.specs.declared.lot.Lot.TheVariants as lot
 use Rattle.a429_import.specs.declared.map.Map.{Map}
 use Rattle.a429_import.specs.declared.progress.Progress.{Progress}
-use Rattle.a429_import.specs.Import.{Imported, at_end, entries_of, entry_before, goes_on, imported, imported_after, lot_of, progress_after, with_lot}
+use Rattle.a429_import.specs.Import.{Imported, at_end, columns_with, entries_of, entry_before, goes_on, imported, imported_after, lot_of, progress_after, with_lot}
 use Rattle.a429_import.specs.declared.fault.ImportFault.{ImportFault}
 use Rattle.a429_import.specs.declared.fault.ImportFault.TheVariants as fault
 use Rattle.a429_import.specs.Importing.{Answers, BeginsWith, Stops, lots_text, with_lots}
@@ -95,14 +95,27 @@ gave_these m None old lots s h = tt
 gave_these m (Some bytes) None lots s h = absurd h
 gave_these m (Some bytes) (Some rest) lots s h = (imported_after m s (recording_lines rest), h)
 
+-- columns that are known stay
+pub known_stay : (m : Map) (known : Option Columns) (c : Columns) (fields : List (List ℕ)) (l : Lot) → known ≡ Some c → known ≡ columns_with m known fields l
+known_stay m None c fields l e = absurd (cc e)
+known_stay m (Some k) c fields lot.Heading e = refl
+known_stay m (Some k) c fields lot.Skipped e = refl
+known_stay m (Some k) c fields lot.Empty e = refl
+known_stay m (Some k) c fields lot.Comment e = refl
+known_stay m (Some k) c fields lot.RowPassed e = refl
+known_stay m (Some k) c fields lot.ChannelPassed e = refl
+known_stay m (Some k) c fields lot.Repeated e = refl
+known_stay m (Some k) c fields (lot.Written entry is_cut v mend) e = refl
+
 -- ---- their text
 
 entry_before-append : (l : Lot) (xs ys : List Entry) → entry_before l (xs ++ ys) ≡ entry_before l xs ++ ys
-entry_before-append (lot.Written e is_cut v) xs ys = refl
+entry_before-append (lot.Written e is_cut v mend) xs ys = refl
 entry_before-append lot.Skipped xs ys = refl
 entry_before-append lot.Empty xs ys = refl
 entry_before-append lot.Comment xs ys = refl
 entry_before-append lot.Heading xs ys = refl
+entry_before-append lot.Repeated xs ys = refl
 entry_before-append lot.RowPassed xs ys = refl
 entry_before-append lot.ChannelPassed xs ys = refl
 

@@ -4,12 +4,16 @@ pub mod PieceFacts
 pub mod TurningFacts
 pub mod ParityFacts
 pub mod TimeFacts
+pub mod ClockTimeFacts
 pub mod ValueFacts
 pub mod PartsFacts
 pub mod TextsFacts
 pub mod FieldsFacts
 pub mod ImportFacts
 pub mod CountsFacts
+pub mod PlacesFacts
 pub mod LawFacts
+pub mod WordsFacts
+pub mod StandardFacts
 pub mod ColumnsFacts
 pub mod RowFacts

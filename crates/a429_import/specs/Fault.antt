@@ -13,11 +13,6 @@ abbrev pub Gives : {A : Type 0} → A → Option MapFault → Result A MapFault 
 Gives value fault (Ok a) = (fault ≡ None) × (value ≡ a)
 Gives value fault (Err f) = fault ≡ Some f
 
--- the same of a reader whose value is nothing
-abbrev pub Finds : {A : Type 0} → Option MapFault → Result A MapFault → Type 0
-Finds fault (Ok a) = fault ≡ None
-Finds fault (Err f) = fault ≡ Some f
-
 -- the same of a reader of a value that may be none, where nothing is wrong it is some
 abbrev pub GivesSome : {A : Type 0} → Option A → Option MapFault → Result A MapFault → Type 0
 GivesSome value fault (Ok a) = (fault ≡ None) × (value ≡ Some a)

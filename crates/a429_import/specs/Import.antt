@@ -9,9 +9,12 @@ use Rattle.a429_import.specs.declared.fault.ExportFault.TheVariants as fault
 use Rattle.a429_import.specs.declared.lot.Lot.{Lot}
 use Rattle.a429_import.specs.declared.lot.Lot.TheVariants as lot
 use Rattle.a429_import.specs.declared.map.Map.{Map}
+use Rattle.a429_import.specs.declared.past.Past.{Past}
 use Rattle.a429_import.specs.declared.progress.Progress.{Progress}
+use Rattle.a429_import.specs.declared.repeats.RepeatRule.{RepeatRule}
 use Rattle.a429_import.specs.Columns.{columns_in, field_at}
 use Rattle.a429_import.specs.Fields.{fields_in, is_blank, text_of}
+use Rattle.a429_import.specs.Past.{no_past, past_with}
 use Rattle.a429_import.specs.Row.{row_lot}
 use Rattle.a429_import.specs.Texts.{has_text}
 
@@ -26,7 +29,7 @@ is_comment (c ∷ cs) text = bytes_eq (take (length (c ∷ cs)) text) (c ∷ cs)
 abbrev pub fields_lot : Map → Progress → Option Columns → List (List ℕ) → Result Lot ExportFault
 fields_lot m s None fields = Ok lot.Heading
 fields_lot m s (Some c) fields =
-    if has_text m.rows.pass (field_at fields 0) then Ok lot.RowPassed else row_lot m c (s.lines + 1) s.latest fields
+    if has_text m.rows.pass (field_at fields 0) then Ok lot.RowPassed else row_lot m c (s.lines + 1) s.past fields
 
 -- what becomes of a line: the first of these that fits
 abbrev pub lot_of : Map → Progress → List ℕ → Result Lot ExportFault
@@ -37,16 +40,20 @@ lot_of m s line =
     else fields_lot m s s.columns (fields_in m.rows line)
 
 -- the columns are known from the first line on that has them all
+abbrev pub first_known : Option Columns → Option Columns → Option Columns
+first_known None found = found
+first_known (Some c) found = Some c
+
 abbrev pub columns_with : Map → Option Columns → List (List ℕ) → Lot → Option Columns
-columns_with m known fields lot.Heading = columns_in m fields
+columns_with m known fields lot.Heading = first_known known (columns_in m fields)
 columns_with m known fields _ = known
 
-abbrev pub latest_after : Progress → Lot → ℕ
-latest_after s (lot.Written e is_cut v) = e.time
-latest_after s _ = s.latest
+abbrev pub past_after : RepeatRule → Past → Lot → Past
+past_after r p (lot.Written e is_cut v mend) = past_with r p e mend
+past_after r p _ = p
 
 abbrev pub progress_after : Map → Progress → List ℕ → Lot → Progress
-progress_after m s line l = record { lines = s.lines + 1; columns = columns_with m s.columns (fields_in m.rows line) l; latest = latest_after s l }
+progress_after m s line l = record { lines = s.lines + 1; columns = columns_with m s.columns (fields_in m.rows line) l; past = past_after m.repeats s.past l }
 
 -- ---- all lines
 
@@ -76,7 +83,7 @@ abbrev pub first_columns : Map → Option Columns
 first_columns m = if m.rows.header then None else columns_in m []
 
 abbrev pub at_start : Map → Progress
-at_start m = record { lines = 0; columns = first_columns m; latest = 0 }
+at_start m = record { lines = 0; columns = first_columns m; past = no_past }
 
 -- the lines of an export, cut at line feeds, imported
 abbrev pub imported : Map → List ℕ → Imported
@@ -85,7 +92,7 @@ imported m bytes = imported_after m (at_start m) (recording_lines bytes)
 -- ---- the entries
 
 abbrev pub entry_before : Lot → List Entry → List Entry
-entry_before (lot.Written e is_cut v) es = e ∷ es
+entry_before (lot.Written e is_cut v mend) es = e ∷ es
 entry_before _ es = es
 
 abbrev pub entries_of : List Lot → List Entry

@@ -34,11 +34,11 @@ section_row header key.TimeColumn = record { section = codes "time"; key = codes
 section_row header key.TimeForm = record { section = codes "time"; key = codes "form"; rule = rule.form; default = None }
 section_row header key.TimeUnit = record { section = codes "time"; key = codes "unit"; rule = rule.unit; default = Some (string (codes "us")) }
 section_row header key.TimePoint = record { section = codes "time"; key = codes "point"; rule = rule.point; default = Some (string (codes ".")) }
-section_row header key.TimeDate = record { section = codes "time"; key = codes "date"; rule = rule.no_date; default = Some (string (codes "none")) }
-section_row header key.HalfDays = record { section = codes "time"; key = codes "half_days"; rule = rule.off; default = Some (boolean false) }
-section_row header key.WrapsAt = record { section = codes "time"; key = codes "wraps_at"; rule = rule.number 0 0; default = Some (integer (pos 0)) }
-section_row header key.Back = record { section = codes "time"; key = codes "back"; rule = rule.number 0 0; default = Some (integer (pos 0)) }
-section_row header key.Resets = record { section = codes "time"; key = codes "resets"; rule = rule.off; default = Some (boolean false) }
+section_row header key.TimeDate = record { section = codes "time"; key = codes "date"; rule = rule.date; default = Some (string (codes "none")) }
+section_row header key.HalfDays = record { section = codes "time"; key = codes "half_days"; rule = rule.truth; default = Some (boolean false) }
+section_row header key.WrapsAt = record { section = codes "time"; key = codes "wraps_at"; rule = rule.wraps; default = Some (integer (pos 0)) }
+section_row header key.Back = record { section = codes "time"; key = codes "back"; rule = rule.number 0 4611686018427387904; default = Some (integer (pos 0)) }
+section_row header key.Resets = record { section = codes "time"; key = codes "resets"; rule = rule.truth; default = Some (boolean false) }
 section_row header key.ChannelColumn = record { section = codes "channel"; key = codes "column"; rule = rule.column header; default = None }
 section_row header key.ChannelA = record { section = codes "channel"; key = codes "a"; rule = rule.texts; default = None }
 section_row header key.ChannelB = record { section = codes "channel"; key = codes "b"; rule = rule.texts; default = None }
@@ -47,7 +47,7 @@ section_row header key.PassOthers = record { section = codes "channel"; key = co
 section_row header key.BitWord = record { section = codes "word"; key = codes "bit_32"; rule = rule.bit_word; default = None }
 section_row header key.BytesReversed = record { section = codes "word"; key = codes "bytes_reversed"; rule = rule.truth; default = Some (boolean false) }
 section_row header key.LabelReversed = record { section = codes "word"; key = codes "label_reversed"; rule = rule.truth; default = Some (boolean false) }
-section_row header key.RepeatsDrop = record { section = codes "repeats"; key = codes "drop"; rule = rule.off; default = Some (boolean false) }
+section_row header key.RepeatsDrop = record { section = codes "repeats"; key = codes "drop"; rule = rule.truth; default = Some (boolean false) }
 section_row header key.RepeatsWithin = record { section = codes "repeats"; key = codes "within"; rule = rule.number 0 1000000; default = Some (integer (pos 0)) }
 section_row header key.RepeatsAmong = record { section = codes "repeats"; key = codes "among"; rule = rule.number 1 1000000; default = Some (integer (pos 1)) }
 section_row header key.ErrorColumn = record { section = codes "error"; key = codes "column"; rule = rule.column header; default = None }

@@ -3,6 +3,8 @@ use Rattle.std.specs.Prelude.{◌≡◌, ℕ, List, [], ◌∷◌, ◌++◌, Boo
 use Rattle.toml.specs.Data.{Members}
 use Rattle.a429_profile.specs.Value.{text_of_value, number_of_value, truth_of_value}
 use Rattle.a429_import.specs.declared.channel.Channels.{Channels}
+use Rattle.a429_import.specs.declared.clock_time.ClockForm.{ClockForm}
+use Rattle.a429_import.specs.declared.clock_time.DateForm.TheVariants as dates
 use Rattle.a429_import.specs.declared.column.Column.{Column}
 use Rattle.a429_import.specs.declared.fault.MapFault.{MapFault}
 use Rattle.a429_import.specs.declared.fault.MapFault.TheVariants.{NotToml, StatusTwice, ChannelTwice}
@@ -13,13 +15,16 @@ use Rattle.a429_import.specs.declared.map.RowRule.{RowRule}
 use Rattle.a429_import.specs.declared.map.Sections.{Sections}
 use Rattle.a429_import.specs.declared.map.Separator.TheVariants as separators
 use Rattle.a429_import.specs.declared.map.TimeRule.{TimeRule}
+use Rattle.a429_import.specs.declared.order.OrderRule.{OrderRule}
+use Rattle.a429_import.specs.declared.section.WrittenTime.{WrittenTime}
 use Rattle.a429_import.specs.declared.map.WordRule.{WordRule}
 use Rattle.a429_import.specs.declared.parity.ParityBit.{ParityBit}
 use Rattle.a429_import.specs.declared.parity.ParityBit.TheVariants as bit_32
 use Rattle.a429_import.specs.declared.parity.Status.{Status}
 use Rattle.a429_import.specs.declared.part.Part.{Part}
-use Rattle.a429_import.specs.declared.time.Number.{Number}
-use Rattle.a429_import.specs.declared.time.Number.TheVariants as numbers
+use Rattle.a429_import.specs.declared.repeats.RepeatRule.{RepeatRule}
+use Rattle.a429_import.specs.declared.time.TimeForm.{TimeForm}
+use Rattle.a429_import.specs.declared.time.TimeForm.TheVariants as times
 use Rattle.a429_import.specs.declared.time.Unit.TheVariants as units
 use Rattle.a429_import.specs.declared.value.FormWord.{FormWord}
 use Rattle.a429_import.specs.declared.value.FormWord.TheVariants as forms
@@ -29,7 +34,7 @@ use Rattle.a429_import.specs.Fault.{first_or}
 use Rattle.a429_import.specs.Parts.{missing_fault, parts_fault, parts_of}
 use Rattle.a429_import.specs.Texts.{has_twin}
 use Rattle.a429_import.specs.Key.{section_value, first_section_fault}
-use Rattle.a429_import.specs.Value.{texts_of_value, column_of_value, separator_of, form_of, unit_of, point_of, bit_word_of}
+use Rattle.a429_import.specs.Value.{texts_of_value, column_of_value, date_of, separator_of, form_of, unit_of, point_of, bit_word_of}
 
 -- ---- values of keys
 
@@ -68,26 +73,47 @@ rows_of doc = record {
 }
 
 abbrev pub time_keys : List SectionKey
-time_keys = key.TimeColumn ∷ key.TimeForm ∷ key.TimeUnit ∷ key.TimePoint ∷ []
+time_keys = key.TimeColumn ∷ key.TimeForm ∷ key.TimeUnit ∷ key.TimePoint ∷ key.TimeDate ∷ key.HalfDays ∷ []
 
--- those that change nothing so far, with the values that are taken
-abbrev pub later_time_keys : List SectionKey
-later_time_keys = key.TimeDate ∷ key.HalfDays ∷ key.WrapsAt ∷ key.Back ∷ key.Resets ∷ []
+abbrev pub order_keys : List SectionKey
+order_keys = key.WrapsAt ∷ key.Back ∷ key.Resets ∷ []
 
 abbrev pub time_fault : Bool → Members → Option MapFault
-time_fault header doc = first_or (first_section_fault header doc time_keys) (first_section_fault header doc later_time_keys)
+time_fault header doc = first_or (first_section_fault header doc time_keys) (first_section_fault header doc order_keys)
 
--- how a time of this form is written, with this point
-abbrev pub number_form : FormWord → ℕ → Number
-number_form forms.Integer point = numbers.Integer
-number_form forms.Decimal point = numbers.Decimal point
+-- how a time of this form is written: with the point of this clock, or by all that is said of the clock
+abbrev pub time_form : FormWord → ClockForm → TimeForm
+time_form forms.Integer clock = times.Integer
+time_form forms.Decimal clock = times.Decimal clock.point
+time_form forms.Clock clock = times.Clock clock
 
-abbrev pub time_rule : Bool → Members → TimeRule
-time_rule header doc = record {
+abbrev pub clock_form : Bool → Members → ClockForm
+clock_form header doc = record {
+  date = unwrap_or (date_of (text_at header doc key.TimeDate)) dates.None;
+  half_days = truth_at header doc key.HalfDays;
+  point = unwrap_or (point_of (text_at header doc key.TimePoint)) 0;
+}
+
+-- where a time is and how it is written
+abbrev pub written_time : Bool → Members → WrittenTime
+written_time header doc = record {
   column = column_at header doc key.TimeColumn;
-  number = number_form (unwrap_or (form_of (text_at header doc key.TimeForm)) forms.Integer) (unwrap_or (point_of (text_at header doc key.TimePoint)) 0);
+  form = time_form (unwrap_or (form_of (text_at header doc key.TimeForm)) forms.Integer) (clock_form header doc);
   unit = unwrap_or (unit_of (text_at header doc key.TimeUnit)) units.Second;
 }
+
+abbrev pub order_rule : Bool → Members → OrderRule
+order_rule header doc = record {
+  wraps_at = number_at header doc key.WrapsAt;
+  back = number_at header doc key.Back;
+  resets = truth_at header doc key.Resets;
+}
+
+abbrev pub with_order : WrittenTime → OrderRule → TimeRule
+with_order w o = record { column = w.column; form = w.form; unit = w.unit; order = o }
+
+abbrev pub time_rule : Bool → Members → TimeRule
+time_rule header doc = with_order (written_time header doc) (order_rule header doc)
 
 abbrev pub channel_keys : List SectionKey
 channel_keys = key.ChannelColumn ∷ key.ChannelA ∷ key.ChannelB ∷ key.ChannelPass ∷ key.PassOthers ∷ []
@@ -110,9 +136,15 @@ word_rule doc = record {
   turning = record { bytes = truth_at false doc key.BytesReversed; label = truth_at false doc key.LabelReversed };
 }
 
--- repeats are not left out so far
 abbrev pub repeat_keys : List SectionKey
 repeat_keys = key.RepeatsDrop ∷ key.RepeatsWithin ∷ key.RepeatsAmong ∷ []
+
+-- where repeats are not left out, no entries are compared
+abbrev pub repeats_of : Bool → Members → RepeatRule
+repeats_of header doc = record {
+  within = number_at header doc key.RepeatsWithin;
+  among = if truth_at header doc key.RepeatsDrop then number_at header doc key.RepeatsAmong else 0;
+}
 
 abbrev pub status_keys : List SectionKey
 status_keys = key.ErrorColumn ∷ key.ErrorGood ∷ key.ErrorBad ∷ []
@@ -145,11 +177,12 @@ sections_of doc = record {
   time = time_rule (has_header doc) doc;
   channels = channels_of (has_header doc) doc;
   word = word_rule doc;
+  repeats = repeats_of (has_header doc) doc;
   parity = parity_bit (has_header doc) doc (word_rule doc).bit_32;
 }
 
 abbrev pub with_parts : Sections → List Part → Map
-with_parts s parts = record { rows = s.rows; time = s.time; channels = s.channels; turning = s.word.turning; parity = s.parity; parts = parts }
+with_parts s parts = record { rows = s.rows; time = s.time; channels = s.channels; turning = s.word.turning; repeats = s.repeats; parity = s.parity; parts = parts }
 
 abbrev pub map_of : Members → Map
 map_of doc = with_parts (sections_of doc) (parts_of (has_header doc) doc)

@@ -1,4 +1,4 @@
--- Plain times (profile): digits, and what they count.
+-- Times as they are written (profile): digits and what they count, or a clock's.
 use Rattle.std.specs.Prelude.{ℕ, ◌+◌, ◌*◌, ◌/◌, ◌%◌, ◌^◌, ◌≤◌, List, [], ◌++◌, length, take, drop, Bool, ◌&&◌, nat_le, not, ◌==◌, Option, Some, None, if◌then◌else◌}
 use Rattle.std.specs.List.{position}
 use Rattle.std.specs.Str.Parse.{digits_value, AllDigits}
@@ -6,8 +6,6 @@ use Rattle.a429_record.specs.Row.{all_digits}
 use Rattle.a429_import.specs.declared.time.Unit.{Unit}
 use Rattle.a429_import.specs.declared.time.Unit.TheVariants as unit
 use Rattle.a429_import.specs.declared.time.Reading.{Reading}
-use Rattle.a429_import.specs.declared.time.Number.{Number}
-use Rattle.a429_import.specs.declared.time.Number.TheVariants as number
 
 -- how many nanoseconds a unit has
 abbrev pub nanoseconds : Unit → ℕ
@@ -45,8 +43,3 @@ time_with_part unit whole part = if are_time_digits whole && are_time_digits par
 abbrev pub time_cut : Unit → List ℕ → Option ℕ → Option Reading
 time_cut unit text None = whole_time unit text
 time_cut unit text (Some end) = time_with_part unit (take end text) (drop (end + 1) text)
-
--- the time that a text writes
-abbrev pub time_in : Number → Unit → List ℕ → Option Reading
-time_in number.Integer unit text = whole_time unit text
-time_in (number.Decimal point) unit text = time_cut unit text (position (λ b. b == point) text)

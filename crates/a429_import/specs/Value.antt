@@ -4,6 +4,9 @@ use Rattle.toml.specs.Data.{Data, as_bool}
 use Rattle.a429_profile.specs.Value.{text_of_value, number_of_value, truth_of_value, elements_of, is_integer, is_text, is_array_of, is_number_between}
 use Rattle.a429_import.specs.declared.base.Base.{Base}
 use Rattle.a429_import.specs.declared.base.Base.TheVariants as bases
+use Rattle.a429_import.specs.declared.clock_time.DateForm.{DateForm}
+use Rattle.a429_import.specs.declared.clock_time.DateForm.TheVariants as dates
+use Rattle.a429_import.specs.declared.clock_time.DateOrder.TheVariants as orders
 use Rattle.a429_import.specs.declared.column.Column.{Column}
 use Rattle.a429_import.specs.declared.column.Column.TheVariants as columns
 use Rattle.a429_import.specs.declared.map.Separator.{Separator}
@@ -18,17 +21,16 @@ use Rattle.a429_import.specs.declared.value.BitWord.TheVariants as words
 -- the rules, one for each wording in the table of keys
 pub data Rule : Type 0 where
   truth : Rule
-  -- a truth value of which only `false` is taken
-  off : Rule
   number : ℕ → ℕ → Rule
+  -- 0, or 1,000 to 2^62
+  wraps : Rule
   text : Rule
   texts : Rule
   -- a column's name where a row names the columns, else its number
   column : Bool → Rule
   separator : Rule
   form : Rule
-  -- a word of which only `none` is taken
-  no_date : Rule
+  date : Rule
   unit : Rule
   point : Rule
   bit_word : Rule
@@ -52,7 +54,18 @@ separator_of t =
     else (if bytes_eq t (codes "blanks") then Some separators.Blanks else separator_byte t)
 
 abbrev pub form_of : List ℕ → Option FormWord
-form_of t = if bytes_eq t (codes "integer") then Some forms.Integer else (if bytes_eq t (codes "decimal") then Some forms.Decimal else None)
+form_of t =
+    if bytes_eq t (codes "integer") then Some forms.Integer
+    else (if bytes_eq t (codes "decimal") then Some forms.Decimal
+    else (if bytes_eq t (codes "clock") then Some forms.Clock else None))
+
+abbrev pub date_of : List ℕ → Option DateForm
+date_of t =
+    if bytes_eq t (codes "none") then Some dates.None
+    else (if bytes_eq t (codes "mdy") then Some (dates.Calendar orders.MonthDayYear)
+    else (if bytes_eq t (codes "dmy") then Some (dates.Calendar orders.DayMonthYear)
+    else (if bytes_eq t (codes "ymd") then Some (dates.Calendar orders.YearMonthDay)
+    else (if bytes_eq t (codes "day") then Some dates.DayOfYear else None))))
 
 abbrev pub unit_of : List ℕ → Option Unit
 unit_of t =
@@ -89,15 +102,15 @@ is_split _ = false
 
 abbrev pub has_kind : Rule → Data → Bool
 has_kind truth d = is_some (as_bool d)
-has_kind off d = is_some (as_bool d)
 has_kind (number low high) d = is_integer d
+has_kind wraps d = is_integer d
 has_kind text d = is_text d
 has_kind texts d = is_array_of is_text d
 has_kind (column true) d = is_text d
 has_kind (column false) d = is_integer d
 has_kind separator d = is_text d
 has_kind form d = is_text d
-has_kind no_date d = is_text d
+has_kind date d = is_text d
 has_kind unit d = is_text d
 has_kind point d = is_text d
 has_kind bit_word d = is_text d
@@ -108,15 +121,15 @@ has_kind split d = is_text d
 
 abbrev pub is_in_range : Rule → Data → Bool
 is_in_range truth d = true
-is_in_range off d = not (truth_of_value d)
 is_in_range (number low high) d = is_number_between low high d
+is_in_range wraps d = is_number_between 0 0 d || is_number_between 1000 4611686018427387904 d
 is_in_range text d = true
 is_in_range texts d = true
 is_in_range (column true) d = true
 is_in_range (column false) d = is_number_between 1 1000 d
 is_in_range separator d = is_some (separator_of (text_of_value d))
 is_in_range form d = is_some (form_of (text_of_value d))
-is_in_range no_date d = bytes_eq (text_of_value d) (codes "none")
+is_in_range date d = is_some (date_of (text_of_value d))
 is_in_range unit d = is_some (unit_of (text_of_value d))
 is_in_range point d = is_some (point_of (text_of_value d))
 is_in_range bit_word d = is_some (bit_word_of (text_of_value d))

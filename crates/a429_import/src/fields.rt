@@ -174,7 +174,8 @@ pub(crate) fn csv_record(
     Ok(row)
 }
 
-fn is_blank(byte: u8) -> bool
+/// A blank or a tab.
+pub(crate) fn is_blank(byte: u8) -> bool
     ensures { result ≡ is_blank byte }
 {
     byte == b' ' || byte == b'\t'
@@ -241,7 +242,8 @@ fn trimmed(text: &[u8]) -> &[u8]
     without_last_blanks(without_first_blanks(text))
 }
 
-fn without_first_blanks(text: &[u8]) -> &[u8]
+/// A text without the blanks at its start.
+pub(crate) fn without_first_blanks(text: &[u8]) -> &[u8]
     ensures { result.now ≡ without_first is_blank text.now }
 {
     let mut start = 0;
@@ -254,7 +256,8 @@ fn without_first_blanks(text: &[u8]) -> &[u8]
     &[]
 }
 
-fn without_last_blanks(text: &[u8]) -> &[u8]
+/// And without those at its end.
+pub(crate) fn without_last_blanks(text: &[u8]) -> &[u8]
     ensures { result.now ≡ without_last is_blank text.now }
 {
     let mut end = text.len();

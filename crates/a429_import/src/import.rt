@@ -1,14 +1,15 @@
 //! Recordings made of exports, written while an export is read.
 
-ghost use Rattle.std.specs.Prelude.{◌≡◌, ◌≢◌, ◌↔◌, ◌+◌, ◌<◌, ◌^◌, ◌∷◌, [], length, true, false, unwrap_or, IfOk, IfErr, IsErrOf, IsSome, None, Ok, Err, ◌⊎◌};
+ghost use Rattle.std.specs.Prelude.{◌≡◌, ◌≢◌, ◌↔◌, ◌+◌, ◌<◌, ◌^◌, ◌∷◌, [], length, true, false, unwrap_or, List, IfOk, IfErr, IsErrOf, OnOk, ◌++◌, IsSome, None, Ok, Err, ◌⊎◌};
 ghost use Rattle.std.specs.List.{flat_map};
 ghost use Rattle.a429_record.specs.Writing.{line_text};
 ghost use Rattle.a429_word.specs.Sheet.{Says, sheet_failed};
 ghost use Rattle.a429_word.specs.Tally.{has_failed, unread};
 ghost use Rattle.a429_import.specs.Columns.{field_at};
 ghost use Rattle.a429_import.specs.Fields.{fields_in, fields_left};
-ghost use Rattle.a429_import.specs.Import.{at_start, entry_before, columns_with, first_columns, fields_lot, is_comment, lot_of, progress_after};
-ghost use Rattle.a429_import.specs.Importing.{Answers, ImportsAll, ImportsUntil};
+ghost use Rattle.a429_import.specs.Import.{at_start, entry_before, columns_with, first_columns, fields_lot, is_comment, lot_of, past_after, progress_after};
+ghost use Rattle.a429_import.specs.declared.lot.Lot.{Lot as ALot};
+ghost use Rattle.a429_import.specs.Importing.{Answers, AreImported, ImportsAll, ImportsUntil};
 
 use crate::columns::{Columns, find_columns};
 use crate::counts::Counts;
@@ -16,12 +17,22 @@ use crate::fault::{ExportFault, ImportFault};
 use crate::fields::{Fields, csv_record, cut, is_all_blank, without_returns, words};
 use crate::lot::Lot;
 use crate::map::{Map, Separator};
+use crate::past::Past;
+use crate::places::{Place, push_places};
 use crate::progress::Progress;
 use crate::row::Row;
 use a429_record::{EntryText, Lines, ReadFault, put_header, without_mark};
 use a429_word::{Sheet, Tally};
 use std::alloc::{AllocError, Global};
 use std::io::{Read, Write};
+
+/// What became of the lines of an export.
+#[derive(Debug, Drop)]
+pub struct Import {
+    pub counts: Counts,
+    /// Where its clock jumps, in their order.
+    pub places: Vec<Place>,
+}
 
 impl Progress {
     // What becomes of the next line.
@@ -32,10 +43,22 @@ impl Progress {
     {
         let lot = self.lot(alloc, map, line)?;
         self.lines += 1;
-        if let Lot::Written { entry, .. } = &lot {
-            self.latest = entry.time;
+        match self.add(map, &lot) {
+            Ok(()) => Ok(lot),
+            Err(_) => Err(ImportFault::OutOfMemory),
         }
-        Ok(lot)
+    }
+
+    // After an entry, if it is one.
+    fn add(&mut self, map: &Map, lot: &Lot) -> Result<(), AllocError>
+        ensures past { OnOk result (self.new.past ≡ past_after map.now.repeats self.old.past lot.now) }
+        ensures columns { self.new.columns ≡ self.old.columns }
+        ensures lines { self.new.lines ≡ self.old.lines }
+    {
+        match lot {
+            Lot::Written { entry, mend, .. } => self.past.add(map.repeats, *entry, *mend),
+            _ => Ok(()),
+        }
     }
 
     // The same, where only the columns change.
@@ -44,7 +67,7 @@ impl Progress {
         ensures answers { Answers (lot_of map.now self.old line.now) result }
         ensures columns { IfOk result (λ l. self.new.columns ≡ columns_with map.now self.old.columns (fields_in map.now.rows line.now) l) }
         ensures lines { self.new.lines ≡ self.old.lines }
-        ensures latest { self.new.latest ≡ self.old.latest }
+        ensures past { self.new.past ≡ self.old.past }
     {
         let rows = &map.rows;
         if self.lines < u64::from(rows.skip) {
@@ -79,7 +102,7 @@ impl Progress {
         ensures answers { Answers (fields_lot map.now self.old self.old.columns (fields_left fields.entry)) result }
         ensures columns { IfOk result (λ l. self.new.columns ≡ columns_with map.now self.old.columns (fields_left fields.entry) l) }
         ensures lines { self.new.lines ≡ self.old.lines }
-        ensures latest { self.new.latest ≡ self.old.latest }
+        ensures past { self.new.past ≡ self.old.past }
     {
         match &self.columns {
             Some(columns) => {
@@ -91,7 +114,7 @@ impl Progress {
                     columns,
                     fields,
                     line: self.lines + 1,
-                    latest: self.latest,
+                    past: &self.past,
                 };
                 match row.lot() {
                     Ok(lot) => Ok(lot),
@@ -106,6 +129,20 @@ impl Progress {
                 Err(_) => Err(ImportFault::OutOfMemory),
             },
         }
+    }
+}
+
+impl Import {
+    // And the line of this number, of which this becomes.
+    fn add(&mut self, line: u64, lot: &Lot) -> Result<(), AllocError>
+        ensures { (lots : List ALot) → length lots + 1 < 2 ^ 64 → line ≡ length lots + 1 → AreImported self.old lots → OnOk result (AreImported self.new (lots ++ lot.now ∷ [])) }
+    {
+        match push_places(&mut self.places, self.counts.entries, line, lot) {
+            Ok(()) => {}
+            Err(fault) => return Err(fault),
+        }
+        self.counts = self.counts.with(lot);
+        Ok(())
     }
 }
 
@@ -127,7 +164,7 @@ fn at_start(alloc: Global, map: &Map) -> Result<Progress, ImportFault>
     Ok(Progress {
         lines: 0,
         columns,
-        latest: 0,
+        past: Past::new(alloc),
     })
 }
 
@@ -150,7 +187,7 @@ pub fn put_import<R: Read, W: Write>(
     map: &Map,
     export: &mut Tally<R>,
     sheet: &mut Sheet<'_, W>,
-) -> Result<Counts, ImportFault>
+) -> Result<Import, ImportFault>
     requires { has_failed export.old ≡ false }
     ensures all { IfOk result (ImportsAll W.contents (record { map = map.now; bytes = unread R.remaining export.old }) sheet.old sheet.new) }
     ensures until { IfErr result (ImportsUntil W.contents (record { map = map.now; bytes = unread R.remaining export.old }) sheet.old sheet.new) }
@@ -163,37 +200,43 @@ pub fn put_import<R: Read, W: Write>(
         Ok(progress) => progress,
         Err(fault) => return Err(fault),
     };
-    let mut counts = Counts::new();
+    let mut import = Import {
+        counts: Counts::new(),
+        places: Vec::new(alloc),
+    };
     let mut lines = Lines::new();
     let mut line = Vec::new(alloc);
     let mut text = EntryText::new();
     'lines: loop {
         if sheet.failed() {
-            return Ok(counts);
+            return Ok(import);
         }
         let more = match lines.next_line(export, &mut line) {
             Ok(more) => more,
             Err(fault) => return Err(read_fault(fault)),
         };
         if !more {
-            return at_end(&progress, counts);
+            return at_end(&progress, import);
         }
         let lot = match progress.turn(alloc, map, line.as_slice()) {
             Ok(lot) => lot,
             Err(fault) => return Err(fault),
         };
-        counts = counts.with(&lot);
+        match import.add(progress.lines, &lot) {
+            Ok(()) => {}
+            Err(_) => return Err(ImportFault::OutOfMemory),
+        }
         put_lot(sheet, &mut text, &lot);
     }
 }
 
 // At the end of the lines the columns must be known.
-fn at_end(progress: &Progress, counts: Counts) -> Result<Counts, ImportFault>
-    ensures ok { IfOk result (λ n. (n ≡ counts) × IsSome progress.now.columns) }
+fn at_end(progress: &Progress, import: Import) -> Result<Import, ImportFault>
+    ensures ok { IfOk result (λ i. (i ≡ import) × IsSome progress.now.columns) }
     ensures err { IfErr result (λ f. (f ≡ ImportFault.Export ExportFault.Header) × (progress.now.columns ≡ None)) }
 {
     match progress.columns {
-        Some(_) => Ok(counts),
+        Some(_) => Ok(import),
         None => Err(ImportFault::Export(ExportFault::Header)),
     }
 }

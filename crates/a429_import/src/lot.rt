@@ -1,5 +1,6 @@
 //! What becomes of each line of an export.
 
+use crate::order::Mend;
 use crate::parity::Verdict;
 use a429_record::Entry;
 
@@ -18,6 +19,8 @@ pub enum Lot {
     RowPassed,
     /// Its row is of a channel that is passed over.
     ChannelPassed,
+    /// It is one of the last entries again, and left out.
+    Repeated,
     /// It is this entry.
     Written {
         entry: Entry,
@@ -25,5 +28,7 @@ pub enum Lot {
         is_cut: bool,
         /// What is known of the word's parity.
         verdict: Verdict,
+        /// What was done to its time to put it in order.
+        mend: Mend,
     },
 }

@@ -10,13 +10,15 @@ ghost use Rattle.a429_import.specs.Map.{sections_of, Answers, bits_needed, looks
 use crate::channel::Channels;
 use crate::column::Column;
 use crate::fault::MapFault;
+use crate::order::OrderRule;
 use crate::parity::ParityBit;
 use crate::parts::{Parts, read_parts};
+use crate::repeats::RepeatRule;
 use crate::section::{
-    check_repeats, read_channels, read_parity_bit, read_rows, read_time_rule, read_word_rule,
+    read_channels, read_parity_bit, read_repeats, read_rows, read_time_rule, read_word_rule,
 };
 use crate::texts::{Texts, has_twin, share};
-use crate::time::{Number, Unit};
+use crate::time::{TimeForm, Unit};
 use crate::turning::Turning;
 use crate::value::BitWord;
 use a429_profile::Text;
@@ -52,8 +54,9 @@ pub struct RowRule {
 #[derive(Debug, Drop)]
 pub struct TimeRule {
     pub column: Column,
-    pub number: Number,
+    pub form: TimeForm,
     pub unit: Unit,
+    pub order: OrderRule,
 }
 
 /// What is done with a word that was put together (profile).
@@ -70,6 +73,7 @@ pub struct Map {
     pub time: TimeRule,
     pub channels: Channels,
     pub turning: Turning,
+    pub repeats: RepeatRule,
     /// What bit 32 of the export's words is.
     pub parity: ParityBit,
     pub parts: Parts,
@@ -101,6 +105,7 @@ fn read_document(alloc: Global, doc: &Table) -> Result<Map, MapFault>
         time,
         channels,
         word,
+        repeats,
         parity,
     } = read_sections(alloc, doc)?;
     let parts = read_parts(alloc, doc, rows.header)?;
@@ -115,6 +120,7 @@ fn read_document(alloc: Global, doc: &Table) -> Result<Map, MapFault>
         time,
         channels,
         turning: word.turning,
+        repeats,
         parity,
         parts,
     })
@@ -127,6 +133,7 @@ struct Sections {
     time: TimeRule,
     channels: Channels,
     word: WordRule,
+    repeats: RepeatRule,
     parity: ParityBit,
 }
 
@@ -137,13 +144,14 @@ fn read_sections(alloc: Global, doc: &Table) -> Result<Sections, MapFault>
     let time = read_time_rule(alloc, doc, rows.header)?;
     let channels = read_channels(alloc, doc, rows.header)?;
     let word = read_word_rule(doc)?;
-    check_repeats(doc, rows.header)?;
+    let repeats = read_repeats(doc, rows.header)?;
     let parity = read_parity_bit(alloc, doc, rows.header, word.bit_32)?;
     Ok(Sections {
         rows,
         time,
         channels,
         word,
+        repeats,
         parity,
     })
 }

@@ -1,6 +1,7 @@
 //! How far an export was read.
 
 use crate::columns::Columns;
+use crate::past::Past;
 
 /// How far an export was read.
 #[derive(Debug, Drop)]
@@ -9,6 +10,5 @@ pub(crate) struct Progress {
     pub(crate) lines: u64,
     /// Where the columns are, once that is known.
     pub(crate) columns: Option<Columns>,
-    /// The time of the latest entry, 0 before the first.
-    pub(crate) latest: u64,
+    pub(crate) past: Past,
 }

@@ -4,8 +4,9 @@ ghost use Rattle.std.specs.Prelude.{◌≡◌, ◌≤◌, ◌<◌, ◌^◌, unwr
 ghost use Rattle.a429_import.specs.Channel.{heard_on};
 ghost use Rattle.a429_import.specs.Columns.{field_at};
 ghost use Rattle.a429_import.specs.Fields.{fields_left};
+ghost use Rattle.a429_import.specs.Order.{meant};
 ghost use Rattle.a429_import.specs.Part.{IsSoundPart};
-ghost use Rattle.a429_import.specs.Row.{channel_lot, dated, entry_lot, finished, part_values, row_lot, status_of_row, word_after, word_of};
+ghost use Rattle.a429_import.specs.Row.{channel_lot, entry_lot, finished, lot_at, part_values, row_lot, status_of_row, word_after, word_of};
 
 use crate::channel::Channel;
 use crate::columns::Columns;
@@ -15,6 +16,7 @@ use crate::lot::Lot;
 use crate::map::Map;
 use crate::parity::{ParityBit, Verdict};
 use crate::part::Part;
+use crate::past::Past;
 use crate::time::{Reading, read_time};
 use a429_record::Entry;
 use a429_word::Bus;
@@ -27,14 +29,14 @@ pub(crate) struct Row<'a> {
     pub(crate) fields: Fields<'a>,
     /// The number of its line, from 1.
     pub(crate) line: u64,
-    /// The time of the latest entry.
-    pub(crate) latest: u64,
+    /// The entries before it.
+    pub(crate) past: &'a Past,
 }
 
 impl Row<'_> {
     /// What becomes of it.
     pub(crate) fn lot(&self) -> Result<Lot, ExportFault>
-        ensures { result ≡ row_lot self.now.map.now self.now.columns.now self.now.line self.now.latest (fields_left self.now.fields) }
+        ensures { result ≡ row_lot self.now.map.now self.now.columns.now self.now.line self.now.past.now (fields_left self.now.fields) }
     {
         if self.fields.get(self.columns.last).is_none() {
             return Err(ExportFault::Fields(self.line));
@@ -48,10 +50,10 @@ impl Row<'_> {
 
     // The entry that it is, on this line.
     fn entry(&self, bus: Bus) -> Result<Lot, ExportFault>
-        ensures { result ≡ entry_lot self.now.map.now self.now.columns.now self.now.line self.now.latest (fields_left self.now.fields) bus }
+        ensures { result ≡ entry_lot self.now.map.now self.now.columns.now self.now.line self.now.past.now (fields_left self.now.fields) bus }
     {
         let rule = &self.map.time;
-        let Some(reading) = read_time(rule.number, rule.unit, self.fields.at(self.columns.time))
+        let Some(reading) = read_time(rule.form, rule.unit, self.fields.at(self.columns.time))
         else {
             return Err(ExportFault::Time(self.line));
         };
@@ -89,14 +91,14 @@ impl Row<'_> {
         status: Verdict,
         word: u32,
     ) -> Result<Lot, ExportFault>
-        ensures { result ≡ finished self.now.map.now self.now.line self.now.latest bus reading status word }
+        ensures { result ≡ finished self.now.map.now self.now.line self.now.past.now bus reading status word }
     {
         let word = self.map.turning.turn(word);
         let verdict = self.map.parity.verdict(status, word);
         self.dated(bus, reading, verdict, word)
     }
 
-    // The entry at this time.
+    // The entry at this time, unless it is one of the last again.
     fn dated(
         &self,
         bus: Bus,
@@ -104,23 +106,35 @@ impl Row<'_> {
         verdict: Verdict,
         word: u32,
     ) -> Result<Lot, ExportFault>
-        ensures { result ≡ dated self.now.line self.now.latest bus reading verdict word }
+        ensures { result ≡ lot_at self.now.map.now self.now.line self.now.past.now bus reading verdict word (meant self.now.map.now.time.order self.now.past.now.clock reading.micros) }
     {
-        let Ok(time) = u64::try_from(reading.micros) else {
+        let order = self.map.time.order;
+        let clock = self.past.clock;
+        let Some(moved) = order.meant(clock, reading.micros) else {
             return Err(ExportFault::Time(self.line));
         };
-        if time < self.latest {
-            return Err(ExportFault::TimeBack(self.line));
+        let word = verdict.mark(word);
+        let entry = Entry {
+            time: moved.time as u64,
+            bus,
+            word,
+        };
+        if self.past.last.have(self.map.repeats, entry) {
+            return Ok(Lot::Repeated);
         }
-        Ok(Lot::Written {
-            entry: Entry {
-                time,
-                bus,
-                word: verdict.mark(word),
-            },
-            is_cut: reading.is_cut,
-            verdict,
-        })
+        match order.settle(clock, reading.micros, moved) {
+            Some(ordered) => Ok(Lot::Written {
+                entry: Entry {
+                    time: ordered.time,
+                    bus,
+                    word,
+                },
+                is_cut: reading.is_cut,
+                verdict,
+                mend: ordered.mend,
+            }),
+            None => Err(ExportFault::TimeBack(self.line)),
+        }
     }
 }
 

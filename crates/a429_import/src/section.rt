@@ -4,25 +4,28 @@ ghost use Rattle.std.specs.Prelude.{◌≡◌, Some, None, Bool, false, IfOk, If
 ghost use Rattle.toml.specs.Data.{string, integer, boolean, array, no_items};
 ghost use Rattle.toml.specs.View.{view, table_view};
 ghost use Rattle.a429_profile.specs.Key.{place_of};
-ghost use Rattle.a429_import.specs.Fault.{Finds, Gives, GivesSome, GivesInMemory};
+ghost use Rattle.a429_import.specs.Fault.{Gives, GivesSome, GivesInMemory};
 ghost use Rattle.a429_import.specs.Key.{section_row, section_place, section_fault, first_section_fault};
 ghost use Rattle.a429_import.specs.Value as rule;
-ghost use Rattle.a429_import.specs.Map.{text_at, texts_at, truth_at, column_at, number_at, row_keys, rows_of, time_keys, later_time_keys, time_fault, repeat_keys, time_rule, number_form, channel_keys, channels_of, word_keys, word_rule, status_keys, status_of, parity_bit, parity_fault};
-ghost use Rattle.a429_import.specs.Value.{separator_of, form_of, unit_of, point_of, bit_word_of};
+ghost use Rattle.a429_import.specs.Map.{text_at, texts_at, truth_at, column_at, number_at, row_keys, rows_of, time_keys, order_keys, time_fault, repeat_keys, repeats_of, written_time, order_rule, time_rule, time_form, channel_keys, channels_of, word_keys, word_rule, status_keys, status_of, parity_bit, parity_fault};
+ghost use Rattle.a429_import.specs.Value.{date_of, separator_of, form_of, unit_of, point_of, bit_word_of};
 ghost use Rattle.std.specs.Prelude.{pos, codes, []};
 
 use crate::channel::Channels;
+use crate::clock_time::{ClockForm, DateForm};
 use crate::column::Column;
 use crate::fault::MapFault;
 use crate::key::{Key, SectionKey};
 use crate::map::{RowRule, Separator, TimeRule, WordRule};
+use crate::order::OrderRule;
 use crate::parity::{ParityBit, Status};
+use crate::repeats::RepeatRule;
 use crate::texts::Texts;
-use crate::time::{Number, Unit};
+use crate::time::{TimeForm, Unit};
 use crate::turning::Turning;
 use crate::value::{
-    BitWord, FormWord, at, bit_word, column, form, no_date, number, off, point, separator, text,
-    texts, truth, unit,
+    BitWord, FormWord, at, bit_word, column, date, form, micros, number, point, separator, text,
+    texts, truth, unit, wraps,
 };
 use a429_profile::Text;
 use std::alloc::Global;
@@ -58,7 +61,7 @@ fn truth_at(
     }
 }
 
-// A number, 0 where it is missing.
+// A number, the lowest where it is missing.
 fn number_at(
     doc: &Table,
     header: bool,
@@ -67,12 +70,12 @@ fn number_at(
     high: u32,
 ) -> Result<u32, MapFault>
     requires rule { (section_row header key).rule ≡ rule.number low high }
-    requires default { (section_row header key).default ≡ Some (integer (pos 0)) }
+    requires default { (section_row header key).default ≡ Some (integer (pos low)) }
     ensures { Gives (number_at header (table_view doc.now) key) (section_fault header (table_view doc.now) key) result }
 {
     match in_section(doc, key)? {
         Some(value) => number(value, Key::Section(key), low, high),
-        None => Ok(0),
+        None => Ok(low),
     }
 }
 
@@ -139,6 +142,30 @@ fn separator_at(doc: &Table, header: bool, key: SectionKey) -> Result<Separator,
     }
 }
 
+// Microseconds, 0 to 2^62; 0 where they are missing.
+fn micros_at(doc: &Table, header: bool, key: SectionKey) -> Result<u64, MapFault>
+    requires rule { (section_row header key).rule ≡ rule.number 0 4611686018427387904 }
+    requires default { (section_row header key).default ≡ Some (integer (pos 0)) }
+    ensures { Gives (number_at header (table_view doc.now) key) (section_fault header (table_view doc.now) key) result }
+{
+    match in_section(doc, key)? {
+        Some(value) => micros(value, Key::Section(key)),
+        None => Ok(0),
+    }
+}
+
+// After how many microseconds a clock begins again; 0 where nothing is said.
+fn wraps_at(doc: &Table, header: bool, key: SectionKey) -> Result<u64, MapFault>
+    requires rule { (section_row header key).rule ≡ rule.wraps }
+    requires default { (section_row header key).default ≡ Some (integer (pos 0)) }
+    ensures { Gives (number_at header (table_view doc.now) key) (section_fault header (table_view doc.now) key) result }
+{
+    match in_section(doc, key)? {
+        Some(value) => wraps(value, Key::Section(key)),
+        None => Ok(0),
+    }
+}
+
 fn form_at(doc: &Table, header: bool, key: SectionKey) -> Result<FormWord, MapFault>
     requires rule { (section_row header key).rule ≡ rule.form }
     requires default { (section_row header key).default ≡ None }
@@ -172,49 +199,15 @@ fn point_at(doc: &Table, header: bool, key: SectionKey) -> Result<u8, MapFault>
     }
 }
 
-// A truth value of which only `false` is taken, which it is where it is missing.
-fn off_at(doc: &Table, header: bool, key: SectionKey) -> Result<(), MapFault>
-    requires rule { (section_row header key).rule ≡ rule.off }
-    requires default { (section_row header key).default ≡ Some (boolean false) }
-    ensures { Finds (section_fault header (table_view doc.now) key) result }
-{
-    match in_section(doc, key)? {
-        Some(value) => off(value, Key::Section(key)),
-        None => Ok(()),
-    }
-}
-
-// A word of which only `none` is taken, which it is where it is missing.
-fn no_date_at(doc: &Table, header: bool, key: SectionKey) -> Result<(), MapFault>
-    requires rule { (section_row header key).rule ≡ rule.no_date }
+// What is before a time of day: nothing, where nothing is said.
+fn date_at(doc: &Table, header: bool, key: SectionKey) -> Result<DateForm, MapFault>
+    requires rule { (section_row header key).rule ≡ rule.date }
     requires default { (section_row header key).default ≡ Some (string (codes "none")) }
-    ensures { Finds (section_fault header (table_view doc.now) key) result }
+    ensures { GivesSome (date_of (text_at header (table_view doc.now) key)) (section_fault header (table_view doc.now) key) result }
 {
     match in_section(doc, key)? {
-        Some(value) => no_date(value, Key::Section(key)),
-        None => Ok(()),
-    }
-}
-
-// A number that no reader needs.
-fn idle_number_at(
-    doc: &Table,
-    header: bool,
-    key: SectionKey,
-    low: u32,
-    high: u32,
-    default: u32,
-) -> Result<(), MapFault>
-    requires rule { (section_row header key).rule ≡ rule.number low high }
-    requires default { (section_row header key).default ≡ Some (integer (pos default)) }
-    ensures { Finds (section_fault header (table_view doc.now) key) result }
-{
-    match in_section(doc, key)? {
-        Some(value) => {
-            number(value, Key::Section(key), low, high)?;
-            Ok(())
-        }
-        None => Ok(()),
+        Some(value) => date(value, Key::Section(key)),
+        None => Ok(DateForm::None),
     }
 }
 
@@ -249,13 +242,14 @@ pub(crate) fn read_rows(alloc: Global, doc: &Table) -> Result<RowRule, MapFault>
     })
 }
 
-// How a time of this form is written, with this point.
-fn number_form(form: FormWord, point: u8) -> Number
-    ensures { result ≡ number_form form point }
+// How a time of this form is written.
+fn time_form(form: FormWord, clock: ClockForm) -> TimeForm
+    ensures { result ≡ time_form form clock }
 {
     match form {
-        FormWord::Integer => Number::Integer,
-        FormWord::Decimal => Number::Decimal(point),
+        FormWord::Integer => TimeForm::Integer,
+        FormWord::Decimal => TimeForm::Decimal(clock.point),
+        FormWord::Clock => TimeForm::Clock(clock),
     }
 }
 
@@ -263,44 +257,70 @@ fn number_form(form: FormWord, point: u8) -> Number
 pub(crate) fn read_time_rule(alloc: Global, doc: &Table, header: bool) -> Result<TimeRule, MapFault>
     ensures { GivesInMemory (time_rule header (table_view doc.now)) (time_fault header (table_view doc.now)) result }
 {
-    let rule = read_plain_time(alloc, doc, header)?;
-    check_later_times(doc, header)?;
-    Ok(rule)
+    let WrittenTime { column, form, unit } = read_written_time(alloc, doc, header)?;
+    let order = read_order(doc, header)?;
+    Ok(TimeRule {
+        column,
+        form,
+        unit,
+        order,
+    })
 }
 
-// Its keys that say how a time is read.
-fn read_plain_time(alloc: Global, doc: &Table, header: bool) -> Result<TimeRule, MapFault>
-    ensures { GivesInMemory (time_rule header (table_view doc.now)) (first_section_fault header (table_view doc.now) time_keys) result }
+// Where a time is, and how it is written.
+#[derive(Drop)]
+struct WrittenTime {
+    column: Column,
+    form: TimeForm,
+    unit: Unit,
+}
+
+fn read_written_time(alloc: Global, doc: &Table, header: bool) -> Result<WrittenTime, MapFault>
+    ensures { GivesInMemory (written_time header (table_view doc.now)) (first_section_fault header (table_view doc.now) time_keys) result }
 {
     let column = column_at(alloc, doc, header, SectionKey::TimeColumn)?;
     let form = form_at(doc, header, SectionKey::TimeForm)?;
     let unit = unit_at(doc, header, SectionKey::TimeUnit)?;
     let point = point_at(doc, header, SectionKey::TimePoint)?;
-    Ok(TimeRule {
+    let date = date_at(doc, header, SectionKey::TimeDate)?;
+    let half_days = truth_at(doc, header, SectionKey::HalfDays, Some(false))?;
+    let clock = ClockForm {
+        date,
+        half_days,
+        point,
+    };
+    Ok(WrittenTime {
         column,
-        number: number_form(form, point),
+        form: time_form(form, clock),
         unit,
     })
 }
 
-// The keys of `time` that change nothing so far: each has the one value that says so, or a fault.
-fn check_later_times(doc: &Table, header: bool) -> Result<(), MapFault>
-    ensures { Finds (first_section_fault header (table_view doc.now) later_time_keys) result }
+// How times are put in order.
+fn read_order(doc: &Table, header: bool) -> Result<OrderRule, MapFault>
+    ensures { Gives (order_rule header (table_view doc.now)) (first_section_fault header (table_view doc.now) order_keys) result }
 {
-    no_date_at(doc, header, SectionKey::TimeDate)?;
-    off_at(doc, header, SectionKey::HalfDays)?;
-    idle_number_at(doc, header, SectionKey::WrapsAt, 0, 0, 0)?;
-    idle_number_at(doc, header, SectionKey::Back, 0, 0, 0)?;
-    off_at(doc, header, SectionKey::Resets)
+    let wraps_at = wraps_at(doc, header, SectionKey::WrapsAt)?;
+    let back = micros_at(doc, header, SectionKey::Back)?;
+    let resets = truth_at(doc, header, SectionKey::Resets, Some(false))?;
+    Ok(OrderRule {
+        wraps_at,
+        back,
+        resets,
+    })
 }
 
-/// The section `repeats`: nothing is left out so far.
-pub(crate) fn check_repeats(doc: &Table, header: bool) -> Result<(), MapFault>
-    ensures { Finds (first_section_fault header (table_view doc.now) repeat_keys) result }
+/// The section `repeats`. Where repeats are not left out, no entries are compared.
+pub(crate) fn read_repeats(doc: &Table, header: bool) -> Result<RepeatRule, MapFault>
+    ensures { Gives (repeats_of header (table_view doc.now)) (first_section_fault header (table_view doc.now) repeat_keys) result }
 {
-    off_at(doc, header, SectionKey::RepeatsDrop)?;
-    idle_number_at(doc, header, SectionKey::RepeatsWithin, 0, 1_000_000, 0)?;
-    idle_number_at(doc, header, SectionKey::RepeatsAmong, 1, 1_000_000, 1)
+    let drop = truth_at(doc, header, SectionKey::RepeatsDrop, Some(false))?;
+    let within = number_at(doc, header, SectionKey::RepeatsWithin, 0, 1_000_000)?;
+    let among = number_at(doc, header, SectionKey::RepeatsAmong, 1, 1_000_000)?;
+    Ok(RepeatRule {
+        within,
+        among: if drop { among } else { 0 },
+    })
 }
 
 /// The section `channel`.

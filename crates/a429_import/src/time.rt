@@ -1,12 +1,14 @@
-//! Plain times: digits, and what they count.
+//! Times as they are written: digits and what they count, or a clock's.
 
 ghost use Rattle.std.specs.Prelude.{◌≡◌, ◌≤◌, ◌<◌, ◌+◌, ◌*◌, ◌^◌, ◌==◌, length, not, nat_lt};
 ghost use Rattle.std.specs.List.{list_any};
 ghost use Rattle.std.specs.Char.{digit_value};
 ghost use Rattle.std.specs.Str.Parse.{digits_value, digits_value_after, AllDigits};
 ghost use Rattle.a429_record.specs.Row.{all_digits};
-ghost use Rattle.a429_import.specs.Time.{nanoseconds, counted, are_time_digits, AreFewDigits, whole_time, time_with_part, time_in};
+ghost use Rattle.a429_import.specs.Time.{nanoseconds, counted, are_time_digits, AreFewDigits, whole_time, time_with_part};
+ghost use Rattle.a429_import.specs.TimeForm.{time_in};
 
+use crate::clock_time::ClockForm;
 use crate::piece::end_of;
 
 /// What a number of an export's time counts (profile).
@@ -18,13 +20,15 @@ pub enum Unit {
     Nanosecond,
 }
 
-/// How a number of an export's time is written (profile).
+/// How an export's time is written (profile).
 #[derive(Clone, Copy, Debug, PartialEq, Eq)]
-pub enum Number {
+pub enum TimeForm {
     /// Digits alone.
     Integer,
     /// Digits, and perhaps this point and more digits.
     Decimal(u8),
+    /// A time of day, perhaps with a date.
+    Clock(ClockForm),
 }
 
 /// A time as it was read.
@@ -39,22 +43,23 @@ pub struct Reading {
 // The most digits that a number has before its point, and after it.
 const MOST_DIGITS: usize = 30;
 
-/// The time of a text that is a number of these units; `None` where it has a sign, an exponent or anything else
-/// that is no digit, or where it has none or more than 30 digits before the point or after it.
-pub fn read_time(number: Number, unit: Unit, text: &[u8]) -> Option<Reading>
-    ensures { result ≡ time_in number unit text.now }
+/// The time of a text of this form. A number counts these units; it is `None` where it has a sign, an exponent or anything else that is
+/// no digit, or where it has none or more than 30 digits before the point or after it.
+pub fn read_time(form: TimeForm, unit: Unit, text: &[u8]) -> Option<Reading>
+    ensures { result ≡ time_in form unit text.now }
 {
-    match number {
-        Number::Integer => whole_time(unit, text),
-        Number::Decimal(point) => match end_of(text, point) {
+    match form {
+        TimeForm::Integer => whole_time(unit, text),
+        TimeForm::Decimal(point) => match end_of(text, point) {
             Some(end) => time_with_part(unit, &text[..end], &text[end + 1..]),
             None => whole_time(unit, text),
         },
+        TimeForm::Clock(form) => form.time(text),
     }
 }
 
 #[tactic(auto, using(crate::proofs::TimeFacts::time_digits, crate::proofs::TimeFacts::no_digits))]
-fn whole_time(unit: Unit, text: &[u8]) -> Option<Reading>
+pub(crate) fn whole_time(unit: Unit, text: &[u8]) -> Option<Reading>
     ensures { result ≡ whole_time unit text.now }
 {
     if are_time_digits(text) {
@@ -65,7 +70,7 @@ fn whole_time(unit: Unit, text: &[u8]) -> Option<Reading>
 }
 
 #[tactic(auto, using(crate::proofs::TimeFacts::time_digits))]
-fn time_with_part(unit: Unit, whole: &[u8], part: &[u8]) -> Option<Reading>
+pub(crate) fn time_with_part(unit: Unit, whole: &[u8], part: &[u8]) -> Option<Reading>
     ensures { result ≡ time_with_part unit whole.now part.now }
 {
     if are_time_digits(whole) && are_time_digits(part) {
@@ -82,7 +87,7 @@ fn are_time_digits(text: &[u8]) -> bool
     1 <= text.len() && text.len() <= MOST_DIGITS && are_digits(text)
 }
 
-fn are_digits(text: &[u8]) -> bool
+pub(crate) fn are_digits(text: &[u8]) -> bool
     ensures { result ≡ all_digits 10 text.now }
 {
     text.iter().all(|byte| is_digit(*byte))
@@ -139,7 +144,7 @@ fn thousandth(whole: &[u8], part: &[u8]) -> Reading
 }
 
 // The number that digits write which follow those of another.
-fn number_after(before: u128, digits: &[u8]) -> u128
+pub(crate) fn number_after(before: u128, digits: &[u8]) -> u128
     requires digits { AllDigits 10 digits.now }
     requires room { (before + 1) * 10 ^ length digits.now ≤ 10 ^ 36 }
     ensures value { result ≡ digits_value_after 10 before digits.now }

@@ -5,12 +5,13 @@ ghost use Rattle.std.specs.List.{list_all};
 ghost use Rattle.toml.specs.Data.{as_array, get_member};
 ghost use Rattle.toml.specs.View.{view, table_view};
 ghost use Rattle.a429_profile.specs.Value.{number_of_value, text_of_value, truth_of_value, elements_of, is_text, is_array_of};
-ghost use Rattle.a429_import.specs.Fault.{Finds, Gives, GivesSome, GivesInMemory};
+ghost use Rattle.a429_import.specs.Fault.{Gives, GivesSome, GivesInMemory};
 ghost use Rattle.a429_import.specs.Key.{value_fault};
 ghost use Rattle.a429_import.specs.Value as rule;
-ghost use Rattle.a429_import.specs.Value.{texts_of_value, column_of_value, separator_of, separator_byte, form_of, unit_of, point_of, bit_word_of, base_of, is_split, split_of};
+ghost use Rattle.a429_import.specs.Value.{texts_of_value, column_of_value, date_of, separator_of, separator_byte, form_of, unit_of, point_of, bit_word_of, base_of, is_split, split_of};
 
 use crate::base::Base;
+use crate::clock_time::{DateForm, DateOrder};
 use crate::column::Column;
 use crate::fault::MapFault;
 use crate::key::Key;
@@ -26,6 +27,7 @@ use toml::{Table, Value};
 pub(crate) enum FormWord {
     Integer,
     Decimal,
+    Clock,
 }
 
 /// The words for what bit 32 is.
@@ -52,31 +54,6 @@ pub(crate) fn truth(value: &Value, key: Key) -> Result<bool, MapFault>
     value.as_bool().ok_or(MapFault::WrongKind(key))
 }
 
-// A truth value of which only `false` is taken.
-pub(crate) fn off(value: &Value, key: Key) -> Result<(), MapFault>
-    ensures { Finds (value_fault key rule.off (view value.now)) result }
-{
-    match value.as_bool() {
-        Some(false) => Ok(()),
-        Some(true) => Err(MapFault::OutOfRange(key)),
-        None => Err(MapFault::WrongKind(key)),
-    }
-}
-
-// A word of which only `none` is taken.
-pub(crate) fn no_date(value: &Value, key: Key) -> Result<(), MapFault>
-    ensures { Finds (value_fault key rule.no_date (view value.now)) result }
-{
-    let Some(text) = value.as_str() else {
-        return Err(MapFault::WrongKind(key));
-    };
-    if text.as_bytes() == b"none".as_slice() {
-        Ok(())
-    } else {
-        Err(MapFault::OutOfRange(key))
-    }
-}
-
 // A number from low to high.
 pub(crate) fn number(value: &Value, key: Key, low: u32, high: u32) -> Result<u32, MapFault>
     ensures least { IfOk result (λ n. low ≤ n) }
@@ -90,6 +67,35 @@ pub(crate) fn number(value: &Value, key: Key, low: u32, high: u32) -> Result<u32
         return Err(MapFault::OutOfRange(key));
     }
     Ok(number as u32)
+}
+
+// The most microseconds that a key may have: 2^62.
+const MOST_MICROS: i64 = 1 << 62;
+
+// Microseconds, 0 to 2^62.
+pub(crate) fn micros(value: &Value, key: Key) -> Result<u64, MapFault>
+    ensures { Gives (number_of_value (view value.now)) (value_fault key (rule.number 0 4611686018427387904) (view value.now)) result }
+{
+    let Some(number) = value.as_integer() else {
+        return Err(MapFault::WrongKind(key));
+    };
+    if number < 0 || MOST_MICROS < number {
+        return Err(MapFault::OutOfRange(key));
+    }
+    Ok(number as u64)
+}
+
+// Microseconds after which a clock begins again: 0, or 1,000 to 2^62.
+pub(crate) fn wraps(value: &Value, key: Key) -> Result<u64, MapFault>
+    ensures { Gives (number_of_value (view value.now)) (value_fault key rule.wraps (view value.now)) result }
+{
+    let Some(number) = value.as_integer() else {
+        return Err(MapFault::WrongKind(key));
+    };
+    if number != 0 && (number < 1000 || MOST_MICROS < number) {
+        return Err(MapFault::OutOfRange(key));
+    }
+    Ok(number as u64)
 }
 
 // A text.
@@ -223,6 +229,36 @@ fn named_form(text: &[u8]) -> Option<FormWord>
         Some(FormWord::Integer)
     } else if text == b"decimal".as_slice() {
         Some(FormWord::Decimal)
+    } else if text == b"clock".as_slice() {
+        Some(FormWord::Clock)
+    } else {
+        None
+    }
+}
+
+// What is before a time of day.
+pub(crate) fn date(value: &Value, key: Key) -> Result<DateForm, MapFault>
+    ensures { GivesSome (date_of (text_of_value (view value.now))) (value_fault key rule.date (view value.now)) result }
+{
+    let Some(text) = value.as_str() else {
+        return Err(MapFault::WrongKind(key));
+    };
+    named_date(text.as_bytes()).ok_or(MapFault::OutOfRange(key))
+}
+
+fn named_date(text: &[u8]) -> Option<DateForm>
+    ensures { result ≡ date_of text.now }
+{
+    if text == b"none".as_slice() {
+        Some(DateForm::None)
+    } else if text == b"mdy".as_slice() {
+        Some(DateForm::Calendar(DateOrder::MonthDayYear))
+    } else if text == b"dmy".as_slice() {
+        Some(DateForm::Calendar(DateOrder::DayMonthYear))
+    } else if text == b"ymd".as_slice() {
+        Some(DateForm::Calendar(DateOrder::YearMonthDay))
+    } else if text == b"day".as_slice() {
+        Some(DateForm::DayOfYear)
     } else {
         None
     }

@@ -269,6 +269,20 @@ kept_words (InBlock b) = b.words
 kept_words (OwesAck b flags) = b.words
 kept_words _ = []
 
+-- the number of the block that it is in
+abbrev pub number_in : SinkPhase → Option UnitNumber
+number_in (InBlock b) = Some (number_of b)
+number_in phase = None
+
+-- the link data unit that it owes an acknowledgement for
+abbrev pub owed_unit : Codes → SinkPhase → Option Number
+owed_unit c (OwesAck b flags) = Some (record { number = number_of b; final = is_final c flags })
+owed_unit c phase = None
+
+-- the sink where this was accepted last, or nothing was
+abbrev pub with_last : Option Number → Sink → Sink
+with_last last k = record k { last = last }
+
 -- ---- how the sink's fields are seen, and what they have room for
 
 abbrev pub latest_number : Latest → Number

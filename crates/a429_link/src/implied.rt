@@ -1,8 +1,8 @@
 //! What a recording implies of its sink.
 
-ghost use Rattle.std.specs.Prelude.{◌≡◌, ◌↔◌, ◌+◌, nat_lt, Some, IsTrue, IfOk, OnOk, OnErr};
+ghost use Rattle.std.specs.Prelude.{◌≡◌, ◌↔◌, ◌+◌, nat_lt, Some, option_map, IsTrue, IfOk, OnOk, OnErr};
 ghost use Rattle.a429_link.specs.Observer.{AllowsForm, sees_form};
-ghost use Rattle.a429_link.specs.Sink.{IsAck, answers, unfiled};
+ghost use Rattle.a429_link.specs.Sink.{IsAck, answers, latest_number, number_in, owed_unit, unfiled, with_last};
 ghost use Rattle.a429_link.specs.Allowed.{kinds_allowed, kinds_of_next};
 ghost use Rattle.a429_link.specs.WholeBlock.{ComesForm, EndsBadForm};
 ghost use Rattle.a429_link.specs.Implied.{crossing_in, does, implied_at_first, implies_form, observer_of, why_at, with_counts};
@@ -12,7 +12,7 @@ use crate::file::FileBytes;
 use crate::next::Next;
 use crate::number::UnitNumber;
 use crate::seen::Seen;
-use crate::sink::Sink;
+use crate::sink::{Latest, Sink};
 use crate::why::Why;
 use a429_ldu::Form;
 use a429_profile::Profile;
@@ -90,6 +90,27 @@ impl ImpliedSink {
         ensures { result ≡ nat_lt (self.now.parts + 2) self.now.sink.count }
     {
         u16::from(self.parts) + 2 < u16::from(self.sink.count())
+    }
+
+    /// The number of the block that it is in.
+    pub fn block(&self) -> Option<UnitNumber>
+        ensures { result ≡ number_in self.now.sink.phase }
+    {
+        self.sink.block()
+    }
+
+    /// The link data unit that it owes an acknowledgement for.
+    pub fn owed_unit(&self, profile: &Profile) -> Option<Latest>
+        ensures { option_map latest_number result ≡ owed_unit profile.now.codes self.now.sink.phase }
+    {
+        self.sink.owed_unit(profile)
+    }
+
+    /// It is as if this were the link data unit accepted last, or none were: for a recording that does not say so.
+    pub fn assume_last(&mut self, last: Option<Latest>)
+        ensures { self.new ≡ record (self.old) { sink = with_last (option_map latest_number last) self.old.sink } }
+    {
+        self.sink.assume_last(last);
     }
 
     /// Takes a word of this form, which the words so far allow, and answers what the sink does then. An acknowledgement alone
@@ -183,7 +204,7 @@ impl ImpliedSink {
         Ok(self.sink.doing(None))
     }
 
-    // Gives the acknowledgement of this link data unit, and hands out the file that crosses.
+    // Gives the acknowledgement of this link data unit, and says which file crosses.
     fn acknowledge(
         &mut self,
         alloc: Global,
@@ -196,8 +217,7 @@ impl ImpliedSink {
         ensures unchanged { OnErr result (self.new ≡ self.old) }
     {
         let is_again = self.sink.accepted_last(file, ldu);
-        self.sink.answer(alloc, profile, &Form::Ack { file, ldu })?;
-        let files = self.sink.take_delivered(alloc);
+        let files = self.hand_out(alloc, profile, file, ldu)?;
         if is_again {
             return Ok(Doing::Again { file, ldu });
         }
@@ -207,6 +227,23 @@ impl ImpliedSink {
             ldu,
             crossing,
         })
+    }
+
+    /// Gives the acknowledgement of this link data unit, and hands out the files that cross: one at most. Where it wants memory and there
+    /// is none, it is unchanged.
+    pub fn hand_out(
+        &mut self,
+        alloc: Global,
+        profile: &Profile,
+        file: u8,
+        ldu: u8,
+    ) -> Result<Vec<FileBytes>, AllocError>
+        ensures taken { OnOk result (self.new ≡ implies_form profile.now Bus.B 0 (Some (Form.Ack file ldu)) self.old) }
+        ensures files { IfOk result (λ files. files.items ≡ (answers profile.now.codes (Form.Ack file ldu) self.old.sink).received.files) }
+        ensures unchanged { OnErr result (self.new ≡ self.old) }
+    {
+        self.sink.answer(alloc, profile, &Form::Ack { file, ldu })?;
+        Ok(self.sink.take_delivered(alloc))
     }
 
     /// Gives an answer of this form, and leaves the files as they are.

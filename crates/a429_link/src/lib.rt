@@ -35,6 +35,7 @@ pub use crate::number::{UnitNumber, is_final};
 pub use crate::observer::Observer;
 pub use crate::reading::form_of;
 pub use crate::seen::Seen;
+pub use crate::sink::Latest;
 pub use crate::state::{SinkState, SourceState, States};
 pub use crate::step::Step;
 pub use crate::why::Why;

@@ -3,7 +3,7 @@
 ghost use Rattle.std.specs.Prelude.{ℕ, true, ◌≡◌, ◌≤◌, ◌+◌, ◌&&◌, ◌↔◌, [], ◌∷◌, ◌++◌, length, slice_index, Some, None, is_some, option_map, IfSome, IsNone, IsTrue};
 ghost use Rattle.a429_link.specs.Carry.{HasTaken};
 ghost use Rattle.a429_link.specs.Sink as model;
-ghost use Rattle.a429_link.specs.Sink.{takes, takes_request, takes_start, takes_part, takes_end, in_phase, is_same, is_same_file, may_come, block_with, phase_of, kept_words, without_files, Listens, Owes, held_count, latest_number, HasRoom, nothing_received};
+ghost use Rattle.a429_link.specs.Sink.{takes, takes_request, takes_start, takes_part, takes_end, in_phase, number_in, owed_unit, with_last, is_same, is_same_file, may_come, block_with, phase_of, kept_words, without_files, Listens, Owes, held_count, latest_number, HasRoom, nothing_received};
 ghost use Rattle.a429_link.specs.State.{sink_state_of, IsNonEmpty, rest, past_first};
 ghost use Rattle.a429_link.specs.Observer.{HasGrant};
 ghost use Rattle.a429_link.specs.Implied.{why_at};
@@ -15,7 +15,7 @@ mod doing;
 
 use crate::file::FileBytes;
 use crate::lane::Lane;
-use crate::number::UnitNumber;
+use crate::number::{UnitNumber, is_final};
 use crate::received::Received;
 use crate::state::SinkState;
 use crate::why::Why;
@@ -27,7 +27,7 @@ use std::marker::Model;
 
 /// The number of the link data unit accepted last, and whether it was its file's last.
 #[derive(Clone, Copy, Debug)]
-pub(crate) struct Latest {
+pub struct Latest {
     pub number: UnitNumber,
     pub is_final: bool,
 }
@@ -331,6 +331,36 @@ impl Sink {
         ensures { result ≡ may_come profile.now.codes self.now.sink.last number }
     {
         may_come(profile, &self.last, number)
+    }
+
+    /// The number of the block that it is in.
+    pub(crate) fn block(&self) -> Option<UnitNumber>
+        ensures { result ≡ number_in self.now.sink.phase }
+    {
+        match self.phase {
+            Phase::InBlock(start) => Some(start.number()),
+            _ => None,
+        }
+    }
+
+    /// The link data unit that it owes an acknowledgement for.
+    pub(crate) fn owed_unit(&self, profile: &Profile) -> Option<Latest>
+        ensures { option_map latest_number result ≡ owed_unit profile.now.codes self.now.sink.phase }
+    {
+        match self.phase {
+            Phase::OwesAck { start, flags } => Some(Latest {
+                number: start.number(),
+                is_final: is_final(profile, flags),
+            }),
+            _ => None,
+        }
+    }
+
+    /// It is as if this were the link data unit accepted last, or none were.
+    pub(crate) fn assume_last(&mut self, last: Option<Latest>)
+        ensures { self.new ≡ record (self.old) { sink = with_last (option_map latest_number last) self.old.sink } }
+    {
+        self.last = last;
     }
 
     // It drops what it has taken, and is then in this phase.

@@ -6,6 +6,10 @@ mod agreement;
 #[cfg(test)]
 mod callers;
 #[cfg(test)]
+mod clock_times;
+#[cfg(test)]
+mod import;
+#[cfg(test)]
 mod ldu;
 #[cfg(test)]
 mod profile;

@@ -19,7 +19,8 @@ use Rattle.a429_link.specs.declared.number.UnitNumber.{UnitNumber}
 use Rattle.a429_link.specs.declared.seen.Seen.{Seen}
 use Rattle.a429_link.specs.Sink.{Granted, InBlock, Number, OwesAck, OwesClear, OwesNak, Quiet, SinkPhase, at_part, at_start, empty_block, number_of}
 use Rattle.a429_sink.specs.Anywhere.{Glimpse, GlimpseAllowsNext, IsRefusedAnywhere, Known, acknowledges, bytes_with, closes, ends_block, glimpse_at_first, glimpsed, glimpses, is_known, is_known_file, known_in, learned, learns_form, more_bytes, sure_files, unknown}
-use Rattle.a429_sink.specs.History.{ArePieces, FileUnits, IsStop, alone, goes_with, grown, is_whole, joined_pieces, sound_words, units_after, units_by, whole_units, with_block, with_unit}
+use Rattle.a429_sink.specs.declared.file_units.FileUnits.{FileUnits}
+use Rattle.a429_sink.specs.History.{ArePieces, IsStop, alone, goes_with, grown, is_whole, joined_pieces, sound_words, units_after, units_by, whole_units, with_block, with_unit}
 
 -- ---- pieces
 

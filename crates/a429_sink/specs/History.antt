@@ -14,6 +14,7 @@ use Rattle.a429_link.specs.declared.number.UnitNumber.{UnitNumber}
 use Rattle.a429_link.specs.declared.seen.Seen.{Seen}
 use Rattle.a429_link.specs.Sink.{Number, SinkPhase, OwesAck, number_of}
 use Rattle.a429_parts.specs.Cutting.{BeginsAnew}
+use Rattle.a429_sink.specs.declared.file_units.FileUnits.{FileUnits}
 use Rattle.a429_sink.specs.Anywhere.{IsRefusedAnywhere, Known, is_known, learns, sure_files, unknown}
 use Rattle.a429_sink.specs.Owed.{IsRequest}
 
@@ -79,13 +80,6 @@ sound_words piece None = piece
 sound_words piece (Some k) = take k piece
 
 -- ---- acknowledged units, by their files
-
--- units of one file that are acknowledged one after the other: the first and the last of them, and whether the last ends the file
-pub record FileUnits : Type 0 where
-  pub file : ℕ
-  pub first : ℕ
-  pub last : ℕ
-  pub ended : Bool
 
 -- a unit goes on with the file of those before it
 abbrev pub goes_with : Codes → FileUnits → Number → Bool

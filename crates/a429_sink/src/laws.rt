@@ -17,7 +17,8 @@ ghost use Rattle.a429_link.specs.Sink.{MayAnswer, Quiet, Sink, in_phase, without
 ghost use Rattle.a429_link.specs.Trace.{files_of, sink_after, sink_at_first};
 ghost use Rattle.a429_sink.specs.Alone.{AreSinkAllowed, SinkAllows, IsSinkRefused, IsSinkRun, SinkKeeps, SinkKeepsFrom, SinkStep, sink_delivers, sink_end, sink_trace};
 ghost use Rattle.a429_sink.specs.Anywhere.{AreLastOf, EndsWith, HasRequest, IsBadAnywhere, IsPartOfARun, IsRefusedAnywhere, sure_files};
-ghost use Rattle.a429_sink.specs.History.{ArePieces, FileUnits, IsTold, Told, joined_pieces, sound_words, whole_units};
+ghost use Rattle.a429_sink.specs.declared.file_units.FileUnits.{FileUnits};
+ghost use Rattle.a429_sink.specs.History.{ArePieces, IsTold, Told, joined_pieces, sound_words, whole_units};
 ghost use Rattle.a429_sink.specs.Lone.{capped, crosses, kept, listed};
 ghost use Rattle.a429_sink.specs.Owed.{IsOwed, IsOwedBefore, kinds_owed, owed_by};
 ghost use Rattle.a429_sink.specs.declared.owed.Owed.{Owed};

@@ -3,6 +3,9 @@
 
 mod alone;
 mod fault;
+mod file_units;
+mod glimpsed;
+mod glimpsed_trace;
 mod judging;
 pub mod laws;
 mod lone;
@@ -11,6 +14,8 @@ mod owed;
 
 pub use crate::alone::sink_allows;
 pub use crate::fault::SinkFault;
+pub use crate::file_units::FileUnits;
+pub use crate::glimpsed_trace::GlimpsedTrace;
 pub use crate::judging::{SinkVerdict, judge_sink};
 pub use crate::lone::LoneSink;
 pub use crate::lone_trace::{LoneStop, LoneTrace, Refusal};

@@ -283,7 +283,13 @@ fn crossing_by(doing: &Doing) -> Option<Crossing>
 }
 
 // Takes an allowed word of bus A.
-fn take_allowed(sink: &mut ImpliedSink, alloc: Global, profile: &Profile, word: Word, form: &Form)
+pub(crate) fn take_allowed(
+    sink: &mut ImpliedSink,
+    alloc: Global,
+    profile: &Profile,
+    word: Word,
+    form: &Form,
+)
     requires { AllowsForm (observer_of sink.old) Bus.A (Some form.now) }
     ensures { sink.new ≡ implies_form profile.now Bus.A word (Some form.now) sink.old }
 {
@@ -296,7 +302,7 @@ fn take_allowed(sink: &mut ImpliedSink, alloc: Global, profile: &Profile, word: 
 }
 
 // The sink is asked and clears anew: it leaves its block, and waits for a start word.
-fn grant_anew(sink: &mut ImpliedSink, alloc: Global, profile: &Profile, count: u8)
+pub(crate) fn grant_anew(sink: &mut ImpliedSink, alloc: Global, profile: &Profile, count: u8)
     requires { count ≡ sink.old.sink.count }
     ensures { sink.new ≡ granted_anew sink.old }
 {

@@ -66,6 +66,12 @@ pub enum Command<'a> {
         side: Side,
         new_rec: &'a str,
     },
+    /// `import MAP EXPORT OUT`: writes the recording that an export of another program is, by a map, to OUT.
+    Import {
+        map: &'a str,
+        export: &'a str,
+        new_rec: &'a str,
+    },
     /// `check PROFILE REC CERT`: finds a certificate for a recording, and writes it to CERT.
     Check(Claim<'a>),
     /// `decide PROFILE REC CERT`: as `check`; where that is no yes, contradictions, and where it has a doubt a search for a

@@ -71,7 +71,7 @@ lines-preserved g c =
     record {
       lots = i.lots ++ l ∷ [];
       says = rw (lots_text-more i.lots l) (i.says ▹ c.put_lot.ensures);
-      counted = c.with-counts.ensures i.lots some i.counted;
+      counted = c.in-Ok-add.ensures i.lots some (rw after (omega (arith, i.count))) i.counted;
       gave = gave_more m bytes left new i.lots c.lines.progress c.turn.new.self c.as_slice.result.now l i.gave lost answers after;
       few = omega (arith, i.few, less, one);
       count = rw after (omega (arith, i.count, one));
