@@ -44,7 +44,7 @@ struct Case {
     printed: &'static str,
 }
 
-const CASES: &[Case] = &[
+const LINES: &[Case] = &[
     Case {
         what: "the standard form",
         map: STANDARD,
@@ -111,6 +111,9 @@ const CASES: &[Case] = &[
         rows: "7,A,41410323\n",
         printed: "entries 1\non A 1\non B 0\nlines 4\nlines skipped 2\nlines up to the header 1\n",
     },
+];
+
+const TIMES: &[Case] = &[
     Case {
         what: "decimal seconds with a comma",
         map: [
@@ -176,6 +179,9 @@ const CASES: &[Case] = &[
         rows: "86399900000,A,41410323\n86400100000,A,41410323\n",
         printed: "wrap 1 line 3\nentries 2\non A 2\non B 0\nlines 3\nlines up to the header 1\nwraps undone 1\n",
     },
+];
+
+const ORDERS: &[Case] = &[
     Case {
         what: "a counter of 32 bits wraps; a tag of before comes late",
         map: [
@@ -228,6 +234,35 @@ const CASES: &[Case] = &[
         rows: "5000,A,41410323\n5000,B,C24103A3\n5007,A,60010123\n",
         printed: "reset 1 line 3 by 5000\nentries 3\non A 2\non B 1\nlines 4\nlines up to the header 1\nresets joined 1\n",
     },
+    Case {
+        what: "below by half is no wrap",
+        map: [
+            ROWS,
+            "time = {column = \"time\", form = \"integer\", wraps_at = 1000}\n",
+            CHANNEL,
+            WORD,
+            PART,
+        ],
+        export: "time,bus,word\n500,A,41410323\n0,B,C24103A3\n",
+        rows: "500,A,41410323\n",
+        printed: "export: line 3 time back",
+    },
+    Case {
+        what: "below by more than half is one",
+        map: [
+            ROWS,
+            "time = {column = \"time\", form = \"integer\", wraps_at = 1000}\n",
+            CHANNEL,
+            WORD,
+            PART,
+        ],
+        export: "time,bus,word\n501,A,41410323\n0,B,C24103A3\n",
+        rows: "501,A,41410323\n1000,B,C24103A3\n",
+        printed: "wrap 1 line 3\nentries 2\non A 1\non B 1\nlines 3\nlines up to the header 1\nwraps undone 1\n",
+    },
+];
+
+const REPEATS: &[Case] = &[
     Case {
         what: "each entry twice",
         map: [
@@ -293,32 +328,9 @@ const CASES: &[Case] = &[
         rows: "998,A,41410323\n1003,A,60010123\n",
         printed: "wrap 1 line 4\nentries 2\non A 2\non B 0\nlines 4\nlines up to the header 1\nrepeats left out 1\nwraps undone 1\n",
     },
-    Case {
-        what: "below by half is no wrap",
-        map: [
-            ROWS,
-            "time = {column = \"time\", form = \"integer\", wraps_at = 1000}\n",
-            CHANNEL,
-            WORD,
-            PART,
-        ],
-        export: "time,bus,word\n500,A,41410323\n0,B,C24103A3\n",
-        rows: "500,A,41410323\n",
-        printed: "export: line 3 time back",
-    },
-    Case {
-        what: "below by more than half is one",
-        map: [
-            ROWS,
-            "time = {column = \"time\", form = \"integer\", wraps_at = 1000}\n",
-            CHANNEL,
-            WORD,
-            PART,
-        ],
-        export: "time,bus,word\n501,A,41410323\n0,B,C24103A3\n",
-        rows: "501,A,41410323\n1000,B,C24103A3\n",
-        printed: "wrap 1 line 3\nentries 2\non A 1\non B 1\nlines 3\nlines up to the header 1\nwraps undone 1\n",
-    },
+];
+
+const WORDS: &[Case] = &[
     Case {
         what: "bit 32 is an error flag",
         map: [
@@ -411,6 +423,9 @@ const CASES: &[Case] = &[
         rows: "1,A,41410323\n",
         printed: "entries 1\non A 1\non B 0\nlines 2\nlines up to the header 1\n",
     },
+];
+
+const FAULTS: &[Case] = &[
     Case {
         what: "no header row",
         map: STANDARD,
@@ -460,6 +475,23 @@ const CASES: &[Case] = &[
         printed: "export: line 3 time",
     },
     Case {
+        what: "a word of nine digits",
+        map: STANDARD,
+        export: "time,bus,word\n5,A,141410323\n",
+        rows: "",
+        printed: "export: line 2 part 0",
+    },
+    Case {
+        what: "too few fields",
+        map: STANDARD,
+        export: "time,bus,word\n5,A\n",
+        rows: "",
+        printed: "export: line 2 fields",
+    },
+];
+
+const FIRST_FAULTS: &[Case] = &[
+    Case {
         what: "a part before a time above 64 bits",
         map: STANDARD,
         export: "time,bus,word\n18446744073709551616,A,x\n",
@@ -478,20 +510,6 @@ const CASES: &[Case] = &[
         export: "time,bus,word,st\n1,A,x,maybe\n",
         rows: "",
         printed: "export: line 2 error",
-    },
-    Case {
-        what: "a word of nine digits",
-        map: STANDARD,
-        export: "time,bus,word\n5,A,141410323\n",
-        rows: "",
-        printed: "export: line 2 part 0",
-    },
-    Case {
-        what: "too few fields",
-        map: STANDARD,
-        export: "time,bus,word\n5,A\n",
-        rows: "",
-        printed: "export: line 2 fields",
     },
 ];
 
@@ -553,11 +571,45 @@ fn gives(alloc: Global, case: &Case) -> Result<bool, AllocError> {
     Ok(rows == case.rows.as_bytes() && said.as_slice() == case.printed.as_bytes())
 }
 
+// What differs first from what its case says.
+fn first_other(alloc: Global, cases: &[Case]) -> Option<&'static str> {
+    let differs = cases.iter().find(|case| gives(alloc, case) != Ok(true));
+    differs.map(|case| case.what)
+}
+
 #[test]
-fn exports_by_maps(rt: HostRuntime) -> Result<(), Fail> {
-    let alloc = rt.alloc();
-    let differs = CASES.iter().find(|case| gives(alloc, case) != Ok(true));
-    none_differs(differs.map(|case| case.what))
+fn exports_of_every_layout(rt: HostRuntime) -> Result<(), Fail> {
+    none_differs(first_other(rt.alloc(), LINES))
+}
+
+#[test]
+fn times_of_every_form(rt: HostRuntime) -> Result<(), Fail> {
+    none_differs(first_other(rt.alloc(), TIMES))
+}
+
+#[test]
+fn times_in_order(rt: HostRuntime) -> Result<(), Fail> {
+    none_differs(first_other(rt.alloc(), ORDERS))
+}
+
+#[test]
+fn entries_that_come_again(rt: HostRuntime) -> Result<(), Fail> {
+    none_differs(first_other(rt.alloc(), REPEATS))
+}
+
+#[test]
+fn words_of_columns(rt: HostRuntime) -> Result<(), Fail> {
+    none_differs(first_other(rt.alloc(), WORDS))
+}
+
+#[test]
+fn faults_of_exports(rt: HostRuntime) -> Result<(), Fail> {
+    none_differs(first_other(rt.alloc(), FAULTS))
+}
+
+#[test]
+fn which_fault_comes_first(rt: HostRuntime) -> Result<(), Fail> {
+    none_differs(first_other(rt.alloc(), FIRST_FAULTS))
 }
 
 // A map with a fault, and its text.
