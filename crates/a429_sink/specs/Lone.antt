@@ -28,7 +28,7 @@ capped k = in_phase (capped_in k.count k.phase) k
 abbrev pub keeps_form : Contents → Bus → ℕ → Option Form → Sink → Sink
 keeps_form p b word x k = without_files (capped (sink_sees_form p b word x k))
 
--- what is kept after one more recorded word, and after several
+-- what is kept after one more recorded word
 abbrev pub keeps : Contents → Seen → Sink → Sink
 keeps p i k = keeps_form p i.bus i.word (form_of p.codes i.bus i.word) k
 
