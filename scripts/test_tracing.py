@@ -3,7 +3,7 @@ import random
 import unittest
 
 from console import ROOT
-from tracing import Sink, lines_of, message_of, traced
+from tracing import PREMISE, Sink, lines_of, message_of, traced
 from transfers import Habits, Profile, Run, profile_by_chance, unit_by_chance
 
 IMPOSSIBLE = """\
@@ -19,12 +19,14 @@ UNEXPLAINED = """\
 4 4000 A 71A3F523 eot flags 1 check A3F5 final | owes nak, 0 of 1 data words
 5 5000 B 460000A3 nak 0000 | quiet
 ONLY files 0
+if there is such a transfer, which decide finds out; if there is none, see sink
 """
 LOST_ACKNOWLEDGEMENT = """\
 10 10000 A 71A3F523 eot flags 1 check A3F5 final | owes ack 1 1
 11 11000 B 450101A3 ack 1 1 | quiet, again 1 1
 ONLY files 1
 file 1 1
+if there is such a transfer, which decide finds out; if there is none, see sink
 """
 LOSSES = Habits(lost=0.1, silent=0.1, unheard=0.2, refused=0.1, free=0.1, late=0.3, idle=0.05)
 
@@ -38,7 +40,7 @@ class Traces(unittest.TestCase):
         self.assertEqual(traced(Profile(), recording("impossible")), (1, IMPOSSIBLE.splitlines(), None))
         self.assertEqual(traced(Profile(), recording("unexplained")), (0, UNEXPLAINED.splitlines(), None))
         status, lines, fault = traced(Profile(), recording("lost-acknowledgement"))
-        self.assertEqual((status, lines[-4:], fault), (0, LOST_ACKNOWLEDGEMENT.splitlines(), None))
+        self.assertEqual((status, lines[-5:], fault), (0, LOST_ACKNOWLEDGEMENT.splitlines(), None))
 
     def test_lines_before_a_fault(self):
         cut = recording("impossible").replace(b"1000,A", b"1000,C")
@@ -64,7 +66,7 @@ class Traces(unittest.TestCase):
                 run.send_file([unit_by_chance(profile, dice, 4, is_final) for is_final in (False, True)])
             entries, files, _ = run.broken_off(len(run.transfer.entries))
             lines = list(lines_of(profile, ((bus, word, 0) for bus, word in entries)))
-            wanted = [f"ONLY files {len(files)}", *(f"file {number} {len(data)}" for number, data in files)]
+            wanted = [f"ONLY files {len(files)}", *(f"file {number} {len(data)}" for number, data in files), PREMISE]
             self.assertEqual(lines[-len(wanted) :], wanted)
 
     def test_the_list_of_what_is_allowed(self):

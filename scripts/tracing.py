@@ -195,6 +195,9 @@ class Sink:
 
 # ---- recordings
 
+# The last line where no word is refused: of which transfers the lines above it speak.
+PREMISE = "if there is such a transfer, which decide finds out; if there is none, see sink"
+
 
 def lines_of(profile, entries):
     """The lines of `trace` for entries with a bus, a word and a time."""
@@ -214,6 +217,7 @@ def lines_of(profile, entries):
             return
     yield f"ONLY files {len(sink.files)}"
     yield from (f"file {number} {size}" for number, size in sink.files)
+    yield PREMISE
 
 
 def traced(profile, recording):

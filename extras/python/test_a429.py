@@ -145,6 +145,7 @@ UNEXPLAINED = """\
 4 4000 A 71A3F523 eot flags 1 check A3F5 final | owes nak, 0 of 1 data words
 5 5000 B 460000A3 nak 0000 | quiet
 ONLY files 0
+if there is such a transfer, which decide finds out; if there is none, see sink
 """
 
 

@@ -30,9 +30,13 @@ use Rattle.a429_check.specs.Verdict.{file_line}
 abbrev pub size_line : Crossing → List ℕ
 size_line f = file_line (f.number, f.bytes)
 
+-- of which transfers the lines above it speak
+abbrev pub premise : List ℕ
+premise = codes "if there is such a transfer, which decide finds out; if there is none, see sink\n"
+
 -- the files of every run that records these words
 abbrev pub only_text : List Crossing → List ℕ
-only_text files = codes "ONLY files " ++ decimal (length files) ++ codes "\n" ++ flat_map size_line files
+only_text files = codes "ONLY files " ++ decimal (length files) ++ codes "\n" ++ flat_map size_line files ++ premise
 
 -- the lines of the first entries of a recording
 abbrev pub first_lines : Contents → List Entry → List ℕ

@@ -100,7 +100,7 @@ fn put_steps<R: Read, W: Write>(
     }
 }
 
-// How many files every run delivers that records these words, and a line for each.
+// How many files every run delivers that records these words, a line for each, and the premise.
 fn put_only<W: Write>(sheet: &mut Sheet<'_, W>, files: &[Crossing])
     ensures { Says W.contents sheet.old sheet.new (only_text files.now) }
 {
@@ -108,6 +108,7 @@ fn put_only<W: Write>(sheet: &mut Sheet<'_, W>, files: &[Crossing])
     sheet.put_number(files.len() as u64);
     sheet.put(b"\n");
     put_sizes(sheet, files);
+    sheet.put(b"if there is such a transfer, which decide finds out; if there is none, see sink\n");
 }
 
 fn put_sizes<W: Write>(sheet: &mut Sheet<'_, W>, files: &[Crossing])
