@@ -1,7 +1,7 @@
 """What is said beside each definition of a promise: the sentence of a document that it formalises, and its second statements, each of which
 would fail if the definition were wrong. scripts/base.toml has both by hand, and this looks whether they are so.
 
-A second statement is a law, a test of the crates, a line of a page of scripts/cases, or a mistake of scripts/wrong-definitions. It can hold
+A second statement is a law, a test of the crates, a line of a page of scripts/cases, by its begin, or a mistake of scripts/wrong-definitions. It can hold
 a definition only where it has to do with it. A law and the functions that a test calls rest on it, and a mistake changes it. Of a line of
 scripts/cases only its place is looked at.
 """
@@ -127,7 +127,7 @@ class Holder:
             return False
         text = file.read_text(encoding="utf-8")
         if it.kind == "line":
-            return name in text.split("\n")
+            return any(line.startswith(name) for line in text.split("\n"))
         return bool(re.search(rf"^pub fn {name}\(" if it.kind == "law" else rf"#\[test\]\nfn {name}\(", text, re.M))
 
     def place_of(self, it: Second) -> tuple[Path, str, str]:

@@ -134,7 +134,7 @@ class Holding(unittest.TestCase):
             ("wide_is_wide", "gone", "there is no law low::laws::gone"),
             ("low::laws::wide", "low::gone::wide", "there is no law low::gone::wide_is_wide"),
             ("rods.rt a_rod_of_three", "rods.rt no_test", "there is no test crates/rows/src/rods.rt no_test"),
-            ("$ rod 3", "$ rod", "there is no line scripts/cases/rods.md $ rod"),
+            ("$ rod 3", "$ rod 4", "there is no line scripts/cases/rods.md $ rod 4"),
             ('"two are few"', '"one is few"', "there is no mistake one is few"),
         ):
             self.assertEqual(self.faults(NOTES.replace(old, new)), [said])
