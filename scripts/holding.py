@@ -218,17 +218,17 @@ def placed(it: Second) -> str:
 
 
 def notes_table(group: list[Definition], notes: Notes) -> str:
-    """What is said of the definitions of a file: a row for those next to each other of which the same is said."""
-    rows: list[tuple[list[str], str, str]] = []
+    """What is said of the definitions of a file, sentence by sentence: a row for those of which the same would fail."""
+    sentences: dict[str, dict[str, list[str]]] = {}
     for it in group:
         says = quoted(notes.sentence_of[short(it.key)]) if short(it.key) in notes.sentence_of else ""
         held = "; ".join(map(named, notes.seconds_of.get(short(it.key), []))) or "**nothing yet**"
-        if rows and rows[-1][1:] == (says, held):
-            rows[-1][0].append(it.name)
-        else:
-            rows.append(([it.name], says, held))
+        sentences.setdefault(says, {}).setdefault(held, []).append(f"`{it.name}`")
     text = "\n| Definition | Says | What would fail if it were wrong |\n|---|---|---|\n"
-    return text + "".join(f"| {', '.join(f'`{name}`' for name in names)} | {says} | {held} |\n" for names, says, held in rows)
+    for says, rows in sentences.items():
+        for number, (held, names) in enumerate(rows.items()):
+            text += f"| {', '.join(names)} | {'the same' if number else says} | {held} |\n"
+    return text
 
 
 def seconds_table(notes: Notes) -> str:

@@ -158,13 +158,13 @@ class Holding(unittest.TestCase):
             | Definition | Says | What would fail if it were wrong |
             |---|---|---|
             | `few` | It is few. ([RODS](RODS.md)) | `a_rod_of_three`; mistake: two are few |
+            | `other` | the same | **nothing yet** |
             | `IsWide` | {says} | `wide_is_wide` |
-            | `other` | It is few. ([RODS](RODS.md)) | **nothing yet** |
-            | `IsLong` | {says} | a line of `rods.md`: three are wide |
+            | `IsLong` | the same | a line of `rods.md`: three are wide |
             """
         self.assertEqual(notes_table(self.base, notes), textwrap.dedent(wanted))
         same = notes_table([it for it in self.base if it.name != "few"], Notes(notes.sentences[:1], []))
-        self.assertIn(f"| `IsWide` | {says} | **nothing yet** |", same)
+        self.assertIn(f"| `IsWide`, `IsLong` | {says} | **nothing yet** |", same)
         wanted = """
             | What would fail | Where | What it is about | Definitions |
             |---|---|---|---|
