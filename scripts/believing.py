@@ -11,7 +11,7 @@ from pathlib import Path
 from typing import Iterator, NamedTuple
 
 # What begins a definition, at the line's begin.
-BEGIN = re.compile(r"^(?:(?:abbrev|unfoldable|pub) )*(?:(?P<kind>record|data) )?(?P<name>[^\s():]+)(?: :| \(| where$)")
+BEGIN = re.compile(r"^(?:(?:abbrev|unfoldable|pub) )*(?:(?P<kind>record|data) )?(?P<name>[^\s(){}:]+)(?: :| [({]| where$)")
 # A clause of a definition: the patterns that its names are bound by.
 CLAUSE = re.compile(r"^(?!abbrev |unfoldable |pub |record |data )\S+\s(?P<patterns>.*?)\s?=(?:\s|$)", re.S)
 WORD = re.compile(r"[^\s(){}\[\];,]+")

@@ -137,29 +137,6 @@ def idle_files(page):
             yield Fault(page, block.line, f"no command uses the file {block.name}")
 
 
-def definitions_of(text):
-    """The definitions that DEFINITIONS lists, each with its line, its crate and the files that its row names, or else the row before."""
-    crate, files = None, []
-    for number, line in enumerate(text.splitlines(), 1):
-        heading = re.match(r"## (.*)", line)
-        crate = heading[1] if heading else crate
-        if line.startswith("| `"):
-            names, *_, place = line.strip("| ").split(" | ")
-            named = re.findall(r"`([^`]+)`", place)
-            files = named if "same" not in place else files
-            for name in re.findall(r"`(\w+)", names):
-                yield number, crate, name, [*files, *named]
-
-
-def lost_definitions(page, root):
-    """The definitions of the page that are in none of the files that it names."""
-    for line, crate, name, files in definitions_of(page.read_text(encoding="utf-8")):
-        if (root / "crates" / crate).is_dir():
-            paths = [root / "crates" / crate / it for it in files]
-            if not any(it.exists() and re.search(rf"\b{name}\b", it.read_text(encoding="utf-8")) for it in paths):
-                yield Fault(page, line, f"{name} is not in {' or '.join(files)} of {crate}")
-
-
 @cache
 def words_of_code(root):
     """The words of the crates' sources, specs and proofs, of the scripts and of the examples, and the names of the crates."""

@@ -43,6 +43,10 @@ pub data Side : Type 0 where
 abbrev pub is_plain : Rod → Type 0
 is_plain r = r.kind ≡ kind.Plain
 
+-- over any type
+pub record Held {W : Type 0} (w : W) : Type 0 where
+  pub rod : Rod
+
 -- by a constructor
 abbrev pub leftmost : Side
 leftmost = Left
@@ -85,7 +89,7 @@ impl Model for Name {
 //! Cutting.
 
 ghost use Rattle.std.specs.Prelude.{IfOk, IfErr};
-ghost use Rattle.low.specs.Width.{IsWide, Pair, first, is_plain, leftmost};
+ghost use Rattle.low.specs.Width.{Held, IsWide, Pair, first, is_plain, leftmost};
 
 use low::rod::{Kind, Rod};
 use low::rod::Name;
@@ -102,6 +106,10 @@ pub fn cut(rod: &Rod, name: &Name) -> Result<Rod, Kind>
 /// A law.
 pub fn first_is_first()
     ensures { (p : Pair) → first 2 ≡ 2 }
+{}
+
+pub fn held()
+    ensures { (w : Rod) → Held w }
 {}
 
 pub fn left()
@@ -159,6 +167,9 @@ class Believing(unittest.TestCase):
 
     def test_names_that_are_bound_and_fields_are_no_definitions(self):
         self.assertEqual(self.names("first_is_first"), ["first", "Kind", "Rod", "Pair"])
+
+    def test_a_definition_over_a_type(self):
+        self.assertEqual(self.names("held"), ["Kind", "Rod", "Held"])
 
     def test_a_constructor_is_its_type(self):
         self.assertEqual(self.names("left"), ["Side", "leftmost"])

@@ -5,7 +5,7 @@ from pathlib import Path
 
 from console import blocks_of
 from pages import (
-    anchors_of, commands_never_run, dead_links, idle_files, lost_definitions, lost_names, missing_files, run_on_engines, shared_files,
+    anchors_of, commands_never_run, dead_links, idle_files, lost_names, missing_files, run_on_engines, shared_files,
 )  # fmt: skip
 
 PAGE = """\
@@ -96,13 +96,6 @@ class Pages(unittest.TestCase):
         text = "```console\n$ cp a ~/tmp/b\n$ cp a /tmp/b\n```\n\n```\ncp a /tmp/b\n```\n"
         wanted = [(3, "another run has this file too: cp a /tmp/b")]
         self.assertEqual(self.said(shared_files(self.put("shared.md", text))), wanted)
-
-    def test_definitions_are_in_the_files_that_are_named(self):
-        self.put("crates/low/specs/One.antt", "one two")
-        self.put("crates/low/specs/Two.antt", "three")
-        text = "## low\n\n| `one w` | | `specs/One.antt` |\n| `two`, `four` | | same |\n| `three` | | same, `specs/Two.antt` |\n"
-        faults = lost_definitions(self.put("definitions.md", text), self.root)
-        self.assertEqual(self.said(faults), [(4, "four is not in specs/One.antt of low")])
 
     def test_names_of_code_are_in_the_sources(self):
         self.put("crates/low/src/lib.rt", "pub fn is_there() -> IsThere {}")

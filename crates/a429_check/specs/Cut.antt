@@ -26,6 +26,7 @@ pub record Task : Type 0 where
   pub taken : Taken
   pub failed : Bool
 
+-- the same, of its three parts
 abbrev pub task : ℕ → Taken → Bool → Task
 task most t failed = record { most = most; taken = t; failed = failed }
 
@@ -35,6 +36,7 @@ pub record Placed : Type 0 where
   pub new : Option PutParts
   pub failed : Bool
 
+-- the same, of what takes the parts, before and after
 abbrev pub placed : {P : Type 0} → (P → Option PutParts) → (P → Bool) → P → P → Placed
 placed known failed old new = record { old = known old; new = known new; failed = failed new }
 

@@ -76,6 +76,7 @@ pub record Heard : Type 0 where
   pub bytes : Option (List ℕ)
   pub failed : Bool
 
+-- the same, of its reader before and after
 abbrev pub heard : {R : Type 0} → (R → Option (List ℕ)) → Tally R → Tally R → Heard
 heard remaining old new = record { bytes = unread remaining old; failed = has_failed new }
 

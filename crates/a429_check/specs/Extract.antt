@@ -15,6 +15,7 @@ pub record Progress : Type 0 where
   pub shelf : Shelved
   pub listener : Bool
 
+-- the same, of its three parts
 abbrev pub progress : Readers → Shelved → Bool → Progress
 progress read shelf listener = record { read = read; shelf = shelf; listener = listener }
 

@@ -14,6 +14,7 @@ form_line c e = recorded_text e ++ what_text c e.bus e.word ++ codes "\n"
 abbrev pub form_lines : Codes → List Entry → List ℕ
 form_lines c es = flat_map (form_line c) es
 
+-- the text is the lines of these entries
 abbrev pub AreFormLines : Contents → List Entry → List ℕ → Type 0
 AreFormLines p es text = text ≡ form_lines p.codes es
 

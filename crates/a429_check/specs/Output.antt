@@ -11,6 +11,7 @@ pub record Output (W : Type 0) : Type 0 where
   pub old : Tally W
   pub new : Tally W
 
+-- the same, of the writer before and after
 abbrev pub output : {W : Type 0} → (W → Option (List ℕ)) → Tally W → Tally W → Output W
 output contents old new = record { contents = contents; old = old; new = new }
 

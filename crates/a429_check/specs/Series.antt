@@ -27,6 +27,7 @@ pub record SeriesInput : Type 0 where
   pub list : List ℕ
   pub part : ℕ → Option Part
 
+-- the same, of its three parts
 abbrev pub series_input : List ℕ → List ℕ → (ℕ → Option Part) → SeriesInput
 series_input profile list part = record { profile = profile; list = list; part = part }
 

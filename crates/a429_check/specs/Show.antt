@@ -22,6 +22,7 @@ use Rattle.a429_record.specs.declared.entry.Entry.{Entry}
 
 -- ---- what is shown of a word
 
+-- the status of a word without a value
 abbrev pub status_text : Status → List ℕ
 status_text NoData = codes " no data"
 status_text Failure = codes " failure"
@@ -31,6 +32,7 @@ abbrev pub unit_text : List ℕ → List ℕ
 unit_text [] = []
 unit_text (c ∷ cs) = codes " " ++ c ∷ cs
 
+-- whether the word is of a functional test
 abbrev pub test_text : Bool → List ℕ
 test_text true = codes " test"
 test_text false = []
@@ -39,6 +41,7 @@ test_text false = []
 abbrev pub flag_text : ℕ → Flag → List ℕ
 flag_text field f = codes " " ++ f.name ++ codes "=" ++ decimal (bit_at field (f.bit - 11))
 
+-- the flags of a data field, in their order; another kind has none
 abbrev pub flags_text : ℕ → Kind → List ℕ
 flags_text field (Discrete flags) = flat_map (flag_text field) flags
 flags_text field (Bnr bits range decimals) = []

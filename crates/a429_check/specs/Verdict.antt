@@ -63,6 +63,7 @@ pub record Input : Type 0 where
   pub certificate : Option (List ℕ)
   pub recording : Option Recording
 
+-- the same, of the readers as they were before anything was read
 abbrev pub input : {C : Type 0} → List ℕ → (C → Option (List ℕ)) → Tally C → EntriesLeft → Input
 input profile remaining cert rec = record { profile = profile; certificate = unread remaining cert; recording = rec.to_come }
 
@@ -141,6 +142,7 @@ verify_causes i shelf Failed = record never {
   memory = IsUtf8 i.profile × (IsUnchanged shelf.before shelf.after ⊎ HasAnswer i shelf);
 }
 
+-- why there is no verdict: the fault comes by one of these causes
 abbrev pub IsVerifyFault : Input → Shelved → Type 0 → RunFault → Type 0
 IsVerifyFault i shelf Failed = ComesBy (verify_causes i shelf Failed)
 

@@ -169,6 +169,7 @@ made_text good bad = codes "bit 32 made: good " ++ decimal good ++ codes " bad "
 abbrev pub made_line : ℕ → ℕ → List ℕ
 made_line good bad = if (good == 0) && (bad == 0) then [] else made_text good bad
 
+-- the lines of the counts; a count that is mostly 0 has a line only where it is not
 abbrev pub counts_text : Turning → Counts → List ℕ
 counts_text t n =
     count_line (codes "entries ") n.entries

@@ -82,6 +82,7 @@ imported_after m s (line ∷ lines) = goes_on (lot_of m s line) (λ l. imported_
 abbrev pub first_columns : Map → Option Columns
 first_columns m = if m.rows.header then None else columns_in m []
 
+-- before the first line
 abbrev pub at_start : Map → Progress
 at_start m = record { lines = 0; columns = first_columns m; past = no_past }
 
@@ -95,6 +96,7 @@ abbrev pub entry_before : Lot → List Entry → List Entry
 entry_before (lot.Written e is_cut v mend) es = e ∷ es
 entry_before _ es = es
 
+-- the entries that these lines became
 abbrev pub entries_of : List Lot → List Entry
 entries_of [] = []
 entries_of (l ∷ lots) = entry_before l (entries_of lots)

@@ -59,6 +59,7 @@ pub record PartRow : Type 0 where
   pub rule : Rule
   pub default : Option Data
 
+-- the rule of each key of a part, and the value that stands for it where it is missing
 abbrev pub part_row : Bool → PartKey → PartRow
 part_row header part.Column = record { key = codes "column"; rule = rule.column header; default = None }
 part_row header part.Base = record { key = codes "base"; rule = rule.base; default = None }

@@ -42,5 +42,6 @@ abbrev pub jump_name : Jump → List ℕ
 jump_name Wrap = codes "wrap "
 jump_name (Reset by) = codes "reset "
 
+-- the line of a place: what happened there, at which entry and line, and by how much
 abbrev pub place_line : Place → List ℕ
 place_line p = jump_name p.jump ++ decimal p.entry ++ codes " line " ++ decimal p.line ++ jump_text p.jump

@@ -10,6 +10,7 @@ use Rattle.a429_import.specs.declared.time.TimeForm.TheVariants as form
 use Rattle.a429_import.specs.declared.time.Unit.TheVariants as unit
 use Rattle.a429_import.specs.Import.{Imported, entries_of}
 
+-- the map of the form in which this program writes recordings
 abbrev pub standard_map : Map
 standard_map = record {
   rows = record { separator = separator.Byte 44; header = true; quotes = true; skip = 0; comment = []; pass = [] };

@@ -13,6 +13,7 @@ use Rattle.a429_link.specs.Trace.{sink_after, sink_at_first, sink_sees}
 
 -- ---- its steps
 
+-- what a sink by itself may do, with the word that is recorded
 pub data SinkStep : Type 0 where
   -- a word of bus A is recorded, whatever it is, and taken at once
   Received : (word : ℕ) → SinkStep
@@ -80,6 +81,7 @@ abbrev pub SinkAllowsOn : Contents → Sink → Bus → ℕ → Type 0
 SinkAllowsOn p k bus.A w = Unit {0}
 SinkAllowsOn p k bus.B w = (is_free p.codes bus.B w ≡ true) ⊎ MayAnswerForm k.count k.phase (form_of p.codes bus.B w)
 
+-- the same of a recorded word, on its bus
 abbrev pub SinkAllows : Contents → Sink → Seen → Type 0
 SinkAllows p k i = SinkAllowsOn p k i.bus i.word
 

@@ -208,5 +208,6 @@ HasRequest p (i ∷ items) = IsSome (asks i.bus (form_of p.codes i.bus i.word)) 
 abbrev pub IsBadNext : Contents → Glimpse → Option Seen → Type 0
 IsBadNext p g x = (g.known ≡ true) × (EndsBad p g.observer x ⊎ (IsSome g.observer.last × (ComesNext p g.observer x → ⊥)))
 
+-- this item of a recording is such a word
 abbrev pub IsBadAnywhere : Contents → List Seen → ℕ → Type 0
 IsBadAnywhere p items i = IsBadNext p (glimpsed p (take i items) glimpse_at_first) (slice_get items i)

@@ -56,6 +56,7 @@ ArePieces p items [] = ⊥
 ArePieces p items (piece ∷ []) = (piece ≡ items) × IsLastPiece p items
 ArePieces p items (piece ∷ (next ∷ pieces)) = (rest : List Seen) × (piece ++ rest ≡ items) × EndsAt p items (length piece) × ArePieces p rest (next ∷ pieces)
 
+-- all words of the pieces, in order
 abbrev pub joined_pieces : List (List Seen) → List Seen
 joined_pieces [] = []
 joined_pieces (piece ∷ pieces) = piece ++ joined_pieces pieces
@@ -122,11 +123,13 @@ is_whole c u = (u.first == c.first_ldu) && u.ended
 abbrev pub open_units : Contents → List Seen → List FileUnits
 open_units p items = filter (λ u. not (is_whole p.codes u)) (acked_files p items)
 
+-- the units of files of which all are there
 abbrev pub whole_units : Contents → List Seen → List FileUnits
 whole_units p items = filter (is_whole p.codes) (acked_files p items)
 
 -- ---- in all
 
+-- what is said of a piece of a recording
 pub record Told : Type 0 where
   pub begun_before : Bool
   pub stop : Option ℕ

@@ -42,10 +42,12 @@ pub record SinkNo (p : Contents) (t : Taken) (refusal : Refusal) : Type 0 where
   pub ends : (more : List Seen) → SinkKeeps p (items_of (entries ++ next ∷ []) ++ more) → ⊥
   pub says : IsRefusal p (items_of (entries ++ next ∷ [])) refusal
 
+-- what a verdict says of the recording: the files that cross, or the first answer that no sink sends
 abbrev pub IsSinkVerdict : Contents → Taken → SinkVerdict → Type 0
 IsSinkVerdict p t (verdict.Yes files) = SinkYes p t files.items
 IsSinkVerdict p t (verdict.No refusal) = SinkNo p t refusal
 
+-- the verdict is a yes
 abbrev pub IsYes : SinkVerdict → Type 0
 IsYes (verdict.Yes files) = Unit {0}
 IsYes (verdict.No refusal) = ⊥

@@ -20,6 +20,7 @@ abbrev pub capped_in : ℕ → SinkPhase → SinkPhase
 capped_in count (InBlock b) = if nat_lt count (length b.words + 2) then Granted else InBlock b
 capped_in count phase = phase
 
+-- the sink without such a block
 abbrev pub capped : Sink → Sink
 capped k = in_phase (capped_in k.count k.phase) k
 
@@ -27,10 +28,11 @@ capped k = in_phase (capped_in k.count k.phase) k
 abbrev pub keeps_form : Contents → Bus → ℕ → Option Form → Sink → Sink
 keeps_form p b word x k = without_files (capped (sink_sees_form p b word x k))
 
--- what is kept after one more recorded word, and after several
+-- what is kept after one more recorded word
 abbrev pub keeps : Contents → Seen → Sink → Sink
 keeps p i k = keeps_form p i.bus i.word (form_of p.codes i.bus i.word) k
 
+-- what is kept after several recorded words
 abbrev pub kept : Contents → List Seen → Sink → Sink
 kept p [] k = k
 kept p (i ∷ items) k = kept p items (keeps p i k)
@@ -65,6 +67,7 @@ abbrev pub crosses_form : Contents → Bus → Option Form → Sink → Option C
 crosses_form p bus.B (Some x) k = crossing_by (does p bus.B 0 x k)
 crosses_form p _ _ k = None
 
+-- the file that crosses by a recorded word
 abbrev pub crosses : Contents → Seen → Sink → Option Crossing
 crosses p i k = crosses_form p i.bus (form_of p.codes i.bus i.word) k
 
@@ -82,5 +85,6 @@ abbrev pub IsFaultOn : Contents → Sink → Bus → ℕ → SinkFault → Type 
 IsFaultOn p k b w fault.Refused = SinkAllowsOn p k b w → ⊥
 IsFaultOn p k b w fault.OutOfMemory = SinkAllowsOn p k b w × IsAck (form_of p.codes b w)
 
+-- why a recorded word is not taken
 abbrev pub IsSinkFault : Contents → Sink → Seen → SinkFault → Type 0
 IsSinkFault p k i f = IsFaultOn p k i.bus i.word f

@@ -23,6 +23,7 @@ owed_in count (OwesAck b flags) = owed.Ack b.file b.ldu
 owed_in count OwesNak = owed.Nak
 owed_in count phase = owed.Nothing
 
+-- the answer that a sink owes
 abbrev pub owed_by : Sink → Owed
 owed_by k = owed_in k.count k.phase
 

@@ -52,6 +52,7 @@ HasAll span entries = (span.from ≡ 0) × (length entries ≤ span.to + 1)
 abbrev pub rows_over : {p : Contents} {entries : List Entry} → Span → RunOver p entries → List Mark
 rows_over {p} {entries} span r = marks p.codes span before_all (reports_of_run p entries r.run.first r.run.steps)
 
+-- the rows of a picture of the run by which a certificate explains
 abbrev pub rows_explained : {p : Contents} {entries : List Entry} → Span → ExplainedRun p entries → List Mark
 rows_explained {p} {entries} span e = marks p.codes span before_all (reports_of_run p entries e.first e.steps)
 

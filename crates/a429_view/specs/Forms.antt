@@ -54,5 +54,6 @@ abbrev pub reason_or_text : Option Freedom → List ℕ → List ℕ
 reason_or_text (Some why) text = freedom_text why
 reason_or_text None text = text
 
+-- what a word is on its bus: why it is free, its form, its form in the other direction, or that it has none
 abbrev pub what_text : Codes → Bus → ℕ → List ℕ
 what_text c b w = reason_or_text (freedom_of c b w) (form_or_other_text c (form_of c b w) (form_across c b w))

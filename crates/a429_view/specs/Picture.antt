@@ -105,6 +105,7 @@ head_text height = size_text height ++ style_text ++ frame_text height ++ names_
 
 -- ---- the picture
 
+-- a picture of these rows, in SVG
 abbrev pub svg_text : Codes → List Mark → List ℕ
 svg_text c rows = head_text (30 * length rows + 90) ++ rows_text c 0 rows ++ codes "</svg>\n"
 

@@ -32,6 +32,7 @@ owed_text o = kinds_text (kinds_owed o)
 abbrev pub no_line : Refusal → List ℕ
 no_line r = codes "SINK NO " ++ decimal r.entry ++ before_text r.owed_before ++ codes " allowed " ++ owed_text r.owed ++ codes "\n"
 
+-- the lines of a verdict on a sink
 abbrev pub sink_text : SinkVerdict → List ℕ
 sink_text (verdict.Yes files) = yes_lines files.items
 sink_text (verdict.No refusal) = no_line refusal
