@@ -1,17 +1,17 @@
 -- Data words that fit are those of a link data unit.
-use Rattle.std.proofs.Common.{◌≡◌, ◌+◌, ℕ, Bool, List, [], Option, Some, None, IfSome, IfNone, unwrap_or, length, if◌then◌else◌, sym, ap, ◌∙◌, subst}
+use Rattle.std.proofs.Common.{◌≡◌, ◌+◌, ◌-◌, ℕ, Bool, true, false, arith, refl, List, [], Option, Some, None, IfSome, IfNone, unwrap_or, option_map, length, if◌then◌else◌, sym, ap, ◌∙◌, subst}
 use Rattle.a429_profile.specs.Profile.{Contents, IsProfile}
 use Rattle.a429_ldu.specs.Carried.{CarryBytes, bytes_carried, bytes_in}
 use Rattle.a429_ldu.specs.CheckWord.{check_of}
 use Rattle.a429_ldu.specs.Ldu.{HasLength, IsFirstLduFault, IsLdu, LduValue, ldu_of}
 use Rattle.a429_ldu.specs.declared.fault.LduFault.{LduFault}
 use Rattle.a429_ldu.specs.declared.fault.LduFault.TheVariants.{Count, NotBytes, CheckWrong, OutOfMemory}
-use Rattle.a429_ldu.proofs.CarriedFacts.{carries_of, one_list}
+use Rattle.a429_ldu.proofs.CarriedFacts.{carries_of, carried_of, one_list}
 use Rattle.a429_search.specs.declared.pieces.EndWord.{EndWord}
 use Rattle.a429_search.specs.declared.pieces.GroupPieces.{GroupPieces}
 use Rattle.a429_search.specs.Order.{HasEach, lists_of}
-use Rattle.a429_search.specs.Fill.{Fits}
-use Rattle.a429_search.specs.Block.{check_wanted, HaveCheckWord, IsUnitOf}
+use Rattle.a429_search.specs.Fill.{Fits, AreDataOf}
+use Rattle.a429_search.specs.Block.{check_wanted, HaveCheckWord, IsUnitOf, MayBeUnitOf}
 
 -- they carry bytes
 fitting : (p : Contents) → IsProfile p → (wanted : Option ℕ) (words : List ℕ) (f : Fits p wanted words) → CarryBytes p.codes words f.bytes
@@ -75,3 +75,26 @@ unit_of p pieces u gfi e words same sound count first recorded made each = subst
   no_end = made;
   each = each;
 })
+
+-- ---- a unit that the attempts may have been of
+
+wanted_check : (p : Contents) (end : Option EndWord) (check flags made : ℕ) (compare : Bool) → compare ≡ p.check.compare → (p.check.compare ≡ true → check ≡ made) → IfSome end (λ e. (flags ≡ e.flags) × (check ≡ e.check)) → IfSome (if compare then (option_map (λ e. e.check) end) else None) (λ k. made ≡ k)
+wanted_check p end check flags made false is is_made same = tt
+wanted_check p None check flags made true is is_made same = tt
+wanted_check p (Some e) check flags made true is is_made same = sym (is_made (sym is)) ∙ same.1
+
+same_wanted : (p : Contents) (end : Option EndWord) (compare : Bool) → compare ≡ p.check.compare → check_wanted p end ≡ (if compare then (option_map (λ (e : EndWord). e.check) end) else None)
+same_wanted p None true is = refl
+same_wanted p None false is = refl
+same_wanted p (Some e) compare is = ap (λ (b : Bool). if b then Some e.check else None) (sym is)
+
+pub data_of_unit : (p : Contents) → IsProfile p → (pieces : GroupPieces) (u : LduValue) → MayBeUnitOf p pieces u → AreDataOf p (pieces.count - 2) (check_wanted p pieces.end) (lists_of pieces.attempts.items) u.words
+data_of_unit p is pieces u m = record {
+  long = omega (arith, m.count);
+  each = m.each;
+  fits = record {
+    bytes = m.unit.bytes;
+    carried = carried_of p is u.words m.unit.bytes m.unit.carries;
+    check = subst (λ (o : Option ℕ). IfSome o (λ k. check_of p.check m.unit.bytes ≡ k)) (sym (same_wanted p pieces.end p.check.compare refl)) (wanted_check p pieces.end u.check u.flags (check_of p.check m.unit.bytes) p.check.compare refl m.unit.checked m.end);
+  };
+}

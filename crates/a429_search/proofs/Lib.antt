@@ -8,6 +8,7 @@ pub mod OrderFacts
 pub mod PairFacts
 pub mod FillFacts
 pub mod BoundedFacts
+pub mod HopelessFacts
 pub mod DifferingFacts
 pub mod MergedFacts
 pub mod BlockFacts

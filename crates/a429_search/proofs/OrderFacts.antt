@@ -1,7 +1,7 @@
 -- One list for several, where one order keeps all.
-use Rattle.std.proofs.Common.{◌≡◌, ◌≢◌, ◌==◌, ◌⊎◌, ℕ, zero, suc, ◌+◌, ◌-◌, ◌<◌, ◌≤◌, Bool, true, false, cond, List, [], ◌∷◌, ◌++◌, length, take, drop, get_or, slice_get, slice_index, Option, Some, None, Contains, Vec, refl, sym, ap, ◌∙◌, subst, inl, inr, arith}
+use Rattle.std.proofs.Common.{◌≡◌, ◌≢◌, ◌==◌, ◌⊎◌, ℕ, zero, suc, ◌+◌, ◌-◌, ◌<◌, ◌≤◌, Bool, true, false, cond, List, [], ◌∷◌, ◌++◌, length, take, drop, get_or, slice_get, slice_index, replicate, Option, Some, None, Contains, Vec, refl, sym, ap, ◌∙◌, subst, inl, inr, arith}
 use Rattle.std.proofs.lemmas.Bool.{eqb-true, eqb-false, eq-eqb, cases_eq}
-use Rattle.std.proofs.lemmas.List.{drop_more, drop_all, take_more, take_all, length-drop, length-map, get_or_default}
+use Rattle.std.proofs.lemmas.List.{drop_more, drop_all, take_more, take_all, length-drop, length-map, length-replicate, get_or-replicate, get_or_default}
 use Rattle.std.proofs.lemmas.List.Elements.{Contains-push_cases}
 use Rattle.std.proofs.lemmas.Option.{slice_get_within, get_or_from_slice_get}
 use Rattle.a429_link.specs.Run.{IsSubsequenceOf}
@@ -11,7 +11,7 @@ use Rattle.a429_search.proofs.SubsequenceFacts.{sub_drop, sub_tails, sub_contain
 
 -- ---- one list, with one word more
 
-past : (xs : List ℕ) (k : ℕ) → slice_get xs k ≡ None → length xs ≤ k
+pub past : (xs : List ℕ) (k : ℕ) → slice_get xs k ≡ None → length xs ≤ k
 past [] k e = omega arith
 past (x ∷ xs) zero e = absurd (cc e)
 past (x ∷ xs) (suc k) e = omega (arith, past xs k e)
@@ -23,7 +23,7 @@ module _ (xs : List ℕ) (k w : ℕ) where
   next_at : (x : ℕ) → slice_get xs k ≡ Some x → take (k + 1) xs ≡ take k xs ++ x ∷ []
   next_at x e = take_more xs k 0 (slice_get_within xs k x e) ∙ ap (λ (y : ℕ). take k xs ++ y ∷ []) (get_or_from_slice_get xs k x 0 e)
 
-  rest_at : (x : ℕ) → slice_get xs k ≡ Some x → drop k xs ≡ x ∷ drop (k + 1) xs
+  pub rest_at : (x : ℕ) → slice_get xs k ≡ Some x → drop k xs ≡ x ∷ drop (k + 1) xs
   rest_at x e = drop_more xs k 0 (slice_get_within xs k x e) ∙ ap (λ (y : ℕ). y ∷ drop (k + 1) xs) (get_or_from_slice_get xs k x 0 e)
 
   module _ (merged : List ℕ) (kept : IsSubsequenceOf (take k xs) merged) where
@@ -88,7 +88,7 @@ abbrev pub ComesNext : List (List ℕ) → List ℕ → ℕ → Type 0
 ComesNext lists ps w = (i : ℕ) × (i < length lists) × IsNext lists ps i w
 
 -- the next word of a list is one of it
-next_is_theirs : (xs : List ℕ) (k w : ℕ) → slice_get xs k ≡ Some w → Contains xs w
+pub next_is_theirs : (xs : List ℕ) (k w : ℕ) → slice_get xs k ≡ Some w → Contains xs w
 next_is_theirs xs k w e = (k, slice_get_within xs k w e, get_or_from_slice_get xs k w w e)
 
 pub merging_more : (lists : List (List ℕ)) (ps qs merged : List ℕ) (w : ℕ) → Merging lists ps merged → length qs ≡ length ps → Passes lists ps qs w → ComesNext lists ps w → IsFree lists ps w → Merging lists qs (merged ++ w ∷ [])
@@ -110,7 +110,7 @@ all_kept lists ps merged kept all k d l =
 
 -- ---- none is free
 
-get_front : (xs : List ℕ) (k z : ℕ) (zs : List ℕ) → drop k xs ≡ z ∷ zs → slice_get xs k ≡ Some z
+pub get_front : (xs : List ℕ) (k z : ℕ) (zs : List ℕ) → drop k xs ≡ z ∷ zs → slice_get xs k ≡ Some z
 get_front [] zero z zs e = absurd (cc e)
 get_front [] (suc k) z zs e = absurd (cc e)
 get_front (x ∷ xs) zero z zs e = cc
@@ -121,7 +121,7 @@ is_or_not None z = inr (λ e. absurd (cc e))
 is_or_not (Some x) z = elim (cases_eq x z) [ inl e ↦ inl (ap Some e) | inr n ↦ inr (λ e. n (cc)) ]
 
 -- the word comes next in a list, or in none
-next_or_none : (lists : List (List ℕ)) (ps : List ℕ) (z n : ℕ) → ((i : ℕ) × (i < n) × IsNext lists ps i z) ⊎ ((i : ℕ) → i < n → ¬ IsNext lists ps i z)
+pub next_or_none : (lists : List (List ℕ)) (ps : List ℕ) (z n : ℕ) → ((i : ℕ) × (i < n) × IsNext lists ps i z) ⊎ ((i : ℕ) → i < n → ¬ IsNext lists ps i z)
 next_or_none lists ps z zero = inr (λ i l. absurd (omega arith))
 next_or_none lists ps z (suc n) =
     elim (next_or_none lists ps z n) [

@@ -33,3 +33,12 @@ pub record IsUnitOf (p : Contents) (pieces : GroupPieces) (u : LduValue) : Type 
 -- these data words of an attempt have those of each, and are a whole unit or can be filled up to one
 abbrev pub GivesUnit : Contents → GroupPieces → List ℕ → Type 0
 GivesUnit p pieces words = HasEach words (lists_of pieces.attempts.items) × CanBeCompleted p (pieces.count - 2) (check_wanted p pieces.end) words
+
+-- the attempts of a group may have been attempts to send this link data unit: it is one of the profile, has as many words as were
+-- asked for, the numbers of the start word and of the end word, and the data words of each attempt in their order
+pub record MayBeUnitOf (p : Contents) (pieces : GroupPieces) (u : LduValue) : Type 0 where
+  pub unit : IsLdu p u
+  pub count : count_of u ≡ pieces.count
+  pub gfi : IfSome pieces.gfi (λ n. u.gfi ≡ n)
+  pub end : IfSome pieces.end (λ e. (u.flags ≡ e.flags) × (u.check ≡ e.check))
+  pub each : HasEach u.words (lists_of pieces.attempts.items)

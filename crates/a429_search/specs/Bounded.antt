@@ -1,7 +1,10 @@
 -- A search for a list of at most so many words that has several.
-use Rattle.std.specs.Prelude.{◌≡◌, ℕ, ◌<◌, ◌≤◌, List, length, take, drop, slice_index}
+use Rattle.std.specs.Prelude.{◌≡◌, ◌⊎◌, ℕ, ◌+◌, ◌<◌, ◌≤◌, List, ◌++◌, length, take, drop, slice_index, All, Contains, Option}
+use Rattle.a429_profile.specs.Profile.{Contents}
 use Rattle.a429_link.specs.Run.{IsSubsequenceOf}
 use Rattle.a429_search.specs.declared.bounded.Pair.{Pair}
+use Rattle.a429_search.specs.declared.bounded.Step.{Step}
+use Rattle.a429_search.specs.Fill.{Fits}
 use Rattle.a429_search.specs.Order.{lists_of, words_at, IsNext, passed_with}
 use Rattle.a429_search.specs.Pair.{IsTable}
 
@@ -29,3 +32,26 @@ pub record IsStep (lists : List (List ℕ)) (passed : List ℕ) (i word : ℕ) (
   pub next : IsNext lists passed i word
   pub are : ArePassed lists after
   pub passes : (j : ℕ) → j < length lists → slice_index after j ≡ passed_with (words_at lists j) (slice_index passed j) word
+
+-- ---- an exact search
+
+-- the step, and no list that has what is left after it of each list is shorter than `left`
+pub record IsBoundedStep (lists : List (List ℕ)) (passed : List ℕ) (i : ℕ) (s : Step) : Type 0 where
+  pub step : IsStep lists passed i s.word s.passed.items
+  pub bound : (zs : List ℕ) → HasRests lists s.passed.items zs → s.left ≤ length zs
+
+-- each is a step from there
+abbrev pub AreSteps : List (List ℕ) → List ℕ → List Step → Type 0
+AreSteps lists passed steps = All (λ s. (i : ℕ) × (i < length lists) × IsBoundedStep lists passed i s) steps
+
+-- one of them passes this word
+abbrev pub HasStepOf : ℕ → List Step → Type 0
+HasStepOf w steps = (s : Step) × Contains steps s × (s.word ≡ w)
+
+-- merged words, and more after them, are fewer than wanted, or as many and fit
+abbrev pub Reaches : Contents → ℕ → Option ℕ → List ℕ → List ℕ → Type 0
+Reaches p count wanted merged more = (length merged + length more < count) ⊎ ((length merged + length more ≡ count) × Fits p wanted (merged ++ more))
+
+-- no words that have what is left of each list do so after these
+abbrev pub IsHopeless : Contents → ℕ → Option ℕ → List (List ℕ) → List ℕ → List ℕ → Type 0
+IsHopeless p count wanted lists passed merged = (more : List ℕ) → HasRests lists passed more → ¬ Reaches p count wanted merged more

@@ -1,12 +1,12 @@
 //! The link data unit of a group.
 
-ghost use Rattle.std.specs.Prelude.{◌≡◌, ◌↔◌, ◌≤◌, ◌+◌, IfOk, IfSome, IfNone, IsSome, IsTrue, EachIndex, length};
+ghost use Rattle.std.specs.Prelude.{◌≡◌, ℕ, List, Ok, None, false, ◌↔◌, ◌≤◌, ◌+◌, IfOk, IfSome, IfNone, IsSome, IsTrue, EachIndex, length};
 ghost use Rattle.a429_ldu.specs.Carried.{bytes_in};
 ghost use Rattle.a429_ldu.specs.CheckWord.{check_of};
-ghost use Rattle.a429_ldu.specs.Ldu.{HasLength};
+ghost use Rattle.a429_ldu.specs.Ldu.{LduValue, HasLength};
 ghost use Rattle.a429_search.specs.Order.{lists_of, words_at, HasEach};
 ghost use Rattle.a429_search.specs.Fill.{Fits, AreDataOf, CanBeCompleted};
-ghost use Rattle.a429_search.specs.Block.{check_wanted, HaveCheckWord, IsUnitOf, GivesUnit};
+ghost use Rattle.a429_search.specs.Block.{check_wanted, HaveCheckWord, IsUnitOf, MayBeUnitOf, GivesUnit};
 
 use crate::bounded::search_words;
 use crate::budget::Budget;
@@ -39,7 +39,10 @@ pub fn unit_of_pieces(
     requires flags { IfSome pieces.now.end (λ e. e.flags ≤ 15) }
     ensures some { IfOk result (λ found. IfSome found (λ u. IsUnitOf profile.now pieces.now u)) }
     ensures none { IfOk result (λ found. IfNone found (EachIndex pieces.now.attempts.items (λ i. ¬ GivesUnit profile.now pieces.now (words_at (lists_of pieces.now.attempts.items) i)))) }
+    ensures exact { result ≡ Ok None → budget.new.is_cut ≡ false → pieces.now.count ≤ 255 → (u : LduValue) → ¬ MayBeUnitOf profile.now pieces.now u }
 {
+    // (for the proof: the profile is sound)
+    let _codes = profile.codes();
     let wanted = Wanted {
         count: usize::from(pieces.count) - 2,
         check: check_wanted(profile, pieces.end),
@@ -71,14 +74,22 @@ fn data_words(
     ensures some { IfOk result (λ found. IfSome found (λ v. AreDataOf profile.now wanted.count wanted.check (lists_of attempts.now) v.items)) }
     ensures none { IfOk result (λ found. IfNone found (EachIndex attempts.now (λ i. HasEach (words_at (lists_of attempts.now) i) (lists_of attempts.now)
         → ¬ CanBeCompleted profile.now wanted.count wanted.check (words_at (lists_of attempts.now) i)))) }
+    ensures exact { result ≡ Ok None → budget.new.is_cut ≡ false → wanted.count ≤ 253 → (words : List ℕ) → ¬ AreDataOf profile.now wanted.count wanted.check (lists_of attempts.now) words }
 {
     let found = complete_longest(alloc, profile, attempts, wanted, budget)?;
-    if found.is_some() || budget.is_spent() {
+    if found.is_some() {
         return Ok(found);
+    }
+    if budget.is_spent() {
+        budget.cut();
+        return Ok(None);
     }
     match differing(alloc, attempts, budget)? {
         Some(lists) => words_of(alloc, profile, &lists, wanted, budget),
-        None => Ok(None),
+        None => {
+            budget.cut();
+            Ok(None)
+        }
     }
 }
 
@@ -90,7 +101,8 @@ fn words_of(
     wanted: Wanted,
     budget: &mut Budget,
 ) -> Result<Option<Vec<Word>>, AllocError>
-    ensures { IfOk result (λ found. IfSome found (λ v. AreDataOf profile.now wanted.count wanted.check (lists_of lists.now) v.items)) }
+    ensures some { IfOk result (λ found. IfSome found (λ v. AreDataOf profile.now wanted.count wanted.check (lists_of lists.now) v.items)) }
+    ensures exact { result ≡ Ok None → budget.new.is_cut ≡ false → wanted.count ≤ 253 → (words : List ℕ) → ¬ AreDataOf profile.now wanted.count wanted.check (lists_of lists.now) words }
 {
     if let Some(merged) = merge_in_one_order(alloc, lists, budget)? {
         let found = completed_merge(alloc, profile, lists, &merged, wanted, budget)?;
@@ -99,6 +111,7 @@ fn words_of(
         }
     }
     if budget.is_spent() {
+        budget.cut();
         return Ok(None);
     }
     if let Some(merged) = merge_one_by_one(alloc, lists, budget)? {

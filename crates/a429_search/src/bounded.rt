@@ -1,9 +1,9 @@
 //! The data words of several attempts, by a search with a budget.
 
-ghost use Rattle.std.specs.Prelude.{◌≡◌, ◌≤◌, ◌<◌, ◌↔◌, ℕ, List, All, None, Ok, IfOk, IfSome, IsTrue, length};
-ghost use Rattle.a429_search.specs.Order.{lists_of, IsNext};
+ghost use Rattle.std.specs.Prelude.{◌≡◌, ◌≤◌, ◌<◌, ◌↔◌, ℕ, List, All, None, Ok, IfOk, IfSome, IfNone, IsTrue, SomeIndex, true, false, length};
+ghost use Rattle.a429_search.specs.Order.{lists_of, words_at, IsNext};
 ghost use Rattle.a429_search.specs.Fill.{AreDataOf};
-ghost use Rattle.a429_search.specs.Bounded.{IsPair, ArePassed, HasPassed, HasRests, IsStep};
+ghost use Rattle.a429_search.specs.Bounded.{IsPair, ArePassed, HasPassed, HasRests, IsStep, IsBoundedStep, HasStepOf, AreSteps, IsHopeless};
 
 use crate::budget::Budget;
 use crate::fill::Wanted;
@@ -25,7 +25,7 @@ const STEPS_A_PAIR: usize = 4;
 /// next in some list and passes it in each list where it is next. Where all words are passed it completes the list of those
 /// taken; where that fails, or a shortest list for what is left of two lists is too long, it goes back. `None` where it
 /// finds none at `MOST_NODES` places, or before the budget is spent, or where one of two or more lists has more than 253
-/// words.
+/// words. Where it was not cut short there are none.
 pub fn search_words(
     alloc: Global,
     profile: &Profile,
@@ -33,7 +33,10 @@ pub fn search_words(
     wanted: Wanted,
     budget: &mut Budget,
 ) -> Result<Option<Vec<Word>>, AllocError>
-    ensures { IfOk result (λ found. IfSome found (λ v. AreDataOf profile.now wanted.count wanted.check (lists_of lists.now) v.items)) }
+    ensures some { IfOk result (λ found. IfSome found (λ v. AreDataOf profile.now wanted.count wanted.check (lists_of lists.now) v.items)) }
+    ensures none { result ≡ Ok None → budget.new.is_cut ≡ false → wanted.count ≤ 253
+        → (words : List ℕ) → ¬ AreDataOf profile.now wanted.count wanted.check (lists_of lists.now) words }
+    ensures cut { budget.old.is_cut ≡ true → budget.new.is_cut ≡ true }
 {
     let Some(pairs) = pairs_of(alloc, lists, budget)? else {
         return Ok(None);
@@ -83,7 +86,9 @@ fn pairs_of(
     lists: &[Vec<Word>],
     budget: &mut Budget,
 ) -> Result<Option<Vec<Pair>>, AllocError>
-    ensures { IfOk result (λ found. IfSome found (λ pairs. All (IsPair (lists_of lists.now)) pairs.items)) }
+    ensures some { IfOk result (λ found. IfSome found (λ pairs. All (IsPair (lists_of lists.now)) pairs.items)) }
+    ensures none { IfOk result (λ found. IfNone found (SomeIndex lists.now (λ i. 253 < length (words_at (lists_of lists.now) i)))) }
+    ensures cut { budget.new.is_cut ≡ budget.old.is_cut }
 {
     let mut pairs = Vec::new(alloc);
     for right in 0..lists.len() {
@@ -106,7 +111,9 @@ fn pair_of(
 ) -> Result<Option<Pair>, AllocError>
     requires in_left { left < length lists.now }
     requires in_right { right < length lists.now }
-    ensures { IfOk result (λ found. IfSome found (IsPair (lists_of lists.now))) }
+    ensures some { IfOk result (λ found. IfSome found (IsPair (lists_of lists.now))) }
+    ensures none { IfOk result (λ found. IfNone found (SomeIndex lists.now (λ i. 253 < length (words_at (lists_of lists.now) i)))) }
+    ensures cut { budget.new.is_cut ≡ budget.old.is_cut }
 {
     let lefts = words_at(lists, left);
     let rights = words_at(lists, right);
@@ -139,23 +146,69 @@ fn least_left(search: &Search, passed: &[usize]) -> usize
     least
 }
 
+// A word that is next in some list, how many words of each list are passed with it, and a bound for what is left then.
+#[derive(Drop)]
+pub(crate) struct Step {
+    pub word: Word,
+    pub passed: Vec<usize>,
+    pub left: usize,
+}
+
+// The words that are next in some list, each once. Those that leave the bound as low as it can be come first.
+fn steps_from(
+    alloc: Global,
+    search: &Search,
+    passed: &[usize],
+    budget: &mut Budget,
+) -> Result<Vec<Step>, AllocError>
+    requires { ArePassed (lists_of search.now.lists.now) passed.now }
+    ensures are { IfOk result (λ steps. AreSteps (lists_of search.now.lists.now) passed.now steps.items) }
+    ensures every { IfOk result (λ steps. (i : ℕ) → i < length search.now.lists.now → (w : ℕ) → IsNext (lists_of search.now.lists.now) passed.now i w → HasStepOf w steps.items) }
+    ensures cut { budget.new.is_cut ≡ budget.old.is_cut }
+{
+    let least = least_left(search, passed);
+    let mut steps = Vec::new(alloc);
+    let mut others = Vec::new(alloc);
+    for i in 0..search.lists.len() {
+        budget.spend(search.pairs.len().saturating_mul(STEPS_A_PAIR));
+        let Some(next) = step_at(alloc, search.lists, passed, i)? else {
+            continue;
+        };
+        let left = least_left(search, &next.passed);
+        let step = Step {
+            word: next.word,
+            passed: next.passed,
+            left,
+        };
+        if left < least {
+            steps.push(step)?;
+        } else {
+            others.push(step)?;
+        }
+    }
+    steps.append(&mut others)?;
+    Ok(steps)
+}
+
 // A word that is next in some list, and how many words of each list are passed with it.
 #[derive(Drop)]
-struct Step {
+struct Next {
     word: Word,
     passed: Vec<usize>,
 }
 
-// The next word of a list; `None` where no word of it is left, or it is next in an earlier list, too.
+// The next word of a list, and how many words of each list are passed with it; `None` where no word of it is left, or it is next in
+// an earlier list, too.
 fn step_at(
     alloc: Global,
     lists: &[Vec<Word>],
     passed: &[usize],
     i: usize,
-) -> Result<Option<Step>, AllocError>
+) -> Result<Option<Next>, AllocError>
     requires inside { i < length lists.now }
     requires passed { ArePassed (lists_of lists.now) passed.now }
-    ensures { IfOk result (λ found. IfSome found (λ s. IsStep (lists_of lists.now) passed.now i s.word s.passed.items)) }
+    ensures some { IfOk result (λ found. IfSome found (λ s. IsStep (lists_of lists.now) passed.now i s.word s.passed.items)) }
+    ensures none { IfOk result (λ found. IfNone found ((w : ℕ) → IsNext (lists_of lists.now) passed.now i w → (j : ℕ) × (j < i) × IsNext (lists_of lists.now) passed.now j w)) }
 {
     let Some(word) = next_word(words_at(lists, i), passed[i]) else {
         return Ok(None);
@@ -165,7 +218,7 @@ fn step_at(
     }
     let mut after = Vec::from_slice(alloc, passed)?;
     pass(lists, &mut after, word);
-    Ok(Some(Step {
+    Ok(Some(Next {
         word,
         passed: after,
     }))
@@ -186,7 +239,7 @@ fn is_first(lists: &[Vec<Word>], passed: &[usize], i: usize, word: Word) -> bool
 }
 
 // The wanted data words that have the path, and then what is left of each list; where none are found, the path is as
-// before. The words that leave the bound as low as it can be come first.
+// before.
 fn extend(
     alloc: Global,
     search: &Search,
@@ -199,40 +252,42 @@ fn extend(
     requires short { length path.old.merged.items ≤ search.now.wanted.count }
     ensures some { IfOk result (λ found. IfSome found (λ v. AreDataOf search.now.profile.now search.now.wanted.count search.now.wanted.check (lists_of search.now.lists.now) v.items)) }
     ensures back { result ≡ Ok None → path.new.merged.items ≡ path.old.merged.items }
+    ensures none { result ≡ Ok None → budget.new.is_cut ≡ false
+        → IsHopeless search.now.profile.now search.now.wanted.count search.now.wanted.check (lists_of search.now.lists.now) passed.now path.old.merged.items }
+    ensures cut { budget.old.is_cut ≡ true → budget.new.is_cut ≡ true }
 {
     if path.nodes == 0 || budget.is_spent() {
+        budget.cut();
         return Ok(None);
     }
     path.nodes -= 1;
     if are_passed(search.lists, passed) {
         let merged = path.merged.as_slice();
-        return completed_merge(
+        let words = completed_merge(
             alloc,
             search.profile,
             search.lists,
             merged,
             search.wanted,
             budget,
-        );
-    }
-    let least = least_left(search, passed);
-    for is_best in [true, false] {
-        for i in 0..search.lists.len() {
-            let Some(next) = step_at(alloc, search.lists, passed, i)? else {
-                continue;
-            };
-            budget.spend(search.pairs.len().saturating_mul(STEPS_A_PAIR));
-            let left = least_left(search, &next.passed);
-            if (left < least) != is_best || left >= search.wanted.count - path.merged.len() {
-                continue;
-            }
-            path.merged.push(next.word)?;
-            let found = extend(alloc, search, &next.passed, path, budget)?;
-            if found.is_some() {
-                return Ok(found);
-            }
-            path.merged.pop();
+        )?;
+        // (only where the polynomial is even: other words may do)
+        if words.is_none() && path.merged.len() < search.wanted.count {
+            budget.cut();
         }
+        return Ok(words);
+    }
+    let steps = steps_from(alloc, search, passed, budget)?;
+    for step in &steps {
+        if step.left >= search.wanted.count - path.merged.len() {
+            continue;
+        }
+        path.merged.push(step.word)?;
+        let found = extend(alloc, search, &step.passed, path, budget)?;
+        if found.is_some() {
+            return Ok(found);
+        }
+        path.merged.pop();
     }
     Ok(None)
 }

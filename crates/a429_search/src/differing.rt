@@ -1,6 +1,6 @@
 //! The attempts of a group that differ.
 
-ghost use Rattle.std.specs.Prelude.{◌≤◌, ◌<◌, ◌↔◌, ℕ, List, IfOk, IfSome, IfNone, OnOk, IsTrue, EachIndex, SomeIndex, length};
+ghost use Rattle.std.specs.Prelude.{◌≡◌, ◌≤◌, ◌<◌, ◌↔◌, ℕ, List, IfOk, IfSome, IfNone, OnOk, IsTrue, EachIndex, SomeIndex, length};
 ghost use Rattle.a429_link.specs.Run.{IsSubsequenceOf};
 ghost use Rattle.a429_search.specs.Order.{lists_of, words_at, HasEach};
 
@@ -14,15 +14,17 @@ use std::alloc::{AllocError, Global};
 /// compared with the words of at most so many attempts.
 pub const MOST_ATTEMPTS: usize = 16;
 
-/// At most `MOST_ATTEMPTS` lists: one that has each of them in its order has each of these, too. `None` where there would
-/// be more.
+/// At most `MOST_ATTEMPTS` lists: what has each of them in its order has each of these, and the other way round. `None` where
+/// there would be more.
 pub(crate) fn differing(
     alloc: Global,
     lists: &[Vec<Word>],
     budget: &mut Budget,
 ) -> Result<Option<Vec<Vec<Word>>>, AllocError>
     ensures all { IfOk result (λ found. IfSome found (λ kept. (zs : List ℕ) → HasEach zs (lists_of kept.items) → HasEach zs (lists_of lists.now))) }
+    ensures only { IfOk result (λ found. IfSome found (λ kept. (zs : List ℕ) → HasEach zs (lists_of lists.now) → HasEach zs (lists_of kept.items))) }
     ensures few { IfOk result (λ found. IfSome found (λ kept. length kept.items ≤ 16)) }
+    ensures cut { budget.new.is_cut ≡ budget.old.is_cut }
 {
     let mut kept = Vec::new(alloc);
     for list in lists {
@@ -40,7 +42,8 @@ pub(crate) fn differing(
 
 // Keeps one list more, in place of the first that it has.
 fn keep(kept: &mut Vec<Vec<Word>>, list: Vec<Word>) -> Result<(), AllocError>
-    ensures { OnOk result ((zs : List ℕ) → HasEach zs (lists_of kept.new.items) → HasEach zs (lists_of kept.old.items) × IsSubsequenceOf list.items zs) }
+    ensures all { OnOk result ((zs : List ℕ) → HasEach zs (lists_of kept.new.items) → HasEach zs (lists_of kept.old.items) × IsSubsequenceOf list.items zs) }
+    ensures only { OnOk result ((zs : List ℕ) → HasEach zs (lists_of kept.old.items) → IsSubsequenceOf list.items zs → HasEach zs (lists_of kept.new.items)) }
 {
     if let Some(at) = first_within(kept, &list) {
         kept[at] = list;

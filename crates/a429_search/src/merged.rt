@@ -1,6 +1,6 @@
 //! The data words of several attempts, by a list that has them all.
 
-ghost use Rattle.std.specs.Prelude.{IfOk, IfSome, IfNone};
+ghost use Rattle.std.specs.Prelude.{◌≡◌, IfOk, IfSome, IfNone};
 ghost use Rattle.a429_search.specs.Order.{lists_of, HasEach};
 ghost use Rattle.a429_search.specs.Fill.{AreDataOf, CanBeCompleted};
 
@@ -25,6 +25,7 @@ pub(crate) fn completed_merge(
     requires { HasEach merged.now (lists_of lists.now) }
     ensures some { IfOk result (λ found. IfSome found (λ v. AreDataOf profile.now wanted.count wanted.check (lists_of lists.now) v.items)) }
     ensures none { IfOk result (λ found. IfNone found (¬ CanBeCompleted profile.now wanted.count wanted.check merged.now)) }
+    ensures cut { budget.new.is_cut ≡ budget.old.is_cut }
 {
     let _lists = lists;
     budget.spend(wanted.count.saturating_mul(STEPS_A_WORD));

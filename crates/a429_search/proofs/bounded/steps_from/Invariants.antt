@@ -1,0 +1,11 @@
+use Rattle.std.proofs.Common.{◌≡◌, ◌≤◌, ◌<◌, ◌⊎◌, ◌++◌, ℕ, List, All, length, take}
+use Rattle.a429_search.specs.declared.bounded.Step.{Step}
+use Rattle.a429_search.specs.Order.{lists_of, IsNext}
+use Rattle.a429_search.specs.Bounded.{AreSteps, HasStepOf}
+use Rattle.a429_search.proofs.HopelessFacts.{AreStepsUpTo}
+use Rattle.a429_search.proofs.bounded.steps_from.Given as goal
+
+abbrev pub invariant-loop-i : goal.invariant-loop-i
+invariant-loop-i l =
+    AreStepsUpTo (lists_of l.search.lists.now) l.passed l.i l.steps.items l.others.items ×
+    (l.budget.is_cut ≡ l.fn.budget.is_cut)
