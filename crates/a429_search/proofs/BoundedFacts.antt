@@ -1,19 +1,8 @@
 -- A search for a list of at most so many words that has several.
-use Rattle.std.proofs.Common.{ℕ, ◌<◌, List, ◌∷◌, [], ◌++◌, length, slice_index, slice_get, replicate, refl, arith}
-use Rattle.std.proofs.lemmas.List.{length-replicate, get_or-replicate}
+use Rattle.std.proofs.Common.{ℕ, ◌<◌, List, ◌∷◌, [], ◌++◌, length, slice_index, slice_get, refl}
 use Rattle.a429_search.specs.Order.{words_at}
 use Rattle.a429_search.specs.Bounded.{ArePassed, HasPassed, IsStep}
 use Rattle.a429_search.proofs.OrderFacts.{kept_over, left_count, passes_fewer}
-
--- no word is passed, and none is merged
-pub none_passed : (lists : List (List ℕ)) → ArePassed lists (replicate (length lists) 0)
-none_passed lists = record {
-  counted = length-replicate (length lists) 0;
-  within = λ i l. rw (get_or-replicate {A = ℕ} (length lists) i 0 0 l) (omega arith);
-}
-
-pub none_merged : (lists : List (List ℕ)) → HasPassed lists (replicate (length lists) 0) []
-none_merged lists i l = rw (get_or-replicate {A = ℕ} (length lists) i 0 0 l) refl
 
 -- a step more
 pub step_merged : (lists : List (List ℕ)) (ps qs merged : List ℕ) (i w : ℕ) → HasPassed lists ps merged → IsStep lists ps i w qs → HasPassed lists qs (merged ++ w ∷ [])

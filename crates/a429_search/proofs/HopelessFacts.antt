@@ -1,19 +1,18 @@
 -- Where a search for a list that has several finds none.
-use Rattle.std.proofs.Common.{◌≡◌, ◌≢◌, ◌==◌, ◌⊎◌, ℕ, zero, suc, ◌+◌, ◌-◌, ◌<◌, ◌≤◌, Bool, true, false, cond, List, [], ◌∷◌, ◌++◌, length, take, drop, slice_get, slice_index, replicate, get_or, Option, Some, None, is_some, All, Contains, refl, sym, ap, ◌∙◌, subst, inl, inr, arith, append_assoc, append-nil, length-append}
+use Rattle.std.proofs.Common.{◌≡◌, ◌==◌, ◌⊎◌, ℕ, ◌+◌, ◌-◌, ◌<◌, ◌≤◌, Bool, true, false, cond, List, [], ◌∷◌, ◌++◌, length, take, drop, slice_get, slice_index, get_or, Option, Some, None, is_some, All, refl, sym, ap, ◌∙◌, subst, inl, inr, arith, append_assoc, length-append}
 use Rattle.std.proofs.Math.Seq.{take-append_seam}
-use Rattle.std.proofs.lemmas.Bool.{eqb-true, eqb-false, cases_eq}
-use Rattle.std.proofs.lemmas.Option.{slice_get_within}
-use Rattle.std.proofs.lemmas.List.{drop_all, length-drop, get_or-replicate, get_or_default}
-use Rattle.std.proofs.lemmas.List.Elements.{All-nil, All-contains, All-push, All-append, Contains-push, Contains-push_cases, Contains-append_left, Contains-append_right}
+use Rattle.std.proofs.lemmas.Bool.{eqb-false, cases_eq}
+use Rattle.std.proofs.lemmas.List.{drop_all, length-drop, get_or_default}
+use Rattle.std.proofs.lemmas.List.Elements.{All-contains, All-push, All-append, Contains-push, Contains-append_left, Contains-append_right}
 use Rattle.a429_profile.specs.Profile.{Contents}
 use Rattle.a429_link.specs.Run.{IsSubsequenceOf}
 use Rattle.a429_link.proofs.Subsequence.{sub_none, sub_length}
 use Rattle.a429_search.specs.declared.bounded.Step.{Step}
-use Rattle.a429_search.specs.Order.{words_at, HasEach, AreTheirs, IsNext, IsAllPassed, step_over, passed_with}
-use Rattle.a429_search.specs.Fill.{Fits, CanBeCompleted, AreDataOf}
-use Rattle.a429_search.specs.Bounded.{ArePassed, HasRests, IsStep, IsBoundedStep, AreSteps, HasStepOf, Reaches, IsHopeless}
+use Rattle.a429_search.specs.Order.{words_at, IsNext, IsAllPassed, step_over, passed_with}
+use Rattle.a429_search.specs.Fill.{Fits, AreDataOf}
+use Rattle.a429_search.specs.Bounded.{HasRests, IsBoundedStep, AreSteps, HasStepOf, Reaches, IsHopeless}
 use Rattle.a429_search.proofs.SubsequenceFacts.{sub_tails, sub_other}
-use Rattle.a429_search.proofs.OrderFacts.{past, rest_at, next_or_none, get_front, next_is_theirs}
+use Rattle.a429_search.proofs.OrderFacts.{past, rest_at, next_or_none, get_front}
 
 -- what is left of a list, where a word comes first in a list that has it: the word is passed where it is next
 after_if : (xs : List ℕ) (k z x : ℕ) (more : List ℕ) → slice_get xs k ≡ Some x → IsSubsequenceOf (x ∷ drop (k + 1) xs) (z ∷ more) → (b : Bool) → (x == z) ≡ b → IsSubsequenceOf (drop (cond b (k + 1) k) xs) more
@@ -39,13 +38,6 @@ module _ (p : Contents) (count : ℕ) (wanted : Option ℕ) (lists : List (List 
   reaches_fewer : (merged more : List ℕ) (z : ℕ) → Reaches p count wanted merged (z ∷ more) → Reaches p count wanted merged more
   reaches_fewer merged more z (inl h) = inl (omega (arith, h))
   reaches_fewer merged more z (inr (e, f)) = inl (omega (arith, e))
-
-  -- ---- all words are passed
-
-  pub hopeless_leaf : (passed merged : List ℕ) → count ≤ length merged → ¬ CanBeCompleted p count wanted merged → IsHopeless p count wanted lists passed merged
-  hopeless_leaf passed merged many cannot more has (inl h) = omega (arith, h, many)
-  hopeless_leaf passed merged many cannot [] has (inr (e, f)) = cannot (inl (omega (arith, e), subst (Fits p wanted) (append-nil merged) f))
-  hopeless_leaf passed merged many cannot (z ∷ more) has (inr (e, f)) = omega (arith, e, many)
 
   -- ---- a word is next
 
@@ -94,20 +86,6 @@ module _ (p : Contents) (count : ℕ) (wanted : Option ℕ) (lists : List (List 
 
 -- ---- one step
 
-within_if : (b : Bool) (k n : ℕ) → k < n → cond b (k + 1) k ≤ n
-within_if true k n l = omega arith
-within_if false k n l = omega arith
-
-within_step : (xs : List ℕ) (k w : ℕ) (o : Option ℕ) → slice_get xs k ≡ o → k ≤ length xs → step_over o k w ≤ length xs
-within_step xs k w None e l = l
-within_step xs k w (Some x) e l = within_if (x == w) k (length xs) (slice_get_within xs k x e)
-
-pub still_passed : (lists : List (List ℕ)) (ps qs : List ℕ) (w : ℕ) → ArePassed lists ps → length qs ≡ length lists → ((j : ℕ) → j < length lists → slice_index qs j ≡ passed_with (words_at lists j) (slice_index ps j) w) → ArePassed lists qs
-still_passed lists ps qs w a long passes = record {
-  counted = long;
-  within = λ j m. rw (passes j m) (within_step (words_at lists j) (slice_index ps j) w (slice_get (words_at lists j) (slice_index ps j)) refl (a.within j m));
-}
-
 -- the word is next in an earlier list
 pub next_before : (lists : List (List ℕ)) (ps : List ℕ) (i w : ℕ) → ¬ ((j : ℕ) → j < i → ¬ IsNext lists ps j w) → (j : ℕ) × (j < i) × IsNext lists ps j w
 next_before lists ps i w h = elim (next_or_none lists ps w i) [ inl found ↦ found | inr none ↦ absurd (h none) ]
@@ -122,9 +100,6 @@ pub record AreStepsUpTo (lists : List (List ℕ)) (passed : List ℕ) (n : ℕ) 
   pub are_best : AreSteps lists passed best
   pub are_others : AreSteps lists passed others
   pub every : (i w : ℕ) → i < n → i < length lists → IsNext lists passed i w → HasStepOf w best ⊎ HasStepOf w others
-
-pub no_steps : (lists : List (List ℕ)) (passed : List ℕ) → AreStepsUpTo lists passed 0 [] []
-no_steps lists passed = record { are_best = All-nil (λ s. (i : ℕ) × (i < length lists) × IsBoundedStep lists passed i s); are_others = All-nil (λ s. (i : ℕ) × (i < length lists) × IsBoundedStep lists passed i s); every = λ i w l m n. absurd (omega arith) }
 
 -- one of more steps
 old_step : (w : ℕ) (steps : List Step) (s : Step) → HasStepOf w steps → HasStepOf w (steps ++ s ∷ [])

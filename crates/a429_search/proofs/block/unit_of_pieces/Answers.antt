@@ -1,4 +1,4 @@
-use Rattle.std.proofs.Common.{◌≡◌, ◌≤◌, ◌-◌, ℕ, List, Option, Ok, sym, ap, subst, arith}
+use Rattle.std.proofs.Common.{◌-◌, ℕ, Option, Ok, sym, ap, subst, arith}
 use Rattle.a429_search.specs.Order.{lists_of}
 use Rattle.a429_search.specs.Fill.{AreDataOf}
 use Rattle.a429_search.specs.Block.{check_wanted}

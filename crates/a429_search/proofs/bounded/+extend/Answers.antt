@@ -1,12 +1,10 @@
-use Rattle.std.proofs.Common.{rules, Bool, ◌≡◌, ◌≢◌, ◌<◌, ◌≤◌, ◌++◌, ◌∷◌, ◌+◌, ◌-◌, [], ℕ, List, Option, IfOk, IfSome, IfNone, None, Ok, All, true, false, length, length-append, get_or, sym, ap, ◌∙◌, subst, arith}
+use Rattle.std.proofs.Common.{◌≡◌, ◌<◌, ◌≤◌, ◌++◌, ◌∷◌, ◌+◌, ◌-◌, [], ℕ, List, Ok, true, false, length, length-append, sym, ap, ◌∙◌, subst, arith}
 use Rattle.std.specs.Vec.{vec_len}
-use Rattle.a429_search.specs.declared.bounded.Step.{Step}
-use Rattle.a429_search.specs.Order.{lists_of, AreTheirs, IsNext, IsAllPassed}
-use Rattle.a429_search.specs.Fill.{CanBeCompleted}
+use Rattle.a429_search.specs.Order.{lists_of, IsNext, IsAllPassed}
 use Rattle.a429_search.specs.Bounded.{ArePassed, HasPassed, IsStep, IsBoundedStep, AreSteps, HasStepOf, IsHopeless}
-use Rattle.a429_search.proofs.OrderFacts.{left_count, inside_lists, inside_given}
+use Rattle.a429_search.proofs.OrderFacts.{left_count, inside_given}
 use Rattle.a429_search.proofs.BoundedFacts.{step_merged, step_fewer}
-use Rattle.a429_search.proofs.HopelessFacts.{hopeless_leaf, hopeless_steps, hopeless_far, one_more, uncut_before, is_none, one_less}
+use Rattle.a429_search.proofs.HopelessFacts.{hopeless_steps, hopeless_far, one_more, uncut_before, is_none, one_less}
 use Rattle.a429_search.proofs.bounded.+extend.Goals as goal
 
 pub extend-requires : goal.extend-requires

@@ -1,4 +1,4 @@
-use Rattle.std.proofs.Common.{◌≡◌, ◌≤◌, ◌<◌, ℕ, true, false, length, get_or, ◌++◌, ◌∷◌, []}
+use Rattle.std.proofs.Common.{◌≡◌, ◌<◌, ℕ, true, false, get_or, ◌++◌, ◌∷◌, []}
 use Rattle.a429_search.specs.declared.bounded.Step.{Step}
 use Rattle.a429_search.specs.Order.{lists_of}
 use Rattle.a429_search.specs.Bounded.{IsHopeless}

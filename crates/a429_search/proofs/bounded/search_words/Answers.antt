@@ -1,7 +1,6 @@
-use Rattle.std.proofs.Common.{rules, ◌≡◌, ◌≤◌, ◌<◌, ℕ, List, All, None, Ok, IfOk, IfSome, IfNone, SomeIndex, true, false, length, replicate, slice_index, sym, subst, ap, ◌∙◌, arith}
+use Rattle.std.proofs.Common.{rules, ◌≡◌, ◌<◌, ℕ, List, IfNone, SomeIndex, length, replicate, slice_index, subst, ap, ◌∙◌}
 use Rattle.std.proofs.lemmas.List.{length-map, get_or-replicate}
-use Rattle.a429_search.specs.Order.{lists_of, words_at, AreTheirs}
-use Rattle.a429_search.specs.Fill.{AreDataOf}
+use Rattle.a429_search.specs.Order.{lists_of, words_at}
 use Rattle.a429_search.specs.Bounded.{IsHopeless}
 use Rattle.a429_search.proofs.OrderFacts.{inside_lists}
 use Rattle.a429_search.proofs.HopelessFacts.{none_at_all, none_with_long}

@@ -1,4 +1,4 @@
-use Rattle.std.proofs.Common.{rules, ◌≡◌, ◌<◌, ℕ, Some, slice_index, slice_get, sym, subst}
+use Rattle.std.proofs.Common.{rules, ◌≡◌, Some, slice_index, slice_get, sym, subst}
 use Rattle.a429_search.specs.Order.{lists_of, words_at, IsNext}
 use Rattle.a429_search.proofs.HopelessFacts.{next_before, same_next}
 use Rattle.a429_search.proofs.bounded.step_at.Goals as goal

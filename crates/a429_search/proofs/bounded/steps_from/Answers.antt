@@ -1,10 +1,10 @@
-use Rattle.std.proofs.Common.{rules, Vec, Global, arith, ◌+◌, ◌≡◌, ◌≤◌, ◌<◌, ◌⊎◌, ℕ, List, [], ◌∷◌, ◌++◌, IfSome, IfNone, length, sym, subst, ap, ◌∙◌}
+use Rattle.std.proofs.Common.{Vec, Global, arith, ◌+◌, ◌≡◌, ◌≤◌, ◌<◌, ℕ, List, [], ◌∷◌, ◌++◌, IfSome, IfNone, length, sym, subst, ap, ◌∙◌}
 use Rattle.a429_search.specs.declared.bounded.Step.{Step}
 use Rattle.a429_search.specs.Order.{lists_of, IsNext}
-use Rattle.a429_search.specs.Bounded.{HasRests, IsStep, IsBoundedStep, AreSteps, HasStepOf}
+use Rattle.a429_search.specs.Bounded.{HasRests, IsStep, IsBoundedStep, HasStepOf}
 use Rattle.std.proofs.lemmas.List.{length-map}
-use Rattle.a429_search.proofs.OrderFacts.{inside_lists, inside_given}
-use Rattle.a429_search.proofs.HopelessFacts.{AreStepsUpTo, steps_without, steps_best, steps_other, same_steps, all_steps}
+use Rattle.a429_search.proofs.OrderFacts.{inside_lists}
+use Rattle.a429_search.proofs.HopelessFacts.{steps_without, steps_best, steps_other, same_steps, all_steps}
 use Rattle.a429_search.proofs.bounded.steps_from.Goals as goal
 use Rattle.a429_search.proofs.bounded.steps_from.Goals.{then-left-least+in_ok-push, else-left-least+in_ok-push-2}
 

@@ -1,7 +1,5 @@
-use Rattle.std.proofs.Common.{◌≡◌, ◌≤◌, ◌<◌, ◌⊎◌, ◌++◌, ℕ, List, All, length, take}
-use Rattle.a429_search.specs.declared.bounded.Step.{Step}
-use Rattle.a429_search.specs.Order.{lists_of, IsNext}
-use Rattle.a429_search.specs.Bounded.{AreSteps, HasStepOf}
+use Rattle.std.proofs.Common.{◌≡◌}
+use Rattle.a429_search.specs.Order.{lists_of}
 use Rattle.a429_search.proofs.HopelessFacts.{AreStepsUpTo}
 use Rattle.a429_search.proofs.bounded.steps_from.Given as goal
 
