@@ -1,6 +1,6 @@
 -- Entries again, by their keys.
-use Rattle.std.proofs.Common.{◌≡◌, ℕ, ◌+◌, ◌-◌, ◌≤◌, ◌<◌, Bool, true, false, ◌||◌, ◌&&◌, ◌==◌, nat_le, cond, zero, suc, ◌⊎◌, inl, inr, None, IsSome, List, [], ◌∷◌, refl, ap, ◌∙◌, sym, arith}
-use Rattle.std.proofs.lemmas.List.Sums.{sum_by-cons}
+use Rattle.std.proofs.Common.{◌≡◌, ℕ, zero, suc, ◌+◌, ◌-◌, ◌≤◌, ◌<◌, ◌==◌, nat_le, Bool, true, false, ◌||◌, ◌&&◌, cond, ◌⊎◌, inl, inr}
+use Rattle.std.proofs.Common.{None, IsSome, List, [], ◌∷◌, refl, ap, ◌∙◌, sym, arith}
 use Rattle.std.specs.declared.cmp.Ordering.{Ordering}
 use Rattle.std.specs.declared.cmp.Ordering.TheVariants.{Less, Equal, Greater}
 use Rattle.std.specs.Ordering.{is_eq, is_gt}
@@ -13,6 +13,7 @@ use Rattle.a429_import.specs.declared.sort_key.SortKey.{SortKey}
 use Rattle.a429_import.specs.SortKey.{earliest, entry_of, key_of, line_of, is_on_b}
 use Rattle.a429_import.specs.KeyCounts.{AreCounted, by_key, some_times, times_in}
 use Rattle.a429_import.specs.Repeats.{is_again, is_repeat, is_same_line}
+use Rattle.a429_import.proofs.KeyCountsFacts.{times_in-cons}
 use Rattle.a429_import.proofs.SortKeyFacts.{key_between, key_from, same_key, same_keys}
 
 line_back : (b : Bus) → line_of (is_on_b b) ≡ b
@@ -29,24 +30,24 @@ or-right false b h = h
 or-here : (a b : Bool) → a ≡ true → (a || b) ≡ true
 or-here a b h = rw h refl
 
-times_in-cons : (x : Entry) (es : List Entry) (k : SortKey) → times_in (x ∷ es) k ≡ cond (is_eq (by_key (key_of x) k)) 1 0 + times_in es k
-times_in-cons x es k = sum_by-cons (λ y. cond (is_eq (by_key (key_of y) k)) 1 0) x es
-
--- a key that some entry has is of a repeat, where an entry with it is one
-pub is_among : (w : ℕ) (e : Entry) (es : List Entry) (k : SortKey) → is_again w e (entry_of k) ≡ true → 0 < times_in es k → is_repeat w es e ≡ true
+-- where a key of some entry is of one that comes again, it does
+is_among : (w : ℕ) (e : Entry) (es : List Entry) (k : SortKey) → is_again w e (entry_of k) ≡ true → 0 < times_in es k
+    → is_repeat w es e ≡ true
 is_among w e [] k again h = absurd (omega arith)
 is_among w e (x ∷ es) k again h = by (by_key (key_of x) k) refl (is_among w e es k again)
   where
     fewer : (o : Ordering) → by_key (key_of x) k ≡ o → 0 < cond (is_eq o) 1 0 + times_in es k
     fewer o is = rw (times_in-cons, is) at h
 
-    by : (o : Ordering) → by_key (key_of x) k ≡ o → (0 < times_in es k → is_repeat w es e ≡ true) → (is_again w e x || is_repeat w es e) ≡ true
+    by : (o : Ordering) → by_key (key_of x) k ≡ o → (0 < times_in es k → is_repeat w es e ≡ true)
+        → (is_again w e x || is_repeat w es e) ≡ true
     by Less is more = or-right (is_again w e x) _ (more (omega (arith, fewer Less is)))
     by Equal is more = or-here _ _ (ap (is_again w e) (sym (entry_back x) ∙ ap entry_of (same_keys (key_of x) k is)) ∙ again)
     by Greater is more = or-right (is_again w e x) _ (more (omega (arith, fewer Greater is)))
 
--- where no entry has such a key, none is one
-pub is_not_among : (w : ℕ) (e : Entry) (es : List Entry) → ((k : SortKey) → is_again w e (entry_of k) ≡ true → times_in es k ≡ 0) → is_repeat w es e ≡ false
+-- where no entry has such a key, it does not
+is_not_among : (w : ℕ) (e : Entry) (es : List Entry) → ((k : SortKey) → is_again w e (entry_of k) ≡ true → times_in es k ≡ 0)
+    → is_repeat w es e ≡ false
 is_not_among w e [] h = refl
 is_not_among w e (x ∷ es) h =
     by (is_again w e x) refl (is_not_among w e es (λ k again. omega (arith, h k again, times_in-cons x es k)))
@@ -58,7 +59,7 @@ is_not_among w e (x ∷ es) h =
         absurd (omega (arith, none, one))
     by false is more = rw is more
 
--- ---- the first key from the earliest time on that is near
+-- ---- the first key from the least one on decides
 
 both : (a b : Bool) → (a && b) ≡ true → (a ≡ true) × (b ≡ true)
 both true b h = (refl, h)
@@ -90,7 +91,9 @@ again_says w e k h =
 
 again_where : (w : ℕ) (e : Entry) (k : SortKey) → is_on_b e.bus ≡ k.is_on_b → e.word ≡ k.word → e.time - k.time ≤ w → k.time - e.time ≤ w
     → is_again w e (entry_of k) ≡ true
-again_where w e k line word before after = rw (line_same e.bus k.is_on_b line) (numbers_are e.word k.word w (e.time - k.time) (k.time - e.time) word before after)
+again_where w e k line word before after =
+    rw (line_same e.bus k.is_on_b line)
+    (numbers_are e.word k.word w (e.time - k.time) (k.time - e.time) word before after)
   where
     numbers_are : (u v w d f : ℕ) → u ≡ v → d ≤ w → f ≤ w → ((u == v) && (nat_le d w && nat_le f w)) ≡ true
     numbers_are u v w d f h k l = grind (arith, nat_tests)
@@ -100,8 +103,9 @@ again_from w e k h =
     let says = again_says w e k h in
     key_from (earliest w e) k says.0 says.1 (omega arith)
 
--- a key before one that is of a repeat is of a repeat too
-again_before : (w : ℕ) (e : Entry) (k q : SortKey) → is_gt (by_key (earliest w e) k) ≡ false → is_gt (by_key k q) ≡ false → is_again w e (entry_of q) ≡ true → is_again w e (entry_of k) ≡ true
+-- the keys from the least one up to one of an entry that comes again are of such entries too
+again_before : (w : ℕ) (e : Entry) (k q : SortKey) → is_gt (by_key (earliest w e) k) ≡ false → is_gt (by_key k q) ≡ false
+    → is_again w e (entry_of q) ≡ true → is_again w e (entry_of k) ≡ true
 again_before w e k q from upto h =
     let says = again_says w e q h in
     let is = key_between (earliest w e) k q from upto says.0 says.1 in
@@ -137,4 +141,5 @@ first_is_again w e m es k h from some least = by (is_again w e (entry_of k)) ref
 
 pub none_is_again : (w : ℕ) (e : Entry) (m : BTreeMap SortKey ℕ) (es : List Entry) → AreCounted m es
     → ((q : SortKey) → is_gt (by_key (earliest w e) q) ≡ false → get by_key m q ≡ None) → false ≡ is_repeat w es e
-none_is_again w e m es h none = sym (is_not_among w e es (λ q again. none_counted (times_in es q) (sym (h q) ∙ none q (again_from w e q again))))
+none_is_again w e m es h none =
+    sym (is_not_among w e es (λ q again. none_counted (times_in es q) (sym (h q) ∙ none q (again_from w e q again))))

@@ -76,13 +76,16 @@ between a b u v s t r h k =
     let back = ap (λ c. bool_cmp c a) (sym a_is_b) ∙ bool_itself a in
     let more = second_not_gt (bool_cmp a b) _ line h in
     let less = second_not_gt (bool_cmp b a) _ back k in
-    let word = antisymm u v (le_from_not_gt u v (first_not_gt (nat_cmp u v) _ more)) (le_from_not_gt v u (first_not_gt (nat_cmp v u) _ less)) in
+    let word =
+    antisymm u v (le_from_not_gt u v (first_not_gt (nat_cmp u v) _ more)) (le_from_not_gt v u (first_not_gt (nat_cmp v u) _ less)) in
     let tied = ap (nat_cmp u) (sym word) ∙ tied_itself nat_cmp_total u in
     let tied_back = ap (λ n. nat_cmp n u) (sym word) ∙ tied_itself nat_cmp_total u in
-    (a_is_b, word, le_from_not_gt s t (second_not_gt (nat_cmp u v) _ tied more), le_from_not_gt t r (second_not_gt (nat_cmp v u) _ tied_back less))
+    let from = le_from_not_gt s t (second_not_gt (nat_cmp u v) _ tied more) in
+    (a_is_b, word, from, le_from_not_gt t r (second_not_gt (nat_cmp v u) _ tied_back less))
 
 -- a key from one on and up to another, which are of one line and word
-pub key_between : (low k high : SortKey) → is_gt (by_key low k) ≡ false → is_gt (by_key k high) ≡ false → low.is_on_b ≡ high.is_on_b → low.word ≡ high.word
+pub key_between : (low k high : SortKey) → is_gt (by_key low k) ≡ false → is_gt (by_key k high) ≡ false
+    → low.is_on_b ≡ high.is_on_b → low.word ≡ high.word
     → (low.is_on_b ≡ k.is_on_b) × (low.word ≡ k.word) × (low.time ≤ k.time) × (k.time ≤ high.time)
 key_between low k high from upto line word =
     between low.is_on_b k.is_on_b low.word k.word low.time k.time high.time from (rw (← line, ← word) at upto)
@@ -96,5 +99,7 @@ both_not_gt o p e h = rw e h
 -- a key of one line and word comes after those with earlier times
 pub key_from : (low k : SortKey) → low.is_on_b ≡ k.is_on_b → low.word ≡ k.word → low.time ≤ k.time → is_gt (by_key low k) ≡ false
 key_from low k line word time =
-    both_not_gt (bool_cmp low.is_on_b k.is_on_b) _ (ap (bool_cmp low.is_on_b) (sym line) ∙ bool_itself low.is_on_b)
-    (both_not_gt (nat_cmp low.word k.word) (nat_cmp low.time k.time) (ap (nat_cmp low.word) (sym word) ∙ tied_itself nat_cmp_total low.word) (not_gt low.time k.time time))
+    let same_line = ap (bool_cmp low.is_on_b) (sym line) ∙ bool_itself low.is_on_b in
+    let same_word = ap (nat_cmp low.word) (sym word) ∙ tied_itself nat_cmp_total low.word in
+    both_not_gt (bool_cmp low.is_on_b k.is_on_b) _ same_line
+    (both_not_gt (nat_cmp low.word k.word) (nat_cmp low.time k.time) same_word (not_gt low.time k.time time))
