@@ -1,5 +1,5 @@
 -- Numbers of a few digits, the seconds of a clock, and the days of the calendar.
-use Rattle.std.proofs.Common.{◌≡◌, ℕ, suc, ◌+◌, ◌-◌, ◌*◌, ◌/◌, ◌^◌, ◌<◌, ◌≤◌, ℤ, pos, ◌+ℤ◌, to_z, w16, arith, refl, ap, ◌∙◌, take, drop, ◌==◌, Option, List, ◌++◌, length, Bool, true, false, ◌&&◌, nat_le, if◌then◌else◌, is_some, Some, None, IfSome, mul-le-mul_right, inl, inr}
+use Rattle.std.proofs.Common.{◌≡◌, ℕ, ◌+◌, ◌-◌, ◌*◌, ◌^◌, ◌<◌, ◌≤◌, pos, ◌+ℤ◌, to_z, w16, arith, refl, ◌∙◌, take, drop, ◌==◌, Option, List, length, Bool, true, false, ◌&&◌, nat_le, if◌then◌else◌, is_some, Some, None, IfSome, mul-le-mul_right, inl, inr}
 use Rattle.std.specs.List.{position}
 use Rattle.std.specs.Str.Parse.{digits_value, AllDigits}
 use Rattle.std.proofs.lemmas.Bool.{and_parts, cases_lt, leb-true}
@@ -16,10 +16,9 @@ use Rattle.a429_word.proofs.Powers.{pow-10_pos}
 use Rattle.a429_import.specs.declared.time.Reading.{Reading}
 use Rattle.a429_import.specs.declared.time.Unit.TheVariants as unit
 use Rattle.a429_import.specs.declared.clock_time.Half.{Half}
-use Rattle.a429_import.specs.ClockTime.{days_before, hour_in, is_day, number_of, seconds_in, sixtieth, time_at, time_on, within}
+use Rattle.a429_import.specs.ClockTime.{days_before, hour_in, is_day, seconds_in, sixtieth, time_at, time_on, within}
 use Rattle.a429_import.specs.Time.{are_time_digits, counted, time_with_part, AreFewDigits}
 use Rattle.a429_import.proofs.TimeFacts.{joined, time_digits}
-use borrow.Author.Differences.{up, down}
 
 pub few_digits : (text : List ℕ) → length text ≤ 4 → all_digits 10 text ≡ true → AreFewDigits text
 few_digits text few h = record { few = omega (arith, few); digits = all_digits-to 10 text h }

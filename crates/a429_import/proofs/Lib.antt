@@ -17,3 +17,6 @@ pub mod WordsFacts
 pub mod StandardFacts
 pub mod ColumnsFacts
 pub mod RowFacts
+pub mod SortKeyFacts
+pub mod KeyCountsFacts
+pub mod RepeatsFacts

@@ -1,5 +1,5 @@
 -- A recording in the standard form, imported by its map, line by line.
-use Rattle.std.proofs.Common.{◌≡◌, ℕ, zero, suc, ◌+◌, ◌-◌, ◌*◌, ◌/◌, ◌%◌, ◌^◌, ◌<◌, ◌≤◌, ◌==◌, arith, rules, refl, ap, sym, ◌∙◌, List, [], ◌∷◌, ◌++◌, length, map, Bool, true, false, ◌&&◌, nat_le, nat_lt, not, if◌then◌else◌, Option, Some, None, Ok, append-nil}
+use Rattle.std.proofs.Common.{◌≡◌, ℕ, ◌+◌, ◌-◌, ◌*◌, ◌%◌, ◌^◌, ◌<◌, ◌≤◌, ◌==◌, arith, rules, refl, ap, sym, ◌∙◌, List, [], ◌∷◌, ◌++◌, length, map, Bool, true, false, ◌&&◌, nat_le, nat_lt, if◌then◌else◌, Some, None, Ok, append-nil}
 use Rattle.std.specs.Prelude.{⊤, codes}
 use Rattle.std.specs.Char.{digit_value}
 use Rattle.std.specs.Fmt.{decimal}
@@ -25,7 +25,6 @@ use Rattle.a429_record.proofs.LinesFacts.{lines_of-ended}
 use Rattle.a429_record.proofs.RowDigits.{all_digits-from}
 use Rattle.a429_record.proofs.WritingFacts.{AllHigh-decimal, AllHigh-bus, AllHigh-numeral}
 use Rattle.a429_record.proofs.WrittenIsReadBack.{body, body-end, line-is, word-back}
-use Rattle.a429_import.specs.declared.bits.Bits.{Bits}
 use Rattle.a429_import.specs.declared.channel.Channel.TheVariants.{Line}
 use Rattle.a429_import.specs.declared.columns.Columns.{Columns}
 use Rattle.a429_import.specs.declared.lot.Lot.{Lot}
@@ -40,14 +39,12 @@ use Rattle.a429_import.specs.Base.{number_in}
 use Rattle.a429_import.specs.Bits.{placed}
 use Rattle.a429_import.specs.Channel.{heard_on}
 use Rattle.a429_import.specs.Columns.{columns_in}
-use Rattle.a429_import.specs.Fields.{fields_in, is_blank, is_mark, is_return, text_of, trimmed, without_first, without_last, without_returns}
+use Rattle.a429_import.specs.Fields.{fields_in, is_blank, is_mark, is_return, text_of, trimmed, without_first, without_last}
 use Rattle.a429_import.specs.Import.{at_start, entries_of, goes_on, imported, imported_after, lot_of, progress_after, with_lot}
 use Rattle.a429_import.specs.Piece.{before_first, pieces}
-use Rattle.a429_import.specs.Row.{entry_lot, finished, row_lot, word_of}
+use Rattle.a429_import.specs.Row.{finished, row_lot, word_of}
 use Rattle.a429_import.specs.Standard.{standard_map, Keeps}
-use Rattle.a429_import.specs.Time.{are_time_digits, counted}
 use Rattle.a429_import.specs.TimeForm.{time_in}
-use Rattle.a429_import.proofs.BaseFacts.{number_in-is}
 use Rattle.a429_import.proofs.BitsFacts.{placed-straight}
 use Rattle.a429_import.proofs.FieldsFacts.{cut_is}
 use Rattle.a429_import.proofs.TimeFacts.{kept_is}

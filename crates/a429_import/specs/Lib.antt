@@ -16,6 +16,8 @@ pub mod PartTable
 pub mod Parts
 pub mod Order
 pub mod Repeats
+pub mod SortKey
+pub mod KeyCounts
 pub mod Past
 pub mod Map
 pub mod Fields

@@ -1,5 +1,5 @@
 -- What is known of the entries so far (profile).
-use Rattle.std.specs.Prelude.{ℕ, [], false}
+use Rattle.std.specs.Prelude.{[], false}
 use Rattle.a429_record.specs.declared.entry.Entry.{Entry}
 use Rattle.a429_import.specs.declared.order.Mend.{Mend}
 use Rattle.a429_import.specs.declared.past.Past.{Past}

@@ -1,6 +1,5 @@
 -- Times as they are written (profile): digits and what they count, or a clock's.
 use Rattle.std.specs.Prelude.{ℕ, ◌+◌, ◌*◌, ◌/◌, ◌%◌, ◌^◌, ◌≤◌, List, [], ◌++◌, length, take, drop, Bool, ◌&&◌, nat_le, not, ◌==◌, Option, Some, None, if◌then◌else◌}
-use Rattle.std.specs.List.{position}
 use Rattle.std.specs.Str.Parse.{digits_value, AllDigits}
 use Rattle.a429_record.specs.Row.{all_digits}
 use Rattle.a429_import.specs.declared.time.Unit.{Unit}

@@ -1,7 +1,7 @@
 -- Which values a key of a map may have (profile): a kind of value, and a range.
 use Rattle.std.specs.Prelude.{ℕ, List, [], ◌∷◌, map, Bool, true, false, ◌&&◌, nat_lt, not, ◌==◌, ◌||◌, bytes_eq, codes, Option, Some, None, is_some, if◌then◌else◌}
 use Rattle.toml.specs.Data.{Data, as_bool}
-use Rattle.a429_profile.specs.Value.{text_of_value, number_of_value, truth_of_value, elements_of, is_integer, is_text, is_array_of, is_number_between}
+use Rattle.a429_profile.specs.Value.{text_of_value, number_of_value, elements_of, is_integer, is_text, is_array_of, is_number_between}
 use Rattle.a429_import.specs.declared.base.Base.{Base}
 use Rattle.a429_import.specs.declared.base.Base.TheVariants as bases
 use Rattle.a429_import.specs.declared.clock_time.DateForm.{DateForm}

@@ -328,6 +328,19 @@ const REPEATS: &[Case] = &[
         rows: "998,A,41410323\n1003,A,60010123\n",
         printed: "wrap 1 line 4\nentries 2\non A 2\non B 0\nlines 4\nlines up to the header 1\nrepeats left out 1\nwraps undone 1\n",
     },
+    Case {
+        what: "an entry twice after a reset, of which one is no longer compared",
+        map: [
+            ROWS,
+            "time = {column = \"time\", form = \"integer\", resets = true}\n",
+            CHANNEL,
+            "word = {bit_32 = \"parity\"}\nrepeats = {drop = true, among = 2}\n",
+            PART,
+        ],
+        export: "time,bus,word\n5000,A,41410323\n0,A,41410323\n1,B,C24103A3\n0,A,41410323\n",
+        rows: "5000,A,41410323\n5000,A,41410323\n5001,B,C24103A3\n",
+        printed: "reset 1 line 3 by 5000\nentries 3\non A 2\non B 1\nlines 5\nlines up to the header 1\nrepeats left out 1\nresets joined 1\n",
+    },
 ];
 
 const WORDS: &[Case] = &[
