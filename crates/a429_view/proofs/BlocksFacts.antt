@@ -7,6 +7,9 @@ use Rattle.std.proofs.lemmas.Grind.{flat_map-append}
 use Rattle.a429_word.specs.Word.{number_at}
 use Rattle.a429_word.specs.declared.bus.Bus.{Bus}
 use Rattle.a429_word.specs.declared.bus.Bus.TheVariants as bus
+use Rattle.a429_word.specs.declared.sheet.Sheet.{Sheet}
+use Rattle.a429_word.specs.Sheet.{Says}
+use Rattle.a429_word.proofs.SheetFacts.{says_nothing}
 use Rattle.a429_profile.specs.Profile.{Contents}
 use Rattle.a429_ldu.specs.declared.forms.Form.{Form}
 use Rattle.a429_ldu.specs.Form.{form_of, is_free}
@@ -20,7 +23,7 @@ use Rattle.a429_view.specs.declared.units.span.Moment.{Moment}
 use Rattle.a429_view.specs.declared.blocks.row.AttemptRow.{AttemptRow}
 use Rattle.a429_view.specs.declared.blocks.Blocks.{Blocks}
 use Rattle.a429_view.specs.Trace.{has_line}
-use Rattle.a429_view.specs.Blocks.{Attempt, IsBlocks, Placed, answer_in, asked_by, attempt_by, attempts, before_request, begun_text, columns_text, ended_line, ended_rows, form_at, is_a, is_damaged, is_odd, is_of_block, moment_at, moment_in, placed, placed_from, row_of, rows_of, unit_by, up_to, why_in}
+use Rattle.a429_view.specs.Blocks.{Attempt, IsBlocks, Placed, PutsOnTo, answer_in, asked_by, attempt_by, attempts, before_request, begun_text, blocks_text, columns_text, ended_line, ended_rows, form_at, is_a, is_damaged, is_odd, is_of_block, last_line, moment_at, moment_in, not_allowed_line, placed, placed_from, refused_text, row_of, rows_of, unit_by, up_to, why_in}
 use Rattle.a429_view.proofs.TraceFacts.{free_none}
 use Rattle.a429_view.specs.BlockSteps.{StepsOn, begun, counted, ended_before, grown, line_before, noted, passed, place_next, row_after, row_with}
 
@@ -115,8 +118,8 @@ row-is : (p : Contents) (x : Placed) (asked : ℕ) (xs : List Placed) → length
 row-is p x asked xs few =
     let last = moment_from (moment_in p.codes) xs None (moment_at x) in
     let unit = latest_on-is (λ y. unit_by (form_at p.codes y)) xs None in
-    let got = counted_on-is (λ y. is_of_block (form_at p.codes y)) xs 0 few in
-    let damaged = counted_on-is (λ y. is_damaged p.codes y.entry) xs 0 few in
+    let got = counted_on-is (λ y. is_of_block (form_at p.codes y)) xs 0 (omega (arith, few)) in
+    let damaged = counted_on-is (λ y. is_damaged p.codes y.entry) xs 0 (omega (arith, few)) in
     let answers = latest_on-is (λ y. answer_in p y (form_at p.codes y)) xs None in
     let whys = latest_on-is (λ y. why_in p y (form_at p.codes y)) xs None in
     grown_all-is p xs (begun (moment_at x) asked) ∙ rw (last, unit, got, damaged, answers, whys) refl
@@ -330,11 +333,13 @@ and_false_after bus.A true = refl
 and_false_after bus.A false = refl
 and_false_after bus.B t = refl
 
+-- its type or its code is ignored
+abbrev is_ignored : Contents → ℕ → Bool
+is_ignored p w = list_any (λ n. n == number_at w 29 3) p.codes.ignored_types || (number_at w 29 3 == p.codes.protocol && list_any (λ n. n == number_at w 25 4) p.codes.ignored_codes)
+
 -- a word of another label is free
 other_free : (p : Contents) (e : Entry) → has_line p.codes e ≡ false → is_free p.codes e.bus e.word ≡ true
-other_free p e other =
-    ap (λ (t : Bool). not (is_odd e.word) || (not t || (list_any (λ n. n == number_at e.word 29 3) p.codes.ignored_types || (number_at e.word 29 3 == p.codes.protocol && list_any (λ n. n == number_at e.word 25 4) p.codes.ignored_codes)))) other
-    ∙ or_true (not (is_odd e.word)) _
+other_free p e other = ap (λ (t : Bool). not (is_odd e.word) || (not t || is_ignored p e.word)) other ∙ or_true (not (is_odd e.word)) (is_ignored p e.word)
 
 -- a word that is not free has right parity
 not_free_odd : (t rest : Bool) → (not t || rest) ≡ false → t ≡ true
@@ -384,3 +389,29 @@ steps_form p e f old new labelled kept form allows entries sink row =
       sink = sink ∙ ap (λ (o : Option Form). implies_form p e.bus e.word o old.sink) (sym form);
       row = row ∙ sym (row_with-by p x old.row (Some f) (Some (moment_at x)) false form moment whole);
     }
+
+-- ---- which row ends
+
+pub line_free : (p : Contents) (e : Entry) (row : Option AttemptRow) → is_free p.codes e.bus e.word ≡ true → [] ≡ line_before (asked_by (form_of p.codes e.bus e.word)) row
+line_free p e row free = ap (λ (o : Option Form). line_before (asked_by o) row) (sym (free_none p.codes e.bus e.word free))
+
+pub line_other : (p : Contents) (e : Entry) (row : Option AttemptRow) → has_line p.codes e ≡ false → [] ≡ line_before (asked_by (form_of p.codes e.bus e.word)) row
+line_other p e row other = line_free p e row (other_free p e other)
+
+pub line_form : (p : Contents) (e : Entry) (f : Form) (row : Option AttemptRow) → form_of p.codes e.bus e.word ≡ Some f → line_before (asked_by (Some f)) row ≡ line_before (asked_by (form_of p.codes e.bus e.word)) row
+line_form p e f row form = ap (λ (o : Option Form). line_before (asked_by o) row) (sym form)
+
+-- ---- the end
+
+-- nothing was put
+pub puts_nothing : {W : Type 0} (contents : W → Option (List ℕ)) (a b : Sheet W) (text : List ℕ) → b ≡ a → PutsOnTo contents a b text text
+puts_nothing contents a b text same = record { more = []; is = sym (append-nil text); says = subst (λ (s : Sheet _). Says contents a s []) (sym same) (says_nothing contents a) }
+
+pub last_more : (p : Contents) (b : Blocks) (es : List Entry) → IsBlocks p b es → blocks_text p es ≡ begun_text p es ++ last_line b.row
+last_more p b es h = ap (λ (r : Option AttemptRow). begun_text p es ++ last_line r) (sym h.row)
+
+pub refused_more : (p : Contents) (b : Blocks) (es : List Entry) (e : Entry) → IsBlocks p b es → refused_text p es e ≡ begun_text p es ++ (last_line b.row ++ not_allowed_line b.entries e)
+refused_more p b es e h =
+    ap (λ (t : List ℕ). t ++ not_allowed_line (length es) e) (last_more p b es h)
+    ∙ ap (λ (n : ℕ). (begun_text p es ++ last_line b.row) ++ not_allowed_line n e) (sym h.entries)
+    ∙ append_assoc (begun_text p es) (last_line b.row) (not_allowed_line b.entries e)

@@ -1,6 +1,6 @@
 //! The attempts of a recording, a row for each.
 
-ghost use Rattle.std.specs.Prelude.{◌≡◌, ◌<◌, ◌+◌, ◌-◌, ◌^◌, ◌∷◌, ◌++◌, [], List, length, min, IfErr, OnErr, OnOk};
+ghost use Rattle.std.specs.Prelude.{◌≡◌, ◌<◌, ◌+◌, ◌-◌, ◌^◌, ◌∷◌, ◌++◌, [], List, length, min, not, option_map, ◌&&◌, Some, IfErr, OnErr, OnOk};
 ghost use Rattle.a429_word.specs.Sheet.{Says};
 ghost use Rattle.a429_link.specs.Implied.{observer_of};
 ghost use Rattle.a429_link.specs.Observer.{Allows};
@@ -107,6 +107,7 @@ impl Blocks {
         ensures stop { IfErr result (IsTraceStop profile.now self.old.sink entry.now) }
         ensures stays { OnErr result (self.new ≡ self.old) }
         ensures nothing { OnErr result (sheet.new ≡ sheet.old) }
+        ensures sound { IsProfile profile.now }
     {
         if !has_line(profile, entry) {
             self.count_one();
