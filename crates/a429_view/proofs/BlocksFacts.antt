@@ -265,12 +265,12 @@ blocks_more p old new es e few steps h =
       entries = one_more new.entries old.entries (length es) steps.entries h.entries few ∙ sym sum;
       sink = steps.sink ∙ ap (implies p (seen_of e)) h.sink ∙ sym (implied_push p (items_of es) (seen_of e) implied_at_first) ∙ sym (ap (λ (is : List Seen). implied p is implied_at_first) (items_push es e));
       row =
-        steps.row
-        ∙ ap (λ (x : Placed). row_with p x old.row) (place_is p old es e h)
-        ∙ ap (row_with p (place_after p es e)) row
-        ∙ sym (row_push p None (placed p es) (place_after p es e))
-        ∙ sym (ap (row_on p None) (placed_push p es e))
-        ∙ sym (last_now p (es ++ e ∷ []) (omega (arith, few, sum)));
+          steps.row
+          ∙ ap (λ (x : Placed). row_with p x old.row) (place_is p old es e h)
+          ∙ ap (row_with p (place_after p es e)) row
+          ∙ sym (row_push p None (placed p es) (place_after p es e))
+          ∙ sym (ap (row_on p None) (placed_push p es e))
+          ∙ sym (last_now p (es ++ e ∷ []) (omega (arith, few, sum)));
     }
 
 pub text_more : (p : Contents) (b : Blocks) (es : List Entry) (e : Entry) → length es + 1 < 2 ^ 64 → IsBlocks p b es → begun_text p (es ++ e ∷ []) ≡ begun_text p es ++ line_before (asked_by (form_at p.codes (place_next b e))) b.row
