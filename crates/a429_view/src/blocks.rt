@@ -52,13 +52,6 @@ impl Blocks {
         }
     }
 
-    /// How many entries there are.
-    pub fn entries(&self) -> usize
-        ensures { result ≡ self.now.entries }
-    {
-        self.entries
-    }
-
     /// Goes on with one more entry: where it is a request, it puts the row of the attempt that ends there (ARINC 429 Part 3;
     /// the layout is the profile's). `Refused` where no run records its word after those before it: the row of the attempt
     /// under way is put then, and a last one that names the entry.
