@@ -6,7 +6,7 @@ ghost use Rattle.a429_word.specs.Tally.{has_failed};
 
 use a429_check::{
     Claim, Command, Folder, NewFile, PartFolder, Rule, RunFault, Side, Span, command, read_whole,
-    report, run_by_rule, run_cut, run_extract, run_forms, run_import, run_keep, run_labels,
+    report, run_blocks, run_by_rule, run_cut, run_extract, run_forms, run_import, run_keep, run_labels,
     run_make, run_pack, run_picture, run_series, run_show, run_side, run_sink, run_survey,
     run_trace, run_units, run_upgrade, run_verify, run_version, run_word,
 };
@@ -99,6 +99,7 @@ fn answer<W: Write + Drop>(
             new_rec,
         } => import(rt, alloc, map, export, new_rec, &mut out),
         Command::Trace { profile, recording } => trace(rt, alloc, profile, recording, &mut out),
+        Command::Blocks { profile, recording } => blocks(rt, alloc, profile, recording, &mut out),
         Command::Sink { profile, recording } => sink(rt, alloc, profile, recording, &mut out),
         Command::Make { profile, files } => make(rt, alloc, profile, files.as_slice(), &mut out),
         Command::Pack(recording) => pack(rt, alloc, recording, &mut out),
@@ -254,6 +255,19 @@ fn trace<W: Write>(
     let profile = bytes_of(rt, alloc, profile)?;
     let mut rec = opened_whole(rt, alloc, recording)?;
     let status = run_trace(alloc, profile.as_slice(), &mut rec, out);
+    written(status, out)
+}
+
+fn blocks<W: Write>(
+    rt: &impl Files,
+    alloc: Global,
+    profile: &str,
+    recording: &str,
+    out: &mut Tally<W>,
+) -> Result<u8, RunFault> {
+    let profile = bytes_of(rt, alloc, profile)?;
+    let mut rec = opened_whole(rt, alloc, recording)?;
+    let status = run_blocks(alloc, profile.as_slice(), &mut rec, out);
     written(status, out)
 }
 

@@ -26,4 +26,5 @@ pub mod SideFacts
 pub mod SinkFacts
 pub mod CutFacts
 pub mod TraceLines
+mod BlocksRows
 pub mod EndsFacts

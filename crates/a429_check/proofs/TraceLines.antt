@@ -58,7 +58,7 @@ lines_from p n k (x ∷ es) e =
 pub lines_push : (p : Contents) (es : List Entry) (e : Entry) → lines_of p 0 implied_at_first (es ++ e ∷ []) ≡ lines_of p 0 implied_at_first es ++ line_of p (length es) (implied p (items_of es) implied_at_first) e
 lines_push p es e = let same : 0 + length es ≡ length es = omega arith in lines_from p 0 implied_at_first es e ∙ ap (λ m. lines_of p 0 implied_at_first es ++ line_of p m (implied p (items_of es) implied_at_first) e) same
 
-allowed_push : (p : Contents) (items : List Seen) (i : Seen) (o : Observer) → AreAllowed p o items → Allows p (observed p items o) i → AreAllowed p o (items ++ i ∷ [])
+pub allowed_push : (p : Contents) (items : List Seen) (i : Seen) (o : Observer) → AreAllowed p o items → Allows p (observed p items o) i → AreAllowed p o (items ++ i ∷ [])
 allowed_push p [] i o h a = (a, tt)
 allowed_push p (x ∷ items) i o h a = (h.0, allowed_push p items i (sees p x o) h.1 a)
 

@@ -29,4 +29,5 @@ pub mod Side
 pub mod Sink
 pub mod Cut
 pub mod Trace
+pub mod Blocks
 pub mod Version

@@ -16,7 +16,7 @@ use std::alloc::{AllocError, Global};
 pub mod commands;
 
 // Each command, and the names of the words that it takes.
-const COMMANDS: [(&str, &[&str]); 22] = [
+const COMMANDS: [(&str, &[&str]); 23] = [
     ("version", &[]),
     ("word", &["HEX"]),
     ("labels", &["PROFILE"]),
@@ -26,6 +26,7 @@ const COMMANDS: [(&str, &[&str]); 22] = [
     ("survey", &["PROFILE", "REC"]),
     ("keep", &["PROFILE", "REC"]),
     ("trace", &["PROFILE", "REC"]),
+    ("blocks", &["PROFILE", "REC"]),
     ("sink", &["PROFILE", "REC"]),
     ("cut", &["PROFILE", "REC", "DIR", "MOST"]),
     ("side", &["PROFILE", "REC", "LINE", "OUT", "ANSWER"]),
@@ -188,6 +189,7 @@ fn of_both<'a>(
         "survey" => Ok(Command::Survey { profile, recording }),
         "keep" => Ok(Command::Keep { profile, recording }),
         "trace" => Ok(Command::Trace { profile, recording }),
+        "blocks" => Ok(Command::Blocks { profile, recording }),
         "sink" => Ok(Command::Sink { profile, recording }),
         _ => match given.get_str("CERT") {
             Some(certificate) => of_claim(

@@ -1,5 +1,6 @@
 //! What each command writes and answers, a file for each.
 
+pub mod blocks;
 pub mod check;
 pub mod cut;
 mod drawing;

@@ -9,6 +9,7 @@ pub mod laws;
 
 pub use crate::command_line::command;
 pub use crate::command_line::commands::{Claim, Command};
+pub use crate::engines::blocks::run_blocks;
 pub use crate::engines::check::{run_by_rule, run_check, run_decide};
 pub use crate::engines::cut::run_cut;
 pub use crate::engines::extract::run_extract;

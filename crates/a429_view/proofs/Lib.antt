@@ -6,3 +6,4 @@ pub mod SurveyFacts
 pub mod TraceFacts
 pub mod DigitCounts
 pub mod LineFacts
+pub mod BlocksFacts

@@ -9,4 +9,6 @@ pub mod Crossings
 pub mod Picture
 pub mod Survey
 pub mod Trace
+pub mod Blocks
+pub mod BlockSteps
 pub mod Sink

@@ -2,6 +2,7 @@
 //! the units of a certificate as rows, and its messages as a picture.
 #![tactic(auto)]
 
+mod blocks;
 mod forms;
 pub mod laws;
 mod line;
@@ -13,6 +14,7 @@ mod survey;
 mod trace;
 mod units;
 
+pub use crate::blocks::Blocks;
 pub use crate::forms::put_what;
 pub use crate::mark::{Mark, Recorded, Span};
 pub use crate::picture::put_picture;

@@ -164,8 +164,8 @@ impl Trace {
     }
 }
 
-// The word has the transfer's label of its bus.
-fn has_line(profile: &Profile, entry: &Entry) -> bool
+/// The word has the transfer's label of its bus.
+pub(crate) fn has_line(profile: &Profile, entry: &Entry) -> bool
     ensures value { result ≡ has_line profile.now.codes entry.now }
     ensures sound { IsProfile profile.now }
 {

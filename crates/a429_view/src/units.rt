@@ -5,4 +5,4 @@ pub mod row;
 pub mod rows;
 pub mod size;
 pub mod span;
-mod text;
+pub(crate) mod text;

@@ -41,6 +41,11 @@ pub enum Command<'a> {
         profile: &'a str,
         recording: &'a str,
     },
+    /// `blocks PROFILE REC`: writes a row for each attempt to send a block.
+    Blocks {
+        profile: &'a str,
+        recording: &'a str,
+    },
     /// `sink PROFILE REC`: judges the sink of a recording by itself.
     Sink {
         profile: &'a str,

@@ -80,8 +80,8 @@ fn time_of(moment: Option<Moment>) -> Option<u64>
     Some(moment?.time)
 }
 
-// A number, and the comma after it.
-fn put_cell<W: Write>(sheet: &mut Sheet<'_, W>, number: u64)
+/// A number, and the comma after it.
+pub(crate) fn put_cell<W: Write>(sheet: &mut Sheet<'_, W>, number: u64)
     ensures { Says W.contents sheet.old sheet.new (cell number) }
 {
     sheet.put_number(number);
