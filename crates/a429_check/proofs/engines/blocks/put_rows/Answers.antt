@@ -1,4 +1,4 @@
-use Rattle.std.proofs.Common.{◌++◌, ◌∷◌, [], length-append, inr, arith}
+use Rattle.std.proofs.Common.{◌+◌, ◌<◌, ◌^◌, ◌++◌, ◌∷◌, [], length, length-append, inr, arith}
 use Rattle.a429_word.proofs.SheetFacts.{says_nothing}
 use Rattle.a429_parts.specs.Keeping.{taken}
 use Rattle.a429_parts.proofs.KeepingFacts.{came_first, came_more, came_whole}
@@ -17,7 +17,7 @@ entries-preserved g c =
     let sum = length-append so_far.0 (e ∷ []) in
     let counts = rw c.in-Ok-Some.field-0-is at c.in-Ok-Some.ensures.counts in
     let gives = rw c.in-Ok-Some.field-0-is at c.in-Ok-Some.ensures.gives in
-    let few = omega (arith, so_far.3, counts.0, counts.1) in (
+    let few : length so_far.0 + 1 < 2 ^ 64 = omega (arith, so_far.3, counts.0, counts.1) in (
       so_far.0 ++ e ∷ [],
       blocked_more c.args.profile.now c.entries.blocks c.put_entry.new.self so_far.0 e few c.in-Ok.ensures.next c.in-Ok.ensures.allowed so_far.1,
       came_more _ _ _ so_far.0 e gives so_far.2,
