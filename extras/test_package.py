@@ -10,6 +10,7 @@ import unittest
 from pathlib import Path
 
 ROOT = Path(__file__).resolve().parent.parent
+COMPLETIONS = ("bash-completion/completions/a429", "zsh/vendor-completions/_a429", "fish/vendor_completions.d/a429.fish")
 
 
 def output_of(*command, **how):
@@ -80,7 +81,7 @@ class Package(unittest.TestCase):
     def test_its_files(self):
         root = self.room / "root/usr/share"
         self.assertEqual((self.room / "root/usr/bin/campaign").read_bytes(), (ROOT / "extras/campaign/campaign").read_bytes())
-        for it in ("man/man1/a429.1.gz", "bash-completion/completions/a429", "doc/a429/README.md", "doc/a429/docs/TUTORIAL.md"):
+        for it in ("man/man1/a429.1.gz", "doc/a429/README.md", "doc/a429/docs/TUTORIAL.md", *COMPLETIONS):
             self.assertTrue((root / it).is_file(), it)
         for it in ("examples", "extras"):
             wanted = output_of("git", "ls-files", it).splitlines()
