@@ -98,6 +98,17 @@ class Package(unittest.TestCase):
                 there = self.room / "root/usr" / place / file.relative_to(here)
                 self.assertEqual(there.read_bytes(), file.read_bytes(), there)
 
+    @unittest.skipUnless(shutil.which("tshark"), "no tshark")
+    def test_wireshark_looks_there(self):
+        folder = re.search(r"^Global Lua Plugins: *\t(.*)", output_of("tshark", "-G", "folders", stderr=subprocess.DEVNULL), re.MULTILINE)[1]
+        self.assertEqual(f"{folder}/a429.lua", f"/usr/{PLACES['wireshark/a429.lua']}")
+
+    @unittest.skipUnless(shutil.which("sigrok-cli"), "no sigrok-cli")
+    def test_sigrok_finds_the_decoder(self):
+        folder = self.room / "root/usr" / Path(PLACES["sigrok/arinc429"]).parent
+        shown = output_of("sigrok-cli", "-P", "arinc429", "--show", env={**os.environ, "SIGROKDECODE_DIR": str(folder)})
+        self.assertEqual(shown.splitlines()[0], "ID: arinc429")
+
     @unittest.skipIf(sys.version_info < (3, 10), "Python before 3.10")
     def test_python_imports_the_module(self):
         env = {**os.environ, "PYTHONPATH": str(self.room / "root/usr/lib/python3/dist-packages")}
