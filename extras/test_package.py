@@ -5,11 +5,22 @@ import os
 import re
 import shutil
 import subprocess
+import sys
 import tempfile
 import unittest
 from pathlib import Path
 
 ROOT = Path(__file__).resolve().parent.parent
+PROGRAM = ROOT / "crates/a429/out/a429"
+COMPLETIONS = ("bash-completion/completions/a429", "zsh/vendor-completions/_a429", "fish/vendor_completions.d/a429.fish")
+# Files of extras, and where their programs look for them.
+PLACES = {
+    "python/a429": "lib/python3/dist-packages/a429",
+    "wireshark/a429.lua": "lib/x86_64-linux-gnu/wireshark/plugins/a429.lua",
+    "sigrok/arinc429": "share/libsigrokdecode/decoders/arinc429",
+}
+# What lintian calls an error and we leave so: the project names no licence.
+NO_LICENCE = "E: a429: no-copyright-file"
 
 
 def output_of(*command, **how):
@@ -18,9 +29,10 @@ def output_of(*command, **how):
 
 def why_not():
     """Why there can be no package, if so."""
-    if not shutil.which("dpkg-deb") or not shutil.which("rt"):
-        return "no dpkg-deb or no rt"
-    if not (ROOT / "crates/a429/out/a429").exists():
+    missing = [it for it in ("dpkg-deb", "rt", "strip") if not shutil.which(it)]
+    if missing:
+        return f"no {missing[0]}"
+    if not PROGRAM.exists():
         return "the program is not built"
     try:
         return "changes that are in no commit" if output_of("git", "status", "--porcelain", stderr=subprocess.DEVNULL) else None
@@ -30,7 +42,7 @@ def why_not():
 
 def package(*words):
     """Runs scripts/package with the program that is built: the gate has just built it."""
-    env = {**os.environ, "PROGRAM": str(ROOT / "crates/a429/out/a429")}
+    env = {**os.environ, "PROGRAM": str(PROGRAM)}
     return subprocess.run([ROOT / "scripts/package", *words], capture_output=True, text=True, env=env)
 
 
@@ -72,15 +84,63 @@ class Package(unittest.TestCase):
         found = {it: hashlib.sha256((self.room / "one" / it).read_bytes()).hexdigest() for it in (self.deb.name, "a429")}
         self.assertEqual(found, sums)
 
-    def test_the_program_in_it_is_the_one_beside_it_and_runs(self):
-        program = self.room / "root/usr/bin/a429"
-        self.assertEqual(program.read_bytes(), (self.room / "one/a429").read_bytes())
-        self.assertEqual(output_of(program, "word", "E13880C1").splitlines()[0], "word E13880C1")
+    def test_the_program_in_it_and_the_one_beside_it_run(self):
+        for program in (self.room / "root/usr/bin/a429", self.room / "one/a429"):
+            self.assertEqual(output_of(program, "word", "E13880C1").splitlines()[0], "word E13880C1")
+
+    def test_the_program_beside_it_is_as_it_was_built(self):
+        self.assertEqual((self.room / "one/a429").read_bytes(), PROGRAM.read_bytes())
+
+    def test_the_extras_are_where_their_programs_look(self):
+        for extra, place in PLACES.items():
+            here = ROOT / "extras" / extra
+            for file in [ROOT / it for it in output_of("git", "ls-files", here).splitlines()]:
+                there = self.room / "root/usr" / place / file.relative_to(here)
+                self.assertEqual(there.read_bytes(), file.read_bytes(), there)
+
+    @unittest.skipUnless(shutil.which("tshark"), "no tshark")
+    def test_wireshark_looks_there(self):
+        folder = re.search(r"^Global Lua Plugins: *\t(.*)", output_of("tshark", "-G", "folders", stderr=subprocess.DEVNULL), re.MULTILINE)[1]
+        self.assertEqual(f"{folder}/a429.lua", f"/usr/{PLACES['wireshark/a429.lua']}")
+
+    @unittest.skipUnless(shutil.which("sigrok-cli"), "no sigrok-cli")
+    def test_sigrok_finds_the_decoder(self):
+        folder = self.room / "root/usr" / Path(PLACES["sigrok/arinc429"]).parent
+        shown = output_of("sigrok-cli", "-P", "arinc429", "--show", env={**os.environ, "SIGROKDECODE_DIR": str(folder)})
+        self.assertEqual(shown.splitlines()[0], "ID: arinc429")
+
+    @unittest.skipIf(sys.version_info < (3, 10), "Python before 3.10")
+    def test_python_imports_the_module(self):
+        env = {**os.environ, "PYTHONPATH": str(self.room / "root/usr/lib/python3/dist-packages")}
+        found = output_of(sys.executable, "-B", "-c", "import a429; print(a429.__file__)", env=env)
+        self.assertEqual(found, f"{env['PYTHONPATH']}/a429/__init__.py")
+
+    @unittest.skipUnless(shutil.which("dpkg") and os.getuid() == 0, "no dpkg, or the user is not root")
+    def test_it_is_installed_into_a_clean_root_and_removed_again(self):
+        root = self.room / "clean"
+        for it in ("info", "updates", "triggers"):
+            (root / "var/lib/dpkg" / it).mkdir(parents=True)
+        (root / "var/lib/dpkg/status").touch()
+
+        def dpkg(*words):
+            subprocess.run(["dpkg", f"--root={root}", "--force-depends", *words], check=True, capture_output=True)
+
+        dpkg("--install", self.deb)
+        self.assertEqual(output_of(root / "usr/bin/a429", "word", "E13880C1").splitlines()[0], "word E13880C1")
+        dpkg("--purge", "a429")
+        self.assertFalse((root / "usr").exists())
+
+    @unittest.skipUnless(shutil.which("lintian"), "no lintian")
+    def test_lintian_finds_no_error_but_the_licence(self):
+        root = ["--allow-root"] if os.getuid() == 0 else []
+        done = subprocess.run(["lintian", *root, "--fail-on", "none", self.deb], capture_output=True, text=True)
+        found = [it for it in done.stdout.splitlines() if it.startswith("E: ")]
+        self.assertEqual((done.returncode, found), (0, [NO_LICENCE]), done.stderr)
 
     def test_its_files(self):
         root = self.room / "root/usr/share"
         self.assertEqual((self.room / "root/usr/bin/campaign").read_bytes(), (ROOT / "extras/campaign/campaign").read_bytes())
-        for it in ("man/man1/a429.1.gz", "bash-completion/completions/a429", "doc/a429/README.md", "doc/a429/docs/TUTORIAL.md"):
+        for it in ("man/man1/a429.1.gz", "doc/a429/README.md", "doc/a429/docs/TUTORIAL.md", *COMPLETIONS):
             self.assertTrue((root / it).is_file(), it)
         for it in ("examples", "extras"):
             wanted = output_of("git", "ls-files", it).splitlines()

@@ -1,13 +1,23 @@
 """The module on the examples: `python3 -m unittest` in this folder, with `a429` on the path or named by A429."""
 
+import importlib.util
 import os
+import re
 import shutil
+import subprocess
+import sys
 import tempfile
+import time
 import unittest
+from itertools import islice
 from pathlib import Path
+from unittest import mock
 
 import a429
-from a429 import Error, File, Impossible, No, Only, Refused, Traced, Unexplained, Unit, Yes
+from a429 import (
+    Bus, Destination, Error, File, Form, Impossible, Imported, Jump, Kind, Label, Missing, No, Only, Refused, Side, SinkNo, SinkYes,
+    Survey, Timeout, Trace, Traced, Unexplained, Unit, Yes,
+)  # fmt: skip
 
 EXAMPLES = Path(__file__).resolve().parents[2] / "examples"
 PROFILE = EXAMPLES / "sample.toml"
@@ -114,11 +124,13 @@ class Program(unittest.TestCase):
         self.assertEqual(a429.version().certificates, (1, 2))
 
     def test_trace(self):
-        self.assertEqual(a429.trace(PROFILE, recording("impossible")), a429._trace(IMPOSSIBLE))
-        self.assertEqual(a429.trace(PROFILE, recording("unexplained")), a429._trace(UNEXPLAINED))
+        for name, text in (("impossible", IMPOSSIBLE), ("unexplained", UNEXPLAINED)):
+            found, wanted = a429.trace(PROFILE, recording(name)), trace_of(text)
+            self.assertEqual([*found], [*wanted])
+            self.assertEqual(found.verdict, wanted.verdict)
         found = a429.trace(PROFILE, recording("lost-acknowledgement"))
+        self.assertEqual([*found][-1], Traced(11, 11000, "B", 0x450101A3, "ack 1 1", "quiet, again 1 1"))
         self.assertEqual(found.verdict, Only((File(1, 1),)))
-        self.assertEqual(found.entries[-1], Traced(11, 11000, "B", 0x450101A3, "ack 1 1", "quiet, again 1 1"))
 
     def test_a_trace_names_the_files_of_a_yes(self):
         for name, verdict in VERDICTS.items():
@@ -128,8 +140,35 @@ class Program(unittest.TestCase):
 
     def test_lines_before_a_fault_of_the_recording(self):
         (self.room / "rec").write_text("time,bus,word\n0,A,41410323\n1,A,6\n")
-        error = self.error_of(3, a429.trace, PROFILE, self.room / "rec")
-        self.assertEqual((error.line, error.output), ("recording: row 1", IMPOSSIBLE.splitlines(keepends=True)[0]))
+        found = a429.trace(PROFILE, self.room / "rec")
+        self.assertEqual(next(found), next(trace_of(IMPOSSIBLE)))
+        self.assertEqual(self.error_of(3, next, found).line, "recording: row 1")
+
+    def test_forms(self):
+        found = [*a429.forms(PROFILE, EXAMPLES / "forms.csv")]
+        self.assertEqual(found[0], Form(0, "A", 0x41410323, "rts 3"))
+        self.assertEqual(len(found), 16)
+
+    def test_survey(self):
+        self.assertEqual(a429.survey(PROFILE, EXAMPLES / "forms.csv"), a429._survey(SURVEY))
+
+    def test_sink(self):
+        self.assertEqual(a429.sink(PROFILE, recording("given-up")), SinkYes((File(2, 1),)))
+        self.assertEqual(a429.sink(PROFILE, EXAMPLES / "duplex.csv"), SinkNo(1, ("cts 5",)))
+
+    def test_side(self):
+        found = a429.side(EXAMPLES / "back.toml", EXAMPLES / "duplex.csv", "B", self.room / "out")
+        self.assertEqual(found, Side(17, 9, 8, 0))
+        self.assertEqual(a429.decide(EXAMPLES / "back.toml", self.room / "out"), Yes((File(1, 8),)))
+        renamed = a429.side(PROFILE, EXAMPLES / "duplex.csv", "A", self.room / "out", 0x0B)
+        self.assertEqual(renamed, Side(17, 8, 9, 0, renamed=0))
+        self.assertEqual(self.error_of(5, a429.side, PROFILE, recording("one-byte"), "C", self.room / "out").line, "usage")
+
+    def test_import(self):
+        (self.room / "export").write_text(EXPORT)
+        found = a429.import_(EXAMPLES / "maps/counter-that-wraps.toml", self.room / "export", self.room / "out")
+        self.assertEqual(found, a429._imported(IMPORTED))
+        self.assertEqual((self.room / "out").read_text().splitlines()[1], "4294967290,A,41410323")
 
 
 IMPOSSIBLE = """\
@@ -149,22 +188,195 @@ if there is such a transfer, which decide finds out; if there is none, see sink
 """
 
 
+SURVEY = """\
+entries 16
+from 0 to 15
+A 12
+A rts 1 first 0
+A sot 1 first 2
+A data 2 first 3
+A eot 2 first 5
+A no form 2 first 14
+A free parity 1 first 9
+A free label 1 first 10
+A free type 1 first 12
+A free code 1 first 13
+A label 203 1 even 0
+A label 304 11 even 1
+B 4
+B cts 1 first 1
+B ack 1 first 7
+B nak 1 first 8
+B free label 1 first 11
+B label 304 1 even 0
+B label 305 3 even 0
+"""
+EXPORT = """\
+# card 2
+4294967290  1  41410323
+2           1  60010123
+4294967295  2  C24103A3
+9           1  41410323
+"""
+IMPORTED = """\
+wrap 1 line 3
+entries 4
+on A 3
+on B 1
+lines 5
+comments 1
+wraps undone 1
+times lifted 1 by at most 3
+"""
+
+
+def trace_of(text):
+    return Trace(it for it in text.splitlines(keepends=True))
+
+
 class Lines(unittest.TestCase):
     """Lines that the program writes, without it."""
 
     def test_a_trace_that_ends_early(self):
-        found = a429._trace(IMPOSSIBLE)
+        found = trace_of(IMPOSSIBLE)
+        self.assertEqual(next(found), Traced(0, 0, "A", 0x41410323, "rts 3", "owes cts 3"))
+        self.assertEqual(next(found).sink, "refused, allowed: rts, cts 3")
+        self.assertEqual([*found], [])
         self.assertEqual(found.verdict, Impossible(1, "NotGranted"))
-        self.assertEqual(found.entries[0], Traced(0, 0, "A", 0x41410323, "rts 3", "owes cts 3"))
-        self.assertEqual(found.entries[1].sink, "refused, allowed: rts, cts 3")
 
     def test_a_trace_with_a_free_word(self):
-        found = a429._trace(UNEXPLAINED)
-        self.assertEqual((len(found.entries), found.verdict), (6, Only(())))
-        self.assertEqual(found.entries[3], Traced(3, 3000, "A", 0x92004123, "free parity, else data 14", None))
+        found = [*trace_of(UNEXPLAINED)]
+        self.assertEqual(len(found), 6)
+        self.assertEqual(found[3], Traced(3, 3000, "A", 0x92004123, "free parity, else data 14", None))
+
+    def test_the_verdict_of_a_trace_that_nobody_reads(self):
+        self.assertEqual(trace_of(UNEXPLAINED).verdict, Only(()))
+        self.assertEqual(trace_of(UNEXPLAINED.replace("files 0", "files 1\nfile 1 632")).verdict, Only((File(1, 632),)))
+
+    def test_a_trace_without_a_verdict(self):
+        with self.assertRaises(Error):
+            trace_of("").verdict
+
+    def test_a_survey(self):
+        found = a429._survey(SURVEY)
+        self.assertEqual((found.entries, found.first_time, found.last_time), (16, 0, 15))
+        self.assertEqual([found.buses[it].entries for it in "AB"], [12, 4])
+        self.assertEqual([*found.buses["B"].kinds], ["cts", "ack", "nak", "free label"])
+        self.assertEqual(found.buses["A"].kinds["no form"], Kind(2, 14))
+        self.assertEqual(found.buses["A"].labels, {0o203: Label(1, 0), 0o304: Label(11, 1)})
+
+    def test_a_survey_of_nothing(self):
+        nothing = Bus(0, {}, {})
+        self.assertEqual(a429._survey("entries 0\nA 0\nB 0\n"), Survey(0, None, None, {"A": nothing, "B": nothing}))
+
+    def test_a_sink(self):
+        self.assertEqual(a429._sink("SINK YES files 1\nfile 2 1\n"), SinkYes((File(2, 1),)))
+        self.assertEqual(a429._sink("SINK NO 0 allowed nothing\n"), SinkNo(0, ()))
+        self.assertEqual(a429._sink("SINK NO 5 allowed ack 1 1, nak\n"), SinkNo(5, ("ack 1 1", "nak")))
+        self.assertEqual(a429._sink("SINK NO 6 owed before 5 allowed cts 3\n"), SinkNo(6, ("cts 3",), 5))
+
+    def test_a_side(self):
+        counts = "entries 9\nkept 3\nother direction 2\nno direction 1\n"
+        self.assertEqual(a429._side(counts), Side(9, 3, 2, 1))
+        more = "destination 0B requests 1 words 4\nclear answers renamed 2\n"
+        self.assertEqual(a429._side(counts + more), Side(9, 3, 2, 1, (Destination(0x0B, 1, 4),), 2))
+
+    def test_an_import(self):
+        found = a429._imported(IMPORTED)
+        self.assertEqual(found.jumps, (Jump(1, 3),))
+        self.assertEqual([found.counts[it] for it in ("entries", "on A", "wraps undone", "times lifted by at most")], [4, 3, 1, 3])
+        reset = a429._imported("reset 1 line 4 by 4992\nentries 2\nbit 32 made: good 7 bad 1\n")
+        self.assertEqual(reset, Imported({"entries": 2, "bit 32 made: good": 7, "bit 32 made: bad": 1}, (Jump(1, 4, 4992),)))
+
+    def test_a_form(self):
+        self.assertEqual(a429._form("7 B C24103A3 cts 3\n"), Form(7, "B", 0xC24103A3, "cts 3"))
 
     def test_an_error_shows_status_and_line(self):
         self.assertEqual(str(Error(3, "recording: header")), "a429: recording: header (status 3)")
+
+
+class Running(unittest.TestCase):
+    """How a program is run, on one that stands for `a429`."""
+
+    def setUp(self):
+        room = tempfile.TemporaryDirectory()
+        self.addCleanup(room.cleanup)
+        self.room = Path(room.name)
+
+    def program(self, text):
+        """Has this shell script run in place of the program."""
+        (self.room / "a429").write_text(f"#!/bin/sh\n{text}\n")
+        (self.room / "a429").chmod(0o755)
+        named = mock.patch.dict(os.environ, {"A429": str(self.room / "a429")})
+        named.start()
+        self.addCleanup(named.stop)
+
+    def is_running(self, number):
+        return Path(f"/proc/{number}").exists() and not re.search(r"^State:\s+Z", Path(f"/proc/{number}/status").read_text(), re.MULTILINE)
+
+    def test_a_program_that_is_not_there(self):
+        for name in ("no-such-a429", str(self.room), __file__ + "/a429"):
+            with self.subTest(name), mock.patch.dict(os.environ, {"A429": name}), self.assertRaises(Missing) as caught:
+                a429.survey("p", "r")
+            self.assertEqual(caught.exception.status, 127)
+            self.assertRegex(str(caught.exception), re.escape(name) + ".* cannot be run: .*Install a429, or name the program by")
+
+    def test_an_error_has_what_was_written_before(self):
+        self.program("echo a b; echo 'recording: row 1' >&2; exit 3")
+        with self.assertRaises(Error) as caught:
+            a429.survey("p", "r")
+        self.assertEqual((caught.exception.status, caught.exception.line, caught.exception.output), (3, "recording: row 1", "a b\n"))
+
+    def test_a_program_that_does_not_end(self):
+        # (with what it has started, which holds its output open)
+        self.program("echo entries 0; sleep 600; exit 0")
+        begin = time.monotonic()
+        with self.assertRaises(Timeout) as caught:
+            a429.survey("p", "r", timeout=0.5)
+        self.assertLess(time.monotonic() - begin, 300)
+        self.assertEqual((caught.exception.line, caught.exception.output), ("no end after 0.5 s", "entries 0\n"))
+        self.program("exec sleep 600")
+        with self.assertRaises(Timeout):
+            next(a429.trace("p", "r", timeout=0.1))
+
+    def test_a_program_that_ends_in_time(self):
+        self.program("printf 'entries 0\\nA 0\\nB 0\\n'")
+        self.assertEqual(a429.survey("p", "r", timeout=600).entries, 0)
+
+    def test_a_program_that_a_signal_ends(self):
+        self.program("kill -9 $$")
+        with self.assertRaises(Error) as caught:
+            a429.survey("p", "r", timeout=600)
+        self.assertEqual((caught.exception.status, type(caught.exception)), (-9, Error))
+
+    def test_entries_come_as_they_are_written_and_the_program_ends_with_the_reader(self):
+        self.program(f"echo $$ >'{self.room}/number'; exec yes '0 0 A 41410323 rts 3 | owes cts 3'")
+        with a429.trace("p", "r") as entries:
+            self.assertEqual(len([*islice(entries, 10_000)]), 10_000)
+            number = (self.room / "number").read_text().strip()
+            self.assertTrue(self.is_running(number))
+        self.assertFalse(self.is_running(number))
+        self.assertEqual([*entries], [])
+
+
+@unittest.skipUnless(importlib.util.find_spec("pip"), "no pip")
+class Installed(unittest.TestCase):
+    """The module in a folder where `pip install` puts it."""
+
+    def test_it_is_imported_from_there(self):
+        here = Path(__file__).resolve().parent
+        with tempfile.TemporaryDirectory() as room:
+            shutil.copytree(here, f"{room}/source", ignore=shutil.ignore_patterns("__pycache__"))
+            words = ["--no-index", "--no-build-isolation", "--no-compile", "--disable-pip-version-check", "--target", f"{room}/there"]
+            subprocess.run([sys.executable, "-m", "pip", "install", "--quiet", *words, f"{room}/source"], check=True, stderr=subprocess.PIPE)
+            script = "import a429, importlib.metadata as it; print(a429.__file__, it.version('a429'))"
+            done = subprocess.run(
+                [sys.executable, "-B", "-c", script], cwd=room, check=True, stdout=subprocess.PIPE, text=True,
+                env={**os.environ, "PYTHONPATH": f"{room}/there"},
+            )  # fmt: skip
+            released = re.search(r"^## \[(\d.*?)\]", (here.parents[1] / "CHANGELOG.md").read_text(), re.MULTILINE)[1]
+            self.assertEqual(done.stdout.split(), [f"{room}/there/a429/__init__.py", released])
+            self.assertTrue(Path(room, "there/a429/py.typed").is_file())
 
 
 if __name__ == "__main__":
