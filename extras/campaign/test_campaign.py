@@ -17,6 +17,8 @@ from pathlib import Path
 
 HERE = Path(__file__).resolve().parent
 CAMPAIGN = HERE / "campaign"
+# What a shell starts in the background ignores SIGINT, and so would all that is started here.
+signal.signal(signal.SIGINT, signal.default_int_handler)
 # `yes 1:AB 2:C`, `no impossible 5 NoForm`, `status 4 device`, `wait` and then yes. Its version is the file `version`.
 STAND_IN = """\
 #!/bin/sh
