@@ -6,9 +6,9 @@ ghost use Rattle.a429_word.specs.Tally.{has_failed};
 
 use a429_check::{
     Claim, Command, Folder, NewFile, PartFolder, Rule, RunFault, Side, Span, command, read_whole,
-    report, run_blocks, run_by_rule, run_cut, run_extract, run_forms, run_import, run_keep, run_labels,
-    run_make, run_pack, run_picture, run_series, run_show, run_side, run_sink, run_survey,
-    run_trace, run_units, run_upgrade, run_verify, run_version, run_word,
+    report, run_blocks, run_by_rule, run_cut, run_extract, run_forms, run_import, run_keep,
+    run_labels, run_make, run_pack, run_picture, run_series, run_show, run_side, run_sink,
+    run_survey, run_trace, run_units, run_upgrade, run_verify, run_version, run_word,
 };
 use a429_record::EntryReader;
 use a429_view::UnitRows;
