@@ -51,6 +51,13 @@ pub enum Command<'a> {
         profile: &'a str,
         recording: &'a str,
     },
+    /// `history PROFILE REC DIR`: puts a recording that need not be of one run in pieces, into the folder DIR, with the files that are
+    /// sure of each.
+    History {
+        profile: &'a str,
+        recording: &'a str,
+        folder: &'a str,
+    },
     /// `keep PROFILE REC`: writes a recording without the entries that its transfer does not need.
     Keep {
         profile: &'a str,
