@@ -1,13 +1,11 @@
 pub mod WordTexts
 pub mod LabelsFacts
-pub mod ShowFacts
 pub mod MakeTimed
 pub mod MakeCounted
 pub mod MakeWords
 pub mod MakeCrossed
 pub mod MakeBytes
 pub mod MakeEnds
-pub mod ShowOneLine
 pub mod VerdictFacts
 pub mod PartListFacts
 pub mod SeriesVerdictFacts

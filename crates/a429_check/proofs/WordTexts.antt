@@ -1,7 +1,5 @@
 -- What a word's texts are, digit by digit.
-use Rattle.std.proofs.Common.{◌≡◌, ℕ, zero, suc, ◌+◌, ◌-◌, ◌<◌, ◌≤◌, refl, sym, arith, ap, ◌∙◌, [], ◌∷◌, length, get_or}
-use Rattle.std.specs.Fmt.{decimal}
-use Rattle.std.proofs.lemmas.Fmt.{decimal_digit}
+use Rattle.std.proofs.Common.{◌≡◌, ℕ, zero, suc, ◌+◌, ◌-◌, ◌<◌, refl, sym, arith, ap, ◌∙◌, length, get_or}
 use Rattle.a429_word.specs.Word.{bit}
 use Rattle.a429_check.specs.Word.{bits_text}
 
@@ -18,6 +16,3 @@ get_or-bits_text w (suc n) zero h = let place : suc n - 0 ≡ suc n = omega arit
 get_or-bits_text w (suc n) (suc k) h =
     let place : suc n - suc k ≡ n - k = omega arith in
     get_or-bits_text w n k (omega arith) ∙ ap (λ i. 48 + bit w i) (sym place)
-
-pub one_digit : (n d : ℕ) → d ≡ n → d ≤ 3 → (48 + d) ∷ [] ≡ decimal n
-one_digit n d e small = let few : d < 10 = omega arith in sym (decimal_digit d few) ∙ ap decimal e

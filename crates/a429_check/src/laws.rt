@@ -2,15 +2,7 @@
 
 ghost use Rattle.std.specs.Prelude.{◌≡◌, ℕ, List};
 ghost use Rattle.a429_profile.specs.Profile.{Contents, IsProfile};
-ghost use Rattle.a429_record.specs.declared.entry.Entry.{Entry};
-ghost use Rattle.a429_check.specs.Show.{IsShowLine, AreShowLines};
 ghost use Rattle.a429_check.specs.Make.{words_made, IsMadeOf, SaysRunOf, CanBeSent, AreDelivered};
-
-/// An entry of a recording has one line by a profile, and the entries have one text.
-pub fn what_is_shown_has_one_text()
-    ensures line { (p : Contents) (e : Entry) (a b : List ℕ) → IsShowLine p e a → IsShowLine p e b → a ≡ b }
-    ensures text { (p : Contents) (es : List Entry) (a b : List ℕ) → AreShowLines p es a → AreShowLines p es b → a ≡ b }
-{}
 
 /// What `run_make` writes of files is a recording, and the words that it says are those that some run
 /// records: one that delivers all the files, the first under number 1. So it is with the words of any

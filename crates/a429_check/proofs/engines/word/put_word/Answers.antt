@@ -6,7 +6,7 @@ use Rattle.a429_word.specs.Digits.{octal_text}
 use Rattle.a429_word.specs.Sheet.{Says}
 use Rattle.a429_word.proofs.SheetFacts.{◌▹◌}
 use Rattle.a429_check.specs.Word.{line}
-use Rattle.a429_check.proofs.WordTexts.{one_digit}
+use Rattle.a429_shown.proofs.OneDigit.{one_digit}
 use Rattle.a429_check.proofs.engines.word.put_word.Goals as goal
 
 pub returns : goal.returns

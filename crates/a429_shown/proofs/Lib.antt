@@ -1,0 +1,3 @@
+pub mod OneDigit
+mod ShowFacts
+mod ShowOneLine
