@@ -4,7 +4,7 @@ use Rattle.std.specs.Fmt.{decimal}
 use Rattle.a429_profile.specs.declared.codes.Codes.{Codes}
 use Rattle.a429_ldu.specs.declared.forms.Form.{Form}
 use Rattle.a429_ldu.specs.declared.forms.Form.TheVariants as form
-use Rattle.a429_ldu.specs.Form.{form_of}
+use Rattle.a429_ldu.specs.Sight.{form_in, sight_of}
 use Rattle.a429_parts.specs.Parts.{part_line}
 use Rattle.a429_sink.specs.declared.file_units.FileUnits.{FileUnits}
 use Rattle.a429_sink.specs.declared.summary.PieceSummary.{PieceSummary}
@@ -26,7 +26,7 @@ reason_text (Some f) = codes " WrongAnswer\n"
 
 -- the line of the entry at which a piece stops
 abbrev pub stop_line : Codes → Stopped → List ℕ
-stop_line c s = codes "stopped " ++ decimal s.entry ++ reason_text (form_of c s.seen.bus s.seen.word)
+stop_line c s = codes "stopped " ++ decimal s.entry ++ reason_text (form_in (sight_of c s.seen.bus s.seen.word))
 
 abbrev pub stop_text : Codes → Option Stopped → List ℕ
 stop_text c None = []
@@ -34,7 +34,7 @@ stop_text c (Some s) = stop_line c s
 
 -- the line of acknowledged units of a file whose beginning or end is not there
 abbrev pub open_line : FileUnits → List ℕ
-open_line u = codes "open " ++ decimal u.file ++ codes " units " ++ decimal u.first ++ codes " to " ++ decimal u.last ++ codes "\n"
+open_line u = codes "open " ++ decimal u.file ++ (codes " units " ++ decimal u.first) ++ (codes " to " ++ decimal u.last) ++ codes "\n"
 
 -- the lines of the piece of this number
 abbrev pub piece_text : Codes → ℕ → PieceSummary → List ℕ

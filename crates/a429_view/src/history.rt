@@ -1,10 +1,11 @@
 //! What is said of the pieces of a recording, as lines.
 
-ghost use Rattle.std.specs.Prelude.{◌≡◌, ◌++◌};
+ghost use Rattle.std.specs.Prelude.{◌≡◌, ◌++◌, flat_map};
+ghost use Rattle.std.specs.Fmt.{decimal};
 ghost use Rattle.a429_word.specs.Sheet.{Says};
 ghost use Rattle.a429_ldu.specs.Sight.{form_in};
 ghost use Rattle.a429_parts.specs.Parts.{part_line};
-ghost use Rattle.a429_view.specs.History.{caveat, history_text, open_line, piece_text, reason_text, stop_line};
+ghost use Rattle.a429_view.specs.History.{begun_text, caveat, history_text, open_line, piece_text, reason_text, stop_line, stop_text};
 
 use crate::forms::put_named;
 use crate::sink::put_files;
@@ -20,17 +21,22 @@ use std::io::Write;
 pub fn put_history<W: Write>(sheet: &mut Sheet<'_, W>, profile: &Profile, told: &[PieceSummary])
     ensures { Says W.contents sheet.old sheet.new (history_text profile.now.codes 1 told.now ++ caveat) }
 {
-    let mut number: u64 = 1;
-    for piece in told {
-        put_piece(sheet, profile, number, piece);
-        number += 1;
-    }
+    put_pieces(sheet, profile, told);
     sheet.put(CAVEAT);
 }
 
 // How the lines are meant.
 const CAVEAT: &[u8] =
     b"a file listed has crossed, here or before; that a part ends there is an assumption\n";
+
+// Numbered from 1.
+fn put_pieces<W: Write>(sheet: &mut Sheet<'_, W>, profile: &Profile, told: &[PieceSummary])
+    ensures { Says W.contents sheet.old sheet.new (history_text profile.now.codes 1 told.now) }
+{
+    for place in 0..told.len() {
+        put_piece(sheet, profile, place as u64 + 1, &told[place]);
+    }
+}
 
 fn put_piece<W: Write>(
     sheet: &mut Sheet<'_, W>,
@@ -41,16 +47,10 @@ fn put_piece<W: Write>(
     ensures { Says W.contents sheet.old sheet.new (piece_text profile.now.codes number piece.now) }
 {
     put_part(sheet, number, piece);
-    if piece.begun_before {
-        sheet.put(b"begun before\n");
-    }
-    if let Some(stop) = &piece.stop {
-        put_stop(sheet, profile, stop);
-    }
+    put_begun(sheet, piece.begun_before);
+    put_stop(sheet, profile, &piece.stop);
     put_files(sheet, piece.files.as_slice());
-    for units in piece.units.as_slice() {
-        put_open(sheet, units);
-    }
+    put_others(sheet, piece.units.as_slice());
 }
 
 // As in the list of the parts.
@@ -66,7 +66,23 @@ fn put_part<W: Write>(sheet: &mut Sheet<'_, W>, number: u64, piece: &PieceSummar
     sheet.put(b"\n");
 }
 
-fn put_stop<W: Write>(sheet: &mut Sheet<'_, W>, profile: &Profile, stop: &Stopped)
+fn put_begun<W: Write>(sheet: &mut Sheet<'_, W>, begun_before: bool)
+    ensures { Says W.contents sheet.old sheet.new (begun_text begun_before) }
+{
+    if begun_before {
+        sheet.put(b"begun before\n");
+    }
+}
+
+fn put_stop<W: Write>(sheet: &mut Sheet<'_, W>, profile: &Profile, stop: &Option<Stopped>)
+    ensures { Says W.contents sheet.old sheet.new (stop_text profile.now.codes stop.now) }
+{
+    if let Some(stop) = stop {
+        put_stopped(sheet, profile, stop);
+    }
+}
+
+fn put_stopped<W: Write>(sheet: &mut Sheet<'_, W>, profile: &Profile, stop: &Stopped)
     ensures { Says W.contents sheet.old sheet.new (stop_line profile.now.codes stop.now) }
 {
     sheet.put(b"stopped ");
@@ -85,13 +101,26 @@ fn reason(sight: Sight) -> &'static [u8]
     }
 }
 
+fn put_others<W: Write>(sheet: &mut Sheet<'_, W>, others: &[FileUnits])
+    ensures { Says W.contents sheet.old sheet.new (flat_map open_line others.now) }
+{
+    for units in others {
+        put_open(sheet, units);
+    }
+}
+
 fn put_open<W: Write>(sheet: &mut Sheet<'_, W>, units: &FileUnits)
     ensures { Says W.contents sheet.old sheet.new (open_line units.now) }
 {
     put_named(sheet, b"open ", units.file);
-    sheet.put(b" units ");
-    sheet.put_number(u64::from(units.first));
-    sheet.put(b" to ");
-    sheet.put_number(u64::from(units.last));
+    put_unit(sheet, b" units ", units.first);
+    put_unit(sheet, b" to ", units.last);
     sheet.put(b"\n");
+}
+
+fn put_unit<W: Write>(sheet: &mut Sheet<'_, W>, name: &[u8], unit: u16)
+    ensures { Says W.contents sheet.old sheet.new (name.now ++ decimal unit) }
+{
+    sheet.put(name);
+    sheet.put_number(u64::from(unit));
 }
