@@ -10,7 +10,7 @@ use a429_view::Span;
 use a429_word::Bus;
 use clap::error::ErrorKind;
 use clap::{Arg, ArgAction, ArgMatches, Command as Parser};
-use commands::{Claim, Command};
+use commands::{Claim, Command, IntoFolder};
 use std::alloc::{AllocError, Global};
 
 pub mod commands;
@@ -219,11 +219,11 @@ fn history_of<'a>(
 {
     match given.get_str("DIR") {
         Some(folder) if may_write(folder, profile) && may_write(folder, recording) => {
-            Ok(Command::History {
+            Ok(Command::History(IntoFolder {
                 profile,
                 recording,
                 folder,
-            })
+            }))
         }
         _ => Err(RunFault::Usage),
     }

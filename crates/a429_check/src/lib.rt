@@ -8,7 +8,7 @@ mod fault;
 pub mod laws;
 
 pub use crate::command_line::command;
-pub use crate::command_line::commands::{Claim, Command};
+pub use crate::command_line::commands::{Claim, Command, IntoFolder};
 pub use crate::engines::blocks::run_blocks;
 pub use crate::engines::check::{run_by_rule, run_check, run_decide};
 pub use crate::engines::cut::run_cut;
