@@ -438,13 +438,14 @@ class InBrowser(Reports):
             self.opened(recording)
             for width in (400, 800, 1400):
                 self.browser.ask("Emulation.setDeviceMetricsOverride", width=width, height=900, deviceScaleFactor=1, mobile=width < 500)
-                found = self.browser.value("[document.documentElement.scrollWidth, innerWidth]")
-                self.assertEqual(found, [width, width], recording.name)
+                room, wide = self.browser.value("[document.documentElement.clientWidth, document.documentElement.scrollWidth]")
+                self.assertEqual((wide, room > width - 20), (room, True), f"{recording.name}, {width}")
 
     def test_what_is_seen_has_the_numbers(self):
         for it in EXAMPLES:
             page = self.opened(it)
-            seen = self.browser.value("[...document.querySelectorAll('.facts div')].map(it => [it.firstChild.innerText, it.lastChild.innerText])")
+            pairs = "[...document.querySelectorAll('.facts div')].map(it => [it.firstChild.innerText, it.lastChild.innerText])"
+            seen = self.browser.value(pairs)
             self.assertEqual({name: value.replace("\u202f", "") for name, value in seen}, page.facts(), it.name)
 
     def test_headings_are_in_order_and_pictures_have_words(self):
@@ -464,17 +465,27 @@ class InBrowser(Reports):
         self.browser.ask("Emulation.setEmulatedMedia", media="", features=[])
 
 
-# The texts of a page whose contrast is too low.
+# The texts of a page whose contrast is too low, those in a band aside, which are drawn over a colour.
 FAINT = """
 (() => {
-  const light = it => { const [r, g, b] = it.match(/[\\d.]+/g).slice(0, 3).map(v => v / 255).map(v => v <= .03928 ? v / 12.92 : ((v + .055) / 1.055) ** 2.4);
-    return .2126 * r + .7152 * g + .0722 * b };
-  const ground = it => { for (; it; it = it.parentElement) { const c = getComputedStyle(it).backgroundColor; if (!/, 0\\)$/.test(c)) return c } return 'rgb(255,255,255)' };
-  return [...document.querySelectorAll('body *')].filter(it => [...it.childNodes].some(n => n.nodeType == 3 && n.data.trim()) && it.getClientRects().length)
-    .filter(it => { const inSvg = it instanceof SVGElement, style = getComputedStyle(it);
-      if (inSvg && (it.tagName != 'text' || it.classList.contains('mid'))) return false;
-      const [a, b] = [light(inSvg ? style.fill : style.color), light(ground(it))].sort((x, y) => y - x); return (a + .05) / (b + .05) < 4.5 })
-    .map(it => it.outerHTML.slice(0, 80))
+  const linear = v => v <= .03928 ? v / 12.92 : ((v + .055) / 1.055) ** 2.4
+  const light = colour => {
+    const [r, g, b] = colour.match(/[\\d.]+/g).slice(0, 3).map(v => linear(v / 255))
+    return .2126 * r + .7152 * g + .0722 * b
+  }
+  const ground = it => {
+    const colour = it ? getComputedStyle(it).backgroundColor : 'rgb(255, 255, 255)'
+    return /, 0\\)$/.test(colour) ? ground(it.parentElement) : colour
+  }
+  const has_text = it => [...it.childNodes].some(node => node.nodeType == 3 && node.data.trim())
+  const is_text = it => it instanceof SVGElement ? it.tagName == 'text' && !it.classList.contains('mid') : has_text(it)
+  const contrast = it => {
+    const style = getComputedStyle(it)
+    const [a, b] = [light(it instanceof SVGElement ? style.fill : style.color), light(ground(it))].sort((x, y) => y - x)
+    return (a + .05) / (b + .05)
+  }
+  return [...document.querySelectorAll('body *')].filter(it => is_text(it) && it.getClientRects().length)
+    .filter(it => contrast(it) < 4.5).map(it => it.outerHTML.slice(0, 80))
 })()
 """
 

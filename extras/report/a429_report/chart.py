@@ -48,7 +48,8 @@ def chart(report: Report, near: Near) -> str:
         way = "to the sink: " if first.bus == "A" else "to the source: "
         rows.append(
             f'<tr class="{" ".join(filter(None, kinds))}"><td class=n>{entries}<td class="n time">{report.seconds(first.time)}'
-            f'<td class="hex time">{first.word if len(words) == 1 else ""}<td class=msg><span class=said>{way}</span>{shown(message(words))}<i></i><td class=note>{note_of(report, words, by_last)}'
+            f'<td class="hex time">{first.word if len(words) == 1 else ""}'
+            f"<td class=msg><span class=said>{way}</span>{shown(message(words))}<i></i><td class=note>{note_of(report, words, by_last)}"
         )
     heads = (
         "<th scope=col class=n>Entry<th scope=col class='n time'>Seconds<th scope=col class=time>Word"

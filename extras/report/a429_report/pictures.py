@@ -6,6 +6,7 @@ from collections import Counter
 from typing import Iterator
 
 from a429_report.findings import DAMAGED, OTHER, SLICES, STRAY, TRANSFER, Report, Timeline
+from a429_report.program import Attempt
 from a429_report.tables import Table
 from a429_report.wording import OUTCOMES, block_of, grouped, many, said_of, shown
 
@@ -58,13 +59,13 @@ class Picture:
     def attempts(self, outcome: str) -> None:
         """A lane of bars, one for each attempt that ended so, or one for each stretch that has any."""
         line = self.line
-        some = [it for it in self.report.with_outcome(outcome) if it.ended >= line.first and it.began <= line.last]
+        visible = [it for it in self.report.attempts if it.ended >= line.first and it.began <= line.last]
+        some = [it for it in visible if it.outcome == outcome]
         if not some:
             return
-        if len(self.report.attempts) > MOST_BARS:
+        if len(visible) > MOST_BARS:
             slices = Counter(line.slice(max(it.began, line.first)) for it in some)
-            bars = "".join(f'<rect x="{at * 100 / SLICES:.2f}%" width="{100 / SLICES:.2f}%" y="3" height="11"><title>{many(n, "attempt")}</title></rect>'
-                           for at, n in slices.items())  # fmt: skip
+            bars = "".join(rect(at * 100 / SLICES, (at + 1) * 100 / SLICES, many(n, "attempt")) for at, n in slices.items())
         else:
             bars = "".join(self.bar(it) for it in some)
         self.lane(f"{outcome} <b>{grouped(len(some))}</b>", 17, f"<g class={outcome}>{bars}</g>")
@@ -72,22 +73,21 @@ class Picture:
     def bar(self, it: Attempt) -> str:
         x, end = self.line.x(it.began), self.line.x(it.ended)
         title = f"{block_of(it)}: {said_of(it)}; entries {it.first} to {it.last}, {self.report.seconds(it.began)} s"
-        return f'<rect x="{x:.2f}%" width="{max(end - x, 0.05):.2f}%" y="3" height="11"><title>{shown(title)}</title></rect>'
+        return rect(x, end, shown(title))
 
     def bands(self) -> None:
         """A band for each file, with its number where there is room; or one for each stretch in which a file was under way."""
         line, out = self.line, []
-        times = [(it.number, it.began, it.ended) for it in self.report.files if it.began is not None and it.ended is not None]
+        times = [(it.number, max(it.began, line.first), min(it.ended, line.last)) for it in self.report.files
+                 if it.began is not None and it.ended is not None and it.ended >= line.first and it.began <= line.last]  # fmt: skip
         if len(times) > MOST_BARS:
             slices = sorted({at for _, began, ended in times for at in range(line.slice(began), line.slice(ended) + 1)})
             bands = "".join(f"M{at} 0h1v1h-1z" for at in slices)
             self.lane("files", 22, f'<svg {FLAT} viewBox="0 0 {SLICES} 1" y="2" height="18"><path class=band1 d="{bands}"/></svg>')
             return
         for n, (number, began, ended) in enumerate(times):
-            if ended < line.first or began > line.last:
-                continue
             x, end = line.x(began), line.x(ended)
-            out.append(f'<rect class=band{n % 2} x="{x:.2f}%" width="{max(end - x, 0.05):.2f}%" y="2" height="18"><title>file {number}</title></rect>')
+            out.append(f"<g class=band{n % 2}>{rect(x, end, f'file {number}', 2, 18)}</g>")
             if end - x > 3:
                 out.append(f'<text class="mid{"" if end - x > 9 else " wide"}" x="{(x + end) / 2:.2f}%" y="15">{number}</text>')
         self.lane("files", 22, "".join(out))
@@ -100,6 +100,11 @@ class Picture:
 
     def __str__(self) -> str:
         return f'<div class=lanes role=img aria-label="{self.label}">{"".join(self.lanes)}</div>'
+
+
+def rect(x: float, end: float, title: str, y: int = 3, height: int = 11) -> str:
+    """A bar from one place to another, never too narrow to be drawn."""
+    return f'<rect x="{x:.2f}%" width="{max(end - x, 0.05):.2f}%" y="{y}" height="{height}"><title>{title}</title></rect>'
 
 
 def hill(counts: list[int], most: int) -> str:
@@ -115,7 +120,8 @@ def hill(counts: list[int], most: int) -> str:
 
 def ridge(counts: list[int]) -> str:
     """A stroke for each slice that has any, the longer the more there are."""
-    return "".join(f"M{place} 0h1.2v{min(4 + 2 * count, 10)}h-1.2z" for place, count in enumerate(counts) if count)
+    most = max(counts)
+    return "".join(f"M{place} 0h1.2v{4 + 6 * count // most}h-1.2z" for place, count in enumerate(counts) if count)
 
 
 def timeline(report: Report, line: Timeline, label: str, mark: tuple[int, str] | None) -> str:
@@ -136,12 +142,12 @@ def slices_table(report: Report, line: Timeline) -> Table:
     """What a timeline shows, in numbers: ten stretches of it."""
     table = Table("stretches", "The same in ten stretches of equal length", ("From, s", "n"), ("Words on A", "n"), ("Words on B", "n"),
                   ("Damaged", "n"), ("Attempts begun", "n"), ("Acknowledged", "n"), ("Refused", "n"), ("No answer", "n"))  # fmt: skip
-    size = SLICES // 10
+    size, answers = SLICES // 10, (OUTCOMES, ("acknowledged", "again"), ("refused",), ("unanswered", "ungranted"))
     begun = Counter((line.slice(it.began) // size, it.outcome) for it in report.attempts if line.first <= it.began <= line.last)
     for n in range(10):
         cut = slice(n * size, (n + 1) * size)
         words = [sum(sum(it[cut]) for it in line.counts[bus]) for bus in "AB"]
         damaged = sum(sum(line.counts[bus][DAMAGED][cut]) for bus in "AB")
-        outcomes = [sum(begun[n, it] for it in some) for some in (OUTCOMES, ("acknowledged", "again"), ("refused",), ("unanswered", "ungranted"))]
+        outcomes = [sum(begun[n, it] for it in some) for some in answers]
         table.add(report.seconds(line.first + line.span * n // 10), *map(grouped, (*words, damaged, *outcomes)))
     return table

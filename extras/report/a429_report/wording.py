@@ -26,8 +26,8 @@ WHY = {
     "sequence": "file and unit are not those that may come next",
 }
 REASONS = {
-    "NoForm": "The word has the label of the transfer, and is none of its words: another destination, an unused code, or a word of the other "
-    "direction. Look at the profile first.",
+    "NoForm": "The word has the label of the transfer, and is none of its words: another destination, an unused code, or a word of the "
+    "other direction. Look at the profile first.",
     "NotGranted": "No clear answer allowed this word of a block, or more words came than were asked for.",
     "WrongAnswer": "The sink cannot give this answer here: nobody asked for it, or its numbers are not those of the block.",
     "BadBlock": "The block was recorded whole, and there is no block like it: its data words carry no whole bytes, or its check word is "
