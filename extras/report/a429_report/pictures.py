@@ -22,6 +22,7 @@ class Picture:
 
     def __init__(self, report: Report, line: Timeline, label: str) -> None:
         self.report, self.line, self.label, self.lanes = report, line, label, []
+        self.visible = [it for it in report.attempts if it.ended >= line.first and it.began <= line.last]
         self.marks = "".join(f'<line class=grid x1="{line.x(it):.2f}%" x2="{line.x(it):.2f}%" y2="100%"/>' for it, _ in self.ticks())
         self.over = ""
 
@@ -59,11 +60,10 @@ class Picture:
     def attempts(self, outcome: str) -> None:
         """A lane of bars, one for each attempt that ended so, or one for each stretch that has any."""
         line = self.line
-        visible = [it for it in self.report.attempts if it.ended >= line.first and it.began <= line.last]
-        some = [it for it in visible if it.outcome == outcome]
+        some = [it for it in self.visible if it.outcome == outcome]
         if not some:
             return
-        if len(visible) > MOST_BARS:
+        if len(self.visible) > MOST_BARS:
             slices = Counter(line.slice(max(it.began, line.first)) for it in some)
             bars = "".join(rect(at * 100 / SLICES, (at + 1) * 100 / SLICES, many(n, "attempt")) for at, n in slices.items())
         else:

@@ -139,13 +139,13 @@ class Program:
     def attempts(self) -> tuple[list[Attempt], int | None]:
         """The rows of `blocks`, and the entry that no run records, if there is one."""
         rows, stop = [], None
-        for row in csv.DictReader(self.run("blocks")):
-            if row["outcome"] == "not-allowed":
-                stop = int(row["first"])
+        # (of up to 100,000 rows and more, so by the places of the columns)
+        for first, last, began, ended, file, ldu, asked, got, damaged, outcome, why in csv.reader(self.run("blocks")[1:]):
+            if outcome == "not-allowed":
+                stop = int(first)
             else:
-                numbers = (int(row[it]) for it in ("asked", "got", "damaged"))
-                places = (int(row[it]) for it in ("first", "last", "from", "to"))
-                rows.append(Attempt(*places, row["file"], row["ldu"], *numbers, row["outcome"], row["why"]))
+                places = (int(first), int(last), int(began), int(ended))
+                rows.append(Attempt(*places, file, ldu, int(asked), int(got), int(damaged), outcome, why))
         return rows, stop
 
     def units(self) -> list[Unit]:
