@@ -2,6 +2,7 @@
 
 from __future__ import annotations
 
+import functools
 import hashlib
 import itertools
 from collections import deque
@@ -98,6 +99,13 @@ class Near:
         return rows[max(place - BEFORE - 1, 0) : place + AFTER]
 
 
+def grouped_by_outcome(attempts: list[Attempt]) -> dict[str, list[Attempt]]:
+    out: dict[str, list[Attempt]] = {}
+    for it in attempts:
+        out.setdefault(it.outcome, []).append(it)
+    return out
+
+
 @dataclass
 class Report:
     """All that the page shows."""
@@ -116,8 +124,14 @@ class Report:
     sums: dict[str, str]
     version: str
 
+    @functools.cached_property
+    def by_outcome(self) -> dict[str, list[Attempt]]:
+        return grouped_by_outcome(self.attempts)
+
     def with_outcome(self, *outcomes: str) -> list[Attempt]:
-        return [it for it in self.attempts if it.outcome in outcomes]
+        """The attempts that ended so, in their order."""
+        found = [self.by_outcome.get(it, []) for it in outcomes]
+        return found[0] if len(found) == 1 else sorted(itertools.chain.from_iterable(found))
 
     def seconds(self, time: int | None) -> str:
         """A time since the first entry."""

@@ -5,7 +5,7 @@ from __future__ import annotations
 from collections import Counter
 from typing import Iterator
 
-from a429_report.findings import DAMAGED, OTHER, SLICES, STRAY, TRANSFER, Report, Timeline
+from a429_report.findings import DAMAGED, OTHER, SLICES, STRAY, TRANSFER, Report, Timeline, grouped_by_outcome
 from a429_report.program import Attempt
 from a429_report.tables import Table
 from a429_report.wording import OUTCOMES, block_of, grouped, many, said_of, shown
@@ -22,7 +22,8 @@ class Picture:
 
     def __init__(self, report: Report, line: Timeline, label: str) -> None:
         self.report, self.line, self.label, self.lanes = report, line, label, []
-        self.visible = [it for it in report.attempts if it.ended >= line.first and it.began <= line.last]
+        visible = [it for it in report.attempts if it.ended >= line.first and it.began <= line.last]
+        self.visible, self.is_thinned = grouped_by_outcome(visible), len(visible) > MOST_BARS
         self.marks = "".join(f'<line class=grid x1="{line.x(it):.2f}%" x2="{line.x(it):.2f}%" y2="100%"/>' for it, _ in self.ticks())
         self.over = ""
 
@@ -60,10 +61,10 @@ class Picture:
     def attempts(self, outcome: str) -> None:
         """A lane of bars, one for each attempt that ended so, or one for each stretch that has any."""
         line = self.line
-        some = [it for it in self.visible if it.outcome == outcome]
+        some = self.visible.get(outcome)
         if not some:
             return
-        if len(self.visible) > MOST_BARS:
+        if self.is_thinned:
             slices = Counter(line.slice(max(it.began, line.first)) for it in some)
             bars = "".join(rect(at * 100 / SLICES, (at + 1) * 100 / SLICES, many(n, "attempt")) for at, n in slices.items())
         else:
