@@ -115,6 +115,10 @@ class Package(unittest.TestCase):
         found = output_of(sys.executable, "-B", "-c", "import a429; print(a429.__file__)", env=env)
         self.assertEqual(found, f"{env['PYTHONPATH']}/a429/__init__.py")
 
+    def test_report_runs(self):
+        shown = output_of(sys.executable, self.room / "root/usr/bin/report", "--help")
+        self.assertEqual(shown.splitlines()[0], "usage: report [-h] [--sent DIR] PROFILE REC OUT")
+
     @unittest.skipUnless(shutil.which("dpkg") and os.getuid() == 0, "no dpkg, or the user is not root")
     def test_it_is_installed_into_a_clean_root_and_removed_again(self):
         root = self.room / "clean"
@@ -140,6 +144,8 @@ class Package(unittest.TestCase):
     def test_its_files(self):
         root = self.room / "root/usr/share"
         self.assertEqual((self.room / "root/usr/bin/campaign").read_bytes(), (ROOT / "extras/campaign/campaign").read_bytes())
+        for it in output_of("git", "ls-files", "extras/report/report", "extras/report/a429_report").splitlines():
+            self.assertEqual((root / "a429" / it.removeprefix("extras/")).read_bytes(), (ROOT / it).read_bytes(), it)
         for it in ("man/man1/a429.1.gz", "doc/a429/README.md", "doc/a429/docs/TUTORIAL.md", *COMPLETIONS):
             self.assertTrue((root / it).is_file(), it)
         for it in ("examples", "extras"):
@@ -151,7 +157,7 @@ class Package(unittest.TestCase):
         for line in output_of("dpkg-deb", "-c", self.deb, env={**os.environ, "TZ": "UTC"}).splitlines():
             mode, owner, _, *date, name = line.split(maxsplit=5)
             self.assertEqual((owner, " ".join(date)), ("root/root", time), name)
-            self.assertIn(mode, ("drwxr-xr-x", "-rwxr-xr-x", "-rw-r--r--"), name)
+            self.assertIn(mode, ("drwxr-xr-x", "-rwxr-xr-x", "-rw-r--r--", "lrwxrwxrwx"), name)
 
     def test_its_fields(self):
         fields = dict(it.split(": ", 1) for it in output_of("dpkg-deb", "-f", self.deb).splitlines() if not it.startswith(" "))
