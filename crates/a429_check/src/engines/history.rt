@@ -83,8 +83,8 @@ fn told<R: Read, P: Pieces>(
 fn status_of(told: &[PieceSummary]) -> u8
     ensures { result ≡ history_status told.now }
 {
-    for piece in told {
-        if piece.stop.is_some() {
+    for place in 0..told.len() {
+        if told[place].stop.is_some() {
             return 1;
         }
     }
