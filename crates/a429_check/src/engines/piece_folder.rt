@@ -1,6 +1,8 @@
 //! A folder, in which the pieces of a recording are kept, with the files that are sure of each.
 
-ghost use Rattle.std.specs.Prelude.{◌≡◌, None, true, false, IfOk, IsErrOf, OnOk};
+ghost use Rattle.std.specs.Prelude.{◌≡◌, None, true, false, IfOk, IsErrOf, OnOk, flat_map};
+ghost use Rattle.a429_word.specs.Sheet.{Says};
+ghost use Rattle.a429_record.specs.Writing.{line_text};
 
 use crate::engines::cut::fault_by;
 use crate::engines::new_file::NewFile;
@@ -12,6 +14,7 @@ use a429_record::{Entry, EntryText, put_header};
 use a429_sink::Pieces;
 use a429_word::{Failing, Page, Sheet, Trouble};
 use std::alloc::Global;
+use std::io::Write;
 use std::mem;
 use std::rt::Files;
 
@@ -135,9 +138,7 @@ impl<'a, F: Files> PieceFiles<'a, F> {
             return Err(Trouble::Device);
         };
         let mut sheet = Sheet::new(&mut draft.out, &mut self.page);
-        for entry in entries {
-            self.text.put_line(&mut sheet, *entry);
-        }
+        put_lines(&mut sheet, &mut self.text, entries);
         sheet.finish()?;
         self.entries = sum(self.entries, entries.len())?;
         Ok(())
@@ -203,6 +204,15 @@ impl<'a, F: Files> PieceFiles<'a, F> {
             Ok(()) => Ok(status),
             Err(trouble) => Err(fault_by(trouble)),
         }
+    }
+}
+
+// A line for each entry.
+fn put_lines<W: Write>(sheet: &mut Sheet<'_, W>, text: &mut EntryText, entries: &[Entry])
+    ensures { Says W.contents sheet.old sheet.new (flat_map line_text entries.now) }
+{
+    for entry in entries {
+        text.put_line(sheet, *entry);
     }
 }
 

@@ -1,4 +1,4 @@
-use Rattle.std.proofs.Common.{◌∙◌, refl}
+use Rattle.std.proofs.Common.{refl}
 use Rattle.a429_check.specs.Side.{sided, unsided}
 use Rattle.a429_check.proofs.engines.side.run_side.Goals as goal
 

@@ -1,9 +1,8 @@
-use Rattle.std.proofs.Common.{◌≡◌, ◌∙◌, false, refl, rules}
+use Rattle.std.proofs.Common.{◌∙◌, refl, rules}
 use Rattle.std.proofs.lemmas.Bool.{false_from_ne_true}
 use Rattle.std.proofs.lemmas.Result.{err_from_is_err_and}
 use Rattle.a429_word.proofs.SheetFacts.{says_same_out, says_works, writes}
 use Rattle.a429_parts.specs.Keeping.{taken}
-use Rattle.a429_word.specs.Sheet.{sheet_failed}
 use Rattle.a429_check.specs.Ends.{cut_off, stopped}
 use Rattle.a429_check.proofs.SideFacts.{before_fault, next_fault, some_rows}
 use Rattle.a429_check.proofs.engines.side.side_by.Goals as goal
