@@ -115,7 +115,7 @@ abbrev pub bytes_before : List ℕ → List (List ℕ) → List (List ℕ)
 bytes_before p [] = p ∷ []
 bytes_before p (q ∷ qs) = (p ++ q) ∷ qs
 
-bytes_before-one : (p : List ℕ) (c : ℕ) (qs : List (List ℕ)) → bytes_before p (before_first c qs) ≡ bytes_before (p ++ c ∷ []) qs
+pub bytes_before-one : (p : List ℕ) (c : ℕ) (qs : List (List ℕ)) → bytes_before p (before_first c qs) ≡ bytes_before (p ++ c ∷ []) qs
 bytes_before-one p c [] = refl
 bytes_before-one p c (q ∷ qs) = ap (λ (l : List ℕ). l ∷ qs) (sym (append_assoc p (c ∷ []) q))
 
@@ -127,7 +127,7 @@ some_by : (c : ℕ) (ps : List (List ℕ)) (e : Bool) → bytes_before [] (if e 
 some_by c ps true = refl
 some_by c ps false = bytes_before-none c ps
 
-some_pieces : (b : ℕ) (text : List ℕ) → bytes_before [] (pieces b text) ≡ pieces b text
+pub some_pieces : (b : ℕ) (text : List ℕ) → bytes_before [] (pieces b text) ≡ pieces b text
 some_pieces b [] = refl
 some_pieces b (c ∷ cs) = some_by c (pieces b cs) (c == b)
 

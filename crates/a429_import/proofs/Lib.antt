@@ -1,6 +1,7 @@
 pub mod BaseFacts
 pub mod BitsFacts
 pub mod PieceFacts
+pub mod CutFacts
 pub mod TurningFacts
 pub mod ParityFacts
 pub mod TimeFacts

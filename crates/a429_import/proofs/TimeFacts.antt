@@ -1,5 +1,5 @@
 -- Plain times, digit by digit.
-use Rattle.std.proofs.Common.{◌≡◌, ℕ, zero, suc, ◌+◌, ◌-◌, ◌*◌, ◌/◌, ◌%◌, ◌^◌, ◌<◌, ◌≤◌, arith, refl, ap, sym, ◌∙◌, List, [], ◌∷◌, ◌++◌, length, take, drop, get_or, Bool, true, false, ◌&&◌, ◌||◌, ◌==◌, nat_le, not, pow-suc, mul-le-mul_right, mul-le-mul_left, append_assoc, min, ◌⊎◌, inl, inr, length-drop}
+use Rattle.std.proofs.Common.{◌≡◌, ℕ, zero, suc, ◌+◌, ◌-◌, ◌*◌, ◌/◌, ◌%◌, ◌^◌, ◌<◌, ◌≤◌, arith, refl, ap, sym, ◌∙◌, List, [], ◌∷◌, ◌++◌, length, take, drop, get_or, Bool, true, false, ◌&&◌, ◌||◌, ◌==◌, nat_le, nat_lt, not, pow-suc, mul-le-mul_right, mul-le-mul_left, append_assoc, min, ◌⊎◌, inl, inr, length-drop}
 use Rattle.std.specs.Char.{digit_value}
 use Rattle.std.specs.Str.Parse.{digits_value, digits_value_after, AllDigits}
 use Rattle.std.specs.List.{list_any}
@@ -113,6 +113,32 @@ first_room w h =
     let more : w ≤ 36 = omega arith in
     let most : 10 ^ w ≤ 10 ^ 36 = pow-le-pow_right (omega arith) more in
     omega arith
+
+by_either : (a b : Bool) → (a || b) ≡ true → (a ≡ true) ⊎ (b ≡ true)
+by_either true b h = inl refl
+by_either false b h = inr h
+
+-- 64 bits have room
+pub short_room : (n c : ℕ) → ((n == 0 && nat_le c 19) || (nat_lt n 10000000000000 && nat_le c 6)) ≡ true → (n + 1) * 10 ^ c ≤ 10 ^ 19
+short_room n c h = elim (by_either (n == 0 && nat_le c 19) (nat_lt n 10000000000000 && nat_le c 6) h) [ inl a ↦ none_before a | inr a ↦ some_before a ]
+  where
+    none_before : (n == 0 && nat_le c 19) ≡ true → (n + 1) * 10 ^ c ≤ 10 ^ 19
+    none_before a =
+        let parts = and_parts (n == 0) (nat_le c 19) a in
+        let none : n ≡ 0 = grind (arith, nat_tests, parts.0) in
+        let few : c ≤ 19 = grind (arith, nat_tests, parts.1) in
+        let most : 10 ^ c ≤ 10 ^ 19 = pow-le-pow_right (omega arith) few in
+        rw none (omega (arith, most))
+
+    some_before : (nat_lt n 10000000000000 && nat_le c 6) ≡ true → (n + 1) * 10 ^ c ≤ 10 ^ 19
+    some_before a =
+        let parts = and_parts (nat_lt n 10000000000000) (nat_le c 6) a in
+        let small : n + 1 ≤ 10 ^ 13 = grind (arith, nat_tests, parts.0) in
+        let few : c ≤ 6 = grind (arith, nat_tests, parts.1) in
+        let most : 10 ^ c ≤ 10 ^ 6 = pow-le-pow_right (omega arith) few in
+        let left = mul-le-mul_right (10 ^ c) small in
+        let right = mul-le-mul_left (10 ^ 13) most in
+        omega arith
 
 pub second_room : (n w a : ℕ) → n < 1 * 10 ^ w → w ≤ 30 → a ≤ 6 → (n + 1) * 10 ^ a ≤ 10 ^ 36
 second_room n w a below h few =

@@ -12,7 +12,7 @@ use Rattle.a429_import.specs.declared.fields.Fields.TheVariants as at
 use Rattle.a429_import.specs.declared.map.RowRule.{RowRule}
 use Rattle.a429_import.specs.declared.map.Separator.{Separator}
 use Rattle.a429_import.specs.declared.map.Separator.TheVariants as separators
-use Rattle.a429_import.specs.Piece.{before_first, pieces}
+use Rattle.a429_import.specs.Piece.{before_first, pieces_from}
 
 -- ---- blanks
 
@@ -89,7 +89,7 @@ fields_in r line = fields_by r.separator r.quotes (text_of line)
 -- ---- the fields that a reader has still to come to
 
 abbrev pub fields_left : Fields → List (List ℕ)
-fields_left (at.Cut b text) = map trimmed (pieces b text.now)
+fields_left (at.Cut text start starts) = map trimmed (pieces_from text.now start starts.now)
 fields_left (at.Words text) = words text.now
 fields_left (at.Record row place) = map trimmed (drop place (fields_of row.now))
 fields_left at.End = []

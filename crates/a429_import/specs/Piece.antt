@@ -1,5 +1,5 @@
 -- Fields cut into pieces (profile).
-use Rattle.std.specs.Prelude.{ℕ, ◌≤◌, ◌-◌, ◌==◌, List, [], ◌∷◌, slice_get, length, take, drop, bytes_eq, Option, Some, None, if◌then◌else◌}
+use Rattle.std.specs.Prelude.{ℕ, suc, ◌≤◌, ◌-◌, ◌==◌, List, [], ◌∷◌, slice_get, length, take, drop, bytes_eq, Option, Some, None, if◌then◌else◌}
 use Rattle.a429_import.specs.declared.piece.Piece.{Piece}
 
 -- a byte before the first of some pieces
@@ -11,6 +11,16 @@ before_first c (p ∷ ps) = (c ∷ p) ∷ ps
 abbrev pub pieces : ℕ → List ℕ → List (List ℕ)
 pieces at [] = [] ∷ []
 pieces at (c ∷ cs) = if c == at then [] ∷ pieces at cs else before_first c (pieces at cs)
+
+-- where its pieces begin after the first, places being counted on from n
+abbrev pub starts_from : ℕ → ℕ → List ℕ → List ℕ
+starts_from at n [] = []
+starts_from at n (c ∷ cs) = if c == at then suc n ∷ starts_from at (suc n) cs else starts_from at (suc n) cs
+
+-- the pieces of a text of which the first begins at one place, the others at these; each ends before the byte before the next
+abbrev pub pieces_from : List ℕ → ℕ → List ℕ → List (List ℕ)
+pieces_from text start [] = drop start text ∷ []
+pieces_from text start (next ∷ starts) = take (next - 1 - start) (drop start text) ∷ pieces_from text next starts
 
 -- the piece of this number, from 1
 abbrev pub piece_at : Piece → List ℕ → Option (List ℕ)

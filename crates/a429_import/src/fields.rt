@@ -1,12 +1,12 @@
 //! The fields of a line.
 
-ghost use Rattle.std.specs.Prelude.{◌≡◌, ◌<◌, ◌≤◌, ◌^◌, ◌==◌, ◌&&◌, ◌||◌, ◌∷◌, [], length, map, take, drop, false, not, slice_get, option_map, IfOk, IfSome, IfNone};
+ghost use Rattle.std.specs.Prelude.{◌≡◌, ◌<◌, ◌≤◌, ◌^◌, ◌-◌, ◌==◌, ◌&&◌, ◌||◌, ◌∷◌, [], length, map, take, drop, true, false, not, slice_get, option_map, IfOk, IfSome, IfNone, OnOk};
 ghost use Rattle.std.specs.List.{list_all, list_any};
 ghost use Rattle.csv.specs.Records.{fields_of};
 ghost use Rattle.csv.specs.Reading.{strip_bom};
 ghost use Rattle.a429_import.specs.Fields.{is_blank, is_mark, is_return, without_first, without_last, without_returns, trimmed, text_of, words, word_length, csv_fields, fields_left};
 ghost use Rattle.a429_import.specs.Columns.{field_at, name_at};
-ghost use Rattle.a429_import.specs.Piece.{pieces};
+ghost use Rattle.a429_import.specs.Piece.{pieces, pieces_from, starts_from};
 
 use crate::piece::end_of;
 use csv::{ByteRecord, ReaderBuilder, Terminator};
@@ -15,8 +15,8 @@ use std::alloc::{AllocError, Global};
 /// The fields of a line that are still to come.
 #[derive(Clone, Copy, Drop)]
 pub(crate) enum Fields<'a> {
-    /// The pieces of a text, cut at each such byte.
-    Cut(u8, &'a [u8]),
+    /// The pieces of a text, the first from this place on, the others from these on.
+    Cut(&'a [u8], usize, &'a [usize]),
     /// The words of a text, between blanks.
     Words(&'a [u8]),
     /// Those of a record, from this place on.
@@ -39,7 +39,7 @@ impl<'a> Fields<'a> {
         ensures none { IfNone result (fields_left self.entry ≡ []) }
     {
         match self {
-            Fields::Cut(at, text) => Some(first_piece(at, text)),
+            Fields::Cut(text, start, starts) => Some(first_piece(text, start, starts)),
             Fields::Words(text) => first_word(text),
             Fields::Record(row, place) => first_of_record(row, place),
             Fields::End => None,
@@ -50,6 +50,19 @@ impl<'a> Fields<'a> {
     pub(crate) fn get(self, place: usize) -> Option<&'a [u8]>
         ensures { option_map (λ f. f.now) result ≡ slice_get (fields_left self.entry) place }
     {
+        match self {
+            Fields::Cut(text, start, starts) => {
+                let piece = piece_at(text, start, starts, place)?;
+                Some(trimmed(piece))
+            }
+            _ => self.walk_to(place),
+        }
+    }
+
+    // The same, field by field from the first.
+    fn walk_to(self, place: usize) -> Option<&'a [u8]>
+        ensures { option_map (λ f. f.now) result ≡ slice_get (fields_left self.entry) place }
+    {
         let mut fields = self;
         'fields: for _before in 0..place {
             fields = fields.first()?.rest;
@@ -58,7 +71,7 @@ impl<'a> Fields<'a> {
         Some(first.field)
     }
 
-    /// The same; empty where there is none.
+    /// The field at a place; empty where there is none.
     pub(crate) fn at(self, place: usize) -> &'a [u8]
         ensures { result.now ≡ field_at (fields_left self.entry) place }
     {
@@ -86,20 +99,64 @@ impl<'a> Fields<'a> {
     }
 }
 
-// The first piece of a text, and the others.
-fn first_piece(at: u8, text: &[u8]) -> First<'_>
-    ensures { map trimmed (pieces at text.now) ≡ result.field.now ∷ fields_left result.rest }
+// The first piece of a text from this place on, and the others.
+fn first_piece<'a>(text: &'a [u8], start: usize, starts: &'a [usize]) -> First<'a>
+    ensures { map trimmed (pieces_from text.now start starts.now) ≡ result.field.now ∷ fields_left result.rest }
 {
-    match end_of(text, at) {
-        Some(end) => First {
-            field: trimmed(&text[..end]),
-            rest: Fields::Cut(at, &text[end + 1..]),
+    match starts {
+        [next, rest @ ..] => First {
+            field: trimmed(between(text, start, *next)),
+            rest: Fields::Cut(text, *next, rest),
         },
-        None => First {
-            field: trimmed(text),
+        [] => First {
+            field: trimmed(rest_from(text, start)),
             rest: Fields::End,
         },
     }
+}
+
+// The piece at a place, from 0.
+fn piece_at<'a>(text: &'a [u8], start: usize, starts: &[usize], place: usize) -> Option<&'a [u8]>
+    ensures { option_map (λ p. p.now) result ≡ slice_get (pieces_from text.now start starts.now) place }
+{
+    let begin = begin_of(start, starts, place)?;
+    match place_at(starts, place) {
+        Some(next) => Some(between(text, begin, next)),
+        None => Some(rest_from(text, begin)),
+    }
+}
+
+// Where it begins.
+fn begin_of(start: usize, starts: &[usize], place: usize) -> Option<usize>
+    ensures { result ≡ slice_get (start ∷ starts.now) place }
+{
+    if place == 0 {
+        Some(start)
+    } else {
+        place_at(starts, place - 1)
+    }
+}
+
+fn place_at(starts: &[usize], place: usize) -> Option<usize>
+    ensures { result ≡ slice_get starts.now place }
+{
+    starts.get(place).copied()
+}
+
+// What is from one place on and before the byte before another.
+fn between(text: &[u8], start: usize, next: usize) -> &[u8]
+    ensures { result.now ≡ take (next - 1 - start) (drop start text.now) }
+{
+    let rest = rest_from(text, start);
+    let count = next.saturating_sub(1).saturating_sub(start).min(rest.len());
+    &rest[..count]
+}
+
+// What is from a place on.
+fn rest_from(text: &[u8], start: usize) -> &[u8]
+    ensures { result.now ≡ drop start text.now }
+{
+    &text[start.min(text.len())..]
 }
 
 // The first word of a text, and the others.
@@ -202,30 +259,30 @@ pub(crate) fn words(text: &[u8]) -> Fields<'_>
     Fields::Words(text)
 }
 
-/// The fields that `csv` reads in a text, where it has only to cut it.
-pub(crate) fn cut(at: u8, quotes: bool, text: &[u8]) -> Option<Fields<'_>>
-    requires { list_all is_blank text.now ≡ false }
-    ensures fields { IfSome result (λ f. fields_left f ≡ map trimmed (csv_fields at quotes text.now)) }
-    ensures few { IfSome result (λ f. length (fields_left f) < 2 ^ 64) }
+/// Puts into `starts` where the pieces of a text begin after the first, the text being cut at each such byte, and returns whether `csv`
+/// has only to cut it: whether it has no line feed, and no quote where quotes count.
+pub(crate) fn find_starts(
+    at: u8,
+    quotes: bool,
+    text: &[u8],
+    starts: &mut Vec<usize>,
+) -> Result<bool, AllocError>
+    ensures plain { IfOk result (λ plain. plain ≡ not (list_any (is_mark quotes) text.now)) }
+    ensures starts { IfOk result (λ plain. plain ≡ true → starts.new.items ≡ starts_from at 0 text.now) }
 {
-    if is_plain(quotes, text) {
-        Some(Fields::Cut(at, text))
-    } else {
-        None
+    starts.clear();
+    let mut place = 0;
+    'bytes: while place < text.len() {
+        let byte = text[place];
+        place += 1;
+        if is_mark(quotes, byte) {
+            return Ok(false);
+        }
+        if byte == at {
+            starts.push(place)?;
+        }
     }
-}
-
-// Whether a text has no line feed, and no quote where quotes count.
-fn is_plain(quotes: bool, text: &[u8]) -> bool
-    ensures { result ≡ not (list_any (is_mark quotes) text.now) }
-{
-    !has_mark(quotes, text)
-}
-
-fn has_mark(quotes: bool, text: &[u8]) -> bool
-    ensures { result ≡ list_any (is_mark quotes) text.now }
-{
-    text.iter().any(|byte| is_mark(quotes, *byte))
+    Ok(true)
 }
 
 // A byte that counts for `csv`.
@@ -233,6 +290,17 @@ fn is_mark(quotes: bool, byte: u8) -> bool
     ensures { result ≡ is_mark quotes byte }
 {
     byte == b'\n' || quotes && byte == b'"'
+}
+
+/// The fields that `csv` reads in a text that it has only to cut, where the pieces begin after the first.
+pub(crate) fn cut<'a>(at: u8, quotes: bool, text: &'a [u8], starts: &'a [usize]) -> Fields<'a>
+    requires some { list_all is_blank text.now ≡ false }
+    requires plain { not (list_any (is_mark quotes) text.now) ≡ true }
+    requires starts { starts.now ≡ starts_from at 0 text.now }
+    ensures fields { fields_left result ≡ map trimmed (csv_fields at quotes text.now) }
+    ensures few { length (fields_left result) < 2 ^ 64 }
+{
+    Fields::Cut(text, 0, starts)
 }
 
 // A text without the blanks at both ends.

@@ -8,19 +8,21 @@ ghost use Rattle.a429_word.specs.Tally.{has_failed, unread};
 ghost use Rattle.a429_import.specs.Columns.{field_at};
 ghost use Rattle.a429_import.specs.Fields.{fields_in, fields_left};
 ghost use Rattle.a429_import.specs.Import.{at_start, entry_before, columns_with, first_columns, fields_lot, is_comment, lot_of, past_after, progress_after};
+ghost use Rattle.a429_import.specs.Texts.{has_text};
 ghost use Rattle.a429_import.specs.declared.lot.Lot.{Lot as ALot};
 ghost use Rattle.a429_import.specs.Importing.{Answers, AreImported, ImportsAll, ImportsUntil};
 
 use crate::columns::{Columns, find_columns};
 use crate::counts::Counts;
 use crate::fault::{ExportFault, ImportFault};
-use crate::fields::{Fields, csv_record, cut, is_all_blank, without_returns, words};
+use crate::fields::{Fields, csv_record, cut, find_starts, is_all_blank, without_returns, words};
 use crate::lot::Lot;
 use crate::map::{Map, Separator};
 use crate::past::Past;
 use crate::places::{Place, push_places};
 use crate::progress::Progress;
 use crate::row::Row;
+use crate::texts::Texts;
 use a429_record::{EntryText, Lines, ReadFault, put_header, without_mark};
 use a429_word::{Sheet, Tally};
 use std::alloc::{AllocError, Global};
@@ -36,12 +38,18 @@ pub struct Import {
 
 impl Progress {
     // What becomes of the next line.
-    fn turn(&mut self, alloc: Global, map: &Map, line: &[u8]) -> Result<Lot, ImportFault>
+    fn turn(
+        &mut self,
+        alloc: Global,
+        map: &Map,
+        line: &[u8],
+        starts: &mut Vec<usize>,
+    ) -> Result<Lot, ImportFault>
         requires { self.old.lines + 1 < 2 ^ 64 }
         ensures answers { Answers (lot_of map.now self.old line.now) result }
         ensures after { IfOk result (λ l. self.new ≡ progress_after map.now self.old line.now l) }
     {
-        let lot = self.lot(alloc, map, line)?;
+        let lot = self.lot(alloc, map, line, starts)?;
         self.lines += 1;
         match self.add(map, &lot) {
             Ok(()) => Ok(lot),
@@ -62,7 +70,13 @@ impl Progress {
     }
 
     // The same, where only the columns change.
-    fn lot(&mut self, alloc: Global, map: &Map, line: &[u8]) -> Result<Lot, ImportFault>
+    fn lot(
+        &mut self,
+        alloc: Global,
+        map: &Map,
+        line: &[u8],
+        starts: &mut Vec<usize>,
+    ) -> Result<Lot, ImportFault>
         requires { self.old.lines + 1 < 2 ^ 64 }
         ensures answers { Answers (lot_of map.now self.old line.now) result }
         ensures columns { IfOk result (λ l. self.new.columns ≡ columns_with map.now self.old.columns (fields_in map.now.rows line.now) l) }
@@ -83,15 +97,19 @@ impl Progress {
         }
         match rows.separator {
             Separator::Blanks => self.lot_of(alloc, map, words(text)),
-            Separator::Byte(at) => match cut(at, rows.quotes, text) {
-                Some(fields) => self.lot_of(alloc, map, fields),
-                None => {
+            Separator::Byte(at) => {
+                let Ok(plain) = find_starts(at, rows.quotes, text, starts) else {
+                    return Err(ImportFault::OutOfMemory);
+                };
+                if plain {
+                    self.lot_of(alloc, map, cut(at, rows.quotes, text, starts.as_slice()))
+                } else {
                     let Ok(row) = csv_record(alloc, at, rows.quotes, line) else {
                         return Err(ImportFault::OutOfMemory);
                     };
                     self.lot_of(alloc, map, Fields::Record(&row, 0))
                 }
-            },
+            }
         }
     }
 
@@ -106,7 +124,7 @@ impl Progress {
     {
         match &self.columns {
             Some(columns) => {
-                if map.rows.pass.has(fields.at(0)) {
+                if is_passed(&map.rows.pass, fields) {
                     return Ok(Lot::RowPassed);
                 }
                 let row = Row {
@@ -144,6 +162,13 @@ impl Import {
         self.counts = self.counts.with(lot);
         Ok(())
     }
+}
+
+// Whether a row is passed over for its first field.
+fn is_passed(pass: &Texts, fields: Fields<'_>) -> bool
+    ensures { result ≡ has_text pass.now (field_at (fields_left fields.entry) 0) }
+{
+    !pass.as_slice().is_empty() && pass.has(fields.at(0))
 }
 
 // Whether a line begins with what comments begin with, if there is anything.
@@ -206,6 +231,7 @@ pub fn put_import<R: Read, W: Write>(
     };
     let mut lines = Lines::new();
     let mut line = Vec::new(alloc);
+    let mut starts = Vec::new(alloc);
     let mut text = EntryText::new();
     'lines: loop {
         if sheet.failed() {
@@ -218,7 +244,7 @@ pub fn put_import<R: Read, W: Write>(
         if !more {
             return at_end(&progress, import);
         }
-        let lot = match progress.turn(alloc, map, line.as_slice()) {
+        let lot = match progress.turn(alloc, map, line.as_slice(), &mut starts) {
             Ok(lot) => lot,
             Err(fault) => return Err(fault),
         };

@@ -57,13 +57,22 @@ impl Row<'_> {
         else {
             return Err(ExportFault::Time(self.line));
         };
-        let Some(status) = status_of_row(&self.map.parity, self.fields.at(self.columns.status))
-        else {
+        let Some(status) = self.status() else {
             return Err(ExportFault::Status(self.line));
         };
         match self.word() {
             Ok(word) => self.finished(bus, reading, status, word),
             Err(part) => Err(ExportFault::Part(self.line, part)),
+        }
+    }
+
+    // What it says of the parity; only a map with a status column looks at a field.
+    fn status(&self) -> Option<Verdict>
+        ensures { result ≡ status_of_row self.now.map.now.parity (field_at (fields_left self.now.fields) self.now.columns.now.status) }
+    {
+        match &self.map.parity {
+            ParityBit::Status(status) => status.verdict(self.fields.at(self.columns.status)),
+            _ => Some(Verdict::Received),
         }
     }
 
@@ -135,15 +144,5 @@ impl Row<'_> {
             }),
             None => Err(ExportFault::TimeBack(self.line)),
         }
-    }
-}
-
-// What a row says of the parity, where this is in the status column.
-fn status_of_row(parity: &ParityBit, text: &[u8]) -> Option<Verdict>
-    ensures { result ≡ status_of_row parity.now text.now }
-{
-    match parity {
-        ParityBit::Status(status) => status.verdict(text),
-        _ => Some(Verdict::Received),
     }
 }

@@ -1,6 +1,6 @@
 //! Times as they are written: digits and what they count, or a clock's.
 
-ghost use Rattle.std.specs.Prelude.{◌≡◌, ◌≤◌, ◌<◌, ◌+◌, ◌*◌, ◌^◌, ◌==◌, length, not, nat_lt};
+ghost use Rattle.std.specs.Prelude.{◌≡◌, ◌≤◌, ◌<◌, ◌+◌, ◌*◌, ◌^◌, ◌==◌, ◌&&◌, ◌||◌, length, not, nat_le, nat_lt};
 ghost use Rattle.std.specs.List.{list_any};
 ghost use Rattle.std.specs.Char.{digit_value};
 ghost use Rattle.std.specs.Str.Parse.{digits_value, digits_value_after, AllDigits};
@@ -145,6 +145,39 @@ fn thousandth(whole: &[u8], part: &[u8]) -> Reading
 
 // The number that digits write which follow those of another.
 pub(crate) fn number_after(before: u128, digits: &[u8]) -> u128
+    requires digits { AllDigits 10 digits.now }
+    requires room { (before + 1) * 10 ^ length digits.now ≤ 10 ^ 36 }
+    ensures value { result ≡ digits_value_after 10 before digits.now }
+    ensures below { result < (before + 1) * 10 ^ length digits.now }
+{
+    if is_short(before, digits.len()) {
+        u128::from(short_number_after(before as u64, digits))
+    } else {
+        long_number_after(before, digits)
+    }
+}
+
+// Whether 64 bits have room for a number with so many more digits.
+fn is_short(before: u128, count: usize) -> bool
+    ensures { result ≡ ((before == 0 && nat_le count 19) || (nat_lt before 10000000000000 && nat_le count 6)) }
+{
+    before == 0 && count <= 19 || before < 10_000_000_000_000 && count <= 6
+}
+
+fn short_number_after(before: u64, digits: &[u8]) -> u64
+    requires digits { AllDigits 10 digits.now }
+    requires room { (before + 1) * 10 ^ length digits.now ≤ 10 ^ 19 }
+    ensures value { result ≡ digits_value_after 10 before digits.now }
+    ensures below { result < (before + 1) * 10 ^ length digits.now }
+{
+    let mut number = before;
+    'digits: for byte in digits {
+        number = number * 10 + u64::from(digit_of(*byte));
+    }
+    number
+}
+
+fn long_number_after(before: u128, digits: &[u8]) -> u128
     requires digits { AllDigits 10 digits.now }
     requires room { (before + 1) * 10 ^ length digits.now ≤ 10 ^ 36 }
     ensures value { result ≡ digits_value_after 10 before digits.now }

@@ -1,7 +1,7 @@
 -- the digits so far, and room for those to come
 use Rattle.std.proofs.Common.{◌≡◌, ◌≤◌, ◌+◌, ◌-◌, ◌*◌, ◌^◌, length, take}
 use Rattle.std.specs.Str.Parse.{digits_value_after}
-use Rattle.a429_import.proofs.time.number_after.Given as goal
+use Rattle.a429_import.proofs.time.long_number_after.Given as goal
 
 abbrev pub invariant-digits : goal.invariant-digits
 invariant-digits l = record {
