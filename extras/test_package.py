@@ -1,5 +1,6 @@
 """The package, made twice of this commit, and what is in it."""
 
+import ctypes
 import hashlib
 import os
 import re
@@ -12,6 +13,7 @@ from pathlib import Path
 
 ROOT = Path(__file__).resolve().parent.parent
 PROGRAM = ROOT / "crates/a429/out/a429"
+LIBRARY = ROOT / "crates/a429_c/out/liba429_c.a"
 COMPLETIONS = ("bash-completion/completions/a429", "zsh/vendor-completions/_a429", "fish/vendor_completions.d/a429.fish")
 # Files of extras, and where their programs look for them.
 PLACES = {
@@ -41,8 +43,8 @@ def why_not():
 
 
 def package(*words):
-    """Runs scripts/package with the program that is built: the gate has just built it."""
-    env = {**os.environ, "PROGRAM": str(PROGRAM)}
+    """Runs scripts/package with the program that is built: the gate has just built it. So it is with liba429, where that is built."""
+    env = {**os.environ, "PROGRAM": str(PROGRAM), "LIBRARY": str(LIBRARY) if LIBRARY.exists() else "none"}
     return subprocess.run([ROOT / "scripts/package", *words], capture_output=True, text=True, env=env)
 
 
@@ -115,6 +117,16 @@ class Package(unittest.TestCase):
         found = output_of(sys.executable, "-B", "-c", "import a429; print(a429.__file__)", env=env)
         self.assertEqual(found, f"{env['PYTHONPATH']}/a429/__init__.py")
 
+    @unittest.skipUnless(LIBRARY.exists(), "liba429 is not built")
+    def test_liba429_is_where_compilers_look(self):
+        usr = self.room / "root/usr"
+        self.assertEqual((usr / "include/a429.h").read_bytes(), (ROOT / "extras/c/a429.h").read_bytes())
+        libraries = usr / "lib/x86_64-linux-gnu"
+        self.assertEqual(ctypes.CDLL(str(libraries / "liba429.so")).a429_abi(), 1)
+        self.assertTrue((libraries / "liba429.a").is_file())
+        lines = (libraries / "pkgconfig/a429.pc").read_text().splitlines()
+        self.assertEqual(lines[:2], ["prefix=/usr", "libdir=${prefix}/lib/x86_64-linux-gnu"])
+
     @unittest.skipUnless(shutil.which("dpkg") and os.getuid() == 0, "no dpkg, or the user is not root")
     def test_it_is_installed_into_a_clean_root_and_removed_again(self):
         root = self.room / "clean"
@@ -151,7 +163,7 @@ class Package(unittest.TestCase):
         for line in output_of("dpkg-deb", "-c", self.deb, env={**os.environ, "TZ": "UTC"}).splitlines():
             mode, owner, _, *date, name = line.split(maxsplit=5)
             self.assertEqual((owner, " ".join(date)), ("root/root", time), name)
-            self.assertIn(mode, ("drwxr-xr-x", "-rwxr-xr-x", "-rw-r--r--"), name)
+            self.assertIn(mode, ("drwxr-xr-x", "-rwxr-xr-x", "-rw-r--r--", "lrwxrwxrwx"), name)
 
     def test_its_fields(self):
         fields = dict(it.split(": ", 1) for it in output_of("dpkg-deb", "-f", self.deb).splitlines() if not it.startswith(" "))
