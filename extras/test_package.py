@@ -127,6 +127,10 @@ class Package(unittest.TestCase):
         lines = (libraries / "pkgconfig/a429.pc").read_text().splitlines()
         self.assertEqual(lines[:2], ["prefix=/usr", "libdir=${prefix}/lib/x86_64-linux-gnu"])
 
+    def test_report_runs(self):
+        shown = output_of(sys.executable, self.room / "root/usr/bin/report", "--help")
+        self.assertEqual(shown.splitlines()[0], "usage: report [-h] [--sent DIR] PROFILE REC OUT")
+
     @unittest.skipUnless(shutil.which("dpkg") and os.getuid() == 0, "no dpkg, or the user is not root")
     def test_it_is_installed_into_a_clean_root_and_removed_again(self):
         root = self.room / "clean"
@@ -152,6 +156,8 @@ class Package(unittest.TestCase):
     def test_its_files(self):
         root = self.room / "root/usr/share"
         self.assertEqual((self.room / "root/usr/bin/campaign").read_bytes(), (ROOT / "extras/campaign/campaign").read_bytes())
+        for it in output_of("git", "ls-files", "extras/report/report", "extras/report/a429_report").splitlines():
+            self.assertEqual((root / "a429" / it.removeprefix("extras/")).read_bytes(), (ROOT / it).read_bytes(), it)
         for it in ("man/man1/a429.1.gz", "doc/a429/README.md", "doc/a429/docs/TUTORIAL.md", *COMPLETIONS):
             self.assertTrue((root / it).is_file(), it)
         for it in ("examples", "extras"):

@@ -141,7 +141,8 @@ def answers_of(steps, program, is_exact):
         for folder in (home, home / "bin", answers):
             folder.mkdir()
         (home / "bin/a429").symlink_to(program)
-        (home / "bin/campaign").symlink_to(ROOT / "extras/campaign/campaign")
+        for it in ("campaign", "report"):
+            (home / "bin" / it).symlink_to(ROOT / "extras" / it / it)
         lay_repository(home / "hulqasem", program)
         script.write_text(script_of(steps, is_exact))
         env = {**os.environ, "HOME": str(home), "PATH": f"{home}/bin:{os.environ['PATH']}"}

@@ -9,9 +9,10 @@ from console import blocks_of
 
 # A line of a block that is a command, in a block that is not `console`.
 COMMAND = re.compile(r"(?:scripts/|\.ci/|\./|a429 [a-z]|campaign [a-z]|rt |cd |export )")
-# The line above a block whose commands no test can run, with the reason; and above one that scripts/test-campaign runs.
+# The line above a block whose commands no test can run, with the reason; and above one that scripts/test-campaign or scripts/test-extras runs.
 NOT_RUN = re.compile(r"<!-- not run: .+ -->")
 RUN_ON_ENGINES = "<!-- run by scripts/test-campaign -->"
+RUN_WITH_TOOLS = "<!-- run by scripts/test-extras -->"
 # What looks like a name of code: words joined by underscores, or two or more words that begin with capitals.
 NAME = re.compile(r"[a-z]\w*_\w*[a-z0-9]|(?:[A-Z][a-z0-9]+){2,}")
 
@@ -99,10 +100,20 @@ def line_above(block, lines):
     return lines[block.line - 3] if block.line > 2 else ""
 
 
+def blocks_below(mark, text):
+    """The texts of a page's blocks that have this line above."""
+    lines = text.splitlines()
+    return [it.text for it in blocks_of(text) if line_above(it, lines) == mark]
+
+
 def run_on_engines(text):
     """The texts of a page's blocks that scripts/test-campaign runs."""
-    lines = text.splitlines()
-    return [it.text for it in blocks_of(text) if line_above(it, lines) == RUN_ON_ENGINES]
+    return blocks_below(RUN_ON_ENGINES, text)
+
+
+def run_with_tools(text):
+    """The texts of a page's blocks that scripts/test-extras runs, where their tools are."""
+    return blocks_below(RUN_WITH_TOOLS, text)
 
 
 def commands_never_run(page, pages_run):
@@ -111,7 +122,7 @@ def commands_never_run(page, pages_run):
     lines = text.splitlines()
     for block in blocks_of(text):
         above = line_above(block, lines)
-        is_excused = NOT_RUN.fullmatch(above) or above == RUN_ON_ENGINES
+        is_excused = NOT_RUN.fullmatch(above) or above in (RUN_ON_ENGINES, RUN_WITH_TOOLS)
         if not is_excused and not (block.language == "console" and page in pages_run):
             for line, command in commands_of(block):
                 if as_run(command) not in ran:
@@ -131,7 +142,7 @@ def idle_files(page):
     text = page.read_text(encoding="utf-8")
     blocks = [*blocks_of(text)]
     commands = " ".join(it for block in blocks if block.language == "console" for _, it in commands_of(block))
-    commands += " ".join(run_on_engines(text)).replace("snakemake", "Snakefile")
+    commands += " ".join(run_on_engines(text)).replace("snakemake", "Snakefile") + " ".join(run_with_tools(text))
     for block in blocks:
         if block.name and block.name not in commands:
             yield Fault(page, block.line, f"no command uses the file {block.name}")

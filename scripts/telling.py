@@ -150,6 +150,9 @@ def known_of(profile, entries):
 
 # ---- the lines
 
+# The last line: how the others are meant.
+CAVEAT = "a file listed has crossed, here or before; that a part ends there is an assumption"
+
 
 def lines_of(profile, entries):
     """The lines of `history`, and the files of each piece."""

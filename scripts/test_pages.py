@@ -5,7 +5,7 @@ from pathlib import Path
 
 from console import blocks_of
 from pages import (
-    anchors_of, commands_never_run, dead_links, idle_files, lost_names, missing_files, run_on_engines, shared_files,
+    anchors_of, commands_never_run, dead_links, idle_files, lost_names, missing_files, run_on_engines, run_with_tools, shared_files,
 )  # fmt: skip
 
 PAGE = """\
@@ -83,6 +83,12 @@ class Pages(unittest.TestCase):
         self.assertEqual(run_on_engines(text), ["a429 one\nsnakemake\n"])
         self.assertEqual(self.said(commands_never_run(page, set())), [(12, "no test runs: a429 two")])
         self.assertEqual(self.said(idle_files(page)), [])
+
+    def test_a_block_can_say_that_it_is_run_with_its_tools(self):
+        text = "```python lost.py\nprint()\n```\n\n<!-- run by scripts/test-extras -->\n```sh\na429 one\npython3 lost.py\n```\n"
+        page = self.put("tools.md", text)
+        self.assertEqual(run_with_tools(text), ["a429 one\npython3 lost.py\n"])
+        self.assertEqual([*commands_never_run(page, set()), *idle_files(page)], [])
 
     def test_commands_of_a_page_that_is_not_run_are_named(self):
         self.assertIn((21, "no test runs: sh try"), self.said(commands_never_run(self.page, set())))

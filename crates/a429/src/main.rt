@@ -5,10 +5,11 @@ ghost use Rattle.std.specs.Prelude.{◌≡◌, false, IfOk};
 ghost use Rattle.a429_word.specs.Tally.{has_failed};
 
 use a429_check::{
-    Claim, Command, Folder, NewFile, PartFolder, Rule, RunFault, Side, Span, command, read_whole,
-    report, run_blocks, run_by_rule, run_cut, run_extract, run_forms, run_import, run_keep,
-    run_labels, run_make, run_pack, run_picture, run_series, run_show, run_side, run_sink,
-    run_survey, run_trace, run_units, run_upgrade, run_verify, run_version, run_word,
+    Claim, Command, Folder, IntoFolder, NewFile, PartFolder, PieceFolder, Rule, RunFault, Side,
+    Span, command, read_whole, report, run_blocks, run_by_rule, run_cut, run_extract, run_forms,
+    run_history, run_import, run_keep, run_labels, run_make, run_pack, run_picture, run_series,
+    run_show, run_side, run_sink, run_survey, run_trace, run_units, run_upgrade, run_verify,
+    run_version, run_word,
 };
 use a429_record::EntryReader;
 use a429_view::UnitRows;
@@ -87,6 +88,7 @@ fn answer<W: Write + Drop>(
             folder,
             most,
         } => cut(rt, alloc, profile, recording, folder, most, &mut out),
+        Command::History(given) => history(rt, alloc, given, &mut out),
         Command::Side {
             profile,
             recording,
@@ -205,6 +207,19 @@ fn cut<W: Write>(
     let mut parts = PartFolder::open(rt, alloc, folder)?;
     let status = run_cut(alloc, profile.as_slice(), most, &mut rec, &mut parts, out);
     parts.settle(written(status, out))
+}
+
+fn history<W: Write>(
+    rt: &(impl Files + AllocGlobal + Clone + Drop),
+    alloc: Global,
+    given: IntoFolder<'_>,
+    out: &mut Tally<W>,
+) -> Result<u8, RunFault> {
+    let profile = bytes_of(rt, alloc, given.profile)?;
+    let mut rec = opened_whole(rt, alloc, given.recording)?;
+    let mut pieces = PieceFolder::open(rt, alloc, given.folder)?;
+    let status = run_history(alloc, profile.as_slice(), &mut rec, &mut pieces, out);
+    pieces.settle(flushed(status, out))
 }
 
 fn side<W: Write>(

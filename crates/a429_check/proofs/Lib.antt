@@ -22,6 +22,7 @@ pub mod ImportFacts
 pub mod KeepFacts
 pub mod SideFacts
 pub mod SinkFacts
+pub mod HistoryFacts
 pub mod CutFacts
 pub mod TraceLines
 mod BlocksRows

@@ -27,6 +27,7 @@ pub mod Map
 pub mod Import
 pub mod Side
 pub mod Sink
+pub mod History
 pub mod Cut
 pub mod Trace
 pub mod Blocks

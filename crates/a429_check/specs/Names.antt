@@ -18,6 +18,7 @@ KeepsInputs (command.Check c) = IsCertificateApart c
 KeepsInputs (command.Decide c) = IsCertificateApart c
 KeepsInputs (command.Extract c folder) = MayWrite folder.now c.profile.now × MayWrite folder.now c.recording.now × MayWrite folder.now c.certificate.now
 KeepsInputs (command.Cut profile recording folder most) = MayWrite folder.now profile.now × MayWrite folder.now recording.now
+KeepsInputs (command.History f) = MayWrite f.folder.now f.profile.now × MayWrite f.folder.now f.recording.now
 KeepsInputs (command.Side profile recording side new_rec) = MayWrite new_rec.now profile.now × MayWrite new_rec.now recording.now
 KeepsInputs (command.Import map export new_rec) = MayWrite new_rec.now map.now × MayWrite new_rec.now export.now
 KeepsInputs (command.Upgrade cert new_cert) = MayWrite new_cert.now cert.now

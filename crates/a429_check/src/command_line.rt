@@ -10,13 +10,13 @@ use a429_view::Span;
 use a429_word::Bus;
 use clap::error::ErrorKind;
 use clap::{Arg, ArgAction, ArgMatches, Command as Parser};
-use commands::{Claim, Command};
+use commands::{Claim, Command, IntoFolder};
 use std::alloc::{AllocError, Global};
 
 pub mod commands;
 
 // Each command, and the names of the words that it takes.
-const COMMANDS: [(&str, &[&str]); 23] = [
+const COMMANDS: [(&str, &[&str]); 24] = [
     ("version", &[]),
     ("word", &["HEX"]),
     ("labels", &["PROFILE"]),
@@ -28,6 +28,7 @@ const COMMANDS: [(&str, &[&str]); 23] = [
     ("trace", &["PROFILE", "REC"]),
     ("blocks", &["PROFILE", "REC"]),
     ("sink", &["PROFILE", "REC"]),
+    ("history", &["PROFILE", "REC", "DIR"]),
     ("cut", &["PROFILE", "REC", "DIR", "MOST"]),
     ("side", &["PROFILE", "REC", "LINE", "OUT", "ANSWER"]),
     ("import", &["MAP", "EXPORT", "OUT"]),
@@ -191,6 +192,7 @@ fn of_both<'a>(
         "trace" => Ok(Command::Trace { profile, recording }),
         "blocks" => Ok(Command::Blocks { profile, recording }),
         "sink" => Ok(Command::Sink { profile, recording }),
+        "history" => history_of(given, profile, recording),
         _ => match given.get_str("CERT") {
             Some(certificate) => of_claim(
                 name,
@@ -203,6 +205,27 @@ fn of_both<'a>(
             ),
             None => Err(RunFault::Usage),
         },
+    }
+}
+
+// The command that puts a recording in pieces.
+fn history_of<'a>(
+    given: &ArgMatches<'a>,
+    profile: &'a str,
+    recording: &'a str,
+) -> Result<Command<'a>, RunFault>
+    ensures apart { IfOk result KeepsInputs }
+    ensures err { IfErr result (λ e. e ≡ RunFault.Usage) }
+{
+    match given.get_str("DIR") {
+        Some(folder) if may_write(folder, profile) && may_write(folder, recording) => {
+            Ok(Command::History(IntoFolder {
+                profile,
+                recording,
+                folder,
+            }))
+        }
+        _ => Err(RunFault::Usage),
     }
 }
 

@@ -4,6 +4,8 @@
 #[cfg(test)]
 mod agreement;
 #[cfg(test)]
+mod anywhere;
+#[cfg(test)]
 mod callers;
 #[cfg(test)]
 mod calls;

@@ -28,27 +28,27 @@ fn judge<R: Read + Drop, W: Write>(
 }
 
 // The words of a unit of one byte, file 1, as they are recorded.
-const REQUEST: &str = "0,A,41410323; ";
+pub(crate) const REQUEST: &str = "0,A,41410323; ";
 
-const CLEAR: &str = "0,B,C24103A3; ";
+pub(crate) const CLEAR: &str = "0,B,C24103A3; ";
 
-const START: &str = "0,A,60010123; ";
+pub(crate) const START: &str = "0,A,60010123; ";
 
-const DATA: &str = "0,A,12004123; ";
+pub(crate) const DATA: &str = "0,A,12004123; ";
 
-const END: &str = "0,A,71A3F523; ";
+pub(crate) const END: &str = "0,A,71A3F523; ";
 
-const ACK: &str = "0,B,450101A3; ";
+pub(crate) const ACK: &str = "0,B,450101A3; ";
 
 const NAK: &str = "0,B,460000A3; ";
 // A request for four words; the acknowledgement of unit 2 of file 1; file 2's start word and its acknowledgement; a damaged data word.
 const REQUEST_4: &str = "0,A,C1410423; ";
 
-const ACK_1_2: &str = "0,B,450102A3; ";
+pub(crate) const ACK_1_2: &str = "0,B,450102A3; ";
 
-const START_2: &str = "0,A,60020123; ";
+pub(crate) const START_2: &str = "0,A,60020123; ";
 
-const ACK_2: &str = "0,B,450201A3; ";
+pub(crate) const ACK_2: &str = "0,B,450201A3; ";
 
 const DAMAGED: &str = "0,A,92004123; ";
 

@@ -3,7 +3,8 @@
 ghost use Rattle.std.specs.Prelude.{◌≡◌, [], IfOk, OnOk, List};
 ghost use Rattle.a429_link.specs.Sink.{latest_number};
 ghost use Rattle.a429_profile.specs.declared.codes.Codes.{Codes};
-ghost use Rattle.a429_sink.specs.FileUnits.{AreUnits, open_left};
+ghost use Rattle.std.specs.Prelude.{length, take};
+ghost use Rattle.a429_sink.specs.FileUnits.{AreUnits, left_at, units_mark};
 ghost use Rattle.a429_sink.specs.History.{alone, goes_with, grown, is_whole, with_unit};
 ghost use Rattle.a429_sink.specs.declared.file_units.FileUnits.{FileUnits as AFileUnits};
 
@@ -63,6 +64,13 @@ impl FileUnits {
     }
 }
 
+/// How many acknowledged units there were at some place in a recording.
+#[derive(Clone, Copy, Debug, PartialEq, Eq)]
+pub(crate) struct UnitsMark {
+    earlier: usize,
+    newest: Option<FileUnits>,
+}
+
 /// The acknowledged units so far, of files of which not all are there, and the units acknowledged last.
 #[derive(Debug, Drop)]
 pub(crate) struct OpenUnits {
@@ -81,9 +89,20 @@ impl OpenUnits {
         }
     }
 
+    /// Those that there are now.
+    pub(crate) fn mark(&self) -> UnitsMark
+        ensures { result ≡ units_mark self.now }
+    {
+        UnitsMark {
+            earlier: self.earlier.len(),
+            newest: self.newest,
+        }
+    }
+
     /// Adds one that is acknowledged. Where there is no memory, nothing changes.
     pub(crate) fn add(&mut self, profile: &Profile, unit: Latest) -> Result<(), AllocError>
-        ensures { (us : List AFileUnits) → AreUnits profile.now.codes us self.old → OnOk result (AreUnits profile.now.codes (with_unit profile.now.codes (latest_number unit) us) self.new) }
+        ensures added { (us : List AFileUnits) → AreUnits profile.now.codes us self.old → OnOk result (AreUnits profile.now.codes (with_unit profile.now.codes (latest_number unit) us) self.new) }
+        ensures earlier { take (length self.old.earlier.items) self.new.earlier.items ≡ self.old.earlier.items }
     {
         let Some(newest) = self.newest else {
             self.newest = Some(FileUnits::alone(unit));
@@ -100,15 +119,17 @@ impl OpenUnits {
         Ok(())
     }
 
-    /// Those of files of which not all units are there, in order.
-    pub(crate) fn finish(self, profile: &Profile) -> Result<Vec<FileUnits>, AllocError>
-        ensures { (us : List AFileUnits) → AreUnits profile.now.codes us self → IfOk result (λ left. left.items ≡ open_left profile.now.codes us) }
+    /// Those of files of which not all units were there at the mark, in order.
+    pub(crate) fn finish(
+        self,
+        profile: &Profile,
+        mark: UnitsMark,
+    ) -> Result<Vec<FileUnits>, AllocError>
+        ensures { IfOk result (λ left. left.items ≡ left_at profile.now.codes mark self) }
     {
-        let OpenUnits {
-            mut earlier,
-            newest,
-        } = self;
-        if let Some(newest) = newest {
+        let mut earlier = self.earlier;
+        earlier.truncate(mark.earlier);
+        if let Some(newest) = mark.newest {
             if !newest.is_whole(profile) {
                 earlier.push(newest)?;
             }

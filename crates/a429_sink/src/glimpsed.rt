@@ -1,6 +1,7 @@
 //! The sink of a recording that begins anywhere.
 
-ghost use Rattle.std.specs.Prelude.{ℕ, ◌≡◌, true, false, None, Some, IfOk, IfErr, OnOk, OnErr, option_map};
+ghost use Rattle.std.specs.Prelude.{ℕ, ◌≡◌, true, false, None, Some, IfOk, IfErr, IsErrOf, OnOk, OnErr, option_map};
+ghost use Rattle.a429_sink.specs.declared.fault.SinkFault.TheVariants as fault;
 ghost use Rattle.a429_ldu.specs.Form.{form_of};
 ghost use Rattle.a429_link.specs.Implied.{implies_form, observer_of};
 ghost use Rattle.a429_link.specs.Observer.{AllowsForm};
@@ -85,6 +86,7 @@ impl GlimpsedSink {
         ensures taken { OnOk result (glimpse_of self.new ≡ glimpses profile.now seen (glimpse_of self.old)) }
         ensures follows { IfOk result (FollowsWord profile.now seen self.old self.new) }
         ensures fault { IfErr result (IsGlimpseFault profile.now (glimpse_of self.old) seen) }
+        ensures unchanged { IsErrOf result fault.Refused → self.new ≡ self.old }
     {
         match form(profile, seen.bus, seen.word) {
             Sight::Form(form) => self.see_form(alloc, profile, seen, &form),
@@ -105,6 +107,7 @@ impl GlimpsedSink {
         ensures taken { OnOk result (glimpse_of self.new ≡ glimpses_form profile.now seen.bus seen.word (Some form.now) (glimpse_of self.old)) }
         ensures follows { IfOk result (FollowsForm profile.now seen.bus seen.word (Some form.now) self.old self.new) }
         ensures fault { IfErr result (IsGlimpseFaultOf self.old.is_known (glimpse_of self.old) seen.bus form.now) }
+        ensures unchanged { IsErrOf result fault.Refused → self.new ≡ self.old }
     {
         if !self.is_known {
             self.begin(alloc, profile, seen.bus, form);

@@ -1,7 +1,7 @@
 -- The rows of attempts, one entry more at a time.
 use Rattle.std.proofs.Common.{◌≡◌, ℕ, suc, ◌+◌, ◌-◌, ◌^◌, ◌<◌, ◌≤◌, ◌==◌, min, Bool, true, false, cond, not, ◌&&◌, ◌||◌, List, [], ◌∷◌, ◌++◌, length, length-append, map, append_assoc, append-nil, Option, Some, None, refl, sym, ap, ◌∙◌, subst, inl, inr, arith}
 use Rattle.std.specs.Prelude.{flat_map, option_map, unwrap_or}
-use Rattle.std.specs.List.{count_by, filter_map, cons_option, fold, last_or, list_any}
+use Rattle.std.specs.List.{filter_map, cons_option, fold, last_or, list_any}
 use Rattle.std.specs.Option.{option_or}
 use Rattle.std.proofs.lemmas.Grind.{flat_map-append}
 use Rattle.a429_word.specs.Word.{number_at}
@@ -23,9 +23,9 @@ use Rattle.a429_view.specs.declared.units.span.Moment.{Moment}
 use Rattle.a429_view.specs.declared.blocks.row.AttemptRow.{AttemptRow}
 use Rattle.a429_view.specs.declared.blocks.Blocks.{Blocks}
 use Rattle.a429_view.specs.Trace.{has_line}
-use Rattle.a429_view.specs.Blocks.{Attempt, IsBlocks, Placed, PutsOnTo, answer_in, asked_by, attempt_by, attempts, before_request, begun_text, blocks_text, columns_text, ended_line, ended_rows, form_at, is_a, is_damaged, is_odd, is_of_block, last_line, moment_at, moment_in, not_allowed_line, placed, placed_from, refused_text, row_of, rows_of, unit_by, up_to, why_in}
+use Rattle.a429_view.specs.Blocks.{IsBlocks, Placed, PutsOnTo, answer_in, asked_by, attempt_by, attempts, before_request, begun_text, blocks_text, columns_text, ended_line, ended_rows, form_at, is_a, is_damaged, is_odd, is_of_block, last_line, moment_at, moment_in, not_allowed_line, placed, placed_from, refused_text, row_of, rows_of, unit_by, up_to, why_in}
 use Rattle.a429_view.proofs.TraceFacts.{free_none}
-use Rattle.a429_view.specs.BlockSteps.{StepsOn, begun, counted, ended_before, grown, line_before, noted, passed, place_next, row_after, row_with}
+use Rattle.a429_view.specs.BlockSteps.{StepsOn, begun, counted, grown, line_before, noted, passed, place_next, row_after, row_with}
 
 -- ---- places
 

@@ -7,3 +7,4 @@ pub mod TraceFacts
 pub mod DigitCounts
 pub mod LineFacts
 pub mod BlocksFacts
+pub mod HistoryFacts

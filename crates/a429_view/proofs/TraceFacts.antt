@@ -1,8 +1,7 @@
 -- Lines of a trace, and what a word is.
-use Rattle.std.proofs.Common.{◌≡◌, ◌≢◌, ℕ, ◌+◌, ◌-◌, ◌^◌, ◌%◌, min, Bool, true, false, cond, not, ◌||◌, ◌==◌, List, [], ◌∷◌, ◌++◌, get_or, append_assoc, append-nil, Option, Some, None, codes, refl, sym, ap, ◌∙◌, subst, inl, inr}
+use Rattle.std.proofs.Common.{◌≡◌, ◌≢◌, ℕ, ◌+◌, ◌-◌, ◌^◌, min, Bool, true, false, cond, not, List, [], ◌∷◌, ◌++◌, get_or, append_assoc, append-nil, Option, Some, None, codes, refl, sym, ap, ◌∙◌, subst, inl, inr}
 use Rattle.std.proofs.lemmas.Bool.{cases_Bool}
 use Rattle.std.specs.Fmt.{decimal}
-use Rattle.a429_word.specs.Word.{label_of, count_of_ones}
 use Rattle.a429_word.specs.Bus.{bus_text}
 use Rattle.a429_word.specs.Digits.{hex_text, numeral}
 use Rattle.a429_word.specs.declared.bus.Bus.{Bus}
@@ -14,7 +13,7 @@ use Rattle.a429_ldu.specs.declared.freedom.Freedom.{Freedom}
 use Rattle.a429_ldu.specs.declared.sight.Sight.{Sight}
 use Rattle.a429_ldu.specs.declared.sight.Sight.TheVariants as sight
 use Rattle.a429_ldu.specs.Across.{form_across}
-use Rattle.a429_ldu.specs.Form.{IsFree, address_of, form_of, is_free}
+use Rattle.a429_ldu.specs.Form.{IsFree, form_of, is_free}
 use Rattle.a429_ldu.specs.Freedom.{freedom_of}
 use Rattle.a429_ldu.specs.Sight.{form_in, sight_in, sight_of}
 use Rattle.a429_ldu.proofs.FormFree.{is_free-decides}

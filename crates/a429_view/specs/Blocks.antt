@@ -1,5 +1,5 @@
 -- The attempts of a recording, a row for each (profile).
-use Rattle.std.specs.Prelude.{◌≡◌, ℕ, suc, ◌%◌, ◌==◌, not, ◌&&◌, if◌then◌else◌, List, [], ◌∷◌, ◌++◌, length, map, flat_map, codes, Bool, true, false, Option, Some, None, option_map, unwrap_or}
+use Rattle.std.specs.Prelude.{◌≡◌, ℕ, suc, ◌%◌, ◌==◌, not, ◌&&◌, if◌then◌else◌, List, [], ◌∷◌, ◌++◌, length, map, flat_map, codes, Bool, true, false, Option, Some, None, unwrap_or}
 use Rattle.std.specs.List.{count_by, filter_map, last_or}
 use Rattle.a429_word.specs.Word.{count_of_ones}
 use Rattle.a429_word.specs.declared.bus.Bus.{Bus}

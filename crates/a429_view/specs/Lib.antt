@@ -12,3 +12,4 @@ pub mod Trace
 pub mod Blocks
 pub mod BlockSteps
 pub mod Sink
+pub mod History

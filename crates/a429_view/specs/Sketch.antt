@@ -1,13 +1,12 @@
 -- What a sketch of a picture holds (profile).
-use Rattle.std.specs.Prelude.{◌≡◌, ◌+◌, ◌≤◌, ◌<◌, ◌++◌, ℕ, List, [], if◌then◌else◌, Option}
-use Rattle.a429_profile.specs.declared.codes.Codes.{Codes}
+use Rattle.std.specs.Prelude.{◌≡◌, ◌+◌, ◌≤◌, ◌<◌, ◌++◌, ℕ, [], if◌then◌else◌, Option}
 use Rattle.a429_profile.specs.Profile.{Contents}
 use Rattle.a429_cert.specs.Report.{Report}
 use Rattle.a429_view.specs.declared.mark.Span.{Span}
 use Rattle.a429_view.specs.declared.mark.Mark.{Mark}
 use Rattle.a429_view.specs.declared.sketch.Place.{Place}
 use Rattle.a429_view.specs.declared.sketch.Sketch.{Sketch}
-use Rattle.a429_view.specs.Mark.{before_all, past, mark_of, is_within, listed, marks, step_within, steps_within}
+use Rattle.a429_view.specs.Mark.{before_all, past, mark_of, is_within, listed, step_within}
 
 -- the most steps that a picture shows
 abbrev pub most_steps : ℕ

@@ -4,6 +4,7 @@
 
 mod blocks;
 mod forms;
+mod history;
 pub mod laws;
 mod line;
 mod mark;
@@ -16,6 +17,7 @@ mod units;
 
 pub use crate::blocks::Blocks;
 pub use crate::forms::put_what;
+pub use crate::history::put_history;
 pub use crate::mark::{Mark, Recorded, Span};
 pub use crate::picture::put_picture;
 pub use crate::sink::put_sink;

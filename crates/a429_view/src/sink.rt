@@ -31,7 +31,7 @@ fn put_yes<W: Write>(sheet: &mut Sheet<'_, W>, files: &[Crossing])
     put_files(sheet, files);
 }
 
-fn put_files<W: Write>(sheet: &mut Sheet<'_, W>, files: &[Crossing])
+pub(crate) fn put_files<W: Write>(sheet: &mut Sheet<'_, W>, files: &[Crossing])
     ensures { Says W.contents sheet.old sheet.new (flat_map crossed_line files.now) }
 {
     for file in files {

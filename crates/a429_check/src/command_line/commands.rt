@@ -12,6 +12,14 @@ pub struct Claim<'a> {
     pub certificate: &'a str,
 }
 
+/// The words of a command that puts a recording into a folder: the paths of a profile, of the recording, and of the folder.
+#[derive(Clone, Copy)]
+pub struct IntoFolder<'a> {
+    pub profile: &'a str,
+    pub recording: &'a str,
+    pub folder: &'a str,
+}
+
 /// A command of the program, with its words.
 #[derive(Drop)]
 pub enum Command<'a> {
@@ -51,6 +59,9 @@ pub enum Command<'a> {
         profile: &'a str,
         recording: &'a str,
     },
+    /// `history PROFILE REC DIR`: puts a recording that need not be of one run in pieces, into the folder DIR, with the files that are
+    /// sure of each.
+    History(IntoFolder<'a>),
     /// `keep PROFILE REC`: writes a recording without the entries that its transfer does not need.
     Keep {
         profile: &'a str,

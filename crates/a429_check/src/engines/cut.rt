@@ -100,8 +100,8 @@ fn write_parts<R: Read, P: Parts, W: Write>(
     }
 }
 
-// Why the list was not put.
-fn fault_by(trouble: Trouble) -> RunFault
+/// Why the list was not put.
+pub(crate) fn fault_by(trouble: Trouble) -> RunFault
     ensures { result ≡ troubled trouble }
 {
     match trouble {

@@ -5,7 +5,7 @@ use std::fs;
 use std::io::ErrorKind;
 use std::rt::Files;
 
-// Refuses a folder that has a file with a number of six digits or more and this ending. What is not there, or is no folder, has none.
+// Refuses a folder that has a file with a number of six digits or more, or several of them with `-` between, and this ending. What is not there, or is no folder, has none.
 pub(crate) fn refuse_numbered<F: Files + AllocGlobal + Clone + Drop>(
     rt: &F,
     dir: &str,
@@ -42,10 +42,11 @@ fn refused_by(kind: ErrorKind) -> Result<(), RunFault> {
     }
 }
 
-// Whether the name is a number of six digits or more, and this ending.
+// Whether the name is a number of six digits or more, or several of them with `-` between, and this ending.
 fn is_numbered(name: &str, ending: &str) -> bool {
     match name.strip_suffix(ending) {
-        Some(number) => number.len() >= 6 && number.bytes().all(|b| b.is_ascii_digit()),
+        Some(number) => number.len() >= 6
+            && number.bytes().all(|b| b.is_ascii_digit() || b == b'-'),
         None => false,
     }
 }

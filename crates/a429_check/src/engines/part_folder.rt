@@ -10,8 +10,8 @@ use a429_word::{Failing, Trouble};
 use std::alloc::Global;
 use std::rt::Files;
 
-// The name of the list.
-const LIST: &str = "parts.txt";
+/// The name of the list.
+pub(crate) const LIST: &str = "parts.txt";
 
 /// Where the program puts the parts of a recording: a folder, in which each part is written at once, as a text recording
 /// under its number in six digits, and the list of them as `parts.txt`. A name that is there is that of a whole file, and the list

@@ -27,7 +27,7 @@ returns-in-Ok-clause-goes_on c = λ items is.
     let old = c.args.self.now in
     let a = c.in-Ok-Some.accepted in
     let follows = subst (λ (said : Option Accepted). FollowsWord p c.args.seen old.sink c.see.new.self said) c.in-Ok-Some.field-0-is c.in-Ok-Some.ensures.follows in
-    trace_more p items c.args.seen old (record { sink = c.see.new.self; units = c.add.new.self }) (Some a) is c.in-Ok-Some.ensures.allowed c.in-Ok-Some.ensures.taken follows c.in-Ok.ensures
+    trace_more p items c.args.seen old (record { sink = c.see.new.self; units = c.add.new.self }) (Some a) is c.in-Ok-Some.ensures.allowed c.in-Ok-Some.ensures.taken follows c.in-Ok.ensures.added
 
 pub returns-in-Ok-clause-files : goal.returns-in-Ok-clause-files
 returns-in-Ok-clause-files c = λ items is.

@@ -1,4 +1,4 @@
-use Rattle.std.proofs.Common.{◌≡◌, ◌+◌, ◌-◌, ◌^◌, ℕ, min, List, Some, sym, ap, ◌∙◌, subst}
+use Rattle.std.proofs.Common.{◌+◌, ◌-◌, ◌^◌, min, Some, sym, ap, ◌∙◌, subst}
 use Rattle.a429_word.specs.Sheet.{Says}
 use Rattle.a429_word.proofs.SheetFacts.{says_nothing}
 use Rattle.a429_ldu.specs.declared.sight.Sight.TheVariants as sight

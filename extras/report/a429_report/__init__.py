@@ -1,0 +1,1 @@
+"""One page that shows a recording: what the command `report` is made of."""
