@@ -1,5 +1,6 @@
 """The package, made twice of this commit, and what is in it."""
 
+import ctypes
 import hashlib
 import os
 import re
@@ -12,6 +13,7 @@ from pathlib import Path
 
 ROOT = Path(__file__).resolve().parent.parent
 PROGRAM = ROOT / "crates/a429/out/a429"
+LIBRARY = ROOT / "crates/a429_c/out/liba429_c.a"
 COMPLETIONS = ("bash-completion/completions/a429", "zsh/vendor-completions/_a429", "fish/vendor_completions.d/a429.fish")
 # Files of extras, and where their programs look for them.
 PLACES = {
@@ -41,8 +43,8 @@ def why_not():
 
 
 def package(*words):
-    """Runs scripts/package with the program that is built: the gate has just built it."""
-    env = {**os.environ, "PROGRAM": str(PROGRAM)}
+    """Runs scripts/package with the program that is built: the gate has just built it. So it is with liba429, where that is built."""
+    env = {**os.environ, "PROGRAM": str(PROGRAM), "LIBRARY": str(LIBRARY) if LIBRARY.exists() else "none"}
     return subprocess.run([ROOT / "scripts/package", *words], capture_output=True, text=True, env=env)
 
 
@@ -114,6 +116,16 @@ class Package(unittest.TestCase):
         env = {**os.environ, "PYTHONPATH": str(self.room / "root/usr/lib/python3/dist-packages")}
         found = output_of(sys.executable, "-B", "-c", "import a429; print(a429.__file__)", env=env)
         self.assertEqual(found, f"{env['PYTHONPATH']}/a429/__init__.py")
+
+    @unittest.skipUnless(LIBRARY.exists(), "liba429 is not built")
+    def test_liba429_is_where_compilers_look(self):
+        usr = self.room / "root/usr"
+        self.assertEqual((usr / "include/a429.h").read_bytes(), (ROOT / "extras/c/a429.h").read_bytes())
+        libraries = usr / "lib/x86_64-linux-gnu"
+        self.assertEqual(ctypes.CDLL(str(libraries / "liba429.so")).a429_abi(), 1)
+        self.assertTrue((libraries / "liba429.a").is_file())
+        lines = (libraries / "pkgconfig/a429.pc").read_text().splitlines()
+        self.assertEqual(lines[:2], ["prefix=/usr", "libdir=${prefix}/lib/x86_64-linux-gnu"])
 
     def test_report_runs(self):
         shown = output_of(sys.executable, self.room / "root/usr/bin/report", "--help")

@@ -15,8 +15,8 @@ polyline{fill:none;stroke:#717171;stroke-width:1.5}.head{fill:#717171}rect{fill:
 def uses_of(listed: str) -> dict[str, set[str]]:
     """The crates of a list as crates.txt has it, up to those of tests alone, each with those of the list that it uses."""
     lines = [line.split(":") for line in listed.partition("\n# Tests alone")[0].splitlines() if ":" in line and not line.startswith("#")]
-    named = {name for name, _ in lines}
-    return {name: {*used.split()} & named for name, used in lines}
+    uses = {name.split()[0]: {*used.split()} for name, used in lines}
+    return {name: used & {*uses} for name, used in uses.items()}
 
 
 def all_below(uses: dict[str, set[str]], name: str) -> set[str]:
