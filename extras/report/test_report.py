@@ -9,6 +9,7 @@ import json
 import os
 import random
 import re
+import select
 import shutil
 import subprocess
 import sys
@@ -36,6 +37,8 @@ ELEMENTS = set(
 ATTRIBUTES = set(
     "lang charset http-equiv content name class scope role aria-label height width viewbox preserveaspectratio x y x1 x2 y2 dx d".split()
 )
+# How long the browser may take to answer.
+SECONDS = 60
 # What is put where a name or a text from outside may stand.
 HOSTILE = """<img src=x onerror="alert('1')">&lt;"'><script>x</script>"""
 
@@ -353,13 +356,17 @@ class Browser:
         here, to_it = os.pipe()
         self.from_it, there = os.pipe()
         script = f'exec chromium "$@" 3<&{here} 4>&{there}'
-        options = ["--headless", "--no-sandbox", "--disable-gpu", "--remote-debugging-pipe", "--no-first-run", f"--user-data-dir={room}"]
+        options = "--headless --no-sandbox --disable-gpu --disable-dev-shm-usage --no-first-run --remote-debugging-pipe".split()
+        options.append(f"--user-data-dir={room}")
         self.process = subprocess.Popen(
             ["bash", "-c", script, "bash", *options, "about:blank"], pass_fds=(here, there), stdin=subprocess.DEVNULL,
             stdout=subprocess.DEVNULL, stderr=subprocess.DEVNULL,
         )  # fmt: skip
         os.close(here), os.close(there)
         self.to_it, self.rest, self.session = to_it, b"", None
+
+    def start(self):
+        """Takes the first page."""
         page = next(it for it in self.ask("Target.getTargets")["targetInfos"] if it["type"] == "page")
         self.session = self.ask("Target.attachToTarget", targetId=page["targetId"], flatten=True)["sessionId"]
         for it in ("Page", "Network", "Log", "Runtime"):
@@ -374,9 +381,10 @@ class Browser:
 
     def message(self):
         while b"\0" not in self.rest:
-            more = os.read(self.from_it, 1 << 20)
+            is_here = select.select([self.from_it], [], [], SECONDS)[0]
+            more = os.read(self.from_it, 1 << 20) if is_here else b""
             if not more:
-                raise AssertionError("the browser has ended")
+                raise AssertionError("the browser has ended" if is_here else "the browser does not answer")
             self.rest += more
         text, _, self.rest = self.rest.partition(b"\0")
         return json.loads(text)
@@ -414,6 +422,10 @@ class InBrowser(Reports):
         cls.addClassCleanup(room.cleanup)
         cls.browser = Browser(room.name)
         cls.addClassCleanup(cls.browser.close)
+        try:
+            cls.browser.start()
+        except (AssertionError, OSError) as fault:
+            raise unittest.SkipTest(f"chromium does not start: {fault}") from fault
 
     def opened(self, recording, *more):
         page = self.page(recording, *more)
