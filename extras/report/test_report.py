@@ -211,6 +211,10 @@ class Numbers(Reports):
         self.assertEqual(rows[3], ["3", "0.003000", "92004123", "to the sink: damaged word"])
         self.assertEqual(rows[5], ["5", "0.005000", "460000A3", "to the source: NAK 0000"])
 
+    def test_the_chart_says_where_a_file_has_crossed(self):
+        rows = self.page(ROOT / "examples/given-up.csv").rows("chart")
+        self.assertEqual([it[0] for it in rows if it[4] == "file 2 has crossed"], ["9"])
+
     def test_the_reason_stands_in_the_chart(self):
         rows = self.page(ROOT / "examples/impossible.csv").rows("chart")
         self.assertEqual([it[4] for it in rows if "NotGranted" in it[4]], ["NotGranted"])
