@@ -422,9 +422,10 @@ class Browser:
 class InBrowser(Reports):
     @classmethod
     def setUpClass(cls):
-        room = tempfile.TemporaryDirectory(ignore_cleanup_errors=True)
-        cls.addClassCleanup(room.cleanup)
-        cls.browser = Browser(room.name)
+        room = tempfile.mkdtemp()
+        # (what the browser has started may still write there)
+        cls.addClassCleanup(shutil.rmtree, room, ignore_errors=True)
+        cls.browser = Browser(room)
         cls.addClassCleanup(cls.browser.close)
         try:
             cls.browser.start()
