@@ -215,9 +215,24 @@ class Numbers(Reports):
         rows = self.page(ROOT / "examples/given-up.csv").rows("chart")
         self.assertEqual([it[0] for it in rows if it[4] == "file 2 has crossed"], ["9"])
 
-    def test_the_reason_stands_in_the_chart(self):
-        rows = self.page(ROOT / "examples/impossible.csv").rows("chart")
-        self.assertEqual([it[4] for it in rows if "NotGranted" in it[4]], ["NotGranted"])
+    def test_the_reason_is_in_the_chart_and_in_the_picture(self):
+        page = self.page(ROOT / "examples/impossible.csv")
+        self.assertEqual([it[4] for it in page.rows("chart") if "NotGranted" in it[4]], ["NotGranted"])
+        self.assertIn(">entry 1: NotGranted</text>", page.text)
+
+    def test_times_units_and_tries_of_files(self):
+        for example, wanted in (
+            ("damaged-word", ["1", "1", "0.000000", "0.011000", "1", "2"]),
+            ("lost-acknowledgement", ["1", "1", "0.000000", "0.011000", "1", "2"]),
+            ("given-up", ["2", "1", "0.004000", "0.009000", "1", "1"]),
+        ):
+            self.assertEqual([it[:6] for it in self.page(ROOT / f"examples/{example}.csv").rows("files")], [wanted], example)
+
+    def test_without_a_yes_files_are_under_way_and_have_no_sums(self):
+        _, entries = profile_and_entries(1, 400)
+        page = self.page(self.put("twice.csv", recording_of(entries[:200] + entries[:200])))
+        self.assertEqual({len(it) for it in page.rows("files")}, {5})
+        self.assertIn("<b>No file counts as crossed</b>", page.text)
 
 
 class Sent(Reports):
