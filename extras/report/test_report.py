@@ -9,6 +9,7 @@ import json
 import os
 import random
 import re
+import select
 import shutil
 import subprocess
 import sys
@@ -36,6 +37,8 @@ ELEMENTS = set(
 ATTRIBUTES = set(
     "lang charset http-equiv content name class scope role aria-label height width viewbox preserveaspectratio x y x1 x2 y2 dx d".split()
 )
+# How long the browser may take to answer.
+SECONDS = 60
 # What is put where a name or a text from outside may stand.
 HOSTILE = """<img src=x onerror="alert('1')">&lt;"'><script>x</script>"""
 
@@ -208,9 +211,28 @@ class Numbers(Reports):
         self.assertEqual(rows[3], ["3", "0.003000", "92004123", "to the sink: damaged word"])
         self.assertEqual(rows[5], ["5", "0.005000", "460000A3", "to the source: NAK 0000"])
 
-    def test_the_reason_stands_in_the_chart(self):
-        rows = self.page(ROOT / "examples/impossible.csv").rows("chart")
-        self.assertEqual([it[4] for it in rows if "NotGranted" in it[4]], ["NotGranted"])
+    def test_the_chart_says_where_a_file_has_crossed(self):
+        rows = self.page(ROOT / "examples/given-up.csv").rows("chart")
+        self.assertEqual([it[0] for it in rows if it[4] == "file 2 has crossed"], ["9"])
+
+    def test_the_reason_is_in_the_chart_and_in_the_picture(self):
+        page = self.page(ROOT / "examples/impossible.csv")
+        self.assertEqual([it[4] for it in page.rows("chart") if "NotGranted" in it[4]], ["NotGranted"])
+        self.assertIn(">entry 1: NotGranted</text>", page.text)
+
+    def test_times_units_and_tries_of_files(self):
+        for example, wanted in (
+            ("damaged-word", ["1", "1", "0.000000", "0.011000", "1", "2"]),
+            ("lost-acknowledgement", ["1", "1", "0.000000", "0.011000", "1", "2"]),
+            ("given-up", ["2", "1", "0.004000", "0.009000", "1", "1"]),
+        ):
+            self.assertEqual([it[:6] for it in self.page(ROOT / f"examples/{example}.csv").rows("files")], [wanted], example)
+
+    def test_without_a_yes_files_are_under_way_and_have_no_sums(self):
+        _, entries = profile_and_entries(1, 400)
+        page = self.page(self.put("twice.csv", recording_of(entries[:200] + entries[:200])))
+        self.assertEqual({len(it) for it in page.rows("files")}, {5})
+        self.assertIn("<b>No file counts as crossed</b>", page.text)
 
 
 class Sent(Reports):
@@ -353,13 +375,17 @@ class Browser:
         here, to_it = os.pipe()
         self.from_it, there = os.pipe()
         script = f'exec chromium "$@" 3<&{here} 4>&{there}'
-        options = ["--headless", "--no-sandbox", "--disable-gpu", "--remote-debugging-pipe", "--no-first-run", f"--user-data-dir={room}"]
+        options = "--headless --no-sandbox --disable-gpu --disable-dev-shm-usage --no-first-run --remote-debugging-pipe".split()
+        options.append(f"--user-data-dir={room}")
         self.process = subprocess.Popen(
             ["bash", "-c", script, "bash", *options, "about:blank"], pass_fds=(here, there), stdin=subprocess.DEVNULL,
             stdout=subprocess.DEVNULL, stderr=subprocess.DEVNULL,
         )  # fmt: skip
         os.close(here), os.close(there)
         self.to_it, self.rest, self.session = to_it, b"", None
+
+    def start(self):
+        """Takes the first page."""
         page = next(it for it in self.ask("Target.getTargets")["targetInfos"] if it["type"] == "page")
         self.session = self.ask("Target.attachToTarget", targetId=page["targetId"], flatten=True)["sessionId"]
         for it in ("Page", "Network", "Log", "Runtime"):
@@ -374,9 +400,10 @@ class Browser:
 
     def message(self):
         while b"\0" not in self.rest:
-            more = os.read(self.from_it, 1 << 20)
+            is_here = select.select([self.from_it], [], [], SECONDS)[0]
+            more = os.read(self.from_it, 1 << 20) if is_here else b""
             if not more:
-                raise AssertionError("the browser has ended")
+                raise AssertionError("the browser has ended" if is_here else "the browser does not answer")
             self.rest += more
         text, _, self.rest = self.rest.partition(b"\0")
         return json.loads(text)
@@ -410,10 +437,15 @@ class Browser:
 class InBrowser(Reports):
     @classmethod
     def setUpClass(cls):
-        room = tempfile.TemporaryDirectory(ignore_cleanup_errors=True)
-        cls.addClassCleanup(room.cleanup)
-        cls.browser = Browser(room.name)
+        room = tempfile.mkdtemp()
+        # (what the browser has started may still write there)
+        cls.addClassCleanup(shutil.rmtree, room, ignore_errors=True)
+        cls.browser = Browser(room)
         cls.addClassCleanup(cls.browser.close)
+        try:
+            cls.browser.start()
+        except (AssertionError, OSError) as fault:
+            raise unittest.SkipTest(f"chromium does not start: {fault}") from fault
 
     def opened(self, recording, *more):
         page = self.page(recording, *more)

@@ -34,6 +34,7 @@ def note_of(report: Report, words: list[Word], by_last: dict[int, Attempt]) -> s
     attempt = by_last.get(words[-1].entry)
     if attempt and attempt.outcome in ("unanswered", "ungranted", "open", "refused", "again"):
         notes.append(shown(said_of(attempt)))
+    notes += [f"<b>file {it.number} has crossed</b>" for it in report.files if it.last == words[-1].entry]
     return "; ".join(notes)
 
 

@@ -19,13 +19,15 @@ SLICES, BEFORE, AFTER = 360, 13, 8
 
 @dataclass
 class Crossing:
-    """A file of the table: one that crossed, or, where there is no yes, one of which start words were recorded."""
+    """A file of the table: one that crossed, with the last entry of its last unit, or, where there is no yes, one of which start words were
+    recorded."""
 
     number: int
     began: int | None
     ended: int | None
     units: int
     tries: int
+    last: int | None = None
     size: int | None = None
     sha256: str = ""
     name: str = ""
@@ -174,7 +176,7 @@ def crossings(verdict: Verdict, units: list[Unit], contents: list[bytes]) -> lis
         last = [it.ended for it in group if it.ended is not None]
         out.append(
             Crossing(file.number, min(began, default=None), max(last, default=None), len(group), sum(it.requests for it in group),
-                     file.size, hashlib.sha256(content).hexdigest(), name)
+                     group[-1].last, file.size, hashlib.sha256(content).hexdigest(), name)
         )  # fmt: skip
     return out
 

@@ -241,8 +241,8 @@ def check_section(report: Report) -> Iterator[str]:
     yield "<h2>How to check this page</h2>"
     yield (
         f"<p>The verdict is that of the program <code>{shown(report.version)}</code>, which is built only where each of its functions is "
-        "proved to meet its contract. A script draws this page from what the program prints; the script is tested and not proved. To see the "
-        "same from the program:</p>"
+        "proved to meet its contract. A script draws this page from what the program prints; the script is tested and not proved. To see "
+        "the same from the program:</p>"
     )
     yield f"<pre><code>a429 decide PROFILE REC CERT     {shown(report.verdict.line)}\n"
     if report.verdict.word == "YES":

@@ -65,6 +65,7 @@ class Unit(NamedTuple):
     requests: int
     began: int | None
     ended: int | None
+    last: int | None
     is_end: bool
 
 
@@ -150,7 +151,7 @@ class Program:
 
     def units(self) -> list[Unit]:
         return [
-            Unit(int(it["file"]), int(it["requests"]), number_of(it["first_time"]), number_of(it["last_time"]),
+            Unit(int(it["file"]), int(it["requests"]), number_of(it["first_time"]), number_of(it["last_time"]), number_of(it["last_entry"]),
                  it["final"] == it["crossed"] == "yes")
             for it in csv.DictReader(self.run("units", self.certificate))
         ]  # fmt: skip

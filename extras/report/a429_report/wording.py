@@ -17,6 +17,7 @@ OUTCOMES = {
     "ungranted": "no clear answer to the request",
     "open": "still without an answer where the attempts end",
 }
+# Why a block is not good, by its reason in `blocks`.
 WHY = {
     "": "nothing is wrong with the recorded block: a sink may refuse a good one",
     "no-start": "no start word was recorded",
@@ -25,9 +26,10 @@ WHY = {
     "check": "the check word is not the one of the bytes",
     "sequence": "file and unit are not those that may come next",
 }
+# What the reasons of a verdict say, as markup.
 REASONS = {
     "NoForm": "The word has the label of the transfer, and is none of its words: another destination, an unused code, or a word of the "
-    "other direction. Look at the profile first.",
+    "other direction, which <code>a429 side</code> leaves out. Look at the profile first.",
     "NotGranted": "No clear answer allowed this word of a block, or more words came than were asked for.",
     "WrongAnswer": "The sink cannot give this answer here: nobody asked for it, or its numbers are not those of the block.",
     "BadBlock": "The block was recorded whole, and there is no block like it: its data words carry no whole bytes, or its check word is "
@@ -39,6 +41,7 @@ REASONS = {
     "NeverWhole": "No attempt to send this block was recorded whole.",
     "NotReplayed": "Each block is there, but the steps between them do not fit at this entry.",
 }
+# What a word is to the transfer, by its kind in `survey`.
 KINDS = {
     "rts": "request to send", "cts": "clear answer", "sot": "start word", "data": "data word", "eot": "end word",
     "ack": "acknowledgement", "nak": "negative answer", "other": "word of the other direction", "no form": "no word of the transfer",
