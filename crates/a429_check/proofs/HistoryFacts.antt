@@ -15,16 +15,6 @@ use Rattle.a429_check.specs.Fault.{ComesBy}
 use Rattle.a429_check.specs.History.{InPieces, history_status, stop_status, untold_causes}
 use Rattle.a429_check.specs.Streaming.{reported}
 
--- ---- the status
-
--- a piece that stops
-pub stops_here : (told : List PieceSummary) (n : ℕ) (t : PieceSummary) (s : Stopped) → n < length told → t ≡ get_or told n t → t.stop ≡ Some s → history_status (drop n told) ≡ 1
-stops_here told n t s inside is stop = at_drop_more history_status told n t inside ∙ ap (λ (x : PieceSummary). stop_status x.stop (history_status (drop (n + 1) told))) (sym is) ∙ ap (λ (o : Option Stopped). stop_status o (history_status (drop (n + 1) told))) stop
-
--- one that does not
-pub goes_on : (told : List PieceSummary) (n : ℕ) (t : PieceSummary) → n < length told → t ≡ get_or told n t → t.stop ≡ None → history_status (drop n told) ≡ history_status (drop (n + 1) told)
-goes_on told n t inside is stop = at_drop_more history_status told n t inside ∙ ap (λ (x : PieceSummary). stop_status x.stop (history_status (drop (n + 1) told))) (sym is) ∙ ap (λ (o : Option Stopped). stop_status o (history_status (drop (n + 1) told))) stop
-
 -- ---- why nothing is told
 
 module _ (p : Contents) (t : Taken) (first now : Option PutPieces) where
