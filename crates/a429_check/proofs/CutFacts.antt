@@ -14,7 +14,6 @@ use Rattle.a429_parts.specs.Keeping.{BeginsWith, Taken, with_entries}
 use Rattle.a429_parts.specs.Parts.{GainsAll, GainsList, GainsParts, IsSame, PutParts, joined, list_text, numbered, with_list}
 use Rattle.a429_parts.specs.Parting.{CannotGoOn, CutsAll, CutsUntil, outputs}
 use Rattle.a429_check.specs.declared.fault.RunFault.{RunFault}
-use Rattle.a429_check.specs.declared.fault.RunFault.TheVariants as run
 use Rattle.a429_check.specs.Ends as Out
 use Rattle.a429_check.specs.Output.{Output}
 use Rattle.a429_check.specs.Profile.{IsProfileFault, IsProfileOf}

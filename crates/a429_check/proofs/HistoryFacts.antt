@@ -1,18 +1,16 @@
 -- What is told of the pieces of a recording, and why nothing is.
-use Rattle.std.proofs.Common.{◌≡◌, ◌⊎◌, ◌<◌, ◌+◌, ℕ, List, length, drop, get_or, Bool, true, Option, Some, None, IfSome, refl, sym, ap, ◌∙◌, inr}
-use Rattle.std.proofs.lemmas.List.{append-nil, at_drop_more}
+use Rattle.std.proofs.Common.{◌≡◌, ◌⊎◌, List, length, Bool, true, Option, Some, None, IfSome, refl, sym, ap, ◌∙◌}
+use Rattle.std.proofs.lemmas.List.{append-nil}
 use Rattle.a429_profile.specs.Profile.{Contents}
 use Rattle.a429_record.specs.declared.fault.ReadFault.{ReadFault}
 use Rattle.a429_record.specs.declared.fault.ReadFault.TheVariants as read
 use Rattle.a429_record.specs.declared.entry.Entry.{Entry}
 use Rattle.a429_record.specs.Recording.{Recording, stops}
 use Rattle.a429_parts.specs.Keeping.{Taken, with_entries}
-use Rattle.a429_sink.specs.declared.summary.PieceSummary.{PieceSummary}
-use Rattle.a429_sink.specs.declared.summary.Stopped.{Stopped}
 use Rattle.a429_sink.specs.Pieces.{PutPieces}
 use Rattle.a429_sink.specs.Splitting.{SplitsUntil}
 use Rattle.a429_check.specs.Fault.{ComesBy}
-use Rattle.a429_check.specs.History.{InPieces, history_status, stop_status, untold_causes}
+use Rattle.a429_check.specs.History.{InPieces, untold_causes}
 use Rattle.a429_check.specs.Streaming.{reported}
 
 -- ---- why nothing is told

@@ -1,5 +1,5 @@
 -- What a sketch that listened to a certificate holds, and why there is no picture.
-use Rattle.std.proofs.Common.{◌≡◌, ◌≤◌, ◌<◌, inl, inr, ℕ, List, Bool, true, false, nat_lt, Option, Some, None, Result, Ok, Err, Vec, Global, refl, sym, ap, subst}
+use Rattle.std.proofs.Common.{◌≡◌, ◌≤◌, ◌<◌, inl, inr, ℕ, List, Bool, true, false, nat_lt, Option, Some, None, Result, Ok, Err, Vec, Global, refl, ap}
 use Rattle.std.specs.Prelude.{IsOkAnd, IsTrue, ◌↔◌, ⊤}
 use Rattle.std.specs.Result.{ForOk}
 use Rattle.std.specs.Str.{IsUtf8}

@@ -1,5 +1,5 @@
 -- What is answered of the parts of a recording, part after part.
-use Rattle.std.proofs.Common.{◌≡◌, ◌≢◌, ◌∙◌, ◌<◌, ◌+◌, ◌++◌, ◌∷◌, ℕ, zero, suc, List, [], length, take, map, get_or, slice_get, Bool, true, false, Option, Some, None, refl, sym, ap, subst, arith, inl, inr, ◌⊎◌}
+use Rattle.std.proofs.Common.{◌≡◌, ◌≢◌, ◌∙◌, ◌<◌, ◌+◌, ◌++◌, ◌∷◌, ℕ, zero, suc, List, [], length, take, get_or, slice_get, Bool, true, false, Option, Some, None, refl, sym, ap, subst, arith, inl, inr}
 use Rattle.std.specs.Prelude.{IfSome, IfOk, IfErr, OnOk, Result, Ok, Err}
 use Rattle.a429_check.specs.declared.engines.series.SeriesAnswer.{SeriesAnswer}
 use Rattle.a429_check.specs.declared.engines.series.SeriesAnswer.TheVariants as answer
@@ -12,7 +12,6 @@ use Rattle.a429_cert.specs.declared.stream_fault.StreamFault.{StreamFault}
 use Rattle.a429_cert.specs.declared.stream_fault.StreamFault.TheVariants as stream
 use Rattle.a429_cert.specs.Series.{AreAdded, IsOneRun, IsPartFault, Joins, Part, RefusesPart, SeriesValue, joined, no_parts}
 use Rattle.a429_check.specs.declared.fault.RunFault.{RunFault}
-use Rattle.a429_check.specs.declared.fault.RunFault.TheVariants as run
 use Rattle.a429_check.specs.Profile.{IsProfileOf}
 use Rattle.a429_check.specs.PartList.{ListsParts}
 use Rattle.a429_check.specs.Verdict.{of_stream}

@@ -1,6 +1,5 @@
 -- What `side` writes, by what was read, and its faults.
 use Rattle.std.proofs.Common.{◌≡◌, ℕ, List, Bool, true, Option, Some, None, Result, Ok, Err, IfOk, IfErr, inl, inr, refl, ap, ◌∙◌}
-use Rattle.std.specs.Prelude.{IfSome}
 use Rattle.a429_word.specs.declared.sheet.Sheet.{Sheet}
 use Rattle.a429_profile.specs.Profile.{Contents}
 use Rattle.a429_record.specs.declared.entry.Entry.{Entry}
@@ -10,7 +9,7 @@ use Rattle.a429_record.specs.Recording.{Recording}
 use Rattle.a429_parts.specs.Keeping.{Taken}
 use Rattle.a429_side.specs.declared.counts.Counts.{Counts}
 use Rattle.a429_side.specs.declared.lot.Side.{Side}
-use Rattle.a429_side.specs.Siding.{Asked, SidesAll, SidesUntil}
+use Rattle.a429_side.specs.Siding.{SidesAll, SidesUntil}
 use Rattle.a429_check.specs.Output.{SaysSome}
 use Rattle.a429_check.specs.Side.{SidesRowsBefore, SidesRowsUntil, SidesSomeRows}
 use Rattle.a429_check.specs.Streaming.{IsNextFault, reported}

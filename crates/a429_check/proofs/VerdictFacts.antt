@@ -22,7 +22,7 @@ use Rattle.a429_check.specs.declared.engines.verdict.Judged.{Judged}
 use Rattle.a429_check.specs.declared.fault.RunFault.{RunFault}
 use Rattle.a429_check.specs.declared.fault.RunFault.TheVariants as run
 use Rattle.a429_check.specs.Profile.{IsProfileOf, IsProfileFault, profile_causes}
-use Rattle.a429_check.specs.Verdict.{AllWork, AnyFailed, HasAnswer, HasFailed, HearsAnswer, HearsUntil, Input, IsAnswerOf, IsAnswered, IsJudged, IsNoAnswer, IsVerdict, IsVerifyFault, Judges, Rejects, SaysAnswer, count_line, file_line, line_of_file, no, no_text, of_stream, of_verdict, status_of_answer, text_of_answer, verify_causes, yes, yes_text}
+use Rattle.a429_check.specs.Verdict.{AllWork, HasAnswer, HasFailed, HearsAnswer, HearsUntil, Input, IsAnswerOf, IsAnswered, IsJudged, IsNoAnswer, IsVerdict, IsVerifyFault, Judges, Rejects, SaysAnswer, count_line, file_line, line_of_file, no, no_text, of_stream, of_verdict, status_of_answer, text_of_answer, verify_causes, yes, yes_text}
 use Rattle.a429_cert.specs.Change.{change}
 use Rattle.a429_check.proofs.EndsFacts.{Bears}
 use Rattle.a429_check.proofs.FaultFacts.{comes_by}

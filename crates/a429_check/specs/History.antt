@@ -11,7 +11,7 @@ use Rattle.a429_view.specs.History.{caveat, history_text}
 use Rattle.a429_check.specs.declared.fault.RunFault.{RunFault}
 use Rattle.a429_check.specs.Ends.{Promise}
 use Rattle.a429_check.specs.Fault.{Causes, ComesBy, never}
-use Rattle.a429_check.specs.Profile.{IsProfileFault, IsProfileOf, IsSomeProfile, WithContents}
+use Rattle.a429_check.specs.Profile.{IsProfileFault, IsProfileOf, IsSomeProfile}
 
 -- the pieces that were put, where they are known, before and after, and whether what takes them has failed
 pub record InPieces : Type 0 where

@@ -1,5 +1,5 @@
 -- What `a429 side` writes, how it ends (profile).
-use Rattle.std.specs.Prelude.{◌≡◌, ◌⊎◌, ℕ, List, length, Bool, false, Option, Result, Ok, Err, IfSome}
+use Rattle.std.specs.Prelude.{◌≡◌, ◌⊎◌, ℕ, List, length, Bool, false, Result, IfSome}
 use Rattle.a429_word.specs.Tally.{has_failed, Puts}
 use Rattle.a429_profile.specs.Profile.{Contents}
 use Rattle.a429_record.specs.declared.entry.Entry.{Entry}
