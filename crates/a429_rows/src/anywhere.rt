@@ -25,7 +25,7 @@ const TWO_FILES: [&str; 18] = [
 // What is recorded, and what is said of its pieces.
 const ROWS: [(&[&str], &str); 13] = [
     (&[], "0; "),
-    (&[REQUEST, CLEAR], "2; "),
+    (&[REQUEST, CLEAR], "2, begun before; "),
     // a file that is not whole
     (
         &[REQUEST, CLEAR, START, DATA, OPEN_END, ACK],
