@@ -172,13 +172,10 @@ fn pieces_of_recordings(rt: HostRuntime) -> Result<(), Fail> {
 fn first_place_that_differs(alloc: Global, profile: &Profile) -> Result<Option<usize>, Fail> {
     for from in 0..18 {
         let told = told_of(alloc, profile, &TWO_FILES[from..])?;
-        let mut sure = 0;
-        for piece in told.as_slice() {
-            sure += piece.files.len();
-        }
         let wanted = usize::from(from < 2) + usize::from(from < 14);
-        if sure != wanted || told.len() != 1 {
-            return Ok(Some(from));
+        match told.as_slice() {
+            [piece] if piece.files.len() == wanted => {}
+            _ => return Ok(Some(from)),
         }
     }
     Ok(None)
