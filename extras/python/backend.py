@@ -26,7 +26,7 @@ def _line(name: str, content: bytes) -> str:
 def build_wheel(wheel_directory, config_settings=None, metadata_directory=None) -> str:
     """Writes the wheel into a folder. The name of its file."""
     stem = f"{PROJECT['name']}-{PROJECT['version']}"
-    files = {f"a429/{it}": (HERE / "a429" / it).read_bytes() for it in ("__init__.py", "py.typed")}
+    files = {f"a429/{it}": (HERE / "a429" / it).read_bytes() for it in ("__init__.py", "_library.py", "py.typed")}
     files[f"{stem}.dist-info/METADATA"] = _metadata().encode()
     files[f"{stem}.dist-info/WHEEL"] = b"Wheel-Version: 1.0\nGenerator: a429\nRoot-Is-Purelib: true\nTag: py3-none-any\n"
     record = f"{stem}.dist-info/RECORD"

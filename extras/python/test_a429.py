@@ -15,11 +15,14 @@ from unittest import mock
 
 import a429
 from a429 import (
-    Bus, Destination, Error, File, Form, Impossible, Imported, Jump, Kind, Label, Missing, No, Only, Refused, Side, SinkNo, SinkYes,
-    Survey, Timeout, Trace, Traced, Unexplained, Unit, Yes,
+    Attempt, Bus, Destination, Error, File, Form, Impossible, Imported, Jump, Kind, Label, Missing, No, Only, Open, Piece, Refused, Side,
+    SinkNo, SinkYes, Survey, Timeout, Trace, Traced, Unexplained, Unit, Yes,
 )  # fmt: skip
 
-EXAMPLES = Path(__file__).resolve().parents[2] / "examples"
+ROOT = Path(__file__).resolve().parents[2]
+EXAMPLES = ROOT / "examples"
+# What scripts/library builds liba429 of, where no A429_LIBRARY is there.
+ARCHIVE = Path(os.environ.get("LIBRARY", ROOT / "crates/a429_c/out/liba429_c.a"))
 PROFILE = EXAMPLES / "sample.toml"
 VERDICTS = {
     "one-byte": Yes((File(1, 1),)),
@@ -151,6 +154,38 @@ class Program(unittest.TestCase):
 
     def test_survey(self):
         self.assertEqual(a429.survey(PROFILE, EXAMPLES / "forms.csv"), a429._survey(SURVEY))
+
+    def test_blocks(self):
+        found = [*a429.blocks(PROFILE, recording("impossible"))]
+        open_one = Attempt(0, 0, 0, 0, None, None, 3, 0, 0, "open", None)
+        self.assertEqual(found, [open_one, Attempt(1, 1, 1000, 1000, None, None, None, None, None, "not-allowed", None)])
+        first = next(a429.blocks(PROFILE, recording("damaged-word")))
+        self.assertEqual(first, Attempt(0, 5, 0, 5000, 1, 1, 3, 2, 1, "refused", "too-few"))
+
+    def test_history(self):
+        # (the sink is restarted while it owes an answer)
+        lines = recording("one-byte").read_text() + "6000,A,41410323\n7000,B,450101A3\n"
+        found = a429.history(PROFILE, lines.encode(), self.room)
+        self.assertEqual(found, [Piece(1, 8, 0, False, Impossible(7, "WrongAnswer"), (File(1, 1),), ())])
+        self.assertEqual((self.room / found[0].name).read_text(), lines)
+        self.assertEqual([(self.room / it).read_bytes() for it in found[0].names], [b"A"])
+        self.assertEqual(self.error_of(3, a429.history, PROFILE, PROFILE, self.room).output, "")
+
+    def test_bytes_in_place_of_files(self):
+        profile, words, cert = (it.read_bytes() for it in (PROFILE, recording("given-up"), certificate("given-up")))
+        self.assertEqual(a429.decide(profile, words), VERDICTS["given-up"])
+        self.assertEqual(a429.check(profile, words).certificate, cert)
+        self.assertEqual(a429.verify(profile, words, cert), VERDICTS["given-up"])
+        self.assertEqual(len(a429.units(profile, words, cert)), 2)
+        self.assertEqual(a429.trace(profile, words).verdict, Only((File(2, 1),)))
+        self.assertEqual(a429.extract(profile, words, cert, self.room).names, ["000001.bin"])
+
+    def test_make_and_show(self):
+        (self.room / "A").write_bytes(b"A")
+        made = a429.make(PROFILE, self.room / "A", b"BC")
+        self.assertEqual(a429.decide(PROFILE, made), Yes((File(1, 1), File(2, 2))))
+        shown = a429.show(PROFILE, made)
+        self.assertEqual((len(shown), shown[0].split()[:2]), (12, ["0", "A"]))
 
     def test_sink(self):
         self.assertEqual(a429.sink(PROFILE, recording("given-up")), SinkYes((File(2, 1),)))
@@ -288,11 +323,171 @@ class Lines(unittest.TestCase):
         reset = a429._imported("reset 1 line 4 by 4992\nentries 2\nbit 32 made: good 7 bad 1\n")
         self.assertEqual(reset, Imported({"entries": 2, "bit 32 made: good": 7, "bit 32 made: bad": 1}, (Jump(1, 4, 4992),)))
 
+    def test_pieces(self):
+        lines = "part 1 entries 8 from 0\nstopped 7 WrongAnswer\nfile 1 1\npart 2 entries 6 from 8\nbegun before\nfile 1 1\nfile 2 9\n"
+        found = a429._pieces(lines + "open 3 units 1 to 4\na file listed has crossed\n")
+        self.assertEqual(found[0], Piece(1, 8, 0, False, Impossible(7, "WrongAnswer"), (File(1, 1),), ()))
+        self.assertEqual(found[1], Piece(2, 6, 8, True, None, (File(1, 1), File(2, 9)), (Open(3, 1, 4),)))
+        self.assertEqual((found[1].name, found[1].names), ("000002.csv", ["000002-000001.bin", "000002-000002.bin"]))
+
     def test_a_form(self):
         self.assertEqual(a429._form("7 B C24103A3 cts 3\n"), Form(7, "B", 0xC24103A3, "cts 3"))
 
     def test_an_error_shows_status_and_line(self):
         self.assertEqual(str(Error(3, "recording: header")), "a429: recording: header (status 3)")
+
+
+def why_no_library():
+    """Why liba429 is not tried, if so."""
+    if os.environ.get("A429_LIBRARY"):
+        return None
+    missing = [it for it in ("rt", "cc", "ld", "objcopy", "strip") if not shutil.which(it)]
+    return f"no {missing[0]}" if missing else None if ARCHIVE.exists() else "liba429 is not built"
+
+
+def said(name):
+    """What the program prints for a reason of a429.h."""
+    first, *rest = name.lower().split("_")
+    return " ".join(rest) if first == "cert" else "".join(map(str.capitalize, [first, *rest]))
+
+
+class Library(unittest.TestCase):
+    """Which library is taken, and when."""
+
+    def setUp(self):
+        room = tempfile.TemporaryDirectory()
+        self.addCleanup(room.cleanup)
+        self.room = Path(room.name)
+
+    def named(self, **variables):
+        return mock.patch.dict(os.environ, {"A429": "no-such-a429", **{it: str(value) for it, value in variables.items()}})
+
+    def refusal_of(self, path):
+        with self.named(A429_LIBRARY=path), self.assertRaises(Missing) as caught:
+            a429.decide(PROFILE, recording("one-byte"))
+        self.assertEqual(caught.exception.status, 127)
+        self.assertIn("the library that A429_LIBRARY names cannot be used: ", caught.exception.line)
+        return caught.exception.line
+
+    def test_one_that_is_not_there(self):
+        self.assertIn("/no-such-library", self.refusal_of(self.room / "no-such-library"))
+
+    @unittest.skipUnless(shutil.which("cc"), "no cc")
+    def test_another_one(self):
+        for source, why in (("int other;", "is not liba429"), ("unsigned a429_abi(void) { return 2; }", "has version 2 of the interface")):
+            path = self.room / f"{len(source)}.so"
+            subprocess.run(["cc", "-shared", "-x", "c", "-", "-o", path], input=source, text=True, check=True)
+            self.assertIn(why, self.refusal_of(path))
+
+    def test_its_numbers_are_those_of_the_header(self):
+        header = {name: int(it) for name, it in re.findall(r"A429_(\w+) = (\d+)", (ROOT / "extras/c/a429.h").read_text())}
+        statuses = [header.pop(it) for it in ("YES", "IMPOSSIBLE", "UNEXPLAINED", "INPUT", "MEMORY")]
+        self.assertEqual(statuses, [0, 1, 2, 3, 4])
+        self.assertEqual(a429._library.REASONS, {0: "", **{number: said(name) for name, number in header.items()}})
+
+    def test_none_where_a_program_is_named_or_the_variable_is_empty(self):
+        with self.named(), mock.patch.object(a429._library, "_loaded", side_effect=AssertionError):
+            os.environ.pop("A429_LIBRARY", None)
+            self.assertIsNone(a429._library.find())
+            os.environ["A429_LIBRARY"] = ""
+            self.assertIsNone(a429._library.find())
+            del os.environ["A429"]
+            self.assertIsNone(a429._library.find())
+
+    def test_that_of_the_system(self):
+        with self.named(), mock.patch.object(a429._library, "_loaded", side_effect=[OSError, "found"]) as loaded:
+            os.environ.pop("A429_LIBRARY", None)
+            del os.environ["A429"]
+            self.assertEqual([a429._library.find(), a429._library.find()], [None, "found"])
+        self.assertEqual(loaded.call_args.args, ("liba429.so.1",))
+
+
+@unittest.skipIf(why_no_library(), why_no_library())
+@unittest.skipUnless(shutil.which(os.environ.get("A429", "a429")), "no program a429")
+class BothWays(unittest.TestCase):
+    """What the program and the library answer is the same."""
+
+    @classmethod
+    def setUpClass(cls):
+        room = tempfile.TemporaryDirectory()
+        cls.addClassCleanup(room.cleanup)
+        cls.room = Path(room.name)
+        cls.library = os.environ.get("A429_LIBRARY")
+        if not cls.library:
+            env = {**os.environ, "LIBRARY": str(ARCHIVE)}
+            subprocess.run([ROOT / "scripts/library", cls.room], check=True, capture_output=True, env=env)
+            cls.library = str(cls.room / "lib/liba429.so.1")
+
+    def answer(self, call, *given, **how):
+        """What a call returns or raises, as a tuple."""
+        try:
+            found = call(*given, **how)
+        except Error as error:
+            return type(error), error.status, error.line, error.output
+        return found, getattr(found, "certificate", None)
+
+    def by_library(self, call, *given, **how):
+        """What it does where there is no program."""
+        with mock.patch.dict(os.environ, {"A429": "no-such-a429", "A429_LIBRARY": self.library}):
+            return self.answer(call, *given, **how)
+
+    def same(self, call, *given):
+        """What it does, with and without the library, and with bytes in place of files."""
+        with mock.patch.dict(os.environ, {"A429_LIBRARY": ""}):
+            wanted = self.answer(call, *given)
+        contents = [it.read_bytes() if isinstance(it, Path) and it.exists() else it for it in given]
+        with self.subTest(call.__name__, given=given):
+            self.assertEqual(self.by_library(call, *given), wanted)
+            self.assertEqual(self.by_library(call, *contents), wanted)
+        return wanted[0]
+
+    def test_decide_and_show(self):
+        for it in sorted(EXAMPLES.glob("*.csv")):
+            self.same(a429.decide, PROFILE, it)
+            self.same(a429.show, PROFILE, it)
+
+    def test_verify(self):
+        lines = certificate("one-byte").read_text().splitlines(keepends=True)
+        changed = {0: "arinc429-cert 3\n", 2: "first 1\n", 3: "n I Q 0 0\n", 4: "t I Q 0 0\n"}
+        certificates = ["".join([*lines[:at], line, *lines[at + 1 :]]).encode() for at, line in changed.items()]
+        certificates += ["".join([*lines[:3], "a S0 Q 1 0\n", *lines[4:]]).encode(), "".join(lines[:13]).encode(), b""]
+        found = [self.same(a429.verify, PROFILE, recording("one-byte"), it) for it in [*certificates, certificate("one-byte")]]
+        faults = ["version", "line", "word differs", "not allowed", "state differs", "unfinished", "version"]
+        self.assertEqual([it.fault for it in found[:-1]], faults)
+        self.assertEqual(found[-1], VERDICTS["one-byte"])
+
+    def test_make(self):
+        parts = [b"x" * 631, b"y" * 632, b"z" * 633]
+        for files in ([], [b"a"], [b"abc", bytes(range(256)) * 5], parts, [b"a", b"b" * 40_000], [b"c"] * 70):
+            made = self.same(a429.make, PROFILE, *files)
+            found = self.by_library(a429.decide, PROFILE, made)[0]
+            self.assertEqual([it.size for it in found.files], [len(it) for it in files])
+
+    def test_faults(self):
+        bad, missing = recording("one-byte"), self.room / "missing"
+        calls = [(a429.decide, ()), (a429.show, ()), (a429.verify, (certificate("one-byte"),))]
+        for call, more in calls:
+            for profile, words in ((bad, bad), (PROFILE, PROFILE), (missing, bad), (PROFILE, missing), (bad, missing), (b"\xff", b"")):
+                self.assertEqual(self.same(call, profile, words, *more), Error)
+        for profile, *files in ((bad, b"a"), (PROFILE, b""), (PROFILE, b"a", b"b" * 161161), (bad, b""), (bad, missing), (missing, b"")):
+            self.assertEqual(self.same(a429.make, profile, *files), Error)
+
+    def test_a_recording_and_a_certificate_that_both_have_a_fault(self):
+        given = (a429.verify, PROFILE, PROFILE, b"")
+        with mock.patch.dict(os.environ, {"A429_LIBRARY": self.library}):
+            self.assertEqual(self.answer(*given)[0], No("version"))
+        self.assertEqual(self.by_library(*given)[1:3], (3, "recording: header"))
+
+    def test_what_the_program_is_asked_for_all_the_same(self):
+        words, files = recording("one-byte"), (PROFILE, recording("one-byte"))
+        os.mkfifo(self.room / "pipe")
+        self.assertEqual(self.by_library(a429.decide, *files)[0], VERDICTS["one-byte"])
+        self.assertEqual(self.by_library(a429.decide, *files, timeout=600)[0], Missing)
+        self.assertEqual(self.by_library(a429.decide, *files, self.room / "cert")[0], Missing)
+        self.assertEqual(self.by_library(a429.show, PROFILE, self.room / "pipe")[0], Missing)
+        with mock.patch.object(a429, "SMALL", words.stat().st_size - 1):
+            self.assertEqual(self.by_library(a429.show, b"", words)[0], Missing)
+            self.assertEqual(self.by_library(a429.show, b"", words.read_bytes())[0], Missing)
 
 
 class Running(unittest.TestCase):

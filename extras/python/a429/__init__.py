@@ -10,9 +10,11 @@
         case a429.Unexplained(entry, doubt):
             print("no run found, look at entry", entry, doubt)
 
-Each function runs the program once: `a429` on the path, or the one that the environment variable A429 names. A verdict of any kind
-is a value. What is none, as a recording with a fault or a file that cannot be read, is an `Error` with the program's exit status. So is
-a program that is `Missing`, or that has not ended after the `timeout` of the call, in seconds.
+Each function runs the program once: `a429` on the path, or the one that the environment variable A429 names. `decide`, `verify`, `make`
+and `show` call the C library liba429 in its place where that is there, with the same answers. What a function reads may be bytes in place
+of the name of a file. A verdict of any kind is a value. What is none, as a recording with a fault or a file that cannot be read, is an
+`Error` with the program's exit status. So is a program that is `Missing`, or that has not ended after the `timeout` of the call, in
+seconds.
 """
 
 from __future__ import annotations
@@ -20,14 +22,24 @@ from __future__ import annotations
 import csv
 import os
 import re
+import shutil
 import signal
+import stat
 import subprocess
 import tempfile
 import threading
-from dataclasses import dataclass
-from typing import Generator, Iterator, Union
+from contextlib import ExitStack
+from dataclasses import dataclass, field
+from typing import Callable, Generator, Iterator, Union
+
+from . import _library
+from ._library import Answer, Library
 
 PathName = Union[str, "os.PathLike[str]"]
+# What is read: a file, or what it would have.
+Input = Union[PathName, bytes]
+# The library is given no file with more bytes. The text recording of as many entries as `decide` takes has fewer.
+SMALL = 1 << 25
 
 
 # ---- verdicts
@@ -43,9 +55,11 @@ class File:
 
 @dataclass(frozen=True)
 class Yes:
-    """The recording is one that the protocol can produce, and every run that produces it delivers exactly these files."""
+    """The recording is one that the protocol can produce, and every run that produces it delivers exactly these files. `certificate` is
+    that of `decide` or `check`, where it went to no file; it is left out where two verdicts are compared."""
 
     files: tuple[File, ...]
+    certificate: bytes | None = field(default=None, compare=False, repr=False)
 
     @property
     def names(self) -> list[str]:
@@ -128,6 +142,57 @@ class Unit:
 
 
 @dataclass(frozen=True)
+class Attempt:
+    """An attempt to send a block, as a row of `a429 blocks` (docs/BLOCKS.md). With the outcome `not-allowed` it is the word at which the
+    rows end: the counts are None then."""
+
+    first: int
+    last: int
+    first_time: int
+    last_time: int
+    file: int | None
+    ldu: int | None
+    asked: int | None
+    got: int | None
+    damaged: int | None
+    outcome: str
+    why: str | None
+
+
+@dataclass(frozen=True)
+class Open:
+    """Units of a file that are acknowledged, from the first to the last, where the file's beginning or end is not there."""
+
+    file: int
+    first: int
+    last: int
+
+
+@dataclass(frozen=True)
+class Piece:
+    """What `history` says of a piece (docs/HISTORY.md). `place` counts pieces from 1; `first` is the entry at which it begins. `files` have
+    crossed in every run that ends with this piece. `stopped` is the word that no run records after those before it in the piece."""
+
+    place: int
+    entries: int
+    first: int
+    begun_before: bool
+    stopped: Impossible | None
+    files: tuple[File, ...]
+    open: tuple[Open, ...]
+
+    @property
+    def name(self) -> str:
+        """The name of this piece in the folder, as a recording."""
+        return f"{self.place:06}.csv"
+
+    @property
+    def names(self) -> list[str]:
+        """The names of its files in the folder, in their order."""
+        return [f"{self.place:06}-{number:06}.bin" for number in range(1, len(self.files) + 1)]
+
+
+@dataclass(frozen=True)
 class Form:
     """An entry of a recording, and what its word is to the transfer: `rts 4`, `data 8454C`, `free parity` (docs/SHOW.md)."""
 
@@ -183,7 +248,8 @@ class Destination:
 
 @dataclass(frozen=True)
 class Side:
-    """What became of the entries of a recording of two directions (docs/SIDE.md). `renamed` counts clear answers, where an answer was given."""
+    """What became of the entries of a recording of two directions (docs/SIDE.md). `renamed` counts clear answers, where an answer was
+    given."""
 
     entries: int
     kept: int
@@ -288,10 +354,10 @@ class Error(Exception):
 
 
 class Missing(Error):
-    """The program cannot be run. Its status is 127, as a shell has it."""
+    """The program cannot be run, or the library that A429_LIBRARY names cannot be used. The status is 127, as a shell has it."""
 
-    def __init__(self, program: str, fault: OSError) -> None:
-        super().__init__(127, f"{program} cannot be run: {fault.strerror}. Install a429, or name the program by the variable A429")
+    def __init__(self, why: str) -> None:
+        super().__init__(127, why)
 
 
 class Timeout(Error):
@@ -315,27 +381,54 @@ Verdict = Union[Yes, Impossible, Unexplained]
 Seconds = Union[float, None]
 
 
-def decide(profile: PathName, recording: PathName, certificate: PathName | None = None, *, timeout: Seconds = None) -> Verdict:
-    """Finds out whether files crossed. The certificate of a yes goes to the file that `certificate` names, if any."""
-    return _judge("decide", profile, recording, certificate, timeout)
+def decide(profile: Input, recording: Input, certificate: PathName | None = None, *, timeout: Seconds = None) -> Verdict:
+    """Finds out whether files crossed. The certificate of a yes goes to the file that `certificate` names, or is in the `Yes`."""
+    given = _for_library(profile, recording, timeout=timeout) if certificate is None else None
+    if given is None:
+        return _judge("decide", profile, recording, certificate, timeout)
+    library, contents = given
+    return _decided(_checked(library.decide(*contents)))
 
 
-def check(profile: PathName, recording: PathName, certificate: PathName | None = None, *, timeout: Seconds = None) -> Verdict:
+def check(profile: Input, recording: Input, certificate: PathName | None = None, *, timeout: Seconds = None) -> Verdict:
     """As `decide`, by a fixed rule that anyone can compute, without its search."""
     return _judge("check", profile, recording, certificate, timeout)
 
 
-def verify(profile: PathName, recording: PathName, certificate: PathName, *, timeout: Seconds = None) -> Yes | No:
+def verify(profile: Input, recording: Input, certificate: Input, *, timeout: Seconds = None) -> Yes | No:
     """Holds a certificate against a recording."""
-    return _yes_or_no(_run("verify", profile, recording, certificate, timeout=timeout))
+    if (given := _for_library(profile, recording, certificate, timeout=timeout)) is None:
+        return _yes_or_no(_run("verify", profile, recording, certificate, timeout=timeout))
+    library, contents = given
+    answer = library.verify(*contents)
+    if answer.status == _library.INPUT and answer.text.startswith(b"recording: ") and _has_program():
+        # (the program reads recording and certificate side by side, and may come to a fault of the certificate first)
+        return _yes_or_no(_run("verify", profile, recording, certificate, timeout=timeout))
+    return _verified(_checked(answer))
 
 
-def extract(profile: PathName, recording: PathName, certificate: PathName, folder: PathName, *, timeout: Seconds = None) -> Yes | No:
+def make(profile: Input, *files: Input, timeout: Seconds = None) -> bytes:
+    """The recording of a transfer of files in which nothing is lost."""
+    if (given := _for_library(profile, *files, timeout=timeout)) is None:
+        return _run("make", profile, *files, timeout=timeout).encode()
+    library, (text, *contents) = given
+    return _checked(library.make(text, contents)).text
+
+
+def show(profile: Input, recording: Input, *, timeout: Seconds = None) -> list[str]:
+    """A line for each entry, by the label table of the profile (docs/SHOW.md)."""
+    if (given := _for_library(profile, recording, timeout=timeout)) is None:
+        return _run("show", profile, recording, timeout=timeout).split("\n")[:-1]
+    library, contents = given
+    return _text(_checked(library.show(*contents))).split("\n")[:-1]
+
+
+def extract(profile: Input, recording: Input, certificate: Input, folder: PathName, *, timeout: Seconds = None) -> Yes | No:
     """As `verify`, and writes the files that crossed into the folder, under the `names` of the yes. After a `No` ignore what is there."""
     return _yes_or_no(_run("extract", profile, recording, certificate, folder, timeout=timeout))
 
 
-def units(profile: PathName, recording: PathName, certificate: PathName, *, timeout: Seconds = None) -> list[Unit]:
+def units(profile: Input, recording: Input, certificate: Input, *, timeout: Seconds = None) -> list[Unit]:
     """The link data units that a certificate loads, in their order. `Refused` where it does not explain the recording."""
     text = _run("units", profile, recording, certificate, timeout=timeout)
     last = text.splitlines()[-1]
@@ -344,28 +437,39 @@ def units(profile: PathName, recording: PathName, certificate: PathName, *, time
     return [_unit(row) for row in csv.DictReader(text.splitlines())]
 
 
-def trace(profile: PathName, recording: PathName, *, timeout: Seconds = None) -> Trace:
+def trace(profile: Input, recording: Input, *, timeout: Seconds = None) -> Trace:
     """What the sink of every run does, entry by entry, up to the first word that no run records. The timeout is for all of it."""
     return Trace(_lines("trace", profile, recording, timeout=timeout))
 
 
-def forms(profile: PathName, recording: PathName, *, timeout: Seconds = None) -> Iterator[Form]:
+def blocks(profile: Input, recording: Input, *, timeout: Seconds = None) -> Iterator[Attempt]:
+    """The attempts to send a block in a recording of any length, as the program writes them. The timeout is for all of it."""
+    return map(_attempt, csv.DictReader(_lines("blocks", profile, recording, timeout=timeout)))
+
+
+def forms(profile: Input, recording: Input, *, timeout: Seconds = None) -> Iterator[Form]:
     """What each word is to the file transfer, entry by entry, as the program writes them. The timeout is for all of it."""
     return map(_form, _lines("forms", profile, recording, timeout=timeout))
 
 
-def survey(profile: PathName, recording: PathName, *, timeout: Seconds = None) -> Survey:
+def survey(profile: Input, recording: Input, *, timeout: Seconds = None) -> Survey:
     """What a recording of any length has."""
     return _survey(_run("survey", profile, recording, timeout=timeout))
 
 
-def sink(profile: PathName, recording: PathName, *, timeout: Seconds = None) -> SinkYes | SinkNo:
+def sink(profile: Input, recording: Input, *, timeout: Seconds = None) -> SinkYes | SinkNo:
     """Judges the sink of a recording of any length by itself, whatever its source and the line did."""
     return _sink(_run("sink", profile, recording, timeout=timeout))
 
 
+def history(profile: Input, recording: Input, folder: PathName, *, timeout: Seconds = None) -> list[Piece]:
+    """Puts a recording of any length that need not be of one run in pieces, and says of each which files have crossed all the same. The
+    folder gets the pieces and the files, under their names."""
+    return _pieces(_run("history", profile, recording, folder, timeout=timeout))
+
+
 def side(
-    profile: PathName, recording: PathName, line: str, out: PathName, answer: int | None = None, *, timeout: Seconds = None
+    profile: Input, recording: Input, line: str, out: PathName, answer: int | None = None, *, timeout: Seconds = None
 ) -> Side:
     """Writes the words of the direction whose files travel on the line, `A` or `B`, into `out`. `answer` is the destination code that the
     sink writes into its clear answers, where it is another one than the profile's."""
@@ -373,7 +477,7 @@ def side(
     return _side(_run("side", profile, recording, line, out, *code, timeout=timeout))
 
 
-def import_(map: PathName, export: PathName, out: PathName, *, timeout: Seconds = None) -> Imported:
+def import_(map: Input, export: Input, out: PathName, *, timeout: Seconds = None) -> Imported:
     """Makes a recording of what another program exported, and writes it into `out`. The map says what the columns mean."""
     return _imported(_run("import", map, export, out, timeout=timeout))
 
@@ -384,10 +488,78 @@ def version(*, timeout: Seconds = None) -> Version:
     return Version(name.split()[1], tuple(int(it) for it in certificates.split()[1:]))
 
 
+# ---- the library
+
+
+def _for_library(*inputs: Input, timeout: Seconds) -> tuple[Library, list[bytes]] | None:
+    """The library, and what it is given. None where the program is to be run: where there is no library, where an input is no small
+    file, and where the call has a timeout, since only a program can be stopped."""
+    try:
+        library = _library.find() if timeout is None else None
+    except OSError as fault:
+        raise Missing(f"the library that A429_LIBRARY names cannot be used: {fault}") from fault
+    if library is None or not all(map(_is_small, inputs)):
+        return None
+    return library, [_content(it) for it in inputs]
+
+
+def _is_small(given: Input) -> bool:
+    if isinstance(given, bytes):
+        return len(given) <= SMALL
+    try:
+        about = os.stat(given)
+    except OSError:
+        # (a fault, and no reason to run the program: see _content)
+        return True
+    return stat.S_ISREG(about.st_mode) and about.st_size <= SMALL
+
+
+def _content(given: Input) -> bytes:
+    if isinstance(given, bytes):
+        return given
+    try:
+        with open(given, "rb") as file:
+            return file.read()
+    except OSError as fault:
+        raise Error(4, "device") from fault
+
+
+def _checked(answer: Answer) -> Answer:
+    """An answer that is a verdict, a recording or lines; else the `Error` of the program."""
+    if answer.status == _library.MEMORY:
+        raise Error(answer.status, "memory")
+    if answer.status == _library.INPUT:
+        raise Error(answer.status, _text(answer))
+    return answer
+
+
+def _text(answer: Answer) -> str:
+    return answer.text.decode(errors="backslashreplace")
+
+
+def _decided(answer: Answer) -> Verdict:
+    if answer.status == _library.YES:
+        return Yes(_sizes(answer), answer.text)
+    if answer.status == _library.IMPOSSIBLE:
+        return Impossible(answer.entry, answer.reason)
+    return Unexplained(answer.entry, answer.reason)
+
+
+def _verified(answer: Answer) -> Yes | No:
+    if answer.status == _library.YES:
+        return Yes(_sizes(answer))
+    has_entry = answer.reason in ("word differs", "unfinished")
+    return No(answer.reason, answer.line or None, answer.entry if has_entry else None)
+
+
+def _sizes(answer: Answer) -> tuple[File, ...]:
+    return tuple(File(number, size) for number, size in answer.files)
+
+
 # ---- the program and its lines
 
 
-def _run(*words: PathName, timeout: Seconds) -> str:
+def _run(*words: Input, timeout: Seconds) -> str:
     """What the program writes with status 0, 1 or 2; else an `Error`."""
     text: list[str] = []
     try:
@@ -398,11 +570,11 @@ def _run(*words: PathName, timeout: Seconds) -> str:
     return "".join(text)
 
 
-def _lines(*words: PathName, timeout: Seconds) -> Generator[str, None, None]:
+def _lines(*words: Input, timeout: Seconds) -> Generator[str, None, None]:
     """The lines that the program writes, as they come; an `Error` at their end where the status is none of 0, 1 and 2."""
     # (the line of standard error goes to a file: nobody reads it before the end)
-    with tempfile.TemporaryFile() as said:
-        process = _started(words, said.fileno())
+    with ExitStack() as room, tempfile.TemporaryFile() as said:
+        process = _started([_named(it, room) for it in words], said.fileno())
         is_late = threading.Event()
 
         def stop() -> None:
@@ -429,11 +601,28 @@ def _lines(*words: PathName, timeout: Seconds) -> Generator[str, None, None]:
             raise Error(status, said.read().decode(errors="backslashreplace").strip())
 
 
-def _started(words: tuple[PathName, ...], errors: int) -> subprocess.Popen[str]:
-    names = [os.fspath(it) for it in words]
+def _program() -> str:
+    return os.environ.get("A429", "a429")
+
+
+def _has_program() -> bool:
+    return shutil.which(_program()) is not None
+
+
+def _named(word: Input, room: ExitStack) -> str:
+    """The word of a command. Bytes go to a file that is there as long as the room is."""
+    if isinstance(word, bytes):
+        file = room.enter_context(tempfile.NamedTemporaryFile(prefix="a429."))
+        file.write(word)
+        file.flush()
+        return file.name
+    name = os.fspath(word)
     # (to the program a word that begins with a hyphen is an option)
-    names = [os.path.join(".", it) if it.startswith("-") else it for it in names]
-    program = os.environ.get("A429", "a429")
+    return os.path.join(".", name) if name.startswith("-") else name
+
+
+def _started(names: list[str], errors: int) -> subprocess.Popen[str]:
+    program = _program()
     try:
         return subprocess.Popen(
             [program, *names],
@@ -441,7 +630,8 @@ def _started(words: tuple[PathName, ...], errors: int) -> subprocess.Popen[str]:
             encoding="utf-8", errors="backslashreplace",
         )  # fmt: skip
     except OSError as fault:
-        raise Missing(program, fault) from fault
+        said = f"{program} cannot be run: {fault.strerror}. Install a429, or name the program by the variable A429"
+        raise Missing(said) from fault
 
 
 def _kill(process: subprocess.Popen[str]) -> None:
@@ -450,12 +640,19 @@ def _kill(process: subprocess.Popen[str]) -> None:
         os.killpg(process.pid, signal.SIGKILL)
 
 
-def _judge(command: str, profile: PathName, recording: PathName, certificate: PathName | None, timeout: Seconds) -> Verdict:
-    with tempfile.TemporaryDirectory(prefix="a429.") as room:
-        text = _run(command, profile, recording, os.path.join(room, "cert") if certificate is None else certificate, timeout=timeout)
+def _judge(command: str, profile: Input, recording: Input, certificate: PathName | None, timeout: Seconds) -> Verdict:
+    if certificate is None:
+        with tempfile.TemporaryDirectory(prefix="a429.") as room:
+            name = os.path.join(room, "cert")
+            return _judged(_run(command, profile, recording, name, timeout=timeout), lambda: _content(name))
+    return _judged(_run(command, profile, recording, certificate, timeout=timeout), lambda: None)
+
+
+def _judged(text: str, certificate: Callable[[], bytes | None]) -> Verdict:
+    """The verdict that the program prints, with the certificate of a yes."""
     verdict, *rest = text.split(maxsplit=1)
     if verdict == "YES":
-        return _yes(text)
+        return Yes(_yes(text).files, certificate())
     entry, why = rest[0].split()
     return Impossible(int(entry), why) if verdict == "IMPOSSIBLE" else Unexplained(int(entry), why)
 
@@ -486,6 +683,31 @@ def _no(line: str) -> No:
 def _unit(row: dict[str, str]) -> Unit:
     flags = {name: row.pop(name) == "yes" for name in ("final", "crossed")}
     return Unit(**flags, **{name: int(text) if text else None for name, text in row.items()})  # type: ignore[arg-type]
+
+
+def _attempt(row: dict[str, str]) -> Attempt:
+    outcome, why = row.pop("outcome"), row.pop("why")
+    counts = (int(text) if text else None for text in row.values())
+    return Attempt(*counts, outcome, why or None)  # type: ignore[arg-type]
+
+
+def _pieces(text: str) -> list[Piece]:
+    """The lines of `history`, without the last, which is the same each time."""
+    pieces: list[list[str]] = []
+    for line in text.splitlines()[:-1]:
+        if line.startswith("part "):
+            pieces.append([])
+        pieces[-1].append(line)
+    return [_piece(it) for it in pieces]
+
+
+def _piece(lines: list[str]) -> Piece:
+    place, entries, first = (int(it) for it in lines[0].split() if it.isdigit())
+    words = [it.split() for it in lines[1:]]
+    stopped = next((Impossible(int(it[1]), it[2]) for it in words if it[0] == "stopped"), None)
+    units = tuple(Open(int(it[1]), int(it[3]), int(it[5])) for it in words if it[0] == "open")
+    files = _files([it for it in lines[1:] if it.startswith("file ")])
+    return Piece(place, entries, first, ["begun", "before"] in words, stopped, files, units)
 
 
 def _form(line: str) -> Form:
