@@ -28,7 +28,7 @@ local units = { A = { "source", "sink" }, B = { "sink", "source" } }
 
 -- The number in the bits of a word from `first` on, `count` of them. The lowest comes first, and bit 1 is the word's lowest.
 local function bits_of(word, first, count)
-    return math.floor(word / 2 ^ (first - 1)) % 2 ^ count
+    return math.floor(word / 2 ^ (first - 1) % 2 ^ count)
 end
 
 -- The label of a word in three octal digits. Bit 1 is its highest bit.
