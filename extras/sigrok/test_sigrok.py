@@ -1,5 +1,6 @@
 """Lines drawn of an example, and the words that the decoder finds on them."""
 
+import os
 import shutil
 import subprocess
 import tempfile
@@ -76,6 +77,41 @@ class Rows(unittest.TestCase):
             status, entries, faults = self.found(vcd_of([*pulses, Pulse(begin, end, "A0")]))
             self.assertEqual([it[1:] for it in entries], [it[1:] for it in ONE_BYTE[1:]])
             self.assertEqual([it.split(",")[1:] for it in faults], [["A", "pulses overlap"]])
+
+    def decoded(self, pulses, *words):
+        """What the decoder gives of bus A on these lines, as bytes."""
+        with tempfile.NamedTemporaryFile("w", suffix=".vcd") as file:
+            file.write(vcd_of(pulses))
+            file.flush()
+            command = ["sigrok-cli", "-i", file.name, "-P", "arinc429:one=A1:zero=A0", *words]
+            env = {**os.environ, "SIGROKDECODE_DIR": str(HERE)}
+            return subprocess.run(command, check=True, stdout=subprocess.PIPE, env=env).stdout
+
+    def test_words_as_bytes(self):
+        wanted = b"".join(word.to_bytes(4, "big") for _, bus, word in ONE_BYTE if bus == "A")
+        self.assertEqual(wanted[:4], bytes((0x41, 0x41, 0x03, 0x23)))
+        pulses = pulses_of(ONE_BYTE, 100_000)
+        self.assertEqual(self.decoded(pulses, "-B", "arinc429=words"), wanted)
+        # What is no word has no bytes: it lacks a pulse, has one too many, or both lines are high.
+        last = pulses[31]
+        for faulty in (
+            pulses[1:],
+            [*pulses, Pulse(last.begin + 10, last.end + 10, "A0")],
+            [*pulses, Pulse(pulses[0].begin, pulses[0].end, "A0")],
+        ):
+            self.assertEqual(self.decoded(faulty, "-B", "arinc429=words"), wanted[4:])
+
+    def test_bits(self):
+        pulses = pulses_of(ONE_BYTE, 100_000)
+        shown = self.decoded(pulses, "-A", "arinc429=bit", "--protocol-decoder-samplenum").decode().splitlines()
+        on_bus = [it for it in pulses if it.line[0] == "A"]
+        self.assertEqual(len(on_bus), 4 * 32)
+        wanted = [f"{it.begin}-{it.end} arinc429-1: bit {place % 32 + 1}: {it.line[1]}" for place, it in enumerate(on_bus)]
+        self.assertEqual(shown, wanted)
+
+    def test_bits_of_what_is_no_word(self):
+        shown = self.decoded(pulses_of(ONE_BYTE[:1], 100_000)[:3], "-A", "arinc429").decode().splitlines()
+        self.assertEqual([it.partition(": ")[2] for it in shown], ["bit 1: 1", "bit 2: 1", "bit 3: 0", "70,A,3 bits"])
 
     def test_a_file_that_is_not_there(self):
         done = subprocess.run([HERE / "rows", HERE / "missing.vcd"], capture_output=True, text=True)

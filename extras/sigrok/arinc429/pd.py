@@ -5,7 +5,8 @@ import sigrokdecode as srd
 NULL = (0, 0)
 ONE = (1, 0)
 ZERO = (0, 1)
-WORD, FAULT = 0, 1
+WORD, FAULT, BIT = 0, 1, 2
+WORDS = 0
 
 
 class Decoder(srd.Decoder):
@@ -26,8 +27,9 @@ class Decoder(srd.Decoder):
         {"id": "rate", "desc": "Bits per second", "default": 100000, "values": (12500, 100000)},
         {"id": "bus", "desc": "Bus that the rows name", "default": "A", "values": ("A", "B")},
     )
-    annotations = (("word", "Row of a recording"), ("fault", "No word"))
-    annotation_rows = (("words", "Words", (WORD,)), ("faults", "Faults", (FAULT,)))
+    annotations = (("word", "Row of a recording"), ("fault", "No word"), ("bit", "Bit of a word"))
+    annotation_rows = (("bits", "Bits", (BIT,)), ("words", "Words", (WORD,)), ("faults", "Faults", (FAULT,)))
+    binary = (("words", "Words, four bytes each, bit 32 first"),)
 
     def __init__(self):
         self.reset()
@@ -38,6 +40,7 @@ class Decoder(srd.Decoder):
 
     def start(self):
         self.annotations_out = self.register(srd.OUTPUT_ANN)
+        self.binary_out = self.register(srd.OUTPUT_BINARY)
 
     def metadata(self, key, value):
         if key == srd.SRD_CONF_SAMPLERATE:
@@ -57,6 +60,8 @@ class Decoder(srd.Decoder):
         word = sum(bit << place for place, bit in enumerate(self.bits))
         kind, text = (FAULT, self.fault) if self.fault else (WORD, f"{word:08X}")
         self.put(self.first, self.last, self.annotations_out, [kind, [f"{time},{self.options['bus']},{text}", text]])
+        if kind == WORD:
+            self.put(self.first, self.last, self.binary_out, [WORDS, word.to_bytes(4, "big")])
         self.begin_word()
 
     def end_pulse(self, level, begin):
@@ -64,7 +69,10 @@ class Decoder(srd.Decoder):
         half_bits = 2 * (self.samplenum - begin) * self.options["rate"] / self.samplerate
         if not 0.5 < half_bits < 1.5:
             self.fault = self.fault or f"pulse of {half_bits:.2g} half bits"
-        self.bits.append(int(level == ONE))
+        bit = int(level == ONE)
+        self.bits.append(bit)
+        number = len(self.bits)
+        self.put(begin, self.samplenum, self.annotations_out, [BIT, [f"bit {number}: {bit}", f"{number}: {bit}", f"{bit}"]])
 
     def decode(self):
         if not self.samplerate:
