@@ -1,7 +1,7 @@
 -- The rows of entries that come one by one.
 use Rattle.std.proofs.Common.{◌≡◌, ℕ, ◌+◌, ◌^◌, ◌<◌, List, [], ◌∷◌, ◌++◌, length, append_assoc, append-nil, Option, IfSome, refl, sym, ap, ◌∙◌, subst}
 use Rattle.a429_word.specs.declared.sheet.Sheet.{Sheet}
-use Rattle.a429_word.specs.Sheet.{Says}
+use Rattle.a429_word.specs.Sheet.{Says, SaysSome}
 use Rattle.a429_word.proofs.SheetFacts.{◌▹◌}
 use Rattle.a429_profile.specs.Profile.{Contents, IsProfile}
 use Rattle.a429_ldu.specs.declared.sight.Sight.{Sight}
@@ -20,7 +20,6 @@ use Rattle.a429_view.specs.Trace.{IsTraceStop}
 use Rattle.a429_view.specs.Blocks.{IsBlocks, PutsOnTo, begun_text, blocks_text, refused_text}
 use Rattle.a429_check.specs.declared.fault.RunFault.{RunFault}
 use Rattle.a429_check.specs.Blocks.{AreRowsBefore, EndsAllRuns, ShowsAttempts, all, begun_on, up_to}
-use Rattle.a429_check.specs.Output.{SaysSome}
 use Rattle.a429_check.specs.Streaming.{AreAllBefore, AreThoseGiven}
 use Rattle.a429_check.specs.Trace.{BeginsWith}
 use Rattle.a429_check.proofs.StreamingFacts.{all_before}

@@ -15,7 +15,8 @@ use Rattle.a429_check.specs.declared.fault.RunFault.TheVariants as run
 use Rattle.a429_check.specs.Ends.{Ends, answered, cut_off, refused, stopped}
 use Rattle.a429_check.specs.Import.{ImportInput, RowsBefore, RowsUntil, SomeRows, of_rows, reported, under_map}
 use Rattle.a429_check.specs.Map.{IsMapOf}
-use Rattle.a429_check.specs.Output.{Output, SaysSome}
+use Rattle.a429_check.specs.Output.{Output}
+use Rattle.a429_word.specs.Sheet.{SaysSome}
 
 -- lines come first of themselves
 nothing_after : (lots : List Lot) (f : Option ExportFault) → record { lots = lots; fault = f } ≡ with_lots lots (record { lots = []; fault = f })

@@ -10,7 +10,7 @@ use Rattle.a429_parts.specs.Keeping.{Taken}
 use Rattle.a429_side.specs.declared.counts.Counts.{Counts}
 use Rattle.a429_side.specs.declared.lot.Side.{Side}
 use Rattle.a429_side.specs.Siding.{SidesAll, SidesUntil}
-use Rattle.a429_check.specs.Output.{SaysSome}
+use Rattle.a429_word.specs.Sheet.{SaysSome}
 use Rattle.a429_check.specs.Side.{SidesRowsBefore, SidesRowsUntil, SidesSomeRows}
 use Rattle.a429_check.specs.Streaming.{IsNextFault, reported}
 use Rattle.a429_check.proofs.KeepFacts.{ComesAfter, begins}

@@ -35,10 +35,9 @@ use Rattle.a429_check.specs.Streaming.{AreAllBefore, AreThoseGiven}
 use Rattle.a429_check.proofs.StreamingFacts.{all_before}
 use Rattle.a429_check.specs.Trace.{AreInEachRun, BeginsWith, IsCut, IsRefusedAfter, Traces, first_lines, impossible, only, only_text}
 use Rattle.a429_check.specs.Check.{verdict_text}
-use Rattle.a429_check.specs.Output.{SaysSome}
 use Rattle.a429_explain.specs.declared.verdict.Verdict.TheVariants as verdict
 use Rattle.a429_word.specs.declared.sheet.Sheet.{Sheet}
-use Rattle.a429_word.specs.Sheet.{Says}
+use Rattle.a429_word.specs.Sheet.{Says, SaysSome}
 use Rattle.a429_word.proofs.SheetFacts.{◌▹◌}
 
 -- ---- one more entry

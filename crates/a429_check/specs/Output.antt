@@ -2,8 +2,6 @@
 use Rattle.std.specs.Prelude.{ℕ, List, Option}
 use Rattle.a429_word.specs.declared.tally.Tally.{Tally}
 use Rattle.a429_word.specs.Tally.{Puts, PutsFront}
-use Rattle.a429_word.specs.declared.sheet.Sheet.{Sheet}
-use Rattle.a429_word.specs.Sheet.{Says}
 
 -- an output before and after a call, and what it holds
 pub record Output (W : Type 0) : Type 0 where
@@ -22,7 +20,3 @@ PutsText contents old new IsSuch = (text : List ℕ) × IsSuch text × Puts cont
 -- a prefix of some text that is such was written, and nothing else
 abbrev pub PutsPrefixOf : {W : Type 0} → (W → Option (List ℕ)) → Tally W → Tally W → (List ℕ → Type 0) → Type 0
 PutsPrefixOf contents old new IsSuch = (text : List ℕ) × IsSuch text × PutsFront contents old new text
-
--- a sheet says some text that is such
-abbrev pub SaysSome : {W : Type 0} → (W → Option (List ℕ)) → Sheet W → Sheet W → (List ℕ → Type 0) → Type 0
-SaysSome contents old new IsSuch = (text : List ℕ) × IsSuch text × Says contents old new text

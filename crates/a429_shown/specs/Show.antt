@@ -3,8 +3,6 @@ use Rattle.std.specs.Prelude.{◌≡◌, ℕ, ◌-◌, List, [], ◌∷◌, ◌+
 use Rattle.std.specs.List.{flat_map}
 use Rattle.std.specs.Int.{bit_at}
 use Rattle.std.specs.Fmt.{decimal}
-use Rattle.a429_word.specs.declared.sheet.Sheet.{Sheet}
-use Rattle.a429_word.specs.Sheet.{Says}
 use Rattle.a429_word.specs.Word.{label_of, sdi_of, ssm_of}
 use Rattle.a429_word.specs.Digits.{hex_text, octal_text}
 use Rattle.a429_word.specs.Bus.{bus_text}
@@ -96,7 +94,3 @@ AreShowLines p (e ∷ es) text = (line : List ℕ) × (rest : List ℕ) × IsSho
 -- the lines of the first so many entries
 abbrev pub AreFirstShowLines : Contents → List Entry → List ℕ → Type 0
 AreFirstShowLines p es text = (count : ℕ) × AreShowLines p (take count es) text
-
--- a sheet says some text that is such
-abbrev pub SaysSome : {W : Type 0} → (W → Option (List ℕ)) → Sheet W → Sheet W → (List ℕ → Type 0) → Type 0
-SaysSome contents old new IsSuch = (text : List ℕ) × IsSuch text × Says contents old new text

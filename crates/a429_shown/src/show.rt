@@ -1,13 +1,13 @@
 //! What each word of a recording shows by a profile, a line for each.
 
 ghost use Rattle.std.specs.Prelude.{◌≡◌, ◌↔◌, ◌≤◌, ◌++◌, ℕ, List, true, false, IsTrue, length, take, drop};
-ghost use Rattle.a429_word.specs.Sheet.{Says, sheet_failed};
+ghost use Rattle.a429_word.specs.Sheet.{Says, sheet_failed, SaysSome};
 ghost use Rattle.a429_word.specs.Word.{HasOddParity};
 ghost use Rattle.std.specs.List.{flat_map, AllByRecursion};
 ghost use Rattle.a429_profile.specs.Shown.{IsShown, HasItsRanges};
 ghost use Rattle.a429_profile.specs.Entry.{IsFlagBit, IsKindInRange};
 ghost use Rattle.a429_profile.specs.Flags.{both_texts};
-ghost use Rattle.a429_shown.specs.Show.{SaysSome, status_text, bad_digit_text, unit_text, test_text, flag_text, IsValueText, field_text, IsShownText, recorded_text, fields_text, IsShowLine, AreShowLines, AreFirstShowLines};
+ghost use Rattle.a429_shown.specs.Show.{status_text, bad_digit_text, unit_text, test_text, flag_text, IsValueText, field_text, IsShownText, recorded_text, fields_text, IsShowLine, AreShowLines, AreFirstShowLines};
 
 use a429_profile::{Flag, Kind, LabelEntry, Profile, Shown, Status};
 use a429_record::{Entry, EntryText, SCREENED, screen_entries};

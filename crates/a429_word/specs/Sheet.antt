@@ -38,6 +38,10 @@ pub record IsPut {W : Type 0} (contents : W → Option (List ℕ)) (old new : Sh
 pub data Says {W : Type 0} (contents : W → Option (List ℕ)) (old new : Sheet W) (text : List ℕ) : Type 0 where
   said : IsPut contents old new text → Says contents old new text
 
+-- a sheet says some text that is such
+abbrev pub SaysSome : {W : Type 0} → (W → Option (List ℕ)) → Sheet W → Sheet W → (List ℕ → Type 0) → Type 0
+SaysSome contents old new IsSuch = (text : List ℕ) × IsSuch text × Says contents old new text
+
 -- a text was written to an output: all of it where the output has not failed, and in any case a prefix of it, at most; nothing where it had
 -- failed before
 pub record Writes {W : Type 0} (contents : W → Option (List ℕ)) (old new : Tally W) (text : List ℕ) : Type 0 where

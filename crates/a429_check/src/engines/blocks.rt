@@ -1,12 +1,12 @@
 //! `a429 blocks PROFILE REC`: the attempts of a recording, a row for each.
 
 ghost use Rattle.std.specs.Prelude.{◌≡◌, [], false, IfErr, IfOk};
-ghost use Rattle.a429_word.specs.Sheet.{sheet_failed};
+ghost use Rattle.a429_word.specs.Sheet.{sheet_failed, SaysSome};
 ghost use Rattle.a429_view.specs.Blocks.{IsBlocks};
 ghost use Rattle.a429_parts.specs.Keeping.{taken};
 ghost use Rattle.a429_check.specs.Blocks.{AreSomeRows, AreRowsBefore, ShowsAttempts, begun_on};
 ghost use Rattle.a429_check.specs.Ends.{Ends, by_answer, of_stream};
-ghost use Rattle.a429_check.specs.Output.{output, SaysSome};
+ghost use Rattle.a429_check.specs.Output.{output};
 ghost use Rattle.a429_check.specs.Streaming.{IsLinesFault};
 
 use crate::engines::relay::{Relay, write_while_reading};

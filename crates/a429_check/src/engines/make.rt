@@ -1,13 +1,13 @@
 //! `a429 make PROFILE FILE..`: the recording of a transfer of files without loss.
 
 ghost use Rattle.std.specs.Prelude.{◌≡◌, ◌≢◌, ◌+◌, ◌*◌, ◌/◌, ℕ, List, map, flat_map, None, Some, IfOk, IfErr, OnOk, ◌≤◌, length};
-ghost use Rattle.a429_word.specs.Sheet.{Says};
+ghost use Rattle.a429_word.specs.Sheet.{Says, SaysSome};
 ghost use Rattle.a429_profile.specs.Profile.{Contents};
 ghost use Rattle.a429_link.specs.Clean.{cut_fault, first_refused};
 ghost use Rattle.a429_record.specs.Recording.{most_entries};
 ghost use Rattle.a429_record.specs.Writing.{line_text};
 ghost use Rattle.a429_check.specs.Ends.{Ends};
-ghost use Rattle.a429_check.specs.Output.{output, SaysSome};
+ghost use Rattle.a429_check.specs.Output.{output};
 ghost use Rattle.a429_check.specs.Make.{of_make, of_recording, timed, words_made, recording_made, AnswersRecording, MakesWords, IsFilesFault};
 
 use crate::engines::profile::profile_of;

@@ -1,11 +1,11 @@
 //! Questions about a profile and the entries of a recording, which are read to their ends before the answer is written.
 
 ghost use Rattle.std.specs.Prelude.{◌≡◌, ℕ, List, false, IfOk, IfErr};
-ghost use Rattle.a429_word.specs.Sheet.{sheet_failed};
+ghost use Rattle.a429_word.specs.Sheet.{sheet_failed, SaysSome};
 ghost use Rattle.a429_profile.specs.Profile.{Contents};
 ghost use Rattle.a429_check.specs.Ends.{AreHeard, Ends, heard, of_entries, unheard_causes};
 ghost use Rattle.a429_check.specs.Fault.{ComesBy};
-ghost use Rattle.a429_check.specs.Output.{output, SaysSome};
+ghost use Rattle.a429_check.specs.Output.{output};
 
 use crate::engines::profile::profile_of;
 use crate::engines::recording::entries_of;

@@ -1,11 +1,11 @@
 //! What is written while a recording is read: the frame of commands that keep none of it.
 
 ghost use Rattle.std.specs.Prelude.{◌≡◌, [], ℕ, List, false, IfOk, IfErr};
-ghost use Rattle.a429_word.specs.Sheet.{sheet_failed};
+ghost use Rattle.a429_word.specs.Sheet.{sheet_failed, SaysSome};
 ghost use Rattle.a429_profile.specs.Profile.{Contents};
 ghost use Rattle.a429_parts.specs.Keeping.{Taken, taken};
 ghost use Rattle.a429_check.specs.Ends.{Ends, by_answer, of_stream, under};
-ghost use Rattle.a429_check.specs.Output.{output, SaysSome};
+ghost use Rattle.a429_check.specs.Output.{output};
 ghost use Rattle.a429_check.specs.Streaming.{IsLinesFault};
 
 use crate::engines::profile::profile_of;

@@ -2,9 +2,9 @@
 
 ghost use Rattle.std.specs.Prelude.{◌≡◌, ◌↔◌, [], ℕ, List, ⊤, true, false, IsErr, IfOk};
 ghost use Rattle.a429_word.specs.Tally.{has_failed};
-ghost use Rattle.a429_word.specs.Sheet.{sheet_failed};
+ghost use Rattle.a429_word.specs.Sheet.{sheet_failed, SaysSome};
 ghost use Rattle.a429_check.specs.Ends.{Ends, of_read, of_text};
-ghost use Rattle.a429_check.specs.Output.{output, PutsPrefixOf, PutsText, SaysSome};
+ghost use Rattle.a429_check.specs.Output.{output, PutsPrefixOf, PutsText};
 
 use crate::fault::RunFault;
 use a429_word::{Device, Page, Sheet, Tally};

@@ -1,11 +1,11 @@
 //! `a429 trace PROFILE REC`: what a recording implies of its sink, word after word.
 
 ghost use Rattle.std.specs.Prelude.{◌≡◌, [], false, IfErr, IfOk, flat_map};
-ghost use Rattle.a429_word.specs.Sheet.{Says, sheet_failed};
+ghost use Rattle.a429_word.specs.Sheet.{Says, sheet_failed, SaysSome};
 ghost use Rattle.a429_view.specs.Trace.{IsTrace};
 ghost use Rattle.a429_parts.specs.Keeping.{taken};
 ghost use Rattle.a429_check.specs.Ends.{Ends, by_answer, of_stream};
-ghost use Rattle.a429_check.specs.Output.{output, SaysSome};
+ghost use Rattle.a429_check.specs.Output.{output};
 ghost use Rattle.a429_check.specs.Streaming.{IsLinesFault};
 ghost use Rattle.a429_check.specs.Trace.{AreSomeLines, IsCut, Traces, only_text, size_line};
 

@@ -1,5 +1,5 @@
 use Rattle.std.proofs.Common.{take}
-use Rattle.a429_shown.specs.Show.{SaysSome}
+use Rattle.a429_word.specs.Sheet.{SaysSome}
 use Rattle.a429_shown.specs.Show.{AreShowLines}
 use Rattle.a429_shown.proofs.show.put_piece.Given as goal
 

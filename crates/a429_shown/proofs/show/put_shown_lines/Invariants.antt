@@ -1,7 +1,7 @@
 use Rattle.std.proofs.Common.{◌≡◌, ◌++◌, List}
 use Rattle.std.specs.Slice.Iter.{chunks_rest, chunks_size}
 use Rattle.a429_record.specs.declared.entry.Entry.{Entry}
-use Rattle.a429_shown.specs.Show.{SaysSome}
+use Rattle.a429_word.specs.Sheet.{SaysSome}
 use Rattle.a429_shown.specs.Show.{AreShowLines}
 use Rattle.a429_shown.proofs.show.put_shown_lines.Given as goal
 
