@@ -25,6 +25,7 @@ pub mod StreamReplay
 pub mod StreamRefused
 pub mod ReplayKept
 pub mod ReportFacts
+pub mod TriesFacts
 pub mod ReportsOfRefused
 pub mod StreamLine
 pub mod PairFacts

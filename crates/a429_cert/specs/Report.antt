@@ -74,6 +74,10 @@ pub record Listening (T : Type 0) : Type 1 where
 abbrev pub listening : {T : Type 0} → Hearing T → T → T → Listening T
 listening hears old new = record { hears = hears; old = old; new = new }
 
+-- a listener was given some reports under a profile, one after the other, whether it has taken each or has failed at it
+abbrev pub TriesSome : {T : Type 0} → Listening T → Contents → Type 0
+TriesSome l p = (reports : List Report) × FoldsTo (l.hears p) l.old reports l.new
+
 -- a listener has heard the steps of the run by which the certificate explains the recorded words, each once and in order
 pub record IsHeard {T : Type 0} (l : Listening T) (p : Contents) (text : List ℕ) (r : Recording) : Type 0 where
   pub first : ℕ

@@ -1,5 +1,5 @@
 -- A certificate held against a recording, both read as a stream (profile).
-use Rattle.std.specs.Prelude.{◌≡◌, ◌≢◌, ◌⊎◌, Bool, true, ◌+◌, ℕ, zero, suc, List, [], ◌∷◌, ◌++◌, length, drop, map, Option, Some, None, slice_get, ⊤, IfSome}
+use Rattle.std.specs.Prelude.{◌≡◌, ◌≢◌, ◌⊎◌, Bool, true, ◌+◌, ℕ, zero, suc, List, [], ◌∷◌, ◌++◌, length, drop, map, Option, Some, None, slice_get, ⊤, IfSome, IsSome, ◌≤◌}
 use Rattle.a429_profile.specs.Profile.{Contents}
 use Rattle.a429_link.specs.declared.seen.Seen.{Seen}
 use Rattle.a429_link.specs.State.{State}
@@ -255,3 +255,22 @@ pub record EndsAtLine {S : Type 0} (listener : Bool) (t : Taking S) (f : StreamF
 -- why a walk does not go on over the line
 abbrev pub StopsAt : {S : Type 0} → (S → Option (List PutFile)) → (S → Bool) → Bool → Taking S → StreamFault → Type 0
 StopsAt shelved failed listener t f = EndsAtLine listener t f ⊎ PutsTooFew shelved failed t f
+
+-- ---- what a call that takes a line answers
+
+-- it goes on over the line, which is one and is reported; all of the replay but its link and its files is as it was
+pub record TakesLine {S T : Type 0} (shelved : S → Option (List PutFile)) (l : Listening T) (t : Taking S) (new : Replay) (used : ℕ) : Type 0 where
+  pub goes_on : GoesOn shelved t new used
+  pub heard : HearsLine l t.replay t.text t.recording.old.to_come
+  pub ended : IsSome t.text
+  pub few : used ≤ 1
+  pub counts : t.recording.new.count ≡ t.recording.old.count + used
+  pub kept : new ≡ record (t.replay) { link = new.link; files = new.files }
+  pub profile : new.link.profile ≡ t.replay.profile.now
+
+-- it stops there: where it says that a device has failed, one of shelf, listener and the recording's reader has
+pub record StopsAtLine {S T : Type 0} (shelved : S → Option (List PutFile)) (failed : S → Bool) (broken : T → Bool) (l : Change T) (t : Taking S) (f : StreamFault) : Type 0 where
+  pub stopped : StopsAt shelved failed (broken l.new) t f
+  pub unreported : IsUnreported l.old l.new f
+  pub device : f ≡ stream.Device → (failed t.shelf.new ≡ true) ⊎ (broken l.new ≡ true)
+  pub read : f ≡ stream.Read read.Device → t.recording.new.failed ≡ true

@@ -1,5 +1,5 @@
 -- The next line of a certificate that is read as a stream, or the next two at once (profile).
-use Rattle.std.specs.Prelude.{◌≡◌, ◌⊎◌, ◌+◌, ◌≤◌, ℕ, List, Bool, true, false, length, Option}
+use Rattle.std.specs.Prelude.{◌≡◌, ◌⊎◌, ◌+◌, ◌<◌, ◌≤◌, ℕ, List, Bool, true, false, length, Option}
 use Rattle.std.specs.Io.KnownBytes.{prepend_known, Keeps}
 use Rattle.a429_record.specs.Entries.{EntriesLeft}
 use Rattle.a429_cert.specs.declared.shelf.PutFile.{PutFile}
@@ -10,7 +10,8 @@ use Rattle.a429_cert.specs.Change.{change}
 use Rattle.a429_cert.specs.CutLines.{GivesLine}
 use Rattle.a429_record.specs.Ends.{HasNoEnd}
 use Rattle.a429_cert.specs.Report.{Hearing, listening}
-use Rattle.a429_cert.specs.Stream.{taking, GoesOn, HearsLine, IsUnreported, StopsAt}
+use Rattle.a429_cert.specs.Stream.{taking, GoesOn, HearsLine, IsUnreported, OneFailed, StopsAt}
+use Rattle.a429_record.specs.declared.fault.ReadFault.TheVariants as read
 
 -- how far a check has come: its replay, what is still to come of the certificate, where that is known, and of the recording, the shelf and the listener
 pub record Progress (S T : Type 0) : Type 0 where
@@ -87,3 +88,23 @@ pub record StopsAtNext {S T : Type 0} (files : S → Option (List PutFile)) (fai
 
 abbrev pub Stops : {S T : Type 0} → (S → Option (List PutFile)) → (S → Bool) → (T → Bool) → Unread → Progress S T → Progress S T → StreamFault → Type 0
 Stops files failed broken reader old new f = StopsInLine reader old new f ⊎ StopsAtNext files failed broken reader old new f
+
+-- ---- what a call that takes the next line answers
+
+-- it goes on so, with fewer bytes that may come, by a line's at least
+pub record GoesFurther {S T : Type 0} (Takes : Progress S T → Progress S T → Type 0) (room left : ℕ) (old new : Progress S T) : Type 0 where
+  pub takes : Takes old new
+  pub shorter : left < room
+  pub lines : new.replay.lines + left ≤ old.replay.lines + room
+
+-- no line is left: so many bytes were read ahead, and the certificate's reader works
+pub record IsAtEnd {S T : Type 0} (ahead : ℕ) (failed : Bool) (old new : Progress S T) : Type 0 where
+  pub none : TakesNone old new
+  pub few : ahead ≤ 2288
+  pub works : failed ≡ false
+
+-- it stops: where it says that a device has failed, one has
+pub record Halts {S T : Type 0} (files : S → Option (List PutFile)) (failed : S → Bool) (broken : T → Bool) (reader : Unread) (old new : Progress S T) (f : StreamFault) : Type 0 where
+  pub stops : Stops files failed broken reader old new f
+  pub device : f ≡ stream.Device → OneFailed reader.failed (failed new.shelf) (broken new.listener)
+  pub read : f ≡ stream.Read read.Device → new.recording.failed ≡ true

@@ -10,7 +10,7 @@ ghost use Rattle.a429_cert.specs.Likely.{pair_text, sent_text};
 ghost use Rattle.a429_cert.specs.Pair.{HearsBoth, HearsMade, IsEntry, replay_taken};
 ghost use Rattle.a429_cert.specs.Stream.{EndsReplay, GivesAtFault, GivesFor, IsFaultNext, IsUnreported, TakesNext, WantsEntry};
 ghost use Rattle.a429_cert.specs.StreamNext.{at_next};
-ghost use Rattle.a429_cert.specs.Report.{listening, IsNextEntry};
+ghost use Rattle.a429_cert.specs.Report.{listening, TriesSome, IsNextEntry};
 ghost use Rattle.a429_cert.specs.Version.{read_as};
 
 use crate::act::Act;
@@ -66,6 +66,7 @@ pub fn carry_and_report<R: Read, T: Listener>(
     ensures unreported { IfErr result (IsUnreported listener.old listener.new) }
     ensures device { IsErrOf result StreamFault.Device → T.failed listener.new ≡ true }
     ensures read { IsErrOf result (StreamFault.Read read.Device) → rec.new.failed ≡ true }
+    ensures tried { TriesSome (listening T.tries listener.old listener.new) replay.old.profile.now }
 {
     let entry = match next_entry(rec) {
         Ok(entry) => entry,
@@ -121,6 +122,7 @@ fn report_both<T: Listener>(
 ) -> Result<(), Trouble>
     ensures heard { OnOk result (HearsMade (listening T.hears listener.old listener.new) profile.now number entry) }
     ensures device { IsErrOf result Trouble.Device → T.failed listener.new ≡ true }
+    ensures tried { TriesSome (listening T.tries listener.old listener.new) profile.now }
 {
     match listener.make(profile, Act::Sent, numbered(number, entry)) {
         Ok(()) => {}

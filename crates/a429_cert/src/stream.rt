@@ -16,9 +16,9 @@ ghost use Rattle.a429_word.specs.Tally.{has_failed};
 ghost use Rattle.a429_cert.specs.Explained.{seen_of};
 ghost use Rattle.a429_cert.specs.StreamExplained.{comparison, SaysYes, HearsRun, HearsBefore, Refuses};
 ghost use Rattle.a429_cert.specs.BreakOff.{BreaksOff, readers, shelved};
-ghost use Rattle.a429_cert.specs.Report.{listening, IsNextEntry, with_number};
+ghost use Rattle.a429_cert.specs.Report.{listening, TriesSome, IsNextEntry, with_number};
 ghost use Rattle.a429_cert.specs.Stream.{taking, IsFaultNext, TakesNext, ReplaysNext, EndsNext, TellsListed, HearsNext, IsNotTaken, IsUnreported, ReplaysLine, EndsReplay, HearsLine, WantsEntry, GivesFor, GivesAtFault};
-ghost use Rattle.a429_cert.specs.Stream.{OneFailed, HandsFilesOut, GoesOn, PutsFiles, PutsFirstFiles, StopsAt, sizes};
+ghost use Rattle.a429_cert.specs.Stream.{OneFailed, HandsFilesOut, PutsFiles, PutsFirstFiles, StopsAtLine, TakesLine, sizes};
 ghost use Rattle.a429_cert.specs.Change.{change};
 
 use crate::at::At;
@@ -90,6 +90,7 @@ pub fn replay_stream<R: Read, C: Read, S: Shelf, T: Listener>(
     ensures works { OnOk result (has_failed cert.new ≡ false) }
     ensures device { IsErrOf result StreamFault.Device → OneFailed (has_failed cert.new) (S.failed shelf.new) (T.failed listener.new) }
     ensures read { IsErrOf result (StreamFault.Read read.Device) → rec.new.failed ≡ true }
+    ensures tried { TriesSome (listening T.tries listener.old listener.new) profile.now }
 {
     // No line is empty of bytes, so that lines and entries are no more than the bytes that may come.
     let _most: u64 = cert.left();
@@ -132,19 +133,11 @@ pub fn replay_and_put<R: Read, S: Shelf, T: Listener>(
     requires sound { IsProfile replay.old.profile.now }
     requires profile { replay.old.link.profile ≡ replay.old.profile.now }
     requires known { IfSome known (SaysAlways (line_bytes line)) }
-    ensures goes_on { IfOk result (GoesOn S.files
+    ensures ok { IfOk result (TakesLine S.files (listening T.hears listener.old listener.new)
         (taking replay.old (line_bytes line.entry) (change rec.old rec.new) (change shelf.old shelf.new)) replay.new) }
-    ensures heard { OnOk result (HearsLine (listening T.hears listener.old listener.new) replay.old (line_bytes line.entry) rec.old.to_come) }
-    ensures ended { OnOk result (IsSome (line_bytes line.entry)) }
-    ensures few { IfOk result (λ used. used ≤ 1) }
-    ensures counts { IfOk result (λ used. rec.new.count ≡ rec.old.count + used) }
-    ensures stopped { IfErr result (StopsAt S.files S.failed (T.failed listener.new)
+    ensures err { IfErr result (StopsAtLine S.files S.failed T.failed (change listener.old listener.new)
         (taking replay.old (line_bytes line.entry) (change rec.old rec.new) (change shelf.old shelf.new))) }
-    ensures unreported { IfErr result (IsUnreported listener.old listener.new) }
-    ensures device { IsErrOf result StreamFault.Device → (S.failed shelf.new ≡ true) ⊎ (T.failed listener.new ≡ true) }
-    ensures read { IsErrOf result (StreamFault.Read read.Device) → rec.new.failed ≡ true }
-    ensures kept { replay.new ≡ record (replay.old) { link = replay.new.link; files = replay.new.files } }
-    ensures profile { replay.new.link.profile ≡ replay.old.profile.now }
+    ensures tried { TriesSome (listening T.tries listener.old listener.new) replay.old.profile.now }
 {
     let used = match replay_and_report(replay, line, known, rec, listener) {
         Ok(used) => used,
@@ -256,6 +249,7 @@ fn step_and_report<R: Read, T: Listener>(
     ensures read { IsErrOf result (StreamFault.Read read.Device) → rec.new.failed ≡ true }
     ensures kept { replay.new ≡ record (replay.old) { link = replay.new.link } }
     ensures profile { replay.new.link.profile ≡ replay.old.link.profile }
+    ensures tried { TriesSome (listening T.tries listener.old listener.new) replay.old.profile.now }
 {
     let next = match entry_for(rec, &listed) {
         Ok(next) => next,
@@ -283,6 +277,7 @@ fn load_and_report<T: Listener>(
     ensures device { IsErrOf result StreamFault.Device → T.failed listener.new ≡ true }
     ensures kept { replay.new ≡ record (replay.old) { link = replay.new.link } }
     ensures profile { replay.new.link.profile ≡ replay.old.link.profile }
+    ensures tried { TriesSome (listening T.tries listener.old listener.new) replay.old.profile.now }
 {
     if !replay.link.may_load() {
         return Err(StreamFault::Cert(CertFault::NotAllowed(replay.lines)));
@@ -314,6 +309,7 @@ fn move_and_report<T: Listener>(
     ensures device { IsErrOf result StreamFault.Device → T.failed listener.new ≡ true }
     ensures kept { replay.new ≡ record (replay.old) { link = replay.new.link } }
     ensures profile { replay.new.link.profile ≡ replay.old.link.profile }
+    ensures tried { TriesSome (listening T.tries listener.old listener.new) replay.old.profile.now }
 {
     let at = At {
         line: replay.lines,
@@ -357,6 +353,7 @@ pub fn replay_and_report<R: Read, T: Listener>(
     ensures read { IsErrOf result (StreamFault.Read read.Device) → rec.new.failed ≡ true }
     ensures kept { replay.new ≡ record (replay.old) { link = replay.new.link } }
     ensures profile { replay.new.link.profile ≡ replay.old.profile.now }
+    ensures tried { TriesSome (listening T.tries listener.old listener.new) replay.old.profile.now }
 {
     let text = replay.read(line);
     match read_step(

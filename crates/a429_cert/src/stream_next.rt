@@ -1,13 +1,12 @@
 //! The next line of a certificate that is read as a stream.
 
-ghost use Rattle.std.specs.Prelude.{◌≡◌, ◌≤◌, ◌<◌, ◌+◌, ◌^◌, [], true, false, length, IfOk, IfErr, IfSome, IsErrOf};
+ghost use Rattle.std.specs.Prelude.{◌≡◌, ◌≤◌, ◌<◌, ◌+◌, ◌^◌, [], true, false, length, IfOk, IfErr, IfSome};
 ghost use Rattle.a429_profile.specs.Profile.{IsProfile};
-ghost use Rattle.a429_record.specs.declared.fault.ReadFault.TheVariants as read;
 ghost use Rattle.a429_word.specs.Tally.{has_failed, unread};
 ghost use Rattle.a429_cert.specs.LikelyLine.{IsLikelyLine};
 ghost use Rattle.a429_cert.specs.LineReader.{bytes_ahead, room_left, to_come};
-ghost use Rattle.a429_cert.specs.Stream.{OneFailed};
-ghost use Rattle.a429_cert.specs.StreamNext.{progress, unread_of, Stops, TakesNone, TakesOne, TakesSome};
+ghost use Rattle.a429_cert.specs.Report.{listening, TriesSome};
+ghost use Rattle.a429_cert.specs.StreamNext.{progress, unread_of, GoesFurther, Halts, IsAtEnd, TakesOne, TakesSome};
 
 use crate::likely::{LikelyLine, WordLines};
 use crate::line_reader::LineReader;
@@ -38,21 +37,16 @@ pub fn take_next<R: Read, C: Read, S: Shelf, T: Listener>(
     requires none_left { replay.old.link.state.sink.received.files ≡ [] }
     requires few { replay.old.used ≤ replay.old.lines }
     requires room { replay.old.lines + room_left lines.old cert.old < 2 ^ 64 }
-    ensures goes_on { IfOk result (λ found. found ≡ true → TakesSome S.files T.hears
+    ensures further { IfOk result (λ found. found ≡ true → GoesFurther (TakesSome S.files T.hears) (room_left lines.old cert.old) (room_left lines.new cert.new)
         (progress replay.old (to_come C.remaining lines.old cert.old) rec.old shelf.old listener.old)
         (progress replay.new (to_come C.remaining lines.new cert.new) rec.new shelf.new listener.new)) }
-    ensures ended { IfOk result (λ found. found ≡ false → TakesNone
+    ensures at_end { IfOk result (λ found. found ≡ false → IsAtEnd (length (bytes_ahead lines.new)) (has_failed cert.new)
         (progress replay.old (to_come C.remaining lines.old cert.old) rec.old shelf.old listener.old)
         (progress replay.new (to_come C.remaining lines.new cert.new) rec.new shelf.new listener.new)) }
-    ensures shorter { IfOk result (λ found. found ≡ true → room_left lines.new cert.new < room_left lines.old cert.old) }
-    ensures room { IfOk result (λ found. found ≡ true → replay.new.lines + room_left lines.new cert.new ≤ replay.old.lines + room_left lines.old cert.old) }
-    ensures stopped { IfErr result (Stops S.files S.failed T.failed (unread_of (unread C.remaining cert.new) (has_failed cert.new))
+    ensures halted { IfErr result (Halts S.files S.failed T.failed (unread_of (unread C.remaining cert.new) (has_failed cert.new))
         (progress replay.old (to_come C.remaining lines.old cert.old) rec.old shelf.old listener.old)
         (progress replay.new (to_come C.remaining lines.new cert.new) rec.new shelf.new listener.new)) }
-    ensures ahead { IfOk result (λ found. found ≡ false → length (bytes_ahead lines.new) ≤ 2288) }
-    ensures works { IfOk result (λ found. found ≡ false → has_failed cert.new ≡ false) }
-    ensures device { IsErrOf result StreamFault.Device → OneFailed (has_failed cert.new) (S.failed shelf.new) (T.failed listener.new) }
-    ensures read { IsErrOf result (StreamFault.Read read.Device) → rec.new.failed ≡ true }
+    ensures tried { TriesSome (listening T.tries listener.old listener.new) replay.old.profile.now }
 {
     let Some(next) = next_pair(&replay.link, words, lines) else {
         return take_one(replay, words, lines, cert, rec, shelf, listener);
@@ -77,21 +71,16 @@ fn take_one<R: Read, C: Read, S: Shelf, T: Listener>(
     requires profile { replay.old.link.profile ≡ replay.old.profile.now }
     requires few { replay.old.used ≤ replay.old.lines }
     requires room { replay.old.lines + room_left lines.old cert.old < 2 ^ 64 }
-    ensures goes_on { IfOk result (λ found. found ≡ true → TakesOne S.files T.hears
+    ensures further { IfOk result (λ found. found ≡ true → GoesFurther (TakesOne S.files T.hears) (room_left lines.old cert.old) (room_left lines.new cert.new)
         (progress replay.old (to_come C.remaining lines.old cert.old) rec.old shelf.old listener.old)
         (progress replay.new (to_come C.remaining lines.new cert.new) rec.new shelf.new listener.new)) }
-    ensures ended { IfOk result (λ found. found ≡ false → TakesNone
+    ensures at_end { IfOk result (λ found. found ≡ false → IsAtEnd (length (bytes_ahead lines.new)) (has_failed cert.new)
         (progress replay.old (to_come C.remaining lines.old cert.old) rec.old shelf.old listener.old)
         (progress replay.new (to_come C.remaining lines.new cert.new) rec.new shelf.new listener.new)) }
-    ensures shorter { IfOk result (λ found. found ≡ true → room_left lines.new cert.new < room_left lines.old cert.old) }
-    ensures room { IfOk result (λ found. found ≡ true → replay.new.lines + room_left lines.new cert.new ≤ replay.old.lines + room_left lines.old cert.old) }
-    ensures stopped { IfErr result (Stops S.files S.failed T.failed (unread_of (unread C.remaining cert.new) (has_failed cert.new))
+    ensures halted { IfErr result (Halts S.files S.failed T.failed (unread_of (unread C.remaining cert.new) (has_failed cert.new))
         (progress replay.old (to_come C.remaining lines.old cert.old) rec.old shelf.old listener.old)
         (progress replay.new (to_come C.remaining lines.new cert.new) rec.new shelf.new listener.new)) }
-    ensures ahead { length (bytes_ahead lines.new) ≤ 2288 }
-    ensures works { IfOk result (λ found. found ≡ false → has_failed cert.new ≡ false) }
-    ensures device { IsErrOf result StreamFault.Device → OneFailed (has_failed cert.new) (S.failed shelf.new) (T.failed listener.new) }
-    ensures read { IsErrOf result (StreamFault.Read read.Device) → rec.new.failed ≡ true }
+    ensures tried { TriesSome (listening T.tries listener.old listener.new) replay.old.profile.now }
 {
     let likely = likely_line(&replay.link, words, lines);
     let Ok(next) = lines.next_near(cert, likely) else {

@@ -192,6 +192,11 @@ module _ (i : Input) (shelf : Shelved) (p : Contents) (failed : Bool) where
       let refused : Refuses (compared p i.certificate i.recording) (change shelf.before shelf.after) f = subst (λ (x : Result (Vec (ℕ × ℕ) Global) StreamFault). IfErr x (Refuses (compared p i.certificate i.recording) (change shelf.before shelf.after))) same no_way in
       subst (IsVerifyFault i shelf Failed) (sym fault) (by_stream i shelf p Failed f is refused (λ is_device. a (same ∙ ap (λ (x : StreamFault). Err x) is_device)) (λ is_read. b (same ∙ ap (λ (x : StreamFault). Err x) is_read)))
 
+-- where a listener has failed, it is that of a device
+pub of_a_device : (failed listener : Bool) (r : Result (Vec (ℕ × ℕ) Global) StreamFault) (e : RunFault) → IsNoAnswer failed r e → (failed ≡ false → listener ≡ false) → listener ≡ true → e ≡ run.Device
+of_a_device failed listener r e (inl h) works is = h.1
+of_a_device failed listener r e (inr h) works is = absurd (cc (is, works h.0))
+
 -- such a fault is none of the profile
 pub none_of_profile : (failed : Bool) (r : Result (Vec (ℕ × ℕ) Global) StreamFault) (e : RunFault) (f : ProfileFault) → IsNoAnswer failed r e → e ≡ run.Profile f → ⊥
 none_of_profile failed r e f (inl h) is = cc (h.1, is)

@@ -6,6 +6,7 @@ use Rattle.std.specs.Str.{IsUtf8}
 use Rattle.a429_word.specs.declared.tally.Tally.{Tally}
 use Rattle.a429_word.specs.Tally.{unread}
 use Rattle.a429_profile.specs.Profile.{Contents}
+use Rattle.a429_profile.specs.declared.fault.ProfileFault.{ProfileFault}
 use Rattle.a429_link.specs.declared.file.FileBytes.{FileBytes}
 use Rattle.a429_record.specs.declared.fault.ReadFault.{ReadFault}
 use Rattle.a429_record.specs.declared.fault.ReadFault.TheVariants as read
@@ -18,13 +19,13 @@ use Rattle.a429_cert.specs.declared.stream_fault.StreamFault.TheVariants as stre
 use Rattle.a429_cert.specs.Shelf.{IsUnchanged}
 use Rattle.a429_cert.specs.BreakOff.{Shelved}
 use Rattle.a429_cert.specs.StreamExplained.{compared, Extracts, Refuses, HearsRun, HearsBefore}
-use Rattle.a429_cert.specs.Report.{Listening}
+use Rattle.a429_cert.specs.Report.{Listening, TriesSome}
 use Rattle.a429_check.specs.declared.fault.RunFault.{RunFault}
 use Rattle.a429_check.specs.declared.fault.RunFault.TheVariants as run
 use Rattle.a429_check.specs.Ends.{Promise}
 use Rattle.a429_check.specs.Fault.{Causes, ComesBy, never}
 use Rattle.a429_check.specs.declared.engines.verdict.Judged.{Judged}
-use Rattle.a429_check.specs.Profile.{IsProfileOf, HasFault}
+use Rattle.a429_check.specs.Profile.{IsProfileOf, IsProfileFault, HasFault}
 use Rattle.a429_cert.specs.Change.{change}
 
 -- ---- the text
@@ -178,6 +179,18 @@ HearsJudged l i j = HearsAnswer l j.profile i j.answer
 abbrev pub HearsUntil : {T : Type 0} → Listening T → Input → RunFault → Type 0
 HearsUntil l i (run.Read f) = (p : Contents) × IsProfileOf i.profile p × HearsBefore l (compared p i.certificate i.recording) (stream.Read f)
 HearsUntil l i e = Unit {0}
+
+-- a listener was given some reports, under the profile whose text the bytes are: the fault is not one of the profile, and where it has failed, it is that of a device
+pub record TriesUnder {T : Type 0} (failed : T → Bool) (l : Listening T) (profile : List ℕ) (e : RunFault) : Type 0 where
+  pub contents : Contents
+  pub is_profile : IsProfileOf profile contents
+  pub tried : TriesSome l contents
+  pub no_profile : (f : ProfileFault) → e ≢ run.Profile f
+  pub device : failed l.new ≡ true → e ≡ run.Device
+
+-- so at a fault, or it is as it was, where the profile could not be read
+abbrev pub TriesUntil : {T : Type 0} → (T → Bool) → Listening T → List ℕ → RunFault → Type 0
+TriesUntil failed l profile e = (IsProfileFault profile e × (l.new ≡ l.old)) ⊎ TriesUnder failed l profile e
 
 -- the text and the status of what was judged
 abbrev pub status_of_answer : {Z : Type 0} → Result (Vec (ℕ × ℕ) Z) CertFault → ℕ

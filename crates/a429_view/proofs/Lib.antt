@@ -1,4 +1,5 @@
 pub mod UnitsFacts
+pub mod UnitsTried
 pub mod SketchFacts
 pub mod PictureFacts
 pub mod CrossingsFacts

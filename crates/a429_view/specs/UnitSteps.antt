@@ -1,7 +1,8 @@
 -- How the row of a link data unit grows by the steps that are reported one after the other.
-use Rattle.std.specs.Prelude.{◌≡◌, ◌+◌, ℕ, List, Bool, true, false, ◌||◌, Option, Some, None, option_map}
+use Rattle.std.specs.Prelude.{◌≡◌, ◌+◌, ◌++◌, ℕ, List, Bool, true, false, ◌||◌, Option, Some, None, option_map}
+use Rattle.std.specs.List.{flat_map}
 use Rattle.std.specs.Io.KnownBytes.{Appends, Keeps}
-use Rattle.a429_word.specs.Tally.{inner_of}
+use Rattle.a429_word.specs.Tally.{inner_of, has_failed, AppendsPrefix}
 use Rattle.a429_word.specs.Page.{paged, PutsOn}
 use Rattle.a429_profile.specs.declared.codes.Codes.{Codes}
 use Rattle.a429_profile.specs.Profile.{Contents}
@@ -69,3 +70,22 @@ PutsAll contents old new text = Appends (paged contents old.out old.page) (conte
 -- none waits to be put: the output has all that was
 abbrev pub NoneWaits : {W : Type 0} → (W → Option (List ℕ)) → UnitRows W → Type 0
 NoneWaits contents rows = Keeps (paged contents rows.out rows.page) (contents (inner_of rows.out))
+
+-- ---- where not all may have been put
+
+-- a text was put after what waited: all of it where the output works; in any case a prefix of what waited and of it has gone out, at most, and nothing
+-- where the output had failed before
+pub record PutsInPart {W : Type 0} (contents : W → Option (List ℕ)) (old new : UnitRows W) (text : List ℕ) : Type 0 where
+  pub all : has_failed new.out ≡ false → PutsOn contents old.out old.page new.out new.page text
+  pub prefix : AppendsPrefix (contents (inner_of old.out)) (contents (inner_of new.out)) (old.page ++ text)
+  pub stays : has_failed old.out ≡ true → new.out ≡ old.out
+
+-- rows that were given a report, whether they have taken it or have failed at it: a load puts the row of the unit before, or fails at that; a step changes
+-- no more than the row of the unit that was loaded last
+abbrev pub TriesRows : {W : Type 0} → (W → Option (List ℕ)) → Contents → UnitRows W → Report → UnitRows W → Type 0
+TriesRows contents p old (Loads number unit) new = PutsInPart contents old new (line_before old.row)
+TriesRows contents p old (Makes act entry) new = new ≡ record old { row = new.row }
+
+-- lines, each of which has the names of the columns or is the row of a unit
+abbrev pub AreRowLines : List ℕ → Type 0
+AreRowLines text = (lines : List (Option UnitRow)) × (text ≡ flat_map line_before lines)

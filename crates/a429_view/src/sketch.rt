@@ -115,10 +115,12 @@ impl Failing for Sketch {
 }
 
 impl Listener for Sketch {
-    ghost use Rattle.std.specs.Prelude.{OnOk};
+    ghost use Rattle.std.specs.Prelude.{OnOk, ⊤};
     ghost use Rattle.a429_view.specs.Sketch.{Hears};
 
     ghost hears = { Hears };
+
+    ghost tries = { λ _ _ _ _. ⊤ };
 
     fn load(&mut self, profile: &Profile, number: UnitNumber, unit: &Ldu) -> Result<(), Trouble> {
         let next = Place {

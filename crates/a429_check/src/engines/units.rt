@@ -1,10 +1,11 @@
 //! `a429 units PROFILE REC CERT`: the link data units that a certificate loads, a row for each.
 
-ghost use Rattle.std.specs.Prelude.{◌≡◌, true, false, IfOk, IfErr, OnOk};
+ghost use Rattle.std.specs.Prelude.{◌≡◌, true, false, IfOk, IfErr, OnOk, OnErr};
 ghost use Rattle.a429_word.specs.Tally.{has_failed};
+ghost use Rattle.a429_check.specs.Ends.{Ends};
 ghost use Rattle.a429_check.specs.Output.{output};
-ghost use Rattle.a429_check.specs.Verdict.{input, no_shelf, AllWork, AnyFailed, IsVerifyFault};
-ghost use Rattle.a429_check.specs.Units.{AreFresh, EndsUnits, LeavesUnits, ReportsUnits};
+ghost use Rattle.a429_check.specs.Verdict.{input, AnyFailed};
+ghost use Rattle.a429_check.specs.Units.{of_units, AreFresh, EndsInPart, EndsUnits, LeavesUnits};
 
 use crate::engines::verdict::{Judged, judge, write_answer};
 use crate::fault::RunFault;
@@ -29,11 +30,9 @@ pub fn run_units<R: Read, C: Read, W: Write>(
     rows: &mut UnitRows<W>,
 ) -> Result<u8, RunFault>
     requires { AreFresh rows.old }
-    ensures verdict { IfOk result (ReportsUnits (output W.contents rows.old.out rows.new.out) (input profile.now C.remaining certificate.old rec.old)) }
-    ensures device { OnOk result (AllWork rec.new.failed (has_failed certificate.new) false (has_failed rows.new.out)) }
-    ensures err { IfErr result (IsVerifyFault (input profile.now C.remaining certificate.old rec.old) no_shelf
-        (AnyFailed rec.new.failed (has_failed certificate.new) false (has_failed rows.new.out))) }
-    ensures cut { IfErr result (LeavesUnits W.contents rows.old rows.new (input profile.now C.remaining certificate.old rec.old)) }
+    ensures ends { Ends (output W.contents rows.old.out rows.new.out) (of_units (input profile.now C.remaining certificate.old rec.old)
+        (AnyFailed rec.new.failed (has_failed certificate.new) false (has_failed rows.new.out))) result }
+    ensures waits { IfErr result (LeavesUnits W.contents rows.old rows.new (input profile.now C.remaining certificate.old rec.old)) }
 {
     let judged = judge(alloc, profile, rec, certificate, &mut NoShelf, rows)?;
     let status = end_rows(rows, &judged);
@@ -46,6 +45,7 @@ fn end_rows<W: Write>(rows: &mut UnitRows<W>, judged: &Judged) -> Result<u8, Run
     ensures ended { IfOk result (EndsUnits W.contents rows.old rows.new judged.now.answer) }
     ensures works { OnOk result (has_failed rows.new.out ≡ false) }
     ensures err { IfErr result (λ e. (e ≡ RunFault.Device) × (has_failed rows.new.out ≡ true)) }
+    ensures part { OnErr result (EndsInPart W.contents rows.old rows.new judged.now.answer) }
 {
     match &judged.answer {
         Ok(_) => {

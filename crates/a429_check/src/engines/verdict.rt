@@ -6,12 +6,11 @@ ghost use Rattle.std.specs.List.{flat_map};
 ghost use Rattle.std.specs.Fmt.{decimal};
 ghost use Rattle.a429_word.specs.Tally.{has_failed};
 ghost use Rattle.a429_word.specs.Sheet.{Says, Writes};
-ghost use Rattle.a429_profile.specs.declared.fault.ProfileFault.{ProfileFault};
 ghost use Rattle.a429_cert.specs.Stream.{sizes};
 ghost use Rattle.a429_cert.specs.BreakOff.{readers, shelved};
 ghost use Rattle.a429_check.specs.Extract.{progress, Leaves};
-ghost use Rattle.a429_check.specs.Verdict.{count_line, file_line, line_of_file, yes_text, fault_text, no_text, text_of_answer, status_of_answer, of_stream, input, AllWork, AnyFailed, HearsJudged, HearsUntil, IsAnswerOf, IsJudged, IsNoAnswer, IsVerifyFault};
-ghost use Rattle.a429_cert.specs.Report.{listening};
+ghost use Rattle.a429_check.specs.Verdict.{count_line, file_line, line_of_file, yes_text, fault_text, no_text, text_of_answer, status_of_answer, of_stream, input, AllWork, AnyFailed, HearsJudged, HearsUntil, IsAnswerOf, IsJudged, IsNoAnswer, IsVerifyFault, TriesUntil};
+ghost use Rattle.a429_cert.specs.Report.{listening, TriesSome};
 
 use crate::engines::profile::profile_of;
 use crate::engines::text::Text;
@@ -54,7 +53,8 @@ pub(crate) fn judge<R: Read, C: Read, S: Shelf, T: Listener>(
     ensures files { IfErr result (Leaves profile.now
         (progress (readers C.remaining cert.old cert.new rec.old rec.new) (shelved S.files S.failed shelf.old shelf.new) (T.failed listener.new))
         (AnyFailed rec.new.failed (has_failed cert.new) (S.failed shelf.new) (T.failed listener.new))) }
-    ensures before { (f : ProfileFault) → result ≡ Err (RunFault.Profile f) → listener.new ≡ listener.old }
+    ensures tried { IfOk result (λ j. TriesSome (listening T.tries listener.old listener.new) j.profile) }
+    ensures untried { IfErr result (TriesUntil T.failed (listening T.tries listener.old listener.new) profile.now) }
 {
     let profile = profile_of(alloc, profile)?;
     let answer = replay_stream(alloc, &profile, rec, cert, shelf, listener);

@@ -4,7 +4,7 @@ ghost use Rattle.std.specs.Prelude.{◌≡◌, ◌↔◌, [], None, true, false,
 ghost use Rattle.a429_word.specs.Tally.{has_failed};
 ghost use Rattle.a429_word.specs.Page.{PutsOn};
 ghost use Rattle.a429_cert.specs.Report.{Makes};
-ghost use Rattle.a429_view.specs.UnitSteps.{line_before, NoneWaits, PutsAll};
+ghost use Rattle.a429_view.specs.UnitSteps.{line_before, NoneWaits, PutsAll, PutsInPart};
 
 use crate::units::row::UnitRow;
 use crate::units::text::put_line_before;
@@ -47,6 +47,7 @@ impl<W: Write> UnitRows<W> {
     pub fn finish(&mut self) -> Result<(), Device>
         ensures ok { OnOk result (PutsAll W.contents self.old self.new (line_before self.old.row)) }
         ensures none_waits { OnOk result (NoneWaits W.contents self.new) }
+        ensures part { PutsInPart W.contents self.old self.new (line_before self.old.row) }
         ensures device { IsErr result ↔ (has_failed self.new.out ≡ true) }
     {
         self.put_last()?;
@@ -59,6 +60,7 @@ impl<W: Write> UnitRows<W> {
         ensures ok { OnOk result (PutsAll W.contents self.old self.new []) }
         ensures none_waits { OnOk result (NoneWaits W.contents self.new) }
         ensures row { self.new.row ≡ self.old.row }
+        ensures part { PutsInPart W.contents self.old self.new [] }
         ensures device { IsErr result ↔ (has_failed self.new.out ≡ true) }
     {
         let mut sheet = Sheet::new(&mut self.out, &mut self.page);
@@ -67,6 +69,7 @@ impl<W: Write> UnitRows<W> {
 
     // Puts the row of the last unit, or the names of the columns where there is none.
     fn put_last(&mut self) -> Result<(), Device>
+        ensures part { PutsInPart W.contents self.old self.new (line_before self.old.row) }
         ensures ok { OnOk result (PutsOn W.contents self.old.out self.old.page self.new.out self.new.page (line_before self.old.row)) }
         ensures row { self.new.row ≡ self.old.row }
         ensures device { IsErr result ↔ (has_failed self.new.out ≡ true) }
@@ -88,9 +91,11 @@ impl<W> Failing for UnitRows<W> {
 }
 
 impl<W: Write> Listener for UnitRows<W> {
-    ghost use Rattle.a429_view.specs.UnitSteps.{HearsRows};
+    ghost use Rattle.a429_view.specs.UnitSteps.{HearsRows, TriesRows};
 
-    ghost hears = { λ p old reports new. HearsRows W.contents p old reports new };
+    ghost hears = { λ p old report new. HearsRows W.contents p old report new };
+
+    ghost tries = { λ p old report new. TriesRows W.contents p old report new };
 
     fn load(&mut self, profile: &Profile, number: UnitNumber, unit: &Ldu) -> Result<(), Trouble> {
         if self.put_last().is_err() {

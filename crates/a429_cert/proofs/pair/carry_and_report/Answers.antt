@@ -12,6 +12,7 @@ use Rattle.a429_cert.proofs.StreamFacts.{most_given, none_given}
 use Rattle.a429_record.specs.declared.fault.ReadFault.TheVariants as read
 use Rattle.a429_cert.proofs.StreamReplay.{read_device, read_no_device}
 use Rattle.a429_cert.proofs.ReplayKept.{read_unreported, trouble_device, trouble_no_read, trouble_refuses, trouble_unreported}
+use Rattle.a429_cert.proofs.TriesFacts.{tries_none}
 use Rattle.a429_cert.proofs.pair.carry_and_report.Goals as goal
 
 pub returns-in-Err-clause-refused : goal.returns-in-Err-clause-refused
@@ -77,3 +78,15 @@ returns-in-Err-report_both-clause-device g c = λ e. c.in-Err-report_both.ensure
 
 pub returns-in-Err-report_both-clause-read : goal.returns-in-Err-report_both-clause-read
 returns-in-Err-report_both-clause-read g c = λ e. absurd (trouble_no_read c.in-Err-report_both.trouble read.Device (cc (e, c.of_trouble.ensures)))
+
+pub returns-in-Err-clause-tried : goal.returns-in-Err-clause-tried
+returns-in-Err-clause-tried g c = tries_none g.T.Listener.tries c.args.replay.now.profile.now c.args.listener.now
+
+pub returns-then-not-is_word-clause-tried : goal.returns-then-not-is_word-clause-tried
+returns-then-not-is_word-clause-tried g c = tries_none g.T.Listener.tries c.args.replay.now.profile.now c.args.listener.now
+
+pub returns-in-Err-report_both-clause-tried : goal.returns-in-Err-report_both-clause-tried
+returns-in-Err-report_both-clause-tried g c = c.report_both.ensures.tried
+
+pub returns-clause-tried : goal.returns-clause-tried
+returns-clause-tried g c = c.report_both.ensures.tried

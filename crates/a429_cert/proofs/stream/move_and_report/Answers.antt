@@ -1,5 +1,6 @@
 use Rattle.std.proofs.Common.{rules}
 use Rattle.a429_cert.proofs.ReplayKept.{cert_unreported, cert_no_device, trouble_device, trouble_unreported}
+use Rattle.a429_cert.proofs.TriesFacts.{tries_none, tries_one}
 use Rattle.a429_cert.proofs.stream.move_and_report.Goals as goal
 
 pub returns-in-Ok-make-clause-unreported : goal.returns-in-Ok-make-clause-unreported
@@ -16,3 +17,12 @@ returns-in-Err-make-clause-unreported g c = rw c.of_trouble.ensures (trouble_unr
 
 pub returns-in-Err-make-clause-device : goal.returns-in-Err-make-clause-device
 returns-in-Err-make-clause-device g c = λ e. c.in-Err-make.ensures.device (cc (trouble_device c.in-Err-make.trouble (cc (e, c.of_trouble.ensures))))
+
+pub returns-in-Err-clause-tried : goal.returns-in-Err-clause-tried
+returns-in-Err-clause-tried g c = tries_none g.T.Listener.tries c.args.replay.now.profile.now c.args.listener.now
+
+pub returns-in-Err-make-clause-tried : goal.returns-in-Err-make-clause-tried
+returns-in-Err-make-clause-tried g c = tries_one g.T.Listener.tries c.args.replay.now.profile.now c.args.listener.now c.make.new.self _ c.make.ensures.tried
+
+pub returns-in-Ok-make-clause-tried : goal.returns-in-Ok-make-clause-tried
+returns-in-Ok-make-clause-tried g c = tries_one g.T.Listener.tries c.args.replay.now.profile.now c.args.listener.now c.make.new.self _ c.make.ensures.tried

@@ -9,6 +9,7 @@ use Rattle.a429_cert.proofs.StreamFacts.{refused_text, refused_first, cert_given
 use Rattle.a429_cert.proofs.ReportFacts.{hears_text}
 use Rattle.a429_cert.proofs.ReplayKept.{cert_unreported, cert_no_device, cert_no_read, says_ended}
 use Rattle.a429_record.specs.declared.fault.ReadFault.TheVariants as read
+use Rattle.a429_cert.proofs.TriesFacts.{tries_none}
 use Rattle.a429_cert.proofs.stream.replay_and_report.Goals as goal
 use Rattle.a429_cert.specs.Report.{position}
 
@@ -104,3 +105,9 @@ returns-in-Err-clause-kept g c = refl
 
 pub returns-in-Err-clause-profile : goal.returns-in-Err-clause-profile
 returns-in-Err-clause-profile g c = c.requires.profile
+
+pub returns-in-Err-clause-tried : goal.returns-in-Err-clause-tried
+returns-in-Err-clause-tried g c = tries_none g.T.Listener.tries c.args.replay.now.profile.now c.args.listener.now
+
+pub returns-in-Ok-clause-tried : goal.returns-in-Ok-clause-tried
+returns-in-Ok-clause-tried g c = c.step_and_report.ensures.tried

@@ -17,6 +17,9 @@ use Rattle.a429_cert.proofs.StreamEndFacts.{late_both_known, heard_late}
 use Rattle.a429_profile.specs.Profile.{IsProfile}
 use Rattle.a429_record.specs.declared.fault.ReadFault.TheVariants as read
 use Rattle.a429_cert.proofs.ReplayKept.{head_not_read}
+use Rattle.a429_profile.specs.Profile.{Contents}
+use Rattle.a429_cert.specs.Report.{listening, TriesSome}
+use Rattle.a429_cert.proofs.TriesFacts.{tries_none, tries_both}
 use Rattle.a429_cert.proofs.stream.replay_stream.Goals as goal
 
 pub lines-init : goal.lines-init
@@ -46,6 +49,7 @@ lines-init g c =
         profile = c.start-replay.ensures.profile;
         version = c.start-replay.ensures.version;
       };
+      tried = tries_none g.T.Listener.tries c.args.profile.now c.args.listener.now;
       room = omega (arith, c.in-Ok-begin.ensures.room, none, lines);
     }
 
@@ -109,21 +113,21 @@ returns-in-Err-take_next-clause-err g c =
     let v = c.lines.invariant in
     let known = unread g.C.Read.remaining c.args.cert.now in
     stop_refuses g.S.Shelf.files g.T.Listener.hears g.S.Failing.failed g.T.Failing.failed c.args.profile.now (record { known = known; recording = c.args.rec.now; shelf = c.args.shelf.now; listener = c.args.listener.now }) v.head (unread_of (unread g.C.Read.remaining c.take_next.new.cert) (has_failed c.take_next.new.cert))
-    (progress c.lines.replay (to_come g.C.Read.remaining c.lines.lines c.lines.cert) c.lines.rec c.lines.shelf c.lines.listener) (progress c.take_next.new.replay (to_come g.C.Read.remaining c.take_next.new.lines c.take_next.new.cert) c.take_next.new.rec c.take_next.new.shelf c.take_next.new.listener) c.in-Err-take_next.fault v.walks c.in-Err-take_next.ensures.stopped
+    (progress c.lines.replay (to_come g.C.Read.remaining c.lines.lines c.lines.cert) c.lines.rec c.lines.shelf c.lines.listener) (progress c.take_next.new.replay (to_come g.C.Read.remaining c.take_next.new.lines c.take_next.new.cert) c.take_next.new.rec c.take_next.new.shelf c.take_next.new.listener) c.in-Err-take_next.fault v.walks c.in-Err-take_next.ensures.halted.stops
 
 pub returns-in-Err-take_next-clause-reports : goal.returns-in-Err-take_next-clause-reports
 returns-in-Err-take_next-clause-reports g c =
     let v = c.lines.invariant in
     let known = unread g.C.Read.remaining c.args.cert.now in
     stop_unreported g.S.Shelf.files g.T.Listener.hears g.S.Failing.failed g.T.Failing.failed c.args.profile.now (record { known = known; recording = c.args.rec.now; shelf = c.args.shelf.now; listener = c.args.listener.now }) v.head (unread_of (unread g.C.Read.remaining c.take_next.new.cert) (has_failed c.take_next.new.cert))
-    (progress c.lines.replay (to_come g.C.Read.remaining c.lines.lines c.lines.cert) c.lines.rec c.lines.shelf c.lines.listener) (progress c.take_next.new.replay (to_come g.C.Read.remaining c.take_next.new.lines c.take_next.new.cert) c.take_next.new.rec c.take_next.new.shelf c.take_next.new.listener) c.in-Err-take_next.fault v.walks c.in-Err-take_next.ensures.stopped
+    (progress c.lines.replay (to_come g.C.Read.remaining c.lines.lines c.lines.cert) c.lines.rec c.lines.shelf c.lines.listener) (progress c.take_next.new.replay (to_come g.C.Read.remaining c.take_next.new.lines c.take_next.new.cert) c.take_next.new.rec c.take_next.new.shelf c.take_next.new.listener) c.in-Err-take_next.fault v.walks c.in-Err-take_next.ensures.halted.stops
 
 pub returns-in-Err-take_next-clause-place : goal.returns-in-Err-take_next-clause-place
 returns-in-Err-take_next-clause-place g c =
     let v = c.lines.invariant in
     let known = unread g.C.Read.remaining c.args.cert.now in
     stop_place g.S.Shelf.files g.T.Listener.hears g.S.Failing.failed g.T.Failing.failed c.args.profile.now (record { known = known; recording = c.args.rec.now; shelf = c.args.shelf.now; listener = c.args.listener.now }) v.head (unread_of (unread g.C.Read.remaining c.take_next.new.cert) (has_failed c.take_next.new.cert))
-    (progress c.lines.replay (to_come g.C.Read.remaining c.lines.lines c.lines.cert) c.lines.rec c.lines.shelf c.lines.listener) (progress c.take_next.new.replay (to_come g.C.Read.remaining c.take_next.new.lines c.take_next.new.cert) c.take_next.new.rec c.take_next.new.shelf c.take_next.new.listener) c.in-Err-take_next.fault v.walks c.in-Err-take_next.ensures.stopped
+    (progress c.lines.replay (to_come g.C.Read.remaining c.lines.lines c.lines.cert) c.lines.rec c.lines.shelf c.lines.listener) (progress c.take_next.new.replay (to_come g.C.Read.remaining c.take_next.new.lines c.take_next.new.cert) c.take_next.new.rec c.take_next.new.shelf c.take_next.new.listener) c.in-Err-take_next.fault v.walks c.in-Err-take_next.ensures.halted.stops
 
 pub lines-preserved : goal.lines-preserved
 lines-preserved g c =
@@ -133,8 +137,10 @@ lines-preserved g c =
     record {
       head = v.head;
       walks = walks_some g.S.Shelf.files g.T.Listener.hears c.args.profile.now (record { known = known; recording = c.args.rec.now; shelf = c.args.shelf.now; listener = c.args.listener.now }) v.head
-          (progress c.lines.replay (to_come g.C.Read.remaining c.lines.lines c.lines.cert) c.lines.rec c.lines.shelf c.lines.listener) (progress c.take_next.new.replay (to_come g.C.Read.remaining c.take_next.new.lines c.take_next.new.cert) c.take_next.new.rec c.take_next.new.shelf c.take_next.new.listener) v.walks (c.in-Ok-take_next.ensures.goes_on found);
-      room = omega (arith, c.in-Ok-take_next.ensures.room found, v.room);
+          (progress c.lines.replay (to_come g.C.Read.remaining c.lines.lines c.lines.cert) c.lines.rec c.lines.shelf c.lines.listener) (progress c.take_next.new.replay (to_come g.C.Read.remaining c.take_next.new.lines c.take_next.new.cert) c.take_next.new.rec c.take_next.new.shelf c.take_next.new.listener) v.walks (c.in-Ok-take_next.ensures.further found).takes;
+      tried = tries_both g.T.Listener.tries c.args.profile.now c.args.listener.now c.lines.listener c.take_next.new.listener v.tried
+          (subst (λ (q : Contents). TriesSome (listening g.T.Listener.tries c.lines.listener c.take_next.new.listener) q) v.walks.profile c.take_next.ensures.tried);
+      room = omega (arith, (c.in-Ok-take_next.ensures.further found).lines, v.room);
     }
 
 pub returns-in-Ok-none_left-clause-ok : goal.returns-in-Ok-none_left-clause-ok
@@ -143,7 +149,7 @@ returns-in-Ok-none_left-clause-ok g c =
     let known = unread g.C.Read.remaining c.args.cert.now in
     let left = to_come g.C.Read.remaining c.lines.lines c.lines.cert in
     let more = to_come g.C.Read.remaining c.take_next.new.lines c.take_next.new.cert in
-    let none = c.in-Ok-take_next.ensures.ended c.if-not-found.true in
+    let none = (c.in-Ok-take_next.ensures.at_end c.if-not-found.true).none in
     let v = ended_walks g.S.Shelf.files g.T.Listener.hears c.args.profile.now (record { known = known; recording = c.args.rec.now; shelf = c.args.shelf.now; listener = c.args.listener.now }) h.head (progress c.lines.replay (to_come g.C.Read.remaining c.lines.lines c.lines.cert) c.lines.rec c.lines.shelf c.lines.listener) (progress c.take_next.new.replay (to_come g.C.Read.remaining c.take_next.new.lines c.take_next.new.cert) c.take_next.new.rec c.take_next.new.shelf c.take_next.new.listener) h.walks none in
     record {
       files = v.taken;
@@ -158,12 +164,12 @@ returns-in-Ok-none_left-clause-heard g c =
     let known = unread g.C.Read.remaining c.args.cert.now in
     let left = to_come g.C.Read.remaining c.lines.lines c.lines.cert in
     let more = to_come g.C.Read.remaining c.take_next.new.lines c.take_next.new.cert in
-    let none = c.in-Ok-take_next.ensures.ended c.if-not-found.true in
+    let none = (c.in-Ok-take_next.ensures.at_end c.if-not-found.true).none in
     let v = ended_walks g.S.Shelf.files g.T.Listener.hears c.args.profile.now (record { known = known; recording = c.args.rec.now; shelf = c.args.shelf.now; listener = c.args.listener.now }) h.head (progress c.lines.replay (to_come g.C.Read.remaining c.lines.lines c.lines.cert) c.lines.rec c.lines.shelf c.lines.listener) (progress c.take_next.new.replay (to_come g.C.Read.remaining c.take_next.new.lines c.take_next.new.cert) c.take_next.new.rec c.take_next.new.shelf c.take_next.new.listener) h.walks none in
     hears_all g.T.Listener.hears c.args.profile.now h.head v.k c.take_next.new.replay.used v.taken c.take_next.new.replay.link.state none.line known left more c.args.rec.now.to_come c.take_next.new.rec.to_come c.none_left.new.rec.to_come c.args.listener.now c.take_next.new.listener none.given c.in-Ok-none_left.ensures.ok v.reports v.heard
 
 pub returns-in-Ok-none_left-clause-works : goal.returns-in-Ok-none_left-clause-works
-returns-in-Ok-none_left-clause-works g c = c.in-Ok-take_next.ensures.works c.if-not-found.true
+returns-in-Ok-none_left-clause-works g c = (c.in-Ok-take_next.ensures.at_end c.if-not-found.true).works
 
 pub returns-clause-err : goal.returns-clause-err
 returns-clause-err g c =
@@ -171,7 +177,7 @@ returns-clause-err g c =
     let known = unread g.C.Read.remaining c.args.cert.now in
     let left = to_come g.C.Read.remaining c.lines.lines c.lines.cert in
     let more = to_come g.C.Read.remaining c.take_next.new.lines c.take_next.new.cert in
-    let none = c.in-Ok-take_next.ensures.ended c.if-not-found.true in
+    let none = (c.in-Ok-take_next.ensures.at_end c.if-not-found.true).none in
     let v = ended_walks g.S.Shelf.files g.T.Listener.hears c.args.profile.now (record { known = known; recording = c.args.rec.now; shelf = c.args.shelf.now; listener = c.args.listener.now }) h.head (progress c.lines.replay (to_come g.C.Read.remaining c.lines.lines c.lines.cert) c.lines.rec c.lines.shelf c.lines.listener) (progress c.take_next.new.replay (to_come g.C.Read.remaining c.take_next.new.lines c.take_next.new.cert) c.take_next.new.rec c.take_next.new.shelf c.take_next.new.listener) h.walks none in
     record {
       files = v.taken;
@@ -185,7 +191,7 @@ returns-clause-reports g c =
     let known = unread g.C.Read.remaining c.args.cert.now in
     let left = to_come g.C.Read.remaining c.lines.lines c.lines.cert in
     let more = to_come g.C.Read.remaining c.take_next.new.lines c.take_next.new.cert in
-    let none = c.in-Ok-take_next.ensures.ended c.if-not-found.true in
+    let none = (c.in-Ok-take_next.ensures.at_end c.if-not-found.true).none in
     let v = ended_walks g.S.Shelf.files g.T.Listener.hears c.args.profile.now (record { known = known; recording = c.args.rec.now; shelf = c.args.shelf.now; listener = c.args.listener.now }) h.head (progress c.lines.replay (to_come g.C.Read.remaining c.lines.lines c.lines.cert) c.lines.rec c.lines.shelf c.lines.listener) (progress c.take_next.new.replay (to_come g.C.Read.remaining c.take_next.new.lines c.take_next.new.cert) c.take_next.new.rec c.take_next.new.shelf c.take_next.new.listener) h.walks none in
     heard_late c.args.profile.now h.head v.k c.take_next.new.replay.used v.taken c.take_next.new.replay.link.state none.line known left more c.args.rec.now.to_come c.take_next.new.rec.to_come c.none_left.new.rec.to_come c.in-Err-none_left.fault g.T.Listener.hears c.args.listener.now c.take_next.new.listener v.none_left none.given c.in-Err-none_left.ensures.err v.reports v.heard
 
@@ -195,12 +201,12 @@ returns-clause-place g c =
     let known = unread g.C.Read.remaining c.args.cert.now in
     let old = to_come g.C.Read.remaining c.lines.lines c.lines.cert in
     let left = unread g.C.Read.remaining c.take_next.new.cert in
-    let none = c.in-Ok-take_next.ensures.ended c.if-not-found.true in
+    let none = (c.in-Ok-take_next.ensures.at_end c.if-not-found.true).none in
     let v = ended_walks g.S.Shelf.files g.T.Listener.hears c.args.profile.now (record { known = known; recording = c.args.rec.now; shelf = c.args.shelf.now; listener = c.args.listener.now }) h.head (progress c.lines.replay (to_come g.C.Read.remaining c.lines.lines c.lines.cert) c.lines.rec c.lines.shelf c.lines.listener) (progress c.take_next.new.replay (to_come g.C.Read.remaining c.take_next.new.lines c.take_next.new.cert) c.take_next.new.rec c.take_next.new.shelf c.take_next.new.listener) h.walks none in
     record {
       files = v.taken;
       place = late_breaks c.args.profile.now h.head v.k c.take_next.new.replay.used v.taken c.take_next.new.replay.link.state known old left (has_failed c.take_next.new.cert) (g.S.Failing.failed c.take_next.new.shelf) (g.T.Failing.failed c.take_next.new.listener)
-          (bytes_ahead c.take_next.new.lines) c.args.rec.now c.take_next.new.rec c.none_left.new.rec none.line c.none_left.new.rec.to_come c.in-Err-none_left.fault v.none_left (c.in-Ok-take_next.ensures.ahead c.if-not-found.true) none.given none.kept v.counted c.in-Err-none_left.ensures.err c.in-Err-none_left.ensures.given v.reports;
+          (bytes_ahead c.take_next.new.lines) c.args.rec.now c.take_next.new.rec c.none_left.new.rec none.line c.none_left.new.rec.to_come c.in-Err-none_left.fault v.none_left (c.in-Ok-take_next.ensures.at_end c.if-not-found.true).few none.given none.kept v.counted c.in-Err-none_left.ensures.err c.in-Err-none_left.ensures.given v.reports;
       put = v.put;
     }
 
@@ -217,7 +223,7 @@ pub take_next-requires-clause-few : goal.take_next-requires-clause-few
 take_next-requires-clause-few g c = c.lines.invariant.walks.few
 
 pub lines-smaller : goal.lines-smaller
-lines-smaller g c = c.in-Ok-take_next.ensures.shorter c.if-not-found.false
+lines-smaller g c = (c.in-Ok-take_next.ensures.further c.if-not-found.false).shorter
 
 pub returns-in-Err-clause-device : goal.returns-in-Err-clause-device
 returns-in-Err-clause-device g c = λ e. absurd (cc e)
@@ -229,7 +235,7 @@ pub returns-in-Err-begin-clause-read : goal.returns-in-Err-begin-clause-read
 returns-in-Err-begin-clause-read g c = λ e. absurd (head_not_read _ (to_come g.C.Read.remaining c.new-lines.result c.args.cert.now) c.in-Err-begin.fault read.Device c.in-Err-begin.ensures.err (cc e))
 
 pub returns-in-Err-take_next-clause-read : goal.returns-in-Err-take_next-clause-read
-returns-in-Err-take_next-clause-read g c = λ e. c.in-Err-take_next.ensures.read (cc e)
+returns-in-Err-take_next-clause-read g c = λ e. c.in-Err-take_next.ensures.halted.read (cc e)
 
 pub returns-clause-device : goal.returns-clause-device
 returns-clause-device g c = λ e. absurd (c.in-Err-none_left.ensures.device (cc e))
@@ -241,4 +247,22 @@ pub returns-in-Err-begin-clause-device : goal.returns-in-Err-begin-clause-device
 returns-in-Err-begin-clause-device g c = λ e. inl (c.in-Err-begin.ensures.device (cc e))
 
 pub returns-in-Err-take_next-clause-device : goal.returns-in-Err-take_next-clause-device
-returns-in-Err-take_next-clause-device g c = λ e. c.in-Err-take_next.ensures.device (cc e)
+returns-in-Err-take_next-clause-device g c = λ e. c.in-Err-take_next.ensures.halted.device (cc e)
+
+pub returns-in-Err-clause-tried : goal.returns-in-Err-clause-tried
+returns-in-Err-clause-tried g c = tries_none g.T.Listener.tries c.args.profile.now c.args.listener.now
+
+pub returns-in-Err-begin-clause-tried : goal.returns-in-Err-begin-clause-tried
+returns-in-Err-begin-clause-tried g c = tries_none g.T.Listener.tries c.args.profile.now c.args.listener.now
+
+pub returns-in-Err-take_next-clause-tried : goal.returns-in-Err-take_next-clause-tried
+returns-in-Err-take_next-clause-tried g c =
+    let p = c.args.profile.now in
+    tries_both g.T.Listener.tries p c.args.listener.now c.lines.listener c.take_next.new.listener c.lines.invariant.tried
+    (subst (λ (q : Contents). TriesSome (listening g.T.Listener.tries c.lines.listener c.take_next.new.listener) q) c.lines.invariant.walks.profile c.take_next.ensures.tried)
+
+pub returns-clause-tried : goal.returns-clause-tried
+returns-clause-tried g c =
+    let p = c.args.profile.now in
+    tries_both g.T.Listener.tries p c.args.listener.now c.lines.listener c.take_next.new.listener c.lines.invariant.tried
+    (subst (λ (q : Contents). TriesSome (listening g.T.Listener.tries c.lines.listener c.take_next.new.listener) q) c.lines.invariant.walks.profile c.take_next.ensures.tried)

@@ -11,6 +11,7 @@ use Rattle.a429_cert.proofs.StreamFacts.{passes_next, few_used, used_given, most
 use Rattle.a429_cert.proofs.ReportFacts.{ends_next, not_read}
 use Rattle.a429_cert.proofs.StreamReplay.{read_device, read_no_device}
 use Rattle.a429_cert.proofs.ReplayKept.{read_unreported}
+use Rattle.a429_cert.proofs.TriesFacts.{tries_none}
 use Rattle.a429_cert.proofs.stream.step_and_report.Goals as goal
 use Rattle.a429_cert.specs.Change.{change}
 
@@ -165,3 +166,12 @@ returns-in-Moved-clause-kept g c = c.move_and_report.ensures.kept
 
 pub returns-in-Moved-clause-profile : goal.returns-in-Moved-clause-profile
 returns-in-Moved-clause-profile g c = c.move_and_report.ensures.profile
+
+pub returns-in-Err-clause-tried : goal.returns-in-Err-clause-tried
+returns-in-Err-clause-tried g c = tries_none g.T.Listener.tries c.args.replay.now.profile.now c.args.listener.now
+
+pub returns-in-Load-clause-tried : goal.returns-in-Load-clause-tried
+returns-in-Load-clause-tried g c = c.load_and_report.ensures.tried
+
+pub returns-in-Moved-clause-tried : goal.returns-in-Moved-clause-tried
+returns-in-Moved-clause-tried g c = c.move_and_report.ensures.tried

@@ -13,66 +13,58 @@ use Rattle.a429_cert.proofs.PairFacts.{ended, fewer, gives_sent, least_place, ta
 use Rattle.a429_cert.proofs.ReplayKept.{two_ahead}
 use Rattle.a429_cert.proofs.stream_next.take_next.Goals as goal
 
-pub returns-in-Ok-clause-goes_on : goal.returns-in-Ok-clause-goes_on
-returns-in-Ok-clause-goes_on g c = λ _.
+pub returns-in-Ok-clause-further : goal.returns-in-Ok-clause-further
+returns-in-Ok-clause-further g c = λ _.
     let w = c.args.replay.now in
     let rest = unread g.C.Read.remaining c.args.cert.now in
     let ahead = bytes_ahead c.next_pair.new.lines in
     let next = c.in-Some.next in
     let at = subst (λ (p : Contents). IsAtWord p next w.link.state) c.requires.profile c.in-Some.ensures.word.0 in
+    let two = two_ahead c.in-Some.next.place (bytes_ahead c.next_pair.new.lines) (bytes_ahead c.args.lines.now) c.in-Some.ensures.lines in
     let both = takes_both g.S.Shelf.files g.T.Listener.hears next w ahead rest c.args.rec.now c.carry_and_report.new.rec c.args.shelf.now c.args.listener.now c.carry_and_report.new.listener c.requires.profile at c.in-Some.ensures.word.1
     c.requires.none_left c.in-Ok.ensures.entry c.in-Ok.ensures.counts c.in-Ok.ensures.heard in
-    subst (λ (b : List ℕ). TakesSome g.S.Shelf.files g.T.Listener.hears (progress w (prepend_known b rest) c.args.rec.now c.args.shelf.now c.args.listener.now)
-    (progress c.carry_and_report.new.replay (prepend_known ahead rest) c.carry_and_report.new.rec c.args.shelf.now c.carry_and_report.new.listener)) (sym c.in-Some.ensures.lines)
-    (subst (λ (v : Replay). TakesSome g.S.Shelf.files g.T.Listener.hears (progress w (prepend_known (pair_text next.place ++ ahead) rest) c.args.rec.now c.args.shelf.now c.args.listener.now)
-    (progress v (prepend_known ahead rest) c.carry_and_report.new.rec c.args.shelf.now c.carry_and_report.new.listener)) (sym c.in-Ok.ensures.taken) both)
+    record {
+      takes =
+          subst (λ (b : List ℕ). TakesSome g.S.Shelf.files g.T.Listener.hears (progress w (prepend_known b rest) c.args.rec.now c.args.shelf.now c.args.listener.now)
+          (progress c.carry_and_report.new.replay (prepend_known ahead rest) c.carry_and_report.new.rec c.args.shelf.now c.carry_and_report.new.listener)) (sym c.in-Some.ensures.lines)
+          (subst (λ (v : Replay). TakesSome g.S.Shelf.files g.T.Listener.hears (progress w (prepend_known (pair_text next.place ++ ahead) rest) c.args.rec.now c.args.shelf.now c.args.listener.now)
+          (progress v (prepend_known ahead rest) c.carry_and_report.new.rec c.args.shelf.now c.carry_and_report.new.listener)) (sym c.in-Ok.ensures.taken) both);
+      shorter = omega (arith, two);
+      lines = omega (arith, ap (λ (w : Replay). w.lines) c.in-Ok.ensures.taken, two);
+    }
 
-pub returns-in-Err-clause-stopped : goal.returns-in-Err-clause-stopped
-returns-in-Err-clause-stopped g c =
+pub returns-in-Err-clause-halted : goal.returns-in-Err-clause-halted
+returns-in-Err-clause-halted g c =
     let w = c.args.replay.now in
     let rest = unread g.C.Read.remaining c.args.cert.now in
     let ahead = bytes_ahead c.next_pair.new.lines in
     let k = c.in-Some.next.place in
     let most = c.in-Some.ensures.word.1 in
     let least = least_place _ c.in-Some.next w.link.state c.in-Some.ensures.word.0 in
-    inr
-    (record {
-      line = Some (sent_text k);
-      ahead = ended k ++ ahead;
-      few = fewer (sent_text k) (ended k) ahead (bytes_ahead c.args.lines.now) 2288 c.in-Some.ensures.lines c.next_pair.ensures.few;
-      given = subst (λ (b : List ℕ). GivesLine (prepend_known b rest) (prepend_known (ended k ++ ahead) rest) (Some (sent_text k)) true) (sym c.in-Some.ensures.lines) (gives_sent k ahead rest least most);
-      stopped =
-          inl
+    record {
+      stops =
+          inr
           (record {
-            ends = c.in-Err.ensures.refused;
-            given = c.in-Err.ensures.given;
-            put = refl;
-            device = λ e. c.in-Err.ensures.device (cc e);
+            line = Some (sent_text k);
+            ahead = ended k ++ ahead;
+            few = fewer (sent_text k) (ended k) ahead (bytes_ahead c.args.lines.now) 2288 c.in-Some.ensures.lines c.next_pair.ensures.few;
+            given = subst (λ (b : List ℕ). GivesLine (prepend_known b rest) (prepend_known (ended k ++ ahead) rest) (Some (sent_text k)) true) (sym c.in-Some.ensures.lines) (gives_sent k ahead rest least most);
+            stopped =
+                inl
+                (record {
+                  ends = c.in-Err.ensures.refused;
+                  given = c.in-Err.ensures.given;
+                  put = refl;
+                  device = λ e. c.in-Err.ensures.device (cc e);
+                });
+            unreported = c.in-Err.ensures.unreported;
           });
-      unreported = c.in-Err.ensures.unreported;
-    })
+      device = λ e. inr (inr (c.in-Err.ensures.device (cc e)));
+      read = λ e. c.in-Err.ensures.read (cc e);
+    }
 
-pub returns-in-Ok-clause-shorter : goal.returns-in-Ok-clause-shorter
-returns-in-Ok-clause-shorter g c = λ _. omega (arith, two_ahead c.in-Some.next.place (bytes_ahead c.next_pair.new.lines) (bytes_ahead c.args.lines.now) c.in-Some.ensures.lines)
-
-pub returns-in-Ok-clause-room : goal.returns-in-Ok-clause-room
-returns-in-Ok-clause-room g c = λ _.
-    omega (arith, ap (λ (w : Replay). w.lines) c.in-Ok.ensures.taken, two_ahead c.in-Some.next.place (bytes_ahead c.next_pair.new.lines) (bytes_ahead c.args.lines.now) c.in-Some.ensures.lines)
-
-pub returns-in-Ok-clause-ended : goal.returns-in-Ok-clause-ended
-returns-in-Ok-clause-ended g c = λ e. absurd (cc e)
-
-pub returns-in-Ok-clause-ahead : goal.returns-in-Ok-clause-ahead
-returns-in-Ok-clause-ahead g c = λ e. absurd (cc e)
-
-pub returns-in-Ok-clause-works : goal.returns-in-Ok-clause-works
-returns-in-Ok-clause-works g c = λ e. absurd (cc e)
-
-pub returns-in-Err-clause-device : goal.returns-in-Err-clause-device
-returns-in-Err-clause-device g c = λ e. inr (inr (c.in-Err.ensures.device (cc e)))
-
-pub returns-in-Err-clause-read : goal.returns-in-Err-clause-read
-returns-in-Err-clause-read g c = λ e. c.in-Err.ensures.read (cc e)
+pub returns-in-Ok-clause-at_end : goal.returns-in-Ok-clause-at_end
+returns-in-Ok-clause-at_end g c = λ e. absurd (cc e)
 
 pub carry_and_report-requires : goal.carry_and_report-requires
 carry_and_report-requires g c = record {
@@ -90,13 +82,14 @@ pub returns-in_default : goal.returns-in_default
 returns-in_default g c =
     rw (sym c.in_default.ensures.none)
     (record {
-      goes_on = IfOk-weaker c.take_one.result _ _ (λ _ h e. inl (h e)) c.take_one.ensures.goes_on;
-      ended = c.take_one.ensures.ended;
-      shorter = c.take_one.ensures.shorter;
-      room = c.take_one.ensures.room;
-      stopped = c.take_one.ensures.stopped;
-      ahead = IfOk-weaker c.take_one.result _ _ (λ _ _ _. c.take_one.ensures.ahead) c.take_one.ensures.shorter;
-      works = c.take_one.ensures.works;
-      device = c.take_one.ensures.device;
-      read = c.take_one.ensures.read;
+      further = IfOk-weaker c.take_one.result _ _ (λ _ h e. record { takes = inl (h e).takes; shorter = (h e).shorter; lines = (h e).lines }) c.take_one.ensures.further;
+      at_end = c.take_one.ensures.at_end;
+      halted = c.take_one.ensures.halted;
+      tried = c.take_one.ensures.tried;
     })
+
+pub returns-in-Ok-clause-tried : goal.returns-in-Ok-clause-tried
+returns-in-Ok-clause-tried g c = c.carry_and_report.ensures.tried
+
+pub returns-in-Err-clause-tried : goal.returns-in-Err-clause-tried
+returns-in-Err-clause-tried g c = c.carry_and_report.ensures.tried

@@ -59,14 +59,14 @@ lines-preserved g c =
     let found : c.in-Ok-take_next.found ≡ true = c.if-not-found.false in
     record {
       head = v.head;
-      walks = part_some _ _ c.args.self (unread g.C.Read.remaining c.args.cert.now) c.args.rec.now.to_come v.head _ _ v.walks (c.in-Ok-take_next.ensures.goes_on found);
-      room = omega (arith, c.in-Ok-take_next.ensures.room found, v.room);
+      walks = part_some _ _ c.args.self (unread g.C.Read.remaining c.args.cert.now) c.args.rec.now.to_come v.head _ _ v.walks (c.in-Ok-take_next.ensures.further found).takes;
+      room = omega (arith, (c.in-Ok-take_next.ensures.further found).lines, v.room);
     }
 
 pub returns-in-Err-take_next-clause-err : goal.returns-in-Err-take_next-clause-err
 returns-in-Err-take_next-clause-err g c =
     let v = c.lines.invariant in
-    part_at_next _ _ _ c.args.self (unread g.C.Read.remaining c.args.cert.now) c.args.rec.now.to_come v.head _ _ _ c.in-Err-take_next.fault v.walks c.in-Err-take_next.ensures.stopped
+    part_at_next _ _ _ c.args.self (unread g.C.Read.remaining c.args.cert.now) c.args.rec.now.to_come v.head _ _ _ c.in-Err-take_next.fault v.walks c.in-Err-take_next.ensures.halted.stops
 
 pub returns-in-Ok-none_left-clause-ok : goal.returns-in-Ok-none_left-clause-ok
 returns-in-Ok-none_left-clause-ok g c =
@@ -74,7 +74,7 @@ returns-in-Ok-none_left-clause-ok g c =
     let known = unread g.C.Read.remaining c.args.cert.now in
     let left = to_come g.C.Read.remaining c.lines.lines c.lines.cert in
     let more = to_come g.C.Read.remaining c.take_next.new.lines c.take_next.new.cert in
-    let none = c.in-Ok-take_next.ensures.ended c.if-not-found.true in
+    let none = (c.in-Ok-take_next.ensures.at_end c.if-not-found.true).none in
     let v = ended_part c.args.self known c.args.rec.now.to_come h.head _ _ h.walks none in
     record {
       files = v.taken;
@@ -85,7 +85,7 @@ returns-in-Ok-none_left-clause-ok g c =
     }
 
 pub returns-in-Ok-none_left-clause-works : goal.returns-in-Ok-none_left-clause-works
-returns-in-Ok-none_left-clause-works g c = c.in-Ok-take_next.ensures.works c.if-not-found.true
+returns-in-Ok-none_left-clause-works g c = (c.in-Ok-take_next.ensures.at_end c.if-not-found.true).works
 
 pub returns-clause-err : goal.returns-clause-err
 returns-clause-err g c =
@@ -93,7 +93,7 @@ returns-clause-err g c =
     let known = unread g.C.Read.remaining c.args.cert.now in
     let left = to_come g.C.Read.remaining c.lines.lines c.lines.cert in
     let more = to_come g.C.Read.remaining c.take_next.new.lines c.take_next.new.cert in
-    let none = c.in-Ok-take_next.ensures.ended c.if-not-found.true in
+    let none = (c.in-Ok-take_next.ensures.at_end c.if-not-found.true).none in
     let v = ended_part c.args.self known c.args.rec.now.to_come h.head _ _ h.walks none in
     part_late c.args.self h.head v.k c.take_next.new.replay.used v.taken c.take_next.new.replay.link.state known left more none.line c.args.rec.now.to_come c.take_next.new.rec.to_come c.none_left.new.rec.to_come c.in-Err-none_left.fault
     none.given c.in-Err-none_left.ensures.err v.reports
@@ -111,7 +111,7 @@ pub take_next-requires-clause-few : goal.take_next-requires-clause-few
 take_next-requires-clause-few g c = c.lines.invariant.walks.few
 
 pub lines-smaller : goal.lines-smaller
-lines-smaller g c = c.in-Ok-take_next.ensures.shorter c.if-not-found.false
+lines-smaller g c = (c.in-Ok-take_next.ensures.further c.if-not-found.false).shorter
 
 pub returns-in-Err-clause-device : goal.returns-in-Err-clause-device
 returns-in-Err-clause-device g c = λ e. absurd (cc e)
@@ -123,7 +123,7 @@ pub returns-in-Err-begin-clause-read : goal.returns-in-Err-begin-clause-read
 returns-in-Err-begin-clause-read g c = λ e. absurd (head_not_read _ (to_come g.C.Read.remaining c.new-lines.result c.args.cert.now) c.in-Err-begin.fault read.Device c.in-Err-begin.ensures.err (cc e))
 
 pub returns-in-Err-take_next-clause-read : goal.returns-in-Err-take_next-clause-read
-returns-in-Err-take_next-clause-read g c = λ e. c.in-Err-take_next.ensures.read (cc e)
+returns-in-Err-take_next-clause-read g c = λ e. c.in-Err-take_next.ensures.halted.read (cc e)
 
 pub returns-clause-device : goal.returns-clause-device
 returns-clause-device g c = λ e. absurd (c.in-Err-none_left.ensures.device (cc e))
@@ -135,10 +135,10 @@ pub returns-in-Err-begin-clause-device : goal.returns-in-Err-begin-clause-device
 returns-in-Err-begin-clause-device g c = λ e. c.in-Err-begin.ensures.device (cc e)
 
 pub returns-in-Err-take_next-clause-device : goal.returns-in-Err-take_next-clause-device
-returns-in-Err-take_next-clause-device g c = λ e. only_reader _ (c.in-Err-take_next.ensures.device (cc e))
+returns-in-Err-take_next-clause-device g c = λ e. only_reader _ (c.in-Err-take_next.ensures.halted.device (cc e))
 
 pub past-requires-clause-profile : goal.past-requires-clause-profile
-past-requires-clause-profile g c = rw (c.in-Ok-take_next.ensures.ended c.if-not-found.true).replay (c.lines.invariant.walks.link ∙ sym c.lines.invariant.walks.profile)
+past-requires-clause-profile g c = rw (c.in-Ok-take_next.ensures.at_end c.if-not-found.true).none.replay (c.lines.invariant.walks.link ∙ sym c.lines.invariant.walks.profile)
 
 pub past-requires-clause-files : goal.past-requires-clause-files
-past-requires-clause-files g c = rw (c.in-Ok-take_next.ensures.ended c.if-not-found.true).replay c.lines.invariant.walks.none_left
+past-requires-clause-files g c = rw (c.in-Ok-take_next.ensures.at_end c.if-not-found.true).none.replay c.lines.invariant.walks.none_left

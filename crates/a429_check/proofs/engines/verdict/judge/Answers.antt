@@ -1,4 +1,4 @@
-use Rattle.std.proofs.Common.{inl, refl, arith}
+use Rattle.std.proofs.Common.{inl, inr, refl, arith}
 use Rattle.std.proofs.lemmas.Result.{err_from_is_err_and}
 use Rattle.a429_word.specs.Tally.{has_failed}
 use Rattle.a429_cert.specs.BreakOff.{readers, shelved}
@@ -6,7 +6,7 @@ use Rattle.a429_cert.specs.Report.{listening}
 use Rattle.a429_check.specs.Extract.{progress}
 use Rattle.a429_check.specs.Verdict.{input, no_shelf}
 use Rattle.a429_check.proofs.ExtractFacts.{left_by_no_answer, left_by_profile}
-use Rattle.a429_check.proofs.VerdictFacts.{answered_by, by_no_answer, by_profile, heard_by, heard_until, none_has_failed, none_of_profile, one_failed, unchanged, unheard}
+use Rattle.a429_check.proofs.VerdictFacts.{answered_by, by_no_answer, by_profile, heard_by, heard_until, none_has_failed, none_of_profile, of_a_device, one_failed, unchanged, unheard}
 use Rattle.a429_check.proofs.engines.verdict.judge.Goals as goal
 
 pub returns-in_err-profile-clause-err : goal.returns-in_err-profile-clause-err
@@ -70,5 +70,22 @@ returns-in-Err-clause-files g c =
     left_by_no_answer c.args.profile.now c.in_ok-profile.profile at _ c.in_ok-profile.ensures.ok c.any_failed.result stream.result c.in-Err.fault c.in-Err.ensures.err stream.ensures.ok stream.ensures.err stream.ensures.place c.any_failed.ensures.yes
     (λ e. one_failed stream.new.rec.failed (has_failed stream.new.cert) (g.S.Failing.failed stream.new.shelf) (g.T.Failing.failed stream.new.listener) (stream.ensures.device e)) (λ e. inl (inl (stream.ensures.read e)))
 
-pub returns-in-Err-clause-before : goal.returns-in-Err-clause-before
-returns-in-Err-clause-before g c = λ f e. absurd (none_of_profile c.any_failed.result c.replay_stream-answer.result c.in-Err.fault f c.in-Err.ensures.err (cc e))
+pub returns-in-Ok-clause-tried : goal.returns-in-Ok-clause-tried
+returns-in-Ok-clause-tried g c = c.replay_stream-answer.ensures.tried
+
+pub returns-in-Err-clause-untried : goal.returns-in-Err-clause-untried
+returns-in-Err-clause-untried g c =
+    let stream = c.replay_stream-answer in
+    inr
+    (record {
+      contents = c.in_ok-profile.profile;
+      is_profile = c.in_ok-profile.ensures.ok;
+      tried = stream.ensures.tried;
+      no_profile = λ f e. none_of_profile c.any_failed.result stream.result c.in-Err.fault f c.in-Err.ensures.err (cc e);
+      device = of_a_device c.any_failed.result (g.T.Failing.failed stream.new.listener) stream.result c.in-Err.fault c.in-Err.ensures.err (λ no. (c.any_failed.ensures.no no).3);
+    })
+
+pub returns-in_err-profile-clause-untried : goal.returns-in_err-profile-clause-untried
+returns-in_err-profile-clause-untried g c =
+    let p = err_from_is_err_and c.from_residual.result c.from_residual.ensures.1 in
+    rw (p.1, p.2) (inl (c.in_err-profile.ensures.err, refl))
