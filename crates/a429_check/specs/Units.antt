@@ -75,15 +75,15 @@ IsLeft i (run.Read f) text = (p : Contents) × IsProfileOf i.profile p × WhereB
 IsLeft i e text = (rows : List ℕ) × AreRowLines rows × IsFrontOf text rows
 
 -- some rows, and the line of a no after them, if one is
-abbrev pub AreSomeRows : List ℕ → Type 0
-AreSomeRows text = AreRowLines text ⊎ ((rows : List ℕ) × (f : CertFault) × AreRowLines rows × (text ≡ rows ++ no_text f))
+abbrev pub BeginsUnits : List ℕ → Type 0
+BeginsUnits text = AreRowLines text ⊎ ((rows : List ℕ) × (f : CertFault) × AreRowLines rows × (text ≡ rows ++ no_text f))
 
 -- `units` writes rows while it reads; a fault of the profile comes before any
 abbrev pub of_units : Input → Type 0 → Promise
 of_units i Failed = record {
   says = λ status text. ReportsUnits i status text × (Failed → ⊥);
   stops = λ e text. IsLeft i e text × IsVerifyFault i no_shelf Failed e;
-  begins = AreSomeRows;
+  begins = BeginsUnits;
   refuses = IsProfileFault i.profile;
 }
 
