@@ -16,7 +16,7 @@ ACK, NAK = "B,450101A3", "B,460000A3"
 
 def by_hand(name):
     """The rows of an example as its page has them."""
-    block = re.search(rf"^\$ a429 blocks sample\.toml {name}\.csv\n(.*?)```", BLOCKS, re.DOTALL | re.MULTILINE)
+    block = re.search(rf"^\$ a429 blocks sample\.toml {name}\.csv\n(.*?)(?=^\$ |^```)", BLOCKS, re.DOTALL | re.MULTILINE)
     return block[1].split()
 
 
