@@ -15,7 +15,7 @@ use Rattle.a429_view.specs.declared.units.rows.UnitRows.{UnitRows}
 use Rattle.a429_view.specs.UnitSteps.{line_before, PutsInPart, TriesRows, AreRowLines}
 
 -- what waits and what has gone out, as a sheet of output
-sheet_of : {W : Type 0} → UnitRows W → Sheet W
+abbrev sheet_of : {W : Type 0} → UnitRows W → Sheet W
 sheet_of rows = record { out = record { ref_ptr = (0, 0); ghost_name = 0; now = rows.out }; page = record { ref_ptr = (0, 0); ghost_name = 0; now = rows.page } }
 
 module _ {W : Type 0} (contents : W → Option (List ℕ)) where
