@@ -1,5 +1,5 @@
 -- How the listing of a certificate's units ends: by its verdict, at a fault, or where its output fails.
-use Rattle.std.proofs.Common.{◌≡◌, ◌≤◌, ◌++◌, ◌∷◌, ◌∙◌, ◌⊎◌, ℕ, List, [], length, take, Vec, Global, true, false, Option, Some, None, Result, Ok, Err, inl, inr, refl, sym, ap, subst, append_assoc, length-append, arith}
+use Rattle.std.proofs.Common.{◌≡◌, ◌≤◌, ◌++◌, ◌∷◌, ◌∙◌, ◌⊎◌, ℕ, List, [], length, take, Vec, Global, Bool, true, false, Option, Some, None, Result, Ok, Err, inl, inr, refl, sym, ap, subst, append_assoc, length-append, arith}
 use Rattle.std.specs.Prelude.{IfOk, IfErr, OnOk, OnErr}
 use Rattle.std.specs.Io.KnownBytes.{append_known, Appends, Keeps}
 use Rattle.std.proofs.KnownBytes.{Appends-nil, Appends-trans}
@@ -89,8 +89,7 @@ record Reported {W : Type 0} (contents : W → Option (List ℕ)) (i : Input) (o
   reports : ReportsUnits i status text
   puts : Puts contents old.out new.out text
 
-module _ {W : Type 0} (contents : W → Option (List ℕ)) (i : Input) (old mid new : UnitRows W) (j : Judged) (fresh : AreFresh old) (judged : IsJudged i no_shelf j) (heard : HearsJudged (listening (HearsRows contents) old mid) i j)
-(works : has_failed mid.out ≡ false) (tries : Tried contents old mid) where
+module _ {W : Type 0} (contents : W → Option (List ℕ)) (i : Input) (old mid new : UnitRows W) (j : Judged) (fresh : AreFresh old) (judged : IsJudged i no_shelf j) (heard : HearsJudged (listening (HearsRows contents) old mid) i j) (works : has_failed mid.out ≡ false) (tries : Tried contents old mid) where
   reported : (answer : Result (Vec (ℕ × ℕ) Global) CertFault) (status : ℕ) → j.answer ≡ answer → EndsUnits contents mid new answer status → Reported contents i old new status
   reported (Ok files) status is h =
       let reports = rw is at heard in
@@ -122,6 +121,11 @@ kept_by_none : (a b : Option (List ℕ)) → Appends a b [] → Keeps a b
 kept_by_none None b h = tt
 kept_by_none (Some x) None h = h
 kept_by_none (Some x) (Some y) h = h ∙ append-nil x
+
+-- what holds, holds at an error
+pub at_err : {T E P : Type 0} (r : Result T E) → P → OnErr r P
+at_err (Ok x) h = tt
+at_err (Err e) h = h
 
 -- of what waited, all of which has gone out, and of a text after it
 pub waited_and : {W : Type 0} (contents : W → Option (List ℕ)) (old waited : UnitRows W) (out : Tally W) (text : List ℕ) → PutsAll contents old waited [] → PutsFront contents waited.out out text
@@ -188,8 +192,8 @@ module _ {W : Type 0} (contents : W → Option (List ℕ)) (i : Input) (old new 
 pub ends_until : {W : Type 0} (contents : W → Option (List ℕ)) (i : Input) (Failed : Type 0) (old new : UnitRows W) (e : RunFault) → AreFresh old
     → TriesUntil (λ (r : UnitRows W). has_failed r.out) (listening (TriesRows contents) old new) i.profile e → IsVerifyFault i no_shelf Failed e → LeavesUnits contents old new i e
     → Ends (output contents old.out new.out) (of_units i Failed) (Err e)
-ends_until contents i Failed old new e fresh (inl h) fault left = refused e refl h.0 (ap (λ (r : UnitRows W). r.out) h.1)
-ends_until contents i Failed old new e fresh (inr h) fault left =
+ends_until {W = W} contents i Failed old new e fresh (inl h) fault left = refused e refl h.0 (ap (λ (r : UnitRows W). r.out) h.1)
+ends_until {W = W} contents i Failed old new e fresh (inr h) fault left =
     let tries = tried contents h.contents old new h.tried.0 h.tried.1 in
     elim (cases_Bool (has_failed new.out)) [
       | inl failed ↦ cut_off tries.text (ap (λ f. Err f) (h.device failed)) (inl tries.rows) failed (gone_out contents old new tries.text fresh tries.part)
