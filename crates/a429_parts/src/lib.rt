@@ -15,6 +15,6 @@ mod watch;
 pub use crate::cutting::{Cutter, PartFault};
 pub use crate::keeping::{next_of, put_kept};
 pub use crate::kept::is_kept;
-pub use crate::parting::put_parts;
+pub use crate::parting::{fault_by, put_parts};
 pub use crate::parts::{MemoryParts, Part, Parts};
-pub use crate::waiting::Rows;
+pub use crate::waiting::{Rows, drop_front};

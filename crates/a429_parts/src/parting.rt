@@ -278,8 +278,8 @@ fn fault_of(fault: PartFault) -> ReadFault
     }
 }
 
-// Why no part was put.
-fn fault_by(trouble: Trouble) -> ReadFault
+/// Why nothing more was put, as a fault of the recording: where a device fails, or memory is refused.
+pub fn fault_by(trouble: Trouble) -> ReadFault
     ensures device { result ≡ read.Device → trouble ≡ Trouble.Device }
     ensures either { (result ≡ read.Device) ⊎ (result ≡ read.OutOfMemory) }
 {

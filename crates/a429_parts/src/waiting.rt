@@ -246,8 +246,8 @@ fn end_of_first(
     }
 }
 
-// Drops the first `size` of a list. Only what comes after them is moved: `drain` moves all.
-fn drop_front<T: Copy>(list: &mut Vec<T>, size: usize)
+/// Drops the first `size` of a list. Only what comes after them is moved: `drain` moves all.
+pub fn drop_front<T: Copy>(list: &mut Vec<T>, size: usize)
     requires { size ≤ length list.old.items }
     ensures { list.new.items ≡ drop size list.old.items }
 {
