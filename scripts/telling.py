@@ -76,6 +76,16 @@ def sizes_of(profile, entries):
         begin += sizes[-1]
 
 
+def goes_on_with_file(profile, messages):
+    """Whether the first start word after a request is not that of a file's first unit."""
+    is_asked = False
+    for message in messages:
+        is_asked = is_asked or message[0] == "rts"
+        if is_asked and message[0] == "sot":
+            return message[3] != profile.first_ldu
+    return False
+
+
 # ---- what is sure of a piece
 
 
@@ -160,12 +170,11 @@ def lines_of(profile, entries):
     for k, size in enumerate(sizes_of(profile, entries), 1):
         piece = entries[begin : begin + size]
         messages = [message_of(profile, bus, word) for bus, word in piece]
-        requests = [n for n, message in enumerate(messages) if message[0] == "rts"]
         refused = first_refused(profile, piece)
         # No run goes on with the refused word, so what comes after it says nothing.
         known = known_of(profile, piece[:refused])
         lines.append(f"part {k} entries {size} from {begin}")
-        if requests and requests[0] not in places(profile, piece):
+        if goes_on_with_file(profile, messages):
             lines.append("begun before")
         if refused is not None:
             lines.append(f"stopped {begin + refused} {reason_of(piece[refused][0], messages[refused])}")

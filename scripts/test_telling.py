@@ -30,6 +30,10 @@ ROWS = {
     "two files": (TWO_FILES, "part 1 entries 18 from 0|file 1 2|file 2 1"),
     "the same load twice": ([*LOAD, *LOAD], "part 1 entries 12 from 0|file 1 1|file 2 1|part 2 entries 12 from 12|file 1 1|file 2 1"),
     "a file of which the first unit is not there": (TWO_FILES[6:], "part 1 entries 12 from 0|begun before|file 2 1|open 1 units 2 to 2"),
+    "a request alone": ([("rts", 3), ("cts", 3)], "part 1 entries 2 from 0"),
+    "a request that is asked again": ([("rts", 3), ("rts", 3), ("cts", 3), ("sot", 0, 1, 2)], "part 1 entries 4 from 0|begun before"),
+    "a first unit before a second": ([("rts", 3), ("cts", 3), ("sot", 0, 1, 1), ("rts", 3), ("cts", 3), ("sot", 0, 1, 2)], "part 1 entries 6 from 0"),
+    "a start word before the first request": ([("sot", 0, 1, 2), ("rts", 3), ("cts", 3), ("sot", 0, 2, 1)], "part 1 entries 4 from 0"),
     "a file of which the last unit is not there": (TWO_FILES[:6], "part 1 entries 6 from 0|open 1 units 1 to 1"),
     "a file that was given up": ([*unit(1, 1, False), *unit(2, 1)], "part 1 entries 12 from 0|file 2 1|open 1 units 1 to 1"),
     "an answer that nobody asked for": (

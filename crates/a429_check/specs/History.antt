@@ -13,17 +13,17 @@ use Rattle.a429_check.specs.Ends.{Promise}
 use Rattle.a429_check.specs.Fault.{Causes, ComesBy, never}
 use Rattle.a429_check.specs.Profile.{IsProfileFault, IsProfileOf, IsSomeProfile}
 
--- the pieces that were put, where they are known, before and after, and whether what takes them has failed
+-- the pieces that were put before and after a call, where they are known, and whether the receiver of the pieces has failed
 pub record InPieces : Type 0 where
   pub old : Option PutPieces
   pub new : Option PutPieces
   pub failed : Bool
 
--- the same, of what takes the pieces, before and after
+-- the same, from the receiver before and after the call
 abbrev pub put_in : {P : Type 0} → (P → Option PutPieces) → (P → Bool) → P → P → InPieces
 put_in known failed old new = record { old = known old; new = known new; failed = failed new }
 
--- 1 where a piece stops
+-- the status is 1 where a piece stops
 abbrev pub stop_status : Option Stopped → ℕ → ℕ
 stop_status None others = others
 stop_status (Some s) others = 1
@@ -32,12 +32,12 @@ abbrev pub history_status : List PieceSummary → ℕ
 history_status [] = 0
 history_status (t ∷ told) = stop_status t.stop (history_status told)
 
--- under the profile of these bytes the pieces of the recording, which has no fault, were put, and this is told of them
+-- these bytes are a profile, the recording has no fault, its pieces under this profile were put, and these are their summaries
 pub record IsHistory (profile : List ℕ) (t : Taken) (o : InPieces) (p : Contents) (told : List PieceSummary) : Type 0 where
   pub is_profile : IsProfileOf profile p
   pub splits : SplitsAll p t o.old o.new told
 
--- and these are its status and its text
+-- these are the status and the text of `history` for such a recording
 pub record TellsHistory (profile : List ℕ) (t : Taken) (o : InPieces) (status : ℕ) (text : List ℕ) : Type 0 where
   pub contents : Contents
   pub told : List PieceSummary
@@ -45,19 +45,20 @@ pub record TellsHistory (profile : List ℕ) (t : Taken) (o : InPieces) (status 
   pub status_is : status ≡ history_status told
   pub text_is : text ≡ history_text contents.codes 1 told ++ caveat
 
--- the fault comes after the entries that were handed out
+-- this is the recording's fault, and all entries before it were handed out
 abbrev pub IsNextIn : Taken → ReadFault → Type 0
 IsNextIn t f = IfSome t.recording (λ r. (r.fault ≡ Some f) × (length r.entries ≡ t.given))
 
--- why nothing is told, under a profile: the recording's fault; its reader or what takes the pieces has failed; or out of memory
+-- why nothing is written where the profile has no fault: the recording's fault; its reader, or the receiver of the pieces, has failed; or
+-- out of memory
 abbrev pub untold_causes : Taken → Bool → InPieces → Causes
 untold_causes t failed o = record never { recording = IsNextIn t; device = (failed ≡ true) ⊎ (o.failed ≡ true); memory = Unit {0} }
 
--- nothing is told: the profile has a fault, and nothing was put; or there is a profile, and another fault
+-- nothing is written: the profile has a fault, and no piece was put; or the profile has none, and there is another fault
 abbrev pub AreUntold : List ℕ → Taken → Bool → InPieces → RunFault → Type 0
 AreUntold profile t failed o e = (IsProfileFault profile e × (o.new ≡ o.old)) ⊎ (IsSomeProfile profile × ComesBy (untold_causes t failed o) e)
 
--- `history` writes what is told once all is put
+-- `history` writes its text once all pieces were put
 abbrev pub of_history : List ℕ → Taken → Bool → InPieces → Promise
 of_history profile t failed o = record {
   says = λ status text. TellsHistory profile t o status text × (failed ≡ false) × (o.failed ≡ false);

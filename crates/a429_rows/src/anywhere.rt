@@ -23,9 +23,10 @@ const TWO_FILES: [&str; 18] = [
 ];
 
 // What is recorded, and what is said of its pieces.
-const ROWS: [(&[&str], &str); 13] = [
+const ROWS: [(&[&str], &str); 16] = [
     (&[], "0; "),
-    (&[REQUEST, CLEAR], "2, begun before; "),
+    // no start word says whether a file begins
+    (&[REQUEST, CLEAR], "2; "),
     // a file that is not whole
     (
         &[REQUEST, CLEAR, START, DATA, OPEN_END, ACK],
@@ -39,7 +40,14 @@ const ROWS: [(&[&str], &str); 13] = [
         ],
         "12, begun before, file 2 of 1, open 1 units 2 to 2; ",
     ),
-    (&[REQUEST, REQUEST, CLEAR, START], "4, begun before; "),
+    (&[REQUEST, REQUEST, CLEAR, START], "4; "),
+    (&[REQUEST, REQUEST, CLEAR, START_1_2], "4, begun before; "),
+    // the first start word after a request decides: no later one, and none before it
+    (&[REQUEST, CLEAR, START, REQUEST, CLEAR, START_1_2], "6; "),
+    (
+        &[START_1_2, DATA, END, ACK_1_2, REQUEST, CLEAR, START_2],
+        "7; ",
+    ),
     // file 1 is given up
     (
         &[

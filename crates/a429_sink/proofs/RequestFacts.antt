@@ -1,9 +1,8 @@
 -- The requests of a piece: with which of them a file begins.
-use Rattle.std.proofs.Common.{◌≡◌, ℕ, zero, suc, ◌<◌, ◌==◌, ◌⊎◌, ◌↔◌, Bool, true, false, cond, List, [], ◌∷◌, ◌++◌, length, Option, Some, None, slice_get, refl, sym, ap, ◌∙◌, subst, inl, inr, arith, eqb-true}
+use Rattle.std.proofs.Common.{◌≡◌, ℕ, zero, suc, ◌<◌, ◌==◌, ◌⊎◌, ◌↔◌, Bool, true, false, cond, List, [], ◌∷◌, ◌++◌, length, Option, Some, None, refl, sym, ap, ◌∙◌, subst, inl, inr, arith, eqb-true}
 use Rattle.std.specs.Prelude.{IfSome, IsSome, nat_lt, option_map}
 use Rattle.std.proofs.lemmas.Bool.{cases_order, eqb-false, lt-ltb}
 use Rattle.std.proofs.lemmas.List.{append_assoc, append-nil, length-append}
-use Rattle.std.proofs.lemmas.Option.{slice_get_past}
 use Rattle.a429_word.specs.declared.bus.Bus.{Bus}
 use Rattle.a429_word.specs.declared.bus.Bus.TheVariants as bus
 use Rattle.a429_profile.specs.declared.codes.Codes.{Codes}
@@ -19,10 +18,8 @@ use Rattle.a429_sink.specs.declared.requests.Mark.{Mark}
 use Rattle.a429_sink.specs.declared.requests.Requests.{Requests}
 use Rattle.a429_sink.specs.declared.requests.Start.{Start}
 use Rattle.a429_sink.specs.declared.requests.Start.TheVariants as start
-use Rattle.a429_sink.specs.History.{BeginsFileAt, IsBegunBefore, MayEnd}
-use Rattle.a429_sink.specs.Owed.{IsRequest}
-use Rattle.a429_sink.specs.Requests.{AreOrdered, AreRequests, HasFirst, HasRequestAt, IsAt, IsFirst, IsMarked, IsUpToMark, SaysStart, asked, asked_by, first_asked, is_before, later_doubt, later_place, no_requests, requests_after, settled, start_after}
-use Rattle.a429_sink.proofs.StoppingFacts.{get_first, get_here}
+use Rattle.a429_sink.specs.History.{BeginsFileAt, GoesOnWithFile, IsBegunBefore, MayEnd, asked_start, first_start, if_asked, start_or}
+use Rattle.a429_sink.specs.Requests.{AreOrdered, AreRequests, HasRequestAt, IsAt, IsFirst, IsMarked, IsUpToMark, SaysStart, asked, asked_by, first_after, first_asked, is_before, later_doubt, later_place, no_requests, requests_after, settled, start_after}
 
 -- ---- a request
 
@@ -140,39 +137,65 @@ may_end p items rest m (h, some) = (some, subst (λ (T : Type 0). T) (sym (file_
 
 -- ---- whether a piece is begun before
 
-request_at : (p : Contents) (items : List Seen) (n : ℕ) (s : Start) (h : HasRequestAt p items n s) → IsRequest p (slice_get items n)
-request_at p items n s h =
-    subst (IsRequest p) (sym (ap (λ (l : List Seen). slice_get l n) h.all ∙ ap (slice_get (h.before ++ h.request ∷ h.after)) h.place ∙ get_here h.before h.after h.request)) h.asks
-
-file_in : (p : Contents) (items : List Seen) (n : ℕ) (s : Start) (h : HasRequestAt p items n s) → BeginsFileAt p items n → BeginsFile p.codes (next_start p.codes (h.after ++ []))
-file_in p items n s h b = (subst (λ (T : Type 0). T) (file_at p items [] n s h) (subst (λ (l : List Seen). BeginsFileAt p l n) (sym (append-nil items)) b)).1
-
-begun_by : (p : Contents) (items : List Seen) (n : ℕ) (s : Start) (h : HasRequestAt p items n s) → ((m : ℕ) → m < n → IsRequest p (slice_get items m) → ⊥) → (BeginsFile p.codes (next_start p.codes (h.after ++ [])) → ⊥) → IsBegunBefore p items
-begun_by p items n s h first other = record {
-  place = n;
-  request = request_at p items n s h;
-  first = first;
-  other = λ b. other (file_in p items n s h b);
-}
-
--- the first request is the only first one
-same_first : (p : Contents) (items : List Seen) (n m : ℕ) → IsRequest p (slice_get items n) → ((k : ℕ) → k < n → IsRequest p (slice_get items k) → ⊥) → IsRequest p (slice_get items m) → ((k : ℕ) → k < m → IsRequest p (slice_get items k) → ⊥) → n ≡ m
-same_first p items n m at_n first_n at_m first_m = by (cases_order n m)
-  where
-    by : (n ≡ m) ⊎ ((n < m) ⊎ (m < n)) → n ≡ m
-    by (inl e) = e
-    by (inr (inl l)) = absurd (first_m n l at_n)
-    by (inr (inr l)) = absurd (first_n m l at_m)
+begins_or_goes_on : (c : Codes) (n : Option UnitNumber) → BeginsFile c n → GoesOnWithFile c n → ⊥
+begins_or_goes_on c None begins on = on
+begins_or_goes_on c (Some n) begins on = on begins
 
 pub begun_before : (p : Contents) (items : List Seen) (first : Option Start) → IsFirst p items first → (is_before first ≡ true) ↔ IsBegunBefore p items
-begun_before p items None none = (λ e. absurd (cc e), λ b. absurd (none b.place b.request))
-begun_before p items (Some start.Open) f = (λ e. begun_by p items f.place start.Open f.here f.first (λ b. subst (BeginsFile p.codes) (f.here.says []) b), λ b. refl)
-begun_before p items (Some start.Other) f = (λ e. begun_by p items f.place start.Other f.here f.first (f.here.says []), λ b. refl)
-begun_before p items (Some start.OfFile) f = (
+begun_before p items None is = (λ e. absurd (cc e), λ b. absurd (subst (GoesOnWithFile p.codes) (ap (asked_start p.codes) (sym (append-nil items)) ∙ is []) b))
+begun_before p items (Some start.Open) is = (λ e. absurd (cc e), λ b. absurd (subst (GoesOnWithFile p.codes) (ap (asked_start p.codes) (sym (append-nil items)) ∙ is []) b))
+begun_before p items (Some start.OfFile) is = (
   λ e. absurd (cc e),
-  λ b. absurd (b.other (subst (BeginsFileAt p items) (same_first p items f.place b.place (request_at p items f.place start.OfFile f.here) f.first b.request b.first)
-      (subst (λ (l : List Seen). BeginsFileAt p l f.place) (append-nil items) (subst (λ (T : Type 0). T) (sym (file_at p items [] f.place start.OfFile f.here)) (asks_on f.here.request.bus (form_of p.codes f.here.request.bus f.here.request.word) f.here.asks, f.here.says []))))),
+  λ b. absurd (begins_or_goes_on p.codes (asked_start p.codes items) (subst (λ (l : List Seen). BeginsFile p.codes (asked_start p.codes l)) (append-nil items) (is [])) b),
 )
+begun_before p items (Some start.Other) is = (λ e. subst (λ (l : List Seen). GoesOnWithFile p.codes (asked_start p.codes l)) (append-nil items) (is []), λ b. refl)
+
+-- what is said of the first start word after a request, after one more word
+first_by_word : (p : Contents) (i : Seen) (x : Option Form) → form_of p.codes i.bus i.word ≡ x → (items all : List Seen) → ((rest : List Seen) → all ++ rest ≡ items ++ i ∷ rest)
+    → (s : Start) → IsFirst p items (Some s) → IsFirst p all (Some (first_after p.codes x s))
+first_by_word p i x e items all is start.OfFile f = off x
+  where
+    same : IsFirst p all (Some start.OfFile)
+    same rest = subst (λ (l : List Seen). BeginsFile p.codes (asked_start p.codes l)) (sym (is rest)) (f (i ∷ rest))
+
+    off : (x : Option Form) → IsFirst p all (Some (first_after p.codes x start.OfFile))
+    off None = same
+    off (Some (form.Rts n)) = same
+    off (Some (form.Sot g h l)) = same
+    off (Some (form.Part s)) = same
+    off (Some (form.Eot h k)) = same
+    off (Some (form.Cts n)) = same
+    off (Some (form.Ack h l)) = same
+    off (Some (form.Nak n)) = same
+first_by_word p i x e items all is start.Other f = off x
+  where
+    same : IsFirst p all (Some start.Other)
+    same rest = subst (λ (l : List Seen). GoesOnWithFile p.codes (asked_start p.codes l)) (sym (is rest)) (f (i ∷ rest))
+
+    off : (x : Option Form) → IsFirst p all (Some (first_after p.codes x start.Other))
+    off None = same
+    off (Some (form.Rts n)) = same
+    off (Some (form.Sot g h l)) = same
+    off (Some (form.Part s)) = same
+    off (Some (form.Eot h k)) = same
+    off (Some (form.Cts n)) = same
+    off (Some (form.Ack h l)) = same
+    off (Some (form.Nak n)) = same
+first_by_word p i x e items all is start.Open f = off x (λ rest. ap (asked_start p.codes) (is rest) ∙ f (i ∷ rest) ∙ ap (λ (y : Option Form). start_or y (first_start p.codes rest)) e)
+  where
+    off : (x : Option Form) → ((rest : List Seen) → asked_start p.codes (all ++ rest) ≡ start_or x (first_start p.codes rest)) → IsFirst p all (Some (first_after p.codes x start.Open))
+    off None h = h
+    off (Some (form.Rts n)) h = h
+    off (Some (form.Part s)) h = h
+    off (Some (form.Eot q k)) h = h
+    off (Some (form.Cts n)) h = h
+    off (Some (form.Ack q l)) h = h
+    off (Some (form.Nak n)) h = h
+    off (Some (form.Sot g q l)) h = by (l == p.codes.first_ldu) refl
+      where
+        by : (first : Bool) → (l == p.codes.first_ldu) ≡ first → IsFirst p all (Some (cond first start.OfFile start.Other))
+        by true is_first = λ rest. subst (BeginsFile p.codes) (sym (h rest)) (eqb-true l p.codes.first_ldu is_first)
+        by false is_first = λ rest. subst (GoesOnWithFile p.codes) (sym (h rest)) (eqb-false l p.codes.first_ldu is_first)
 
 -- ---- one more word
 
@@ -242,30 +265,15 @@ module _ (p : Contents) (items : List Seen) (i : Seen) (r : Requests) (is : AreR
   abbrev now : Start
   now = start_after p.codes x start.Open
 
-  -- the first request
-  first_on : (s : Start) → HasFirst p items s → HasFirst p all (start_after p.codes x s)
-  first_on s f = record {
-    place = f.place;
-    here = at_more p items i f.place s f.here;
-    first = λ m l h. f.first m l (subst (IsRequest p) (get_first items (i ∷ []) m (omega (arith, l, at_inside p items f.place s f.here))) h);
-  }
+  -- the first start word after a request
+  words_on : (rest : List Seen) → all ++ rest ≡ items ++ i ∷ rest
+  words_on rest = append_assoc items (i ∷ []) rest
 
-  none_first : ((m : ℕ) → IsRequest p (slice_get items m) → ⊥) → (m : ℕ) → m < length items → IsRequest p (slice_get all m) → ⊥
-  none_first none m l h = none m (subst (IsRequest p) (get_first items (i ∷ []) m l) h)
-
-  none_on : ((m : ℕ) → IsRequest p (slice_get items m) → ⊥) → asks i.bus x ≡ None → (m : ℕ) → IsRequest p (slice_get all m) → ⊥
-  none_on none quiet m h = by (cases_order m (length items))
-    where
-      by : (m ≡ length items) ⊎ ((m < length items) ⊎ (length items < m)) → ⊥
-      by (inl e) = absurd (cc (subst IsSome quiet (subst (IsRequest p) (ap (slice_get all) e ∙ get_here items [] i) h)))
-      by (inr (inl l)) = none_first none m l h
-      by (inr (inr l)) = subst (IsRequest p) (slice_get_past all m (omega (arith, l, length-append items (i ∷ [])))) h
-
-  first_by : (first : Option Start) → IsFirst p items first → (n : Option ℕ) → asks i.bus x ≡ n → IsFirst p all (asked_first n (option_map (start_after p.codes x) first))
-  first_by None none None quiet = none_on none quiet
-  first_by None none (Some n) e = record { place = length items; here = at_here p items i (subst IsSome (sym e) refl); first = λ m l h. none_first none m l h }
-  first_by (Some s) f None e = first_on s f
-  first_by (Some s) f (Some n) e = first_on s f
+  first_by : (first : Option Start) → IsFirst p items first → (n : Option ℕ) → asks i.bus x ≡ n → IsFirst p all (asked_first n (option_map (first_after p.codes x) first))
+  first_by None none None e = λ rest. ap (asked_start p.codes) (words_on rest) ∙ none (i ∷ rest) ∙ ap (λ (n : Option ℕ). if_asked n (first_start p.codes rest) (asked_start p.codes rest)) e
+  first_by None none (Some n) e = λ rest. ap (asked_start p.codes) (words_on rest) ∙ none (i ∷ rest) ∙ ap (λ (n : Option ℕ). if_asked n (first_start p.codes rest) (asked_start p.codes rest)) e
+  first_by (Some s) f None e = first_by_word p i x refl items all words_on s f
+  first_by (Some s) f (Some n) e = first_by_word p i x refl items all words_on s f
 
   -- the last place, and the one in doubt
   place_by : (s : Start) → now ≡ s → (place doubt : Option Mark) → IfSome place (IsMarked p items start.OfFile) → IfSome doubt (IsMarked p items start.Open) → IfSome (later_place s doubt place) (IsMarked p all start.OfFile)
@@ -405,7 +413,7 @@ module _ (p : Contents) (items : List Seen) (i : Seen) (r : Requests) (is : AreR
 
 pub no_requests_yet : (p : Contents) → AreRequests p [] no_requests
 no_requests_yet p = record {
-  first = λ m h. h;
+  first = λ rest. refl;
   place = tt;
   doubt = tt;
   order = tt;

@@ -1,22 +1,22 @@
 -- A recording in pieces, each of which may be the end of a run, and what is said of a piece (profile).
-use Rattle.std.specs.Prelude.{ℕ, ◌≡◌, ◌↔◌, suc, ◌<◌, ◌≤◌, ◌==◌, ◌&&◌, ◌⊎◌, ◌++◌, not, Bool, true, if◌then◌else◌, List, [], ◌∷◌, length, drop, reverse, take, Option, Some, None, slice_get}
+use Rattle.std.specs.Prelude.{ℕ, ◌≡◌, ◌≢◌, ◌↔◌, suc, ◌<◌, ◌≤◌, ◌==◌, ◌&&◌, ◌⊎◌, ◌++◌, not, Bool, true, if◌then◌else◌, List, [], ◌∷◌, length, drop, reverse, take, Option, Some, None, slice_get}
 use Rattle.std.specs.List.{filter}
 use Rattle.a429_word.specs.declared.bus.Bus.{Bus}
 use Rattle.a429_word.specs.declared.bus.Bus.TheVariants as bus
 use Rattle.a429_profile.specs.declared.codes.Codes.{Codes}
 use Rattle.a429_profile.specs.Profile.{Contents}
 use Rattle.a429_ldu.specs.declared.forms.Form.{Form}
-use Rattle.a429_ldu.specs.declared.forms.Form.TheVariants.{Ack}
+use Rattle.a429_ldu.specs.declared.forms.Form.TheVariants.{Ack, Sot}
 use Rattle.a429_ldu.specs.Form.{form_of}
 use Rattle.a429_ldu.specs.Ldu.{is_final}
 use Rattle.a429_link.specs.declared.file.FileBytes.{FileBytes}
 use Rattle.a429_link.specs.declared.number.UnitNumber.{UnitNumber}
 use Rattle.a429_link.specs.declared.seen.Seen.{Seen}
+use Rattle.a429_link.specs.Attempt.{asks}
 use Rattle.a429_link.specs.Sink.{Number, SinkPhase, OwesAck, number_of}
 use Rattle.a429_parts.specs.Cutting.{BeginsAnew}
 use Rattle.a429_sink.specs.declared.file_units.FileUnits.{FileUnits}
 use Rattle.a429_sink.specs.Anywhere.{IsRefusedAnywhere, Known, is_known, learns, sure_files, unknown}
-use Rattle.a429_sink.specs.Owed.{IsRequest}
 
 -- ---- where a piece ends
 
@@ -63,12 +63,34 @@ joined_pieces (piece ∷ pieces) = piece ++ joined_pieces pieces
 
 -- ---- what is said of a piece
 
--- its first request is not one with which a file begins
-pub record IsBegunBefore (p : Contents) (piece : List Seen) : Type 0 where
-  pub place : ℕ
-  pub request : IsRequest p (slice_get piece place)
-  pub first : (m : ℕ) → m < place → IsRequest p (slice_get piece m) → ⊥
-  pub other : BeginsFileAt p piece place → ⊥
+-- the number of a start word; else what comes later
+abbrev pub start_or : Option Form → Option UnitNumber → Option UnitNumber
+start_or (Some (Sot gfi file ldu)) later = Some (record { file = file; ldu = ldu })
+start_or form later = later
+
+-- the number of the first start word, also where other requests come before it
+abbrev pub first_start : Codes → List Seen → Option UnitNumber
+first_start c [] = None
+first_start c (i ∷ items) = start_or (form_of c i.bus i.word) (first_start c items)
+
+-- after a request the first of the two, else the second
+abbrev pub if_asked : Option ℕ → Option UnitNumber → Option UnitNumber → Option UnitNumber
+if_asked (Some n) asked other = asked
+if_asked None asked other = other
+
+-- the number of the first start word after the first request
+abbrev pub asked_start : Codes → List Seen → Option UnitNumber
+asked_start c [] = None
+asked_start c (i ∷ items) = if_asked (asks i.bus (form_of c i.bus i.word)) (first_start c items) (asked_start c items)
+
+-- the number of a link data unit that is not the first one of a file
+abbrev pub GoesOnWithFile : Codes → Option UnitNumber → Type 0
+GoesOnWithFile c None = ⊥
+GoesOnWithFile c (Some n) = n.ldu ≢ c.first_ldu
+
+-- the first start word after a request is not that of the first unit of a file: the file was begun before the piece
+abbrev pub IsBegunBefore : Contents → List Seen → Type 0
+IsBegunBefore p piece = GoesOnWithFile p.codes (asked_start p.codes piece)
 
 -- where it stops, if it does
 abbrev pub IsStop : Contents → List Seen → Option ℕ → Type 0

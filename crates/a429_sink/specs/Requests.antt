@@ -1,5 +1,5 @@
 -- The requests of a piece: with which of them a file begins (profile).
-use Rattle.std.specs.Prelude.{ℕ, ◌≡◌, ◌⊎◌, ◌<◌, ◌≤◌, ◌==◌, nat_lt, Bool, true, false, if◌then◌else◌, List, ◌∷◌, ◌++◌, length, Option, Some, None, IfSome, IsSome, option_map, slice_get}
+use Rattle.std.specs.Prelude.{ℕ, ◌≡◌, ◌⊎◌, ◌<◌, ◌≤◌, ◌==◌, nat_lt, Bool, true, false, if◌then◌else◌, List, ◌∷◌, ◌++◌, length, Option, Some, None, IfSome, IsSome, option_map}
 use Rattle.a429_word.specs.declared.bus.Bus.{Bus}
 use Rattle.a429_profile.specs.declared.codes.Codes.{Codes}
 use Rattle.a429_profile.specs.Profile.{Contents}
@@ -13,8 +13,7 @@ use Rattle.a429_sink.specs.declared.requests.Mark.{Mark}
 use Rattle.a429_sink.specs.declared.requests.Requests.{Requests}
 use Rattle.a429_sink.specs.declared.requests.Start.{Start}
 use Rattle.a429_sink.specs.declared.requests.Start.TheVariants as start
-use Rattle.a429_sink.specs.History.{MayEnd}
-use Rattle.a429_sink.specs.Owed.{IsRequest}
+use Rattle.a429_sink.specs.History.{GoesOnWithFile, MayEnd, asked_start, first_start}
 
 -- ---- what words say of a request before them
 
@@ -33,16 +32,13 @@ pub record HasRequestAt (p : Contents) (items : List Seen) (n : ℕ) (s : Start)
   pub asks : IsSome (asks request.bus (form_of p.codes request.bus request.word))
   pub says : SaysStart p.codes after s
 
--- of the first request this is said
-pub record HasFirst (p : Contents) (items : List Seen) (s : Start) : Type 0 where
-  pub place : ℕ
-  pub here : HasRequestAt p items place s
-  pub first : (m : ℕ) → m < place → IsRequest p (slice_get items m) → ⊥
-
--- or there is none
+-- what they say of the first start word after a request, whatever comes: there is no request yet; there is one; or the start word is
+-- that of a file's first unit, or of another one
 abbrev pub IsFirst : Contents → List Seen → Option Start → Type 0
-IsFirst p items None = (m : ℕ) → IsRequest p (slice_get items m) → ⊥
-IsFirst p items (Some s) = HasFirst p items s
+IsFirst p items None = (rest : List Seen) → asked_start p.codes (items ++ rest) ≡ asked_start p.codes rest
+IsFirst p items (Some start.Open) = (rest : List Seen) → asked_start p.codes (items ++ rest) ≡ first_start p.codes rest
+IsFirst p items (Some start.OfFile) = (rest : List Seen) → BeginsFile p.codes (asked_start p.codes (items ++ rest))
+IsFirst p items (Some start.Other) = (rest : List Seen) → GoesOnWithFile p.codes (asked_start p.codes (items ++ rest))
 
 -- ---- where a piece may end
 
@@ -76,10 +72,10 @@ pub record AreRequests (p : Contents) (items : List Seen) (r : Requests) : Type 
 abbrev pub no_requests : Requests
 no_requests = record { first = None; place = None; doubt = None }
 
--- it is not said that a file begins with the first request
+-- the first start word after a request is not that of a file's first unit
 abbrev pub is_before : Option Start → Bool
 is_before None = false
-is_before (Some start.Open) = true
+is_before (Some start.Open) = false
 is_before (Some start.OfFile) = false
 is_before (Some start.Other) = true
 
@@ -88,6 +84,11 @@ abbrev pub start_after : Codes → Option Form → Start → Start
 start_after c (Some (Rts n)) start.Open = start.Other
 start_after c (Some (Sot gfi file ldu)) start.Open = if ldu == c.first_ldu then start.OfFile else start.Other
 start_after c form s = s
+
+-- what is said of the first start word after a request, after a word of this form: another request leaves it as it is
+abbrev pub first_after : Codes → Option Form → Start → Start
+first_after c (Some (Rts n)) s = s
+first_after c form s = start_after c form s
 
 abbrev pub later_place : Start → Option Mark → Option Mark → Option Mark
 later_place start.OfFile (Some doubt) place = Some doubt
@@ -100,7 +101,7 @@ later_doubt s doubt = None
 -- the requests before it
 abbrev pub settled : Codes → Option Form → Requests → Requests
 settled c form r = record {
-  first = option_map (start_after c form) r.first;
+  first = option_map (first_after c form) r.first;
   place = later_place (start_after c form start.Open) r.doubt r.place;
   doubt = later_doubt (start_after c form start.Open) r.doubt;
 }

@@ -1,7 +1,7 @@
 //! The requests of a piece: with which of them a file begins.
 
 ghost use Rattle.std.specs.Prelude.{◌≡◌};
-ghost use Rattle.a429_sink.specs.Requests.{asked, is_before, no_requests, requests_after, settled, start_after};
+ghost use Rattle.a429_sink.specs.Requests.{asked, is_before, no_requests, first_after, requests_after, settled, start_after};
 
 use crate::file_units::UnitsMark;
 use a429_ldu::Form;
@@ -11,9 +11,9 @@ use a429_word::Bus;
 /// What the words after a request say of it.
 #[derive(Clone, Copy, Debug, PartialEq, Eq)]
 pub(crate) enum Start {
-    /// Neither a start word nor another request has come.
+    /// No start word has come, nor a later request that counts in its place.
     Open,
-    /// A file begins with it: the first start word after it is that of a first unit, and no request comes before that.
+    /// A file begins with it: the first start word after it is that of a file's first unit.
     OfFile,
     Other,
 }
@@ -35,6 +35,16 @@ impl Start {
             _ => self,
         }
     }
+
+    // The same of the first request, in whose place no later one counts.
+    fn after_first(self, profile: &Profile, form: &Option<Form>) -> Start
+        ensures { result ≡ first_after profile.now.codes form.now self }
+    {
+        match form {
+            Some(Form::Rts { .. }) => self,
+            _ => self.after(profile, form),
+        }
+    }
 }
 
 /// What is said of the first words of a piece, where it may end after them.
@@ -42,7 +52,7 @@ impl Start {
 pub(crate) struct Mark {
     /// How many words they are.
     pub(crate) place: usize,
-    /// Their first request does not begin a file.
+    /// The first start word after a request is not that of a file's first unit.
     pub(crate) begun_before: bool,
     /// How many files are sure of them.
     pub(crate) files: usize,
@@ -52,7 +62,7 @@ pub(crate) struct Mark {
 /// The requests of a piece so far.
 #[derive(Clone, Copy, Debug, PartialEq, Eq)]
 pub(crate) struct Requests {
-    // What is said of the first one.
+    // What the first start word after the first one says.
     first: Option<Start>,
     /// The last one that begins a file, where it is not the first word.
     pub(crate) place: Option<Mark>,
@@ -72,11 +82,11 @@ impl Requests {
         }
     }
 
-    /// The first one does not begin a file, or it is open whether it does.
+    /// The first start word after a request is not that of a file's first unit.
     pub(crate) fn is_begun_before(&self) -> bool
         ensures { result ≡ is_before self.now.first }
     {
-        matches!(self.first, Some(Start::Open | Start::Other))
+        matches!(self.first, Some(Start::Other))
     }
 
     /// Takes the next word, which has this form or none. `mark` says what is said of the words before it.
@@ -94,7 +104,7 @@ impl Requests {
         ensures { self.new ≡ settled profile.now.codes form.now self.old }
     {
         if let Some(first) = self.first {
-            self.first = Some(first.after(profile, form));
+            self.first = Some(first.after_first(profile, form));
         }
         match Start::Open.after(profile, form) {
             Start::Open => {}

@@ -1,6 +1,6 @@
 //! A recording in pieces, while it is read.
 
-ghost use Rattle.std.specs.Prelude.{◌≡◌, ◌≤◌, ◌⊎◌, ◌++◌, ◌∷◌, [], length, take, drop, Bool, List, Option, true, false, IfErr, IfOk, IsErrOf, OnOk};
+ghost use Rattle.std.specs.Prelude.{◌≡◌, ◌⊎◌, ◌++◌, ◌∷◌, [], take, drop, Bool, List, Option, true, false, IfErr, IfOk, IsErrOf, OnOk};
 ghost use Rattle.a429_link.specs.declared.seen.Seen.{Seen};
 ghost use Rattle.a429_profile.specs.Profile.{Contents};
 ghost use Rattle.a429_record.specs.declared.entry.Entry.{Entry as AnEntry};
@@ -15,7 +15,7 @@ use crate::requests::Mark;
 use crate::summary::{PieceEnd, PieceSummary, Summaries};
 use a429_cert::seen;
 use a429_link::FileBytes;
-use a429_parts::next_of;
+use a429_parts::{drop_front, fault_by, next_of};
 use a429_profile::Profile;
 use a429_record::{Entry, EntryLine, EntryReader, ReadFault};
 use a429_word::{Failing, Trouble};
@@ -280,25 +280,4 @@ fn take_front(files: &mut Vec<FileBytes>, size: usize) -> Result<Vec<FileBytes>,
     let size = size.min(files.len());
     let rest = files.split_off(size)?;
     Ok(mem::replace(files, rest))
-}
-
-// Drops the first entries. Only what comes after them is moved.
-fn drop_front(entries: &mut Vec<Entry>, size: usize)
-    requires { size ≤ length entries.old.items }
-    ensures { entries.new.items ≡ drop size entries.old.items }
-{
-    let left = entries.len() - size;
-    entries.copy_within(size.., 0);
-    entries.truncate(left);
-}
-
-// Why no piece was put.
-fn fault_by(trouble: Trouble) -> ReadFault
-    ensures device { result ≡ read.Device → trouble ≡ Trouble.Device }
-    ensures either { (result ≡ read.Device) ⊎ (result ≡ read.OutOfMemory) }
-{
-    match trouble {
-        Trouble::Device => ReadFault::Device,
-        Trouble::OutOfMemory => ReadFault::OutOfMemory,
-    }
 }

@@ -27,7 +27,7 @@ pub struct PieceSummary {
     pub from: usize,
     /// How many entries it has.
     pub entries: usize,
-    /// Its first request does not begin a file.
+    /// The first start word after a request is not that of a file's first unit.
     pub begun_before: bool,
     /// Where it stops, if it does.
     pub stop: Option<Stopped>,

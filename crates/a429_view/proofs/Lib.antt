@@ -8,4 +8,5 @@ pub mod TraceFacts
 pub mod DigitCounts
 pub mod LineFacts
 pub mod BlocksFacts
+pub mod BlockFilesFacts
 pub mod HistoryFacts

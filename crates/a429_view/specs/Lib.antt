@@ -11,5 +11,6 @@ pub mod Survey
 pub mod Trace
 pub mod Blocks
 pub mod BlockSteps
+pub mod BlockFiles
 pub mod Sink
 pub mod History

@@ -1,11 +1,16 @@
 //! Laws of the definitions that the contracts of this crate cite.
 
 ghost use Rattle.std.specs.Prelude.{◌≡◌, List};
+ghost use Rattle.a429_cert.specs.Explained.{items_of};
+ghost use Rattle.a429_link.specs.Observer.{AreAllowed, at_first};
+ghost use Rattle.a429_link.specs.Run.{RunOf, delivered_by, trace};
+ghost use Rattle.a429_link.specs.Trace.{files_of};
 ghost use Rattle.a429_profile.specs.Profile.{Contents};
 ghost use Rattle.a429_profile.specs.declared.codes.Codes.{Codes};
 ghost use Rattle.a429_record.specs.declared.entry.Entry.{Entry};
 ghost use Rattle.a429_view.specs.declared.mark.Span.{Span};
 ghost use Rattle.a429_view.specs.declared.survey.Survey.{Survey};
+ghost use Rattle.a429_view.specs.BlockFiles.{NameFiles, delivering_rows};
 ghost use Rattle.a429_view.specs.Survey.{IsSurvey, survey_text, text_of};
 ghost use Rattle.a429_view.specs.Crossings.{crossings, delivered_over, numbers, rows_explained, rows_over, ExplainedRun, HasAll, RunOver};
 
@@ -15,6 +20,14 @@ ghost use Rattle.a429_view.specs.Crossings.{crossings, delivered_over, numbers, 
 pub fn what_crosses_is_delivered()
     ensures run { (p : Contents) (entries : List Entry) (span : Span) (r : RunOver p entries) → HasAll span entries → crossings (rows_over span r) ≡ numbers (delivered_over r) }
     ensures yes { (p : Contents) (entries : List Entry) (span : Span) (e : ExplainedRun p entries) → HasAll span entries → crossings (rows_explained span e) ≡ numbers e.files }
+{}
+
+/// Of entries that are each allowed after those before them, the rows `acknowledged` whose link data unit is the last of its
+/// file have, in order, the numbers of the files that the sink delivers: those of the line `ONLY` of a trace. Each run that
+/// records these words delivers files of these numbers, in this order, and no others.
+pub fn acknowledged_rows_name_the_files()
+    ensures sink { (p : Contents) (es : List Entry) → AreAllowed p at_first (items_of es) → NameFiles (delivering_rows p es) (files_of p (items_of es)) }
+    ensures run { (p : Contents) (es : List Entry) (r : RunOf p) → trace r.steps ≡ items_of es → NameFiles (delivering_rows p es) (delivered_by r) }
 {}
 
 /// The text of a survey is that of the entries that were counted: of any entries that have its counts.
