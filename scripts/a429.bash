@@ -18,6 +18,7 @@ import MAP EXPORT OUT: makes a recording of what another program exported
 make PROFILE FILE..: writes the recording of a transfer of files in which nothing is lost
 pack REC: writes a recording in binary
 decide PROFILE REC CERT: finds out whether files crossed
+why PROFILE REC: prints the verdict of decide
 check PROFILE REC CERT: does the same as decide by a fixed rule alone
 verify PROFILE REC CERT: checks a certificate against a recording
 series PROFILE DIR: checks the certificates of a recording in parts

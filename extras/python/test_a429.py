@@ -16,7 +16,7 @@ from unittest import mock
 import a429
 from a429 import (
     Attempt, Bus, Destination, Error, File, Form, Impossible, Imported, Jump, Kind, Label, Missing, No, Only, Open, Piece, Refused, Side,
-    SinkNo, SinkYes, Survey, Timeout, Trace, Traced, Unexplained, Unit, Yes,
+    SinkNo, SinkYes, Survey, Timeout, Trace, Traced, Unexplained, Unit, Why, Yes,
 )  # fmt: skip
 
 ROOT = Path(__file__).resolve().parents[2]
@@ -161,6 +161,15 @@ class Program(unittest.TestCase):
         self.assertEqual(found, [open_one, Attempt(1, 1, 1000, 1000, None, None, None, None, None, "not-allowed", None)])
         first = next(a429.blocks(PROFILE, recording("damaged-word")))
         self.assertEqual(first, Attempt(0, 5, 0, 5000, 1, 1, 3, 2, 1, "refused", "too-few"))
+
+    def test_why(self):
+        self.assertEqual(a429.why(PROFILE, recording("impossible")), Why(Impossible(1, "NotGranted"), None, "allowed: rts, cts 3"))
+        self.assertEqual(a429.why(PROFILE, recording("one-byte")), Why(Yes((File(1, 1),))))
+        # (the unit comes again with another end word)
+        rows = recording("one-byte").read_text().splitlines()[:6]
+        again = [f"{n}{row[4:]}" for n, row in enumerate(rows[1:4], 5000)] + ["5003,A,F0A3F523"]
+        found = a429.why(PROFILE, "".join(f"{row}\n" for row in rows + again).encode())
+        self.assertEqual(found, Why(Impossible(8, "OtherBlock"), 4, "end word F0A3F523, before 71A3F523"))
 
     def test_history(self):
         # (the sink is restarted while it owes an answer)

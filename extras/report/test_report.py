@@ -146,6 +146,8 @@ class Reports(unittest.TestCase):
         survey = said_by("survey", profile, recording)
         outcomes, facts = Counter(it["outcome"] for it in rows), page.facts()
         self.assertIn(f"<code>{verdict}</code>", page.text)
+        for it in said_by("why", profile, recording).splitlines()[1:] if verdict.startswith("IMPOSSIBLE") else ():
+            self.assertIn(f"<code>{it}</code>", page.text)
         damaged = sum(map(int, re.findall(r"^[AB] free parity (\d+) ", survey, re.MULTILINE)))
         wanted = {
             "words": survey.split()[1], "attempts": len(rows), "refused": outcomes["refused"],

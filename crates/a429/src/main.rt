@@ -9,7 +9,7 @@ use a429_check::{
     Span, command, read_whole, report, run_blocks, run_by_rule, run_cut, run_extract, run_forms,
     run_history, run_import, run_keep, run_labels, run_make, run_pack, run_picture, run_series,
     run_show, run_side, run_sink, run_survey, run_trace, run_units, run_upgrade, run_verify,
-    run_version, run_word,
+    run_version, run_why, run_word,
 };
 use a429_record::EntryReader;
 use a429_view::UnitRows;
@@ -103,6 +103,7 @@ fn answer<W: Write + Drop>(
         Command::Trace { profile, recording } => trace(rt, alloc, profile, recording, &mut out),
         Command::Blocks { profile, recording } => blocks(rt, alloc, profile, recording, &mut out),
         Command::Sink { profile, recording } => sink(rt, alloc, profile, recording, &mut out),
+        Command::Why { profile, recording } => why(rt, alloc, profile, recording, &mut out),
         Command::Make { profile, files } => make(rt, alloc, profile, files.as_slice(), &mut out),
         Command::Pack(recording) => pack(rt, alloc, recording, &mut out),
         Command::Check(claim) => find(rt, alloc, claim, Rule::Check, &mut out),
@@ -296,6 +297,18 @@ fn sink<W: Write>(
     let profile = bytes_of(rt, alloc, profile)?;
     let mut rec = opened_whole(rt, alloc, recording)?;
     run_sink(alloc, profile.as_slice(), &mut rec, out)
+}
+
+fn why<W: Write>(
+    rt: &impl Files,
+    alloc: Global,
+    profile: &str,
+    recording: &str,
+    out: &mut Tally<W>,
+) -> Result<u8, RunFault> {
+    let profile = bytes_of(rt, alloc, profile)?;
+    let mut rec = opened(rt, recording, CAP)?;
+    run_why(alloc, profile.as_slice(), &mut rec, out)
 }
 
 // The answer of a command that writes as it reads: the lines before a fault are flushed too.

@@ -27,3 +27,4 @@ pub mod CutFacts
 pub mod TraceLines
 mod BlocksRows
 pub mod EndsFacts
+pub mod WhyFacts

@@ -32,3 +32,4 @@ pub mod Cut
 pub mod Trace
 pub mod Blocks
 pub mod Version
+pub mod Why

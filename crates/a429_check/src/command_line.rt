@@ -16,7 +16,7 @@ use std::alloc::{AllocError, Global};
 pub mod commands;
 
 // Each command, and the names of the words that it takes.
-const COMMANDS: [(&str, &[&str]); 24] = [
+const COMMANDS: [(&str, &[&str]); 25] = [
     ("version", &[]),
     ("word", &["HEX"]),
     ("labels", &["PROFILE"]),
@@ -34,6 +34,7 @@ const COMMANDS: [(&str, &[&str]); 24] = [
     ("import", &["MAP", "EXPORT", "OUT"]),
     ("check", &["PROFILE", "REC", "CERT"]),
     ("decide", &["PROFILE", "REC", "CERT"]),
+    ("why", &["PROFILE", "REC"]),
     ("verify", &["PROFILE", "REC", "CERT"]),
     ("units", &["PROFILE", "REC", "CERT"]),
     ("extract", &["PROFILE", "REC", "CERT", "DIR"]),
@@ -192,6 +193,7 @@ fn of_both<'a>(
         "trace" => Ok(Command::Trace { profile, recording }),
         "blocks" => Ok(Command::Blocks { profile, recording }),
         "sink" => Ok(Command::Sink { profile, recording }),
+        "why" => Ok(Command::Why { profile, recording }),
         "history" => history_of(given, profile, recording),
         _ => match given.get_str("CERT") {
             Some(certificate) => of_claim(

@@ -41,4 +41,5 @@ mod verdict;
 pub mod verify;
 pub mod version;
 pub mod whole;
+pub mod why;
 pub mod word;

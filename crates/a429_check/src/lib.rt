@@ -39,6 +39,7 @@ pub use crate::engines::upgrade::run_upgrade;
 pub use crate::engines::verify::run_verify;
 pub use crate::engines::version::run_version;
 pub use crate::engines::whole::read_whole;
+pub use crate::engines::why::run_why;
 pub use crate::engines::word::run_word;
 pub use crate::fault::{RunFault, report};
 pub use a429_side::Side;

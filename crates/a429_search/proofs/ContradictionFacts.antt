@@ -45,7 +45,7 @@ heard_last : (a : Attempt) (w : ℕ) (o : Option UnitSoFar) → IsOtherLast (pla
 heard_last a w None = refl
 heard_last a w (Some u) = refl
 
-heard_other : (b : Bus) (w : ℕ) (x : Option Form) (s : SoFar) → IsOtherForm b w x (unheard s) ≡ IsOtherForm b w x s
+pub heard_other : (b : Bus) (w : ℕ) (x : Option Form) (s : SoFar) → IsOtherForm b w x (unheard s) ≡ IsOtherForm b w x s
 heard_other bus.A w (Some (Sot g f l)) s = heard_start s.attempt s.attempt.words (record { file = f; ldu = l }) w s.unit
 heard_other bus.A w (Some (Part q)) s = heard_word s.attempt w s.unit
 heard_other bus.A w (Some (Eot f c)) s = heard_last s.attempt w s.unit
@@ -56,7 +56,7 @@ heard_other bus.A w (Some (Nak q)) s = refl
 heard_other bus.A w None s = refl
 heard_other bus.B w x s = refl
 
-heard_wrong : (b : Bus) (x : Option Form) (s : SoFar) → IsWrongForm b x (unheard s) ≡ IsWrongForm b x s
+pub heard_wrong : (b : Bus) (x : Option Form) (s : SoFar) → IsWrongForm b x (unheard s) ≡ IsWrongForm b x s
 heard_wrong bus.A (Some (Sot g f l)) s = refl
 heard_wrong bus.A (Some (Part q)) s = refl
 heard_wrong bus.A (Some (Eot f c)) s = refl

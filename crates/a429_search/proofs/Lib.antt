@@ -17,3 +17,5 @@ pub mod SoFarFacts
 pub mod ContradictionFacts
 pub mod DecidingFacts
 pub mod ApartFacts
+pub mod AgainstFacts
+pub mod RivalFacts

@@ -10,3 +10,5 @@ pub mod Deciding
 pub mod SoFar
 pub mod Contradiction
 pub mod Apart
+pub mod Against
+pub mod Rival

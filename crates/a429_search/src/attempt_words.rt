@@ -3,6 +3,7 @@
 ghost use Rattle.std.specs.Prelude.{◌≡◌, ◌↔◌, ◌++◌, ◌∷◌, [], ℕ, List, Some, None, IfSome, IsTrue, OnOk, drop, length, slice_get};
 ghost use Rattle.a429_link.specs.Contradiction.{AreOther};
 ghost use Rattle.a429_link.specs.Run.{IsSubsequenceOf};
+ghost use Rattle.a429_search.specs.Against.{GoesOnIn};
 ghost use Rattle.a429_search.specs.SoFar.{IsPassedWith};
 
 use a429_word::Word;
@@ -63,6 +64,17 @@ impl AttemptWords {
         ensures { IsTrue result ↔ AreOther (self.now.words ++ word ∷ []) self.now.block }
     {
         self.is_known && self.passed_with(word).is_none()
+    }
+
+    /// The next word of the block, where the words are some of it, in order, and with one more word they are not.
+    pub(crate) fn next(&self, word: Word) -> Option<Word>
+        ensures { IfSome result (λ next. GoesOnIn self.now.words word next self.now.block) }
+    {
+        if !self.is_outside(word) {
+            return None;
+        }
+        let passed = self.passed?;
+        self.block.get(passed).copied()
     }
 
     // How many words of the block are passed with one more word.

@@ -37,10 +37,10 @@ pub struct Contradiction {
 // What the words so far have shown: an observer that takes each of them, the link data unit whose start word came last, and the
 // data words of the attempt.
 #[derive(Drop)]
-struct Witness {
-    observer: Observer,
-    so_far: SoFar,
-    parts: DataWords,
+pub(crate) struct Witness {
+    pub(crate) observer: Observer,
+    pub(crate) so_far: SoFar,
+    pub(crate) parts: DataWords,
 }
 
 /// What contradicts the words before it, no run records after them.
@@ -78,7 +78,7 @@ pub fn first_contradiction(
 }
 
 impl Witness {
-    fn new(alloc: Global) -> Witness
+    pub(crate) fn new(alloc: Global) -> Witness
         ensures observer { result.observer ≡ at_first }
         ensures so_far { result.so_far ≡ none_so_far }
         ensures parts { result.parts ≡ [] }
@@ -91,7 +91,7 @@ impl Witness {
     }
 
     // Why the next word, which has this form or none, contradicts those before it; where it does not, the word is taken.
-    fn look(
+    pub(crate) fn look(
         &mut self,
         profile: &Profile,
         seen: &Seen,

@@ -1,10 +1,11 @@
 //! The data words of an attempt.
 
-ghost use Rattle.std.specs.Prelude.{◌≡◌, ◌↔◌, [], Some, IsTrue, OnOk};
+ghost use Rattle.std.specs.Prelude.{◌≡◌, ◌↔◌, [], Some, IfSome, IsTrue, OnOk};
+ghost use Rattle.a429_ldu.specs.Carried.{semis_in_words};
 ghost use Rattle.a429_link.specs.WholeBlock.{AreHalf};
 ghost use Rattle.a429_search.specs.SoFar.{data_after};
 
-use a429_ldu::{Form, block_bytes};
+use a429_ldu::{Form, block_bytes, count_semis};
 use a429_link::Seen;
 use a429_profile::Profile;
 use a429_word::{Bus, Word};
@@ -57,6 +58,18 @@ impl DataWords {
         match block_bytes(profile, &self.words) {
             Some(_) => false,
             None => true,
+        }
+    }
+
+    /// How many semi-octets they have, where they are as many as a block of so many words has, and carry no bytes.
+    pub(crate) fn half(&self, profile: &Profile, count: u8) -> Option<usize>
+        ensures half { IfSome result (λ semis. AreHalf profile.now.codes self.now count) }
+        ensures semis { IfSome result (λ semis. semis ≡ semis_in_words profile.now.codes self.now) }
+    {
+        if self.are_half(profile, count) {
+            Some(count_semis(profile, &self.words))
+        } else {
+            None
         }
     }
 }

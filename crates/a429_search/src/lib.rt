@@ -1,6 +1,7 @@
 //! The decision on a recording: contradictions, a search for a run, and the data words of units recorded with losses.
 #![tactic(auto)]
 
+mod against;
 mod apart;
 mod attempt_words;
 mod attempts;
@@ -22,12 +23,14 @@ mod one_by_one;
 mod order;
 mod pair;
 mod pieces;
+mod rival;
 mod searching;
 mod so_far;
 mod subsequence;
 mod trail;
 mod trials;
 
+pub use crate::against::{Against, held_against};
 pub use crate::apart::first_apart;
 pub use crate::block::unit_of_pieces;
 pub use crate::bounded::{MOST_NODES, search_words};
@@ -40,5 +43,6 @@ pub use crate::free_bits::bits_for_check_word;
 pub use crate::order::merge_in_one_order;
 pub use crate::pair::merge_shortest;
 pub use crate::pieces::{EndWord, GroupPieces};
+pub use crate::rival::{Rival, rival_of};
 pub use crate::searching::MOST_HYPOTHESES;
 pub use crate::subsequence::is_subsequence;

@@ -1,8 +1,9 @@
 //! What a recording has shown so far of the link data unit whose start word came last.
 
-ghost use Rattle.std.specs.Prelude.{◌≡◌, ◌⊎◌, ◌↔◌, ℕ, List, Option, Some, IsTrue, OnOk};
+ghost use Rattle.std.specs.Prelude.{◌≡◌, ◌⊎◌, ◌↔◌, ℕ, List, Option, Some, IfSome, IsTrue, OnOk};
 ghost use Rattle.a429_link.specs.Contradiction.{none_so_far, sends, so_far_after, with_start, with_ack, IsOtherEnd, IsOtherForm, IsWrongForm};
 ghost use Rattle.a429_link.specs.Group.{IsFurther};
+ghost use Rattle.a429_search.specs.Against.{GoesOnIn, block_so_far, count_so_far, ending_so_far, number_so_far, start_so_far};
 ghost use Rattle.a429_search.specs.SoFar.{kept_with, unheard, with_end_word};
 
 use crate::attempt_words::AttemptWords;
@@ -63,6 +64,30 @@ impl SoFar {
         ensures { result ≡ self.now.attempt.count }
     {
         self.count
+    }
+
+    /// The unit, as it is kept.
+    pub(crate) fn unit(&self) -> Option<UnitKept>
+        ensures number { IfSome result (λ u. number_so_far self.now.unit ≡ Some u.number) }
+        ensures start { IfSome result (λ u. start_so_far self.now.unit ≡ Some u.start) }
+        ensures count { IfSome result (λ u. count_so_far self.now.unit ≡ Some u.count) }
+        ensures ending { IfSome result (λ u. ending_so_far self.now.unit ≡ u.ending) }
+    {
+        match self.unit {
+            Some(unit) => Some(unit),
+            None => None,
+        }
+    }
+
+    /// The next word of the unit's block, where the words of the attempt are some of it, in order, and with one more word they
+    /// are not.
+    pub(crate) fn next(&self, word: Word) -> Option<Word>
+        ensures { IfSome result (λ next. GoesOnIn self.now.attempt.words word next (block_so_far self.now.unit)) }
+    {
+        match self.unit {
+            Some(_) => self.words.next(word),
+            None => None,
+        }
     }
 
     /// A start word of this form has a number that is neither that of the start word before it nor a further one.
@@ -221,7 +246,7 @@ impl UnitKept {
 }
 
 // The number in a start word or an acknowledgement.
-fn number_of(file: u8, ldu: u8) -> UnitNumber
+pub(crate) fn number_of(file: u8, ldu: u8) -> UnitNumber
     ensures { result ≡ record { file = file; ldu = ldu } }
 {
     let ldu = u16::from(ldu);

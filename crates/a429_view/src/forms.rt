@@ -2,6 +2,7 @@
 
 ghost use Rattle.std.specs.Prelude.{◌≡◌, ◌++◌, ◌+◌, ◌≤◌, codes, map, length, None, true};
 ghost use Rattle.std.specs.Fmt.{decimal, digit_glyph};
+ghost use Rattle.a429_word.specs.Digits.{numeral};
 ghost use Rattle.a429_word.specs.Sheet.{Says};
 ghost use Rattle.a429_ldu.specs.Across.{form_across};
 ghost use Rattle.a429_ldu.specs.Form.{form_of};
@@ -192,4 +193,13 @@ pub(crate) fn put_named<W: Write>(sheet: &mut Sheet<'_, W>, name: &[u8], number:
 {
     sheet.put(name);
     sheet.put_number(u64::from(number));
+}
+
+/// Puts a number of 16 bits as four hexadecimal digits.
+pub fn put_hex<W: Write>(sheet: &mut Sheet<'_, W>, bits: u16)
+    ensures { Says W.contents sheet.old sheet.new (numeral 16 4 bits) }
+{
+    let mut line = Line::new();
+    line.put_hex(bits);
+    sheet.put(line.as_slice());
 }

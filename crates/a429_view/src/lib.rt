@@ -16,7 +16,7 @@ mod trace;
 mod units;
 
 pub use crate::blocks::Blocks;
-pub use crate::forms::put_what;
+pub use crate::forms::{put_hex, put_what};
 pub use crate::history::put_history;
 pub use crate::mark::{Mark, Recorded, Span};
 pub use crate::picture::put_picture;
@@ -24,5 +24,6 @@ pub use crate::sink::put_sink;
 pub use crate::sketch::{MOST_STEPS, Place, Sketch};
 pub use crate::survey::Survey;
 pub use crate::survey::text::put_survey;
+pub use crate::trace::text::put_next;
 pub use crate::trace::{Trace, TraceStop};
 pub use crate::units::rows::UnitRows;

@@ -116,6 +116,16 @@ class SinkNo:
     owed_before: int | None = None
 
 
+@dataclass(frozen=True)
+class Why:
+    """The verdict of `decide`, without a certificate, and what the word of an impossible recording is held against (docs/WHY.md): `said` is
+    what is said of it, as `end word F0A3F523, before 71A3F523`, and `against` the entry of the earlier word, where there is one."""
+
+    verdict: Verdict
+    against: int | None = None
+    said: str | None = None
+
+
 # ---- rows
 
 
@@ -390,6 +400,11 @@ def decide(profile: Input, recording: Input, certificate: PathName | None = None
     return _decided(_checked(library.decide(*contents)))
 
 
+def why(profile: Input, recording: Input, *, timeout: Seconds = None) -> Why:
+    """The verdict of `decide`, and what an impossible word is held against."""
+    return _why(_run("why", profile, recording, timeout=timeout))
+
+
 def check(profile: Input, recording: Input, certificate: PathName | None = None, *, timeout: Seconds = None) -> Verdict:
     """As `decide`, by a fixed rule that anyone can compute, without its search."""
     return _judge("check", profile, recording, certificate, timeout)
@@ -655,6 +670,15 @@ def _judged(text: str, certificate: Callable[[], bytes | None]) -> Verdict:
         return Yes(_yes(text).files, certificate())
     entry, why = rest[0].split()
     return Impossible(int(entry), why) if verdict == "IMPOSSIBLE" else Unexplained(int(entry), why)
+
+
+def _why(text: str) -> Why:
+    """The verdict, and the lines below it."""
+    first, *below = text.splitlines()
+    if first.startswith("YES "):
+        return Why(_yes(text))
+    against = next((int(it.split()[1]) for it in below if it.startswith("against ")), None)
+    return Why(_judged(first, lambda: None), against, next((it for it in below if not it.startswith("against ")), None))
 
 
 def _yes_or_no(text: str) -> Yes | No:

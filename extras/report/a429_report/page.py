@@ -151,6 +151,8 @@ def where_it_stops(report: Report) -> Iterator[str]:
     what = f", bus {word.bus}, at {report.seconds(word.time)} s, <code>{shown(message([word]))}</code>" if word else ""
     yield f"<h2>{'Where it stops' if is_impossible else 'Where to look'}</h2>"
     yield f"<p>Entry {verdict.entry}{what}: <b>{shown(verdict.reason)}</b>. {REASONS.get(verdict.reason, '')}</p>"
+    if verdict.held:
+        yield "<p>" + "<br>".join(f"<code>{shown(it)}</code>" for it in verdict.held) + "</p>"
     if is_impossible:
         yield soft("<code>a429 trace</code> says what the sink is doing after each word, <code>a429 sink</code> whether it kept the rules.")
 

@@ -33,13 +33,15 @@ class File(NamedTuple):
 
 
 class Verdict(NamedTuple):
-    """The answer of `decide`. The entry and the reason are those of IMPOSSIBLE and UNEXPLAINED, the files those of YES."""
+    """The answer of `decide`. The entry and the reason are those of IMPOSSIBLE and UNEXPLAINED, the files those of YES; `held` is what `why`
+    says of IMPOSSIBLE."""
 
     line: str
     word: str
     entry: int = 0
     reason: str = ""
     files: tuple[File, ...] = ()
+    held: tuple[str, ...] = ()
 
 
 class Attempt(NamedTuple):
@@ -135,7 +137,8 @@ class Program:
         word, *more = first.split()
         if word == "YES":
             return Verdict(first, word, files=tuple(File(*map(int, it.split()[1:])) for it in rest))
-        return Verdict(first, word, int(more[0]), more[1])
+        held = tuple(self.run("why")[1:]) if word == "IMPOSSIBLE" else ()
+        return Verdict(first, word, int(more[0]), more[1], held=held)
 
     def attempts(self) -> tuple[list[Attempt], int | None]:
         """The rows of `blocks`, and the entry that no run records, if there is one."""

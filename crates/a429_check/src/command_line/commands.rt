@@ -59,6 +59,11 @@ pub enum Command<'a> {
         profile: &'a str,
         recording: &'a str,
     },
+    /// `why PROFILE REC`: says what the word of an impossible recording is held against.
+    Why {
+        profile: &'a str,
+        recording: &'a str,
+    },
     /// `history PROFILE REC DIR`: puts a recording that need not be of one run in pieces, into the folder DIR, with the files that are
     /// sure of each.
     History(IntoFolder<'a>),

@@ -132,8 +132,8 @@ fn found(verdict: Result<Verdict, OutOfMemory>) -> Result<Verdict, RunFault>
     }
 }
 
-// The same of its entries, under a profile that was read, by the call of the library that has this rule.
-fn verdict_by(
+/// The verdict on these entries, under a profile that was read, by the call of the library that has this rule.
+pub(crate) fn verdict_by(
     alloc: Global,
     profile: &Profile,
     entries: &[Entry],
@@ -193,7 +193,8 @@ impl Text for Verdict {
     }
 }
 
-fn status_of(verdict: &Verdict) -> u8
+/// The status of a verdict.
+pub(crate) fn status_of(verdict: &Verdict) -> u8
     ensures { result ≡ verdict_status verdict.now }
 {
     match verdict {
@@ -203,7 +204,8 @@ fn status_of(verdict: &Verdict) -> u8
     }
 }
 
-fn put_verdict<W: Write>(sheet: &mut Sheet<'_, W>, verdict: &Verdict)
+/// Puts a verdict, without its certificate.
+pub(crate) fn put_verdict<W: Write>(sheet: &mut Sheet<'_, W>, verdict: &Verdict)
     ensures { Says W.contents sheet.old sheet.new (verdict_text verdict.now) }
 {
     match verdict {

@@ -224,6 +224,15 @@ fn add_crossing(line: &mut Line, crossing: Option<Crossing>)
     }
 }
 
+/// Puts what may come next, free words aside: a name for each kind of word, a comma between one and the other.
+pub fn put_next<W: Write>(sheet: &mut Sheet<'_, W>, may_come: Next)
+    ensures { Says W.contents sheet.old sheet.new (kinds_text (kinds_of_next may_come)) }
+{
+    let mut line = Line::new();
+    add_next(&mut line, may_come);
+    sheet.put(line.as_slice());
+}
+
 // What may come next, a comma between one and the other.
 fn add_next(line: &mut Line, next: Next)
     requires { Fits line.old 22 }

@@ -1,0 +1,244 @@
+//! The attempt that another attempt is held against, where no link data unit has the words of both.
+
+ghost use Rattle.std.specs.Prelude.{◌≡◌, IfOk, IfSome, IsTrue, OnOk};
+ghost use Rattle.a429_link.specs.Attempt.{fresh};
+ghost use Rattle.a429_search.specs.Rival.{AreMoreWords, IsRival, IsRivalAt, IsRivalOf, after, at_first, cleared, heard, joined, started, with_request};
+
+use crate::pair::merge_shortest;
+use crate::subsequence::is_subsequence;
+use a429_explain::Decoded;
+use a429_ldu::Form;
+use a429_link::{Seen, UnitNumber};
+use a429_word::{Bus, Word};
+use std::alloc::{AllocError, Global};
+use std::marker::Model;
+use std::mem;
+
+/// The most words of a list that is merged with another.
+const MOST_MERGED: usize = 253;
+
+/// Another attempt to send the same link data unit: the entry of its request, how many words it asks for, and how many the last
+/// attempt asks for.
+#[derive(Clone, Copy, Debug, PartialEq, Eq)]
+pub struct Rival {
+    pub request: usize,
+    pub before: u8,
+    pub count: u8,
+}
+
+// An attempt, and the entry of its request, where there is one.
+#[derive(Debug, Drop)]
+struct Asked {
+    request: Option<usize>,
+    count: u8,
+    words: Vec<Word>,
+}
+
+impl Model for Asked {
+    ghost use Rattle.std.specs.Prelude.{None};
+    ghost use Rattle.a429_search.specs.Rival as model;
+
+    ghost Value = { model.Asked };
+
+    ghost view = { λ t. record { request = t.request; attempt = record { count = t.count; words = t.words.items; acked = None } } };
+}
+
+// The attempt that is under way, and those before it that were to send the same link data unit, if it is one to send that.
+#[derive(Drop)]
+struct Attempts {
+    alloc: Global,
+    last: Asked,
+    // The number of the start word that was recorded last, unless another number was acknowledged since.
+    number: Option<UnitNumber>,
+    // The attempt that is under way has a start word with this number.
+    is_named: bool,
+    // The attempts since the first one whose start word had this number.
+    kept: Vec<Asked>,
+}
+
+impl Model for Attempts {
+    ghost use Rattle.a429_search.specs.Rival as model;
+
+    ghost Value = { model.Attempts };
+
+    ghost view = { λ t. record { last = t.last; number = t.number; named = t.is_named; kept = t.kept.items } };
+}
+
+/// An attempt which was to send the same link data unit as that of the last word, and of which no unit has the words and those of
+/// the last. `None` where none is found.
+pub fn rival_of(alloc: Global, decoded: &Decoded) -> Result<Option<Rival>, AllocError>
+    ensures { IfOk result (λ found. IfSome found (IsRivalAt decoded.now.profile decoded.now.items)) }
+{
+    let mut attempts = Attempts::new(alloc);
+    for entry in 0..decoded.len() {
+        let seen = decoded.seen(entry);
+        let form = decoded.word(entry).form;
+        attempts.take(entry, &seen, form)?;
+    }
+    attempts.rival()
+}
+
+impl Asked {
+    // A request, after which nothing was recorded yet.
+    fn new(alloc: Global, request: Option<usize>, count: u8) -> Asked
+        ensures { result ≡ record { request = request; attempt = fresh count } }
+    {
+        Asked {
+            request,
+            count,
+            words: Vec::new(alloc),
+        }
+    }
+
+    // A list that has the words of both, which ask for as many, has more words than they ask for.
+    fn has_more_words_with(&self, alloc: Global, other: &Asked) -> Result<bool, AllocError>
+        requires { self.now.attempt.count ≡ other.now.attempt.count }
+        ensures { IfOk result (λ found. IsTrue found → AreMoreWords self.now.attempt other.now.attempt) }
+    {
+        let most = usize::from(self.count);
+        let (ours, others) = (self.words.len(), other.words.len());
+        if ours == most {
+            return Ok(!is_subsequence(&other.words, &self.words));
+        }
+        if others == most {
+            return Ok(!is_subsequence(&self.words, &other.words));
+        }
+        if ours > MOST_MERGED || others > MOST_MERGED {
+            return Ok(false);
+        }
+        let merged = merge_shortest(alloc, &self.words, &other.words)?;
+        Ok(merged.len() > most)
+    }
+}
+
+impl Asked {
+    // This attempt, where no link data unit has the words of it and of the other one.
+    fn rival_with(&self, alloc: Global, other: &Asked) -> Result<Option<Rival>, AllocError>
+        ensures { IfOk result (λ found. IfSome found (IsRivalOf self.now other.now)) }
+    {
+        let Some(request) = self.request else {
+            return Ok(None);
+        };
+        let rival = Rival {
+            request,
+            before: self.count,
+            count: other.count,
+        };
+        if self.count != other.count {
+            return Ok(Some(rival));
+        }
+        let has_more = self.has_more_words_with(alloc, other)?;
+        if has_more { Ok(Some(rival)) } else { Ok(None) }
+    }
+}
+
+impl Attempts {
+    fn new(alloc: Global) -> Attempts
+        ensures { result ≡ at_first }
+    {
+        Attempts {
+            alloc,
+            last: Asked::new(alloc, None, 0),
+            number: None,
+            is_named: false,
+            kept: Vec::new(alloc),
+        }
+    }
+
+    // Takes the word of an entry, which has this form or none.
+    fn take(&mut self, entry: usize, seen: &Seen, form: Option<Form>) -> Result<(), AllocError>
+        ensures { OnOk result (self.new ≡ after entry seen.now.bus seen.now.word form self.old) }
+    {
+        match (seen.bus, form) {
+            (Bus::A, Some(Form::Rts { count })) => self.ask(entry, count),
+            (Bus::A, Some(Form::Sot { file, ldu, .. })) => {
+                let ldu = u16::from(ldu);
+                self.start(UnitNumber { file, ldu }, seen.word)
+            }
+            (Bus::A, Some(Form::Part(_) | Form::Eot { .. })) => self.join(seen.word),
+            (Bus::B, Some(Form::Cts { .. })) => {
+                self.clear();
+                Ok(())
+            }
+            (Bus::B, Some(Form::Ack { file, ldu })) => {
+                let ldu = u16::from(ldu);
+                self.hear(UnitNumber { file, ldu });
+                Ok(())
+            }
+            _ => Ok(()),
+        }
+    }
+
+    // At a request: the attempt that was under way is kept.
+    fn ask(&mut self, entry: usize, count: u8) -> Result<(), AllocError>
+        ensures { OnOk result (self.new ≡ with_request entry count self.old) }
+    {
+        let next = Asked::new(self.alloc, Some(entry), count);
+        let last = mem::replace(&mut self.last, next);
+        self.is_named = false;
+        self.kept.push(last)?;
+        Ok(())
+    }
+
+    // At a start word: where it is the first word of its attempt, attempts with another number are not kept.
+    fn start(&mut self, number: UnitNumber, word: Word) -> Result<(), AllocError>
+        ensures { OnOk result (self.new ≡ started number word self.old.last.attempt.words self.old) }
+    {
+        if self.last.words.len() == 0 {
+            let is_again = match self.number {
+                Some(known) => known == number,
+                None => false,
+            };
+            if !is_again {
+                self.number = Some(number);
+                self.kept.clear();
+            }
+            self.is_named = true;
+        }
+        self.join(word)
+    }
+
+    // At a word of a block.
+    fn join(&mut self, word: Word) -> Result<(), AllocError>
+        ensures { OnOk result (self.new ≡ joined word self.old) }
+    {
+        self.last.words.push(word)?;
+        Ok(())
+    }
+
+    // At a clear answer.
+    fn clear(&mut self)
+        ensures { self.new ≡ cleared self.old }
+    {
+        self.last.words.clear();
+        self.is_named = false;
+    }
+
+    // At an acknowledgement.
+    fn hear(&mut self, number: UnitNumber)
+        ensures { self.new ≡ heard number self.old }
+    {
+        if let Some(known) = self.number
+            && known != number
+        {
+            self.number = None;
+            self.is_named = false;
+        }
+    }
+
+    // The first attempt that is kept of which no link data unit has the words and those of the last, which is to send the same unit.
+    fn rival(&self) -> Result<Option<Rival>, AllocError>
+        ensures { IfOk result (λ found. IfSome found (IsRival self.now)) }
+    {
+        if !self.is_named {
+            return Ok(None);
+        }
+        for place in 0..self.kept.len() {
+            let found = self.kept[place].rival_with(self.alloc, &self.last)?;
+            if found.is_some() {
+                return Ok(found);
+            }
+        }
+        Ok(None)
+    }
+}
