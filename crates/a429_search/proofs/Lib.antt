@@ -17,3 +17,4 @@ pub mod SoFarFacts
 pub mod ContradictionFacts
 pub mod DecidingFacts
 pub mod ApartFacts
+pub mod FrontierFacts

@@ -10,3 +10,4 @@ pub mod Deciding
 pub mod SoFar
 pub mod Contradiction
 pub mod Apart
+pub mod Frontier
