@@ -7,9 +7,10 @@ mod steps;
 ghost use Rattle.std.specs.Prelude.{◌≤◌};
 
 use crate::agreement::none_differs_given_memory;
-use crate::calls::sample;
-use a429_ldu::{Form, Ldu, Semis, word_of};
+use crate::calls::{read, sample};
+use a429_ldu::{Form, Ldu, Semis, check_word, word_of};
 use a429_profile::Profile;
+use a429_sample::{PROFILE, with};
 use a429_search::{Budget, EndWord, GroupPieces, unit_of_pieces};
 use a429_word::Word;
 use std::alloc::{AllocError, Global};
@@ -23,6 +24,7 @@ fn unit_with(
     count: u8,
     check: Option<u16>,
     attempts: Vec<Vec<Word>>,
+    budget: &mut Budget,
 ) -> Result<Option<Ldu>, AllocError>
     requires { 3 ≤ count }
 {
@@ -36,8 +38,7 @@ fn unit_with(
         end,
         attempts,
     };
-    let mut budget = Budget::of_entries(0);
-    unit_of_pieces(alloc, profile, &pieces, &mut budget)
+    unit_of_pieces(alloc, profile, &pieces, budget)
 }
 
 // The data words that carry these bytes, one byte each.
@@ -82,15 +83,16 @@ fn recorded(
     Ok(recorded)
 }
 
-// Whether a unit is found where the case says so.
+// Whether a unit is found where the case says so, and no search was cut short: so there is none where none is found.
 fn holds(alloc: Global, profile: &Profile, case: Case) -> Result<bool, AllocError> {
     let (count, check, attempts, is_found) = case;
     if count < 3 {
         return Ok(false);
     }
     let attempts = recorded(alloc, profile, attempts)?;
-    let unit = unit_with(alloc, profile, count, check, attempts)?;
-    Ok(unit.is_some() == is_found)
+    let mut budget = Budget::of_entries(0);
+    let unit = unit_with(alloc, profile, count, check, attempts, &mut budget)?;
+    Ok(unit.is_some() == is_found && !budget.is_cut())
 }
 
 // The place of the first case that does not hold.
@@ -107,4 +109,49 @@ fn first_that_differs(alloc: Global, profile: &Profile) -> Result<Option<usize>,
 fn attempts_with_words_lost(rt: HostRuntime) -> Result<(), Fail> {
     let profile = sample(&rt);
     none_differs_given_memory(first_that_differs(rt.alloc(), &profile))
+}
+
+// ---- units of one byte, under a polynomial that ends in 0
+
+// Under it check words of one byte are those of no more bytes.
+const EVEN: &str = "poly = 0x1021 -> poly = 0x8000 | low_first = true -> low_first = false";
+
+// A unit of two data words is found by the check word of this byte and its one recorded data word, of one semi-octet, or none.
+fn is_found(
+    alloc: Global,
+    profile: &Profile,
+    byte: u8,
+    recorded: Option<u8>,
+) -> Result<bool, AllocError> {
+    let mut words = Vec::new(alloc);
+    if let Some(semi) = recorded
+        && let Some(semis) = Semis::new(&[semi])
+    {
+        words.push(word_of(profile, &Form::Part(semis)))?;
+    }
+    let mut attempts = Vec::new(alloc);
+    attempts.push(words)?;
+    let check = check_word(profile.check(), &[byte]);
+    let mut budget = Budget::of_entries(0);
+    let unit = unit_with(alloc, profile, 4, Some(check), attempts, &mut budget)?;
+    Ok(unit.is_some())
+}
+
+// A byte of which no unit is found.
+fn first_byte_without(alloc: Global, profile: &Profile) -> Result<Option<u8>, AllocError> {
+    for byte in 0..=u8::MAX {
+        for recorded in [None, Some(byte & 15), Some(byte >> 4)] {
+            if !is_found(alloc, profile, byte, recorded)? {
+                return Ok(Some(byte));
+            }
+        }
+    }
+    Ok(None)
+}
+
+#[test]
+fn two_data_words_of_one_byte(rt: HostRuntime) -> Result<(), Fail> {
+    let text = with(rt.alloc(), PROFILE, EVEN)?;
+    let profile = read(&rt, text.as_str());
+    none_differs_given_memory(first_byte_without(rt.alloc(), &profile))
 }

@@ -1,5 +1,5 @@
 -- A free word before others.
-use Rattle.std.proofs.Common.{◌≡◌, ℕ, zero, suc, ◌+◌, ◌-◌, ◌*◌, ◌/◌, ◌%◌, ◌^◌, ◌<◌, ◌≤◌, List, [], ◌∷◌, ◌++◌, length, replicate, take, Option, Some, None, ◌↔◌, option_map, option_and_then, bit_xor, refl, sym, ap, ◌∙◌, subst, arith, inl, append_assoc, length-append}
+use Rattle.std.proofs.Common.{◌≡◌, ℕ, zero, suc, ◌+◌, ◌-◌, ◌*◌, ◌/◌, ◌%◌, ◌^◌, ◌<◌, ◌≤◌, List, [], ◌∷◌, ◌++◌, length, replicate, take, Option, Some, None, Result, Ok, Err, IfOk, IfSome, IfNone, ◌↔◌, option_map, option_and_then, bit_xor, refl, sym, ap, ◌∙◌, subst, arith, inl, inr, append_assoc, length-append}
 use Rattle.std.specs.List.{AllByRecursion}
 use Rattle.std.specs.Int.Bits.{xor_shifted, xor_zero_l}
 use Rattle.std.proofs.lemmas.Nat.{pow-add}
@@ -12,9 +12,9 @@ use Rattle.a429_ldu.specs.Carried.{semis_in, joined_to, semis_of_words, paired, 
 use Rattle.a429_ldu.specs.CheckWord.{check_of}
 use Rattle.a429_ldu.proofs.FormFacts.{form_of-word_number}
 use Rattle.a429_search.specs.FreeBits.{with_bits}
-use Rattle.a429_search.specs.Fill.{Fits, IsFilled, semis_of_number, data_word, rest_filled}
+use Rattle.a429_search.specs.Fill.{Fits, IsFilled, CanBeFilled, HasNoFreeWord, HasOneByte, semis_of_number, data_word, rest_filled}
 use Rattle.a429_search.proofs.FreeBitsFacts.{bits-zero}
-use Rattle.a429_search.proofs.SubsequenceFacts.{sub_all, sub_before}
+use Rattle.a429_search.proofs.SubsequenceFacts.{sub_all, sub_before, sub_trans}
 
 -- ---- bits of the first semi-octets are bits of the bytes
 
@@ -182,3 +182,55 @@ filler_more n w rest new h e =
 
 pub whole : (p : Contents) (wanted : Option ℕ) (count : ℕ) (recorded words : List ℕ) → words ≡ recorded → length recorded ≡ count → Fits p wanted recorded → IsFilled p count wanted recorded words
 whole p wanted count recorded words e h f = rw e (record { long = h; kept = sub_all recorded; fits = f })
+
+-- ---- what cannot be filled up
+
+-- words that neither fit nor are fewer, with a free word that makes them fit, cannot be filled up
+pub not_filled : (p : Contents) (count : ℕ) (wanted : Option ℕ) (words : List ℕ) → (length words ≡ count → ¬ Fits p wanted words) → (length words < count → HasNoFreeWord p wanted (rest_filled p.codes count words)) → ¬ CanBeFilled p count wanted words
+not_filled p count wanted words whole filled (inl h) = whole h.0 h.1
+not_filled p count wanted words whole filled (inr h) = filled h.0 h.1.semis h.1.are h.1.fits
+
+pub no_free_word : (p : Contents) (count : ℕ) (wanted : Option ℕ) (words : List ℕ) → ¬ CanBeFilled p count wanted words → length words < count → HasNoFreeWord p wanted (rest_filled p.codes count words)
+no_free_word p count wanted words none few semis are fits = none (inr (few, record { semis = semis; are = are; fits = fits }))
+
+-- ---- two data words of one byte together
+
+pub if_some_from : {X : Type 0} (P Q : X → Type 0) (o : Option X) → ((x : X) → P x → Q x) → IfSome o P → IfSome o Q
+if_some_from P Q (Some x) f p = f x p
+if_some_from P Q None f p = tt
+
+-- words that have some before more have these
+pub without_more : (p : Contents) (count : ℕ) (wanted : Option ℕ) (recorded more words : List ℕ) → IsFilled p count wanted (recorded ++ more) words → IsFilled p count wanted recorded words
+without_more p count wanted recorded more words f = record {
+  long = f.long;
+  kept = sub_trans recorded (recorded ++ more) words (sub_before recorded recorded more (sub_all recorded)) f.kept;
+  fits = f.fits;
+}
+
+pub if_none_from : {X : Type 0} (P Q : Type 0) (o : Option X) → (P → Q) → IfNone o P → IfNone o Q
+if_none_from P Q (Some x) f p = tt
+if_none_from P Q None f p = f p
+
+pub ok_none : {X E : Type 0} (Q : Type 0) (r : Result (Option X) E) → Q → IfOk r (λ o. IfNone o Q)
+ok_none Q (Ok (Some x)) q = tt
+ok_none Q (Ok None) q = q
+ok_none Q (Err e) q = tt
+
+pub ok_none_from : {X E : Type 0} (P Q : Type 0) (r : Result (Option X) E) → (P → Q) → IfOk r (λ o. IfNone o P) → IfOk r (λ o. IfNone o Q)
+ok_none_from P Q (Ok (Some x)) f p = tt
+ok_none_from P Q (Ok None) f p = f p
+ok_none_from P Q (Err e) f p = tt
+
+-- where no last word of one semi-octet, put after the recorded ones, can be filled up, nor can these by themselves, there are none
+pub no_one_byte : (p : Contents) (wanted : Option ℕ) (recorded : List ℕ) → ¬ CanBeFilled p 2 wanted recorded → ((last : ℕ) → last < 16 → ¬ CanBeFilled p 2 wanted (recorded ++ data_word p.codes (last ∷ []) ∷ [])) → length recorded < 2 → ¬ HasOneByte p wanted recorded
+no_one_byte p wanted [] front after few one = after one.high one.is_high (inr (omega arith, record { semis = one.low ∷ []; are = (omega arith, omega arith, (one.is_low, tt)); fits = one.fits }))
+no_one_byte p wanted (w ∷ []) front after few one = elim one.kept [
+  | inr (zs, e, rest) ↦
+      let same : w ≡ data_word p.codes (one.low ∷ []) = cc e in
+      after one.high one.is_high (inl (refl, subst (λ (x : ℕ). Fits p wanted (x ∷ data_word p.codes (one.high ∷ []) ∷ [])) (sym same) one.fits))
+  | inl (inr (zs, e, rest)) ↦
+      let same : w ≡ data_word p.codes (one.high ∷ []) = cc e in
+      front (inr (omega arith, record { semis = one.low ∷ []; are = (omega arith, omega arith, (one.is_low, tt)); fits = subst (λ (x : ℕ). Fits p wanted (data_word p.codes (one.low ∷ []) ∷ x ∷ [])) (sym same) one.fits }))
+  | inl (inl none) ↦ absurd (cc none)
+]
+no_one_byte p wanted (v ∷ w ∷ more) front after few one = absurd (omega arith)

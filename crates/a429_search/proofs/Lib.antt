@@ -19,3 +19,4 @@ pub mod DecidingFacts
 pub mod ApartFacts
 pub mod AgainstFacts
 pub mod RivalFacts
+pub mod FrontierFacts

@@ -2,7 +2,7 @@
 use Rattle.std.proofs.Common.{◌≡◌, ◌<◌, ℕ, List, length, get_or, Option, Some, None, Result, Ok, Err, IfOk, IfSome, IfNone, inl, inr}
 use Rattle.a429_profile.specs.Profile.{Contents}
 use Rattle.a429_search.specs.Order.{HasEach}
-use Rattle.a429_search.specs.Fill.{Fits, IsFilled, AreDataOf, HasNoFreeWord, CanBeCompleted, rest_filled}
+use Rattle.a429_search.specs.Fill.{Fits, IsFilled, AreDataOf, HasOneByte, CanBeFilled, CanBeCompleted}
 use Rattle.a429_search.proofs.SubsequenceFacts.{sub_trans}
 
 -- a clause on a result, and what follows from it
@@ -17,10 +17,10 @@ none_from P Q R (Ok (Some x)) f p q = p
 none_from P Q R (Ok None) f p q = f p q
 none_from P Q R (Err e) f p q = p
 
--- words that neither fit nor are fewer, with a free word that makes them fit, cannot be completed
-pub not_completed : (p : Contents) (count : ℕ) (wanted : Option ℕ) (words : List ℕ) → (length words ≡ count → ¬ Fits p wanted words) → (length words < count → HasNoFreeWord p wanted (rest_filled p.codes count words)) → ¬ CanBeCompleted p count wanted words
-not_completed p count wanted words whole filled (inl h) = whole h.0 h.1
-not_completed p count wanted words whole filled (inr h) = filled h.0 h.1.semis h.1.are h.1.fits
+-- words that cannot be filled up, nor to two of one byte together, cannot be completed
+pub not_completed : (p : Contents) (count : ℕ) (wanted : Option ℕ) (words : List ℕ) → ¬ CanBeFilled p count wanted words → (count ≡ 2 → length words < 2 → ¬ HasOneByte p wanted words) → ¬ CanBeCompleted p count wanted words
+not_completed p count wanted words none one (inl filled) = none filled
+not_completed p count wanted words none one (inr h) = one h.0 h.1 h.2
 
 -- a merge that is filled up
 pub merge_filled : (p : Contents) (count : ℕ) (wanted : Option ℕ) (lists : List (List ℕ)) (merged words : List ℕ) → HasEach merged lists → IsFilled p count wanted merged words → AreDataOf p count wanted lists words

@@ -55,6 +55,19 @@ pub record HasFreeWord (p : Contents) (wanted : Option ℕ) (rest : List ℕ) : 
   pub are : AreSemis semis
   pub fits : Fits p wanted (data_word p.codes semis ∷ rest)
 
--- recorded words are completed to so many that fit: as they are, or with a free word before them and fillers after them
+-- recorded words are filled up to so many that fit: as they are, or with a free word before them and fillers after them
+abbrev pub CanBeFilled : Contents → ℕ → Option ℕ → List ℕ → Type 0
+CanBeFilled p count wanted recorded = ((length recorded ≡ count) × Fits p wanted recorded) ⊎ ((length recorded < count) × HasFreeWord p wanted (rest_filled p.codes count recorded))
+
+-- two data words of one semi-octet each, and so of one byte together, have the recorded ones in their order, and fit
+pub record HasOneByte (p : Contents) (wanted : Option ℕ) (recorded : List ℕ) : Type 0 where
+  pub low : ℕ
+  pub is_low : low < 16
+  pub high : ℕ
+  pub is_high : high < 16
+  pub kept : IsSubsequenceOf recorded (data_word p.codes (low ∷ []) ∷ data_word p.codes (high ∷ []) ∷ [])
+  pub fits : Fits p wanted (data_word p.codes (low ∷ []) ∷ data_word p.codes (high ∷ []) ∷ [])
+
+-- recorded words are completed to so many that fit: filled up, or, where two are wanted, to two of one byte together
 abbrev pub CanBeCompleted : Contents → ℕ → Option ℕ → List ℕ → Type 0
-CanBeCompleted p count wanted recorded = ((length recorded ≡ count) × Fits p wanted recorded) ⊎ ((length recorded < count) × HasFreeWord p wanted (rest_filled p.codes count recorded))
+CanBeCompleted p count wanted recorded = CanBeFilled p count wanted recorded ⊎ ((count ≡ 2) × (length recorded < 2) × HasOneByte p wanted recorded)

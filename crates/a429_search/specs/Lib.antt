@@ -12,3 +12,4 @@ pub mod Contradiction
 pub mod Apart
 pub mod Against
 pub mod Rival
+pub mod Frontier

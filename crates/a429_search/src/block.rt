@@ -1,6 +1,6 @@
 //! The link data unit of a group.
 
-ghost use Rattle.std.specs.Prelude.{◌≡◌, ℕ, List, Ok, None, false, ◌↔◌, ◌≤◌, ◌+◌, IfOk, IfSome, IfNone, IsSome, IsTrue, EachIndex, length};
+ghost use Rattle.std.specs.Prelude.{◌≡◌, ℕ, List, Ok, None, true, false, ◌↔◌, ◌≤◌, ◌+◌, IfOk, IfSome, IfNone, IsSome, IsTrue, EachIndex, length};
 ghost use Rattle.a429_ldu.specs.Carried.{bytes_in};
 ghost use Rattle.a429_ldu.specs.CheckWord.{check_of};
 ghost use Rattle.a429_ldu.specs.Ldu.{LduValue, HasLength};
@@ -40,6 +40,7 @@ pub fn unit_of_pieces(
     ensures some { IfOk result (λ found. IfSome found (λ u. IsUnitOf profile.now pieces.now u)) }
     ensures none { IfOk result (λ found. IfNone found (EachIndex pieces.now.attempts.items (λ i. ¬ GivesUnit profile.now pieces.now (words_at (lists_of pieces.now.attempts.items) i)))) }
     ensures exact { result ≡ Ok None → budget.new.is_cut ≡ false → pieces.now.count ≤ 255 → (u : LduValue) → ¬ MayBeUnitOf profile.now pieces.now u }
+    ensures cut { budget.old.is_cut ≡ true → budget.new.is_cut ≡ true }
 {
     // (for the proof: the profile is sound)
     let _codes = profile.codes();
@@ -75,6 +76,7 @@ fn data_words(
     ensures none { IfOk result (λ found. IfNone found (EachIndex attempts.now (λ i. HasEach (words_at (lists_of attempts.now) i) (lists_of attempts.now)
         → ¬ CanBeCompleted profile.now wanted.count wanted.check (words_at (lists_of attempts.now) i)))) }
     ensures exact { result ≡ Ok None → budget.new.is_cut ≡ false → wanted.count ≤ 253 → (words : List ℕ) → ¬ AreDataOf profile.now wanted.count wanted.check (lists_of attempts.now) words }
+    ensures cut { budget.old.is_cut ≡ true → budget.new.is_cut ≡ true }
 {
     let found = complete_longest(alloc, profile, attempts, wanted, budget)?;
     if found.is_some() {
@@ -103,6 +105,7 @@ fn words_of(
 ) -> Result<Option<Vec<Word>>, AllocError>
     ensures some { IfOk result (λ found. IfSome found (λ v. AreDataOf profile.now wanted.count wanted.check (lists_of lists.now) v.items)) }
     ensures exact { result ≡ Ok None → budget.new.is_cut ≡ false → wanted.count ≤ 253 → (words : List ℕ) → ¬ AreDataOf profile.now wanted.count wanted.check (lists_of lists.now) words }
+    ensures cut { budget.old.is_cut ≡ true → budget.new.is_cut ≡ true }
 {
     if let Some(merged) = merge_in_one_order(alloc, lists, budget)? {
         let found = completed_merge(alloc, profile, lists, &merged, wanted, budget)?;

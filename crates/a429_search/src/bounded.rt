@@ -16,7 +16,7 @@ use a429_word::Word;
 use std::alloc::{AllocError, Global};
 
 /// The most places at which one search chooses a next word, or looks at a list.
-pub const MOST_NODES: usize = 100_000;
+pub const MOST_NODES: usize = 3_000_000;
 
 // How many steps a pair of lists counts for when the bound is computed: its table is seldom in a cache.
 const STEPS_A_PAIR: usize = 4;

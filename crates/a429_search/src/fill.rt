@@ -1,8 +1,8 @@
 //! Data words, filled up so that they make a block.
 
-ghost use Rattle.std.specs.Prelude.{◌≡◌, ◌≤◌, ◌<◌, ◌↔◌, ◌∷◌, ℕ, List, IfOk, IfSome, IfNone, IsTrue, length};
+ghost use Rattle.std.specs.Prelude.{◌≡◌, ◌≤◌, ◌<◌, ◌↔◌, [], ◌∷◌, ◌++◌, ℕ, List, IfOk, IfSome, IfNone, IsTrue, length};
 ghost use Rattle.a429_ldu.specs.Semis.{AreSemis};
-ghost use Rattle.a429_search.specs.Fill.{Fits, IsFilled, HasNoFreeWord, semis_of_number, data_word, filler, rest_filled};
+ghost use Rattle.a429_search.specs.Fill.{Fits, IsFilled, CanBeFilled, HasNoFreeWord, HasOneByte, semis_of_number, data_word, filler, rest_filled};
 
 use crate::free_bits::bits_for_check_word;
 use a429_ldu::{Form, Semis, bytes_of, check_word_by, word_of};
@@ -20,7 +20,8 @@ pub struct Wanted {
 }
 
 /// The wanted data words, which have those recorded in their order. `None` where these are too many, where they are as
-/// many as wanted and do not fit, and where they are fewer and no free word before them makes them fit.
+/// many as wanted and do not fit, and where they are fewer, no free word before them makes them fit, and no two data words of
+/// one semi-octet each do where two are wanted.
 pub fn completed(
     alloc: Global,
     profile: &Profile,
@@ -31,12 +32,53 @@ pub fn completed(
     ensures whole { IfOk result (λ found. IfNone found (length recorded.now ≡ wanted.count → ¬ Fits profile.now wanted.check recorded.now)) }
     ensures filled { IfOk result (λ found. IfNone found (length recorded.now < wanted.count
         → HasNoFreeWord profile.now wanted.check (rest_filled profile.now.codes wanted.count recorded.now))) }
+    ensures one_byte { IfOk result (λ found. IfNone found (wanted.count ≡ 2 → length recorded.now < 2 → ¬ HasOneByte profile.now wanted.check recorded.now)) }
+{
+    let found = filled_in_front(alloc, profile, recorded, wanted)?;
+    if found.is_some() || wanted.count != 2 || recorded.len() >= 2 {
+        return Ok(found);
+    }
+    of_one_byte(alloc, profile, recorded, wanted)
+}
+
+// The recorded data words where they are as many as wanted, and else a free word, those recorded and words of two semi-octets 0.
+fn filled_in_front(
+    alloc: Global,
+    profile: &Profile,
+    recorded: &[Word],
+    wanted: Wanted,
+) -> Result<Option<Vec<Word>>, AllocError>
+    ensures some { IfOk result (λ found. IfSome found (λ v. IsFilled profile.now wanted.count wanted.check recorded.now v.items)) }
+    ensures none { IfOk result (λ found. IfNone found (¬ CanBeFilled profile.now wanted.count wanted.check recorded.now)) }
 {
     if recorded.len() < wanted.count {
         return fill(alloc, profile, recorded, wanted);
     }
     if recorded.len() == wanted.count && fits(alloc, profile, recorded, wanted.check)? {
         return Ok(Some(Vec::from_slice(alloc, recorded)?));
+    }
+    Ok(None)
+}
+
+// Two data words, more than were recorded, of which one that was not recorded has one semi-octet. Only where the lowest bit of the
+// polynomial is 0 they may fit although no words do that `fill` makes: fewer check words are those of two bytes then.
+fn of_one_byte(
+    alloc: Global,
+    profile: &Profile,
+    recorded: &[Word],
+    wanted: Wanted,
+) -> Result<Option<Vec<Word>>, AllocError>
+    requires two { wanted.count ≡ 2 }
+    ensures some { IfOk result (λ found. IfSome found (λ v. IsFilled profile.now wanted.count wanted.check recorded.now v.items)) }
+    ensures none { IfOk result (λ found. IfNone found ((last : ℕ) → last < 16 → ¬ CanBeFilled profile.now 2 wanted.check (recorded.now ++ data_word profile.now.codes (last ∷ []) ∷ []))) }
+{
+    for last in 0..16 {
+        let mut words = Vec::from_slice(alloc, recorded)?;
+        words.push(numbered_word(profile, 1, last))?;
+        let found = filled_in_front(alloc, profile, &words, wanted)?;
+        if found.is_some() {
+            return Ok(found);
+        }
     }
     Ok(None)
 }

@@ -26,13 +26,16 @@ pub(crate) struct Group {
 }
 
 impl Group {
-    /// The group that an attempt begins; `None` where no link data unit is found for it.
+    /// The group that an attempt begins; `None` where no link data unit is found for it. Where there may be one all the same the
+    /// budget says that a search was cut short.
     pub(crate) fn begin(
         alloc: Global,
         profile: &Profile,
         attempt: &Attempt,
         budget: &mut Budget,
-    ) -> Result<Option<Group>, AllocError> {
+    ) -> Result<Option<Group>, AllocError>
+        ensures cut { budget.old.is_cut ≡ true → budget.new.is_cut ≡ true }
+    {
         let mut pieces = GroupPieces {
             count: attempt.count,
             gfi: attempt.gfi(),
@@ -52,15 +55,22 @@ impl Group {
         }
     }
 
-    /// Takes an attempt into the group. `false`, and the group is as it was, where no link data unit is found for both.
+    /// Takes an attempt into the group. `false`, and the group is as it was, where no link data unit is found for both. Where there
+    /// may be one all the same the budget says that a search was cut short.
     pub(crate) fn join(
         &mut self,
         alloc: Global,
         profile: &Profile,
         attempt: &Attempt,
         budget: &mut Budget,
-    ) -> Result<bool, AllocError> {
-        if self.contradicts(attempt) || budget.is_spent() {
+    ) -> Result<bool, AllocError>
+        ensures cut { budget.old.is_cut ≡ true → budget.new.is_cut ≡ true }
+    {
+        if self.contradicts(attempt) {
+            return Ok(false);
+        }
+        if budget.is_spent() {
+            budget.cut();
             return Ok(false);
         }
         budget.spend(self.steps_to_compare());
@@ -70,6 +80,7 @@ impl Group {
             return Ok(true);
         }
         if self.pieces.attempts.len() >= MOST_ATTEMPTS {
+            budget.cut();
             return Ok(false);
         }
         let (gfi, end) = (self.pieces.gfi, self.pieces.end);
@@ -137,14 +148,18 @@ fn are_other<T: Copy + PartialEq>(one: Option<T>, other: Option<T>) -> bool {
     }
 }
 
-// A link data unit that has all that was recorded, as long as the budget lasts.
+// A link data unit that has all that was recorded, as long as the budget lasts. Where none is found there is none, or a search was
+// cut short.
 fn unit_found(
     alloc: Global,
     profile: &Profile,
     pieces: &GroupPieces,
     budget: &mut Budget,
-) -> Result<Option<Ldu>, AllocError> {
+) -> Result<Option<Ldu>, AllocError>
+    ensures cut { budget.old.is_cut ≡ true → budget.new.is_cut ≡ true }
+{
     if budget.is_spent() || !are_in_range(pieces) {
+        budget.cut();
         return Ok(None);
     }
     unit_of_pieces(alloc, profile, pieces, budget)

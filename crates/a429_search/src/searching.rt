@@ -1,6 +1,6 @@
 //! The search for a run that recorded the words of a recording with losses.
 
-ghost use Rattle.std.specs.Prelude.{IfOk, IfSome};
+ghost use Rattle.std.specs.Prelude.{◌≡◌, true, IfOk, IfSome};
 ghost use Rattle.a429_explain.specs.Guess.{IsGuess};
 
 use crate::attempts::Attempt;
@@ -79,7 +79,9 @@ impl<'a> Search<'a> {
     }
 
     // Carries all hypotheses on to an attempt.
-    fn carry_all_on(&mut self, attempt: Option<Attempt>) -> Result<(), AllocError> {
+    fn carry_all_on(&mut self, attempt: Option<Attempt>) -> Result<(), AllocError>
+        ensures cut { self.old.budget.is_cut ≡ true → self.new.budget.is_cut ≡ true }
+    {
         let Some(attempt) = attempt else {
             return Ok(());
         };
@@ -90,7 +92,7 @@ impl<'a> Search<'a> {
         }
         self.hear(&attempt)?;
         self.trail.leave_out(&mut self.hypotheses)?;
-        self.leave_groups_out()
+        leave_groups_out(self.alloc, &mut self.groups, &mut self.hypotheses)
     }
 
     // Nothing was found out of an attempt yet.
@@ -107,7 +109,9 @@ impl<'a> Search<'a> {
         hypothesis: &Hypothesis,
         attempt: &Attempt,
         tried: &mut Tried,
-    ) -> Result<(), AllocError> {
+    ) -> Result<(), AllocError>
+        ensures cut { self.old.budget.is_cut ≡ true → self.new.budget.is_cut ≡ true }
+    {
         let ways = hypothesis.ways(self.profile.codes().first_ldu, attempt.number());
         if let Some(next) = ways.join {
             let group = self.joined(hypothesis.group, attempt, tried)?;
@@ -139,7 +143,9 @@ impl<'a> Search<'a> {
         &mut self,
         hypothesis: &Hypothesis,
         heard: Option<usize>,
-    ) -> Result<Option<usize>, AllocError> {
+    ) -> Result<Option<usize>, AllocError>
+        ensures cut { self.old.budget.is_cut ≡ true → self.new.budget.is_cut ≡ true }
+    {
         if let Some(group) = group_of(hypothesis, &self.groups) {
             self.budget
                 .spend(usize::from(group.pieces.count) * STEPS_A_WORD);
@@ -153,7 +159,9 @@ impl<'a> Search<'a> {
         group: Option<usize>,
         attempt: &Attempt,
         tried: &mut Tried,
-    ) -> Result<Option<usize>, AllocError> {
+    ) -> Result<Option<usize>, AllocError>
+        ensures cut { self.old.budget.is_cut ≡ true → self.new.budget.is_cut ≡ true }
+    {
         let Some(place) = group else {
             return self.alone(attempt, tried);
         };
@@ -168,7 +176,9 @@ impl<'a> Search<'a> {
     }
 
     // Takes the attempt into the group at this place, where it fits.
-    fn join(&mut self, place: usize, attempt: &Attempt) -> Result<bool, AllocError> {
+    fn join(&mut self, place: usize, attempt: &Attempt) -> Result<bool, AllocError>
+        ensures cut { self.old.budget.is_cut ≡ true → self.new.budget.is_cut ≡ true }
+    {
         match self.groups.get_mut(place) {
             Some(group) => group.join(self.alloc, self.profile, attempt, &mut self.budget),
             None => Ok(false),
@@ -176,7 +186,9 @@ impl<'a> Search<'a> {
     }
 
     // The place of the group that the attempt begins, where it makes one.
-    fn alone(&mut self, attempt: &Attempt, tried: &mut Tried) -> Result<Option<usize>, AllocError> {
+    fn alone(&mut self, attempt: &Attempt, tried: &mut Tried) -> Result<Option<usize>, AllocError>
+        ensures cut { self.old.budget.is_cut ≡ true → self.new.budget.is_cut ≡ true }
+    {
         if let Some(found) = tried.alone {
             return Ok(found);
         }
@@ -186,7 +198,9 @@ impl<'a> Search<'a> {
     }
 
     // Begins a group with the attempt.
-    fn begin(&mut self, attempt: &Attempt) -> Result<Option<usize>, AllocError> {
+    fn begin(&mut self, attempt: &Attempt) -> Result<Option<usize>, AllocError>
+        ensures cut { self.old.budget.is_cut ≡ true → self.new.budget.is_cut ≡ true }
+    {
         let begun = Group::begin(self.alloc, self.profile, attempt, &mut self.budget)?;
         let Some(group) = begun else {
             return Ok(None);
@@ -197,8 +211,10 @@ impl<'a> Search<'a> {
     }
 
     // Adds a hypothesis. Of those on which later attempts depend in the same way, the one with the fewest files given
-    // up stays.
-    fn add(&mut self, hypothesis: Hypothesis) -> Result<(), AllocError> {
+    // up stays. Where there are too many it is dropped, and the search is cut short.
+    fn add(&mut self, hypothesis: Hypothesis) -> Result<(), AllocError>
+        ensures cut { self.old.budget.is_cut ≡ true → self.new.budget.is_cut ≡ true }
+    {
         for other in self.hypotheses.iter_mut() {
             if other.is_like(&hypothesis) {
                 if hypothesis.give_ups < other.give_ups {
@@ -209,12 +225,16 @@ impl<'a> Search<'a> {
         }
         if self.hypotheses.len() < MOST_HYPOTHESES {
             self.hypotheses.push(hypothesis)?;
+        } else {
+            self.budget.cut();
         }
         Ok(())
     }
 
     // Where the attempt was acknowledged: beside each hypothesis that of a source that has heard it.
-    fn hear(&mut self, attempt: &Attempt) -> Result<(), AllocError> {
+    fn hear(&mut self, attempt: &Attempt) -> Result<(), AllocError>
+        ensures cut { self.old.budget.is_cut ≡ true → self.new.budget.is_cut ≡ true }
+    {
         let known = self.number_after(attempt);
         if known.is_none() {
             return Ok(());
@@ -243,30 +263,6 @@ impl<'a> Search<'a> {
             }
             _ => None,
         }
-    }
-
-    // Leaves out the groups that are present in no hypothesis.
-    fn leave_groups_out(&mut self) -> Result<(), AllocError> {
-        let groups = mem::replace(&mut self.groups, Vec::new(self.alloc));
-        for (from, group) in groups.into_iter().enumerate() {
-            let to = self.groups.len();
-            if self.move_group(from, to) {
-                self.groups.push(group)?;
-            }
-        }
-        Ok(())
-    }
-
-    // Gives a group another place in all hypotheses, and answers whether it is present in one.
-    fn move_group(&mut self, from: usize, to: usize) -> bool {
-        let mut is_present = false;
-        for hypothesis in self.hypotheses.iter_mut() {
-            if hypothesis.group == Some(from) {
-                hypothesis.group = Some(to);
-                is_present = true;
-            }
-        }
-        is_present
     }
 
     // What is guessed by the hypothesis with the fewest files given up.
@@ -306,4 +302,32 @@ impl<'a> Search<'a> {
         }
         best
     }
+}
+
+// Leaves out the groups that are present in none of these hypotheses.
+fn leave_groups_out(
+    alloc: Global,
+    groups: &mut Vec<Group>,
+    hypotheses: &mut [Hypothesis],
+) -> Result<(), AllocError> {
+    let all = mem::replace(groups, Vec::new(alloc));
+    for (from, group) in all.into_iter().enumerate() {
+        let to = groups.len();
+        if move_group(hypotheses, from, to) {
+            groups.push(group)?;
+        }
+    }
+    Ok(())
+}
+
+// Gives a group another place in these hypotheses, and answers whether it is present in one.
+fn move_group(hypotheses: &mut [Hypothesis], from: usize, to: usize) -> bool {
+    let mut is_present = false;
+    for hypothesis in hypotheses.iter_mut() {
+        if hypothesis.group == Some(from) {
+            hypothesis.group = Some(to);
+            is_present = true;
+        }
+    }
+    is_present
 }

@@ -1,6 +1,6 @@
 //! The attempts to send one link data unit, as they were recorded.
 
-ghost use Rattle.std.specs.Prelude.{◌≡◌, ◌↔◌, length, IfOk, IsTrue, OnOk};
+ghost use Rattle.std.specs.Prelude.{◌≡◌, ◌↔◌, true, length, IfOk, IsTrue, OnOk};
 ghost use Rattle.a429_link.specs.Attempt.{fresh};
 ghost use Rattle.a429_link.specs.Run.{IsSubsequenceOf};
 ghost use Rattle.a429_search.specs.Apart.{at_first, cleared, heard, joined, started, AreApart, AsksFor, HasApart, IsAfter};
@@ -84,21 +84,27 @@ impl Trial {
         self.words.len()
     }
 
-    // No link data unit has the words of both. `false`, too, where the steps of the budget are spent, or both are too long.
+    // No link data unit has the words of both. `false`, too, where the steps of the budget are spent, or both are too long: then the
+    // budget says that a search was cut short.
     fn is_apart(
         &self,
         alloc: Global,
         other: &Trial,
         budget: &mut Budget,
     ) -> Result<bool, AllocError>
-        ensures { IfOk result (λ found. IsTrue found → AreApart self.now other.now) }
+        ensures apart { IfOk result (λ found. IsTrue found → AreApart self.now other.now) }
+        ensures cut { budget.old.is_cut ≡ true → budget.new.is_cut ≡ true }
     {
         let most = self.count();
         if most != other.count() {
             return Ok(true);
         }
         let (ours, others) = (self.len(), other.len());
-        if ours.saturating_add(others) <= most || budget.is_spent() {
+        if ours.saturating_add(others) <= most {
+            return Ok(false);
+        }
+        if budget.is_spent() {
+            budget.cut();
             return Ok(false);
         }
         if ours == most {
@@ -110,6 +116,7 @@ impl Trial {
             return Ok(!other.has(self));
         }
         if ours > MOST_MERGED || others > MOST_MERGED {
+            budget.cut();
             return Ok(false);
         }
         budget.spend(ours.saturating_mul(others));
@@ -235,7 +242,8 @@ impl Trials {
     /// The attempt that is under way is to send the same link data unit as those that are kept, and no unit has the words of it and
     /// of one of these.
     pub(crate) fn is_apart(&self, budget: &mut Budget) -> Result<bool, AllocError>
-        ensures { IfOk result (λ found. IsTrue found → HasApart self.now) }
+        ensures apart { IfOk result (λ found. IsTrue found → HasApart self.now) }
+        ensures cut { budget.old.is_cut ≡ true → budget.new.is_cut ≡ true }
     {
         if !self.is_named {
             return Ok(false);

@@ -17,4 +17,4 @@ returns-then-branch-clause-impossible c =
     let n = c.loop-entry.entry in
     no_run_apart p c.profile-profile.ensures.sound (λ m before group. c.one_number_is_one_unit.ensures.unit p m before group) (take (n + 1) items) c.take.new.self
     (keeps_next p items n c.seen-seen.result c.word-form.result c.loop-entry.trials c.take.new.self c.seen-seen.ensures c.word-form.ensures.is c.in_ok-take.ensures c.loop-entry.invariant)
-    (c.in_ok-is_apart.ensures (cc (c.if-branch.true)))
+    (c.in_ok-is_apart.ensures.apart (cc (c.if-branch.true)))

@@ -1,6 +1,7 @@
 use Rattle.std.proofs.Common.{Vec, Global, ℕ, ◌≡◌, ◌<◌, length}
 use Rattle.a429_search.specs.Order.{lists_of}
-use Rattle.a429_search.specs.Fill.{Fits, IsFilled, AreDataOf, HasNoFreeWord, CanBeCompleted, rest_filled}
+use Rattle.a429_search.specs.Fill.{Fits, IsFilled, AreDataOf, HasNoFreeWord, HasOneByte, CanBeFilled, CanBeCompleted, rest_filled}
+use Rattle.a429_search.proofs.FillFacts.{not_filled}
 use Rattle.a429_search.proofs.MergedFacts.{some_from, none_from, merge_filled, not_completed}
 use Rattle.a429_search.proofs.merged.completed_merge.Goals as goal
 
@@ -20,5 +21,8 @@ returns-clause-none c =
     let count = c.args.wanted.count in
     let wanted = c.args.wanted.check in
     let merged = c.args.merged.now in
-    none_from (length merged ≡ count → ¬ Fits p wanted merged) (length merged < count → HasNoFreeWord p wanted (rest_filled p.codes count merged)) (¬ CanBeCompleted p count wanted merged) c.completed.result
-    (not_completed p count wanted merged) c.completed.ensures.whole c.completed.ensures.filled
+    none_from (¬ CanBeFilled p count wanted merged) (count ≡ 2 → length merged < 2 → ¬ HasOneByte p wanted merged) (¬ CanBeCompleted p count wanted merged) c.completed.result
+    (not_completed p count wanted merged)
+    (none_from (length merged ≡ count → ¬ Fits p wanted merged) (length merged < count → HasNoFreeWord p wanted (rest_filled p.codes count merged)) (¬ CanBeFilled p count wanted merged) c.completed.result
+    (not_filled p count wanted merged) c.completed.ensures.whole c.completed.ensures.filled)
+    c.completed.ensures.one_byte

@@ -29,6 +29,7 @@ loop-list-preserved c =
     record {
       each = below_more (λ k. IsSubsequenceOf (words_at (lists_of lists) k) new) i (λ k l. sub_trans (words_at (lists_of lists) k) old new (c.loop-list.invariant.each k l) kept) here;
       few = omega (arith, short, more, length-append old item);
+      cut = c.spend.ensures ∙ c.loop-list.invariant.cut;
     }
 
 pub returns-clause-kept : goal.returns-clause-kept
