@@ -1,15 +1,13 @@
 -- How a source comes from one standing to the next.
-use Rattle.std.proofs.Common.{◌≡◌, ◌⊎◌, ℕ, zero, suc, ◌+◌, ◌-◌, ◌%◌, ◌<◌, ◌≤◌, Bool, true, false, List, [], ◌∷◌, ◌++◌, length, length-append, All, Option, Some, None, is_some, Contains, refl, sym, ap, ◌∙◌, subst, inl, inr, arith}
+use Rattle.std.proofs.Common.{◌≡◌, ◌⊎◌, ℕ, zero, suc, ◌+◌, ◌%◌, ◌≤◌, Bool, true, false, List, [], ◌∷◌, length, All, Option, Some, None, is_some, refl, sym, ap, ◌∙◌, subst, inl, inr, arith}
 use Rattle.a429_profile.specs.declared.codes.Codes.{Codes}
 use Rattle.a429_link.specs.declared.number.UnitNumber.{UnitNumber}
-use Rattle.a429_link.specs.Number.{files_past}
-use Rattle.a429_link.specs.Assignment.{GivesUp, Assigned, LeavesFor, IsNext, IsSound, IsOf, AreAssigned, GoOnAssigned, IsAssignable}
+use Rattle.a429_link.specs.Assignment.{GivesUp, Assigned, IsNext, IsSound, IsOf, AreAssigned, GoOnAssigned, IsAssignable}
 use Rattle.a429_link.specs.Number.{number_after}
 use Rattle.a429_profile.specs.Profile.{Contents}
 use Rattle.a429_link.specs.declared.seen.Seen.{Seen}
-use Rattle.a429_link.specs.Attempt.{Attempt, attempts}
-use Rattle.a429_search.specs.Frontier.{Standing, Branch, Covers, begun, with_attempt, IsCovered, AreCovered, AreExact, StepsTo, DiesOut, at_first, StartsWith, NoneIsLeft, past, MayStand, Stands, fresh, at_start, heard}
-use Rattle.std.proofs.lemmas.List.{get_or-append-add}
+use Rattle.a429_link.specs.Attempt.{Attempt}
+use Rattle.a429_search.specs.Frontier.{Standing, Branch, Covers, begun, with_attempt, IsCovered, AreCovered, AreExact, StepsTo, DiesOut, at_first, StartsWith, NoneIsLeft, past, MayStand, Stands, fresh, heard}
 use Rattle.std.proofs.lemmas.List.Elements.{All-nil, All-push}
 
 number_is : (m : UnitNumber) (f l : ℕ) → m.file ≡ f → m.ldu ≡ l → m ≡ record { file = f; ldu = l }

@@ -2,7 +2,7 @@
 use Rattle.std.proofs.Common.{◌≡◌, ◌<◌, ℕ, List, length, get_or, Option, Some, None, Result, Ok, Err, IfOk, IfSome, IfNone, inl, inr}
 use Rattle.a429_profile.specs.Profile.{Contents}
 use Rattle.a429_search.specs.Order.{HasEach}
-use Rattle.a429_search.specs.Fill.{Fits, IsFilled, AreDataOf, HasOneByte, CanBeFilled, CanBeCompleted}
+use Rattle.a429_search.specs.Fill.{IsFilled, AreDataOf, HasOneByte, CanBeFilled, CanBeCompleted}
 use Rattle.a429_search.proofs.SubsequenceFacts.{sub_trans}
 
 -- a clause on a result, and what follows from it

@@ -1,5 +1,5 @@
 -- What a source may have done up to an attempt, as hypotheses that are carried from one attempt to the next (profile).
-use Rattle.std.specs.Prelude.{ℕ, zero, suc, ◌≡◌, ◌⊎◌, ◌+◌, ◌%◌, ◌<◌, ◌≤◌, Bool, true, false, List, [], ◌∷◌, ◌++◌, All, Contains, Option, Some, None, is_some}
+use Rattle.std.specs.Prelude.{ℕ, zero, suc, ◌≡◌, ◌⊎◌, ◌+◌, ◌%◌, ◌≤◌, Bool, true, false, List, [], ◌∷◌, ◌++◌, All, Contains, Option, Some, None, is_some}
 use Rattle.a429_profile.specs.Profile.{Contents}
 use Rattle.a429_profile.specs.declared.codes.Codes.{Codes}
 use Rattle.a429_link.specs.declared.number.UnitNumber.{UnitNumber}
@@ -48,10 +48,6 @@ pub record Covers (p : Contents) (h : Branch) (t : Assigned) : Type 0 where
 -- after the source has given up one file more
 abbrev pub fresh : Standing → Standing
 fresh s = record s { since = suc s.since; started = false }
-
--- at a start word, up to which it has given up so many files
-abbrev pub at_start : UnitNumber → ℕ → Standing
-at_start n gave = record { known = Some n; gave = gave; since = 0; started = true }
 
 -- at the number after that of an acknowledgement that it has heard
 abbrev pub heard : UnitNumber → Standing

@@ -1,4 +1,4 @@
-use Rattle.std.proofs.Common.{◌≡◌, ◌<◌, ◌≤◌, ◌++◌, ◌∷◌, ◌+◌, ◌-◌, [], ℕ, List, Ok, true, false, length, length-append, sym, ap, ◌∙◌, subst, arith}
+use Rattle.std.proofs.Common.{◌≡◌, ◌<◌, ◌≤◌, ◌++◌, ◌∷◌, ◌-◌, [], ℕ, List, Ok, length, length-append, sym, ap, ◌∙◌, subst, arith}
 use Rattle.std.specs.Vec.{vec_len}
 use Rattle.a429_search.specs.Order.{lists_of, IsNext, IsAllPassed}
 use Rattle.a429_search.specs.Bounded.{ArePassed, HasPassed, IsStep, IsBoundedStep, AreSteps, HasStepOf, IsHopeless}

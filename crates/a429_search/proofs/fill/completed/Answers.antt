@@ -1,5 +1,5 @@
 use Rattle.std.proofs.Common.{◌≡◌, ◌<◌, ◌++◌, ◌∷◌, [], ℕ, Option, IfNone, length, Vec, Global, subst, inl}
-use Rattle.a429_search.specs.Fill.{Fits, CanBeFilled, HasNoFreeWord, HasOneByte, data_word, rest_filled}
+use Rattle.a429_search.specs.Fill.{Fits, CanBeFilled, HasOneByte, data_word}
 use Rattle.a429_search.proofs.FillFacts.{if_none_from, ok_none, ok_none_from, no_free_word, no_one_byte}
 use Rattle.a429_search.proofs.HopelessFacts.{is_none}
 use Rattle.a429_search.proofs.fill.completed.Goals as goal

@@ -1,4 +1,4 @@
-use Rattle.std.proofs.Common.{◌≡◌, ◌%◌, ◌++◌, ◌∷◌, [], ℕ, List, Option, IfNone, Vec, Global, sym, ap, ◌∙◌, subst, arith, below_more}
+use Rattle.std.proofs.Common.{◌≡◌, ◌%◌, ◌++◌, ◌∷◌, [], ℕ, List, Option, IfNone, Vec, Global, ap, ◌∙◌, subst, arith, below_more}
 use Rattle.a429_search.specs.Fill.{IsFilled, CanBeFilled, data_word}
 use Rattle.a429_search.proofs.FillFacts.{if_some_from, without_more}
 use Rattle.a429_search.proofs.HopelessFacts.{is_none}
