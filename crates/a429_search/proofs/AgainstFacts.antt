@@ -29,11 +29,13 @@ use Rattle.a429_record.specs.declared.entry.Entry.{Entry}
 use Rattle.a429_cert.specs.Explained.{items_of, seen_of}
 use Rattle.a429_explain.specs.Decoded.{HeardValue}
 use Rattle.a429_explain.specs.declared.verdict.Reason.{Reason}
-use Rattle.a429_explain.specs.declared.verdict.Reason.TheVariants.{BadBlock}
+use Rattle.a429_explain.specs.declared.verdict.Reason.TheVariants.{BadBlock, NoRun}
 use Rattle.a429_search.specs.declared.against.Acked.{Acked}
 use Rattle.a429_search.specs.declared.against.Against.{Against}
 use Rattle.a429_search.specs.declared.against.Against.TheVariants as against
-use Rattle.a429_search.specs.Against.{AllowsIfForm, HasSemis, HoldsForm, IsAcked, IsHeldAfter, IsHeldAt, IsHeldForm, IsHeldNext, Known, acked_after, by_doing, known_by, last_number}
+use Rattle.a429_search.specs.Against.{AllowsIfForm, HasSemis, HoldsForm, IsAcked, IsHeldAfter, IsHeldAt, IsHeldForm, IsHeldNext, Known, acked_after, as_against, by_doing, known_by, last_number}
+use Rattle.a429_search.specs.declared.rival.Rival.{Rival}
+use Rattle.a429_search.specs.Rival.{IsRivalAt}
 use Rattle.a429_search.specs.SoFar.{unheard}
 use Rattle.a429_search.proofs.ContradictionFacts.{Witnesses, heard_other, heard_wrong}
 
@@ -158,6 +160,7 @@ heard_holds p k o s before b w x (against.Allowed next) = refl
 heard_holds p k o s before b w x (against.Semis n) = heard_semis p k s.attempt b w x n
 heard_holds p k o s before b w x (against.Check r c) = refl
 heard_holds p k o s before b w x (against.NotFirst n) = refl
+heard_holds p k o s before b w x (against.Rival r) = refl
 heard_holds p k o s before b w x (against.AfterAck n m e) = refl
 heard_holds p k o s before b w x (against.AfterStart n m v e) = wrong _ _ _ _ (heard_wrong b x s)
   where
@@ -251,3 +254,20 @@ held_at p es n reason before e i r is at seen h =
     let first = subst (λ (z : HeardValue). IfOk r (λ o. IfSome o (IsHeldAfter z.profile z.items i reason))) is h in
     let second = subst (λ (l : List Seen). IfOk r (λ o. IfSome o (IsHeldAfter p l i reason))) (sym (take-map seen_of n es)) first in
     each_some r (λ a k. next_is p (items_of es) n i (slice_get (items_of es) n) reason a (got es n e at ∙ ap (λ (z : Seen). Some z) (sym seen)) k) second
+
+rival_held : (p : Contents) (items : List Seen) (n : ℕ) (i : Seen) (r : Rival) → slice_get items n ≡ Some i → IsRivalAt p (take (n + 1) items) r → IsHeldAt p items n NoRun (against.Rival r)
+rival_held p items n i r at h =
+    let one : n + 1 ≡ suc n = omega arith in
+    let here = subst (λ (l : List Seen). IsRivalAt p l r) (ap (λ (m : ℕ). take m items) one ∙ next_item n i items at) h in
+    subst (λ (z : Option Seen). IsHeldNext p (take n items) z NoRun (against.Rival r)) (sym at) (refl, here)
+
+as_held : (p : Contents) (items : List Seen) (n : ℕ) (i : Seen) (o : Option Rival) → slice_get items n ≡ Some i → IfSome o (IsRivalAt p (take (n + 1) items)) → IfSome (as_against o) (IsHeldAt p items n NoRun)
+as_held p items n i (Some r) at h = rival_held p items n i r at h
+as_held p items n i None at h = tt
+
+-- the attempt that the one of an entry is held against
+pub rival_of_entries : (p : Contents) (es : List Entry) (n : ℕ) (d : HeardValue) (e : Entry) (o : Option Rival) → d ≡ record { profile = p; items = items_of (take (n + 1) es) } → slice_get es n ≡ Some e → IfSome o (IsRivalAt d.profile d.items) → IfSome (as_against o) (IsHeldAt p (items_of es) n NoRun)
+rival_of_entries p es n d e o is at h =
+    let first = subst (λ (z : HeardValue). IfSome o (IsRivalAt z.profile z.items)) is h in
+    let second = subst (λ (l : List Seen). IfSome o (IsRivalAt p l)) (sym (take-map seen_of (n + 1) es)) first in
+    as_held p (items_of es) n (seen_of e) o (got es n e at) second

@@ -1,6 +1,6 @@
 -- An attempt that another attempt is held against.
-use Rattle.std.proofs.Common.{◌≡◌, ◌≢◌, ◌⊎◌, ◌↔◌, not, IsTrue, ℕ, zero, suc, ◌+◌, ◌<◌, ◌≤◌, Bool, true, false, cond, eqb, eqb-true, List, [], ◌∷◌, ◌++◌, length, take, Option, Some, None, slice_get, refl, sym, ap, ◌∙◌, subst, inl, inr, append_assoc, append-nil, arith}
-use Rattle.std.proofs.lemmas.Bool.{and_parts, cases_order}
+use Rattle.std.proofs.Common.{◌≡◌, ◌⊎◌, ℕ, zero, suc, ◌+◌, ◌<◌, Bool, true, false, cond, eqb, eqb-true, List, [], ◌∷◌, ◌++◌, length, take, Option, Some, None, slice_get, refl, sym, ap, ◌∙◌, subst, inl, inr, append_assoc, append-nil, arith}
+use Rattle.std.proofs.lemmas.Bool.{and_parts}
 use Rattle.std.proofs.lemmas.Option.{slice_get_within}
 use Rattle.a429_word.specs.declared.bus.Bus.{Bus}
 use Rattle.a429_word.specs.declared.bus.Bus.TheVariants as bus
@@ -19,8 +19,8 @@ use Rattle.a429_link.proofs.NumberFacts.{number_from}
 use Rattle.a429_explain.specs.declared.decoded.DecodedWord.{DecodedWord}
 use Rattle.a429_explain.specs.Decoded.{IsHeardAt}
 use Rattle.a429_search.specs.declared.rival.Rival.{Rival}
-use Rattle.a429_search.specs.Rival.{AreMoreWords, AreOfOneUnit, Asked, Attempts, IsRival, IsRivalAt, IsRivalOf, after, at_first, cleared, heard, heard_as, if_asked, joined, latest_request, named_as, plain, request_from, started, with_request}
-use Rattle.a429_search.proofs.ApartFacts.{no_part, whole_apart}
+use Rattle.a429_search.specs.Rival.{AreMoreWords, Asked, Attempts, IsRival, IsRivalAt, after, at_first, cleared, heard, heard_as, if_asked, joined, latest_request, named_as, request_from, started, with_request}
+use Rattle.a429_search.proofs.ApartFacts.{plain, whole_apart}
 
 -- ---- the last request
 

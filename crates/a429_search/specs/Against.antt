@@ -21,7 +21,9 @@ use Rattle.a429_link.specs.Observer.{AllowsForm, Observer, at_first, observed}
 use Rattle.a429_link.specs.Sink.{Number}
 use Rattle.a429_link.specs.WholeBlock.{AreHalf, ComesForm, data_words}
 use Rattle.a429_explain.specs.declared.verdict.Reason.{Reason}
-use Rattle.a429_explain.specs.declared.verdict.Reason.TheVariants.{NoForm, NotGranted, WrongAnswer, BadBlock, WrongNumber, OtherBlock}
+use Rattle.a429_explain.specs.declared.verdict.Reason.TheVariants.{NoForm, NotGranted, WrongAnswer, BadBlock, WrongNumber, OtherBlock, NoRun}
+use Rattle.a429_search.specs.declared.rival.Rival.{Rival}
+use Rattle.a429_search.specs.Rival.{IsRivalAt}
 use Rattle.a429_search.specs.SoFar.{IsPassedWith}
 use Rattle.a429_search.specs.declared.against.Acked.{Acked}
 use Rattle.a429_search.specs.declared.against.Against.{Against}
@@ -133,6 +135,7 @@ HoldsForm p k before b w x (against.OtherStart n v e) = (n ≡ w) × (n ≢ v) �
 HoldsForm p k before b w x (against.OtherCount n m v e) = (n ≡ k.so_far.attempt.count) × (n ≢ m) × (count_so_far k.so_far.unit ≡ Some m) × (start_so_far k.so_far.unit ≡ Some v) × IsWordAt before e v × IsOtherForm b w x k.so_far
 HoldsForm p k before b w x (against.OtherEnd n v e) = (n ≡ w) × (n ≢ v) × (ending_so_far k.so_far.unit ≡ Some v) × IsWordAt before e v × IsOtherForm b w x k.so_far
 HoldsForm p k before b w x (against.OtherWord n v z e) = (n ≡ w) × GoesOnIn k.so_far.attempt.words n v (block_so_far k.so_far.unit) × (ending_so_far k.so_far.unit ≡ Some z) × IsWordAt before e z × IsOtherForm b w x k.so_far
+HoldsForm p k before b w x (against.Rival r) = IsRivalAt p (before ++ record { bus = b; word = w } ∷ []) r
 
 -- the word is one that the words before it do not allow
 abbrev pub IsOfRefused : Reason → Type 0
@@ -153,6 +156,11 @@ IsOf reason (against.OtherStart n v e) = reason ≡ OtherBlock
 IsOf reason (against.OtherCount n m v e) = reason ≡ OtherBlock
 IsOf reason (against.OtherEnd n v e) = reason ≡ OtherBlock
 IsOf reason (against.OtherWord n v z e) = reason ≡ OtherBlock
+IsOf reason (against.Rival r) = reason ≡ NoRun
+
+abbrev pub as_against : Option Rival → Option Against
+as_against None = None
+as_against (Some r) = Some (against.Rival r)
 
 -- by this reason
 abbrev pub IsHeldForm : Contents → Known → List Seen → Bus → ℕ → Option Form → Reason → Against → Type 0

@@ -109,10 +109,6 @@ request_from p n r (i ∷ items) = request_from p (suc n) (if_asked n (asks i.bu
 abbrev pub latest_request : Contents → List Seen → Option ℕ
 latest_request p items = request_from p 0 None items
 
--- without the number that is acknowledged in it
-abbrev pub plain : Attempt → Attempt
-plain a = record a { acked = None }
-
 -- the attempt in which `here` ends, a beginning of these items, and the one in which all of them end are to send one link data unit: in
 -- some beginning of the former an attempt has this number, and so has the latter, and no other number is acknowledged since
 pub record AreOfOneUnit (p : Contents) (here items : List Seen) : Type 0 where

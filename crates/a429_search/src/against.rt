@@ -8,11 +8,12 @@ ghost use Rattle.a429_link.specs.Implied.{implied_at_first, implies, implies_for
 ghost use Rattle.a429_link.specs.Observer.{Allows, at_first, sees};
 ghost use Rattle.a429_link.specs.Contradiction.{IsOtherForm, none_so_far, so_far_after};
 ghost use Rattle.a429_link.specs.WholeBlock.{ComesForm, data_words};
-ghost use Rattle.a429_search.specs.Against.{AllowsIfForm, IsAcked, IsHeldAfter, IsHeldAt, IsHeldForm, IsWordAt, StartsNumber, acked_after, by_doing, known_by};
+ghost use Rattle.a429_search.specs.Against.{AllowsIfForm, IsAcked, IsHeldAfter, IsHeldAt, IsHeldForm, IsWordAt, StartsNumber, acked_after, as_against, by_doing, known_by};
 ghost use Rattle.a429_search.specs.Contradiction.{Contradicts};
 ghost use Rattle.a429_search.specs.SoFar.{data_after, unheard};
 
 use crate::contradiction::Witness;
+use crate::rival::{Rival, rival_of};
 use crate::so_far::number_of;
 use a429_cert::seen;
 use a429_explain::walk::{Halt, walk};
@@ -70,6 +71,8 @@ pub enum Against {
         end: Word,
         entry: usize,
     },
+    /// `NoRun`: an earlier attempt, of which no link data unit has the words and those of the last.
+    Rival(Rival),
     /// `OtherBlock`: the block of the link data unit, whose end word is this one, at this entry, goes on with another word, and
     /// does not have this one later.
     OtherWord {
@@ -96,8 +99,53 @@ struct Watch {
 }
 
 /// What the word of an entry is held against which no run records after those before it, by the reason that `decide` gives
-/// with this entry. `None` where nothing is known: always of `NoRun`.
+/// with this entry. `None` where nothing is known.
 pub fn held_against(
+    alloc: Global,
+    profile: &Profile,
+    entries: &[Entry],
+    entry: usize,
+    reason: Reason,
+) -> Result<Option<Against>, AllocError>
+    requires { entry < length entries.now }
+    ensures { IfOk result (λ found. IfSome found (IsHeldAt profile.now (items_of entries.now) entry reason)) }
+{
+    match reason {
+        Reason::NoRun => rival_at(alloc, profile, entries, entry),
+        _ => held_before(alloc, profile, entries, entry, reason),
+    }
+}
+
+// The attempt that the one of this entry is held against.
+fn rival_at(
+    alloc: Global,
+    profile: &Profile,
+    entries: &[Entry],
+    entry: usize,
+) -> Result<Option<Against>, AllocError>
+    requires { entry < length entries.now }
+    ensures { IfOk result (λ found. IfSome found (IsHeldAt profile.now (items_of entries.now) entry Reason.NoRun)) }
+{
+    match walk(alloc, profile, &entries[..entry + 1]) {
+        Ok(decoded) => {
+            let found = rival_of(alloc, &decoded)?;
+            Ok(as_against(found))
+        }
+        Err(Halt { .. }) => Ok(None),
+    }
+}
+
+fn as_against(found: Option<Rival>) -> Option<Against>
+    ensures { result ≡ as_against found }
+{
+    match found {
+        Some(rival) => Some(Against::Rival(rival)),
+        None => None,
+    }
+}
+
+// What the word of an entry is held against, by those before it.
+fn held_before(
     alloc: Global,
     profile: &Profile,
     entries: &[Entry],

@@ -45,6 +45,6 @@ pub use crate::frontier::no_run_without_a_hypothesis;
 pub use crate::order::merge_in_one_order;
 pub use crate::pair::merge_shortest;
 pub use crate::pieces::{EndWord, GroupPieces};
-pub use crate::rival::{Rival, rival_of};
+pub use crate::rival::Rival;
 pub use crate::searching::MOST_HYPOTHESES;
 pub use crate::subsequence::is_subsequence;

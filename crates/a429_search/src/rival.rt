@@ -1,7 +1,8 @@
 //! The attempt that another attempt is held against, where no link data unit has the words of both.
 
-ghost use Rattle.std.specs.Prelude.{◌≡◌, IfOk, IfSome, IsTrue, OnOk};
+ghost use Rattle.std.specs.Prelude.{◌≡◌, ◌↔◌, length, IfOk, IfSome, IsTrue, OnOk};
 ghost use Rattle.a429_link.specs.Attempt.{fresh};
+ghost use Rattle.a429_link.specs.Run.{IsSubsequenceOf};
 ghost use Rattle.a429_search.specs.Rival.{AreMoreWords, IsRival, IsRivalAt, IsRivalOf, after, at_first, cleared, heard, joined, started, with_request};
 
 use crate::pair::merge_shortest;
@@ -66,7 +67,7 @@ impl Model for Attempts {
 
 /// An attempt which was to send the same link data unit as that of the last word, and of which no unit has the words and those of
 /// the last. `None` where none is found.
-pub fn rival_of(alloc: Global, decoded: &Decoded) -> Result<Option<Rival>, AllocError>
+pub(crate) fn rival_of(alloc: Global, decoded: &Decoded) -> Result<Option<Rival>, AllocError>
     ensures { IfOk result (λ found. IfSome found (IsRivalAt decoded.now.profile decoded.now.items)) }
 {
     let mut attempts = Attempts::new(alloc);
@@ -90,18 +91,39 @@ impl Asked {
         }
     }
 
+    // How many words it asks for.
+    fn count(&self) -> usize
+        ensures { result ≡ self.now.attempt.count }
+    {
+        usize::from(self.count)
+    }
+
+    // How many words were recorded.
+    fn len(&self) -> usize
+        ensures { result ≡ length self.now.attempt.words }
+    {
+        self.words.len()
+    }
+
+    // The words of the other attempt are some of its own, in their order.
+    fn has(&self, other: &Asked) -> bool
+        ensures { IsTrue result ↔ IsSubsequenceOf other.now.attempt.words self.now.attempt.words }
+    {
+        is_subsequence(&other.words, &self.words)
+    }
+
     // A list that has the words of both, which ask for as many, has more words than they ask for.
     fn has_more_words_with(&self, alloc: Global, other: &Asked) -> Result<bool, AllocError>
         requires { self.now.attempt.count ≡ other.now.attempt.count }
         ensures { IfOk result (λ found. IsTrue found → AreMoreWords self.now.attempt other.now.attempt) }
     {
-        let most = usize::from(self.count);
-        let (ours, others) = (self.words.len(), other.words.len());
+        let most = self.count();
+        let (ours, others) = (self.len(), other.len());
         if ours == most {
-            return Ok(!is_subsequence(&other.words, &self.words));
+            return Ok(!self.has(other));
         }
         if others == most {
-            return Ok(!is_subsequence(&self.words, &other.words));
+            return Ok(!other.has(self));
         }
         if ours > MOST_MERGED || others > MOST_MERGED {
             return Ok(false);

@@ -1,7 +1,7 @@
 use Rattle.std.proofs.Common.{length, refl}
 use Rattle.std.proofs.lemmas.Option.{slice_get_read}
 use Rattle.a429_search.proofs.AgainstFacts.{held_at}
-use Rattle.a429_search.proofs.against.held_against.Goals as goal
+use Rattle.a429_search.proofs.against.held_before.Goals as goal
 
 pub returns-in-Ok : goal.returns-in-Ok
 returns-in-Ok c =
