@@ -76,7 +76,7 @@ def lines_below(profile, entries, n, reason):
         return [bad(watch, message)]
     if reason == "WrongNumber":
         return wrong(watch, message, last)
-    return other(watch, word, message, last) if reason == "OtherBlock" else []
+    return other(watch, word, message, last) if reason == "OtherBlock" else rival(attempts_of(profile, entries[: n + 1]))
 
 
 def bad(watch, message):
@@ -110,6 +110,58 @@ def other(watch, word, message, last):
     if message[0] == "eot" and word != unit.end and unit.end is not None:
         return [f"against {last[unit.end]}", f"end word {word:08X}, before {unit.end:08X}"]
     return [f"against {last[unit.end]}", f"word {word:08X}, the block goes on with {unit.block[passed(watch.words(), unit.block)]:08X}"]
+
+
+# ---- attempts of one unit
+
+
+class Attempt:
+    """A request, and the words of the block since its clear answer."""
+
+    def __init__(self, request, count):
+        self.request, self.count, self.words = request, count, []
+
+
+def attempts_of(profile, entries):
+    """The attempts to send the unit of the last one, and the last one."""
+    number, kept, last = None, [], Attempt(None, 0)
+    for n, (bus, word, *_) in enumerate(entries):
+        message = message_of(profile, bus, word)
+        name = message[0] if isinstance(message, tuple) else None
+        if name == "rts":
+            kept.append(last)
+            last = Attempt(n, message[1])
+        elif name == "cts":
+            last.words = []
+        elif name == "ack" and number != message[1:]:
+            number = None
+        elif name in BLOCK:
+            if name == "sot" and not last.words and number != message[2:]:
+                number, kept = message[2:], []
+            last.words.append(word)
+    return [it for it in kept if it.request is not None], last
+
+
+def shortest(ours, others):
+    """How many words the shortest list has that has both lists, each in its order."""
+    row = list(range(len(others), -1, -1))
+    for word in reversed(ours):
+        before, row = row, [0] * len(row)
+        row[-1] = before[-1] + 1
+        for k in range(len(others) - 1, -1, -1):
+            row[k] = 1 + (before[k + 1] if others[k] == word else min(before[k], row[k + 1]))
+    return row[0]
+
+
+def rival(attempts):
+    """The first attempt of which no unit has the words and those of the last."""
+    kept, last = attempts
+    for it in kept:
+        if it.count != last.count:
+            return [f"against {it.request}", f"count {last.count}, before {it.count}"]
+        if shortest(it.words, last.words) > last.count:
+            return [f"against {it.request}", f"words of both, more than {last.count}"]
+    return []
 
 
 def lines_of(profile, entries, said):

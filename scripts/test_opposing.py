@@ -26,6 +26,8 @@ ROWS = {
     "another identifier": ([RTS, CTS, SOT, RTS, CTS, SOT, RTS, CTS, ("sot", 1, 1, 1)], "OtherBlock", "against 5|start word {8}, before {2}"),
     "another count": ([RTS, CTS, SOT, LONG, LONG_CTS, SOT], "OtherBlock", "against 2|count 5, before 3"),
     "another end word": ([*ONE_BYTE, RTS, CTS, SOT, ("eot", 0, 0xA3F5)], "OtherBlock", "against 4|end word {8}, before {4}"),
+    "two data words of one": ([RTS, CTS, SOT, ("data", 3, 3), *ONE_BYTE], "NoRun", "against 0|words of both, more than 3"),
+    "another count in between": ([RTS, CTS, SOT, LONG, LONG_CTS, FIRST, RTS, CTS, SOT], "NoRun", "against 3|count 3, before 5"),
     "another data word": ([*WHOLE, LONG, LONG_CTS, SOT, FIRST, THIRD, SECOND], "OtherBlock", "against 6|word {12}, the block goes on with {6}"),
 }
 
@@ -42,7 +44,7 @@ class Opposing(unittest.TestCase):
                 self.assertEqual(lines_below(profile, entries, len(entries) - 1, reason), wanted.split("|"))
 
     def test_a_verdict_that_names_no_word_is_all(self):
-        for said in (["YES files 1", "file 1 1"], ["UNEXPLAINED 0 NeverWhole"], ["IMPOSSIBLE 3 NoRun"]):
+        for said in (["YES files 1", "file 1 1"], ["UNEXPLAINED 0 NeverWhole"], ["UNEXPLAINED 3 NotOneBlock"]):
             self.assertEqual(lines_of(Profile(), [("A", 0)] * 4, said), said)
 
 

@@ -1,5 +1,5 @@
 -- What `a429 why` writes (profile).
-use Rattle.std.specs.Prelude.{◌≡◌, ◌++◌, ℕ, List, [], codes, false, Option, Some, None, IfSome}
+use Rattle.std.specs.Prelude.{◌≡◌, ◌++◌, ◌==◌, if◌then◌else◌, ℕ, List, [], codes, false, Option, Some, None, IfSome}
 use Rattle.std.specs.Fmt.{decimal}
 use Rattle.a429_word.specs.Digits.{hex_text, numeral}
 use Rattle.a429_profile.specs.Profile.{Contents}
@@ -11,6 +11,7 @@ use Rattle.a429_record.specs.declared.entry.Entry.{Entry}
 use Rattle.a429_cert.specs.Explained.{items_of}
 use Rattle.a429_explain.specs.declared.verdict.Verdict.{Verdict}
 use Rattle.a429_explain.specs.declared.verdict.Verdict.TheVariants.{Explained, Impossible, Unexplained}
+use Rattle.a429_search.specs.declared.rival.Rival.{Rival}
 use Rattle.a429_search.specs.declared.against.Against.{Against}
 use Rattle.a429_search.specs.declared.against.Against.TheVariants as against
 use Rattle.a429_search.specs.Against.{IsHeldAt}
@@ -56,6 +57,13 @@ words_lines entry name word between other = against_line entry ++ name ++ hex_te
 abbrev pub counts_lines : ℕ → ℕ → ℕ → List ℕ
 counts_lines entry count before = against_line entry ++ codes "count " ++ decimal count ++ codes ", before " ++ decimal before ++ codes "\n"
 
+-- both ask for so many words
+abbrev pub more_lines : ℕ → ℕ → List ℕ
+more_lines entry count = against_line entry ++ codes "words of both, more than " ++ decimal count ++ codes "\n"
+
+abbrev pub rival_lines : Rival → List ℕ
+rival_lines r = if r.before == r.count then more_lines r.request r.count else counts_lines r.request r.count r.before
+
 abbrev pub against_lines : Against → List ℕ
 against_lines (against.Allowed next) = allowed_line next
 against_lines (against.Semis n) = semis_line n
@@ -67,6 +75,7 @@ against_lines (against.OtherStart word start entry) = words_lines entry (codes "
 against_lines (against.OtherCount count before start entry) = counts_lines entry count before
 against_lines (against.OtherEnd word end entry) = words_lines entry (codes "end word ") word (codes ", before ") end
 against_lines (against.OtherWord word next end entry) = words_lines entry (codes "word ") word (codes ", the block goes on with ") next
+against_lines (against.Rival r) = rival_lines r
 
 -- where nothing is known, there are no lines
 abbrev pub lines_if_any : Option Against → List ℕ

@@ -10,7 +10,7 @@ ghost use Rattle.a429_check.specs.Ends.{Ends, heard, unheard_causes};
 ghost use Rattle.a429_check.specs.Fault.{ComesBy};
 ghost use Rattle.a429_check.specs.Output.{output};
 ghost use Rattle.a429_check.specs.Recording.{IsReadFault};
-ghost use Rattle.a429_check.specs.Why.{IsAnswerBy, IsAnswerOn, IsAnswerUnder, IsHeldBy, after_lines, against_line, against_lines, allowed_line, check_line, counts_lines, lines_if_any, not_first_line, number_text, of_why, semis_line, words_lines};
+ghost use Rattle.a429_check.specs.Why.{IsAnswerBy, IsAnswerOn, IsAnswerUnder, IsHeldBy, after_lines, against_line, against_lines, allowed_line, check_line, counts_lines, lines_if_any, more_lines, not_first_line, number_text, of_why, rival_lines, semis_line, words_lines};
 
 use crate::engines::check::{put_verdict, status_of, verdict_by};
 use crate::engines::profile::profile_of;
@@ -22,7 +22,7 @@ use a429_explain::Verdict;
 use a429_link::{Next, UnitNumber};
 use a429_profile::Profile;
 use a429_record::Entry;
-use a429_search::{Against, held_against};
+use a429_search::{Against, Rival, held_against};
 use a429_view::{put_hex, put_next};
 use a429_word::{Sheet, Tally, Word};
 use std::alloc::{AllocError, Global};
@@ -175,6 +175,7 @@ fn put_against<W: Write>(sheet: &mut Sheet<'_, W>, against: Against)
             b", the block goes on with ",
             next,
         ),
+        Against::Rival(rival) => put_rival(sheet, rival),
     }
 }
 
@@ -249,6 +250,25 @@ fn put_counts<W: Write>(sheet: &mut Sheet<'_, W>, entry: usize, count: u8, befor
     put_count(sheet, count);
     sheet.put(b", before ");
     put_count(sheet, before);
+    sheet.put(b"\n");
+}
+
+fn put_rival<W: Write>(sheet: &mut Sheet<'_, W>, rival: Rival)
+    ensures { Says W.contents sheet.old sheet.new (rival_lines rival) }
+{
+    if rival.before == rival.count {
+        put_more(sheet, rival.request, rival.count);
+    } else {
+        put_counts(sheet, rival.request, rival.count, rival.before);
+    }
+}
+
+fn put_more<W: Write>(sheet: &mut Sheet<'_, W>, entry: usize, count: u8)
+    ensures { Says W.contents sheet.old sheet.new (more_lines entry count) }
+{
+    put_entry(sheet, entry);
+    sheet.put(b"words of both, more than ");
+    put_count(sheet, count);
     sheet.put(b"\n");
 }
 

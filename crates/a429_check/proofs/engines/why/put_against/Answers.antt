@@ -29,3 +29,6 @@ returns-in-OtherEnd g c = rw c.in-OtherEnd.is c.put_words-in-OtherEnd.ensures
 
 pub returns-in-OtherWord : goal.returns-in-OtherWord
 returns-in-OtherWord g c = rw c.in-OtherWord.is c.put_words-in-OtherWord.ensures
+
+pub returns-in-Rival : goal.returns-in-Rival
+returns-in-Rival g c = rw c.in-Rival.is c.put_rival.ensures
