@@ -182,10 +182,6 @@ all_given (run.Export f) given n h = h
 
 -- ---- once it is written
 
-pub if_ok_map : {T E : Type 0} {P Q : T → Type 0} (r : Result T E) → IfOk r P → ((x : T) → P x → Q x) → IfOk r Q
-if_ok_map (Ok x) h f = f x h
-if_ok_map (Err e) h f = tt
-
 pub if_err_map : {T E : Type 0} {P Q : E → Type 0} (r : Result T E) → IfErr r P → ((e : E) → P e → Q e) → IfErr r Q
 if_err_map (Ok x) h f = tt
 if_err_map (Err e) h f = f e h

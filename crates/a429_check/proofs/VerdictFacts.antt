@@ -79,9 +79,6 @@ none_failed rec certificate shelf listener (a, b, c, d) (inl h) = cc (a, h)
 none_failed rec certificate shelf listener (a, b, c, d) (inr (inl h)) = cc (b, h)
 none_failed rec certificate shelf listener (a, b, c, d) (inr (inr h)) = cc (c, h)
 
-pub all_work : (rec certificate shelf listener out : Bool) → AllWork rec certificate shelf listener → out ≡ false → AllWork rec certificate shelf out
-all_work rec certificate shelf listener out (a, b, c, d) h = (a, b, c, h)
-
 -- what has failed where a stream reports a device
 pub one_failed : (rec cert shelf listener : Bool) → OneFailed cert shelf listener → HasFailed rec cert shelf ⊎ (listener ≡ true)
 one_failed rec cert shelf listener (inl a) = inl (inr (inl a))
