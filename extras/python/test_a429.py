@@ -167,7 +167,7 @@ class Program(unittest.TestCase):
         self.assertEqual(a429.why(PROFILE, recording("one-byte")), Why(Yes((File(1, 1),))))
         # (the unit comes again with another end word)
         rows = recording("one-byte").read_text().splitlines()[:6]
-        again = [f"{n}{row[4:]}" for n, row in enumerate(rows[1:4], 5000)] + ["5003,A,F0A3F523"]
+        again = [f"{n},{row.partition(',')[2]}" for n, row in enumerate(rows[1:4], 5000)] + ["5003,A,F0A3F523"]
         found = a429.why(PROFILE, "".join(f"{row}\n" for row in rows + again).encode())
         self.assertEqual(found, Why(Impossible(8, "OtherBlock"), 4, "end word F0A3F523, before 71A3F523"))
 

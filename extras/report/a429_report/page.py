@@ -152,7 +152,7 @@ def where_it_stops(report: Report) -> Iterator[str]:
     yield f"<h2>{'Where it stops' if is_impossible else 'Where to look'}</h2>"
     yield f"<p>Entry {verdict.entry}{what}: <b>{shown(verdict.reason)}</b>. {REASONS.get(verdict.reason, '')}</p>"
     if verdict.held:
-        yield "<p>" + "<br>".join(f"<code>{shown(it)}</code>" for it in verdict.held) + "</p>"
+        yield "".join(f"<p><code>{shown(it)}</code></p>" for it in verdict.held)
     if is_impossible:
         yield soft("<code>a429 trace</code> says what the sink is doing after each word, <code>a429 sink</code> whether it kept the rules.")
 
