@@ -7,7 +7,7 @@ import re
 from dataclasses import dataclass
 from pathlib import Path
 
-HEAD = re.compile(r"( *)(?:pub(?:\(\w+\))? )?(?:const )?fn (\w+)")
+HEAD = re.compile(r'( *)(?:pub(?:\(\w+\))? )?(?:const |extern "C" )?fn (\w+)')
 TYPE = re.compile(r"(?m)^(?:pub(?:\(\w+\))? )?(?:struct|enum) (\w+)")
 # What a function has in the place of a body that is taken out.
 NO_BODY = "unreachable!()"

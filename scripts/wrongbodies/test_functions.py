@@ -44,6 +44,13 @@ pub trait Source {
 
 fn nothing() {}
 
+#[unsafe(no_mangle)]
+pub extern "C" fn version() -> u32
+    ensures { result ≡ 1 }
+{
+    1
+}
+
 fn last() -> u32
     requires never {
         ⊥
@@ -62,7 +69,7 @@ def text(function, first, last):
 
 class Functions(unittest.TestCase):
     def test_those_with_a_body_of_its_own_lines_are_found(self):
-        self.assertEqual([*FUNCTIONS], ["Word::number", "Word::is_even", "TallyRead::read", "word::table", "word::last"])
+        self.assertEqual([*FUNCTIONS], ["Word::number", "Word::is_even", "TallyRead::read", "word::table", "word::version", "word::last"])
 
     def test_a_function_starts_with_its_first_attribute(self):
         it = FUNCTIONS["Word::number"]
@@ -95,10 +102,10 @@ class Functions(unittest.TestCase):
 class Bodies(unittest.TestCase):
     def test_all_bodies_are_taken_out_but_those_kept_and_those_of_constants(self):
         lines, out = without_bodies("src/word.rt", LINES, {}, ["Word::is_even"])
-        self.assertEqual({it.name for it in out}, {"Word::number", "TallyRead::read", "word::last"})
+        self.assertEqual({it.name for it in out}, {"Word::number", "TallyRead::read", "word::version", "word::last"})
         left = [[it.strip() for it in lines[f.first + 1 : f.last]] for f in functions_in("src/word.rt", lines, {})]
         no_body = ["unreachable!()"]
-        self.assertEqual(left, [no_body, ["self.0 % 2 == 0"], no_body, ["[0, 1]"], no_body])
+        self.assertEqual(left, [no_body, ["self.0 % 2 == 0"], no_body, ["[0, 1]"], no_body, no_body])
 
     def test_heads_and_contracts_stay(self):
         lines, _ = without_bodies("src/word.rt", LINES, {}, [])
