@@ -27,12 +27,12 @@ use Rattle.a429_view.proofs.UnitsTried.{Tried, part_both, rows_more, tried}
 use Rattle.a429_check.specs.declared.engines.verdict.Judged.{Judged}
 use Rattle.a429_check.specs.Ends.{Ends, answered, stopped, cut_off, refused}
 use Rattle.a429_check.specs.Output.{output}
-use Rattle.a429_check.specs.Verdict.{AllWork, AnyFailed, HearsJudged, HearsUntil, Input, IsJudged, IsVerifyFault, TriesUntil, no_shelf, no_text, text_of_answer}
+use Rattle.a429_check.specs.Verdict.{AllWork, AnyFailed, HasAnswer, HearsJudged, HearsUntil, Input, IsJudged, IsVerifyFault, TriesUntil, no_shelf, no_text, text_of_answer}
 use Rattle.a429_check.specs.declared.fault.RunFault.{RunFault}
 use Rattle.a429_check.specs.declared.fault.RunFault.TheVariants as run
 use Rattle.a429_profile.specs.declared.fault.ProfileFault.{ProfileFault}
 use Rattle.a429_check.specs.Units.{of_units, last_text, AreFresh, AreEndedBefore, AreUnitsOfRun, EndsInPart, EndsUnits, HaveEnded, IsFrontOf, IsLeft, LeavesUnits, ReportsUnits}
-use Rattle.a429_check.proofs.VerdictFacts.{none_failed}
+use Rattle.a429_check.proofs.VerdictFacts.{judged_answer, none_failed}
 
 -- an empty page holds nothing back
 from_empty : (a b : Option (List ℕ)) (text : List ℕ) → Appends (append_known a []) b text → Appends a b text
@@ -133,7 +133,7 @@ pub waited_and : {W : Type 0} (contents : W → Option (List ℕ)) (old waited :
     → AppendsPrefix (contents (inner_of old.out)) (contents (inner_of out)) (old.page ++ text)
 waited_and contents old waited out text all front = AppendsPrefix-behind _ _ _ old.page text (kept_by_none _ _ all) front
 
-module _ {W : Type 0} (contents : W → Option (List ℕ)) (i : Input) (Failed : Type 0) (old mid new : UnitRows W) (answer : Result (Vec (ℕ × ℕ) Global) CertFault) (fresh : AreFresh old) (works : has_failed mid.out ≡ false) (tries : Tried contents old mid) where
+module _ {W : Type 0} (contents : W → Option (List ℕ)) (i : Input) (Failed : Type 0) (old mid new : UnitRows W) (answer : Result (Vec (ℕ × ℕ) Global) CertFault) (fresh : AreFresh old) (works : has_failed mid.out ≡ false) (tries : Tried contents old mid) (has : HasAnswer i no_shelf) where
   ends_broken : has_failed new.out ≡ true → EndsInPart contents mid new answer → Ends (output contents old.out new.out) (of_units i Failed) (Err run.Device)
   ends_broken failed part = by answer refl
     where
@@ -144,8 +144,8 @@ module _ {W : Type 0} (contents : W → Option (List ℕ)) (i : Input) (Failed :
       front = gone_out contents old new (tries.text ++ last_text mid answer) fresh (part_both contents old mid new tries.text (last_text mid answer) tries.part rest)
 
       by : (a : Result (Vec (ℕ × ℕ) Global) CertFault) → answer ≡ a → Ends (output contents old.out new.out) (of_units i Failed) (Err run.Device)
-      by (Ok files) e = cut_off (tries.text ++ line_before mid.row) refl (inl (rows_more tries.text mid.row tries.rows)) failed (rw e at front)
-      by (Err f) e = cut_off (tries.text ++ no_text f) refl (inr (tries.text, f, tries.rows, refl)) failed (rw e at front)
+      by (Ok files) e = cut_off (tries.text ++ line_before mid.row) refl (inl (rows_more tries.text mid.row tries.rows), has) failed (rw e at front)
+      by (Err f) e = cut_off (tries.text ++ no_text f) refl (inr (tries.text, f, tries.rows, refl), has) failed (rw e at front)
 
 -- ---- at a fault
 
@@ -197,7 +197,7 @@ ends_until {W = W} contents i Failed old new e fresh (inl h) fault left = refuse
 ends_until {W = W} contents i Failed old new e fresh (inr h) fault left =
     let tries = tried contents h.contents old new h.tried.0 h.tried.1 in
     elim (cases_Bool (has_failed new.out)) [
-      | inl failed ↦ cut_off tries.text (ap (λ f. Err f) (h.device failed)) (inl tries.rows) failed (gone_out contents old new tries.text fresh tries.part)
+      | inl failed ↦ cut_off tries.text (ap (λ f. Err f) (h.device failed)) (inl tries.rows, (subst (IsVerifyFault i no_shelf Failed) (h.device failed) fault).1) failed (gone_out contents old new tries.text fresh tries.part)
       | inr works ↦ let l = left_at contents i old new fresh works e tries left in stopped e l.text refl (l.is, fault) works l.puts
     ]
 
@@ -218,7 +218,7 @@ ends_judged contents i old mid new j rec cert (Ok status) fresh judged heard all
 ends_judged contents i old mid new j rec cert (Err e) fresh judged heard all tries ended works err part =
     let t = tried contents j.profile old mid tries.0 tries.1 in
     subst (λ (f : RunFault). Ends (output contents old.out new.out) (of_units i (AnyFailed rec cert false (has_failed new.out))) (Err f)) (sym err.0)
-    (ends_broken contents i (AnyFailed rec cert false (has_failed new.out)) old mid new j.answer fresh all.3 t err.1 part)
+    (ends_broken contents i (AnyFailed rec cert false (has_failed new.out)) old mid new j.answer fresh all.3 t (judged_answer i no_shelf j.profile j.answer judged.0 judged.1) err.1 part)
 
 -- ---- the rows and their page
 

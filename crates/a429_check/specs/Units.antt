@@ -20,7 +20,7 @@ use Rattle.a429_check.specs.declared.fault.RunFault.{RunFault}
 use Rattle.a429_check.specs.declared.fault.RunFault.TheVariants as run
 use Rattle.a429_check.specs.Ends.{Promise}
 use Rattle.a429_check.specs.Profile.{IsProfileFault, IsProfileOf}
-use Rattle.a429_check.specs.Verdict.{Input, IsVerifyFault, no_shelf, no_text}
+use Rattle.a429_check.specs.Verdict.{HasAnswer, Input, IsVerifyFault, no_shelf, no_text}
 use Rattle.a429_cert.specs.Change.{change}
 
 -- no row is begun, and none waits
@@ -78,12 +78,12 @@ IsLeft i e text = (rows : List ℕ) × AreRowLines rows × IsFrontOf text rows
 abbrev pub BeginsUnits : List ℕ → Type 0
 BeginsUnits text = AreRowLines text ⊎ ((rows : List ℕ) × (f : CertFault) × AreRowLines rows × (text ≡ rows ++ no_text f))
 
--- `units` writes rows while it reads; a fault of the profile comes before any
+-- `units` writes rows while it reads; a fault of the profile comes before any. Where the output fails, the certificate was answered
 abbrev pub of_units : Input → Type 0 → Promise
 of_units i Failed = record {
   says = λ status text. ReportsUnits i status text × (Failed → ⊥);
   stops = λ e text. IsLeft i e text × IsVerifyFault i no_shelf Failed e;
-  begins = BeginsUnits;
+  begins = λ text. BeginsUnits text × HasAnswer i no_shelf;
   refuses = IsProfileFault i.profile;
 }
 
