@@ -258,15 +258,13 @@ StopsAt shelved failed listener t f = EndsAtLine listener t f ⊎ PutsTooFew she
 
 -- ---- what a call that takes a line answers
 
--- it goes on over the line, which is one and is reported; all of the replay but its link and its files is as it was
-pub record TakesLine {S T : Type 0} (shelved : S → Option (List PutFile)) (l : Listening T) (t : Taking S) (new : Replay) (used : ℕ) : Type 0 where
+-- it goes on over the line, which is one and is reported
+pub record GoesOverLine {S T : Type 0} (shelved : S → Option (List PutFile)) (l : Listening T) (t : Taking S) (new : Replay) (used : ℕ) : Type 0 where
   pub goes_on : GoesOn shelved t new used
   pub heard : HearsLine l t.replay t.text t.recording.old.to_come
   pub ended : IsSome t.text
   pub few : used ≤ 1
   pub counts : t.recording.new.count ≡ t.recording.old.count + used
-  pub kept : new ≡ record (t.replay) { link = new.link; files = new.files }
-  pub profile : new.link.profile ≡ t.replay.profile.now
 
 -- it stops there: where it says that a device has failed, one of shelf, listener and the recording's reader has
 pub record StopsAtLine {S T : Type 0} (shelved : S → Option (List PutFile)) (failed : S → Bool) (broken : T → Bool) (l : Change T) (t : Taking S) (f : StreamFault) : Type 0 where

@@ -5,7 +5,7 @@ ghost use Rattle.a429_link.specs.Link.{handed_out};
 ghost use Rattle.a429_cert.specs.declared.line.CertLine.TheVariants.{First};
 ghost use Rattle.a429_cert.specs.Line.{spelling};
 ghost use Rattle.a429_cert.specs.Lines.{line_bytes};
-ghost use Rattle.a429_cert.specs.Explained.{items_of, IsExplained, AreInEveryRun};
+ghost use Rattle.a429_cert.specs.Explained.{items_of, IsExplained, AreInSomeRun, AreInEveryRun};
 ghost use Rattle.a429_cert.specs.Fault.{file_in, Begins, IsNoFirst, IsFaultOfHead, IsFirstCertFault, UnlessMemory};
 
 use crate::at::At;
@@ -33,6 +33,7 @@ pub fn verify(
     certificate: &[u8],
 ) -> Result<Verified, CertFault>
     ensures ok { IfOk result (λ files. IsExplained profile.now certificate.now (items_of entries.now) files) }
+    ensures some_run { IfOk result (λ files. AreInSomeRun profile.now (items_of entries.now) files) }
     ensures every_run { IfOk result (λ files. AreInEveryRun profile.now (items_of entries.now) files) }
     ensures err { IfErr result (UnlessMemory (IsFirstCertFault profile.now certificate.now (items_of entries.now))) }
 {

@@ -18,7 +18,7 @@ ghost use Rattle.a429_cert.specs.StreamExplained.{comparison, SaysYes, HearsRun,
 ghost use Rattle.a429_cert.specs.BreakOff.{BreaksOff, readers, shelved};
 ghost use Rattle.a429_cert.specs.Report.{listening, TriesSome, IsNextEntry, with_number};
 ghost use Rattle.a429_cert.specs.Stream.{taking, IsFaultNext, TakesNext, ReplaysNext, EndsNext, TellsListed, HearsNext, IsNotTaken, IsUnreported, ReplaysLine, EndsReplay, HearsLine, WantsEntry, GivesFor, GivesAtFault};
-ghost use Rattle.a429_cert.specs.Stream.{OneFailed, HandsFilesOut, PutsFiles, PutsFirstFiles, StopsAtLine, TakesLine, sizes};
+ghost use Rattle.a429_cert.specs.Stream.{OneFailed, HandsFilesOut, PutsFiles, PutsFirstFiles, StopsAtLine, GoesOverLine, sizes};
 ghost use Rattle.a429_cert.specs.Change.{change};
 
 use crate::at::At;
@@ -133,10 +133,12 @@ pub fn replay_and_put<R: Read, S: Shelf, T: Listener>(
     requires sound { IsProfile replay.old.profile.now }
     requires profile { replay.old.link.profile ≡ replay.old.profile.now }
     requires known { IfSome known (SaysAlways (line_bytes line)) }
-    ensures ok { IfOk result (TakesLine S.files (listening T.hears listener.old listener.new)
+    ensures ok { IfOk result (GoesOverLine S.files (listening T.hears listener.old listener.new)
         (taking replay.old (line_bytes line.entry) (change rec.old rec.new) (change shelf.old shelf.new)) replay.new) }
     ensures err { IfErr result (StopsAtLine S.files S.failed T.failed (change listener.old listener.new)
         (taking replay.old (line_bytes line.entry) (change rec.old rec.new) (change shelf.old shelf.new))) }
+    ensures kept { replay.new ≡ record (replay.old) { link = replay.new.link; files = replay.new.files } }
+    ensures profile { replay.new.link.profile ≡ replay.old.profile.now }
     ensures tried { TriesSome (listening T.tries listener.old listener.new) replay.old.profile.now }
 {
     let used = match replay_and_report(replay, line, known, rec, listener) {

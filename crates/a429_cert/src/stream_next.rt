@@ -80,6 +80,7 @@ fn take_one<R: Read, C: Read, S: Shelf, T: Listener>(
     ensures halted { IfErr result (Halts S.files S.failed T.failed (unread_of (unread C.remaining cert.new) (has_failed cert.new))
         (progress replay.old (to_come C.remaining lines.old cert.old) rec.old shelf.old listener.old)
         (progress replay.new (to_come C.remaining lines.new cert.new) rec.new shelf.new listener.new)) }
+    ensures ahead { length (bytes_ahead lines.new) ≤ 2288 }
     ensures tried { TriesSome (listening T.tries listener.old listener.new) replay.old.profile.now }
 {
     let likely = likely_line(&replay.link, words, lines);

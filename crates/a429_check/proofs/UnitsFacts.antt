@@ -15,7 +15,6 @@ use Rattle.a429_record.specs.Recording.{Recording}
 use Rattle.a429_record.specs.declared.fault.ReadFault.{ReadFault}
 use Rattle.a429_cert.specs.declared.fault.CertFault.{CertFault}
 use Rattle.a429_cert.specs.declared.stream_fault.StreamFault.TheVariants as stream
-use Rattle.a429_cert.proofs.ReplayKept.{kept_one}
 use Rattle.a429_cert.specs.StreamExplained.{WhereBothKnown, IsHeardBefore}
 use Rattle.a429_cert.specs.Report.{listening, IsHeard, TriesSome, reports_of_run}
 use Rattle.a429_view.specs.declared.units.row.UnitRow.{UnitRow}

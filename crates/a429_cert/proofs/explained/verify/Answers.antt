@@ -9,7 +9,7 @@ use Rattle.a429_cert.specs.Version.{step_lines}
 use Rattle.a429_cert.specs.Explained.{items_of, seen_of, Reaches, IsExplained}
 use Rattle.a429_cert.specs.Fault.{IsFirstCertFault}
 use Rattle.a429_cert.proofs.EarlierFiles.{text_earlier, fault_earlier, given_out}
-use Rattle.a429_cert.proofs.ExplainedFacts.{begins, line_here, line_read, none_here, none_read, left_on, none_of, passed_on, explained, in_every_run}
+use Rattle.a429_cert.proofs.ExplainedFacts.{begins, line_here, line_read, none_here, none_read, left_on, none_of, passed_on, explained, in_some_run, in_every_run}
 use Rattle.a429_cert.proofs.FaultFacts.{begun, faulty_now, left_over}
 use Rattle.a429_cert.proofs.explained.verify.Goals as goal
 
@@ -87,6 +87,10 @@ returns-in-Ok-all_used-clause-ok c =
     let end = none_read c.in-Ok.head.version (drop 2 (certificate_lines c.args.certificate.now)) v.k (none_here line_bytes (drop 2 (certificate_lines c.args.certificate.now)) c.loop-line.lines v.k c.next_line.result v.rest c.next_line.ensures.given (none_of c.next_line.result c.in_default.not-Some)) in
     subst (IsExplained c.args.profile.now c.args.certificate.now (items_of c.args.entries.now)) (sym (c.new.ensures ∙ given_out files s v.none_left))
     (explained c.args.profile.now c.args.certificate.now (items_of c.args.entries.now) c.in-Ok.head v.k c.loop-line.used (with_earlier files s) head.says end (omega (arith, c.in-Ok-all_used.ensures.ok, length-map c.args.entries.now seen_of)) v.reached)
+
+pub returns-in-Ok-all_used-clause-some_run : goal.returns-in-Ok-all_used-clause-some_run
+returns-in-Ok-all_used-clause-some_run c =
+    in_some_run c.args.profile.now c.args.certificate.now (items_of c.args.entries.now) c.new.result (returns-in-Ok-all_used-clause-ok c)
 
 pub returns-in-Ok-all_used-clause-every_run : goal.returns-in-Ok-all_used-clause-every_run
 returns-in-Ok-all_used-clause-every_run c =

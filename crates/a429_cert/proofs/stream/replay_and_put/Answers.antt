@@ -2,7 +2,7 @@ use Rattle.std.proofs.Common.{◌∙◌, ◌++◌, ℕ, List, ap, inl, inr, refl
 use Rattle.a429_record.specs.declared.fault.ReadFault.TheVariants as read
 use Rattle.a429_cert.specs.Stream.{PutsFiles, PutsFirstFiles, sizes}
 use Rattle.a429_cert.specs.declared.stream.Replay.{Replay}
-use Rattle.a429_cert.proofs.ReplayKept.{kept_both, none_reported, not_of_read}
+use Rattle.a429_cert.proofs.ReplayKept.{kept_one, kept_both, none_reported, not_of_read}
 use Rattle.a429_cert.proofs.stream.replay_and_put.Goals as goal
 
 pub replay_and_report-requires : goal.replay_and_report-requires
@@ -24,9 +24,25 @@ returns-in-Ok-put_delivered-clause-ok g c =
       ended = c.in-Ok.ensures.ended;
       few = c.in-Ok.ensures.few;
       counts = c.in-Ok.ensures.counts;
-      kept = kept_both c.args.replay.now c.replay_and_report.new.replay c.put_delivered.new.replay c.in-Ok.ensures.kept c.put_delivered.ensures.kept;
-      profile = ap (λ (w : Replay). w.link.profile) c.put_delivered.ensures.kept ∙ c.in-Ok.ensures.profile;
     }
+
+pub returns-in-Ok-put_delivered-clause-kept : goal.returns-in-Ok-put_delivered-clause-kept
+returns-in-Ok-put_delivered-clause-kept g c = kept_both c.args.replay.now c.replay_and_report.new.replay c.put_delivered.new.replay c.in-Ok.ensures.kept c.put_delivered.ensures.kept
+
+pub returns-in-Ok-put_delivered-clause-profile : goal.returns-in-Ok-put_delivered-clause-profile
+returns-in-Ok-put_delivered-clause-profile g c = ap (λ (w : Replay). w.link.profile) c.put_delivered.ensures.kept ∙ c.in-Ok.ensures.profile
+
+pub returns-in-Err-put_delivered-clause-kept : goal.returns-in-Err-put_delivered-clause-kept
+returns-in-Err-put_delivered-clause-kept g c = kept_both c.args.replay.now c.replay_and_report.new.replay c.put_delivered.new.replay c.in-Ok.ensures.kept c.put_delivered.ensures.kept
+
+pub returns-in-Err-put_delivered-clause-profile : goal.returns-in-Err-put_delivered-clause-profile
+returns-in-Err-put_delivered-clause-profile g c = ap (λ (w : Replay). w.link.profile) c.put_delivered.ensures.kept ∙ c.in-Ok.ensures.profile
+
+pub returns-in-Err-clause-kept : goal.returns-in-Err-clause-kept
+returns-in-Err-clause-kept g c = kept_one c.args.replay.now c.replay_and_report.new.replay c.in-Err.ensures.kept
+
+pub returns-in-Err-clause-profile : goal.returns-in-Err-clause-profile
+returns-in-Err-clause-profile g c = c.in-Err.ensures.profile
 
 pub returns-in-Err-put_delivered-clause-err : goal.returns-in-Err-put_delivered-clause-err
 returns-in-Err-put_delivered-clause-err g c =

@@ -14,7 +14,7 @@ overflow_add-replay g c =
 
 pub overflow_add-replay-in-Ok-replay_and_put : goal.overflow_add-replay-in-Ok-replay_and_put
 overflow_add-replay-in-Ok-replay_and_put g c =
-    let used : c.replay_and_put.new.replay.used ≡ c.args.replay.now.used = ap (λ (w : Replay). w.used) c.in-Ok-replay_and_put.ensures.ok.kept in
+    let used : c.replay_and_put.new.replay.used ≡ c.args.replay.now.used = ap (λ (w : Replay). w.used) c.replay_and_put.ensures.kept in
     let found : c.in-Ok.next.found ≡ true = is_yes c.in-Ok.next.found c.if-not-next.false in
     omega (arith, used, c.in-Ok-replay_and_put.ensures.ok.few, c.requires.few, c.requires.room, c.in-Ok.ensures.room found)
 
@@ -24,7 +24,7 @@ returns-in-Ok-replay_and_put-clause-further g c = λ _.
     let left = to_come g.C.Read.remaining c.args.lines.now c.args.cert.now in
     let more = to_come g.C.Read.remaining c.next_near.new.self c.next_near.new.cert in
     let ok = c.in-Ok-replay_and_put.ensures.ok in
-    let lines : c.replay_and_put.new.replay.lines ≡ c.args.replay.now.lines + 1 = ap (λ (w : Replay). w.lines) ok.kept in
+    let lines : c.replay_and_put.new.replay.lines ≡ c.args.replay.now.lines + 1 = ap (λ (w : Replay). w.lines) c.replay_and_put.ensures.kept in
     let shorter = c.in-Ok.ensures.shorter (subst (λ (o : Option (List ℕ)). IsSome o) c.line.ensures ok.ended) in
     record {
       takes = record {
@@ -35,8 +35,8 @@ returns-in-Ok-replay_and_put-clause-further g c = λ _.
         heard = ok.heard;
         few = ok.few;
         counts = ok.counts;
-        kept = ap (λ (w : Replay). record w { used = w.used + c.in-Ok-replay_and_put.used }) ok.kept;
-        profile = ok.profile;
+        kept = ap (λ (w : Replay). record w { used = w.used + c.in-Ok-replay_and_put.used }) c.replay_and_put.ensures.kept;
+        profile = c.replay_and_put.ensures.profile;
       };
       shorter = shorter;
       lines = omega (arith, lines, shorter);
@@ -122,3 +122,15 @@ returns-in-Ok-replay_and_put-clause-tried g c = c.replay_and_put.ensures.tried
 
 pub returns-in-Err-clause-tried : goal.returns-in-Err-clause-tried
 returns-in-Err-clause-tried g c = c.replay_and_put.ensures.tried
+
+pub returns-in_default-clause-ahead : goal.returns-in_default-clause-ahead
+returns-in_default-clause-ahead g c = c.next_near.ensures.few
+
+pub returns-then-not-next-clause-ahead : goal.returns-then-not-next-clause-ahead
+returns-then-not-next-clause-ahead g c = c.next_near.ensures.few
+
+pub returns-in-Ok-replay_and_put-clause-ahead : goal.returns-in-Ok-replay_and_put-clause-ahead
+returns-in-Ok-replay_and_put-clause-ahead g c = c.next_near.ensures.few
+
+pub returns-in-Err-clause-ahead : goal.returns-in-Err-clause-ahead
+returns-in-Err-clause-ahead g c = c.next_near.ensures.few
