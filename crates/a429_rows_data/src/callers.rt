@@ -77,23 +77,18 @@ fn the_words_on_a_bus(rt: HostRuntime) {
     assert!(rt; words_on_a(rt.alloc(), &mut rec) == Ok(4));
 }
 
-/// The unit of the words of this label and SDI, as the profile's text says it.
-fn unit_of(alloc: Global, text: &str, label: u8, sdi: u8) -> Result<Option<String>, ProfileFault> {
+/// Whether the profile's text says this unit of the words of this label and SDI.
+fn has_unit(
+    alloc: Global,
+    text: &str,
+    label: u8,
+    sdi: u8,
+    unit: &str,
+) -> Result<bool, ProfileFault> {
     let profile = read_profile(alloc, text)?;
     match profile.entry(label, sdi) {
-        Some(entry) => match String::from_str(alloc, entry.unit.as_str()) {
-            Ok(unit) => Ok(Some(unit)),
-            Err(_) => Err(ProfileFault::OutOfMemory),
-        },
-        None => Ok(None),
-    }
-}
-
-// Whether this is the unit of the words of label 203 under the sample profile.
-fn is_unit(alloc: Global, text: &str) -> bool {
-    match unit_of(alloc, PROFILE, 0o203, 0) {
-        Ok(Some(unit)) => unit.as_str() == text,
-        _ => false,
+        Some(entry) => Ok(entry.unit.as_str() == unit),
+        None => Ok(false),
     }
 }
 
@@ -121,7 +116,7 @@ fn first_of_sample(alloc: Global, profile: &Profile) -> Option<u32> {
 
 #[test]
 fn a_unit_and_a_start_word(rt: HostRuntime) {
-    assert!(rt; is_unit(rt.alloc(), "ft"));
+    assert!(rt; has_unit(rt.alloc(), PROFILE, 0o203, 0, "ft") == Ok(true));
     let profile = sample_profile(&rt);
     assert!(rt; first_of_sample(rt.alloc(), &profile) == Some(SOT));
 }

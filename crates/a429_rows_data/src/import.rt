@@ -23,21 +23,10 @@ fn import<W: Write>(
     counts
 }
 
-// The lines of a map in a standard form, one for each section.
-const ROWS: &str = "rows = {separator = \",\", header = true}\n";
-
-const TIME: &str = "time = {column = \"time\", form = \"integer\"}\n";
-
-const CHANNEL: &str = "channel = {column = \"bus\", a = [\"A\"], b = [\"B\"]}\n";
-
-const WORD: &str = "word = {bit_32 = \"parity\"}\n";
-
-const PART: &str = "part = [{column = \"word\", base = 16, low = 1, bits = 32}]\n";
-
 // An export by a map: the rows that are written after the header, and the counts, or the fault, that are printed.
 struct Case {
     what: &'static str,
-    map: [&'static str; 5],
+    map: &'static str,
     export: &'static str,
     rows: &'static str,
     printed: &'static str,
@@ -46,33 +35,29 @@ struct Case {
 const EXPORTS: &[Case] = &[
     Case {
         what: "a counter that wraps below by more than half",
-        map: [
-            ROWS,
-            "time = {column = \"time\", form = \"integer\", wraps_at = 1000}\n",
-            CHANNEL,
-            WORD,
-            PART,
-        ],
+        map: "rows = {separator = \",\", header = true}
+time = {column = \"time\", form = \"integer\", wraps_at = 1000}
+channel = {column = \"bus\", a = [\"A\"], b = [\"B\"]}
+word = {bit_32 = \"parity\"}
+part = [{column = \"word\", base = 16, low = 1, bits = 32}]
+",
         export: "time,bus,word\n501,A,41410323\n0,B,C24103A3\n",
         rows: "501,A,41410323\n1000,B,C24103A3\n",
         printed: "wrap 1 line 3\nentries 2\non A 1\non B 1\nlines 3\nlines up to the header 1\nwraps undone 1\n",
     },
     Case {
         what: "a time that goes back, after an entry",
-        map: [ROWS, TIME, CHANNEL, WORD, PART],
+        map: "rows = {separator = \",\", header = true}
+time = {column = \"time\", form = \"integer\"}
+channel = {column = \"bus\", a = [\"A\"], b = [\"B\"]}
+word = {bit_32 = \"parity\"}
+part = [{column = \"word\", base = 16, low = 1, bits = 32}]
+",
         export: "time,bus,word\n100,A,41410323\n99,B,C24103A3\n",
         rows: "100,A,41410323\n",
         printed: "export: line 3 time back",
     },
 ];
-
-fn map_text(alloc: Global, lines: [&str; 5]) -> Result<String, AllocError> {
-    let mut text = String::new(alloc);
-    for line in lines {
-        text.push_str(line)?;
-    }
-    Ok(text)
-}
 
 // What is printed: the counts, or the fault.
 fn printed(
@@ -102,8 +87,7 @@ fn printed(
 
 // Whether a case gives what it says.
 fn gives(alloc: Global, case: &Case) -> Result<bool, AllocError> {
-    let text = map_text(alloc, case.map)?;
-    let Ok(map) = read_map(alloc, text.as_str()) else {
+    let Ok(map) = read_map(alloc, case.map) else {
         return Ok(false);
     };
     let mut written = Vec::new(alloc);
