@@ -1,5 +1,5 @@
 -- What a run records from a request on begins a run itself, or goes on from the link data unit that its sink accepted last.
-use Rattle.std.proofs.Common.{◌≡◌, ◌⊎◌, ℕ, suc, ◌+◌, ◌%◌, ◌≤◌, Bool, true, false, cond, eqb, ◌&&◌, List, [], ◌∷◌, ◌++◌, Option, Some, None, IsSome, is_some, refl, sym, ap, ◌∙◌, subst, inl, inr, arith}
+use Rattle.std.proofs.Common.{◌≡◌, ◌⊎◌, ℕ, suc, ◌+◌, ◌%◌, Bool, true, false, cond, eqb, ◌&&◌, List, [], ◌∷◌, ◌++◌, Option, Some, None, IsSome, is_some, refl, sym, ap, ◌∙◌, subst, inl, inr, arith}
 use Rattle.a429_word.specs.declared.bus.Bus.{Bus}
 use Rattle.a429_word.specs.declared.bus.Bus.TheVariants as bus
 use Rattle.a429_profile.specs.Profile.{Contents, IsProfile}
@@ -15,9 +15,8 @@ use Rattle.a429_link.specs.declared.state.SourceState.TheVariants.{Awaiting, Idl
 use Rattle.a429_link.specs.declared.step.Step.{Step}
 use Rattle.a429_link.specs.declared.step.Step.TheVariants.{Answered, FreeSeen, GiveUp, Load, LoseAnswer, Sent, SentLost, Silent, SinkTakes, TakeAnswer, TimeOut}
 use Rattle.a429_profile.specs.declared.codes.Codes.{Codes}
-use Rattle.a429_link.specs.Number.{first_number, number_after}
+use Rattle.a429_link.specs.Number.{first_number}
 use Rattle.a429_link.specs.Observer.{Allows, AllowsForm, AreAllowed, Observer, at_first, sees_form}
-use Rattle.a429_link.specs.Observer.{sees as observes}
 use Rattle.a429_link.specs.Run.{BeginsARun, IsPartOfARun, IsRun, offers, settles, trace, with_label}
 use Rattle.a429_link.specs.Sink.{Number, OwesClear, Received, Sink, SinkPhase, nothing_received, takes_first}
 use Rattle.a429_link.specs.Source.{IsIdle, Source, acknowledged, with_answer_first}
@@ -32,9 +31,9 @@ use Rattle.a429_link.proofs.Message.{Ack, AllSay, Cts, IsRead, MaySay, Message, 
 use Rattle.a429_link.proofs.MessageSubsequence.{IsBlockWord}
 use Rattle.a429_link.proofs.NumberKept.{Resting, words_none}
 use Rattle.a429_link.proofs.ObserverRefuses.{seeing}
-use Rattle.a429_link.proofs.RunAssigned.{Assigns, GoesOn, StandsBy, comes_more, run_assigned, sound_now}
+use Rattle.a429_link.proofs.RunAssigned.{StandsBy, comes_more, run_assigned, sound_now}
 use Rattle.a429_link.proofs.RunCrossing.{Books, HasAccepted, HasAck, IsAck, start_books, step_crosses, takes_last}
-use Rattle.a429_link.proofs.RunTraces.{AllAllowed, block_word, see_item, see_label, trace_allowed}
+use Rattle.a429_link.proofs.RunTraces.{AllAllowed, block_word, see_label, trace_allowed}
 use Rattle.a429_link.proofs.SinkFromTrace.{Alike, sees, step_alike, take_all}
 use Rattle.a429_link.proofs.StateConfigs.{Config, acked, block_words_each, cleared, may_answer, may_owes, owes_alone, refused, source_at}
 use Rattle.a429_link.proofs.StateHolds.{owed_form, sends, step_holds}

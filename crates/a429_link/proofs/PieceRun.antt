@@ -1,13 +1,12 @@
 -- What begins a run, or goes on from a link data unit that may be acknowledged last, is a part of what a run records: the steps
 -- before it are written down.
-use Rattle.std.proofs.Common.{◌≡◌, ◌⊎◌, ℕ, zero, suc, ◌+◌, ◌-◌, ◌%◌, ◌≤◌, Bool, true, false, List, [], ◌∷◌, ◌++◌, Option, Some, None, IsSome, is_some, refl, sym, ap, ◌∙◌, subst, inl, inr, arith, append-nil, eq-eqb}
+use Rattle.std.proofs.Common.{◌≡◌, ◌⊎◌, ℕ, zero, suc, ◌+◌, ◌-◌, ◌%◌, ◌≤◌, true, false, List, [], ◌∷◌, ◌++◌, Option, Some, None, refl, sym, ap, ◌∙◌, subst, inl, inr, arith, append-nil, eq-eqb}
 use Rattle.std.proofs.lemmas.Nat.Bits.{bit_at-zero}
 use Rattle.a429_word.specs.declared.bus.Bus.TheVariants as bus
 use Rattle.a429_profile.specs.Profile.{Contents, IsProfile}
 use Rattle.a429_profile.specs.declared.codes.Codes.{Codes}
-use Rattle.a429_ldu.specs.declared.forms.Form.TheVariants as form
 use Rattle.a429_ldu.specs.Carried.{bytes_in}
-use Rattle.a429_ldu.specs.Form.{form_of, word_number}
+use Rattle.a429_ldu.specs.Form.{form_of}
 use Rattle.a429_ldu.specs.Ldu.{IsLdu, LduValue, block_of, count_of, is_final}
 use Rattle.a429_link.specs.declared.number.UnitNumber.{UnitNumber}
 use Rattle.a429_link.specs.declared.seen.Seen.{Seen}
@@ -15,24 +14,22 @@ use Rattle.a429_link.specs.declared.state.SourceState.TheVariants.{Idle, Waiting
 use Rattle.a429_link.specs.declared.step.Step.{Step}
 use Rattle.a429_link.specs.declared.step.Step.TheVariants.{Answered}
 use Rattle.a429_link.specs.Assignment.{AreAssigned, Assigned, GoOnAssigned, IsOf}
-use Rattle.a429_link.specs.Attempt.{Attempt, asks, attempts_from, fresh, goes_on_to}
+use Rattle.a429_link.specs.Attempt.{asks, attempts_from, fresh, goes_on_to}
 use Rattle.a429_link.specs.Carry.{on_b}
 use Rattle.a429_link.specs.Clean.{all_steps, block_steps}
-use Rattle.a429_link.specs.Number.{first_number, next_number, number_after}
-use Rattle.a429_link.specs.Observer.{AreAllowed}
+use Rattle.a429_link.specs.Number.{next_number, number_after}
 use Rattle.a429_link.specs.Piece.{BeginsWithRequest, FollowsUnit, IsReachable, accepted_as, observer_past}
-use Rattle.a429_link.specs.Run.{BeginsARun, IsPartOfARun, IsRun, end_of, trace}
-use Rattle.a429_link.specs.Sink.{Block, Number, OwesAck, Quiet, Received, Sink, nothing_received, put}
-use Rattle.a429_link.specs.State.{State, rest, start}
-use Rattle.a429_link.specs.Step.{after}
-use Rattle.a429_link.proofs.AssignedRun.{Place, Stand, Way, holds_after, in_attempt, is_answered, replay, source_of, to_number}
+use Rattle.a429_link.specs.Run.{BeginsARun, IsPartOfARun, IsRun, trace}
+use Rattle.a429_link.specs.Sink.{Number, Quiet, Received, nothing_received, put}
+use Rattle.a429_link.specs.State.{rest, start}
+use Rattle.a429_link.proofs.AssignedRun.{Place, holds_after, in_attempt, is_answered, replay, source_of, to_number}
 use Rattle.a429_link.proofs.AssignedRun.{at as standing}
-use Rattle.a429_link.proofs.CleanRuns.{Comes, Goes, at, block_goes, block_sent, goes_append, may_say, next_comes, owing, run_append, end_append, sent_steps, sound, trace_append}
+use Rattle.a429_link.proofs.CleanRuns.{Comes, Goes, at, block_goes, block_sent, goes_append, may_say, next_comes, owing, run_append, sent_steps, sound, trace_append}
 use Rattle.a429_link.proofs.Message.{Ack, IsRead, answers_as, answers_message, message_of, word_of}
-use Rattle.a429_link.proofs.NumberFacts.{next_ldu, number_from}
+use Rattle.a429_link.proofs.NumberFacts.{next_ldu}
 use Rattle.a429_link.proofs.ObserverRefuses.{seeing}
 use Rattle.a429_link.proofs.PieceAssigned.{acked_attempt, allowed_by_last, asked_count}
-use Rattle.a429_link.proofs.StateConfigs.{acks_count, sink_at, unit_number}
+use Rattle.a429_link.proofs.StateConfigs.{sink_at, unit_number}
 use Rattle.a429_link.proofs.StateHolds.{HoldsAt, start_holds}
 use Rattle.a429_link.proofs.Subsequence.{sub_none}
 

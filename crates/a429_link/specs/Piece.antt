@@ -33,7 +33,7 @@ abbrev pub observer_past : Number → Observer
 observer_past n = record at_first { last = Some n }
 
 -- the recording goes on from a link data unit that was acknowledged last before it: the observer allows each word, and each
--- attempt can be assigned, so that the source comes from that link data unit to the first one, and from each one to the next
+-- attempt can be assigned to that link data unit, sent again, or to one that the source comes to, from each one to the next
 pub record FollowsUnit (p : Contents) (items : List Seen) : Type 0 where
   -- the link data unit acknowledged last before these words
   pub last : Assigned

@@ -25,8 +25,9 @@ pub fn runs_record_what_can_be_assigned()
 
 /// A recording that begins with a request is a part of what some run records, whatever was recorded before it, exactly
 /// where a run begins so, or where it goes on from a link data unit that was acknowledged last before it: the observer
-/// allows each word after that acknowledgement, and the attempts can be assigned, so that the source comes from that
-/// link data unit to the first one. So all that counts of the words before is which unit was acknowledged last.
+/// allows each word after that acknowledgement, and the attempts can be assigned, so that the source sends that link
+/// data unit again or comes from it to another one. Of the words before nothing else counts: that link data unit, its
+/// number, and how many files were given up right before it.
 pub fn a_piece_goes_on_from_a_unit()
     ensures { (p : Contents) (items : List Seen) → IsProfile p → BeginsWithRequest p items → IsPartOfARun p items ↔ (BeginsARun p items ⊎ FollowsUnit p items) }
 {}
