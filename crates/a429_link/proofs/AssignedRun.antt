@@ -52,13 +52,13 @@ trace_append (a ∷ xs) ys = ap (with_label (label a)) (trace_append xs ys) ∙ 
     by (Some i) = refl
 
 -- steps that lead from one state to the other and record these words
-record Way (p : Contents) (items : List Seen) (s t : State) : Type 0 where
-  steps : List Step
-  run : IsRun p steps s
-  ends : end_of p steps s ≡ t
-  records : trace steps ≡ items
+pub record Way (p : Contents) (items : List Seen) (s t : State) : Type 0 where
+  pub steps : List Step
+  pub run : IsRun p steps s
+  pub ends : end_of p steps s ≡ t
+  pub records : trace steps ≡ items
 
-way_join : (p : Contents) (xs ys : List Seen) (s t r : State) → Way p xs s t → Way p ys t r → Way p (xs ++ ys) s r
+pub way_join : (p : Contents) (xs ys : List Seen) (s t r : State) → Way p xs s t → Way p ys t r → Way p (xs ++ ys) s r
 way_join p xs ys s t r h k = record {
   steps = h.steps ++ k.steps;
   run = run_append p h.steps k.steps s h.run (subst (λ q. IsRun p k.steps q) (sym h.ends) k.run);
@@ -70,7 +70,7 @@ way_join p xs ys s t r h k = record {
 quiet_step : (p : Contents) (a : Step) (s t : State) → label a ≡ None → Can p a s → after p a s ≡ t → Way p [] s t
 quiet_step p a s t l c e = record { steps = a ∷ []; run = (c, tt); ends = e; records = ap (λ o. with_label o []) l }
 
-holds_after : (p : Contents) → IsRead p → (steps : List Step) (s : State) → IsRun p steps s → HoldsAt p s → HoldsAt p (end_of p steps s)
+pub holds_after : (p : Contents) → IsRead p → (steps : List Step) (s : State) → IsRun p steps s → HoldsAt p s → HoldsAt p (end_of p steps s)
 holds_after p good [] s h f = f
 holds_after p good (a ∷ steps) s h f = holds_after p good steps (after p a s) h.1 (step_holds p good a s h.0 f)
 
@@ -78,11 +78,11 @@ way_holds : (p : Contents) → IsRead p → (items : List Seen) (s t : State) �
 way_holds p good items s t w h = subst (HoldsAt p) w.ends (holds_after p good w.steps s w.run h)
 
 -- nothing is on its way to the sink
-abbrev at : Source → Sink → List ℕ → State
+abbrev pub at : Source → Sink → List ℕ → State
 at q k vs = record { source = q; sink = k; to_sink = []; to_source = vs }
 
 -- the source of an attempt with this assignment
-abbrev source_of : Assigned → SourceState → Source
+abbrev pub source_of : Assigned → SourceState → Source
 source_of t sp = source_at t.give_ups t.number (Some t.unit) sp
 
 -- ---- words that are lost
@@ -128,7 +128,7 @@ OwesBlock (OwesAck b f) = Unit {0}
 OwesBlock OwesNak = Unit {0}
 OwesBlock _ = ⊥
 
-data Stand (p : Contents) (t : Assigned) (a : Attempt) : SourceState → List ℕ → SinkPhase → Type 0 where
+pub data Stand (p : Contents) (t : Assigned) (a : Attempt) : SourceState → List ℕ → SinkPhase → Type 0 where
   is_asked : a.words ≡ [] → a.acked ≡ None → Stand p t a Awaiting [] OwesClear
   is_cleared : {v : ℕ} → message_of p bus.B v ≡ Some (Cts (count_of t.unit)) → a.words ≡ [] → a.acked ≡ None → Stand p t a Awaiting (v ∷ []) Granted
   is_sending : {k : ℕ} {kp : SinkPhase} → InGrant kp → k < count_of t.unit → Pointer p t k a.words → a.acked ≡ None → Stand p t a (Sending k) [] kp
@@ -219,23 +219,17 @@ to_next p t u a sp vs kp last received count h s (inr (inr (ok, inr g))) =
     let k = sink_at last received count Quiet in
     record { phase = Quiet; listens = tt; way = way_join p [] [] _ _ _ (take_ack p t a sp vs kp last received count ok h) (way_join p [] [] _ _ _ (gives_up p 0 (number_after p.codes t.number t.unit) None k u.number u.give_ups (few_given_up s) g) (loads p u k s)) }
 
+-- it comes to the number of the first one
+pub to_number : (p : Contents) (n : UnitNumber) (g : ℕ) (k : Sink) (f : ℕ) → n.file ≤ 255 → g ≤ 127 → n.ldu ≡ p.codes.first_ldu → f ≡ (n.file + 256 - g) % 256 → Way p [] (at (source_at 0 (first_number p.codes f) None Idle) k []) (at (source_at g n None Idle) k [])
+to_number p n zero k f byte few l e =
+    let file : f ≡ n.file = omega arith in
+    let number : first_number p.codes f ≡ n = number_from (first_number p.codes f) n file (sym l) in
+    record { steps = []; run = tt; ends = ap (λ (x : UnitNumber). at (source_at 0 x None Idle) k []) number; records = refl }
+to_number p n (suc d) k f byte few l e = give_up p d 0 (first_number p.codes f) None k n (suc d) (omega arith) l (omega arith) few
+
 -- it comes to the first one
 to_first : (p : Contents) (u : Assigned) (k : Sink) (f : ℕ) → IsSound p u → u.number.ldu ≡ p.codes.first_ldu → f ≡ (u.number.file + 256 - u.give_ups) % 256 → Way p [] (at (source_at 0 (first_number p.codes f) None Idle) k []) (at (source_of u Idle) k [])
-to_first p u k f s l e = way_join p [] [] _ _ _ (by u.give_ups refl) (loads p u k s)
-  where
-    few : u.give_ups ≤ 127
-    few = few_given_up s
-
-    byte : u.number.file ≤ 255
-    byte = s.file
-
-    by : (g : ℕ) → u.give_ups ≡ g → Way p [] (at (source_at 0 (first_number p.codes f) None Idle) k []) (at (source_at u.give_ups u.number None Idle) k [])
-    by zero q =
-        let in_byte = byte in
-        let file : f ≡ u.number.file = omega arith in
-        let number : first_number p.codes f ≡ u.number = number_from (first_number p.codes f) u.number file (sym l) in
-        record { steps = []; run = tt; ends = ap (λ (x : UnitNumber). at (source_at 0 x None Idle) k []) number ∙ ap (λ g. at (source_at g u.number None Idle) k []) (sym q); records = refl }
-    by (suc d) q = let low = few in let in_byte = byte in give_up p d 0 (first_number p.codes f) None k u.number u.give_ups (omega arith) l (omega arith) few
+to_first p u k f s l e = way_join p [] [] _ _ _ (to_number p u.number u.give_ups k f s.file (few_given_up s) l e) (loads p u k s)
 
 -- ---- recorded words
 
@@ -247,7 +241,7 @@ FirstOf f [] = Unit {0}
 FirstOf f (t ∷ units) = f ≡ (t.number.file + 256 - t.give_ups) % 256
 
 -- where a run stands: nothing is recorded but free words, or an attempt is under way
-data Place (p : Contents) : Option Assigned → Attempt → Source → List ℕ → Sink → List Assigned → Type 0 where
+pub data Place (p : Contents) : Option Assigned → Attempt → Source → List ℕ → Sink → List Assigned → Type 0 where
   at_first_one : {a : Attempt} {last : Option Number} {received : Received} {count : ℕ} {units : List Assigned} (f : ℕ) → FirstOf f units → Place p None a (source_at 0 (first_number p.codes f) None Idle) [] (sink_at last received count Quiet) units
   in_attempt : {t : Assigned} {a : Attempt} {sp : SourceState} {vs : List ℕ} {last : Option Number} {received : Received} {count : ℕ} {kp : SinkPhase} {units : List Assigned} → count ≡ count_of t.unit → Stand p t a sp vs kp → Place p (Some t) a (source_of t sp) vs (sink_at last received count kp) units
 
@@ -681,11 +675,11 @@ move_item p is good b w items now a q vs k seen units (inl e) al holds h goes =
     move_to p (on b w) items (at q k vs) k k now a units q vs (free_sees p good b w k e) (record { steps = FreeSeen (on b w) ∷ []; run = (e, tt); ends = refl; records = refl }) h (free_goes p b w (form_of p.codes b w) items now a units (good.free b w e) goes)
 move_item p is good b w items now a q vs k seen units (inr m) al holds h goes = move_form p is good b w (form_of p.codes b w) items now a q vs k seen units refl m al holds h goes
 
-record Replays (p : Contents) (s : State) (items : List Seen) : Type 0 where
-  end : State
-  way : Way p items s end
+pub record Replays (p : Contents) (s : State) (items : List Seen) : Type 0 where
+  pub end : State
+  pub way : Way p items s end
 
-replay : (p : Contents) → IsProfile p → IsRead p → (items : List Seen) (o : Observer) (k : Sink) (seen : List Message) (now : Option Assigned) (a : Attempt) (q : Source) (vs : List ℕ) (units : List Assigned) → o ≡ seeing k seen → AreAllowed p o items → HoldsAt p (at q k vs) → Place p now a q vs k units → GoOnAssigned p now (attempts_from p a items) units → Replays p (at q k vs) items
+pub replay : (p : Contents) → IsProfile p → IsRead p → (items : List Seen) (o : Observer) (k : Sink) (seen : List Message) (now : Option Assigned) (a : Attempt) (q : Source) (vs : List ℕ) (units : List Assigned) → o ≡ seeing k seen → AreAllowed p o items → HoldsAt p (at q k vs) → Place p now a q vs k units → GoOnAssigned p now (attempts_from p a items) units → Replays p (at q k vs) items
 replay p is good [] o k seen now a q vs units e al holds h goes = record { end = at q k vs; way = record { steps = []; run = tt; ends = refl; records = refl } }
 replay p is good (i ∷ items) o k seen now a q vs units e al holds h goes =
     let allowed = subst (λ (z : Observer). Allows p z i) e al.0 in
@@ -713,7 +707,7 @@ assigned_is_run p is good items allowed may =
     record { first = b.file; byte = b.byte; steps = r.way.steps; run = r.way.run; more = []; records = r.way.records ∙ sym (append-nil items) }
 
 -- each word that a run records is allowed after those before it
-all_allowed : (p : Contents) (items more : List Seen) (k : Sink) (seen : List Message) (o : Observer) → o ≡ seeing k seen → AllAllowed p (items ++ more) k seen → AreAllowed p o items
+pub all_allowed : (p : Contents) (items more : List Seen) (k : Sink) (seen : List Message) (o : Observer) → o ≡ seeing k seen → AllAllowed p (items ++ more) k seen → AreAllowed p o items
 all_allowed p [] more k seen o e h = tt
 all_allowed p (i ∷ items) more k seen o e h =
     (subst (λ q. Allows p q i) (sym e) (allows_same p k seen i h.0), all_allowed p items more (sink_sees p i.bus i.word k) (see_item p i seen) (observes p i o) (ap (observes p i) e ∙ sees_same p i k seen) h.1)

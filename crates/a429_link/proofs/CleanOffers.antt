@@ -79,7 +79,7 @@ sent_books p is number u last received count xs some few =
     books_append p (requests p.codes u) (replies cts ++ all_steps (map sends_word block)) s asked received o o xs xs xs refl (asked_books p number u last received count xs)
     (books_append p (replies cts) (all_steps (map sends_word block)) asked (end_of p (replies cts) asked) o o o xs xs xs refl clear (words_books p block (end_of p (replies cts) asked) o xs))
 
-ack_books : (p : Contents) → IsProfile p → (number : UnitNumber) (u : LduValue) (k : Sink) (o : Received) (xs : List FileBytes) → number.file ≤ 255 → number.ldu ≤ 255 → Books p (replies (word_number p.codes (form.Ack number.file number.ldu))) (at number (Some u) Waiting k) o o xs (if is_final p.codes u.flags then xs ++ newest o.files else xs)
+ack_books : (p : Contents) → IsProfile p → (number : UnitNumber) (u : LduValue) (k : Sink) (o : Received) (xs : List FileBytes) → number.file ≤ 255 → number.ldu ≤ 255 → Books p (replies (word_number p.codes (form.Ack number.file number.ldu))) (at 0 number (Some u) Waiting k) o o xs (if is_final p.codes u.flags then xs ++ newest o.files else xs)
 ack_books p is number u k o xs byte low =
     let x = form.Ack number.file number.ldu in
     let heard = reply_books p (word_number p.codes x) x (source_at 0 number (Some u) Waiting) k o xs (form_of-word_number p is x (byte, low)) in
@@ -104,7 +104,7 @@ block_books p is number u h last received count c =
     let least = s.fit.some in
     let most = s.fit.room in
     let o = put number.file (bytes_of p.codes u) (is_final p.codes u.flags) received in
-    let sent = block_sent p good number u h s last received count c in
+    let sent = block_sent p good 0 number u h s last received count c in
     let before = sent_books p is number u last received count received.files (omega arith) (omega arith) in
     let ack = ack_books p is number u (owing number u last received) o received.files c.byte (omega arith) in
     let settled = all_settled number.file (bytes_of p.codes u) (is_final p.codes u.flags) received in

@@ -57,9 +57,9 @@ joined_append (x ∷ xs) ys = ap (λ (l : List Step). x ++ l) (joined_append xs 
 
 -- ---- a word crosses
 
--- nothing is on the way
-abbrev pub at : UnitNumber → Option LduValue → SourceState → Sink → State
-at number cur sp k = record { source = source_at 0 number cur sp; sink = k; to_sink = []; to_source = [] }
+-- nothing is on the way; so many files were given up
+abbrev pub at : ℕ → UnitNumber → Option LduValue → SourceState → Sink → State
+at g number cur sp k = record { source = source_at g number cur sp; sink = k; to_sink = []; to_source = [] }
 
 get_word : (p : Contents) (xs : List Message) (k : ℕ) (x : Message) → slice_get xs k ≡ Some x → slice_get (map (word_of p) xs) k ≡ Some (word_of p x)
 get_word p [] k x e = absurd (cc e)
@@ -74,17 +74,17 @@ next_word_of_message p number (Some u) Waiting x e = absurd (cc e)
 next_word_of_message p number None sp x e = absurd (cc e)
 
 -- a word of bus A is sent and taken
-word_goes : (p : Contents) (number : UnitNumber) (cur : Option LduValue) (sp : SourceState) (k : Sink) (x : Message) → next_message number cur sp ≡ Some x → Listens k.phase → message_of p bus.A (word_of p x) ≡ Some x → Goes p (sends_word (word_of p x)) (at number cur sp k) (at number cur (after_word cur sp) (takes_message p x k))
-word_goes p number cur sp k x e l f = record {
+word_goes : (p : Contents) (g : ℕ) (number : UnitNumber) (cur : Option LduValue) (sp : SourceState) (k : Sink) (x : Message) → next_message number cur sp ≡ Some x → Listens k.phase → message_of p bus.A (word_of p x) ≡ Some x → Goes p (sends_word (word_of p x)) (at g number cur sp k) (at g number cur (after_word cur sp) (takes_message p x k))
+word_goes p g number cur sp k x e l f = record {
   run = ((refl, next_word_of_message p number cur sp x e), ((tt, l), tt));
-  ends = ap (λ q. at number cur (after_word cur sp) q) (takes_as p (word_of p x) x k f);
+  ends = ap (λ q. at g number cur (after_word cur sp) q) (takes_as p (word_of p x) x k f);
 }
 
 -- an answer is given and heard
 abbrev pub heard_at : Source → Sink → State
 heard_at s k = record { source = s; sink = k; to_sink = []; to_source = [] }
 
-may_say : (count w : ℕ) (kp : SinkPhase) (x : Message) (o : Option Form) → MaySay count kp x → message_in w o ≡ Some x → MayAnswerForm count kp o
+pub may_say : (count w : ℕ) (kp : SinkPhase) (x : Message) (o : Option Form) → MaySay count kp x → message_in w o ≡ Some x → MayAnswerForm count kp o
 may_say count w kp x None m e = absurd (cc e)
 may_say count w kp x (Some (form.Rts n)) m e = let same : Rts n ≡ x = cc in subst (MaySay count kp) (sym same) m
 may_say count w kp x (Some (form.Cts n)) m e = let same : Cts n ≡ x = cc in subst (MaySay count kp) (sym same) m
@@ -102,10 +102,10 @@ may_say count w kp x (Some (form.Part s)) m e = let same : Part w ≡ x = cc in 
     no_part OwesNak m = m
 may_say count w kp x (Some (form.Eot f c)) m e = let same : Eot f c ≡ x = cc in subst (MaySay count kp) (sym same) m
 
-reply_goes : (p : Contents) (number : UnitNumber) (cur : Option LduValue) (sp : SourceState) (k : Sink) (x : Message) → MaySay k.count k.phase x → message_of p bus.B (word_of p x) ≡ Some x → Goes p (replies (word_of p x)) (at number cur sp k) (heard_at (with_answer_message p cur sp x (source_at 0 number cur sp)) (answers_message p x k))
-reply_goes p number cur sp k x m f = record {
+reply_goes : (p : Contents) (g : ℕ) (number : UnitNumber) (cur : Option LduValue) (sp : SourceState) (k : Sink) (x : Message) → MaySay k.count k.phase x → message_of p bus.B (word_of p x) ≡ Some x → Goes p (replies (word_of p x)) (at g number cur sp k) (heard_at (with_answer_message p cur sp x (source_at g number cur sp)) (answers_message p x k))
+reply_goes p g number cur sp k x m f = record {
   run = ((refl, may_say k.count (word_of p x) k.phase x (form_of p.codes bus.B (word_of p x)) m f), (tt, tt));
-  ends = ap (λ q. heard_at q (answers_word p.codes (word_of p x) k)) (with_answer_as p (word_of p x) x (source_at 0 number cur sp) f) ∙ ap (λ q. heard_at (with_answer_message p cur sp x (source_at 0 number cur sp)) q) (answers_as p (word_of p x) x k f);
+  ends = ap (λ q. heard_at q (answers_word p.codes (word_of p x) k)) (with_answer_as p (word_of p x) x (source_at g number cur sp) f) ∙ ap (λ q. heard_at (with_answer_message p cur sp x (source_at g number cur sp)) q) (answers_as p (word_of p x) x k f);
 }
 
 -- ---- a block crosses
@@ -160,9 +160,9 @@ or_true : (b : Bool) → (b || true) ≡ true
 or_true true = refl
 or_true false = refl
 
-parts_goes : (p : Contents) → IsRead p → (number : UnitNumber) (u : LduValue) → Sound p u → (last : Option Number) (received : Received) → Comes p number last received → (qs ps : List ℕ) → qs ++ ps ≡ u.words → AllParts p ps → (k : ℕ) → k ≡ suc (length qs) → Goes p (all_steps (map sends_word (ps ++ word_of p (end_message u) ∷ []))) (at number (Some u) (Sending k) (sink_at last received (count_of u) (holding u number qs))) (at number (Some u) Waiting (sink_at last received (count_of u) (OwesAck (record { gfi = u.gfi; file = number.file; ldu = number.ldu; words = u.words }) u.flags)))
+parts_goes : (p : Contents) → IsRead p → (g : ℕ) (number : UnitNumber) (u : LduValue) → Sound p u → (last : Option Number) (received : Received) → Comes p number last received → (qs ps : List ℕ) → qs ++ ps ≡ u.words → AllParts p ps → (k : ℕ) → k ≡ suc (length qs) → Goes p (all_steps (map sends_word (ps ++ word_of p (end_message u) ∷ []))) (at g number (Some u) (Sending k) (sink_at last received (count_of u) (holding u number qs))) (at g number (Some u) Waiting (sink_at last received (count_of u) (OwesAck (record { gfi = u.gfi; file = number.file; ldu = number.ldu; words = u.words }) u.flags)))
 unfolding holding
-parts_goes p good number u s last received c qs [] e a k ek =
+parts_goes p good g number u s last received c qs [] e a k ek =
     let same : qs ≡ u.words = sym (append-nil qs) ∙ e in
     let place : slice_get (block_messages u number) k ≡ Some (end_message u) = rw ek (rw same (get_last u.words (end_message u))) in
     let h = s.fit in
@@ -170,20 +170,20 @@ parts_goes p good number u s last received c qs [] e a k ek =
     let whole : eqb (suc k) (count_of u) ≡ true = rw ek (rw same (eq-eqb _ _ (omega arith))) in
     let b : Block = record { gfi = u.gfi; file = number.file; ldu = number.ldu; words = qs } in
     let is : is_good p last (count_of u) b u.check ≡ true = rw same (rw (eqb_same (length u.words + 2)) (rw s.carried (rw s.agrees (rw c.follows (or_true (is_same last number)))))) in
-    let one = word_goes p number (Some u) (Sending k) (sink_at last received (count_of u) (InBlock b)) (end_message u) place tt form in
+    let one = word_goes p g number (Some u) (Sending k) (sink_at last received (count_of u) (InBlock b)) (end_message u) place tt form in
     record { run = one.run; ends = one.ends ∙ rw whole (rw is (rw same refl)) }
-parts_goes p good number u s last received c qs (q ∷ ps) e a k ek =
+parts_goes p good g number u s last received c qs (q ∷ ps) e a k ek =
     let place : slice_get (block_messages u number) k ≡ Some (Part q) = rw ek (subst (λ ws. slice_get (map Part ws ++ end_message u ∷ []) (length qs) ≡ Some (Part q)) e (get_part qs q ps (end_message u))) in
     let form : message_of p bus.A (word_of p (Part q)) ≡ Some (Part q) = good.reads bus.A (Part q) a.0 in
     let long : length (qs ++ q ∷ ps) ≡ length u.words = ap length e in
     let more : eqb (suc k) (count_of u) ≡ false = not_last (suc k) (count_of u) _ refl (omega (arith, long, length-append qs (q ∷ ps))) in
     let b : Block = record { gfi = u.gfi; file = number.file; ldu = number.ldu; words = qs } in
-    let one = word_goes p number (Some u) (Sending k) (sink_at last received (count_of u) (InBlock b)) (Part q) place tt form in
-    let next = parts_goes p good number u s last received c (qs ++ q ∷ []) ps (append_assoc qs (q ∷ []) ps ∙ e) a.1 (suc k) (rw ek (omega (arith, length-append qs (q ∷ [])))) in
+    let one = word_goes p g number (Some u) (Sending k) (sink_at last received (count_of u) (InBlock b)) (Part q) place tt form in
+    let next = parts_goes p good g number u s last received c (qs ++ q ∷ []) ps (append_assoc qs (q ∷ []) ps ∙ e) a.1 (suc k) (rw ek (omega (arith, length-append qs (q ∷ [])))) in
     goes_append p (sends_word q) _ _ _ _ (record { run = one.run; ends = one.ends ∙ rw more refl }) next
 
 abbrev pub idle_at : UnitNumber → Option Number → Received → ℕ → State
-idle_at number last received count = at number None Idle (sink_at last received count Quiet)
+idle_at number last received count = at 0 number None Idle (sink_at last received count Quiet)
 
 joined_words : (ws : List ℕ) (ack : ℕ) → all_steps (map sends_word ws ++ replies ack ∷ []) ≡ all_steps (map sends_word ws) ++ replies ack
 joined_words ws ack = joined_append (map sends_word ws) (replies ack ∷ []) ∙ ap (λ (l : List Step). all_steps (map sends_word ws) ++ l) (append-nil (replies ack))
@@ -200,9 +200,9 @@ abbrev pub owing : UnitNumber → LduValue → Option Number → Received → Si
 owing number u last received = sink_at last received (count_of u) (OwesAck (record { gfi = u.gfi; file = number.file; ldu = number.ldu; words = u.words }) u.flags)
 
 -- one link data unit is sent without loss
-pub block_sent : (p : Contents) → IsRead p → (number : UnitNumber) (u : LduValue) → IsLdu p u → Sound p u → (last : Option Number) (received : Received) (count : ℕ) → Comes p number last received → Goes p (sent_steps p.codes number u) (idle_at number last received count) (at number (Some u) Waiting (owing number u last received))
+pub block_sent : (p : Contents) → IsRead p → (g : ℕ) (number : UnitNumber) (u : LduValue) → IsLdu p u → Sound p u → (last : Option Number) (received : Received) (count : ℕ) → Comes p number last received → Goes p (sent_steps p.codes number u) (at g number None Idle (sink_at last received count Quiet)) (at g number (Some u) Waiting (owing number u last received))
 unfolding holding
-block_sent p good number u is s last received count c =
+block_sent p good g number u is s last received count c =
     let h = s.fit in
     let some = h.some in
     let room = h.room in
@@ -213,23 +213,23 @@ block_sent p good number u is s last received count c =
     let rts : message_of p bus.A (word_of p (Rts n)) ≡ Some (Rts n) = good.reads bus.A (Rts n) (omega arith, omega arith) in
     let cts : message_of p bus.B (word_of p (Cts n)) ≡ Some (Cts n) = good.reads bus.B (Cts n) (omega arith, omega arith) in
     let sot : message_of p bus.A (word_of p (Sot u.gfi number.file number.ldu)) ≡ Some (Sot u.gfi number.file number.ldu) = good.reads bus.A (Sot u.gfi number.file number.ldu) (h.gfi, byte, omega arith) in
-    let asked = word_goes p number (Some u) Idle (sink_at last received count Quiet) (Rts n) refl tt rts in
-    let ask : Goes p (requests p.codes u) (idle_at number last received count) (at number (Some u) Awaiting (sink_at last received n OwesClear)) = record {
+    let asked = word_goes p g number (Some u) Idle (sink_at last received count Quiet) (Rts n) refl tt rts in
+    let ask : Goes p (requests p.codes u) (at g number None Idle (sink_at last received count Quiet)) (at g number (Some u) Awaiting (sink_at last received n OwesClear)) = record {
       run = ((tt, refl, fit, is), asked.run);
       ends = asked.ends;
     } in
-    let cleared = reply_goes p number (Some u) Awaiting (sink_at last received n OwesClear) (Cts n) refl cts in
-    let clear : Goes p (replies (word_of p (Cts n))) (at number (Some u) Awaiting (sink_at last received n OwesClear)) (at number (Some u) (Sending 0) (sink_at last received n Granted)) = record {
+    let cleared = reply_goes p g number (Some u) Awaiting (sink_at last received n OwesClear) (Cts n) refl cts in
+    let clear : Goes p (replies (word_of p (Cts n))) (at g number (Some u) Awaiting (sink_at last received n OwesClear)) (at g number (Some u) (Sending 0) (sink_at last received n Granted)) = record {
       run = cleared.run;
       ends = cleared.ends ∙ rw (eqb_same n) refl;
     } in
-    let begun = word_goes p number (Some u) (Sending 0) (sink_at last received n Granted) (Sot u.gfi number.file number.ldu) refl tt sot in
+    let begun = word_goes p g number (Some u) (Sending 0) (sink_at last received n Granted) (Sot u.gfi number.file number.ldu) refl tt sot in
     let more : eqb 1 n ≡ false = not_last 1 n _ refl (omega arith) in
-    let begin : Goes p (sends_word (word_of p (Sot u.gfi number.file number.ldu))) (at number (Some u) (Sending 0) (sink_at last received n Granted)) (at number (Some u) (Sending 1) (sink_at last received n (holding u number []))) = record {
+    let begin : Goes p (sends_word (word_of p (Sot u.gfi number.file number.ldu))) (at g number (Some u) (Sending 0) (sink_at last received n Granted)) (at g number (Some u) (Sending 1) (sink_at last received n (holding u number []))) = record {
       run = begun.run;
       ends = begun.ends ∙ rw more refl;
     } in
-    let words = parts_goes p good number u s last received c [] u.words refl h.parts 1 refl in
+    let words = parts_goes p good g number u s last received c [] u.words refl h.parts 1 refl in
     goes_append p (requests p.codes u) _ _ _ _ ask (goes_append p (replies (word_of p (Cts n))) _ _ _ _ clear (goes_append p (sends_word (word_of p (Sot u.gfi number.file number.ldu))) _ _ _ _ begin words))
 
 -- one link data unit crosses without loss
@@ -241,16 +241,16 @@ block_goes p good number u is s last received count c =
     let n = count_of u in
     let ack : message_of p bus.B (word_of p (Ack number.file number.ldu)) ≡ Some (Ack number.file number.ldu) = good.reads bus.B (Ack number.file number.ldu) (byte, omega arith) in
     let b : Block = record { gfi = u.gfi; file = number.file; ldu = number.ldu; words = u.words } in
-    let settled = reply_goes p number (Some u) Waiting (sink_at last received n (OwesAck b u.flags)) (Ack number.file number.ldu) (refl, refl) ack in
-    let settle : Goes p (replies (word_of p (Ack number.file number.ldu))) (at number (Some u) Waiting (sink_at last received n (OwesAck b u.flags))) (idle_at (number_after p.codes number u) (Some (unit_number p.codes number u)) (put number.file (bytes_in p.codes u.words) (is_final p.codes u.flags) received) n) = subst (λ (o : Received). Goes p (replies (word_of p (Ack number.file number.ldu))) (at number (Some u) Waiting (sink_at last received n (OwesAck b u.flags))) (idle_at (number_after p.codes number u) (Some (unit_number p.codes number u)) (put number.file (bytes_in p.codes u.words) (is_final p.codes u.flags) o) n)) c.kept (record {
+    let settled = reply_goes p 0 number (Some u) Waiting (sink_at last received n (OwesAck b u.flags)) (Ack number.file number.ldu) (refl, refl) ack in
+    let settle : Goes p (replies (word_of p (Ack number.file number.ldu))) (at 0 number (Some u) Waiting (sink_at last received n (OwesAck b u.flags))) (idle_at (number_after p.codes number u) (Some (unit_number p.codes number u)) (put number.file (bytes_in p.codes u.words) (is_final p.codes u.flags) received) n) = subst (λ (o : Received). Goes p (replies (word_of p (Ack number.file number.ldu))) (at 0 number (Some u) Waiting (sink_at last received n (OwesAck b u.flags))) (idle_at (number_after p.codes number u) (Some (unit_number p.codes number u)) (put number.file (bytes_in p.codes u.words) (is_final p.codes u.flags) o) n)) c.kept (record {
       run = settled.run;
       ends = settled.ends ∙ rw (eqb_same number.file) (rw (eqb_same number.ldu) (rw c.new refl));
     }) in
     subst (λ acts. Goes p acts (idle_at number last received count) (idle_at (number_after p.codes number u) (Some (unit_number p.codes number u)) (put number.file (bytes_in p.codes u.words) (is_final p.codes u.flags) received) n)) (sym (block_split p.codes number u))
-    (goes_append p _ _ _ _ _ (block_sent p good number u is s last received count c) settle)
+    (goes_append p _ _ _ _ _ (block_sent p good 0 number u is s last received count c) settle)
 
 -- the next number comes after this one
-next_comes : (p : Contents) → IsRead p → (number : UnitNumber) (bytes : List ℕ) (t : Bool) (received : Received) → number.file ≤ 255 → number.ldu ≤ p.codes.first_ldu + 254 → (next_number p.codes number t).ldu ≤ p.codes.first_ldu + 254 → Comes p (next_number p.codes number t) (Some (record { number = number; final = t })) (put number.file bytes t received)
+pub next_comes : (p : Contents) → IsRead p → (number : UnitNumber) (bytes : List ℕ) (t : Bool) (received : Received) → number.file ≤ 255 → number.ldu ≤ p.codes.first_ldu + 254 → (next_number p.codes number t).ldu ≤ p.codes.first_ldu + 254 → Comes p (next_number p.codes number t) (Some (record { number = number; final = t })) (put number.file bytes t received)
 next_comes p good number bytes true received byte fit room =
     let first = good.first in
     record {

@@ -37,5 +37,7 @@ pub mod BlockWords
 pub mod Contradictions
 pub mod RunAssigned
 pub mod AssignedRun
+pub mod PieceAssigned
+pub mod PieceRun
 pub mod AllData
 mod LaneFacts

@@ -49,21 +49,21 @@ grown_said _ w _ a = a
 -- ---- how a state of a run compares with what its attempts are assigned to so far
 
 -- the unit of the last attempt is current
-abbrev KeptBy : Contents → Assigned → Attempt → Source → List ℕ → Type 0
+abbrev pub KeptBy : Contents → Assigned → Attempt → Source → List ℕ → Type 0
 KeptBy p t a q vs = (q.number ≡ t.number) × (q.current ≡ Some t.unit) × (q.give_ups ≡ t.give_ups) × Words p t.number t.unit q.phase vs a.words × (HasAck p vs → is_some a.acked ≡ true)
 
 -- the source has left it, or there is none, and has recorded nothing since
-abbrev LeftBy : Contents → Option Assigned → Attempt → Source → List ℕ → List ℕ → SinkPhase → Type 0
+abbrev pub LeftBy : Contents → Option Assigned → Attempt → Source → List ℕ → List ℕ → SinkPhase → Type 0
 LeftBy p now a q ws vs kp = ComesTo p.codes now (is_some a.acked) q.number q.give_ups × Resting q.phase ws vs kp
 
-abbrev StandsBy : Contents → Option Assigned → Attempt → Source → List ℕ → List ℕ → SinkPhase → Type 0
+abbrev pub StandsBy : Contents → Option Assigned → Attempt → Source → List ℕ → List ℕ → SinkPhase → Type 0
 StandsBy p None a q ws vs kp = LeftBy p None a q ws vs kp
 StandsBy p (Some t) a q ws vs kp = KeptBy p t a q vs ⊎ LeftBy p (Some t) a q ws vs kp
 
-abbrev AssignsBy : Contents → Option Assigned → Attempt → Source → List ℕ → List ℕ → SinkPhase → Type 0
+abbrev pub AssignsBy : Contents → Option Assigned → Attempt → Source → List ℕ → List ℕ → SinkPhase → Type 0
 AssignsBy p now a q ws vs kp = IsOf p now a × StandsBy p now a q ws vs kp
 
-abbrev Assigns : Contents → Option Assigned → Attempt → State → Type 0
+abbrev pub Assigns : Contents → Option Assigned → Attempt → State → Type 0
 Assigns p now a s = AssignsBy p now a s.source s.to_sink s.to_source s.sink.phase
 
 -- what a recorded word makes of it: the attempt goes on, or a next one begins
@@ -143,7 +143,7 @@ sent_assigned p t a w x Waiting q ws vs kp ew ex sound of words ack none same e 
 
 -- ---- from where the source has left it
 
-sound_now : (p : Contents) (s : State) (o : Received) (fs : List FileBytes) (u : LduValue) → Books p s o fs → s.source.current ≡ Some u → IsSound p (record { number = s.source.number; unit = u; give_ups = s.source.give_ups })
+pub sound_now : (p : Contents) (s : State) (o : Received) (fs : List FileBytes) (u : LduValue) → Books p s o fs → s.source.current ≡ Some u → IsSound p (record { number = s.source.number; unit = u; give_ups = s.source.give_ups })
 sound_now p s o fs u b e =
     let current = subst (λ x. Current p x s.source.number.ldu) e b.holds.current in
     record { unit = current.2; file = b.holds.file; ldu = (b.crosses.room.more u e).0; give_ups = let few = b.crosses.few in omega arith }
@@ -159,7 +159,7 @@ left_sends p now a s o fs w x q ws b (Some u) (Sending k) e r n h none same = ab
 left_sends p now a s o fs w x q ws b (Some u) Waiting e r n h none same = absurd (cc n)
 
 -- a file more is given up
-comes_more : (c : Codes) (now : Option Assigned) (acked : Bool) (m : UnitNumber) (g : ℕ) → ComesTo c now acked m g → ComesTo c now acked (first_number c ((m.file + 1) % 256)) (suc g)
+pub comes_more : (c : Codes) (now : Option Assigned) (acked : Bool) (m : UnitNumber) (g : ℕ) → ComesTo c now acked m g → ComesTo c now acked (first_number c ((m.file + 1) % 256)) (suc g)
 comes_more c None ok m g h = refl
 comes_more c (Some t) ok m g (inl h) = inl (gives_more c t.number t.give_ups m g h)
   where
@@ -265,9 +265,9 @@ step_assigned p good (Some t) a act s o fs c b (of, inr h) = step_left p good (S
 
 -- ---- the walk
 
-record GoesOn (p : Contents) (now : Option Assigned) (attempts : List Attempt) : Type 0 where
-  units : List Assigned
-  are : GoOnAssigned p now attempts units
+pub record GoesOn (p : Contents) (now : Option Assigned) (attempts : List Attempt) : Type 0 where
+  pub units : List Assigned
+  pub are : GoOnAssigned p now attempts units
 
 -- a next attempt begins
 begins_next : (p : Contents) (now : Option Assigned) (a : Attempt) (t : Assigned) (n : ℕ) (l : List Attempt) → IsOf p now a → IsSound p t → IsNext p.codes now (is_some a.acked) t → GoesOn p (Some t) l → GoesOn p now (a ∷ l)
@@ -285,7 +285,7 @@ label_assigned p now a (Some j) i items more rest s of h next e =
     let left : rest ≡ items ++ more = cc in
     subst (λ x. GoesOn p now (attempts_from p a (x ∷ items))) same (item_assigned p now a j s items of (asks j.bus (form_of p.codes j.bus j.word)) h (λ later b t. next later b items t left))
 
-run_assigned : (p : Contents) → IsRead p → (steps : List Step) (s : State) (o : Received) (fs : List FileBytes) (now : Option Assigned) (a : Attempt) (items more : List Seen) → IsRun p steps s → Books p s o fs → Assigns p now a s → trace steps ≡ items ++ more → GoesOn p now (attempts_from p a items)
+pub run_assigned : (p : Contents) → IsRead p → (steps : List Step) (s : State) (o : Received) (fs : List FileBytes) (now : Option Assigned) (a : Attempt) (items more : List Seen) → IsRun p steps s → Books p s o fs → Assigns p now a s → trace steps ≡ items ++ more → GoesOn p now (attempts_from p a items)
 run_assigned p good steps s o fs now a [] more h b t e = record { units = []; are = (t.0, tt) }
 run_assigned p good [] s o fs now a (i ∷ items) more h b t e = absurd (cc e)
 run_assigned p good (act ∷ steps) s o fs now a (i ∷ items) more h b t e =

@@ -16,6 +16,7 @@ pub mod Implied
 pub mod Allowed
 pub mod Attempt
 pub mod Assignment
+pub mod Piece
 pub mod Group
 pub mod WholeBlock
 pub mod Contradiction

@@ -163,3 +163,13 @@ pub record BeginsARun (p : Contents) (items : List Seen) : Type 0 where
   pub run : IsRun p steps (start p first)
   pub more : List Seen
   pub records : trace steps ≡ items ++ more
+
+-- some run records these words next to each other, others before and after them
+pub record IsPartOfARun (p : Contents) (items : List Seen) : Type 0 where
+  pub first : ℕ
+  pub byte : first ≤ 255
+  pub steps : List Step
+  pub run : IsRun p steps (start p first)
+  pub before : List Seen
+  pub more : List Seen
+  pub records : trace steps ≡ before ++ (items ++ more)

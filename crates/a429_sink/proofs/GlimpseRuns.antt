@@ -10,7 +10,7 @@ use Rattle.a429_link.specs.declared.step.Step.{Step}
 use Rattle.a429_link.specs.declared.step.Step.TheVariants.{Answered, FreeSeen, GiveUp, Load, LoseAnswer, Sent, SentLost, Silent, SinkTakes, TakeAnswer, TimeOut}
 use Rattle.a429_link.specs.Implied.{sink_sees_form}
 use Rattle.a429_link.specs.Observer.{Observer, sees_form}
-use Rattle.a429_link.specs.Run.{IsRun, offers, settles, trace, with_label}
+use Rattle.a429_link.specs.Run.{IsPartOfARun, IsRun, offers, settles, trace, with_label}
 use Rattle.a429_link.specs.Sink.{MayAnswerForm, Received, Sink, nothing_received}
 use Rattle.a429_link.specs.State.{State, start}
 use Rattle.a429_link.specs.Step.{Can, after, label}
@@ -21,7 +21,7 @@ use Rattle.a429_link.proofs.RunTraces.{AllAllowed, see_item, trace_allowed}
 use Rattle.a429_link.proofs.SinkFromTrace.{sees}
 use Rattle.a429_link.proofs.StateConfigs.{may_owes}
 use Rattle.a429_link.proofs.StateHolds.{owed_form}
-use Rattle.a429_sink.specs.Anywhere.{Glimpse, GlimpseAllows, GlimpseAllowsNext, IsPartOfARun, IsRefusedAnywhere, glimpse_at_first, glimpsed, glimpses, glimpses_form}
+use Rattle.a429_sink.specs.Anywhere.{Glimpse, GlimpseAllows, GlimpseAllowsNext, IsRefusedAnywhere, glimpse_at_first, glimpsed, glimpses, glimpses_form}
 use Rattle.a429_sink.proofs.AnywhereRuns.{Going, JoinsBy, joins_by, next_part, owing_sink, start_going, step_going}
 use Rattle.a429_sink.proofs.GlimpseFacts.{GlimpseOf, answer_glimpsed, glimpse_allows, word_glimpsed}
 

@@ -1,5 +1,5 @@
 -- A recording that begins anywhere: the last words of a run's trace (profile).
-use Rattle.std.specs.Prelude.{ℕ, ◌≡◌, ◌⊎◌, ◌≤◌, ◌==◌, ◌+◌, ◌&&◌, suc, Bool, false, true, if◌then◌else◌, List, [], ◌∷◌, ◌++◌, length, slice_get, take, Option, Some, None, IsSome}
+use Rattle.std.specs.Prelude.{ℕ, ◌≡◌, ◌⊎◌, ◌==◌, ◌+◌, ◌&&◌, suc, Bool, false, true, if◌then◌else◌, List, [], ◌∷◌, ◌++◌, length, slice_get, take, Option, Some, None, IsSome}
 use Rattle.a429_word.specs.declared.bus.Bus.{Bus}
 use Rattle.a429_word.specs.declared.bus.Bus.TheVariants as bus
 use Rattle.a429_profile.specs.declared.codes.Codes.{Codes}
@@ -12,11 +12,9 @@ use Rattle.a429_ldu.specs.Ldu.{is_final}
 use Rattle.a429_link.specs.declared.file.FileBytes.{FileBytes}
 use Rattle.a429_link.specs.declared.number.UnitNumber.{UnitNumber}
 use Rattle.a429_link.specs.declared.seen.Seen.{Seen}
-use Rattle.a429_link.specs.declared.step.Step.{Step}
 use Rattle.a429_link.specs.Number.{is_number}
-use Rattle.a429_link.specs.Run.{IsRun, RunOf, trace}
+use Rattle.a429_link.specs.Run.{RunOf, trace}
 use Rattle.a429_link.specs.Sink.{Block, Number, SinkPhase, Quiet, OwesClear, Granted, InBlock, OwesAck, OwesNak, is_good, at_part, at_start, empty_block, number_of}
-use Rattle.a429_link.specs.State.{start}
 use Rattle.a429_link.specs.Observer.{AllowsForm, Observer, at_first}
 use Rattle.a429_link.specs.WholeBlock.{ComesNext, EndsBad, makes_unit}
 use Rattle.a429_link.specs.Attempt.{asks}
@@ -183,16 +181,6 @@ GlimpseAllowsNext p g (Some i) = GlimpseAllows p g i
 -- item i is there, and is not allowed after the items before it, whatever was before them
 abbrev pub IsRefusedAnywhere : Contents → List Seen → ℕ → Type 0
 IsRefusedAnywhere p items i = GlimpseAllowsNext p (glimpsed p (take i items) glimpse_at_first) (slice_get items i) → ⊥
-
--- some run records these words next to each other, others before and after them
-pub record IsPartOfARun (p : Contents) (items : List Seen) : Type 0 where
-  pub first : ℕ
-  pub byte : first ≤ 255
-  pub steps : List Step
-  pub run : IsRun p steps (start p first)
-  pub before : List Seen
-  pub more : List Seen
-  pub records : trace steps ≡ before ++ (items ++ more)
 
 -- ---- attempts, wherever the recording begins
 

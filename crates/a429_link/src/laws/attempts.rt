@@ -5,11 +5,12 @@ ghost use Rattle.a429_profile.specs.Profile.{Contents, IsProfile};
 ghost use Rattle.a429_ldu.specs.Ldu.{LduValue, IsLdu};
 ghost use Rattle.a429_link.specs.declared.number.UnitNumber.{UnitNumber};
 ghost use Rattle.a429_link.specs.declared.seen.Seen.{Seen};
-ghost use Rattle.a429_link.specs.Run.{BeginsARun};
+ghost use Rattle.a429_link.specs.Run.{BeginsARun, IsPartOfARun};
 ghost use Rattle.a429_link.specs.Observer.{AreAllowed, at_first};
 ghost use Rattle.a429_link.specs.WholeBlock.{EndsWholeAt, EndsBadAt, IsHalfAt, NumberComesAt};
 ghost use Rattle.a429_link.specs.Attempt.{HasNumber, latest};
 ghost use Rattle.a429_link.specs.Assignment.{IsAssignable};
+ghost use Rattle.a429_link.specs.Piece.{BeginsWithRequest, FollowsUnit};
 ghost use Rattle.a429_link.specs.Contradiction.{IsOtherAt, IsWrongAt};
 ghost use Rattle.a429_link.specs.Group.{AcksOnly, ArePartsOfWhole, IsFurther, IsGroup, IsOneUnit};
 
@@ -20,6 +21,15 @@ ghost use Rattle.a429_link.specs.Group.{AcksOnly, ArePartsOfWhole, IsFurther, Is
 /// acknowledgement was heard, or at the next number where the attempt before was acknowledged.
 pub fn runs_record_what_can_be_assigned()
     ensures { (p : Contents) (items : List Seen) → IsProfile p → BeginsARun p items ↔ (AreAllowed p at_first items × IsAssignable p items) }
+{}
+
+/// A recording that begins with a request is a part of what some run records, whatever was recorded before it, exactly
+/// where a run begins so, or where it goes on from a link data unit that was acknowledged last before it: the observer
+/// allows each word after that acknowledgement, and the attempts can be assigned, so that the source sends that link
+/// data unit again or comes from it to another one. Of the words before nothing else counts: that link data unit, its
+/// number, and how many files were given up right before it.
+pub fn a_piece_goes_on_from_a_unit()
+    ensures { (p : Contents) (items : List Seen) → IsProfile p → BeginsWithRequest p items → IsPartOfARun p items ↔ (BeginsARun p items ⊎ FollowsUnit p items) }
 {}
 
 /// Where a run records a start word, as many data words as were asked for and an end word under one grant, they
