@@ -1,8 +1,9 @@
 """What has to be believed for a promise: its definitions, and those that they rest on, down to the bottom.
 
 A promise is what clauses of a contract say. Their words are the names that the file imports for its contracts, and the types of the parameters
-and of the result that they speak of. A type is what contracts see of it: its model where it has one, else its fields. Definitions of the kit
-are named apart, and not followed: who believes a promise takes the kit's words as the kit explains them.
+and of the result that they speak of. A type is what contracts see of it: its model where it has one, else its fields; what a variant of an enum
+holds only where a definition names this variant. Definitions of the kit are named apart, and not followed: who believes a promise takes the
+kit's words as the kit explains them.
 """
 
 import re
@@ -125,6 +126,17 @@ def read_code(path: Path) -> Code:
     return code
 
 
+def variants_of(block: list[str]) -> dict[str, str]:
+    """The variants of an enum by their names, each with its text; none of a struct."""
+    found: dict[str, str] = {}
+    for line in block[1:-1] if re.match(r"(?:pub(?:\(crate\))? )?enum ", block[0]) else []:
+        if made := re.match(r"    ([A-Z]\w*)(.*)", line):
+            found[made[1]] = made[2]
+        elif found:
+            found[[*found][-1]] += f"\n{line}"
+    return found
+
+
 def block_from(lines: list[str], begin: int) -> list[str]:
     """An item of code, up to the brace that ends it."""
     if lines[begin].rstrip().endswith((";", "}")):
@@ -193,7 +205,7 @@ class Tree:
     def need(self, of: Definition, module: str, name: str) -> None:
         """Notes that a definition needs another one, or a word of the kit."""
         if key := self.key_of(module, name):
-            of.needs |= {key} - {of.key}
+            of.needs |= {it for it in (key, f"{key}.{name}") if it in self.definitions} - {of.key}
         else:
             of.kit.add(f"{module}.{name}".removeprefix("Rattle."))
 
@@ -220,8 +232,18 @@ class Tree:
                 self.see_model(it, crate, file, block)
             else:
                 it.text = [line for line in block if not re.match(r"\s*(//|#\[|ghost )", line)]
-                it.needs |= self.types_in(crate, file, "\n".join(it.text)) - {key}
+                self.see_fields(it, crate, file)
         return key
+
+    def see_fields(self, it: Definition, crate: str, file: str) -> None:
+        """What contracts see of a type without a model: of a struct its fields; of an enum those of the variants that are named, each
+        of which is a definition without text."""
+        variants = variants_of(it.text)
+        for name, text in variants.items():
+            variant = self.definitions[f"{it.key}.{name}"] = Definition(f"{it.key}.{name}", name, it.path, it.line)
+            variant.needs |= self.types_in(crate, file, text) - {it.key}
+        if not variants:
+            it.needs |= self.types_in(crate, file, "\n".join(it.text)) - {it.key}
 
     def see_model(self, it: Definition, crate: str, file: str, block: list[str]) -> None:
         """What contracts see of a type with a model: its value, and how its fields make it."""
@@ -281,10 +303,10 @@ class Tree:
         done: dict[str, None] = {}
         for promise in promises:
             self.visit(self.roots(promise), done)
-        return [self.definitions[it] for it in done]
+        return [self.definitions[it] for it in done if self.definitions[it].text]
 
     def visit(self, it: Definition, done: dict[str, None]) -> None:
-        for key in sorted(it.needs, key=lambda key: (self.definitions[key].path, self.definitions[key].line)):
+        for key in sorted(it.needs, key=lambda key: (self.definitions[key].path, self.definitions[key].line, key)):
             if key not in done:
                 below = self.definitions[key]
                 done[key] = None

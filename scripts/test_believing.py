@@ -43,6 +43,11 @@ pub data Side : Type 0 where
 abbrev pub is_plain : Rod → Type 0
 is_plain r = r.kind ≡ kind.Plain
 
+-- cut at this angle
+abbrev pub IsCutAt : ℕ → Kind → Type 0
+IsCutAt n (kind.Cut end) = end.angle ≡ n
+IsCutAt n _ = ⊥
+
 -- over any type
 pub record Held {W : Type 0} (w : W) : Type 0 where
   pub rod : Rod
@@ -67,6 +72,14 @@ pub struct Rod {
 pub enum Kind {
     Plain,
     Hollow(u8),
+    Cut {
+        end: End,
+    },
+}
+
+/// How a rod is cut.
+pub struct End {
+    pub angle: u8,
 }
 
 /// Text, of which contracts see the bytes.
@@ -89,7 +102,7 @@ impl Model for Name {
 //! Cutting.
 
 ghost use Rattle.std.specs.Prelude.{IfOk, IfErr};
-ghost use Rattle.low.specs.Width.{Held, IsWide, Pair, first, is_plain, leftmost};
+ghost use Rattle.low.specs.Width.{Held, IsCutAt, IsWide, Pair, first, is_plain, leftmost};
 
 use low::rod::{Kind, Rod};
 use low::rod::Name;
@@ -114,6 +127,10 @@ pub fn held()
 
 pub fn left()
     ensures { leftmost ≡ leftmost }
+{}
+
+pub fn cut_at(kind: Kind)
+    ensures { IsCutAt 3 kind }
 {}
 
 pub fn plain(rod: Rod) -> bool
@@ -149,7 +166,7 @@ class Believing(unittest.TestCase):
         text = {it.name: it.text for it in self.base("cut", "wide")}
         self.assertEqual(text["few"], ["abbrev pub few : ℕ", "few = 3"])
         self.assertEqual(text["Rod"], ["pub struct Rod {", "    pub length: u8,", "    pub kind: Kind,", "}"])
-        self.assertEqual(lines_in(self.base("cut", "wide")), 12)
+        self.assertEqual(lines_in(self.base("cut", "wide")), 15)
 
     def test_comments_are_kept_apart(self):
         comments = {it.name: it.comment for it in self.base("cut", "wide")}
@@ -176,6 +193,10 @@ class Believing(unittest.TestCase):
 
     def test_variants_of_a_type_and_one_clause_of_two(self):
         self.assertEqual(self.names("plain"), ["Kind", "Rod", "is_plain"])
+
+    def test_what_a_variant_holds_where_it_is_named(self):
+        self.assertNotIn("End", self.names("plain"))
+        self.assertEqual(self.names("cut_at"), ["Kind", "End", "IsCutAt"])
 
 
 if __name__ == "__main__":
