@@ -67,10 +67,10 @@ def try_crate(crate, is_proved):
 # ---- crates
 
 
-def lanes():
+def lanes(memory_of_a_check=MEMORY_OF_A_CHECK):
     """How many checks run side by side."""
     memory = int(re.search(r"MemAvailable:\s+(\d+)", text_of("/proc/meminfo"))[1]) * 1024
-    return max(1, min(len(os.sched_getaffinity(0)), memory // MEMORY_OF_A_CHECK))
+    return max(1, min(len(os.sched_getaffinity(0)), memory // memory_of_a_check))
 
 
 def parts_of(made, rattle, most, is_release=True):
