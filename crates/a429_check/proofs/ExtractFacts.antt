@@ -9,29 +9,9 @@ use Rattle.a429_cert.specs.BreakOff.{BreaksOff}
 use Rattle.a429_check.specs.declared.fault.RunFault.{RunFault}
 use Rattle.a429_check.specs.declared.fault.RunFault.TheVariants as run
 use Rattle.a429_check.specs.Profile.{IsProfileFault, IsProfileOf}
-use Rattle.a429_check.specs.Verdict.{AnyFailed, HasFailed, IsNoAnswer, of_stream}
+use Rattle.a429_check.specs.Verdict.{IsNoAnswer, of_stream}
 use Rattle.a429_check.specs.Extract.{IsAnsweredAt, IsUntouched, Leaves, Progress}
 use Rattle.a429_cert.specs.Change.{change}
-
--- what has failed may be more
-pub left_more : (profile : List ℕ) (at : Progress) (Failed More : Type 0) (e : RunFault) → (Failed → More) → Leaves profile at Failed e → Leaves profile at More e
-left_more profile at Failed More (run.Profile f) more h = h
-left_more profile at Failed More (run.Read f) more h = h
-left_more profile at Failed More run.Device more (inl h) = inl (more h.0, h.1)
-left_more profile at Failed More run.Device more (inr h) = inr h
-left_more profile at Failed More run.Memory more h = h
-left_more profile at Failed More (run.Cut k f) more h = h
-left_more profile at Failed More run.TooLong more h = h
-left_more profile at Failed More run.BadWord more h = h
-left_more profile at Failed More run.Usage more h = h
-left_more profile at Failed More run.OldFiles more h = h
-left_more profile at Failed More (run.Map f) more h = h
-left_more profile at Failed More (run.Export f) more h = h
-
--- no listener fails where there is none
-pub no_listener : (rec certificate shelf : Bool) → AnyFailed rec certificate shelf false → HasFailed rec certificate shelf
-no_listener rec certificate shelf (inl h) = h
-no_listener rec certificate shelf (inr e) = absurd (cc e)
 
 -- the profile was not read
 pub left_by_profile : (profile : List ℕ) (at : Progress) (Failed : Type 0) (e : RunFault) → IsProfileFault profile e → IsUntouched at → Leaves profile at Failed e

@@ -1,5 +1,5 @@
 -- How the listing of a certificate's units ends: by its verdict, at a fault, or where its output fails.
-use Rattle.std.proofs.Common.{◌≡◌, ◌≤◌, ◌++◌, ◌∷◌, ◌∙◌, ◌⊎◌, ℕ, List, [], length, take, Vec, Global, Bool, true, false, Option, Some, None, Result, Ok, Err, inl, inr, refl, sym, ap, subst, append_assoc, length-append, arith}
+use Rattle.std.proofs.Common.{◌≡◌, ◌||◌, ◌≤◌, ◌++◌, ◌∷◌, ◌∙◌, ◌⊎◌, ℕ, List, [], length, take, Vec, Global, Bool, true, false, Option, Some, None, Result, Ok, Err, inl, inr, refl, sym, ap, subst, append_assoc, length-append, arith}
 use Rattle.std.specs.Prelude.{IfOk, IfErr, OnOk, OnErr}
 use Rattle.std.specs.Io.KnownBytes.{append_known, Appends, Keeps}
 use Rattle.std.proofs.KnownBytes.{Appends-nil, Appends-trans}
@@ -26,12 +26,12 @@ use Rattle.a429_view.proofs.UnitsTried.{Tried, part_both, rows_more, tried}
 use Rattle.a429_check.specs.declared.engines.verdict.Judged.{Judged}
 use Rattle.a429_check.specs.Ends.{Ends, answered, stopped, cut_off, refused}
 use Rattle.a429_check.specs.Output.{output}
-use Rattle.a429_check.specs.Verdict.{AllWork, AnyFailed, HasAnswer, HearsJudged, HearsUntil, Input, IsJudged, IsVerifyFault, TriesUntil, no_shelf, no_text, text_of_answer}
+use Rattle.a429_check.specs.Verdict.{HasAnswer, HearsJudged, HearsUntil, Input, IsJudged, IsVerifyFault, TriesUntil, no_shelf, no_text, text_of_answer}
 use Rattle.a429_check.specs.declared.fault.RunFault.{RunFault}
 use Rattle.a429_check.specs.declared.fault.RunFault.TheVariants as run
 use Rattle.a429_profile.specs.declared.fault.ProfileFault.{ProfileFault}
 use Rattle.a429_check.specs.Units.{of_units, last_text, AreFresh, AreEndedBefore, AreUnitsOfRun, EndsInPart, EndsUnits, HaveEnded, IsFrontOf, IsLeft, LeavesUnits, ReportsUnits}
-use Rattle.a429_check.proofs.VerdictFacts.{judged_answer, none_failed}
+use Rattle.a429_check.proofs.VerdictFacts.{judged_answer, neither, not_either}
 
 -- an empty page holds nothing back
 from_empty : (a b : Option (List ℕ)) (text : List ℕ) → Appends (append_known a []) b text → Appends a b text
@@ -203,21 +203,20 @@ ends_until {W = W} contents i Failed old new e fresh (inr h) fault left =
 -- ---- how it ends
 
 pub ends_judged : {W : Type 0} (contents : W → Option (List ℕ)) (i : Input) (old mid new : UnitRows W) (j : Judged) (rec cert : Bool) (r : Result ℕ RunFault) → AreFresh old → IsJudged i no_shelf j
-    → HearsJudged (listening (HearsRows contents) old mid) i j → AllWork rec cert false (has_failed mid.out) → TriesSome (listening (TriesRows contents) old mid) j.profile
+    → HearsJudged (listening (HearsRows contents) old mid) i j → (has_failed mid.out || (rec || cert)) ≡ false → TriesSome (listening (TriesRows contents) old mid) j.profile
     → IfOk r (EndsUnits contents mid new j.answer) → OnOk r (has_failed new.out ≡ false) → IfErr r (λ e. (e ≡ run.Device) × (has_failed new.out ≡ true)) → OnErr r (EndsInPart contents mid new j.answer)
-    → Ends (output contents old.out new.out) (of_units i (AnyFailed rec cert false (has_failed new.out))) r
+    → Ends (output contents old.out new.out) (of_units i ((has_failed new.out || (rec || cert)) ≡ true)) r
 ends_judged contents i old mid new j rec cert (Ok status) fresh judged heard all tries ended works err part =
     let t = tried contents j.profile old mid tries.0 tries.1 in
-    let said = reported contents i old mid new j fresh judged heard all.3 t j.answer status refl ended in
+    let said = reported contents i old mid new j fresh judged heard (neither (has_failed mid.out) (rec || cert) all).0 t j.answer status refl ended in
     answered status said.text refl (said.reports, λ failed. none failed) works said.puts
   where
-    none : AnyFailed rec cert false (has_failed new.out) → ⊥
-    none (inl h) = none_failed rec cert false (has_failed mid.out) all h
-    none (inr h) = absurd (cc (h, works))
+    none : (has_failed new.out || (rec || cert)) ≡ true → ⊥
+    none h = not_either (has_failed new.out) (rec || cert) works (neither (has_failed mid.out) (rec || cert) all).1 h
 ends_judged contents i old mid new j rec cert (Err e) fresh judged heard all tries ended works err part =
     let t = tried contents j.profile old mid tries.0 tries.1 in
-    subst (λ (f : RunFault). Ends (output contents old.out new.out) (of_units i (AnyFailed rec cert false (has_failed new.out))) (Err f)) (sym err.0)
-    (ends_broken contents i (AnyFailed rec cert false (has_failed new.out)) old mid new j.answer fresh all.3 t (judged_answer i no_shelf j.profile j.answer judged.0 judged.1) err.1 part)
+    subst (λ (f : RunFault). Ends (output contents old.out new.out) (of_units i ((has_failed new.out || (rec || cert)) ≡ true)) (Err f)) (sym err.0)
+    (ends_broken contents i ((has_failed new.out || (rec || cert)) ≡ true) old mid new j.answer fresh (neither (has_failed mid.out) (rec || cert) all).0 t (judged_answer i no_shelf j.profile j.answer judged.0 judged.1) err.1 part)
 
 -- ---- the rows and their page
 

@@ -1,5 +1,5 @@
 -- What is answered of a certificate, and what a command reports where there is no verdict.
-use Rattle.std.proofs.Common.{◌≡◌, ◌⊎◌, ◌∙◌, ◌++◌, inl, inr, ℕ, Bool, true, false, ◌≢◌, List, length, Vec, Global, Option, Some, None, Result, Ok, Err, IfOk, IfErr, refl, sym, ap, subst}
+use Rattle.std.proofs.Common.{◌≡◌, ◌⊎◌, ◌||◌, ◌∙◌, ◌++◌, inl, inr, ℕ, Bool, true, false, ◌≢◌, List, length, Vec, Global, Option, Some, None, Result, Ok, Err, IfOk, IfErr, refl, sym, ap, subst}
 use Rattle.std.specs.List.{flat_map}
 use Rattle.std.specs.Result.{OnOk}
 use Rattle.std.proofs.lemmas.List.{length-map}
@@ -22,7 +22,7 @@ use Rattle.a429_check.specs.declared.engines.verdict.Judged.{Judged}
 use Rattle.a429_check.specs.declared.fault.RunFault.{RunFault}
 use Rattle.a429_check.specs.declared.fault.RunFault.TheVariants as run
 use Rattle.a429_check.specs.Profile.{IsProfileOf, IsProfileFault, profile_causes}
-use Rattle.a429_check.specs.Verdict.{AllWork, HasAnswer, HasFailed, HearsAnswer, HearsUntil, Input, IsAnswerOf, IsAnswered, IsJudged, IsNoAnswer, IsVerdict, IsVerifyFault, Judges, Rejects, SaysAnswer, count_line, file_line, line_of_file, no, no_text, of_stream, of_verdict, status_of_answer, text_of_answer, verify_causes, yes, yes_text}
+use Rattle.a429_check.specs.Verdict.{HasAnswer, HearsAnswer, HearsUntil, Input, IsAnswerOf, IsAnswered, IsJudged, IsNoAnswer, IsVerdict, IsVerifyFault, Judges, Rejects, SaysAnswer, count_line, file_line, line_of_file, no, no_text, of_stream, of_verdict, status_of_answer, text_of_answer, verify_causes, yes, yes_text}
 use Rattle.a429_cert.specs.Change.{change}
 use Rattle.a429_check.proofs.EndsFacts.{Bears}
 use Rattle.a429_check.proofs.FaultFacts.{comes_by}
@@ -74,16 +74,33 @@ judged_bears i shelf Failed j is works = record {
 
 -- ---- what has failed
 
-pub none_failed : (rec certificate shelf listener : Bool) → AllWork rec certificate shelf listener → HasFailed rec certificate shelf → ⊥
-none_failed rec certificate shelf listener (a, b, c, d) (inl h) = cc (a, h)
-none_failed rec certificate shelf listener (a, b, c, d) (inr (inl h)) = cc (b, h)
-none_failed rec certificate shelf listener (a, b, c, d) (inr (inr h)) = cc (c, h)
+pub none_failed : (failed : Bool) → failed ≡ false → failed ≡ true → ⊥
+none_failed failed works h = cc (works, h)
+
+pub neither : (a b : Bool) → (a || b) ≡ false → (a ≡ false) × (b ≡ false)
+neither false b h = (refl, h)
+neither true b h = absurd (cc h)
+
+pub not_either : (a b : Bool) → a ≡ false → b ≡ false → (a || b) ≡ true → ⊥
+not_either false b g h e = cc (h, e)
+not_either true b g h e = cc g
+
+or_left : (a b : Bool) → a ≡ true → (a || b) ≡ true
+or_left false b h = absurd (cc h)
+or_left true b h = refl
+
+or_right : (a b : Bool) → b ≡ true → (a || b) ≡ true
+or_right false b h = h
+or_right true b h = refl
 
 -- what has failed where a stream reports a device
-pub one_failed : (rec cert shelf listener : Bool) → OneFailed cert shelf listener → HasFailed rec cert shelf ⊎ (listener ≡ true)
-one_failed rec cert shelf listener (inl a) = inl (inr (inl a))
-one_failed rec cert shelf listener (inr (inl b)) = inl (inr (inr b))
-one_failed rec cert shelf listener (inr (inr d)) = inr d
+pub one_failed : (rec cert shelf listener : Bool) → OneFailed cert shelf listener → (listener || (shelf || (rec || cert))) ≡ true
+one_failed rec cert shelf listener (inl a) = or_right listener (shelf || (rec || cert)) (or_right shelf (rec || cert) (or_right rec cert a))
+one_failed rec cert shelf listener (inr (inl b)) = or_right listener (shelf || (rec || cert)) (or_left shelf (rec || cert) b)
+one_failed rec cert shelf listener (inr (inr d)) = or_left listener (shelf || (rec || cert)) d
+
+pub reader_failed : (rec cert shelf listener : Bool) → rec ≡ true → (listener || (shelf || (rec || cert))) ≡ true
+reader_failed rec cert shelf listener a = or_right listener (shelf || (rec || cert)) (or_right shelf (rec || cert) (or_left rec cert a))
 
 -- ---- why there is no verdict
 
@@ -125,11 +142,6 @@ by_stream i shelf p Failed f is here a b = by f here a b
     by (stream.Read read.OutOfMemory) here a b = (is.0, inr (Err (stream.Read read.OutOfMemory), found (stream.Read read.OutOfMemory) here))
     by stream.Device here a b = (a refl, (Err stream.Device, found stream.Device here))
     by stream.OutOfMemory here a b = (is.0, inr (Err stream.OutOfMemory, found stream.OutOfMemory here))
-
--- what has failed may be more
-pub more_failed : (i : Input) (shelf : Shelved) (Failed More : Type 0) (e : RunFault) → (Failed → More) → IsVerifyFault i shelf Failed e → IsVerifyFault i shelf More e
-more_failed i shelf Failed More e more = comes_by (verify_causes i shelf Failed) (verify_causes i shelf More)
-    (record { profile = λ f h. h; recording = λ f h. h; file = λ k f h. h; too_long = λ h. h; device = λ h. (more h.0, h.1); memory = λ h. h }) e
 
 -- no fault of a stream is one of a profile
 pub no_profile : (f : StreamFault) (fault : ProfileFault) → of_stream f ≡ run.Profile fault → ⊥

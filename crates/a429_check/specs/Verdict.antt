@@ -91,10 +91,6 @@ pub data IsVerdict (i : Input) (shelf : Shelved) (status : ℕ) (text : List ℕ
 abbrev pub IsSomeVerdict : Input → Shelved → List ℕ → Type 0
 IsSomeVerdict i shelf text = (status : ℕ) × IsVerdict i shelf status text
 
--- neither a reader nor the shelf nor the output has failed
-abbrev pub AllWork : Bool → Bool → Bool → Bool → Type 0
-AllWork rec certificate shelf out = (rec ≡ false) × (certificate ≡ false) × (shelf ≡ false) × (out ≡ false)
-
 -- ---- why there is none
 
 -- what a certificate that is read as a stream is answered: its files, or a fault
@@ -125,14 +121,6 @@ of_stream _ = run.Memory
 -- the fault is reported as one of the recording: it is neither a failed device nor out of memory
 abbrev pub IsReportedAsRead : ReadFault → Type 0
 IsReportedAsRead f = of_stream (stream.Read f) ≡ run.Read f
-
--- a reader or the shelf has failed
-abbrev pub HasFailed : Bool → Bool → Bool → Type 0
-HasFailed rec certificate shelf = (rec ≡ true) ⊎ ((certificate ≡ true) ⊎ (shelf ≡ true))
-
--- one of these has failed, or the output has
-abbrev pub AnyFailed : Bool → Bool → Bool → Bool → Type 0
-AnyFailed rec certificate shelf out = HasFailed rec certificate shelf ⊎ (out ≡ true)
 
 -- the profile's own fault, and the shelf is as it was; the recording's, where its entry is wanted first; a device that has failed; out of memory, once the profile is known to be a text
 abbrev pub verify_causes : Input → Shelved → Type 0 → Causes

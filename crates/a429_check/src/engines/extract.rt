@@ -1,12 +1,12 @@
 //! `a429 extract PROFILE REC CERT DIR`: the files that crossed.
 
-ghost use Rattle.std.specs.Prelude.{false, IfErr};
+ghost use Rattle.std.specs.Prelude.{◌≡◌, ◌||◌, true, false, IfErr};
 ghost use Rattle.a429_word.specs.Tally.{has_failed};
 ghost use Rattle.a429_cert.specs.BreakOff.{readers, shelved};
 ghost use Rattle.a429_check.specs.Ends.{Ends};
 ghost use Rattle.a429_check.specs.Extract.{progress, Leaves};
 ghost use Rattle.a429_check.specs.Output.{output};
-ghost use Rattle.a429_check.specs.Verdict.{input, of_verdict, HasFailed};
+ghost use Rattle.a429_check.specs.Verdict.{input, of_verdict};
 
 use crate::engines::text::write_at_once;
 use crate::engines::verdict::judge;
@@ -29,10 +29,10 @@ pub fn run_extract<R: Read, C: Read, S: Shelf, W: Write>(
     out: &mut Tally<W>,
 ) -> Result<u8, RunFault>
     ensures ends { Ends (output W.contents out.old out.new) (of_verdict (input profile.now C.remaining cert.old rec.old) (shelved S.files S.failed shelf.old shelf.new)
-        (HasFailed rec.new.failed (has_failed cert.new) (S.failed shelf.new))) result }
+        ((S.failed shelf.new || (rec.new.failed || has_failed cert.new)) ≡ true)) result }
     ensures files { IfErr result (Leaves profile.now
         (progress (readers C.remaining cert.old cert.new rec.old rec.new) (shelved S.files S.failed shelf.old shelf.new) false)
-        (HasFailed rec.new.failed (has_failed cert.new) (S.failed shelf.new))) }
+        ((S.failed shelf.new || (rec.new.failed || has_failed cert.new)) ≡ true)) }
 {
     write_at_once(
         judge(alloc, profile, rec, cert, shelf, &mut NoListener),

@@ -1,12 +1,12 @@
 //! `a429 picture PROFILE REC CERT FROM TO`: the messages of a span of a transfer, as a picture.
 
-ghost use Rattle.std.specs.Prelude.{◌≡◌, ◌<◌, ◌≤◌, true, false, IfOk, IfErr, IsOkAnd, OnOk};
+ghost use Rattle.std.specs.Prelude.{◌≡◌, ◌||◌, ◌<◌, ◌≤◌, true, false, IfOk, IfErr, IsOkAnd, OnOk};
 ghost use Rattle.std.specs.Result.{ForOk};
 ghost use Rattle.a429_view.specs.Sketch.{most_steps};
 ghost use Rattle.a429_word.specs.Tally.{has_failed};
 ghost use Rattle.a429_check.specs.Ends.{Ends};
 ghost use Rattle.a429_check.specs.Output.{output};
-ghost use Rattle.a429_check.specs.Verdict.{input, status_of_answer, AllWork, HasFailed};
+ghost use Rattle.a429_check.specs.Verdict.{input, status_of_answer};
 ghost use Rattle.a429_check.specs.Picture.{drawing_text, of_picture, IsPicture, IsPictureFault};
 
 use crate::engines::drawing::Drawing;
@@ -34,7 +34,7 @@ pub fn run_picture<R: Read, C: Read, W: Write>(
     out: &mut Tally<W>,
 ) -> Result<u8, RunFault>
     ensures { Ends (output W.contents out.old out.new) (of_picture (input profile.now C.remaining cert.old rec.old) span
-        (HasFailed rec.new.failed (has_failed cert.new) false)) result }
+        ((rec.new.failed || has_failed cert.new) ≡ true)) result }
 {
     write(alloc, drawing_of(alloc, profile, rec, cert, span), out)
 }
@@ -48,9 +48,9 @@ fn drawing_of<R: Read, C: Read>(
 ) -> Result<Drawing, RunFault>
     ensures ok { IfOk result (λ d. IsPicture (input profile.now C.remaining cert.old rec.old) span
         (status_of_answer d.judged.answer) (drawing_text d.judged.profile.codes d.sketch d.judged.answer)) }
-    ensures works { OnOk result (AllWork rec.new.failed (has_failed cert.new) false false) }
+    ensures works { OnOk result ((rec.new.failed || has_failed cert.new) ≡ false) }
     ensures err { IfErr result (IsPictureFault (input profile.now C.remaining cert.old rec.old) span
-        (HasFailed rec.new.failed (has_failed cert.new) false)) }
+        ((rec.new.failed || has_failed cert.new) ≡ true)) }
 {
     let mut sketch = Sketch::new(alloc, span);
     let judged = judge(alloc, profile, rec, cert, &mut NoShelf, &mut sketch)?;

@@ -1,10 +1,10 @@
 //! `a429 units PROFILE REC CERT`: the link data units that a certificate loads, a row for each.
 
-ghost use Rattle.std.specs.Prelude.{◌≡◌, true, false, IfOk, IfErr, OnOk, OnErr};
+ghost use Rattle.std.specs.Prelude.{◌≡◌, ◌||◌, true, false, IfOk, IfErr, OnOk, OnErr};
 ghost use Rattle.a429_word.specs.Tally.{has_failed};
 ghost use Rattle.a429_check.specs.Ends.{Ends};
 ghost use Rattle.a429_check.specs.Output.{output};
-ghost use Rattle.a429_check.specs.Verdict.{input, AnyFailed};
+ghost use Rattle.a429_check.specs.Verdict.{input};
 ghost use Rattle.a429_check.specs.Units.{of_units, AreFresh, EndsInPart, EndsUnits, LeavesUnits};
 
 use crate::engines::verdict::{Judged, judge, write_answer};
@@ -31,7 +31,7 @@ pub fn run_units<R: Read, C: Read, W: Write>(
 ) -> Result<u8, RunFault>
     requires { AreFresh rows.old }
     ensures ends { Ends (output W.contents rows.old.out rows.new.out) (of_units (input profile.now C.remaining certificate.old rec.old)
-        (AnyFailed rec.new.failed (has_failed certificate.new) false (has_failed rows.new.out))) result }
+        ((has_failed rows.new.out || (rec.new.failed || has_failed certificate.new)) ≡ true)) result }
     ensures waits { IfErr result (LeavesUnits W.contents rows.old rows.new (input profile.now C.remaining certificate.old rec.old)) }
 {
     let judged = judge(alloc, profile, rec, certificate, &mut NoShelf, rows)?;

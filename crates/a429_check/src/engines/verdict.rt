@@ -1,7 +1,7 @@
 //! Judges a certificate against a recording, both read as a stream, and writes the verdict, as each command that
 //! takes a certificate does.
 
-ghost use Rattle.std.specs.Prelude.{◌≡◌, ◌↔◌, ◌≢◌, true, false, codes, ◌++◌, IsErr, IfOk, IfErr, OnOk, Err};
+ghost use Rattle.std.specs.Prelude.{◌≡◌, ◌↔◌, ◌≢◌, ◌||◌, true, false, codes, ◌++◌, IsErr, IfOk, IfErr, OnOk, Err};
 ghost use Rattle.std.specs.List.{flat_map};
 ghost use Rattle.std.specs.Fmt.{decimal};
 ghost use Rattle.a429_word.specs.Tally.{has_failed};
@@ -9,7 +9,7 @@ ghost use Rattle.a429_word.specs.Sheet.{Says, Writes};
 ghost use Rattle.a429_cert.specs.Stream.{sizes};
 ghost use Rattle.a429_cert.specs.BreakOff.{readers, shelved};
 ghost use Rattle.a429_check.specs.Extract.{progress, Leaves};
-ghost use Rattle.a429_check.specs.Verdict.{count_line, file_line, line_of_file, yes_text, fault_text, no_text, text_of_answer, status_of_answer, of_stream, input, AllWork, AnyFailed, HearsJudged, HearsUntil, IsAnswerOf, IsJudged, IsNoAnswer, IsVerifyFault, TriesUntil};
+ghost use Rattle.a429_check.specs.Verdict.{count_line, file_line, line_of_file, yes_text, fault_text, no_text, text_of_answer, status_of_answer, of_stream, input, HearsJudged, HearsUntil, IsAnswerOf, IsJudged, IsNoAnswer, IsVerifyFault, TriesUntil};
 ghost use Rattle.a429_cert.specs.Report.{listening, TriesSome};
 
 use crate::engines::profile::profile_of;
@@ -47,12 +47,12 @@ pub(crate) fn judge<R: Read, C: Read, S: Shelf, T: Listener>(
     ensures judged { IfOk result (IsJudged (input profile.now C.remaining cert.old rec.old) (shelved S.files S.failed shelf.old shelf.new)) }
     ensures heard { IfOk result (HearsJudged (listening T.hears listener.old listener.new) (input profile.now C.remaining cert.old rec.old)) }
     ensures until { IfErr result (HearsUntil (listening T.hears listener.old listener.new) (input profile.now C.remaining cert.old rec.old)) }
-    ensures works { OnOk result (AllWork rec.new.failed (has_failed cert.new) (S.failed shelf.new) (T.failed listener.new)) }
+    ensures works { OnOk result ((T.failed listener.new || (S.failed shelf.new || (rec.new.failed || has_failed cert.new))) ≡ false) }
     ensures err { IfErr result (IsVerifyFault (input profile.now C.remaining cert.old rec.old) (shelved S.files S.failed shelf.old shelf.new)
-        (AnyFailed rec.new.failed (has_failed cert.new) (S.failed shelf.new) (T.failed listener.new))) }
+        ((T.failed listener.new || (S.failed shelf.new || (rec.new.failed || has_failed cert.new))) ≡ true)) }
     ensures files { IfErr result (Leaves profile.now
         (progress (readers C.remaining cert.old cert.new rec.old rec.new) (shelved S.files S.failed shelf.old shelf.new) (T.failed listener.new))
-        (AnyFailed rec.new.failed (has_failed cert.new) (S.failed shelf.new) (T.failed listener.new))) }
+        ((T.failed listener.new || (S.failed shelf.new || (rec.new.failed || has_failed cert.new))) ≡ true)) }
     ensures tried { IfOk result (λ j. TriesSome (listening T.tries listener.old listener.new) j.profile) }
     ensures untried { IfErr result (TriesUntil T.failed (listening T.tries listener.old listener.new) profile.now) }
 {
@@ -94,10 +94,9 @@ fn any_failed<R: Read, C: Read, S: Shelf, T: Listener>(
     shelf: &S,
     listener: &T,
 ) -> bool
-    ensures yes { result ≡ true → AnyFailed rec.now.failed (has_failed cert.now) (S.failed shelf.now) (T.failed listener.now) }
-    ensures no { result ≡ false → AllWork rec.now.failed (has_failed cert.now) (S.failed shelf.now) (T.failed listener.now) }
+    ensures { result ≡ (T.failed listener.now || (S.failed shelf.now || (rec.now.failed || has_failed cert.now))) }
 {
-    rec.failed() || cert.failed() || shelf.failed() || listener.failed()
+    listener.failed() || shelf.failed() || rec.failed() || cert.failed()
 }
 
 /// The fault, where it is one of the certificate.

@@ -1,10 +1,10 @@
 //! `a429 verify PROFILE REC CERT`: whether a certificate explains a recording.
 
-ghost use Rattle.std.specs.Prelude.{false};
+ghost use Rattle.std.specs.Prelude.{◌≡◌, ◌||◌, true};
 ghost use Rattle.a429_word.specs.Tally.{has_failed};
 ghost use Rattle.a429_check.specs.Ends.{Ends};
 ghost use Rattle.a429_check.specs.Output.{output};
-ghost use Rattle.a429_check.specs.Verdict.{input, no_shelf, of_verdict, HasFailed};
+ghost use Rattle.a429_check.specs.Verdict.{input, no_shelf, of_verdict};
 
 use crate::engines::extract::run_extract;
 use crate::fault::RunFault;
@@ -26,7 +26,7 @@ pub fn run_verify<R: Read, C: Read, W: Write>(
     out: &mut Tally<W>,
 ) -> Result<u8, RunFault>
     ensures { Ends (output W.contents out.old out.new) (of_verdict (input profile.now C.remaining cert.old rec.old) no_shelf
-        (HasFailed rec.new.failed (has_failed cert.new) false)) result }
+        ((rec.new.failed || has_failed cert.new) ≡ true)) result }
 {
     run_extract(alloc, profile, rec, cert, &mut NoShelf, out)
 }

@@ -1,7 +1,7 @@
-use Rattle.std.proofs.Common.{false}
+use Rattle.std.proofs.Common.{◌≡◌, ◌||◌, true}
 use Rattle.a429_word.specs.Tally.{has_failed}
 use Rattle.a429_check.specs.Picture.{of_picture}
-use Rattle.a429_check.specs.Verdict.{HasFailed, input}
+use Rattle.a429_check.specs.Verdict.{input}
 use Rattle.a429_check.proofs.EndsFacts.{and_on, ends}
 use Rattle.a429_check.proofs.PictureFacts.{drawing_is}
 use Rattle.a429_check.proofs.VerdictFacts.{none_failed}
@@ -11,6 +11,6 @@ pub returns : goal.returns
 returns g c =
     let new = c.drawing_of.new in
     let i = input c.args.profile.now g.C.Read.remaining c.args.cert.now c.args.rec.now in
-    let promise = of_picture i c.args.span (HasFailed new.rec.failed (has_failed new.cert) false) in
+    let promise = of_picture i c.args.span ((new.rec.failed || has_failed new.cert) ≡ true) in
     ends promise c.drawing_of.result (and_on _ _ c.drawing_of.result c.drawing_of.ensures.ok c.drawing_of.ensures.works)
-    (λ d is. drawing_is i c.args.span _ _ _ is.0 (none_failed _ _ _ _ is.1)) c.drawing_of.ensures.err c.write.ensures
+    (λ d is. drawing_is i c.args.span _ _ _ is.0 (none_failed _ is.1)) c.drawing_of.ensures.err c.write.ensures

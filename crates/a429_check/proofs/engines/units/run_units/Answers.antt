@@ -1,8 +1,8 @@
-use Rattle.std.proofs.Common.{false, sym, subst}
+use Rattle.std.proofs.Common.{◌≡◌, ◌||◌, true, sym, subst}
 use Rattle.std.proofs.lemmas.Result.{err_from_is_err_and}
 use Rattle.a429_word.specs.Tally.{has_failed}
 use Rattle.a429_check.specs.Units.{LeavesUnits}
-use Rattle.a429_check.specs.Verdict.{input, AnyFailed}
+use Rattle.a429_check.specs.Verdict.{input}
 use Rattle.a429_check.proofs.TraceLines.{if_err_map}
 use Rattle.a429_check.proofs.UnitsFacts.{ends_judged, ends_until, leaves_units, untouched}
 use Rattle.a429_check.proofs.engines.units.run_units.Goals as goal
@@ -34,7 +34,7 @@ pub returns-in_err-judged-clause-ends : goal.returns-in_err-judged-clause-ends
 returns-in_err-judged-clause-ends g c =
     let i = input c.args.profile.now g.C.Read.remaining c.args.certificate.now c.args.rec.now in
     let new = c.judge.new in
-    let Failed = AnyFailed new.rec.failed (has_failed new.cert) false (has_failed new.listener.out) in
+    let Failed = (has_failed new.listener.out || (new.rec.failed || has_failed new.cert)) ≡ true in
     let p = err_from_is_err_and c.from_residual.result c.from_residual.ensures.1 in
     let before = c.in_err-judged.ensures in
     let left = leaves_units g.W.Write.contents i c.args.rows.now new.listener _ c.requires (untouched g.W.Write.contents c.args.profile.now c.args.rows.now new.listener _ before.untried) before.until in
