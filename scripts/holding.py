@@ -1,9 +1,9 @@
 """What is said beside each definition of a promise: the sentence of a document that it formalises, and its second statements, each of which
 would fail if the definition were wrong. scripts/base.toml has both by hand, and this looks whether they are so.
 
-A second statement is a law, a test of the crates, a line of a page of scripts/cases, by its begin, or a mistake of scripts/wrong-definitions. It can hold
-a definition only where it has to do with it. A law and the functions that a test calls rest on it, and a mistake changes it. Of a line of
-scripts/cases only its place is looked at.
+A second statement is a law, a test of the crates, a comparison that a script makes of the built program with a second reading, a line of a page of
+scripts/cases, by its begin, or a mistake of scripts/wrong-definitions. It can hold a definition only where it has to do with it. A law and the
+functions that a test calls rest on it, and a mistake changes it. Of a comparison and of a line of scripts/cases only its place is looked at.
 """
 
 import re
@@ -18,7 +18,7 @@ from typing import Iterator, NamedTuple
 from believing import Definition, Promise, Tree, header_of
 from citing import cited_by, exported, of_name
 
-KINDS = ("law", "test", "line", "mistake")
+KINDS = ("law", "test", "comparison", "line", "mistake")
 
 
 class Sentence(NamedTuple):
@@ -128,7 +128,8 @@ class Holder:
         text = file.read_text(encoding="utf-8")
         if it.kind == "line":
             return any(line.startswith(name) for line in text.split("\n"))
-        return bool(re.search(rf"^pub fn {name}\(" if it.kind == "law" else rf"#\[test\]\nfn {name}\(", text, re.M))
+        heads = {"law": rf"^pub fn {name}\(", "test": rf"#\[test\]\nfn {name}\(", "comparison": rf"^ *def {name}\("}
+        return bool(re.search(heads[it.kind], text, re.M))
 
     def place_of(self, it: Second) -> tuple[Path, str, str]:
         """Its file, this file as its crate names it, and its name there."""
@@ -146,7 +147,7 @@ class Holder:
         return {it.name: it for it in module.MISTAKES}
 
     def has_to_do(self, it: Second, definition: Definition) -> bool:
-        if it.kind == "line":
+        if it.kind in ("comparison", "line"):
             return True
         if it.kind == "mistake":
             return self.is_changed(it, definition)
@@ -214,7 +215,7 @@ def placed(it: Second) -> str:
     if it.kind == "mistake":
         return "`scripts/wrong-definitions`"
     file, _, name = it.name.partition(" ")
-    return f"`{file}`" if it.kind == "test" else f"`{file}`, `{name}`".replace("|", "\\|")
+    return f"`{file}`" if it.kind in ("test", "comparison") else f"`{file}`, `{name}`".replace("|", "\\|")
 
 
 def notes_table(group: list[Definition], notes: Notes) -> str:

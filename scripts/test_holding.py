@@ -58,6 +58,7 @@ pub fn weigh() -> u8
     "crates/rows/src/lib.rt": "//! Tests.\nmod calls;\nmod rods;\n",
     "crates/rows/src/calls.rt": "//! Calls.\nuse low::measure;\nfn call() {}\n",
     "crates/rows/src/rods.rt": "//! Rods.\nuse crate::calls::call;\n\n#[test]\nfn a_rod_of_three() {\n}\n\nfn no_test() {\n}\n",
+    "scripts/compare": "class Rods:\n    def length(self):\n        pass\n",
     "scripts/cases/rods.md": "# Rods\n\n```console\n$ rod 3\nwide\n```\n",
     "scripts/wrong-definitions": """\
 from collections import namedtuple
@@ -86,6 +87,11 @@ definitions = ["low.Rods.IsWide"]
 test = "crates/rows/src/rods.rt a_rod_of_three"
 what = "a rod"
 definitions = ["low.Rods.few", "low.Rods.IsWide"]
+
+[[second]]
+comparison = "scripts/compare length"
+what = "lengths by chance"
+definitions = ["low.Rods.IsLong"]
 
 [[second]]
 line = "scripts/cases/rods.md $ rod 3"
@@ -134,6 +140,7 @@ class Holding(unittest.TestCase):
             ("wide_is_wide", "gone", "there is no law low::laws::gone"),
             ("low::laws::wide", "low::gone::wide", "there is no law low::gone::wide_is_wide"),
             ("rods.rt a_rod_of_three", "rods.rt no_test", "there is no test crates/rows/src/rods.rt no_test"),
+            ("compare length", "compare width", "there is no comparison scripts/compare width"),
             ("$ rod 3", "$ rod 4", "there is no line scripts/cases/rods.md $ rod 4"),
             ('"two are few"', '"one is few"', "there is no mistake one is few"),
         ):
@@ -160,7 +167,7 @@ class Holding(unittest.TestCase):
             | `few` | It is few. ([RODS](RODS.md)) | `a_rod_of_three`; mistake: two are few |
             | `other` | the same | **nothing yet** |
             | `IsWide` | {says} | `wide_is_wide` |
-            | `IsLong` | the same | a line of `rods.md`: three are wide |
+            | `IsLong` | the same | `length`; a line of `rods.md`: three are wide |
             """
         self.assertEqual(notes_table(self.base, notes), textwrap.dedent(wanted))
         same = notes_table([it for it in self.base if it.name != "few"], Notes(notes.sentences[:1], []))
@@ -170,6 +177,7 @@ class Holding(unittest.TestCase):
             |---|---|---|---|
             | `wide_is_wide` | law `low::laws::wide_is_wide` | wide rods are wide | 1 |
             | `a_rod_of_three` | `crates/rows/src/rods.rt` | a rod | 1 |
+            | `length` | `scripts/compare` | lengths by chance | 1 |
             | a line of `rods.md`: three are wide | `scripts/cases/rods.md`, `$ rod 3` | three are wide | 1 |
             | mistake: two are few | `scripts/wrong-definitions` | a law refuses it | 1 |
             """
