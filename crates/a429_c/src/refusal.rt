@@ -6,7 +6,7 @@ ghost use Rattle.a429_c.specs.Refusal.{number_of_fault, line_of, entry_of};
 use a429_cert::{CertFault, Verified};
 
 /// What is found of a certificate.
-#[derive(Debug, Drop)]
+#[derive(Drop)]
 pub enum Held {
     /// It explains the recording, and these files cross.
     Explained(Verified),

@@ -3,7 +3,7 @@
 use a429_link::Seen;
 
 /// The line of a certificate and the entry of a recording that come next.
-#[derive(Clone, Copy, Debug)]
+#[derive(Clone, Copy)]
 pub struct At {
     /// The line's number, counted from 1.
     pub line: usize,

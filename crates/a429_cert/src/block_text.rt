@@ -17,7 +17,7 @@ const WORDS: u8 = 254;
 
 /// The lines of each word of a block that is sent and then taken, with nothing else on its way, word after word. Each line
 /// begins with the line feed that ends the line before it.
-#[derive(Debug, Drop)]
+#[derive(Drop)]
 pub struct BlockText {
     text: Vec<u8>,
     // Where the lines of each word begin, and where those of the last end.

@@ -93,7 +93,7 @@ fn take_files(link: &mut Link<'_>, files: &mut Vec<FileBytes>) -> Result<(), Out
 }
 
 /// What the two lines say that begin a certificate.
-#[derive(Clone, Copy, Debug)]
+#[derive(Clone, Copy)]
 pub struct Head {
     /// Its version.
     pub version: Version,

@@ -16,7 +16,7 @@ pub enum TextLine<'a> {
 }
 
 /// The text after the lines that were handed out.
-#[derive(Debug, Drop)]
+#[derive(Drop)]
 pub struct Lines<'a> {
     rest: &'a [u8],
 }

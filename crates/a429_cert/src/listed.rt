@@ -8,7 +8,7 @@ use crate::line::MovedLine;
 use a429_ldu::Ldu;
 
 /// The step that a line lists, without the entry that it uses.
-#[derive(Debug, Drop)]
+#[derive(Drop)]
 pub enum Listed {
     /// This link data unit is loaded at the source.
     Load(Ldu),

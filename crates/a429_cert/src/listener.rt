@@ -42,7 +42,7 @@ pub trait Listener: Failing {
 }
 
 /// A listener that does not listen.
-#[derive(Debug, Drop)]
+#[derive(Drop)]
 pub struct NoListener;
 
 impl Failing for NoListener {

@@ -36,7 +36,7 @@ pub trait Shelf: Failing {
 }
 
 /// A shelf that keeps the files in memory, and makes them known.
-#[derive(Debug, Drop)]
+#[derive(Drop)]
 pub struct MemoryShelf {
     alloc: Global,
     files: Vec<PutFile>,
@@ -96,7 +96,7 @@ impl Shelf for MemoryShelf {
 }
 
 /// A shelf that takes every file, and keeps none.
-#[derive(Debug, Drop)]
+#[derive(Drop)]
 pub struct NoShelf;
 
 impl Failing for NoShelf {

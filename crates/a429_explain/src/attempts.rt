@@ -44,7 +44,7 @@ pub enum Role {
 }
 
 // What is recorded after a word.
-#[derive(Clone, Copy, Debug)]
+#[derive(Clone, Copy)]
 pub(crate) struct Ahead {
     /// A word of a block comes before the next request.
     pub sends_block: bool,

@@ -15,7 +15,7 @@ use std::io::Write;
 use std::marker::Model;
 
 /// The text of a certificate. Contracts see its bytes. It is kept short, and spelled out as it is written.
-#[derive(Debug, Drop)]
+#[derive(Drop)]
 pub struct Certificate {
     // A file is given up, so it is of version 2.
     gave_up: bool,

@@ -19,7 +19,7 @@ use a429_record::Entry;
 use std::alloc::Global;
 
 /// A certificate that explains a recording, and the files that are delivered in every run that records its words.
-#[derive(Debug, Drop)]
+#[derive(Drop)]
 pub struct Explanation {
     pub certificate: Certificate,
     pub files: Verified,

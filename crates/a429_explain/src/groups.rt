@@ -6,21 +6,21 @@ ghost use Rattle.a429_explain.specs.Groups.{are_other, stays_within, start_in, w
 use crate::attempts::{Role, StartNumbers};
 
 /// The entries of a group: those from its first request on, and before this one.
-#[derive(Clone, Copy, Debug)]
+#[derive(Clone, Copy)]
 pub(crate) struct Group {
     pub from: usize,
     pub to: usize,
 }
 
 /// A group, and how many words its first request asks for, 3 to 255.
-#[derive(Clone, Copy, Debug)]
+#[derive(Clone, Copy)]
 pub(crate) struct Request {
     pub group: Group,
     pub count: u8,
 }
 
 /// Whether a group has begun between two words of a recording.
-#[derive(Clone, Copy, Debug, PartialEq, Eq)]
+#[derive(Clone, Copy)]
 pub(crate) enum Grouping {
     /// Between two groups.
     Between,

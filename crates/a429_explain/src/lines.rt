@@ -35,7 +35,7 @@ const START: MovedLine = MovedLine {
 
 /// The lines of a certificate after its first, each begun with the line feed that ends the line before it. Contracts see
 /// their text; notes are kept of it, far shorter where lines follow from one another.
-#[derive(Debug, Drop)]
+#[derive(Drop)]
 pub(crate) struct Lines {
     notes: Vec<Note>,
     // The last note, to which the next line may belong.

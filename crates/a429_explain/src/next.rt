@@ -145,7 +145,7 @@ pub(crate) fn carried(words: u8) -> MovedLine
 }
 
 /// Words of a block, each sent and then taken: so many from this place on, counted from 0.
-#[derive(Clone, Copy, Debug)]
+#[derive(Clone, Copy)]
 pub(crate) struct BlockWords {
     pub place: u8,
     pub count: u8,

@@ -17,7 +17,7 @@ use a429_word::{Sheet, Word};
 use std::io::Write;
 
 /// Some lines of a certificate, or a part of one. Each line begins with the line feed that ends the line before it.
-#[derive(Clone, Copy, Debug)]
+#[derive(Clone, Copy)]
 pub(crate) enum Note {
     /// The line with the number of the first file.
     First(u8),
@@ -52,7 +52,7 @@ pub(crate) enum Note {
 }
 
 /// A number of 32 bits as four bytes, the lowest first: so a note takes 9 bytes.
-#[derive(Clone, Copy, Debug)]
+#[derive(Clone, Copy)]
 pub(crate) struct ShortWord {
     pub bytes: [u8; 4],
 }
@@ -221,7 +221,7 @@ fn ways_text(at: States) -> ShortText
 }
 
 // So many lines were put, of which this is the last.
-#[derive(Clone, Copy, Debug)]
+#[derive(Clone, Copy)]
 struct Put {
     lines: u8,
     last: MovedLine,

@@ -11,7 +11,7 @@ use std::collections::VecDeque;
 
 /// What the source does before it sends the first request of a group: it gives up so many files, one after the
 /// other, and loads this link data unit.
-#[derive(Debug, Drop)]
+#[derive(Drop)]
 pub struct Plan {
     /// The entry of that request, counted from 0.
     pub at: usize,

@@ -21,7 +21,7 @@ use a429_profile::Profile;
 use std::alloc::Global;
 
 /// How far the groups of a recording are planned. It keeps no plan.
-#[derive(Clone, Copy, Debug)]
+#[derive(Clone, Copy)]
 pub(crate) struct Planner {
     // The numbers with which the source comes to the next group.
     place: UnitNumber,

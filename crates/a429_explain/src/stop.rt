@@ -3,7 +3,7 @@
 use crate::verdict::Doubt;
 
 /// Why no certificate is written.
-#[derive(Clone, Copy, Debug, PartialEq, Eq)]
+#[derive(Clone, Copy)]
 pub(crate) enum Stop {
     Unexplained { entry: usize, doubt: Doubt },
     OutOfMemory,

@@ -4,7 +4,7 @@ use crate::certificate::Certificate;
 use a429_cert::Verified;
 
 /// The verdict on a recording (profile).
-#[derive(Debug, Drop)]
+#[derive(Drop)]
 pub enum Verdict {
     /// A run records exactly these words: the certificate lists its steps. Every run that records them delivers exactly
     /// these files.

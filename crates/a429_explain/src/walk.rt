@@ -23,7 +23,7 @@ use a429_word::{Bus, THIS_LABEL};
 use std::alloc::Global;
 
 /// The first entry, counted from 0, whose word those before it do not allow, and the reason.
-#[derive(Clone, Copy, Debug)]
+#[derive(Clone, Copy)]
 pub struct Halt {
     pub entry: usize,
     pub reason: Reason,

@@ -127,7 +127,7 @@ impl Attempt {
 }
 
 /// The general format identifier of the start word, where there is one, and flags and check word of the end word.
-#[derive(Clone, Copy, Debug)]
+#[derive(Clone, Copy)]
 pub(crate) struct Ends {
     pub start: Option<u8>,
     pub flags: u8,

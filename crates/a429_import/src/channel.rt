@@ -8,7 +8,7 @@ use crate::texts::Texts;
 use a429_word::Bus;
 
 /// Which channels are a recording's lines, and which are passed over (profile).
-#[derive(Debug, Drop)]
+#[derive(Drop)]
 pub struct Channels {
     /// The column that has a channel's name.
     pub column: Column,

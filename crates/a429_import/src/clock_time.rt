@@ -42,7 +42,7 @@ pub enum DateOrder {
 }
 
 /// A half of a day.
-#[derive(Clone, Copy, Debug, PartialEq, Eq)]
+#[derive(Clone, Copy)]
 enum Half {
     /// AM.
     Morning,

@@ -3,7 +3,7 @@
 use a429_profile::Text;
 
 /// A column of an export (profile).
-#[derive(Debug, Drop)]
+#[derive(Drop)]
 pub enum Column {
     /// The first with this name, where a row names the columns.
     Name(Text),

@@ -13,7 +13,7 @@ use std::alloc::{AllocError, Global};
 use std::marker::Model;
 
 /// Places of columns, from 0.
-#[derive(Debug, Drop)]
+#[derive(Drop)]
 pub(crate) struct Places {
     places: Vec<usize>,
 }
@@ -35,7 +35,7 @@ impl Places {
 }
 
 /// Where the columns of a map are, from 0.
-#[derive(Debug, Drop)]
+#[derive(Drop)]
 pub(crate) struct Columns {
     pub(crate) channel: usize,
     pub(crate) time: usize,

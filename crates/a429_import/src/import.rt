@@ -29,7 +29,7 @@ use std::alloc::{AllocError, Global};
 use std::io::{Read, Write};
 
 /// What became of the lines of an export.
-#[derive(Debug, Drop)]
+#[derive(Drop)]
 pub struct Import {
     pub counts: Counts,
     /// Where its clock jumps, in their order.

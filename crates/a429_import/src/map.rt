@@ -35,7 +35,7 @@ pub enum Separator {
 }
 
 /// How the lines of an export are rows (profile).
-#[derive(Debug, Drop)]
+#[derive(Drop)]
 pub struct RowRule {
     pub separator: Separator,
     /// Whether a row names the columns.
@@ -51,7 +51,7 @@ pub struct RowRule {
 }
 
 /// Where a row's time is, and how it is written (profile).
-#[derive(Debug, Drop)]
+#[derive(Drop)]
 pub struct TimeRule {
     pub column: Column,
     pub form: TimeForm,
@@ -60,14 +60,14 @@ pub struct TimeRule {
 }
 
 /// What is done with a word that was put together (profile).
-#[derive(Clone, Copy, Debug, PartialEq, Eq)]
+#[derive(Clone, Copy)]
 pub(crate) struct WordRule {
     pub(crate) bit_32: BitWord,
     pub(crate) turning: Turning,
 }
 
 /// A map (profile): what the rows of an export mean.
-#[derive(Debug, Drop)]
+#[derive(Drop)]
 pub struct Map {
     pub rows: RowRule,
     pub time: TimeRule,

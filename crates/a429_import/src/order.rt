@@ -15,7 +15,7 @@ pub struct OrderRule {
 }
 
 /// The clock of an export, after the entries so far.
-#[derive(Clone, Copy, Debug, PartialEq, Eq)]
+#[derive(Clone, Copy)]
 pub(crate) struct Clock {
     /// What is added to the times that are read, in microseconds.
     pub(crate) offset: u64,
@@ -47,7 +47,7 @@ pub struct Mend {
 }
 
 /// A time in order.
-#[derive(Clone, Copy, Debug, PartialEq, Eq)]
+#[derive(Clone, Copy)]
 pub(crate) struct Ordered {
     pub(crate) time: u64,
     pub(crate) mend: Mend,

@@ -8,7 +8,7 @@ use crate::texts::Texts;
 use a429_word::Word;
 
 /// What bit 32 of an export's words is (profile).
-#[derive(Debug, Drop)]
+#[derive(Drop)]
 pub enum ParityBit {
     /// The bit that was received.
     Received,
@@ -23,7 +23,7 @@ pub enum ParityBit {
 }
 
 /// The column that says whether the parity of a word was good, and its texts (profile).
-#[derive(Debug, Drop)]
+#[derive(Drop)]
 pub struct Status {
     pub column: Column,
     pub good: Texts,

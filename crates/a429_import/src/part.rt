@@ -10,7 +10,7 @@ use crate::piece::{Piece, cut_out, without_prefix};
 use a429_profile::Text;
 
 /// A part of a word: some bits, whose number a column has in digits (profile).
-#[derive(Debug, Drop)]
+#[derive(Drop)]
 pub struct Part {
     /// The column that has it.
     pub column: Column,

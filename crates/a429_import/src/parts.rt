@@ -22,7 +22,7 @@ use std::marker::Model;
 use toml::{Table, Value};
 
 /// The parts of a word, each of which can be read.
-#[derive(Debug, Drop)]
+#[derive(Drop)]
 pub struct Parts {
     parts: Vec<Part>,
 }

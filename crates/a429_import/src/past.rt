@@ -9,7 +9,7 @@ use a429_record::Entry;
 use std::alloc::{AllocError, Global};
 
 /// What is known of the entries so far.
-#[derive(Debug, Drop)]
+#[derive(Drop)]
 pub(crate) struct Past {
     pub(crate) clock: Clock,
     pub(crate) last: LastEntries,

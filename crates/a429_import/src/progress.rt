@@ -4,7 +4,7 @@ use crate::columns::Columns;
 use crate::past::Past;
 
 /// How far an export was read.
-#[derive(Debug, Drop)]
+#[derive(Drop)]
 pub(crate) struct Progress {
     /// How many lines were read.
     pub(crate) lines: u64,

@@ -23,7 +23,7 @@ pub struct RepeatRule {
 
 /// The last entries that were written, the latest first, with their times before they were lifted. They are found by their keys, so that
 /// a look-up takes few steps however many they are.
-#[derive(Debug, Drop)]
+#[derive(Drop)]
 pub(crate) struct LastEntries {
     entries: VecDeque<Entry>,
     // How many of them have a key: after a reset an entry can have the line, word and time of one before it.

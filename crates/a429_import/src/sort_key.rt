@@ -7,7 +7,7 @@ use a429_record::Entry;
 use a429_word::{Bus, Word};
 
 /// An entry by what it is sorted by: its line, then its word, then its time.
-#[derive(Clone, Copy, Debug, PartialEq, Eq, PartialOrd, Ord)]
+#[derive(Clone, Copy, PartialEq, Eq, PartialOrd, Ord)]
 pub(crate) struct SortKey {
     pub(crate) is_on_b: bool,
     pub(crate) word: u32,

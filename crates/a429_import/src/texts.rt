@@ -8,7 +8,7 @@ use a429_profile::Text;
 use std::marker::Model;
 
 /// Texts that a map lists.
-#[derive(Debug, Drop)]
+#[derive(Drop)]
 pub struct Texts {
     texts: Vec<Text>,
 }

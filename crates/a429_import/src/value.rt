@@ -23,7 +23,7 @@ use std::alloc::{AllocError, Global};
 use toml::{Table, Value};
 
 /// The words for how a time is written.
-#[derive(Clone, Copy, Debug, PartialEq, Eq)]
+#[derive(Clone, Copy)]
 pub(crate) enum FormWord {
     Integer,
     Decimal,
@@ -31,7 +31,7 @@ pub(crate) enum FormWord {
 }
 
 /// The words for what bit 32 is.
-#[derive(Clone, Copy, Debug, PartialEq, Eq)]
+#[derive(Clone, Copy)]
 pub(crate) enum BitWord {
     Parity,
     ErrorSet,

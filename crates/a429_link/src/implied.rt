@@ -23,7 +23,7 @@ use std::marker::Model;
 /// The sink that a recording implies, whatever its source did: it takes each recorded word of bus A, and gives each
 /// recorded answer of bus B, at the moment it is recorded. Of the files it keeps the bytes of the one that is not whole,
 /// and no others.
-#[derive(Debug, Drop)]
+#[derive(Drop)]
 pub struct ImpliedSink {
     sink: Sink,
     begun: bool,

@@ -9,7 +9,7 @@ use std::marker::Model;
 
 /// The words that a sink has taken of its block, and after them those on their way to it, in one array:
 /// the sink takes a word by moving the boundary.
-#[derive(Debug, Drop)]
+#[derive(Drop)]
 pub(crate) struct Lane {
     words: ArrayVec<Word, 255>,
     boundary: usize,

@@ -26,7 +26,7 @@ use std::marker::Model;
 /// The source and the sink of a file transfer and the words between them, under a bench's profile
 /// (ARINC 429 Part 3). It is always where some run of the profile leads, and so keeps at most what
 /// `IsBounded` says, its delivered files aside.
-#[derive(Debug, Drop)]
+#[derive(Drop)]
 pub struct Link<'a> {
     alloc: Global,
     profile: &'a Profile,

@@ -17,7 +17,7 @@ use std::marker::Model;
 /// A sink that takes each recorded word of bus A, and gives each recorded answer of bus B, at the moment
 /// it is recorded. It says which words a recording can go on with. It keeps the block that it is in, and
 /// no files.
-#[derive(Debug, Drop)]
+#[derive(Drop)]
 pub struct Observer {
     sink: ImpliedSink,
 }

@@ -9,7 +9,7 @@ use std::marker::Model;
 use std::mem;
 
 /// The files that are whole, and the bytes of one that is not.
-#[derive(Debug, Drop)]
+#[derive(Drop)]
 pub(crate) struct Received {
     files: Vec<FileBytes>,
     open_bytes: Vec<u8>,

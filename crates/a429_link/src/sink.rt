@@ -33,7 +33,7 @@ pub struct Latest {
 }
 
 /// The numbers of a start word.
-#[derive(Clone, Copy, Debug, PartialEq, Eq)]
+#[derive(Clone, Copy)]
 pub(crate) struct StartWord {
     pub gfi: u8,
     pub file: u8,
@@ -53,7 +53,7 @@ impl StartWord {
 }
 
 /// What the sink is doing (ARINC 429 Part 3).
-#[derive(Clone, Copy, Debug, PartialEq, Eq)]
+#[derive(Clone, Copy)]
 pub(crate) enum Phase {
     Quiet,
     OwesClear,
@@ -67,7 +67,7 @@ pub(crate) enum Phase {
 
 /// The sink: what it accepted last, its files, the count of the last request, and what it is doing; and the
 /// words on their way to it.
-#[derive(Debug, Drop)]
+#[derive(Drop)]
 pub(crate) struct Sink {
     last: Option<Latest>,
     received: Received,

@@ -17,7 +17,7 @@ use std::marker::Model;
 
 /// The source: the number of the link data unit that is current or next, this one if it is loaded, what
 /// the source is doing, and how many files it has given up since its last acknowledgement.
-#[derive(Debug, Drop)]
+#[derive(Drop)]
 pub(crate) struct Source {
     number: UnitNumber,
     current: Option<Ldu>,

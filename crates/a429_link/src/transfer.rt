@@ -33,7 +33,7 @@ use std::alloc::Global;
 use std::marker::Model;
 
 /// The source, the sink, and the words of each bus that are recorded and not yet taken.
-#[derive(Debug, Drop)]
+#[derive(Drop)]
 pub(crate) struct Transfer {
     source: Source,
     // It has the words on their way to it.

@@ -31,7 +31,7 @@ pub enum PartFault {
 /// enough: at most `most` entries after the part's beginning, and known as one from the next `most + 1` entries. It
 /// remembers the entries that are in no part yet. Call `part` after each entry, and `end_part` with its answer, until it
 /// answers none.
-#[derive(Debug, Drop)]
+#[derive(Drop)]
 pub struct Cutter {
     most: usize,
     watch: Watch,

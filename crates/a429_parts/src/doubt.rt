@@ -8,7 +8,7 @@ use a429_link::UnitNumber;
 use a429_profile::Profile;
 
 /// A place that may be one to cut at: the words after it decide. It is counted in the words before it.
-#[derive(Clone, Copy, Debug, PartialEq, Eq)]
+#[derive(Clone, Copy)]
 pub(crate) enum Doubt {
     /// After an acknowledgement of this number: if the next start word has another.
     AfterUnit { place: usize, unit: UnitNumber },
@@ -17,7 +17,7 @@ pub(crate) enum Doubt {
 }
 
 /// What the next word decides of a place in doubt.
-#[derive(Clone, Copy, Debug, PartialEq, Eq)]
+#[derive(Clone, Copy)]
 pub(crate) enum Outcome {
     Open,
     IsPlace,

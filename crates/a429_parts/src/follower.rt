@@ -12,11 +12,11 @@ use std::alloc::Global;
 use std::marker::Model;
 
 /// The words before this one do not allow it: no run records it after them.
-#[derive(Clone, Copy, Debug, PartialEq, Eq)]
+#[derive(Clone, Copy)]
 pub(crate) struct Refused;
 
 /// An observer that remembers what it has to know of the last end word and of the last acknowledgement.
-#[derive(Debug, Drop)]
+#[derive(Drop)]
 pub(crate) struct Follower {
     observer: Observer,
     // The number of the link data unit that was accepted last.

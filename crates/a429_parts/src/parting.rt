@@ -26,7 +26,7 @@ use std::alloc::{AllocError, Global};
 use std::io::{Read, Write};
 
 /// A recording that is being cut.
-#[derive(Debug, Drop)]
+#[derive(Drop)]
 pub(crate) struct Parting {
     cutter: Cutter,
     // The number of the next part.

@@ -30,7 +30,7 @@ pub trait Parts: Failing {
 }
 
 /// A part that was put.
-#[derive(Debug, Drop)]
+#[derive(Drop)]
 pub struct Part {
     /// Its number, from 1.
     pub number: usize,
@@ -47,7 +47,7 @@ impl Part {
 }
 
 /// Keeps parts in memory, and makes them known.
-#[derive(Debug, Drop)]
+#[derive(Drop)]
 pub struct MemoryParts {
     alloc: Global,
     parts: Vec<Part>,

@@ -18,7 +18,7 @@ const ENTRY_BYTES: usize = 16;
 
 /// Entries that wait, in order. They are held as lines of text, ready to be written, while the lines take at most `spare` bytes
 /// more than entries would; the others are held as entries.
-#[derive(Debug, Drop)]
+#[derive(Drop)]
 pub(crate) struct Waiting {
     spare: usize,
     len: usize,
@@ -42,7 +42,7 @@ impl Model for Waiting {
 }
 
 /// Where the first of some lines end: how many lines they are, and how many bytes they have.
-#[derive(Clone, Copy, Debug)]
+#[derive(Clone, Copy)]
 pub struct LineEnd {
     pub lines: usize,
     pub bytes: usize,
@@ -52,7 +52,7 @@ pub struct LineEnd {
 const NO_LINES: LineEnd = LineEnd { lines: 0, bytes: 0 };
 
 /// Entries of a recording, lent: some as entries, some as lines, and some as entries again.
-#[derive(Debug, Drop)]
+#[derive(Drop)]
 pub struct Rows<'a> {
     len: usize,
     before: &'a [Entry],

@@ -16,7 +16,7 @@ use std::alloc::Global;
 use std::marker::Model;
 
 /// Where the recording may be cut, by the words so far.
-#[derive(Debug, Drop)]
+#[derive(Drop)]
 pub(crate) struct Watch {
     alloc: Global,
     count: usize,

@@ -15,7 +15,7 @@ const TABLES: usize = 8;
 
 /// How check words are made, and eight tables of 256 entries, which are made once, so that a check word takes eight
 /// bytes at a time.
-#[derive(Debug, Drop)]
+#[derive(Drop)]
 pub struct CheckTables {
     pub(crate) rule: Check,
     entries: Vec<u16>,

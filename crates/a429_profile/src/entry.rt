@@ -192,7 +192,7 @@ pub enum Kind {
 }
 
 /// The words for the kinds of labels.
-#[derive(Clone, Copy, Debug, PartialEq, Eq)]
+#[derive(Clone, Copy)]
 pub(crate) enum KindWord {
     Bnr,
     Bcd,

@@ -22,7 +22,7 @@ use std::marker::Model;
 use toml::Table;
 
 /// A bench's profile, as it was read from a text: each number lies in its range, and nothing clashes.
-#[derive(Debug, Drop)]
+#[derive(Drop)]
 pub struct Profile {
     codes: Codes,
     tables: CheckTables,

@@ -13,7 +13,7 @@ use std::io::Write;
 use std::marker::Model;
 
 /// The text of one entry, at most 32 bytes, or none: the line that a text recording has for it, unless a function says otherwise.
-#[derive(Debug, Drop)]
+#[derive(Drop)]
 pub struct EntryLine {
     // (the first field, so that it is aligned)
     bytes: [u8; LONGEST],

@@ -31,7 +31,7 @@ const ABOVE_FOUR: u64 = 10_000;
 
 /// Puts the text of entries. The digits of the last time are kept, so that of the next time only the last four are
 /// written where the others are the same: in microseconds, as a bus sends words, they mostly are.
-#[derive(Debug, Drop)]
+#[derive(Drop)]
 pub struct EntryText {
     // the digits but the last four, which end at `UPPER`, with room for 32 bytes from the first digit on
     bytes: [u8; LONGEST_TIME + 32],

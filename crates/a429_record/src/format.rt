@@ -1,7 +1,7 @@
 //! The two formats of a recording.
 
 /// The format of a recording, which its first eight bytes choose (profile).
-#[derive(Clone, Copy, Debug, PartialEq, Eq)]
+#[derive(Clone, Copy)]
 pub enum Format {
     /// Lines: a header, and one for each entry.
     Text,

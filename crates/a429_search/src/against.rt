@@ -84,7 +84,7 @@ pub enum Against {
 }
 
 /// The acknowledgement that was recorded last.
-#[derive(Clone, Copy, Debug, PartialEq, Eq)]
+#[derive(Clone, Copy)]
 pub(crate) struct Acked {
     pub number: UnitNumber,
     pub entry: usize,

@@ -15,7 +15,7 @@ use a429_link::laws::attempts::one_number_is_one_unit;
 use std::alloc::{AllocError, Global};
 
 // Where an attempt has words that are apart from those of another: at this entry, after the request of this one.
-#[derive(Clone, Copy, Debug)]
+#[derive(Clone, Copy)]
 struct Apart {
     request: usize,
     entry: usize,

@@ -11,7 +11,7 @@ use std::alloc::{AllocError, Global};
 use std::marker::Model;
 
 /// The start, data and end words of an attempt, and the block of its link data unit, where that is known.
-#[derive(Debug, Drop)]
+#[derive(Drop)]
 pub(crate) struct AttemptWords {
     words: Vec<Word>,
     block: Vec<Word>,

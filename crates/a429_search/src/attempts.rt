@@ -7,14 +7,14 @@ use a429_word::Word;
 use std::alloc::{AllocError, Global};
 
 /// What a start word says: the general format identifier, 0 to 15, and the number of its link data unit.
-#[derive(Clone, Copy, Debug, PartialEq, Eq)]
+#[derive(Clone, Copy)]
 pub(crate) struct StartWord {
     pub gfi: u8,
     pub number: UnitNumber,
 }
 
 /// A request, and what was recorded after it up to the next one.
-#[derive(Debug, Drop)]
+#[derive(Drop)]
 pub(crate) struct Attempt {
     /// The entry of the request, counted from 0.
     pub at: usize,

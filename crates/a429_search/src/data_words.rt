@@ -13,7 +13,7 @@ use std::alloc::{AllocError, Global};
 use std::marker::Model;
 
 /// The data words since the last request or clear answer.
-#[derive(Debug, Drop)]
+#[derive(Drop)]
 pub(crate) struct DataWords {
     words: Vec<Word>,
 }

@@ -15,7 +15,7 @@ use std::alloc::{AllocError, Global};
 use std::mem;
 
 /// Attempts one after the other, and a link data unit that each of them may have been of.
-#[derive(Debug, Drop)]
+#[derive(Drop)]
 pub(crate) struct Group {
     /// The entry of the first request, counted from 0.
     pub at: usize,

@@ -12,7 +12,7 @@ const MOST_GIVE_UPS: u8 = 127;
 const MOST_AFTER_FIRST: u16 = 254;
 
 /// What the source may have done: a way to cut the attempts so far into groups, as far as later attempts depend on it.
-#[derive(Clone, Copy, Debug, PartialEq, Eq)]
+#[derive(Clone, Copy)]
 pub(crate) struct Hypothesis {
     /// The number of the first file.
     pub first_file: u8,
@@ -34,7 +34,7 @@ pub(crate) struct Hypothesis {
 
 /// How a source may come to an attempt: with the link data unit of the present group, with that of a new one once it
 /// has given up so many files, or both. Each with what is then known of it.
-#[derive(Clone, Copy, Debug)]
+#[derive(Clone, Copy)]
 pub(crate) struct Ways {
     pub join: Option<Hypothesis>,
     pub begin: Option<(u8, Hypothesis)>,

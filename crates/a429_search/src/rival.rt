@@ -28,7 +28,7 @@ pub struct Rival {
 }
 
 // An attempt, and the entry of its request, where there is one.
-#[derive(Debug, Drop)]
+#[derive(Drop)]
 struct Asked {
     request: Option<usize>,
     count: u8,

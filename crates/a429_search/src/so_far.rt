@@ -14,7 +14,7 @@ use std::alloc::{AllocError, Global};
 use std::marker::Model;
 
 /// A link data unit, by what was recorded of it.
-#[derive(Clone, Copy, Debug)]
+#[derive(Clone, Copy)]
 pub(crate) struct UnitKept {
     /// The number in its start word.
     pub number: UnitNumber,
@@ -28,7 +28,7 @@ pub(crate) struct UnitKept {
 
 /// The attempt that is under way, and the link data unit whose start word came last, unless another number was acknowledged
 /// since.
-#[derive(Debug, Drop)]
+#[derive(Drop)]
 pub(crate) struct SoFar {
     // How many words the request of the attempt asks for.
     count: u8,

@@ -14,7 +14,7 @@ use std::collections::VecDeque;
 use std::mem;
 
 /// A group after which another one begins, or whose acknowledgement the source has heard.
-#[derive(Debug, Drop)]
+#[derive(Drop)]
 pub(crate) struct Closed {
     /// The group closed before it, by its place in the trail.
     pub before: Option<usize>,
@@ -42,7 +42,7 @@ pub(crate) struct Trail<'a> {
 }
 
 /// What the source does before each group, and the entries of the acknowledgements that it hears, last first.
-#[derive(Debug, Drop)]
+#[derive(Drop)]
 pub(crate) struct Course {
     pub plans: VecDeque<Plan>,
     pub heard: Vec<usize>,

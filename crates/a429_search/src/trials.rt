@@ -22,7 +22,7 @@ const MOST_KEPT: usize = 16;
 const MOST_MERGED: usize = 253;
 
 /// A request, and the start, data and end words that were recorded since its clear answer.
-#[derive(Debug, Drop)]
+#[derive(Drop)]
 pub(crate) struct Trial {
     // How many words it asks for.
     count: u8,

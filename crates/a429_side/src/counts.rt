@@ -42,7 +42,7 @@ impl DestinationCount {
 
 /// What became of the entries of a recording: how many they are, how many are written, are of the other direction, are of none, and are
 /// clear answers whose destination code was changed; and of each destination code, how many words are left out.
-#[derive(Debug, Drop)]
+#[derive(Drop)]
 pub struct Counts {
     pub(crate) entries: usize,
     pub(crate) kept: usize,

@@ -65,14 +65,14 @@ impl FileUnits {
 }
 
 /// How many acknowledged units there were at some place in a recording.
-#[derive(Clone, Copy, Debug, PartialEq, Eq)]
+#[derive(Clone, Copy)]
 pub(crate) struct UnitsMark {
     earlier: usize,
     newest: Option<FileUnits>,
 }
 
 /// The acknowledged units so far, of files of which not all are there, and the units acknowledged last.
-#[derive(Debug, Drop)]
+#[derive(Drop)]
 pub(crate) struct OpenUnits {
     earlier: Vec<FileUnits>,
     newest: Option<FileUnits>,

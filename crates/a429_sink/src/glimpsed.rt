@@ -18,7 +18,7 @@ use a429_word::{Bus, Word};
 use std::alloc::{AllocError, Global};
 
 /// A link data unit that is accepted, and did not come before.
-#[derive(Debug, Drop)]
+#[derive(Drop)]
 pub(crate) struct Accepted {
     pub(crate) unit: Latest,
     /// The file that crosses by it, if all its bytes are known.
@@ -26,7 +26,7 @@ pub(crate) struct Accepted {
 }
 
 // How the bytes of a link data unit that is accepted come to those of its file.
-#[derive(Clone, Copy, Debug, PartialEq, Eq)]
+#[derive(Clone, Copy)]
 pub(crate) enum UnitStep {
     /// It comes again.
     Again,
@@ -49,7 +49,7 @@ impl UnitStep {
 
 /// The sink of a recording of which it is not known what came before: its phase is known from the first request or clear answer on, the
 /// link data unit accepted last from the first acknowledgement on, and the bytes of a file from its first unit on.
-#[derive(Debug, Drop)]
+#[derive(Drop)]
 pub(crate) struct GlimpsedSink {
     // What it accepted last is only assumed: `last` says what is known of it.
     implied: ImpliedSink,

@@ -17,7 +17,7 @@ use std::alloc::{AllocError, Global};
 /// What the words of a recording say so far, of which it is not known what came before: whether some run may record them, which files
 /// have crossed by their end, here or before, and which units of other files are acknowledged. It keeps the bytes of the file that is
 /// not whole, and of files of which not all units are there 8 bytes each.
-#[derive(Debug, Drop)]
+#[derive(Drop)]
 pub(crate) struct GlimpsedTrace {
     sink: GlimpsedSink,
     units: OpenUnits,

@@ -17,7 +17,7 @@ use std::alloc::Global;
 use std::io::Read;
 
 /// What a recording says of its sink, whatever its source and the line did.
-#[derive(Debug, Drop)]
+#[derive(Drop)]
 pub enum SinkVerdict {
     /// A sink that keeps the rules may have recorded it, and these files cross, in order.
     Yes(Vec<Crossing>),

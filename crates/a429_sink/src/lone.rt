@@ -22,7 +22,7 @@ use std::marker::Model;
 
 /// A sink by itself, which takes each word when it is recorded, whatever its source sends. It keeps the bytes of the file that is not
 /// whole, and a block with no more data words than were asked for: one with more is not good, whatever comes.
-#[derive(Debug, Drop)]
+#[derive(Drop)]
 pub struct LoneSink {
     implied: ImpliedSink,
     count: u8,

@@ -38,7 +38,7 @@ pub enum LoneStop {
 }
 
 // The last request of a recording, and what the sink owed when it came.
-#[derive(Clone, Copy, Debug, PartialEq, Eq)]
+#[derive(Clone, Copy)]
 pub(crate) struct Request {
     entry: usize,
     owed: Owed,
@@ -46,7 +46,7 @@ pub(crate) struct Request {
 
 /// What the entries of a recording so far say of its sink by itself, whatever its source sends. Of each file that has crossed it keeps
 /// the number and the length, 16 bytes; of the one that is not whole, its bytes.
-#[derive(Debug, Drop)]
+#[derive(Drop)]
 pub struct LoneTrace {
     sink: LoneSink,
     files: Vec<Crossing>,

@@ -16,7 +16,7 @@ use a429_profile::Profile;
 use std::alloc::{AllocError, Global};
 
 /// How many entries, and how many sure files.
-#[derive(Clone, Copy, Debug, PartialEq, Eq)]
+#[derive(Clone, Copy)]
 pub(crate) struct Settled {
     pub(crate) entries: usize,
     pub(crate) files: usize,
@@ -24,7 +24,7 @@ pub(crate) struct Settled {
 
 /// What the words of a piece say so far: which files are sure, where it stops, and where it may end. It ends at the last request with
 /// which a file begins, at or before the word at which it stops; if there is none so early, at the next one. It keeps no words.
-#[derive(Debug, Drop)]
+#[derive(Drop)]
 pub(crate) struct PieceTrace {
     trace: StoppingTrace,
     requests: Requests,

@@ -30,7 +30,7 @@ pub trait Pieces: Failing {
 }
 
 /// A piece that was put.
-#[derive(Debug, Drop)]
+#[derive(Drop)]
 pub struct Piece {
     pub entries: Vec<Entry>,
     /// The files that are sure of it, in order.
@@ -38,7 +38,7 @@ pub struct Piece {
 }
 
 /// Keeps pieces in memory, and makes them known.
-#[derive(Debug, Drop)]
+#[derive(Drop)]
 pub struct MemoryPieces {
     alloc: Global,
     pieces: Vec<Piece>,

@@ -9,7 +9,7 @@ use a429_profile::Profile;
 use a429_word::Bus;
 
 /// What the words after a request say of it.
-#[derive(Clone, Copy, Debug, PartialEq, Eq)]
+#[derive(Clone, Copy)]
 pub(crate) enum Start {
     /// No start word has come, nor a later request that counts in its place.
     Open,
@@ -48,7 +48,7 @@ impl Start {
 }
 
 /// What is said of the first words of a piece, where it may end after them.
-#[derive(Clone, Copy, Debug, PartialEq, Eq)]
+#[derive(Clone, Copy)]
 pub(crate) struct Mark {
     /// How many words they are.
     pub(crate) place: usize,
@@ -60,7 +60,7 @@ pub(crate) struct Mark {
 }
 
 /// The requests of a piece so far.
-#[derive(Clone, Copy, Debug, PartialEq, Eq)]
+#[derive(Clone, Copy)]
 pub(crate) struct Requests {
     // What the first start word after the first one says.
     first: Option<Start>,

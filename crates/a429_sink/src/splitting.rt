@@ -62,7 +62,7 @@ pub fn put_pieces<R: Read, P: Pieces>(
 }
 
 /// A recording that is being put in pieces.
-#[derive(Debug, Drop)]
+#[derive(Drop)]
 pub(crate) struct Splitting {
     // What the entries of the piece under way say.
     piece: PieceTrace,

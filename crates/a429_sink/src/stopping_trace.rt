@@ -12,7 +12,7 @@ use a429_profile::Profile;
 use std::alloc::{AllocError, Global};
 
 /// A word that no run records after those of its piece before it, whatever came before these.
-#[derive(Clone, Copy, Debug, PartialEq, Eq)]
+#[derive(Clone, Copy)]
 pub(crate) struct Stop {
     /// Its place in the piece, from 0.
     pub(crate) place: usize,
@@ -20,7 +20,7 @@ pub(crate) struct Stop {
 }
 
 /// What the words of a piece say so far, up to the one at which it stops.
-#[derive(Debug, Drop)]
+#[derive(Drop)]
 pub(crate) struct StoppingTrace {
     pub(crate) trace: GlimpsedTrace,
     /// How many words the piece has.

@@ -21,7 +21,7 @@ pub struct Stopped {
 }
 
 /// What is said of a piece of a recording.
-#[derive(Debug, Drop)]
+#[derive(Drop)]
 pub struct PieceSummary {
     /// The number of its first entry in the recording, from 0.
     pub from: usize,
@@ -38,7 +38,7 @@ pub struct PieceSummary {
 }
 
 /// What is said of a piece at its end, besides its files.
-#[derive(Debug, Drop)]
+#[derive(Drop)]
 pub(crate) struct PieceEnd {
     pub(crate) entries: usize,
     pub(crate) begun_before: bool,
@@ -47,7 +47,7 @@ pub(crate) struct PieceEnd {
 }
 
 /// What is said of the pieces that have ended, and of the files of the one under way.
-#[derive(Debug, Drop)]
+#[derive(Drop)]
 pub(crate) struct Summaries {
     told: Vec<PieceSummary>,
     // How many entries the pieces that have ended have.

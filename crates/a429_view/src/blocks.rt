@@ -31,7 +31,7 @@ use std::io::Write;
 
 /// The attempts of a recording whose entries come one by one: what they imply of the sink, and the row of the attempt that is
 /// under way. Of the files it keeps the bytes of the one that is not whole.
-#[derive(Debug, Drop)]
+#[derive(Drop)]
 pub struct Blocks {
     sink: ImpliedSink,
     entries: usize,

@@ -16,7 +16,7 @@ const ROOM: usize = 192;
 const SHORT: usize = 24;
 
 /// The first `len` bytes.
-#[derive(Debug, Drop)]
+#[derive(Drop)]
 pub(crate) struct Line {
     bytes: [u8; ROOM],
     len: usize,

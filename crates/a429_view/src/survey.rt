@@ -16,7 +16,7 @@ use a429_word::Bus;
 
 /// What a recording has: how many entries, from when to when, and what each bus has. Its size does not
 /// depend on how many entries there are.
-#[derive(Debug, Drop)]
+#[derive(Drop)]
 pub struct Survey {
     pub(crate) entries: usize,
     pub(crate) first: u64,

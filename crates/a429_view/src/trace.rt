@@ -37,7 +37,7 @@ pub enum TraceStop {
 
 /// What the entries of a recording so far imply of its sink, whatever its source did. Of each file that has crossed it
 /// keeps the number and the length, 16 bytes; of the one that is not whole, its bytes.
-#[derive(Debug, Drop)]
+#[derive(Drop)]
 pub struct Trace {
     sink: ImpliedSink,
     files: Vec<Crossing>,

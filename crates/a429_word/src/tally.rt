@@ -27,7 +27,7 @@ pub trait Failing {
 /// some bytes took none of them, or a read was asked for after `cap` bytes had been read.
 /// Once failed it stays so: every later call returns an error that is not `Interrupted`, and the
 /// inner one is not called again.
-#[derive(Debug, Drop)]
+#[derive(Drop)]
 pub struct Tally<T> {
     inner: T,
     left: u64,

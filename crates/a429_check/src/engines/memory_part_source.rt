@@ -17,7 +17,7 @@ pub struct PartBytes<'a> {
 }
 
 /// Parts in memory. Contracts know each of them, and so which answer `run_series` gives.
-#[derive(Debug, Drop)]
+#[derive(Drop)]
 pub struct MemoryPartSource<'a> {
     alloc: Global,
     parts: &'a [PartBytes<'a>],

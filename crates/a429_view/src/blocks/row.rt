@@ -9,7 +9,7 @@ use a429_ldu::Form;
 use a429_link::{Doing, UnitNumber, Why};
 
 /// An answer of the sink in an attempt (ARINC 429 Part 3).
-#[derive(Clone, Copy, Debug, PartialEq, Eq)]
+#[derive(Clone, Copy)]
 pub enum Answer {
     /// The clear answer.
     Clear,
@@ -22,7 +22,7 @@ pub enum Answer {
 }
 
 /// What is known of an attempt: a request, with what was recorded after it.
-#[derive(Clone, Copy, Debug, PartialEq, Eq)]
+#[derive(Clone, Copy)]
 pub struct AttemptRow {
     /// The request.
     pub first: Moment,

@@ -12,7 +12,7 @@ use a429_record::Entry;
 pub(crate) const LABEL_COUNT: usize = 256;
 
 /// How many entries have words of a kind, and which is the first.
-#[derive(Clone, Copy, Debug, PartialEq, Eq)]
+#[derive(Clone, Copy)]
 pub(crate) struct Hits {
     pub count: usize,
     pub first: usize,
@@ -34,7 +34,7 @@ impl Hits {
 }
 
 /// How many entries have words with a label, and how many of these words have even parity.
-#[derive(Clone, Copy, Debug, PartialEq, Eq)]
+#[derive(Clone, Copy)]
 pub(crate) struct LabelCount {
     pub count: usize,
     pub even: usize,
@@ -60,7 +60,7 @@ impl LabelCount {
 }
 
 /// What a bus has: how many entries, each kind by its place, and each label.
-#[derive(Debug, Drop)]
+#[derive(Drop)]
 pub(crate) struct BusCount {
     pub entries: usize,
     pub kinds: [Hits; KIND_COUNT],

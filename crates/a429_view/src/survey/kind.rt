@@ -11,7 +11,7 @@ use a429_profile::Profile;
 use a429_record::Entry;
 
 /// The kinds of words that a survey counts (ARINC 429 Part 3; why a word is free: profile).
-#[derive(Clone, Copy, Debug, PartialEq, Eq)]
+#[derive(Clone, Copy)]
 pub enum WordKind {
     Rts,
     Cts,

@@ -9,7 +9,7 @@ use crate::forms::{add_named, add_unit};
 use crate::line::Line;
 
 /// The text of a block that the sink is in, ready but for the data words that it has taken.
-#[derive(Debug, Drop)]
+#[derive(Drop)]
 pub(crate) struct InBlockText {
     file: u8,
     ldu: u8,

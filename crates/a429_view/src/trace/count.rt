@@ -8,7 +8,7 @@ use std::marker::Model;
 
 /// How many entries there are so far, which is the number of the next. Its digits are kept, so that the next number
 /// differs from it in the last digit alone, mostly.
-#[derive(Debug, Drop)]
+#[derive(Drop)]
 pub(crate) struct EntryCount {
     count: usize,
     digits: Line,

@@ -12,7 +12,7 @@ use a429_profile::Profile;
 use a429_record::Entry;
 
 /// How often it happened since a unit was loaded.
-#[derive(Clone, Copy, Debug, PartialEq, Eq)]
+#[derive(Clone, Copy)]
 pub struct UnitCounts {
     /// A request was recorded.
     pub requests: u64,

@@ -14,7 +14,7 @@ use a429_profile::Profile;
 use a429_record::Entry;
 
 /// What is known of a link data unit that was loaded, and of the steps since then.
-#[derive(Clone, Copy, Debug, PartialEq, Eq)]
+#[derive(Clone, Copy)]
 pub struct UnitRow {
     pub number: UnitNumber,
     pub size: UnitSize,

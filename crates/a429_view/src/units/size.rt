@@ -9,7 +9,7 @@ use a429_link::is_final;
 use a429_profile::Profile;
 
 /// How long a link data unit is, and whether it ends its file (ARINC 429 Part 3).
-#[derive(Clone, Copy, Debug, PartialEq, Eq)]
+#[derive(Clone, Copy)]
 pub struct UnitSize {
     /// How many words its block has, the start word and the end word among them.
     pub words: u8,

@@ -12,7 +12,7 @@ use a429_profile::Profile;
 use a429_record::Entry;
 
 /// A recorded word: its entry, counted from 0, and its time in microseconds.
-#[derive(Clone, Copy, Debug, PartialEq, Eq)]
+#[derive(Clone, Copy)]
 pub struct Moment {
     pub entry: usize,
     pub time: u64,
@@ -20,7 +20,7 @@ pub struct Moment {
 
 /// The first and the last word of the transfer that were recorded since a unit was loaded, and whether its
 /// acknowledgement was.
-#[derive(Clone, Copy, Debug, PartialEq, Eq)]
+#[derive(Clone, Copy)]
 pub struct UnitSpan {
     pub first: Option<Moment>,
     pub last: Option<Moment>,
