@@ -10,8 +10,8 @@ from pathlib import Path
 
 from wrongbodies.functions import files_below, functions_in, homes_of, sources_of, text_of, with_double, without_bodies
 
-# The answer to the goal of a body that is taken out; it does not prove it.
-NO_PROOF = "pub unreachable-requires : Unit {0}\nunreachable-requires = tt\n"
+# The answer to the goal of a body that is taken out. It names what is not there: an answer of another type would be held against the goal first.
+NO_PROOF = "pub unreachable-requires : no_such_goal\nunreachable-requires = no_such_goal\n"
 # How an error reads where a proof names something that an edit took away, or that was rejected itself.
 GONE = re.compile(r"has no field|is not in scope|has no `|was not admitted|is no name|declarations? that depends? on")
 
