@@ -7,7 +7,7 @@ use a429_link::{Seen, Step};
 
 /// A step of the source, of the sink or of the buses between them (profile). A certificate writes it
 /// as one letter.
-#[derive(Clone, Copy, Debug, PartialEq, Eq)]
+#[derive(Clone, Copy, Debug)]
 pub enum Act {
     /// `a`: a word of the source is recorded and on its way.
     Sent,

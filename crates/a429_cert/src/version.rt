@@ -8,7 +8,7 @@ use crate::lines::TextLine;
 
 /// The version of a certificate, which its first line names (profile). Version 2 has one more step: that the
 /// source gives its file up.
-#[derive(Clone, Copy, Debug, PartialEq, Eq)]
+#[derive(Clone, Copy, Debug)]
 pub enum Version {
     One,
     Two,

@@ -17,7 +17,7 @@ pub struct StartNumbers {
 }
 
 /// What a recorded word is to the steps of a guess.
-#[derive(Clone, Copy, Debug, PartialEq, Eq)]
+#[derive(Clone, Copy, Debug)]
 pub enum Role {
     /// The transfer passes over it.
     Free,

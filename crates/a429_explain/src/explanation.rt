@@ -26,7 +26,7 @@ pub struct Explanation {
 }
 
 /// Why no certificate is written for a guess.
-#[derive(Clone, Copy, Debug, PartialEq, Eq)]
+#[derive(Clone, Copy, Debug)]
 pub enum Refusal {
     /// The guessed steps record the entries before this one, counted from 0, and those of this one cannot be made.
     NotReplayed { entry: usize },

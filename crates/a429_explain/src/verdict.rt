@@ -25,7 +25,7 @@ pub enum Verdict {
 }
 
 /// Why no run records a word after those before it (docs/CHECKER.md, Impossible).
-#[derive(Clone, Copy, Debug, PartialEq, Eq)]
+#[derive(Clone, Copy, Debug)]
 pub enum Reason {
     /// It has the label of the transfer and no form.
     NoForm,
@@ -48,7 +48,7 @@ pub enum Reason {
 
 /// Why a recording is neither explained nor impossible: what the rule of `check` was missing (docs/CHECKER.md, Attempts
 /// and groups).
-#[derive(Clone, Copy, Debug, PartialEq, Eq)]
+#[derive(Clone, Copy, Debug)]
 pub enum Doubt {
     /// The link data unit of this request was never recorded whole, although an end word was; or no filler words make
     /// its semi-octets whole bytes.

@@ -4,7 +4,7 @@ ghost use Rattle.std.specs.Prelude.{◌≡◌, ◌<◌, ◌^◌};
 ghost use Rattle.a429_import.specs.Bits.{AreInWord, placed};
 
 /// Bits of a word that are side by side (ARINC 429 Part 1; which of them an export has: profile).
-#[derive(Clone, Copy, Debug, PartialEq, Eq)]
+#[derive(Clone, Copy, Debug)]
 pub struct Bits {
     /// The lowest, 1 to 32.
     pub low: u8,

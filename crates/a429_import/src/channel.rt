@@ -23,7 +23,7 @@ pub struct Channels {
 }
 
 /// What a channel is to a recording.
-#[derive(Clone, Copy, Debug, PartialEq, Eq)]
+#[derive(Clone, Copy, Debug)]
 pub enum Channel {
     /// It is this line.
     Line(Bus),

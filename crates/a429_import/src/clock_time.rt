@@ -12,7 +12,7 @@ use crate::time::{Reading, Unit, are_digits, number_after, time_with_part, whole
 use jiff_core::civil::{Date, days_in_month};
 
 /// How a clock's time is written (profile).
-#[derive(Clone, Copy, Debug, PartialEq, Eq)]
+#[derive(Clone, Copy, Debug)]
 pub struct ClockForm {
     /// What is before the time of day.
     pub date: DateForm,
@@ -23,7 +23,7 @@ pub struct ClockForm {
 }
 
 /// What is before a time of day (profile).
-#[derive(Clone, Copy, Debug, PartialEq, Eq)]
+#[derive(Clone, Copy, Debug)]
 pub enum DateForm {
     /// Nothing.
     None,
@@ -34,7 +34,7 @@ pub enum DateForm {
 }
 
 /// The order of a date's numbers (profile).
-#[derive(Clone, Copy, Debug, PartialEq, Eq)]
+#[derive(Clone, Copy, Debug)]
 pub enum DateOrder {
     MonthDayYear,
     DayMonthYear,

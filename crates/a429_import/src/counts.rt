@@ -14,7 +14,7 @@ use std::io::Write;
 
 /// What became of the lines of an export. Each line is an entry, or counted as skipped, empty, a comment, up to the header, a row
 /// that was passed over, one of a channel that was, or an entry that was left out.
-#[derive(Clone, Copy, Debug, PartialEq, Eq)]
+#[derive(Clone, Copy, Debug)]
 pub struct Counts {
     pub lines: u64,
     pub entries: u64,

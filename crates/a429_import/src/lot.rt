@@ -5,7 +5,7 @@ use crate::parity::Verdict;
 use a429_record::Entry;
 
 /// What becomes of a line of an export (profile).
-#[derive(Clone, Copy, Debug, PartialEq, Eq)]
+#[derive(Clone, Copy, Debug)]
 pub enum Lot {
     /// It is one of the first lines, which are passed over.
     Skipped,

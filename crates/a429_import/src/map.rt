@@ -26,7 +26,7 @@ use std::alloc::Global;
 use toml::Table;
 
 /// What is between the fields of a row (profile).
-#[derive(Clone, Copy, Debug, PartialEq, Eq)]
+#[derive(Clone, Copy, Debug)]
 pub enum Separator {
     /// This byte of ASCII.
     Byte(u8),

@@ -4,7 +4,7 @@ ghost use Rattle.std.specs.Prelude.{◌≡◌, ◌<◌, ◌≤◌, ◌^◌, IfSo
 ghost use Rattle.a429_import.specs.Order.{clock_after, has_wrapped_at, in_64_bits, is_late, meant, moved, settled};
 
 /// How the times of an export are put in order (profile).
-#[derive(Clone, Copy, Debug, PartialEq, Eq)]
+#[derive(Clone, Copy, Debug)]
 pub struct OrderRule {
     /// After how many microseconds the clock begins at 0 again; 0: never.
     pub wraps_at: u64,
@@ -26,7 +26,7 @@ pub(crate) struct Clock {
 }
 
 /// What is done to a time that is below the latest one, and by how many microseconds it is.
-#[derive(Clone, Copy, Debug, PartialEq, Eq)]
+#[derive(Clone, Copy, Debug)]
 pub enum Fall {
     /// It is not below.
     None,
@@ -37,7 +37,7 @@ pub enum Fall {
 }
 
 /// What is done to the time of an entry.
-#[derive(Clone, Copy, Debug, PartialEq, Eq)]
+#[derive(Clone, Copy, Debug)]
 pub struct Mend {
     /// Whether the clock begins again at it.
     pub wraps: bool,

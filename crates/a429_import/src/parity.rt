@@ -31,7 +31,7 @@ pub struct Status {
 }
 
 /// What an export says of the parity of a word.
-#[derive(Clone, Copy, Debug, PartialEq, Eq)]
+#[derive(Clone, Copy, Debug)]
 pub enum Verdict {
     /// Bit 32 is the one that was received.
     Received,

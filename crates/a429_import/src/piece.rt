@@ -5,7 +5,7 @@ ghost use Rattle.std.specs.List.{position};
 ghost use Rattle.a429_import.specs.Piece.{piece_at, cut_out, without_prefix, IsPieceCounted};
 
 /// A piece of a field (profile): the field is cut at each byte `at`.
-#[derive(Clone, Copy, Debug, PartialEq, Eq)]
+#[derive(Clone, Copy, Debug)]
 pub struct Piece {
     /// The byte at which the field is cut.
     pub at: u8,

@@ -12,7 +12,7 @@ use std::alloc::AllocError;
 use std::io::Write;
 
 /// A place in an export at which its clock jumps.
-#[derive(Clone, Copy, Debug, PartialEq, Eq)]
+#[derive(Clone, Copy, Debug)]
 pub struct Place {
     /// How many entries come before.
     pub entry: u64,
@@ -22,7 +22,7 @@ pub struct Place {
 }
 
 /// What the clock does at it.
-#[derive(Clone, Copy, Debug, PartialEq, Eq)]
+#[derive(Clone, Copy, Debug)]
 pub enum Jump {
     /// It begins again.
     Wrap,

@@ -13,7 +13,7 @@ use std::collections::{BTreeMap, VecDeque};
 use std::marker::Model;
 
 /// Which entries are left out because one of those before them is the same (profile).
-#[derive(Clone, Copy, Debug, PartialEq, Eq)]
+#[derive(Clone, Copy, Debug)]
 pub struct RepeatRule {
     /// By how many microseconds their times may differ.
     pub within: u32,

@@ -12,7 +12,7 @@ use crate::clock_time::ClockForm;
 use crate::piece::end_of;
 
 /// What a number of an export's time counts (profile).
-#[derive(Clone, Copy, Debug, PartialEq, Eq)]
+#[derive(Clone, Copy, Debug)]
 pub enum Unit {
     Second,
     Millisecond,
@@ -21,7 +21,7 @@ pub enum Unit {
 }
 
 /// How an export's time is written (profile).
-#[derive(Clone, Copy, Debug, PartialEq, Eq)]
+#[derive(Clone, Copy, Debug)]
 pub enum TimeForm {
     /// Digits alone.
     Integer,
@@ -32,7 +32,7 @@ pub enum TimeForm {
 }
 
 /// A time as it was read.
-#[derive(Clone, Copy, Debug, PartialEq, Eq)]
+#[derive(Clone, Copy, Debug)]
 pub struct Reading {
     /// In microseconds, rounded down.
     pub micros: u128,

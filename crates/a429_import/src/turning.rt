@@ -6,7 +6,7 @@ ghost use Rattle.a429_import.specs.Turning.{bytes_turned, label_turned, turned};
 use a429_word::Word;
 
 /// What is the other way round in an export (profile).
-#[derive(Clone, Copy, Debug, PartialEq, Eq)]
+#[derive(Clone, Copy, Debug)]
 pub struct Turning {
     /// The four bytes of a word.
     pub bytes: bool,

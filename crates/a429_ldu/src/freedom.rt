@@ -11,7 +11,7 @@ use a429_profile::Profile;
 use a429_word::{Bus, Word};
 
 /// Why the transfer passes over a word (profile), in the order in which it is tested.
-#[derive(Clone, Copy, Debug, PartialEq, Eq)]
+#[derive(Clone, Copy, Debug)]
 pub enum Freedom {
     /// Its parity is even: it is damaged.
     BadParity,

@@ -3,7 +3,7 @@
 use a429_word::Word;
 
 /// The next word of a source's block, and its place there, counted from 0.
-#[derive(Clone, Copy, Debug, PartialEq, Eq)]
+#[derive(Clone, Copy, Debug)]
 pub struct NextWord {
     pub place: u8,
     pub word: Word,

@@ -3,14 +3,14 @@
 use crate::why::Why;
 
 /// A file that is whole: its number, 0 to 255, and how many bytes it has.
-#[derive(Clone, Copy, Debug, PartialEq, Eq)]
+#[derive(Clone, Copy, Debug)]
 pub struct Crossing {
     pub number: u8,
     pub bytes: usize,
 }
 
 /// What the sink of a file is doing after a word (ARINC 429 Part 3).
-#[derive(Clone, Copy, Debug, PartialEq, Eq)]
+#[derive(Clone, Copy, Debug)]
 pub enum Doing {
     /// It waits for a request.
     Quiet,

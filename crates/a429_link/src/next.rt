@@ -2,7 +2,7 @@
 
 /// What a recording may go on with, free words aside, which may always come: a request always, and what its sink waits for or
 /// owes.
-#[derive(Clone, Copy, Debug, PartialEq, Eq)]
+#[derive(Clone, Copy, Debug)]
 pub enum Next {
     /// A request, and nothing else.
     Request,

@@ -2,7 +2,7 @@
 
 /// Why a sink answers a block with a negative answer: the first of these that holds (ARINC 429 Part 3; which blocks are in
 /// sequence: profile).
-#[derive(Clone, Copy, Debug, PartialEq, Eq)]
+#[derive(Clone, Copy, Debug)]
 pub enum Why {
     /// No start word was taken.
     NoStart,

@@ -19,7 +19,7 @@ use std::marker::Model;
 const SPARE_BYTES: usize = 8;
 
 /// Why a recording has no more parts.
-#[derive(Clone, Copy, Debug, PartialEq, Eq)]
+#[derive(Clone, Copy, Debug)]
 pub enum PartFault {
     /// There is no place to cut that is near enough, or as many entries have come as a `usize` counts.
     TooMany,

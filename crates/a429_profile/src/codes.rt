@@ -50,7 +50,7 @@ pub struct Codes {
 
 /// How the check word of a link data unit is made: a cyclic redundancy check of 16 bits (ARINC 429 Part 3; the numbers are
 /// the bench's own: profile).
-#[derive(Clone, Copy, Debug, PartialEq, Eq)]
+#[derive(Clone, Copy, Debug)]
 pub struct Check {
     /// The polynomial without its highest term.
     pub poly: u16,

@@ -11,7 +11,7 @@ use crate::profile::Profile;
 use a429_word::{BadDigit, Fixed, Word};
 
 /// Why a good word shows no value (ARINC 429 Part 1).
-#[derive(Clone, Copy, Debug, PartialEq, Eq)]
+#[derive(Clone, Copy, Debug)]
 pub enum Status {
     /// No computed data.
     NoData,

@@ -26,7 +26,7 @@ use a429_word::{Bus, Word};
 use std::alloc::{AllocError, Global};
 
 /// What a word is held against that no run records after those before it. Entries are counted from 0.
-#[derive(Clone, Copy, Debug, PartialEq, Eq)]
+#[derive(Clone, Copy, Debug)]
 pub enum Against {
     /// `NoForm`, `NotGranted` and `WrongAnswer`: these may come in its place.
     Allowed(Next),

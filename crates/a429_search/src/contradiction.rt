@@ -26,7 +26,7 @@ use a429_word::Bus;
 use std::alloc::{AllocError, Global};
 
 /// A word that contradicts those before it.
-#[derive(Clone, Copy, Debug, PartialEq, Eq)]
+#[derive(Clone, Copy, Debug)]
 pub struct Contradiction {
     /// Its entry, counted from 0.
     pub entry: usize,

@@ -20,7 +20,7 @@ const MOST_MERGED: usize = 253;
 
 /// Another attempt to send the same link data unit: the entry of its request, how many words it asks for, and how many the last
 /// attempt asks for.
-#[derive(Clone, Copy, Debug, PartialEq, Eq)]
+#[derive(Clone, Copy, Debug)]
 pub struct Rival {
     pub request: usize,
     pub before: u8,

@@ -15,7 +15,7 @@ use std::io::Write;
 const CODE_COUNT: usize = 256;
 
 /// How many words of a destination are left out, and how many of these are requests.
-#[derive(Clone, Copy, Debug, PartialEq, Eq)]
+#[derive(Clone, Copy, Debug)]
 pub struct DestinationCount {
     pub words: usize,
     pub requests: usize,

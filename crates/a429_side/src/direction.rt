@@ -13,7 +13,7 @@ use a429_word::{Bus, Word};
 /// The direction that a recorded word belongs to, where two units send each other files on one pair of lines. A word has the label of the
 /// unit that it goes to (ARINC 429 Part 3), so words of both directions have one label on one line; their types and codes say which
 /// they are (profile).
-#[derive(Clone, Copy, Debug, PartialEq, Eq)]
+#[derive(Clone, Copy, Debug)]
 pub enum Direction {
     /// That of the profile, whose files travel on line A: a request, start word, data word or end word on line A, or an answer on line B.
     This,

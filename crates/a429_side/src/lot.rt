@@ -17,7 +17,7 @@ use a429_record::Entry;
 use a429_word::{Bus, Word};
 
 /// Which words of a recording with two directions are wanted, besides the profile of their direction.
-#[derive(Clone, Copy, Debug, PartialEq, Eq)]
+#[derive(Clone, Copy, Debug)]
 pub struct Side {
     /// The line on which the files of the direction travel.
     pub line: Bus,
@@ -26,7 +26,7 @@ pub struct Side {
 }
 
 /// What becomes of an entry.
-#[derive(Clone, Copy, Debug, PartialEq, Eq)]
+#[derive(Clone, Copy, Debug)]
 pub enum Lot {
     /// It is written: it is free, or of this direction and of the profile's destination.
     Kept,

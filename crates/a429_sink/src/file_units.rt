@@ -13,7 +13,7 @@ use a429_profile::Profile;
 use std::alloc::{AllocError, Global};
 
 /// Link data units of one file that are acknowledged one after the other.
-#[derive(Clone, Copy, Debug, PartialEq, Eq)]
+#[derive(Clone, Copy, Debug)]
 pub struct FileUnits {
     pub file: u8,
     /// The number of the first of them in its file, and that of the last.

@@ -19,7 +19,7 @@ use a429_word::{Bus, Word};
 use std::alloc::{AllocError, Global};
 
 /// The first entry of a recording that no sink sends which keeps the rules.
-#[derive(Clone, Copy, Debug, PartialEq, Eq)]
+#[derive(Clone, Copy, Debug)]
 pub struct Refusal {
     /// Its number, from 0.
     pub entry: usize,
@@ -30,7 +30,7 @@ pub struct Refusal {
 }
 
 /// Why a recording does not go on.
-#[derive(Clone, Copy, Debug, PartialEq, Eq)]
+#[derive(Clone, Copy, Debug)]
 pub enum LoneStop {
     /// No sink that keeps the rules sends this word after those before it.
     Refused(Refusal),

@@ -6,7 +6,7 @@ ghost use Rattle.a429_sink.specs.Owed.{IsOwed};
 use a429_ldu::Form;
 
 /// The answer that a sink owes (ARINC 429 Part 3).
-#[derive(Clone, Copy, Debug, PartialEq, Eq)]
+#[derive(Clone, Copy, Debug)]
 pub enum Owed {
     /// None.
     Nothing,

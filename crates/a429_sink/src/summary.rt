@@ -13,7 +13,7 @@ use std::alloc::{AllocError, Global};
 use std::mem;
 
 /// The entry of a recording at which a piece stops: no run records it after those of the piece before it, whatever came before these.
-#[derive(Clone, Copy, Debug, PartialEq, Eq)]
+#[derive(Clone, Copy, Debug)]
 pub struct Stopped {
     /// Its number in the recording, from 0.
     pub entry: usize,

@@ -6,14 +6,14 @@ use a429_record::Entry;
 
 /// Which steps a picture shows: those at which one of the entries `from` to `to` comes next, counted from 0
 /// (profile).
-#[derive(Clone, Copy, Debug, PartialEq, Eq)]
+#[derive(Clone, Copy, Debug)]
 pub struct Span {
     pub from: usize,
     pub to: usize,
 }
 
 /// A step that records an entry.
-#[derive(Clone, Copy, Debug, PartialEq, Eq)]
+#[derive(Clone, Copy, Debug)]
 pub struct Recorded {
     /// `Sent`, `Answered` or `FreeSeen`.
     pub act: Act,
@@ -25,7 +25,7 @@ pub struct Recorded {
 }
 
 /// A row of a picture, which is for a step.
-#[derive(Clone, Copy, Debug, PartialEq, Eq)]
+#[derive(Clone, Copy, Debug)]
 pub enum Mark {
     /// The link data unit of this number is loaded at the source.
     Load(UnitNumber),

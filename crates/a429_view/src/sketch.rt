@@ -18,7 +18,7 @@ use std::alloc::Global;
 pub const MOST_STEPS: usize = 2000;
 
 /// Where the steps are that were reported.
-#[derive(Clone, Copy, Debug, PartialEq, Eq)]
+#[derive(Clone, Copy, Debug)]
 pub struct Place {
     /// The number of the entry that comes next.
     pub next: u128,

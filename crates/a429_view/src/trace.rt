@@ -27,7 +27,7 @@ use std::alloc::{AllocError, Global};
 use std::io::Write;
 
 /// Why a trace does not go on.
-#[derive(Clone, Copy, Debug, PartialEq, Eq)]
+#[derive(Clone, Copy, Debug)]
 pub enum TraceStop {
     /// No run records this word after those before it.
     Refused(Sight),

@@ -1,7 +1,7 @@
 //! The rule by which a command finds the verdict on a recording.
 
 /// Which command asks for a verdict.
-#[derive(Clone, Copy, Debug, PartialEq, Eq)]
+#[derive(Clone, Copy, Debug)]
 pub enum Rule {
     /// `check`: the fixed rule alone.
     Check,
