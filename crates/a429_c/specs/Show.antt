@@ -5,7 +5,7 @@ use Rattle.a429_word.specs.Tally.{Puts}
 use Rattle.a429_profile.specs.Profile.{Contents}
 use Rattle.a429_record.specs.declared.entry.Entry.{Entry}
 use Rattle.a429_record.specs.Recording.{stands_for, whole}
-use Rattle.a429_shown.specs.Show.{AreShowLines}
+use Rattle.a429_view.specs.Show.{AreShowLines}
 use Rattle.a429_c.specs.Input.{IsProfileOf}
 
 -- the text is the lines of all entries of the recording that these bytes are, under a profile that was read

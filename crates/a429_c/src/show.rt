@@ -10,7 +10,7 @@ use crate::found::Found;
 use crate::input::{entries_of, profile_of};
 use a429_profile::Profile;
 use a429_record::Entry;
-use a429_shown::put_shown_lines;
+use a429_view::put_shown_lines;
 use a429_word::{Device, Page, Sheet, Tally};
 use std::alloc::Global;
 use std::io::Write;

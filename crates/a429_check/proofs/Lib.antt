@@ -1,5 +1,3 @@
-pub mod WordTexts
-pub mod LabelsFacts
 pub mod MakeTimed
 pub mod MakeCounted
 pub mod MakeWords

@@ -26,7 +26,8 @@ use Rattle.a429_view.proofs.UnitsTried.{Tried, part_both, rows_more, tried}
 use Rattle.a429_check.specs.declared.engines.verdict.Judged.{Judged}
 use Rattle.a429_check.specs.Ends.{Ends, answered, stopped, cut_off, refused}
 use Rattle.a429_check.specs.Output.{output}
-use Rattle.a429_check.specs.Verdict.{HasAnswer, HearsJudged, HearsUntil, Input, IsJudged, IsVerifyFault, TriesUntil, no_shelf, no_text, text_of_answer}
+use Rattle.a429_check.specs.Verdict.{HasAnswer, HearsJudged, HearsUntil, Input, IsJudged, IsVerifyFault, TriesUntil, no_shelf, text_of_answer}
+use Rattle.a429_view.specs.Verdict.{no_text}
 use Rattle.a429_check.specs.declared.fault.RunFault.{RunFault}
 use Rattle.a429_check.specs.declared.fault.RunFault.TheVariants as run
 use Rattle.a429_profile.specs.declared.fault.ProfileFault.{ProfileFault}

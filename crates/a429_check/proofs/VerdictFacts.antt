@@ -1,11 +1,7 @@
 -- What is answered of a certificate, and what a command reports where there is no verdict.
 use Rattle.std.proofs.Common.{◌≡◌, ◌⊎◌, ◌||◌, ◌∙◌, ◌++◌, inl, inr, ℕ, Bool, true, false, ◌≢◌, List, length, Vec, Global, Option, Some, None, Result, Ok, Err, IfOk, IfErr, refl, sym, ap, subst}
-use Rattle.std.specs.List.{flat_map}
 use Rattle.std.specs.Result.{OnOk}
-use Rattle.std.proofs.lemmas.List.{length-map}
-use Rattle.std.proofs.lemmas.List.Folds.{flat_map-map}
-use Rattle.a429_link.specs.declared.file.FileBytes.{FileBytes}
-use Rattle.a429_cert.specs.Stream.{OneFailed, sizes}
+use Rattle.a429_cert.specs.Stream.{OneFailed}
 use Rattle.a429_profile.specs.Profile.{Contents}
 use Rattle.a429_record.specs.declared.fault.ReadFault.TheVariants as read
 use Rattle.a429_cert.specs.declared.shelf.PutFile.{PutFile}
@@ -22,16 +18,11 @@ use Rattle.a429_check.specs.declared.engines.verdict.Judged.{Judged}
 use Rattle.a429_check.specs.declared.fault.RunFault.{RunFault}
 use Rattle.a429_check.specs.declared.fault.RunFault.TheVariants as run
 use Rattle.a429_check.specs.Profile.{IsProfileOf, IsProfileFault, profile_causes}
-use Rattle.a429_check.specs.Verdict.{HasAnswer, HearsAnswer, HearsUntil, Input, IsAnswerOf, IsAnswered, IsJudged, IsNoAnswer, IsVerdict, IsVerifyFault, Judges, Rejects, SaysAnswer, count_line, file_line, line_of_file, no, no_text, of_stream, of_verdict, status_of_answer, text_of_answer, verify_causes, yes, yes_text}
+use Rattle.a429_check.specs.Verdict.{HasAnswer, HearsAnswer, HearsUntil, Input, IsAnswerOf, IsAnswered, IsJudged, IsNoAnswer, IsVerdict, IsVerifyFault, Judges, Rejects, SaysAnswer, no, of_stream, of_verdict, status_of_answer, text_of_answer, verify_causes, yes}
+use Rattle.a429_view.specs.Verdict.{no_text}
 use Rattle.a429_cert.specs.Change.{change}
 use Rattle.a429_check.proofs.EndsFacts.{Bears}
 use Rattle.a429_check.proofs.FaultFacts.{comes_by}
-
--- what is reported of files, by their lines
-pub yes_of_files : (files : List FileBytes) → yes_text (sizes files) ≡ count_line (length files) ++ flat_map line_of_file files
-yes_of_files files =
-    ap (λ n. count_line n ++ flat_map file_line (sizes files)) (length-map files (λ f. (f.number, length f.bytes)))
-    ∙ ap (λ (t : List ℕ). count_line (length files) ++ t) (flat_map-map file_line (λ f. (f.number, length f.bytes)) files)
 
 pub unchanged : (files : Option (List PutFile)) → IsUnchanged files files
 unchanged None = tt

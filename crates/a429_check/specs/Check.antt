@@ -22,7 +22,7 @@ use Rattle.a429_check.specs.declared.engines.rule.Rule.{Rule}
 use Rattle.a429_check.specs.declared.engines.rule.Rule.TheVariants as rule
 use Rattle.a429_check.specs.Fault.{ComesBy}
 use Rattle.a429_check.specs.Recording.{SayInput, SaysEntries}
-use Rattle.a429_check.specs.Verdict.{yes_text}
+use Rattle.a429_view.specs.Verdict.{yes_text}
 
 -- ---- the text
 

@@ -4,7 +4,7 @@ use Rattle.std.specs.List.{flat_map}
 use Rattle.a429_profile.specs.declared.codes.Codes.{Codes}
 use Rattle.a429_profile.specs.Profile.{Contents}
 use Rattle.a429_record.specs.declared.entry.Entry.{Entry}
-use Rattle.a429_shown.specs.Show.{recorded_text}
+use Rattle.a429_view.specs.Show.{recorded_text}
 use Rattle.a429_view.specs.Forms.{what_text}
 
 -- the line of an entry: time, bus, word, and what it is

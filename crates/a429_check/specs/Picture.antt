@@ -17,7 +17,8 @@ use Rattle.a429_check.specs.declared.fault.RunFault.{RunFault}
 use Rattle.a429_check.specs.Ends.{Promise}
 use Rattle.a429_check.specs.Fault.{Causes, ComesBy}
 use Rattle.a429_check.specs.Profile.{IsProfileOf}
-use Rattle.a429_check.specs.Verdict.{Input, Rejects, no_shelf, no_text, verify_causes}
+use Rattle.a429_check.specs.Verdict.{Input, Rejects, no_shelf, verify_causes}
+use Rattle.a429_view.specs.Verdict.{no_text}
 use Rattle.a429_cert.specs.Change.{change}
 
 -- a run by which the certificate explains the recording

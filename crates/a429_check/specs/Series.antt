@@ -17,7 +17,8 @@ use Rattle.a429_check.specs.Ends.{Promise}
 use Rattle.a429_check.specs.Fault.{Causes, ComesBy, never}
 use Rattle.a429_check.specs.PartList.{ListsParts}
 use Rattle.a429_check.specs.Profile.{IsProfileOf, IsSomeProfile, HasFault}
-use Rattle.a429_check.specs.Verdict.{IsReportedAsRead, fault_text, yes_text}
+use Rattle.a429_check.specs.Verdict.{IsReportedAsRead}
+use Rattle.a429_view.specs.Verdict.{fault_text, yes_text}
 
 -- ---- the parts
 

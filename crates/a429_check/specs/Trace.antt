@@ -22,7 +22,7 @@ use Rattle.a429_check.specs.Check.{verdict_text}
 use Rattle.a429_check.specs.Ends.{by_answer}
 use Rattle.a429_parts.specs.Keeping.{Taken}
 use Rattle.a429_check.specs.Streaming.{AreAllBefore, AreThoseGiven}
-use Rattle.a429_check.specs.Verdict.{file_line}
+use Rattle.a429_view.specs.Verdict.{file_line}
 
 -- ---- the text
 

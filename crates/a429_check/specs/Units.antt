@@ -20,7 +20,8 @@ use Rattle.a429_check.specs.declared.fault.RunFault.{RunFault}
 use Rattle.a429_check.specs.declared.fault.RunFault.TheVariants as run
 use Rattle.a429_check.specs.Ends.{Promise}
 use Rattle.a429_check.specs.Profile.{IsProfileFault, IsProfileOf}
-use Rattle.a429_check.specs.Verdict.{HasAnswer, Input, IsVerifyFault, no_shelf, no_text}
+use Rattle.a429_check.specs.Verdict.{HasAnswer, Input, IsVerifyFault, no_shelf}
+use Rattle.a429_view.specs.Verdict.{no_text}
 use Rattle.a429_cert.specs.Change.{change}
 
 -- no row is begun, and none waits

@@ -1,13 +1,10 @@
--- The verdict on a certificate, and how it is written (profile).
-use Rattle.std.specs.Prelude.{◌≡◌, ◌≢◌, ◌⊎◌, ◌++◌, ℕ, List, [], length, codes, Bool, true, false, Option, None, Result, Ok, Err, Vec}
-use Rattle.std.specs.List.{flat_map}
-use Rattle.std.specs.Fmt.{decimal}
+-- The verdict on a certificate (profile).
+use Rattle.std.specs.Prelude.{◌≡◌, ◌≢◌, ◌⊎◌, ℕ, List, Bool, true, false, Option, None, Result, Ok, Err, Vec}
 use Rattle.std.specs.Str.{IsUtf8}
 use Rattle.a429_word.specs.declared.tally.Tally.{Tally}
 use Rattle.a429_word.specs.Tally.{unread}
 use Rattle.a429_profile.specs.Profile.{Contents}
 use Rattle.a429_profile.specs.declared.fault.ProfileFault.{ProfileFault}
-use Rattle.a429_link.specs.declared.file.FileBytes.{FileBytes}
 use Rattle.a429_record.specs.declared.fault.ReadFault.{ReadFault}
 use Rattle.a429_record.specs.declared.fault.ReadFault.TheVariants as read
 use Rattle.a429_record.specs.Recording.{Recording}
@@ -20,6 +17,7 @@ use Rattle.a429_cert.specs.Shelf.{IsUnchanged}
 use Rattle.a429_cert.specs.BreakOff.{Shelved}
 use Rattle.a429_cert.specs.StreamExplained.{compared, Extracts, Refuses, HearsRun, HearsBefore}
 use Rattle.a429_cert.specs.Report.{Listening, TriesSome}
+use Rattle.a429_view.specs.Verdict.{no_text, yes_text}
 use Rattle.a429_check.specs.declared.fault.RunFault.{RunFault}
 use Rattle.a429_check.specs.declared.fault.RunFault.TheVariants as run
 use Rattle.a429_check.specs.Ends.{Promise}
@@ -27,34 +25,6 @@ use Rattle.a429_check.specs.Fault.{Causes, ComesBy, never}
 use Rattle.a429_check.specs.declared.engines.verdict.Judged.{Judged}
 use Rattle.a429_check.specs.Profile.{IsProfileOf, IsProfileFault, HasFault}
 use Rattle.a429_cert.specs.Change.{change}
-
--- ---- the text
-
--- the line of a file: its number, and how many bytes it has
-abbrev pub file_line : ℕ × ℕ → List ℕ
-file_line f = codes "file " ++ decimal f.0 ++ codes " " ++ decimal f.1 ++ codes "\n"
-
-abbrev pub count_line : ℕ → List ℕ
-count_line n = codes "YES files " ++ decimal n ++ codes "\n"
-
-abbrev pub line_of_file : FileBytes → List ℕ
-line_of_file f = file_line (f.number, length f.bytes)
-
-abbrev pub yes_text : List (ℕ × ℕ) → List ℕ
-yes_text files = count_line (length files) ++ flat_map file_line files
-
--- out of memory is no verdict
-abbrev pub fault_text : CertFault → List ℕ
-fault_text cert.Version = codes "version\n"
-fault_text (cert.Line n) = codes "line " ++ decimal n ++ codes "\n"
-fault_text (cert.NotAllowed n) = codes "not allowed " ++ decimal n ++ codes "\n"
-fault_text (cert.StateDiffers n) = codes "state differs " ++ decimal n ++ codes "\n"
-fault_text (cert.WordDiffers n i) = codes "word differs " ++ decimal n ++ codes " " ++ decimal i ++ codes "\n"
-fault_text (cert.Unfinished i) = codes "unfinished " ++ decimal i ++ codes "\n"
-fault_text cert.OutOfMemory = []
-
-abbrev pub no_text : CertFault → List ℕ
-no_text f = codes "NO " ++ fault_text f
 
 -- ---- what it means
 

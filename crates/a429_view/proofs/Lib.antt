@@ -1,3 +1,9 @@
+pub mod OneDigit
+pub mod WordTexts
+pub mod LabelsFacts
+mod ShowFacts
+mod ShowOneLine
+pub mod VerdictTexts
 pub mod UnitsFacts
 pub mod UnitsTried
 pub mod SketchFacts

@@ -1,3 +1,7 @@
+pub mod Word
+pub mod Labels
+pub mod Show
+pub mod Verdict
 pub mod Units
 pub mod UnitSteps
 pub mod Forms

@@ -1,6 +1,6 @@
 //! Laws of the definitions that the contracts of this crate cite.
 
-ghost use Rattle.std.specs.Prelude.{◌≡◌, List};
+ghost use Rattle.std.specs.Prelude.{◌≡◌, ℕ, List};
 ghost use Rattle.a429_cert.specs.Explained.{items_of};
 ghost use Rattle.a429_link.specs.Observer.{AreAllowed, at_first};
 ghost use Rattle.a429_link.specs.Run.{RunOf, delivered_by, trace};
@@ -10,6 +10,7 @@ ghost use Rattle.a429_profile.specs.declared.codes.Codes.{Codes};
 ghost use Rattle.a429_record.specs.declared.entry.Entry.{Entry};
 ghost use Rattle.a429_view.specs.declared.mark.Span.{Span};
 ghost use Rattle.a429_view.specs.declared.survey.Survey.{Survey};
+ghost use Rattle.a429_view.specs.Show.{IsShowLine, AreShowLines};
 ghost use Rattle.a429_view.specs.BlockFiles.{NameFiles, delivering_rows};
 ghost use Rattle.a429_view.specs.Survey.{IsSurvey, survey_text, text_of};
 ghost use Rattle.a429_view.specs.Crossings.{crossings, delivered_over, numbers, rows_explained, rows_over, ExplainedRun, HasAll, RunOver};
@@ -33,4 +34,10 @@ pub fn acknowledged_rows_name_the_files()
 /// The text of a survey is that of the entries that were counted: of any entries that have its counts.
 pub fn a_survey_has_the_text_of_its_entries()
     ensures { (c : Codes) (s : Survey) (es : List Entry) → IsSurvey c s es → text_of s ≡ survey_text c es }
+{}
+
+/// An entry of a recording has one line of `show` by a profile, and the entries have one text.
+pub fn what_is_shown_has_one_text()
+    ensures line { (p : Contents) (e : Entry) (a b : List ℕ) → IsShowLine p e a → IsShowLine p e b → a ≡ b }
+    ensures text { (p : Contents) (es : List Entry) (a b : List ℕ) → AreShowLines p es a → AreShowLines p es b → a ≡ b }
 {}

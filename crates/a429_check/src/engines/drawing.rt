@@ -5,8 +5,8 @@ ghost use Rattle.std.specs.Result.{ForOk};
 ghost use Rattle.a429_view.specs.Sketch.{most_steps};
 
 use crate::engines::text::Text;
-use crate::engines::verdict::{Judged, put_no};
-use a429_view::{Sketch, put_picture};
+use crate::engines::verdict::Judged;
+use a429_view::{Sketch, put_no, put_picture};
 use a429_word::Sheet;
 use std::io::Write;
 

@@ -3,13 +3,13 @@
 ghost use Rattle.a429_check.specs.Ends.{Ends, heard, of_entries};
 ghost use Rattle.a429_check.specs.Output.{output};
 ghost use Rattle.a429_check.specs.Show.{Shows};
-ghost use Rattle.a429_shown.specs.Show.{AreFirstShowLines};
+ghost use Rattle.a429_view.specs.Show.{AreFirstShowLines};
 
 use crate::engines::question::{Question, ask};
 use crate::fault::RunFault;
 use a429_profile::Profile;
 use a429_record::Entry;
-use a429_shown::put_shown_lines;
+use a429_view::put_shown_lines;
 use a429_word::{Sheet, Tally};
 use std::alloc::Global;
 use std::io::{Read, Write};

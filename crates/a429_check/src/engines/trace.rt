@@ -12,13 +12,12 @@ ghost use Rattle.a429_check.specs.Trace.{AreSomeLines, IsCut, Traces, only_text,
 use crate::engines::check::put_impossible;
 use crate::engines::relay::{Relay, write_while_reading};
 use crate::engines::streaming::next_entry;
-use crate::engines::verdict::put_file;
 use crate::fault::RunFault;
 use a429_explain::reason_of;
 use a429_link::Crossing;
 use a429_profile::Profile;
 use a429_record::EntryReader;
-use a429_view::{Trace, TraceStop};
+use a429_view::{Trace, TraceStop, put_file};
 use a429_word::{Sheet, Tally};
 use std::alloc::Global;
 use std::io::{Read, Write};

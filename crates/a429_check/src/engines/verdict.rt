@@ -1,24 +1,21 @@
 //! Judges a certificate against a recording, both read as a stream, and writes the verdict, as each command that
 //! takes a certificate does.
 
-ghost use Rattle.std.specs.Prelude.{◌≡◌, ◌↔◌, ◌≢◌, ◌||◌, true, false, codes, ◌++◌, IsErr, IfOk, IfErr, OnOk, Err};
-ghost use Rattle.std.specs.List.{flat_map};
-ghost use Rattle.std.specs.Fmt.{decimal};
+ghost use Rattle.std.specs.Prelude.{◌≡◌, ◌↔◌, ◌≢◌, ◌||◌, true, false, IsErr, IfOk, IfErr, OnOk, Err};
 ghost use Rattle.a429_word.specs.Tally.{has_failed};
 ghost use Rattle.a429_word.specs.Sheet.{Says, Writes};
-ghost use Rattle.a429_cert.specs.Stream.{sizes};
 ghost use Rattle.a429_cert.specs.BreakOff.{readers, shelved};
 ghost use Rattle.a429_check.specs.Extract.{progress, Leaves};
-ghost use Rattle.a429_check.specs.Verdict.{count_line, file_line, line_of_file, yes_text, fault_text, no_text, text_of_answer, status_of_answer, of_stream, input, HearsJudged, HearsUntil, IsAnswerOf, IsJudged, IsNoAnswer, IsVerifyFault, TriesUntil};
+ghost use Rattle.a429_check.specs.Verdict.{text_of_answer, status_of_answer, of_stream, input, HearsJudged, HearsUntil, IsAnswerOf, IsJudged, IsNoAnswer, IsVerifyFault, TriesUntil};
 ghost use Rattle.a429_cert.specs.Report.{listening, TriesSome};
 
 use crate::engines::profile::profile_of;
 use crate::engines::text::Text;
 use crate::fault::RunFault;
 use a429_cert::{CertFault, Listener, Shelf, StreamFault, replay_stream};
-use a429_link::FileBytes;
 use a429_profile::Profile;
 use a429_record::{EntryReader, ReadFault};
+use a429_view::{put_no, put_yes};
 use a429_word::{Device, Failing, Page, Sheet, Tally};
 use std::alloc::Global;
 use std::io::{Read, Write};
@@ -168,101 +165,4 @@ fn put_answer<W: Write>(sheet: &mut Sheet<'_, W>, answer: &Answer)
         Ok(files) => put_yes(sheet, files.as_slice()),
         Err(fault) => put_no(sheet, *fault),
     }
-}
-
-/// Puts that a certificate is accepted, with the number and the length of each of its files.
-pub(crate) fn put_yes<W: Write>(sheet: &mut Sheet<'_, W>, files: &[(u8, u32)])
-    ensures { Says W.contents sheet.old sheet.new (yes_text files.now) }
-{
-    put_count(sheet, files.len());
-    put_sizes(sheet, files);
-}
-
-/// Puts that a recording is explained, with its files.
-pub(crate) fn put_explained<W: Write>(sheet: &mut Sheet<'_, W>, files: &[FileBytes])
-    ensures { Says W.contents sheet.old sheet.new (yes_text (sizes files.now)) }
-{
-    put_count(sheet, files.len());
-    put_files(sheet, files);
-}
-
-fn put_count<W: Write>(sheet: &mut Sheet<'_, W>, count: usize)
-    ensures { Says W.contents sheet.old sheet.new (count_line count) }
-{
-    put_reason(sheet, b"YES files ", count);
-}
-
-fn put_sizes<W: Write>(sheet: &mut Sheet<'_, W>, files: &[(u8, u32)])
-    ensures { Says W.contents sheet.old sheet.new (flat_map file_line files.now) }
-{
-    for file in files {
-        put_size(sheet, file);
-    }
-}
-
-fn put_size<W: Write>(sheet: &mut Sheet<'_, W>, file: &(u8, u32))
-    ensures { Says W.contents sheet.old sheet.new (file_line file.now) }
-{
-    let (number, len) = *file;
-    put_file(sheet, number, u64::from(len));
-}
-
-fn put_files<W: Write>(sheet: &mut Sheet<'_, W>, files: &[FileBytes])
-    ensures { Says W.contents sheet.old sheet.new (flat_map line_of_file files.now) }
-{
-    for file in files {
-        put_file(sheet, file.number, file.bytes.as_slice().len() as u64);
-    }
-}
-
-/// Puts the line of a file with this number and so many bytes.
-pub(crate) fn put_file<W: Write>(sheet: &mut Sheet<'_, W>, number: u8, len: u64)
-    ensures { Says W.contents sheet.old sheet.new (file_line (number, len)) }
-{
-    sheet.put(b"file ");
-    sheet.put_number(u64::from(number));
-    sheet.put(b" ");
-    sheet.put_number(len);
-    sheet.put(b"\n");
-}
-
-/// Puts why a certificate is refused.
-pub(crate) fn put_no<W: Write>(sheet: &mut Sheet<'_, W>, fault: CertFault)
-    ensures { Says W.contents sheet.old sheet.new (no_text fault) }
-{
-    sheet.put(b"NO ");
-    put_fault(sheet, fault);
-}
-
-/// Puts the fault of a certificate.
-pub(crate) fn put_fault<W: Write>(sheet: &mut Sheet<'_, W>, fault: CertFault)
-    ensures { Says W.contents sheet.old sheet.new (fault_text fault) }
-{
-    match fault {
-        CertFault::Version => sheet.put(b"version\n"),
-        CertFault::Line(n) => put_reason(sheet, b"line ", n),
-        CertFault::NotAllowed(n) => put_reason(sheet, b"not allowed ", n),
-        CertFault::StateDiffers(n) => put_reason(sheet, b"state differs ", n),
-        CertFault::WordDiffers { line, entry } => put_word_differs(sheet, line, entry),
-        CertFault::Unfinished(i) => put_reason(sheet, b"unfinished ", i),
-        CertFault::OutOfMemory => {}
-    }
-}
-
-fn put_word_differs<W: Write>(sheet: &mut Sheet<'_, W>, line: usize, entry: usize)
-    ensures { Says W.contents sheet.old sheet.new (fault_text (CertFault.WordDiffers line entry)) }
-{
-    sheet.put(b"word differs ");
-    sheet.put_number(line as u64);
-    sheet.put(b" ");
-    sheet.put_number(entry as u64);
-    sheet.put(b"\n");
-}
-
-fn put_reason<W: Write>(sheet: &mut Sheet<'_, W>, reason: &[u8], number: usize)
-    ensures { Says W.contents sheet.old sheet.new (reason.now ++ decimal number ++ codes "\n") }
-{
-    sheet.put(reason);
-    sheet.put_number(number as u64);
-    sheet.put(b"\n");
 }

@@ -1,7 +1,7 @@
 use Rattle.std.proofs.Common.{◌∙◌, refl, ap}
 use Rattle.std.proofs.lemmas.Bool.{false_from_ne_true}
 use Rattle.a429_check.specs.Verdict.{status_of_answer}
-use Rattle.a429_check.specs.Verdict.{no_text}
+use Rattle.a429_view.specs.Verdict.{no_text}
 use Rattle.a429_check.proofs.UnitsFacts.{at_err, waited_and}
 use Rattle.a429_check.proofs.engines.units.end_rows.Goals as goal
 

@@ -1,5 +1,6 @@
 use Rattle.std.proofs.Common.{◌∙◌, ap}
-use Rattle.a429_check.specs.Word.{of_word, word_lines}
+use Rattle.a429_check.specs.Word.{of_word}
+use Rattle.a429_view.specs.Word.{word_lines}
 use Rattle.a429_check.proofs.EndsFacts.{ends}
 use Rattle.a429_check.proofs.engines.word.run_word.Goals as goal
 

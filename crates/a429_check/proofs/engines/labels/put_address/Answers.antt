@@ -1,5 +1,0 @@
-use Rattle.a429_word.proofs.SheetFacts.{◌▹◌}
-use Rattle.a429_check.proofs.engines.labels.put_address.Goals as goal
-
-pub returns : goal.returns
-returns g c = (rw c.octal.ensures at c.put.ensures) ▹ c.put-2.ensures ▹ c.put_sdi.ensures

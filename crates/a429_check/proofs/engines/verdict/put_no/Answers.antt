@@ -1,5 +1,0 @@
-use Rattle.a429_word.proofs.SheetFacts.{◌▹◌}
-use Rattle.a429_check.proofs.engines.verdict.put_no.Goals as goal
-
-pub returns : goal.returns
-returns g c = c.put.ensures ▹ c.put_fault.ensures

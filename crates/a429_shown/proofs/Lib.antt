@@ -1,3 +1,0 @@
-pub mod OneDigit
-mod ShowFacts
-mod ShowOneLine
