@@ -4,7 +4,7 @@
 ghost use Rattle.std.specs.Prelude.{◌≡◌, false, IfOk};
 ghost use Rattle.a429_word.specs.Tally.{has_failed};
 
-use a429_check::{
+use a429_commands::{
     Claim, Command, Folder, IntoFolder, NewFile, PartFolder, PieceFolder, Rule, RunFault, Side,
     Span, command, read_whole, report, run_blocks, run_by_rule, run_cut, run_extract, run_forms,
     run_history, run_import, run_keep, run_labels, run_make, run_pack, run_picture, run_series,

@@ -3,7 +3,7 @@
 ghost use Rattle.std.specs.Prelude.{◌≡◌, None, false, IfOk};
 
 use crate::{CAP, bytes_of, opened, opened_certificate};
-use a429_check::{OpenPart, PartSource, RunFault};
+use a429_commands::{OpenPart, PartSource, RunFault};
 use a429_record::EntryReader;
 use a429_word::{Failing, Trouble};
 use std::alloc::Global;

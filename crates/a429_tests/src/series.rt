@@ -1,7 +1,7 @@
 //! `series` over parts in memory: three files of the one byte 41, in a part each.
 
 use crate::sample::{CERTIFICATE, PROFILE, RECORDING, with};
-use a429_check::{MemoryPartSource, PartBytes, run_series};
+use a429_commands::{MemoryPartSource, PartBytes, run_series};
 use a429_word::Tally;
 use std::alloc::Global;
 use std::test::Fail;

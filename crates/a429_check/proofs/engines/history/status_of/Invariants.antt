@@ -1,6 +1,0 @@
-use Rattle.std.proofs.Common.{◌≡◌, drop}
-use Rattle.a429_check.specs.History.{history_status}
-use Rattle.a429_check.proofs.engines.history.status_of.Given as goal
-
-abbrev pub invariant-loop-place : goal.invariant-loop-place
-invariant-loop-place l = history_status (drop l.place l.told) ≡ history_status l.told

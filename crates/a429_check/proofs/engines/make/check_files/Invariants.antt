@@ -1,6 +1,0 @@
-use Rattle.std.proofs.Common.{map}
-use Rattle.a429_check.proofs.MakeCounted.{AreCounted}
-use Rattle.a429_check.proofs.engines.make.check_files.Given as goal
-
-abbrev pub invariant-loop-k : goal.invariant-loop-k
-invariant-loop-k l = AreCounted (map (λ f. f.items) l.files) l.k l.count

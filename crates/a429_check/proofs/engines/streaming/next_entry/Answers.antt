@@ -1,5 +1,0 @@
-use Rattle.a429_check.proofs.StreamingFacts.{none_before}
-use Rattle.a429_check.proofs.engines.streaming.next_entry.Goals as goal
-
-pub returns-in-Err-clause-none_before : goal.returns-in-Err-clause-none_before
-returns-in-Err-clause-none_before g c = rw c.fault_of.ensures (none_before _ _ c.in-Err.fault c.in-Err.ensures.gives)

@@ -1,0 +1,5 @@
+use Rattle.a429_word.proofs.SheetFacts.{◌▹◌}
+use Rattle.a429_commands.proofs.engines.why.put_words.Goals as goal
+
+pub returns : goal.returns
+returns g c = c.put_entry.ensures ▹ c.put.ensures ▹ c.put_word.ensures ▹ c.put-2.ensures ▹ c.put_word-2.ensures ▹ c.put-3.ensures

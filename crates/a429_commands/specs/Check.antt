@@ -1,0 +1,124 @@
+-- The verdict on a recording, and how it is written (profile).
+use Rattle.std.specs.Prelude.{◌≡◌, ◌++◌, ℕ, List, codes, false, Option, Some, None}
+use Rattle.a429_profile.specs.Profile.{Contents}
+use Rattle.a429_link.specs.declared.seen.Seen.{Seen}
+use Rattle.a429_record.specs.declared.entry.Entry.{Entry}
+use Rattle.std.specs.Fmt.{decimal}
+use Rattle.a429_cert.specs.Explained.{items_of}
+use Rattle.a429_explain.specs.declared.verdict.Verdict.{Verdict}
+use Rattle.a429_explain.specs.declared.verdict.Verdict.TheVariants.{Explained, Impossible, Unexplained}
+use Rattle.a429_explain.specs.declared.verdict.Reason.{Reason}
+use Rattle.a429_explain.specs.declared.verdict.Reason.TheVariants.{NoForm, NotGranted, WrongAnswer, BadBlock, WrongNumber, OtherBlock, NoRun}
+use Rattle.a429_explain.specs.declared.verdict.Doubt.{Doubt}
+use Rattle.a429_explain.specs.declared.verdict.Doubt.TheVariants.{NeverWhole, NotOneBlock, NotReplayed}
+use Rattle.a429_search.specs.Deciding.{IsImpossibleBy, IsImpossibleUpTo, IsOfCheck, IsReasonAt}
+use Rattle.a429_explain.specs.Verdict.{IsSoundVerdict, IsAccepted, IsOfLeastVersion, IsImpossible, IsDoubted, IsFirst, HasNoForm, IsImpossibility, IsExplanation}
+use Rattle.a429_explain.specs.WithoutLoss.{IsWithoutLoss}
+use Rattle.a429_cert.specs.Stream.{sizes}
+use Rattle.a429_commands.specs.declared.fault.RunFault.{RunFault}
+use Rattle.a429_commands.specs.Ends.{Heard, IsBrokenOff, PromiseOfFile, unheard_causes}
+use Rattle.a429_commands.specs.Output.{Output}
+use Rattle.a429_commands.specs.declared.engines.rule.Rule.{Rule}
+use Rattle.a429_commands.specs.declared.engines.rule.Rule.TheVariants as rule
+use Rattle.a429_commands.specs.Fault.{ComesBy}
+use Rattle.a429_commands.specs.Recording.{SayInput, SaysEntries}
+use Rattle.a429_view.specs.Verdict.{yes_text}
+
+-- ---- the text
+
+abbrev pub reason_text : Reason → List ℕ
+reason_text NoForm = codes " NoForm\n"
+reason_text NotGranted = codes " NotGranted\n"
+reason_text WrongAnswer = codes " WrongAnswer\n"
+reason_text BadBlock = codes " BadBlock\n"
+reason_text WrongNumber = codes " WrongNumber\n"
+reason_text OtherBlock = codes " OtherBlock\n"
+reason_text NoRun = codes " NoRun\n"
+
+abbrev pub doubt_text : Doubt → List ℕ
+doubt_text NeverWhole = codes " NeverWhole\n"
+doubt_text NotOneBlock = codes " NotOneBlock\n"
+doubt_text NotReplayed = codes " NotReplayed\n"
+
+abbrev pub verdict_text : Verdict → List ℕ
+verdict_text (Explained certificate files) = yes_text (sizes files)
+verdict_text (Impossible i reason) = codes "IMPOSSIBLE " ++ decimal i ++ reason_text reason
+verdict_text (Unexplained i doubt) = codes "UNEXPLAINED " ++ decimal i ++ doubt_text doubt
+
+-- the certificate that is written: none but of a recording that is explained
+abbrev pub certificate_of : Verdict → Option (List ℕ)
+certificate_of (Explained certificate files) = Some certificate
+certificate_of (Impossible i reason) = None
+certificate_of (Unexplained i doubt) = None
+
+abbrev pub verdict_status : Verdict → ℕ
+verdict_status (Explained certificate files) = 0
+verdict_status (Impossible i reason) = 1
+verdict_status (Unexplained i doubt) = 2
+
+-- ---- what it means
+
+-- the verdict of `decide`: an explanation or a doubt of `check`, or an explanation of words of which `check` has a doubt; and impossible
+-- where no run has the words up to the entry: from the first word on at which some reason holds, or by `NoRun`
+pub record IsDecided (p : Contents) (items : List Seen) (v : Verdict) : Type 0 where
+  pub of_check : IsOfCheck p items v
+  pub impossible : IsImpossibleBy p items v
+  pub first : (i : ℕ) (reason : Reason) → IsReasonAt p items i reason → IsImpossibleUpTo i v
+
+-- the verdict that the rule of a command gives: of `check` at the first test that fails
+abbrev pub IsByRule : Rule → Contents → List Seen → Verdict → Type 0
+IsByRule rule.Check p items v = IsFirst p items v × IsImpossible p items v
+IsByRule rule.Decide p items v = IsDecided p items v
+
+-- such a verdict on recorded words, under a profile
+pub record IsVerdictBy (by_rule : Rule) (p : Contents) (items : List Seen) (v : Verdict) : Type 0 where
+  pub sound : IsSoundVerdict p items v
+  pub accepted : IsAccepted p items v
+  pub version : IsOfLeastVersion p items v
+  pub doubted : IsDoubted p items v
+  pub first : IsByRule by_rule p items v
+  pub no_form : HasNoForm p.codes items → IsImpossibility v
+  pub without_loss : IsWithoutLoss p items → IsExplanation v
+
+-- it is one on a recording, by the profile whose text the bytes are; the recording's bytes are known where its reader says them
+abbrev pub IsVerdictOn : Rule → List ℕ → Option (List ℕ) → Verdict → Type 0
+IsVerdictOn by_rule profile recording v = (says : SayInput profile recording) × IsVerdictBy by_rule says.contents (items_of says.entries) v
+
+-- it is one on a recording, under a profile that was read
+abbrev pub IsVerdictUnder : Rule → Contents → Option (List ℕ) → Verdict → Type 0
+IsVerdictUnder by_rule p recording v = (es : List Entry) × SaysEntries recording es × IsVerdictBy by_rule p (items_of es) v
+
+-- ---- how it is reported
+
+-- the status and the text of such a verdict, with its certificate or none
+pub record TellsVerdict (IsSuch : Verdict → Type 0) (certificate : Option (List ℕ)) (status : ℕ) (text : List ℕ) : Type 0 where
+  pub verdict : Verdict
+  pub is : IsSuch verdict
+  pub certificate_is : certificate ≡ certificate_of verdict
+  pub status_is : status ≡ verdict_status verdict
+  pub text_is : text ≡ verdict_text verdict
+
+-- what the certificate's writer has where it failed: a prefix of the certificate
+abbrev pub LeavesCertificate : {C : Type 0} → Output C → Verdict → Type 0
+LeavesCertificate c v = (text : List ℕ) × (certificate_of v ≡ Some text) × IsBrokenOff c ⊥ text
+
+-- such a verdict is reported: first its certificate, where it has one, and then its text
+abbrev pub of_verdicts : (Verdict → Type 0) → (RunFault → Type 0) → PromiseOfFile
+of_verdicts IsSuch Refuses = record {
+  after = λ certificate. record {
+    says = TellsVerdict IsSuch certificate;
+    stops = λ e text. ⊥;
+    begins = λ text. (status : ℕ) × TellsVerdict IsSuch certificate status text;
+    refuses = λ e. (certificate ≡ None) × Refuses e;
+  };
+  breaks = λ text. (v : Verdict) × IsSuch v × (certificate_of v ≡ Some text);
+  other = ⊥;
+}
+
+-- the verdict on a recording, whose reader has not failed
+abbrev pub IsVerdictOfHeard : Rule → List ℕ → Heard → Verdict → Type 0
+IsVerdictOfHeard by_rule profile rec v = IsVerdictOn by_rule profile rec.bytes v × (rec.failed ≡ false)
+
+-- `check` and `decide` report it; where there is none they write nothing
+abbrev pub of_check : Rule → List ℕ → Heard → PromiseOfFile
+of_check by_rule profile rec = of_verdicts (IsVerdictOfHeard by_rule profile rec) (ComesBy (unheard_causes profile rec))

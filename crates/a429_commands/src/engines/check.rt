@@ -1,0 +1,257 @@
+//! `a429 check PROFILE REC CERT`: finds a certificate for a recording, or says why there is none; and `a429 decide`,
+//! which does the same, tests whether words contradict each other, and, where `check` has a doubt, searches for a run and then
+//! compares attempts to send one unit.
+
+ghost use Rattle.std.specs.Prelude.{◌≡◌, ◌↔◌, [], true, false, Ok, IsErr, IfOk, IfErr, OnOk, OnErr};
+ghost use Rattle.std.specs.Fmt.{decimal};
+ghost use Rattle.a429_word.specs.Tally.{has_failed, unread};
+ghost use Rattle.a429_word.specs.Sheet.{Says, Writes};
+ghost use Rattle.a429_cert.specs.Explained.{items_of};
+ghost use Rattle.a429_commands.specs.declared.engines.rule.Rule.TheVariants as rules;
+ghost use Rattle.a429_commands.specs.Ends.{EndsWithFile, HasGained, heard, unheard_causes};
+ghost use Rattle.a429_commands.specs.Fault.{ComesBy};
+ghost use Rattle.a429_commands.specs.Output.{output};
+ghost use Rattle.a429_commands.specs.Recording.{IsReadFault};
+ghost use Rattle.a429_commands.specs.Check.{reason_text, doubt_text, verdict_text, verdict_status, certificate_of, of_check, of_verdicts, IsVerdictBy, IsVerdictOn, IsVerdictUnder, LeavesCertificate};
+
+use crate::engines::profile::profile_of;
+use crate::engines::recording::entries_of;
+use crate::engines::rule::Rule;
+use crate::engines::text::{Text, write_at_once};
+use crate::fault::RunFault;
+use a429_cert::OutOfMemory;
+use a429_explain::{Certificate, Doubt, Reason, Verdict, check};
+use a429_profile::Profile;
+use a429_record::Entry;
+use a429_search::decide;
+use a429_view::put_explained;
+use a429_word::{Device, Page, Sheet, Tally};
+use std::alloc::Global;
+use std::io::{Read, Write};
+
+/// Writes the verdict on a recording to `out`, and where it is explained the certificate to
+/// `cert` before, and answers the verdict's status: 0 explained, 1 impossible, 2 unexplained.
+/// `profile` is the bytes of its text. Where a writer fails, a prefix of the certificate may be written.
+pub fn run_check<R: Read, C: Write, W: Write>(
+    alloc: Global,
+    profile: &[u8],
+    rec: &mut Tally<R>,
+    cert: &mut Tally<C>,
+    out: &mut Tally<W>,
+) -> Result<u8, RunFault>
+    ensures { EndsWithFile (output C.contents cert.old cert.new) (output W.contents out.old out.new) (of_check rules.Check profile.now (heard R.remaining rec.old rec.new)) result }
+{
+    run_by_rule(alloc, profile, rec, cert, out, Rule::Check)
+}
+
+/// Does what `run_check` does, with three differences. A recording is impossible, too, from the first word on that contradicts
+/// what was recorded before it. Where `check` has a doubt, and no word contradicts, it searches for a run; where it finds
+/// one the recording is explained. Where the search finds none, the recording is impossible, by `NoRun`, if attempts to send
+/// one link data unit are found that no unit has.
+pub fn run_decide<R: Read, C: Write, W: Write>(
+    alloc: Global,
+    profile: &[u8],
+    rec: &mut Tally<R>,
+    cert: &mut Tally<C>,
+    out: &mut Tally<W>,
+) -> Result<u8, RunFault>
+    ensures { EndsWithFile (output C.contents cert.old cert.new) (output W.contents out.old out.new) (of_check rules.Decide profile.now (heard R.remaining rec.old rec.new)) result }
+{
+    run_by_rule(alloc, profile, rec, cert, out, Rule::Decide)
+}
+
+/// Does what `run_check` or `run_decide` does, by this rule.
+pub fn run_by_rule<R: Read, C: Write, W: Write>(
+    alloc: Global,
+    profile: &[u8],
+    rec: &mut Tally<R>,
+    cert: &mut Tally<C>,
+    out: &mut Tally<W>,
+    rule: Rule,
+) -> Result<u8, RunFault>
+    ensures { EndsWithFile (output C.contents cert.old cert.new) (output W.contents out.old out.new) (of_check rule profile.now (heard R.remaining rec.old rec.new)) result }
+{
+    let verdict = verdict_on(alloc, profile, rec, rule)?;
+    write_found(alloc, cert, out, verdict)
+}
+
+// Writes the certificate of a verdict and then the verdict, and answers its status.
+fn write_found<C: Write, W: Write>(
+    alloc: Global,
+    cert: &mut Tally<C>,
+    out: &mut Tally<W>,
+    verdict: Verdict,
+) -> Result<u8, RunFault>
+    ensures { EndsWithFile (output C.contents cert.old cert.new) (output W.contents out.old out.new) (of_verdicts (λ v. v ≡ verdict) (λ e. e ≡ RunFault.Memory)) result }
+{
+    let page = Page::new(alloc)?;
+    write_certificate(page, cert, &verdict)?;
+    write_at_once(Ok(verdict), out)
+}
+
+// The verdict on a recording, by this rule.
+fn verdict_on<R: Read>(
+    alloc: Global,
+    profile: &[u8],
+    rec: &mut Tally<R>,
+    rule: Rule,
+) -> Result<Verdict, RunFault>
+    ensures verdict { IfOk result (IsVerdictOn rule profile.now (unread R.remaining rec.old)) }
+    ensures device { OnOk result (has_failed rec.new ≡ false) }
+    ensures err { IfErr result (ComesBy (unheard_causes profile.now (heard R.remaining rec.old rec.new))) }
+{
+    let profile = profile_of(alloc, profile)?;
+    let verdict = verdict_under(alloc, &profile, rec, rule);
+    drop(profile);
+    verdict
+}
+
+// The same under a profile that was read.
+fn verdict_under<R: Read>(
+    alloc: Global,
+    profile: &Profile,
+    rec: &mut Tally<R>,
+    rule: Rule,
+) -> Result<Verdict, RunFault>
+    ensures verdict { IfOk result (IsVerdictUnder rule profile.now (unread R.remaining rec.old)) }
+    ensures device { OnOk result (has_failed rec.new ≡ false) }
+    ensures err { IfErr result (IsReadFault (unread R.remaining rec.old) (has_failed rec.new)) }
+{
+    let entries = entries_of(alloc, rec)?;
+    found(verdict_by(alloc, profile, entries.as_slice(), rule))
+}
+
+// The verdict that was found, if memory sufficed.
+fn found(verdict: Result<Verdict, OutOfMemory>) -> Result<Verdict, RunFault>
+    ensures ok { IfOk result (λ v. verdict ≡ Ok v) }
+    ensures err { IfErr result (λ e. e ≡ RunFault.Memory) }
+{
+    match verdict {
+        Ok(verdict) => Ok(verdict),
+        Err(_) => Err(RunFault::Memory),
+    }
+}
+
+/// The verdict on these entries, under a profile that was read, by the call of the library that has this rule.
+pub(crate) fn verdict_by(
+    alloc: Global,
+    profile: &Profile,
+    entries: &[Entry],
+    rule: Rule,
+) -> Result<Verdict, OutOfMemory>
+    ensures { IfOk result (IsVerdictBy rule profile.now (items_of entries.now)) }
+{
+    match rule {
+        Rule::Check => check(alloc, profile, entries),
+        Rule::Decide => decide(alloc, profile, entries),
+    }
+}
+
+// Writes the certificate of a verdict, where there is one, by an empty page.
+fn write_certificate<W: Write>(
+    page: Page,
+    out: &mut Tally<W>,
+    verdict: &Verdict,
+) -> Result<(), Device>
+    requires { page ≡ [] }
+    ensures ok { OnOk result (HasGained (output W.contents out.old out.new) (certificate_of verdict.now)) }
+    ensures err { OnErr result (LeavesCertificate (output W.contents out.old out.new) verdict.now) }
+{
+    match verdict {
+        Verdict::Explained { certificate, .. } => write_text(page, out, certificate),
+        Verdict::Impossible { .. } | Verdict::Unexplained { .. } => Ok(()),
+    }
+}
+
+// Writes the text of a certificate, by an empty page.
+fn write_text<W: Write>(
+    page: Page,
+    out: &mut Tally<W>,
+    certificate: &Certificate,
+) -> Result<(), Device>
+    requires { page ≡ [] }
+    ensures written { Writes W.contents out.old out.new certificate.now }
+    ensures device { IsErr result ↔ (has_failed out.new ≡ true) }
+{
+    let mut page = page;
+    let mut sheet = Sheet::new(out, &mut page);
+    certificate.put_on(&mut sheet);
+    sheet.finish()
+}
+
+impl Text for Verdict {
+    ghost use Rattle.std.specs.Prelude.{◌≡◌};
+    ghost use Rattle.a429_commands.specs.Check.{verdict_status, verdict_text};
+
+    ghost says = { λ v status text. (status ≡ verdict_status v) × (text ≡ verdict_text v) };
+
+    ghost begins = { λ v text. text ≡ verdict_text v };
+
+    fn put<W: Write>(&self, sheet: &mut Sheet<'_, W>) -> u8 {
+        put_verdict(sheet, self);
+        status_of(self)
+    }
+}
+
+/// The status of a verdict.
+pub(crate) fn status_of(verdict: &Verdict) -> u8
+    ensures { result ≡ verdict_status verdict.now }
+{
+    match verdict {
+        Verdict::Explained { .. } => 0,
+        Verdict::Impossible { .. } => 1,
+        Verdict::Unexplained { .. } => 2,
+    }
+}
+
+/// Puts a verdict, without its certificate.
+pub(crate) fn put_verdict<W: Write>(sheet: &mut Sheet<'_, W>, verdict: &Verdict)
+    ensures { Says W.contents sheet.old sheet.new (verdict_text verdict.now) }
+{
+    match verdict {
+        Verdict::Explained { files, .. } => put_explained(sheet, files.files()),
+        Verdict::Impossible { entry, reason } => put_impossible(sheet, *entry, *reason),
+        Verdict::Unexplained { entry, doubt } => put_unexplained(sheet, *entry, *doubt),
+    }
+}
+
+/// Puts that no run records an entry, and why.
+pub(crate) fn put_impossible<W: Write>(sheet: &mut Sheet<'_, W>, entry: usize, reason: Reason)
+    ensures { Says W.contents sheet.old sheet.new (verdict_text (Verdict.Impossible entry reason)) }
+{
+    sheet.put(b"IMPOSSIBLE ");
+    sheet.put_number(entry as u64);
+    sheet.put(name_of_reason(reason));
+}
+
+fn put_unexplained<W: Write>(sheet: &mut Sheet<'_, W>, entry: usize, doubt: Doubt)
+    ensures { Says W.contents sheet.old sheet.new (verdict_text (Verdict.Unexplained entry doubt)) }
+{
+    sheet.put(b"UNEXPLAINED ");
+    sheet.put_number(entry as u64);
+    sheet.put(name_of_doubt(doubt));
+}
+
+fn name_of_reason(reason: Reason) -> &'static [u8]
+    ensures { result.now ≡ reason_text reason }
+{
+    match reason {
+        Reason::NoForm => b" NoForm\n",
+        Reason::NotGranted => b" NotGranted\n",
+        Reason::WrongAnswer => b" WrongAnswer\n",
+        Reason::BadBlock => b" BadBlock\n",
+        Reason::WrongNumber => b" WrongNumber\n",
+        Reason::OtherBlock => b" OtherBlock\n",
+        Reason::NoRun => b" NoRun\n",
+    }
+}
+
+fn name_of_doubt(doubt: Doubt) -> &'static [u8]
+    ensures { result.now ≡ doubt_text doubt }
+{
+    match doubt {
+        Doubt::NeverWhole => b" NeverWhole\n",
+        Doubt::NotOneBlock => b" NotOneBlock\n",
+        Doubt::NotReplayed => b" NotReplayed\n",
+    }
+}
